@@ -1,0 +1,23 @@
+-- The tuples with which a run starts: a list, by copy, of lists, by record.
+use Rattle.std.specs.Prelude.{ℕ, ◌<◌, List, [], length, map, slice_get, slice_index_or, MatchOption}
+use Rattle.qc_event.specs.Config.{Voting, no_config}
+use Rattle.qc_event.specs.declared.tuple.Tuple.{Tuple}
+
+abbrev pub no_tuple : Tuple
+no_tuple = record { version = 0; value = 0; generation = 0; config = no_config }
+
+-- a copy and a record of the base
+abbrev pub IsWithin : List (List Tuple) → ℕ → ℕ → Type 0
+IsWithin base copy rec = MatchOption (slice_get base copy) ⊥ (λ row. rec < length row)
+
+-- the tuple with which a copy starts
+abbrev pub start_tuple : List (List Tuple) → ℕ → ℕ → Tuple
+start_tuple base copy rec = slice_index_or (slice_index_or base copy []) rec no_tuple
+
+-- each record's value at the first copy; where a run begins anew, it is the record's start value
+abbrev pub start_values : List (List Tuple) → List ℕ
+start_values base = map (λ (t : Tuple). t.value) (slice_index_or base 0 [])
+
+-- each record's configuration at the first copy
+abbrev pub start_configs : List (List Tuple) → List Voting
+start_configs base = map (λ (t : Tuple). t.config) (slice_index_or base 0 [])
