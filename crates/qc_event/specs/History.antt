@@ -1,6 +1,6 @@
 -- Histories, and the entries that stand in them.
 use Rattle.std.specs.Prelude.{ℕ, ◌==◌, ◌+◌, ◌≡◌, Bool, true, ◌&&◌, if◌then◌else◌, List, [], ◌∷◌, ◌++◌, length, Option, None, Some, is_some, option_to_list}
-use Rattle.std.specs.Option.{option_or}
+use Rattle.std.specs.Option.{option_or, option_map}
 use Rattle.std.specs.Cmp.Lexicographic.{pointwise}
 use Rattle.qc_names.specs.Name as name
 use Rattle.qc_event.specs.declared.event.Entry.{Entry}
@@ -53,6 +53,10 @@ ready_in n _ = None
 -- the start of a name
 abbrev pub start : Past → Name → Option Begun
 start past n = earliest (λ e. start_in n e.seat e.event) past
+
+-- what a name was started for
+abbrev pub kind_of : Past → Name → Option Kind
+kind_of past n = option_map (λ (b : Begun). b.kind) (start past n)
 
 -- how a name ended
 abbrev pub end : Past → Name → Option How

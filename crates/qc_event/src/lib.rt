@@ -19,6 +19,6 @@ pub use event::{
 };
 pub use log::{Log, Short};
 pub use qc_names::Name;
-pub use scan::{dead, outcome};
+pub use scan::{dead, kind, outcome};
 pub use table::{Label, Row, Rows, Table};
 pub use tuple::{Op, Tuple};

@@ -1,8 +1,23 @@
 ghost use Rattle.std.specs.Prelude.{◌≡◌, reverse};
 ghost use Rattle.qc_event.specs.Dead as spec;
+ghost use Rattle.qc_event.specs.History.{kind_of};
 
-use crate::event::{Entry, Event, How, Outcome};
+use crate::event::{Entry, Event, How, Kind, Outcome};
 use qc_names::Name;
+
+/// What a name was started for in a history, the oldest entry first. It takes no memory.
+pub fn kind(h: &[Entry], n: &Name) -> Option<Kind>
+    ensures { result ≡ kind_of (reverse h.now) n.now }
+{
+    for e in h {
+        if let Event::Start { name, kind } = &e.event {
+            if name == n {
+                return Some(*kind);
+            }
+        }
+    }
+    None
+}
 
 /// How a transaction stands in a history, the oldest entry first. It takes no memory.
 pub fn outcome(h: &[Entry], n: &Name) -> Outcome

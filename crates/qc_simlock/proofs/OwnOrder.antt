@@ -17,8 +17,8 @@ use Rattle.qc_event.specs.declared.event.Kind.{Kind}
 use Rattle.qc_event.specs.declared.event.Kind.TheVariants as kind
 use Rattle.qc_serial.specs.declared.event.SerialEvent.{SerialEvent}
 use Rattle.qc_serial.specs.declared.event.SerialEvent.TheVariants.{Start, Enter, Read, Write, Leave, Skip}
-use Rattle.qc_event.specs.History.{Past, Name, Begun, start, is_child}
-use Rattle.qc_simlock.specs.Walk.{walk, added, ended, kind_of}
+use Rattle.qc_event.specs.History.{Past, Name, is_child, kind_of}
+use Rattle.qc_simlock.specs.Walk.{walk, added, ended}
 use Rattle.qc_simlock.specs.Own.{is_own, own, own_past, own_end, own_in}
 
 -- the name of an event

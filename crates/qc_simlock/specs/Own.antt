@@ -9,8 +9,7 @@ use Rattle.qc_event.specs.declared.event.Kind.{Kind}
 use Rattle.qc_event.specs.declared.event.Kind.TheVariants as kind
 use Rattle.qc_serial.specs.declared.event.SerialEvent.{SerialEvent}
 use Rattle.qc_serial.specs.declared.event.SerialEvent.TheVariants.{Start, Enter, Read, Write, Leave, Skip}
-use Rattle.qc_event.specs.History.{Past, Name, is_child}
-use Rattle.qc_simlock.specs.Walk.{kind_of}
+use Rattle.qc_event.specs.History.{Past, Name, is_child, kind_of}
 
 -- whether an event is a transaction's own: a start, leave, skip, read or write of a child of it
 abbrev pub is_own : Name → SerialEvent → Bool
