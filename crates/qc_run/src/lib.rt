@@ -1,0 +1,7 @@
+//! Runs a script of sessions over a replicated record store, and reports what happened.
+#![tactic(auto)]
+
+mod bad_script;
+mod script;
+
+pub use bad_script::{BadScript, Member};
