@@ -1,0 +1,3 @@
+pub mod OldNames
+pub mod OneMore
+pub mod LegalTrace
