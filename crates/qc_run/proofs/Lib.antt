@@ -1,3 +1,4 @@
 pub mod OldNames
 pub mod OneMore
 pub mod LegalTrace
+pub mod FollowsTrace
