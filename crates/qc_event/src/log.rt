@@ -69,13 +69,21 @@ impl Log {
         self.entries.is_empty()
     }
 
+    /// Whether the history takes no more entries.
+    pub fn is_full(&self) -> bool
+        ensures full { IsTrue result ↔ (length self.now ≡ limit) }
+        ensures bounded { length self.now ≤ limit }
+    {
+        self.entries.len() >= LIMIT
+    }
+
     /// Appends an entry. An error leaves the history as it was.
     pub fn push(&mut self, entry: Entry) -> Result<(), Short>
         ensures ok { OnOk result (self.new ≡ entry ∷ self.old) }
         ensures err { OnErr result (self.new ≡ self.old) }
         ensures room { IsErrOf result Short.Room → length self.old ≡ limit }
     {
-        if self.entries.len() >= LIMIT {
+        if self.is_full() {
             return Err(Short::Room);
         }
         match append(&mut self.entries, entry) {

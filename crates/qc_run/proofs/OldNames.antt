@@ -95,4 +95,3 @@ no_child_before x a t u h = grind (arith, nat_tests)
 pub below_new_top : (x : ℕ) (c : Name) → is_child (x ∷ []) c ≡ true → before x c ≡ false
 below_new_top x [] h = absurd (true≢false (sym h))
 below_new_top x (a ∷ rest) h = no_child_before x a _ _ h
-

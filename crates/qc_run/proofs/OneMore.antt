@@ -72,4 +72,3 @@ pub all_but_last : (p : Name → Bool) (cs : List Name) (n : Name) → list_all 
 all_but_last p cs n all last =
     list_all-append p (cs ++ n ∷ []) []
     ∙ ap (λ b. b && true) (list_all-append p cs (n ∷ []) ∙ ap (λ b. b && (p n && true)) all ∙ ap (λ b. b && true) last)
-

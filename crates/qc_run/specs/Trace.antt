@@ -8,7 +8,10 @@ use Rattle.qc_event.specs.declared.event.How.{How}
 use Rattle.qc_event.specs.declared.event.How.TheVariants.{Commit}
 use Rattle.qc_event.specs.declared.event.Kind.{Kind}
 use Rattle.qc_event.specs.declared.event.Kind.TheVariants as kind
-use Rattle.qc_event.specs.History.{Past, Name}
+use Rattle.qc_event.specs.History.{Past, Name, limit}
+use Rattle.qc_event.specs.declared.log.Short.{Short}
+use Rattle.qc_event.specs.declared.log.Short.TheVariants.{Room}
+use Rattle.qc_event.specs.declared.table.Row.{Row}
 use Rattle.qc_run.specs.declared.script.Body.{Body}
 use Rattle.qc_run.specs.declared.script.Step.{Step}
 use Rattle.qc_run.specs.declared.script.Step.TheVariants as step
@@ -48,13 +51,13 @@ top_of i = (4294967297 + i) ∷ []
 abbrev pub begun : ℕ → Now → Now
 begun i now = record now { past = by_client (Start (top_of i) (kind.User 0 i)) ∷ now.past }
 
--- the top of body i is ready, and commits
-abbrev pub committed : ℕ → Now → Now
-committed i now = record now { past = by_ledger (End (top_of i) (Commit Nothing)) ∷ by_client (Ready (top_of i)) ∷ now.past }
+-- a top is ready, and commits
+abbrev pub committed : Name → Now → Now
+committed top now = record now { past = by_ledger (End top (Commit Nothing)) ∷ by_client (Ready top) ∷ now.past }
 
 -- what the top of body i leaves
 abbrev pub top_after : ℕ → Body → Now → Now
-top_after i body now = committed i (steps_after (top_of i) 1 body.steps (begun i now))
+top_after i body now = committed (top_of i) (steps_after (top_of i) 1 body.steps (begun i now))
 
 -- what the tops of bodies leave, the first of them of body i
 abbrev pub tops_after : ℕ → List Body → Now → Now
@@ -82,3 +85,12 @@ StepsWithin records (s ∷ steps) = (record_of s < records) × StepsWithin recor
 abbrev pub TopsWithin : ℕ → List Body → Type 0
 TopsWithin records [] = Unit {0}
 TopsWithin records (b ∷ bodies) = StepsWithin records b.steps × TopsWithin records bodies
+
+-- A run towards a whole history stopped at a front of it, for want of memory or of room.
+pub record Stopped (whole reached : Past) (short : Short) : Type 0 where
+  pub front : IsFront reached whole
+  pub room : short ≡ Room → length reached ≡ limit
+
+-- the values with which a table's records start
+abbrev pub starts_of : List Row → List ℕ
+starts_of rows = map (λ (r : Row). r.start) rows

@@ -3,5 +3,6 @@
 
 mod bad_script;
 mod script;
+mod session;
 
 pub use bad_script::{BadScript, Member};
