@@ -36,7 +36,7 @@ and_false : (b : Bool) → (b && false) ≡ false
 and_false true = refl
 and_false false = refl
 
-other_child : (z x : ℕ) (n : Name) → IsOf z n → (z ≡ x → ⊥) → is_child (x ∷ []) n ≡ false
+pub other_child : (z x : ℕ) (n : Name) → IsOf z n → (z ≡ x → ⊥) → is_child (x ∷ []) n ≡ false
 other_child z x [] is ne = absurd is
 other_child z x (y ∷ ys) is ne =
     ap (λ b. (length (y ∷ ys) == length (x ∷ []) + 1) && (b && name.is_ancestor [] ys)) (ne_eqb x y (λ e. ne (sym is ∙ sym e)))

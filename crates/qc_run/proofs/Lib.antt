@@ -1,3 +1,4 @@
 pub mod Machines
 pub mod Elsewhere
 pub mod OneTop
+pub mod TopSteps

@@ -124,7 +124,7 @@ writes z k rec value m values h lt =
       (begins m (z ∷ k ∷ []) (child_on_top z k m h.stack) (h.child k (omega arith)))
       (ap (λ v. nat_lt rec (length v)) h.holds ∙ lt-ltb rec (length values) lt)
 
-sibling : (z k j : ℕ) → k + 1 ≤ j → same (z ∷ k ∷ []) (z ∷ j ∷ []) ≡ false
+pub sibling : (z k j : ℕ) → k + 1 ≤ j → same (z ∷ k ∷ []) (z ∷ j ∷ []) ≡ false
 sibling z k j le = ap (λ b. b && ((k == j) && true)) (eq-eqb z z refl) ∙ ap (λ b. b && true) (ne_eqb k j (λ e. omega arith))
 
 child_more : (z k : ℕ) (m : State) → ((j : ℕ) → k ≤ j → is_in (z ∷ j ∷ []) m.used ≡ false) → (j : ℕ) → k + 1 ≤ j → is_in (z ∷ j ∷ []) (m.used ++ (z ∷ k ∷ []) ∷ []) ≡ false

@@ -60,14 +60,14 @@ neither P None b f g h = g h
 neither P (Some y) b f g h = f h
 
 -- where an entry starts no user transaction below a top
-abbrev StartsNone : Entry → Type 0
+abbrev pub StartsNone : Entry → Type 0
 StartsNone e = (x y : ℕ) (rest : Name) → MatchOption (start_in (x ∷ y ∷ rest) e.seat e.event) ⊥ (λ b. IsUser b.kind) → ⊥
 
-flat_more : (e : Entry) (past : Past) → Flat past → StartsNone e → Flat (e ∷ past)
+pub flat_more : (e : Entry) (past : Past) → Flat past → StartsNone e → Flat (e ∷ past)
 flat_more e past flat none x y rest = neither (λ b. IsUser b.kind) (start past (x ∷ y ∷ rest)) (start_in (x ∷ y ∷ rest) e.seat e.event) (flat x y rest) (none x y rest)
 
 -- how a name stands stays where an entry is about another
-still_closed : (e : Entry) (past : Past) (x : ℕ) → start_in (x ∷ []) e.seat e.event ≡ None → end_in (x ∷ []) e.event ≡ None → is_open_or_root past (x ∷ []) ≡ false → is_open_or_root (e ∷ past) (x ∷ []) ≡ false
+pub still_closed : (e : Entry) (past : Past) (x : ℕ) → start_in (x ∷ []) e.seat e.event ≡ None → end_in (x ∷ []) e.event ≡ None → is_open_or_root past (x ∷ []) ≡ false → is_open_or_root (e ∷ past) (x ∷ []) ≡ false
 still_closed e past x s t h =
     ap₂ (λ a b. is_some (option_or (start past (x ∷ [])) a) && is_none (option_or (end past (x ∷ [])) b)) s t
     ∙ ap₂ (λ a b. is_some a && is_none b) (or_none (start past (x ∷ []))) (or_none (end past (x ∷ [])))
@@ -79,7 +79,7 @@ still_closed e past x s t h =
 
 -- THE START OF A TOP
 
-own-append : (t : Name) (xs ys : List SerialEvent) → own t (xs ++ ys) ≡ own t xs ++ own t ys
+pub own-append : (t : Name) (xs ys : List SerialEvent) → own t (xs ++ ys) ≡ own t xs ++ own t ys
 own-append t xs ys = filter-append (is_own t) xs ys
 
 own_started : (x z : ℕ) (order : List SerialEvent) → own (x ∷ []) (order ++ serial.Start (z ∷ []) ∷ []) ≡ own (x ∷ []) order
