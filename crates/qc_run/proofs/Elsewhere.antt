@@ -1,14 +1,13 @@
 -- An entry about one top, or a child of it, changes nothing at the other tops.
-use Rattle.std.proofs.Common.{◌≡◌, ℕ, ◌+◌, ◌<◌, ◌≤◌, Bool, true, false, ◌&&◌, cond, if◌then◌else◌, List, [], ◌∷◌, ◌++◌, length, refl, sym, ap, ◌∙◌, arith, ne_eqb, append-nil, Option, None, Some, MatchOption}
+use Rattle.std.proofs.Common.{◌≡◌, ℕ, ◌+◌, ◌<◌, ◌≤◌, Bool, true, false, ◌&&◌, if◌then◌else◌, List, [], ◌∷◌, ◌++◌, length, refl, sym, ap, ◌∙◌, arith, ne_eqb, append-nil, None, Some}
 use Rattle.std.specs.Prelude.{◌==◌}
 use Rattle.std.specs.Option.{option_or}
 use Rattle.qc_names.specs.Name as name
 use Rattle.qc_event.specs.declared.event.Entry.{Entry}
 use Rattle.qc_event.specs.declared.event.Event.{Event}
 use Rattle.qc_event.specs.declared.event.Event.TheVariants.{Start, Ready, End}
-use Rattle.qc_event.specs.declared.event.Kind.{Kind}
 use Rattle.qc_event.specs.declared.event.Kind.TheVariants.{User}
-use Rattle.qc_event.specs.History.{Past, Name, Begun, same, start_in, start, end_in, end, is_child, kind_of}
+use Rattle.qc_event.specs.History.{Past, Name, same, start_in, start, end_in, end, is_child, kind_of}
 use Rattle.qc_serial.specs.declared.event.SerialEvent.{SerialEvent}
 use Rattle.qc_serial.specs.declared.event.SerialEvent.TheVariants as serial
 use Rattle.qc_simlock.specs.Walk.{walk, added, ended}
@@ -32,7 +31,7 @@ other_same : (z x : ℕ) (n xs : Name) → IsOf z n → (z ≡ x → ⊥) → sa
 other_same z x [] xs is ne = absurd is
 other_same z x (y ∷ ys) xs is ne = other_name y x ys xs (λ e. ne (sym is ∙ e))
 
-and_false : (b : Bool) → (b && false) ≡ false
+pub and_false : (b : Bool) → (b && false) ≡ false
 and_false true = refl
 and_false false = refl
 

@@ -1,8 +1,7 @@
 -- The serial machine accepts one top after another, each with managers under it.
-use Rattle.std.proofs.Common.{◌≡◌, ℕ, ◌+◌, ◌-◌, ◌<◌, ◌≤◌, Bool, true, false, not, ◌&&◌, ◌||◌, IsTrue, List, [], ◌∷◌, ◌++◌, length, take, slice_get, slice_set, slice_index, refl, sym, ap, ◌∙◌, arith, ne_eqb, eq-eqb, Some, nat_lt, lt-ltb, subst, append_assoc}
+use Rattle.std.proofs.Common.{◌≡◌, ℕ, ◌+◌, ◌-◌, ◌<◌, ◌≤◌, Bool, true, false, not, ◌&&◌, ◌||◌, IsTrue, List, [], ◌∷◌, ◌++◌, length, take, slice_set, slice_index, refl, ap, ◌∙◌, arith, ne_eqb, eq-eqb, Some, nat_lt, lt-ltb}
 use Rattle.std.specs.Prelude.{◌==◌}
 use Rattle.std.specs.Cmp.Lexicographic.{pointwise}
-use Rattle.std.specs.List.{list_all}
 use Rattle.std.specs.Option.{option_map_or}
 use Rattle.std.proofs.lemmas.List.Folds.{list_any-append, list_all-append}
 use Rattle.std.proofs.lemmas.Option.{slice_get-get_or}
@@ -10,7 +9,6 @@ use Rattle.qc_names.specs.Name as name
 use Rattle.qc_serial.specs.declared.event.SerialEvent.{SerialEvent}
 use Rattle.qc_serial.specs.declared.event.SerialEvent.TheVariants.{Start, Enter, Read, Write, Leave}
 use Rattle.qc_serial.specs.Machine.{Name, State, begin, same, is_in, is_child, on_top, parent_on, may_begin, is_waiting, all_closed, has_value, allows, next, run, Accepts}
-use Rattle.qc_serial.proofs.Runs.{run-append}
 
 -- what is accepted in two parts is accepted
 pub Accepts-append : (m : State) (xs ys : List SerialEvent) → Accepts m xs → Accepts (run m xs) ys → Accepts m (xs ++ ys)
@@ -89,8 +87,8 @@ waits m n s e c = ap (λ b. b && not (is_in n m.entered) && not (is_in n m.close
 pub enters : (z : ℕ) (m : State) (values : List ℕ) → Idle z m values → IsTrue (allows (next m (Start (z ∷ []))) (Enter (z ∷ [])))
 enters z m values h =
     both (parent_on m.stack (Some [])) (is_waiting (next m (Start (z ∷ []))) (z ∷ []))
-      (ap (λ s. parent_on s (Some [])) h.stack)
-      (waits (next m (Start (z ∷ []))) (z ∷ []) (is_in_last (z ∷ []) m.started) (h.entered z [] (omega arith)) (h.closed z [] (omega arith)))
+    (ap (λ s. parent_on s (Some [])) h.stack)
+    (waits (next m (Start (z ∷ []))) (z ∷ []) (is_in_last (z ∷ []) m.started) (h.entered z [] (omega arith)) (h.closed z [] (omega arith)))
 
 pub entered_inside : (z : ℕ) (m : State) (values : List ℕ) → Idle z m values → Inside z 1 (next (next m (Start (z ∷ []))) (Enter (z ∷ []))) values
 entered_inside z m values h = record {
@@ -101,7 +99,7 @@ entered_inside z m values h = record {
   started = unseen_more (z + 1) z [] m.started (unseen_later z (z + 1) m.started h.started (omega arith)) (omega arith);
   entered = unseen_more (z + 1) z [] m.entered (unseen_later z (z + 1) m.entered h.entered (omega arith)) (omega arith);
   closed = unseen_later z (z + 1) m.closed h.closed (omega arith);
-  leaf = λ x closed. leaf_more z x m closed (h.leaf x closed)
+  leaf = λ x closed. leaf_more z x m closed (h.leaf x closed);
 }
 
 -- MANAGERS
@@ -115,14 +113,14 @@ has_its_value values rec lt = ap (λ o. option_map_or (λ v. v == slice_index va
 pub reads : (z k rec : ℕ) (m : State) (values : List ℕ) → Inside z k m values → rec < length values → IsTrue (allows m (Read (z ∷ k ∷ []) rec (slice_index values rec)))
 reads z k rec m values h lt =
     both (may_begin m (z ∷ k ∷ [])) (has_value m.values rec (slice_index values rec))
-      (begins m (z ∷ k ∷ []) (child_on_top z k m h.stack) (h.child k (omega arith)))
-      (ap (λ v. has_value v rec (slice_index values rec)) h.holds ∙ has_its_value values rec lt)
+    (begins m (z ∷ k ∷ []) (child_on_top z k m h.stack) (h.child k (omega arith)))
+    (ap (λ v. has_value v rec (slice_index values rec)) h.holds ∙ has_its_value values rec lt)
 
 pub writes : (z k rec value : ℕ) (m : State) (values : List ℕ) → Inside z k m values → rec < length values → IsTrue (allows m (Write (z ∷ k ∷ []) rec value))
 writes z k rec value m values h lt =
     both (may_begin m (z ∷ k ∷ [])) (nat_lt rec (length m.values))
-      (begins m (z ∷ k ∷ []) (child_on_top z k m h.stack) (h.child k (omega arith)))
-      (ap (λ v. nat_lt rec (length v)) h.holds ∙ lt-ltb rec (length values) lt)
+    (begins m (z ∷ k ∷ []) (child_on_top z k m h.stack) (h.child k (omega arith)))
+    (ap (λ v. nat_lt rec (length v)) h.holds ∙ lt-ltb rec (length values) lt)
 
 pub sibling : (z k j : ℕ) → k + 1 ≤ j → same (z ∷ k ∷ []) (z ∷ j ∷ []) ≡ false
 sibling z k j le = ap (λ b. b && ((k == j) && true)) (eq-eqb z z refl) ∙ ap (λ b. b && true) (ne_eqb k j (λ e. omega arith))
@@ -139,7 +137,7 @@ read_inside z k rec value m values h = record {
   started = h.started;
   entered = h.entered;
   closed = h.closed;
-  leaf = h.leaf
+  leaf = h.leaf;
 }
 
 pub write_inside : (z k rec value : ℕ) (m : State) (values : List ℕ) → Inside z k m values → Inside z (k + 1) (next m (Write (z ∷ k ∷ []) rec value)) (slice_set values rec value)
@@ -151,7 +149,7 @@ write_inside z k rec value m values h = record {
   started = h.started;
   entered = h.entered;
   closed = h.closed;
-  leaf = h.leaf
+  leaf = h.leaf;
 }
 
 -- THE END OF A TOP
@@ -159,8 +157,8 @@ write_inside z k rec value m values h = record {
 pub leaves : (z k : ℕ) (m : State) (values : List ℕ) → Inside z k m values → IsTrue (allows m (Leave (z ∷ [])))
 leaves z k m values h =
     both (on_top m.stack (z ∷ []) && true) (all_closed m.started m.closed (z ∷ []))
-      (ap (λ s. on_top s (z ∷ []) && true) h.stack ∙ ap (λ b. b && true) (same_self (z ∷ [])))
-      (h.leaf z m.closed)
+    (ap (λ s. on_top s (z ∷ []) && true) h.stack ∙ ap (λ b. b && true) (same_self (z ∷ [])))
+    (h.leaf z m.closed)
 
 pub left_idle : (z k : ℕ) (m : State) (values : List ℕ) → Inside z k m values → Idle (z + 1) (next m (Leave (z ∷ []))) values
 left_idle z k m values h = record {
@@ -170,5 +168,5 @@ left_idle z k m values h = record {
   started = h.started;
   entered = h.entered;
   closed = unseen_more (z + 1) z [] m.closed h.closed (omega arith);
-  leaf = h.leaf
+  leaf = h.leaf;
 }

@@ -1,25 +1,18 @@
 -- What a history is between two tops, and inside one: its walks, its open names and its starts.
-use Rattle.std.proofs.Common.{◌≡◌, ℕ, ◌+◌, ◌<◌, ◌≤◌, ◌⊎◌, inl, inr, Bool, true, false, ◌&&◌, cond, if◌then◌else◌, List, [], ◌∷◌, ◌++◌, length, refl, sym, ap, ap₂, ◌∙◌, subst, arith, ne_eqb, eq-eqb, append-nil, append_assoc, Option, None, Some, MatchOption, is_some, is_none}
+use Rattle.std.proofs.Common.{◌≡◌, ℕ, ◌+◌, ◌≤◌, Bool, true, false, ◌&&◌, if◌then◌else◌, List, [], ◌∷◌, ◌++◌, refl, sym, ap, ap₂, ◌∙◌, arith, eq-eqb, append-nil, Option, None, Some, MatchOption, is_some, is_none}
 use Rattle.std.specs.Prelude.{◌==◌}
-use Rattle.std.specs.Option.{option_or, option_map}
-use Rattle.std.proofs.lemmas.Bool.{cases_eq}
+use Rattle.std.specs.Option.{option_or}
 use Rattle.std.proofs.lemmas.List.Elements.{filter-append}
-use Rattle.qc_event.specs.declared.event.Answer.TheVariants as answer
 use Rattle.qc_event.specs.declared.event.Entry.{Entry}
-use Rattle.qc_event.specs.declared.event.Event.{Event}
-use Rattle.qc_event.specs.declared.event.Event.TheVariants.{Start, Ready, End}
-use Rattle.qc_event.specs.declared.event.How.{How}
-use Rattle.qc_event.specs.declared.event.How.TheVariants.{Commit}
-use Rattle.qc_event.specs.declared.event.Kind.{Kind}
+use Rattle.qc_event.specs.declared.event.Event.TheVariants.{Start}
 use Rattle.qc_event.specs.declared.event.Kind.TheVariants.{User}
-use Rattle.qc_event.specs.History.{Past, Name, Begun, same, start_in, start, end_in, end, is_child, kind_of}
+use Rattle.qc_event.specs.History.{Past, Name, Begun, start_in, start, end_in, end}
 use Rattle.qc_event.specs.Legal.{Started, IsUser}
 use Rattle.qc_serial.specs.declared.event.SerialEvent.{SerialEvent}
 use Rattle.qc_serial.specs.declared.event.SerialEvent.TheVariants as serial
-use Rattle.qc_simlock.specs.Walk.{walk, added, ended, is_open_or_root}
+use Rattle.qc_simlock.specs.Walk.{walk, added, is_open_or_root}
 use Rattle.qc_simlock.specs.Own.{is_own, own, own_past}
-use Rattle.qc_simlock.proofs.OwnOrder.{own_walk}
-use Rattle.qc_run.specs.Trace.{by_client, by_ledger}
+use Rattle.qc_run.specs.Trace.{by_client}
 use Rattle.qc_run.proofs.Machines.{same_self}
 use Rattle.qc_run.proofs.Elsewhere.{Concerns, Older, other_start, other_end, other_own, older_later, older_start, older_end, older_walk, older_own}
 
@@ -113,7 +106,7 @@ begin_top z i past order h = record {
   others_closed = λ x ne. still_closed (top_start z i) past x (other_start z x 18 [] (Start (z ∷ []) (User 0 i)) refl ne) refl (h.closed x);
   others_owned = λ x ne. own_started x z order ∙ h.owned x ∙ sym (other_own z x (top_start z i) past refl ne);
   owns_none = own_started z z order ∙ h.owned z ∙ older_own z z past h.old (omega arith);
-  others_inner = λ x ne. refl
+  others_inner = λ x ne. refl;
 }
 
 -- ENTRIES INSIDE A TOP
@@ -140,5 +133,5 @@ add_entry z k l i past e order inner more h le a = record {
   others_closed = λ x ne. still_closed e past x (other_start z x e.seat [] e.event a.concerns ne) (other_end z x [] e.event a.concerns ne) (h.others_closed x ne);
   others_owned = λ x ne. h.others_owned x ne ∙ sym (other_own z x e past a.concerns ne);
   owns_none = h.owns_none;
-  others_inner = λ x ne. own-append (x ∷ []) inner more ∙ ap₂ (λ w v. w ++ v) (h.others_inner x ne) (a.of_this x ne)
+  others_inner = λ x ne. own-append (x ∷ []) inner more ∙ ap₂ (λ w v. w ++ v) (h.others_inner x ne) (a.of_this x ne);
 }

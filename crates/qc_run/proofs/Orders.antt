@@ -1,5 +1,5 @@
 -- The machine accepts the serial order of a history between two tops, and inside one.
-use Rattle.std.proofs.Common.{◌≡◌, ℕ, ◌+◌, ◌<◌, IsTrue, List, [], ◌∷◌, ◌++◌, length, slice_index, slice_set, refl, sym, ap, ◌∙◌, subst, append_assoc}
+use Rattle.std.proofs.Common.{◌≡◌, ℕ, ◌+◌, ◌<◌, IsTrue, List, [], ◌∷◌, ◌++◌, length, slice_index, slice_set, sym, ap, ◌∙◌, subst, append_assoc}
 use Rattle.qc_serial.specs.declared.event.SerialEvent.{SerialEvent}
 use Rattle.qc_serial.specs.declared.event.SerialEvent.TheVariants.{Start, Enter, Read, Write, Leave}
 use Rattle.qc_serial.specs.Machine.{State, begin, allows, next, run, Accepts}
@@ -38,10 +38,10 @@ start_order values z order now r =
     record {
       root_accepted = started;
       accepted = accept_one values (order ++ Start (z ∷ []) ∷ []) (Enter (z ∷ [])) started
-        (subst (λ s. IsTrue (allows s (Enter (z ∷ [])))) (after_one values order (Start (z ∷ []))) (enters z m now r.idle));
+          (subst (λ s. IsTrue (allows s (Enter (z ∷ [])))) (after_one values order (Start (z ∷ []))) (enters z m now r.idle));
       inside = subst (λ s. Inside z 1 s now)
-        (ap (λ s. next s (Enter (z ∷ []))) (after_one values order (Start (z ∷ []))) ∙ after_one values (order ++ Start (z ∷ []) ∷ []) (Enter (z ∷ [])))
-        (entered_inside z m now r.idle)
+          (ap (λ s. next s (Enter (z ∷ []))) (after_one values order (Start (z ∷ []))) ∙ after_one values (order ++ Start (z ∷ []) ∷ []) (Enter (z ∷ [])))
+          (entered_inside z m now r.idle);
     }
 
 -- one event more inside the top
@@ -52,7 +52,7 @@ add_order values z k order inner now later e r allowed inside =
     record {
       root_accepted = r.root_accepted;
       accepted = subst (λ es. Accepts (begin values) es) same_order (accept_one values whole e r.accepted allowed);
-      inside = subst (λ s. Inside z (k + 1) s later) (after_one values whole e ∙ ap (after values) same_order) inside
+      inside = subst (λ s. Inside z (k + 1) s later) (after_one values whole e ∙ ap (after values) same_order) inside;
     }
 
 pub read_order : (values : List ℕ) (z k rec : ℕ) (order inner : List SerialEvent) (now : List ℕ) → Runs values z k order inner now → rec < length now → Runs values z (k + 1) order (inner ++ Read (z ∷ k ∷ []) rec (slice_index now rec) ∷ []) now
@@ -72,5 +72,5 @@ end_order values z k order inner now r =
     let same_order : whole ++ Leave (z ∷ []) ∷ [] ≡ order ++ (Enter (z ∷ []) ∷ (inner ++ Leave (z ∷ []) ∷ [])) = append_assoc order (Enter (z ∷ []) ∷ inner) (Leave (z ∷ []) ∷ []) in
     record {
       accepted = subst (λ es. Accepts (begin values) es) same_order (accept_one values whole (Leave (z ∷ [])) r.accepted (leaves z k m now r.inside));
-      idle = subst (λ s. Idle (z + 1) s now) (after_one values whole (Leave (z ∷ [])) ∙ ap (after values) same_order) (left_idle z k m now r.inside)
+      idle = subst (λ s. Idle (z + 1) s now) (after_one values whole (Leave (z ∷ [])) ∙ ap (after values) same_order) (left_idle z k m now r.inside);
     }

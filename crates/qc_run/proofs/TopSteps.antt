@@ -1,9 +1,8 @@
 -- The entries of a top: its managers' starts and ends, its ready mark and its commit.
-use Rattle.std.proofs.Common.{◌≡◌, ℕ, ◌+◌, ◌<◌, ◌≤◌, ◌⊎◌, inl, inr, Bool, true, false, ◌&&◌, cond, if◌then◌else◌, List, [], ◌∷◌, ◌++◌, length, refl, sym, ap, ap₂, ◌∙◌, subst, arith, eq-eqb, append-nil, Option, None, Some, MatchOption, is_some, is_none}
+use Rattle.std.proofs.Common.{◌≡◌, ℕ, ◌+◌, inl, inr, Bool, true, false, ◌&&◌, cond, if◌then◌else◌, List, [], ◌∷◌, ◌++◌, refl, sym, ap, ap₂, ◌∙◌, subst, arith, eq-eqb, append-nil, None, Some, MatchOption, is_some, is_none}
 use Rattle.std.specs.Prelude.{◌==◌}
 use Rattle.std.specs.Option.{option_or, option_map}
 use Rattle.std.proofs.lemmas.Bool.{cases_eq}
-use Rattle.std.proofs.lemmas.List.Elements.{filter-append}
 use Rattle.qc_event.specs.declared.event.Answer.TheVariants as answer
 use Rattle.qc_event.specs.declared.event.Entry.{Entry}
 use Rattle.qc_event.specs.declared.event.Event.TheVariants.{Start, Ready, End}
@@ -11,7 +10,7 @@ use Rattle.qc_event.specs.declared.event.How.{How}
 use Rattle.qc_event.specs.declared.event.How.TheVariants.{Commit}
 use Rattle.qc_event.specs.declared.event.Kind.{Kind}
 use Rattle.qc_event.specs.declared.event.Kind.TheVariants.{User}
-use Rattle.qc_event.specs.History.{Past, Name, Begun, same, start_in, start, end_in, end, is_child, kind_of}
+use Rattle.qc_event.specs.History.{Past, Name, Begun, same, start, end, is_child, kind_of}
 use Rattle.qc_event.specs.Legal.{IsUser}
 use Rattle.qc_serial.specs.declared.event.SerialEvent.{SerialEvent}
 use Rattle.qc_serial.specs.declared.event.SerialEvent.TheVariants as serial
@@ -20,8 +19,8 @@ use Rattle.qc_simlock.specs.Own.{is_own, own, own_past}
 use Rattle.qc_simlock.proofs.OwnOrder.{own_walk}
 use Rattle.qc_run.specs.Trace.{by_client, by_ledger}
 use Rattle.qc_run.proofs.Machines.{same_self, sibling}
-use Rattle.qc_run.proofs.Elsewhere.{other_child, other_start, other_end, other_own}
-use Rattle.qc_run.proofs.OneTop.{Between, Within, Adds, StartsNone, add_entry, still_closed, flat_more, own-append, begun_of}
+use Rattle.qc_run.proofs.Elsewhere.{and_false, other_child, other_end, other_own}
+use Rattle.qc_run.proofs.OneTop.{Between, Within, Adds, StartsNone, add_entry, still_closed, flat_more, own-append}
 
 -- THE START OF A MANAGER
 
@@ -44,7 +43,7 @@ manager_starts z k past kd other = record {
   stays_open = refl;
   starts_no_later = λ j le. ap (λ b. if b then Some (record { seat = 18; kind = kd }) else None) (sibling z k j le);
   starts_no_user = starts_no_user (z ∷ k ∷ []) kd other;
-  of_this = λ x ne. refl
+  of_this = λ x ne. refl;
 }
 
 -- the same history with another list for its inner walk
@@ -54,7 +53,7 @@ with_inner z k i past order a b e h = subst (λ l. Within z k i past order l) e 
 pub manager_started : (z k i : ℕ) (past : Past) (order inner : List SerialEvent) (kd : Kind) → (IsUser kd → ⊥) → Within z k i past order inner → Within z (k + 1) i (by_client (Start (z ∷ k ∷ []) kd) ∷ past) order inner
 manager_started z k i past order inner kd other h =
     with_inner z (k + 1) i (by_client (Start (z ∷ k ∷ []) kd) ∷ past) order (inner ++ []) inner (append-nil inner)
-      (add_entry z k (k + 1) i past (by_client (Start (z ∷ k ∷ []) kd)) order inner [] h (omega arith) (manager_starts z k past kd other))
+    (add_entry z k (k + 1) i past (by_client (Start (z ∷ k ∷ []) kd)) order inner [] h (omega arith) (manager_starts z k past kd other))
 
 pub manager_kind : (z k i : ℕ) (past : Past) (order inner : List SerialEvent) (kd : Kind) → Within z k i past order inner → kind_of (by_client (Start (z ∷ k ∷ []) kd) ∷ past) (z ∷ k ∷ []) ≡ Some kd
 manager_kind z k i past order inner kd h =
@@ -70,15 +69,11 @@ manager_ends z k l past kd how e kinded becomes about = record {
   concerns = refl;
   not_to_root = refl;
   to_top = ap₂ (λ b o. if b then ended o (walk past (z ∷ k ∷ [])) (z ∷ k ∷ []) how else []) (child_here z k) kinded ∙ becomes;
-  stays_open = ap (λ b. if b then Some how else None) (ends_child (z == z));
+  stays_open = ap (λ b. if b then Some how else None) (and_false (z == z));
   starts_no_later = λ j le. refl;
   starts_no_user = λ x y rest h. h;
-  of_this = λ x ne. ap (λ b. cond b (e ∷ []) []) (about x ∙ other_child z x (z ∷ k ∷ []) refl ne)
+  of_this = λ x ne. ap (λ b. cond b (e ∷ []) []) (about x ∙ other_child z x (z ∷ k ∷ []) refl ne);
 }
-  where
-    ends_child : (b : Bool) → (b && false) ≡ false
-    ends_child true = refl
-    ends_child false = refl
 
 pub manager_ended : (z k i l : ℕ) (past : Past) (order inner : List SerialEvent) (kd : Kind) (how : How) (e : SerialEvent) → Within z l i past order inner → kind_of past (z ∷ k ∷ []) ≡ Some kd → ended (Some kd) (walk past (z ∷ k ∷ [])) (z ∷ k ∷ []) how ≡ e ∷ [] → ((x : ℕ) → is_own (x ∷ []) e ≡ is_child (x ∷ []) (z ∷ k ∷ [])) → Within z l i (by_client (End (z ∷ k ∷ []) how) ∷ past) order (inner ++ e ∷ [])
 manager_ended z k i l past order inner kd how e h kinded becomes about =
@@ -89,8 +84,8 @@ manager_ended z k i l past order inner kd how e h kinded becomes about =
 pub top_ready : (z k i : ℕ) (past : Past) (order inner : List SerialEvent) → Within z k i past order inner → Within z k i (by_client (Ready (z ∷ [])) ∷ past) order inner
 top_ready z k i past order inner h =
     with_inner z k i (by_client (Ready (z ∷ [])) ∷ past) order (inner ++ []) inner (append-nil inner)
-      (add_entry z k k i past (by_client (Ready (z ∷ []))) order inner [] h (omega arith)
-        (record { concerns = refl; not_to_root = refl; to_top = refl; stays_open = refl; starts_no_later = λ j le. refl; starts_no_user = λ x y rest s. s; of_this = λ x ne. refl }))
+    (add_entry z k k i past (by_client (Ready (z ∷ []))) order inner [] h (omega arith)
+    (record { concerns = refl; not_to_root = refl; to_top = refl; stays_open = refl; starts_no_later = λ j le. refl; starts_no_user = λ x y rest s. s; of_this = λ x ne. refl }))
 
 -- THE END OF A TOP
 
@@ -124,10 +119,6 @@ closed_here : (z : ℕ) (past : Past) → end past (z ∷ []) ≡ None → is_op
 closed_here z past h =
     ap₂ (λ o b. is_some (option_or (start past (z ∷ [])) None) && is_none (option_or o (if b then Some (Commit answer.Nothing) else None))) h (same_self (z ∷ []))
     ∙ and_false (is_some (option_or (start past (z ∷ [])) None))
-  where
-    and_false : (b : Bool) → (b && false) ≡ false
-    and_false true = refl
-    and_false false = refl
 
 at_each : (P : ℕ → Type 0) (z : ℕ) → P z → ((x : ℕ) → (z ≡ x → ⊥) → P x) → (x : ℕ) → P x
 at_each P z here elsewhere x = elim (cases_eq z x) [ inl e ↦ subst P e here | inr ne ↦ elsewhere x ne ]
@@ -138,7 +129,7 @@ end_top z k i past order inner h = record {
   root = ap₂ (λ w o. w ++ ended (option_map (λ (m : Begun). m.kind) o) (walk past (z ∷ [])) (z ∷ []) (Commit answer.Nothing)) h.root h.began ∙ ap (λ v. order ++ block z v) h.here;
   flat = flat_more (top_end z) past h.flat (λ x y rest s. s);
   closed = at_each (λ x. is_open_or_root (top_end z ∷ past) (x ∷ []) ≡ false) z (closed_here z past h.not_ended)
-    (λ x ne. still_closed (top_end z) past x refl (other_end z x [] (End (z ∷ []) (Commit answer.Nothing)) refl ne) (h.others_closed x ne));
+      (λ x ne. still_closed (top_end z) past x refl (other_end z x [] (End (z ∷ []) (Commit answer.Nothing)) refl ne) (h.others_closed x ne));
   owned = at_each (λ x. own (x ∷ []) (order ++ block z inner) ≡ own_past (x ∷ []) (top_end z ∷ past)) z (owned_here z k i past order inner h)
-    (λ x ne. owned_elsewhere z k i x past order inner h ne)
+      (λ x ne. owned_elsewhere z k i x past order inner h ne);
 }
