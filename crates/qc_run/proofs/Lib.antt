@@ -3,3 +3,9 @@ pub mod OneMore
 pub mod LegalTrace
 pub mod FollowsTrace
 pub mod Fronts
+pub mod Machines
+pub mod Elsewhere
+pub mod OneTop
+pub mod TopSteps
+pub mod Orders
+pub mod SerialTrace
