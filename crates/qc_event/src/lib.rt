@@ -22,3 +22,6 @@ pub use qc_names::Name;
 pub use scan::{dead, kind, outcome};
 pub use table::{Label, Row, Rows, Table};
 pub use tuple::{Op, Tuple};
+
+#[cfg(test)]
+mod tests;
