@@ -6,3 +6,5 @@ mod script;
 mod session;
 
 pub use bad_script::{BadScript, Member};
+
+mod words;
