@@ -1,2 +1,3 @@
+pub mod Io
 pub mod Trace
 pub mod Serial

@@ -2,6 +2,7 @@
 #![tactic(auto)]
 
 mod bad_script;
+pub mod io;
 mod script;
 
 pub use bad_script::{BadScript, Member};
