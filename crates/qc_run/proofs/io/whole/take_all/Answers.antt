@@ -1,3 +1,4 @@
+-- Where a read failed, what is gone came before it.
 use Rattle.std.proofs.Common.{◌+◌, arith, length}
 use Rattle.std.proofs.lemmas.Result.{err_from_is_err_and}
 use Rattle.qc_run.proofs.Streams.{loses_more}

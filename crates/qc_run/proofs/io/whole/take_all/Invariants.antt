@@ -1,3 +1,4 @@
+-- What holds after each piece, and that fewer bytes are still to come.
 use Rattle.std.proofs.Common.{◌≤◌, ◌+◌, ◌-◌, length}
 use Rattle.qc_run.specs.Io.{Gave}
 use Rattle.qc_run.proofs.io.whole.take_all.Given as goal

@@ -1,4 +1,5 @@
-use Rattle.std.proofs.Common.{◌≡◌, ◌<◌, [], length, ap, arith, rules}
+-- A write goes on from where the one before it ended.
+use Rattle.std.proofs.Common.{length, ap, arith, rules}
 use Rattle.qc_run.proofs.Streams.{appends_more}
 use Rattle.qc_run.proofs.io.whole.write_all.Goals as goal
 

@@ -1,3 +1,4 @@
+-- What holds after each write, and that fewer bytes are still to go.
 use Rattle.std.proofs.Common.{◌≡◌, ◌≤◌, ◌-◌, [], length, take}
 use Rattle.qc_run.specs.Io.{Appends}
 use Rattle.qc_run.proofs.io.whole.write_all.Given as goal

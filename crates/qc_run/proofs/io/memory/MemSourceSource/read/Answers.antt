@@ -1,3 +1,4 @@
+-- A list from a place on is read as a source must be.
 use Rattle.std.proofs.Common.{arith}
 use Rattle.qc_run.proofs.Streams.{reads_from}
 use Rattle.qc_run.proofs.io.memory.MemSourceSource.read.Goals as goal
