@@ -1,3 +1,4 @@
+pub mod Io
 pub mod Trace
 pub mod Serial
 pub mod Follows

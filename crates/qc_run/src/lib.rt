@@ -2,6 +2,7 @@
 #![tactic(auto)]
 
 mod bad_script;
+pub mod io;
 mod script;
 mod session;
 
