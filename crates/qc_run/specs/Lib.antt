@@ -1,2 +1,4 @@
 pub mod Trace
 pub mod Serial
+pub mod ScriptText
+pub mod Reading

@@ -2,6 +2,7 @@
 #![tactic(auto)]
 
 mod bad_script;
+mod reader;
 mod script;
 
 pub use bad_script::{BadScript, Member};

@@ -1,0 +1,2 @@
+//! Scripts from JSON texts.
+mod object;
