@@ -1,2 +1,4 @@
 //! Scripts from JSON texts.
 mod object;
+mod rows;
+mod steps;
