@@ -171,23 +171,26 @@ abbrev pub number_of : List Row → Text → Read ℕ
 number_of rows name = ok_or (place_of rows name) (Unknown name)
 
 -- ["read", R]
-abbrev pub read_of : List Row → Data → Read Step
-read_of rows rec = do
+abbrev pub read_of : List Row → Data → Data → Read Step
+read_of rows word rec = do
+  _ ← must (is_word (codes "read") word) (Shape part.Step)
   name ← step_name rec
   i ← number_of rows name
   Ok (step.Read i)
 
 -- ["set", R, n]
-abbrev pub set_of : List Row → Data → Data → Read Step
-set_of rows rec value = do
+abbrev pub set_of : List Row → Data → Data → Data → Read Step
+set_of rows word rec value = do
+  _ ← must (is_word (codes "set") word) (Shape part.Step)
   name ← step_name rec
   n ← ok_or (digits_of value) (Shape part.Step)
   i ← number_of rows name
   Ok (step.Set i n)
 
+-- the elements of a step
 abbrev pub step_in : List Row → List Data → Read Step
-step_in rows (word ∷ rec ∷ []) = if is_word (codes "read") word then read_of rows rec else Err (Shape part.Step)
-step_in rows (word ∷ rec ∷ value ∷ []) = if is_word (codes "set") word then set_of rows rec value else Err (Shape part.Step)
+step_in rows (word ∷ rec ∷ []) = read_of rows word rec
+step_in rows (word ∷ rec ∷ value ∷ []) = set_of rows word rec value
 step_in rows _ = Err (Shape part.Step)
 
 abbrev pub step_of : List Row → Data → Read Step

@@ -1,5 +1,5 @@
 //! Members of JSON objects, and checks on them.
-ghost use Rattle.std.specs.Prelude.{◌≡◌, ◌&&◌, map, not, nat_le};
+ghost use Rattle.std.specs.Prelude.{◌≡◌, ◌≢◌, map, IfErr};
 ghost use Rattle.serde_json.specs.View.{view, members_view};
 ghost use Rattle.qc_run.specs.ScriptText as script;
 ghost use Rattle.qc_run.specs.Reading.{Gives};
@@ -37,8 +37,9 @@ pub(crate) fn check_object(
     needed: &[&str],
     others: &[&str],
 ) -> Result<(), BadScript>
-    ensures { Gives (λ _. tt) result
+    ensures exact { Gives (λ _. tt) result
         (script.object_of word (map (λ n. n.now) needed.now) (map (λ n. n.now) others.now) (view value.now)) }
+    ensures no_memory { IfErr result (λ e. e ≢ BadScript.Memory) }
 {
     let Some(members) = value.as_object() else {
         return Err(BadScript::Shape(word));
@@ -54,13 +55,15 @@ pub(crate) fn member_at<'v>(
     name: &str,
     word: Member,
 ) -> Result<&'v Value, BadScript>
-    ensures { Gives (λ v. view v.now) result (script.member_at name.now word (view object.now)) }
+    ensures exact { Gives (λ v. view v.now) result (script.member_at name.now word (view object.now)) }
+    ensures no_memory { IfErr result (λ e. e ≢ BadScript.Memory) }
 {
     object.get(name).ok_or(BadScript::Shape(word))
 }
 
 pub(crate) fn number_at(object: &Value, name: &str, word: Member) -> Result<u64, BadScript>
-    ensures { Gives (λ n. n) result (script.number_at name.now word (view object.now)) }
+    ensures exact { Gives (λ n. n) result (script.number_at name.now word (view object.now)) }
+    ensures no_memory { IfErr result (λ e. e ≢ BadScript.Memory) }
 {
     object
         .get(name)
@@ -73,7 +76,8 @@ pub(crate) fn text_at<'v>(
     name: &str,
     word: Member,
 ) -> Result<&'v str, BadScript>
-    ensures { Gives (λ t. t.now) result (script.text_at name.now word (view object.now)) }
+    ensures exact { Gives (λ t. t.now) result (script.text_at name.now word (view object.now)) }
+    ensures no_memory { IfErr result (λ e. e ≢ BadScript.Memory) }
 {
     object
         .get(name)
@@ -86,7 +90,8 @@ pub(crate) fn list_at<'v>(
     name: &str,
     word: Member,
 ) -> Result<&'v [Value], BadScript>
-    ensures { Gives (λ vs. map view vs.now) result (script.list_at name.now word (view object.now)) }
+    ensures exact { Gives (λ vs. map view vs.now) result (script.list_at name.now word (view object.now)) }
+    ensures no_memory { IfErr result (λ e. e ≢ BadScript.Memory) }
 {
     match object.get(name).and_then(Value::as_array) {
         Some(list) => Ok(list.as_slice()),
@@ -95,7 +100,8 @@ pub(crate) fn list_at<'v>(
 }
 
 pub(crate) fn check_absent(object: &Value, name: &str, word: Member) -> Result<(), BadScript>
-    ensures { Gives (λ _. tt) result (script.without name.now word (view object.now)) }
+    ensures exact { Gives (λ _. tt) result (script.without name.now word (view object.now)) }
+    ensures no_memory { IfErr result (λ e. e ≢ BadScript.Memory) }
 {
     if object.get(name).is_some() {
         return Err(BadScript::Shape(word));
@@ -109,7 +115,8 @@ pub(crate) fn check_within(
     high: u64,
     number: u64,
 ) -> Result<(), BadScript>
-    ensures { Gives (λ _. tt) result (script.within word low high number) }
+    ensures exact { Gives (λ _. tt) result (script.within word low high number) }
+    ensures no_memory { IfErr result (λ e. e ≢ BadScript.Memory) }
 {
     if number < low || number > high {
         return Err(BadScript::Limit(word, number));

@@ -1,5 +1,5 @@
 //! Records: their names, start values and configurations.
-ghost use Rattle.std.specs.Prelude.{◌≡◌, ◌<◌, ◌≤◌, [], map, length, vec_len, IfOk, IfSome};
+ghost use Rattle.std.specs.Prelude.{◌≡◌, ◌≢◌, ◌<◌, ◌≤◌, [], map, length, vec_len, IfOk, IfErr, IfSome};
 ghost use Rattle.std.specs.Char.{is_ascii_alphanumeric};
 ghost use Rattle.std.specs.List.{list_all};
 ghost use Rattle.serde_json.specs.View.{view};
@@ -21,7 +21,8 @@ fn is_plain(text: &str) -> bool
 }
 
 pub(crate) fn check_name(text: &str) -> Result<(), BadScript>
-    ensures { Gives (λ _. tt) result (script.form_of_name text.now) }
+    ensures exact { Gives (λ _. tt) result (script.form_of_name text.now) }
+    ensures no_memory { IfErr result (λ e. e ≢ BadScript.Memory) }
 {
     if !is_plain(text) {
         return Err(BadScript::Shape(Member::Name));
@@ -54,7 +55,8 @@ fn name_of(alloc: Global, rows: &[Row], value: &Value) -> Result<Label, BadScrip
 }
 
 fn vote_of(value: &Value) -> Result<u8, BadScript>
-    ensures { Gives (λ n. n) result (script.vote_of (view value.now)) }
+    ensures exact { Gives (λ n. n) result (script.vote_of (view value.now)) }
+    ensures no_memory { IfErr result (λ e. e ≢ BadScript.Memory) }
 {
     let votes = value.as_u64().ok_or(BadScript::Shape(Member::Votes))?;
     if votes > 255 {

@@ -1,5 +1,5 @@
 //! Sessions: their tops, the bodies of these, and the steps of the bodies.
-ghost use Rattle.std.specs.Prelude.{◌≡◌, ◌<◌, ◌≤◌, map, length, IfOk};
+ghost use Rattle.std.specs.Prelude.{◌≡◌, ◌≢◌, ◌≤◌, map, length, IfErr};
 ghost use Rattle.serde_json.specs.View.{view};
 ghost use Rattle.qc_run.specs.ScriptText as script;
 ghost use Rattle.qc_run.specs.Reading.{Gives};
@@ -22,11 +22,15 @@ fn is_word(value: &Value, word: &str) -> bool
 }
 
 fn step_name(value: &Value) -> Result<&str, BadScript>
-    ensures { Gives (λ t. t.now) result (script.step_name (view value.now)) }
+    ensures exact { Gives (λ t. t.now) result (script.step_name (view value.now)) }
+    ensures no_memory { IfErr result (λ e. e ≢ BadScript.Memory) }
 {
-    match value.as_str() {
-        Some(name) if check_name(name).is_ok() => Ok(name),
-        _ => Err(BadScript::Shape(Member::Step)),
+    let Some(name) = value.as_str() else {
+        return Err(BadScript::Shape(Member::Step));
+    };
+    match check_name(name) {
+        Ok(()) => Ok(name),
+        Err(_) => Err(BadScript::Shape(Member::Step)),
     }
 }
 
@@ -40,19 +44,32 @@ fn number_of(alloc: Global, rows: &[Row], name: &str) -> Result<u8, BadScript>
     }
 }
 
-fn read_of(alloc: Global, rows: &[Row], rec: &Value) -> Result<Step, BadScript>
+fn read_of(alloc: Global, rows: &[Row], word: &Value, rec: &Value) -> Result<Step, BadScript>
     requires { length rows.now ≤ 64 }
-    ensures { Gives (λ s. s) result (script.read_of rows.now (view rec.now)) }
+    ensures { Gives (λ s. s) result (script.read_of rows.now (view word.now) (view rec.now)) }
 {
+    if !is_word(word, "read") {
+        return Err(BadScript::Shape(Member::Step));
+    }
     let name = step_name(rec)?;
     let rec = number_of(alloc, rows, name)?;
     Ok(Step::Read { rec })
 }
 
-fn set_of(alloc: Global, rows: &[Row], rec: &Value, value: &Value) -> Result<Step, BadScript>
+fn set_of(
+    alloc: Global,
+    rows: &[Row],
+    word: &Value,
+    rec: &Value,
+    value: &Value,
+) -> Result<Step, BadScript>
     requires { length rows.now ≤ 64 }
-    ensures { Gives (λ s. s) result (script.set_of rows.now (view rec.now) (view value.now)) }
+    ensures { Gives (λ s. s) result
+        (script.set_of rows.now (view word.now) (view rec.now) (view value.now)) }
 {
+    if !is_word(word, "set") {
+        return Err(BadScript::Shape(Member::Step));
+    }
     let name = step_name(rec)?;
     let value = value.as_u64().ok_or(BadScript::Shape(Member::Step))?;
     let rec = number_of(alloc, rows, name)?;
@@ -64,8 +81,8 @@ fn step_in(alloc: Global, rows: &[Row], parts: &[Value]) -> Result<Step, BadScri
     ensures { Gives (λ s. s) result (script.step_in rows.now (map view parts.now)) }
 {
     match parts {
-        [word, rec] if is_word(word, "read") => read_of(alloc, rows, rec),
-        [word, rec, value] if is_word(word, "set") => set_of(alloc, rows, rec, value),
+        [word, rec] => read_of(alloc, rows, word, rec),
+        [word, rec, value] => set_of(alloc, rows, word, rec, value),
         _ => Err(BadScript::Shape(Member::Step)),
     }
 }
