@@ -27,10 +27,13 @@ abbrev pub Read : Type 0 → Type 0
 Read A = Result A BadScript
 
 -- One thing is read after another. A refusal is the answer.
+unfoldable pub followed : {A B : Type 0} → Read A → (A → Read B) → Read B
+followed (Ok x) f = f x
+followed (Err e) f = Err e
+
 infixl 10 ◌>>=◌
 abbrev pub ◌>>=◌ : {A B : Type 0} → Read A → (A → Read B) → Read B
-(Ok x) >>= f = f x
-(Err e) >>= f = Err e
+r >>= f = followed r f
 
 -- a check that passes, or its refusal
 abbrev pub must : Bool → BadScript → Read (Unit {0})

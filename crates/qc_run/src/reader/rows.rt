@@ -1,4 +1,5 @@
 //! Records: their names, start values and configurations.
+#![tactic(auto, unfolding(crate::specs::ScriptText::followed))]
 ghost use Rattle.std.specs.Prelude.{◌≡◌, ◌≢◌, ◌<◌, ◌≤◌, [], map, length, vec_len, IfOk, IfErr, IfSome};
 ghost use Rattle.std.specs.Char.{is_ascii_alphanumeric};
 ghost use Rattle.std.specs.List.{list_all};

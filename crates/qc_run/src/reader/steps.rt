@@ -1,4 +1,5 @@
 //! Sessions: their tops, the bodies of these, and the steps of the bodies.
+#![tactic(auto, unfolding(crate::specs::ScriptText::followed))]
 ghost use Rattle.std.specs.Prelude.{◌≡◌, ◌≢◌, ◌≤◌, map, length, IfErr};
 ghost use Rattle.serde_json.specs.View.{view};
 ghost use Rattle.qc_run.specs.ScriptText as script;
