@@ -16,7 +16,7 @@ use Rattle.qc_run.specs.declared.script.Body.{Body}
 use Rattle.qc_run.specs.declared.script.Script.{Script}
 use Rattle.qc_run.specs.declared.script.Step.{Step}
 use Rattle.qc_run.specs.ScriptText.{Read, Text, followed, ◌>>=◌, must, within, each, configured, config_of, row_of, rows_of, place_of, number_of, read_of, set_of, step_in, step_of, body_of, session_of, only_session, copies_of, records_of, tops_of, script_of}
-use Rattle.qc_run.specs.Reading.{IsProperRow, IsProper}
+use Rattle.qc_run.specs.Reading.{Gives, IsProperRow, IsProper}
 
 -- what holds of the last of several parts, where each of them is read
 then_ok : {A B : Type 0} (P : B → Type 0) (r : Read A) (f : A → Read B) → ((x : A) → r ≡ Ok x → IfOk (f x) P) → IfOk (r >>= f) P
@@ -76,7 +76,7 @@ config_proper copies d =
     then_ok _ _ _ λ _ _. then_ok _ _ _ λ list _. then_ok _ _ _ λ t counted. then_ok _ _ _ λ votes v. then_ok _ _ _ λ read _. then_ok _ _ _ λ write _.
     no_fault (IsProperConfig copies) (fault votes read write) _ (λ h. (
       legal_unless_fault votes read write h,
-      IfOk-at_ok (λ ys. length ys ≡ length list) v (length-each _ list) ∙ eqb-true (length list) copies (must_true _ _ t counted)
+      IfOk-at_ok (λ ys. length ys ≡ length list) v (length-each _ list) ∙ eqb-true (length list) copies (must_true _ _ t counted),
     ))
 
 -- ---- records
@@ -198,3 +198,8 @@ pub script_proper : (d : Data) → IfOk (script_of d) IsProper
 script_proper d =
     then_ok _ _ _ λ _ _. then_ok _ _ _ λ copies c. then_ok _ _ _ λ _ _. then_ok _ _ _ λ rows r. then_ok _ _ _ λ tops t.
     script_if_one copies d rows tops (IfOk-at_ok (λ n. n ≡ 1) c (one_copy d)) r t
+
+-- so is what a reader gives as what the value is
+pub gives_proper : (d : Data) (r : Result Script BadScript) → Gives (λ s. s) r (script_of d) → IfOk r IsProper
+gives_proper d (Ok s) h = IfOk-at_ok IsProper h (script_proper d)
+gives_proper d (Err e) h = tt

@@ -1,5 +1,5 @@
 //! Members of JSON objects, and checks on them.
-ghost use Rattle.std.specs.Prelude.{◌≡◌, ◌≢◌, map, IfErr};
+ghost use Rattle.std.specs.Prelude.{◌≡◌, ◌≢◌, ◌≤◌, map, IfErr, OnOk};
 ghost use Rattle.serde_json.specs.View.{view, members_view};
 ghost use Rattle.qc_run.specs.ScriptText as script;
 ghost use Rattle.qc_run.specs.Reading.{Gives};
@@ -71,11 +71,7 @@ pub(crate) fn number_at(object: &Value, name: &str, word: Member) -> Result<u64,
         .ok_or(BadScript::Shape(word))
 }
 
-pub(crate) fn text_at<'v>(
-    object: &'v Value,
-    name: &str,
-    word: Member,
-) -> Result<&'v str, BadScript>
+pub(crate) fn text_at<'v>(object: &'v Value, name: &str, word: Member) -> Result<&'v str, BadScript>
     ensures exact { Gives (λ t. t.now) result (script.text_at name.now word (view object.now)) }
     ensures no_memory { IfErr result (λ e. e ≢ BadScript.Memory) }
 {
@@ -109,13 +105,9 @@ pub(crate) fn check_absent(object: &Value, name: &str, word: Member) -> Result<(
     Ok(())
 }
 
-pub(crate) fn check_within(
-    word: Member,
-    low: u64,
-    high: u64,
-    number: u64,
-) -> Result<(), BadScript>
+pub(crate) fn check_within(word: Member, low: u64, high: u64, number: u64) -> Result<(), BadScript>
     ensures exact { Gives (λ _. tt) result (script.within word low high number) }
+    ensures inside { OnOk result ((low ≤ number) × (number ≤ high)) }
     ensures no_memory { IfErr result (λ e. e ≢ BadScript.Memory) }
 {
     if number < low || number > high {

@@ -1,5 +1,6 @@
 //! Records: their names, start values and configurations.
 #![tactic(auto, unfolding(crate::specs::ScriptText::followed))]
+
 ghost use Rattle.std.specs.Prelude.{◌≡◌, ◌≢◌, ◌<◌, ◌≤◌, [], map, length, vec_len, IfOk, IfErr, IfSome};
 ghost use Rattle.std.specs.Char.{is_ascii_alphanumeric};
 ghost use Rattle.std.specs.List.{list_all};
@@ -8,9 +9,7 @@ ghost use Rattle.qc_run.specs.ScriptText as script;
 ghost use Rattle.qc_run.specs.Reading.{Gives};
 
 use crate::bad_script::{BadScript, Member};
-use crate::reader::object::{
-    check_object, check_within, list_at, member_at, number_at, text_at,
-};
+use crate::reader::object::{check_object, check_within, list_at, member_at, number_at, text_at};
 use qc_event::{Config, Label, Row};
 use serde_json::Value;
 use std::alloc::Global;
@@ -60,9 +59,7 @@ fn vote_of(value: &Value) -> Result<u8, BadScript>
     ensures no_memory { IfErr result (λ e. e ≢ BadScript.Memory) }
 {
     let votes = value.as_u64().ok_or(BadScript::Shape(Member::Votes))?;
-    if votes > 255 {
-        return Err(BadScript::Limit(Member::Votes, votes));
-    }
+    check_within(Member::Votes, 0, 255, votes)?;
     Ok(votes as u8)
 }
 
@@ -112,11 +109,7 @@ fn row_of(alloc: Global, copies: u8, rows: &[Row], value: &Value) -> Result<Row,
     })
 }
 
-pub(crate) fn rows_of(
-    alloc: Global,
-    copies: u8,
-    records: &[Value],
-) -> Result<Vec<Row>, BadScript>
+pub(crate) fn rows_of(alloc: Global, copies: u8, records: &[Value]) -> Result<Vec<Row>, BadScript>
     requires { copies ≤ 16 }
     ensures exact { Gives (λ rows. rows.items) result (script.rows_of copies [] (map view records.now)) }
     ensures counted { IfOk result (λ rows. vec_len rows ≡ length records.now) }

@@ -1,5 +1,6 @@
 //! Sessions: their tops, the bodies of these, and the steps of the bodies.
 #![tactic(auto, unfolding(crate::specs::ScriptText::followed))]
+
 ghost use Rattle.std.specs.Prelude.{◌≡◌, ◌≢◌, ◌≤◌, map, length, IfErr};
 ghost use Rattle.serde_json.specs.View.{view};
 ghost use Rattle.qc_run.specs.ScriptText as script;
@@ -138,11 +139,7 @@ fn bodies_of(alloc: Global, rows: &[Row], list: &[Value]) -> Result<Vec<Body>, B
     Ok(bodies)
 }
 
-pub(crate) fn session_of(
-    alloc: Global,
-    rows: &[Row],
-    value: &Value,
-) -> Result<Bodies, BadScript>
+pub(crate) fn session_of(alloc: Global, rows: &[Row], value: &Value) -> Result<Bodies, BadScript>
     requires { length rows.now ≤ 64 }
     ensures { Gives (λ b. b) result (script.session_of rows.now (view value.now)) }
 {

@@ -7,5 +7,5 @@ use Rattle.qc_run.proofs.reader.rows.rows_of.Given as goal
 abbrev pub invariant-loop-value : goal.invariant-loop-value
 invariant-loop-value l = record {
   read : script.rows_of l.copies l.rows.items (map view (drop l.value-index l.records)) ≡ script.rows_of l.copies [] (map view l.records);
-  counted : vec_len l.rows ≡ l.value-index
+  counted : vec_len l.rows ≡ l.value-index;
 }

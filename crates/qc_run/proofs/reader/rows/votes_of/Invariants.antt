@@ -7,5 +7,5 @@ use Rattle.qc_run.proofs.reader.rows.votes_of.Given as goal
 abbrev pub invariant-loop-value : goal.invariant-loop-value
 invariant-loop-value l = record {
   read : with_front l.votes.items (script.each script.vote_of (map view (drop l.value-index l.list))) ≡ script.each script.vote_of (map view l.list);
-  counted : vec_len l.votes ≡ l.value-index
+  counted : vec_len l.votes ≡ l.value-index;
 }
