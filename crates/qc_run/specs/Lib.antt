@@ -3,3 +3,5 @@ pub mod Trace
 pub mod Serial
 pub mod Follows
 pub mod Words
+pub mod ScriptText
+pub mod Reading

@@ -3,6 +3,7 @@
 
 mod bad_script;
 pub mod io;
+mod reader;
 mod script;
 mod session;
 
