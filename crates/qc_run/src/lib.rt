@@ -2,6 +2,7 @@
 #![tactic(auto)]
 
 mod bad_script;
+mod report;
 mod script;
 
 pub use bad_script::{BadScript, Member};
