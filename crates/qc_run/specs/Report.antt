@@ -65,18 +65,25 @@ abbrev pub orphan_line : Table → Name → ℕ → Cause → Text
 orphan_line table n rec (cause.Orphan ancestor) = codes "orphan " ++ name.text n ++ codes " " ++ record_name table rec ++ codes " " ++ name.text ancestor ++ codes "\n"
 orphan_line table n rec _ = []
 
--- a transaction that was started for this has ended
+-- a transaction that was started for this has committed
+abbrev pub committed_line : Table → Name → Answer → Kind → Text
+committed_line table n answer (kind.User session body) = commit_line n
+committed_line table n answer (kind.Read rec) = read_line table n rec answer
+committed_line table n answer (kind.Write rec value) = set_line table n rec value
+committed_line table n answer (kind.Reconf rec config) = []
+committed_line table n answer kind.Access = []
+
+-- a transaction that was started for this has been aborted
+abbrev pub aborted_line : Table → Name → Cause → Kind → Text
+aborted_line table n why (kind.User session body) = abort_line n why
+aborted_line table n why (kind.Read rec) = orphan_line table n rec why
+aborted_line table n why (kind.Write rec value) = orphan_line table n rec why
+aborted_line table n why (kind.Reconf rec config) = []
+aborted_line table n why kind.Access = []
+
 abbrev pub end_line : Table → Name → How → Kind → Text
-end_line table n (Commit answer) (kind.User session body) = commit_line n
-end_line table n (Commit answer) (kind.Read rec) = read_line table n rec answer
-end_line table n (Commit answer) (kind.Write rec value) = set_line table n rec value
-end_line table n (Commit answer) (kind.Reconf rec config) = []
-end_line table n (Commit answer) kind.Access = []
-end_line table n (Abort why) (kind.User session body) = abort_line n why
-end_line table n (Abort why) (kind.Read rec) = orphan_line table n rec why
-end_line table n (Abort why) (kind.Write rec value) = orphan_line table n rec why
-end_line table n (Abort why) (kind.Reconf rec config) = []
-end_line table n (Abort why) kind.Access = []
+end_line table n (Commit answer) kind = committed_line table n answer kind
+end_line table n (Abort why) kind = aborted_line table n why kind
 
 -- the line of an entry, where it is the end of a name that was started
 abbrev pub event_line : Table → List Entry → Event → Text
@@ -97,8 +104,8 @@ doubt_line trail (Ready top) = if is_live (dead.outcome (reverse trail) top) the
 doubt_line trail _ = []
 
 -- a record, and its value at the end
-abbrev pub final_line : Row × ℕ → Text
-final_line (row, v) = codes "final " ++ row.name ++ codes " " ++ decimal v ++ codes "\n"
+abbrev pub final_line : Row → ℕ → Text
+final_line row v = codes "final " ++ row.name ++ codes " " ++ decimal v ++ codes "\n"
 
 -- the name of a top has one number
 abbrev pub is_top : Name → Bool
@@ -120,14 +127,24 @@ aborts_top _ = false
 abbrev pub entries_of : (Event → Bool) → List Entry → ℕ
 entries_of test trail = count_by (λ (e : Entry). test e.event) trail
 
--- how many tops were started, committed and aborted, and how many are in doubt
-abbrev pub tally_line : List Entry → Text
-tally_line trail = codes "tops " ++ decimal (entries_of starts_top trail) ++ codes " committed " ++ decimal (entries_of commits_top trail) ++ codes " aborted " ++ decimal (entries_of aborts_top trail) ++ codes " doubt " ++ decimal (entries_of (in_doubt trail) trail) ++ codes "\n"
+-- so many tops were started, committed and aborted, and so many are in doubt
+abbrev pub tally_line : ℕ → ℕ → ℕ → ℕ → Text
+tally_line started committed aborted doubt = codes "tops " ++ decimal started ++ codes " committed " ++ decimal committed ++ codes " aborted " ++ decimal aborted ++ codes " doubt " ++ decimal doubt ++ codes "\n"
+
+-- how many tops a history started, committed and aborted, and how many it left in doubt
+abbrev pub tally : List Entry → Text
+tally trail = tally_line (entries_of starts_top trail) (entries_of commits_top trail) (entries_of aborts_top trail) (entries_of (in_doubt trail) trail)
+
+-- the lines of a history, entry by entry
+abbrev pub event_lines : Table → List Entry → List Entry → Text
+event_lines table trail entries = flat_map (λ (e : Entry). event_line table trail e.event) entries
+
+abbrev pub doubt_lines : List Entry → List Entry → Text
+doubt_lines trail entries = flat_map (λ (e : Entry). doubt_line trail e.event) entries
+
+abbrev pub final_lines : List (Row × ℕ) → Text
+final_lines records = flat_map (λ (p : Row × ℕ). final_line p.0 p.1) records
 
 -- what is printed of a run of these records, which left these values and this history, the oldest entry first
 abbrev pub report : Table → List ℕ → List Entry → Text
-report table finals trail =
-    flat_map (λ (e : Entry). event_line table trail e.event) trail
-    ++ flat_map (λ (e : Entry). doubt_line trail e.event) trail
-    ++ flat_map final_line (zip table.records finals)
-    ++ tally_line trail
+report table finals trail = event_lines table trail trail ++ doubt_lines trail trail ++ final_lines (zip table.records finals) ++ tally trail
