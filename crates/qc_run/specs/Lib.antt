@@ -1,3 +1,4 @@
 pub mod Trace
 pub mod Serial
 pub mod Report
+pub mod FaultLine

@@ -4,5 +4,7 @@
 mod bad_script;
 mod report;
 mod script;
+mod status;
 
 pub use bad_script::{BadScript, Member};
+pub use status::Status;
