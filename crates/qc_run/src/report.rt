@@ -6,9 +6,8 @@ mod lines;
 mod page;
 mod tally;
 
-pub(crate) use page::Page;
-
 use lines::{push_doubt, push_event, push_final};
+pub(crate) use page::Page;
 use qc_event::{Entry, Table};
 use std::alloc::{AllocError, Global};
 use tally::push_tally;
@@ -57,3 +56,6 @@ fn push_finals(page: &mut Page, table: &Table, finals: &[u64]) -> Result<(), All
     }
     Ok(())
 }
+
+#[cfg(test)]
+mod tests;

@@ -44,7 +44,10 @@ fn commits_top(event: &Event) -> bool
     ensures { result ≡ spec.commits_top event.now }
 {
     match event {
-        Event::End { name, how: How::Commit(_) } => is_top(name),
+        Event::End {
+            name,
+            how: How::Commit(_),
+        } => is_top(name),
         _ => false,
     }
 }
@@ -53,7 +56,10 @@ fn aborts_top(event: &Event) -> bool
     ensures { result ≡ spec.aborts_top event.now }
 {
     match event {
-        Event::End { name, how: How::Abort(_) } => is_top(name),
+        Event::End {
+            name,
+            how: How::Abort(_),
+        } => is_top(name),
         _ => false,
     }
 }
@@ -94,7 +100,7 @@ struct Tally {
 fn push_counts(page: &mut Page, tally: Tally) -> Result<(), AllocError>
     ensures { OnOk result
         (page.new ≡ page.old
-            ++ spec.tally_line tally.started tally.committed tally.aborted tally.doubt) }
+        ++ spec.tally_line tally.started tally.committed tally.aborted tally.doubt) }
 {
     let Tally {
         started,
@@ -102,7 +108,10 @@ fn push_counts(page: &mut Page, tally: Tally) -> Result<(), AllocError>
         aborted,
         doubt,
     } = tally;
-    write!(page, "tops {started} committed {committed} aborted {aborted} doubt {doubt}\n")
+    write!(
+        page,
+        "tops {started} committed {committed} aborted {aborted} doubt {doubt}\n"
+    )
 }
 
 /// Appends how many tops were started, committed and aborted, and how many are in doubt.
