@@ -5,3 +5,5 @@ pub mod Follows
 pub mod Words
 pub mod ScriptText
 pub mod Reading
+pub mod Report
+pub mod FaultLine

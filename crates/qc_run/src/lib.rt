@@ -10,3 +10,9 @@ mod session;
 pub use bad_script::{BadScript, Member};
 
 mod words;
+mod report;
+mod script;
+mod status;
+
+pub use bad_script::{BadScript, Member};
+pub use status::Status;

@@ -1,0 +1,150 @@
+-- What is printed of a run: a line for each end of a transaction, then a line for each top in doubt, then
+-- the value of each record, then how many tops there were. The ends of reconfigurations and of accesses,
+-- and the other aborts of managers, print nothing.
+use Rattle.std.specs.Prelude.{ℕ, ◌==◌, ◌&&◌, Bool, true, false, if◌then◌else◌, List, [], ◌∷◌, ◌++◌, length, reverse, count_by, codes, Option, None, Some, slice_get}
+use Rattle.std.specs.Fmt.{decimal}
+use Rattle.std.specs.List.{flat_map, zip}
+use Rattle.std.specs.Option.{option_map_or}
+use Rattle.qc_names.specs.Name as name
+use Rattle.qc_event.specs.declared.event.Answer.{Answer}
+use Rattle.qc_event.specs.declared.event.Answer.TheVariants.{Value}
+use Rattle.qc_event.specs.declared.event.Cause.{Cause}
+use Rattle.qc_event.specs.declared.event.Cause.TheVariants as cause
+use Rattle.qc_event.specs.declared.event.Entry.{Entry}
+use Rattle.qc_event.specs.declared.event.Event.{Event}
+use Rattle.qc_event.specs.declared.event.Event.TheVariants.{Start, Ready, End}
+use Rattle.qc_event.specs.declared.event.How.{How}
+use Rattle.qc_event.specs.declared.event.How.TheVariants.{Commit, Abort}
+use Rattle.qc_event.specs.declared.event.Kind.{Kind}
+use Rattle.qc_event.specs.declared.event.Kind.TheVariants as kind
+use Rattle.qc_event.specs.declared.event.Outcome.{Outcome}
+use Rattle.qc_event.specs.declared.event.Outcome.TheVariants as outcome
+use Rattle.qc_event.specs.declared.table.Row.{Row}
+use Rattle.qc_event.specs.declared.table.Table.{Table}
+use Rattle.qc_event.specs.History.{Name, kind_of}
+use Rattle.qc_event.specs.Dead as dead
+
+-- A text, as its bytes.
+abbrev pub Text : Type 0
+Text = List ℕ
+
+-- the name of a record, and nothing beyond the table
+abbrev pub record_name : Table → ℕ → Text
+record_name table rec = option_map_or (λ (r : Row). r.name) (slice_get table.records rec) []
+
+-- a read manager has committed with a value
+abbrev pub read_line : Table → Name → ℕ → Answer → Text
+read_line table n rec (Value v) = codes "read " ++ name.text n ++ codes " " ++ record_name table rec ++ codes " " ++ decimal v ++ codes "\n"
+read_line table n rec _ = []
+
+-- a write manager of a value has committed
+abbrev pub set_line : Table → Name → ℕ → ℕ → Text
+set_line table n rec v = codes "set " ++ name.text n ++ codes " " ++ record_name table rec ++ codes " " ++ decimal v ++ codes "\n"
+
+-- a user transaction has committed
+abbrev pub commit_line : Name → Text
+commit_line n = codes "commit " ++ name.text n ++ codes "\n"
+
+-- why a transaction was aborted
+abbrev pub cause_text : Cause → Text
+cause_text (cause.Asked by) = codes "asked " ++ name.text by
+cause_text (cause.Conflict copy holder) = codes "conflict"
+cause_text (cause.NoQuorum lack) = codes "noquorum"
+cause_text cause.Last = codes "last"
+cause_text (cause.Orphan ancestor) = codes "orphan " ++ name.text ancestor
+cause_text cause.Killed = codes "killed"
+cause_text (cause.Child child) = codes "child " ++ name.text child
+cause_text cause.Missed = codes "missed"
+
+-- a user transaction has been aborted
+abbrev pub abort_line : Name → Cause → Text
+abort_line n why = codes "abort " ++ name.text n ++ codes " " ++ cause_text why ++ codes "\n"
+
+-- a manager has been aborted: only that it was an orphan is told
+abbrev pub orphan_line : Table → Name → ℕ → Cause → Text
+orphan_line table n rec (cause.Orphan ancestor) = codes "orphan " ++ name.text n ++ codes " " ++ record_name table rec ++ codes " " ++ name.text ancestor ++ codes "\n"
+orphan_line table n rec _ = []
+
+-- a transaction that was started for this has committed
+abbrev pub committed_line : Table → Name → Answer → Kind → Text
+committed_line table n answer (kind.User session body) = commit_line n
+committed_line table n answer (kind.Read rec) = read_line table n rec answer
+committed_line table n answer (kind.Write rec value) = set_line table n rec value
+committed_line table n answer (kind.Reconf rec config) = []
+committed_line table n answer kind.Access = []
+
+-- a transaction that was started for this has been aborted
+abbrev pub aborted_line : Table → Name → Cause → Kind → Text
+aborted_line table n why (kind.User session body) = abort_line n why
+aborted_line table n why (kind.Read rec) = orphan_line table n rec why
+aborted_line table n why (kind.Write rec value) = orphan_line table n rec why
+aborted_line table n why (kind.Reconf rec config) = []
+aborted_line table n why kind.Access = []
+
+abbrev pub end_line : Table → Name → How → Kind → Text
+end_line table n (Commit answer) kind = committed_line table n answer kind
+end_line table n (Abort why) kind = aborted_line table n why kind
+
+-- the line of an entry, where it is the end of a name that was started
+abbrev pub event_line : Table → List Entry → Event → Text
+event_line table trail (End n how) = option_map_or (end_line table n how) (kind_of (reverse trail) n) []
+event_line table trail _ = []
+
+abbrev pub is_live : Outcome → Bool
+is_live outcome.Live = true
+is_live _ = false
+
+-- the top was ready, and has not ended
+abbrev pub in_doubt : List Entry → Event → Bool
+in_doubt trail (Ready top) = is_live (dead.outcome (reverse trail) top)
+in_doubt trail _ = false
+
+abbrev pub doubt_line : List Entry → Event → Text
+doubt_line trail (Ready top) = if is_live (dead.outcome (reverse trail) top) then codes "doubt " ++ name.text top ++ codes "\n" else []
+doubt_line trail _ = []
+
+-- a record, and its value at the end
+abbrev pub final_line : Row → ℕ → Text
+final_line row v = codes "final " ++ row.name ++ codes " " ++ decimal v ++ codes "\n"
+
+-- the name of a top has one number
+abbrev pub is_top : Name → Bool
+is_top n = length n == 1
+
+abbrev pub starts_top : Event → Bool
+starts_top (Start n kind) = is_top n
+starts_top _ = false
+
+abbrev pub commits_top : Event → Bool
+commits_top (End n (Commit answer)) = is_top n
+commits_top _ = false
+
+abbrev pub aborts_top : Event → Bool
+aborts_top (End n (Abort why)) = is_top n
+aborts_top _ = false
+
+-- how many entries pass a test
+abbrev pub entries_of : (Event → Bool) → List Entry → ℕ
+entries_of test trail = count_by (λ (e : Entry). test e.event) trail
+
+-- so many tops were started, committed and aborted, and so many are in doubt
+abbrev pub tally_line : ℕ → ℕ → ℕ → ℕ → Text
+tally_line started committed aborted doubt = codes "tops " ++ decimal started ++ codes " committed " ++ decimal committed ++ codes " aborted " ++ decimal aborted ++ codes " doubt " ++ decimal doubt ++ codes "\n"
+
+-- how many tops a history started, committed and aborted, and how many it left in doubt
+abbrev pub tally : List Entry → Text
+tally trail = tally_line (entries_of starts_top trail) (entries_of commits_top trail) (entries_of aborts_top trail) (entries_of (in_doubt trail) trail)
+
+-- the lines of a history, entry by entry
+abbrev pub event_lines : Table → List Entry → List Entry → Text
+event_lines table trail entries = flat_map (λ (e : Entry). event_line table trail e.event) entries
+
+abbrev pub doubt_lines : List Entry → List Entry → Text
+doubt_lines trail entries = flat_map (λ (e : Entry). doubt_line trail e.event) entries
+
+abbrev pub final_lines : List (Row × ℕ) → Text
+final_lines records = flat_map (λ (p : Row × ℕ). final_line p.0 p.1) records
+
+-- what is printed of a run of these records, which left these values and this history, the oldest entry first
+abbrev pub report : Table → List ℕ → List Entry → Text
+report table finals trail = event_lines table trail trail ++ doubt_lines trail trail ++ final_lines (zip table.records finals) ++ tally trail

@@ -1,0 +1,198 @@
+ghost use Rattle.std.specs.Prelude.{◌≡◌, ◌++◌, IfOk, OnOk};
+ghost use Rattle.qc_run.specs.FaultLine as spec;
+
+use crate::bad_script::{BadScript, Member};
+use crate::report::Page;
+use qc_event::BadConfig;
+use std::alloc::{AllocError, Global};
+
+/// How a run ended.
+#[derive(Drop)]
+pub enum Status {
+    /// There is a report, and it was written.
+    Done,
+    /// The words of the command line are no command.
+    Usage,
+    /// The input is no script.
+    Script(BadScript),
+    /// The input could not be read.
+    ReadFault,
+    /// The output could not be written.
+    WriteFault,
+    /// There was no memory.
+    Memory,
+    /// The history had no room for a further entry.
+    Room,
+}
+
+impl Status {
+    ghost use Rattle.qc_run.specs.FaultLine.{exit_code};
+
+    /// The number with which the process ends.
+    pub fn code(&self) -> u8
+        ensures { result ≡ exit_code self.now }
+    {
+        match self {
+            Status::Done => 0,
+            Status::Usage => 2,
+            Status::Script(_) => 3,
+            Status::ReadFault => 4,
+            Status::WriteFault => 5,
+            Status::Memory => 9,
+            Status::Room => 14,
+        }
+    }
+}
+
+/// The line that tells a fault, with its newline. A run that is done has none, nor has one that could
+/// not write or had no memory.
+pub(crate) fn fault_line(alloc: Global, status: &Status) -> Result<Vec<u8>, AllocError>
+    ensures { IfOk result (λ text. text.items ≡ spec.fault_line status.now) }
+{
+    let mut page = Page::new(alloc);
+    match status {
+        Status::Done | Status::WriteFault | Status::Memory => {}
+        Status::Usage => write!(page, "usage: qc run [--dir PATH] [--serial] | qc gen N\n")?,
+        Status::Script(why) => {
+            write!(page, "qc: script: ")?;
+            push_script_fault(&mut page, why)?;
+            write!(page, "\n")?;
+        }
+        Status::ReadFault => write!(page, "qc: read fault\n")?,
+        Status::Room => write!(page, "qc: room\n")?,
+    }
+    Ok(page.into_bytes())
+}
+
+fn push_script_fault(page: &mut Page, why: &BadScript) -> Result<(), AllocError>
+    ensures { OnOk result (page.new ≡ page.old ++ spec.script_fault why.now) }
+{
+    match why {
+        BadScript::NotJson => write!(page, "not json"),
+        BadScript::Shape(member) => {
+            let word = member_word(*member);
+            write!(page, "shape {word}")
+        }
+        BadScript::Limit(member, number) => {
+            let word = member_word(*member);
+            write!(page, "limit {word} {number}")
+        }
+        BadScript::Config(why) => {
+            let code = config_code(*why);
+            write!(page, "config {code}")
+        }
+        BadScript::Unknown(label) => {
+            write!(page, "unknown ")?;
+            page.push(label.as_bytes())
+        }
+        BadScript::TooLong => write!(page, "too long"),
+        BadScript::Twice(label) => {
+            write!(page, "twice ")?;
+            page.push(label.as_bytes())
+        }
+        BadScript::Memory => write!(page, "memory"),
+    }
+}
+
+fn config_code(why: BadConfig) -> u8
+    ensures { result ≡ spec.config_code why }
+{
+    match why {
+        BadConfig::Empty => 1,
+        BadConfig::Votes => 2,
+        BadConfig::Read => 3,
+        BadConfig::Write => 4,
+        BadConfig::NoOverlap => 5,
+    }
+}
+
+fn member_word(member: Member) -> &'static str
+    ensures { result.now ≡ spec.member_word member }
+{
+    match member {
+        Member::Script => "script",
+        Member::Copies => "copies",
+        Member::Patience => "patience",
+        Member::Records => "records",
+        Member::RecordRow => "record",
+        Member::Name => "name",
+        Member::Start => "start",
+        Member::Config => "config",
+        Member::Votes => "votes",
+        Member::Read => "read",
+        Member::Write => "write",
+        Member::Sessions => "sessions",
+        Member::Session => "session",
+        Member::Net => "net",
+        Member::Fates => "fates",
+        Member::Hold => "hold",
+        Member::Tops => "tops",
+        Member::Body => "body",
+        Member::Tries => "tries",
+        Member::Must => "must",
+        Member::Steps => "steps",
+        Member::Step => "step",
+        Member::Levels => "levels",
+        Member::Copy => "copy",
+        Member::Branches => "branches",
+    }
+}
+
+#[cfg(test)]
+mod tests {
+    use super::*;
+    use qc_event::Label;
+    use std::test::Fail;
+
+    #[test]
+    fn the_line_of_each_fault(rt: HostRuntime) -> Result<(), Fail> {
+        let alloc = rt.alloc();
+        let unknown = BadScript::Unknown(Label::new(alloc, b"y")?);
+        let twice = BadScript::Twice(Label::new(alloc, b"x")?);
+        let told = [
+            (Status::Done, ""),
+            (
+                Status::Usage,
+                "usage: qc run [--dir PATH] [--serial] | qc gen N\n",
+            ),
+            (Status::Script(BadScript::NotJson), "qc: script: not json\n"),
+            (
+                Status::Script(BadScript::Shape(Member::RecordRow)),
+                "qc: script: shape record\n",
+            ),
+            (
+                Status::Script(BadScript::Limit(Member::Steps, 65)),
+                "qc: script: limit steps 65\n",
+            ),
+            (
+                Status::Script(BadScript::Config(BadConfig::NoOverlap)),
+                "qc: script: config 5\n",
+            ),
+            (Status::Script(unknown), "qc: script: unknown y\n"),
+            (Status::Script(BadScript::TooLong), "qc: script: too long\n"),
+            (Status::Script(twice), "qc: script: twice x\n"),
+            (Status::ReadFault, "qc: read fault\n"),
+            (Status::WriteFault, ""),
+            (Status::Memory, ""),
+            (Status::Room, "qc: room\n"),
+        ];
+        for (status, line) in &told {
+            let text = fault_line(alloc, status)?;
+            assert_eq!(rt; text.as_slice(), line.as_bytes());
+        }
+        Ok(())
+    }
+
+    #[test]
+    fn codes(rt: HostRuntime) {
+        let script = Status::Script(BadScript::NotJson);
+        for (status, code) in [
+            (Status::Done, 0),
+            (Status::Usage, 2),
+            (script, 3),
+            (Status::Room, 14),
+        ] {
+            assert_eq!(rt; status.code(), code);
+        }
+    }
+}
