@@ -4,15 +4,11 @@
 mod bad_script;
 pub mod io;
 mod reader;
-mod script;
-mod session;
-
-pub use bad_script::{BadScript, Member};
-
-mod words;
 mod report;
 mod script;
+mod session;
 mod status;
+mod words;
 
 pub use bad_script::{BadScript, Member};
 pub use status::Status;
