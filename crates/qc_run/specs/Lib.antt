@@ -7,3 +7,4 @@ pub mod ScriptText
 pub mod Reading
 pub mod Report
 pub mod FaultLine
+pub mod Run

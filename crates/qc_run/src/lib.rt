@@ -5,6 +5,7 @@ mod bad_script;
 pub mod io;
 mod reader;
 mod report;
+mod run;
 mod script;
 mod session;
 mod status;

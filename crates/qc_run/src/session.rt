@@ -182,7 +182,8 @@ impl Session {
 
     /// The history, the oldest entry first. It takes no memory.
     pub fn into_entries(self) -> Vec<Entry>
-        ensures { reverse result.items ≡ self.past }
+        ensures entries { reverse result.items ≡ self.past }
+        ensures bounded { length result.items ≤ limit }
     {
         self.log.into_entries()
     }

@@ -1,0 +1,81 @@
+-- What the clauses of a run follow from: its history is a front of the one that its script makes.
+use Rattle.std.proofs.Common.{◌≡◌, ℕ, ◌+◌, ◌≤◌, List, [], ◌∷◌, ◌++◌, length, refl, sym, ap, subst, ◌∙◌, arith, reverse, append_assoc}
+use Rattle.std.specs.Prelude.{Option, None, Some, map, replicate, slice_index_or}
+use Rattle.std.proofs.lemmas.List.{reverse-append, reverse-reverse}
+use Rattle.qc_event.specs.Config.{Voting}
+use Rattle.qc_event.specs.Base.{start_values, start_configs}
+use Rattle.qc_event.specs.declared.event.Entry.{Entry}
+use Rattle.qc_event.specs.declared.table.Row.{Row}
+use Rattle.qc_event.specs.declared.table.Table.{Table}
+use Rattle.qc_event.specs.declared.tuple.Tuple.{Tuple}
+use Rattle.qc_event.specs.History.{Past, limit}
+use Rattle.qc_event.specs.Legal.{Legal, setting_of}
+use Rattle.qc_run.specs.declared.script.Body.{Body}
+use Rattle.qc_run.specs.declared.script.Script.{Script}
+use Rattle.qc_run.specs.Follows.{FollowsTops}
+use Rattle.qc_run.specs.Reading.{IsProper}
+use Rattle.qc_run.specs.Report.{Text, report}
+use Rattle.qc_run.specs.Run.{base_of, first_tuple, page, report_of}
+use Rattle.qc_run.specs.Serial.{IsSerial, IsSerialThroughout, final_values}
+use Rattle.qc_run.specs.Trace.{Now, trace, IsFront, starts_of, TopsWithin}
+use Rattle.qc_run.proofs.Fronts.{through, itself}
+use Rattle.qc_run.proofs.LegalTrace.{trace_legal}
+use Rattle.qc_run.proofs.FollowsTrace.{trace_follows}
+use Rattle.qc_run.proofs.SerialTrace.{trace_serial, trace_values}
+
+length_map : {X Y : Type 0} (f : X → Y) (xs : List X) → length (map f xs) ≡ length xs
+length_map f [] = refl
+length_map f (x ∷ xs) = let e = length_map f xs in omega (arith, e)
+
+map_map : {X Y Z : Type 0} (f : Y → Z) (g : X → Y) (xs : List X) → map f (map g xs) ≡ map (λ x. f (g x)) xs
+map_map f g [] = refl
+map_map f g (x ∷ xs) = ap (λ ys. f (g x) ∷ ys) (map_map f g xs)
+
+-- what one copy starts with
+first_copy : (table : Table) → table.copies ≡ 1 → slice_index_or (base_of table) 0 [] ≡ map first_tuple table.records
+first_copy table one = ap (λ n. slice_index_or (replicate n (map first_tuple table.records)) 0 []) one
+
+starts_are : (table : Table) → table.copies ≡ 1 → start_values (base_of table) ≡ starts_of table.records
+starts_are table one = ap (map (λ (t : Tuple). t.value)) (first_copy table one) ∙ map_map (λ (t : Tuple). t.value) first_tuple table.records
+
+firsts_length : (table : Table) → table.copies ≡ 1 → length (start_configs (base_of table)) ≡ length table.records
+firsts_length table one =
+    ap (λ ts. length (map (λ (t : Tuple). t.config) ts)) (first_copy table one)
+    ∙ length_map (λ (t : Tuple). t.config) (map first_tuple table.records) ∙ length_map first_tuple table.records
+
+-- the history that a script makes
+abbrev pub whole : Script → Past
+whole s = (trace (starts_of s.table.records) s.tops).past
+
+pub front_legal : (s : Script) (past : Past) → IsProper s → IsFront past (whole s) → length past ≤ limit → Legal (setting_of (base_of s.table)) past
+front_legal s past proper front room =
+    trace_legal (setting_of (base_of s.table)) (starts_of s.table.records) s.tops
+    (subst (λ n. TopsWithin n s.tops) (sym (firsts_length s.table proper.one_copy)) proper.tops) past front room
+
+starts_within : (s : Script) → IsProper s → TopsWithin (length (starts_of s.table.records)) s.tops
+starts_within s proper = subst (λ n. TopsWithin n s.tops) (sym (length_map (λ (r : Row). r.start) s.table.records)) proper.tops
+
+pub front_serial : (s : Script) (trail : List Entry) → IsProper s → IsFront (reverse trail) (whole s) → IsSerialThroughout (start_values (base_of s.table)) trail
+front_serial s trail proper is_front front later is =
+    let earlier : IsFront (reverse front) (reverse trail) = (reverse later, ap reverse is ∙ reverse-append front later) in
+    subst (λ vs. IsSerial vs (reverse front)) (sym (starts_are s.table proper.one_copy))
+    (trace_serial (starts_of s.table.records) s.tops (starts_within s proper) (reverse front) (through (reverse front) (reverse trail) (whole s) earlier is_front))
+
+-- at its end the session's values are the serial machine's, so its page is the report
+pub page_is_report : (s : Script) (trail : List Entry) (now : Now) → IsProper s → now ≡ trace (starts_of s.table.records) s.tops → reverse trail ≡ now.past → page s.table now ≡ report_of s (base_of s.table) trail
+page_is_report s trail now proper is past_is =
+    let values_are : now.values ≡ final_values (start_values (base_of s.table)) (reverse trail) =
+    ap (λ (n : Now). n.values) is
+    ∙ sym (trace_values (starts_of s.table.records) s.tops (starts_within s proper))
+    ∙ ap (λ p. final_values (starts_of s.table.records) p) (sym (past_is ∙ ap (λ (n : Now). n.past) is))
+    ∙ ap (λ vs. final_values vs (reverse trail)) (sym (starts_are s.table proper.one_copy)) in
+    let trail_is : reverse now.past ≡ trail = ap reverse (sym past_is) ∙ reverse-reverse trail in
+    ap (λ vs. report s.table vs (reverse now.past)) values_are ∙ ap (report s.table (final_values (start_values (base_of s.table)) (reverse trail))) trail_is
+
+-- a session's text is its page
+pub text_is_page : (table : Table) (now : Now) (values : List ℕ) (trail : List Entry) (text : Text) → values ≡ now.values → reverse trail ≡ now.past → text ≡ report table values trail → text ≡ page table now
+text_is_page table now values trail text values_are past_is is =
+    is ∙ ap (λ vs. report table vs trail) values_are ∙ ap (report table now.values) (sym (reverse-reverse trail) ∙ ap reverse past_is)
+
+pub whole_follows : (s : Script) → FollowsTops s.tops (whole s)
+whole_follows s = trace_follows (starts_of s.table.records) s.tops

@@ -1,0 +1,104 @@
+-- What a run answers: words for the clauses of the top call.
+use Rattle.std.specs.Prelude.{ℕ, ◌≡◌, ◌≢◌, ◌⊎◌, List, [], length, map, reverse, replicate, Option, IfSome}
+use Rattle.qc_event.specs.Base.{start_values}
+use Rattle.qc_event.specs.declared.event.Entry.{Entry}
+use Rattle.qc_event.specs.declared.table.Row.{Row}
+use Rattle.qc_event.specs.declared.table.Table.{Table}
+use Rattle.qc_event.specs.declared.tuple.Tuple.{Tuple}
+use Rattle.qc_run.specs.Io.{IsAtEnd, Rose, Appends, AppendsFront}
+use Rattle.qc_run.specs.Reading.{IsScript, IsRefused}
+use Rattle.qc_run.specs.Report.{Text, report}
+use Rattle.qc_run.specs.Serial.{final_values}
+use Rattle.qc_run.specs.Trace.{Now}
+use Rattle.qc_run.specs.FaultLine.{fault_line}
+use Rattle.qc_run.specs.declared.bad_script.BadScript.{BadScript}
+use Rattle.qc_run.specs.declared.bad_script.BadScript.TheVariants.{Memory}
+use Rattle.qc_run.specs.declared.script.Script.{Script}
+use Rattle.qc_run.specs.declared.status.Status.{Status}
+use Rattle.qc_run.specs.declared.status.Status.TheVariants as status
+
+-- the tuple with which every copy starts a record: version 0, the start value, generation 0
+abbrev pub first_tuple : Row → Tuple
+first_tuple row = record { version = 0; value = row.start; generation = 0; config = row.config }
+
+-- the tuples with which a table's copies start
+abbrev pub base_of : Table → List (List Tuple)
+base_of table = replicate table.copies (map first_tuple table.records)
+
+-- The source was read to its end, and its bytes are this script.
+pub record ReadsScript (before now : Option (List ℕ)) (s : Script) : Type 0 where
+  pub bytes : List ℕ
+  pub held : IfSome before (λ left. left ≡ bytes)
+  pub ended : IsAtEnd now
+  pub is_script : IsScript bytes s
+
+-- every session ran to its end
+abbrev pub RanToEnd : Status → Type 0
+RanToEnd status.Done = Unit {0}
+RanToEnd status.WriteFault = Unit {0}
+RanToEnd _ = ⊥
+
+-- a script was read, and not all of it was run for want of memory
+abbrev pub ReadIt : Status → Type 0
+ReadIt status.Done = Unit {0}
+ReadIt status.WriteFault = Unit {0}
+ReadIt status.Room = Unit {0}
+ReadIt _ = ⊥
+
+-- nothing was begun
+abbrev pub BeganNothing : Status → Type 0
+BeganNothing status.Usage = Unit {0}
+BeganNothing (status.Script e) = Unit {0}
+BeganNothing status.ReadFault = Unit {0}
+BeganNothing _ = ⊥
+
+-- a fault that a line of its own tells
+abbrev pub IsTold : Status → Type 0
+IsTold status.Usage = Unit {0}
+IsTold (status.Script e) = Unit {0}
+IsTold status.ReadFault = Unit {0}
+IsTold status.Room = Unit {0}
+IsTold _ = ⊥
+
+-- the bytes are refused for the cause that is told, which is not want of memory
+abbrev pub IsScriptFault : Option (List ℕ) → Status → Type 0
+IsScriptFault left (status.Script e) = IfSome left (λ bytes. IsRefused bytes e) × (e ≢ Memory)
+IsScriptFault left _ = Unit {0}
+
+-- what may be answered to a command over bytes that are no script
+abbrev pub IsNoRun : Status → Type 0
+IsNoRun (status.Script e) = Unit {0}
+IsNoRun status.ReadFault = Unit {0}
+IsNoRun status.Memory = Unit {0}
+IsNoRun _ = ⊥
+
+-- what may be answered to a command over a script where neither stream failed
+abbrev pub IsDoneOrShort : Status → Type 0
+IsDoneOrShort status.Done = Unit {0}
+IsDoneOrShort status.Memory = Unit {0}
+IsDoneOrShort status.Room = Unit {0}
+IsDoneOrShort _ = ⊥
+
+-- the report of a history, in which the last values are those of the serial machine
+abbrev pub report_of : Script → List (List Tuple) → List Entry → Text
+report_of s start trail = report s.table (final_values (start_values start) (reverse trail)) trail
+
+-- A fault's line was written, all of it unless the sink failed meanwhile.
+pub record TellsFault (before now : Option (List ℕ)) (faults_before faults_now : ℕ) (why : Status) : Type 0 where
+  pub front : AppendsFront before now (fault_line why)
+  pub whole : (Rose faults_before faults_now → ⊥) → Appends before now (fault_line why)
+
+-- the status, or want of memory in its place
+abbrev pub IsOrMemory : Status → Status → Type 0
+IsOrMemory why answer = (answer ≡ why) ⊎ (answer ≡ status.Memory)
+
+-- what a session that has run to its end may answer
+abbrev pub IsConcluded : Status → Type 0
+IsConcluded status.Done = Unit {0}
+IsConcluded status.WriteFault = Unit {0}
+IsConcluded status.Memory = Unit {0}
+IsConcluded _ = ⊥
+
+-- the report of a session, with its values
+abbrev pub page : Table → Now → Text
+page table now = report table now.values (reverse now.past)
