@@ -1,5 +1,5 @@
 -- The line that tells why a run gave no report, and the number with which the process ends.
-use Rattle.std.specs.Prelude.{ℕ, List, [], ◌++◌, codes}
+use Rattle.std.specs.Prelude.{ℕ, [], ◌++◌, codes}
 use Rattle.std.specs.Fmt.{decimal}
 use Rattle.qc_event.specs.declared.config.BadConfig.{BadConfig}
 use Rattle.qc_event.specs.declared.config.BadConfig.TheVariants as config

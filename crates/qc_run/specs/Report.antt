@@ -1,7 +1,7 @@
 -- What is printed of a run: a line for each end of a transaction, then a line for each top in doubt, then
--- the value of each record, then how many tops there were. The ends of reconfigurations and of accesses,
--- and the other aborts of managers, print nothing.
-use Rattle.std.specs.Prelude.{ℕ, ◌==◌, ◌&&◌, Bool, true, false, if◌then◌else◌, List, [], ◌∷◌, ◌++◌, length, reverse, count_by, codes, Option, None, Some, slice_get}
+-- the value of each record, then how many tops there were. The lines of reconfigurations, of the other
+-- aborts of managers and of what accesses do come with the copies: until then those print nothing.
+use Rattle.std.specs.Prelude.{ℕ, ◌==◌, Bool, true, false, if◌then◌else◌, List, [], ◌++◌, length, reverse, count_by, codes, slice_get}
 use Rattle.std.specs.Fmt.{decimal}
 use Rattle.std.specs.List.{flat_map, zip}
 use Rattle.std.specs.Option.{option_map_or}
@@ -81,6 +81,7 @@ aborted_line table n why (kind.Write rec value) = orphan_line table n rec why
 aborted_line table n why (kind.Reconf rec config) = []
 aborted_line table n why kind.Access = []
 
+-- a transaction that was started for this has ended
 abbrev pub end_line : Table → Name → How → Kind → Text
 end_line table n (Commit answer) kind = committed_line table n answer kind
 end_line table n (Abort why) kind = aborted_line table n why kind
@@ -90,6 +91,7 @@ abbrev pub event_line : Table → List Entry → Event → Text
 event_line table trail (End n how) = option_map_or (end_line table n how) (kind_of (reverse trail) n) []
 event_line table trail _ = []
 
+-- a transaction has not ended
 abbrev pub is_live : Outcome → Bool
 is_live outcome.Live = true
 is_live _ = false
@@ -99,6 +101,7 @@ abbrev pub in_doubt : List Entry → Event → Bool
 in_doubt trail (Ready top) = is_live (dead.outcome (reverse trail) top)
 in_doubt trail _ = false
 
+-- the line of a top that was ready and has not ended
 abbrev pub doubt_line : List Entry → Event → Text
 doubt_line trail (Ready top) = if is_live (dead.outcome (reverse trail) top) then codes "doubt " ++ name.text top ++ codes "\n" else []
 doubt_line trail _ = []
@@ -111,14 +114,17 @@ final_line row v = codes "final " ++ row.name ++ codes " " ++ decimal v ++ codes
 abbrev pub is_top : Name → Bool
 is_top n = length n == 1
 
+-- a top starts
 abbrev pub starts_top : Event → Bool
 starts_top (Start n kind) = is_top n
 starts_top _ = false
 
+-- a top commits
 abbrev pub commits_top : Event → Bool
 commits_top (End n (Commit answer)) = is_top n
 commits_top _ = false
 
+-- a top is aborted
 abbrev pub aborts_top : Event → Bool
 aborts_top (End n (Abort why)) = is_top n
 aborts_top _ = false
@@ -139,9 +145,11 @@ tally trail = tally_line (entries_of starts_top trail) (entries_of commits_top t
 abbrev pub event_lines : Table → List Entry → List Entry → Text
 event_lines table trail entries = flat_map (λ (e : Entry). event_line table trail e.event) entries
 
+-- the lines of the tops in doubt, entry by entry
 abbrev pub doubt_lines : List Entry → List Entry → Text
 doubt_lines trail entries = flat_map (λ (e : Entry). doubt_line trail e.event) entries
 
+-- the lines of records with their values
 abbrev pub final_lines : List (Row × ℕ) → Text
 final_lines records = flat_map (λ (p : Row × ℕ). final_line p.0 p.1) records
 

@@ -49,7 +49,8 @@ fn push_doubts(page: &mut Page, trail: &[Entry]) -> Result<(), AllocError>
 }
 
 fn push_finals(page: &mut Page, table: &Table, finals: &[u64]) -> Result<(), AllocError>
-    ensures { OnOk result (page.new ≡ page.old ++ spec.final_lines (zip table.now.records finals.now)) }
+    ensures { OnOk result
+        (page.new ≡ page.old ++ spec.final_lines (zip table.now.records finals.now)) }
 {
     for (row, value) in table.records.as_slice().iter().zip(finals) {
         push_final(page, row, *value)?;

@@ -23,7 +23,8 @@ fn push_read(
     rec: u8,
     answer: &Answer,
 ) -> Result<(), AllocError>
-    ensures { OnOk result (page.new ≡ page.old ++ spec.read_line table.now name.now rec answer.now) }
+    ensures { OnOk result
+        (page.new ≡ page.old ++ spec.read_line table.now name.now rec answer.now) }
 {
     match answer {
         Answer::Value(value) => {
@@ -86,7 +87,8 @@ fn push_orphan(
     rec: u8,
     cause: &Cause,
 ) -> Result<(), AllocError>
-    ensures { OnOk result (page.new ≡ page.old ++ spec.orphan_line table.now name.now rec cause.now) }
+    ensures { OnOk result
+        (page.new ≡ page.old ++ spec.orphan_line table.now name.now rec cause.now) }
 {
     match cause {
         Cause::Orphan(ancestor) => {
@@ -105,7 +107,8 @@ fn push_committed(
     kind: &Kind,
     answer: &Answer,
 ) -> Result<(), AllocError>
-    ensures { OnOk result (page.new ≡ page.old ++ spec.committed_line table.now name.now answer.now kind.now) }
+    ensures { OnOk result
+        (page.new ≡ page.old ++ spec.committed_line table.now name.now answer.now kind.now) }
 {
     match kind {
         Kind::User { .. } => push_commit(page, name),
@@ -122,7 +125,8 @@ fn push_aborted(
     kind: &Kind,
     cause: &Cause,
 ) -> Result<(), AllocError>
-    ensures { OnOk result (page.new ≡ page.old ++ spec.aborted_line table.now name.now cause.now kind.now) }
+    ensures { OnOk result
+        (page.new ≡ page.old ++ spec.aborted_line table.now name.now cause.now kind.now) }
 {
     match kind {
         Kind::User { .. } => push_abort(page, name, cause),

@@ -94,6 +94,9 @@ fn a_child_that_was_aborted_and_a_top_in_doubt(rt: HostRuntime) -> Result<(), Fa
         rt.alloc(),
         0,
         &trail,
-        "abort 1/1.1 asked 1/1.1\norphan 1/1.1.1 x 1/1.1\nabort 1/2 killed\ndoubt 1/1\nfinal x 0\ntops 2 committed 0 aborted 1 doubt 1\n",
+        concat!(
+            "abort 1/1.1 asked 1/1.1\norphan 1/1.1.1 x 1/1.1\nabort 1/2 killed\n",
+            "doubt 1/1\nfinal x 0\ntops 2 committed 0 aborted 1 doubt 1\n"
+        ),
     )
 }

@@ -1,6 +1,5 @@
 -- The page has the lines of the records so far.
-use Rattle.std.proofs.Common.{◌≡◌, ◌++◌, ℕ, map}
-use Rattle.qc_event.specs.declared.table.Row.{Row}
+use Rattle.std.proofs.Common.{◌≡◌, ◌++◌, map}
 use Rattle.qc_run.specs.Report as spec
 use Rattle.qc_run.proofs.report.push_finals.Given as goal
 
