@@ -1,7 +1,10 @@
 -- What the clauses of a run follow from: its history is a front of the one that its script makes.
 use Rattle.std.proofs.Common.{◌≡◌, ℕ, ◌+◌, ◌≤◌, List, [], ◌∷◌, ◌++◌, length, refl, sym, ap, subst, ◌∙◌, arith, reverse, append_assoc}
-use Rattle.std.specs.Prelude.{Option, None, Some, map, replicate, slice_index_or}
-use Rattle.std.proofs.lemmas.List.{reverse-append, reverse-reverse}
+use Rattle.std.specs.Prelude.{Option, None, Some, Result, Ok, Err, ⊤, OnOk, IfErr, map, replicate, slice_index_or}
+use Rattle.std.proofs.Common.{inl, inr}
+use Rattle.qc_event.specs.declared.log.Short.{Short}
+use Rattle.qc_event.specs.declared.log.Short.TheVariants as short
+use Rattle.std.proofs.lemmas.List.{reverse-append, reverse-reverse, length-reverse}
 use Rattle.qc_event.specs.Config.{Voting}
 use Rattle.qc_event.specs.Base.{start_values, start_configs}
 use Rattle.qc_event.specs.declared.event.Entry.{Entry}
@@ -15,9 +18,11 @@ use Rattle.qc_run.specs.declared.script.Script.{Script}
 use Rattle.qc_run.specs.Follows.{FollowsTops}
 use Rattle.qc_run.specs.Reading.{IsProper}
 use Rattle.qc_run.specs.Report.{Text, report}
-use Rattle.qc_run.specs.Run.{base_of, first_tuple, page, report_of}
+use Rattle.qc_run.specs.declared.status.Status.{Status}
+use Rattle.qc_run.specs.declared.status.Status.TheVariants as status
+use Rattle.qc_run.specs.Run.{base_of, first_tuple, page, report_of, IsHalted, RanToEnd}
 use Rattle.qc_run.specs.Serial.{IsSerial, IsSerialThroughout, final_values}
-use Rattle.qc_run.specs.Trace.{Now, trace, IsFront, starts_of, TopsWithin}
+use Rattle.qc_run.specs.Trace.{Now, trace, tops_after, IsFront, Stopped, starts_of, TopsWithin}
 use Rattle.qc_run.proofs.Fronts.{through, itself}
 use Rattle.qc_run.proofs.LegalTrace.{trace_legal}
 use Rattle.qc_run.proofs.FollowsTrace.{trace_follows}
@@ -62,15 +67,21 @@ front_serial s trail proper is_front front later is =
     (trace_serial (starts_of s.table.records) s.tops (starts_within s proper) (reverse front) (through (reverse front) (reverse trail) (whole s) earlier is_front))
 
 -- at its end the session's values are the serial machine's, so its page is the report
-pub page_is_report : (s : Script) (trail : List Entry) (now : Now) → IsProper s → now ≡ trace (starts_of s.table.records) s.tops → reverse trail ≡ now.past → page s.table now ≡ report_of s (base_of s.table) trail
-page_is_report s trail now proper is past_is =
+pub page_is_report : (s : Script) (start : List (List Tuple)) (trail : List Entry) (now : Now) → IsProper s → start ≡ base_of s.table → now ≡ trace (starts_of s.table.records) s.tops → reverse trail ≡ now.past → page s.table now ≡ report_of s start trail
+page_is_report s start trail now proper base is past_is =
     let values_are : now.values ≡ final_values (start_values (base_of s.table)) (reverse trail) =
     ap (λ (n : Now). n.values) is
     ∙ sym (trace_values (starts_of s.table.records) s.tops (starts_within s proper))
     ∙ ap (λ p. final_values (starts_of s.table.records) p) (sym (past_is ∙ ap (λ (n : Now). n.past) is))
     ∙ ap (λ vs. final_values vs (reverse trail)) (sym (starts_are s.table proper.one_copy)) in
     let trail_is : reverse now.past ≡ trail = ap reverse (sym past_is) ∙ reverse-reverse trail in
-    ap (λ vs. report s.table vs (reverse now.past)) values_are ∙ ap (report s.table (final_values (start_values (base_of s.table)) (reverse trail))) trail_is
+    ap (λ vs. report s.table vs (reverse now.past)) values_are ∙ ap (report s.table (final_values (start_values (base_of s.table)) (reverse trail))) trail_is ∙ ap (λ b. report_of s b trail) (sym base)
+
+pub trail_front : (past : Past) (trail : List Entry) (w : Past) → reverse trail ≡ past → IsFront past w → IsFront (reverse trail) w
+trail_front past trail w is front = subst (λ p. IsFront p w) (sym is) front
+
+pub trail_bounded : (trail : List Entry) → length trail ≤ limit → length (reverse trail) ≤ limit
+trail_bounded trail room = let e = length-reverse trail in omega arith
 
 -- a session's text is its page
 pub text_is_page : (table : Table) (now : Now) (values : List ℕ) (trail : List Entry) (text : Text) → values ≡ now.values → reverse trail ≡ now.past → text ≡ report table values trail → text ≡ page table now
@@ -79,3 +90,20 @@ text_is_page table now values trail text values_are past_is is =
 
 pub whole_follows : (s : Script) → FollowsTops s.tops (whole s)
 whole_follows s = trace_follows (starts_of s.table.records) s.tops
+
+-- what the script's tops leave
+pub run_of : (s : Script) (bodies : List Body) (old : Now) → old ≡ record { past = []; values = starts_of s.table.records } → bodies ≡ s.tops → tops_after 0 bodies old ≡ trace (starts_of s.table.records) s.tops
+run_of s bodies old begun taken = ap (tops_after 0 bodies) begun ∙ ap (λ bs. tops_after 0 bs (record { past = []; values = starts_of s.table.records })) taken
+
+-- what a session leaves that has done a script's tops, or stopped on the way
+pub session_front : (r : Result ⊤ Short) (s : Script) (bodies : List Body) (old new : Now) → old ≡ record { past = []; values = starts_of s.table.records } → bodies ≡ s.tops → OnOk r (new ≡ tops_after 0 bodies old) → IfErr r (Stopped (tops_after 0 bodies old).past new.past) → IsFront new.past (whole s)
+session_front (Ok x) s bodies old new begun taken ok err =
+    subst (λ p. IsFront new.past p) (ap (λ (n : Now). n.past) (ok ∙ run_of s bodies old begun taken)) (itself new.past)
+session_front (Err e) s bodies old new begun taken ok err =
+    subst (λ p. IsFront new.past p) (ap (λ (n : Now). n.past) (run_of s bodies old begun taken)) err.front
+
+-- who stopped has not run to the end
+pub halted_not_ended : (e : Short) (answer : Status) → IsHalted e answer → RanToEnd answer → ⊥
+halted_not_ended short.Memory answer is ended = subst RanToEnd is ended
+halted_not_ended short.Room answer (inl is) ended = subst RanToEnd is ended
+halted_not_ended short.Room answer (inr is) ended = subst RanToEnd is ended

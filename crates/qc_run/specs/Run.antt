@@ -2,6 +2,8 @@
 use Rattle.std.specs.Prelude.{ℕ, ◌≡◌, ◌≢◌, ◌⊎◌, List, [], length, map, reverse, replicate, Option, IfSome}
 use Rattle.qc_event.specs.Base.{start_values}
 use Rattle.qc_event.specs.declared.event.Entry.{Entry}
+use Rattle.qc_event.specs.declared.log.Short.{Short}
+use Rattle.qc_event.specs.declared.log.Short.TheVariants as short
 use Rattle.qc_event.specs.declared.table.Row.{Row}
 use Rattle.qc_event.specs.declared.table.Table.{Table}
 use Rattle.qc_event.specs.declared.tuple.Tuple.{Tuple}
@@ -102,3 +104,16 @@ IsConcluded _ = ⊥
 -- the report of a session, with its values
 abbrev pub page : Table → Now → Text
 page table now = report table now.values (reverse now.past)
+
+-- what a run that stopped may answer
+abbrev pub IsHalted : Short → Status → Type 0
+IsHalted short.Memory answer = answer ≡ status.Memory
+IsHalted short.Room answer = IsOrMemory status.Room answer
+
+-- what the run of a script may answer
+abbrev pub IsPerformed : Status → Type 0
+IsPerformed status.Done = Unit {0}
+IsPerformed status.WriteFault = Unit {0}
+IsPerformed status.Memory = Unit {0}
+IsPerformed status.Room = Unit {0}
+IsPerformed _ = ⊥

@@ -10,6 +10,7 @@ ghost use Rattle.qc_run.specs.Io.{Rose, Keeps, Appends, AppendsFront};
 ghost use Rattle.qc_run.specs.Reading.{IsScript, IsProper};
 ghost use Rattle.qc_run.specs.Run as words_of;
 ghost use Rattle.qc_run.specs.Serial.{IsSerialThroughout};
+ghost use Rattle.qc_run.specs.Trace.{starts_of};
 ghost use Rattle.qc_run.specs.Words as line;
 
 use crate::bad_script::BadScript;
@@ -99,5 +100,63 @@ fn conclude<K: Sink>(alloc: Global, table: &Table, session: &Session, sink: &mut
             Err(_) => Status::WriteFault,
         },
         Err(AllocError) => Status::Memory,
+    }
+}
+
+// The start of a script's run: its tuples, and a session that has done nothing.
+fn open(alloc: Global, table: &Table) -> Result<(Base, Session), AllocError>
+    ensures base { IfOk result (λ opened. opened.0 ≡ words_of.base_of table.now) }
+    ensures session { IfOk result (λ opened. opened.1 ≡ record { past = []; values = starts_of table.now.records }) }
+{
+    let start = base_of(alloc, table)?;
+    let session = Session::new(alloc, table.records.as_slice())?;
+    Ok((start, session))
+}
+
+// Ends a run that stopped for want of memory or of room.
+fn halt<K: Sink>(alloc: Global, short: Short, sink: &mut K) -> Status
+    ensures answer { words_of.IsHalted short result }
+    ensures told { words_of.IsTold result → words_of.TellsFault (K.taken sink.old) (K.taken sink.new) (K.faults sink.old) (K.faults sink.new) result }
+    ensures short { result ≡ Status.Memory → Keeps (K.taken sink.old) (K.taken sink.new) }
+    ensures faults { K.faults sink.old ≤ K.faults sink.new }
+{
+    match short {
+        Short::Memory => Status::Memory,
+        Short::Room => tell(alloc, Status::Room, sink),
+    }
+}
+
+// Runs a script from its start, and reports it.
+fn proceed<K: Sink>(
+    alloc: Global,
+    script: &Script,
+    start: Base,
+    mut session: Session,
+    sink: &mut K,
+) -> Ran
+    requires proper { IsProper script.now }
+    requires base { start ≡ words_of.base_of script.now.table }
+    requires session { session ≡ record { past = []; values = starts_of script.now.table.records } }
+    ensures legal_history { Legal (setting_of result.start) (reverse result.trail.items) }
+    ensures serial_order { IsSerialThroughout (start_values result.start) result.trail.items }
+    ensures start { result.start ≡ words_of.base_of script.now.table }
+    ensures follows { words_of.RanToEnd result.status → FollowsTops script.now.tops (reverse result.trail.items) }
+    ensures answer { words_of.IsPerformed result.status }
+    ensures done { result.status ≡ Status.Done → Appends (K.taken sink.old) (K.taken sink.new) (words_of.report_of script.now result.start result.trail.items) }
+    ensures front { result.status ≡ Status.WriteFault → AppendsFront (K.taken sink.old) (K.taken sink.new) (words_of.report_of script.now result.start result.trail.items) }
+    ensures told { words_of.IsTold result.status → words_of.TellsFault (K.taken sink.old) (K.taken sink.new) (K.faults sink.old) (K.faults sink.new) result.status }
+    ensures short { result.status ≡ Status.Memory → Keeps (K.taken sink.old) (K.taken sink.new) }
+    ensures fault { result.status ≡ Status.WriteFault → Rose (K.faults sink.old) (K.faults sink.new) }
+    ensures room { result.status ≡ Status.Room → length result.trail.items ≡ limit }
+    ensures faults { K.faults sink.old ≤ K.faults sink.new }
+{
+    let status = match session.tops(script.tops.as_slice()) {
+        Ok(()) => conclude(alloc, &script.table, &session, sink),
+        Err(short) => halt(alloc, short, sink),
+    };
+    Ran {
+        status,
+        start,
+        trail: session.into_entries(),
     }
 }
