@@ -1,6 +1,5 @@
 use super::*;
 use crate::script::Step;
-use qc_event::BadConfig;
 use std::process::Abort;
 use std::test::Fail;
 
@@ -22,16 +21,25 @@ fn with_step(alloc: Global, step: &str) -> Result<String, Fail> {
     script_with(alloc, "1", RECORDS, &sessions)
 }
 
-fn refuses(rt: &impl Abort, alloc: Global, text: &str, part: Member, number: Option<u64>) {
-    match Script::read(alloc, text.as_bytes()) {
-        Err(BadScript::Shape(member)) => {
-            assert!(rt; member == part && number.is_none(), "at {text}");
-        }
-        Err(BadScript::Limit(member, n)) => {
-            assert!(rt; member == part && number == Some(n), "at {text}");
-        }
-        _ => assert!(rt; false, "at {text}"),
-    }
+fn refusal(alloc: Global, bytes: &[u8]) -> Result<String, Fail> {
+    let said = match &Script::read(alloc, bytes) {
+        Ok(_) => String::from_str(alloc, "none"),
+        Err(BadScript::NotJson) => String::from_str(alloc, "NotJson"),
+        Err(BadScript::TooLong) => String::from_str(alloc, "TooLong"),
+        Err(BadScript::Memory) => String::from_str(alloc, "Memory"),
+        Err(BadScript::Shape(part)) => format!(in alloc; "{part:?}"),
+        Err(BadScript::Limit(part, number)) => format!(in alloc; "{part:?} {number}"),
+        Err(BadScript::Config(fault)) => format!(in alloc; "Config {fault:?}"),
+        Err(BadScript::Unknown(name)) => format!(in alloc; "Unknown {:?}", name.as_bytes()),
+        Err(BadScript::Twice(name)) => format!(in alloc; "Twice {:?}", name.as_bytes()),
+    };
+    Ok(said?)
+}
+
+fn refuses(rt: &impl Abort, alloc: Global, text: &str, wanted: &str) -> Result<(), Fail> {
+    let said = refusal(alloc, text.as_bytes())?;
+    assert_eq!(rt; said.as_str(), wanted, "at {text}");
+    Ok(())
 }
 
 #[test]
@@ -63,153 +71,132 @@ fn reads_a_script(rt: HostRuntime) -> Result<(), Fail> {
 }
 
 #[test]
-fn refuses_what_is_no_script(rt: HostRuntime) -> Result<(), Fail> {
-    let alloc = rt.alloc();
-    let config = r#"{"votes":[1],"read":1,"write":1}"#;
-    let wholes = [
-        ("[]", Member::Script, None),
-        (r#"{"copies":17,"records":[]}"#, Member::Script, None),
+fn refuses_other_texts(rt: HostRuntime) -> Result<(), Fail> {
+    let texts = [
+        ("", "NotJson"),
+        ("[]", "Script"),
+        (r#"{"copies":17,"records":[]}"#, "Script"),
         (
             r#"{"copies":1,"records":[],"sessions":[],"more":0}"#,
-            Member::Script,
-            None,
+            "Script",
         ),
         (
             r#"{"copies":1,"records":[],"sessions":[],"patience":0}"#,
-            Member::Patience,
-            None,
+            "Patience",
         ),
-        (
-            r#"{"copies":0,"records":[],"sessions":[]}"#,
-            Member::Copies,
-            Some(0),
-        ),
-        (
-            r#"{"copies":17,"records":[],"sessions":[]}"#,
-            Member::Copies,
-            Some(17),
-        ),
-        (
-            r#"{"copies":2,"records":[],"sessions":[]}"#,
-            Member::Copies,
-            None,
-        ),
-        (
-            r#"{"copies":1.0,"records":[],"sessions":[]}"#,
-            Member::Copies,
-            None,
-        ),
-        (
-            r#"{"copies":1,"records":7,"sessions":[]}"#,
-            Member::Records,
-            None,
-        ),
-        (
-            r#"{"copies":1,"records":[],"sessions":[]}"#,
-            Member::Records,
-            Some(0),
-        ),
-        (
-            r#"{"copies":1,"records":[{}],"sessions":[]}"#,
-            Member::RecordRow,
-            None,
-        ),
+        (r#"{"copies":0,"records":[],"sessions":[]}"#, "Copies 0"),
+        (r#"{"copies":17,"records":[],"sessions":[]}"#, "Copies 17"),
+        (r#"{"copies":2,"records":[],"sessions":[]}"#, "Copies"),
+        (r#"{"copies":1.0,"records":[],"sessions":[]}"#, "Copies"),
+        (r#"{"copies":1,"records":7,"sessions":[]}"#, "Records"),
+        (r#"{"copies":1,"records":[],"sessions":[]}"#, "Records 0"),
+        (r#"{"copies":1,"records":[{}],"sessions":[]}"#, "RecordRow"),
     ];
-    for (text, part, number) in wholes {
-        refuses(&rt, alloc, text, part, number);
+    for (text, wanted) in texts {
+        refuses(&rt, rt.alloc(), text, wanted)?;
     }
+    let alloc = rt.alloc();
+    let blanks = vec![in alloc; b' '; 1_048_577]?;
+    assert!(rt; matches!(Script::read(alloc, &blanks), Err(BadScript::TooLong)));
+    assert!(rt; matches!(Script::read(alloc, &blanks[1..]), Err(BadScript::NotJson)));
+    let bytes: [u8; 3] = [b'"', 255, b'"'];
+    assert!(rt; matches!(Script::read(alloc, &bytes), Err(BadScript::NotJson)));
+    Ok(())
+}
+
+#[test]
+fn refuses_other_records(rt: HostRuntime) -> Result<(), Fail> {
+    let config = r#"{"votes":[1],"read":1,"write":1}"#;
     let records = [
-        ("7", "0", config, Member::Name, None),
-        (r#""a b""#, "0", config, Member::Name, None),
-        (r#""""#, "0", config, Member::Name, Some(0)),
-        (
-            r#""abcdefghijklmnopq""#,
-            "0",
-            config,
-            Member::Name,
-            Some(17),
-        ),
-        (
-            r#""x""#,
-            "18446744073709551616",
-            config,
-            Member::Start,
-            None,
-        ),
-        (r#""x""#, "-1", config, Member::Start, None),
-        (r#""x""#, "0", "7", Member::Config, None),
-        (
-            r#""x""#,
-            "0",
-            r#"{"votes":1,"read":1,"write":1}"#,
-            Member::Votes,
-            None,
-        ),
+        ("7", "0", config, "Name"),
+        (r#""a b""#, "0", config, "Name"),
+        (r#""""#, "0", config, "Name 0"),
+        (r#""abcdefghijklmnopq""#, "0", config, "Name 17"),
+        (r#""x""#, "18446744073709551616", config, "Start"),
+        (r#""x""#, "-1", config, "Start"),
+        (r#""x""#, "0", "7", "Config"),
+        (r#""x""#, "0", r#"{"votes":1,"read":1,"write":1}"#, "Votes"),
         (
             r#""x""#,
             "0",
             r#"{"votes":[1,1],"read":1,"write":1}"#,
-            Member::Votes,
-            Some(2),
+            "Votes 2",
         ),
         (
             r#""x""#,
             "0",
             r#"{"votes":["a"],"read":1,"write":1}"#,
-            Member::Votes,
-            None,
+            "Votes",
         ),
         (
             r#""x""#,
             "0",
             r#"{"votes":[256],"read":1,"write":1}"#,
-            Member::Votes,
-            Some(256),
+            "Votes 256",
         ),
         (
             r#""x""#,
             "0",
             r#"{"votes":[1],"read":-1,"write":1}"#,
-            Member::Read,
-            None,
+            "Read",
         ),
         (
             r#""x""#,
             "0",
             r#"{"votes":[1],"read":1,"write":[]}"#,
-            Member::Write,
-            None,
+            "Write",
+        ),
+        (
+            r#""x""#,
+            "0",
+            r#"{"votes":[0],"read":1,"write":1}"#,
+            "Config Votes",
+        ),
+        (
+            r#""x""#,
+            "0",
+            r#"{"votes":[2],"read":1,"write":1}"#,
+            "Config NoOverlap",
         ),
     ];
-    for (name, start, config, part, number) in records {
+    let alloc = rt.alloc();
+    for (name, start, config, wanted) in records {
         refuses(
             &rt,
             alloc,
             &with_record(alloc, name, start, config)?,
-            part,
-            number,
-        );
+            wanted,
+        )?;
     }
+    let first = r#"{"name":"x","start":0,"config":{"votes":[1],"read":1,"write":1}}"#;
+    let second = r#"{"name":"x","start":"a","config":7}"#;
+    let records = format!(in alloc; "[{first},{second}]")?;
+    refuses(
+        &rt,
+        alloc,
+        &script_with(alloc, "1", &records, "[]")?,
+        "Twice [120]",
+    )
+}
+
+#[test]
+fn refuses_other_sessions(rt: HostRuntime) -> Result<(), Fail> {
     let sessions = [
-        ("7", Member::Sessions, None),
-        ("[]", Member::Sessions, Some(0)),
-        (r#"[{"tops":[]},{"tops":[]}]"#, Member::Sessions, None),
-        ("[{}]", Member::Session, None),
-        (r#"[{"tops":7,"net":1}]"#, Member::Net, None),
-        (r#"[{"tops":7}]"#, Member::Tops, None),
-        (r#"[{"tops":[7]}]"#, Member::Body, None),
-        (r#"[{"tops":[{"steps":7,"tries":1}]}]"#, Member::Tries, None),
-        (r#"[{"tops":[{"steps":7,"must":1}]}]"#, Member::Must, None),
-        (r#"[{"tops":[{"steps":7}]}]"#, Member::Steps, None),
+        ("7", "Sessions"),
+        ("[]", "Sessions 0"),
+        (r#"[{"tops":[]},{"tops":[]}]"#, "Sessions"),
+        ("[{}]", "Session"),
+        (r#"[{"tops":7,"net":1}]"#, "Net"),
+        (r#"[{"tops":7}]"#, "Tops"),
+        (r#"[{"tops":[7]}]"#, "Body"),
+        (r#"[{"tops":[{"steps":7,"tries":1}]}]"#, "Tries"),
+        (r#"[{"tops":[{"steps":7,"must":1}]}]"#, "Must"),
+        (r#"[{"tops":[{"steps":7}]}]"#, "Steps"),
+        (r#"[{"tops":[{"steps":[["read","y"]]}]}]"#, "Unknown [121]"),
     ];
-    for (text, part, number) in sessions {
-        refuses(
-            &rt,
-            alloc,
-            &script_with(alloc, "1", RECORDS, text)?,
-            part,
-            number,
-        );
+    let alloc = rt.alloc();
+    for (text, wanted) in sessions {
+        refuses(&rt, alloc, &script_with(alloc, "1", RECORDS, text)?, wanted)?;
     }
     let steps = [
         "7",
@@ -222,46 +209,7 @@ fn refuses_what_is_no_script(rt: HostRuntime) -> Result<(), Fail> {
         r#"["set","y","z"]"#,
     ];
     for step in steps {
-        refuses(&rt, alloc, &with_step(alloc, step)?, Member::Step, None);
+        refuses(&rt, alloc, &with_step(alloc, step)?, "Step")?;
     }
-    Ok(())
-}
-
-#[test]
-fn refuses_for_other_causes(rt: HostRuntime) -> Result<(), Fail> {
-    let alloc = rt.alloc();
-    let text = with_step(alloc, r#"["read","y"]"#)?;
-    let answer = Script::read(alloc, text.as_bytes());
-    match &answer {
-        Err(BadScript::Unknown(name)) => assert_eq!(rt; name.as_bytes(), b"y".as_slice()),
-        _ => assert!(rt; false, "an unknown record"),
-    }
-    let first = r#"{"name":"x","start":0,"config":{"votes":[1],"read":1,"write":1}}"#;
-    let second = r#"{"name":"x","start":"a","config":7}"#;
-    let records = format!(in alloc; "[{first},{second}]")?;
-    let text = script_with(alloc, "1", &records, "[]")?;
-    let answer = Script::read(alloc, text.as_bytes());
-    match &answer {
-        Err(BadScript::Twice(name)) => assert_eq!(rt; name.as_bytes(), b"x".as_slice()),
-        _ => assert!(rt; false, "a name twice"),
-    }
-    let faults = [
-        (r#"{"votes":[0],"read":1,"write":1}"#, BadConfig::Votes),
-        (r#"{"votes":[1],"read":2,"write":1}"#, BadConfig::Read),
-        (r#"{"votes":[2],"read":1,"write":1}"#, BadConfig::NoOverlap),
-    ];
-    for (config, wanted) in faults {
-        let text = with_record(alloc, r#""x""#, "0", config)?;
-        let answer = Script::read(alloc, text.as_bytes());
-        match &answer {
-            Err(BadScript::Config(fault)) => assert!(rt; *fault == wanted, "at {config}"),
-            _ => assert!(rt; false, "at {config}"),
-        }
-    }
-    let bytes: [u8; 3] = [b'"', 255, b'"'];
-    assert!(rt; matches!(Script::read(alloc, &bytes), Err(BadScript::NotJson)));
-    let blanks = vec![in alloc; b' '; 1_048_577]?;
-    assert!(rt; matches!(Script::read(alloc, &blanks), Err(BadScript::TooLong)));
-    assert!(rt; matches!(Script::read(alloc, &blanks[1..]), Err(BadScript::NotJson)));
     Ok(())
 }
