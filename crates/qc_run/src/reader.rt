@@ -9,6 +9,8 @@ ghost use Rattle.qc_run.specs.Reading.{Gives, IsScript, IsRefused, IsProper};
 mod object;
 mod rows;
 mod steps;
+#[cfg(test)]
+mod tests;
 
 use crate::bad_script::{BadScript, Member};
 use crate::script::{Bodies, Script};
