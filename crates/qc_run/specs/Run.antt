@@ -117,3 +117,9 @@ IsPerformed status.WriteFault = Unit {0}
 IsPerformed status.Memory = Unit {0}
 IsPerformed status.Room = Unit {0}
 IsPerformed _ = ⊥
+
+-- what a command may answer over the bytes that were taken
+abbrev pub IsOver : Status → Type 0
+IsOver status.Usage = ⊥
+IsOver status.ReadFault = ⊥
+IsOver _ = Unit {0}

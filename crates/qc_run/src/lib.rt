@@ -3,13 +3,14 @@
 
 mod bad_script;
 pub mod io;
+mod program;
 mod reader;
 mod report;
-mod run;
 mod script;
 mod session;
 mod status;
 mod words;
 
 pub use bad_script::{BadScript, Member};
+pub use program::{Ran, run};
 pub use status::Status;

@@ -22,7 +22,7 @@ use std::alloc::Global;
 use steps::session_of;
 
 /// The most bytes of a script.
-const MOST_BYTES: usize = 1_048_576;
+pub(crate) const MOST_BYTES: usize = 1_048_576;
 
 fn copies_of(value: &Value) -> Result<u8, BadScript>
     ensures exact { Gives (λ n. n) result (script.copies_of (view value.now)) }

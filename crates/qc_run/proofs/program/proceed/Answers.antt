@@ -9,8 +9,8 @@ use Rattle.qc_run.specs.Run as words_of
 use Rattle.qc_run.specs.Serial.{IsSerialThroughout}
 use Rattle.qc_run.specs.Trace.{IsFront, Now, tops_after, trace, starts_of}
 use Rattle.qc_run.proofs.RunFacts.{whole, session_front, front_legal, front_serial, whole_follows, page_is_report, run_of, halted_not_ended, trail_front, trail_bounded}
-use Rattle.qc_run.proofs.run.proceed.Goals as goal
-use Rattle.qc_run.proofs.run.proceed.Goals.{in-Ok, in-Err}
+use Rattle.qc_run.proofs.program.proceed.Goals as goal
+use Rattle.qc_run.proofs.program.proceed.Goals.{in-Ok, in-Err}
 
 pub returns-clause-legal_history : goal.returns-clause-legal_history
 returns-clause-legal_history g c =
@@ -35,8 +35,8 @@ returns-clause-follows g c = λ ended.
     let s = c.args.script.now in
     elim c.match-tops.branch [
       | in-Ok w ↦
-        let is = w.in-Ok.ensures.ok ∙ run_of s c.as_slice.result.now c.args.session c.requires.session c.as_slice.ensures in
-        subst (λ p. FollowsTops s.tops p) (sym (c.into_entries.ensures.entries ∙ ap (λ (n : Now). n.past) is)) (whole_follows s)
+          let is = w.in-Ok.ensures.ok ∙ run_of s c.as_slice.result.now c.args.session c.requires.session c.as_slice.ensures in
+          subst (λ p. FollowsTops s.tops p) (sym (c.into_entries.ensures.entries ∙ ap (λ (n : Now). n.past) is)) (whole_follows s)
       | in-Err w ↦ absurd (halted_not_ended w.in-Err.short w.halt-status.result w.halt-status.ensures.answer (subst words_of.RanToEnd w.status-is ended))
     ]
 
@@ -45,10 +45,10 @@ returns-clause-done g c = λ done.
     let s = c.args.script.now in
     elim c.match-tops.branch [
       | in-Ok w ↦
-        let is = w.in-Ok.ensures.ok ∙ run_of s c.as_slice.result.now c.args.session c.requires.session c.as_slice.ensures in
-        let text = page_is_report s c.args.start c.into_entries.result.items c.tops.new.self c.requires.proper c.requires.base is c.into_entries.ensures.entries in
-        subst (λ k. Appends (g.K.Sink.taken c.args.sink.now) (g.K.Sink.taken k) (words_of.report_of s c.args.start c.into_entries.result.items)) (sym w.sink-is)
-        (subst (λ t. Appends (g.K.Sink.taken c.args.sink.now) (g.K.Sink.taken w.conclude-status.new.sink) t) text (w.conclude-status.ensures.done (sym w.status-is ∙ done)))
+          let is = w.in-Ok.ensures.ok ∙ run_of s c.as_slice.result.now c.args.session c.requires.session c.as_slice.ensures in
+          let text = page_is_report s c.args.start c.into_entries.result.items c.tops.new.self c.requires.proper c.requires.base is c.into_entries.ensures.entries in
+          subst (λ k. Appends (g.K.Sink.taken c.args.sink.now) (g.K.Sink.taken k) (words_of.report_of s c.args.start c.into_entries.result.items)) (sym w.sink-is)
+          (subst (λ t. Appends (g.K.Sink.taken c.args.sink.now) (g.K.Sink.taken w.conclude-status.new.sink) t) text (w.conclude-status.ensures.done (sym w.status-is ∙ done)))
       | in-Err w ↦ absurd (halted_not_ended w.in-Err.short w.halt-status.result w.halt-status.ensures.answer (subst words_of.RanToEnd (sym done ∙ w.status-is) tt))
     ]
 
@@ -57,9 +57,9 @@ returns-clause-front g c = λ failed.
     let s = c.args.script.now in
     elim c.match-tops.branch [
       | in-Ok w ↦
-        let is = w.in-Ok.ensures.ok ∙ run_of s c.as_slice.result.now c.args.session c.requires.session c.as_slice.ensures in
-        let text = page_is_report s c.args.start c.into_entries.result.items c.tops.new.self c.requires.proper c.requires.base is c.into_entries.ensures.entries in
-        subst (λ k. AppendsFront (g.K.Sink.taken c.args.sink.now) (g.K.Sink.taken k) (words_of.report_of s c.args.start c.into_entries.result.items)) (sym w.sink-is)
-        (subst (λ t. AppendsFront (g.K.Sink.taken c.args.sink.now) (g.K.Sink.taken w.conclude-status.new.sink) t) text (w.conclude-status.ensures.front (sym w.status-is ∙ failed)))
+          let is = w.in-Ok.ensures.ok ∙ run_of s c.as_slice.result.now c.args.session c.requires.session c.as_slice.ensures in
+          let text = page_is_report s c.args.start c.into_entries.result.items c.tops.new.self c.requires.proper c.requires.base is c.into_entries.ensures.entries in
+          subst (λ k. AppendsFront (g.K.Sink.taken c.args.sink.now) (g.K.Sink.taken k) (words_of.report_of s c.args.start c.into_entries.result.items)) (sym w.sink-is)
+          (subst (λ t. AppendsFront (g.K.Sink.taken c.args.sink.now) (g.K.Sink.taken w.conclude-status.new.sink) t) text (w.conclude-status.ensures.front (sym w.status-is ∙ failed)))
       | in-Err w ↦ absurd (halted_not_ended w.in-Err.short w.halt-status.result w.halt-status.ensures.answer (subst words_of.RanToEnd (sym failed ∙ w.status-is) tt))
     ]

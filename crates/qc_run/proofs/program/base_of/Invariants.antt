@@ -3,7 +3,7 @@ use Rattle.std.specs.Prelude.{map, Vec}
 use Rattle.std.specs.declared.alloc.Global.{Global}
 use Rattle.qc_event.specs.declared.tuple.Tuple.{Tuple}
 use Rattle.qc_run.specs.Run as words_of
-use Rattle.qc_run.proofs.run.base_of.Given as goal
+use Rattle.qc_run.proofs.program.base_of.Given as goal
 
 -- each copy so far has the first tuples
 abbrev pub invariant-loop : goal.invariant-loop

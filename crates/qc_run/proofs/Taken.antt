@@ -1,0 +1,91 @@
+-- What was taken of a source's bytes tells what all of them are.
+use Rattle.std.proofs.Common.{◌≡◌, ℕ, ◌+◌, ◌<◌, ◌≤◌, ◌^◌, List, [], length, take, refl, sym, ap, subst, ◌∙◌, arith, ◌≢◌}
+use Rattle.std.specs.Prelude.{Option, None, Some, IfSome, min, Ok, Err}
+use Rattle.std.proofs.lemmas.List.{length-take, take_all}
+use Rattle.qc_event.specs.declared.tuple.Tuple.{Tuple}
+use Rattle.qc_run.specs.declared.bad_script.BadScript.{BadScript}
+use Rattle.qc_run.specs.declared.bad_script.BadScript.TheVariants.{NotJson, Shape, Limit, Config, Unknown, TooLong, Twice, Memory}
+use Rattle.qc_run.specs.declared.script.Script.{Script}
+use Rattle.qc_run.specs.declared.status.Status.{Status}
+use Rattle.qc_run.specs.declared.status.Status.TheVariants as status
+use Rattle.qc_run.specs.Io.{Drops, IsAtEnd}
+use Rattle.qc_run.specs.Reading.{IsScript, IsRefused, IsRead}
+use Rattle.qc_run.specs.Run.{ReadsScript, ReadIt, IsScriptFault, IsNoRun, IsDoneOrShort}
+use Rattle.qc_run.proofs.OneScript.{script_not_refused}
+
+-- one byte more than a script may have
+abbrev pub most : ℕ
+most = 1048577
+
+-- where no more than a script's bytes were taken, they are all
+all_taken : (left bytes : List ℕ) → bytes ≡ take most left → length bytes ≤ 2 ^ 20 → left ≡ bytes
+all_taken left bytes is short =
+    let l : length bytes ≡ min most (length left) = ap length is ∙ length-take most left in
+    let few : length left ≤ most = omega arith in
+    sym (is ∙ take_all most left few)
+
+no_longer : (left bytes : List ℕ) → bytes ≡ take most left → length bytes ≤ length left
+no_longer left bytes is = let l : length bytes ≡ min most (length left) = ap length is ∙ length-take most left in omega arith
+
+-- a source whose bytes are a script was read to its end
+pub reads_script : (left now : Option (List ℕ)) (bytes : List ℕ) (s : Script) → IfSome left (λ l. bytes ≡ take most l) → Drops left now most → IfSome left (λ l. length l ≤ 2 ^ 20 → now ≡ Some []) → IsScript bytes s → ReadsScript left now s
+reads_script None now bytes s taken drops ended is = record {
+  bytes = bytes;
+  held = tt;
+  ended = subst IsAtEnd (sym drops) tt;
+  is_script = is;
+}
+reads_script (Some l) now bytes s taken drops ended is =
+    let all : l ≡ bytes = all_taken l bytes taken is.short in
+    let short : length l ≤ 2 ^ 20 = subst (λ x. length x ≤ 2 ^ 20) (sym all) is.short in
+    record {
+      bytes = bytes;
+      held = all;
+      ended = subst IsAtEnd (sym (ended short)) refl;
+      is_script = is;
+    }
+
+refused_before : (left bytes : List ℕ) (e : BadScript) → bytes ≡ take most left → IsRefused bytes e → IsRefused left e
+refused_before left bytes TooLong taken no_script = let longer = no_longer left bytes taken in omega arith
+refused_before left bytes NotJson taken no_script = subst (λ x. IsRefused x NotJson) (sym (all_taken left bytes taken no_script.short)) no_script
+refused_before left bytes Memory taken no_script = tt
+refused_before left bytes (Shape word) taken no_script = subst (λ x. IsRefused x (Shape word)) (sym (all_taken left bytes taken no_script.short)) no_script
+refused_before left bytes (Limit word n) taken no_script = subst (λ x. IsRefused x (Limit word n)) (sym (all_taken left bytes taken no_script.short)) no_script
+refused_before left bytes (Config why) taken no_script = subst (λ x. IsRefused x (Config why)) (sym (all_taken left bytes taken no_script.short)) no_script
+refused_before left bytes (Unknown name) taken no_script = subst (λ x. IsRefused x (Unknown name)) (sym (all_taken left bytes taken no_script.short)) no_script
+refused_before left bytes (Twice name) taken no_script = subst (λ x. IsRefused x (Twice name)) (sym (all_taken left bytes taken no_script.short)) no_script
+
+-- what is refused of the bytes taken is refused of all
+pub fault_of_all : (left : Option (List ℕ)) (bytes : List ℕ) (answer : Status) → IfSome left (λ l. bytes ≡ take most l) → IsScriptFault (Some bytes) answer → IsScriptFault left answer
+fault_of_all None bytes (status.Script e) taken fault = (tt, fault.1)
+fault_of_all (Some l) bytes (status.Script e) taken fault = (refused_before l bytes e taken fault.0, fault.1)
+fault_of_all left bytes status.Done taken fault = tt
+fault_of_all left bytes status.Usage taken fault = tt
+fault_of_all left bytes status.ReadFault taken fault = tt
+fault_of_all left bytes status.WriteFault taken fault = tt
+fault_of_all left bytes status.Memory taken fault = tt
+fault_of_all left bytes status.Room taken fault = tt
+
+no_run : (l : List ℕ) (now : Option (List ℕ)) (s : Script) → ((s : Script) → IsScript l s → ⊥) → ReadsScript (Some l) now s → ⊥
+no_run l now s none reads = none s (subst (λ x. IsScript x s) (sym reads.held) reads.is_script)
+
+-- where the bytes are no script, none was run
+pub none_was_run : (left now : Option (List ℕ)) (answer : Status) → (answer ≡ status.Usage → ⊥) → (ReadIt answer → (s : Script) × ReadsScript left now s) → IfSome left (λ bytes. ((s : Script) → IsScript bytes s → ⊥) → IsNoRun answer)
+none_was_run None now answer command started = tt
+none_was_run (Some l) now status.Usage command started = λ none. command refl
+none_was_run (Some l) now (status.Script e) command started = λ none. tt
+none_was_run (Some l) now status.ReadFault command started = λ none. tt
+none_was_run (Some l) now status.Memory command started = λ none. tt
+none_was_run (Some l) now status.Done command started = λ none. no_run l now (started tt).0 none (started tt).1
+none_was_run (Some l) now status.WriteFault command started = λ none. no_run l now (started tt).0 none (started tt).1
+none_was_run (Some l) now status.Room command started = λ none. no_run l now (started tt).0 none (started tt).1
+
+-- where the bytes are a script and no stream failed, it was run as far as there was memory and room
+pub script_was_run : (bytes : List ℕ) (s : Script) (answer : Status) (R W : Type 0) → IsScript bytes s → IsScriptFault (Some bytes) answer → (answer ≡ status.Usage → ⊥) → (answer ≡ status.ReadFault → R) → (answer ≡ status.WriteFault → W) → (R → ⊥) → (W → ⊥) → IsDoneOrShort answer
+script_was_run bytes s status.Done R W is fault command read write r w = tt
+script_was_run bytes s status.Memory R W is fault command read write r w = tt
+script_was_run bytes s status.Room R W is fault command read write r w = tt
+script_was_run bytes s status.Usage R W is fault command read write r w = command refl
+script_was_run bytes s status.ReadFault R W is fault command read write r w = r (read refl)
+script_was_run bytes s status.WriteFault R W is fault command read write r w = w (write refl)
+script_was_run bytes s (status.Script e) R W is fault command read write r w = fault.1 (script_not_refused bytes s e is fault.0)

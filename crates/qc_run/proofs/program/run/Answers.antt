@@ -1,0 +1,17 @@
+use Rattle.std.proofs.Common.{◌≡◌, ◌∙◌, sym, subst, true, false}
+use mathlib.Core.Bool.{true≢false}
+use Rattle.qc_run.specs.Run.{IsScriptFault}
+use Rattle.qc_run.proofs.Taken.{none_was_run, script_was_run}
+use Rattle.qc_run.proofs.program.run.Goals as goal
+
+pub returns-clause-no_script : goal.returns-clause-no_script
+returns-clause-no_script g c = λ command.
+    none_was_run (g.S.Source.left c.args.source.now) (g.S.Source.left c.answer.new.source) c.answer.result.status
+    (λ is. true≢false (sym command ∙ c.answer.ensures.usage is))
+    (λ it. let run = c.answer.ensures.started it in (run.0, run.1))
+
+pub returns-clause-completes : goal.returns-clause-completes
+returns-clause-completes g c = λ bytes s command held is read_well wrote_well.
+    script_was_run bytes s c.answer.result.status _ _ is
+    (subst (λ left. IsScriptFault left c.answer.result.status) held c.answer.ensures.script_fault)
+    (λ usage. true≢false (sym command ∙ c.answer.ensures.usage usage)) c.answer.ensures.read_fault c.answer.ensures.write_fault read_well wrote_well

@@ -1,0 +1,298 @@
+//! The top call: all that the program does, over the streams that it is handed.
+ghost use Rattle.std.specs.Prelude.{ℕ, List, ◌≡◌, ◌≢◌, ◌≤◌, ◌↔◌, [], false, true, length, map, reverse, string_bytes, Option, Some, IfSome, IfOk};
+ghost use Rattle.qc_event.specs.Base.{start_values};
+ghost use Rattle.qc_event.specs.History.{limit};
+ghost use Rattle.qc_event.specs.Legal.{Legal, setting_of};
+ghost use Rattle.qc_run.specs.declared.script.Script.{Script};
+ghost use Rattle.qc_run.specs.FaultLine.{fault_line};
+ghost use Rattle.qc_run.specs.Follows.{FollowsTops};
+ghost use Rattle.qc_run.specs.Io.{Rose, Keeps, Appends, AppendsFront};
+ghost use Rattle.qc_run.specs.Reading.{IsScript, IsProper};
+ghost use Rattle.qc_run.specs.Run as words_of;
+ghost use Rattle.qc_run.specs.Serial.{IsSerialThroughout};
+ghost use Rattle.qc_run.specs.Trace.{starts_of};
+ghost use Rattle.qc_run.specs.Words as line;
+
+use crate::bad_script::BadScript;
+use crate::io::{Sink, Source, Untaken, take_all, write_all};
+use crate::reader::MOST_BYTES;
+use crate::report::report;
+use crate::script::Script;
+use crate::session::Session;
+use crate::status::{Status, fault_line};
+use crate::words::is_command;
+use qc_event::{Base, Entry, Row, Short, Table, Tuple};
+use std::alloc::{AllocError, Global};
+
+fn first_tuples(alloc: Global, rows: &[Row]) -> Result<Vec<Tuple>, AllocError>
+    ensures { IfOk result (λ v. v.items ≡ map words_of.first_tuple rows.now) }
+{
+    rows.iter()
+        .map(|row| Tuple {
+            version: 0,
+            value: row.start,
+            generation: 0,
+            config: row.config,
+        })
+        .collect(alloc)
+}
+
+fn base_of(alloc: Global, table: &Table) -> Result<Base, AllocError>
+    ensures { IfOk result (λ b. b ≡ words_of.base_of table.now) }
+{
+    let mut copies = Vec::new(alloc);
+    for _ in 0..table.copies {
+        copies.push(first_tuples(alloc, table.records.as_slice())?)?;
+    }
+    Ok(Base::new(copies))
+}
+
+/// What a run answers: how it ended, the tuples from which it started, and its history, the oldest
+/// entry first.
+#[derive(Drop)]
+pub struct Ran {
+    pub status: Status,
+    pub start: Base,
+    pub trail: Vec<Entry>,
+}
+
+// A run that began nothing.
+fn nothing(alloc: Global, status: Status) -> Ran
+    ensures status { result.status ≡ status }
+    ensures start { result.start ≡ [] }
+    ensures trail { result.trail.items ≡ [] }
+{
+    Ran {
+        status,
+        start: Base::new(Vec::new(alloc)),
+        trail: Vec::new(alloc),
+    }
+}
+
+// Writes the line of a fault, and answers it; or want of memory for the line.
+fn tell<K: Sink>(alloc: Global, status: Status, sink: &mut K) -> Status
+    requires { words_of.IsTold status }
+    ensures answer { words_of.IsOrMemory status result }
+    ensures told { words_of.IsTold result → words_of.TellsFault (K.taken sink.old) (K.taken sink.new) (K.faults sink.old) (K.faults sink.new) result }
+    ensures short { result ≡ Status.Memory → Keeps (K.taken sink.old) (K.taken sink.new) }
+    ensures faults { K.faults sink.old ≤ K.faults sink.new }
+{
+    match fault_line(alloc, &status) {
+        Ok(line) => {
+            let _ = write_all(sink, line.as_slice());
+            status
+        }
+        Err(AllocError) => Status::Memory,
+    }
+}
+
+// Reports a session that has run to its end.
+fn conclude<K: Sink>(alloc: Global, table: &Table, session: &Session, sink: &mut K) -> Status
+    ensures answer { words_of.IsConcluded result }
+    ensures done { result ≡ Status.Done → Appends (K.taken sink.old) (K.taken sink.new) (words_of.page table.now session.now) }
+    ensures front { result ≡ Status.WriteFault → AppendsFront (K.taken sink.old) (K.taken sink.new) (words_of.page table.now session.now) }
+    ensures short { result ≡ Status.Memory → Keeps (K.taken sink.old) (K.taken sink.new) }
+    ensures fault { result ≡ Status.WriteFault → Rose (K.faults sink.old) (K.faults sink.new) }
+    ensures faults { K.faults sink.old ≤ K.faults sink.new }
+{
+    match report(alloc, table, session.values(), session.entries()) {
+        Ok(text) => match write_all(sink, text.as_slice()) {
+            Ok(()) => Status::Done,
+            Err(_) => Status::WriteFault,
+        },
+        Err(AllocError) => Status::Memory,
+    }
+}
+
+// The start of a script's run: its tuples, and a session that has done nothing.
+fn open(alloc: Global, table: &Table) -> Result<(Base, Session), AllocError>
+    ensures base { IfOk result (λ opened. opened.0 ≡ words_of.base_of table.now) }
+    ensures session { IfOk result (λ opened. opened.1 ≡ record { past = []; values = starts_of table.now.records }) }
+{
+    let start = base_of(alloc, table)?;
+    let session = Session::new(alloc, table.records.as_slice())?;
+    Ok((start, session))
+}
+
+// Ends a run that stopped for want of memory or of room.
+fn halt<K: Sink>(alloc: Global, short: Short, sink: &mut K) -> Status
+    ensures answer { words_of.IsHalted short result }
+    ensures told { words_of.IsTold result → words_of.TellsFault (K.taken sink.old) (K.taken sink.new) (K.faults sink.old) (K.faults sink.new) result }
+    ensures short { result ≡ Status.Memory → Keeps (K.taken sink.old) (K.taken sink.new) }
+    ensures faults { K.faults sink.old ≤ K.faults sink.new }
+{
+    match short {
+        Short::Memory => Status::Memory,
+        Short::Room => tell(alloc, Status::Room, sink),
+    }
+}
+
+// Runs a script from its start, and reports it.
+fn proceed<K: Sink>(
+    alloc: Global,
+    script: &Script,
+    start: Base,
+    mut session: Session,
+    sink: &mut K,
+) -> Ran
+    requires proper { IsProper script.now }
+    requires base { start ≡ words_of.base_of script.now.table }
+    requires session { session ≡ record { past = []; values = starts_of script.now.table.records } }
+    ensures legal_history { Legal (setting_of result.start) (reverse result.trail.items) }
+    ensures serial_order { IsSerialThroughout (start_values result.start) result.trail.items }
+    ensures start { result.start ≡ words_of.base_of script.now.table }
+    ensures follows { words_of.RanToEnd result.status → FollowsTops script.now.tops (reverse result.trail.items) }
+    ensures answer { words_of.IsPerformed result.status }
+    ensures done { result.status ≡ Status.Done → Appends (K.taken sink.old) (K.taken sink.new) (words_of.report_of script.now result.start result.trail.items) }
+    ensures front { result.status ≡ Status.WriteFault → AppendsFront (K.taken sink.old) (K.taken sink.new) (words_of.report_of script.now result.start result.trail.items) }
+    ensures told { words_of.IsTold result.status → words_of.TellsFault (K.taken sink.old) (K.taken sink.new) (K.faults sink.old) (K.faults sink.new) result.status }
+    ensures short { result.status ≡ Status.Memory → Keeps (K.taken sink.old) (K.taken sink.new) }
+    ensures fault { result.status ≡ Status.WriteFault → Rose (K.faults sink.old) (K.faults sink.new) }
+    ensures room { result.status ≡ Status.Room → length result.trail.items ≡ limit }
+    ensures faults { K.faults sink.old ≤ K.faults sink.new }
+{
+    let status = match session.tops(script.tops.as_slice()) {
+        Ok(()) => conclude(alloc, &script.table, &session, sink),
+        Err(short) => halt(alloc, short, sink),
+    };
+    Ran {
+        status,
+        start,
+        trail: session.into_entries(),
+    }
+}
+
+// Runs a proper script, and reports it.
+fn perform<K: Sink>(alloc: Global, script: &Script, sink: &mut K) -> Ran
+    requires { IsProper script.now }
+    ensures legal_history { Legal (setting_of result.start) (reverse result.trail.items) }
+    ensures serial_order { IsSerialThroughout (start_values result.start) result.trail.items }
+    ensures start { words_of.ReadIt result.status → result.start ≡ words_of.base_of script.now.table }
+    ensures follows { words_of.RanToEnd result.status → FollowsTops script.now.tops (reverse result.trail.items) }
+    ensures answer { words_of.IsPerformed result.status }
+    ensures done { result.status ≡ Status.Done → Appends (K.taken sink.old) (K.taken sink.new) (words_of.report_of script.now result.start result.trail.items) }
+    ensures front { result.status ≡ Status.WriteFault → AppendsFront (K.taken sink.old) (K.taken sink.new) (words_of.report_of script.now result.start result.trail.items) }
+    ensures told { words_of.IsTold result.status → words_of.TellsFault (K.taken sink.old) (K.taken sink.new) (K.faults sink.old) (K.faults sink.new) result.status }
+    ensures short { result.status ≡ Status.Memory → Keeps (K.taken sink.old) (K.taken sink.new) }
+    ensures fault { result.status ≡ Status.WriteFault → Rose (K.faults sink.old) (K.faults sink.new) }
+    ensures room { result.status ≡ Status.Room → length result.trail.items ≡ limit }
+    ensures faults { K.faults sink.old ≤ K.faults sink.new }
+{
+    match open(alloc, &script.table) {
+        Ok((start, session)) => proceed(alloc, script, start, session, sink),
+        Err(AllocError) => nothing(alloc, Status::Memory),
+    }
+}
+
+// Refuses to run, and tells why.
+fn refuse<K: Sink>(alloc: Global, status: Status, sink: &mut K) -> Ran
+    requires { words_of.IsTold status }
+    ensures answer { words_of.IsOrMemory status result.status }
+    ensures start { result.start ≡ [] }
+    ensures trail { result.trail.items ≡ [] }
+    ensures told { words_of.IsTold result.status → words_of.TellsFault (K.taken sink.old) (K.taken sink.new) (K.faults sink.old) (K.faults sink.new) result.status }
+    ensures short { result.status ≡ Status.Memory → Keeps (K.taken sink.old) (K.taken sink.new) }
+    ensures faults { K.faults sink.old ≤ K.faults sink.new }
+{
+    let status = tell(alloc, status, sink);
+    nothing(alloc, status)
+}
+
+// Runs the script that the bytes are, or refuses them.
+fn over<K: Sink>(alloc: Global, bytes: &[u8], sink: &mut K) -> Ran
+    ensures legal_history { Legal (setting_of result.start) (reverse result.trail.items) }
+    ensures serial_order { IsSerialThroughout (start_values result.start) result.trail.items }
+    ensures nothing_begun { words_of.BeganNothing result.status → (result.trail.items ≡ []) × (result.start ≡ []) }
+    ensures started { words_of.ReadIt result.status → (s : Script) × IsScript bytes.now s × (result.start ≡ words_of.base_of s.table) }
+    ensures follows { words_of.RanToEnd result.status → (s : Script) × IsScript bytes.now s × (result.start ≡ words_of.base_of s.table) × FollowsTops s.tops (reverse result.trail.items) }
+    ensures answer { words_of.IsOver result.status }
+    ensures refused { words_of.IsScriptFault (Some bytes.now) result.status }
+    ensures done { result.status ≡ Status.Done → (s : Script) × IsScript bytes.now s × Appends (K.taken sink.old) (K.taken sink.new) (words_of.report_of s result.start result.trail.items) }
+    ensures front { result.status ≡ Status.WriteFault → (s : Script) × IsScript bytes.now s × AppendsFront (K.taken sink.old) (K.taken sink.new) (words_of.report_of s result.start result.trail.items) }
+    ensures told { words_of.IsTold result.status → words_of.TellsFault (K.taken sink.old) (K.taken sink.new) (K.faults sink.old) (K.faults sink.new) result.status }
+    ensures short { result.status ≡ Status.Memory → Keeps (K.taken sink.old) (K.taken sink.new) }
+    ensures fault { result.status ≡ Status.WriteFault → Rose (K.faults sink.old) (K.faults sink.new) }
+    ensures room { result.status ≡ Status.Room → length result.trail.items ≡ limit }
+    ensures faults { K.faults sink.old ≤ K.faults sink.new }
+{
+    match Script::read(alloc, bytes) {
+        Ok(script) => perform(alloc, &script, sink),
+        Err(BadScript::Memory) => nothing(alloc, Status::Memory),
+        Err(bad) => refuse(alloc, Status::Script(bad), sink),
+    }
+}
+
+// Does what the words say.
+fn answer<S: Source, K: Sink>(alloc: Global, words: &[String], source: &mut S, sink: &mut K) -> Ran
+    ensures legal_history { Legal (setting_of result.start) (reverse result.trail.items) }
+    ensures serial_order { IsSerialThroughout (start_values result.start) result.trail.items }
+    ensures nothing_begun { words_of.BeganNothing result.status → (result.trail.items ≡ []) × (result.start ≡ []) }
+    ensures started { words_of.ReadIt result.status → (s : Script) × words_of.ReadsScript (S.left source.old) (S.left source.new) s × (result.start ≡ words_of.base_of s.table) }
+    ensures follows_script { words_of.RanToEnd result.status → (s : Script) × words_of.ReadsScript (S.left source.old) (S.left source.new) s × (result.start ≡ words_of.base_of s.table) × FollowsTops s.tops (reverse result.trail.items) }
+    ensures output { result.status ≡ Status.Done → (s : Script) × words_of.ReadsScript (S.left source.old) (S.left source.new) s × Appends (K.taken sink.old) (K.taken sink.new) (words_of.report_of s result.start result.trail.items) }
+    ensures output_front { result.status ≡ Status.WriteFault → (s : Script) × words_of.ReadsScript (S.left source.old) (S.left source.new) s × AppendsFront (K.taken sink.old) (K.taken sink.new) (words_of.report_of s result.start result.trail.items) }
+    ensures output_line { words_of.IsTold result.status → words_of.TellsFault (K.taken sink.old) (K.taken sink.new) (K.faults sink.old) (K.faults sink.new) result.status }
+    ensures output_none { result.status ≡ Status.Memory → Keeps (K.taken sink.old) (K.taken sink.new) }
+    ensures usage { result.status ≡ Status.Usage → line.is_command (map string_bytes words.now) ≡ false }
+    ensures no_command { line.is_command (map string_bytes words.now) ≡ false → words_of.IsOrMemory Status.Usage result.status × (source.new ≡ source.old) }
+    ensures script_fault { words_of.IsScriptFault (S.left source.old) result.status }
+    ensures read_fault { result.status ≡ Status.ReadFault → Rose (S.faults source.old) (S.faults source.new) }
+    ensures write_fault { result.status ≡ Status.WriteFault → Rose (K.faults sink.old) (K.faults sink.new) }
+    ensures room { result.status ≡ Status.Room → length result.trail.items ≡ limit }
+    ensures source_faults { S.faults source.old ≤ S.faults source.new }
+    ensures sink_faults { K.faults sink.old ≤ K.faults sink.new }
+{
+    if !is_command(words) {
+        return refuse(alloc, Status::Usage, sink);
+    }
+    match take_all(alloc, source, MOST_BYTES) {
+        Ok(bytes) => over(alloc, bytes.as_slice(), sink),
+        Err(Untaken::Failed) => refuse(alloc, Status::ReadFault, sink),
+        Err(Untaken::Memory) => nothing(alloc, Status::Memory),
+    }
+}
+
+/// Does what the words of the command line say, over these streams: `run` and `run --serial` read a
+/// script from the source, run its session over one value per record, and write the report; all
+/// other words are refused with the usage line.
+///
+/// Whatever it answers, its history is legal, and the serial machine with one value per record
+/// accepts the order that completion gives it, in which every user transaction without an aborted
+/// ancestor has exactly its own starts, ends and answers (Lynch and Merritt's serial scheduler).
+/// The source is read to its end, or one byte past the longest script. Want of memory may be
+/// answered at any time; it leaves the sink as it was.
+pub fn run<S: Source, K: Sink>(alloc: Global, words: &[String], source: &mut S, sink: &mut K) -> Ran
+    // The history is legal from its start, and empty where nothing was begun.
+    ensures legal_history { Legal (setting_of result.start) (reverse result.trail.items) }
+    ensures nothing_begun { words_of.BeganNothing result.status → (result.trail.items ≡ []) × (result.start ≡ []) }
+
+    // At each moment of the history, each user transaction without an aborted ancestor has its serial order.
+    ensures serial_order { IsSerialThroughout (start_values result.start) result.trail.items }
+
+    // What ran to its end is a script that the source held, and the history follows it.
+    ensures follows_script { words_of.RanToEnd result.status → (s : Script) × words_of.ReadsScript (S.left source.old) (S.left source.new) s × (result.start ≡ words_of.base_of s.table) × FollowsTops s.tops (reverse result.trail.items) }
+    ensures started { words_of.ReadIt result.status → (s : Script) × words_of.ReadsScript (S.left source.old) (S.left source.new) s × (result.start ≡ words_of.base_of s.table) }
+
+    // The bytes written are the report, a front of it, a fault's line, or none.
+    ensures output { result.status ≡ Status.Done → (s : Script) × words_of.ReadsScript (S.left source.old) (S.left source.new) s × Appends (K.taken sink.old) (K.taken sink.new) (words_of.report_of s result.start result.trail.items) }
+    ensures output_front { result.status ≡ Status.WriteFault → (s : Script) × words_of.ReadsScript (S.left source.old) (S.left source.new) s × AppendsFront (K.taken sink.old) (K.taken sink.new) (words_of.report_of s result.start result.trail.items) }
+    ensures output_line { words_of.IsTold result.status → words_of.TellsFault (K.taken sink.old) (K.taken sink.new) (K.faults sink.old) (K.faults sink.new) result.status }
+    ensures output_none { result.status ≡ Status.Memory → Keeps (K.taken sink.old) (K.taken sink.new) }
+
+    // When each status comes.
+    ensures usage { result.status ≡ Status.Usage → line.is_command (map string_bytes words.now) ≡ false }
+    ensures no_command { line.is_command (map string_bytes words.now) ≡ false → words_of.IsOrMemory Status.Usage result.status × (source.new ≡ source.old) }
+    ensures script_fault { words_of.IsScriptFault (S.left source.old) result.status }
+    ensures no_script { line.is_command (map string_bytes words.now) ≡ true → IfSome (S.left source.old) (λ bytes. ((s : Script) → IsScript bytes s → ⊥) → words_of.IsNoRun result.status) }
+    ensures read_fault { result.status ≡ Status.ReadFault → Rose (S.faults source.old) (S.faults source.new) }
+    ensures write_fault { result.status ≡ Status.WriteFault → Rose (K.faults sink.old) (K.faults sink.new) }
+    ensures room { result.status ≡ Status.Room → length result.trail.items ≡ limit }
+    ensures source_faults { S.faults source.old ≤ S.faults source.new }
+    ensures sink_faults { K.faults sink.old ≤ K.faults sink.new }
+
+    // A script is run, where neither stream fails, as far as there is memory and room.
+    ensures completes { (bytes : List ℕ) (s : Script) → line.is_command (map string_bytes words.now) ≡ true → S.left source.old ≡ Some bytes → IsScript bytes s
+        → (Rose (S.faults source.old) (S.faults source.new) → ⊥) → (Rose (K.faults sink.old) (K.faults sink.new) → ⊥) → words_of.IsDoneOrShort result.status }
+{
+    answer(alloc, words, source, sink)
+}
