@@ -15,6 +15,16 @@ impl Outcome {
     ghost use Rattle.std.specs.Prelude.{◌≡◌};
     ghost use Rattle.qc_event.specs.Dead as words;
 
+    /// Whether the transaction has not ended.
+    pub fn is_live(self) -> bool
+        ensures { result ≡ words.is_live self }
+    {
+        match self {
+            Outcome::Live => true,
+            Outcome::Committed | Outcome::Aborted => false,
+        }
+    }
+
     /// Whether the transaction was aborted.
     pub fn is_aborted(self) -> bool
         ensures { result ≡ words.is_aborted self }

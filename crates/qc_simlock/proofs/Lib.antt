@@ -1,1 +1,2 @@
 pub mod OwnOrder
+pub mod Ancestors
