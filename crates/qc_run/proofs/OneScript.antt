@@ -1,8 +1,8 @@
 -- Bytes are one script at most, and a script is not refused.
-use Rattle.std.proofs.Common.{◌≡◌, ℕ, ◌<◌, ◌≤◌, ◌^◌, List, length, Option, Some, Result, Ok, Err, refl, sym, ap, ◌∙◌, arith}
+use Rattle.std.proofs.Common.{◌≡◌, ℕ, List, Option, Some, Ok, Err, refl, sym, ap, ◌∙◌, arith}
 use Rattle.serde_json.specs.Data.{Data}
 use Rattle.qc_run.specs.ScriptText.{Read, script_of}
-use Rattle.qc_run.specs.Reading.{IsJson, IsRead, IsScript, IsRefused, IsNoJson}
+use Rattle.qc_run.specs.Reading.{IsRead, IsScript, IsRefused}
 use Rattle.qc_run.specs.declared.bad_script.BadScript.{BadScript}
 use Rattle.qc_run.specs.declared.bad_script.BadScript.TheVariants.{NotJson, Shape, Limit, Config, Unknown, TooLong, Twice, Memory}
 use Rattle.qc_run.specs.declared.script.Script.{Script}

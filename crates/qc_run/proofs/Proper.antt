@@ -1,5 +1,5 @@
 -- A script that is read is proper: one copy, 1 to 64 records of legal configurations, and steps about these.
-use Rattle.std.proofs.Common.{◌≡◌, ℕ, zero, suc, ◌+◌, ◌<◌, ◌≤◌, Bool, true, false, cond, List, [], ◌∷◌, ◌++◌, length, map, Option, Some, None, option_map, Result, Ok, Err, codes, refl, sym, ap, ◌∙◌, arith}
+use Rattle.std.proofs.Common.{◌≡◌, ℕ, suc, ◌+◌, ◌<◌, ◌≤◌, Bool, true, false, cond, List, [], ◌∷◌, ◌++◌, length, Option, Some, None, option_map, Result, Ok, Err, refl, sym, ap, ◌∙◌, arith}
 use Rattle.std.specs.Prelude.{◌==◌, ◌||◌, ◌&&◌, nat_lt, nat_le, sum, IfOk, IfSome, ok_or}
 use Rattle.std.specs.List.{AllByRecursion}
 use Rattle.std.specs.Str.{bytes_eq}
@@ -11,11 +11,11 @@ use Rattle.qc_event.specs.declared.config.BadConfig.{BadConfig}
 use Rattle.qc_event.specs.declared.table.Row.{Row}
 use Rattle.qc_run.specs.Trace.{record_of, StepsWithin, TopsWithin}
 use Rattle.qc_run.specs.declared.bad_script.BadScript.{BadScript}
-use Rattle.qc_run.specs.declared.bad_script.BadScript.TheVariants.{Shape, Limit, Config, Unknown, Twice}
+use Rattle.qc_run.specs.declared.bad_script.BadScript.TheVariants.{Config, Unknown}
 use Rattle.qc_run.specs.declared.script.Body.{Body}
 use Rattle.qc_run.specs.declared.script.Script.{Script}
 use Rattle.qc_run.specs.declared.script.Step.{Step}
-use Rattle.qc_run.specs.ScriptText.{Read, Text, followed, ◌>>=◌, must, within, each, configured, config_of, row_of, rows_of, place_of, number_of, read_of, set_of, step_in, step_of, body_of, session_of, only_session, copies_of, records_of, tops_of, script_of}
+use Rattle.qc_run.specs.ScriptText.{Read, Text, followed, ◌>>=◌, must, each, config_of, row_of, rows_of, place_of, number_of, read_of, set_of, step_in, step_of, body_of, session_of, only_session, copies_of, records_of, tops_of, script_of}
 use Rattle.qc_run.specs.Reading.{Gives, IsProperRow, IsProper}
 
 -- what holds of the last of several parts, where each of them is read

@@ -1,5 +1,5 @@
 -- What a reader of scripts answers.
-use Rattle.std.specs.Prelude.{ℕ, ◌≡◌, ◌<◌, ◌≤◌, ◌^◌, List, length, Option, Some, Result, Ok, Err, IsUtf8}
+use Rattle.std.specs.Prelude.{ℕ, ◌≡◌, ◌<◌, ◌≤◌, ◌^◌, List, length, Some, Result, Ok, Err, IsUtf8}
 use Rattle.std.specs.List.{AllByRecursion}
 use Rattle.serde_json.specs.Data.{Data}
 use Rattle.serde_json.specs.Read.{read}
@@ -8,7 +8,7 @@ use Rattle.qc_event.specs.declared.table.Row.{Row}
 use Rattle.qc_run.specs.ScriptText.{Read, script_of}
 use Rattle.qc_run.specs.Trace.{TopsWithin}
 use Rattle.qc_run.specs.declared.bad_script.BadScript.{BadScript}
-use Rattle.qc_run.specs.declared.bad_script.BadScript.TheVariants.{NotJson, Shape, Limit, Config, Unknown, TooLong, Twice, Memory}
+use Rattle.qc_run.specs.declared.bad_script.BadScript.TheVariants.{NotJson, TooLong, Memory}
 use Rattle.qc_run.specs.declared.script.Script.{Script}
 
 -- The bytes are a JSON text, of this value.

@@ -1,4 +1,5 @@
-//! Scripts from JSON texts.
+//! Scripts from JSON texts. Each function gives what the definition of its name says of the value, or
+//! the want of memory.
 #![tactic(auto, unfolding(crate::specs::ScriptText::followed))]
 
 ghost use Rattle.std.specs.Prelude.{◌≡◌, ◌≤◌, map, length, vec_len, IfOk, IfErr};
@@ -79,7 +80,8 @@ fn script_of(alloc: Global, value: &Value) -> Result<Script, BadScript>
 }
 
 impl Script {
-    /// Reads a script. Bytes are one script at most, and a refusal is the first from outside in.
+    /// Reads the script that the bytes spell in JSON. Bytes are one script at most. A refusal is the
+    /// first that is met from outside in, and comes for no script but for want of memory.
     pub fn read(alloc: Global, bytes: &[u8]) -> Result<Script, BadScript>
         ensures found { IfOk result (λ s. IsScript bytes.now s) }
         ensures refused { IfErr result (λ e. IsRefused bytes.now e) }

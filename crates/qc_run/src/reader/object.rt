@@ -7,12 +7,14 @@ ghost use Rattle.qc_run.specs.Reading.{Gives};
 use crate::bad_script::{BadScript, Member};
 use serde_json::{Map, Value};
 
+// Whether a name is one of these.
 fn is_among(names: &[&str], name: &str) -> bool
     ensures { result ≡ script.among (map (λ n. n.now) names.now) name.now }
 {
     names.contains(&name)
 }
 
+// Whether the members of an object are among the needed and the others.
 fn has_only(members: &Map<String, Value>, needed: &[&str], others: &[&str]) -> bool
     ensures { result ≡ script.has_only (map (λ n. n.now) needed.now) (map (λ n. n.now) others.now)
         (members_view members.now.entries) }
@@ -25,12 +27,14 @@ fn has_only(members: &Map<String, Value>, needed: &[&str], others: &[&str]) -> b
     true
 }
 
+// Whether an object has a member of each name.
 fn has_all(object: &Value, names: &[&str]) -> bool
     ensures { result ≡ script.has_all (map (λ n. n.now) names.now) (view object.now) }
 {
     names.iter().all(|name| object.get(*name).is_some())
 }
 
+/// Checks that a value is an object with the needed members, and with no members but those and the others.
 pub(crate) fn check_object(
     value: &Value,
     word: Member,
@@ -50,6 +54,7 @@ pub(crate) fn check_object(
     Ok(())
 }
 
+/// A member of an object.
 pub(crate) fn member_at<'v>(
     object: &'v Value,
     name: &str,
@@ -61,6 +66,7 @@ pub(crate) fn member_at<'v>(
     object.get(name).ok_or(BadScript::Shape(word))
 }
 
+/// A member that is a number, written in digits alone.
 pub(crate) fn number_at(object: &Value, name: &str, word: Member) -> Result<u64, BadScript>
     ensures exact { Gives (λ n. n) result (script.number_at name.now word (view object.now)) }
     ensures no_memory { IfErr result (λ e. e ≢ BadScript.Memory) }
@@ -71,6 +77,7 @@ pub(crate) fn number_at(object: &Value, name: &str, word: Member) -> Result<u64,
         .ok_or(BadScript::Shape(word))
 }
 
+/// A member that is a text.
 pub(crate) fn text_at<'v>(object: &'v Value, name: &str, word: Member) -> Result<&'v str, BadScript>
     ensures exact { Gives (λ t. t.now) result (script.text_at name.now word (view object.now)) }
     ensures no_memory { IfErr result (λ e. e ≢ BadScript.Memory) }
@@ -81,6 +88,7 @@ pub(crate) fn text_at<'v>(object: &'v Value, name: &str, word: Member) -> Result
         .ok_or(BadScript::Shape(word))
 }
 
+/// A member that is an array.
 pub(crate) fn list_at<'v>(
     object: &'v Value,
     name: &str,
@@ -95,6 +103,7 @@ pub(crate) fn list_at<'v>(
     }
 }
 
+/// Checks that an object has no such member: it is not built yet.
 pub(crate) fn check_absent(object: &Value, name: &str, word: Member) -> Result<(), BadScript>
     ensures exact { Gives (λ _. tt) result (script.without name.now word (view object.now)) }
     ensures no_memory { IfErr result (λ e. e ≢ BadScript.Memory) }
@@ -105,6 +114,7 @@ pub(crate) fn check_absent(object: &Value, name: &str, word: Member) -> Result<(
     Ok(())
 }
 
+/// Checks a number, or a length, against its limits.
 pub(crate) fn check_within(word: Member, low: u64, high: u64, number: u64) -> Result<(), BadScript>
     ensures exact { Gives (λ _. tt) result (script.within word low high number) }
     ensures inside { OnOk result ((low ≤ number) × (number ≤ high)) }

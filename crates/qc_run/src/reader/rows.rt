@@ -20,6 +20,7 @@ fn is_plain(text: &str) -> bool
     text.as_bytes().iter().all(u8::is_ascii_alphanumeric)
 }
 
+/// Checks that a text has the form of a name: 1 to 16 ASCII letters and digits.
 pub(crate) fn check_name(text: &str) -> Result<(), BadScript>
     ensures exact { Gives (λ _. tt) result (script.form_of_name text.now) }
     ensures no_memory { IfErr result (λ e. e ≢ BadScript.Memory) }
@@ -30,6 +31,7 @@ pub(crate) fn check_name(text: &str) -> Result<(), BadScript>
     check_within(Member::Name, 1, 16, text.len() as u64)
 }
 
+/// The place of the first row of a name.
 pub(crate) fn place_of(rows: &[Row], name: &str) -> Option<usize>
     ensures first { result ≡ script.place_of rows.now name.now }
     ensures within { IfSome result (λ i. i < length rows.now) }
@@ -109,6 +111,7 @@ fn row_of(alloc: Global, copies: u8, rows: &[Row], value: &Value) -> Result<Row,
     })
 }
 
+/// The rows of all the records, in order.
 pub(crate) fn rows_of(alloc: Global, copies: u8, records: &[Value]) -> Result<Vec<Row>, BadScript>
     requires { copies ≤ 16 }
     ensures exact { Gives (λ rows. rows.items) result (script.rows_of copies [] (map view records.now)) }

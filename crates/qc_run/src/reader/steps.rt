@@ -139,6 +139,7 @@ fn bodies_of(alloc: Global, rows: &[Row], list: &[Value]) -> Result<Vec<Body>, B
     Ok(bodies)
 }
 
+/// The bodies of a session's tops.
 pub(crate) fn session_of(alloc: Global, rows: &[Row], value: &Value) -> Result<Bodies, BadScript>
     requires { length rows.now ≤ 64 }
     ensures { Gives (λ b. b) result (script.session_of rows.now (view value.now)) }

@@ -1,6 +1,5 @@
-use Rattle.std.proofs.Common.{rules, tests, sym, ◌∙◌, ap}
+use Rattle.std.proofs.Common.{rules, tests}
 use Rattle.std.specs.Char.{is_ascii_alphanumeric}
-use Rattle.std.specs.List.{list_all}
 use Rattle.std.proofs.lemmas.Iterator.{YieldsList-from_slice}
 use Rattle.std.proofs.lemmas.Iterator.Search.{all_from_yields_List}
 use Rattle.qc_run.proofs.reader.rows.is_plain.Goals as goal
