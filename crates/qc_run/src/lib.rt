@@ -14,3 +14,6 @@ mod words;
 pub use bad_script::{BadScript, Member};
 pub use program::{Ran, run};
 pub use status::Status;
+
+#[cfg(test)]
+mod tests;

@@ -23,7 +23,8 @@ fn commit(name: Name, answer: Answer) -> Entry {
 }
 
 // One top writes 5 and reads it.
-fn history(top: Name) -> [Entry; 6] {
+fn history() -> [Entry; 6] {
+    let top = Name::top(TOP);
     let user = Kind::User {
         session: 0,
         body: 0,
@@ -43,7 +44,7 @@ fn history(top: Name) -> [Entry; 6] {
 fn an_open_top_stands_last_and_an_ended_one_where_it_ended(rt: HostRuntime) -> Result<(), Fail> {
     let alloc = rt.alloc();
     let top = Name::top(TOP);
-    let h = history(top);
+    let h = history();
     let ended = serialise(alloc, &h, &Name::root())?;
     assert_eq!(rt; ended.len(), 5);
     assert!(rt; matches!(ended.last(), Some(SerialEvent::Leave(_))));
