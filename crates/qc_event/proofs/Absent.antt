@@ -1,15 +1,14 @@
 -- A name of which no entry of a history speaks has no start, no end and no children there.
-use Rattle.std.proofs.Common.{◌≡◌, ℕ, ◌+◌, Bool, true, false, List, [], ◌∷◌, ◌++◌, length, refl, sym, ap, ◌∙◌}
+use Rattle.std.proofs.Common.{◌≡◌, ℕ, Bool, true, false, List, [], ◌∷◌, ◌++◌, refl, sym, ap, ◌∙◌}
 use mathlib.Core.Bool.{true≢false}
 use Rattle.std.specs.Prelude.{Option, None, Some, is_some, if◌then◌else◌, option_to_list, find}
 use Rattle.std.specs.Option.{option_or}
 use Rattle.std.proofs.lemmas.Slice.Eq.{bytes_eq-Decides}
-use Rattle.qc_event.specs.declared.event.Entry.{Entry}
 use Rattle.qc_event.specs.declared.event.Event.{Event}
 use Rattle.qc_event.specs.declared.event.Event.TheVariants as event
 use Rattle.qc_event.specs.declared.event.How.{How}
 use Rattle.qc_event.specs.declared.event.How.TheVariants.{Commit, Abort}
-use Rattle.qc_event.specs.History.{Past, Name, Begun, same, start, start_in, end, end_in, ready_in, is_ready, is_child, child_in, children, earliest}
+use Rattle.qc_event.specs.History.{Past, Name, same, start, start_in, end, end_in, ready_in, is_ready, is_child, child_in, children, earliest}
 use Rattle.qc_event.specs.Dead.{outcome, outcome_of, is_aborted, ancestors, dead}
 
 -- the name of which an entry speaks

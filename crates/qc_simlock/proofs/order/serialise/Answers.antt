@@ -1,4 +1,4 @@
-use Rattle.std.proofs.Common.{◌≡◌, ◌+◌, length, reverse, arith}
+use Rattle.std.proofs.Common.{reverse, arith}
 use Rattle.qc_simlock.proofs.Ancestors.{visits_next, visits_all}
 use Rattle.qc_simlock.proofs.order.serialise.Goals as goal
 
