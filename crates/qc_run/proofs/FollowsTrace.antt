@@ -1,7 +1,7 @@
 -- The history that a script makes follows the script.
-use Rattle.std.proofs.Common.{◌≡◌, ℕ, ◌+◌, ◌<◌, ◌≤◌, Bool, true, false, List, [], ◌∷◌, ◌++◌, length, refl, sym, ap, subst, ◌∙◌, arith, append_assoc, append-nil, length-append}
+use Rattle.std.proofs.Common.{◌≡◌, ℕ, ◌+◌, Bool, true, false, List, [], ◌∷◌, ◌++◌, length, refl, sym, ap, subst, ◌∙◌, arith, append_assoc, append-nil, length-append}
 use mathlib.Core.Bool.{true≢false}
-use Rattle.std.specs.Prelude.{Option, None, Some, is_some, if◌then◌else◌, option_to_list, ◌&&◌, ◌||◌, ◌==◌, nat_lt, not, slice_index, slice_set}
+use Rattle.std.specs.Prelude.{Option, None, Some, is_some, option_to_list, ◌&&◌, ◌||◌, ◌==◌, nat_lt, slice_index}
 use Rattle.std.specs.Option.{option_or, option_map}
 use Rattle.std.specs.List.{list_all}
 use Rattle.std.proofs.lemmas.Bool.Decides.{nat_tests}
@@ -15,14 +15,14 @@ use Rattle.qc_event.specs.declared.event.How.{How}
 use Rattle.qc_event.specs.declared.event.How.TheVariants.{Commit, Abort}
 use Rattle.qc_event.specs.declared.event.Kind.{Kind}
 use Rattle.qc_event.specs.declared.event.Kind.TheVariants as kind
-use Rattle.qc_event.specs.History.{Past, Name, Begun, same, start, start_in, end, end_in, is_ready, ready_in, is_child, child_in, children, kind_of, earliest}
-use Rattle.qc_event.proofs.Absent.{name_in, AllNames, same_is, same_itself, start_absent, end_absent, children_absent, all_names_wider, both_none, if_not}
+use Rattle.qc_event.specs.History.{Past, Name, Begun, same, start, start_in, end, end_in, is_ready, is_child, child_in, children, kind_of}
+use Rattle.qc_event.proofs.Absent.{AllNames, same_is, same_itself, start_absent, end_absent, children_absent, all_names_wider, both_none, if_not}
 use Rattle.qc_run.specs.declared.script.Body.{Body}
 use Rattle.qc_run.specs.declared.script.Step.{Step}
 use Rattle.qc_run.specs.declared.script.Step.TheVariants as step
-use Rattle.qc_run.specs.Trace.{Now, by_client, by_ledger, managed, step_after, steps_after, top_of, begun, committed, top_after, tops_after, trace}
-use Rattle.qc_run.specs.Follows.{started, started_in, tops, top_in, manager_of, GoesOn, FollowsSteps, FollowsBody, FollowsBodies, is_done, InTurn, FollowsTops}
-use Rattle.qc_run.proofs.OldNames.{before, before_old, below_new, below_new_top, made_child, new_child, not_below_itself, old, old_before, old_more, within_itself, within_next}
+use Rattle.qc_run.specs.Trace.{Now, by_client, by_ledger, managed, step_after, steps_after, begun, top_after, tops_after, trace}
+use Rattle.qc_run.specs.Follows.{started, tops, manager_of, GoesOn, FollowsSteps, FollowsBody, FollowsBodies, is_done, InTurn, FollowsTops}
+use Rattle.qc_run.proofs.OldNames.{before, before_old, below_new_top, made_child, new_child, not_below_itself, old, old_before, old_more, within_itself, within_next}
 use Rattle.qc_run.proofs.OneMore.{and_false, ended_more, hit, listed, own_child, some_or}
 
 -- how a transaction ends whose steps all go on

@@ -1,5 +1,5 @@
 -- Histories that are fronts of longer ones, and how long they are.
-use Rattle.std.proofs.Common.{◌≡◌, ℕ, zero, suc, get_or, ◌+◌, ◌*◌, ◌<◌, ◌≤◌, List, [], ◌∷◌, ◌++◌, length, refl, sym, ap, subst, ◌∙◌, arith, length-append, length-set, append_assoc}
+use Rattle.std.proofs.Common.{◌≡◌, ℕ, zero, suc, get_or, ◌+◌, ◌<◌, ◌≤◌, List, [], ◌∷◌, ◌++◌, length, refl, sym, ap, subst, ◌∙◌, arith, length-append, length-set, append_assoc}
 use Rattle.std.proofs.Math.Seq.{drop-cons}
 use Rattle.std.specs.Prelude.{drop, Result, Ok, Err, IfErr, OnErr, ⊤}
 use Rattle.qc_event.specs.declared.event.Entry.{Entry}
@@ -9,7 +9,7 @@ use Rattle.qc_event.specs.History.{Past, Name, limit}
 use Rattle.qc_run.specs.declared.script.Body.{Body}
 use Rattle.qc_run.specs.declared.script.Step.{Step}
 use Rattle.qc_run.specs.declared.script.Step.TheVariants as step
-use Rattle.qc_run.specs.Trace.{Now, step_after, steps_after, top_of, begun, committed, top_after, tops_after, IsFront, Stopped, StepsWithin, TopsWithin, record_of}
+use Rattle.qc_run.specs.Trace.{Now, step_after, steps_after, top_of, begun, top_after, tops_after, IsFront, Stopped, StepsWithin, TopsWithin, record_of}
 
 pub itself : (past : Past) → IsFront past past
 itself past = ([], refl)

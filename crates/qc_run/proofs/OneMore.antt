@@ -1,29 +1,14 @@
 -- What the scans of a history make of one more entry.
-use Rattle.std.proofs.Common.{◌≡◌, ℕ, zero, suc, ◌+◌, ◌*◌, ◌/◌, ◌%◌, ◌^◌, ◌<◌, ◌≤◌, Bool, true, false, List, [], ◌∷◌, ◌++◌, length, refl, sym, ap, subst, ◌∙◌, arith, length-append, append_assoc}
+use Rattle.std.proofs.Common.{◌≡◌, ℕ, ◌+◌, Bool, true, false, List, [], ◌∷◌, ◌++◌, length, refl, sym, ap, ◌∙◌, arith, length-append}
 use mathlib.Core.Bool.{true≢false}
-use Rattle.std.specs.Prelude.{Option, None, Some, is_some, is_none, if◌then◌else◌, option_to_list, find, ◌&&◌, ◌||◌, ◌==◌, nat_lt, nat_le, not, IsTrue, MatchOption, slice_index, slice_set}
+use Rattle.std.specs.Prelude.{Option, None, Some, is_some, is_none, if◌then◌else◌, option_to_list, find, ◌&&◌, ◌==◌}
 use Rattle.std.specs.Option.{option_or}
 use Rattle.std.specs.List.{list_all}
 use Rattle.std.proofs.lemmas.Bool.Decides.{nat_tests}
 use Rattle.std.proofs.lemmas.List.Folds.{list_all-append}
-use Rattle.qc_names.specs.Name as name
-use Rattle.qc_event.specs.declared.event.Answer.{Answer}
-use Rattle.qc_event.specs.declared.event.Answer.TheVariants.{Nothing, Value}
 use Rattle.qc_event.specs.declared.event.Entry.{Entry}
-use Rattle.qc_event.specs.declared.event.Event.{Event}
-use Rattle.qc_event.specs.declared.event.Event.TheVariants.{Start, Ready, End}
 use Rattle.qc_event.specs.declared.event.How.{How}
-use Rattle.qc_event.specs.declared.event.How.TheVariants.{Commit}
-use Rattle.qc_event.specs.declared.event.Kind.{Kind}
-use Rattle.qc_event.specs.declared.event.Kind.TheVariants as kind
-use Rattle.qc_event.specs.History.{Past, Name, Begun, limit, same, start, start_in, end, end_in, is_ready, is_child, child_in, children, earliest, ready_in}
-use Rattle.qc_event.specs.Dead.{dead}
-use Rattle.qc_event.specs.Legal.{Setting, Legal, Allowed, Started, StandsUnder, IsUser, IsManager, IsAnswerOf, MayCommitManager, MayStart, MayStartTop, MayReady, MayCommitTop, MayEnd, open_child}
-use Rattle.qc_event.proofs.Absent.{name_in, AllNames, AllCalm, same_itself, start_absent, end_absent, ready_absent, children_absent, all_names_wider, calm_dead, both_none, if_not}
-use Rattle.qc_run.specs.declared.script.Body.{Body}
-use Rattle.qc_run.specs.declared.script.Step.{Step}
-use Rattle.qc_run.specs.declared.script.Step.TheVariants as step
-use Rattle.qc_run.specs.Trace.{Now, by_client, by_ledger, managed, step_after, steps_after, top_of, begun, committed, top_after, tops_after, trace, IsFront, record_of, StepsWithin, TopsWithin}
+use Rattle.qc_event.specs.History.{Past, Name, end, end_in}
 
 pub hit : {Y : Type 0} (o : Option Y) (b : Bool) (y : Y) → o ≡ None → b ≡ true → option_or o (if b then Some y else None) ≡ Some y
 hit o b y none here = ap (λ p. option_or p (if b then Some y else None)) none ∙ ap (λ c. if c then Some y else None) here

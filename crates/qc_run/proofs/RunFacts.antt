@@ -1,11 +1,10 @@
 -- What the clauses of a run follow from: its history is a front of the one that its script makes.
-use Rattle.std.proofs.Common.{◌≡◌, ℕ, ◌+◌, ◌≤◌, List, [], ◌∷◌, ◌++◌, length, refl, sym, ap, subst, ◌∙◌, arith, reverse, append_assoc}
-use Rattle.std.specs.Prelude.{Option, None, Some, Result, Ok, Err, ⊤, OnOk, IfErr, map, replicate, slice_index_or}
+use Rattle.std.proofs.Common.{◌≡◌, ℕ, ◌≤◌, List, [], ◌∷◌, length, refl, sym, ap, subst, ◌∙◌, arith, reverse}
+use Rattle.std.specs.Prelude.{Result, Ok, Err, ⊤, OnOk, IfErr, map, replicate, slice_index_or}
 use Rattle.std.proofs.Common.{inl, inr}
 use Rattle.qc_event.specs.declared.log.Short.{Short}
 use Rattle.qc_event.specs.declared.log.Short.TheVariants as short
 use Rattle.std.proofs.lemmas.List.{reverse-append, reverse-reverse, length-reverse}
-use Rattle.qc_event.specs.Config.{Voting}
 use Rattle.qc_event.specs.Base.{start_values, start_configs}
 use Rattle.qc_event.specs.declared.event.Entry.{Entry}
 use Rattle.qc_event.specs.declared.table.Row.{Row}
@@ -19,7 +18,6 @@ use Rattle.qc_run.specs.Follows.{FollowsTops}
 use Rattle.qc_run.specs.Reading.{IsProper}
 use Rattle.qc_run.specs.Report.{Text, report}
 use Rattle.qc_run.specs.declared.status.Status.{Status}
-use Rattle.qc_run.specs.declared.status.Status.TheVariants as status
 use Rattle.qc_run.specs.Run.{base_of, first_tuple, page, report_of, IsHalted, RanToEnd}
 use Rattle.qc_run.specs.Serial.{IsSerial, IsSerialThroughout, final_values}
 use Rattle.qc_run.specs.Trace.{Now, trace, tops_after, IsFront, Stopped, starts_of, TopsWithin}

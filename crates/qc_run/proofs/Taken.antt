@@ -1,15 +1,14 @@
 -- What was taken of a source's bytes tells what all of them are.
-use Rattle.std.proofs.Common.{◌≡◌, ℕ, ◌+◌, ◌<◌, ◌≤◌, ◌^◌, List, [], length, take, refl, sym, ap, subst, ◌∙◌, arith, ◌≢◌}
-use Rattle.std.specs.Prelude.{Option, None, Some, IfSome, min, Ok, Err}
+use Rattle.std.proofs.Common.{◌≡◌, ℕ, ◌≤◌, ◌^◌, List, [], length, take, refl, sym, ap, subst, ◌∙◌, arith}
+use Rattle.std.specs.Prelude.{Option, None, Some, IfSome, min}
 use Rattle.std.proofs.lemmas.List.{length-take, take_all}
-use Rattle.qc_event.specs.declared.tuple.Tuple.{Tuple}
 use Rattle.qc_run.specs.declared.bad_script.BadScript.{BadScript}
 use Rattle.qc_run.specs.declared.bad_script.BadScript.TheVariants.{NotJson, Shape, Limit, Config, Unknown, TooLong, Twice, Memory}
 use Rattle.qc_run.specs.declared.script.Script.{Script}
 use Rattle.qc_run.specs.declared.status.Status.{Status}
 use Rattle.qc_run.specs.declared.status.Status.TheVariants as status
 use Rattle.qc_run.specs.Io.{Drops, IsAtEnd}
-use Rattle.qc_run.specs.Reading.{IsScript, IsRefused, IsRead}
+use Rattle.qc_run.specs.Reading.{IsScript, IsRefused}
 use Rattle.qc_run.specs.Run.{ReadsScript, ReadIt, IsScriptFault, IsNoRun, IsDoneOrShort}
 use Rattle.qc_run.proofs.OneScript.{script_not_refused}
 

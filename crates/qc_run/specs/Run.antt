@@ -1,5 +1,5 @@
 -- What a run answers: words for the clauses of the top call.
-use Rattle.std.specs.Prelude.{ℕ, ◌≡◌, ◌≢◌, ◌⊎◌, List, [], length, map, reverse, replicate, Option, IfSome}
+use Rattle.std.specs.Prelude.{ℕ, ◌≡◌, ◌≢◌, ◌⊎◌, List, map, reverse, replicate, Option, IfSome}
 use Rattle.qc_event.specs.Base.{start_values}
 use Rattle.qc_event.specs.declared.event.Entry.{Entry}
 use Rattle.qc_event.specs.declared.log.Short.{Short}
@@ -13,7 +13,6 @@ use Rattle.qc_run.specs.Report.{Text, report}
 use Rattle.qc_run.specs.Serial.{final_values}
 use Rattle.qc_run.specs.Trace.{Now}
 use Rattle.qc_run.specs.FaultLine.{fault_line}
-use Rattle.qc_run.specs.declared.bad_script.BadScript.{BadScript}
 use Rattle.qc_run.specs.declared.bad_script.BadScript.TheVariants.{Memory}
 use Rattle.qc_run.specs.declared.script.Script.{Script}
 use Rattle.qc_run.specs.declared.status.Status.{Status}

@@ -1,5 +1,5 @@
 -- What a serial machine with one value per record makes of a history.
-use Rattle.std.specs.Prelude.{ℕ, ◌≡◌, List, [], ◌∷◌, ◌++◌, None, reverse}
+use Rattle.std.specs.Prelude.{ℕ, ◌≡◌, List, [], ◌++◌, None, reverse}
 use Rattle.qc_event.specs.declared.event.Entry.{Entry}
 use Rattle.qc_event.specs.History.{Past, Name}
 use Rattle.qc_event.specs.Dead.{dead}

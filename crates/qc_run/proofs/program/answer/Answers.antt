@@ -1,8 +1,5 @@
-use Rattle.std.proofs.Common.{◌≡◌, ◌≤◌, ◌^◌, ◌∙◌, ap, sym, subst, take, length}
-use Rattle.std.specs.Prelude.{IfSome, Some, []}
-use Rattle.qc_run.specs.declared.script.Script.{Script}
-use Rattle.qc_run.specs.Reading.{IsScript}
-use Rattle.qc_run.specs.Run.{ReadsScript}
+use Rattle.std.proofs.Common.{◌≡◌, sym, subst, take}
+use Rattle.std.specs.Prelude.{IfSome}
 use Rattle.qc_run.proofs.Taken.{most, reads_script, fault_of_all}
 use Rattle.qc_run.proofs.program.answer.Goals as goal
 

@@ -1,4 +1,4 @@
-use Rattle.std.proofs.Common.{◌≡◌, ◌∙◌, ap, sym, subst}
+use Rattle.std.proofs.Common.{◌∙◌, subst}
 use Rattle.qc_run.specs.Io.{Appends, AppendsFront}
 use Rattle.qc_run.proofs.RunFacts.{text_is_page}
 use Rattle.qc_run.proofs.program.conclude.Goals as goal

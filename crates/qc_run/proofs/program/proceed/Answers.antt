@@ -1,13 +1,11 @@
-use Rattle.std.proofs.Common.{◌≡◌, ◌≤◌, ◌∙◌, ap, sym, subst, reverse, length}
+use Rattle.std.proofs.Common.{◌∙◌, ap, sym, subst, reverse}
 use Rattle.qc_event.specs.Base.{start_values}
-use Rattle.qc_event.specs.History.{limit}
 use Rattle.qc_event.specs.Legal.{Legal, setting_of}
-use Rattle.qc_run.specs.declared.status.Status.TheVariants as status
 use Rattle.qc_run.specs.Follows.{FollowsTops}
 use Rattle.qc_run.specs.Io.{Appends, AppendsFront}
 use Rattle.qc_run.specs.Run as words_of
 use Rattle.qc_run.specs.Serial.{IsSerialThroughout}
-use Rattle.qc_run.specs.Trace.{IsFront, Now, tops_after, trace, starts_of}
+use Rattle.qc_run.specs.Trace.{IsFront, Now}
 use Rattle.qc_run.proofs.RunFacts.{whole, session_front, front_legal, front_serial, whole_follows, page_is_report, run_of, halted_not_ended, trail_front, trail_bounded}
 use Rattle.qc_run.proofs.program.proceed.Goals as goal
 use Rattle.qc_run.proofs.program.proceed.Goals.{in-Ok, in-Err}

@@ -1,4 +1,4 @@
-use Rattle.std.proofs.Common.{◌≡◌, ◌∙◌, sym, subst, true, false}
+use Rattle.std.proofs.Common.{◌∙◌, sym, subst}
 use mathlib.Core.Bool.{true≢false}
 use Rattle.qc_run.specs.Run.{IsScriptFault}
 use Rattle.qc_run.proofs.Taken.{none_was_run, script_was_run}

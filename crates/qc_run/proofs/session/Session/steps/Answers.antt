@@ -1,6 +1,5 @@
-use Rattle.std.proofs.Common.{◌≡◌, ◌+◌, length, drop, sym, subst, ap, ◌∙◌}
+use Rattle.std.proofs.Common.{length}
 use Rattle.std.proofs.lemmas.Result.{err_from_is_err_and}
-use Rattle.qc_run.specs.Trace as trace
 use Rattle.qc_run.proofs.Fronts.{within_at, stopped_before, step_on_the_way}
 use Rattle.qc_run.proofs.session.Session.steps.Goals as goal
 

@@ -1,6 +1,4 @@
-use Rattle.std.proofs.Common.{◌≡◌, ◌∷◌, [], refl, ap, sym, ◌∙◌}
 use Rattle.std.proofs.lemmas.Result.{err_from_is_err_and}
-use Rattle.qc_run.specs.Trace as trace
 use Rattle.qc_run.proofs.Fronts.{stopped_at, stopped_before, steps_on_the_way, top_grows}
 use Rattle.qc_run.proofs.session.Session.top.Goals as goal
 

@@ -1,4 +1,4 @@
-use Rattle.std.proofs.Common.{◌≡◌, ◌+◌, ◌≤◌, length, drop, sym, subst, ap, ◌∙◌, arith}
+use Rattle.std.proofs.Common.{length, ap, ◌∙◌, arith}
 use Rattle.std.proofs.lemmas.Result.{err_from_is_err_and}
 use Rattle.qc_run.specs.Trace as trace
 use Rattle.qc_run.proofs.Fronts.{body_within, stopped_before, body_on_the_way, top_longer, rest_of_bodies, values_after_top}

@@ -1,4 +1,4 @@
-use Rattle.std.proofs.Common.{◌≡◌, ◌+◌, ◌≤◌, length, drop}
+use Rattle.std.proofs.Common.{◌≡◌, ◌≤◌, length, drop}
 use Rattle.qc_run.specs.Trace as trace
 use Rattle.qc_run.proofs.session.Session.tops.Given as goal
 
