@@ -2,19 +2,25 @@ ghost use Rattle.std.specs.Prelude.{◌≡◌, ◌≤◌, IfOk, IfErr, length, s
 ghost use Rattle.qc_event.specs.Config as config;
 
 use std::marker::Model;
+use thiserror::Error;
 
 /// Why votes and thresholds are no configuration.
-#[derive(Clone, Copy, PartialEq, Eq, Debug)]
+#[derive(Clone, Copy, PartialEq, Eq, Debug, Error)]
 pub enum BadConfig {
     /// There are no votes at all: the list is empty.
+    #[error("no copy has a number of votes")]
     Empty,
     /// The total of the votes is 0.
+    #[error("the votes come to 0")]
     Votes,
     /// The read threshold is 0 or above the total.
+    #[error("the read threshold is 0 or above the total")]
     Read,
     /// The write threshold is 0 or above the total.
+    #[error("the write threshold is 0 or above the total")]
     Write,
     /// The thresholds together do not pass the total, so quorums need not meet.
+    #[error("a read and a write quorum need not meet")]
     NoOverlap,
 }
 

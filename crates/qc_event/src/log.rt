@@ -4,13 +4,16 @@ ghost use Rattle.qc_event.specs.History.{limit};
 use crate::event::Entry;
 use std::alloc::{AllocError, Global};
 use std::marker::Model;
+use thiserror::Error;
 
 /// Why a history did not take an entry.
-#[derive(Clone, Copy, PartialEq, Eq, Debug)]
+#[derive(Clone, Copy, PartialEq, Eq, Debug, Error)]
 pub enum Short {
     /// There was no memory.
+    #[error("no memory")]
     Memory,
     /// The history has `2^32 - 1` entries, and takes no more.
+    #[error("no room for another entry")]
     Room,
 }
 

@@ -5,7 +5,7 @@ use std::alloc::{AllocError, Global};
 use std::marker::Model;
 
 /// The name of a record, as its bytes.
-#[derive(Drop)]
+#[derive(Debug, Drop)]
 pub struct Label {
     bytes: Vec<u8>,
 }
