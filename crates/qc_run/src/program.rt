@@ -8,7 +8,7 @@ ghost use Rattle.qc_run.specs.FaultLine.{fault_line};
 ghost use Rattle.qc_run.specs.Follows.{FollowsTops};
 ghost use Rattle.qc_run.specs.Io.{Rose, Keeps, Appends, AppendsFront};
 ghost use Rattle.qc_run.specs.Reading.{IsScript, IsProper};
-ghost use Rattle.qc_run.specs.Run as words_of;
+ghost use Rattle.qc_run.specs.Run as terms;
 ghost use Rattle.qc_run.specs.Serial.{IsSerialThroughout};
 ghost use Rattle.qc_run.specs.Trace.{starts_of};
 ghost use Rattle.qc_run.specs.Words as line;
@@ -25,7 +25,7 @@ use qc_event::{Base, Entry, Row, Short, Table, Tuple};
 use std::alloc::{AllocError, Global};
 
 fn first_tuples(alloc: Global, rows: &[Row]) -> Result<Vec<Tuple>, AllocError>
-    ensures { IfOk result (λ v. v.items ≡ map words_of.first_tuple rows.now) }
+    ensures { IfOk result (λ v. v.items ≡ map terms.first_tuple rows.now) }
 {
     rows.iter()
         .map(|row| Tuple {
@@ -38,7 +38,7 @@ fn first_tuples(alloc: Global, rows: &[Row]) -> Result<Vec<Tuple>, AllocError>
 }
 
 fn base_of(alloc: Global, table: &Table) -> Result<Base, AllocError>
-    ensures { IfOk result (λ b. b ≡ words_of.base_of table.now) }
+    ensures { IfOk result (λ b. b ≡ terms.base_of table.now) }
 {
     let mut copies = Vec::new(alloc);
     for _ in 0..table.copies {
@@ -71,9 +71,9 @@ fn nothing(alloc: Global, status: Status) -> Ran
 
 // Writes the line of a fault, and answers it; or want of memory for the line.
 fn tell<K: Sink>(alloc: Global, status: Status, sink: &mut K) -> Status
-    requires { words_of.IsTold status }
-    ensures answer { words_of.IsOrMemory status result }
-    ensures told { words_of.IsTold result → words_of.TellsFault (K.taken sink.old) (K.taken sink.new) (K.faults sink.old) (K.faults sink.new) result }
+    requires { terms.IsTold status }
+    ensures answer { terms.IsOrMemory status result }
+    ensures told { terms.IsTold result → terms.TellsFault (K.taken sink.old) (K.taken sink.new) (K.faults sink.old) (K.faults sink.new) result }
     ensures short { result ≡ Status.Memory → Keeps (K.taken sink.old) (K.taken sink.new) }
     ensures faults { K.faults sink.old ≤ K.faults sink.new }
 {
@@ -88,9 +88,9 @@ fn tell<K: Sink>(alloc: Global, status: Status, sink: &mut K) -> Status
 
 // Reports a session that has run to its end.
 fn conclude<K: Sink>(alloc: Global, table: &Table, session: &Session, sink: &mut K) -> Status
-    ensures answer { words_of.IsConcluded result }
-    ensures done { result ≡ Status.Done → Appends (K.taken sink.old) (K.taken sink.new) (words_of.page table.now session.now) }
-    ensures front { result ≡ Status.WriteFault → AppendsFront (K.taken sink.old) (K.taken sink.new) (words_of.page table.now session.now) }
+    ensures answer { terms.IsConcluded result }
+    ensures done { result ≡ Status.Done → Appends (K.taken sink.old) (K.taken sink.new) (terms.page table.now session.now) }
+    ensures front { result ≡ Status.WriteFault → AppendsFront (K.taken sink.old) (K.taken sink.new) (terms.page table.now session.now) }
     ensures short { result ≡ Status.Memory → Keeps (K.taken sink.old) (K.taken sink.new) }
     ensures fault { result ≡ Status.WriteFault → Rose (K.faults sink.old) (K.faults sink.new) }
     ensures faults { K.faults sink.old ≤ K.faults sink.new }
@@ -106,7 +106,7 @@ fn conclude<K: Sink>(alloc: Global, table: &Table, session: &Session, sink: &mut
 
 // The start of a script's run: its tuples, and a session that has done nothing.
 fn open(alloc: Global, table: &Table) -> Result<(Base, Session), AllocError>
-    ensures base { IfOk result (λ opened. opened.0 ≡ words_of.base_of table.now) }
+    ensures base { IfOk result (λ opened. opened.0 ≡ terms.base_of table.now) }
     ensures session { IfOk result (λ opened. opened.1 ≡ record { past = []; values = starts_of table.now.records }) }
 {
     let start = base_of(alloc, table)?;
@@ -116,8 +116,8 @@ fn open(alloc: Global, table: &Table) -> Result<(Base, Session), AllocError>
 
 // Ends a run that stopped for want of memory or of room.
 fn halt<K: Sink>(alloc: Global, short: Short, sink: &mut K) -> Status
-    ensures answer { words_of.IsHalted short result }
-    ensures told { words_of.IsTold result → words_of.TellsFault (K.taken sink.old) (K.taken sink.new) (K.faults sink.old) (K.faults sink.new) result }
+    ensures answer { terms.IsHalted short result }
+    ensures told { terms.IsTold result → terms.TellsFault (K.taken sink.old) (K.taken sink.new) (K.faults sink.old) (K.faults sink.new) result }
     ensures short { result ≡ Status.Memory → Keeps (K.taken sink.old) (K.taken sink.new) }
     ensures faults { K.faults sink.old ≤ K.faults sink.new }
 {
@@ -136,16 +136,16 @@ fn proceed<K: Sink>(
     sink: &mut K,
 ) -> Ran
     requires proper { IsProper script.now }
-    requires base { start ≡ words_of.base_of script.now.table }
+    requires base { start ≡ terms.base_of script.now.table }
     requires session { session ≡ record { past = []; values = starts_of script.now.table.records } }
     ensures legal_history { Legal (setting_of result.start) (reverse result.trail.items) }
     ensures serial_order { IsSerialThroughout (start_values result.start) result.trail.items }
-    ensures start { result.start ≡ words_of.base_of script.now.table }
-    ensures follows { words_of.RanToEnd result.status → FollowsTops script.now.tops (reverse result.trail.items) }
-    ensures answer { words_of.IsPerformed result.status }
-    ensures done { result.status ≡ Status.Done → Appends (K.taken sink.old) (K.taken sink.new) (words_of.report_of script.now result.start result.trail.items) }
-    ensures front { result.status ≡ Status.WriteFault → AppendsFront (K.taken sink.old) (K.taken sink.new) (words_of.report_of script.now result.start result.trail.items) }
-    ensures told { words_of.IsTold result.status → words_of.TellsFault (K.taken sink.old) (K.taken sink.new) (K.faults sink.old) (K.faults sink.new) result.status }
+    ensures start { result.start ≡ terms.base_of script.now.table }
+    ensures follows { terms.RanToEnd result.status → FollowsTops script.now.tops (reverse result.trail.items) }
+    ensures answer { terms.IsPerformed result.status }
+    ensures done { result.status ≡ Status.Done → Appends (K.taken sink.old) (K.taken sink.new) (terms.report_of script.now result.start result.trail.items) }
+    ensures front { result.status ≡ Status.WriteFault → AppendsFront (K.taken sink.old) (K.taken sink.new) (terms.report_of script.now result.start result.trail.items) }
+    ensures told { terms.IsTold result.status → terms.TellsFault (K.taken sink.old) (K.taken sink.new) (K.faults sink.old) (K.faults sink.new) result.status }
     ensures short { result.status ≡ Status.Memory → Keeps (K.taken sink.old) (K.taken sink.new) }
     ensures fault { result.status ≡ Status.WriteFault → Rose (K.faults sink.old) (K.faults sink.new) }
     ensures room { result.status ≡ Status.Room → length result.trail.items ≡ limit }
@@ -167,12 +167,12 @@ fn perform<K: Sink>(alloc: Global, script: &Script, sink: &mut K) -> Ran
     requires { IsProper script.now }
     ensures legal_history { Legal (setting_of result.start) (reverse result.trail.items) }
     ensures serial_order { IsSerialThroughout (start_values result.start) result.trail.items }
-    ensures start { words_of.ReadIt result.status → result.start ≡ words_of.base_of script.now.table }
-    ensures follows { words_of.RanToEnd result.status → FollowsTops script.now.tops (reverse result.trail.items) }
-    ensures answer { words_of.IsPerformed result.status }
-    ensures done { result.status ≡ Status.Done → Appends (K.taken sink.old) (K.taken sink.new) (words_of.report_of script.now result.start result.trail.items) }
-    ensures front { result.status ≡ Status.WriteFault → AppendsFront (K.taken sink.old) (K.taken sink.new) (words_of.report_of script.now result.start result.trail.items) }
-    ensures told { words_of.IsTold result.status → words_of.TellsFault (K.taken sink.old) (K.taken sink.new) (K.faults sink.old) (K.faults sink.new) result.status }
+    ensures start { terms.ReadIt result.status → result.start ≡ terms.base_of script.now.table }
+    ensures follows { terms.RanToEnd result.status → FollowsTops script.now.tops (reverse result.trail.items) }
+    ensures answer { terms.IsPerformed result.status }
+    ensures done { result.status ≡ Status.Done → Appends (K.taken sink.old) (K.taken sink.new) (terms.report_of script.now result.start result.trail.items) }
+    ensures front { result.status ≡ Status.WriteFault → AppendsFront (K.taken sink.old) (K.taken sink.new) (terms.report_of script.now result.start result.trail.items) }
+    ensures told { terms.IsTold result.status → terms.TellsFault (K.taken sink.old) (K.taken sink.new) (K.faults sink.old) (K.faults sink.new) result.status }
     ensures short { result.status ≡ Status.Memory → Keeps (K.taken sink.old) (K.taken sink.new) }
     ensures fault { result.status ≡ Status.WriteFault → Rose (K.faults sink.old) (K.faults sink.new) }
     ensures room { result.status ≡ Status.Room → length result.trail.items ≡ limit }
@@ -186,11 +186,11 @@ fn perform<K: Sink>(alloc: Global, script: &Script, sink: &mut K) -> Ran
 
 // Refuses to run, and tells why.
 fn refuse<K: Sink>(alloc: Global, status: Status, sink: &mut K) -> Ran
-    requires { words_of.IsTold status }
-    ensures answer { words_of.IsOrMemory status result.status }
+    requires { terms.IsTold status }
+    ensures answer { terms.IsOrMemory status result.status }
     ensures start { result.start ≡ [] }
     ensures trail { result.trail.items ≡ [] }
-    ensures told { words_of.IsTold result.status → words_of.TellsFault (K.taken sink.old) (K.taken sink.new) (K.faults sink.old) (K.faults sink.new) result.status }
+    ensures told { terms.IsTold result.status → terms.TellsFault (K.taken sink.old) (K.taken sink.new) (K.faults sink.old) (K.faults sink.new) result.status }
     ensures short { result.status ≡ Status.Memory → Keeps (K.taken sink.old) (K.taken sink.new) }
     ensures faults { K.faults sink.old ≤ K.faults sink.new }
 {
@@ -202,14 +202,14 @@ fn refuse<K: Sink>(alloc: Global, status: Status, sink: &mut K) -> Ran
 fn over<K: Sink>(alloc: Global, bytes: &[u8], sink: &mut K) -> Ran
     ensures legal_history { Legal (setting_of result.start) (reverse result.trail.items) }
     ensures serial_order { IsSerialThroughout (start_values result.start) result.trail.items }
-    ensures nothing_begun { words_of.BeganNothing result.status → (result.trail.items ≡ []) × (result.start ≡ []) }
-    ensures started { words_of.ReadIt result.status → (s : Script) × IsScript bytes.now s × (result.start ≡ words_of.base_of s.table) }
-    ensures follows { words_of.RanToEnd result.status → (s : Script) × IsScript bytes.now s × (result.start ≡ words_of.base_of s.table) × FollowsTops s.tops (reverse result.trail.items) }
-    ensures answer { words_of.IsOver result.status }
-    ensures refused { words_of.IsScriptFault (Some bytes.now) result.status }
-    ensures done { result.status ≡ Status.Done → (s : Script) × IsScript bytes.now s × Appends (K.taken sink.old) (K.taken sink.new) (words_of.report_of s result.start result.trail.items) }
-    ensures front { result.status ≡ Status.WriteFault → (s : Script) × IsScript bytes.now s × AppendsFront (K.taken sink.old) (K.taken sink.new) (words_of.report_of s result.start result.trail.items) }
-    ensures told { words_of.IsTold result.status → words_of.TellsFault (K.taken sink.old) (K.taken sink.new) (K.faults sink.old) (K.faults sink.new) result.status }
+    ensures nothing_begun { terms.BeganNothing result.status → (result.trail.items ≡ []) × (result.start ≡ []) }
+    ensures started { terms.ReadIt result.status → (s : Script) × IsScript bytes.now s × (result.start ≡ terms.base_of s.table) }
+    ensures follows { terms.RanToEnd result.status → (s : Script) × IsScript bytes.now s × (result.start ≡ terms.base_of s.table) × FollowsTops s.tops (reverse result.trail.items) }
+    ensures answer { terms.IsOver result.status }
+    ensures refused { terms.IsScriptFault (Some bytes.now) result.status }
+    ensures done { result.status ≡ Status.Done → (s : Script) × IsScript bytes.now s × Appends (K.taken sink.old) (K.taken sink.new) (terms.report_of s result.start result.trail.items) }
+    ensures front { result.status ≡ Status.WriteFault → (s : Script) × IsScript bytes.now s × AppendsFront (K.taken sink.old) (K.taken sink.new) (terms.report_of s result.start result.trail.items) }
+    ensures told { terms.IsTold result.status → terms.TellsFault (K.taken sink.old) (K.taken sink.new) (K.faults sink.old) (K.faults sink.new) result.status }
     ensures short { result.status ≡ Status.Memory → Keeps (K.taken sink.old) (K.taken sink.new) }
     ensures fault { result.status ≡ Status.WriteFault → Rose (K.faults sink.old) (K.faults sink.new) }
     ensures room { result.status ≡ Status.Room → length result.trail.items ≡ limit }
@@ -226,16 +226,16 @@ fn over<K: Sink>(alloc: Global, bytes: &[u8], sink: &mut K) -> Ran
 fn answer<S: Source, K: Sink>(alloc: Global, words: &[String], source: &mut S, sink: &mut K) -> Ran
     ensures legal_history { Legal (setting_of result.start) (reverse result.trail.items) }
     ensures serial_order { IsSerialThroughout (start_values result.start) result.trail.items }
-    ensures nothing_begun { words_of.BeganNothing result.status → (result.trail.items ≡ []) × (result.start ≡ []) }
-    ensures started { words_of.ReadIt result.status → (s : Script) × words_of.ReadsScript (S.left source.old) (S.left source.new) s × (result.start ≡ words_of.base_of s.table) }
-    ensures follows_script { words_of.RanToEnd result.status → (s : Script) × words_of.ReadsScript (S.left source.old) (S.left source.new) s × (result.start ≡ words_of.base_of s.table) × FollowsTops s.tops (reverse result.trail.items) }
-    ensures output { result.status ≡ Status.Done → (s : Script) × words_of.ReadsScript (S.left source.old) (S.left source.new) s × Appends (K.taken sink.old) (K.taken sink.new) (words_of.report_of s result.start result.trail.items) }
-    ensures output_front { result.status ≡ Status.WriteFault → (s : Script) × words_of.ReadsScript (S.left source.old) (S.left source.new) s × AppendsFront (K.taken sink.old) (K.taken sink.new) (words_of.report_of s result.start result.trail.items) }
-    ensures output_line { words_of.IsTold result.status → words_of.TellsFault (K.taken sink.old) (K.taken sink.new) (K.faults sink.old) (K.faults sink.new) result.status }
+    ensures nothing_begun { terms.BeganNothing result.status → (result.trail.items ≡ []) × (result.start ≡ []) }
+    ensures started { terms.ReadIt result.status → (s : Script) × terms.ReadsScript (S.left source.old) (S.left source.new) s × (result.start ≡ terms.base_of s.table) }
+    ensures follows_script { terms.RanToEnd result.status → (s : Script) × terms.ReadsScript (S.left source.old) (S.left source.new) s × (result.start ≡ terms.base_of s.table) × FollowsTops s.tops (reverse result.trail.items) }
+    ensures output { result.status ≡ Status.Done → (s : Script) × terms.ReadsScript (S.left source.old) (S.left source.new) s × Appends (K.taken sink.old) (K.taken sink.new) (terms.report_of s result.start result.trail.items) }
+    ensures output_front { result.status ≡ Status.WriteFault → (s : Script) × terms.ReadsScript (S.left source.old) (S.left source.new) s × AppendsFront (K.taken sink.old) (K.taken sink.new) (terms.report_of s result.start result.trail.items) }
+    ensures output_line { terms.IsTold result.status → terms.TellsFault (K.taken sink.old) (K.taken sink.new) (K.faults sink.old) (K.faults sink.new) result.status }
     ensures output_none { result.status ≡ Status.Memory → Keeps (K.taken sink.old) (K.taken sink.new) }
     ensures usage { result.status ≡ Status.Usage → line.is_command (map string_bytes words.now) ≡ false }
-    ensures no_command { line.is_command (map string_bytes words.now) ≡ false → words_of.IsOrMemory Status.Usage result.status × (source.new ≡ source.old) }
-    ensures script_fault { words_of.IsScriptFault (S.left source.old) result.status }
+    ensures no_command { line.is_command (map string_bytes words.now) ≡ false → terms.IsOrMemory Status.Usage result.status × (source.new ≡ source.old) }
+    ensures script_fault { terms.IsScriptFault (S.left source.old) result.status }
     ensures read_fault { result.status ≡ Status.ReadFault → Rose (S.faults source.old) (S.faults source.new) }
     ensures write_fault { result.status ≡ Status.WriteFault → Rose (K.faults sink.old) (K.faults sink.new) }
     ensures room { result.status ≡ Status.Room → length result.trail.items ≡ limit }
@@ -264,26 +264,26 @@ fn answer<S: Source, K: Sink>(alloc: Global, words: &[String], source: &mut S, s
 pub fn run<S: Source, K: Sink>(alloc: Global, words: &[String], source: &mut S, sink: &mut K) -> Ran
     // The history is legal from its start, and empty where nothing was begun.
     ensures legal_history { Legal (setting_of result.start) (reverse result.trail.items) }
-    ensures nothing_begun { words_of.BeganNothing result.status → (result.trail.items ≡ []) × (result.start ≡ []) }
+    ensures nothing_begun { terms.BeganNothing result.status → (result.trail.items ≡ []) × (result.start ≡ []) }
 
     // At each moment of the history, each user transaction without an aborted ancestor has its serial order.
     ensures serial_order { IsSerialThroughout (start_values result.start) result.trail.items }
 
     // What ran to its end is a script that the source held, and the history follows it.
-    ensures follows_script { words_of.RanToEnd result.status → (s : Script) × words_of.ReadsScript (S.left source.old) (S.left source.new) s × (result.start ≡ words_of.base_of s.table) × FollowsTops s.tops (reverse result.trail.items) }
-    ensures started { words_of.ReadIt result.status → (s : Script) × words_of.ReadsScript (S.left source.old) (S.left source.new) s × (result.start ≡ words_of.base_of s.table) }
+    ensures follows_script { terms.RanToEnd result.status → (s : Script) × terms.ReadsScript (S.left source.old) (S.left source.new) s × (result.start ≡ terms.base_of s.table) × FollowsTops s.tops (reverse result.trail.items) }
+    ensures started { terms.ReadIt result.status → (s : Script) × terms.ReadsScript (S.left source.old) (S.left source.new) s × (result.start ≡ terms.base_of s.table) }
 
     // The bytes written are the report, a front of it, a fault's line, or none.
-    ensures output { result.status ≡ Status.Done → (s : Script) × words_of.ReadsScript (S.left source.old) (S.left source.new) s × Appends (K.taken sink.old) (K.taken sink.new) (words_of.report_of s result.start result.trail.items) }
-    ensures output_front { result.status ≡ Status.WriteFault → (s : Script) × words_of.ReadsScript (S.left source.old) (S.left source.new) s × AppendsFront (K.taken sink.old) (K.taken sink.new) (words_of.report_of s result.start result.trail.items) }
-    ensures output_line { words_of.IsTold result.status → words_of.TellsFault (K.taken sink.old) (K.taken sink.new) (K.faults sink.old) (K.faults sink.new) result.status }
+    ensures output { result.status ≡ Status.Done → (s : Script) × terms.ReadsScript (S.left source.old) (S.left source.new) s × Appends (K.taken sink.old) (K.taken sink.new) (terms.report_of s result.start result.trail.items) }
+    ensures output_front { result.status ≡ Status.WriteFault → (s : Script) × terms.ReadsScript (S.left source.old) (S.left source.new) s × AppendsFront (K.taken sink.old) (K.taken sink.new) (terms.report_of s result.start result.trail.items) }
+    ensures output_line { terms.IsTold result.status → terms.TellsFault (K.taken sink.old) (K.taken sink.new) (K.faults sink.old) (K.faults sink.new) result.status }
     ensures output_none { result.status ≡ Status.Memory → Keeps (K.taken sink.old) (K.taken sink.new) }
 
     // When each status comes.
     ensures usage { result.status ≡ Status.Usage → line.is_command (map string_bytes words.now) ≡ false }
-    ensures no_command { line.is_command (map string_bytes words.now) ≡ false → words_of.IsOrMemory Status.Usage result.status × (source.new ≡ source.old) }
-    ensures script_fault { words_of.IsScriptFault (S.left source.old) result.status }
-    ensures no_script { line.is_command (map string_bytes words.now) ≡ true → IfSome (S.left source.old) (λ bytes. ((s : Script) → IsScript bytes s → ⊥) → words_of.IsNoRun result.status) }
+    ensures no_command { line.is_command (map string_bytes words.now) ≡ false → terms.IsOrMemory Status.Usage result.status × (source.new ≡ source.old) }
+    ensures script_fault { terms.IsScriptFault (S.left source.old) result.status }
+    ensures no_script { line.is_command (map string_bytes words.now) ≡ true → IfSome (S.left source.old) (λ bytes. ((s : Script) → IsScript bytes s → ⊥) → terms.IsNoRun result.status) }
     ensures read_fault { result.status ≡ Status.ReadFault → Rose (S.faults source.old) (S.faults source.new) }
     ensures write_fault { result.status ≡ Status.WriteFault → Rose (K.faults sink.old) (K.faults sink.new) }
     ensures room { result.status ≡ Status.Room → length result.trail.items ≡ limit }
@@ -292,7 +292,7 @@ pub fn run<S: Source, K: Sink>(alloc: Global, words: &[String], source: &mut S, 
 
     // A script is run, where neither stream fails, as far as there is memory and room.
     ensures completes { (bytes : List ℕ) (s : Script) → line.is_command (map string_bytes words.now) ≡ true → S.left source.old ≡ Some bytes → IsScript bytes s
-        → (Rose (S.faults source.old) (S.faults source.new) → ⊥) → (Rose (K.faults sink.old) (K.faults sink.new) → ⊥) → words_of.IsDoneOrShort result.status }
+        → (Rose (S.faults source.old) (S.faults source.new) → ⊥) → (Rose (K.faults sink.old) (K.faults sink.new) → ⊥) → terms.IsDoneOrShort result.status }
 {
     answer(alloc, words, source, sink)
 }

@@ -3,7 +3,7 @@ use Rattle.qc_event.specs.Base.{start_values}
 use Rattle.qc_event.specs.Legal.{Legal, setting_of}
 use Rattle.qc_run.specs.Follows.{FollowsTops}
 use Rattle.qc_run.specs.Io.{Appends, AppendsFront}
-use Rattle.qc_run.specs.Run as words_of
+use Rattle.qc_run.specs.Run as terms
 use Rattle.qc_run.specs.Serial.{IsSerialThroughout}
 use Rattle.qc_run.specs.Trace.{IsFront, Now}
 use Rattle.qc_run.proofs.RunFacts.{whole, session_front, front_legal, front_serial, whole_follows, page_is_report, run_of, halted_not_ended, trail_front, trail_bounded}
@@ -35,7 +35,7 @@ returns-clause-follows g c = λ ended.
       | in-Ok w ↦
           let is = w.in-Ok.ensures.ok ∙ run_of s c.as_slice.result.now c.args.session c.requires.session c.as_slice.ensures in
           subst (λ p. FollowsTops s.tops p) (sym (c.into_entries.ensures.entries ∙ ap (λ (n : Now). n.past) is)) (whole_follows s)
-      | in-Err w ↦ absurd (halted_not_ended w.in-Err.short w.halt-status.result w.halt-status.ensures.answer (subst words_of.RanToEnd w.status-is ended))
+      | in-Err w ↦ absurd (halted_not_ended w.in-Err.short w.halt-status.result w.halt-status.ensures.answer (subst terms.RanToEnd w.status-is ended))
     ]
 
 pub returns-clause-done : goal.returns-clause-done
@@ -45,9 +45,9 @@ returns-clause-done g c = λ done.
       | in-Ok w ↦
           let is = w.in-Ok.ensures.ok ∙ run_of s c.as_slice.result.now c.args.session c.requires.session c.as_slice.ensures in
           let text = page_is_report s c.args.start c.into_entries.result.items c.tops.new.self c.requires.proper c.requires.base is c.into_entries.ensures.entries in
-          subst (λ k. Appends (g.K.Sink.taken c.args.sink.now) (g.K.Sink.taken k) (words_of.report_of s c.args.start c.into_entries.result.items)) (sym w.sink-is)
+          subst (λ k. Appends (g.K.Sink.taken c.args.sink.now) (g.K.Sink.taken k) (terms.report_of s c.args.start c.into_entries.result.items)) (sym w.sink-is)
           (subst (λ t. Appends (g.K.Sink.taken c.args.sink.now) (g.K.Sink.taken w.conclude-status.new.sink) t) text (w.conclude-status.ensures.done (sym w.status-is ∙ done)))
-      | in-Err w ↦ absurd (halted_not_ended w.in-Err.short w.halt-status.result w.halt-status.ensures.answer (subst words_of.RanToEnd (sym done ∙ w.status-is) tt))
+      | in-Err w ↦ absurd (halted_not_ended w.in-Err.short w.halt-status.result w.halt-status.ensures.answer (subst terms.RanToEnd (sym done ∙ w.status-is) tt))
     ]
 
 pub returns-clause-front : goal.returns-clause-front
@@ -57,7 +57,7 @@ returns-clause-front g c = λ failed.
       | in-Ok w ↦
           let is = w.in-Ok.ensures.ok ∙ run_of s c.as_slice.result.now c.args.session c.requires.session c.as_slice.ensures in
           let text = page_is_report s c.args.start c.into_entries.result.items c.tops.new.self c.requires.proper c.requires.base is c.into_entries.ensures.entries in
-          subst (λ k. AppendsFront (g.K.Sink.taken c.args.sink.now) (g.K.Sink.taken k) (words_of.report_of s c.args.start c.into_entries.result.items)) (sym w.sink-is)
+          subst (λ k. AppendsFront (g.K.Sink.taken c.args.sink.now) (g.K.Sink.taken k) (terms.report_of s c.args.start c.into_entries.result.items)) (sym w.sink-is)
           (subst (λ t. AppendsFront (g.K.Sink.taken c.args.sink.now) (g.K.Sink.taken w.conclude-status.new.sink) t) text (w.conclude-status.ensures.front (sym w.status-is ∙ failed)))
-      | in-Err w ↦ absurd (halted_not_ended w.in-Err.short w.halt-status.result w.halt-status.ensures.answer (subst words_of.RanToEnd (sym failed ∙ w.status-is) tt))
+      | in-Err w ↦ absurd (halted_not_ended w.in-Err.short w.halt-status.result w.halt-status.ensures.answer (subst terms.RanToEnd (sym failed ∙ w.status-is) tt))
     ]
