@@ -33,6 +33,14 @@ pub record ReadsScript (before now : Option (List ℕ)) (s : Script) : Type 0 wh
   pub ended : IsAtEnd now
   pub is_script : IsScript bytes s
 
+-- a script that the source held was read, the run started from its table, and it is so of the script
+abbrev pub OfScript : Option (List ℕ) → Option (List ℕ) → List (List Tuple) → (Script → Type 0) → Type 0
+OfScript before now start IsSo = (s : Script) × ReadsScript before now s × (start ≡ base_of s.table) × IsSo s
+
+-- the same of a script that the bytes are
+abbrev pub OfBytes : List ℕ → List (List Tuple) → (Script → Type 0) → Type 0
+OfBytes bytes start IsSo = (s : Script) × IsScript bytes s × (start ≡ base_of s.table) × IsSo s
+
 -- every session ran to its end
 abbrev pub RanToEnd : Status → Type 0
 RanToEnd status.Done = Unit {0}

@@ -1,5 +1,5 @@
 //! The top call: all that the program does, over the streams that it is handed.
-ghost use Rattle.std.specs.Prelude.{ℕ, List, ◌≡◌, ◌≢◌, ◌≤◌, ◌↔◌, [], false, true, length, map, reverse, string_bytes, Option, Some, IfSome, IfOk};
+ghost use Rattle.std.specs.Prelude.{ℕ, List, ⊤, ◌≡◌, ◌≢◌, ◌≤◌, ◌↔◌, [], false, true, length, map, reverse, string_bytes, Option, Some, IfSome, IfOk};
 ghost use Rattle.qc_event.specs.Base.{start_values};
 ghost use Rattle.qc_event.specs.History.{limit};
 ghost use Rattle.qc_event.specs.Legal.{Legal, setting_of};
@@ -73,7 +73,8 @@ fn nothing(alloc: Global, status: Status) -> Ran
 fn tell<K: Sink>(alloc: Global, status: Status, sink: &mut K) -> Status
     requires { terms.IsTold status }
     ensures answer { terms.IsOrMemory status result }
-    ensures told { terms.IsTold result → terms.TellsFault (K.taken sink.old) (K.taken sink.new) (K.faults sink.old) (K.faults sink.new) result }
+    ensures told { terms.IsTold result → terms.TellsFault (K.taken sink.old) (K.taken sink.new)
+        (K.faults sink.old) (K.faults sink.new) result }
     ensures short { result ≡ Status.Memory → Keeps (K.taken sink.old) (K.taken sink.new) }
     ensures faults { K.faults sink.old ≤ K.faults sink.new }
 {
@@ -117,7 +118,8 @@ fn open(alloc: Global, table: &Table) -> Result<(Base, Session), AllocError>
 // Ends a run that stopped for want of memory or of room.
 fn halt<K: Sink>(alloc: Global, short: Short, sink: &mut K) -> Status
     ensures answer { terms.IsHalted short result }
-    ensures told { terms.IsTold result → terms.TellsFault (K.taken sink.old) (K.taken sink.new) (K.faults sink.old) (K.faults sink.new) result }
+    ensures told { terms.IsTold result → terms.TellsFault (K.taken sink.old) (K.taken sink.new)
+        (K.faults sink.old) (K.faults sink.new) result }
     ensures short { result ≡ Status.Memory → Keeps (K.taken sink.old) (K.taken sink.new) }
     ensures faults { K.faults sink.old ≤ K.faults sink.new }
 {
@@ -141,11 +143,15 @@ fn proceed<K: Sink>(
     ensures legal_history { Legal (setting_of result.start) (reverse result.trail.items) }
     ensures serial_order { IsSerialThroughout (start_values result.start) result.trail.items }
     ensures start { result.start ≡ terms.base_of script.now.table }
-    ensures follows { terms.RanToEnd result.status → FollowsTops script.now.tops (reverse result.trail.items) }
+    ensures follows { terms.RanToEnd result.status
+        → FollowsTops script.now.tops (reverse result.trail.items) }
     ensures answer { terms.IsPerformed result.status }
-    ensures done { result.status ≡ Status.Done → Appends (K.taken sink.old) (K.taken sink.new) (terms.report_of script.now result.start result.trail.items) }
-    ensures front { result.status ≡ Status.WriteFault → AppendsFront (K.taken sink.old) (K.taken sink.new) (terms.report_of script.now result.start result.trail.items) }
-    ensures told { terms.IsTold result.status → terms.TellsFault (K.taken sink.old) (K.taken sink.new) (K.faults sink.old) (K.faults sink.new) result.status }
+    ensures done { result.status ≡ Status.Done → Appends (K.taken sink.old) (K.taken sink.new)
+        (terms.report_of script.now result.start result.trail.items) }
+    ensures front { result.status ≡ Status.WriteFault → AppendsFront (K.taken sink.old) (K.taken sink.new)
+        (terms.report_of script.now result.start result.trail.items) }
+    ensures told { terms.IsTold result.status → terms.TellsFault (K.taken sink.old) (K.taken sink.new)
+        (K.faults sink.old) (K.faults sink.new) result.status }
     ensures short { result.status ≡ Status.Memory → Keeps (K.taken sink.old) (K.taken sink.new) }
     ensures fault { result.status ≡ Status.WriteFault → Rose (K.faults sink.old) (K.faults sink.new) }
     ensures room { result.status ≡ Status.Room → length result.trail.items ≡ limit }
@@ -168,11 +174,15 @@ fn perform<K: Sink>(alloc: Global, script: &Script, sink: &mut K) -> Ran
     ensures legal_history { Legal (setting_of result.start) (reverse result.trail.items) }
     ensures serial_order { IsSerialThroughout (start_values result.start) result.trail.items }
     ensures start { terms.ReadIt result.status → result.start ≡ terms.base_of script.now.table }
-    ensures follows { terms.RanToEnd result.status → FollowsTops script.now.tops (reverse result.trail.items) }
+    ensures follows { terms.RanToEnd result.status
+        → FollowsTops script.now.tops (reverse result.trail.items) }
     ensures answer { terms.IsPerformed result.status }
-    ensures done { result.status ≡ Status.Done → Appends (K.taken sink.old) (K.taken sink.new) (terms.report_of script.now result.start result.trail.items) }
-    ensures front { result.status ≡ Status.WriteFault → AppendsFront (K.taken sink.old) (K.taken sink.new) (terms.report_of script.now result.start result.trail.items) }
-    ensures told { terms.IsTold result.status → terms.TellsFault (K.taken sink.old) (K.taken sink.new) (K.faults sink.old) (K.faults sink.new) result.status }
+    ensures done { result.status ≡ Status.Done → Appends (K.taken sink.old) (K.taken sink.new)
+        (terms.report_of script.now result.start result.trail.items) }
+    ensures front { result.status ≡ Status.WriteFault → AppendsFront (K.taken sink.old) (K.taken sink.new)
+        (terms.report_of script.now result.start result.trail.items) }
+    ensures told { terms.IsTold result.status → terms.TellsFault (K.taken sink.old) (K.taken sink.new)
+        (K.faults sink.old) (K.faults sink.new) result.status }
     ensures short { result.status ≡ Status.Memory → Keeps (K.taken sink.old) (K.taken sink.new) }
     ensures fault { result.status ≡ Status.WriteFault → Rose (K.faults sink.old) (K.faults sink.new) }
     ensures room { result.status ≡ Status.Room → length result.trail.items ≡ limit }
@@ -190,7 +200,8 @@ fn refuse<K: Sink>(alloc: Global, status: Status, sink: &mut K) -> Ran
     ensures answer { terms.IsOrMemory status result.status }
     ensures start { result.start ≡ [] }
     ensures trail { result.trail.items ≡ [] }
-    ensures told { terms.IsTold result.status → terms.TellsFault (K.taken sink.old) (K.taken sink.new) (K.faults sink.old) (K.faults sink.new) result.status }
+    ensures told { terms.IsTold result.status → terms.TellsFault (K.taken sink.old) (K.taken sink.new)
+        (K.faults sink.old) (K.faults sink.new) result.status }
     ensures short { result.status ≡ Status.Memory → Keeps (K.taken sink.old) (K.taken sink.new) }
     ensures faults { K.faults sink.old ≤ K.faults sink.new }
 {
@@ -202,14 +213,19 @@ fn refuse<K: Sink>(alloc: Global, status: Status, sink: &mut K) -> Ran
 fn over<K: Sink>(alloc: Global, bytes: &[u8], sink: &mut K) -> Ran
     ensures legal_history { Legal (setting_of result.start) (reverse result.trail.items) }
     ensures serial_order { IsSerialThroughout (start_values result.start) result.trail.items }
-    ensures nothing_begun { terms.BeganNothing result.status → (result.trail.items ≡ []) × (result.start ≡ []) }
-    ensures started { terms.ReadIt result.status → (s : Script) × IsScript bytes.now s × (result.start ≡ terms.base_of s.table) }
-    ensures follows { terms.RanToEnd result.status → (s : Script) × IsScript bytes.now s × (result.start ≡ terms.base_of s.table) × FollowsTops s.tops (reverse result.trail.items) }
+    ensures nothing_begun { terms.BeganNothing result.status
+        → (result.trail.items ≡ []) × (result.start ≡ []) }
+    ensures started { terms.ReadIt result.status → terms.OfBytes bytes.now result.start (λ _. ⊤) }
+    ensures follows { terms.RanToEnd result.status → terms.OfBytes bytes.now result.start
+        (λ s. FollowsTops s.tops (reverse result.trail.items)) }
     ensures answer { terms.IsOver result.status }
     ensures refused { terms.IsScriptFault (Some bytes.now) result.status }
-    ensures done { result.status ≡ Status.Done → (s : Script) × IsScript bytes.now s × Appends (K.taken sink.old) (K.taken sink.new) (terms.report_of s result.start result.trail.items) }
-    ensures front { result.status ≡ Status.WriteFault → (s : Script) × IsScript bytes.now s × AppendsFront (K.taken sink.old) (K.taken sink.new) (terms.report_of s result.start result.trail.items) }
-    ensures told { terms.IsTold result.status → terms.TellsFault (K.taken sink.old) (K.taken sink.new) (K.faults sink.old) (K.faults sink.new) result.status }
+    ensures done { result.status ≡ Status.Done → terms.OfBytes bytes.now result.start
+        (λ s. Appends (K.taken sink.old) (K.taken sink.new) (terms.report_of s result.start result.trail.items)) }
+    ensures front { result.status ≡ Status.WriteFault → terms.OfBytes bytes.now result.start
+        (λ s. AppendsFront (K.taken sink.old) (K.taken sink.new) (terms.report_of s result.start result.trail.items)) }
+    ensures told { terms.IsTold result.status → terms.TellsFault (K.taken sink.old) (K.taken sink.new)
+        (K.faults sink.old) (K.faults sink.new) result.status }
     ensures short { result.status ≡ Status.Memory → Keeps (K.taken sink.old) (K.taken sink.new) }
     ensures fault { result.status ≡ Status.WriteFault → Rose (K.faults sink.old) (K.faults sink.new) }
     ensures room { result.status ≡ Status.Room → length result.trail.items ≡ limit }
@@ -226,15 +242,25 @@ fn over<K: Sink>(alloc: Global, bytes: &[u8], sink: &mut K) -> Ran
 fn answer<S: Source, K: Sink>(alloc: Global, words: &[String], source: &mut S, sink: &mut K) -> Ran
     ensures legal_history { Legal (setting_of result.start) (reverse result.trail.items) }
     ensures serial_order { IsSerialThroughout (start_values result.start) result.trail.items }
-    ensures nothing_begun { terms.BeganNothing result.status → (result.trail.items ≡ []) × (result.start ≡ []) }
-    ensures started { terms.ReadIt result.status → (s : Script) × terms.ReadsScript (S.left source.old) (S.left source.new) s × (result.start ≡ terms.base_of s.table) }
-    ensures follows_script { terms.RanToEnd result.status → (s : Script) × terms.ReadsScript (S.left source.old) (S.left source.new) s × (result.start ≡ terms.base_of s.table) × FollowsTops s.tops (reverse result.trail.items) }
-    ensures output { result.status ≡ Status.Done → (s : Script) × terms.ReadsScript (S.left source.old) (S.left source.new) s × Appends (K.taken sink.old) (K.taken sink.new) (terms.report_of s result.start result.trail.items) }
-    ensures output_front { result.status ≡ Status.WriteFault → (s : Script) × terms.ReadsScript (S.left source.old) (S.left source.new) s × AppendsFront (K.taken sink.old) (K.taken sink.new) (terms.report_of s result.start result.trail.items) }
-    ensures output_line { terms.IsTold result.status → terms.TellsFault (K.taken sink.old) (K.taken sink.new) (K.faults sink.old) (K.faults sink.new) result.status }
+    ensures nothing_begun { terms.BeganNothing result.status
+        → (result.trail.items ≡ []) × (result.start ≡ []) }
+    ensures started { terms.ReadIt result.status
+        → terms.OfScript (S.left source.old) (S.left source.new) result.start (λ _. ⊤) }
+    ensures follows_script { terms.RanToEnd result.status
+        → terms.OfScript (S.left source.old) (S.left source.new) result.start
+        (λ s. FollowsTops s.tops (reverse result.trail.items)) }
+    ensures output { result.status ≡ Status.Done
+        → terms.OfScript (S.left source.old) (S.left source.new) result.start
+        (λ s. Appends (K.taken sink.old) (K.taken sink.new) (terms.report_of s result.start result.trail.items)) }
+    ensures output_front { result.status ≡ Status.WriteFault
+        → terms.OfScript (S.left source.old) (S.left source.new) result.start
+        (λ s. AppendsFront (K.taken sink.old) (K.taken sink.new) (terms.report_of s result.start result.trail.items)) }
+    ensures output_line { terms.IsTold result.status → terms.TellsFault (K.taken sink.old) (K.taken sink.new)
+        (K.faults sink.old) (K.faults sink.new) result.status }
     ensures output_none { result.status ≡ Status.Memory → Keeps (K.taken sink.old) (K.taken sink.new) }
     ensures usage { result.status ≡ Status.Usage → line.is_command (map string_bytes words.now) ≡ false }
-    ensures no_command { line.is_command (map string_bytes words.now) ≡ false → terms.IsOrMemory Status.Usage result.status × (source.new ≡ source.old) }
+    ensures no_command { line.is_command (map string_bytes words.now) ≡ false
+        → terms.IsOrMemory Status.Usage result.status × (source.new ≡ source.old) }
     ensures script_fault { terms.IsScriptFault (S.left source.old) result.status }
     ensures read_fault { result.status ≡ Status.ReadFault → Rose (S.faults source.old) (S.faults source.new) }
     ensures write_fault { result.status ≡ Status.WriteFault → Rose (K.faults sink.old) (K.faults sink.new) }
@@ -264,26 +290,37 @@ fn answer<S: Source, K: Sink>(alloc: Global, words: &[String], source: &mut S, s
 pub fn run<S: Source, K: Sink>(alloc: Global, words: &[String], source: &mut S, sink: &mut K) -> Ran
     // The history is legal from its start, and empty where nothing was begun.
     ensures legal_history { Legal (setting_of result.start) (reverse result.trail.items) }
-    ensures nothing_begun { terms.BeganNothing result.status → (result.trail.items ≡ []) × (result.start ≡ []) }
+    ensures nothing_begun { terms.BeganNothing result.status
+        → (result.trail.items ≡ []) × (result.start ≡ []) }
 
     // At each moment of the history, each user transaction without an aborted ancestor has its serial order.
     ensures serial_order { IsSerialThroughout (start_values result.start) result.trail.items }
 
     // What ran to its end is a script that the source held, and the history follows it.
-    ensures follows_script { terms.RanToEnd result.status → (s : Script) × terms.ReadsScript (S.left source.old) (S.left source.new) s × (result.start ≡ terms.base_of s.table) × FollowsTops s.tops (reverse result.trail.items) }
-    ensures started { terms.ReadIt result.status → (s : Script) × terms.ReadsScript (S.left source.old) (S.left source.new) s × (result.start ≡ terms.base_of s.table) }
+    ensures follows_script { terms.RanToEnd result.status
+        → terms.OfScript (S.left source.old) (S.left source.new) result.start
+        (λ s. FollowsTops s.tops (reverse result.trail.items)) }
+    ensures started { terms.ReadIt result.status
+        → terms.OfScript (S.left source.old) (S.left source.new) result.start (λ _. ⊤) }
 
     // The bytes written are the report, a front of it, a fault's line, or none.
-    ensures output { result.status ≡ Status.Done → (s : Script) × terms.ReadsScript (S.left source.old) (S.left source.new) s × Appends (K.taken sink.old) (K.taken sink.new) (terms.report_of s result.start result.trail.items) }
-    ensures output_front { result.status ≡ Status.WriteFault → (s : Script) × terms.ReadsScript (S.left source.old) (S.left source.new) s × AppendsFront (K.taken sink.old) (K.taken sink.new) (terms.report_of s result.start result.trail.items) }
-    ensures output_line { terms.IsTold result.status → terms.TellsFault (K.taken sink.old) (K.taken sink.new) (K.faults sink.old) (K.faults sink.new) result.status }
+    ensures output { result.status ≡ Status.Done
+        → terms.OfScript (S.left source.old) (S.left source.new) result.start
+        (λ s. Appends (K.taken sink.old) (K.taken sink.new) (terms.report_of s result.start result.trail.items)) }
+    ensures output_front { result.status ≡ Status.WriteFault
+        → terms.OfScript (S.left source.old) (S.left source.new) result.start
+        (λ s. AppendsFront (K.taken sink.old) (K.taken sink.new) (terms.report_of s result.start result.trail.items)) }
+    ensures output_line { terms.IsTold result.status → terms.TellsFault (K.taken sink.old) (K.taken sink.new)
+        (K.faults sink.old) (K.faults sink.new) result.status }
     ensures output_none { result.status ≡ Status.Memory → Keeps (K.taken sink.old) (K.taken sink.new) }
 
     // When each status comes.
     ensures usage { result.status ≡ Status.Usage → line.is_command (map string_bytes words.now) ≡ false }
-    ensures no_command { line.is_command (map string_bytes words.now) ≡ false → terms.IsOrMemory Status.Usage result.status × (source.new ≡ source.old) }
+    ensures no_command { line.is_command (map string_bytes words.now) ≡ false
+        → terms.IsOrMemory Status.Usage result.status × (source.new ≡ source.old) }
     ensures script_fault { terms.IsScriptFault (S.left source.old) result.status }
-    ensures no_script { line.is_command (map string_bytes words.now) ≡ true → IfSome (S.left source.old) (λ bytes. ((s : Script) → IsScript bytes s → ⊥) → terms.IsNoRun result.status) }
+    ensures no_script { line.is_command (map string_bytes words.now) ≡ true → IfSome (S.left source.old)
+        (λ bytes. ((s : Script) → IsScript bytes s → ⊥) → terms.IsNoRun result.status) }
     ensures read_fault { result.status ≡ Status.ReadFault → Rose (S.faults source.old) (S.faults source.new) }
     ensures write_fault { result.status ≡ Status.WriteFault → Rose (K.faults sink.old) (K.faults sink.new) }
     ensures room { result.status ≡ Status.Room → length result.trail.items ≡ limit }
@@ -291,8 +328,10 @@ pub fn run<S: Source, K: Sink>(alloc: Global, words: &[String], source: &mut S, 
     ensures sink_faults { K.faults sink.old ≤ K.faults sink.new }
 
     // A script is run, where neither stream fails, as far as there is memory and room.
-    ensures completes { (bytes : List ℕ) (s : Script) → line.is_command (map string_bytes words.now) ≡ true → S.left source.old ≡ Some bytes → IsScript bytes s
-        → (Rose (S.faults source.old) (S.faults source.new) → ⊥) → (Rose (K.faults sink.old) (K.faults sink.new) → ⊥) → terms.IsDoneOrShort result.status }
+    ensures completes { (bytes : List ℕ) (s : Script) → line.is_command (map string_bytes words.now) ≡ true
+        → S.left source.old ≡ Some bytes → IsScript bytes s
+        → (Rose (S.faults source.old) (S.faults source.new) → ⊥)
+        → (Rose (K.faults sink.old) (K.faults sink.new) → ⊥) → terms.IsDoneOrShort result.status }
 {
     answer(alloc, words, source, sink)
 }
