@@ -17,6 +17,7 @@ if [ ! -x "$program" ] || [ ! -f "$stamp" ] || [ "$now" != "$(cat "$stamp")" ]; 
         exit 1
     fi
     echo "qc: proving and building; the first time takes some minutes" >&2
+    rm -f "$program" "$stamp"
     # The words are no command, so the new program ends at once with its usage line and status 2.
     (cd "$top/crates/qc_prog" && "$rt" run -- build) </dev/null >&2
     if [ ! -x "$program" ]; then
