@@ -1,0 +1,5 @@
+pub mod Disk
+pub mod Replay
+pub mod Tape
+pub mod Laws
+pub mod MemDisk
