@@ -1,9 +1,9 @@
 -- A record of calls has the laws of a disk: what is done is among what a crash may leave of it.
-use Rattle.std.specs.Prelude.{◌<◌, ◌≡◌, ◌≤◌, ℕ, ◌+◌, ◌-◌, min, List, [], ◌∷◌, ◌++◌, length, take, drop, refl, get_or}
+use Rattle.std.specs.Prelude.{◌<◌, ◌≡◌, ◌≤◌, ℕ, ◌+◌, ◌-◌, min, List, [], ◌∷◌, ◌++◌, length, take, drop, refl, get_or, Bool, true, false}
 use Rattle.std.proofs.Common.{sym, ◌∙◌, ap, subst, arith, length-append, length-take, length-drop}
 use Rattle.std.proofs.lemmas.List.{take_all, get_or_append_left, get_or-append_right, get_or-take, get_or-drop}
 use Rattle.qc_disk.specs.Disk.{written, Torn, Cut}
-use Rattle.qc_disk.specs.Replay.{Act, nothing, wrote, cut_to, synced, does, leaves, replayed, left_after, images, since}
+use Rattle.qc_disk.specs.Replay.{Act, nothing, wrote, cut_to, synced, does, leaves, replayed, left_after, images, since, syncs, last_synced, image_after}
 
 pub torn-same : (at n : ℕ) (old : List ℕ) → Torn at n old old
 torn-same at n old = record { before = λ i _ _. refl; after = λ i _ _. refl; no_shorter = omega arith; no_longer = omega arith }
@@ -71,6 +71,22 @@ image-acts now was (act ∷ acts) here = image-acts (does act now) (leaves act n
 -- the content is an image
 pub image_now : (first : List ℕ) (acts : List Act) (bytes : List ℕ) → bytes ≡ replayed first acts → images first acts bytes
 image_now first acts bytes is = subst (images first acts) (sym is) (image-acts first (λ d. d ≡ first) acts refl)
+
+-- what is synced stays an image
+synced-act : (act : Act) (at_sync now : List ℕ) (was : List ℕ → Type 0) → was at_sync → leaves act now was (syncs act now at_sync)
+synced-act nothing at_sync now was here = here
+synced-act (wrote at bytes) at_sync now was here = (at_sync, here, torn-same at (length bytes) at_sync)
+synced-act (cut_to to) at_sync now was here = (at_sync, here, cut-same to at_sync)
+synced-act synced at_sync now was here = refl
+
+synced-acts : (at_sync now : List ℕ) (was : List ℕ → Type 0) (acts : List Act) → was at_sync → left_after now was acts (last_synced at_sync now acts)
+synced-acts at_sync now was [] here = here
+synced-acts at_sync now was (act ∷ acts) here = synced-acts (syncs act now at_sync) (does act now) (leaves act now was) acts (synced-act act at_sync now was here)
+
+-- the content and what is synced are images
+pub image_left : (first : List ℕ) (acts : List Act) (done : Bool) → images first acts (image_after first acts done)
+image_left first acts true = image-acts first (λ d. d ≡ first) acts refl
+image_left first acts false = synced-acts first first (λ d. d ≡ first) acts refl
 
 -- this moment is one of those since an earlier one
 pub since_now : (first : List ℕ) (acts : List Act) (t : ℕ) (c : List ℕ) → t ≤ length acts → images first acts c → since first acts t c

@@ -32,13 +32,6 @@ does (wrote at bytes) now = written at bytes now
 does (cut_to to) now = take to now
 does synced now = now
 
--- an act lies within a content
-abbrev pub LiesWithin : Act → List ℕ → Type 0
-LiesWithin nothing now = Unit {0}
-LiesWithin (wrote at bytes) now = at ≤ length now
-LiesWithin (cut_to to) now = to ≤ length now
-LiesWithin synced now = Unit {0}
-
 -- what a crash may leave after an act, of a disk with a content and with images
 abbrev pub leaves : Act → List ℕ → (List ℕ → Type 0) → List ℕ → Type 0
 leaves nothing now images c = images c
@@ -50,6 +43,22 @@ leaves synced now images c = c ≡ now
 abbrev pub replayed : List ℕ → List Act → List ℕ
 replayed now [] = now
 replayed now (act ∷ acts) = replayed (does act now) acts
+
+-- what is synced after an act, of a disk with a content
+abbrev pub syncs : Act → List ℕ → List ℕ → List ℕ
+syncs nothing now at_sync = at_sync
+syncs (wrote at bytes) now at_sync = at_sync
+syncs (cut_to to) now at_sync = at_sync
+syncs synced now at_sync = now
+
+-- what is synced after these acts
+abbrev pub last_synced : List ℕ → List ℕ → List Act → List ℕ
+last_synced at_sync now [] = at_sync
+last_synced at_sync now (act ∷ acts) = last_synced (syncs act now at_sync) (does act now) acts
+
+-- the content after these acts, or what was synced then, of a disk that was made with these bytes
+abbrev pub image_after : List ℕ → List Act → Bool → List ℕ
+image_after first acts done = if done then replayed first acts else last_synced first first acts
 
 -- what a crash may leave after these acts
 abbrev pub left_after : List ℕ → (List ℕ → Type 0) → List Act → List ℕ → Type 0

@@ -5,6 +5,7 @@ ghost use Rattle.qc_disk.specs.Tape.{tape_first, tape_acts, tape_bytes};
 
 use crate::disk::{Disk, DiskNo};
 use crate::record::{Deed, FailAt, Tape, fault_of};
+use std::alloc::{AllocError, Global};
 
 /// A disk in memory, with a record of its calls.
 #[derive(Drop)]
@@ -16,9 +17,9 @@ pub struct MemDisk {
 }
 
 impl MemDisk {
-    ghost use Rattle.std.specs.Prelude.{Some, IsErrOf};
+    ghost use Rattle.std.specs.Prelude.{◌≤◌, ◌+◌, ◌-◌, take, Some, IfOk, IsErrOf};
     ghost use Rattle.qc_disk.specs.Disk.{HasCause, Elapses, Stays};
-    ghost use Rattle.qc_disk.specs.Replay.{LiesWithin, act_of};
+    ghost use Rattle.qc_disk.specs.Replay.{act_of, image_after};
     ghost use Rattle.qc_disk.specs.MemDisk.{mem_first, mem_acts, mem_bytes, mem_fails, mem_faults, mem_images, mem_since, next_fault, Turned};
 
     /// A disk of these bytes, all of them synced, which fails at the listed calls.
@@ -43,6 +44,17 @@ impl MemDisk {
         self.tape.bytes()
     }
 
+    /// What a crash just before a call may leave, the calls counted from 1: what was there then, or what was
+    /// synced last.
+    pub fn image_at(&self, alloc: Global, call: u64, done: bool) -> Result<Vec<u8>, AllocError>
+        requires { call ≤ length (mem_acts self.now) + 1 }
+        ensures image { IfOk result (λ bytes. bytes.items ≡ image_after (mem_first self.now) (take (call - 1) (mem_acts self.now)) done) }
+        ensures left { IfOk result (λ bytes. mem_since self.now (call - 1) bytes.items) }
+    {
+        self.tape
+            .image_at(alloc, call.saturating_sub(1) as usize, done)
+    }
+
     // Whether the next call is to fail, and whether it does its work then.
     fn next_fault(&self) -> Option<bool>
         ensures { result ≡ next_fault self.now }
@@ -52,7 +64,6 @@ impl MemDisk {
 
     // Makes a call whose work is a deed.
     fn turn(&mut self, deed: Deed) -> Result<(), DiskNo>
-        requires { LiesWithin (act_of deed) (mem_bytes self.old) }
         ensures time { Elapses (length (mem_acts self.old)) (length (mem_acts self.new)) (mem_since self.old) (mem_since self.new) (mem_images self.new) }
         ensures cause { HasCause (mem_faults self.old) (mem_faults self.new) (IsErrOf result DiskNo.Failed) }
         ensures memory { IsErrOf result DiskNo.Memory → Stays (Some (mem_bytes self.old)) (Some (mem_bytes self.new)) (length (mem_bytes self.old)) (length (mem_bytes self.new)) (mem_images self.old) (mem_images self.new) (mem_faults self.old) (mem_faults self.new) }
