@@ -3,3 +3,5 @@ pub mod Replay
 pub mod Tape
 pub mod Laws
 pub mod MemDisk
+pub mod Shop
+pub mod MemShop

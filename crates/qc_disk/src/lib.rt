@@ -4,7 +4,9 @@
 mod disk;
 mod memory;
 mod record;
+mod shop;
 
 pub use disk::{Disk, DiskNo};
 pub use memory::MemDisk;
 pub use record::FailAt;
+pub use shop::{MemShop, Shop};
