@@ -3,7 +3,7 @@ use Rattle.std.proofs.Common.{◌≡◌, ◌<◌, ◌^◌, ℕ, List, length, Bo
 use Rattle.std.specs.Result.{IsErrOf, OnOk}
 use Rattle.qc_disk.specs.Disk.{next, HasCause, Torn, Cut, Follows, Within, Only, Steps, Elapses, Stays}
 use Rattle.qc_disk.specs.Replay.{Act, nothing, wrote, cut_to, synced, does, leaves, replayed, images, since}
-use Rattle.qc_disk.specs.Laws.{torn-same, torn-written, cut-same, cut-taken, image_now}
+use Rattle.qc_disk.specs.Laws.{torn_same, torn-written, cut_same, cut-taken, image_now}
 use Rattle.qc_disk.specs.Tape.{tape_first, tape_acts, tape_bytes, Applied, Untouched}
 use Rattle.qc_disk.specs.declared.record.Tape.{Tape}
 use Rattle.qc_disk.specs.declared.disk.DiskNo.{DiskNo}
@@ -87,10 +87,10 @@ turn-follows old new act step (Err Failed) same acts turned = failing-left old n
 turn-follows old new act step (Err Memory) same acts turned = λ c left. (c, untouched-left old.tape new.tape turned.tape c left, same c)
 
 pub turn-torn : {T : Type 0} (old new : MemDisk) (at : ℕ) (bytes : List ℕ) (result : Result T DiskNo) → Turned old new (wrote at bytes) result → Follows (Torn at (length bytes)) (images_of old) (images_of new)
-turn-torn old new at bytes result turned = turn-follows old new (wrote at bytes) (Torn at (length bytes)) result (torn-same at (length bytes)) (λ c left. left) turned
+turn-torn old new at bytes result turned = turn-follows old new (wrote at bytes) (Torn at (length bytes)) result (torn_same at (length bytes)) (λ c left. left) turned
 
 pub turn-cut : {T : Type 0} (old new : MemDisk) (to : ℕ) (result : Result T DiskNo) → Turned old new (cut_to to) result → Follows (Cut to) (images_of old) (images_of new)
-turn-cut old new to result turned = turn-follows old new (cut_to to) (Cut to) result (cut-same to) (λ c left. left) turned
+turn-cut old new to result turned = turn-follows old new (cut_to to) (Cut to) result (cut_same to) (λ c left. left) turned
 
 -- there are no images but the old ones
 within : (before now : List ℕ → Type 0) → Follows (λ d c. c ≡ d) before now → Within before now
@@ -122,10 +122,10 @@ turn-steps old new act step (Err Failed) same acts turned is = failing-steps old
 turn-steps old new act step (Err Memory) same acts turned is = absurd (cc)
 
 pub turn-written_failed : {T : Type 0} (old new : MemDisk) (at : ℕ) (bytes : List ℕ) (result : Result T DiskNo) → Turned old new (wrote at bytes) result → IsErrOf result Failed → Steps (Torn at (length bytes)) (Some (mem_bytes old)) (Some (mem_bytes new))
-turn-written_failed old new at bytes result turned is = turn-steps old new (wrote at bytes) (Torn at (length bytes)) result (torn-same at (length bytes) (mem_bytes old)) (torn-written at bytes (mem_bytes old)) turned is
+turn-written_failed old new at bytes result turned is = turn-steps old new (wrote at bytes) (Torn at (length bytes)) result (torn_same at (length bytes) (mem_bytes old)) (torn-written at bytes (mem_bytes old)) turned is
 
 pub turn-cut_failed : {T : Type 0} (old new : MemDisk) (to : ℕ) (result : Result T DiskNo) → Turned old new (cut_to to) result → IsErrOf result Failed → Steps (Cut to) (Some (mem_bytes old)) (Some (mem_bytes new))
-turn-cut_failed old new to result turned is = turn-steps old new (cut_to to) (Cut to) result (cut-same to (mem_bytes old)) (cut-taken to (mem_bytes old)) turned is
+turn-cut_failed old new to result turned is = turn-steps old new (cut_to to) (Cut to) result (cut_same to (mem_bytes old)) (cut-taken to (mem_bytes old)) turned is
 
 -- a call whose work changes no byte leaves them
 failing-bytes : (old new : MemDisk) (act : Act) → does act (mem_bytes old) ≡ mem_bytes old → Failing old new act → mem_bytes new ≡ mem_bytes old

@@ -5,11 +5,11 @@ use Rattle.std.proofs.lemmas.List.{take_all, get_or_append_left, get_or-append_r
 use Rattle.qc_disk.specs.Disk.{written, Torn, Cut}
 use Rattle.qc_disk.specs.Replay.{Act, nothing, wrote, cut_to, synced, does, leaves, replayed, left_after, images, since, syncs, last_synced, image_after}
 
-pub torn-same : (at n : ℕ) (old : List ℕ) → Torn at n old old
-torn-same at n old = record { before = λ i _ _. refl; after = λ i _ _. refl; no_shorter = omega arith; no_longer = omega arith }
+pub torn_same : (at n : ℕ) (old : List ℕ) → Torn at n old old
+torn_same at n old = record { before = λ i _ _. refl; after = λ i _ _. refl; no_shorter = omega arith; no_longer = omega arith }
 
-pub cut-same : (to : ℕ) (old : List ℕ) → Cut to old old
-cut-same to old = record { before = λ i _ _. refl; no_shorter = omega arith; no_longer = omega arith }
+pub cut_same : (to : ℕ) (old : List ℕ) → Cut to old old
+cut_same to old = record { before = λ i _ _. refl; no_shorter = omega arith; no_longer = omega arith }
 
 -- how long the bytes are with others written at a place
 pub length-written : (at : ℕ) (bytes old : List ℕ) → length (written at bytes old) ≡ min at (length old) + length bytes + (length old - (at + length bytes))
@@ -75,8 +75,8 @@ image_now first acts bytes is = subst (images first acts) (sym is) (image-acts f
 -- what is synced stays an image
 synced-act : (act : Act) (at_sync now : List ℕ) (was : List ℕ → Type 0) → was at_sync → leaves act now was (syncs act now at_sync)
 synced-act nothing at_sync now was here = here
-synced-act (wrote at bytes) at_sync now was here = (at_sync, here, torn-same at (length bytes) at_sync)
-synced-act (cut_to to) at_sync now was here = (at_sync, here, cut-same to at_sync)
+synced-act (wrote at bytes) at_sync now was here = (at_sync, here, torn_same at (length bytes) at_sync)
+synced-act (cut_to to) at_sync now was here = (at_sync, here, cut_same to at_sync)
 synced-act synced at_sync now was here = refl
 
 synced-acts : (at_sync now : List ℕ) (was : List ℕ → Type 0) (acts : List Act) → was at_sync → left_after now was acts (last_synced at_sync now acts)

@@ -5,3 +5,4 @@ pub mod Laws
 pub mod MemDisk
 pub mod Shop
 pub mod MemShop
+pub mod Home

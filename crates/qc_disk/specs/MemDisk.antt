@@ -1,5 +1,5 @@
 -- The parts of a disk in memory, and what a call may do to it.
-use Rattle.std.specs.Prelude.{◌≡◌, ℕ, ◌+◌, List, length, Option, Some, None, Bool, if◌then◌else◌, Result, Ok, Err}
+use Rattle.std.specs.Prelude.{◌≡◌, ℕ, ◌+◌, List, [], length, Option, Some, None, Bool, if◌then◌else◌, Result, Ok, Err}
 use Rattle.qc_disk.specs.Disk.{next}
 use Rattle.qc_disk.specs.Replay.{Act, nothing, fault_at, images, since}
 use Rattle.qc_disk.specs.Tape.{tape_first, tape_acts, tape_bytes, Applied, Untouched}
@@ -39,6 +39,14 @@ mem_faults disk = disk.faults
 -- whether the next call is listed, and whether it does its work then
 abbrev pub next_fault : MemDisk → Option Bool
 next_fault disk = fault_at (mem_fails disk) (length (mem_acts disk) + 1)
+
+-- An empty disk, of which no call was made and none is to fail.
+pub record IsEmpty (disk : MemDisk) : Type 0 where
+  pub first : mem_first disk ≡ []
+  pub bytes : mem_bytes disk ≡ []
+  pub acts : mem_acts disk ≡ []
+  pub fails : mem_fails disk ≡ []
+  pub faults : mem_faults disk ≡ 0
 
 -- A call that is not listed has done its work.
 pub record Worked (old new : MemDisk) (act : Act) : Type 0 where

@@ -1,6 +1,6 @@
 -- The parts of a shop of disks in memory, and the disk that it gives.
 use Rattle.std.specs.Prelude.{◌≡◌, ℕ, List, [], map, slice_index_or, slice_set}
-use Rattle.qc_disk.specs.MemDisk.{mem_first, mem_acts, mem_bytes, mem_fails, mem_faults}
+use Rattle.qc_disk.specs.MemDisk.{mem_bytes, IsEmpty}
 use Rattle.qc_disk.specs.declared.memory.MemDisk.{MemDisk}
 use Rattle.qc_disk.specs.declared.shop.memory.MemShop.{MemShop}
 
@@ -19,14 +19,6 @@ shop_faults shop = shop.faults
 -- the bytes of the disk that it would give at a number
 abbrev pub shop_bytes : MemShop → ℕ → List ℕ
 shop_bytes shop which = slice_index_or (map mem_bytes (shop_disks shop)) which []
-
--- An empty disk, of which no call was made and none is to fail.
-pub record IsEmpty (disk : MemDisk) : Type 0 where
-  pub first : mem_first disk ≡ []
-  pub bytes : mem_bytes disk ≡ []
-  pub acts : mem_acts disk ≡ []
-  pub fails : mem_fails disk ≡ []
-  pub faults : mem_faults disk ≡ 0
 
 -- The shop gives the disk of a number, or an empty one where it has none, and an empty one takes its place.
 pub record Gives (old new : MemShop) (which : ℕ) (given : MemDisk) : Type 0 where

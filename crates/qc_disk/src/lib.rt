@@ -2,11 +2,15 @@
 #![tactic(auto)]
 
 mod disk;
+mod file;
+mod home;
 mod memory;
 mod record;
 mod shop;
 
 pub use disk::{Disk, DiskNo};
+pub use file::FileDisk;
+pub use home::{HomeDisk, HomeShop};
 pub use memory::MemDisk;
 pub use record::FailAt;
 pub use shop::{MemShop, Shop};
