@@ -14,3 +14,6 @@ pub use home::{HomeDisk, HomeShop};
 pub use memory::MemDisk;
 pub use record::FailAt;
 pub use shop::{MemShop, Shop};
+
+#[cfg(test)]
+mod tests;

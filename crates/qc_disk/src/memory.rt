@@ -44,6 +44,13 @@ impl MemDisk {
         self.tape.bytes()
     }
 
+    /// How many calls were made. One that got no memory is not counted.
+    pub fn calls(&self) -> u64
+        ensures { result ≡ length (mem_acts self.now) }
+    {
+        self.tape.count() as u64
+    }
+
     /// What a crash just before a call may leave, the calls counted from 1: what was there then, or what was
     /// synced last.
     pub fn image_at(&self, alloc: Global, call: u64, done: bool) -> Result<Vec<u8>, AllocError>
@@ -59,7 +66,7 @@ impl MemDisk {
     fn next_fault(&self) -> Option<bool>
         ensures { result ≡ next_fault self.now }
     {
-        fault_of(&self.fails, self.tape.count() as u64 + 1)
+        fault_of(&self.fails, self.calls() + 1)
     }
 
     // Makes a call whose work is a deed.
