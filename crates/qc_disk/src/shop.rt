@@ -11,7 +11,7 @@ use std::alloc::Global;
 
 /// Gives the disks of a place, by their numbers.
 pub trait Shop {
-    type D: Disk;
+    type D: Disk + Send;
 
     /// The bytes of the disk that it would give, by its place and number, where it tells.
     ghost offers: { Self → List ℕ → ℕ → Option (List ℕ) };
