@@ -6,3 +6,4 @@ pub mod MemDisk
 pub mod Shop
 pub mod MemShop
 pub mod Home
+pub mod Between

@@ -4,6 +4,7 @@
 mod disk;
 mod file;
 mod home;
+mod law;
 mod memory;
 mod record;
 mod shop;
@@ -11,6 +12,7 @@ mod shop;
 pub use disk::{Disk, DiskNo};
 pub use file::FileDisk;
 pub use home::{HomeDisk, HomeShop};
+pub use law::left_between;
 pub use memory::MemDisk;
 pub use record::FailAt;
 pub use shop::{MemShop, Shop};
