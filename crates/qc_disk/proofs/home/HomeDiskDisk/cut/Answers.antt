@@ -1,0 +1,5 @@
+-- What holds of a file holds of the disk that it is.
+use Rattle.qc_disk.proofs.home.HomeDiskDisk.cut.Goals as goal
+
+pub returns-in-File-clause-crash : goal.returns-in-File-clause-crash
+returns-in-File-clause-crash c = rw c.in-File.is c.cut-in-File.ensures.crash

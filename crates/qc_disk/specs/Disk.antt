@@ -1,0 +1,85 @@
+-- What a call of a disk does to its content, to what a crash may leave of it, to its clock and to its count of faults.
+use Rattle.std.specs.Prelude.{◌≡◌, ◌<◌, ◌≤◌, ◌⊎◌, ◌↔◌, ℕ, ◌+◌, ◌-◌, ◌^◌, min, max, List, ◌++◌, length, take, drop, slice_index, Option, Some, None}
+
+-- one more, up to the end of a count's range
+abbrev pub next : ℕ → ℕ
+next n = min (n + 1) (2 ^ 64 - 1)
+
+-- the count of faults rose; one that stands at the end of its range counts as risen
+abbrev pub Rose : ℕ → ℕ → Type 0
+Rose before now = next before ≤ now
+
+-- The count of faults never falls, and it rose where this fails.
+pub record HasCause (before now : ℕ) (Failed : Type 0) : Type 0 where
+  pub later : before ≤ now
+  pub failed : Failed → Rose before now
+
+-- these bytes with others written at a place
+abbrev pub written : ℕ → List ℕ → List ℕ → List ℕ
+written at bytes old = take at old ++ bytes ++ drop (at + length bytes) old
+
+-- What may be left of a write of n bytes at a place: the same bytes before the range and behind it, any in it and past the old end.
+pub record Torn (at n : ℕ) (old new : List ℕ) : Type 0 where
+  pub before : (i : ℕ) → i < at → i < length old → slice_index new i ≡ slice_index old i
+  pub after : (i : ℕ) → at + n ≤ i → i < length old → slice_index new i ≡ slice_index old i
+  pub no_shorter : length old ≤ length new
+  pub no_longer : length new ≤ max (length old) (at + n)
+
+-- What may be left of a cut to a length: the same bytes before it, any behind it, and a length between.
+pub record Cut (to : ℕ) (old new : List ℕ) : Type 0 where
+  pub before : (i : ℕ) → i < to → i < length new → slice_index new i ≡ slice_index old i
+  pub no_shorter : min to (length old) ≤ length new
+  pub no_longer : length new ≤ length old
+
+-- each new image is an old one after a step
+abbrev pub Follows : (List ℕ → List ℕ → Type 0) → (List ℕ → Type 0) → (List ℕ → Type 0) → Type 0
+Follows step before now = (c : List ℕ) → now c → (d : List ℕ) × before d × step d c
+
+-- there are no images but those from before
+abbrev pub Within : (List ℕ → Type 0) → (List ℕ → Type 0) → Type 0
+Within before now = (c : List ℕ) → now c → before c
+
+-- where the content is told, a crash leaves it and nothing else
+abbrev pub Only : Option (List ℕ) → (List ℕ → Type 0) → Type 0
+Only None images = Unit {0}
+Only (Some bytes) images = (c : List ℕ) → images c → c ≡ bytes
+
+-- where the content is told, it is one of the images
+abbrev pub IsImage : Option (List ℕ) → (List ℕ → Type 0) → Type 0
+IsImage None images = Unit {0}
+IsImage (Some bytes) images = images bytes
+
+-- where the content is told, this is its length
+abbrev pub HasLength : Option (List ℕ) → ℕ → Type 0
+HasLength None n = Unit {0}
+HasLength (Some bytes) n = n ≡ length bytes
+
+-- a content goes over to another by a step; a disk goes on telling, or goes on not to
+abbrev pub Steps : (List ℕ → List ℕ → Type 0) → Option (List ℕ) → Option (List ℕ) → Type 0
+Steps step None now = now ≡ None
+Steps step (Some bytes) now = (c : List ℕ) × (now ≡ Some c) × step bytes c
+
+-- where the content is told, these bytes stand in it from a place on
+abbrev pub Holds : Option (List ℕ) → ℕ → List ℕ → Type 0
+Holds None at bytes = Unit {0}
+Holds (Some content) at bytes = bytes ≡ take (length bytes) (drop at content)
+
+-- Time goes on: a crash since t might have left what it might have left before, or what it may leave now.
+pub record Elapses (before now : ℕ) (past since : ℕ → List ℕ → Type 0) (may_leave : List ℕ → Type 0) : Type 0 where
+  pub later : before ≤ now
+  pub nothing_else : (t : ℕ) (c : List ℕ) → t ≤ before → since t c → past t c ⊎ may_leave c
+  pub keeps : (t : ℕ) (c : List ℕ) → t ≤ before → past t c → since t c
+
+-- All but the clock is as before.
+pub record Stays (told tells : Option (List ℕ)) (had has : ℕ) (left leaves : List ℕ → Type 0) (before now : ℕ) : Type 0 where
+  pub content : tells ≡ told
+  pub size : has ≡ had
+  pub images : (c : List ℕ) → leaves c ↔ left c
+  pub faults : now ≡ before
+
+-- A crash at any moment since old leaves what has P.
+pub record LeavesOnly {D : Type 0} (moment : D → ℕ) (left_since : D → ℕ → List ℕ → Type 0) (old new : D) (P : List ℕ → Type 0) : Type 0 where
+  pub later : moment old ≤ moment new
+  pub each : (c : List ℕ) → left_since new (moment old) c → P c
+  -- for a run that began earlier
+  pub before : (t : ℕ) (c : List ℕ) → t ≤ moment old → left_since new t c → left_since old t c ⊎ P c

@@ -1,0 +1,98 @@
+-- A record of calls has the laws of a disk: what is done is among what a crash may leave of it.
+use Rattle.std.specs.Prelude.{◌<◌, ◌≡◌, ◌≤◌, ℕ, ◌+◌, ◌-◌, min, List, [], ◌∷◌, ◌++◌, length, take, drop, refl, get_or, Bool, true, false}
+use Rattle.std.proofs.Common.{sym, ◌∙◌, ap, subst, arith, length-append, length-take, length-drop}
+use Rattle.std.proofs.lemmas.List.{take_all, get_or_append_left, get_or-append_right, get_or-take, get_or-drop}
+use Rattle.qc_disk.specs.Disk.{written, Torn, Cut}
+use Rattle.qc_disk.specs.Replay.{Act, nothing, wrote, cut_to, synced, does, leaves, replayed, left_after, images, since, syncs, last_synced, image_after}
+
+pub torn_same : (at n : ℕ) (old : List ℕ) → Torn at n old old
+torn_same at n old = record { before = λ i _ _. refl; after = λ i _ _. refl; no_shorter = omega arith; no_longer = omega arith }
+
+pub cut_same : (to : ℕ) (old : List ℕ) → Cut to old old
+cut_same to old = record { before = λ i _ _. refl; no_shorter = omega arith; no_longer = omega arith }
+
+-- how long the bytes are with others written at a place
+pub length-written : (at : ℕ) (bytes old : List ℕ) → length (written at bytes old) ≡ min at (length old) + length bytes + (length old - (at + length bytes))
+length-written at bytes old =
+    let front = length-take at old in
+    let all = length-append (take at old ++ bytes) (drop (at + length bytes) old) in
+    let most = length-append (take at old) bytes in
+    let back = length-drop (at + length bytes) old in
+    omega (arith, front, all, most, back)
+
+written-before : (at : ℕ) (bytes old : List ℕ) (i : ℕ) → i < at → i < length old → get_or (written at bytes old) i 0 ≡ get_or old i 0
+written-before at bytes old i below within =
+    let front = length-take at old in
+    let most = length-append (take at old) bytes in
+    get_or_append_left (take at old ++ bytes) (drop (at + length bytes) old) 0 i (omega (arith, front, most))
+    ∙ get_or_append_left (take at old) bytes 0 i (omega (arith, front))
+    ∙ get_or-take at old i 0 below
+
+written-after : (at : ℕ) (bytes old : List ℕ) (i : ℕ) → at + length bytes ≤ i → i < length old → get_or (written at bytes old) i 0 ≡ get_or old i 0
+written-after at bytes old i above within =
+    let front = length-take at old in
+    let most = length-append (take at old) bytes in
+    let n = at + length bytes in
+    let place : n + (i - n) ≡ i = omega arith in
+    get_or-append_right (take at old ++ bytes) (drop n old) n i 0 (omega (arith, front, most)) above
+    ∙ get_or-drop n old (i - n) 0
+    ∙ ap (λ k. get_or old k 0) place
+
+pub torn-written : (at : ℕ) (bytes old : List ℕ) → Torn at (length bytes) old (written at bytes old)
+torn-written at bytes old =
+    let size = length-written at bytes old in
+    record {
+      before = λ i below within. written-before at bytes old i below within;
+      after = λ i above within. written-after at bytes old i above within;
+      no_shorter = omega (arith, size);
+      no_longer = omega (arith, size);
+    }
+
+pub cut-taken : (to : ℕ) (old : List ℕ) → Cut to old (take to old)
+cut-taken to old =
+    let size = length-take to old in
+    record {
+      before = λ i below within. get_or-take to old i 0 below;
+      no_shorter = omega (arith, size);
+      no_longer = omega (arith, size);
+    }
+
+-- the content is an image still after one act
+image-act : (act : Act) (now : List ℕ) (was : List ℕ → Type 0) → was now → leaves act now was (does act now)
+image-act nothing now was here = here
+image-act (wrote at bytes) now was here = (now, here, torn-written at bytes now)
+image-act (cut_to to) now was here = (now, here, cut-taken to now)
+image-act synced now was here = refl
+
+image-acts : (now : List ℕ) (was : List ℕ → Type 0) (acts : List Act) → was now → left_after now was acts (replayed now acts)
+image-acts now was [] here = here
+image-acts now was (act ∷ acts) here = image-acts (does act now) (leaves act now was) acts (image-act act now was here)
+
+-- the content is an image
+pub image_now : (first : List ℕ) (acts : List Act) (bytes : List ℕ) → bytes ≡ replayed first acts → images first acts bytes
+image_now first acts bytes is = subst (images first acts) (sym is) (image-acts first (λ d. d ≡ first) acts refl)
+
+-- what is synced stays an image
+synced-act : (act : Act) (at_sync now : List ℕ) (was : List ℕ → Type 0) → was at_sync → leaves act now was (syncs act now at_sync)
+synced-act nothing at_sync now was here = here
+synced-act (wrote at bytes) at_sync now was here = (at_sync, here, torn_same at (length bytes) at_sync)
+synced-act (cut_to to) at_sync now was here = (at_sync, here, cut_same to at_sync)
+synced-act synced at_sync now was here = refl
+
+synced-acts : (at_sync now : List ℕ) (was : List ℕ → Type 0) (acts : List Act) → was at_sync → left_after now was acts (last_synced at_sync now acts)
+synced-acts at_sync now was [] here = here
+synced-acts at_sync now was (act ∷ acts) here = synced-acts (syncs act now at_sync) (does act now) (leaves act now was) acts (synced-act act at_sync now was here)
+
+-- the content and what is synced are images
+pub image_left : (first : List ℕ) (acts : List Act) (done : Bool) → images first acts (image_after first acts done)
+image_left first acts true = image-acts first (λ d. d ≡ first) acts refl
+image_left first acts false = synced-acts first first (λ d. d ≡ first) acts refl
+
+-- this moment is one of those since an earlier one
+pub since_now : (first : List ℕ) (acts : List Act) (t : ℕ) (c : List ℕ) → t ≤ length acts → images first acts c → since first acts t c
+since_now first acts t c le left =
+    (length acts, le, omega arith, subst (λ (l : List Act). images first l c) (sym (take_all (length acts) acts (omega arith))) left)
+
+-- since this moment there is no other
+pub since_only : (first : List ℕ) (acts : List Act) (c : List ℕ) → since first acts (length acts) c → images first acts c
+since_only first acts c left = subst (λ (l : List Act). images first l c) (take_all left.0 acts left.1) left.3

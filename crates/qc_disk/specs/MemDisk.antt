@@ -1,0 +1,76 @@
+-- The parts of a disk in memory, and what a call may do to it.
+use Rattle.std.specs.Prelude.{◌≡◌, ℕ, ◌+◌, List, [], length, Option, Some, None, Bool, if◌then◌else◌, Result, Ok, Err}
+use Rattle.qc_disk.specs.Disk.{next}
+use Rattle.qc_disk.specs.Replay.{Act, nothing, fault_at, images, since}
+use Rattle.qc_disk.specs.Tape.{tape_first, tape_acts, tape_bytes, Applied, Untouched}
+use Rattle.qc_disk.specs.declared.disk.DiskNo.{DiskNo}
+use Rattle.qc_disk.specs.declared.disk.DiskNo.TheVariants.{Failed, Memory}
+use Rattle.qc_disk.specs.declared.record.FailAt.{FailAt}
+use Rattle.qc_disk.specs.declared.memory.MemDisk.{MemDisk}
+
+-- what it was made with
+abbrev pub mem_first : MemDisk → List ℕ
+mem_first disk = tape_first disk.tape
+
+-- what each call did, the oldest first
+abbrev pub mem_acts : MemDisk → List Act
+mem_acts disk = tape_acts disk.tape
+
+-- what is there now
+abbrev pub mem_bytes : MemDisk → List ℕ
+mem_bytes disk = tape_bytes disk.tape
+
+-- what a crash may leave
+abbrev pub mem_images : MemDisk → List ℕ → Type 0
+mem_images disk c = images (mem_first disk) (mem_acts disk) c
+
+-- what a crash might have left since the t-th call
+abbrev pub mem_since : MemDisk → ℕ → List ℕ → Type 0
+mem_since disk t c = since (mem_first disk) (mem_acts disk) t c
+
+-- which calls fail
+abbrev pub mem_fails : MemDisk → List FailAt
+mem_fails disk = disk.fails.items
+
+-- how often it failed
+abbrev pub mem_faults : MemDisk → ℕ
+mem_faults disk = disk.faults
+
+-- whether the next call is listed, and whether it does its work then
+abbrev pub next_fault : MemDisk → Option Bool
+next_fault disk = fault_at (mem_fails disk) (length (mem_acts disk) + 1)
+
+-- An empty disk, of which no call was made and none is to fail.
+pub record IsEmpty (disk : MemDisk) : Type 0 where
+  pub first : mem_first disk ≡ []
+  pub bytes : mem_bytes disk ≡ []
+  pub acts : mem_acts disk ≡ []
+  pub fails : mem_fails disk ≡ []
+  pub faults : mem_faults disk ≡ 0
+
+-- A call that is not listed has done its work.
+pub record Worked (old new : MemDisk) (act : Act) : Type 0 where
+  pub fault : next_fault old ≡ None
+  pub tape : Applied old.tape new.tape act
+  pub fails : mem_fails new ≡ mem_fails old
+  pub faults : mem_faults new ≡ mem_faults old
+
+-- A call that is listed has failed, and is counted.
+pub record Failing (old new : MemDisk) (act : Act) : Type 0 where
+  pub done : Bool
+  pub fault : next_fault old ≡ Some done
+  pub tape : Applied old.tape new.tape (if done then act else nothing)
+  pub fails : mem_fails new ≡ mem_fails old
+  pub faults : mem_faults new ≡ next (mem_faults old)
+
+-- A call that got no memory has done nothing, and is not in the record.
+pub record Unmade (old new : MemDisk) : Type 0 where
+  pub tape : Untouched old.tape new.tape
+  pub fails : mem_fails new ≡ mem_fails old
+  pub faults : mem_faults new ≡ mem_faults old
+
+-- what a call whose work is an act does to the disk, by its answer
+abbrev pub Turned : {T : Type 0} → MemDisk → MemDisk → Act → Result T DiskNo → Type 0
+Turned old new act (Ok answer) = Worked old new act
+Turned old new act (Err Failed) = Failing old new act
+Turned old new act (Err Memory) = Unmade old new

@@ -1,0 +1,28 @@
+-- The parts of a shop of disks in memory, and the disk that it gives.
+use Rattle.std.specs.Prelude.{◌≡◌, ℕ, List, [], map, slice_index_or, slice_set}
+use Rattle.qc_disk.specs.MemDisk.{mem_bytes, IsEmpty}
+use Rattle.qc_disk.specs.declared.memory.MemDisk.{MemDisk}
+use Rattle.qc_disk.specs.declared.shop.memory.MemShop.{MemShop}
+
+-- the disks that it has, by their numbers
+abbrev pub shop_disks : MemShop → List MemDisk
+shop_disks shop = shop.disks.items
+
+-- the numbers at which it fails
+abbrev pub shop_fails : MemShop → List ℕ
+shop_fails shop = shop.fails.items
+
+-- how often it failed
+abbrev pub shop_faults : MemShop → ℕ
+shop_faults shop = shop.faults
+
+-- the bytes of the disk that it would give at a number
+abbrev pub shop_bytes : MemShop → ℕ → List ℕ
+shop_bytes shop which = slice_index_or (map mem_bytes (shop_disks shop)) which []
+
+-- The shop gives the disk of a number, or an empty one where it has none, and an empty one takes its place.
+pub record Gives (old new : MemShop) (which : ℕ) (given : MemDisk) : Type 0 where
+  pub empty : MemDisk
+  pub is_empty : IsEmpty empty
+  pub disk : given ≡ slice_index_or (shop_disks old) which empty
+  pub disks : shop_disks new ≡ slice_set (shop_disks old) which empty

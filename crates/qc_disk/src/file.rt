@@ -1,0 +1,110 @@
+//! A disk in a file. It tells no bytes: that a file is such a disk is trusted.
+ghost use Rattle.std.specs.Prelude.{◌≡◌, IfOk, None};
+ghost use Rattle.qc_disk.specs.Disk.{HasCause, next};
+
+use crate::disk::{Disk, DiskNo};
+use std::fs::{File, OpenOptions};
+use std::io;
+use std::os::unix::fs::FileExt;
+
+/// A disk in a file of the operating system. Each error of the system is a fault.
+#[derive(Drop)]
+pub struct FileDisk {
+    file: File,
+    /// As it was last known.
+    size: u64,
+    faults: u64,
+}
+
+impl FileDisk {
+    /// Opens a file, or makes it, empty. The folder is synced too, so that a new file outlives a crash.
+    pub fn open(rt: &HostRuntime, folder: &str, path: &str) -> io::Result<FileDisk>
+        ensures { IfOk result (λ disk. disk.faults ≡ 0) }
+    {
+        let mut options = OpenOptions::new();
+        options.read(true).write(true).create(true);
+        let file = options.open(rt, path)?;
+        File::open(rt, folder)?.sync_all()?;
+        let size = file.metadata()?.len();
+        Ok(FileDisk {
+            file,
+            size,
+            faults: 0,
+        })
+    }
+
+    // Counts a fault.
+    fn fail(&mut self) -> DiskNo
+        ensures answer { result ≡ DiskNo.Failed }
+        ensures size { self.new.size ≡ self.old.size }
+        ensures faults { self.new.faults ≡ next self.old.faults }
+        ensures cause { HasCause self.old.faults self.new.faults (Unit {0}) }
+    {
+        self.faults = self.faults.saturating_add(1);
+        DiskNo::Failed
+    }
+}
+
+impl Disk for FileDisk {
+    ghost content = { λ _. None };
+
+    ghost size = { λ disk. disk.size };
+
+    ghost may_leave = { λ _ _. Unit {0} };
+
+    ghost moment = { λ _. 0 };
+
+    ghost left_since = { λ _ _ _. Unit {0} };
+
+    ghost faults = { λ disk. disk.faults };
+
+    ghost reads_as_image = { λ _. tt };
+
+    ghost has_size = { λ _. tt };
+
+    ghost counts_now = { λ _ _ _ _ _. tt };
+
+    ghost only_now = { λ _ _ _. tt };
+
+    fn len(&mut self) -> Result<u64, DiskNo> {
+        let Ok(metadata) = self.file.metadata() else {
+            return Err(self.fail());
+        };
+        self.size = metadata.len();
+        Ok(self.size)
+    }
+
+    fn read(&mut self, at: u64, into: &mut [u8]) -> Result<(), DiskNo> {
+        if self.file.read_exact_at(into, at).is_err() {
+            return Err(self.fail());
+        }
+        Ok(())
+    }
+
+    fn write_at(&mut self, at: u64, bytes: &[u8]) -> Result<(), DiskNo> {
+        // A range that ends past any file is refused as the system would.
+        let Some(end) = at.checked_add(bytes.len() as u64) else {
+            return Err(self.fail());
+        };
+        if self.file.write_all_at(bytes, at).is_err() {
+            return Err(self.fail());
+        }
+        self.size = self.size.max(end);
+        Ok(())
+    }
+
+    fn cut(&mut self, to: u64) -> Result<(), DiskNo> {
+        if self.file.set_len(to).is_err() {
+            return Err(self.fail());
+        }
+        self.size = to;
+        Ok(())
+    }
+
+    fn sync(&mut self) -> Result<(), DiskNo> {
+        if self.file.sync_all().is_err() {
+            return Err(self.fail());
+        }
+        Ok(())
+    }
+}

@@ -1,0 +1,125 @@
+//! The real shop: disks in memory, or in the files of a folder.
+ghost use Rattle.std.specs.Prelude.{◌≡◌};
+
+use crate::disk::{Disk, DiskNo};
+use crate::file::FileDisk;
+use crate::memory::MemDisk;
+use crate::shop::Shop;
+use std::alloc::Global;
+
+/// A disk in memory, which tells its bytes, or in a file, which does not.
+#[derive(Drop)]
+pub enum HomeDisk {
+    Memory(MemDisk),
+    File(FileDisk),
+}
+
+impl Disk for HomeDisk {
+    ghost use Rattle.qc_disk.specs.Home.{home_content, home_size, home_images, home_moment, home_since, home_faults, home_image, home_length, home_now, home_only};
+
+    ghost content = { home_content };
+
+    ghost size = { home_size };
+
+    ghost may_leave = { home_images };
+
+    ghost moment = { home_moment };
+
+    ghost left_since = { home_since };
+
+    ghost faults = { home_faults };
+
+    ghost reads_as_image = { home_image };
+
+    ghost has_size = { home_length };
+
+    ghost counts_now = { home_now };
+
+    ghost only_now = { home_only };
+
+    fn len(&mut self) -> Result<u64, DiskNo> {
+        match self {
+            HomeDisk::Memory(disk) => disk.len(),
+            HomeDisk::File(disk) => disk.len(),
+        }
+    }
+
+    fn read(&mut self, at: u64, into: &mut [u8]) -> Result<(), DiskNo> {
+        match self {
+            HomeDisk::Memory(disk) => disk.read(at, into),
+            HomeDisk::File(disk) => disk.read(at, into),
+        }
+    }
+
+    fn write_at(&mut self, at: u64, bytes: &[u8]) -> Result<(), DiskNo> {
+        match self {
+            HomeDisk::Memory(disk) => disk.write_at(at, bytes),
+            HomeDisk::File(disk) => disk.write_at(at, bytes),
+        }
+    }
+
+    fn cut(&mut self, to: u64) -> Result<(), DiskNo> {
+        match self {
+            HomeDisk::Memory(disk) => disk.cut(to),
+            HomeDisk::File(disk) => disk.cut(to),
+        }
+    }
+
+    fn sync(&mut self) -> Result<(), DiskNo> {
+        match self {
+            HomeDisk::Memory(disk) => disk.sync(),
+            HomeDisk::File(disk) => disk.sync(),
+        }
+    }
+}
+
+/// Gives empty disks in memory for an empty place, and for another the files `0`, `1` and so on in the folder
+/// of that name.
+#[derive(Drop)]
+pub struct HomeShop {
+    rt: HostRuntime,
+    faults: u64,
+}
+
+impl HomeShop {
+    /// A shop that has not failed.
+    pub fn new(rt: HostRuntime) -> Self
+        ensures { result.faults ≡ 0 }
+    {
+        HomeShop { rt, faults: 0 }
+    }
+}
+
+impl Shop for HomeShop {
+    type D = HomeDisk;
+
+    ghost use Rattle.std.specs.Prelude.{◌≢◌, ℕ, List, IfOk, OnErr, IsErrOf, if◌then◌else◌};
+    ghost use Rattle.qc_disk.specs.Disk.{HasCause, next};
+    ghost use Rattle.qc_disk.specs.Shop.{Tells};
+    ghost use Rattle.qc_disk.specs.Home.{home_content, home_offers, HomeGives};
+
+    ghost offers = { λ shop place which. home_offers place };
+
+    ghost faults = { λ shop. shop.faults };
+
+    fn obtain(&mut self, alloc: Global, place: &str, which: u8) -> Result<HomeDisk, DiskNo>
+        ensures given { IfOk result (λ disk. Tells (home_offers place.now) (home_content disk)) }
+        ensures others { (p : List ℕ) (n : ℕ) → n ≢ which → home_offers p ≡ home_offers p }
+        ensures kept { OnErr result ((p : List ℕ) (n : ℕ) → home_offers p ≡ home_offers p) }
+        ensures cause { HasCause self.old.faults self.new.faults (IsErrOf result DiskNo.Failed) }
+        ensures gives { IfOk result (HomeGives place.now) }
+    {
+        if place.is_empty() {
+            let disk = MemDisk::new(Vec::new(alloc), Vec::new(alloc));
+            return Ok(HomeDisk::Memory(disk));
+        }
+        let path = format!(in alloc; "{place}/{which}")?;
+        match FileDisk::open(&self.rt, place, path.as_str()) {
+            Ok(disk) => Ok(HomeDisk::File(disk)),
+            Err(_) => {
+                self.faults = self.faults.saturating_add(1);
+                Err(DiskNo::Failed)
+            }
+        }
+    }
+}

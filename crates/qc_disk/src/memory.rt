@@ -1,0 +1,196 @@
+//! A disk in memory, which tells its bytes and fails at the calls that it is told to.
+ghost use Rattle.std.specs.Prelude.{◌≡◌, [], length, refl};
+ghost use Rattle.qc_disk.specs.Replay.{replayed};
+ghost use Rattle.qc_disk.specs.Tape.{tape_first, tape_acts, tape_bytes};
+
+use crate::disk::{Disk, DiskNo};
+use crate::record::{Deed, FailAt, Tape, fault_of};
+use std::alloc::{AllocError, Global};
+
+/// A disk in memory, with a record of its calls.
+#[derive(Drop)]
+pub struct MemDisk {
+    tape: Tape,
+    fails: Vec<FailAt>,
+    faults: u64,
+    ghost replays: { tape_bytes tape ≡ replayed (tape_first tape) (tape_acts tape) },
+}
+
+impl MemDisk {
+    ghost use Rattle.std.specs.Prelude.{◌≤◌, ◌+◌, ◌-◌, take, Some, IfOk, IsErrOf};
+    ghost use Rattle.qc_disk.specs.Disk.{HasCause, Elapses, Stays};
+    ghost use Rattle.qc_disk.specs.Replay.{act_of, image_after};
+    ghost use Rattle.qc_disk.specs.MemDisk.{mem_first, mem_acts, mem_bytes, mem_fails, mem_faults, mem_images, mem_since, next_fault, Turned};
+
+    /// A disk of these bytes, all of them synced, which fails at the listed calls.
+    pub fn new(bytes: Vec<u8>, fails: Vec<FailAt>) -> Self
+        ensures first { mem_first result ≡ bytes.items }
+        ensures bytes { mem_bytes result ≡ bytes.items }
+        ensures acts { mem_acts result ≡ [] }
+        ensures fails { mem_fails result ≡ fails.items }
+        ensures faults { mem_faults result ≡ 0 }
+    {
+        MemDisk {
+            tape: Tape::new(bytes),
+            fails,
+            faults: 0,
+        }
+    }
+
+    /// What is there now, synced or not.
+    pub fn bytes(&self) -> &[u8]
+        ensures { result.now ≡ mem_bytes self.now }
+    {
+        self.tape.bytes()
+    }
+
+    /// How many calls were made. One that got no memory is not counted.
+    pub fn calls(&self) -> u64
+        ensures { result ≡ length (mem_acts self.now) }
+    {
+        self.tape.count() as u64
+    }
+
+    /// What a crash just before a call may leave, the calls counted from 1: what was there then, or what was
+    /// synced last.
+    pub fn image_at(&self, alloc: Global, call: u64, done: bool) -> Result<Vec<u8>, AllocError>
+        requires { call ≤ length (mem_acts self.now) + 1 }
+        ensures image { IfOk result (λ bytes. bytes.items ≡ image_after (mem_first self.now) (take (call - 1) (mem_acts self.now)) done) }
+        ensures left { IfOk result (λ bytes. mem_since self.now (call - 1) bytes.items) }
+    {
+        self.tape
+            .image_at(alloc, call.saturating_sub(1) as usize, done)
+    }
+
+    // Whether the next call is to fail, and whether it does its work then.
+    fn next_fault(&self) -> Option<bool>
+        ensures { result ≡ next_fault self.now }
+    {
+        fault_of(&self.fails, self.calls() + 1)
+    }
+
+    // Makes a call whose work is a deed.
+    fn turn(&mut self, deed: Deed) -> Result<(), DiskNo>
+        ensures time { Elapses (length (mem_acts self.old)) (length (mem_acts self.new)) (mem_since self.old) (mem_since self.new) (mem_images self.new) }
+        ensures cause { HasCause (mem_faults self.old) (mem_faults self.new) (IsErrOf result DiskNo.Failed) }
+        ensures memory { IsErrOf result DiskNo.Memory → Stays (Some (mem_bytes self.old)) (Some (mem_bytes self.new)) (length (mem_bytes self.old)) (length (mem_bytes self.new)) (mem_images self.old) (mem_images self.new) (mem_faults self.old) (mem_faults self.new) }
+        ensures turned { Turned self.old self.new (act_of deed) result }
+    {
+        let fault = self.next_fault();
+        let deed = if fault == Some(false) {
+            Deed::Nothing
+        } else {
+            deed
+        };
+        self.tape.apply(deed)?;
+        if fault.is_some() {
+            self.faults = self.faults.saturating_add(1);
+            return Err(DiskNo::Failed);
+        }
+        Ok(())
+    }
+}
+
+impl Disk for MemDisk {
+    ghost use Rattle.std.specs.Prelude.{◌≤◌, ◌+◌, max, take, option_map, Some, IfOk, OnOk, OnErr, IsErrOf};
+    ghost use Rattle.qc_disk.specs.Disk.{HasCause, written, Torn, Cut, Follows, Within, Only, Steps, Holds, Elapses, Stays};
+    ghost use Rattle.qc_disk.specs.Replay.{nothing, wrote, cut_to, synced};
+    ghost use Rattle.qc_disk.specs.Laws.{image_now, since_now, since_only};
+    ghost use Rattle.qc_disk.specs.MemDisk.{mem_first, mem_acts, mem_bytes, mem_faults, mem_images, mem_since, Turned};
+
+    ghost content = { λ disk. Some (mem_bytes disk) };
+
+    ghost size = { λ disk. length (mem_bytes disk) };
+
+    ghost may_leave = { mem_images };
+
+    ghost moment = { λ disk. length (mem_acts disk) };
+
+    ghost left_since = { mem_since };
+
+    ghost faults = { mem_faults };
+
+    ghost reads_as_image = { λ disk. image_now (mem_first disk) (mem_acts disk) (mem_bytes disk) disk.replays };
+
+    ghost has_size = { λ disk. refl };
+
+    ghost counts_now = { λ disk t c le left. since_now (mem_first disk) (mem_acts disk) t c le left };
+
+    ghost only_now = { λ disk c left. since_only (mem_first disk) (mem_acts disk) c left };
+
+    fn len(&mut self) -> Result<u64, DiskNo>
+        ensures answer { IfOk result (λ n. n ≡ length (mem_bytes self.new)) }
+        ensures content { Some (mem_bytes self.new) ≡ Some (mem_bytes self.old) }
+        ensures size { OnErr result (length (mem_bytes self.new) ≡ length (mem_bytes self.old)) }
+        ensures crash { Within (mem_images self.old) (mem_images self.new) }
+        ensures time { Elapses (length (mem_acts self.old)) (length (mem_acts self.new)) (mem_since self.old) (mem_since self.new) (mem_images self.new) }
+        ensures cause { HasCause (mem_faults self.old) (mem_faults self.new) (IsErrOf result DiskNo.Failed) }
+        ensures memory { IsErrOf result DiskNo.Memory → Stays (Some (mem_bytes self.old)) (Some (mem_bytes self.new)) (length (mem_bytes self.old)) (length (mem_bytes self.new)) (mem_images self.old) (mem_images self.new) (mem_faults self.old) (mem_faults self.new) }
+        ensures turned { Turned self.old self.new nothing result }
+    {
+        self.turn(Deed::Nothing)?;
+        Ok(self.tape.bytes().len() as u64)
+    }
+
+    fn read(&mut self, at: u64, into: &mut [u8]) -> Result<(), DiskNo>
+        requires { at + length into.old ≤ length (mem_bytes self.old) }
+        ensures bytes { OnOk result (Holds (Some (mem_bytes self.old)) at into.new) }
+        ensures content { Some (mem_bytes self.new) ≡ Some (mem_bytes self.old) }
+        ensures size { length (mem_bytes self.new) ≡ length (mem_bytes self.old) }
+        ensures crash { Within (mem_images self.old) (mem_images self.new) }
+        ensures time { Elapses (length (mem_acts self.old)) (length (mem_acts self.new)) (mem_since self.old) (mem_since self.new) (mem_images self.new) }
+        ensures cause { HasCause (mem_faults self.old) (mem_faults self.new) (IsErrOf result DiskNo.Failed) }
+        ensures memory { IsErrOf result DiskNo.Memory → Stays (Some (mem_bytes self.old)) (Some (mem_bytes self.new)) (length (mem_bytes self.old)) (length (mem_bytes self.new)) (mem_images self.old) (mem_images self.new) (mem_faults self.old) (mem_faults self.new) }
+        ensures turned { Turned self.old self.new nothing result }
+    {
+        self.turn(Deed::Nothing)?;
+        let at = at as usize;
+        into.copy_from_slice(&self.tape.bytes()[at..at + into.len()]);
+        Ok(())
+    }
+
+    fn write_at(&mut self, at: u64, bytes: &[u8]) -> Result<(), DiskNo>
+        requires { at ≤ length (mem_bytes self.old) }
+        ensures written { OnOk result (Some (mem_bytes self.new) ≡ option_map (written at bytes.now) (Some (mem_bytes self.old))) }
+        ensures size { OnOk result (length (mem_bytes self.new) ≡ max (length (mem_bytes self.old)) (at + length bytes.now)) }
+        ensures failed { IsErrOf result DiskNo.Failed → Steps (Torn at (length bytes.now)) (Some (mem_bytes self.old)) (Some (mem_bytes self.new)) }
+        ensures crash { Follows (Torn at (length bytes.now)) (mem_images self.old) (mem_images self.new) }
+        ensures time { Elapses (length (mem_acts self.old)) (length (mem_acts self.new)) (mem_since self.old) (mem_since self.new) (mem_images self.new) }
+        ensures cause { HasCause (mem_faults self.old) (mem_faults self.new) (IsErrOf result DiskNo.Failed) }
+        ensures memory { IsErrOf result DiskNo.Memory → Stays (Some (mem_bytes self.old)) (Some (mem_bytes self.new)) (length (mem_bytes self.old)) (length (mem_bytes self.new)) (mem_images self.old) (mem_images self.new) (mem_faults self.old) (mem_faults self.new) }
+        ensures turned { Turned self.old self.new (wrote at bytes.now) result }
+    {
+        let bytes = bytes.to_vec(self.tape.allocator())?;
+        self.turn(Deed::Wrote {
+            at: at as usize,
+            bytes,
+        })
+    }
+
+    fn cut(&mut self, to: u64) -> Result<(), DiskNo>
+        requires { to ≤ length (mem_bytes self.old) }
+        ensures cut { OnOk result (Some (mem_bytes self.new) ≡ option_map (take to) (Some (mem_bytes self.old))) }
+        ensures size { OnOk result (length (mem_bytes self.new) ≡ to) }
+        ensures failed { IsErrOf result DiskNo.Failed → Steps (Cut to) (Some (mem_bytes self.old)) (Some (mem_bytes self.new)) }
+        ensures crash { Follows (Cut to) (mem_images self.old) (mem_images self.new) }
+        ensures time { Elapses (length (mem_acts self.old)) (length (mem_acts self.new)) (mem_since self.old) (mem_since self.new) (mem_images self.new) }
+        ensures cause { HasCause (mem_faults self.old) (mem_faults self.new) (IsErrOf result DiskNo.Failed) }
+        ensures memory { IsErrOf result DiskNo.Memory → Stays (Some (mem_bytes self.old)) (Some (mem_bytes self.new)) (length (mem_bytes self.old)) (length (mem_bytes self.new)) (mem_images self.old) (mem_images self.new) (mem_faults self.old) (mem_faults self.new) }
+        ensures turned { Turned self.old self.new (cut_to to) result }
+    {
+        self.turn(Deed::Cut(to as usize))
+    }
+
+    fn sync(&mut self) -> Result<(), DiskNo>
+        ensures durable { OnOk result (Only (Some (mem_bytes self.old)) (mem_images self.new)) }
+        ensures content { Some (mem_bytes self.new) ≡ Some (mem_bytes self.old) }
+        ensures size { length (mem_bytes self.new) ≡ length (mem_bytes self.old) }
+        ensures crash { Within (mem_images self.old) (mem_images self.new) }
+        ensures time { Elapses (length (mem_acts self.old)) (length (mem_acts self.new)) (mem_since self.old) (mem_since self.new) (mem_images self.new) }
+        ensures cause { HasCause (mem_faults self.old) (mem_faults self.new) (IsErrOf result DiskNo.Failed) }
+        ensures memory { IsErrOf result DiskNo.Memory → Stays (Some (mem_bytes self.old)) (Some (mem_bytes self.new)) (length (mem_bytes self.old)) (length (mem_bytes self.new)) (mem_images self.old) (mem_images self.new) (mem_faults self.old) (mem_faults self.new) }
+        ensures turned { Turned self.old self.new synced result }
+    {
+        self.turn(Deed::Synced)
+    }
+}
