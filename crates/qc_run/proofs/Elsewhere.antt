@@ -14,7 +14,6 @@ use Rattle.qc_simlock.specs.Walk.{walk, added, ended}
 use Rattle.qc_simlock.specs.Own.{own, own_past}
 use Rattle.qc_simlock.proofs.OwnOrder.{own_walk}
 use Rattle.qc_run.proofs.Machines.{other_name}
-use Rattle.qc_run.proofs.OneMore.{and_false}
 
 -- a name of a top, or of something below it
 abbrev pub IsOf : ℕ → Name → Type 0
@@ -31,6 +30,10 @@ Concerns z _ = ⊥
 other_same : (z x : ℕ) (n xs : Name) → IsOf z n → (z ≡ x → ⊥) → same n (x ∷ xs) ≡ false
 other_same z x [] xs is ne = absurd is
 other_same z x (y ∷ ys) xs is ne = other_name y x ys xs (λ e. ne (sym is ∙ e))
+
+pub and_false : (b : Bool) → (b && false) ≡ false
+and_false true = refl
+and_false false = refl
 
 pub other_child : (z x : ℕ) (n : Name) → IsOf z n → (z ≡ x → ⊥) → is_child (x ∷ []) n ≡ false
 other_child z x [] is ne = absurd is

@@ -22,7 +22,6 @@ use Rattle.qc_run.specs.declared.script.Step.{Step}
 use Rattle.qc_run.specs.declared.script.Step.TheVariants as step
 use Rattle.qc_run.specs.Trace.{Now, by_client, by_ledger, managed, step_after, steps_after, begun, top_after, tops_after, trace}
 use Rattle.qc_run.specs.Follows.{started, tops, manager_of, GoesOn, FollowsSteps, FollowsBody, FollowsBodies, is_done, InTurn, FollowsTops}
-use Rattle.qc_simlock.proofs.OwnOrder.{both}
 use Rattle.qc_run.proofs.OldNames.{before, before_old, below_new_top, made_child, new_child, not_below_itself, old, old_before, old_more, within_itself, within_next}
 use Rattle.qc_run.proofs.OneMore.{and_false, ended_more, hit, listed, own_child, some_or}
 
@@ -75,6 +74,10 @@ no_more ys o h = sym (ap (λ p. ys ++ option_to_list p) h ∙ append-nil ys)
 end_stays : (o p : Option How) → is_some o ≡ true → o ≡ option_or o p
 end_stays None p h = absurd (true≢false (sym h))
 end_stays (Some how) p h = refl
+
+both : (a b : Bool) → (a && b) ≡ true → (a ≡ true) × (b ≡ true)
+both true b h = (refl, h)
+both false b h = absurd (true≢false (sym h))
 
 body_stays : (e : Entry) (past : Past) (i : ℕ) (b : Body) (t : Name) → child_in t e.event ≡ None → is_some (end past t) ≡ true → FollowsBody past i b t → FollowsBody (e ∷ past) i b t
 body_stays e past i b t childless ended h = record {

@@ -9,7 +9,6 @@ use Rattle.qc_names.specs.Name as name
 use Rattle.qc_serial.specs.declared.event.SerialEvent.{SerialEvent}
 use Rattle.qc_serial.specs.declared.event.SerialEvent.TheVariants.{Start, Enter, Read, Write, Leave}
 use Rattle.qc_serial.specs.Machine.{Name, State, begin, same, is_in, is_child, on_top, parent_on, may_begin, is_waiting, all_closed, has_value, allows, next, run, Accepts}
-use Rattle.qc_event.proofs.Absent.{same_itself}
 
 -- what is accepted in two parts is accepted
 pub Accepts-append : (m : State) (xs ys : List SerialEvent) → Accepts m xs → Accepts (run m xs) ys → Accepts m (xs ++ ys)
@@ -23,6 +22,10 @@ Unseen z names = (x : ℕ) (xs : Name) → z ≤ x → is_in (x ∷ xs) names �
 pub other_name : (y x : ℕ) (ys xs : Name) → (y ≡ x → ⊥) → same (y ∷ ys) (x ∷ xs) ≡ false
 other_name y x ys xs ne = ap (λ b. b && pointwise ◌==◌ ys xs) (ne_eqb y x ne)
 
+pub same_self : (n : Name) → same n n ≡ true
+same_self [] = refl
+same_self (x ∷ xs) = ap (λ b. b && pointwise ◌==◌ xs xs) (eq-eqb x x refl) ∙ same_self xs
+
 is_in_more : (n c : Name) (names : List Name) → is_in n names ≡ false → same c n ≡ false → is_in n (names ++ c ∷ []) ≡ false
 is_in_more n c names h other = list_any-append (λ x. same x n) names (c ∷ []) ∙ ap (λ b. b || (same c n || false)) h ∙ ap (λ b. b || false) other
 
@@ -31,7 +34,7 @@ or_true true = refl
 or_true false = refl
 
 is_in_last : (n : Name) (names : List Name) → is_in n (names ++ n ∷ []) ≡ true
-is_in_last n names = list_any-append (λ x. same x n) names (n ∷ []) ∙ ap (λ b. is_in n names || (b || false)) (same_itself n) ∙ or_true (is_in n names)
+is_in_last n names = list_any-append (λ x. same x n) names (n ∷ []) ∙ ap (λ b. is_in n names || (b || false)) (same_self n) ∙ or_true (is_in n names)
 
 unseen_more : (z y : ℕ) (ys : Name) (names : List Name) → Unseen z names → y < z → Unseen z (names ++ (y ∷ ys) ∷ [])
 unseen_more z y ys names h lt x xs le = is_in_more (x ∷ xs) (y ∷ ys) names (h x xs le) (other_name y x ys xs (λ e. omega arith))
@@ -102,7 +105,7 @@ entered_inside z m values h = record {
 -- MANAGERS
 
 child_on_top : (z k : ℕ) (m : State) → m.stack ≡ [] ∷ (z ∷ []) ∷ [] → parent_on m.stack (name.parent (z ∷ k ∷ [])) ≡ true
-child_on_top z k m h = ap (λ s. parent_on s (Some (z ∷ []))) h ∙ same_itself (z ∷ [])
+child_on_top z k m h = ap (λ s. parent_on s (Some (z ∷ []))) h ∙ same_self (z ∷ [])
 
 has_its_value : (values : List ℕ) (rec : ℕ) → rec < length values → has_value values rec (slice_index values rec) ≡ true
 has_its_value values rec lt = ap (λ o. option_map_or (λ v. v == slice_index values rec) o false) (slice_get-get_or values rec 0 lt) ∙ eq-eqb (slice_index values rec) (slice_index values rec) refl
@@ -154,7 +157,7 @@ write_inside z k rec value m values h = record {
 pub leaves : (z k : ℕ) (m : State) (values : List ℕ) → Inside z k m values → IsTrue (allows m (Leave (z ∷ [])))
 leaves z k m values h =
     both (on_top m.stack (z ∷ []) && true) (all_closed m.started m.closed (z ∷ []))
-    (ap (λ s. on_top s (z ∷ []) && true) h.stack ∙ ap (λ b. b && true) (same_itself (z ∷ [])))
+    (ap (λ s. on_top s (z ∷ []) && true) h.stack ∙ ap (λ b. b && true) (same_self (z ∷ [])))
     (h.leaf z m.closed)
 
 pub left_idle : (z k : ℕ) (m : State) (values : List ℕ) → Inside z k m values → Idle (z + 1) (next m (Leave (z ∷ []))) values

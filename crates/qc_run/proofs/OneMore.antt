@@ -9,7 +9,6 @@ use Rattle.std.proofs.lemmas.List.Folds.{list_all-append}
 use Rattle.qc_event.specs.declared.event.Entry.{Entry}
 use Rattle.qc_event.specs.declared.event.How.{How}
 use Rattle.qc_event.specs.History.{Past, Name, end, end_in}
-use Rattle.qc_simlock.proofs.OwnOrder.{both}
 
 pub hit : {Y : Type 0} (o : Option Y) (b : Bool) (y : Y) → o ≡ None → b ≡ true → option_or o (if b then Some y else None) ≡ Some y
 hit o b y none here = ap (λ p. option_or p (if b then Some y else None)) none ∙ ap (λ c. if c then Some y else None) here
@@ -38,6 +37,10 @@ ended_more e past [] h = refl
 ended_more e past (n ∷ ns) h =
     let parts = both (is_some (end past n)) (list_all (λ c. is_some (end past c)) ns) h in
     ap (λ b. b && list_all (λ c. is_some (end (e ∷ past) c)) ns) (some_or (end past n) (end_in n e.event) parts.0) ∙ ended_more e past ns parts.1
+  where
+    both : (a b : Bool) → (a && b) ≡ true → (a ≡ true) × (b ≡ true)
+    both true b h = (refl, h)
+    both false b h = absurd (true≢false (sym h))
 
 pub none_open_step : (o : Option How) (n : Name) (rest : Option Name) (t : Bool) → (is_some o && t) ≡ true → (t ≡ true → rest ≡ None) → (if is_none o then Some n else rest) ≡ None
 none_open_step None n rest t h more = absurd (true≢false (sym h))

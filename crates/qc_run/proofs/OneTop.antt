@@ -13,7 +13,7 @@ use Rattle.qc_serial.specs.declared.event.SerialEvent.TheVariants as serial
 use Rattle.qc_simlock.specs.Walk.{walk, added, is_open_or_root}
 use Rattle.qc_simlock.specs.Own.{is_own, own, own_past}
 use Rattle.qc_run.specs.Trace.{by_client}
-use Rattle.qc_event.proofs.Absent.{same_itself}
+use Rattle.qc_run.proofs.Machines.{same_self}
 use Rattle.qc_run.proofs.Elsewhere.{Concerns, Older, other_start, other_end, other_own, older_later, older_start, older_end, older_walk, older_own}
 
 -- no user transaction is started below a top
@@ -82,7 +82,7 @@ abbrev pub top_start : ℕ → ℕ → Entry
 top_start z i = by_client (Start (z ∷ []) (User 0 i))
 
 begins_here : (z i : ℕ) (past : Past) → start past (z ∷ []) ≡ None → start (top_start z i ∷ past) (z ∷ []) ≡ Some (begun_of i)
-begins_here z i past h = ap (λ o. option_or o (start_in (z ∷ []) 18 (Start (z ∷ []) (User 0 i)))) h ∙ ap (λ b. if b then Some (begun_of i) else None) (same_itself (z ∷ []))
+begins_here z i past h = ap (λ o. option_or o (start_in (z ∷ []) 18 (Start (z ∷ []) (User 0 i)))) h ∙ ap (λ b. if b then Some (begun_of i) else None) (same_self (z ∷ []))
 
 top_starts_none : (z i : ℕ) → StartsNone (top_start z i)
 top_starts_none z i x y rest = not_this (z == x)

@@ -4,7 +4,7 @@ use Rattle.std.specs.Prelude.{Result, Ok, Err, ⊤, OnOk, IfErr, map, replicate,
 use Rattle.std.proofs.Common.{inl, inr}
 use Rattle.qc_event.specs.declared.log.Short.{Short}
 use Rattle.qc_event.specs.declared.log.Short.TheVariants as short
-use Rattle.std.proofs.lemmas.List.{length-map, reverse-append, reverse-reverse, length-reverse}
+use Rattle.std.proofs.lemmas.List.{reverse-append, reverse-reverse, length-reverse}
 use Rattle.qc_event.specs.Base.{start_values, start_configs}
 use Rattle.qc_event.specs.declared.event.Entry.{Entry}
 use Rattle.qc_event.specs.declared.table.Row.{Row}
@@ -26,6 +26,10 @@ use Rattle.qc_run.proofs.LegalTrace.{trace_legal}
 use Rattle.qc_run.proofs.FollowsTrace.{trace_follows}
 use Rattle.qc_run.proofs.SerialTrace.{trace_serial, trace_values}
 
+length_map : {X Y : Type 0} (f : X → Y) (xs : List X) → length (map f xs) ≡ length xs
+length_map f [] = refl
+length_map f (x ∷ xs) = let e = length_map f xs in omega (arith, e)
+
 map_map : {X Y Z : Type 0} (f : Y → Z) (g : X → Y) (xs : List X) → map f (map g xs) ≡ map (λ x. f (g x)) xs
 map_map f g [] = refl
 map_map f g (x ∷ xs) = ap (λ ys. f (g x) ∷ ys) (map_map f g xs)
@@ -40,7 +44,7 @@ starts_are table one = ap (map (λ (t : Tuple). t.value)) (first_copy table one)
 firsts_length : (table : Table) → table.copies ≡ 1 → length (start_configs (base_of table)) ≡ length table.records
 firsts_length table one =
     ap (λ ts. length (map (λ (t : Tuple). t.config) ts)) (first_copy table one)
-    ∙ length-map (map first_tuple table.records) (λ (t : Tuple). t.config) ∙ length-map table.records first_tuple
+    ∙ length_map (λ (t : Tuple). t.config) (map first_tuple table.records) ∙ length_map first_tuple table.records
 
 -- the history that a script makes
 abbrev pub whole : Script → Past
@@ -52,7 +56,7 @@ front_legal s past proper front room =
     (subst (λ n. TopsWithin n s.tops) (sym (firsts_length s.table proper.one_copy)) proper.tops) past front room
 
 starts_within : (s : Script) → IsProper s → TopsWithin (length (starts_of s.table.records)) s.tops
-starts_within s proper = subst (λ n. TopsWithin n s.tops) (sym (length-map s.table.records (λ (r : Row). r.start))) proper.tops
+starts_within s proper = subst (λ n. TopsWithin n s.tops) (sym (length_map (λ (r : Row). r.start) s.table.records)) proper.tops
 
 pub front_serial : (s : Script) (trail : List Entry) → IsProper s → IsFront (reverse trail) (whole s) → IsSerialThroughout (start_values (base_of s.table)) trail
 front_serial s trail proper is_front front later is =

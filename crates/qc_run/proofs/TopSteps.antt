@@ -18,10 +18,8 @@ use Rattle.qc_simlock.specs.Walk.{walk, added, ended, is_open_or_root}
 use Rattle.qc_simlock.specs.Own.{is_own, own, own_past}
 use Rattle.qc_simlock.proofs.OwnOrder.{own_walk}
 use Rattle.qc_run.specs.Trace.{by_client, by_ledger}
-use Rattle.qc_event.proofs.Absent.{same_itself}
-use Rattle.qc_run.proofs.Machines.{sibling}
-use Rattle.qc_run.proofs.OneMore.{and_false}
-use Rattle.qc_run.proofs.Elsewhere.{other_child, other_end, other_own}
+use Rattle.qc_run.proofs.Machines.{same_self, sibling}
+use Rattle.qc_run.proofs.Elsewhere.{and_false, other_child, other_end, other_own}
 use Rattle.qc_run.proofs.OneTop.{Between, Within, Adds, StartsNone, add_entry, still_closed, flat_more, own-append}
 
 -- THE START OF A MANAGER
@@ -59,7 +57,7 @@ manager_started z k i past order inner kd other h =
 
 pub manager_kind : (z k i : ℕ) (past : Past) (order inner : List SerialEvent) (kd : Kind) → Within z k i past order inner → kind_of (by_client (Start (z ∷ k ∷ []) kd) ∷ past) (z ∷ k ∷ []) ≡ Some kd
 manager_kind z k i past order inner kd h =
-    ap₂ (λ o b. option_map (λ (m : Begun). m.kind) (option_or o (if b then Some (record { seat = 18; kind = kd }) else None))) (h.unstarted k (omega arith)) (same_itself (z ∷ k ∷ []))
+    ap₂ (λ o b. option_map (λ (m : Begun). m.kind) (option_or o (if b then Some (record { seat = 18; kind = kd }) else None))) (h.unstarted k (omega arith)) (same_self (z ∷ k ∷ []))
 
 -- THE END OF A MANAGER
 
@@ -119,7 +117,7 @@ owned_elsewhere z k i x past order inner h ne =
 
 closed_here : (z : ℕ) (past : Past) → end past (z ∷ []) ≡ None → is_open_or_root (top_end z ∷ past) (z ∷ []) ≡ false
 closed_here z past h =
-    ap₂ (λ o b. is_some (option_or (start past (z ∷ [])) None) && is_none (option_or o (if b then Some (Commit answer.Nothing) else None))) h (same_itself (z ∷ []))
+    ap₂ (λ o b. is_some (option_or (start past (z ∷ [])) None) && is_none (option_or o (if b then Some (Commit answer.Nothing) else None))) h (same_self (z ∷ []))
     ∙ and_false (is_some (option_or (start past (z ∷ [])) None))
 
 at_each : (P : ℕ → Type 0) (z : ℕ) → P z → ((x : ℕ) → (z ≡ x → ⊥) → P x) → (x : ℕ) → P x

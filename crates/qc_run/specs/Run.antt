@@ -47,7 +47,7 @@ RanToEnd status.Done = Unit {0}
 RanToEnd status.WriteFault = Unit {0}
 RanToEnd _ = ⊥
 
--- a script was read, and what it did was not cut off by want of memory
+-- a script was read, and not all of it was run for want of memory
 abbrev pub ReadIt : Status → Type 0
 ReadIt status.Done = Unit {0}
 ReadIt status.WriteFault = Unit {0}
