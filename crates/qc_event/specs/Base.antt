@@ -1,7 +1,7 @@
 -- The tuples with which a run starts: a list, by copy, of lists, by record.
 use Rattle.std.specs.Prelude.{ℕ, ◌<◌, List, [], length, map, slice_get, slice_index_or, MatchOption}
-use Rattle.qc_event.specs.Config.{Voting, no_config}
-use Rattle.qc_event.specs.declared.tuple.Tuple.{Tuple}
+use Rattle.qc_config.specs.Config.{Voting, no_config}
+use Rattle.qc_config.specs.declared.tuple.Tuple.{Tuple}
 
 abbrev pub no_tuple : Tuple
 no_tuple = record { version = 0; value = 0; generation = 0; config = no_config }

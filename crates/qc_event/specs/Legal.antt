@@ -4,9 +4,9 @@ use Rattle.std.specs.Prelude.{ℕ, ◌≡◌, ◌+◌, ◌/◌, ◌%◌, ◌^◌
 use Rattle.std.specs.List.{list_any}
 use Rattle.std.specs.Option.{option_map_or}
 use Rattle.qc_names.specs.Name as name
-use Rattle.qc_event.specs.Config.{Voting}
+use Rattle.qc_config.specs.Config.{Voting}
 use Rattle.qc_event.specs.Base.{start_configs}
-use Rattle.qc_event.specs.declared.tuple.Tuple.{Tuple}
+use Rattle.qc_config.specs.declared.tuple.Tuple.{Tuple}
 use Rattle.qc_event.specs.declared.event.Answer.{Answer}
 use Rattle.qc_event.specs.declared.event.Answer.TheVariants as answer
 use Rattle.qc_event.specs.declared.event.Cause.{Cause}

@@ -1,6 +1,3 @@
-pub mod Copies
-pub mod Config
-pub mod Padded
 pub mod Base
 pub mod History
 pub mod Dead

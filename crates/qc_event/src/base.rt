@@ -1,7 +1,7 @@
 ghost use Rattle.std.specs.Prelude.{◌≡◌, map};
 ghost use Rattle.qc_event.specs.Base as words;
 
-use crate::tuple::Tuple;
+use qc_config::Tuple;
 use std::marker::Model;
 
 /// The tuples with which a run starts, for each copy and record.
@@ -12,7 +12,7 @@ pub struct Base {
 
 impl Model for Base {
     ghost use Rattle.std.specs.Prelude.{List, map};
-    ghost use Rattle.qc_event.specs.declared.tuple.Tuple.{Tuple};
+    ghost use Rattle.qc_config.specs.declared.tuple.Tuple.{Tuple};
 
     ghost Value = { List (List Tuple) };
 

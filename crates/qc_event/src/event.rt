@@ -1,6 +1,4 @@
-use crate::config::Config;
-use crate::copies::Copies;
-use crate::tuple::{Op, Tuple};
+use qc_config::{Config, Copies, Op, Tuple, Val};
 use qc_names::Name;
 
 /// How a transaction stands.
@@ -52,7 +50,7 @@ impl Outcome {
 pub enum Kind {
     User { session: u8, body: u32 },
     Read { rec: u8 },
-    Write { rec: u8, value: u64 },
+    Write { rec: u8, value: Val },
     Reconf { rec: u8, config: Config },
     Access,
 }
@@ -127,7 +125,7 @@ pub enum Cause {
 #[derive(Clone, Copy)]
 pub enum Answer {
     Nothing,
-    Value(u64),
+    Value(Val),
     Generation(u64),
     Reply(Tuple),
 }

@@ -2,26 +2,21 @@
 #![tactic(auto)]
 
 mod base;
-mod config;
-mod copies;
 mod event;
 mod log;
 mod scan;
 mod table;
-mod tuple;
 
 pub use base::Base;
-pub use config::{BadConfig, Config};
-pub use copies::Copies;
 pub use event::{
     Answer, Answered, Ask, Cause, Entry, Event, Grant, How, Kind, Lack, Outcome, Phase, Refusal,
     Why,
 };
 pub use log::{Log, Short};
+pub use qc_config::{BadConfig, Config, Copies, Op, Tuple, Val};
 pub use qc_names::Name;
 pub use scan::{dead, kind, outcome};
 pub use table::{Label, Row, Rows, Table};
-pub use tuple::{Op, Tuple};
 
 #[cfg(test)]
 mod tests;

@@ -1,6 +1,6 @@
 ghost use Rattle.std.specs.Prelude.{◌≡◌, List, length, IfOk};
 
-use crate::config::Config;
+use qc_config::{Config, Val};
 use std::alloc::{AllocError, Global};
 use std::marker::Model;
 
@@ -40,7 +40,7 @@ impl Label {
 #[derive(Drop)]
 pub struct Row {
     pub name: Label,
-    pub start: u64,
+    pub start: Val,
     pub config: Config,
 }
 

@@ -1,7 +1,4 @@
-use crate::{
-    Answer, BadConfig, Cause, Config, Entry, Event, How, Kind, Log, Name, Outcome, dead, kind,
-    outcome,
-};
+use crate::{Answer, Cause, Entry, Event, How, Kind, Log, Name, Outcome, dead, kind, outcome};
 use std::test::Fail;
 
 const TOP: u64 = 0x1_0000_0001;
@@ -13,22 +10,6 @@ fn entry(event: Event) -> Entry {
         seat: CLIENT,
         event,
     }
-}
-
-#[test]
-fn votes_must_overlap(rt: HostRuntime) {
-    for (votes, read, write, refusal) in [
-        ([].as_slice(), 1, 1, BadConfig::Empty),
-        ([0, 0].as_slice(), 1, 1, BadConfig::Votes),
-        ([1, 1, 1].as_slice(), 4, 1, BadConfig::Read),
-        ([1, 1, 1].as_slice(), 2, 0, BadConfig::Write),
-        ([1, 1, 1].as_slice(), 2, 1, BadConfig::NoOverlap),
-    ] {
-        if votes.len() <= 16 {
-            assert!(rt; Config::new(votes, read, write).is_err_and(|e| e == refusal));
-        }
-    }
-    assert!(rt; Config::new(&[1, 1, 1], 2, 2).is_ok());
 }
 
 #[test]

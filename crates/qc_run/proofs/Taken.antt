@@ -2,15 +2,15 @@
 use Rattle.std.proofs.Common.{◌≡◌, ℕ, ◌≤◌, ◌^◌, List, [], length, take, refl, sym, ap, subst, ◌∙◌, arith}
 use Rattle.std.specs.Prelude.{Option, None, Some, IfSome, min}
 use Rattle.std.proofs.lemmas.List.{length-take, take_all}
-use Rattle.qc_run.specs.declared.bad_script.BadScript.{BadScript}
-use Rattle.qc_run.specs.declared.bad_script.BadScript.TheVariants.{NotJson, Shape, Limit, Config, Unknown, TooLong, Twice, Memory}
-use Rattle.qc_run.specs.declared.script.Script.{Script}
+use Rattle.qc_script.specs.declared.bad_script.BadScript.{BadScript}
+use Rattle.qc_script.specs.declared.bad_script.BadScript.TheVariants.{NotJson, Shape, Limit, Config, Unknown, TooLong, Twice, Memory}
+use Rattle.qc_script.specs.Plan.{ScriptPlan}
 use Rattle.qc_run.specs.declared.status.Status.{Status}
 use Rattle.qc_run.specs.declared.status.Status.TheVariants as status
 use Rattle.qc_run.specs.Io.{Drops, IsAtEnd}
-use Rattle.qc_run.specs.Reading.{IsScript, IsRefused}
+use Rattle.qc_script.specs.Reading.{IsScript, IsRefused}
 use Rattle.qc_run.specs.Run.{ReadsScript, ReadIt, IsScriptFault, IsNoRun, IsDoneOrShort}
-use Rattle.qc_run.proofs.OneScript.{script_not_refused}
+use Rattle.qc_script.proofs.OneScript.{script_not_refused}
 
 -- one byte more than a script may have
 abbrev pub most : ℕ
@@ -27,7 +27,7 @@ no_longer : (left bytes : List ℕ) → bytes ≡ take most left → length byte
 no_longer left bytes is = let l : length bytes ≡ min most (length left) = ap length is ∙ length-take most left in omega arith
 
 -- a source whose bytes are a script was read to its end
-pub reads_script : (left now : Option (List ℕ)) (bytes : List ℕ) (s : Script) → IfSome left (λ l. bytes ≡ take most l) → Drops left now most → IfSome left (λ l. length l ≤ 2 ^ 20 → now ≡ Some []) → IsScript bytes s → ReadsScript left now s
+pub reads_script : (left now : Option (List ℕ)) (bytes : List ℕ) (s : ScriptPlan) → IfSome left (λ l. bytes ≡ take most l) → Drops left now most → IfSome left (λ l. length l ≤ 2 ^ 20 → now ≡ Some []) → IsScript bytes s → ReadsScript left now s
 reads_script None now bytes s taken drops ended is = record {
   bytes = bytes;
   held = tt;
@@ -65,11 +65,11 @@ fault_of_all left bytes status.WriteFault taken fault = tt
 fault_of_all left bytes status.Memory taken fault = tt
 fault_of_all left bytes status.Room taken fault = tt
 
-no_run : (l : List ℕ) (now : Option (List ℕ)) (s : Script) → ((s : Script) → IsScript l s → ⊥) → ReadsScript (Some l) now s → ⊥
+no_run : (l : List ℕ) (now : Option (List ℕ)) (s : ScriptPlan) → ((s : ScriptPlan) → IsScript l s → ⊥) → ReadsScript (Some l) now s → ⊥
 no_run l now s none reads = none s (subst (λ x. IsScript x s) (sym reads.held) reads.is_script)
 
 -- where the bytes are no script, none was run
-pub none_was_run : (left now : Option (List ℕ)) (answer : Status) → (answer ≡ status.Usage → ⊥) → (ReadIt answer → (s : Script) × ReadsScript left now s) → IfSome left (λ bytes. ((s : Script) → IsScript bytes s → ⊥) → IsNoRun answer)
+pub none_was_run : (left now : Option (List ℕ)) (answer : Status) → (answer ≡ status.Usage → ⊥) → (ReadIt answer → (s : ScriptPlan) × ReadsScript left now s) → IfSome left (λ bytes. ((s : ScriptPlan) → IsScript bytes s → ⊥) → IsNoRun answer)
 none_was_run None now answer command started = tt
 none_was_run (Some l) now status.Usage command started = λ none. command refl
 none_was_run (Some l) now (status.Script e) command started = λ none. tt
@@ -80,7 +80,7 @@ none_was_run (Some l) now status.WriteFault command started = λ none. no_run l 
 none_was_run (Some l) now status.Room command started = λ none. no_run l now (started tt).0 none (started tt).1
 
 -- where the bytes are a script and no stream failed, it was run as far as there was memory and room
-pub script_was_run : (bytes : List ℕ) (s : Script) (answer : Status) (R W : Type 0) → IsScript bytes s → IsScriptFault (Some bytes) answer → (answer ≡ status.Usage → ⊥) → (answer ≡ status.ReadFault → R) → (answer ≡ status.WriteFault → W) → (R → ⊥) → (W → ⊥) → IsDoneOrShort answer
+pub script_was_run : (bytes : List ℕ) (s : ScriptPlan) (answer : Status) (R W : Type 0) → IsScript bytes s → IsScriptFault (Some bytes) answer → (answer ≡ status.Usage → ⊥) → (answer ≡ status.ReadFault → R) → (answer ≡ status.WriteFault → W) → (R → ⊥) → (W → ⊥) → IsDoneOrShort answer
 script_was_run bytes s status.Done R W is fault command read write r w = tt
 script_was_run bytes s status.Memory R W is fault command read write r w = tt
 script_was_run bytes s status.Room R W is fault command read write r w = tt

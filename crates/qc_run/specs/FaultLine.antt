@@ -1,12 +1,12 @@
 -- The line that tells why a run gave no report, and the number with which the process ends.
 use Rattle.std.specs.Prelude.{ℕ, [], ◌++◌, codes}
 use Rattle.std.specs.Fmt.{decimal}
-use Rattle.qc_event.specs.declared.config.BadConfig.{BadConfig}
-use Rattle.qc_event.specs.declared.config.BadConfig.TheVariants as config
-use Rattle.qc_run.specs.declared.bad_script.BadScript.{BadScript}
-use Rattle.qc_run.specs.declared.bad_script.BadScript.TheVariants as bad
-use Rattle.qc_run.specs.declared.bad_script.Member.{Member}
-use Rattle.qc_run.specs.declared.bad_script.Member.TheVariants as member
+use Rattle.qc_config.specs.declared.config.BadConfig.{BadConfig}
+use Rattle.qc_config.specs.declared.config.BadConfig.TheVariants as config
+use Rattle.qc_script.specs.declared.bad_script.BadScript.{BadScript}
+use Rattle.qc_script.specs.declared.bad_script.BadScript.TheVariants as bad
+use Rattle.qc_script.specs.declared.bad_script.Member.{Member}
+use Rattle.qc_script.specs.declared.bad_script.Member.TheVariants as member
 use Rattle.qc_run.specs.declared.status.Status.{Status}
 use Rattle.qc_run.specs.declared.status.Status.TheVariants as status
 use Rattle.qc_run.specs.Report.{Text}

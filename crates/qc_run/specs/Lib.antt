@@ -1,10 +1,5 @@
 pub mod Io
-pub mod Trace
-pub mod Serial
-pub mod Follows
 pub mod Words
-pub mod ScriptText
-pub mod Reading
 pub mod Report
 pub mod FaultLine
 pub mod Run

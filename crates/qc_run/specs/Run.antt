@@ -6,15 +6,15 @@ use Rattle.qc_event.specs.declared.log.Short.{Short}
 use Rattle.qc_event.specs.declared.log.Short.TheVariants as short
 use Rattle.qc_event.specs.declared.table.Row.{Row}
 use Rattle.qc_event.specs.declared.table.Table.{Table}
-use Rattle.qc_event.specs.declared.tuple.Tuple.{Tuple}
+use Rattle.qc_config.specs.declared.tuple.Tuple.{Tuple}
 use Rattle.qc_run.specs.Io.{IsAtEnd, Rose, Appends, AppendsFront}
-use Rattle.qc_run.specs.Reading.{IsScript, IsRefused}
+use Rattle.qc_script.specs.Reading.{IsScript, IsRefused}
 use Rattle.qc_run.specs.Report.{Text, report}
-use Rattle.qc_run.specs.Serial.{final_values}
-use Rattle.qc_run.specs.Trace.{Now}
+use Rattle.qc_simlock.specs.Serial.{final_values}
+use Rattle.qc_interp.specs.Trace.{Now}
 use Rattle.qc_run.specs.FaultLine.{fault_line}
-use Rattle.qc_run.specs.declared.bad_script.BadScript.TheVariants.{Memory}
-use Rattle.qc_run.specs.declared.script.Script.{Script}
+use Rattle.qc_script.specs.declared.bad_script.BadScript.TheVariants.{Memory}
+use Rattle.qc_script.specs.Plan.{ScriptPlan}
 use Rattle.qc_run.specs.declared.status.Status.{Status}
 use Rattle.qc_run.specs.declared.status.Status.TheVariants as status
 
@@ -27,19 +27,19 @@ abbrev pub base_of : Table → List (List Tuple)
 base_of table = replicate table.copies (map first_tuple table.records)
 
 -- The source was read to its end, and its bytes are this script.
-pub record ReadsScript (before now : Option (List ℕ)) (s : Script) : Type 0 where
+pub record ReadsScript (before now : Option (List ℕ)) (s : ScriptPlan) : Type 0 where
   pub bytes : List ℕ
   pub held : IfSome before (λ left. left ≡ bytes)
   pub ended : IsAtEnd now
   pub is_script : IsScript bytes s
 
 -- a script that the source held was read, the run started from its table, and it is so of the script
-abbrev pub OfScript : Option (List ℕ) → Option (List ℕ) → List (List Tuple) → (Script → Type 0) → Type 0
-OfScript before now start IsSo = (s : Script) × ReadsScript before now s × (start ≡ base_of s.table) × IsSo s
+abbrev pub OfScript : Option (List ℕ) → Option (List ℕ) → List (List Tuple) → (ScriptPlan → Type 0) → Type 0
+OfScript before now start IsSo = (s : ScriptPlan) × ReadsScript before now s × (start ≡ base_of s.table) × IsSo s
 
 -- the same of a script that the bytes are
-abbrev pub OfBytes : List ℕ → List (List Tuple) → (Script → Type 0) → Type 0
-OfBytes bytes start IsSo = (s : Script) × IsScript bytes s × (start ≡ base_of s.table) × IsSo s
+abbrev pub OfBytes : List ℕ → List (List Tuple) → (ScriptPlan → Type 0) → Type 0
+OfBytes bytes start IsSo = (s : ScriptPlan) × IsScript bytes s × (start ≡ base_of s.table) × IsSo s
 
 -- every session ran to its end
 abbrev pub RanToEnd : Status → Type 0
@@ -47,7 +47,7 @@ RanToEnd status.Done = Unit {0}
 RanToEnd status.WriteFault = Unit {0}
 RanToEnd _ = ⊥
 
--- a script was read, and not all of it was run for want of memory
+-- a script was read, and want of memory did not cut off what it did
 abbrev pub ReadIt : Status → Type 0
 ReadIt status.Done = Unit {0}
 ReadIt status.WriteFault = Unit {0}
@@ -89,7 +89,7 @@ IsDoneOrShort status.Room = Unit {0}
 IsDoneOrShort _ = ⊥
 
 -- the report of a history, in which the last values are those of the serial machine
-abbrev pub report_of : Script → List (List Tuple) → List Entry → Text
+abbrev pub report_of : ScriptPlan → List (List Tuple) → List Entry → Text
 report_of s start trail = report s.table (final_values (start_values start) (reverse trail)) trail
 
 -- A fault's line was written, all of it unless the sink failed meanwhile.

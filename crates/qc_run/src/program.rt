@@ -1,27 +1,26 @@
 //! The top call: all that the program does, over the streams that it is handed.
-ghost use Rattle.std.specs.Prelude.{ℕ, List, ⊤, ◌≡◌, ◌≢◌, ◌≤◌, ◌↔◌, [], false, true, length, map, reverse, string_bytes, Option, Some, IfSome, IfOk};
+ghost use Rattle.std.specs.Prelude.{ℕ, List, ⊤, ◌≡◌, ◌≢◌, ◌≤◌, ◌↔◌, [], false, true, length, map, reverse, string_bytes, Option, None, Some, IfSome, IfOk};
 ghost use Rattle.qc_event.specs.Base.{start_values};
 ghost use Rattle.qc_event.specs.History.{limit};
 ghost use Rattle.qc_event.specs.Legal.{Legal, setting_of};
-ghost use Rattle.qc_run.specs.declared.script.Script.{Script};
+ghost use Rattle.qc_script.specs.Plan.{ScriptPlan};
+ghost use Rattle.qc_script.specs.Steps.{plan_of_script};
 ghost use Rattle.qc_run.specs.FaultLine.{fault_line};
-ghost use Rattle.qc_run.specs.Follows.{FollowsTops};
+ghost use Rattle.qc_interp.specs.Follows.{FollowsTops};
 ghost use Rattle.qc_run.specs.Io.{Rose, Keeps, Appends, AppendsFront};
-ghost use Rattle.qc_run.specs.Reading.{IsScript, IsProper};
+ghost use Rattle.qc_script.specs.Reading.{IsScript, IsProper};
 ghost use Rattle.qc_run.specs.Run as terms;
-ghost use Rattle.qc_run.specs.Serial.{IsSerialThroughout};
-ghost use Rattle.qc_run.specs.Trace.{starts_of};
+ghost use Rattle.qc_simlock.specs.Serial.{IsSerialThroughout};
+ghost use Rattle.qc_interp.specs.Trace.{starts_of};
 ghost use Rattle.qc_run.specs.Words as line;
 
-use crate::bad_script::BadScript;
 use crate::io::{Sink, Source, Untaken, take_all, write_all};
-use crate::reader::MOST_BYTES;
 use crate::report::report;
-use crate::script::Script;
-use crate::session::Session;
 use crate::status::{Status, fault_line};
 use crate::words::is_command;
 use qc_event::{Base, Entry, Row, Short, Table, Tuple};
+use qc_interp::Session;
+use qc_script::{BadScript, MOST_BYTES, Script};
 use std::alloc::{AllocError, Global};
 
 fn first_tuples(alloc: Global, rows: &[Row]) -> Result<Vec<Tuple>, AllocError>
@@ -108,7 +107,7 @@ fn conclude<K: Sink>(alloc: Global, table: &Table, session: &Session, sink: &mut
 // The start of a script's run: its tuples, and a session that has done nothing.
 fn open(alloc: Global, table: &Table) -> Result<(Base, Session), AllocError>
     ensures base { IfOk result (λ opened. opened.0 ≡ terms.base_of table.now) }
-    ensures session { IfOk result (λ opened. opened.1 ≡ record { past = []; values = starts_of table.now.records }) }
+    ensures session { IfOk result (λ opened. opened.1 ≡ record { past = []; values = starts_of table.now.records; dead = None }) }
 {
     let start = base_of(alloc, table)?;
     let session = Session::new(alloc, table.records.as_slice())?;
@@ -137,19 +136,19 @@ fn proceed<K: Sink>(
     mut session: Session,
     sink: &mut K,
 ) -> Ran
-    requires proper { IsProper script.now }
+    requires proper { IsProper (plan_of_script script.now) }
     requires base { start ≡ terms.base_of script.now.table }
-    requires session { session ≡ record { past = []; values = starts_of script.now.table.records } }
+    requires session { session ≡ record { past = []; values = starts_of script.now.table.records; dead = None } }
     ensures legal_history { Legal (setting_of result.start) (reverse result.trail.items) }
     ensures serial_order { IsSerialThroughout (start_values result.start) result.trail.items }
     ensures start { result.start ≡ terms.base_of script.now.table }
     ensures follows { terms.RanToEnd result.status
-        → FollowsTops script.now.tops (reverse result.trail.items) }
+        → FollowsTops (plan_of_script script.now).tops (reverse result.trail.items) }
     ensures answer { terms.IsPerformed result.status }
     ensures done { result.status ≡ Status.Done → Appends (K.taken sink.old) (K.taken sink.new)
-        (terms.report_of script.now result.start result.trail.items) }
+        (terms.report_of (plan_of_script script.now) result.start result.trail.items) }
     ensures front { result.status ≡ Status.WriteFault → AppendsFront (K.taken sink.old) (K.taken sink.new)
-        (terms.report_of script.now result.start result.trail.items) }
+        (terms.report_of (plan_of_script script.now) result.start result.trail.items) }
     ensures told { terms.IsTold result.status → terms.TellsFault (K.taken sink.old) (K.taken sink.new)
         (K.faults sink.old) (K.faults sink.new) result.status }
     ensures short { result.status ≡ Status.Memory → Keeps (K.taken sink.old) (K.taken sink.new) }
@@ -170,17 +169,17 @@ fn proceed<K: Sink>(
 
 // Runs a proper script, and reports it.
 fn perform<K: Sink>(alloc: Global, script: &Script, sink: &mut K) -> Ran
-    requires { IsProper script.now }
+    requires { IsProper (plan_of_script script.now) }
     ensures legal_history { Legal (setting_of result.start) (reverse result.trail.items) }
     ensures serial_order { IsSerialThroughout (start_values result.start) result.trail.items }
     ensures start { terms.ReadIt result.status → result.start ≡ terms.base_of script.now.table }
     ensures follows { terms.RanToEnd result.status
-        → FollowsTops script.now.tops (reverse result.trail.items) }
+        → FollowsTops (plan_of_script script.now).tops (reverse result.trail.items) }
     ensures answer { terms.IsPerformed result.status }
     ensures done { result.status ≡ Status.Done → Appends (K.taken sink.old) (K.taken sink.new)
-        (terms.report_of script.now result.start result.trail.items) }
+        (terms.report_of (plan_of_script script.now) result.start result.trail.items) }
     ensures front { result.status ≡ Status.WriteFault → AppendsFront (K.taken sink.old) (K.taken sink.new)
-        (terms.report_of script.now result.start result.trail.items) }
+        (terms.report_of (plan_of_script script.now) result.start result.trail.items) }
     ensures told { terms.IsTold result.status → terms.TellsFault (K.taken sink.old) (K.taken sink.new)
         (K.faults sink.old) (K.faults sink.new) result.status }
     ensures short { result.status ≡ Status.Memory → Keeps (K.taken sink.old) (K.taken sink.new) }
@@ -320,7 +319,7 @@ pub fn run<S: Source, K: Sink>(alloc: Global, words: &[String], source: &mut S, 
         → terms.IsOrMemory Status.Usage result.status × (source.new ≡ source.old) }
     ensures script_fault { terms.IsScriptFault (S.left source.old) result.status }
     ensures no_script { line.is_command (map string_bytes words.now) ≡ true → IfSome (S.left source.old)
-        (λ bytes. ((s : Script) → IsScript bytes s → ⊥) → terms.IsNoRun result.status) }
+        (λ bytes. ((s : ScriptPlan) → IsScript bytes s → ⊥) → terms.IsNoRun result.status) }
     ensures read_fault { result.status ≡ Status.ReadFault → Rose (S.faults source.old) (S.faults source.new) }
     ensures write_fault { result.status ≡ Status.WriteFault → Rose (K.faults sink.old) (K.faults sink.new) }
     ensures room { result.status ≡ Status.Room → length result.trail.items ≡ limit }
@@ -328,7 +327,7 @@ pub fn run<S: Source, K: Sink>(alloc: Global, words: &[String], source: &mut S, 
     ensures sink_faults { K.faults sink.old ≤ K.faults sink.new }
 
     // A script is run, where neither stream fails, as far as there is memory and room.
-    ensures completes { (bytes : List ℕ) (s : Script) → line.is_command (map string_bytes words.now) ≡ true
+    ensures completes { (bytes : List ℕ) (s : ScriptPlan) → line.is_command (map string_bytes words.now) ≡ true
         → S.left source.old ≡ Some bytes → IsScript bytes s
         → (Rose (S.faults source.old) (S.faults source.new) → ⊥)
         → (Rose (K.faults sink.old) (K.faults sink.new) → ⊥) → terms.IsDoneOrShort result.status }

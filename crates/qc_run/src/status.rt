@@ -1,9 +1,9 @@
 ghost use Rattle.std.specs.Prelude.{◌≡◌, ◌++◌, IfOk, OnOk};
 ghost use Rattle.qc_run.specs.FaultLine as spec;
 
-use crate::bad_script::{BadScript, Member};
 use crate::report::Page;
 use qc_event::BadConfig;
+use qc_script::{BadScript, Member};
 use std::alloc::{AllocError, Global};
 
 /// How a run ended.

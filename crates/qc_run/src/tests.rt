@@ -1,3 +1,5 @@
+mod nested;
+
 use crate::io::{MemSink, MemSource};
 use crate::run;
 use std::alloc::Global;
@@ -9,9 +11,6 @@ const SETS_AND_READS_BACK: &str =
 
 const TWO_TOPS: &str =
     "{\"copies\":1,\"records\":[{\"name\":\"x\",\"start\":7,\"config\":{\"votes\":[1],\"read\":1,\"write\":1}},{\"name\":\"y\",\"start\":9,\"config\":{\"votes\":[2],\"read\":1,\"write\":2}}],\"sessions\":[{\"tops\":[{\"steps\":[[\"read\",\"y\"],[\"set\",\"y\",18446744073709551615]]},{\"steps\":[[\"read\",\"y\"],[\"read\",\"x\"]]},{\"steps\":[]}]}]}";
-
-const CHILD: &str =
-    "{\"copies\":1,\"records\":[{\"name\":\"x\",\"start\":0,\"config\":{\"votes\":[1],\"read\":1,\"write\":1}}],\"sessions\":[{\"tops\":[{\"steps\":[[\"child\",{\"steps\":[]}]]}]}]}";
 
 const REPORT: &str =
     "set 1/1.1 x 5\nread 1/1.2 x 5\ncommit 1/1\nfinal x 5\ntops 1 committed 1 aborted 0 doubt 0\n";
@@ -109,14 +108,6 @@ fn what_is_refused(rt: HostRuntime) -> Result<(), Fail> {
     ] {
         expect(&rt, alloc, line, SETS_AND_READS_BACK, calls, (2, 0, USAGE))?;
     }
-    expect(
-        &rt,
-        alloc,
-        "run",
-        CHILD,
-        calls,
-        (3, 0, "qc: script: shape step\n"),
-    )?;
     expect(
         &rt,
         alloc,

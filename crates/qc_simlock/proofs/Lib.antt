@@ -1,2 +1,15 @@
 pub mod OwnOrder
 pub mod Ancestors
+pub mod Above
+pub mod OrderSteps
+pub mod OwnElsewhere
+pub mod OwnInside
+pub mod OwnSerial
+pub mod Outside
+pub mod Stage
+pub mod Kept
+pub mod Inside
+pub mod NextEntry
+pub mod WalkShape
+pub mod Shaped
+pub mod SerialOrder

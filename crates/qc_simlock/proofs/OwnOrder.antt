@@ -16,18 +16,10 @@ use Rattle.qc_event.specs.declared.event.Kind.{Kind}
 use Rattle.qc_event.specs.declared.event.Kind.TheVariants as kind
 use Rattle.qc_serial.specs.declared.event.SerialEvent.{SerialEvent}
 use Rattle.qc_serial.specs.declared.event.SerialEvent.TheVariants.{Start, Enter, Read, Write, Leave, Skip}
+use Rattle.qc_serial.proofs.Known.{name_of}
 use Rattle.qc_event.specs.History.{Past, Name, is_child, kind_of}
 use Rattle.qc_simlock.specs.Walk.{walk, added, ended}
 use Rattle.qc_simlock.specs.Own.{is_own, own, own_past, own_end, own_in}
-
--- the name of an event
-abbrev pub name_of : SerialEvent → Name
-name_of (Start n) = n
-name_of (Enter n) = n
-name_of (Read n rec value) = n
-name_of (Write n rec value) = n
-name_of (Leave n) = n
-name_of (Skip n) = n
 
 -- an event is below a depth
 abbrev pub deeper : ℕ → SerialEvent → Bool
@@ -41,7 +33,7 @@ all_if p false xs h = refl
 all_both : {X : Type 0} (p : X → Bool) (xs ys : List X) → list_all p xs ≡ true → list_all p ys ≡ true → list_all p (xs ++ ys) ≡ true
 all_both p xs ys a b = list_all-append p xs ys ∙ ap (λ t. t && list_all p ys) a ∙ b
 
-child_longer : (n c : Name) → is_child n c ≡ true → length c ≡ length n + 1
+pub child_longer : (n c : Name) → is_child n c ≡ true → length c ≡ length n + 1
 child_longer n c h = grind (arith, nat_tests)
 
 child_deeper : (n c : Name) (e : SerialEvent) → is_child n c ≡ true → name_of e ≡ c → deeper (length n) e ≡ true

@@ -1,7 +1,7 @@
 use Rattle.std.proofs.Common.{◌≡◌, replicate}
 use Rattle.std.specs.Prelude.{map, Vec}
 use Rattle.std.specs.declared.alloc.Global.{Global}
-use Rattle.qc_event.specs.declared.tuple.Tuple.{Tuple}
+use Rattle.qc_config.specs.declared.tuple.Tuple.{Tuple}
 use Rattle.qc_run.specs.Run as terms
 use Rattle.qc_run.proofs.program.base_of.Given as goal
 

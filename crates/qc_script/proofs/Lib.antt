@@ -1,0 +1,6 @@
+pub mod Objects
+pub mod Parts
+pub mod Plans
+pub mod Refusals
+pub mod Proper
+pub mod OneScript

@@ -1,0 +1,4 @@
+pub mod Plan
+pub mod Steps
+pub mod ScriptText
+pub mod Reading

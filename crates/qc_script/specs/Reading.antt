@@ -1,0 +1,63 @@
+-- What a reader of scripts answers.
+use Rattle.std.specs.Prelude.{ℕ, ◌≡◌, ◌<◌, ◌≤◌, ◌^◌, List, length, Some, Result, Ok, Err, IsUtf8}
+use Rattle.std.specs.List.{AllByRecursion}
+use Rattle.serde_json.specs.Data.{Data}
+use Rattle.serde_json.specs.Read.{read}
+use Rattle.qc_config.specs.Config.{IsLegal}
+use Rattle.qc_event.specs.declared.table.Row.{Row}
+use Rattle.qc_script.specs.ScriptText.{Read, script_of}
+use Rattle.qc_script.specs.Plan.{ScriptPlan, TopsWithin}
+use Rattle.qc_script.specs.declared.bad_script.BadScript.{BadScript}
+use Rattle.qc_script.specs.declared.bad_script.BadScript.TheVariants.{NotJson, TooLong, Memory}
+
+-- The bytes are a JSON text, of this value.
+pub record IsJson (bytes : List ℕ) (d : Data) : Type 0 where
+  pub utf8 : IsUtf8 bytes
+  pub reads : read bytes ≡ Some d
+
+-- bytes that are not too long, and are a JSON text, from which this is read
+pub record IsRead (bytes : List ℕ) (answer : Read ScriptPlan) : Type 0 where
+  pub short : length bytes ≤ 2 ^ 20
+  pub value : Data
+  pub json : IsJson bytes value
+  pub reads : script_of value ≡ answer
+
+-- the bytes are this script
+abbrev pub IsScript : List ℕ → ScriptPlan → Type 0
+IsScript bytes s = IsRead bytes (Ok s)
+
+-- bytes that are not too long, and are no JSON text
+pub record IsNoJson (bytes : List ℕ) : Type 0 where
+  pub short : length bytes ≤ 2 ^ 20
+  pub none : (d : Data) → IsJson bytes d → ⊥
+
+-- The bytes are refused for this cause. Want of memory says nothing of them.
+abbrev pub IsRefused : List ℕ → BadScript → Type 0
+IsRefused bytes TooLong = 2 ^ 20 < length bytes
+IsRefused bytes NotJson = IsNoJson bytes
+IsRefused bytes Memory = Unit {0}
+IsRefused bytes e = IsRead bytes (Err e)
+
+-- What a reader of a part returned, seen by view, is what the part reads as, unless memory ran out.
+abbrev pub Fails : {Y : Type 0} → BadScript → Read Y → Type 0
+Fails Memory read = Unit {0}
+Fails NotJson read = ⊥
+Fails TooLong read = ⊥
+Fails e read = read ≡ Err e
+
+abbrev pub Gives : {X Y : Type 0} → (X → Y) → Result X BadScript → Read Y → Type 0
+Gives view (Ok x) read = read ≡ Ok (view x)
+Gives view (Err e) read = Fails e read
+
+-- a record at one copy with a legal configuration
+pub record IsProperRow (row : Row) : Type 0 where
+  pub legal : IsLegal row.config
+  pub one_vote : length row.config.votes ≡ 1
+
+-- A script with one copy and 1 to 64 records, whose steps are about these records.
+pub record IsProper (s : ScriptPlan) : Type 0 where
+  pub one_copy : s.table.copies ≡ 1
+  pub some_records : 0 < length s.table.records
+  pub few_records : length s.table.records ≤ 64
+  pub rows : AllByRecursion IsProperRow s.table.records
+  pub tops : TopsWithin (length s.table.records) s.tops

@@ -1,0 +1,299 @@
+-- What a script is, as a function on a JSON value: its parts from outside in, and the first refusal.
+use Rattle.std.specs.Prelude.{ℕ, ◌+◌, ◌-◌, ◌==◌, Bool, true, false, ◌&&◌, ◌||◌, nat_lt, nat_le, if◌then◌else◌, List, [], ◌∷◌, ◌++◌, length, codes, Option, None, Some, is_some, is_none, ok_or, option_map, option_and_then, Result, Ok, Err}
+use Rattle.std.proofs.Common.{zero, suc}
+use Rattle.std.specs.Char.{is_ascii_alphanumeric}
+use Rattle.std.specs.List.{list_all, list_any}
+use Rattle.std.specs.Result.{is_ok}
+use Rattle.std.specs.Str.{bytes_eq}
+use Rattle.serde_json.specs.Data.{Data, Items, no_items, item, Members, no_members, member}
+use Rattle.serde_json.specs.Find.{get, as_number, as_str, as_array, as_object, as_u64}
+use Rattle.qc_config.specs.Config.{Voting, fault}
+use Rattle.qc_event.specs.declared.table.Row.{Row}
+use Rattle.qc_script.specs.declared.bad_script.BadScript.{BadScript}
+use Rattle.qc_script.specs.declared.bad_script.BadScript.TheVariants.{Shape, Limit, Config, Unknown, Twice}
+use Rattle.qc_script.specs.declared.bad_script.Member.{Member}
+use Rattle.qc_script.specs.declared.bad_script.Member.TheVariants as part
+use Rattle.qc_script.specs.Plan.{Plan, Numbered, ScriptPlan}
+
+-- a text, as its bytes
+abbrev pub Text : Type 0
+Text = List ℕ
+
+-- what is read, or the first refusal
+abbrev pub Read : Type 0 → Type 0
+Read A = Result A BadScript
+
+-- One thing is read after another. A refusal is the answer.
+unfoldable pub followed : {A B : Type 0} → Read A → (A → Read B) → Read B
+followed (Ok x) f = f x
+followed (Err e) f = Err e
+
+infixl 10 ◌>>=◌
+abbrev pub ◌>>=◌ : {A B : Type 0} → Read A → (A → Read B) → Read B
+r >>= f = followed r f
+
+-- a check that passes, or its refusal
+abbrev pub must : Bool → BadScript → Read (Unit {0})
+must true e = Ok tt
+must false e = Err e
+
+-- each element of a list, in order
+abbrev pub each : {A B : Type 0} → (A → Read B) → List A → Read (List B)
+each f [] = Ok []
+each f (x ∷ xs) = f x >>= λ y. each f xs >>= λ ys. Ok (y ∷ ys)
+
+-- OBJECTS AND THEIR MEMBERS
+
+abbrev pub among : List Text → Text → Bool
+among names name = list_any (λ n. bytes_eq n name) names
+
+-- each member's name is one of the needed or of the others
+abbrev pub has_only : List Text → List Text → Members → Bool
+has_only needed others no_members = true
+has_only needed others (member name d rest) = (among needed name || among others name) && has_only needed others rest
+
+-- a member of each name is there
+abbrev pub has_all : List Text → Data → Bool
+has_all names d = list_all (λ name. is_some (get name d)) names
+
+-- an object with all the needed members, and no members but those and the others
+abbrev pub is_object : List Text → List Text → Data → Bool
+is_object needed others d = elim (as_object d) [ None ↦ false | Some members ↦ has_only needed others members && has_all needed d ]
+
+abbrev pub object_of : Member → List Text → List Text → Data → Read (Unit {0})
+object_of word needed others d = must (is_object needed others d) (Shape word)
+
+-- the elements of an array
+abbrev pub elements : Items → List Data
+elements no_items = []
+elements (item d ds) = d ∷ elements ds
+
+abbrev pub list_of : Data → Option (List Data)
+list_of d = option_map elements (as_array d)
+
+-- a number written in digits alone, of at most 2 ^ 64 - 1
+abbrev pub digits_of : Data → Option ℕ
+digits_of d = option_and_then as_u64 (as_number d)
+
+-- a member of an object, of a type
+abbrev pub member_at : Text → Member → Data → Read Data
+member_at name word d = ok_or (get name d) (Shape word)
+
+abbrev pub number_at : Text → Member → Data → Read ℕ
+number_at name word d = ok_or (option_and_then digits_of (get name d)) (Shape word)
+
+abbrev pub text_at : Text → Member → Data → Read Text
+text_at name word d = ok_or (option_and_then as_str (get name d)) (Shape word)
+
+abbrev pub list_at : Text → Member → Data → Read (List Data)
+list_at name word d = ok_or (option_and_then list_of (get name d)) (Shape word)
+
+-- a member that is not built yet
+abbrev pub without : Text → Member → Data → Read (Unit {0})
+without name word d = must (is_none (get name d)) (Shape word)
+
+-- a number, or the length of a list or a text, within its limits
+abbrev pub within : Member → ℕ → ℕ → ℕ → Read (Unit {0})
+within word low high n = must (nat_le low n && nat_le n high) (Limit word n)
+
+-- RECORDS
+
+-- The form of a record's name: 1 to 16 ASCII letters and digits.
+abbrev pub form_of_name : Text → Read (Unit {0})
+form_of_name text = do
+  _ ← must (list_all is_ascii_alphanumeric text) (Shape part.Name)
+  within part.Name 1 16 (length text)
+
+-- the place of the first record of a name
+abbrev pub place_of : List Row → Text → Option ℕ
+place_of [] name = None
+place_of (row ∷ rows) name = if bytes_eq row.name name then Some 0 else option_map (λ i. i + 1) (place_of rows name)
+
+-- a name that none of the records has
+abbrev pub fresh : List Row → Text → Read (Unit {0})
+fresh rows name = must (is_none (place_of rows name)) (Twice name)
+
+abbrev pub name_of : List Row → Data → Read Text
+name_of rows d = do
+  name ← text_at (codes "name") part.Name d
+  _ ← form_of_name name
+  _ ← fresh rows name
+  Ok name
+
+abbrev pub vote_of : Data → Read ℕ
+vote_of d = do
+  n ← ok_or (digits_of d) (Shape part.Votes)
+  _ ← within part.Votes 0 255 n
+  Ok n
+
+-- a configuration, or its first fault
+abbrev pub configured : List ℕ → ℕ → ℕ → Read Voting
+configured votes read write = elim (fault votes read write) [ None ↦ Ok (record { votes = votes; read = read; write = write }) | Some e ↦ Err (Config e) ]
+
+abbrev pub config_of : ℕ → Data → Read Voting
+config_of copies d = do
+  _ ← object_of part.Config (codes "votes" ∷ codes "read" ∷ codes "write" ∷ []) [] d
+  votes ← list_at (codes "votes") part.Votes d
+  _ ← must (length votes == copies) (Limit part.Votes (length votes))
+  votes ← each vote_of votes
+  read ← number_at (codes "read") part.Read d
+  write ← number_at (codes "write") part.Write d
+  configured votes read write
+
+-- a record, behind those of these rows
+abbrev pub row_of : ℕ → List Row → Data → Read Row
+row_of copies rows d = do
+  _ ← object_of part.RecordRow (codes "name" ∷ codes "start" ∷ codes "config" ∷ []) [] d
+  name ← name_of rows d
+  start ← number_at (codes "start") part.Start d
+  config ← member_at (codes "config") part.Config d
+  config ← config_of copies config
+  Ok (record { name = name; start = start; config = config })
+
+-- the rows, and one more for each of the elements
+abbrev pub rows_of : ℕ → List Row → List Data → Read (List Row)
+rows_of copies rows [] = Ok rows
+rows_of copies rows (d ∷ ds) = row_of copies rows d >>= λ row. rows_of copies (rows ++ row ∷ []) ds
+
+-- SESSIONS
+
+abbrev pub is_word : Text → Data → Bool
+is_word word d = elim (as_str d) [ None ↦ false | Some text ↦ bytes_eq text word ]
+
+-- a text of the form of a record's name
+abbrev pub step_name : Data → Read Text
+step_name d = do
+  name ← ok_or (as_str d) (Shape part.Step)
+  _ ← must (is_ok (form_of_name name)) (Shape part.Step)
+  Ok name
+
+abbrev pub number_of : List Row → Text → Read ℕ
+number_of rows name = ok_or (place_of rows name) (Unknown name)
+
+-- A step, as what it makes of the plan of the steps after it.
+abbrev pub Front : Type 0
+Front = Plan → Plan
+
+-- what is read, and the number of the body that begins next
+abbrev pub Counted : Type 0 → Type 0
+Counted A = Read (A × ℕ)
+
+-- ["read", R]
+abbrev pub read_of : List Row → ℕ → Data → Counted Front
+read_of rows next rec = do
+  name ← step_name rec
+  i ← number_of rows name
+  Ok (Plan.read_then i, next)
+
+-- ["set", R, n]
+abbrev pub set_of : List Row → ℕ → Data → Data → Counted Front
+set_of rows next rec value = do
+  name ← step_name rec
+  n ← ok_or (digits_of value) (Shape part.Step)
+  i ← number_of rows name
+  Ok (Plan.set_then i n, next)
+
+-- ["child", body], where the body is read so
+abbrev pub child_of : (ℕ → Data → Counted Numbered) → ℕ → Data → Counted Front
+child_of body next d = do
+  _ ← must (is_some (as_object d)) (Shape part.Step)
+  inner ← body next d
+  Ok (Plan.child_then inner.0.number inner.0.plan, inner.1)
+
+-- ["abort", k], in a body of this depth
+abbrev pub abort_of : ℕ → ℕ → Data → Counted Front
+abort_of depth next levels = do
+  k ← ok_or (digits_of levels) (Shape part.Step)
+  _ ← must (nat_lt k depth) (Limit part.Levels k)
+  Ok (Plan.abort_then k, next)
+
+-- a step of two elements
+abbrev pub two_of : (ℕ → Data → Counted Numbered) → ℕ → List Row → ℕ → Data → Data → Counted Front
+two_of body depth rows next word d =
+    if is_word (codes "read") word then read_of rows next d
+    else if is_word (codes "child") word then child_of body next d
+    else if is_word (codes "abort") word then abort_of depth next d
+    else Err (Shape part.Step)
+
+-- a step of three elements
+abbrev pub three_of : List Row → ℕ → Data → Data → Data → Counted Front
+three_of rows next word rec value = if is_word (codes "set") word then set_of rows next rec value else Err (Shape part.Step)
+
+-- the elements of a step
+abbrev pub step_in : (ℕ → Data → Counted Numbered) → ℕ → List Row → ℕ → List Data → Counted Front
+step_in body depth rows next (word ∷ d ∷ []) = two_of body depth rows next word d
+step_in body depth rows next (word ∷ rec ∷ value ∷ []) = three_of rows next word rec value
+step_in body depth rows next _ = Err (Shape part.Step)
+
+-- a step of a body of this depth, where bodies in it are read so
+abbrev pub step_of : (ℕ → Data → Counted Numbered) → ℕ → List Row → ℕ → Data → Counted Front
+step_of body depth rows next d = ok_or (list_of d) (Shape part.Step) >>= step_in body depth rows next
+
+abbrev pub steps_of : (ℕ → Data → Counted Numbered) → ℕ → List Row → ℕ → List Data → Counted Plan
+steps_of body depth rows next [] = Ok (Plan.done, next)
+steps_of body depth rows next (d ∷ ds) =
+    step_of body depth rows next d >>= λ first. steps_of body depth rows first.1 ds >>= λ rest. Ok (first.0 rest.0, rest.1)
+
+abbrev pub body_object : Data → Read (Unit {0})
+body_object d = object_of part.Body (codes "steps" ∷ []) (codes "tries" ∷ codes "must" ∷ []) d
+
+-- A body that may have so many levels of bodies, itself among them, with this number. The depth of a
+-- top's body is 1, and no body is deeper than 16.
+abbrev pub body_of : ℕ → List Row → ℕ → Data → Counted Numbered
+body_of zero rows next d = body_object d >>= λ _. Err (Limit part.Body 17)
+body_of (suc below) rows next d = do
+  _ ← body_object d
+  _ ← without (codes "tries") part.Tries d
+  _ ← without (codes "must") part.Must d
+  steps ← list_at (codes "steps") part.Steps d
+  plan ← steps_of (body_of below rows) (16 - below) rows (next + 1) steps
+  Ok (record { number = next; plan = plan.0 }, plan.1)
+
+-- the bodies of tops, the first of them with this number
+abbrev pub bodies_of : List Row → ℕ → List Data → Read (List Numbered)
+bodies_of rows next [] = Ok []
+bodies_of rows next (d ∷ ds) = body_of 16 rows next d >>= λ b. bodies_of rows b.1 ds >>= λ rest. Ok (b.0 ∷ rest)
+
+-- the bodies of a session's tops
+abbrev pub session_of : List Row → Data → Read (List Numbered)
+session_of rows d = do
+  _ ← object_of part.Session (codes "tops" ∷ []) (codes "net" ∷ []) d
+  _ ← without (codes "net") part.Net d
+  tops ← list_at (codes "tops") part.Tops d
+  bodies_of rows 0 tops
+
+-- the one session: more of them are not built yet
+abbrev pub only_session : List Row → List Data → Read (List Numbered)
+only_session rows (d ∷ []) = session_of rows d
+only_session rows _ = Err (Shape part.Sessions)
+
+-- SCRIPTS
+
+-- one copy: more of them are not built yet
+abbrev pub copies_of : Data → Read ℕ
+copies_of d = do
+  copies ← number_at (codes "copies") part.Copies d
+  _ ← within part.Copies 1 16 copies
+  _ ← must (copies == 1) (Shape part.Copies)
+  Ok copies
+
+abbrev pub records_of : ℕ → Data → Read (List Row)
+records_of copies d = do
+  records ← list_at (codes "records") part.Records d
+  _ ← within part.Records 1 64 (length records)
+  rows_of copies [] records
+
+abbrev pub tops_of : List Row → Data → Read (List Numbered)
+tops_of rows d = do
+  sessions ← list_at (codes "sessions") part.Sessions d
+  _ ← within part.Sessions 1 16 (length sessions)
+  only_session rows sessions
+
+abbrev pub script_of : Data → Read ScriptPlan
+script_of d = do
+  _ ← object_of part.Script (codes "copies" ∷ codes "records" ∷ codes "sessions" ∷ []) (codes "patience" ∷ []) d
+  copies ← copies_of d
+  _ ← without (codes "patience") part.Patience d
+  rows ← records_of copies d
+  tops ← tops_of rows d
+  Ok (record { table = record { copies = copies; records = rows }; tops = tops })

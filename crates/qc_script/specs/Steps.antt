@@ -1,0 +1,38 @@
+-- The plan that a body is.
+use Rattle.std.specs.Prelude.{List, [], ◌∷◌, map}
+use Rattle.qc_script.specs.declared.script.Body.{Body, fold-Body}
+use Rattle.qc_script.specs.declared.script.Script.{Script}
+use Rattle.qc_script.specs.declared.script.Step.{Step, fold-Step, Step-F}
+use Rattle.qc_script.specs.declared.script.Step.TheOpen.{Body-F}
+use Rattle.qc_script.specs.Plan.{Plan, Numbered, ScriptPlan}
+
+-- a step, before the plan of the steps after it
+abbrev pub before : Step-F (Plan → Plan) Numbered → Plan → Plan
+before (Step-F.Read rec) rest = Plan.read_then rec rest
+before (Step-F.Set rec value) rest = Plan.set_then rec value rest
+before (Step-F.Child body) rest = Plan.child_then body.number body.plan rest
+before (Step-F.Abort levels) rest = Plan.abort_then levels rest
+
+abbrev pub all_before : List (Plan → Plan) → Plan
+all_before [] = Plan.done
+all_before (s ∷ steps) = s (all_before steps)
+
+abbrev pub layer : Body-F (Plan → Plan) Numbered → Numbered
+layer b = record { number = b.number; plan = all_before b.steps.items }
+
+-- a body's number and plan
+abbrev pub numbered : Body → Numbered
+numbered = fold-Body (Plan → Plan) Numbered before layer
+
+-- the plan that a step and those after it make, from the plan of those after it
+abbrev pub put : Step → Plan → Plan
+put = fold-Step (Plan → Plan) Numbered before layer
+
+-- the plan of steps
+abbrev pub plan_of : List Step → Plan
+plan_of [] = Plan.done
+plan_of (s ∷ steps) = put s (plan_of steps)
+
+-- what a script is
+abbrev pub plan_of_script : Script → ScriptPlan
+plan_of_script s = record { table = s.table; tops = map numbered s.tops.items }

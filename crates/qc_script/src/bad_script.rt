@@ -1,0 +1,81 @@
+ghost use Rattle.qc_script.specs.declared.bad_script.BadScript.TheVariants.{Memory};
+ghost use Rattle.std.specs.Prelude.{◌≡◌};
+
+use qc_event::{BadConfig, Label};
+use std::alloc::{AllocError, AllocFailed};
+use thiserror::Error;
+
+/// The part of a script that a refusal speaks of.
+#[derive(Clone, Copy, PartialEq, Eq, Debug)]
+pub enum Member {
+    Script,
+    Copies,
+    Patience,
+    Records,
+    RecordRow,
+    Name,
+    Start,
+    Config,
+    Votes,
+    Read,
+    Write,
+    Sessions,
+    Session,
+    Net,
+    Fates,
+    Hold,
+    Tops,
+    Body,
+    Tries,
+    Must,
+    Steps,
+    Step,
+    Levels,
+    Copy,
+    Branches,
+}
+
+/// Why bytes are no script.
+#[derive(Debug, Drop, Error)]
+pub enum BadScript {
+    /// The bytes are no JSON.
+    #[error("the bytes are no JSON")]
+    NotJson,
+    /// A part of the script has not the form that it must have.
+    #[error("a part of the script has another form")]
+    Shape(Member),
+    /// A number, or the length of a list or a text, is beyond a limit.
+    #[error("a number or a length is beyond its limit")]
+    Limit(Member, u64),
+    /// Votes and thresholds are no configuration.
+    #[error("votes and thresholds are no configuration")]
+    Config(BadConfig),
+    /// A step names a record that is not in the table.
+    #[error("a step names a record that is not in the table")]
+    Unknown(Label),
+    /// There are more than `2^20` bytes.
+    #[error("the script is too long")]
+    TooLong,
+    /// Two records have one name.
+    #[error("two records have one name")]
+    Twice(Label),
+    /// There was no memory. It says nothing of the bytes.
+    #[error("no memory")]
+    Memory,
+}
+
+impl From<AllocError> for BadScript {
+    ghost from_gives = { λ _ e. e ≡ Memory };
+
+    fn from(_: AllocError) -> Self {
+        BadScript::Memory
+    }
+}
+
+impl<T: Drop> From<AllocFailed<T>> for BadScript {
+    ghost from_gives = { λ _ e. e ≡ Memory };
+
+    fn from(_: AllocFailed<T>) -> Self {
+        BadScript::Memory
+    }
+}
