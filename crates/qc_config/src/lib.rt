@@ -3,10 +3,12 @@
 
 mod config;
 mod copies;
+mod law;
 mod tuple;
 
 pub use config::{BadConfig, Config};
 pub use copies::Copies;
+pub use law::marks_are_sets;
 pub use tuple::{Op, Tuple, Val};
 
 #[cfg(test)]

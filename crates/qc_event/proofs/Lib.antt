@@ -1,7 +1,12 @@
 pub mod Histories
+pub mod Granted
 pub mod Ancestors
 pub mod Absent
 pub mod LastNumber
 pub mod OneEntry
+pub mod Orderly
 pub mod Lawful
+pub mod LegalOrderly
 pub mod Lineage
+pub mod Worked
+pub mod WorkedAborts

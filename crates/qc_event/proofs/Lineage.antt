@@ -1,4 +1,4 @@
--- What a legal history keeps along a line of names: where a parent ends, and how a child is dead.
+-- What an orderly history keeps along a line of names: where a parent ends, and how a child is dead.
 use Rattle.std.proofs.Common.{◌≡◌, ℕ, ◌<◌, ◌⊎◌, inl, inr, Bool, true, false, [], ◌∷◌, ◌++◌, length, refl, sym, ap, ◌∙◌, subst, arith, append-nil, append_assoc}
 use mathlib.Core.Bool.{true≢false}
 use Rattle.std.specs.Prelude.{Option, None, Some, is_some, if◌then◌else◌, find}
@@ -11,7 +11,8 @@ use Rattle.qc_event.specs.History.{Past, Name, IsOpen, start, end, children}
 use Rattle.qc_event.specs.Dead.{outcome, outcome_of, is_aborted, is_committed, ancestors, dead}
 use Rattle.qc_event.proofs.LastNumber.{EndsIn, ends_in, length_last, child_last, ancestors-last, append_next}
 use Rattle.qc_event.proofs.OneEntry.{not_some, some_or_none, childless}
-use Rattle.qc_event.proofs.Lawful.{Lawful, started_some}
+use Rattle.qc_event.specs.Standing.{IsUser, Started}
+use Rattle.qc_event.proofs.Lawful.{Lawful, parent_started, user_parent}
 
 -- STARTS ABOVE AND BELOW
 
@@ -20,7 +21,13 @@ pub above_started : (past : Past) (n r : Name) → Lawful past → 0 < length n 
 above_started past n [] law pos h = ap (λ m. is_some (start past m)) (sym (append-nil n)) ∙ h
 above_started past n (j ∷ r) law pos h =
     let below = above_started past (n ++ j ∷ []) r law (omega (arith, length_last n j)) (ap (λ m. is_some (start past m)) (sym (append_next n j r)) ∙ h) in
-    started_some _ (start past n) (law.under_user n j pos below)
+    parent_started past n j law pos below
+
+-- what stands above a user transaction is a user transaction, the root apart
+pub above_user : (past : Past) (n r : Name) → Lawful past → 0 < length n → Started past (n ++ r) (λ b. IsUser b.kind) → Started past n (λ b. IsUser b.kind)
+above_user past n [] law pos h = subst (λ m. Started past m (λ b. IsUser b.kind)) (append-nil n) h
+above_user past n (j ∷ r) law pos h =
+    user_parent past n j law pos (above_user past (n ++ j ∷ []) r law (omega (arith, length_last n j)) (subst (λ m. Started past m (λ b. IsUser b.kind)) (append_next n j r) h))
 
 -- what is known of a name that was not started, nor anything below it
 pub record IsFresh (past : Past) (n : Name) : Type 0 where
@@ -105,6 +112,6 @@ neither (Some (Abort cause)) c a = absurd (true≢false a)
 -- and is open, where the child lives
 pub parent_open : (past : Past) (p : Name) (j : ℕ) → Lawful past → 0 < length p → is_some (start past (p ++ j ∷ [])) ≡ true → end past (p ++ j ∷ []) ≡ None → dead past (p ++ j ∷ []) ≡ None → IsOpen past p
 parent_open past p j law pos began going alive = record {
-  started = started_some _ (start past p) (law.under_user p j pos began);
+  started = parent_started past p j law pos began;
   not_ended = neither (end past p) (parent_not_committed past p j law pos began going) (alive_not_aborted past p (dead_parent past p j alive));
 }

@@ -11,7 +11,7 @@ use Rattle.qc_event.specs.declared.event.Event.TheVariants as event
 use Rattle.qc_event.specs.declared.event.How.{How}
 use Rattle.qc_event.specs.declared.event.Kind.{Kind}
 use Rattle.qc_event.specs.History.{Past, Name, Begun, same, start, start_in, end, end_in, ready_in, is_ready, is_child, child_in, children}
-use Rattle.qc_event.specs.Legal.{Started}
+use Rattle.qc_event.specs.Standing.{Started}
 use Rattle.qc_event.proofs.Absent.{same_is, same_itself}
 
 -- the entry starts the name, with this kind
@@ -22,24 +22,24 @@ Starting n ev = (k : Kind) × (ev ≡ event.Start n k)
 abbrev pub Ending : Name → Event → How → Type 0
 Ending n ev how = ev ≡ event.End n how
 
-if_some : {Y : Type 0} (b : Bool) (y : Y) → is_some (if b then Some y else None) ≡ true → b ≡ true
+pub if_some : {Y : Type 0} (b : Bool) (y : Y) → is_some (if b then Some y else None) ≡ true → b ≡ true
 if_some true y h = refl
 if_some false y h = absurd (true≢false (sym h))
 
-if_is : {Y : Type 0} (b : Bool) (x y : Y) → (if b then Some x else None) ≡ Some y → (b ≡ true) × (x ≡ y)
+pub if_is : {Y : Type 0} (b : Bool) (x y : Y) → (if b then Some x else None) ≡ Some y → (b ≡ true) × (x ≡ y)
 if_is true x y h = (refl, cc)
 if_is false x y h = absurd cc
 
 -- an answer is an old one, or the new one where there was none
-first_some : {Y : Type 0} (old new : Option Y) → is_some (option_or old new) ≡ true → (is_some old ≡ true) ⊎ ((old ≡ None) × (is_some new ≡ true))
+pub first_some : {Y : Type 0} (old new : Option Y) → is_some (option_or old new) ≡ true → (is_some old ≡ true) ⊎ ((old ≡ None) × (is_some new ≡ true))
 first_some None new h = inr (refl, h)
 first_some (Some y) new h = inl refl
 
-first_is : {Y : Type 0} (old new : Option Y) (y : Y) → option_or old new ≡ Some y → (old ≡ Some y) ⊎ ((old ≡ None) × (new ≡ Some y))
+pub first_is : {Y : Type 0} (old new : Option Y) (y : Y) → option_or old new ≡ Some y → (old ≡ Some y) ⊎ ((old ≡ None) × (new ≡ Some y))
 first_is None new y h = inr (refl, h)
 first_is (Some x) new y h = inl h
 
-stays_some : {Y : Type 0} (old new : Option Y) → is_some old ≡ true → is_some (option_or old new) ≡ true
+pub stays_some : {Y : Type 0} (old new : Option Y) → is_some old ≡ true → is_some (option_or old new) ≡ true
 stays_some None new h = absurd (true≢false (sym h))
 stays_some (Some y) new h = refl
 
@@ -79,6 +79,13 @@ here_some (Some y) new h = refl
 -- what an entry starts is started then
 pub start_now : (e : Entry) (past : Past) (n : Name) → Starting n e.event → is_some (start (e ∷ past) n) ≡ true
 start_now e past n starting = here_some (start past n) (start_in n e.seat e.event) (starts_some n e.seat e.event starting)
+
+-- and its start is the entry's, where it had none
+pub start_is : (e : Entry) (past : Past) (n : Name) (k : Kind) → start past n ≡ None → e.event ≡ event.Start n k → start (e ∷ past) n ≡ Some (record { seat = e.seat; kind = k })
+start_is e past n k none is =
+    ap (λ o. option_or o (start_in n e.seat e.event)) none
+    ∙ ap (start_in n e.seat) is
+    ∙ ap (λ (b : Bool). if b then Some (record { seat = e.seat; kind = k }) else None) (same_itself n)
 
 pub started_stays : (e : Entry) (past : Past) (n : Name) (P : Begun → Type 0) → Started past n P → Started (e ∷ past) n P
 started_stays e past n P h = same_start (start past n) (start_in n e.seat e.event) h

@@ -1,4 +1,16 @@
 pub mod Base
 pub mod History
 pub mod Dead
+pub mod Clear
+pub mod Seen
+pub mod Manager
+pub mod Sound
+pub mod Standing
+pub mod Users
+pub mod Calls
+pub mod Starts
+pub mod Requests
+pub mod Grants
+pub mod Commits
+pub mod Aborts
 pub mod Legal

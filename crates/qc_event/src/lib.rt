@@ -15,7 +15,7 @@ pub use event::{
 pub use log::{Log, Short};
 pub use qc_config::{BadConfig, Config, Copies, Op, Tuple, Val};
 pub use qc_names::Name;
-pub use scan::{dead, kind, outcome};
+pub use scan::{clear, dead, holder, kind, outcome, seen};
 pub use table::{Label, Row, Rows, Table};
 
 #[cfg(test)]

@@ -14,11 +14,11 @@ use Rattle.qc_event.specs.declared.event.Kind.{Kind}
 use Rattle.qc_event.specs.declared.event.Kind.TheVariants as kind
 use Rattle.qc_event.specs.History.{Past, Name, Begun, same, start, start_in, end, children, kind_of}
 use Rattle.qc_event.specs.Dead.{outcome, outcome_of, is_committed}
-use Rattle.qc_event.specs.Legal.{Setting}
+use Rattle.qc_event.specs.Base.{Setting}
+use Rattle.qc_event.proofs.LegalOrderly.{calls_lawful as lawful}
 use Rattle.qc_event.proofs.Absent.{same_is, same_itself}
 use Rattle.qc_event.proofs.Histories.{or_none}
 use Rattle.qc_event.proofs.LastNumber.{length_last, last_longer, is_child-last}
-use Rattle.qc_event.proofs.Lawful.{lawful}
 use Rattle.qc_event.proofs.Lineage.{IsFresh, fresh_child}
 use Rattle.qc_event.proofs.OneEntry.{some_or_none, child_added}
 use Rattle.qc_script.specs.Plan.{Plan, PlanWithin}

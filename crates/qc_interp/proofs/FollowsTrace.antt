@@ -13,9 +13,9 @@ use Rattle.qc_event.specs.declared.event.Event.TheVariants as event
 use Rattle.qc_event.specs.declared.event.How.TheVariants.{Abort}
 use Rattle.qc_event.specs.declared.event.Kind.TheVariants as kind
 use Rattle.qc_event.specs.History.{Past, Name, every, start, end, is_ready, limit}
-use Rattle.qc_event.specs.Legal.{Setting}
+use Rattle.qc_event.specs.Base.{Setting}
+use Rattle.qc_event.proofs.LegalOrderly.{calls_lawful as lawful}
 use Rattle.qc_event.proofs.Absent.{if_not}
-use Rattle.qc_event.proofs.Lawful.{lawful}
 use Rattle.qc_event.proofs.OneEntry.{Starting, not_some, some_or_none, start_now, start_stays}
 use Rattle.qc_script.specs.Plan.{Numbered, TopsWithin}
 use Rattle.qc_interp.specs.Trace.{Now, by_client, begun, run, top_of, body_after, tops_after, trace}

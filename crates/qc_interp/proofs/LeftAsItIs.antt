@@ -12,7 +12,7 @@ use Rattle.qc_event.specs.declared.event.How.TheVariants.{Commit, Abort}
 use Rattle.qc_event.specs.declared.event.Kind.{Kind}
 use Rattle.qc_event.specs.History.{Past, Name, Begun, start, start_in, end, ready_in, is_ready, is_child, child_in, children, earliest, every}
 use Rattle.qc_event.specs.Dead.{outcome, outcome_of, is_committed}
-use Rattle.qc_event.specs.Legal.{Started}
+use Rattle.qc_event.specs.Standing.{Started}
 use Rattle.qc_event.proofs.LastNumber.{child_last, length_last}
 use Rattle.qc_event.proofs.OneEntry.{not_some, starting, started_stays, marking, end_step}
 use Rattle.qc_event.proofs.Lawful.{committed_is}

@@ -9,7 +9,9 @@ use Rattle.qc_event.specs.declared.event.How.TheVariants.{Commit, Abort}
 use Rattle.qc_event.specs.declared.event.Kind.{Kind}
 use Rattle.qc_event.specs.declared.event.Kind.TheVariants as kind
 use Rattle.qc_event.specs.History.{Past, Name, Begun, start, end, children}
-use Rattle.qc_event.specs.Legal.{Setting, Legal, Licensed, IsOrphanOf, MayEnd}
+use Rattle.qc_event.specs.Base.{Setting}
+use Rattle.qc_event.specs.Calls.{LegalCalls, Licensed, MayEnd}
+use Rattle.qc_event.specs.Standing.{IsOrphanOf}
 use Rattle.qc_event.proofs.Lineage.{neither, alive_not_aborted}
 use Rattle.qc_event.proofs.OneEntry.{some_or_none, unless_some}
 use Rattle.qc_script.specs.Plan.{Plan}
@@ -66,7 +68,7 @@ legal_orphan past seat n a None h = absurd h
 legal_orphan past seat n a (Some b) h = licensed_orphan past seat n a b b.kind h.licensed
 
 pub ran_grown : (setting : Setting) (of : Name) (old new : Now) → Ran setting of old new → Grown old.past new.past
-ran_grown setting of old new r = subst (Grown old.past) (sym r.is) (grown setting r.later old.past (subst (Legal setting) r.is r.legal))
+ran_grown setting of old new r = subst (Grown old.past) (sym r.is) (grown setting r.later old.past (subst (LegalCalls setting) r.is r.legal))
 
 -- who is to end so does, unless it has ended early
 ends_so : (of : Name) (how : How) (old new : Past) → Grown old new → Early old of → (end old of ≡ None → end new of ≡ Some how) → (end new of ≡ Some how) ⊎ StopsEarly new of (end new of)
@@ -92,7 +94,7 @@ stopped setting of a k now h fallen early = by_end (end now.past of) refl
     by_end : (o : Option How) → end now.past of ≡ o → StopsEarly new of (end new of)
     by_end (Some how) is = subst (StopsEarly new of) (sym (g.ends of how is)) (stops_stay now.past new g of (Some how) (early how is))
     by_end None is = subst (StopsEarly new of) (sym ((aborted_end of (Orphan a) now).now is)) (stops_stay now.past new g of (Some (Abort (Orphan a)))
-        (legal_orphan now.past 18 of a (start now.past of) (subst (Legal setting) (aborted_last of (Orphan a) now is) r.legal).1))
+        (legal_orphan now.past 18 of a (start now.past of) (subst (LegalCalls setting) (aborted_last of (Orphan a) now is) r.legal).1))
 
 pub orphan_left : (setting : Setting) (of a : Name) (k : ℕ) (plan : Plan) (now : Now) → (StopsEarly (aborted of (Orphan a) now).past of (end (aborted of (Orphan a) now).past of) → FollowsPlan (aborted of (Orphan a) now).past of plan [] (end (aborted of (Orphan a) now).past of)) → Running setting of k now → now.dead ≡ Some a → Early now.past of → Left of plan now.past (aborted of (Orphan a) now).past
 orphan_left setting of a k plan now stops h fallen early =

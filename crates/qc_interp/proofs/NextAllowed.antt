@@ -11,7 +11,10 @@ use Rattle.qc_event.specs.declared.event.How.TheVariants.{Commit, Abort}
 use Rattle.qc_event.specs.declared.event.Kind.{Kind}
 use Rattle.qc_event.specs.declared.event.Kind.TheVariants as kind
 use Rattle.qc_event.specs.History.{Past, Name, Begun, IsOpen, start, is_ready, is_child, child_in, children}
-use Rattle.qc_event.specs.Legal.{Setting, Allowed, IsGoing, IsUser, Started, StandsUnder, MayStart, Starts, MayEnd, MayCommitUserOrTop, UserCause, Licensed, commit_by_kind}
+use Rattle.qc_event.specs.Base.{Setting}
+use Rattle.qc_event.specs.Standing.{IsGoing, IsUser, Started}
+use Rattle.qc_event.specs.Users.{StandsUnder, MayCommitUserOrTop, UserCause}
+use Rattle.qc_event.specs.Calls.{AllowedCall, MayStart, Starts, MayEnd, Licensed, commit_by_kind}
 use Rattle.qc_event.proofs.LastNumber.{front_last, length_last}
 use Rattle.qc_event.proofs.OneEntry.{start_stays, start_now}
 use Rattle.qc_event.proofs.Lawful.{started_wider}
@@ -24,7 +27,7 @@ below_top_starts setting past seat [] k long may = absurd (omega arith)
 below_top_starts setting past seat (x ∷ []) k long may = absurd (omega arith)
 below_top_starts setting past seat (x ∷ y ∷ r) k long may = may
 
-pub may_start_child : (setting : Setting) (past : Past) (of : Name) (k : ℕ) (of_kind : Kind) → 0 < length of → IsGoing past of → is_ready past of ≡ false → length (children past of) + 1 ≡ k → Started past of (λ b. StandsUnder setting b (length (of ++ k ∷ [])) of_kind) → Allowed setting past (by_client (event.Start (of ++ k ∷ []) of_kind))
+pub may_start_child : (setting : Setting) (past : Past) (of : Name) (k : ℕ) (of_kind : Kind) → 0 < length of → IsGoing past of → is_ready past of ≡ false → length (children past of) + 1 ≡ k → Started past of (λ b. StandsUnder setting b (length (of ++ k ∷ [])) of_kind) → AllowedCall setting past (by_client (event.Start (of ++ k ∷ []) of_kind))
 may_start_child setting past of k of_kind nonroot going unready next stands = below_top_starts setting past 18 (of ++ k ∷ []) of_kind (omega (arith, length_last of k)) (record {
   by_client = refl;
   parent_going = subst (IsGoing past) (sym (front_last of k)) going;
@@ -58,7 +61,7 @@ user_commits past seat n b (kind.Write rec value) is may = absurd is
 user_commits past seat n b (kind.Reconf rec config) is may = absurd is
 user_commits past seat n b kind.Access is may = absurd is
 
-pub may_commit_user : (setting : Setting) (past : Past) (seat : ℕ) (n : Name) → Started past n (λ b. IsUser b.kind) → MayCommitUserOrTop past seat n Nothing → Allowed setting past (record { seat = seat; event = event.End n (Commit Nothing) })
+pub may_commit_user : (setting : Setting) (past : Past) (seat : ℕ) (n : Name) → Started past n (λ b. IsUser b.kind) → MayCommitUserOrTop past seat n Nothing → AllowedCall setting past (record { seat = seat; event = event.End n (Commit Nothing) })
 may_commit_user setting past seat n user may = started_wider (λ b. IsUser b.kind) (MayEnd past seat n (Commit Nothing)) (start past n) (λ b is. user_commits past seat n b b.kind is may) user
 
 -- ABORTS
@@ -70,7 +73,7 @@ user_licensed past seat n b (kind.Write rec value) cause is license = absurd is
 user_licensed past seat n b (kind.Reconf rec config) cause is license = absurd is
 user_licensed past seat n b kind.Access cause is license = absurd is
 
-pub may_abort_user : (setting : Setting) (past : Past) (n : Name) (cause : Cause) → Started past n (λ b. IsUser b.kind) → IsOpen past n → is_ready past n ≡ false → ((session : ℕ) → UserCause past n session cause) → Allowed setting past (by_client (event.End n (Abort cause)))
+pub may_abort_user : (setting : Setting) (past : Past) (n : Name) (cause : Cause) → Started past n (λ b. IsUser b.kind) → IsOpen past n → is_ready past n ≡ false → ((session : ℕ) → UserCause past n session cause) → AllowedCall setting past (by_client (event.End n (Abort cause)))
 may_abort_user setting past n cause user is_open unready license = started_wider (λ b. IsUser b.kind) (MayEnd past 18 n (Abort cause)) (start past n) (λ b is. record {
   by_client = refl;
   is_open = is_open;

@@ -12,7 +12,9 @@ use Rattle.qc_event.specs.declared.event.Kind.{Kind}
 use Rattle.qc_event.specs.declared.event.Kind.TheVariants as kind
 use Rattle.qc_event.specs.History.{Past, Name, Begun, start, end, kind_of}
 use Rattle.qc_event.specs.Dead.{outcome_of, is_aborted, dead}
-use Rattle.qc_event.specs.Legal.{Setting, Legal, Started, IsUser}
+use Rattle.qc_event.specs.Base.{Setting}
+use Rattle.qc_event.specs.Calls.{LegalCalls}
+use Rattle.qc_event.specs.Standing.{Started, IsUser}
 use Rattle.qc_event.proofs.LastNumber.{EndsIn, ends_in}
 use Rattle.qc_event.proofs.Lineage.{alive_above, alive_not_aborted}
 use Rattle.qc_serial.specs.declared.event.SerialEvent.TheVariants.{Skip}
@@ -77,7 +79,7 @@ pub aborted_dead : (past : Past) (m x : Name) (cause : Cause) → end past m ≡
 aborted_dead past m x cause is alive = true≢false (sym (ap (λ o. is_aborted (outcome_of o)) is) ∙ alive_not_aborted past m (alive_above past m x alive))
 
 -- the abort of an open user transaction at or above the one that runs
-pub abort_upheld : (setting : Setting) (values : List ℕ) (past : Past) (of m s : Name) (cause : Cause) → of ≡ m ++ s → Started past m (λ b. IsUser b.kind) → end past m ≡ None → Legal setting (by_client (event.End m (Abort cause)) ∷ past) → Upheld setting values past of → Upheld setting values (by_client (event.End m (Abort cause)) ∷ past) of × Onward values past (by_client (event.End m (Abort cause)) ∷ past) of
+pub abort_upheld : (setting : Setting) (values : List ℕ) (past : Past) (of m s : Name) (cause : Cause) → of ≡ m ++ s → Started past m (λ b. IsUser b.kind) → end past m ≡ None → LegalCalls setting (by_client (event.End m (Abort cause)) ∷ past) → Upheld setting values past of → Upheld setting values (by_client (event.End m (Abort cause)) ∷ past) of × Onward values past (by_client (event.End m (Abort cause)) ∷ past) of
 abort_upheld setting values past of m s cause under user going legal h =
     (uphold setting values (by_client (event.End m (Abort cause))) past of legal (still_open_above (by_client (event.End m (Abort cause))) past of tt h.open_above) readings h.every, onward)
   where

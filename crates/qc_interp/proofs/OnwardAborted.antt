@@ -10,7 +10,9 @@ use Rattle.qc_event.specs.declared.event.How.{How}
 use Rattle.qc_event.specs.declared.event.How.TheVariants.{Commit, Abort}
 use Rattle.qc_event.specs.History.{Past, Name, Begun, end}
 use Rattle.qc_event.specs.Dead as state
-use Rattle.qc_event.specs.Legal.{Setting, Legal, Started, IsUser}
+use Rattle.qc_event.specs.Base.{Setting}
+use Rattle.qc_event.specs.Calls.{LegalCalls}
+use Rattle.qc_event.specs.Standing.{Started, IsUser}
 use Rattle.qc_event.proofs.OneEntry.{started_stays}
 use Rattle.qc_simlock.proofs.Stage.{end_there}
 use Rattle.qc_interp.specs.Trace.{Now, by_client, aborted, asked, above, shorter}
@@ -35,10 +37,10 @@ module _ (n : Name) (cause : Cause) (now : Now) where
       by_test true alive = alive
       by_test false alive = alive_before (by_client (event.End n (Abort cause))) now.past m alive
 
-  pub aborted_legal : (setting : Setting) → Legal setting (aborted n cause now).past → Legal setting now.past
+  pub aborted_legal : (setting : Setting) → LegalCalls setting (aborted n cause now).past → LegalCalls setting now.past
   aborted_legal setting = by_test (is_some (end now.past n))
     where
-      by_test : (b : Bool) → Legal setting (after_test b).past → Legal setting now.past
+      by_test : (b : Bool) → LegalCalls setting (after_test b).past → LegalCalls setting now.past
       by_test true legal = legal
       by_test false legal = legal.0
 
@@ -66,10 +68,10 @@ module _ (n : Name) (cause : Cause) (now : Now) where
       by_end (Some (Commit given)) is uncommitted alive = true≢false uncommitted
       by_end (Some (Abort c)) is uncommitted alive = aborted_dead now.past n x c is alive
 
-  pub aborted_upheld : (setting : Setting) (values : List ℕ) (of s : Name) → of ≡ n ++ s → Started now.past n (λ b. IsUser b.kind) → Legal setting (aborted n cause now).past → Upheld setting values now.past of → Upheld setting values (aborted n cause now).past of × Onward values now.past (aborted n cause now).past of
+  pub aborted_upheld : (setting : Setting) (values : List ℕ) (of s : Name) → of ≡ n ++ s → Started now.past n (λ b. IsUser b.kind) → LegalCalls setting (aborted n cause now).past → Upheld setting values now.past of → Upheld setting values (aborted n cause now).past of × Onward values now.past (aborted n cause now).past of
   aborted_upheld setting values of s under user legal h = by_end (end now.past n) refl legal
     where
-      by_end : (o : Option How) → end now.past n ≡ o → Legal setting (after_test (is_some o)).past → Upheld setting values (after_test (is_some o)).past of × Onward values now.past (after_test (is_some o)).past of
+      by_end : (o : Option How) → end now.past n ≡ o → LegalCalls setting (after_test (is_some o)).past → Upheld setting values (after_test (is_some o)).past of × Onward values now.past (after_test (is_some o)).past of
       by_end None is legal = abort_upheld setting values now.past of n s cause under user is legal h
       by_end (Some how) is legal = (h, λ p below alive left old. old)
 
@@ -92,7 +94,7 @@ module _ (setting : Setting) (of : Name) (k : ℕ) (now : Now) (h : Running sett
   itself : of ≡ of ++ []
   itself = sym (append-nil of)
 
-  pub asked_upheld : (values : List ℕ) (levels : ℕ) → levels < length of → Legal setting (asked of levels now).past → Upheld setting values now.past of → Upheld setting values (asked of levels now).past of × Onward values now.past (asked of levels now).past of
+  pub asked_upheld : (values : List ℕ) (levels : ℕ) → levels < length of → LegalCalls setting (asked of levels now).past → Upheld setting values now.past of → Upheld setting values (asked of levels now).past of × Onward values now.past (asked of levels now).past of
   asked_upheld values zero low legal up = aborted_upheld of (Asked of) now setting values of [] itself (h.user of [] itself h.nonroot) legal up
   asked_upheld values (suc below) low legal up =
       let high = above_is of (suc below) low in

@@ -13,12 +13,15 @@ use Rattle.qc_event.specs.declared.event.Kind.{Kind}
 use Rattle.qc_event.specs.declared.event.Kind.TheVariants as kind
 use Rattle.qc_event.specs.History.{Past, Name, Begun, start, start_in, end, is_child, kind_of}
 use Rattle.qc_event.specs.Dead.{dead}
-use Rattle.qc_event.specs.Legal.{Setting, Legal, Started, IsUser}
+use Rattle.qc_event.specs.Base.{Setting}
+use Rattle.qc_event.specs.Calls.{LegalCalls}
+use Rattle.qc_event.specs.Standing.{Started, IsUser}
+use Rattle.qc_event.proofs.LegalOrderly.{calls_lawful as lawful, calls_orderly}
 use Rattle.qc_event.proofs.Absent.{same_itself}
 use Rattle.qc_event.proofs.LastNumber.{child_last}
 use Rattle.qc_event.proofs.OneEntry.{not_some, some_or_none, start_stays, start_now}
-use Rattle.qc_event.proofs.Lawful.{lawful, ends_open, started_some}
-use Rattle.qc_event.proofs.Lineage.{parent_open}
+use Rattle.qc_event.proofs.Lawful.{ends_open, started_some}
+use Rattle.qc_event.proofs.Lineage.{above_started, parent_open}
 use Rattle.qc_serial.specs.declared.event.SerialEvent.{SerialEvent}
 use Rattle.qc_serial.specs.declared.event.SerialEvent.TheVariants.{Start, Enter, Leave}
 use Rattle.qc_simlock.specs.Walk.{added, ended, is_open_or_root, serialise, walk}
@@ -43,7 +46,7 @@ start_kind past seat c kd fresh =
     ap (λ o. option_map (λ (b : Begun). b.kind) (option_or o (start_in c seat (event.Start c kd)))) fresh
     ∙ ap (λ t. option_map (λ (b : Begun). b.kind) (if t then Some (record { seat = seat; kind = kd }) else None)) (same_itself c)
 
-pub manager_upheld : (setting : Setting) (values now_values next_values : List ℕ) (past : Past) (of : Name) (k : ℕ) (kd : Kind) (how : How) (e : SerialEvent) → (IsUser kd → ⊥) → ((did : List SerialEvent) → ended (Some kd) did (of ++ k ∷ []) how ≡ e ∷ []) → Reaches now_values next_values (e ∷ []) → start past (of ++ k ∷ []) ≡ None → is_open_or_root past of ≡ true → Legal setting (managed (of ++ k ∷ []) kd how past) → Upheld setting values past of → Reaches values now_values (serialise past of) → Managed setting values next_values past (managed (of ++ k ∷ []) kd how past) of
+pub manager_upheld : (setting : Setting) (values now_values next_values : List ℕ) (past : Past) (of : Name) (k : ℕ) (kd : Kind) (how : How) (e : SerialEvent) → (IsUser kd → ⊥) → ((did : List SerialEvent) → ended (Some kd) did (of ++ k ∷ []) how ≡ e ∷ []) → Reaches now_values next_values (e ∷ []) → start past (of ++ k ∷ []) ≡ None → is_open_or_root past of ≡ true → LegalCalls setting (managed (of ++ k ∷ []) kd how past) → Upheld setting values past of → Reaches values now_values (serialise past of) → Managed setting values next_values past (managed (of ++ k ∷ []) kd how past) of
 manager_upheld setting values now_values next_values past of k kd how e manages becomes more fresh is_open legal h here = record {
   upheld = uphold setting values ending begun of legal (still_open_above ending begun of tt begun_upheld.open_above) readings begun_upheld.every;
   here = reached;
@@ -94,7 +97,7 @@ manager_upheld setting values now_values next_values past of k kd how e manages 
 -- THE START OF A USER TRANSACTION
 
 -- what has not started has done nothing
-pub walk_fresh : (setting : Setting) (past : Past) (n : Name) → Legal setting past → 0 < length n → start past n ≡ None → walk past n ≡ []
+pub walk_fresh : (setting : Setting) (past : Past) (n : Name) → LegalCalls setting past → 0 < length n → start past n ≡ None → walk past n ≡ []
 walk_fresh setting [] n legal pos fresh = refl
 walk_fresh setting (e ∷ past) n legal pos fresh = ap₂ (λ xs ys. xs ++ ys) (walk_fresh setting past n legal.0 pos unstarted) (adds_none e.event refl)
   where
@@ -104,11 +107,11 @@ walk_fresh setting (e ∷ past) n legal pos fresh = ap₂ (λ xs ys. xs ++ ys) (
     no_child : (c : Name) → is_some (start (e ∷ past) c) ≡ true → is_child n c ≡ false
     no_child c began = false_from_ne_true (is_child n c) (λ is.
         let last = child_last n c is in
-        some_or_none (start (e ∷ past) n) (started_some _ (start (e ∷ past) n) ((lawful setting (e ∷ past) legal).under_user n last.0 pos (ap (λ m. is_some (start (e ∷ past) m)) (sym last.1) ∙ began))) fresh)
+        some_or_none (start (e ∷ past) n) (above_started (e ∷ past) n (last.0 ∷ []) (lawful setting (e ∷ past) legal) pos (ap (λ m. is_some (start (e ∷ past) m)) (sym last.1) ∙ began)) fresh)
 
     adds_none : (ev : Event) → e.event ≡ ev → added past (walk past) n ev ≡ []
     adds_none (event.Start c (kind.User session body)) is = ap (λ t. if t then Start c ∷ [] else []) (no_child c (start_now e past c (kind.User session body, is)))
-    adds_none (event.End c how) is = ap (λ t. if t then ended (kind_of past c) (walk past c) c how else []) (no_child c (start_stays e past c (ends_open setting past e c how is legal.1).started))
+    adds_none (event.End c how) is = ap (λ t. if t then ended (kind_of past c) (walk past c) c how else []) (no_child c (start_stays e past c (ends_open past e c how is (calls_orderly setting (e ∷ past) legal).1).started))
     adds_none _ is = refl
 
 -- what the start of a child does to its own order, to its parent's and to those above that
@@ -118,7 +121,7 @@ pub record BegunChild (setting : Setting) (values now_values : List ℕ) (past l
   pub parent : Reaches values now_values (serialise later of)
   pub above : (p : Name) → Below p of → serialise later p ≡ serialise past p
 
-pub child_upheld : (setting : Setting) (values now_values : List ℕ) (past : Past) (of : Name) (k number : ℕ) → end past (of ++ k ∷ []) ≡ None → walk past (of ++ k ∷ []) ≡ [] → is_open_or_root past of ≡ true → Legal setting (by_client (event.Start (of ++ k ∷ []) (kind.User 0 number)) ∷ past) → OpenAbove (by_client (event.Start (of ++ k ∷ []) (kind.User 0 number)) ∷ past) (of ++ k ∷ []) → Upheld setting values past of → Reaches values now_values (serialise past of) → BegunChild setting values now_values past (by_client (event.Start (of ++ k ∷ []) (kind.User 0 number)) ∷ past) of (of ++ k ∷ [])
+pub child_upheld : (setting : Setting) (values now_values : List ℕ) (past : Past) (of : Name) (k number : ℕ) → end past (of ++ k ∷ []) ≡ None → walk past (of ++ k ∷ []) ≡ [] → is_open_or_root past of ≡ true → LegalCalls setting (by_client (event.Start (of ++ k ∷ []) (kind.User 0 number)) ∷ past) → OpenAbove (by_client (event.Start (of ++ k ∷ []) (kind.User 0 number)) ∷ past) (of ++ k ∷ []) → Upheld setting values past of → Reaches values now_values (serialise past of) → BegunChild setting values now_values past (by_client (event.Start (of ++ k ∷ []) (kind.User 0 number)) ∷ past) of (of ++ k ∷ [])
 child_upheld setting values now_values past of k number going empty is_open legal open_above h here = record {
   upheld = uphold setting values starting past (of ++ k ∷ []) legal open_above readings h.every;
   here = inside;
@@ -161,13 +164,13 @@ pub record CommittedIn (setting : Setting) (values now_values : List ℕ) (past 
   pub parent : Reaches values now_values (serialise later q)
   pub above : (p : Name) → Below p q → serialise later p ≡ serialise past p
 
-pub parent_is_open : (setting : Setting) (past : Past) (q : Name) (j : ℕ) → Legal setting past → is_some (start past (q ++ j ∷ [])) ≡ true → end past (q ++ j ∷ []) ≡ None → dead past (q ++ j ∷ []) ≡ None → is_open_or_root past q ≡ true
+pub parent_is_open : (setting : Setting) (past : Past) (q : Name) (j : ℕ) → LegalCalls setting past → is_some (start past (q ++ j ∷ [])) ≡ true → end past (q ++ j ∷ []) ≡ None → dead past (q ++ j ∷ []) ≡ None → is_open_or_root past q ≡ true
 parent_is_open setting past [] j legal began going alive = refl
 parent_is_open setting past (x ∷ q) j legal began going alive =
     let open_one = parent_open past (x ∷ q) j (lawful setting past legal) (omega arith) began going alive in
     ap₂ (λ s o. s && is_none o) open_one.started open_one.not_ended
 
-pub commit_upheld : (setting : Setting) (values now_values : List ℕ) (past : Past) (e : Entry) (q : Name) (j : ℕ) (given : Answer) → e.event ≡ event.End (q ++ j ∷ []) (Commit given) → Started past (q ++ j ∷ []) (λ b. IsUser b.kind) → end past (q ++ j ∷ []) ≡ None → dead past (q ++ j ∷ []) ≡ None → Legal setting (e ∷ past) → Upheld setting values past (q ++ j ∷ []) → Reaches values now_values (serialise past (q ++ j ∷ [])) → CommittedIn setting values now_values past (e ∷ past) q
+pub commit_upheld : (setting : Setting) (values now_values : List ℕ) (past : Past) (e : Entry) (q : Name) (j : ℕ) (given : Answer) → e.event ≡ event.End (q ++ j ∷ []) (Commit given) → Started past (q ++ j ∷ []) (λ b. IsUser b.kind) → end past (q ++ j ∷ []) ≡ None → dead past (q ++ j ∷ []) ≡ None → LegalCalls setting (e ∷ past) → Upheld setting values past (q ++ j ∷ []) → Reaches values now_values (serialise past (q ++ j ∷ [])) → CommittedIn setting values now_values past (e ∷ past) q
 commit_upheld setting values now_values past e q j given is user going alive legal h here = record {
   every = (uphold setting values e past (q ++ j ∷ []) legal (still_open_above e past (q ++ j ∷ []) other h.open_above) readings h.every).every;
   parent = parent;

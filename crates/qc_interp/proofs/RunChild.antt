@@ -11,11 +11,15 @@ use Rattle.qc_event.specs.declared.event.Kind.{Kind}
 use Rattle.qc_event.specs.declared.event.Kind.TheVariants as kind
 use Rattle.qc_event.specs.History.{Past, Name, Begun, start, start_in, end, is_ready, is_child, children}
 use Rattle.qc_event.specs.Dead.{outcome, outcome_of, is_committed, is_aborted, dead}
-use Rattle.qc_event.specs.Legal.{Setting, Legal, Allowed, IsGoing, IsUser, Started, StandsUnder, IsAnswerOf, MayCommitManager, MayEnd, commit_by_kind}
+use Rattle.qc_event.specs.Base.{Setting}
+use Rattle.qc_event.specs.Standing.{IsGoing, IsUser, Started}
+use Rattle.qc_event.specs.Users.{StandsUnder}
+use Rattle.qc_event.specs.Calls.{LegalCalls, AllowedCall, IsAnswerOf, MayCommitManager, MayEnd, commit_by_kind}
 use Rattle.qc_event.proofs.Absent.{same_itself}
 use Rattle.qc_event.proofs.LastNumber.{is_child-last}
 use Rattle.qc_event.proofs.OneEntry.{start_step, started_stays, child_added}
-use Rattle.qc_event.proofs.Lawful.{lawful, started_some, started_wider}
+use Rattle.qc_event.proofs.Lawful.{started_some, started_wider}
+use Rattle.qc_event.proofs.LegalOrderly.{calls_lawful as lawful}
 use Rattle.qc_event.proofs.Lineage.{neither, IsFresh, fresh_child, dead_child, alive_not_aborted}
 use Rattle.qc_simlock.proofs.Above.{no_child_length}
 use Rattle.qc_interp.specs.Trace.{Now, by_client, managed, begun, returned, still_dead}
@@ -32,7 +36,7 @@ use Rattle.qc_interp.proofs.RunEnds.{was_none, ran_ended, ran_longer}
 
 -- what is known of a name that has just been started
 pub record JustBegun (setting : Setting) (n : Name) (k : Kind) (past : Past) : Type 0 where
-  pub legal : Legal setting past
+  pub legal : LegalCalls setting past
   pub begun : start past n ≡ Some (record { seat = 18; kind = k })
   pub not_ended : end past n ≡ None
   pub alive : dead past n ≡ None
@@ -40,7 +44,7 @@ pub record JustBegun (setting : Setting) (n : Name) (k : Kind) (past : Past) : T
   pub childless : children past n ≡ []
   pub open_above : (m : Name) → is_some (start past m) ≡ true → end past m ≡ None → (r : Name) × (n ≡ m ++ r)
 
-pub just_begun : (setting : Setting) (n : Name) (k : Kind) (past : Past) → Legal setting past → Allowed setting past (by_client (Start n k)) → IsFresh past n → dead past n ≡ None → ((m : Name) → is_some (start past m) ≡ true → end past m ≡ None → (r : Name) × (n ≡ m ++ r)) → JustBegun setting n k (by_client (Start n k) ∷ past)
+pub just_begun : (setting : Setting) (n : Name) (k : Kind) (past : Past) → LegalCalls setting past → AllowedCall setting past (by_client (Start n k)) → IsFresh past n → dead past n ≡ None → ((m : Name) → is_some (start past m) ≡ true → end past m ≡ None → (r : Name) × (n ≡ m ++ r)) → JustBegun setting n k (by_client (Start n k) ∷ past)
 just_begun setting n k past legal allowed fresh alive open_above = record {
   legal = (legal, allowed);
   begun = ap (λ o. option_or o (start_in n 18 (Start n k))) fresh.no_start ∙ ap (λ b. if b then Some (record { seat = 18; kind = k }) else None) (same_itself n);
@@ -107,7 +111,7 @@ child_begun setting of k of_kind now h alive stands =
     going : IsGoing now.past of
     going = is_going setting of k now h alive
 
-    allowed : Allowed setting now.past (by_client (Start (of ++ k ∷ []) of_kind))
+    allowed : AllowedCall setting now.past (by_client (Start (of ++ k ∷ []) of_kind))
     allowed = may_start_child setting now.past of k of_kind h.nonroot going (h.unready of [] (sym (append-nil of))) h.next
         (started_wider (λ b. IsUser b.kind) (λ b. StandsUnder setting b (length (of ++ k ∷ [])) of_kind) (start now.past of) stands (h.user of [] (sym (append-nil of)) h.nonroot))
 
@@ -143,7 +147,7 @@ returned_dead depth before now = by_dead now.dead refl
 -- once a child has ended, its parent goes on
 pub child_back : (setting : Setting) (of : Name) (k : ℕ) (of_kind : Kind) (before : List ℕ) (now inner : Now) → Running setting of k now → Ran setting (of ++ k ∷ []) (record now { past = by_client (Start (of ++ k ∷ []) of_kind) ∷ now.past }) inner → Running setting of (k + 1) (returned (length of) before inner)
 child_back setting of k of_kind before now inner h r = running_at setting of (k + 1) (returned (length of) before inner) whole (returned_past (length of) before inner ∙ r.is) (record {
-  legal = subst (Legal setting) r.is r.legal;
+  legal = subst (LegalCalls setting) r.is r.legal;
   fallen =
       returned_dead (length of) before inner ∙ ap (left_dead (length of)) (r.fallen ∙ ap (λ p. dead p (of ++ k ∷ [])) r.is)
       ∙ left_dead_parent whole of k;
@@ -191,7 +195,7 @@ run_manager setting of k of_kind given values now h alive manages =
     b : JustBegun setting n of_kind with_child
     b = child_begun setting of k of_kind now h alive (λ b is. manages.stands b (length (of ++ k ∷ [])) is)
 
-    allowed : Allowed setting with_child (by_client (End n (Commit given)))
+    allowed : AllowedCall setting with_child (by_client (End n (Commit given)))
     allowed = subst (λ o. MatchOption o ⊥ (MayEnd with_child 18 n (Commit given))) (sym b.begun) (manages.commits with_child n (record {
       by_client = refl;
       own_seat = refl;

@@ -6,7 +6,10 @@ use Rattle.qc_event.specs.declared.event.Event.TheVariants.{Ready, End}
 use Rattle.qc_event.specs.declared.event.How.{How}
 use Rattle.qc_event.specs.declared.event.How.TheVariants.{Commit}
 use Rattle.qc_event.specs.History.{Past, Name, IsOpen, same, start, end, is_child}
-use Rattle.qc_event.specs.Legal.{Setting, IsGoing, IsUser, Started, Allowed, MayCommitUser, MayCommitTop, MayCommitUserOrTop, open_child}
+use Rattle.qc_event.specs.Base.{Setting}
+use Rattle.qc_event.specs.Standing.{IsGoing, IsUser, Started, open_child}
+use Rattle.qc_event.specs.Users.{MayCommitUser, MayCommitTop, MayCommitUserOrTop}
+use Rattle.qc_event.specs.Calls.{AllowedCall}
 use Rattle.qc_event.proofs.Absent.{same_itself}
 use Rattle.qc_event.proofs.OneEntry.{start_stays, started_stays}
 use Rattle.qc_simlock.proofs.OwnOrder.{child_longer}
@@ -41,7 +44,7 @@ module _ (setting : Setting) (of : Name) (k : ℕ) (now : Now) (h : Running sett
   abbrev readied : Now
   readied = record now { past = by_client (Ready of) ∷ now.past }
 
-  may_be_ready : length of ≡ 1 → Allowed setting now.past (by_client (Ready of))
+  may_be_ready : length of ≡ 1 → AllowedCall setting now.past (by_client (Ready of))
   may_be_ready top = record {
     by_client = refl;
     is_top = top;

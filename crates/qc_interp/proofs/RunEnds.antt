@@ -9,7 +9,10 @@ use Rattle.qc_event.specs.declared.event.How.{How}
 use Rattle.qc_event.specs.declared.event.How.TheVariants.{Commit, Abort}
 use Rattle.qc_event.specs.History.{Past, Name, same, start, end, end_in, children}
 use Rattle.qc_event.specs.Dead.{outcome_of, is_committed, dead}
-use Rattle.qc_event.specs.Legal.{Setting, Legal, Allowed, IsUser, Started, UserCause}
+use Rattle.qc_event.specs.Base.{Setting}
+use Rattle.qc_event.specs.Standing.{IsUser, Started}
+use Rattle.qc_event.specs.Users.{UserCause}
+use Rattle.qc_event.specs.Calls.{LegalCalls, AllowedCall}
 use Rattle.qc_event.proofs.Absent.{same_itself}
 use Rattle.qc_event.proofs.OneEntry.{started_stays, some_or_none}
 use Rattle.qc_event.proofs.Lawful.{started_some}
@@ -53,7 +56,7 @@ above_ended past of m ended going over = elim (begins_below of m over.0 over.1) 
 ]
 
 -- a transaction ends, none below which is open
-pub ran_ended : (setting : Setting) (of : Name) (seat : ℕ) (how : How) (fallen : Option Name) (now : Now) → Legal setting now.past → Allowed setting now.past (record { seat = seat; event = End of how }) → ((n : Name) → is_some (start now.past n) ≡ true → end now.past n ≡ None → (r : Name) × (of ≡ n ++ r)) → fallen ≡ dead (record { seat = seat; event = End of how } ∷ now.past) of → Ran setting of now (record { past = record { seat = seat; event = End of how } ∷ now.past; values = now.values; dead = fallen })
+pub ran_ended : (setting : Setting) (of : Name) (seat : ℕ) (how : How) (fallen : Option Name) (now : Now) → LegalCalls setting now.past → AllowedCall setting now.past (record { seat = seat; event = End of how }) → ((n : Name) → is_some (start now.past n) ≡ true → end now.past n ≡ None → (r : Name) × (of ≡ n ++ r)) → fallen ≡ dead (record { seat = seat; event = End of how } ∷ now.past) of → Ran setting of now (record { past = record { seat = seat; event = End of how } ∷ now.past; values = now.values; dead = fallen })
 ran_ended setting of seat how fallen now legal allowed open_above falls = record {
   legal = (legal, allowed);
   fallen = falls;

@@ -14,12 +14,15 @@ use Rattle.qc_event.specs.declared.event.How.TheVariants.{Commit, Abort}
 use Rattle.qc_event.specs.declared.event.Kind.TheVariants as kind
 use Rattle.qc_event.specs.History.{Past, Name, same, start, end}
 use Rattle.qc_event.specs.Dead.{outcome, outcome_of, is_committed, is_aborted, dead}
-use Rattle.qc_event.specs.Legal.{Setting, Legal, Allowed, IsAbort, IsOrphanOf}
+use Rattle.qc_event.specs.Base.{Setting}
+use Rattle.qc_event.specs.Standing.{IsAbort, IsOrphanOf}
+use Rattle.qc_event.specs.Calls.{LegalCalls, AllowedCall}
 use Rattle.qc_script.specs.Plan.{Plan, PlanWithin}
 use Rattle.qc_interp.specs.Trace.{Now, by_client, managed, after_read, after_set, begun, aborted, asked, committed, returned, above, run, unless_dead, top_of}
 use Rattle.qc_event.proofs.Absent.{same_is, both_none, if_not}
 use Rattle.qc_event.proofs.OneEntry.{some_or_none}
-use Rattle.qc_event.proofs.Lawful.{Lawful, lawful}
+use Rattle.qc_event.proofs.Lawful.{Lawful}
+use Rattle.qc_event.proofs.LegalOrderly.{calls_lawful as lawful}
 use Rattle.qc_event.proofs.Lineage.{IsFresh, fresh_below, dead_child}
 use Rattle.qc_event.proofs.LastNumber.{length_last}
 use Rattle.qc_interp.proofs.Running.{Below, Running, Ran, Resting}
@@ -192,7 +195,7 @@ rest_begun setting i number now h few =
     living : dead now.past (top_of i) ≡ None
     living = dead_child now.past [] (4294967297 + i) (root_alive now.past law) ∙ ap (λ o. if is_aborted (outcome_of o) then Some (top_of i) else None) fresh.no_end
 
-    allowed : Allowed setting now.past (by_client (Start (top_of i) (kind.User 0 number)))
+    allowed : AllowedCall setting now.past (by_client (Start (top_of i) (kind.User 0 number)))
     allowed = record { by_client = refl; user = tt; epoch = epoch_one i few; place = place_some i few; fresh = fresh.no_start }
 
     root : Over now.past []
@@ -204,7 +207,7 @@ rest_begun setting i number now h few =
 
 pub rest_back : (setting : Setting) (i number : ℕ) (before : List ℕ) (now inner : Now) → Resting setting i now → Ran setting (top_of i) (begun (top_of i) number now) inner → Resting setting (i + 1) (returned 0 before inner)
 rest_back setting i number before now inner h r = record {
-  legal = subst (Legal setting) (sym (returned_past 0 before inner)) r.legal;
+  legal = subst (LegalCalls setting) (sym (returned_past 0 before inner)) r.legal;
   fallen = returned_dead 0 before inner ∙ ap (left_dead 0) r.fallen ∙ left_dead_parent inner.past [] (4294967297 + i) ∙ root_alive inner.past law;
   all_ended = subst (λ p. (n : Name) → is_some (start p n) ≡ true → is_some (end p n) ≡ true) (sym (returned_past 0 before inner)) (λ n began. ended n began (end inner.past n) refl);
   unstarted = subst (λ p. (x : ℕ) → 4294967297 + (i + 1) ≤ x → start p (x ∷ []) ≡ None) (sym is_whole) unstarted;

@@ -6,7 +6,9 @@ use Rattle.qc_event.specs.declared.event.Event.TheVariants as event
 use Rattle.qc_event.specs.declared.event.How.TheVariants.{Commit, Abort}
 use Rattle.qc_event.specs.Dead as state
 use Rattle.qc_event.specs.History.{Past, Name, start, end, is_ready, children}
-use Rattle.qc_event.specs.Legal.{Setting, Legal, Started, IsUser}
+use Rattle.qc_event.specs.Base.{Setting}
+use Rattle.qc_event.specs.Standing.{Started, IsUser}
+use Rattle.qc_event.specs.Calls.{LegalCalls}
 use Rattle.qc_interp.specs.Trace.{Now}
 
 -- the second name is strictly below the first
@@ -28,7 +30,7 @@ AllInside of (e ∷ past) = Inside of e.event × AllInside of past
 
 -- Transaction `of` has started and is the one that runs; its next child has number k.
 pub record Running (setting : Setting) (of : Name) (k : ℕ) (now : Now) : Type 0 where
-  pub legal : Legal setting now.past
+  pub legal : LegalCalls setting now.past
   pub fallen : now.dead ≡ state.dead now.past of
   pub nonroot : 0 < length of
   pub user : (p r : Name) → of ≡ p ++ r → 0 < length p → Started now.past p (λ b. IsUser b.kind)
@@ -39,7 +41,7 @@ pub record Running (setting : Setting) (of : Name) (k : ℕ) (now : Now) : Type 
 
 -- What transaction `of` leaves that ran from old on: it has ended, as all below it have.
 pub record Ran (setting : Setting) (of : Name) (old new : Now) : Type 0 where
-  pub legal : Legal setting new.past
+  pub legal : LegalCalls setting new.past
   pub fallen : new.dead ≡ state.dead new.past of
   pub later : Past
   pub is : new.past ≡ later ++ old.past
@@ -49,7 +51,7 @@ pub record Ran (setting : Setting) (of : Name) (old new : Now) : Type 0 where
 
 -- Between two tops, the next of which is top i: every transaction has ended.
 pub record Resting (setting : Setting) (i : ℕ) (now : Now) : Type 0 where
-  pub legal : Legal setting now.past
+  pub legal : LegalCalls setting now.past
   pub fallen : now.dead ≡ None
   pub all_ended : (n : Name) → is_some (start now.past n) ≡ true → is_some (end now.past n) ≡ true
   pub unstarted : (x : ℕ) → 4294967297 + i ≤ x → start now.past (x ∷ []) ≡ None

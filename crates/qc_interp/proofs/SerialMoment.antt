@@ -3,10 +3,12 @@ use Rattle.std.proofs.Common.{◌≡◌, ℕ, Bool, true, false, List, [], ◌�
 use Rattle.std.specs.Prelude.{None}
 use Rattle.qc_event.specs.History.{Past, Name, start}
 use Rattle.qc_event.specs.Dead.{dead}
-use Rattle.qc_event.specs.Legal.{Setting, Legal}
+use Rattle.qc_event.specs.Base.{Setting}
+use Rattle.qc_event.specs.Calls.{LegalCalls}
+use Rattle.qc_event.proofs.LegalOrderly.{calls_lawful as lawful, calls_orderly}
 use Rattle.qc_event.proofs.LastNumber.{by_last}
-use Rattle.qc_event.proofs.Lawful.{Lawful, lawful, started_some}
-use Rattle.qc_event.proofs.Lineage.{dead_parent}
+use Rattle.qc_event.proofs.Lawful.{Lawful}
+use Rattle.qc_event.proofs.Lineage.{above_user, dead_parent}
 use Rattle.qc_serial.specs.Shape.{Reads}
 use Rattle.qc_simlock.specs.Walk.{is_open_or_root, serialise}
 use Rattle.qc_simlock.specs.Serial.{IsUserOf, IsSerial}
@@ -15,9 +17,9 @@ use Rattle.qc_simlock.proofs.SerialOrder.{serial_for}
 
 parent_user : (past : Past) (p : Name) (j : ℕ) → Lawful past → IsUserOf past (p ++ j ∷ []) → IsUserOf past p
 parent_user past [] j law user = tt
-parent_user past (x ∷ p) j law user = law.under_user (x ∷ p) j (omega arith) (started_some _ (start past ((x ∷ p) ++ j ∷ [])) user)
+parent_user past (x ∷ p) j law user = above_user past (x ∷ p) (j ∷ []) law (omega arith) user
 
-module _ (setting : Setting) (values : List ℕ) (past : Past) (legal : Legal setting past) where
+module _ (setting : Setting) (values : List ℕ) (past : Past) (legal : LegalCalls setting past) where
   -- the order of a live user transaction reads what was written last
   abbrev Good : Name → Type 0
   Good t = IsUserOf past t → dead past t ≡ None → Reads values (serialise past t)
@@ -31,5 +33,5 @@ module _ (setting : Setting) (values : List ℕ) (past : Past) (legal : Legal se
 
   pub serial_moment : ((t : Name) → IsUserOf past t → is_open_or_root past t ≡ true → dead past t ≡ None → Reads values (serialise past t)) → IsSerial values past
   serial_moment given t user alive =
-      serial_for setting values past t legal user alive
+      serial_for values past t (calls_orderly setting past legal) user alive
       (by_last Good (λ user alive. given [] user refl alive) (one_lower given) t user alive)

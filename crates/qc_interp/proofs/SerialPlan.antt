@@ -10,9 +10,12 @@ use Rattle.qc_event.specs.declared.event.Kind.{Kind}
 use Rattle.qc_event.specs.declared.event.Kind.TheVariants as kind
 use Rattle.qc_event.specs.Dead as state
 use Rattle.qc_event.specs.History.{Name, start}
-use Rattle.qc_event.specs.Legal.{Setting, Legal, IsUser}
+use Rattle.qc_event.specs.Base.{Setting}
+use Rattle.qc_event.specs.Calls.{LegalCalls}
+use Rattle.qc_event.specs.Standing.{IsUser}
+use Rattle.qc_event.proofs.LegalOrderly.{calls_lawful as lawful}
 use Rattle.qc_event.proofs.LastNumber.{length_last}
-use Rattle.qc_event.proofs.Lawful.{lawful, started_some}
+use Rattle.qc_event.proofs.Lawful.{started_some}
 use Rattle.qc_event.proofs.Lineage.{IsFresh, fresh_child}
 use Rattle.qc_script.specs.Plan.{Plan, PlanWithin}
 use Rattle.qc_serial.specs.declared.event.SerialEvent.{SerialEvent}
@@ -88,7 +91,7 @@ module _ (setting : Setting) (values : List ℕ) where
         is_open = open_next now.past q j ∙ ap₂ (λ s o. s && is_none o) going.is_open.started going.is_open.not_ended;
       }
 
-  manager_left : (q : Name) (j k : ℕ) (kd : Kind) (how : How) (e : SerialEvent) (new_values : List ℕ) (now : Now) → (IsUser kd → ⊥) → ((did : List SerialEvent) → ended (Some kd) did ((q ++ j ∷ []) ++ k ∷ []) how ≡ e ∷ []) → Reaches now.values new_values (e ∷ []) → Runs q j k now → now.dead ≡ None → Legal setting (managed ((q ++ j ∷ []) ++ k ∷ []) kd how now.past) → Upheld setting values now.past (q ++ j ∷ []) → Here (q ++ j ∷ []) now → Managed setting values new_values now.past (managed ((q ++ j ∷ []) ++ k ∷ []) kd how now.past) (q ++ j ∷ [])
+  manager_left : (q : Name) (j k : ℕ) (kd : Kind) (how : How) (e : SerialEvent) (new_values : List ℕ) (now : Now) → (IsUser kd → ⊥) → ((did : List SerialEvent) → ended (Some kd) did ((q ++ j ∷ []) ++ k ∷ []) how ≡ e ∷ []) → Reaches now.values new_values (e ∷ []) → Runs q j k now → now.dead ≡ None → LegalCalls setting (managed ((q ++ j ∷ []) ++ k ∷ []) kd how now.past) → Upheld setting values now.past (q ++ j ∷ []) → Here (q ++ j ∷ []) now → Managed setting values new_values now.past (managed ((q ++ j ∷ []) ++ k ∷ []) kd how now.past) (q ++ j ∷ [])
   manager_left q j k kd how e new_values now manages becomes more h alive legal up here =
       let next = next_child q j k now h alive in
       manager_upheld setting values now.values new_values now.past (q ++ j ∷ []) k kd how e manages becomes more next.fresh.no_start next.is_open legal up here

@@ -9,7 +9,9 @@ use Rattle.qc_event.specs.declared.event.How.{How}
 use Rattle.qc_event.specs.declared.event.How.TheVariants.{Commit}
 use Rattle.qc_event.specs.Dead as state
 use Rattle.qc_event.specs.History.{Past, Name, end}
-use Rattle.qc_event.specs.Legal.{Setting, Legal, Started, IsUser, IsGoing}
+use Rattle.qc_event.specs.Base.{Setting}
+use Rattle.qc_event.specs.Calls.{LegalCalls}
+use Rattle.qc_event.specs.Standing.{Started, IsUser, IsGoing}
 use Rattle.qc_event.proofs.OneEntry.{started_stays}
 use Rattle.qc_simlock.specs.Walk.{serialise}
 use Rattle.qc_simlock.proofs.OrderSteps.{serialise_other}
@@ -60,7 +62,7 @@ ran_alive setting of old new r p alive = alive_earlier r.later old.past p (sym (
 
 -- COMMITS
 
-left_end : (setting : Setting) (values : List ℕ) (q : Name) (j : ℕ) (e : Entry) (now : Now) → e.event ≡ event.End (q ++ j ∷ []) (Commit Nothing) → Started now.past (q ++ j ∷ []) (λ b. IsUser b.kind) → end now.past (q ++ j ∷ []) ≡ None → state.dead now.past (q ++ j ∷ []) ≡ None → now.dead ≡ None → Legal setting (e ∷ now.past) → Upheld setting values now.past (q ++ j ∷ []) → Reaches values now.values (serialise now.past (q ++ j ∷ [])) → Left setting values q now (record now { past = e ∷ now.past })
+left_end : (setting : Setting) (values : List ℕ) (q : Name) (j : ℕ) (e : Entry) (now : Now) → e.event ≡ event.End (q ++ j ∷ []) (Commit Nothing) → Started now.past (q ++ j ∷ []) (λ b. IsUser b.kind) → end now.past (q ++ j ∷ []) ≡ None → state.dead now.past (q ++ j ∷ []) ≡ None → now.dead ≡ None → LegalCalls setting (e ∷ now.past) → Upheld setting values now.past (q ++ j ∷ []) → Reaches values now.values (serialise now.past (q ++ j ∷ [])) → Left setting values q now (record now { past = e ∷ now.past })
 left_end setting values q j e now is user going alive knows legal up here =
     let c : CommittedIn setting values now.values now.past (e ∷ now.past) q = commit_upheld setting values now.values now.past e q j Nothing is user going alive legal up here in
     record {
@@ -78,7 +80,7 @@ module _ (setting : Setting) (values : List ℕ) where
   itself n = sym (append-nil n)
 
   -- below a top
-  left_inner : (q : Name) (j k : ℕ) (now : Now) → Legal setting (by_client (event.End (q ++ j ∷ []) (Commit Nothing)) ∷ now.past) → Running setting (q ++ j ∷ []) k now → now.dead ≡ None → Upheld setting values now.past (q ++ j ∷ []) → Reaches values now.values (serialise now.past (q ++ j ∷ [])) → Left setting values q now (record now { past = by_client (event.End (q ++ j ∷ []) (Commit Nothing)) ∷ now.past })
+  left_inner : (q : Name) (j k : ℕ) (now : Now) → LegalCalls setting (by_client (event.End (q ++ j ∷ []) (Commit Nothing)) ∷ now.past) → Running setting (q ++ j ∷ []) k now → now.dead ≡ None → Upheld setting values now.past (q ++ j ∷ []) → Reaches values now.values (serialise now.past (q ++ j ∷ [])) → Left setting values q now (record now { past = by_client (event.End (q ++ j ∷ []) (Commit Nothing)) ∷ now.past })
   left_inner q j k now legal h alive up here =
       let going = is_going setting (q ++ j ∷ []) k now h alive in
       left_end setting values q j (by_client (event.End (q ++ j ∷ []) (Commit Nothing))) now refl (h.user (q ++ j ∷ []) [] (itself (q ++ j ∷ [])) h.nonroot) going.is_open.not_ended going.alive alive legal up here
@@ -107,7 +109,7 @@ module _ (setting : Setting) (values : List ℕ) where
       going : IsGoing now.past (j ∷ [])
       going = is_going setting (j ∷ []) k now h alive
 
-      legal : Legal setting (by_ledger (event.End (j ∷ []) (Commit Nothing)) ∷ mid.past)
+      legal : LegalCalls setting (by_ledger (event.End (j ∷ []) (Commit Nothing)) ∷ mid.past)
       legal = (ran_commit setting (j ∷ []) k now h alive).legal
 
       readings : Readings values mid.past (j ∷ [])

@@ -5,9 +5,11 @@ use Rattle.std.specs.Prelude.{None, Some, if◌then◌else◌}
 use Rattle.std.proofs.lemmas.Bool.{cases_lt}
 use Rattle.qc_event.specs.Dead as state
 use Rattle.qc_event.specs.History.{Past, limit, start, end}
-use Rattle.qc_event.specs.Legal.{Setting, Legal}
+use Rattle.qc_event.specs.Base.{Setting}
+use Rattle.qc_event.specs.Calls.{LegalCalls}
+use Rattle.qc_event.proofs.LegalOrderly.{calls_lawful as lawful}
 use Rattle.qc_event.proofs.OneEntry.{not_some, some_or_none}
-use Rattle.qc_event.proofs.Lawful.{lawful, started_some}
+use Rattle.qc_event.proofs.Lawful.{started_some}
 use Rattle.qc_script.specs.Plan.{Numbered, TopsWithin, PlanWithin}
 use Rattle.qc_serial.specs.Machine.{begin}
 use Rattle.qc_serial.specs.Shape.{after}
@@ -25,7 +27,7 @@ use Rattle.qc_interp.proofs.SerialPlan.{Back, back_upheld, run_left}
 use Rattle.qc_interp.proofs.Fronts.{front_of_front, tops_grow, top_adds}
 
 -- nothing aborts the root
-root_alive : (setting : Setting) (past : Past) → Legal setting past → state.dead past [] ≡ None
+root_alive : (setting : Setting) (past : Past) → LegalCalls setting past → state.dead past [] ≡ None
 root_alive setting past legal = ap (λ o. if state.is_aborted (state.outcome_of o) then Some [] else None) (lawful setting past legal).no_root_end
 
 module _ (setting : Setting) (values : List ℕ) (same_length : length values ≡ length setting.firsts) where
@@ -108,7 +110,7 @@ module _ (setting : Setting) (values : List ℕ) (same_length : length values �
   whole tops within = after_tops 0 tops (record { past = []; values = values; dead = None }) within at_begin
 
 -- each front of the history that a script makes is legal and has its serial orders
-pub trace_serial : (setting : Setting) (values : List ℕ) (tops : List Numbered) → TopsWithin (length setting.firsts) tops → length values ≡ length setting.firsts → (front : Past) → IsFront front (trace values tops).past → length front ≤ limit → Legal setting front × IsSerial values front
+pub trace_serial : (setting : Setting) (values : List ℕ) (tops : List Numbered) → TopsWithin (length setting.firsts) tops → length values ≡ length setting.firsts → (front : Past) → IsFront front (trace values tops).past → length front ≤ limit → LegalCalls setting front × IsSerial values front
 trace_serial setting values tops within same_length = (whole setting values same_length tops within).fronts
 
 -- the values after it are those of the serial machine

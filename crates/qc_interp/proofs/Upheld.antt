@@ -11,7 +11,9 @@ use Rattle.qc_event.specs.declared.event.How.{How}
 use Rattle.qc_event.specs.declared.event.Kind.{Kind}
 use Rattle.qc_event.specs.History.{Past, Name, Begun, same, start, start_in, end}
 use Rattle.qc_event.specs.Dead.{outcome, outcome_of, is_aborted, dead}
-use Rattle.qc_event.specs.Legal.{Setting, Legal, Started, IsUser}
+use Rattle.qc_event.specs.Base.{Setting}
+use Rattle.qc_event.specs.Calls.{LegalCalls}
+use Rattle.qc_event.specs.Standing.{Started, IsUser}
 use Rattle.qc_event.proofs.LastNumber.{by_last}
 use Rattle.qc_event.proofs.Lineage.{dead_last, dead_parent, alive_not_aborted}
 use Rattle.qc_serial.specs.Shape.{Reads}
@@ -84,7 +86,7 @@ every_here P [] h = h
 every_here P (e ∷ past) h = h.0
 
 abbrev pub Sound : Setting → List ℕ → Past → Type 0
-Sound setting values past = Legal setting past × IsSerial values past
+Sound setting values past = LegalCalls setting past × IsSerial values past
 
 -- each open user transaction is this one or stands above it
 abbrev pub OpenAbove : Past → Name → Type 0
@@ -100,7 +102,7 @@ pub record Upheld (setting : Setting) (values : List ℕ) (past : Past) (of : Na
   pub readings : Readings values past of
   pub every : Every (Sound setting values) past
 
-pub sound_now : (setting : Setting) (values : List ℕ) (past : Past) (of : Name) → Legal setting past → OpenAbove past of → Readings values past of → Sound setting values past
+pub sound_now : (setting : Setting) (values : List ℕ) (past : Past) (of : Name) → LegalCalls setting past → OpenAbove past of → Readings values past of → Sound setting values past
 sound_now setting values past of legal open_above readings = (legal, serial_moment setting values past legal reads)
   where
     none : (o : Option How) → is_none o ≡ true → o ≡ None
@@ -113,7 +115,7 @@ sound_now setting values past of legal open_above readings = (legal, serial_mome
         let above = open_above (x ∷ t) user (none (end past (x ∷ t)) (and_parts _ _ is_open).1) in
         (readings (x ∷ t) above.0 above.1 alive).1.reads
 
-pub uphold : (setting : Setting) (values : List ℕ) (e : Entry) (past : Past) (of : Name) → Legal setting (e ∷ past) → OpenAbove (e ∷ past) of → Readings values (e ∷ past) of → Every (Sound setting values) past → Upheld setting values (e ∷ past) of
+pub uphold : (setting : Setting) (values : List ℕ) (e : Entry) (past : Past) (of : Name) → LegalCalls setting (e ∷ past) → OpenAbove (e ∷ past) of → Readings values (e ∷ past) of → Every (Sound setting values) past → Upheld setting values (e ∷ past) of
 uphold setting values e past of legal open_above readings every = record {
   open_above = open_above;
   readings = readings;

@@ -12,7 +12,7 @@ use Rattle.qc_event.specs.declared.event.How.TheVariants.{Commit, Abort}
 use Rattle.qc_event.specs.declared.event.Kind.TheVariants as kind
 use Rattle.qc_event.specs.History.{Past, Name, same, every, end, is_ready, children, kind_of}
 use Rattle.qc_event.specs.Dead.{outcome, is_committed}
-use Rattle.qc_event.specs.Legal.{IsOrphanOf}
+use Rattle.qc_event.specs.Standing.{IsOrphanOf}
 use Rattle.qc_script.specs.Plan.{Plan, Numbered}
 use Rattle.qc_interp.specs.Trace.{above}
 

@@ -11,7 +11,8 @@ use Rattle.qc_event.specs.declared.table.Row.{Row}
 use Rattle.qc_event.specs.declared.table.Table.{Table}
 use Rattle.qc_config.specs.declared.tuple.Tuple.{Tuple}
 use Rattle.qc_event.specs.History.{Past, limit}
-use Rattle.qc_event.specs.Legal.{Setting, Legal, setting_of}
+use Rattle.qc_event.specs.Base.{Setting, setting_of}
+use Rattle.qc_event.specs.Calls.{LegalCalls}
 use Rattle.qc_script.specs.Plan.{Numbered, ScriptPlan, TopsWithin}
 use Rattle.qc_interp.specs.Follows.{FollowsTops}
 use Rattle.qc_script.specs.Reading.{IsProper}
@@ -58,10 +59,10 @@ within s proper = subst (λ n. TopsWithin n s.tops) (sym (firsts_length s.table 
 valued : (s : ScriptPlan) → IsProper s → length (starts_of s.table.records) ≡ length (setting s).firsts
 valued s proper = length_map (λ (r : Row). r.start) s.table.records ∙ sym (firsts_length s.table proper.one_copy)
 
-moment : (s : ScriptPlan) (past : Past) → IsProper s → IsFront past (whole s) → length past ≤ limit → Legal (setting s) past × IsSerial (starts_of s.table.records) past
+moment : (s : ScriptPlan) (past : Past) → IsProper s → IsFront past (whole s) → length past ≤ limit → LegalCalls (setting s) past × IsSerial (starts_of s.table.records) past
 moment s past proper front room = trace_serial (setting s) (starts_of s.table.records) s.tops (within s proper) (valued s proper) past front room
 
-pub front_legal : (s : ScriptPlan) (past : Past) → IsProper s → IsFront past (whole s) → length past ≤ limit → Legal (setting_of (base_of s.table)) past
+pub front_legal : (s : ScriptPlan) (past : Past) → IsProper s → IsFront past (whole s) → length past ≤ limit → LegalCalls (setting_of (base_of s.table)) past
 front_legal s past proper front room = (moment s past proper front room).0
 
 shorter : {a b c : ℕ} → a ≤ b → b ≤ c → a ≤ c

@@ -2,7 +2,8 @@
 ghost use Rattle.std.specs.Prelude.{ℕ, List, ⊤, ◌≡◌, ◌≢◌, ◌≤◌, ◌↔◌, [], false, true, length, map, reverse, string_bytes, Option, None, Some, IfSome, IfOk};
 ghost use Rattle.qc_event.specs.Base.{start_values};
 ghost use Rattle.qc_event.specs.History.{limit};
-ghost use Rattle.qc_event.specs.Legal.{Legal, setting_of};
+ghost use Rattle.qc_event.specs.Base.{setting_of};
+ghost use Rattle.qc_event.specs.Calls.{LegalCalls};
 ghost use Rattle.qc_script.specs.Plan.{ScriptPlan};
 ghost use Rattle.qc_script.specs.Steps.{plan_of_script};
 ghost use Rattle.qc_run.specs.FaultLine.{fault_line};
@@ -139,7 +140,7 @@ fn proceed<K: Sink>(
     requires proper { IsProper (plan_of_script script.now) }
     requires base { start ≡ terms.base_of script.now.table }
     requires session { session ≡ record { past = []; values = starts_of script.now.table.records; dead = None } }
-    ensures legal_history { Legal (setting_of result.start) (reverse result.trail.items) }
+    ensures legal_history { LegalCalls (setting_of result.start) (reverse result.trail.items) }
     ensures serial_order { IsSerialThroughout (start_values result.start) result.trail.items }
     ensures start { result.start ≡ terms.base_of script.now.table }
     ensures follows { terms.RanToEnd result.status
@@ -170,7 +171,7 @@ fn proceed<K: Sink>(
 // Runs a proper script, and reports it.
 fn perform<K: Sink>(alloc: Global, script: &Script, sink: &mut K) -> Ran
     requires { IsProper (plan_of_script script.now) }
-    ensures legal_history { Legal (setting_of result.start) (reverse result.trail.items) }
+    ensures legal_history { LegalCalls (setting_of result.start) (reverse result.trail.items) }
     ensures serial_order { IsSerialThroughout (start_values result.start) result.trail.items }
     ensures start { terms.ReadIt result.status → result.start ≡ terms.base_of script.now.table }
     ensures follows { terms.RanToEnd result.status
@@ -210,7 +211,7 @@ fn refuse<K: Sink>(alloc: Global, status: Status, sink: &mut K) -> Ran
 
 // Runs the script that the bytes are, or refuses them.
 fn over<K: Sink>(alloc: Global, bytes: &[u8], sink: &mut K) -> Ran
-    ensures legal_history { Legal (setting_of result.start) (reverse result.trail.items) }
+    ensures legal_history { LegalCalls (setting_of result.start) (reverse result.trail.items) }
     ensures serial_order { IsSerialThroughout (start_values result.start) result.trail.items }
     ensures nothing_begun { terms.BeganNothing result.status
         → (result.trail.items ≡ []) × (result.start ≡ []) }
@@ -239,7 +240,7 @@ fn over<K: Sink>(alloc: Global, bytes: &[u8], sink: &mut K) -> Ran
 
 // Does what the words say.
 fn answer<S: Source, K: Sink>(alloc: Global, words: &[String], source: &mut S, sink: &mut K) -> Ran
-    ensures legal_history { Legal (setting_of result.start) (reverse result.trail.items) }
+    ensures legal_history { LegalCalls (setting_of result.start) (reverse result.trail.items) }
     ensures serial_order { IsSerialThroughout (start_values result.start) result.trail.items }
     ensures nothing_begun { terms.BeganNothing result.status
         → (result.trail.items ≡ []) × (result.start ≡ []) }
@@ -288,7 +289,7 @@ fn answer<S: Source, K: Sink>(alloc: Global, words: &[String], source: &mut S, s
 /// answered at any time; it leaves the sink as it was.
 pub fn run<S: Source, K: Sink>(alloc: Global, words: &[String], source: &mut S, sink: &mut K) -> Ran
     // The history is legal from its start, and empty where nothing was begun.
-    ensures legal_history { Legal (setting_of result.start) (reverse result.trail.items) }
+    ensures legal_history { LegalCalls (setting_of result.start) (reverse result.trail.items) }
     ensures nothing_begun { terms.BeganNothing result.status
         → (result.trail.items ≡ []) × (result.start ≡ []) }
 

@@ -1,4 +1,4 @@
--- What the next entry of a legal history adds to a walk keeps to the machine's stack.
+-- What the next entry of an orderly history adds to a walk keeps to the machine's stack.
 use Rattle.std.proofs.Common.{◌≡◌, ℕ, ◌+◌, ◌<◌, Bool, true, false, [], ◌∷◌, ◌++◌, length, refl, sym, ap, ◌∙◌, subst, arith}
 use Rattle.std.specs.Prelude.{Option, None, Some, is_some, if◌then◌else◌}
 use Rattle.qc_names.specs.Name as name
@@ -20,7 +20,7 @@ use Rattle.qc_serial.proofs.Steps.{waiting, begins, waits}
 use Rattle.qc_event.specs.History.{Past, Name, start, end, is_child, kind_of, children, start_in, end_in}
 use Rattle.qc_event.specs.declared.event.Cause.{Cause}
 use Rattle.qc_event.specs.Dead.{outcome_of, is_committed}
-use Rattle.qc_event.specs.Legal.{Setting, Starts, MayHappen}
+use Rattle.qc_event.proofs.Orderly.{Begins, KeepsOrder}
 use Rattle.qc_event.proofs.Absent.{if_not}
 use Rattle.qc_event.proofs.LastNumber.{length_last}
 use Rattle.qc_event.proofs.OneEntry.{some_or_none, not_some, start_stays}
@@ -37,13 +37,13 @@ pub record IsNew (past : Past) (c : Name) : Type 0 where
   pub no_start : start past c ≡ None
   pub no_end : end past c ≡ None
 
-starts_new : (setting : Setting) (past : Past) (seat : ℕ) (c : Name) (k : Kind) → Lawful past → Starts setting past seat c k → IsNew past c
-starts_new setting past seat [] k law may = absurd may
-starts_new setting past seat (x ∷ []) k law may = record {
+starts_new : (past : Past) (c : Name) (k : Kind) → Lawful past → Begins past c k → IsNew past c
+starts_new past [] k law may = absurd may
+starts_new past (x ∷ []) k law may = record {
   no_start = may.fresh;
   no_end = not_some (end past (x ∷ [])) (λ h. some_or_none (start past (x ∷ [])) (law.end_has_start (x ∷ []) h) may.fresh);
 }
-starts_new setting past seat (x ∷ y ∷ r) k law may =
+starts_new past (x ∷ y ∷ r) k law may =
     let pos : 0 < length (name.front (x ∷ y ∷ r)) = omega (arith, ap length may.next_child, length_last (name.front (x ∷ y ∷ r)) (length (children past (name.front (x ∷ y ∷ r))) + 1)) in
     let fresh = subst (IsFresh past) (sym may.next_child) (fresh_child past (name.front (x ∷ y ∷ r)) (length (children past (name.front (x ∷ y ∷ r))) + 1) [] law pos (omega arith)) in
     record { no_start = fresh.no_start; no_end = fresh.no_end }
@@ -155,18 +155,18 @@ module _ (past : Past) (n : Name) (m : State) (on_top : top m.stack ≡ Some n) 
 other_entry : (past : Past) (e : Entry) (n : Name) (m : State) → ((x : Name) → start_in x e.seat e.event ≡ None) → ((x : Name) → end_in x e.event ≡ None) → Walked past n m (walk past n) → Walked (e ∷ past) n m (walk past n ++ [])
 other_entry past e n m no_start no_end before = stays past (e ∷ past) n m (walk past n) (open_before e past) (λ j. same_stage e past (n ++ j ∷ []) (no_start (n ++ j ∷ [])) (no_end (n ++ j ∷ []))) before
 
-pub next_entry : (setting : Setting) (past : Past) (seat : ℕ) (ev : Event) (n : Name) (m : State) → Lawful past → Lawful (record { seat = seat; event = ev } ∷ past) → MayHappen setting past seat ev → top m.stack ≡ Some n → Walked past n m (walk past n) → ((c : Name) (s : State) → Clean c s → Walked past c s (walk past c)) → Walked (record { seat = seat; event = ev } ∷ past) n m (walk past n ++ added past (walk past) n ev)
-next_entry setting past seat (event.Start c (kind.User session body)) n m law later may on_top before walks =
-    user_start past n m on_top before seat c session body (starts_new setting past seat c (kind.User session body) law may) (is_child n c) refl
-next_entry setting past seat (event.Start c (kind.Read rec)) n m law later may on_top before walks =
-    other_start past n m on_top before seat c (kind.Read rec) (starts_new setting past seat c (kind.Read rec) law may) refl (is_child n c) refl
-next_entry setting past seat (event.Start c (kind.Write rec value)) n m law later may on_top before walks =
-    other_start past n m on_top before seat c (kind.Write rec value) (starts_new setting past seat c (kind.Write rec value) law may) refl (is_child n c) refl
-next_entry setting past seat (event.Start c (kind.Reconf rec config)) n m law later may on_top before walks =
-    other_start past n m on_top before seat c (kind.Reconf rec config) (starts_new setting past seat c (kind.Reconf rec config) law may) refl (is_child n c) refl
-next_entry setting past seat (event.Start c kind.Access) n m law later may on_top before walks =
-    other_start past n m on_top before seat c kind.Access (starts_new setting past seat c kind.Access law may) refl (is_child n c) refl
-next_entry setting past seat (event.End c how) n m law later may on_top before walks =
-    some_end past n m on_top before seat c how (ends_open setting past (record { seat = seat; event = event.End c how }) c how refl may).not_ended later (walks c) (is_child n c) refl
-next_entry setting past seat ev n m law later may on_top before walks =
+pub next_entry : (past : Past) (seat : ℕ) (ev : Event) (n : Name) (m : State) → Lawful past → Lawful (record { seat = seat; event = ev } ∷ past) → KeepsOrder past ev → top m.stack ≡ Some n → Walked past n m (walk past n) → ((c : Name) (s : State) → Clean c s → Walked past c s (walk past c)) → Walked (record { seat = seat; event = ev } ∷ past) n m (walk past n ++ added past (walk past) n ev)
+next_entry past seat (event.Start c (kind.User session body)) n m law later may on_top before walks =
+    user_start past n m on_top before seat c session body (starts_new past c (kind.User session body) law may) (is_child n c) refl
+next_entry past seat (event.Start c (kind.Read rec)) n m law later may on_top before walks =
+    other_start past n m on_top before seat c (kind.Read rec) (starts_new past c (kind.Read rec) law may) refl (is_child n c) refl
+next_entry past seat (event.Start c (kind.Write rec value)) n m law later may on_top before walks =
+    other_start past n m on_top before seat c (kind.Write rec value) (starts_new past c (kind.Write rec value) law may) refl (is_child n c) refl
+next_entry past seat (event.Start c (kind.Reconf rec config)) n m law later may on_top before walks =
+    other_start past n m on_top before seat c (kind.Reconf rec config) (starts_new past c (kind.Reconf rec config) law may) refl (is_child n c) refl
+next_entry past seat (event.Start c kind.Access) n m law later may on_top before walks =
+    other_start past n m on_top before seat c kind.Access (starts_new past c kind.Access law may) refl (is_child n c) refl
+next_entry past seat (event.End c how) n m law later may on_top before walks =
+    some_end past n m on_top before seat c how (ends_open past (record { seat = seat; event = event.End c how }) c how refl may).not_ended later (walks c) (is_child n c) refl
+next_entry past seat ev n m law later may on_top before walks =
     other_entry past (record { seat = seat; event = ev }) n m (λ x. refl) (λ x. refl) before

@@ -21,7 +21,7 @@ use Rattle.qc_event.specs.declared.event.Kind.{Kind}
 use Rattle.qc_event.specs.declared.event.Kind.TheVariants as kind
 use Rattle.qc_event.specs.History.{Past, Name, Begun, same, start, start_in, end, end_in, is_child, kind_of}
 use Rattle.qc_event.specs.Dead.{ancestors}
-use Rattle.qc_event.specs.Legal.{IsUser}
+use Rattle.qc_event.specs.Standing.{IsUser}
 use Rattle.qc_event.proofs.Absent.{AllNames, name_in, told_apart, same_is, same_itself, if_not}
 use Rattle.qc_event.proofs.LastNumber.{length_last, is_child-last, ancestors-last}
 use Rattle.qc_serial.specs.declared.event.SerialEvent.{SerialEvent}

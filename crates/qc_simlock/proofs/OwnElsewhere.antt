@@ -1,8 +1,9 @@
 -- Where a walk or an entry has nothing of a transaction's own.
-use Rattle.std.proofs.Common.{◌≡◌, ℕ, ◌<◌, ◌≤◌, Bool, true, false, List, [], ◌∷◌, ◌++◌, length, refl, sym, ap, ◌∙◌, subst, arith, append-nil, append_assoc}
+use Rattle.std.proofs.Common.{◌≡◌, ℕ, ◌<◌, ◌≤◌, Bool, true, false, List, [], ◌∷◌, ◌++◌, length, refl, sym, ap, ◌∙◌, subst, arith, append-nil}
 use mathlib.Core.Bool.{true≢false}
 use Rattle.std.specs.Prelude.{Option, None, Some, is_some, MatchOption, cond, if◌then◌else◌}
 use Rattle.std.specs.Option.{option_map}
+use Rattle.std.proofs.lemmas.List.{length-append}
 use Rattle.std.proofs.lemmas.List.Elements.{filter-append}
 use Rattle.std.proofs.lemmas.Bool.{false_from_ne_true}
 use Rattle.qc_names.specs.Name as name
@@ -17,15 +18,16 @@ use Rattle.qc_event.specs.declared.event.Kind.{Kind}
 use Rattle.qc_event.specs.declared.event.Kind.TheVariants as kind
 use Rattle.qc_event.specs.History.{Past, Name, Begun, IsOpen, start, end, is_child, kind_of}
 use Rattle.qc_event.specs.Dead.{outcome, is_committed}
-use Rattle.qc_event.specs.Legal.{Setting, IsUser, Allowed, Legal}
-use Rattle.qc_event.proofs.LastNumber.{length_last, same_last, child_last, rest_of, append_next, is_ancestor-append}
-use Rattle.qc_event.proofs.OneEntry.{Starting, Ending, not_some, some_or_none, start_stays, start_now}
+use Rattle.qc_event.specs.Standing.{IsUser, Started}
+use Rattle.qc_event.proofs.Orderly.{Belongs, KeepsOrder, Orderly}
+use Rattle.qc_event.proofs.LastNumber.{same_last, child_last, rest_of, append_next, is_ancestor-append}
+use Rattle.qc_event.proofs.OneEntry.{Starting, Ending, some_or_none, started_stays}
 use Rattle.qc_event.proofs.Lawful.{Lawful, lawful, child_starts, ends_open, committed_is}
-use Rattle.qc_event.proofs.Lineage.{above_started}
+use Rattle.qc_event.proofs.Lineage.{above_user}
 use Rattle.qc_serial.specs.declared.event.SerialEvent.{SerialEvent}
 use Rattle.qc_serial.specs.declared.event.SerialEvent.TheVariants.{Start, Read, Write, Leave, Skip}
 use Rattle.qc_simlock.specs.Walk.{walk, added, ended}
-use Rattle.qc_simlock.specs.Own.{is_own, own, own_past, own_in}
+use Rattle.qc_simlock.specs.Own.{is_own, own, own_past, own_in, own_end}
 use Rattle.qc_simlock.proofs.OwnOrder.{child_longer}
 
 -- what ends so is entered and left
@@ -105,14 +107,14 @@ own_in_elsewhere past t (event.End c how) starts ends = none_if (is_child t c) _
 own_in_elsewhere past t _ starts ends = refl
 
 -- no entry is anything to a transaction that has committed
-pub own_in_committed : (setting : Setting) (past : Past) (e : Entry) (t : Name) → Lawful past → Allowed setting past e → 0 < length t → is_committed (outcome past t) ≡ true → own_in past t e.event ≡ []
-own_in_committed setting past e t law allowed pos committed = own_in_elsewhere past t e.event
+pub own_in_committed : (past : Past) (e : Entry) (t : Name) → Lawful past → KeepsOrder past e.event → 0 < length t → is_committed (outcome past t) ≡ true → own_in past t e.event ≡ []
+own_in_committed past e t law keeps pos committed = own_in_elsewhere past t e.event
     (λ c starting is. starts c starting (child_last t c is))
-    (λ c how ending is. ends c (ends_open setting past e c how ending allowed) (child_last t c is))
+    (λ c how ending is. ends c (ends_open past e c how ending keeps) (child_last t c is))
   where
     starts : (c : Name) → Starting c e.event → (j : ℕ) × (c ≡ t ++ j ∷ []) → ⊥
     starts c starting (j, last) =
-        let child = child_starts setting past e t j pos (subst (λ d. Starting d e.event) last starting) allowed in
+        let child = child_starts past e t j pos (subst (λ d. Starting d e.event) last starting) keeps in
         some_or_none (end past t) (ap is_some (committed_is (end past t) committed).1) child.going.is_open.not_ended
 
     ends : (c : Name) → IsOpen past c → (j : ℕ) × (c ≡ t ++ j ∷ []) → ⊥
@@ -120,17 +122,56 @@ own_in_committed setting past e t law allowed pos committed = own_in_elsewhere p
         let here : IsOpen past (t ++ j ∷ []) = subst (IsOpen past) last going in
         some_or_none (end past (t ++ j ∷ [])) (law.committed_closed t j pos committed here.started) here.not_ended
 
--- a transaction without a started child has nothing of its own
-pub own_childless : (setting : Setting) (past : Past) (t : Name) → Legal setting past → ((c : Name) → is_child t c ≡ true → start past c ≡ None) → own_past t past ≡ []
-own_childless setting [] t legal none = refl
-own_childless setting (e ∷ past) t legal none =
-    ap (λ es. es ++ own_in past t e.event) (own_childless setting past t legal.0 (λ c is. not_some (start past c) (λ h. later c is h)))
-    ∙ own_in_elsewhere past t e.event
-    (λ c starting is. some_or_none (start (e ∷ past) c) (start_now e past c starting) (none c is))
-    (λ c how ending is. later c is (ends_open setting past e c how ending legal.1).started)
+-- WHO HAS NOTHING OF ITS OWN
+
+abbrev NoUser : Past → Name → Type 0
+NoUser past t = Started past t (λ b. IsUser b.kind) → ⊥
+
+-- where no user transaction stands above, only accesses stand below
+end_below : (past : Past) (t c : Name) (how : How) → NoUser past t → (o : Option Begun) → MatchOption o (Unit {0}) (λ b. Started past t (λ p. Belongs p b.kind)) → own_end (option_map (λ (b : Begun). b.kind) o) c how ≡ []
+end_below past t c how not_user None under = refl
+end_below past t c how not_user (Some b) under = by_kind b.kind under
   where
-    later : (c : Name) → is_child t c ≡ true → is_some (start past c) ≡ true → ⊥
-    later c is h = some_or_none (start (e ∷ past) c) (start_stays e past c h) (none c is)
+    by_kind : (k : Kind) → Started past t (λ p. Belongs p k) → own_end (Some k) c how ≡ []
+    by_kind kind.Access under = refl
+    by_kind (kind.User session body) under = absurd (not_user under)
+    by_kind (kind.Read rec) under = absurd (not_user under)
+    by_kind (kind.Write rec value) under = absurd (not_user under)
+    by_kind (kind.Reconf rec config) under = absurd (not_user under)
+
+-- what stands below a started child's parent, where there is a start
+child_belongs : (past : Past) (t c : Name) → Lawful past → 0 < length t → is_child t c ≡ true → MatchOption (start past c) (Unit {0}) (λ b. Started past t (λ p. Belongs p b.kind))
+child_belongs past t c law pos is = by_child (child_last t c is)
+  where
+    either : (o : Option Begun) → (is_some o ≡ true → MatchOption o ⊥ (λ b. Started past t (λ p. Belongs p b.kind))) → MatchOption o (Unit {0}) (λ b. Started past t (λ p. Belongs p b.kind))
+    either None under = tt
+    either (Some b) under = under refl
+
+    by_child : (j : ℕ) × (c ≡ t ++ j ∷ []) → MatchOption (start past c) (Unit {0}) (λ b. Started past t (λ p. Belongs p b.kind))
+    by_child (j, last) = subst (λ d. MatchOption (start past d) (Unit {0}) (λ b. Started past t (λ p. Belongs p b.kind))) (sym last) (either (start past (t ++ j ∷ [])) (law.under t j pos))
+
+-- so no entry is anything to a name that is no user transaction
+own_in_no_user : (past : Past) (e : Entry) (t : Name) (ev : Event) → Lawful past → KeepsOrder past ev → e.event ≡ ev → 0 < length t → NoUser past t → own_in past t ev ≡ []
+own_in_no_user past e t (event.Start c (kind.User session body)) law keeps here pos not_user = none_if (is_child t c) (Start c ∷ []) (λ is. starts (child_last t c is))
+  where
+    starts : (j : ℕ) × (c ≡ t ++ j ∷ []) → ⊥
+    starts (j, last) = not_user (child_starts past e t j pos (kind.User session body, here ∙ ap (λ d. event.Start d (kind.User session body)) last) (subst (KeepsOrder past) (sym here) keeps)).belongs
+own_in_no_user past e t (event.End c how) law keeps here pos not_user = by_test (is_child t c) refl
+  where
+    by_test : (b : Bool) → is_child t c ≡ b → (if b then own_end (kind_of past c) c how else []) ≡ []
+    by_test true is = end_below past t c how not_user (start past c) (child_belongs past t c law pos is)
+    by_test false is = refl
+own_in_no_user past e t _ law keeps here pos not_user = refl
+
+-- and it has nothing of its own
+own_no_user : (past : Past) (t : Name) → Orderly past → 0 < length t → NoUser past t → own_past t past ≡ []
+own_no_user [] t orderly pos not_user = refl
+own_no_user (e ∷ past) t orderly pos not_user =
+    ap (λ es. es ++ own_in past t e.event) (own_no_user past t orderly.0 pos before)
+    ∙ own_in_no_user past e t e.event (lawful past orderly.0) orderly.1 refl pos before
+  where
+    before : NoUser past t
+    before user = not_user (started_stays e past t (λ b. IsUser b.kind) user)
 
 user_enters : (o : Option Begun) (given : Answer) → MatchOption o ⊥ (λ b. IsUser b.kind) → enters (option_map (λ (b : Begun). b.kind) o) (Commit given) ≡ true
 user_enters None given h = absurd h
@@ -143,16 +184,9 @@ user_enters (Some b) given h = by_kind b.kind h
     by_kind (kind.Reconf rec config) h = absurd h
     by_kind kind.Access h = absurd h
 
--- at and below a manager there is nothing of anyone's own
-pub own_manager : (setting : Setting) (past : Past) (c r t : Name) (given : Answer) → Legal setting past → 0 < length c → t ≡ c ++ r → enters (kind_of past c) (Commit given) ≡ false → own_past t past ≡ []
-own_manager setting past c r t given legal pos whole manages = own_childless setting past t legal (λ d is. unstarted r d (child_last t d is) whole)
-  where
-    below : (j : ℕ) (s d : Name) → d ≡ c ++ j ∷ s → start past d ≡ None
-    below j s d is = not_some (start past d) (λ h.
-        let law = lawful setting past legal in
-        let first = above_started past (c ++ j ∷ []) s law (omega (arith, length_last c j)) (ap (λ m. is_some (start past m)) (sym (is ∙ append_next c j s)) ∙ h) in
-        true≢false (sym (user_enters (start past c) given (law.under_user c j pos first)) ∙ manages))
-
-    unstarted : (s d : Name) → (j : ℕ) × (d ≡ t ++ j ∷ []) → t ≡ c ++ s → start past d ≡ None
-    unstarted [] d (j, last) is = below j [] d (last ∙ ap (λ x. x ++ j ∷ []) (is ∙ append-nil c))
-    unstarted (y ∷ s) d (j, last) is = below y (s ++ j ∷ []) d (last ∙ ap (λ x. x ++ j ∷ []) is ∙ append_assoc c (y ∷ s) (j ∷ []))
+-- at and below a name that is no user transaction there is nothing of anyone's own
+pub own_manager : (past : Past) (c r t : Name) (given : Answer) → Orderly past → 0 < length c → t ≡ c ++ r → enters (kind_of past c) (Commit given) ≡ false → own_past t past ≡ []
+own_manager past c r t given orderly pos whole manages =
+    own_no_user past t orderly (omega (arith, ap length whole, length-append c r)) (λ user.
+    let above = above_user past c r (lawful past orderly) pos (subst (λ m. Started past m (λ b. IsUser b.kind)) whole user) in
+    true≢false (sym (user_enters (start past c) given above) ∙ manages))

@@ -16,7 +16,7 @@ use Rattle.qc_event.specs.declared.event.Answer.{Answer}
 use Rattle.qc_event.specs.declared.event.Cause.{Cause}
 use Rattle.qc_event.specs.History.{Past, Name, end, end_in, same, is_child, kind_of}
 use Rattle.qc_event.specs.Dead.{outcome, outcome_of, is_committed}
-use Rattle.qc_event.specs.Legal.{Setting, Allowed, Legal}
+use Rattle.qc_event.proofs.Orderly.{KeepsOrder, Orderly}
 use Rattle.qc_event.proofs.Absent.{same_is}
 use Rattle.qc_event.proofs.Histories.{or_none}
 use Rattle.qc_event.proofs.LastNumber.{length_last, same_rest, last_longer, is_child-last, child_last, rest_of, append_next}
@@ -68,7 +68,7 @@ settle k (Commit given) b mine none = by_test (enters k (Commit given)) refl
 one_end : (m n : Name) (h how : How) → event.End m h ≡ event.End n how → m ≡ n
 one_end m n h how is = cc
 
-module _ (setting : Setting) (e : Entry) (past : Past) (law : Lawful past) (allowed : Allowed setting past e) where
+module _ (e : Entry) (past : Past) (law : Lawful past) (keeps : KeepsOrder past e.event) where
   same_outcome : (n : Name) → end_in n e.event ≡ None → outcome (e ∷ past) n ≡ outcome past n
   same_outcome n none = ap outcome_of (ap (option_or (end past n)) none ∙ sym (or_none (end past n)))
 
@@ -80,7 +80,7 @@ module _ (setting : Setting) (e : Entry) (past : Past) (law : Lawful past) (allo
   -- below a committed name no end comes
   no_end_below : (n : Name) (y : ℕ) → 0 < length n → is_committed (outcome past n) ≡ true → end_in (n ++ y ∷ []) e.event ≡ None
   no_end_below n y pos committed = unless_some (end_in (n ++ y ∷ []) e.event) (λ how is.
-      let going = ends_open setting past e (n ++ y ∷ []) how (ending (n ++ y ∷ []) e.event how is) allowed in
+      let going = ends_open past e (n ++ y ∷ []) how (ending (n ++ y ∷ []) e.event how is) keeps in
       some_or_none (end past (n ++ y ∷ [])) (law.committed_closed n y pos committed going.started) going.not_ended)
 
   same_below : (n r : Name) → 0 < length n → is_committed (outcome past n) ≡ true → all_committed (e ∷ past) n r ≡ all_committed past n r
@@ -140,7 +140,7 @@ module _ (setting : Setting) (e : Entry) (past : Past) (law : Lawful past) (allo
         ap (λ es. es ++ own t (added past (walk past) a e.event)) before
         ∙ ap (λ es. (if all_committed past a (x ∷ r) then own_past t past else []) ++ es) (adds_nothing none)
         ∙ pad (all_committed past a (x ∷ r)) (own_past t past) (own_in past t e.event) (λ all.
-        own_in_committed setting past e t law allowed (omega (arith, size)) (ap (λ n. is_committed (outcome past n)) whole ∙ all_last past a x r all))
+        own_in_committed past e t law keeps (omega (arith, size)) (ap (λ n. is_committed (outcome past n)) whole ∙ all_last past a x r all))
         ∙ ap (λ (b : Bool). if b then own_past t past ++ own_in past t e.event else []) (sym (same_all a x r none))
 
     same_mine : (how : How) → Ending lower e.event how → own_past t (e ∷ past) ≡ own_past t past
@@ -156,7 +156,7 @@ module _ (setting : Setting) (e : Entry) (past : Past) (law : Lawful past) (allo
 
     now_committed : (how : How) → Ending lower e.event how → all_committed (e ∷ past) a (x ∷ r) ≡ (is_committed (outcome_of (Some how)) && all_committed past lower r)
     now_committed how here =
-        let going = ends_open setting past e lower how here allowed in
+        let going = ends_open past e lower how here keeps in
         ap (λ o. is_committed (outcome_of (option_or o (end_in lower e.event))) && all_committed (e ∷ past) lower r) going.not_ended
         ∙ ap (λ o. is_committed (outcome_of o) && all_committed (e ∷ past) lower r) (end_now lower e.event how here)
         ∙ ap (λ b. is_committed (outcome_of (Some how)) && b) (same_rest_committed how here r)
@@ -168,27 +168,27 @@ module _ (setting : Setting) (e : Entry) (past : Past) (law : Lawful past) (allo
         ∙ own_ended_elsewhere t lower (kind_of past lower) (walk past lower) how (not_own_child lower line)
 
     -- where it does, nothing was there before
-    ends_here : Legal setting past → Inside past t a (x ∷ r) → Inside past t lower r → (how : How) → Ending lower e.event how → Onward
-    ends_here legal before inner how here =
-        let going = ends_open setting past e lower how here allowed in
+    ends_here : Orderly past → Inside past t a (x ∷ r) → Inside past t lower r → (how : How) → Ending lower e.event how → Onward
+    ends_here orderly before inner how here =
+        let going = ends_open past e lower how here keeps in
         ap (λ es. es ++ own t (added past (walk past) a e.event)) (before ∙ ap (λ o. if is_committed (outcome_of o) && all_committed past lower r then own_past t past else []) going.not_ended)
         ∙ own_here how here
         ∙ ap (λ es. if enters (kind_of past lower) how then es else []) inner
         ∙ settle (kind_of past lower) how (all_committed past lower r) (own_past t past) (λ given manages.
-        own_manager setting past lower r t given legal (omega (arith, length_last a x)) (whole ∙ append_next a x r) manages)
+        own_manager past lower r t given orderly (omega (arith, length_last a x)) (whole ∙ append_next a x r) manages)
         ∙ ap (λ (b : Bool). if b then own_past t past else []) (sym (now_committed how here))
         ∙ ap (λ es. if all_committed (e ∷ past) a (x ∷ r) then es else []) (sym (same_mine how here))
 
-    either_way : Legal setting past → Inside past t a (x ∷ r) → Inside past t lower r → (o : Option How) → end_in lower e.event ≡ o → Onward
-    either_way legal before inner None is = goes_on before is
-    either_way legal before inner (Some how) is = ends_here legal before inner how (ending lower e.event how is)
+    either_way : Orderly past → Inside past t a (x ∷ r) → Inside past t lower r → (o : Option How) → end_in lower e.event ≡ o → Onward
+    either_way orderly before inner None is = goes_on before is
+    either_way orderly before inner (Some how) is = ends_here orderly before inner how (ending lower e.event how is)
 
-pub own_inside : (setting : Setting) (past : Past) → Legal setting past → (a r t : Name) → t ≡ a ++ r → Inside past t a r
-own_inside setting past legal a [] t whole = ap (λ n. own t (walk past n)) (sym (whole ∙ append-nil a)) ∙ own_walk t past
-own_inside setting [] legal a (x ∷ r) t whole = refl
-own_inside setting (e ∷ past) legal a (x ∷ r) t whole =
+pub own_inside : (past : Past) → Orderly past → (a r t : Name) → t ≡ a ++ r → Inside past t a r
+own_inside past orderly a [] t whole = ap (λ n. own t (walk past n)) (sym (whole ∙ append-nil a)) ∙ own_walk t past
+own_inside [] orderly a (x ∷ r) t whole = refl
+own_inside (e ∷ past) orderly a (x ∷ r) t whole =
     filter-append (is_own t) (walk past a) (added past (walk past) a e.event)
-    ∙ either_way setting e past (lawful setting past legal.0) legal.1 a x r t whole legal.0
-    (own_inside setting past legal.0 a (x ∷ r) t whole)
-    (own_inside setting past legal.0 (a ++ x ∷ []) r t (whole ∙ append_next a x r))
+    ∙ either_way e past (lawful past orderly.0) orderly.1 a x r t whole orderly.0
+    (own_inside past orderly.0 a (x ∷ r) t whole)
+    (own_inside past orderly.0 (a ++ x ∷ []) r t (whole ∙ append_next a x r))
     (end_in (a ++ x ∷ []) e.event) refl

@@ -7,9 +7,9 @@ use Rattle.qc_event.specs.declared.event.How.{How}
 use Rattle.qc_event.specs.declared.event.How.TheVariants.{Commit, Abort}
 use Rattle.qc_event.specs.History.{Past, Name, start, end}
 use Rattle.qc_event.specs.Dead.{outcome_of, is_committed, is_aborted, ancestors, dead}
-use Rattle.qc_event.specs.Legal.{Setting, Legal}
+use Rattle.qc_event.proofs.Orderly.{Orderly}
 use Rattle.qc_event.proofs.LastNumber.{length_last, ancestors-last, append_next, by_last}
-use Rattle.qc_event.proofs.Lawful.{lawful, started_some}
+use Rattle.qc_event.proofs.Lawful.{lawful, started_some, parent_started}
 use Rattle.qc_event.proofs.Lineage.{dead_parent, alive_not_aborted}
 use Rattle.qc_simlock.specs.Walk.{walk, entering, is_open_or_root, visits, serialise}
 use Rattle.qc_simlock.specs.Own.{is_own, own, own_past}
@@ -45,9 +45,9 @@ visit_ended past n how pos began gone = visit_if past n false (open_test past n 
 abbrev HasOwn : Past → Name → Type 0
 HasOwn past n = (r t : Name) → t ≡ n ++ r → (0 < length n → is_some (start past n) ≡ true) → dead past n ≡ None → own t (serialise past n) ≡ (if all_committed past n r then own_past t past else [])
 
-module _ (setting : Setting) (past : Past) (legal : Legal setting past) where
+module _ (past : Past) (orderly : Orderly past) where
   at_root : HasOwn past []
-  at_root r t whole began alive = ap (own t) (append-nil (walk past [])) ∙ own_inside setting past legal [] r t whole
+  at_root r t whole began alive = ap (own t) (append-nil (walk past [])) ∙ own_inside past orderly [] r t whole
 
   one_lower : (p : Name) (j : ℕ) → HasOwn past p → HasOwn past (p ++ j ∷ [])
   one_lower p j above r t whole began alive =
@@ -60,7 +60,7 @@ module _ (setting : Setting) (past : Past) (legal : Legal setting past) where
       here = began (omega (arith, length_last p j))
 
       parent_began : 0 < length p → is_some (start past p) ≡ true
-      parent_began pos = started_some _ (start past p) ((lawful setting past legal).under_user p j pos here)
+      parent_began pos = parent_started past p j (lawful past orderly) pos here
 
       by_end : (o : Option How) → end past (p ++ j ∷ []) ≡ o → (if all_committed past p (j ∷ r) then own_past t past else []) ++ own t (visits past ((p ++ j ∷ []) ∷ [])) ≡ (if all_committed past (p ++ j ∷ []) r then own_past t past else [])
       by_end None is =
@@ -68,7 +68,7 @@ module _ (setting : Setting) (past : Past) (legal : Legal setting past) where
           ∙ ap (own t) (visit_open past (p ++ j ∷ []) (omega (arith, length_last p j)) here is)
           ∙ filter-append (is_own t) (entering (p ++ j ∷ [])) (walk past (p ++ j ∷ []))
           ∙ ap (λ es. es ++ own t (walk past (p ++ j ∷ []))) (own_entering t (p ++ j ∷ []))
-          ∙ own_inside setting past legal (p ++ j ∷ []) r t whole
+          ∙ own_inside past orderly (p ++ j ∷ []) r t whole
       by_end (Some (Commit given)) is =
           ap (λ es. (if all_committed past p (j ∷ r) then own_past t past else []) ++ own t es) (visit_ended past (p ++ j ∷ []) (Commit given) (omega (arith, length_last p j)) here is)
           ∙ append-nil (if all_committed past p (j ∷ r) then own_past t past else [])
@@ -79,12 +79,12 @@ module _ (setting : Setting) (past : Past) (legal : Legal setting past) where
   own_above n = by_last (HasOwn past) at_root one_lower n
 
 -- so in the order of a started name that is not dead
-pub own_started : (setting : Setting) (past : Past) (t : Name) → Legal setting past → (0 < length t → is_some (start past t) ≡ true) → dead past t ≡ None → own t (serialise past t) ≡ own_past t past
-own_started setting past t legal began alive = own_above setting past legal t [] t (sym (append-nil t)) began alive
+pub own_started : (past : Past) (t : Name) → Orderly past → (0 < length t → is_some (start past t) ≡ true) → dead past t ≡ None → own t (serialise past t) ≡ own_past t past
+own_started past t orderly began alive = own_above past orderly t [] t (sym (append-nil t)) began alive
 
 user_started : (past : Past) (t : Name) → IsUserOf past t → 0 < length t → is_some (start past t) ≡ true
 user_started past [] user pos = absurd (omega arith)
 user_started past (x ∷ t) user pos = started_some _ (start past (x ∷ t)) user
 
-pub own_serial : (setting : Setting) (past : Past) (t : Name) → Legal setting past → IsUserOf past t → dead past t ≡ None → own t (serialise past t) ≡ own_past t past
-own_serial setting past t legal user alive = own_started setting past t legal (user_started past t user) alive
+pub own_serial : (past : Past) (t : Name) → Orderly past → IsUserOf past t → dead past t ≡ None → own t (serialise past t) ≡ own_past t past
+own_serial past t orderly user alive = own_started past t orderly (user_started past t user) alive

@@ -1,9 +1,9 @@
--- In every legal history the serial machine accepts the order of a live transaction, where its reads find
+-- In every orderly history the serial machine accepts the order of a live transaction, where its reads find
 -- the values that were written last.
 use Rattle.std.specs.Prelude.{ℕ, ◌≡◌, List, None}
 use Rattle.qc_event.specs.History.{Past, Name}
 use Rattle.qc_event.specs.Dead.{dead}
-use Rattle.qc_event.specs.Legal.{Setting, Legal}
+use Rattle.qc_event.proofs.Orderly.{Orderly}
 use Rattle.qc_serial.specs.Machine.{begin}
 use Rattle.qc_serial.specs.Shape.{Reads}
 use Rattle.qc_serial.proofs.Shape.{accepts}
@@ -12,8 +12,8 @@ use Rattle.qc_simlock.specs.Serial.{IsSerialFor, IsUserOf}
 use Rattle.qc_simlock.proofs.Shaped.{shaped_order}
 use Rattle.qc_simlock.proofs.OwnSerial.{own_serial}
 
-pub serial_for : (setting : Setting) (values : List ℕ) (past : Past) (t : Name) → Legal setting past → IsUserOf past t → dead past t ≡ None → Reads values (serialise past t) → IsSerialFor values past t
-serial_for setting values past t legal user alive reads = record {
-  accepted = accepts (begin values) (serialise past t) (shaped_order setting past t values legal user alive) reads;
-  own = own_serial setting past t legal user alive;
+pub serial_for : (values : List ℕ) (past : Past) (t : Name) → Orderly past → IsUserOf past t → dead past t ≡ None → Reads values (serialise past t) → IsSerialFor values past t
+serial_for values past t orderly user alive reads = record {
+  accepted = accepts (begin values) (serialise past t) (shaped_order past t values orderly user alive) reads;
+  own = own_serial past t orderly user alive;
 }

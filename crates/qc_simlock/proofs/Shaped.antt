@@ -1,4 +1,4 @@
--- In every legal history the serial order of a live transaction keeps to the serial machine's stack.
+-- In every orderly history the serial order of a live transaction keeps to the serial machine's stack.
 use Rattle.std.proofs.Common.{◌≡◌, ◌<◌, length, ℕ, true, List, [], ◌∷◌, ◌++◌, refl, sym, ap, ◌∙◌, subst, arith, append-nil}
 use Rattle.std.specs.Prelude.{Option, None, Some, is_some, MatchOption}
 use Rattle.std.specs.Option.{option_map}
@@ -7,10 +7,11 @@ use Rattle.qc_event.specs.declared.event.Kind.{Kind}
 use Rattle.qc_event.specs.declared.event.Kind.TheVariants as kind
 use Rattle.qc_event.specs.History.{Past, Name, Begun, start, end}
 use Rattle.qc_event.specs.Dead.{dead}
-use Rattle.qc_event.specs.Legal.{Setting, Legal, Started, IsUser}
+use Rattle.qc_event.specs.Standing.{Started, IsUser}
+use Rattle.qc_event.proofs.Orderly.{Orderly}
 use Rattle.qc_event.proofs.LastNumber.{by_last, length_last, is_child-last}
 use Rattle.qc_event.proofs.OneEntry.{some_or_none}
-use Rattle.qc_event.proofs.Lawful.{Lawful, lawful, started_some}
+use Rattle.qc_event.proofs.Lawful.{Lawful, lawful, started_some, user_parent}
 use Rattle.qc_event.proofs.Lineage.{dead_parent, parent_open}
 use Rattle.qc_serial.specs.declared.event.SerialEvent.{SerialEvent}
 use Rattle.qc_serial.specs.declared.event.SerialEvent.TheVariants.{Enter}
@@ -56,9 +57,9 @@ started_last : (past : Past) (p : Name) (j : ℕ) → IsUserOf past (p ++ j ∷ 
 started_last past [] j user = user
 started_last past (x ∷ p) j user = user
 
-is_user_parent : (past : Past) (p : Name) (j : ℕ) → Lawful past → is_some (start past (p ++ j ∷ [])) ≡ true → IsUserOf past p
-is_user_parent past [] j law began = tt
-is_user_parent past (x ∷ p) j law began = law.under_user (x ∷ p) j (omega arith) began
+is_user_parent : (past : Past) (p : Name) (j : ℕ) → Lawful past → Started past (p ++ j ∷ []) (λ b. IsUser b.kind) → IsUserOf past p
+is_user_parent past [] j law user = tt
+is_user_parent past (x ∷ p) j law user = user_parent past (x ∷ p) j law (omega arith) user
 
 parent_going : (past : Past) (p : Name) (j : ℕ) → Lawful past → is_some (start past (p ++ j ∷ [])) ≡ true → end past (p ++ j ∷ []) ≡ None → dead past (p ++ j ∷ []) ≡ None → end past p ≡ None
 parent_going past [] j law began going alive = law.no_root_end
@@ -87,12 +88,12 @@ record Reached (past : Past) (t : Name) (m : State) (es : List SerialEvent) : Ty
   shaped : Shaped m es
   inside : end past t ≡ None → Through past t (run m es)
 
-module _ (setting : Setting) (past : Past) (values : List ℕ) (legal : Legal setting past) where
+module _ (past : Past) (values : List ℕ) (orderly : Orderly past) where
   root_clean : Clean [] (begin values)
   root_clean = record { on_top = refl; unknown = λ j rest. refl }
 
   root : Reached past [] (begin values) (walk past [])
-  root = let walked = walk_shaped setting past legal [] (begin values) root_clean in record {
+  root = let walked = walk_shaped past orderly [] (begin values) root_clean in record {
     shaped = walked.0;
     inside = λ open_still. record { before = begin values; on_top = refl; kept = walked.1 };
   }
@@ -103,7 +104,7 @@ module _ (setting : Setting) (past : Past) (values : List ℕ) (legal : Legal se
       let t : Name = p ++ j ∷ [] in
       let m : State = run (begin values) es in
       let clean : Clean t (next m (Enter t)) = clean_inside past p t through.before m through.kept (is_child-last p j) going in
-      let walked : Walked past t (next m (Enter t)) (walk past t) = walk_shaped setting past legal t (next m (Enter t)) clean in
+      let walked : Walked past t (next m (Enter t)) (walk past t) = walk_shaped past orderly t (next m (Enter t)) clean in
       let on : top m.stack ≡ Some p = ap top through.kept.stack ∙ through.on_top in
       record {
         shaped = shaped-append (begin values) es (Enter t ∷ walk past t) shaped (waits m p t on (parent_last p j) (through.kept.child j ∙ waits_there), walked.0);
@@ -114,7 +115,7 @@ module _ (setting : Setting) (past : Past) (values : List ℕ) (legal : Legal se
   next_ancestor p j parent user alive = by_end (end past (p ++ j ∷ [])) refl
     where
       law : Lawful past
-      law = lawful setting past legal
+      law = lawful past orderly
 
       user_there : Started past (p ++ j ∷ []) (λ b. IsUser b.kind)
       user_there = started_last past p j user
@@ -123,7 +124,7 @@ module _ (setting : Setting) (past : Past) (values : List ℕ) (legal : Legal se
       began = started_some _ (start past (p ++ j ∷ [])) user_there
 
       reached : Reached past p (begin values) (serialise past p)
-      reached = parent (is_user_parent past p j law began) (dead_parent past p j alive)
+      reached = parent (is_user_parent past p j law user_there) (dead_parent past p j alive)
 
       by_end : (o : Option How) → end past (p ++ j ∷ []) ≡ o → Reached past (p ++ j ∷ []) (begin values) (serialise past (p ++ j ∷ []))
       by_end None going =
@@ -134,8 +135,8 @@ module _ (setting : Setting) (past : Past) (values : List ℕ) (legal : Legal se
         inside = λ going. absurd (some_or_none (end past (p ++ j ∷ [])) (ap is_some gone) going);
       }
 
-pub shaped_order : (setting : Setting) (past : Past) (t : Name) (values : List ℕ) → Legal setting past → IsUserOf past t → dead past t ≡ None → Shaped (begin values) (serialise past t)
-shaped_order setting past t values legal user alive =
+pub shaped_order : (past : Past) (t : Name) (values : List ℕ) → Orderly past → IsUserOf past t → dead past t ≡ None → Shaped (begin values) (serialise past t)
+shaped_order past t values orderly user alive =
     (by_last (λ t. IsUserOf past t → dead past t ≡ None → Reached past t (begin values) (serialise past t))
-    (λ user alive. subst (Reached past [] (begin values)) (sym (append-nil (walk past []))) (root setting past values legal))
-    (next_ancestor setting past values legal) t user alive).shaped
+    (λ user alive. subst (Reached past [] (begin values)) (sym (append-nil (walk past []))) (root past values orderly))
+    (next_ancestor past values orderly) t user alive).shaped

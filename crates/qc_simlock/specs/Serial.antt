@@ -3,7 +3,7 @@ use Rattle.std.specs.Prelude.{ℕ, ◌≡◌, List, [], ◌++◌, None, reverse}
 use Rattle.qc_event.specs.declared.event.Entry.{Entry}
 use Rattle.qc_event.specs.History.{Past, Name}
 use Rattle.qc_event.specs.Dead.{dead}
-use Rattle.qc_event.specs.Legal.{Started, IsUser}
+use Rattle.qc_event.specs.Standing.{Started, IsUser}
 use Rattle.qc_serial.specs.Machine as machine
 use Rattle.qc_simlock.specs.Walk.{walk, serialise}
 use Rattle.qc_simlock.specs.Own.{own, own_past}

@@ -1,6 +1,7 @@
 use Rattle.std.proofs.Common.{◌∙◌, ap, map, sym, subst, reverse}
 use Rattle.qc_event.specs.Base.{start_values}
-use Rattle.qc_event.specs.Legal.{Legal, setting_of}
+use Rattle.qc_event.specs.Base.{setting_of}
+use Rattle.qc_event.specs.Calls.{LegalCalls}
 use Rattle.qc_interp.specs.Follows.{FollowsTops}
 use Rattle.qc_run.specs.Io.{Appends, AppendsFront}
 use Rattle.qc_run.specs.Run as terms
@@ -17,7 +18,7 @@ returns-clause-legal_history g c =
     let past = c.tops.new.self.past in
     let trail = c.into_entries.result.items in
     let front : IsFront past (whole s) = session_front c.tops.result s (map numbered c.as_slice.result.now) c.args.session c.tops.new.self c.requires.session (ap (map numbered) c.as_slice.ensures.value) c.tops.ensures.ok c.tops.ensures.err in
-    subst (λ b. Legal (setting_of b) (reverse trail)) (sym c.requires.base)
+    subst (λ b. LegalCalls (setting_of b) (reverse trail)) (sym c.requires.base)
     (front_legal s (reverse trail) c.requires.proper (trail_front past trail (whole s) c.into_entries.ensures.entries front) (trail_bounded trail c.into_entries.ensures.bounded))
 
 pub returns-clause-serial_order : goal.returns-clause-serial_order

@@ -1,0 +1,49 @@
+-- How names stand in a history: who may act, and what is open.
+use Rattle.std.specs.Prelude.{ℕ, ◌≡◌, ◌==◌, Bool, ◌||◌, not, IsTrue, nat_lt, find, is_none, Option, None, MatchOption}
+use Rattle.qc_names.specs.Name as name
+use Rattle.qc_event.specs.declared.event.How.{How}
+use Rattle.qc_event.specs.declared.event.How.TheVariants.{Commit, Abort}
+use Rattle.qc_event.specs.declared.event.Kind.{Kind}
+use Rattle.qc_event.specs.declared.event.Kind.TheVariants as kind
+use Rattle.qc_event.specs.History.{Past, Name, Begun, same, start, end, IsOpen, children}
+use Rattle.qc_event.specs.Dead.{dead}
+
+-- The seat of what sessions do is 0 or above 17. Seat 1 is the ledger's, seat c + 2 copy c's.
+abbrev pub is_client : ℕ → Bool
+is_client seat = (seat == 0) || nat_lt 17 seat
+
+-- the kind is a user transaction
+abbrev pub IsUser : Kind → Type 0
+IsUser (kind.User session body) = Unit {0}
+IsUser _ = ⊥
+
+-- the kind is a manager: it reads, writes or reconfigures
+abbrev pub IsManager : Kind → Type 0
+IsManager (kind.Read rec) = Unit {0}
+IsManager (kind.Write rec value) = Unit {0}
+IsManager (kind.Reconf rec config) = Unit {0}
+IsManager _ = ⊥
+
+-- a started name of a kind
+abbrev pub Started : Past → Name → (Begun → Type 0) → Type 0
+Started past n P = MatchOption (start past n) ⊥ P
+
+-- the first started child that has no end
+abbrev pub open_child : Past → Name → Option Name
+open_child past n = find (λ c. is_none (end past c)) (children past n)
+
+-- A name may go on where it is open and not dead.
+pub record IsGoing (past : Past) (n : Name) : Type 0 where
+  pub is_open : IsOpen past n
+  pub alive : dead past n ≡ None
+
+-- the end is an abort
+abbrev pub IsAbort : How → Type 0
+IsAbort (Commit given) = ⊥
+IsAbort (Abort c) = Unit {0}
+
+-- An ancestor other than the name itself is aborted.
+pub record IsOrphanOf (past : Past) (n a : Name) : Type 0 where
+  pub above : IsTrue (name.is_ancestor a n)
+  pub not_itself : IsTrue (not (same a n))
+  pub aborted : MatchOption (end past a) ⊥ IsAbort

@@ -1,0 +1,80 @@
+-- What each of the two writes of an append leaves, in the terms of a journal.
+use Rattle.std.proofs.Common.{◌≡◌, ◌⊎◌, ⊎_elim, inl, inr, ℕ, ◌+◌, ◌-◌, List, [], ◌∷◌, ◌++◌, length, replicate, Option, Some, sym, ◌∙◌, ap, subst, arith}
+use Rattle.std.specs.Prelude.{option_map}
+use Rattle.qc_disk.specs.Disk.{written, Torn, Only, Steps, IsImage, LeavesOnly}
+use Rattle.qc_disk.specs.declared.disk.Disk.{Ghosts}
+use Rattle.qc_journal.specs.Device.{Touched}
+use Rattle.qc_journal.specs.Image.{IsShort, EndsAt, HasRecords, behind_gate}
+use Rattle.qc_journal.specs.State.{IsUpState, hand_of, missing_at}
+use Rattle.qc_journal.specs.Journal.{Stands, IsUp, Keeps}
+use Rattle.qc_journal.specs.declared.journal.Journal.{Journal}
+use Rattle.qc_journal.specs.declared.journal.State.{State}
+use Rattle.qc_journal.specs.declared.journal.State.TheVariants.{Up, Down}
+use Rattle.qc_journal.proofs.Moments.{weakened, continues}
+use Rattle.qc_journal.proofs.Images.{Staged, torn_behind, written_behind, torn_gate, written_gate}
+
+-- with nothing in hand
+pub ends_up : (place : ℕ) (bodies : List (List ℕ)) (state : State) (image : List ℕ) → IsUpState state → Stands place bodies (hand_of state) image → EndsAt place bodies image
+ends_up place bodies (Up missing) image up stands = stands
+ends_up place bodies (Down held) image up stands = absurd up
+
+-- a disk that tells goes on telling
+pub tells_on : (step : List ℕ → List ℕ → Type 0) (told now : Option (List ℕ)) (bytes : List ℕ) → told ≡ Some bytes → Steps step told now → (c : List ℕ) × (now ≡ Some c)
+tells_on step told now bytes is steps = let on = subst (λ t. Steps step t now) is steps in (on.0, on.1)
+
+-- what is told is an image
+pub told_image : (images : List ℕ → Type 0) (told : Option (List ℕ)) (bytes : List ℕ) → told ≡ Some bytes → IsImage told images → images bytes
+told_image images told bytes is here = subst (λ t. IsImage t images) is here
+
+as_records : (place place' : ℕ) (bodies bodies' : List (List ℕ)) (image : List ℕ) → EndsAt place bodies image ⊎ EndsAt place' bodies' image → HasRecords bodies image ⊎ HasRecords bodies' image
+as_records place place' bodies bodies' image ends = ⊎_elim (λ e. inl (inr (place, e))) (λ e. inr (inr (place', e))) ends
+
+-- One append to a journal that is up and keeps these records.
+module _ {D : Type 0} {g : Ghosts D} (old : Journal D g) (bodies : List (List ℕ)) (body : List ℕ) (missing : ℕ) (up : IsUp old) (k : Keeps old bodies) (is : missing ≡ missing_at old.place old.state) where
+  none : missing ≡ 0
+  none = is ∙ k.whole up
+
+  start : old.place + 1 - missing ≡ old.place + 1
+  start = omega (arith, none)
+
+  ends : (c : List ℕ) → g.may_leave old.disk c → EndsAt old.place bodies c
+  ends c left = ends_up old.place bodies old.state c up (k.each c left)
+
+  -- the first write leaves the records
+  pub behind : (n : ℕ) (image : List ℕ) → Touched (Torn (old.place + 1 - missing) n) (g.may_leave old.disk) image → EndsAt old.place bodies image
+  behind n image from = torn_behind old.place bodies n from.0 image (ends from.0 from.1) (subst (λ at. Torn at n from.0 image) start from.2)
+
+  module _ (mid : D) (block : List ℕ) (fits : IsShort body) (here : IsImage (g.content old.disk) (g.may_leave old.disk)) (block_is : block ≡ replicate missing 0 ++ behind_gate body)
+      (wrote : g.content mid ≡ option_map (written (old.place + 1 - missing) block) (g.content old.disk)) (only : Only (g.content mid) (g.may_leave mid)) where
+    -- what the disk then tells
+    pub told_mid : g.content mid ≡ Some (written (old.place + 1) (behind_gate body) k.bytes)
+    told_mid =
+        wrote
+        ∙ ap (option_map (written (old.place + 1 - missing) block)) k.told
+        ∙ ap (λ at. Some (written at block k.bytes)) start
+        ∙ ap (λ (b : List ℕ). Some (written (old.place + 1) b k.bytes)) (block_is ∙ ap (λ n. replicate n 0 ++ behind_gate body) none)
+
+    staged_bytes : Staged old.place bodies body (written (old.place + 1) (behind_gate body) k.bytes)
+    staged_bytes = written_behind old.place bodies body k.bytes (ends k.bytes (told_image (g.may_leave old.disk) _ k.bytes k.told here)) fits
+
+    -- once it is synced, the record stands behind a closed gate
+    staged : (c : List ℕ) → g.may_leave mid c → Staged old.place bodies body c
+    staged c left = subst (Staged old.place bodies body) (sym (subst (λ t. Only t (g.may_leave mid)) told_mid only c left)) staged_bytes
+
+    -- the second write leaves the records, with the new one or without
+    pub gate : (image : List ℕ) → Touched (Torn old.place 1) (g.may_leave mid) image → EndsAt old.place bodies image ⊎ EndsAt (old.place + 5 + length body) (bodies ++ body ∷ []) image
+    gate image from = torn_gate old.place bodies body from.0 (staged from.0 from.1) image from.2
+
+    -- once it is synced, the record counts
+    pub opened : (now : Option (List ℕ)) (images : List ℕ → Type 0) → now ≡ option_map (written old.place (1 ∷ [])) (g.content mid) → Only now images → (c : List ℕ) → images c → EndsAt (old.place + 5 + length body) (bodies ++ body ∷ []) c
+    opened now images opens kept c left =
+        let now_is = subst (λ t. Only t images) (opens ∙ ap (option_map (written old.place (1 ∷ []))) told_mid) kept c left in
+        subst (EndsAt (old.place + 5 + length body) (bodies ++ body ∷ [])) (sym now_is) (written_gate old.place bodies body _ staged_bytes)
+
+    -- at every moment of both the records stand, with the new one or without
+    pub any_moment : (new : D) (n : ℕ) → LeavesOnly g.moment g.left_since old.disk mid (Touched (Torn (old.place + 1 - missing) n) (g.may_leave old.disk)) → LeavesOnly g.moment g.left_since mid new (Touched (Torn old.place 1) (g.may_leave mid))
+        → LeavesOnly g.moment g.left_since old.disk new (λ image. HasRecords bodies image ⊎ HasRecords (bodies ++ body ∷ []) image)
+    any_moment new n first then =
+        let P : List ℕ → Type 0 = λ image. HasRecords bodies image ⊎ HasRecords (bodies ++ body ∷ []) image in
+        let before = weakened g.moment g.left_since old.disk mid _ P first (λ image from. inl (inr (old.place, behind n image from))) in
+        continues g.moment g.left_since old.disk mid new P _ before then (λ image from. as_records _ _ bodies _ image (gate image from))

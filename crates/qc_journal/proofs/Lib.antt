@@ -1,0 +1,5 @@
+mod Moments
+pub mod Images
+mod Appends
+mod Reopens
+mod Readings

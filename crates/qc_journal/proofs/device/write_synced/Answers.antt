@@ -1,0 +1,28 @@
+-- What a crash leaves of a write goes on through the sync.
+use Rattle.std.proofs.Common.{◌≡◌, ℕ, List, length, Option, Some, None, ◌∙◌}
+use Rattle.std.specs.Prelude.{option_map}
+use Rattle.qc_disk.specs.Disk.{Torn, Steps, written}
+use Rattle.qc_disk.specs.Laws.{torn_same, torn-written}
+use Rattle.qc_journal.specs.Device.{Touched}
+use Rattle.qc_journal.proofs.Moments.{started, goes_on}
+use Rattle.qc_journal.proofs.device.write_synced.Goals as goal
+
+pub returns-in_err-write_at-clause-any_moment : goal.returns-in_err-write_at-clause-any_moment
+returns-in_err-write_at-clause-any_moment g c =
+    let P = Touched (Torn c.args.at (length c.args.bytes.now)) (g.D.Disk.may_leave c.args.disk.now) in
+    let at_start = started g.D.Disk.moment g.D.Disk.left_since c.args.disk.now P (λ d left. (d, g.met.D.Disk.only_now c.args.disk.now d left, torn_same _ _ d)) in
+    goes_on g.D.Disk.moment g.D.Disk.left_since c.args.disk.now c.args.disk.now c.write_at.new.self P _ at_start c.write_at.ensures.time (λ d now. c.write_at.ensures.crash d now)
+
+steps_written : (at : ℕ) (bytes : List ℕ) (told now : Option (List ℕ)) → now ≡ option_map (written at bytes) told → Steps (Torn at (length bytes)) told now
+steps_written at bytes None now is = is
+steps_written at bytes (Some old) now is = (written at bytes old, is, torn-written at bytes old)
+
+pub returns-clause-torn : goal.returns-clause-torn
+returns-clause-torn g c = steps_written c.args.at c.args.bytes.now _ _ (c.sync.ensures.content ∙ c.in_ok-write_at.ensures.written)
+
+pub returns-clause-any_moment : goal.returns-clause-any_moment
+returns-clause-any_moment g c =
+    let P = Touched (Torn c.args.at (length c.args.bytes.now)) (g.D.Disk.may_leave c.args.disk.now) in
+    let at_start = started g.D.Disk.moment g.D.Disk.left_since c.args.disk.now P (λ d left. (d, g.met.D.Disk.only_now c.args.disk.now d left, torn_same _ _ d)) in
+    let wrote = goes_on g.D.Disk.moment g.D.Disk.left_since c.args.disk.now c.args.disk.now c.write_at.new.self P _ at_start c.write_at.ensures.time (λ d now. c.write_at.ensures.crash d now) in
+    goes_on g.D.Disk.moment g.D.Disk.left_since c.args.disk.now c.write_at.new.self c.sync.new.self P _ wrote c.sync.ensures.time (λ d now. c.write_at.ensures.crash d (c.sync.ensures.crash d now))
