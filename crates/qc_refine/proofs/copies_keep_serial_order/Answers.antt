@@ -1,0 +1,8 @@
+use Rattle.qc_refine.proofs.CopiesSerial.{serial_order, left_copies}
+use Rattle.qc_refine.proofs.copies_keep_serial_order.Goals as goal
+
+pub returns-clause-serial : goal.returns-clause-serial
+returns-clause-serial c = serial_order
+
+pub returns-clause-left : goal.returns-clause-left
+returns-clause-left c = left_copies

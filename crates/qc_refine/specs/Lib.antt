@@ -1,0 +1,5 @@
+pub mod Completed
+pub mod InTurn
+pub mod Given
+pub mod Complete
+pub mod Turns
