@@ -40,10 +40,10 @@ has_values setting values sound = by_size (length setting.firsts) refl
     by_size (suc n) is = let last = by_value n (slice_get values n) refl (sound n (omega arith)) in omega arith
 
 module _ (setting : Setting) (values : List ℕ) (past : Past) (t : Name) (legal : Legal setting past) (sound : IsSound setting values) (user : IsUserOf past t) (alive : dead past t ≡ None) where
-  done : All (IsDone setting) (dones_order past t)
+  pub done : All (IsDone setting) (dones_order past t)
   done = order_done setting past t (grounded setting values sound) legal
 
-  there : Finds setting.base (given_to (dones_order past t))
+  pub there : Finds setting.base (given_to (dones_order past t))
   there = subst (Finds setting.base) (sym (given_order setting past t legal user)) (finds setting past t legal user alive)
 
   follows : Follows values (serialise past t) (dones_order past t)

@@ -34,3 +34,4 @@ pub mod LiveGrants
 pub mod ServedThere
 pub mod Steady
 pub mod Finished
+pub mod EachManager

@@ -1,11 +1,12 @@
 -- Complete managers one after another: what they were given, and the values and the copies after them.
-use Rattle.std.specs.Prelude.{ℕ, ◌≡◌, ◌<◌, List, [], ◌∷◌, length, All, map, flat_map, slice_get, slice_set, Some}
+use Rattle.std.specs.Prelude.{ℕ, ◌≡◌, ◌<◌, List, [], ◌∷◌, ◌++◌, length, All, map, flat_map, slice_get, slice_set, Some}
 use Rattle.std.specs.List.{range_with_len}
 use Rattle.qc_config.specs.Config.{Voting}
 use Rattle.qc_config.specs.declared.tuple.Tuple.{Tuple}
 use Rattle.qc_event.specs.Base.{Setting, first_of}
 use Rattle.qc_event.specs.History.{Given}
 use Rattle.qc_event.specs.Manager.{record_of}
+use Rattle.qc_event.specs.Sound.{IsSound}
 use Rattle.qc_event.specs.declared.event.Answer.{Answer}
 use Rattle.qc_event.specs.declared.event.Answer.TheVariants.{Nothing, Value, Generation}
 use Rattle.qc_event.specs.declared.event.Kind.{Kind}
@@ -69,3 +70,10 @@ left_base setting given = map (λ copy. map (λ rec. left_at setting.base given 
 -- what a run starts from where grants were given before
 abbrev pub left_setting : Setting → List Given → Setting
 left_setting setting given = record { firsts = setting.firsts; base = left_base setting given }
+
+-- A manager comes after others: what it finds and what it leaves is sound, for the values before it and after
+-- it, and where it reads it answers its record's value.
+pub record KeepsSound (setting : Setting) (values : List ℕ) (earlier : List Done) (d : Done) : Type 0 where
+  pub finds : IsSound (left_setting setting (given_to earlier)) (values_after values earlier)
+  pub answers : AnswersValue (values_after values earlier) d.kind d.answer
+  pub leaves : IsSound (left_setting setting (given_to (earlier ++ d ∷ []))) (values_after values (earlier ++ d ∷ []))

@@ -3,7 +3,7 @@
 
 mod complete;
 
-ghost use Rattle.std.specs.Prelude.{ℕ, ◌≡◌, All, List, [], length, None};
+ghost use Rattle.std.specs.Prelude.{ℕ, ◌≡◌, ◌∷◌, ◌++◌, All, List, [], length, None};
 ghost use Rattle.qc_config.specs.Config.{Voting};
 ghost use Rattle.qc_config.specs.declared.tuple.Tuple.{Tuple};
 ghost use Rattle.qc_event.specs.Base.{Setting};
@@ -14,7 +14,8 @@ ghost use Rattle.qc_event.specs.Sound.{Carries, IsSound};
 ghost use Rattle.qc_simlock.specs.Serial.{final_values, IsSerialFor, IsUserOf};
 ghost use Rattle.qc_simlock.specs.Visible.{Finds, served_order};
 ghost use Rattle.qc_refine.specs.Completed.{after_all, CarriesMore, FindsThere, MoveDone, ReadDone, Within, WriteDone};
-ghost use Rattle.qc_refine.specs.InTurn.{AnswerValues, Done, given_to, IsDone, left_setting, values_after};
+ghost use Rattle.qc_refine.specs.InTurn.{AnswerValues, Done, given_to, IsDone, KeepsSound, left_setting, values_after};
+ghost use Rattle.qc_refine.specs.Turns.{dones_order};
 
 pub use complete::committed_managers_are_complete;
 
@@ -50,6 +51,9 @@ pub fn managers_in_turn_serve_values()
 pub fn copies_keep_serial_order()
     ensures serial { (setting : Setting) (values : List ℕ) (past : Past) (t : Name) → Legal setting past
         → IsSound setting values → IsUserOf past t → dead past t ≡ None → IsSerialFor values past t }
+    ensures managers { (setting : Setting) (values : List ℕ) (past : Past) (t : Name) → Legal setting past → IsSound setting values
+        → IsUserOf past t → dead past t ≡ None → (earlier later : List Done) (d : Done) → dones_order past t ≡ earlier ++ d ∷ later
+        → KeepsSound setting values earlier d }
     ensures left { (setting : Setting) (values : List ℕ) (past : Past) → Legal setting past
         → IsSound setting values → IsSound (left_setting setting (served_order past [])) (final_values values past) }
 {}
