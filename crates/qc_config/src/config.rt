@@ -59,6 +59,18 @@ fn total_of(votes: &[u8]) -> u16
 }
 
 impl Config {
+    /// No votes and no thresholds, which is no legal configuration.
+    pub fn none() -> Self
+        ensures { result ≡ config.no_config }
+    {
+        Config {
+            votes: [0; 16],
+            count: 0,
+            read: 0,
+            write: 0,
+        }
+    }
+
     /// A configuration of these votes, one number for each copy. Each refusal comes where its rule
     /// is the first that is broken.
     pub fn new(votes: &[u8], read: u64, write: u64) -> Result<Self, BadConfig>
@@ -93,6 +105,25 @@ impl Config {
             read: read as u16,
             write: write as u16,
         })
+    }
+
+    /// Whether the votes and thresholds are those of a legal configuration.
+    pub fn is_legal(&self) -> bool
+        ensures { IsTrue result ↔ config.IsLegal self.now }
+    {
+        let total = u32::from(self.total());
+        let read = u32::from(self.read);
+        let write = u32::from(self.write);
+        let possible = 0 < read && read <= total && 0 < write && write <= total;
+        total > 0 && possible && total < read + write
+    }
+
+    /// How many copies the list of votes is for.
+    pub fn count(&self) -> usize
+        ensures count { result ≡ length self.now.votes }
+        ensures bounded { length self.now.votes ≤ 16 }
+    {
+        self.count
     }
 
     /// The votes of a copy, none past the list.

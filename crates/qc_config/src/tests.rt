@@ -21,12 +21,20 @@ fn each_refusal_has_its_rule(rt: HostRuntime) {
 fn quorums_are_counted_by_votes(rt: HostRuntime) -> Result<(), Fail> {
     let config = Config::new(&[2, 1, 1], 2, 3).ok().ok_or("it is legal")?;
     assert_eq!(rt; config.total(), 4);
+    assert_eq!(rt; config.count(), 3);
+    assert!(rt; config.is_legal());
+    assert_eq!(rt; Config::none().count(), 0);
+    assert!(rt; !Config::none().is_legal());
     assert_eq!(rt; config.votes(0), 2);
     assert_eq!(rt; config.votes(3), 0);
     assert_eq!(rt; config.read(), 2);
     assert_eq!(rt; config.write(), 3);
     let first = Copies::none().with(0);
     let others = Copies::none().with(1).with(2);
+    assert_eq!(rt;
+        &others.as_slice()[..4],
+        [false, true, true, false].as_slice()
+    );
     assert!(rt; config.has_read(first));
     assert!(rt; config.has_read(others));
     assert!(rt; !config.has_read(Copies::none().with(1)));

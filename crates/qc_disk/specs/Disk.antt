@@ -5,7 +5,7 @@ use Rattle.std.specs.Prelude.{◌≡◌, ◌<◌, ◌≤◌, ◌⊎◌, ◌↔�
 abbrev pub next : ℕ → ℕ
 next n = min (n + 1) (2 ^ 64 - 1)
 
--- the count of faults rose; one that stands at the end of its range counts as risen
+-- a count rose; one that stands at the end of its range counts as risen
 abbrev pub Rose : ℕ → ℕ → Type 0
 Rose before now = next before ≤ now
 
@@ -69,6 +69,10 @@ pub record Elapses (before now : ℕ) (past since : ℕ → List ℕ → Type 0)
   pub later : before ≤ now
   pub nothing_else : (t : ℕ) (c : List ℕ) → t ≤ before → since t c → past t c ⊎ may_leave c
   pub keeps : (t : ℕ) (c : List ℕ) → t ≤ before → past t c → since t c
+
+-- the clock rose, unless there was no memory for the call
+abbrev pub Advances : ℕ → ℕ → Type 0 → Type 0
+Advances before now NoMemory = NoMemory ⊎ Rose before now
 
 -- All but the clock is as before.
 pub record Stays (told tells : Option (List ℕ)) (had has : ℕ) (left leaves : List ℕ → Type 0) (before now : ℕ) : Type 0 where

@@ -11,6 +11,10 @@ use Rattle.qc_disk.specs.declared.home.HomeDisk.TheVariants.{Memory, File}
 abbrev pub file_size : FileDisk → ℕ
 file_size disk = disk.size
 
+-- how often a file was called
+abbrev pub file_calls : FileDisk → ℕ
+file_calls disk = disk.calls
+
 -- how often a file failed
 abbrev pub file_faults : FileDisk → ℕ
 file_faults disk = disk.faults
@@ -30,10 +34,10 @@ abbrev pub home_images : HomeDisk → List ℕ → Type 0
 home_images (Memory disk) c = mem_images disk c
 home_images (File disk) c = Unit {0}
 
--- the moment; of a file there is but one
+-- the moment: how many calls were counted
 abbrev pub home_moment : HomeDisk → ℕ
 home_moment (Memory disk) = length (mem_acts disk)
-home_moment (File disk) = 0
+home_moment (File disk) = file_calls disk
 
 -- what a crash might have left since a moment
 abbrev pub home_since : HomeDisk → ℕ → List ℕ → Type 0
@@ -50,12 +54,12 @@ abbrev pub home_offers : List ℕ → Option (List ℕ)
 home_offers [] = Some []
 home_offers (byte ∷ rest) = None
 
--- an empty place gives an empty disk in memory, and a folder a file that has not failed
+-- an empty place gives an empty disk in memory, and a folder a file that was not called and has not failed
 abbrev pub HomeGives : List ℕ → HomeDisk → Type 0
 HomeGives [] (Memory disk) = IsEmpty disk
 HomeGives [] (File disk) = ⊥
 HomeGives (byte ∷ rest) (Memory disk) = ⊥
-HomeGives (byte ∷ rest) (File disk) = file_faults disk ≡ 0
+HomeGives (byte ∷ rest) (File disk) = (file_calls disk ≡ 0) × (file_faults disk ≡ 0)
 
 -- a disk of either kind has the laws of a disk
 pub home_image : (disk : HomeDisk) → IsImage (home_content disk) (home_images disk)

@@ -1,7 +1,7 @@
 //! A disk as its users see it: what a read returns, and what a crash may leave.
 ghost use Rattle.std.specs.Prelude.{◌≡◌, ◌≤◌, ◌+◌, ℕ, max, List, Option, length, take, option_map, IfOk, OnOk, OnErr, IsErrOf};
 ghost use Rattle.qc_disk.specs.declared.disk.DiskNo.TheVariants.{Memory};
-ghost use Rattle.qc_disk.specs.Disk.{HasCause, written, Torn, Cut, Follows, Within, Only, IsImage, HasLength, Steps, Holds, Elapses, Stays};
+ghost use Rattle.qc_disk.specs.Disk.{HasCause, written, Torn, Cut, Follows, Within, Only, IsImage, HasLength, Steps, Holds, Elapses, Advances, Stays};
 
 use std::alloc::{AllocError, AllocFailed};
 use thiserror::Error;
@@ -44,7 +44,8 @@ pub trait Disk {
     /// What a crash at this moment may leave.
     ghost may_leave: { Self → List ℕ → Type 0 };
 
-    /// The moment, as a number that never falls.
+    /// The moment, on a clock that never falls. Each call advances it, up to `2^64 - 1` at least; one that answers
+    /// want of memory may leave it.
     ghost moment: { Self → ℕ };
 
     /// What a crash at some moment from that one on might have left, during a call or between two.
@@ -60,6 +61,7 @@ pub trait Disk {
         ensures size { OnErr result (size self.new ≡ size self.old) }
         ensures crash { Within (may_leave self.old) (may_leave self.new) }
         ensures time { Elapses (moment self.old) (moment self.new) (left_since self.old) (left_since self.new) (may_leave self.new) }
+        ensures advances { Advances (moment self.old) (moment self.new) (IsErrOf result DiskNo.Memory) }
         ensures cause { HasCause (faults self.old) (faults self.new) (IsErrOf result DiskNo.Failed) }
         ensures memory { IsErrOf result DiskNo.Memory → Stays (content self.old) (content self.new) (size self.old) (size self.new) (may_leave self.old) (may_leave self.new) (faults self.old) (faults self.new) };
 
@@ -71,6 +73,7 @@ pub trait Disk {
         ensures size { size self.new ≡ size self.old }
         ensures crash { Within (may_leave self.old) (may_leave self.new) }
         ensures time { Elapses (moment self.old) (moment self.new) (left_since self.old) (left_since self.new) (may_leave self.new) }
+        ensures advances { Advances (moment self.old) (moment self.new) (IsErrOf result DiskNo.Memory) }
         ensures cause { HasCause (faults self.old) (faults self.new) (IsErrOf result DiskNo.Failed) }
         ensures memory { IsErrOf result DiskNo.Memory → Stays (content self.old) (content self.new) (size self.old) (size self.new) (may_leave self.old) (may_leave self.new) (faults self.old) (faults self.new) };
 
@@ -82,6 +85,7 @@ pub trait Disk {
         ensures failed { IsErrOf result DiskNo.Failed → Steps (Torn at (length bytes.now)) (content self.old) (content self.new) }
         ensures crash { Follows (Torn at (length bytes.now)) (may_leave self.old) (may_leave self.new) }
         ensures time { Elapses (moment self.old) (moment self.new) (left_since self.old) (left_since self.new) (may_leave self.new) }
+        ensures advances { Advances (moment self.old) (moment self.new) (IsErrOf result DiskNo.Memory) }
         ensures cause { HasCause (faults self.old) (faults self.new) (IsErrOf result DiskNo.Failed) }
         ensures memory { IsErrOf result DiskNo.Memory → Stays (content self.old) (content self.new) (size self.old) (size self.new) (may_leave self.old) (may_leave self.new) (faults self.old) (faults self.new) };
 
@@ -93,6 +97,7 @@ pub trait Disk {
         ensures failed { IsErrOf result DiskNo.Failed → Steps (Cut to) (content self.old) (content self.new) }
         ensures crash { Follows (Cut to) (may_leave self.old) (may_leave self.new) }
         ensures time { Elapses (moment self.old) (moment self.new) (left_since self.old) (left_since self.new) (may_leave self.new) }
+        ensures advances { Advances (moment self.old) (moment self.new) (IsErrOf result DiskNo.Memory) }
         ensures cause { HasCause (faults self.old) (faults self.new) (IsErrOf result DiskNo.Failed) }
         ensures memory { IsErrOf result DiskNo.Memory → Stays (content self.old) (content self.new) (size self.old) (size self.new) (may_leave self.old) (may_leave self.new) (faults self.old) (faults self.new) };
 
@@ -103,6 +108,7 @@ pub trait Disk {
         ensures size { size self.new ≡ size self.old }
         ensures crash { Within (may_leave self.old) (may_leave self.new) }
         ensures time { Elapses (moment self.old) (moment self.new) (left_since self.old) (left_since self.new) (may_leave self.new) }
+        ensures advances { Advances (moment self.old) (moment self.new) (IsErrOf result DiskNo.Memory) }
         ensures cause { HasCause (faults self.old) (faults self.new) (IsErrOf result DiskNo.Failed) }
         ensures memory { IsErrOf result DiskNo.Memory → Stays (content self.old) (content self.new) (size self.old) (size self.new) (may_leave self.old) (may_leave self.new) (faults self.old) (faults self.new) };
 

@@ -1,5 +1,5 @@
 //! A disk in a file. It tells no bytes: that a file is such a disk is trusted.
-ghost use Rattle.std.specs.Prelude.{◌≡◌, IfOk, None};
+ghost use Rattle.std.specs.Prelude.{◌≡◌, ◌≤◌, IfOk, None};
 ghost use Rattle.qc_disk.specs.Disk.{HasCause, next};
 
 use crate::disk::{Disk, DiskNo};
@@ -13,13 +13,16 @@ pub struct FileDisk {
     file: File,
     /// As it was last known.
     size: u64,
+    /// Those that failed too, up to `2^64 - 1`.
+    calls: u64,
     faults: u64,
 }
 
 impl FileDisk {
     /// Opens a file, or makes it, empty. The folder is synced too, so that a new file outlives a crash.
     pub fn open(rt: &HostRuntime, folder: &str, path: &str) -> io::Result<FileDisk>
-        ensures { IfOk result (λ disk. disk.faults ≡ 0) }
+        ensures calls { IfOk result (λ disk. disk.calls ≡ 0) }
+        ensures faults { IfOk result (λ disk. disk.faults ≡ 0) }
     {
         let mut options = OpenOptions::new();
         options.read(true).write(true).create(true);
@@ -29,14 +32,26 @@ impl FileDisk {
         Ok(FileDisk {
             file,
             size,
+            calls: 0,
             faults: 0,
         })
+    }
+
+    // Counts a call.
+    fn count(&mut self)
+        ensures size { self.new.size ≡ self.old.size }
+        ensures calls { self.new.calls ≡ next self.old.calls }
+        ensures later { self.old.calls ≤ self.new.calls }
+        ensures faults { self.new.faults ≡ self.old.faults }
+    {
+        self.calls = self.calls.saturating_add(1);
     }
 
     // Counts a fault.
     fn fail(&mut self) -> DiskNo
         ensures answer { result ≡ DiskNo.Failed }
         ensures size { self.new.size ≡ self.old.size }
+        ensures calls { self.new.calls ≡ self.old.calls }
         ensures faults { self.new.faults ≡ next self.old.faults }
         ensures cause { HasCause self.old.faults self.new.faults (Unit {0}) }
     {
@@ -52,7 +67,7 @@ impl Disk for FileDisk {
 
     ghost may_leave = { λ _ _. Unit {0} };
 
-    ghost moment = { λ _. 0 };
+    ghost moment = { λ disk. disk.calls };
 
     ghost left_since = { λ _ _ _. Unit {0} };
 
@@ -67,6 +82,7 @@ impl Disk for FileDisk {
     ghost only_now = { λ _ _ _. tt };
 
     fn len(&mut self) -> Result<u64, DiskNo> {
+        self.count();
         let Ok(metadata) = self.file.metadata() else {
             return Err(self.fail());
         };
@@ -75,6 +91,7 @@ impl Disk for FileDisk {
     }
 
     fn read(&mut self, at: u64, into: &mut [u8]) -> Result<(), DiskNo> {
+        self.count();
         if self.file.read_exact_at(into, at).is_err() {
             return Err(self.fail());
         }
@@ -82,6 +99,7 @@ impl Disk for FileDisk {
     }
 
     fn write_at(&mut self, at: u64, bytes: &[u8]) -> Result<(), DiskNo> {
+        self.count();
         // A range that ends past any file is refused as the system would.
         let Some(end) = at.checked_add(bytes.len() as u64) else {
             return Err(self.fail());
@@ -94,6 +112,7 @@ impl Disk for FileDisk {
     }
 
     fn cut(&mut self, to: u64) -> Result<(), DiskNo> {
+        self.count();
         if self.file.set_len(to).is_err() {
             return Err(self.fail());
         }
@@ -102,6 +121,7 @@ impl Disk for FileDisk {
     }
 
     fn sync(&mut self) -> Result<(), DiskNo> {
+        self.count();
         if self.file.sync_all().is_err() {
             return Err(self.fail());
         }

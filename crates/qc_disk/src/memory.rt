@@ -18,7 +18,7 @@ pub struct MemDisk {
 
 impl MemDisk {
     ghost use Rattle.std.specs.Prelude.{◌≤◌, ◌+◌, ◌-◌, take, Some, IfOk, IsErrOf};
-    ghost use Rattle.qc_disk.specs.Disk.{HasCause, Elapses, Stays};
+    ghost use Rattle.qc_disk.specs.Disk.{HasCause, Elapses, Advances, Stays};
     ghost use Rattle.qc_disk.specs.Replay.{act_of, image_after};
     ghost use Rattle.qc_disk.specs.MemDisk.{mem_first, mem_acts, mem_bytes, mem_fails, mem_faults, mem_images, mem_since, next_fault, Turned};
 
@@ -72,6 +72,7 @@ impl MemDisk {
     // Makes a call whose work is a deed.
     fn turn(&mut self, deed: Deed) -> Result<(), DiskNo>
         ensures time { Elapses (length (mem_acts self.old)) (length (mem_acts self.new)) (mem_since self.old) (mem_since self.new) (mem_images self.new) }
+        ensures advances { Advances (length (mem_acts self.old)) (length (mem_acts self.new)) (IsErrOf result DiskNo.Memory) }
         ensures cause { HasCause (mem_faults self.old) (mem_faults self.new) (IsErrOf result DiskNo.Failed) }
         ensures memory { IsErrOf result DiskNo.Memory → Stays (Some (mem_bytes self.old)) (Some (mem_bytes self.new)) (length (mem_bytes self.old)) (length (mem_bytes self.new)) (mem_images self.old) (mem_images self.new) (mem_faults self.old) (mem_faults self.new) }
         ensures turned { Turned self.old self.new (act_of deed) result }
@@ -93,7 +94,7 @@ impl MemDisk {
 
 impl Disk for MemDisk {
     ghost use Rattle.std.specs.Prelude.{◌≤◌, ◌+◌, max, take, option_map, Some, IfOk, OnOk, OnErr, IsErrOf};
-    ghost use Rattle.qc_disk.specs.Disk.{HasCause, written, Torn, Cut, Follows, Within, Only, Steps, Holds, Elapses, Stays};
+    ghost use Rattle.qc_disk.specs.Disk.{HasCause, written, Torn, Cut, Follows, Within, Only, Steps, Holds, Elapses, Advances, Stays};
     ghost use Rattle.qc_disk.specs.Replay.{nothing, wrote, cut_to, synced};
     ghost use Rattle.qc_disk.specs.Laws.{image_now, since_now, since_only};
     ghost use Rattle.qc_disk.specs.MemDisk.{mem_first, mem_acts, mem_bytes, mem_faults, mem_images, mem_since, Turned};
@@ -124,6 +125,7 @@ impl Disk for MemDisk {
         ensures size { OnErr result (length (mem_bytes self.new) ≡ length (mem_bytes self.old)) }
         ensures crash { Within (mem_images self.old) (mem_images self.new) }
         ensures time { Elapses (length (mem_acts self.old)) (length (mem_acts self.new)) (mem_since self.old) (mem_since self.new) (mem_images self.new) }
+        ensures advances { Advances (length (mem_acts self.old)) (length (mem_acts self.new)) (IsErrOf result DiskNo.Memory) }
         ensures cause { HasCause (mem_faults self.old) (mem_faults self.new) (IsErrOf result DiskNo.Failed) }
         ensures memory { IsErrOf result DiskNo.Memory → Stays (Some (mem_bytes self.old)) (Some (mem_bytes self.new)) (length (mem_bytes self.old)) (length (mem_bytes self.new)) (mem_images self.old) (mem_images self.new) (mem_faults self.old) (mem_faults self.new) }
         ensures turned { Turned self.old self.new nothing result }
@@ -139,6 +141,7 @@ impl Disk for MemDisk {
         ensures size { length (mem_bytes self.new) ≡ length (mem_bytes self.old) }
         ensures crash { Within (mem_images self.old) (mem_images self.new) }
         ensures time { Elapses (length (mem_acts self.old)) (length (mem_acts self.new)) (mem_since self.old) (mem_since self.new) (mem_images self.new) }
+        ensures advances { Advances (length (mem_acts self.old)) (length (mem_acts self.new)) (IsErrOf result DiskNo.Memory) }
         ensures cause { HasCause (mem_faults self.old) (mem_faults self.new) (IsErrOf result DiskNo.Failed) }
         ensures memory { IsErrOf result DiskNo.Memory → Stays (Some (mem_bytes self.old)) (Some (mem_bytes self.new)) (length (mem_bytes self.old)) (length (mem_bytes self.new)) (mem_images self.old) (mem_images self.new) (mem_faults self.old) (mem_faults self.new) }
         ensures turned { Turned self.old self.new nothing result }
@@ -156,6 +159,7 @@ impl Disk for MemDisk {
         ensures failed { IsErrOf result DiskNo.Failed → Steps (Torn at (length bytes.now)) (Some (mem_bytes self.old)) (Some (mem_bytes self.new)) }
         ensures crash { Follows (Torn at (length bytes.now)) (mem_images self.old) (mem_images self.new) }
         ensures time { Elapses (length (mem_acts self.old)) (length (mem_acts self.new)) (mem_since self.old) (mem_since self.new) (mem_images self.new) }
+        ensures advances { Advances (length (mem_acts self.old)) (length (mem_acts self.new)) (IsErrOf result DiskNo.Memory) }
         ensures cause { HasCause (mem_faults self.old) (mem_faults self.new) (IsErrOf result DiskNo.Failed) }
         ensures memory { IsErrOf result DiskNo.Memory → Stays (Some (mem_bytes self.old)) (Some (mem_bytes self.new)) (length (mem_bytes self.old)) (length (mem_bytes self.new)) (mem_images self.old) (mem_images self.new) (mem_faults self.old) (mem_faults self.new) }
         ensures turned { Turned self.old self.new (wrote at bytes.now) result }
@@ -174,6 +178,7 @@ impl Disk for MemDisk {
         ensures failed { IsErrOf result DiskNo.Failed → Steps (Cut to) (Some (mem_bytes self.old)) (Some (mem_bytes self.new)) }
         ensures crash { Follows (Cut to) (mem_images self.old) (mem_images self.new) }
         ensures time { Elapses (length (mem_acts self.old)) (length (mem_acts self.new)) (mem_since self.old) (mem_since self.new) (mem_images self.new) }
+        ensures advances { Advances (length (mem_acts self.old)) (length (mem_acts self.new)) (IsErrOf result DiskNo.Memory) }
         ensures cause { HasCause (mem_faults self.old) (mem_faults self.new) (IsErrOf result DiskNo.Failed) }
         ensures memory { IsErrOf result DiskNo.Memory → Stays (Some (mem_bytes self.old)) (Some (mem_bytes self.new)) (length (mem_bytes self.old)) (length (mem_bytes self.new)) (mem_images self.old) (mem_images self.new) (mem_faults self.old) (mem_faults self.new) }
         ensures turned { Turned self.old self.new (cut_to to) result }
@@ -187,6 +192,7 @@ impl Disk for MemDisk {
         ensures size { length (mem_bytes self.new) ≡ length (mem_bytes self.old) }
         ensures crash { Within (mem_images self.old) (mem_images self.new) }
         ensures time { Elapses (length (mem_acts self.old)) (length (mem_acts self.new)) (mem_since self.old) (mem_since self.new) (mem_images self.new) }
+        ensures advances { Advances (length (mem_acts self.old)) (length (mem_acts self.new)) (IsErrOf result DiskNo.Memory) }
         ensures cause { HasCause (mem_faults self.old) (mem_faults self.new) (IsErrOf result DiskNo.Failed) }
         ensures memory { IsErrOf result DiskNo.Memory → Stays (Some (mem_bytes self.old)) (Some (mem_bytes self.new)) (length (mem_bytes self.old)) (length (mem_bytes self.new)) (mem_images self.old) (mem_images self.new) (mem_faults self.old) (mem_faults self.new) }
         ensures turned { Turned self.old self.new synced result }

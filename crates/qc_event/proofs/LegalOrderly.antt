@@ -1,4 +1,4 @@
--- Both kinds of legal history are orderly.
+-- Legal histories are orderly.
 use Rattle.std.proofs.Common.{◌≡◌, ℕ, ◌<◌, inl, inr, true, [], ◌∷◌, ◌++◌, length, refl, sym, ap, ◌∙◌, subst, arith}
 use Rattle.std.specs.Prelude.{Option, None, Some, is_some, is_none, find, MatchOption}
 use Rattle.qc_names.specs.Name as name
@@ -12,10 +12,8 @@ use Rattle.qc_event.specs.declared.event.Kind.{Kind}
 use Rattle.qc_event.specs.declared.event.Kind.TheVariants as kind
 use Rattle.qc_event.specs.History.{Past, Name, Begun, start, end}
 use Rattle.qc_event.specs.Standing.{IsUser, IsManager, Started, open_child, IsGoing}
-use Rattle.qc_event.specs.Users.{StandsUnder, MayStartTop, MayStartNext, MayReady, MayCommitUserOrTop}
+use Rattle.qc_event.specs.Users.{MayStartTop, MayStartNext, MayReady, MayCommitUserOrTop}
 use Rattle.qc_event.specs.Starts.{Stands}
-use Rattle.qc_event.specs.Calls as calls
-use Rattle.qc_event.specs.Calls.{LegalCalls}
 use Rattle.qc_event.specs.Commits.{MayCommit}
 use Rattle.qc_event.specs.Starts as starts
 use Rattle.qc_event.specs.Legal as legal
@@ -24,8 +22,6 @@ use Rattle.qc_event.proofs.Orderly.{Belongs, IsNewTop, IsNextChild, Begins, Beco
 use Rattle.qc_event.proofs.LastNumber.{child_last}
 use Rattle.qc_event.proofs.OneEntry.{not_some, some_or_none, childless}
 use Rattle.qc_event.proofs.Lawful.{Lawful, lawful, started_some, started_wider}
-
--- WHAT BOTH SHARE
 
 new_top : (past : Past) (seat number : ℕ) (k : Kind) → MayStartTop past seat number k → IsNewTop past number k
 new_top past seat number k may = record { user = may.user; fresh = may.fresh }
@@ -49,47 +45,6 @@ user_commits : (past : Past) (seat : ℕ) (n : Name) (given : Answer) → MayCom
 user_commits past seat [] given may = going_commits past [] may.going may.children_ended
 user_commits past seat (x ∷ []) given may = record { is_open = may.is_open; closed = inr may.ready; alive = λ long. absurd (omega arith) }
 user_commits past seat (x ∷ y ∷ r) given may = going_commits past (x ∷ y ∷ r) may.going may.children_ended
-
-under_belongs : (setting : Setting) (b : Begun) (depth : ℕ) (k : Kind) → StandsUnder setting b depth k → Belongs b k
-under_belongs setting b depth (kind.User session body) h = h.0
-under_belongs setting b depth (kind.Read rec) h = h.0
-under_belongs setting b depth (kind.Write rec value) h = h.0
-under_belongs setting b depth (kind.Reconf rec config) h = h.0
-under_belongs setting b depth kind.Access h = absurd h
-
--- HISTORIES OF CALLS ALONE
-
-calls_begin : (setting : Setting) (past : Past) (seat : ℕ) (n : Name) (k : Kind) → calls.Starts setting past seat n k → Begins past n k
-calls_begin setting past seat [] k may = absurd may
-calls_begin setting past seat (x ∷ []) k may = new_top past seat x k may
-calls_begin setting past seat (x ∷ y ∷ r) k may = next_child _ past seat (x ∷ y ∷ r) k (λ b. under_belongs setting b _ k) may
-
-calls_commit : (past : Past) (seat : ℕ) (n : Name) (b : Begun) (given : Answer) (k : Kind) → calls.commit_by_kind past seat n b given k → Commits past n
-calls_commit past seat n b given (kind.User session body) may = user_commits past seat n given may
-calls_commit past seat n b given (kind.Read rec) may = going_commits past n may.going may.children_ended
-calls_commit past seat n b given (kind.Write rec value) may = going_commits past n may.going may.children_ended
-calls_commit past seat n b given (kind.Reconf rec config) may = going_commits past n may.going may.children_ended
-calls_commit past seat n b given kind.Access may = absurd may
-
-calls_end : (past : Past) (seat : ℕ) (n : Name) (how : How) (o : Option Begun) → MatchOption o ⊥ (calls.MayEnd past seat n how) → Ends past n how
-calls_end past seat n how None may = absurd may
-calls_end past seat n (Commit given) (Some b) may = calls_commit past seat n b given b.kind may
-calls_end past seat n (Abort c) (Some b) may = may.is_open
-
-call_keeps : (setting : Setting) (past : Past) (seat : ℕ) (ev : Event) → calls.MayHappen setting past seat ev → KeepsOrder past ev
-call_keeps setting past seat (event.Start n k) may = calls_begin setting past seat n k may
-call_keeps setting past seat (event.End n how) may = calls_end past seat n how (start past n) may
-call_keeps setting past seat (event.Ready top) may = becomes_ready past seat top may
-call_keeps setting past seat _ may = tt
-
-pub calls_orderly : (setting : Setting) (past : Past) → LegalCalls setting past → Orderly past
-calls_orderly setting [] h = tt
-calls_orderly setting (e ∷ past) h = (calls_orderly setting past h.0, call_keeps setting past e.seat e.event h.1)
-
-pub calls_lawful : (setting : Setting) (past : Past) → LegalCalls setting past → Lawful past
-calls_lawful setting past h = lawful past (calls_orderly setting past h)
-
--- LEGAL HISTORIES
 
 stands_belongs : (setting : Setting) (seat : ℕ) (b : Begun) (depth : ℕ) (k : Kind) → Stands setting seat b depth k → Belongs b k
 stands_belongs setting seat b depth (kind.User session body) h = h.0

@@ -8,5 +8,7 @@ pub mod Orderly
 pub mod Lawful
 pub mod LegalOrderly
 pub mod Lineage
+pub mod RulesOnce
+pub mod LegalAgain
 pub mod Worked
 pub mod WorkedAborts

@@ -7,7 +7,6 @@ pub mod Manager
 pub mod Sound
 pub mod Standing
 pub mod Users
-pub mod Calls
 pub mod Starts
 pub mod Requests
 pub mod Grants

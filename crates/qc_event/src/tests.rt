@@ -154,6 +154,12 @@ fn a_put_stands_in_the_way_until_its_top_commits(rt: HostRuntime) -> Result<(), 
     assert!(rt; clear(log.as_slice(), &put, &top.child(2).child(1)));
     assert!(rt; holder(log.as_slice(), 0, 0, &Op::Get, &other) == Some(put));
     assert_eq!(rt; version_and_value(&log, &base), (1, 5));
+    assert_eq!(rt;
+        (base.copies(), base.row(0).len(), base.row(1).len()),
+        (1, 1, 0)
+    );
+    assert_eq!(rt; base.tuple(0, 0).config.total(), 1);
+    assert_eq!(rt; base.tuple(0, 1).config.total(), 0);
 
     assert!(rt; log.push(entry(Event::Ready { top })).is_ok());
     assert!(rt; commit(&mut log, top, Answer::Nothing));

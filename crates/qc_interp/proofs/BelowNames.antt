@@ -1,9 +1,10 @@
 -- Which names stand below a name, and which begin it.
-use Rattle.std.proofs.Common.{◌≡◌, ℕ, ◌<◌, ◌≤◌, ◌⊎◌, inl, inr, true, [], ◌∷◌, ◌++◌, length, sym, ap, ◌∙◌, arith, append_assoc, append-nil}
+use Rattle.std.proofs.Common.{◌≡◌, ℕ, ◌+◌, ◌<◌, ◌≤◌, ◌⊎◌, inl, inr, true, false, [], ◌∷◌, ◌++◌, length, sym, ap, ◌∙◌, arith, append_assoc, append-nil}
+use Rattle.std.proofs.lemmas.Bool.{false_from_ne_true}
 use Rattle.std.proofs.lemmas.List.{length-append}
 use Rattle.qc_names.specs.Name.{is_ancestor}
-use Rattle.qc_event.specs.History.{Name}
-use Rattle.qc_event.proofs.LastNumber.{EndsIn, ends_in, same_last, length_last, is_ancestor-append}
+use Rattle.qc_event.specs.History.{Name, is_child}
+use Rattle.qc_event.proofs.LastNumber.{EndsIn, ends_in, same_last, length_last, is_ancestor-append, child_last}
 use Rattle.qc_interp.proofs.Running.{Below}
 
 pub below_child : (of m : Name) (k : ℕ) → Below (of ++ k ∷ []) m → Below of m
@@ -45,3 +46,14 @@ not_within_child of p r k is (inr below) = omega (arith, begins_short of p r is,
 
 pub begins_ancestor : (of p r : Name) → of ≡ p ++ r → is_ancestor p of ≡ true
 begins_ancestor of p r is = ap (is_ancestor p) is ∙ is_ancestor-append p r
+
+-- CHILDREN
+
+pub child_longer : (n c : Name) → is_child n c ≡ true → length c ≡ length n + 1
+child_longer n c h = let is = child_last n c h in ap length is.1 ∙ length_last n is.0
+
+pub no_child_length : (n c : Name) → (length c ≡ length n + 1 → ⊥) → is_child n c ≡ false
+no_child_length n c differ = false_from_ne_true (is_child n c) (λ h. differ (child_longer n c h))
+
+pub child_below : (n c : Name) → is_child n c ≡ true → Below n c
+child_below n c h = let is = child_last n c h in (is.0, [], is.1)

@@ -22,7 +22,7 @@ use Rattle.qc_interp.proofs.BelowNames.{begins_short}
 
 -- SEARCHES AMONG ANCESTORS
 
-find_same : (p q : Name → Bool) (n : Name) → ((a r : Name) → n ≡ a ++ r → p a ≡ q a) → find p (ancestors n) ≡ find q (ancestors n)
+pub find_same : (p q : Name → Bool) (n : Name) → ((a r : Name) → n ≡ a ++ r → p a ≡ q a) → find p (ancestors n) ≡ find q (ancestors n)
 find_same p q [] h = ap (λ b. cond b (Some []) None) (h [] [] refl)
 find_same p q (x ∷ xs) h =
     ap (λ b. cond b (Some []) (find p (map (λ a. x ∷ a) (ancestors xs)))) (h [] (x ∷ xs) refl)

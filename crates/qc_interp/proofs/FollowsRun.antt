@@ -1,49 +1,41 @@
 -- What a transaction leaves that runs from some step on follows the rest of its plan.
-use Rattle.std.proofs.Common.{◌≡◌, ℕ, ◌+◌, inl, inr, Bool, List, [], ◌∷◌, ◌++◌, length, refl, sym, ap, ◌∙◌, subst, arith, append-nil, append_assoc}
-use Rattle.std.specs.Prelude.{◌⊎◌, IsTrue, Option, None, Some, is_some, not, if◌then◌else◌, slice_index}
-use Rattle.std.specs.Option.{option_or, option_map}
+use Rattle.std.proofs.Common.{◌≡◌, ℕ, ◌+◌, inl, inr, List, [], ◌∷◌, ◌++◌, length, refl, sym, ap, ◌∙◌, subst, arith, append-nil, append_assoc}
+use Rattle.std.specs.Prelude.{◌⊎◌, IsTrue, Option, None, Some, is_some, not}
 use Rattle.std.proofs.lemmas.Bool.{false_from_ne_true}
 use Rattle.std.proofs.lemmas.List.{length-append}
 use Rattle.qc_event.specs.declared.event.Answer.{Answer}
-use Rattle.qc_event.specs.declared.event.Answer.TheVariants.{Nothing, Value}
-use Rattle.qc_event.specs.declared.event.Cause.TheVariants.{Asked}
-use Rattle.qc_event.specs.declared.event.Event.TheVariants.{Start}
+use Rattle.qc_event.specs.declared.event.Cause.{Cause}
+use Rattle.qc_event.specs.declared.event.Cause.TheVariants.{Asked, Orphan}
+use Rattle.qc_event.specs.declared.event.Event.TheVariants.{Start, End}
 use Rattle.qc_event.specs.declared.event.How.{How}
 use Rattle.qc_event.specs.declared.event.How.TheVariants.{Commit, Abort}
 use Rattle.qc_event.specs.declared.event.Kind.{Kind}
 use Rattle.qc_event.specs.declared.event.Kind.TheVariants as kind
-use Rattle.qc_event.specs.History.{Past, Name, Begun, same, start, start_in, end, children, kind_of}
+use Rattle.qc_event.specs.History.{Past, Name, same, start, end, children, kind_of}
 use Rattle.qc_event.specs.Dead.{outcome, outcome_of, is_committed}
 use Rattle.qc_event.specs.Base.{Setting}
-use Rattle.qc_event.proofs.LegalOrderly.{calls_lawful as lawful}
-use Rattle.qc_event.proofs.Absent.{same_is, same_itself}
-use Rattle.qc_event.proofs.Histories.{or_none}
-use Rattle.qc_event.proofs.LastNumber.{length_last, last_longer, is_child-last}
+use Rattle.qc_event.specs.Legal.{Legal}
+use Rattle.qc_event.specs.Standing.{IsManager}
+use Rattle.qc_event.proofs.LegalOrderly.{legal_orderly}
+use Rattle.qc_event.proofs.Lawful.{lawful}
+use Rattle.qc_event.proofs.Absent.{same_is}
+use Rattle.qc_event.proofs.LastNumber.{length_last, is_child-last}
 use Rattle.qc_event.proofs.Lineage.{IsFresh, fresh_child}
-use Rattle.qc_event.proofs.OneEntry.{some_or_none, child_added}
+use Rattle.qc_event.proofs.OneEntry.{some_or_none, unless_some, child_added}
 use Rattle.qc_script.specs.Plan.{Plan, PlanWithin}
-use Rattle.qc_interp.specs.Trace.{Now, by_client, managed, after_read, after_set, begun, committed, returned, run}
+use Rattle.qc_interp.specs.Trace.{Now, by_client, begun, aborted, committed, returned, Managed, RunsManager, Runs}
 use Rattle.qc_interp.specs.Follows.{StopsEarly, GoesOn, FollowsPlan, Asks}
 use Rattle.qc_interp.proofs.BelowNames.{below_longer, begins_child, not_within_child}
+use Rattle.qc_interp.proofs.Cases.{unless_dead, goes_on}
 use Rattle.qc_interp.proofs.LeftAsItIs.{children_left}
-use Rattle.qc_interp.proofs.RunChild.{returned_past}
-use Rattle.qc_interp.proofs.LeftAtOnce.{AskedFrom, Early, Left, ran_grown, orphan_left, unless, alive_open, committed_left, asked_left}
-use Rattle.qc_interp.proofs.OneEnd.{OneEnd, one_end}
+use Rattle.qc_interp.proofs.LeftAtOnce.{AskedFrom, Early, Left, ran_grown, orphan_left, alive_open, committed_left, asked_left}
+use Rattle.qc_interp.proofs.ManagedLeft.{kind_now, end_started, managed_above, managed_asks, managed_end, managed_kind, managed_children}
+use Rattle.qc_interp.proofs.OneEnd.{OneEnd, aborted_end, aborted_last}
 use Rattle.qc_interp.proofs.Running.{Below, Running, Ran}
-use Rattle.qc_interp.proofs.RunSteps.{run_read, run_set, run_begun, run_back, run_ran}
-use Rattle.qc_interp.proofs.Stays.{Grown, whole_stays, asks_stay, follows_ended}
-
--- STARTS
-
--- a name that starts has this kind from then on
-kind_now : (past : Past) (n : Name) (k : Kind) → start past n ≡ None → kind_of (by_client (Start n k) ∷ past) n ≡ Some k
-kind_now past n k none =
-    ap (λ o. option_map (λ (b : Begun). b.kind) (option_or o (start_in n 18 (Start n k)))) none
-    ∙ ap (λ (b : Bool). option_map (λ (b : Begun). b.kind) (if b then Some (record { seat = 18; kind = k }) else None)) (same_itself n)
-
--- a start ends nothing
-pub end_started : (past : Past) (n m : Name) (k : Kind) → end (by_client (Start n k) ∷ past) m ≡ end past m
-end_started past n m k = sym (or_none (end past m))
+use Rattle.qc_interp.proofs.RunChild.{run_begun, returned_past, returned_setting, run_back}
+use Rattle.qc_interp.proofs.RunManagers.{managed_running}
+use Rattle.qc_interp.proofs.RunsRan.{runs_ran}
+use Rattle.qc_interp.proofs.Stays.{Grown, grown, whole_stays, asks_stay, follows_ended}
 
 no_more : {Y : Type 0} (ys : List Y) → length ys + 1 ≡ 1 → ys ≡ []
 no_more [] h = refl
@@ -57,8 +49,8 @@ pub record BodyLeft (n : Name) (number : ℕ) (plan : Plan) (old left new : Past
   pub steps : FollowsPlan new n plan (children new n) (end new n)
   pub as_asked : (m by : Name) → end left m ≡ Some (Abort (Asked by)) → (end old m ≡ Some (Abort (Asked by))) ⊎ Asks new by m n plan (children new n)
 
-pub body_left : (setting : Setting) (n : Name) (number : ℕ) (plan : Plan) (now left : Now) (new : Past) → start now.past n ≡ None → Running setting n 1 (begun n number now) → Grown (begun n number now).past left.past → Grown left.past new → Left n plan (begun n number now).past left.past → BodyLeft n number plan now.past left.past new
-body_left setting n number plan now left new fresh runs grown further l = record {
+pub body_left : (n : Name) (number : ℕ) (plan : Plan) (now left : Now) (new : Past) → start now.past n ≡ None → Running n 1 (begun n number now) → Grown (begun n number now).past left.past → Grown left.past new → Left n plan (begun n number now).past left.past → BodyLeft n number plan now.past left.past new
+body_left n number plan now left new fresh runs grown further l = record {
   kind = further.kinds n (kind.User 0 number) (grown.kinds n (kind.User 0 number) (kind_now now.past n (kind.User 0 number) fresh));
   steps = whole_stays left.past new further n plan follows;
   as_asked = λ m by is. elim (l.as_asked m by is) [
@@ -78,79 +70,88 @@ body_left setting n number plan now left new fresh runs grown further l = record
 
 -- A MANAGER
 
-module _ (setting : Setting) (of : Name) (k : ℕ) (now : Now) (h : Running setting of k now) (alive : now.dead ≡ None) where
+module _ (of : Name) (k : ℕ) (now : Now) (h : Running of k now) (alive : now.dead ≡ None) where
   abbrev child : Name
   child = of ++ k ∷ []
 
   fresh : IsFresh now.past child
-  fresh = fresh_child now.past of k [] (lawful setting now.past h.legal) h.nonroot (omega (arith, h.next))
+  fresh = fresh_child now.past of k [] (lawful now.past (legal_orderly now.setting now.past h.legal)) h.nonroot (omega (arith, h.next))
 
   not_ended : end now.past of ≡ None
-  not_ended = alive_open setting of k now h alive
-
-  one_child : (kd : Kind) → children (by_client (Start child kd) ∷ now.past) of ≡ children now.past of ++ child ∷ []
-  one_child kd = child_added (by_client (Start child kd)) now.past of child kd refl (is_child-last of k)
+  not_ended = alive_open of k now h alive
 
   further : {Y : Type 0} (y : Y) (ys zs more : List Y) → zs ≡ ys ++ y ∷ [] → zs ++ more ≡ ys ++ y ∷ more
   further y ys zs more is = ap (λ l. l ++ more) is ∙ append_assoc ys (y ∷ []) more
 
-  module _ (kd : Kind) (given : Answer) where
-    abbrev started : Past
-    started = by_client (Start child kd) ∷ now.past
+  module _ (kd : Kind) (manages : IsManager kd) (how : How) (mid : Now) (managed : Managed child kd how now mid) where
+    still_open : end mid.past of ≡ None
+    still_open = unless_some (end mid.past of) (λ how is. some_or_none (end now.past of) (ap is_some (managed_above child kd _ now mid managed of how (omega (arith, length_last of k)) is)) not_ended)
 
-    abbrev mid : Past
-    mid = managed child kd (Commit given) now.past
+    manager_early : Early mid.past of
+    manager_early how is = absurd (some_or_none (end mid.past of) (ap is_some is) still_open)
 
-    ends : OneEnd child (Commit given) started mid
-    ends = one_end 18 child (Commit given) started
+    asked_before : (n by : Name) → end mid.past n ≡ Some (Abort (Asked by)) → end now.past n ≡ Some (Abort (Asked by))
+    asked_before n by is = managed_asks child kd how now mid managed n by manages (omega (arith, length_last of k)) fresh.no_start is
 
-    commit_news : (n : Name) (how : How) → end mid n ≡ Some how → (end now.past n ≡ Some how) ⊎ ((n ≡ child) × (how ≡ Commit given))
-    commit_news n how is = elim (ends.news n how is) [
-      | inl old ↦ inl (sym (end_started now.past child n kd) ∙ old)
-      | inr new ↦ inr new
-    ]
+    above_before : (n : Name) (how : How) → Below n of → end mid.past n ≡ Some how → end now.past n ≡ Some how
+    above_before n h above is = managed_above child kd how now mid managed n h (omega (arith, below_longer n of above, length_last of k)) is
 
-    manager_early : Early mid of
-    manager_early how is = absurd (elim (commit_news of how is) [
-      | inl old ↦ some_or_none (end now.past of) (ap is_some old) not_ended
-      | inr new ↦ last_longer of k (sym new.0)
-    ])
+    ended_so : end mid.past child ≡ Some how
+    ended_so = managed_end child kd how now mid managed fresh.no_end
+
+    one_child : children mid.past of ≡ children now.past of ++ child ∷ []
+    one_child = managed_children child kd how now mid managed of k refl
+
+    kind_after : (new : Past) → Grown mid.past new → kind_of new child ≡ Some kd
+    kind_after new grown = grown.kinds child kd (managed_kind child kd how now mid managed fresh.no_start)
 
     -- what a manager's commit and the rest leave
-    manager_left : (rest plan : Plan) (new : Past) → Grown mid new → Left of rest mid new
-        → ((more : List Name) (how : Option How) → kind_of new child ≡ Some kd → GoesOn (end new child) (FollowsPlan new of rest more how) more how → FollowsPlan new of plan (child ∷ more) how)
+    manager_left : (given : Answer) → how ≡ Commit given → (rest plan : Plan) (new : Past) → Grown mid.past new → Left of rest mid.past new
+        → ((more : List Name) (end_of : Option How) → kind_of new child ≡ Some kd → GoesOn (end new child) (FollowsPlan new of rest more end_of) more end_of → FollowsPlan new of plan (child ∷ more) end_of)
         → ((n by : Name) (more : List Name) → IsTrue (is_committed (outcome new child)) × Asks new by n of rest more → Asks new by n of plan (child ∷ more)) → Left of plan now.past new
-    manager_left rest plan new grown l one_step asks = record {
+    manager_left given commits rest plan new grown l one_step asks = record {
       more = child ∷ l.more;
-      children_are = l.children_are ∙ further child (children now.past of) (children mid of) l.more (ends.same_children of ∙ one_child kd);
-      follows = one_step l.more (end new of)
-          (grown.kinds child kd (kind_kept (kind_now now.past child kd fresh.no_start)))
+      children_are = l.children_are ∙ further child (children now.past of) (children mid.past of) l.more one_child;
+      follows = one_step l.more (end new of) (kind_after new grown)
           (subst (λ o. GoesOn o (FollowsPlan new of rest l.more (end new of)) l.more (end new of)) (sym child_end) l.follows);
       as_asked = λ n by is. elim (l.as_asked n by is) [
-        | inl old ↦ elim (commit_news n (Abort (Asked by)) old) [ inl older ↦ inl older | inr new ↦ absurd (differ by new.1) ]
+        | inl old ↦ inl (asked_before n by old)
         | inr asked ↦ inr (asks n by l.more (ap (λ o. is_committed (outcome_of o)) child_end, asked))
       ];
-      upward = λ n how above is. elim (l.upward n how above is) [
-        | inl old ↦ elim (commit_news n how old) [
-          | inl older ↦ inl older
-          | inr new ↦ absurd (let longer = below_longer n of above in omega (arith, ap length new.0, length_last of k))
-        ]
+      upward = λ n h above is. elim (l.upward n h above is) [
+        | inl old ↦ inl (above_before n h above old)
         | inr asked ↦ inr asked
       ];
     }
       where
         child_end : end new child ≡ Some (Commit given)
-        child_end = grown.ends child (Commit given) (ends.now (end_started now.past child child kd ∙ fresh.no_end))
+        child_end = grown.ends child (Commit given) (ended_so ∙ ap Some commits)
 
-        kind_kept : kind_of started child ≡ Some kd → kind_of mid child ≡ Some kd
-        kind_kept is = ap (option_map (λ (b : Begun). b.kind)) (sym (or_none (start started child))) ∙ is
-
-        differ : (by : Name) → Abort (Asked by) ≡ Commit given → ⊥
-        differ by is = cc
+    -- what a manager leaves that is aborted, upon which its transaction is
+    manager_fails : (cause : Cause) → how ≡ Abort cause → (rest plan : Plan) (new : Past) → Grown mid.past new → OneEnd of (Abort cause) mid.past new
+        → ((more : List Name) (end_of : Option How) → kind_of new child ≡ Some kd → GoesOn (end new child) (FollowsPlan new of rest more end_of) more end_of → FollowsPlan new of plan (child ∷ more) end_of)
+        → Left of plan now.past new
+    manager_fails cause aborts rest plan new grown one one_step = record {
+      more = child ∷ [];
+      children_are = one.same_children of ∙ one_child;
+      follows = one_step [] (end new of) (kind_after new grown)
+          (subst (λ o. GoesOn o (FollowsPlan new of rest [] (end new of)) [] (end new of)) (sym (grown.ends child (Abort cause) child_end)) (refl, one.now still_open));
+      as_asked = λ n by is. elim (one.news n (Abort (Asked by)) is) [
+        | inl old ↦ inl (asked_before n by old)
+        | inr new ↦ absurd (some_or_none (end now.past child) (ap is_some (asked_before child by (child_end ∙ ap Some (sym new.1)))) fresh.no_end)
+      ];
+      upward = λ n h above is. elim (one.news n h is) [
+        | inl old ↦ inl (above_before n h above old)
+        | inr itself ↦ absurd (let longer = below_longer n of above in omega (arith, ap length itself.0))
+      ];
+    }
+      where
+        child_end : end mid.past child ≡ Some (Abort cause)
+        child_end = ended_so ∙ ap Some aborts
 
   -- A CHILD
 
-  module _ (number : ℕ) (inner rest : Plan) (left back : Now) (r : Ran setting child (begun child number now) left) (l : Left child inner (begun child number now).past left.past) (is_back : back.past ≡ left.past) where
+  module _ (number : ℕ) (inner rest : Plan) (left back : Now) (r : Ran child (begun child number now) left) (l : Left child inner (begun child number now).past left.past) (is_back : back.past ≡ left.past) where
     back_news : (n : Name) (how : How) → Below n child → end back.past n ≡ Some how → (end now.past n ≡ Some how) ⊎ AskedFrom child how
     back_news n how above is = elim (l.upward n how above (ap (λ p. end p n) (sym is_back) ∙ is)) [
       | inl old ↦ inl (sym (end_started now.past child n (kind.User 0 number)) ∙ old)
@@ -172,7 +173,7 @@ module _ (setting : Setting) (of : Name) (k : ℕ) (now : Now) (h : Running sett
     children_back =
         ap (λ p. children p of) (is_back ∙ r.is)
         ∙ children_left child of r.later (begun child number now).past r.inside (not_within_child of of [] k (sym (append-nil of)))
-        ∙ one_child (kind.User 0 number)
+        ∙ child_added (by_client (Start child (kind.User 0 number))) now.past of child (kind.User 0 number) refl (is_child-last of k)
 
     child_left : (new : Past) → BodyLeft child number inner now.past left.past new → Left of rest back.past new → Left of (Plan.child_then number inner rest) now.past new
     child_left new body m = record {
@@ -194,49 +195,78 @@ module _ (setting : Setting) (of : Name) (k : ℕ) (now : Now) (h : Running sett
 
 -- THE STEPS
 
-pub run_left : (setting : Setting) (of : Name) (k : ℕ) (plan : Plan) (now : Now) → Running setting of k now → PlanWithin (length setting.firsts) (length of) plan → Early now.past of → Left of plan now.past (run of k plan now).past
-run_left setting of k Plan.done now h within early =
-    unless (λ new. Left of Plan.done now.past new.past) of now (committed of now)
-    (λ alive. committed_left of now (alive_open setting of k now h alive))
-    (λ a fallen. orphan_left setting of a k Plan.done now (λ early. inr early) h fallen early)
-run_left setting of k (Plan.read_then rec rest) now h within early =
-    unless (λ new. Left of (Plan.read_then rec rest) now.past new.past) of now (run of (k + 1) rest (after_read of k rec now))
-    (λ alive.
-    let mid : Now = after_read of k rec now in
-    let runs = run_read setting of k rec now h alive within.0 in
-    manager_left setting of k now h alive (kind.Read rec) (Value (slice_index now.values rec)) rest (Plan.read_then rec rest) (run of (k + 1) rest mid).past
-    (ran_grown setting of mid (run of (k + 1) rest mid) (run_ran setting of (k + 1) rest mid runs within.1))
-    (run_left setting of (k + 1) rest mid runs within.1 (manager_early setting of k now h alive (kind.Read rec) (Value (slice_index now.values rec))))
-    (λ more how is goes. (is, goes)) (λ n by more asks. asks))
-    (λ a fallen. orphan_left setting of a k (Plan.read_then rec rest) now (λ early. early) h fallen early)
-run_left setting of k (Plan.set_then rec value rest) now h within early =
-    unless (λ new. Left of (Plan.set_then rec value rest) now.past new.past) of now (run of (k + 1) rest (after_set of k rec value now))
-    (λ alive.
-    let mid : Now = after_set of k rec value now in
-    let runs = run_set setting of k rec value now h alive within.0 in
-    manager_left setting of k now h alive (kind.Write rec value) Nothing rest (Plan.set_then rec value rest) (run of (k + 1) rest mid).past
-    (ran_grown setting of mid (run of (k + 1) rest mid) (run_ran setting of (k + 1) rest mid runs within.1))
-    (run_left setting of (k + 1) rest mid runs within.1 (manager_early setting of k now h alive (kind.Write rec value) Nothing))
-    (λ more how is goes. (is, goes)) (λ n by more asks. asks))
-    (λ a fallen. orphan_left setting of a k (Plan.set_then rec value rest) now (λ early. early) h fallen early)
-run_left setting of k (Plan.child_then number inner rest) now h within early =
-    unless (λ new. Left of (Plan.child_then number inner rest) now.past new.past) of now (run of (k + 1) rest (returned (length of) now.values (run (of ++ k ∷ []) 1 inner (begun (of ++ k ∷ []) number now))))
-    (λ alive.
+-- what holds of the number of records stays so
+pub at_setting : (P : ℕ → Type 0) (old new : Now) → new.setting ≡ old.setting → P (length old.setting.firsts) → P (length new.setting.firsts)
+at_setting P old new is h = subst (λ (s : Setting). P (length s.firsts)) (sym is) h
+
+-- what the rest leaves that a transaction goes on to, whatever it is
+abbrev RestLeft : Name → ℕ → Plan → Now → Type 0
+RestLeft of k rest new = (mid : Now) → Running of k mid → PlanWithin (length mid.setting.firsts) (length of) rest → Early mid.past of → Runs of k rest mid new → Left of rest mid.past new.past
+
+-- what a manager leaves, and the rest
+manager_step : (of : Name) (k : ℕ) (kd : Kind) (rest plan : Plan) (now new : Now) → Running of k now → now.dead ≡ None → IsManager kd → PlanWithin (length now.setting.firsts) (length of) rest
+    → ((more : List Name) (end_of : Option How) → kind_of new.past (of ++ k ∷ []) ≡ Some kd → GoesOn (end new.past (of ++ k ∷ [])) (FollowsPlan new.past of rest more end_of) more end_of → FollowsPlan new.past of plan ((of ++ k ∷ []) ∷ more) end_of)
+    → ((n by : Name) (more : List Name) → IsTrue (is_committed (outcome new.past (of ++ k ∷ []))) × Asks new.past by n of rest more → Asks new.past by n of plan ((of ++ k ∷ []) ∷ more))
+    → Ran of now new → RestLeft of (k + 1) rest new → RunsManager of k kd (λ mid. Runs of (k + 1) rest mid new) now new → Left of plan now.past new.past
+manager_step of k kd rest plan now new h alive manages within one_step asks r further m =
+    goes_on m.how of (Runs of (k + 1) rest m.mid new) m.mid new
+    (λ given commits runs.
+    let on : Running of (k + 1) m.mid = managed_running of k kd m.how now m.mid h alive manages m.managed in
+    let rest_within = at_setting (λ records. PlanWithin records (length of) rest) now m.mid m.managed.same_setting within in
+    manager_left of k now h alive kd manages m.how m.mid m.managed given commits rest plan new.past
+    (ran_grown of m.mid new (runs_ran of (k + 1) rest m.mid new on rest_within runs))
+    (further m.mid on rest_within (manager_early of k now h alive kd manages m.how m.mid m.managed) runs) one_step asks)
+    (λ cause aborts is.
+    let one : OneEnd of (Abort cause) m.mid.past new.past = subst (λ (n : Now). OneEnd of (Abort cause) m.mid.past n.past) (sym is) (aborted_end of cause m.mid) in
+    let last : new.past ≡ by_client (End of (Abort cause)) ∷ m.mid.past = ap (λ (n : Now). n.past) is ∙ aborted_last of cause m.mid (still_open of k now h alive kd manages m.how m.mid m.managed) in
+    manager_fails of k now h alive kd manages m.how m.mid m.managed cause aborts rest plan new.past
+    (subst (Grown m.mid.past) (sym last) (grown new.setting (by_client (End of (Abort cause)) ∷ []) m.mid.past (subst (Legal new.setting) last r.legal)))
+    one one_step)
+    m.goes_on
+
+-- what a body within a body leaves, and the rest
+child_step : (of : Name) (k number : ℕ) (inner rest : Plan) (now left new : Now) → Running of k now → now.dead ≡ None → PlanWithin (length now.setting.firsts) (length of) (Plan.child_then number inner rest)
+    → RestLeft (of ++ k ∷ []) 1 inner left → RestLeft of (k + 1) rest new → Runs (of ++ k ∷ []) 1 inner (begun (of ++ k ∷ []) number now) left → Runs of (k + 1) rest (returned (length of) left) new → Left of (Plan.child_then number inner rest) now.past new.past
+child_step of k number inner rest now left new h alive within inside further runs rest_runs =
     let c : Name = of ++ k ∷ [] in
-    let left : Now = run c 1 inner (begun c number now) in
-    let back : Now = returned (length of) now.values left in
-    let new : Now = run of (k + 1) rest back in
-    let is_back : back.past ≡ left.past = returned_past (length of) now.values left in
-    let inner_within : PlanWithin (length setting.firsts) (length c) inner = subst (λ d. PlanWithin (length setting.firsts) d inner) (sym (length_last of k)) within.1 in
-    let begins = run_begun setting of k number now h alive within.0 in
-    let r : Ran setting c (begun c number now) left = run_ran setting c 1 inner (begun c number now) begins inner_within in
-    let l : Left c inner (begun c number now).past left.past = run_left setting c 1 inner (begun c number now) begins inner_within
-    (λ how is. absurd (some_or_none (end now.past c) (ap is_some (sym (end_started now.past c c (kind.User 0 number)) ∙ is)) (fresh setting of k now h alive).no_end)) in
-    let runs = run_back setting of k number now.values now left h alive r in
-    let ran = run_ran setting of (k + 1) rest back runs within.2 in
-    child_left setting of k now h alive number inner rest left back r l is_back new.past
-    (body_left setting c number inner now left new.past (fresh setting of k now h alive).no_start begins (ran_grown setting c (begun c number now) left r)
-    (subst (λ p. Grown p new.past) is_back (ran_grown setting of back new ran)) l)
-    (run_left setting of (k + 1) rest back runs within.2 (child_early setting of k now h alive number inner rest left back r l is_back)))
-    (λ a fallen. orphan_left setting of a k (Plan.child_then number inner rest) now (λ early. early) h fallen early)
-run_left setting of k (Plan.abort_then levels rest) now h within early = asked_left setting of k levels rest now h within.0 early
+    let back : Now = returned (length of) left in
+    let is_back : back.past ≡ left.past = returned_past (length of) left in
+    let inner_within : PlanWithin (length now.setting.firsts) (length c) inner = subst (λ d. PlanWithin (length now.setting.firsts) d inner) (sym (length_last of k)) within.1 in
+    let begins : Running c 1 (begun c number now) = run_begun of k number now h alive within.0 in
+    let r : Ran c (begun c number now) left = runs_ran c 1 inner (begun c number now) left begins inner_within runs in
+    let l : Left c inner (begun c number now).past left.past = inside (begun c number now) begins inner_within
+    (λ how is. absurd (some_or_none (end now.past c) (ap is_some (sym (end_started now.past c c (kind.User 0 number)) ∙ is)) (fresh of k now h alive).no_end)) runs in
+    let on : Running of (k + 1) back = run_back of k number now left h r in
+    let rest_within = at_setting (λ records. PlanWithin records (length of) rest) now back (returned_setting (length of) left ∙ r.same_setting) within.2 in
+    let ran : Ran of back new = runs_ran of (k + 1) rest back new on rest_within rest_runs in
+    child_left of k now h alive number inner rest left back r l is_back new.past
+    (body_left c number inner now left new.past (fresh of k now h alive).no_start begins (ran_grown c (begun c number now) left r) (subst (λ p. Grown p new.past) is_back (ran_grown of back new ran)) l)
+    (further back on rest_within (child_early of k now h alive number inner rest left back r l is_back) rest_runs)
+
+-- what is left by one that is dead
+stops_left : (of a : Name) (k : ℕ) (plan : Plan) (now new : Now) → ((past : Past) (how : Option How) → StopsEarly past of how → FollowsPlan past of plan [] how) → Running of k now → Early now.past of → now.dead ≡ Some a → new ≡ aborted of (Orphan a) now → Left of plan now.past new.past
+stops_left of a k plan now new stops h early fallen is =
+    subst (λ (n : Now). Left of plan now.past n.past) (sym is) (orphan_left of a k plan now (stops (aborted of (Orphan a) now).past (end (aborted of (Orphan a) now).past of)) h fallen early)
+
+pub run_left : (of : Name) (k : ℕ) (plan : Plan) (now new : Now) → Running of k now → PlanWithin (length now.setting.firsts) (length of) plan → Early now.past of → Runs of k plan now new → Left of plan now.past new.past
+run_left of k Plan.done now new h within early runs = unless_dead of now new (new ≡ committed of now)
+    (λ alive is. subst (λ (n : Now). Left of Plan.done now.past n.past) (sym is) (committed_left of now (alive_open of k now h alive)))
+    (λ a fallen is. stops_left of a k Plan.done now new (λ past how stops. inr stops) h early fallen is)
+    runs
+run_left of k (Plan.read_then rec rest) now new h within early runs = unless_dead of now new (RunsManager of k (kind.Read rec) (λ mid. Runs of (k + 1) rest mid new) now new)
+    (λ alive m. manager_step of k (kind.Read rec) rest (Plan.read_then rec rest) now new h alive tt within.1 (λ more end_of is goes. (is, goes)) (λ n by more asks. asks)
+    (runs_ran of k (Plan.read_then rec rest) now new h within runs) (λ mid on fits soon r. run_left of (k + 1) rest mid new on fits soon r) m)
+    (λ a fallen is. stops_left of a k (Plan.read_then rec rest) now new (λ past how stops. stops) h early fallen is)
+    runs
+run_left of k (Plan.set_then rec value rest) now new h within early runs = unless_dead of now new (RunsManager of k (kind.Write rec value) (λ mid. Runs of (k + 1) rest mid new) now new)
+    (λ alive m. manager_step of k (kind.Write rec value) rest (Plan.set_then rec value rest) now new h alive tt within.1 (λ more end_of is goes. (is, goes)) (λ n by more asks. asks)
+    (runs_ran of k (Plan.set_then rec value rest) now new h within runs) (λ mid on fits soon r. run_left of (k + 1) rest mid new on fits soon r) m)
+    (λ a fallen is. stops_left of a k (Plan.set_then rec value rest) now new (λ past how stops. stops) h early fallen is)
+    runs
+run_left of k (Plan.child_then number inner rest) now new h within early runs = unless_dead of now new ((left : Now) × Runs (of ++ k ∷ []) 1 inner (begun (of ++ k ∷ []) number now) left × Runs of (k + 1) rest (returned (length of) left) new)
+    (λ alive r. child_step of k number inner rest now r.0 new h alive within
+    (λ mid on fits soon s. run_left (of ++ k ∷ []) 1 inner mid r.0 on fits soon s)
+    (λ mid on fits soon s. run_left of (k + 1) rest mid new on fits soon s) r.1 r.2)
+    (λ a fallen is. stops_left of a k (Plan.child_then number inner rest) now new (λ past how stops. stops) h early fallen is)
+    runs
+run_left of k (Plan.abort_then levels rest) now new h within early is = subst (λ (n : Now). Left of (Plan.abort_then levels rest) now.past n.past) (sym is) (asked_left of k levels rest now h within.0 early)

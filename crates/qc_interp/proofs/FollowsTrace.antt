@@ -1,6 +1,5 @@
--- The history that a script makes follows it.
+-- The history that the tops of a script make follows it.
 use Rattle.std.proofs.Common.{◌≡◌, ℕ, ◌+◌, ◌<◌, ◌≤◌, inl, inr, Bool, true, false, List, [], ◌∷◌, ◌++◌, length, refl, sym, ap, ◌∙◌, subst, arith, append-nil, append_assoc}
-use mathlib.Core.Bool.{true≢false}
 use Rattle.std.specs.Prelude.{◌⊎◌, ◌==◌, Option, None, Some, is_some, not, ◌||◌, if◌then◌else◌, option_to_list}
 use Rattle.std.specs.List.{list_all}
 use Rattle.std.proofs.lemmas.Bool.{false_from_ne_true, eqb-true, and_from}
@@ -12,19 +11,19 @@ use Rattle.qc_event.specs.declared.event.Event.{Event}
 use Rattle.qc_event.specs.declared.event.Event.TheVariants as event
 use Rattle.qc_event.specs.declared.event.How.TheVariants.{Abort}
 use Rattle.qc_event.specs.declared.event.Kind.TheVariants as kind
-use Rattle.qc_event.specs.History.{Past, Name, every, start, end, is_ready, limit}
+use Rattle.qc_event.specs.History.{Past, Name, every, start, end, is_ready}
 use Rattle.qc_event.specs.Base.{Setting}
-use Rattle.qc_event.proofs.LegalOrderly.{calls_lawful as lawful}
 use Rattle.qc_event.proofs.Absent.{if_not}
 use Rattle.qc_event.proofs.OneEntry.{Starting, not_some, some_or_none, start_now, start_stays}
 use Rattle.qc_script.specs.Plan.{Numbered, TopsWithin}
-use Rattle.qc_interp.specs.Trace.{Now, by_client, begun, run, top_of, body_after, tops_after, trace}
+use Rattle.qc_interp.specs.Trace.{Now, by_client, begun, returned, top_of, TopsRun}
 use Rattle.qc_interp.specs.Follows.{started_in, top_in, tops, is_done, InTurn, FollowsBodies, AsksBelow, FollowsTops}
-use Rattle.qc_interp.proofs.FollowsRun.{BodyLeft, body_left, end_started, run_left}
+use Rattle.qc_interp.proofs.FollowsRun.{BodyLeft, body_left, at_setting, run_left}
 use Rattle.qc_interp.proofs.LeftAtOnce.{Left, ran_grown}
-use Rattle.qc_interp.proofs.RunChild.{returned_past}
-use Rattle.qc_interp.proofs.Fronts.{front_no_longer, body_longer, tops_grow}
-use Rattle.qc_interp.proofs.RunSteps.{run_ran, rest_begun, rest_back}
+use Rattle.qc_interp.proofs.ManagedLeft.{end_started}
+use Rattle.qc_interp.proofs.RunChild.{returned_past, returned_setting}
+use Rattle.qc_interp.proofs.RunTops.{law_of, nothing_rests, rest_begun, rest_back}
+use Rattle.qc_interp.proofs.RunsRan.{runs_ran}
 use Rattle.qc_interp.proofs.Running.{Inside, AllInside, Running, Ran, Resting}
 use Rattle.qc_interp.proofs.Stays.{Grown, grown, grown_on}
 
@@ -87,18 +86,18 @@ record TopsLeft (bodies : List Numbered) (old new : Past) : Type 0 where
   grows : Grown old new
   all_ended : (n : Name) → is_some (start new n) ≡ true → is_some (end new n) ≡ true
 
-no_tops_left : (setting : Setting) (i : ℕ) (now : Now) → Resting setting i now → TopsLeft [] now.past now.past
-no_tops_left setting i now rest = record {
+no_tops_left : (i : ℕ) (now : Now) → Resting i now → TopsLeft [] now.past now.past
+no_tops_left i now rest = record {
   more = [];
   tops_are = sym (append-nil (tops now.past));
   follows = tt;
   as_asked = λ n by is. inl is;
   turn = λ h. h;
-  grows = grown setting [] now.past rest.legal;
+  grows = grown now.setting [] now.past rest.legal;
   all_ended = rest.all_ended;
 }
 
-module _ (setting : Setting) (i : ℕ) (b : Numbered) (now left : Now) (rest : Resting setting i now) (begins : Running setting (top_of i) 1 (begun (top_of i) b.number now)) (r : Ran setting (top_of i) (begun (top_of i) b.number now) left) where
+module _ (i : ℕ) (b : Numbered) (now left : Now) (rest : Resting i now) (begins : Running (top_of i) 1 (begun (top_of i) b.number now)) (r : Ran (top_of i) (begun (top_of i) b.number now) left) where
   abbrev top : Name
   top = top_of i
 
@@ -109,7 +108,7 @@ module _ (setting : Setting) (i : ℕ) (b : Numbered) (now left : Now) (rest : R
   no_start = rest.unstarted (4294967297 + i) (omega arith)
 
   no_end : end now.past top ≡ None
-  no_end = not_some (end now.past top) (λ h. some_or_none (start now.past top) ((lawful setting now.past rest.legal).end_has_start top h) no_start)
+  no_end = not_some (end now.past top) (λ h. some_or_none (start now.past top) ((law_of now rest.legal).end_has_start top h) no_start)
 
   tops_left_by : tops left.past ≡ tops now.past ++ top ∷ []
   tops_left_by = ap tops r.is ∙ tops_inside top r.later from_start (omega arith) r.inside
@@ -128,48 +127,45 @@ module _ (setting : Setting) (i : ℕ) (b : Numbered) (now left : Now) (rest : R
       | inr asks ↦ inr (inr asks)
     ];
     turn = λ turn. m.turn (subst InTurn (sym is_back) (in_turn turn));
-    grows = grown_on now.past from_start new (grown setting (by_client (event.Start top (kind.User 0 b.number)) ∷ []) now.past begins.legal)
-        (grown_on from_start back.past new (subst (Grown from_start) (sym is_back) (ran_grown setting top (begun top b.number now) left r)) m.grows);
+    grows = grown_on now.past from_start new (grown now.setting (by_client (event.Start top (kind.User 0 b.number)) ∷ []) now.past begins.legal)
+        (grown_on from_start back.past new (subst (Grown from_start) (sym is_back) (ran_grown top (begun top b.number now) left r)) m.grows);
     all_ended = m.all_ended;
   }
 
-tops_left : (setting : Setting) (i : ℕ) (bodies : List Numbered) (now : Now) → TopsWithin (length setting.firsts) bodies → Resting setting i now → length (tops_after i bodies now).past ≤ limit → TopsLeft bodies now.past (tops_after i bodies now).past
-tops_left setting i [] now within rest small = no_tops_left setting i now rest
-tops_left setting i (b ∷ bodies) now within rest small =
+tops_left : (i : ℕ) (bodies : List Numbered) (now new : Now) → TopsWithin (length now.setting.firsts) bodies → Resting i now → TopsRun i bodies now new → i + length bodies ≤ 4294967295 → TopsLeft bodies now.past new.past
+tops_left i [] now new within rest is few = subst (λ (n : Now). TopsLeft [] now.past n.past) (sym is) (no_tops_left i now rest)
+tops_left i (b ∷ bodies) now new within rest (mid, body, tops_run) few =
     let top : Name = top_of i in
     let from_start : Now = begun top b.number now in
-    let left : Now = run top 1 b.plan from_start in
-    let back : Now = body_after 0 top b.number b.plan now in
-    let is_back : back.past ≡ left.past = returned_past 0 now.values left in
-    let few : i < 4294967295 = omega (arith, rest.long, small, body_longer 0 (top_of i) b.number b.plan now, front_no_longer back.past _ (tops_grow (i + 1) bodies back).front) in
-    let begins : Running setting top 1 from_start = rest_begun setting i b.number now rest few in
-    let r : Ran setting top from_start left = run_ran setting top 1 b.plan from_start begins within.0 in
-    let l : Left top b.plan from_start.past left.past = run_left setting top 1 b.plan from_start begins within.0
-    (λ how is. absurd (some_or_none (end now.past top) (ap is_some (sym (end_started now.past top top (kind.User 0 b.number)) ∙ is)) (no_end setting i b now left rest begins r))) in
-    let m = tops_left setting (i + 1) bodies back within.1 (rest_back setting i b.number now.values now left rest r) small in
-    one_more_top setting i b now left rest begins r bodies back (tops_after (i + 1) bodies back).past is_back
-    (body_left setting top b.number b.plan now left (tops_after (i + 1) bodies back).past (no_start setting i b now left rest begins r) begins
-    (ran_grown setting top from_start left r) (subst (λ p. Grown p (tops_after (i + 1) bodies back).past) is_back m.grows) l)
+    let left : Now = body.left in
+    let back : Now = returned 0 left in
+    let is_back : back.past ≡ left.past = returned_past 0 left in
+    let is_mid : mid ≡ back = body.back in
+    let on : TopsRun (i + 1) bodies back new = subst (λ (n : Now). TopsRun (i + 1) bodies n new) is_mid tops_run in
+    let begins : Running top 1 from_start = rest_begun i b.number now rest (omega arith) in
+    let r : Ran top from_start left = runs_ran top 1 b.plan from_start left begins within.0 body.runs in
+    let l : Left top b.plan from_start.past left.past = run_left top 1 b.plan from_start left begins within.0
+    (λ how is. absurd (some_or_none (end now.past top) (ap is_some (sym (end_started now.past top top (kind.User 0 b.number)) ∙ is)) (no_end i b now left rest begins r))) body.runs in
+    let m = tops_left (i + 1) bodies back new (at_setting (λ records. TopsWithin records bodies) now back (returned_setting 0 left ∙ r.same_setting) within.1) (rest_back i b.number now left rest r) on (omega arith) in
+    one_more_top i b now left rest begins r bodies back new.past is_back
+    (body_left top b.number b.plan now left new.past (no_start i b now left rest begins r) begins
+    (ran_grown top from_start left r) (subst (λ p. Grown p new.past) is_back m.grows) l)
     m
 
--- the history that a script makes follows it
-pub trace_follows : (setting : Setting) (values : List ℕ) (bodies : List Numbered) → TopsWithin (length setting.firsts) bodies → length values ≡ length setting.firsts → length (trace values bodies).past ≤ limit → FollowsTops bodies (trace values bodies).past
-trace_follows setting values bodies within fits small = record {
-  bodies_run = subst (FollowsBodies new bodies) (sym l.tops_are) l.follows;
+-- the history that the tops of a script make follows it
+pub tops_follow : (setting : Setting) (bodies : List Numbered) (new : Now) → TopsWithin (length setting.firsts) bodies → TopsRun 0 bodies (record { setting = setting; past = []; dead = None }) new → length bodies ≤ 4294967295 → FollowsTops bodies new.past
+tops_follow setting bodies new within runs few = record {
+  bodies_run = subst (FollowsBodies new.past bodies) (sym l.tops_are) l.follows;
   in_turn = l.turn tt;
-  each_ended = each_listed (λ e. started_in e.event) (λ n. is_some (end new n)) new (λ e n is. started_starts e.event n is) l.all_ended;
+  each_ended = each_listed (λ e. started_in e.event) (λ n. is_some (end new.past n)) new.past (λ e n is. started_starts e.event n is) l.all_ended;
   as_asked = λ n by is. elim (l.as_asked n by is) [
     | inl old ↦ absurd (nothing_ended by old)
-    | inr asks ↦ subst (AsksBelow new by n bodies) (sym l.tops_are) asks
+    | inr asks ↦ subst (AsksBelow new.past by n bodies) (sym l.tops_are) asks
   ];
 }
   where
-    new : Past
-    new = (trace values bodies).past
-
-    l : TopsLeft bodies [] new
-    l = tops_left setting 0 bodies (record { past = []; values = values; dead = None }) within
-        (record { legal = tt; fallen = refl; all_ended = λ n h. absurd (true≢false (sym h)); unstarted = λ x h. refl; long = omega arith }) small
+    l : TopsLeft bodies [] new.past
+    l = tops_left 0 bodies (record { setting = setting; past = []; dead = None }) new within (nothing_rests setting) runs (omega arith)
 
     nothing_ended : (by : Name) → None ≡ Some (Abort (Asked by)) → ⊥
     nothing_ended by is = cc

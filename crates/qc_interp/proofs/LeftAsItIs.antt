@@ -36,7 +36,12 @@ inside_parent of k (event.End m (Abort cause)) pos (inr (inr above)) = let s = a
   | inr higher ↦ inr (inr (higher, above.1))
 ]
 inside_parent of k (event.Ready m) pos i = absurd (omega (arith, i.1, ap length i.0, length_last of k))
-inside_parent of k _ pos i = absurd i
+inside_parent of k (event.Ask ask) pos i = below_child of ask.access k i
+inside_parent of k (event.Gone m why) pos i = below_child of m k i
+inside_parent of k (event.Granted copy grant) pos i = below_child of grant.access k i
+inside_parent of k (event.Refused m copy refusal) pos i = below_child of m k i
+inside_parent of k (event.Unable m why) pos i = below_child of m k i
+inside_parent of k (event.Mark by session) pos i = absurd i
 
 pub all_inside_parent : (of : Name) (k : ℕ) (later : Past) → 0 < length of → AllInside (of ++ k ∷ []) later → AllInside of later
 all_inside_parent of k [] pos inside = tt

@@ -10,17 +10,18 @@ use Rattle.qc_event.specs.declared.event.Kind.{Kind}
 use Rattle.qc_event.specs.declared.event.Kind.TheVariants as kind
 use Rattle.qc_event.specs.History.{Past, Name, Begun, start, end, children}
 use Rattle.qc_event.specs.Base.{Setting}
-use Rattle.qc_event.specs.Calls.{LegalCalls, Licensed, MayEnd}
+use Rattle.qc_event.specs.Aborts.{Licensed}
+use Rattle.qc_event.specs.Legal.{Legal, MayEnd}
 use Rattle.qc_event.specs.Standing.{IsOrphanOf}
 use Rattle.qc_event.proofs.Lineage.{neither, alive_not_aborted}
 use Rattle.qc_event.proofs.OneEntry.{some_or_none, unless_some}
 use Rattle.qc_script.specs.Plan.{Plan}
-use Rattle.qc_interp.specs.Trace.{Now, above, aborted, asked, committed, unless_dead}
+use Rattle.qc_interp.specs.Trace.{Now, above, aborted, asked, committed}
 use Rattle.qc_interp.specs.Follows.{StopsEarly, FollowsPlan, Asks}
 use Rattle.qc_interp.proofs.BelowNames.{below_longer}
 use Rattle.qc_interp.proofs.OneEnd.{OneEnd, committed_end, aborted_end, aborted_last}
 use Rattle.qc_interp.proofs.Running.{Below, Running, Ran}
-use Rattle.qc_interp.proofs.RunSteps.{ran_orphan, ran_asked}
+use Rattle.qc_interp.proofs.RunAborts.{ran_orphan, ran_asked}
 use Rattle.qc_interp.proofs.Stays.{Grown, grown, stops_stay}
 
 -- aborted as a name asked, or one below it
@@ -58,17 +59,17 @@ left_one of plan how old new one follows asks = record {
   ];
 }
 
-licensed_orphan : (past : Past) (seat : ℕ) (n a : Name) (b : Begun) (k : Kind) → Licensed past seat n b k (Orphan a) → IsOrphanOf past n a
-licensed_orphan past seat n a b (kind.User session body) h = h
-licensed_orphan past seat n a b kind.Access h = absurd h
-licensed_orphan past seat n a b _ h = h.0
+licensed_orphan : (setting : Setting) (past : Past) (seat : ℕ) (n a : Name) (b : Begun) (k : Kind) → Licensed setting past seat n b k (Orphan a) → IsOrphanOf past n a
+licensed_orphan setting past seat n a b (kind.User session body) h = h
+licensed_orphan setting past seat n a b kind.Access h = h.0
+licensed_orphan setting past seat n a b _ h = h.0
 
-legal_orphan : (past : Past) (seat : ℕ) (n a : Name) (o : Option Begun) → MatchOption o ⊥ (MayEnd past seat n (Abort (Orphan a))) → IsOrphanOf past n a
-legal_orphan past seat n a None h = absurd h
-legal_orphan past seat n a (Some b) h = licensed_orphan past seat n a b b.kind h.licensed
+legal_orphan : (setting : Setting) (past : Past) (seat : ℕ) (n a : Name) (o : Option Begun) → MatchOption o ⊥ (MayEnd setting past seat n (Abort (Orphan a))) → IsOrphanOf past n a
+legal_orphan setting past seat n a None h = absurd h
+legal_orphan setting past seat n a (Some b) h = licensed_orphan setting past seat n a b b.kind h.licensed
 
-pub ran_grown : (setting : Setting) (of : Name) (old new : Now) → Ran setting of old new → Grown old.past new.past
-ran_grown setting of old new r = subst (Grown old.past) (sym r.is) (grown setting r.later old.past (subst (LegalCalls setting) r.is r.legal))
+pub ran_grown : (of : Name) (old new : Now) → Ran of old new → Grown old.past new.past
+ran_grown of old new r = subst (Grown old.past) (sym r.is) (grown new.setting r.later old.past (subst (Legal new.setting) r.is r.legal))
 
 -- who is to end so does, unless it has ended early
 ends_so : (of : Name) (how : How) (old new : Past) → Grown old new → Early old of → (end old of ≡ None → end new of ≡ Some how) → (end new of ≡ Some how) ⊎ StopsEarly new of (end new of)
@@ -79,41 +80,33 @@ ends_so of how old new g early now = by_end (end old of) refl
     by_end (Some h) is = inr (subst (StopsEarly new of) (sym (g.ends of h is)) (stops_stay old new g of (Some h) (early h is)))
 
 -- who stops as an orphan stops early
-stopped : (setting : Setting) (of a : Name) (k : ℕ) (now : Now) → Running setting of k now → now.dead ≡ Some a → Early now.past of → StopsEarly (aborted of (Orphan a) now).past of (end (aborted of (Orphan a) now).past of)
-stopped setting of a k now h fallen early = by_end (end now.past of) refl
+stopped : (of a : Name) (k : ℕ) (now : Now) → Running of k now → now.dead ≡ Some a → Early now.past of → StopsEarly (aborted of (Orphan a) now).past of (end (aborted of (Orphan a) now).past of)
+stopped of a k now h fallen early = by_end (end now.past of) refl
   where
     new : Past
     new = (aborted of (Orphan a) now).past
 
-    r : Ran setting of now (aborted of (Orphan a) now)
-    r = ran_orphan setting of a k now h fallen
+    r : Ran of now (aborted of (Orphan a) now)
+    r = ran_orphan of a k now h fallen
 
     g : Grown now.past new
-    g = ran_grown setting of now (aborted of (Orphan a) now) r
+    g = ran_grown of now (aborted of (Orphan a) now) r
 
     by_end : (o : Option How) → end now.past of ≡ o → StopsEarly new of (end new of)
     by_end (Some how) is = subst (StopsEarly new of) (sym (g.ends of how is)) (stops_stay now.past new g of (Some how) (early how is))
     by_end None is = subst (StopsEarly new of) (sym ((aborted_end of (Orphan a) now).now is)) (stops_stay now.past new g of (Some (Abort (Orphan a)))
-        (legal_orphan now.past 18 of a (start now.past of) (subst (LegalCalls setting) (aborted_last of (Orphan a) now is) r.legal).1))
+        (legal_orphan (aborted of (Orphan a) now).setting now.past 18 of a (start now.past of) (subst (Legal (aborted of (Orphan a) now).setting) (aborted_last of (Orphan a) now is) r.legal).1))
 
-pub orphan_left : (setting : Setting) (of a : Name) (k : ℕ) (plan : Plan) (now : Now) → (StopsEarly (aborted of (Orphan a) now).past of (end (aborted of (Orphan a) now).past of) → FollowsPlan (aborted of (Orphan a) now).past of plan [] (end (aborted of (Orphan a) now).past of)) → Running setting of k now → now.dead ≡ Some a → Early now.past of → Left of plan now.past (aborted of (Orphan a) now).past
-orphan_left setting of a k plan now stops h fallen early =
-    left_one of plan (Abort (Orphan a)) now.past _ (aborted_end of (Orphan a) now) (stops (stopped setting of a k now h fallen early)) (λ by is. absurd (differ by is))
+pub orphan_left : (of a : Name) (k : ℕ) (plan : Plan) (now : Now) → (StopsEarly (aborted of (Orphan a) now).past of (end (aborted of (Orphan a) now).past of) → FollowsPlan (aborted of (Orphan a) now).past of plan [] (end (aborted of (Orphan a) now).past of)) → Running of k now → now.dead ≡ Some a → Early now.past of → Left of plan now.past (aborted of (Orphan a) now).past
+orphan_left of a k plan now stops h fallen early =
+    left_one of plan (Abort (Orphan a)) now.past _ (aborted_end of (Orphan a) now) (stops (stopped of a k now h fallen early)) (λ by is. absurd (differ by is))
   where
     differ : (by : Name) → Abort (Orphan a) ≡ Abort (Asked by) → ⊥
     differ by is = cc
 
--- by what a transaction goes on to, and by how it stops where it is dead
-pub unless : (P : Now → Type 0) (of : Name) (now next : Now) → (now.dead ≡ None → P next) → ((a : Name) → now.dead ≡ Some a → P (aborted of (Orphan a) now)) → P (unless_dead of now next)
-unless P of now next alive fallen = by_dead now.dead refl
-  where
-    by_dead : (o : Option Name) → now.dead ≡ o → P (elim o [ None ↦ next | Some a ↦ aborted of (Orphan a) now ])
-    by_dead None is = alive is
-    by_dead (Some a) is = fallen a is
-
 -- who runs and is not dead has not ended
-pub alive_open : (setting : Setting) (of : Name) (k : ℕ) (now : Now) → Running setting of k now → now.dead ≡ None → end now.past of ≡ None
-alive_open setting of k now h alive =
+pub alive_open : (of : Name) (k : ℕ) (now : Now) → Running of k now → now.dead ≡ None → end now.past of ≡ None
+alive_open of k now h alive =
     neither (end now.past of) (h.uncommitted of [] (sym (append-nil of))) (alive_not_aborted now.past of (sym h.fallen ∙ alive))
 
 pub committed_left : (of : Name) (now : Now) → end now.past of ≡ None → Left of Plan.done now.past (committed of now).past
@@ -132,13 +125,13 @@ above_itself of = take_all (length of - 0) of (omega arith)
 asks_itself : (by of : Name) → Abort (Asked of) ≡ Abort (Asked by) → by ≡ of
 asks_itself by of is = cc
 
-itself_left : (setting : Setting) (of : Name) (rest : Plan) (now : Now) → Ran setting of now (asked of 0 now) → Early now.past of → Left of (Plan.abort_then 0 rest) now.past (asked of 0 now).past
-itself_left setting of rest now r early =
+itself_left : (of : Name) (rest : Plan) (now : Now) → Ran of now (asked of 0 now) → Early now.past of → Left of (Plan.abort_then 0 rest) now.past (asked of 0 now).past
+itself_left of rest now r early =
     left_one of (Plan.abort_then 0 rest) (Abort (Asked of)) now.past _ (aborted_end of (Asked of) now)
-    (ends_so of (Abort (Asked of)) now.past _ (ran_grown setting of now (asked of 0 now) r) early (aborted_end of (Asked of) now).now)
+    (ends_so of (Abort (Asked of)) now.past _ (ran_grown of now (asked of 0 now) r) early (aborted_end of (Asked of) now).now)
     (λ by is. (asks_itself by of is, sym (above_itself of)))
 
-module _ (setting : Setting) (of : Name) (below : ℕ) (rest : Plan) (now : Now) (r : Ran setting of now (asked of (suc below) now)) (early : Early now.past of) (low : suc below < length of) where
+module _ (of : Name) (below : ℕ) (rest : Plan) (now : Now) (r : Ran of now (asked of (suc below) now)) (early : Early now.past of) (low : suc below < length of) where
   abbrev ancestor : Name
   ancestor = above of (suc below)
 
@@ -185,12 +178,12 @@ module _ (setting : Setting) (of : Name) (below : ℕ) (rest : Plan) (now : Now)
   above_left = record {
     more = [];
     children_are = last.same_children of ∙ first.same_children of ∙ sym (append-nil (children now.past of));
-    follows = ends_so of (Abort (Orphan ancestor)) now.past _ (ran_grown setting of now (asked of (suc below) now) r) early (λ none. last.now (still_open none));
+    follows = ends_so of (Abort (Orphan ancestor)) now.past _ (ran_grown of now (asked of (suc below) now) r) early (λ none. last.now (still_open none));
     as_asked = as_asked;
     upward = upward;
   }
 
 -- what a step `abort` leaves
-pub asked_left : (setting : Setting) (of : Name) (k levels : ℕ) (rest : Plan) (now : Now) → Running setting of k now → levels < length of → Early now.past of → Left of (Plan.abort_then levels rest) now.past (asked of levels now).past
-asked_left setting of k zero rest now h low early = itself_left setting of rest now (ran_asked setting of k 0 now h low) early
-asked_left setting of k (suc below) rest now h low early = above_left setting of below rest now (ran_asked setting of k (suc below) now h low) early low
+pub asked_left : (of : Name) (k levels : ℕ) (rest : Plan) (now : Now) → Running of k now → levels < length of → Early now.past of → Left of (Plan.abort_then levels rest) now.past (asked of levels now).past
+asked_left of k zero rest now h low early = itself_left of rest now (ran_asked of k 0 now h low) early
+asked_left of k (suc below) rest now h low early = above_left of below rest now (ran_asked of k (suc below) now h low) early low

@@ -1,13 +1,10 @@
 -- The plans of bodies and of steps, one step at a time.
-use Rattle.std.proofs.Common.{◌≡◌, ℕ, zero, suc, ◌+◌, ◌≤◌, arith, drop, List, [], ◌∷◌, map, refl, sym, ap, ◌∙◌, subst}
-use Rattle.qc_event.specs.History.{Name}
+use Rattle.std.proofs.Common.{◌≡◌, ℕ, zero, suc, ◌+◌, ◌≤◌, arith, drop, List, [], ◌∷◌, map, refl, sym, ap, ◌∙◌}
 use Rattle.qc_script.specs.declared.script.Body.{Body, out-Body, fold_out-Body}
 use Rattle.qc_script.specs.declared.script.Step.{Step, fold-Step, Step-F, map-Step, out-Step, fold-roll-Step, fold_out-Step}
 use Rattle.qc_script.specs.declared.script.Step.TheVariants as step
 use Rattle.qc_script.specs.Plan.{Plan, Numbered}
 use Rattle.qc_script.specs.Steps.{before, layer, all_before, numbered, plan_of}
-use Rattle.qc_interp.specs.Trace.{Now, begun, run, body_after, IsFront}
-use Rattle.qc_interp.proofs.Fronts.{returned_passes}
 
 abbrev one_step : Step → Plan → Plan
 one_step = fold-Step (Plan → Plan) Numbered before layer
@@ -63,15 +60,3 @@ rest_lighter (suc j) (s ∷ steps) =
 
 pub plan_is : (b : Body) (steps : List Step) → steps ≡ (out-Body b).steps.items → plan_of steps ≡ (numbered b).plan
 plan_is b steps taken = ap plan_of taken ∙ sym (ap (λ (n : Numbered). n.plan) (numbered_is b))
-
--- what the steps of a body that has started lead to
-pub steps_lead : (n : Name) (b : Body) (steps : List Step) (now started : Now) → steps ≡ (out-Body b).steps.items → started ≡ begun n (out-Body b).number now → run n 1 (plan_of steps) started ≡ run n 1 (numbered b).plan (begun n (numbered b).number now)
-steps_lead n b steps now started taken is =
-    ap (λ p. run n 1 (plan_of p) started) taken ∙
-    ap (run n 1 (plan_of (out-Body b).steps.items)) is ∙
-    ap (λ (m : Numbered). run n 1 m.plan (begun n m.number now)) (sym (numbered_is b))
-
--- what they lead to is on the way to what the body leaves
-pub steps_pass : (depth : ℕ) (n : Name) (b : Body) (steps : List Step) (now started : Now) → steps ≡ (out-Body b).steps.items → started ≡ begun n (out-Body b).number now → IsFront (run n 1 (plan_of steps) started).past (body_after depth n (numbered b).number (numbered b).plan now).past
-steps_pass depth n b steps now started taken is =
-    subst (λ (m : Now). IsFront m.past (body_after depth n (numbered b).number (numbered b).plan now).past) (sym (steps_lead n b steps now started taken is)) (returned_passes depth now.values (run n 1 (numbered b).plan (begun n (numbered b).number now)))

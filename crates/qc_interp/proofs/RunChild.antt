@@ -1,42 +1,42 @@
 -- A child of a transaction that runs: what it begins with, and what its parent goes on with once it has ended.
-use Rattle.std.proofs.Common.{◌≡◌, ℕ, ◌+◌, ◌<◌, ◌⊎◌, inl, inr, true, false, List, [], ◌∷◌, ◌++◌, length, refl, sym, ap, ◌∙◌, subst, arith, append-nil}
-use Rattle.std.specs.Prelude.{Option, None, Some, is_some, is_none, if◌then◌else◌, find, MatchOption, option_to_list}
+use Rattle.std.proofs.Common.{◌≡◌, ℕ, ◌+◌, ◌<◌, ◌⊎◌, inl, inr, true, false, [], ◌∷◌, ◌++◌, length, refl, sym, ap, ◌∙◌, subst, arith, append-nil}
+use Rattle.std.specs.Prelude.{Option, None, Some, is_some, is_none, if◌then◌else◌, find, MatchOption, option_to_list, nat_lt}
 use Rattle.std.specs.Option.{option_or}
+use Rattle.std.proofs.lemmas.Bool.{le-leb}
+use Rattle.std.proofs.lemmas.Bool.Decides.{nat_tests}
 use Rattle.std.proofs.lemmas.List.{length-append}
-use Rattle.qc_event.specs.declared.event.Answer.{Answer}
 use Rattle.qc_event.specs.declared.event.Entry.{Entry}
-use Rattle.qc_event.specs.declared.event.Event.TheVariants.{Start, End}
-use Rattle.qc_event.specs.declared.event.How.TheVariants.{Commit}
+use Rattle.qc_event.specs.declared.event.Event.TheVariants.{Start}
 use Rattle.qc_event.specs.declared.event.Kind.{Kind}
 use Rattle.qc_event.specs.declared.event.Kind.TheVariants as kind
 use Rattle.qc_event.specs.History.{Past, Name, Begun, start, start_in, end, is_ready, is_child, children}
 use Rattle.qc_event.specs.Dead.{outcome, outcome_of, is_committed, is_aborted, dead}
 use Rattle.qc_event.specs.Base.{Setting}
 use Rattle.qc_event.specs.Standing.{IsGoing, IsUser, Started}
-use Rattle.qc_event.specs.Users.{StandsUnder}
-use Rattle.qc_event.specs.Calls.{LegalCalls, AllowedCall, IsAnswerOf, MayCommitManager, MayEnd, commit_by_kind}
+use Rattle.qc_event.specs.Starts.{Stands}
+use Rattle.qc_event.specs.Legal.{Legal, Allowed}
 use Rattle.qc_event.proofs.Absent.{same_itself}
-use Rattle.qc_event.proofs.LastNumber.{is_child-last}
+use Rattle.qc_event.proofs.LastNumber.{is_child-last, length_last}
 use Rattle.qc_event.proofs.OneEntry.{start_step, started_stays, child_added}
-use Rattle.qc_event.proofs.Lawful.{started_some, started_wider}
-use Rattle.qc_event.proofs.LegalOrderly.{calls_lawful as lawful}
+use Rattle.qc_event.proofs.Lawful.{lawful, started_some, started_wider}
+use Rattle.qc_event.proofs.LegalOrderly.{legal_orderly}
 use Rattle.qc_event.proofs.Lineage.{neither, IsFresh, fresh_child, dead_child, alive_not_aborted}
-use Rattle.qc_simlock.proofs.Above.{no_child_length}
-use Rattle.qc_interp.specs.Trace.{Now, by_client, managed, begun, returned, still_dead}
 use Rattle.qc_event.proofs.Histories.{or_none}
+use Rattle.qc_gather.specs.Carrying.{IsRunning}
+use Rattle.qc_interp.specs.Trace.{Now, by_client, begun, returned, still_dead}
 use Rattle.qc_interp.proofs.Running.{Running, Ran}
-use Rattle.qc_interp.proofs.BelowNames.{above_child, begins_child, not_within_child}
+use Rattle.qc_interp.proofs.BelowNames.{above_child, begins_child, begins_last, not_within_child, no_child_length}
 use Rattle.qc_interp.proofs.LeftAsItIs.{started_left, ready_left, children_left, uncommitted_left}
 use Rattle.qc_interp.proofs.ReadyTops.{unstarted_unready}
 use Rattle.qc_interp.proofs.Fallen.{dead_calm, left_dead, left_dead_parent}
 use Rattle.qc_interp.proofs.NextAllowed.{may_start_child}
-use Rattle.qc_interp.proofs.RunEnds.{was_none, ran_ended, ran_longer}
+use Rattle.qc_interp.proofs.RunEnds.{was_none}
 
 -- THE START
 
 -- what is known of a name that has just been started
 pub record JustBegun (setting : Setting) (n : Name) (k : Kind) (past : Past) : Type 0 where
-  pub legal : LegalCalls setting past
+  pub legal : Legal setting past
   pub begun : start past n ≡ Some (record { seat = 18; kind = k })
   pub not_ended : end past n ≡ None
   pub alive : dead past n ≡ None
@@ -44,7 +44,7 @@ pub record JustBegun (setting : Setting) (n : Name) (k : Kind) (past : Past) : T
   pub childless : children past n ≡ []
   pub open_above : (m : Name) → is_some (start past m) ≡ true → end past m ≡ None → (r : Name) × (n ≡ m ++ r)
 
-pub just_begun : (setting : Setting) (n : Name) (k : Kind) (past : Past) → LegalCalls setting past → AllowedCall setting past (by_client (Start n k)) → IsFresh past n → dead past n ≡ None → ((m : Name) → is_some (start past m) ≡ true → end past m ≡ None → (r : Name) × (n ≡ m ++ r)) → JustBegun setting n k (by_client (Start n k) ∷ past)
+pub just_begun : (setting : Setting) (n : Name) (k : Kind) (past : Past) → Legal setting past → Allowed setting past (by_client (Start n k)) → IsFresh past n → dead past n ≡ None → ((m : Name) → is_some (start past m) ≡ true → end past m ≡ None → (r : Name) × (n ≡ m ++ r)) → JustBegun setting n k (by_client (Start n k) ∷ past)
 just_begun setting n k past legal allowed fresh alive open_above = record {
   legal = (legal, allowed);
   begun = ap (λ o. option_or o (start_in n 18 (Start n k))) fresh.no_start ∙ ap (λ b. if b then Some (record { seat = 18; kind = k }) else None) (same_itself n);
@@ -58,6 +58,10 @@ just_begun setting n k past legal allowed fresh alive open_above = record {
   ];
 }
 
+-- what has just begun runs, as a manager does
+pub begun_runs : (setting : Setting) (n : Name) (k : Kind) (past : Past) → JustBegun setting n k past → IsRunning 18 past n k
+begun_runs setting n k past b = record { started = b.begun; not_ended = b.not_ended; children_ended = ap (find (λ c. is_none (end past c))) b.childless }
+
 -- what is known of a name above one that runs
 pub record Over (past : Past) (p : Name) : Type 0 where
   pub user : 0 < length p → Started past p (λ b. IsUser b.kind)
@@ -65,8 +69,8 @@ pub record Over (past : Past) (p : Name) : Type 0 where
   pub unready : is_ready past p ≡ false
 
 -- a user transaction runs once it is started
-pub runs_begun : (setting : Setting) (n : Name) (number : ℕ) (now : Now) → 0 < length n → now.dead ≡ None → JustBegun setting n (kind.User 0 number) (begun n number now).past → ((p r : Name) → n ≡ p ++ r → (p ≡ n) ⊎ Over now.past p) → Running setting n 1 (begun n number now)
-runs_begun setting n number now pos living b over = record {
+pub runs_begun : (n : Name) (number : ℕ) (now : Now) → 0 < length n → now.dead ≡ None → JustBegun now.setting n (kind.User 0 number) (begun n number now).past → ((p r : Name) → n ≡ p ++ r → (p ≡ n) ⊎ Over now.past p) → Running n 1 (begun n number now)
+runs_begun n number now pos living b over = record {
   legal = b.legal;
   fallen = living ∙ sym b.alive;
   nonroot = pos;
@@ -92,8 +96,8 @@ runs_begun setting n number now pos living b over = record {
 -- THE NEXT CHILD
 
 -- a transaction that runs goes on, unless it is dead
-pub is_going : (setting : Setting) (of : Name) (k : ℕ) (now : Now) → Running setting of k now → now.dead ≡ None → IsGoing now.past of
-is_going setting of k now h alive =
+pub is_going : (of : Name) (k : ℕ) (now : Now) → Running of k now → now.dead ≡ None → IsGoing now.past of
+is_going of k now h alive =
     let living : dead now.past of ≡ None = sym h.fallen ∙ alive in
     record {
       is_open = record {
@@ -103,61 +107,81 @@ is_going setting of k now h alive =
       alive = living;
     }
 
-pub child_begun : (setting : Setting) (of : Name) (k : ℕ) (of_kind : Kind) (now : Now) → Running setting of k now → now.dead ≡ None → ((b : Begun) → IsUser b.kind → StandsUnder setting b (length (of ++ k ∷ [])) of_kind) → JustBegun setting (of ++ k ∷ []) of_kind (by_client (Start (of ++ k ∷ []) of_kind) ∷ now.past)
-child_begun setting of k of_kind now h alive stands =
-    just_begun setting (of ++ k ∷ []) of_kind now.past h.legal allowed fresh living
+-- the next child is fresh
+pub next_fresh : (of r : Name) (k : ℕ) (now : Now) → Running of k now → IsFresh now.past (of ++ k ∷ r)
+next_fresh of r k now h = fresh_child now.past of k r (lawful now.past (legal_orderly now.setting now.past h.legal)) h.nonroot (omega (arith, h.next))
+
+-- The kind may stand under a user transaction, at this depth.
+abbrev pub MayStandAt : Setting → ℕ → Kind → Type 0
+MayStandAt setting depth k = (b : Begun) → IsUser b.kind → Stands setting 18 b depth k
+
+pub user_stands : (setting : Setting) (of : Name) (k number : ℕ) → length of < 16 → MayStandAt setting (length (of ++ k ∷ [])) (kind.User 0 number)
+user_stands setting of k number shallow b is = (is, le-leb (length (of ++ k ∷ [])) 16 (omega (arith, length_last of k)))
+
+below_is : (a b : ℕ) → a < b → nat_lt a b ≡ true
+below_is a b h = grind (arith, nat_tests)
+
+pub read_stands : (setting : Setting) (depth rec : ℕ) → rec < length setting.firsts → MayStandAt setting depth (kind.Read rec)
+read_stands setting depth rec within b is = (is, below_is rec (length setting.firsts) within)
+
+pub write_stands : (setting : Setting) (depth rec value : ℕ) → rec < length setting.firsts → MayStandAt setting depth (kind.Write rec value)
+write_stands setting depth rec value within b is = (is, below_is rec (length setting.firsts) within)
+
+-- the next child may start
+pub may_start : (of : Name) (k : ℕ) (of_kind : Kind) (now : Now) → Running of k now → now.dead ≡ None → MayStandAt now.setting (length (of ++ k ∷ [])) of_kind → Allowed now.setting now.past (by_client (Start (of ++ k ∷ []) of_kind))
+may_start of k of_kind now h alive stands =
+    may_start_child now.setting now.past of k of_kind h.nonroot (is_going of k now h alive) (h.unready of [] (sym (append-nil of))) h.next
+    (started_wider (λ b. IsUser b.kind) (λ b. Stands now.setting 18 b (length (of ++ k ∷ [])) of_kind) (start now.past of) stands (h.user of [] (sym (append-nil of)) h.nonroot))
+
+-- what is known of it then
+pub begun_so : (of : Name) (k : ℕ) (of_kind : Kind) (now : Now) → Running of k now → now.dead ≡ None → Allowed now.setting now.past (by_client (Start (of ++ k ∷ []) of_kind)) → JustBegun now.setting (of ++ k ∷ []) of_kind (by_client (Start (of ++ k ∷ []) of_kind) ∷ now.past)
+begun_so of k of_kind now h alive allowed =
+    just_begun now.setting (of ++ k ∷ []) of_kind now.past h.legal allowed fresh living
     (λ m began going. let over = h.open_above m began going in (over.0 ++ k ∷ [], begins_child of m over.0 k over.1))
   where
     going : IsGoing now.past of
-    going = is_going setting of k now h alive
-
-    allowed : AllowedCall setting now.past (by_client (Start (of ++ k ∷ []) of_kind))
-    allowed = may_start_child setting now.past of k of_kind h.nonroot going (h.unready of [] (sym (append-nil of))) h.next
-        (started_wider (λ b. IsUser b.kind) (λ b. StandsUnder setting b (length (of ++ k ∷ [])) of_kind) (start now.past of) stands (h.user of [] (sym (append-nil of)) h.nonroot))
+    going = is_going of k now h alive
 
     fresh : IsFresh now.past (of ++ k ∷ [])
-    fresh = fresh_child now.past of k [] (lawful setting now.past h.legal) h.nonroot (omega (arith, h.next))
+    fresh = next_fresh of [] k now h
 
     living : dead now.past (of ++ k ∷ []) ≡ None
     living = dead_child now.past of k going.alive ∙ ap (λ o. if is_aborted (outcome_of o) then Some (of ++ k ∷ []) else None) fresh.no_end
 
+pub child_begun : (of : Name) (k : ℕ) (of_kind : Kind) (now : Now) → Running of k now → now.dead ≡ None → MayStandAt now.setting (length (of ++ k ∷ [])) of_kind → JustBegun now.setting (of ++ k ∷ []) of_kind (by_client (Start (of ++ k ∷ []) of_kind) ∷ now.past)
+child_begun of k of_kind now h alive stands = begun_so of k of_kind now h alive (may_start of k of_kind now h alive stands)
+
+pub run_begun : (of : Name) (k number : ℕ) (now : Now) → Running of k now → now.dead ≡ None → length of < 16 → Running (of ++ k ∷ []) 1 (begun (of ++ k ∷ []) number now)
+run_begun of k number now h alive shallow =
+    runs_begun (of ++ k ∷ []) number now (omega (arith, length_last of k)) alive
+    (child_begun of k (kind.User 0 number) now h alive (user_stands now.setting of k number shallow))
+    (λ p r is. elim (begins_last of p r k is) [
+      | inl itself ↦ inl itself
+      | inr (s, over) ↦ inr (record { user = h.user p s over; uncommitted = h.uncommitted p s over; unready = h.unready p s over })
+    ])
+
 -- THE WAY BACK
 
--- what runs depends on a history and on who is dead, not on values
-running_at : (setting : Setting) (of : Name) (k : ℕ) (new : Now) (past : Past) → new.past ≡ past → Running setting of k (record { past = past; values = new.values; dead = new.dead }) → Running setting of k new
-running_at setting of k new past is h = subst (λ p. Running setting of k (record { past = p; values = new.values; dead = new.dead })) (sym is) h
+-- what runs depends on the parts of a moment
+running_at : (of : Name) (k : ℕ) (set : Setting) (past : Past) (fallen : Option Name) (new : Now) → new.setting ≡ set → new.past ≡ past → new.dead ≡ fallen → Running of k (record { setting = set; past = past; dead = fallen }) → Running of k new
+running_at of k set past fallen new same is falls h =
+    subst (λ x. Running of k (record { setting = x; past = new.past; dead = new.dead })) (sym same)
+    (subst (λ p. Running of k (record { setting = set; past = p; dead = new.dead })) (sym is)
+    (subst (λ o. Running of k (record { setting = set; past = past; dead = o })) (sym falls) h))
 
-abbrev returned_by : ℕ → List ℕ → Now → Option Name → Now
-returned_by depth before now dead = elim dead [ None ↦ now | Some a ↦ record now { values = before; dead = still_dead depth a } ]
-
-pub returned_past : (depth : ℕ) (before : List ℕ) (now : Now) → (returned depth before now).past ≡ now.past
-returned_past depth before now = by_dead now.dead
-  where
-    by_dead : (o : Option Name) → (returned_by depth before now o).past ≡ now.past
-    by_dead None = refl
-    by_dead (Some a) = refl
-
-pub returned_dead : (depth : ℕ) (before : List ℕ) (now : Now) → (returned depth before now).dead ≡ left_dead depth now.dead
-returned_dead depth before now = by_dead now.dead refl
-  where
-    by_dead : (o : Option Name) → now.dead ≡ o → (returned_by depth before now o).dead ≡ left_dead depth o
-    by_dead None is = is
-    by_dead (Some a) is = refl
-
--- once a child has ended, its parent goes on
-pub child_back : (setting : Setting) (of : Name) (k : ℕ) (of_kind : Kind) (before : List ℕ) (now inner : Now) → Running setting of k now → Ran setting (of ++ k ∷ []) (record now { past = by_client (Start (of ++ k ∷ []) of_kind) ∷ now.past }) inner → Running setting of (k + 1) (returned (length of) before inner)
-child_back setting of k of_kind before now inner h r = running_at setting of (k + 1) (returned (length of) before inner) whole (returned_past (length of) before inner ∙ r.is) (record {
-  legal = subst (LegalCalls setting) r.is r.legal;
-  fallen =
-      returned_dead (length of) before inner ∙ ap (left_dead (length of)) (r.fallen ∙ ap (λ p. dead p (of ++ k ∷ [])) r.is)
-      ∙ left_dead_parent whole of k;
-  nonroot = h.nonroot;
-  user = λ p s is some. started_left p r.later with_child _ (started_stays e now.past p _ (h.user p s is some));
-  uncommitted = λ p s is. uncommitted_left (of ++ k ∷ []) p r.later with_child r.inside (not_within_child of p s k is) (ap (λ o. is_committed (outcome_of o)) (sym (or_none (end now.past p))) ∙ h.uncommitted p s is);
-  unready = λ p s is. ready_left (of ++ k ∷ []) p r.later with_child r.inside (λ itself. not_within_child of p s k is (inl itself)) ∙ ap is_some (sym (or_none _)) ∙ h.unready p s is;
-  next = one_more;
-  open_above = λ m began going. above_child of m k (r.open_above m (subst (λ p. is_some (start p m) ≡ true) (sym r.is) began) (subst (λ p. end p m ≡ None) (sym r.is) going));
-})
+-- once a child has ended, its parent goes on, dead where the history says so
+pub child_left : (of : Name) (k : ℕ) (of_kind : Kind) (now inner new : Now) → Running of k now → Ran (of ++ k ∷ []) (record now { past = by_client (Start (of ++ k ∷ []) of_kind) ∷ now.past }) inner → new.setting ≡ inner.setting → new.past ≡ inner.past → new.dead ≡ dead inner.past of → Running of (k + 1) new
+child_left of k of_kind now inner new h r same is falls =
+    running_at of (k + 1) now.setting whole (dead whole of) new (same ∙ r.same_setting) (is ∙ r.is) (falls ∙ ap (λ p. dead p of) r.is) (record {
+      legal = subst (λ s. Legal s whole) r.same_setting (subst (Legal inner.setting) r.is r.legal);
+      fallen = refl;
+      nonroot = h.nonroot;
+      user = λ p s is some. started_left p r.later with_child _ (started_stays e now.past p _ (h.user p s is some));
+      uncommitted = λ p s is. uncommitted_left (of ++ k ∷ []) p r.later with_child r.inside (not_within_child of p s k is) (ap (λ o. is_committed (outcome_of o)) (sym (or_none (end now.past p))) ∙ h.uncommitted p s is);
+      unready = λ p s is. ready_left (of ++ k ∷ []) p r.later with_child r.inside (λ itself. not_within_child of p s k is (inl itself)) ∙ ap is_some (sym (or_none _)) ∙ h.unready p s is;
+      next = one_more;
+      open_above = λ m began going. above_child of m k (r.open_above m (subst (λ p. is_some (start p m) ≡ true) (sym r.is) began) (subst (λ p. end p m ≡ None) (sym r.is) going));
+    })
   where
     e : Entry
     e = by_client (Start (of ++ k ∷ []) of_kind)
@@ -173,36 +197,32 @@ child_back setting of k of_kind before now inner h r = running_at setting of (k 
         let left = ap length (children_left (of ++ k ∷ []) of r.later with_child r.inside (not_within_child of of [] k (sym (append-nil of))) ∙ child_added e now.past of (of ++ k ∷ []) of_kind refl (is_child-last of k)) in
         omega (arith, left, length-append (children now.past of) ((of ++ k ∷ []) ∷ []), h.next)
 
--- MANAGERS
+abbrev returned_by : ℕ → Now → Option Name → Now
+returned_by depth now dead = elim dead [ None ↦ now | Some a ↦ record now { dead = still_dead depth a } ]
 
--- A manager of this kind may stand under a user transaction, and commit with this answer.
-pub record Manages (setting : Setting) (k : Kind) (given : Answer) : Type 0 where
-  pub stands : (b : Begun) (depth : ℕ) → IsUser b.kind → StandsUnder setting b depth k
-  pub answers : IsAnswerOf k given
-  pub commits : (past : Past) (n : Name) → MayCommitManager past 18 n (record { seat = 18; kind = k }) given → commit_by_kind past 18 n (record { seat = 18; kind = k }) given k
-
-pub run_manager : (setting : Setting) (of : Name) (k : ℕ) (of_kind : Kind) (given : Answer) (values : List ℕ) (now : Now) → Running setting of k now → now.dead ≡ None → Manages setting of_kind given → Running setting of (k + 1) (record { past = managed (of ++ k ∷ []) of_kind (Commit given) now.past; values = values; dead = now.dead })
-run_manager setting of k of_kind given values now h alive manages =
-    subst (λ d. Running setting of (k + 1) (record { past = managed n of_kind (Commit given) now.past; values = values; dead = d })) (sym alive)
-    (child_back setting of k of_kind values now _ h (ran_longer setting n (record now { past = with_child }) (record { past = with_child; values = values; dead = now.dead }) _ [] refl tt ran))
+pub returned_past : (depth : ℕ) (now : Now) → (returned depth now).past ≡ now.past
+returned_past depth now = by_dead now.dead
   where
-    n : Name
-    n = of ++ k ∷ []
+    by_dead : (o : Option Name) → (returned_by depth now o).past ≡ now.past
+    by_dead None = refl
+    by_dead (Some a) = refl
 
-    with_child : Past
-    with_child = by_client (Start (of ++ k ∷ []) of_kind) ∷ now.past
+pub returned_setting : (depth : ℕ) (now : Now) → (returned depth now).setting ≡ now.setting
+returned_setting depth now = by_dead now.dead
+  where
+    by_dead : (o : Option Name) → (returned_by depth now o).setting ≡ now.setting
+    by_dead None = refl
+    by_dead (Some a) = refl
 
-    b : JustBegun setting n of_kind with_child
-    b = child_begun setting of k of_kind now h alive (λ b is. manages.stands b (length (of ++ k ∷ [])) is)
+pub returned_dead : (depth : ℕ) (now : Now) → (returned depth now).dead ≡ left_dead depth now.dead
+returned_dead depth now = by_dead now.dead refl
+  where
+    by_dead : (o : Option Name) → now.dead ≡ o → (returned_by depth now o).dead ≡ left_dead depth o
+    by_dead None is = is
+    by_dead (Some a) is = refl
 
-    allowed : AllowedCall setting with_child (by_client (End n (Commit given)))
-    allowed = subst (λ o. MatchOption o ⊥ (MayEnd with_child 18 n (Commit given))) (sym b.begun) (manages.commits with_child n (record {
-      by_client = refl;
-      own_seat = refl;
-      going = record { is_open = record { started = ap is_some b.begun; not_ended = b.not_ended }; alive = b.alive };
-      children_ended = ap (find (λ c. is_none (end with_child c))) b.childless;
-      answers = manages.answers;
-    }))
-
-    ran : Ran setting n (record { past = with_child; values = values; dead = now.dead }) (record { past = managed n of_kind (Commit given) now.past; values = values; dead = None })
-    ran = ran_ended setting n 18 (Commit given) None (record { past = with_child; values = values; dead = now.dead }) b.legal allowed b.open_above (sym (dead_calm (by_client (End n (Commit given))) with_child n tt ∙ b.alive))
+-- a transaction goes on after a child that is a user transaction
+pub run_back : (of : Name) (k number : ℕ) (now left : Now) → Running of k now → Ran (of ++ k ∷ []) (begun (of ++ k ∷ []) number now) left → Running of (k + 1) (returned (length of) left)
+run_back of k number now left h r =
+    child_left of k (kind.User 0 number) now left (returned (length of) left) h r (returned_setting (length of) left) (returned_past (length of) left)
+    (returned_dead (length of) left ∙ ap (left_dead (length of)) r.fallen ∙ left_dead_parent left.past of k)

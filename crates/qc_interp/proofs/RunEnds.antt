@@ -9,10 +9,9 @@ use Rattle.qc_event.specs.declared.event.How.{How}
 use Rattle.qc_event.specs.declared.event.How.TheVariants.{Commit, Abort}
 use Rattle.qc_event.specs.History.{Past, Name, same, start, end, end_in, children}
 use Rattle.qc_event.specs.Dead.{outcome_of, is_committed, dead}
-use Rattle.qc_event.specs.Base.{Setting}
 use Rattle.qc_event.specs.Standing.{IsUser, Started}
 use Rattle.qc_event.specs.Users.{UserCause}
-use Rattle.qc_event.specs.Calls.{LegalCalls, AllowedCall}
+use Rattle.qc_event.specs.Legal.{Legal, Allowed}
 use Rattle.qc_event.proofs.Absent.{same_itself}
 use Rattle.qc_event.proofs.OneEntry.{started_stays, some_or_none}
 use Rattle.qc_event.proofs.Lawful.{started_some}
@@ -25,12 +24,13 @@ use Rattle.qc_interp.proofs.Fallen.{dead_abort}
 use Rattle.qc_interp.proofs.NextAllowed.{may_abort_user}
 
 -- what a transaction leaves that ran from later on
-pub ran_longer : (setting : Setting) (of : Name) (old mid new : Now) (more : Past) → mid.past ≡ more ++ old.past → AllInside of more → Ran setting of mid new → Ran setting of old new
-ran_longer setting of old mid new more is inside r = record {
+pub ran_longer : (of : Name) (old mid new : Now) (more : Past) → mid.setting ≡ old.setting → mid.past ≡ more ++ old.past → AllInside of more → Ran of mid new → Ran of old new
+ran_longer of old mid new more set is inside r = record {
   legal = r.legal;
   fallen = r.fallen;
   later = r.later ++ more;
   is = r.is ∙ ap (λ p. r.later ++ p) is ∙ sym (append_assoc r.later more old.past);
+  same_setting = r.same_setting ∙ set;
   inside = all_inside-append of r.later more r.inside inside;
   has_ended = r.has_ended;
   open_above = r.open_above;
@@ -44,7 +44,7 @@ pub some_now : {Y : Type 0} (o : Option Y) (b : Bool) (y : Y) → b ≡ true →
 some_now None b y is = ap (λ c. is_some (if c then Some y else None)) is
 some_now (Some z) b y is = refl
 
-end_inside : (of : Name) (how : How) → Inside of (End of how)
+pub end_inside : (of : Name) (how : How) → Inside of (End of how)
 end_inside of (Commit given) = inl refl
 end_inside of (Abort cause) = inl refl
 
@@ -56,12 +56,13 @@ above_ended past of m ended going over = elim (begins_below of m over.0 over.1) 
 ]
 
 -- a transaction ends, none below which is open
-pub ran_ended : (setting : Setting) (of : Name) (seat : ℕ) (how : How) (fallen : Option Name) (now : Now) → LegalCalls setting now.past → AllowedCall setting now.past (record { seat = seat; event = End of how }) → ((n : Name) → is_some (start now.past n) ≡ true → end now.past n ≡ None → (r : Name) × (of ≡ n ++ r)) → fallen ≡ dead (record { seat = seat; event = End of how } ∷ now.past) of → Ran setting of now (record { past = record { seat = seat; event = End of how } ∷ now.past; values = now.values; dead = fallen })
-ran_ended setting of seat how fallen now legal allowed open_above falls = record {
+pub ran_ended : (of : Name) (seat : ℕ) (how : How) (fallen : Option Name) (now : Now) → Legal now.setting now.past → Allowed now.setting now.past (record { seat = seat; event = End of how }) → ((n : Name) → is_some (start now.past n) ≡ true → end now.past n ≡ None → (r : Name) × (of ≡ n ++ r)) → fallen ≡ dead (record { seat = seat; event = End of how } ∷ now.past) of → Ran of now (record { setting = now.setting; past = record { seat = seat; event = End of how } ∷ now.past; dead = fallen })
+ran_ended of seat how fallen now legal allowed open_above falls = record {
   legal = (legal, allowed);
   fallen = falls;
   later = e ∷ [];
   is = refl;
+  same_setting = refl;
   inside = (end_inside of how, tt);
   has_ended = ended;
   open_above = λ m began going. above_ended (e ∷ now.past) of m ended going (open_above m (ap is_some (or_none (start now.past m)) ∙ began) (was_none (end now.past m) (end_in m (End of how)) going));
@@ -73,17 +74,20 @@ ran_ended setting of seat how fallen now legal allowed open_above falls = record
     ended : is_some (end (record { seat = seat; event = End of how } ∷ now.past) of) ≡ true
     ended = some_now (end now.past of) (same of of) how (same_itself of)
 
--- a transaction that runs is aborted, for a cause that holds unless it has ended
-pub ran_aborted : (setting : Setting) (of : Name) (k : ℕ) (cause : Cause) (now : Now) → Running setting of k now → (end now.past of ≡ None → (session : ℕ) → UserCause now.past of session cause) → Ran setting of now (aborted of cause now)
-ran_aborted setting of k cause now h license = by_end (end now.past of) refl
-  where
-    user : Started now.past of (λ b. IsUser b.kind)
-    user = h.user of [] (sym (append-nil of)) h.nonroot
+-- what runs, and each one above it but the root, may be aborted for a cause that holds, where it has not ended
+pub may_abort : (of m r : Name) (k : ℕ) (cause : Cause) (now : Now) → Running of k now → of ≡ m ++ r → 0 < length m → end now.past m ≡ None → ((session : ℕ) → UserCause now.past m session cause) → Allowed now.setting now.past (by_client (End m (Abort cause)))
+may_abort of m r k cause now h is pos going license =
+    let user : Started now.past m (λ b. IsUser b.kind) = h.user m r is pos in
+    may_abort_user now.setting now.past m cause user (record { started = started_some _ (start now.past m) user; not_ended = going }) (h.unready m r is) license
 
-    by_end : (o : Option How) → end now.past of ≡ o → Ran setting of now (if is_some o then now else record now { past = by_client (End of (Abort cause)) ∷ now.past; dead = Some (shorter now.dead of) })
+-- a transaction that runs is aborted, for a cause that holds unless it has ended
+pub ran_aborted : (of : Name) (k : ℕ) (cause : Cause) (now : Now) → Running of k now → (end now.past of ≡ None → (session : ℕ) → UserCause now.past of session cause) → Ran of now (aborted of cause now)
+ran_aborted of k cause now h license = by_end (end now.past of) refl
+  where
+    by_end : (o : Option How) → end now.past of ≡ o → Ran of now (if is_some o then now else record now { past = by_client (End of (Abort cause)) ∷ now.past; dead = Some (shorter now.dead of) })
     by_end None going =
-        ran_ended setting of 18 (Abort cause) (Some (shorter now.dead of)) now h.legal
-        (may_abort_user setting now.past of cause user (record { started = started_some _ (start now.past of) user; not_ended = going }) (h.unready of [] (sym (append-nil of))) (license going))
+        ran_ended of 18 (Abort cause) (Some (shorter now.dead of)) now h.legal
+        (may_abort of of [] k cause now h (sym (append-nil of)) h.nonroot going (license going))
         h.open_above
         (ap (λ o. Some (shorter o of)) h.fallen ∙ sym (dead_abort 18 now.past of of [] cause (sym (append-nil of)) going))
     by_end (Some how) is = record {
@@ -91,22 +95,24 @@ ran_aborted setting of k cause now h license = by_end (end now.past of) refl
       fallen = h.fallen;
       later = [];
       is = refl;
+      same_setting = refl;
       inside = tt;
       has_ended = ap is_some is;
       open_above = λ m began going. above_ended now.past of m (ap is_some is) going (h.open_above m began going);
     }
 
 -- The transaction goes on where one above it was aborted.
-pub record RunsOn (setting : Setting) (of m : Name) (k : ℕ) (old new : Now) : Type 0 where
-  pub running : Running setting of k new
+pub record RunsOn (of m : Name) (k : ℕ) (old new : Now) : Type 0 where
+  pub running : Running of k new
   pub more : Past
   pub is : new.past ≡ more ++ old.past
+  pub same_setting : new.setting ≡ old.setting
   pub inside : AllInside of more
   pub has_ended : is_some (end new.past m) ≡ true
 
 -- one above it is aborted, for a cause that holds
-pub above_aborted : (setting : Setting) (of m : Name) (k : ℕ) (cause : Cause) (now : Now) → Running setting of k now → Below m of → 0 < length m → ((session : ℕ) → UserCause now.past m session cause) → RunsOn setting of m k now (aborted m cause now)
-above_aborted setting of m k cause now h below pos license = by_end (end now.past m) refl
+pub above_aborted : (of m : Name) (k : ℕ) (cause : Cause) (now : Now) → Running of k now → Below m of → 0 < length m → ((session : ℕ) → UserCause now.past m session cause) → RunsOn of m k now (aborted m cause now)
+above_aborted of m k cause now h below pos license = by_end (end now.past m) refl
   where
     rest : Name
     rest = below.0 ∷ below.1
@@ -114,17 +120,14 @@ above_aborted setting of m k cause now h below pos license = by_end (end now.pas
     e : Entry
     e = by_client (End m (Abort cause))
 
-    user : Started now.past m (λ b. IsUser b.kind)
-    user = h.user m rest below.2 pos
-
     not_committed : (o : Option How) (b : Bool) → is_committed (outcome_of o) ≡ false → is_committed (outcome_of (option_or o (if b then Some (Abort cause) else None))) ≡ false
     not_committed (Some how) b t = t
     not_committed None true t = refl
     not_committed None false t = refl
 
-    running : end now.past m ≡ None → Running setting of k (record { past = by_client (End m (Abort cause)) ∷ now.past; values = now.values; dead = Some (shorter now.dead m) })
+    running : end now.past m ≡ None → Running of k (record { setting = now.setting; past = by_client (End m (Abort cause)) ∷ now.past; dead = Some (shorter now.dead m) })
     running going = record {
-      legal = (h.legal, may_abort_user setting now.past m cause user (record { started = started_some _ (start now.past m) user; not_ended = going }) (h.unready m rest below.2) license);
+      legal = (h.legal, may_abort of m rest k cause now h below.2 pos going license);
       fallen = ap (λ o. Some (shorter o m)) h.fallen ∙ sym (dead_abort 18 now.past of m rest cause below.2 going);
       nonroot = h.nonroot;
       user = λ p r is some. started_stays e now.past p _ (h.user p r is some);
@@ -134,12 +137,13 @@ above_aborted setting of m k cause now h below pos license = by_end (end now.pas
       open_above = λ n began unended. h.open_above n (ap is_some (or_none (start now.past n)) ∙ began) (was_none (end now.past n) (end_in n (End m (Abort cause))) unended);
     }
 
-    by_end : (o : Option How) → end now.past m ≡ o → RunsOn setting of m k now (if is_some o then now else record now { past = by_client (End m (Abort cause)) ∷ now.past; dead = Some (shorter now.dead m) })
+    by_end : (o : Option How) → end now.past m ≡ o → RunsOn of m k now (if is_some o then now else record now { past = by_client (End m (Abort cause)) ∷ now.past; dead = Some (shorter now.dead m) })
     by_end None going = record {
       running = running going;
       more = e ∷ [];
       is = refl;
+      same_setting = refl;
       inside = (inr (inr (below, pos)), tt);
       has_ended = some_now (end now.past m) (same m m) (Abort cause) (same_itself m);
     }
-    by_end (Some how) is = record { running = h; more = []; is = refl; inside = tt; has_ended = ap is_some is }
+    by_end (Some how) is = record { running = h; more = []; is = refl; same_setting = refl; inside = tt; has_ended = ap is_some is }

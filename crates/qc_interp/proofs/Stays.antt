@@ -14,12 +14,12 @@ use Rattle.qc_event.specs.declared.event.Kind.{Kind}
 use Rattle.qc_event.specs.History.{Past, Name, Begun, start, start_in, end, end_in, is_child, child_in, children, kind_of}
 use Rattle.qc_event.specs.Dead.{outcome, outcome_of, is_committed}
 use Rattle.qc_event.specs.Base.{Setting}
-use Rattle.qc_event.specs.Calls.{LegalCalls, AllowedCall}
+use Rattle.qc_event.specs.Legal.{Legal, Allowed}
 use Rattle.qc_event.specs.Standing.{IsAbort}
-use Rattle.qc_event.proofs.LegalOrderly.{calls_lawful as lawful, calls_orderly}
+use Rattle.qc_event.proofs.LegalOrderly.{legal_orderly}
 use Rattle.qc_event.proofs.Absent.{if_not}
 use Rattle.qc_event.proofs.LastNumber.{child_last}
-use Rattle.qc_event.proofs.Lawful.{child_starts, committed_is, some_how}
+use Rattle.qc_event.proofs.Lawful.{lawful, child_starts, committed_is, some_how}
 use Rattle.qc_event.proofs.OneEntry.{some_or_none}
 use Rattle.qc_script.specs.Plan.{Plan}
 use Rattle.qc_interp.specs.Follows.{asked_end, StopsEarly, GoesOn, FollowsPlan, Asks}
@@ -44,15 +44,15 @@ no_child (event.Start m k) n none = if_not (is_child n m) _ (false_from_ne_true 
 no_child _ n none = refl
 
 -- what has ended gets no child
-childless_entry : (setting : Setting) (e : Entry) (past : Past) (n : Name) → LegalCalls setting past → AllowedCall setting past e → is_some (end past n) ≡ true → child_in n e.event ≡ None
-childless_entry setting e past [] legal allowed ended = absurd (some_or_none (end past []) ended (lawful setting past legal).no_root_end)
+childless_entry : (setting : Setting) (e : Entry) (past : Past) (n : Name) → Legal setting past → Allowed setting past e → is_some (end past n) ≡ true → child_in n e.event ≡ None
+childless_entry setting e past [] legal allowed ended = absurd (some_or_none (end past []) ended (lawful past (legal_orderly setting past legal)).no_root_end)
 childless_entry setting e past (x ∷ n) legal allowed ended = no_child e.event (x ∷ n) (λ m k is child. starts m k is (child_last (x ∷ n) m child))
   where
     starts : (m : Name) (k : Kind) → e.event ≡ event.Start m k → (j : ℕ) × (m ≡ (x ∷ n) ++ j ∷ []) → ⊥
     starts m k is (j, below) = some_or_none (end past (x ∷ n)) ended
-        (child_starts past e (x ∷ n) j (omega arith) (k, is ∙ ap (λ p. event.Start p k) below) (calls_orderly setting (e ∷ past) (legal, allowed)).1).going.is_open.not_ended
+        (child_starts past e (x ∷ n) j (omega arith) (k, is ∙ ap (λ p. event.Start p k) below) (legal_orderly setting (e ∷ past) (legal, allowed)).1).going.is_open.not_ended
 
-grown_more : (setting : Setting) (e : Entry) (old past : Past) → LegalCalls setting past → AllowedCall setting past e → Grown old past → Grown old (e ∷ past)
+grown_more : (setting : Setting) (e : Entry) (old past : Past) → Legal setting past → Allowed setting past e → Grown old past → Grown old (e ∷ past)
 grown_more setting e old past legal allowed before = record {
   kinds = λ n k h. kind_kept e past n k (before.kinds n k h);
   ends = λ n how h. ap (λ o. option_or o (end_in n e.event)) (before.ends n how h);
@@ -64,7 +64,7 @@ grown_more setting e old past legal allowed before = record {
         ap (λ o. children past n ++ option_to_list o) (childless_entry setting e past n legal allowed (ap is_some (before.ends n how is)))
         ∙ append-nil (children past n)
 
-pub grown : (setting : Setting) (later old : Past) → LegalCalls setting (later ++ old) → Grown old (later ++ old)
+pub grown : (setting : Setting) (later old : Past) → Legal setting (later ++ old) → Grown old (later ++ old)
 grown setting [] old legal = record { kinds = λ n k h. h; ends = λ n how h. h; same_children = λ n h. refl }
 grown setting (e ∷ later) old legal = grown_more setting e old (later ++ old) legal.0 legal.1 (grown setting later old legal.0)
 

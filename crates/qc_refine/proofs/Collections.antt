@@ -1,20 +1,20 @@
 -- A collection that is enough has seen the newest configuration and the value.
 use mathlib.Core.Bool.{true≢false}
 use Rattle.std.proofs.Common.{◌≡◌, ℕ, ◌+◌, ◌<◌, ◌≤◌, ◌==◌, Bool, true, List, [], ◌∷◌, length, sym, ◌∙◌, subst, inl, inr, arith, map}
-use Rattle.std.specs.Prelude.{All, slice_get, nat_lt, None, Some}
+use Rattle.std.specs.Prelude.{slice_get, nat_lt, None, Some}
 use Rattle.std.proofs.lemmas.Bool.{cases_lt, ltb-true, eqb-true}
-use Rattle.std.proofs.lemmas.List.Elements.{All-get_or, All-from_get_or}
 use Rattle.std.proofs.lemmas.Option.{slice_get_within}
 use Rattle.qc_config.specs.Config.{Voting, IsLegal, holds_write}
 use Rattle.qc_config.specs.declared.tuple.Tuple.{Tuple}
 use Rattle.qc_event.specs.Base.{no_tuple}
 use Rattle.qc_event.specs.History.{Given}
 use Rattle.qc_event.specs.Manager.{Newest, Greatest}
-use Rattle.qc_event.specs.Sound.{Carries, HasValue, greatest_version}
+use Rattle.qc_event.specs.Sound.{Carries, greatest_version}
 use Rattle.qc_refine.specs.Completed.{FindsThere, Within, replies, has_given, marks_of, newest_of, greatest_of, Collected, tuple_at}
 use Rattle.qc_refine.proofs.Meet.{Shared, quorums_meet, marked}
 use Rattle.qc_refine.proofs.Grants.{marked_given, replies_are, replied_is}
-use Rattle.qc_refine.proofs.Folds.{newest_among, newest_above, greatest_one, greatest_above, version_bounds}
+use Rattle.qc_refine.proofs.Folds.{newest_among, newest_above, greatest_one, greatest_above}
+use Rattle.qc_refine.proofs.Fits.{carried_fit}
 use Rattle.qc_refine.proofs.Configs.{last_at, config_at, legal_at}
 
 -- what a collection has seen of copies that carry a value
@@ -87,11 +87,8 @@ found first tuples value gets carried collected within finds legal newest = reco
     Good : Greatest → Type 0
     Good g = (g.version ≤ top) × (g.version ≡ top → g.value ≡ value)
 
-    each : All (λ (t : Tuple). Good (record { version = t.version; value = t.value })) tuples
-    each = All-from_get_or (λ (t : Tuple). Good (record { version = t.version; value = t.value })) tuples no_tuple (λ c lt. (version_bounds tuples c lt, All-get_or (HasValue top value) tuples c no_tuple lt carried.values))
-
     best : Good (greatest_of gets)
-    best = greatest_one Good (replies gets) (some_given gets both.copy given) (replies_are (λ (t : Tuple). Good (record { version = t.version; value = t.value })) tuples gets collected.reads within finds each)
+    best = greatest_one Good (replies gets) (some_given gets both.copy given) (replies_are (λ (t : Tuple). Good (record { version = t.version; value = t.value })) tuples gets collected.reads within finds (carried_fit first tuples value carried))
 
     version : (greatest_of gets).version ≡ top
     version =

@@ -19,7 +19,7 @@ use Rattle.qc_simlock.proofs.MossVisible.{finds}
 use Rattle.qc_simlock.proofs.OrderSteps.{serialise_root}
 use Rattle.qc_simlock.proofs.SerialOrder.{serial_for}
 use Rattle.qc_serial.specs.Shape.{after}
-use Rattle.qc_refine.specs.InTurn.{IsDone, given_to, left_setting}
+use Rattle.qc_refine.specs.InTurn.{IsDone, given_to, left_setting, values_after}
 use Rattle.qc_refine.specs.Turns.{dones_order}
 use Rattle.qc_refine.proofs.AllDone.{order_done}
 use Rattle.qc_refine.proofs.DonesWalk.{Below, Follows, order_follows}
@@ -55,21 +55,31 @@ module _ (setting : Setting) (values : List ℕ) (past : Past) (t : Name) (legal
   pub serial : IsSerialFor values past t
   serial = serial_for values past t (legal_orderly setting past legal) user alive follows.reads
 
+  -- the values after its managers are those after its order
+  pub values_are : values_after values (dones_order past t) ≡ after values (serialise past t)
+  values_are = sym follows.leaves
+
   -- what the transaction was served leaves sound copies for the values after its order
   pub left_for : IsSound (left_setting setting (served_order past t)) (after values (serialise past t))
   left_for =
       subst (λ given. IsSound (left_setting setting given) (after values (serialise past t))) (given_order setting past t legal user)
-      (subst (IsSound (left_setting setting (given_to (dones_order past t)))) (sym follows.leaves) (left_sound setting values (dones_order past t) sound done there))
+      (subst (IsSound (left_setting setting (given_to (dones_order past t)))) values_are (left_sound setting values (dones_order past t) sound done there))
 
 pub serial_order : (setting : Setting) (values : List ℕ) (past : Past) (t : Name) → Legal setting past → IsSound setting values → IsUserOf past t → dead past t ≡ None → IsSerialFor values past t
 serial_order setting values past t legal sound user alive = serial setting values past t legal sound user alive
 
+pub root_alive : (setting : Setting) (past : Past) → Legal setting past → dead past [] ≡ None
+root_alive setting past legal = ap (λ o. find (λ (a : Name). is_aborted (outcome_of o)) ([] ∷ [])) (lawful past (legal_orderly setting past legal)).no_root_end
+
+-- the values after the root's order are the final ones
+root_values : (values : List ℕ) (past : Past) → after values (serialise past []) ≡ final_values values past
+root_values values past = ap (after values) (serialise_root past) ∙ sym (shape.values_after (machine.begin values) (walk past []))
+
+pub final_are : (setting : Setting) (values : List ℕ) (past : Past) → Legal setting past → IsSound setting values → values_after values (dones_order past []) ≡ final_values values past
+final_are setting values past legal sound = values_are setting values past [] legal sound tt (root_alive setting past legal) ∙ root_values values past
+
 -- what all that was handed up leaves at the copies carries the final values
 pub left_copies : (setting : Setting) (values : List ℕ) (past : Past) → Legal setting past → IsSound setting values → IsSound (left_setting setting (served_order past [])) (final_values values past)
 left_copies setting values past legal sound =
-    subst (IsSound (left_setting setting (served_order past [])))
-    (ap (after values) (serialise_root past) ∙ sym (shape.values_after (machine.begin values) (walk past [])))
-    (left_for setting values past [] legal sound tt root_alive)
-  where
-    root_alive : dead past [] ≡ None
-    root_alive = ap (λ o. find (λ (a : Name). is_aborted (outcome_of o)) ([] ∷ [])) (lawful past (legal_orderly setting past legal)).no_root_end
+    subst (IsSound (left_setting setting (served_order past []))) (root_values values past)
+    (left_for setting values past [] legal sound tt (root_alive setting past legal))

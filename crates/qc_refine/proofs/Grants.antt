@@ -17,7 +17,7 @@ use Rattle.qc_event.specs.Manager.{all_copies}
 use Rattle.qc_refine.specs.Completed.{tuple_at, after_one, after_all, FindsThere, Within, replies, has_given, marks_of, Each}
 use Rattle.qc_refine.proofs.Meet.{marked}
 
-abbrev Below : ℕ → Given → Type 0
+abbrev pub Below : ℕ → Given → Type 0
 Below copies g = g.copy < copies
 
 abbrev Asks : Op → Given → Type 0

@@ -22,7 +22,7 @@ pub record IsGrounded (setting : Setting) : Type 0 where
   pub some_read : (rec : ℕ) → rec < length setting.firsts → 0 < (first_of setting rec).read
   pub starts : (rec copy : ℕ) → rec < length setting.firsts → copy < length setting.base → OfFirst (first_of setting rec) (start_tuple setting.base copy rec)
 
-legal_last : (configs : List Voting) (newest : Voting) → All IsLegal configs → last_or None configs ≡ Some newest → IsLegal newest
+pub legal_last : (configs : List Voting) (newest : Voting) → All IsLegal configs → last_or None configs ≡ Some newest → IsLegal newest
 legal_last [] newest legal is = absurd cc
 legal_last (c ∷ configs) newest legal is =
     legal_at (c ∷ configs) (length configs) newest legal (sym (last_at None (c ∷ configs) (length configs) (omega arith)) ∙ is)

@@ -18,12 +18,12 @@ use Rattle.qc_refine.proofs.Columns.{left_column, column_start, column_left, col
 use Rattle.qc_refine.proofs.Writes.{read_answers, read_leaves, write_carries}
 use Rattle.qc_refine.proofs.Moves.{move_carries}
 
-set_here : (values : List ℕ) (rec old value : ℕ) → slice_get values rec ≡ Some old → slice_get (set values rec value) rec ≡ Some value
+pub set_here : (values : List ℕ) (rec old value : ℕ) → slice_get values rec ≡ Some old → slice_get (set values rec value) rec ≡ Some value
 set_here [] rec old value at = absurd (cc)
 set_here (v ∷ values) zero old value at = refl
 set_here (v ∷ values) (suc rec) old value at = set_here values rec old value at
 
-set_elsewhere : (values : List ℕ) (rec other value : ℕ) → other ≢ rec → slice_get (set values rec value) other ≡ slice_get values other
+pub set_elsewhere : (values : List ℕ) (rec other value : ℕ) → other ≢ rec → slice_get (set values rec value) other ≡ slice_get values other
 set_elsewhere [] rec other value apart = refl
 set_elsewhere (v ∷ values) zero zero value apart = absurd (apart refl)
 set_elsewhere (v ∷ values) zero (suc other) value apart = refl
@@ -31,10 +31,10 @@ set_elsewhere (v ∷ values) (suc rec) zero value apart = refl
 set_elsewhere (v ∷ values) (suc rec) (suc other) value apart = set_elsewhere values rec other value (λ e. apart (ap suc e))
 
 -- the tuples of a record that earlier grants leave carry its value
-abbrev CarriedAt : Setting → List Given → List ℕ → ℕ → Type 0
+abbrev pub CarriedAt : Setting → List Given → List ℕ → ℕ → Type 0
 CarriedAt setting given values rec = MatchOption (slice_get values rec) ⊥ (Carries (first_of setting rec) (left_column setting.base given rec))
 
-abbrev Carried : Setting → List Given → List ℕ → Type 0
+abbrev pub Carried : Setting → List Given → List ℕ → Type 0
 Carried setting given values = (rec : ℕ) → rec < length setting.firsts → CarriedAt setting given values rec
 
 -- a record's value, with the tuples that carry it
@@ -60,11 +60,11 @@ each_record setting given gs values later rec at before here same other there = 
 ]
 
 -- what one manager finds and leaves
-record Step (setting : Setting) (given gs : List Given) (values : List ℕ) (k : Kind) (a : Answer) : Type 0 where
-  answers : AnswersValue values k a
-  carried : Carried setting (given ++ gs) (values_by values k)
+pub record Step (setting : Setting) (given gs : List Given) (values : List ℕ) (k : Kind) (a : Answer) : Type 0 where
+  pub answers : AnswersValue values k a
+  pub carried : Carried setting (given ++ gs) (values_by values k)
 
-step : (setting : Setting) (given gs : List Given) (values : List ℕ) (k : Kind) (a : Answer) → record_of k < length setting.firsts → All (IsAt setting (record_of k)) gs → Complete (first_of setting (record_of k)) k a gs → FindsThere (left_column setting.base given (record_of k)) gs → Carried setting given values → Step setting given gs values k a
+pub step : (setting : Setting) (given gs : List Given) (values : List ℕ) (k : Kind) (a : Answer) → record_of k < length setting.firsts → All (IsAt setting (record_of k)) gs → Complete (first_of setting (record_of k)) k a gs → FindsThere (left_column setting.base given (record_of k)) gs → Carried setting given values → Step setting given gs values k a
 step setting given gs values (kind.Read rec) (answer.Value value) there at done finds before =
     let now = valued (slice_get values rec) (Carries (first_of setting rec) (left_column setting.base given rec)) (before rec there) in
     let first = first_of setting rec in
@@ -110,7 +110,7 @@ in_turn setting whole given values (d ∷ dones) finds parts all before =
     let rest = in_turn setting whole (given ++ d.given) (values_by values d.kind) dones finds (parts ∙ sym (append_assoc given d.given (given_to dones))) (All-tail (IsDone setting) d dones all) one.carried in
     record { answers = (one.answers, rest.answers); carried = rest.carried }
 
-started : (setting : Setting) (values : List ℕ) → IsSound setting values → Carried setting [] values
+pub started : (setting : Setting) (values : List ℕ) → IsSound setting values → Carried setting [] values
 started setting values sound rec there = subst (λ tuples. MatchOption (slice_get values rec) ⊥ (Carries (first_of setting rec) tuples)) (column_start setting.base rec) (sound rec there)
 
 pub reads_answer : (setting : Setting) (values : List ℕ) (dones : List Done) → IsSound setting values → All (IsDone setting) dones → Finds setting.base (given_to dones) → AnswerValues values dones

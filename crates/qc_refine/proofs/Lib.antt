@@ -35,3 +35,8 @@ pub mod ServedThere
 pub mod Steady
 pub mod Finished
 pub mod EachManager
+pub mod Fits
+pub mod Grown
+pub mod ForGood
+pub mod NoneAbove
+pub mod LastValues

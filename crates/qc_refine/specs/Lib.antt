@@ -3,3 +3,4 @@ pub mod InTurn
 pub mod Given
 pub mod Complete
 pub mod Turns
+pub mod Final

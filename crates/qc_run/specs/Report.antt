@@ -1,13 +1,14 @@
--- What is printed of a run: a line for each end of a transaction, then a line for each top in doubt, then
--- the value of each record, then how many tops there were. The lines of reconfigurations, of the other
--- aborts of managers and of what accesses do come with the copies: until then those print nothing.
-use Rattle.std.specs.Prelude.{ℕ, ◌==◌, Bool, true, false, if◌then◌else◌, List, [], ◌++◌, length, reverse, count_by, codes, slice_get}
+-- What is printed of a run: a line for each end of a user transaction or a manager, then a line for each top
+-- in doubt, then the value of each record, then how many tops there were. What accesses and copies do prints
+-- nothing.
+use Rattle.std.specs.Prelude.{ℕ, ◌==◌, Bool, true, false, if◌then◌else◌, List, [], ◌∷◌, ◌++◌, length, map, filter, filter_map, reverse, count_by, codes, slice_get, slice_index_or, Option, None}
 use Rattle.std.specs.Fmt.{decimal}
 use Rattle.std.specs.List.{flat_map, zip}
-use Rattle.std.specs.Option.{option_map_or}
+use Rattle.std.specs.Option.{option_map, option_map_or}
 use Rattle.qc_names.specs.Name as name
+use Rattle.qc_config.specs.Copies.{has}
 use Rattle.qc_event.specs.declared.event.Answer.{Answer}
-use Rattle.qc_event.specs.declared.event.Answer.TheVariants.{Value}
+use Rattle.qc_event.specs.declared.event.Answer.TheVariants.{Value, Generation}
 use Rattle.qc_event.specs.declared.event.Cause.{Cause}
 use Rattle.qc_event.specs.declared.event.Cause.TheVariants as cause
 use Rattle.qc_event.specs.declared.event.Entry.{Entry}
@@ -17,12 +18,18 @@ use Rattle.qc_event.specs.declared.event.How.{How}
 use Rattle.qc_event.specs.declared.event.How.TheVariants.{Commit, Abort}
 use Rattle.qc_event.specs.declared.event.Kind.{Kind}
 use Rattle.qc_event.specs.declared.event.Kind.TheVariants as kind
+use Rattle.qc_event.specs.declared.event.Lack.{Lack}
 use Rattle.qc_event.specs.declared.event.Outcome.{Outcome}
 use Rattle.qc_event.specs.declared.event.Outcome.TheVariants as outcome
+use Rattle.qc_event.specs.declared.event.Phase.{Phase}
+use Rattle.qc_event.specs.declared.event.Phase.TheVariants.{Collect, Values, Configs}
+use Rattle.qc_event.specs.declared.event.Why.{Why}
+use Rattle.qc_event.specs.declared.event.Why.TheVariants.{Lost, Late, Down, Full, Strange}
 use Rattle.qc_event.specs.declared.table.Row.{Row}
 use Rattle.qc_event.specs.declared.table.Table.{Table}
 use Rattle.qc_event.specs.History.{Name, kind_of}
 use Rattle.qc_event.specs.Dead as dead
+use Rattle.qc_event.specs.Manager.{all_copies}
 
 -- A text, as its bytes.
 abbrev pub Text : Type 0
@@ -40,6 +47,11 @@ read_line table n rec _ = []
 -- a write manager of a value has committed
 abbrev pub set_line : Table → Name → ℕ → ℕ → Text
 set_line table n rec v = codes "set " ++ name.text n ++ codes " " ++ record_name table rec ++ codes " " ++ decimal v ++ codes "\n"
+
+-- a reconfigure manager has committed with a generation
+abbrev pub reconf_line : Table → Name → ℕ → Answer → Text
+reconf_line table n rec (Generation g) = codes "reconf " ++ name.text n ++ codes " " ++ record_name table rec ++ codes " " ++ decimal g ++ codes "\n"
+reconf_line table n rec _ = []
 
 -- a user transaction has committed
 abbrev pub commit_line : Name → Text
@@ -60,25 +72,83 @@ cause_text cause.Missed = codes "missed"
 abbrev pub abort_line : Name → Cause → Text
 abort_line n why = codes "abort " ++ name.text n ++ codes " " ++ cause_text why ++ codes "\n"
 
--- a manager has been aborted: only that it was an orphan is told
-abbrev pub orphan_line : Table → Name → ℕ → Cause → Text
-orphan_line table n rec (cause.Orphan ancestor) = codes "orphan " ++ name.text n ++ codes " " ++ record_name table rec ++ codes " " ++ name.text ancestor ++ codes "\n"
-orphan_line table n rec _ = []
+-- LACK OF A QUORUM
+
+-- texts with commas between them, and `-` where there are none
+abbrev pub listed : List Text → Text
+listed [] = codes "-"
+listed (first ∷ texts) = first ++ flat_map (λ t. codes "," ++ t) texts
+
+abbrev pub phase_word : Phase → Text
+phase_word Collect = codes "collect"
+phase_word Values = codes "values"
+phase_word Configs = codes "configs"
+
+abbrev pub why_word : Why → Text
+why_word Lost = codes "lost"
+why_word Late = codes "late"
+why_word Down = codes "down"
+why_word Full = codes "full"
+why_word Strange = codes "strange"
+
+-- the numbers of the copies that replied, rising
+abbrev pub replied_list : List Bool → Text
+replied_list marks = listed (map decimal (filter (has marks) all_copies))
+
+-- a copy with the reason why it is missing, where it is
+abbrev pub missing_item : List (Option Why) → ℕ → Option Text
+missing_item missing copy = option_map (λ why. decimal copy ++ codes ":" ++ why_word why) (slice_index_or missing copy None)
+
+-- the copies that are missing, rising
+abbrev pub missing_list : List (Option Why) → Text
+missing_list missing = listed (filter_map (missing_item missing) all_copies)
+
+-- the phase in which a quorum is lacking, who replied and who did not
+abbrev pub lack_text : Lack → Text
+lack_text lack = phase_word lack.phase ++ codes " replied " ++ replied_list lack.replied ++ codes " missing " ++ missing_list lack.missing
+
+-- ABORTED MANAGERS
+
+-- a lock of another access stood in a manager's way at a copy
+abbrev pub conflict_line : Table → Name → ℕ → ℕ → Name → Text
+conflict_line table n rec copy holder = codes "conflict " ++ name.text n ++ codes " " ++ record_name table rec ++ codes " copy " ++ decimal copy ++ codes " holder " ++ name.text holder ++ codes "\n"
+
+-- too few copies replied to a manager in a phase
+abbrev pub no_quorum_line : Table → Name → ℕ → Lack → Text
+no_quorum_line table n rec lack = codes "noquorum " ++ name.text n ++ codes " " ++ record_name table rec ++ codes " " ++ lack_text lack ++ codes "\n"
+
+-- a manager would have passed the last number
+abbrev pub last_line : Table → Name → ℕ → Text
+last_line table n rec = codes "last " ++ name.text n ++ codes " " ++ record_name table rec ++ codes "\n"
+
+-- a manager was an orphan of an ancestor
+abbrev pub orphan_line : Table → Name → ℕ → Name → Text
+orphan_line table n rec ancestor = codes "orphan " ++ name.text n ++ codes " " ++ record_name table rec ++ codes " " ++ name.text ancestor ++ codes "\n"
+
+-- a manager of a record has been aborted
+abbrev pub failed_line : Table → Name → ℕ → Cause → Text
+failed_line table n rec (cause.Conflict copy holder) = conflict_line table n rec copy holder
+failed_line table n rec (cause.NoQuorum lack) = no_quorum_line table n rec lack
+failed_line table n rec cause.Last = last_line table n rec
+failed_line table n rec (cause.Orphan ancestor) = orphan_line table n rec ancestor
+failed_line table n rec _ = []
+
+-- ENDS
 
 -- a transaction that was started for this has committed
 abbrev pub committed_line : Table → Name → Answer → Kind → Text
 committed_line table n answer (kind.User session body) = commit_line n
 committed_line table n answer (kind.Read rec) = read_line table n rec answer
 committed_line table n answer (kind.Write rec value) = set_line table n rec value
-committed_line table n answer (kind.Reconf rec config) = []
+committed_line table n answer (kind.Reconf rec config) = reconf_line table n rec answer
 committed_line table n answer kind.Access = []
 
 -- a transaction that was started for this has been aborted
 abbrev pub aborted_line : Table → Name → Cause → Kind → Text
 aborted_line table n why (kind.User session body) = abort_line n why
-aborted_line table n why (kind.Read rec) = orphan_line table n rec why
-aborted_line table n why (kind.Write rec value) = orphan_line table n rec why
-aborted_line table n why (kind.Reconf rec config) = []
+aborted_line table n why (kind.Read rec) = failed_line table n rec why
+aborted_line table n why (kind.Write rec value) = failed_line table n rec why
+aborted_line table n why (kind.Reconf rec config) = failed_line table n rec why
 aborted_line table n why kind.Access = []
 
 -- a transaction that was started for this has ended

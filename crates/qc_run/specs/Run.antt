@@ -1,6 +1,8 @@
 -- What a run answers: words for the clauses of the top call.
-use Rattle.std.specs.Prelude.{ℕ, ◌≡◌, ◌≢◌, ◌⊎◌, List, map, reverse, replicate, Option, IfSome}
-use Rattle.qc_event.specs.Base.{start_values}
+use Rattle.std.specs.Prelude.{ℕ, ◌≡◌, ◌≢◌, ◌⊎◌, List, [], length, map, reverse, replicate, Option, None, IfSome}
+use Rattle.std.specs.List.{range_with_len}
+use Rattle.qc_event.specs.Base.{start_values, setting_of}
+use Rattle.qc_event.specs.History.{Past}
 use Rattle.qc_event.specs.declared.event.Entry.{Entry}
 use Rattle.qc_event.specs.declared.log.Short.{Short}
 use Rattle.qc_event.specs.declared.log.Short.TheVariants as short
@@ -9,6 +11,7 @@ use Rattle.qc_event.specs.declared.table.Table.{Table}
 use Rattle.qc_config.specs.declared.tuple.Tuple.{Tuple}
 use Rattle.qc_run.specs.Io.{IsAtEnd, Rose, Appends, AppendsFront}
 use Rattle.qc_script.specs.Reading.{IsScript, IsRefused}
+use Rattle.qc_refine.specs.Final.{final_value}
 use Rattle.qc_run.specs.Report.{Text, report}
 use Rattle.qc_simlock.specs.Serial.{final_values}
 use Rattle.qc_interp.specs.Trace.{Now}
@@ -25,6 +28,10 @@ first_tuple row = record { version = 0; value = row.start; generation = 0; confi
 -- the tuples with which a table's copies start
 abbrev pub base_of : Table → List (List Tuple)
 base_of table = replicate table.copies (map first_tuple table.records)
+
+-- a session over a table's copies that has done nothing
+abbrev pub fresh : Table → Now
+fresh table = record { setting = setting_of (base_of table); past = []; dead = None }
 
 -- The source was read to its end, and its bytes are this script.
 pub record ReadsScript (before now : Option (List ℕ)) (s : ScriptPlan) : Type 0 where
@@ -108,9 +115,13 @@ IsConcluded status.WriteFault = Unit {0}
 IsConcluded status.Memory = Unit {0}
 IsConcluded _ = ⊥
 
--- the report of a session, with its values
+-- the values of so many records by the versions of their tuples
+abbrev pub values_by_version : List (List Tuple) → Past → ℕ → List ℕ
+values_by_version base past records = map (final_value base past) (range_with_len 0 records)
+
+-- the report of a session, with the values by the versions of its tuples
 abbrev pub page : Table → Now → Text
-page table now = report table now.values (reverse now.past)
+page table now = report table (values_by_version now.setting.base now.past (length table.records)) (reverse now.past)
 
 -- what a run that stopped may answer
 abbrev pub IsHalted : Short → Status → Type 0

@@ -1,21 +1,22 @@
 //! The top call: all that the program does, over the streams that it is handed.
-ghost use Rattle.std.specs.Prelude.{ℕ, List, ⊤, ◌≡◌, ◌≢◌, ◌≤◌, ◌↔◌, [], false, true, length, map, reverse, string_bytes, Option, None, Some, IfSome, IfOk};
+ghost use Rattle.std.specs.Prelude.{ℕ, List, ⊤, ◌≡◌, ◌≤◌, [], false, true, length, map, reverse, string_bytes, Some, IfSome, IfOk};
 ghost use Rattle.qc_event.specs.Base.{start_values};
 ghost use Rattle.qc_event.specs.History.{limit};
 ghost use Rattle.qc_event.specs.Base.{setting_of};
-ghost use Rattle.qc_event.specs.Calls.{LegalCalls};
+ghost use Rattle.qc_event.specs.Legal.{Legal};
 ghost use Rattle.qc_script.specs.Plan.{ScriptPlan};
 ghost use Rattle.qc_script.specs.Steps.{plan_of_script};
 ghost use Rattle.qc_run.specs.FaultLine.{fault_line};
 ghost use Rattle.qc_interp.specs.Follows.{FollowsTops};
 ghost use Rattle.qc_run.specs.Io.{Rose, Keeps, Appends, AppendsFront};
 ghost use Rattle.qc_script.specs.Reading.{IsScript, IsProper};
+ghost use Rattle.qc_store.specs.Stored.{IsProper as IsProperBase};
 ghost use Rattle.qc_run.specs.Run as terms;
 ghost use Rattle.qc_simlock.specs.Serial.{IsSerialThroughout};
-ghost use Rattle.qc_interp.specs.Trace.{starts_of};
 ghost use Rattle.qc_run.specs.Words as line;
 
 use crate::io::{Sink, Source, Untaken, take_all, write_all};
+use crate::report::finals::finals;
 use crate::report::report;
 use crate::status::{Status, fault_line};
 use crate::words::is_command;
@@ -87,8 +88,22 @@ fn tell<K: Sink>(alloc: Global, status: Status, sink: &mut K) -> Status
     }
 }
 
+// The report of a session.
+fn page_of(alloc: Global, table: &Table, session: &Session) -> Result<Vec<u8>, AllocError>
+    requires copies { length session.now.setting.base ≤ 16 }
+    requires records { length table.now.records ≤ 64 }
+    ensures { IfOk result (λ text. text.items ≡ terms.page table.now session.now) }
+{
+    let trail = session.entries();
+    let records = table.records.as_slice().len();
+    let values = finals(alloc, session.base(), trail, records)?;
+    report(alloc, table, values.as_slice(), trail)
+}
+
 // Reports a session that has run to its end.
 fn conclude<K: Sink>(alloc: Global, table: &Table, session: &Session, sink: &mut K) -> Status
+    requires copies { length session.now.setting.base ≤ 16 }
+    requires records { length table.now.records ≤ 64 }
     ensures answer { terms.IsConcluded result }
     ensures done { result ≡ Status.Done → Appends (K.taken sink.old) (K.taken sink.new) (terms.page table.now session.now) }
     ensures front { result ≡ Status.WriteFault → AppendsFront (K.taken sink.old) (K.taken sink.new) (terms.page table.now session.now) }
@@ -96,7 +111,7 @@ fn conclude<K: Sink>(alloc: Global, table: &Table, session: &Session, sink: &mut
     ensures fault { result ≡ Status.WriteFault → Rose (K.faults sink.old) (K.faults sink.new) }
     ensures faults { K.faults sink.old ≤ K.faults sink.new }
 {
-    match report(alloc, table, session.values(), session.entries()) {
+    match page_of(alloc, table, session) {
         Ok(text) => match write_all(sink, text.as_slice()) {
             Ok(()) => Status::Done,
             Err(_) => Status::WriteFault,
@@ -105,14 +120,13 @@ fn conclude<K: Sink>(alloc: Global, table: &Table, session: &Session, sink: &mut
     }
 }
 
-// The start of a script's run: its tuples, and a session that has done nothing.
-fn open(alloc: Global, table: &Table) -> Result<(Base, Session), AllocError>
-    ensures base { IfOk result (λ opened. opened.0 ≡ terms.base_of table.now) }
-    ensures session { IfOk result (λ opened. opened.1 ≡ record { past = []; values = starts_of table.now.records; dead = None }) }
+// A session that has done nothing, over the first tuples of a script's table.
+fn open(alloc: Global, table: &Table) -> Result<Session, AllocError>
+    requires { IsProperBase (terms.base_of table.now) }
+    ensures { IfOk result (λ session. session ≡ terms.fresh table.now) }
 {
     let start = base_of(alloc, table)?;
-    let session = Session::new(alloc, table.records.as_slice())?;
-    Ok((start, session))
+    Session::new(alloc, start)
 }
 
 // Ends a run that stopped for want of memory or of room.
@@ -130,17 +144,10 @@ fn halt<K: Sink>(alloc: Global, short: Short, sink: &mut K) -> Status
 }
 
 // Runs a script from its start, and reports it.
-fn proceed<K: Sink>(
-    alloc: Global,
-    script: &Script,
-    start: Base,
-    mut session: Session,
-    sink: &mut K,
-) -> Ran
+fn proceed<K: Sink>(alloc: Global, script: &Script, mut session: Session, sink: &mut K) -> Ran
     requires proper { IsProper (plan_of_script script.now) }
-    requires base { start ≡ terms.base_of script.now.table }
-    requires session { session ≡ record { past = []; values = starts_of script.now.table.records; dead = None } }
-    ensures legal_history { LegalCalls (setting_of result.start) (reverse result.trail.items) }
+    requires session { session ≡ terms.fresh script.now.table }
+    ensures legal_history { Legal (setting_of result.start) (reverse result.trail.items) }
     ensures serial_order { IsSerialThroughout (start_values result.start) result.trail.items }
     ensures start { result.start ≡ terms.base_of script.now.table }
     ensures follows { terms.RanToEnd result.status
@@ -161,17 +168,18 @@ fn proceed<K: Sink>(
         Ok(()) => conclude(alloc, &script.table, &session, sink),
         Err(short) => halt(alloc, short, sink),
     };
+    let (start, trail) = session.into_parts();
     Ran {
         status,
         start,
-        trail: session.into_entries(),
+        trail,
     }
 }
 
 // Runs a proper script, and reports it.
 fn perform<K: Sink>(alloc: Global, script: &Script, sink: &mut K) -> Ran
     requires { IsProper (plan_of_script script.now) }
-    ensures legal_history { LegalCalls (setting_of result.start) (reverse result.trail.items) }
+    ensures legal_history { Legal (setting_of result.start) (reverse result.trail.items) }
     ensures serial_order { IsSerialThroughout (start_values result.start) result.trail.items }
     ensures start { terms.ReadIt result.status → result.start ≡ terms.base_of script.now.table }
     ensures follows { terms.RanToEnd result.status
@@ -189,7 +197,7 @@ fn perform<K: Sink>(alloc: Global, script: &Script, sink: &mut K) -> Ran
     ensures faults { K.faults sink.old ≤ K.faults sink.new }
 {
     match open(alloc, &script.table) {
-        Ok((start, session)) => proceed(alloc, script, start, session, sink),
+        Ok(session) => proceed(alloc, script, session, sink),
         Err(AllocError) => nothing(alloc, Status::Memory),
     }
 }
@@ -211,7 +219,7 @@ fn refuse<K: Sink>(alloc: Global, status: Status, sink: &mut K) -> Ran
 
 // Runs the script that the bytes are, or refuses them.
 fn over<K: Sink>(alloc: Global, bytes: &[u8], sink: &mut K) -> Ran
-    ensures legal_history { LegalCalls (setting_of result.start) (reverse result.trail.items) }
+    ensures legal_history { Legal (setting_of result.start) (reverse result.trail.items) }
     ensures serial_order { IsSerialThroughout (start_values result.start) result.trail.items }
     ensures nothing_begun { terms.BeganNothing result.status
         → (result.trail.items ≡ []) × (result.start ≡ []) }
@@ -240,7 +248,7 @@ fn over<K: Sink>(alloc: Global, bytes: &[u8], sink: &mut K) -> Ran
 
 // Does what the words say.
 fn answer<S: Source, K: Sink>(alloc: Global, words: &[String], source: &mut S, sink: &mut K) -> Ran
-    ensures legal_history { LegalCalls (setting_of result.start) (reverse result.trail.items) }
+    ensures legal_history { Legal (setting_of result.start) (reverse result.trail.items) }
     ensures serial_order { IsSerialThroughout (start_values result.start) result.trail.items }
     ensures nothing_begun { terms.BeganNothing result.status
         → (result.trail.items ≡ []) × (result.start ≡ []) }
@@ -279,17 +287,18 @@ fn answer<S: Source, K: Sink>(alloc: Global, words: &[String], source: &mut S, s
 }
 
 /// Does what the words of the command line say, over these streams: `run` and `run --serial` read a
-/// script from the source, run its session over one value per record, and write the report; all
+/// script from the source, run its session over the copies of its records, and write the report; all
 /// other words are refused with the usage line.
 ///
-/// Whatever it answers, its history is legal, and the serial machine with one value per record
-/// accepts the order that completion gives it, in which every user transaction without an aborted
-/// ancestor has exactly its own starts, ends and answers (Lynch and Merritt's serial scheduler).
-/// The source is read to its end, or one byte past the longest script. Want of memory may be
-/// answered at any time; it leaves the sink as it was.
+/// Whatever it answers, its history is legal, with the requests to copies and their grants in it, and
+/// the serial machine with one value per record accepts the order that completion gives it, in which
+/// every user transaction without an aborted ancestor has exactly its own starts, ends and answers
+/// (Goldman and Lynch; Lynch and Merritt's serial scheduler). The source is read to its end, or one
+/// byte past the longest script. Want of memory may be answered at any time; it leaves the sink as it
+/// was.
 pub fn run<S: Source, K: Sink>(alloc: Global, words: &[String], source: &mut S, sink: &mut K) -> Ran
     // The history is legal from its start, and empty where nothing was begun.
-    ensures legal_history { LegalCalls (setting_of result.start) (reverse result.trail.items) }
+    ensures legal_history { Legal (setting_of result.start) (reverse result.trail.items) }
     ensures nothing_begun { terms.BeganNothing result.status
         → (result.trail.items ≡ []) × (result.start ≡ []) }
 

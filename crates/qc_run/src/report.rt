@@ -2,7 +2,10 @@ ghost use Rattle.std.specs.Prelude.{◌≡◌, ◌++◌, IfOk, OnOk};
 ghost use Rattle.std.specs.List.{zip};
 ghost use Rattle.qc_run.specs.Report as spec;
 
+pub(crate) mod finals;
+mod lack;
 mod lines;
+mod managers;
 mod page;
 mod tally;
 

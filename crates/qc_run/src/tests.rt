@@ -2,12 +2,16 @@ mod nested;
 
 use crate::io::{MemSink, MemSource};
 use crate::run;
+use qc_event::{Entry, Event};
 use std::alloc::Global;
 use std::process::Abort;
 use std::test::Fail;
 
 const SETS_AND_READS_BACK: &str =
     "{\"copies\":1,\"records\":[{\"name\":\"x\",\"start\":0,\"config\":{\"votes\":[1],\"read\":1,\"write\":1}}],\"sessions\":[{\"tops\":[{\"steps\":[[\"set\",\"x\",5],[\"read\",\"x\"]]}]}]}";
+
+const OVER_THREE_COPIES: &str =
+    "{\"copies\":3,\"records\":[{\"name\":\"x\",\"start\":0,\"config\":{\"votes\":[2,1,1],\"read\":2,\"write\":3}}],\"sessions\":[{\"tops\":[{\"steps\":[[\"set\",\"x\",5],[\"read\",\"x\"]]}]}]}";
 
 const TWO_TOPS: &str =
     "{\"copies\":1,\"records\":[{\"name\":\"x\",\"start\":7,\"config\":{\"votes\":[1],\"read\":1,\"write\":1}},{\"name\":\"y\",\"start\":9,\"config\":{\"votes\":[2],\"read\":1,\"write\":2}}],\"sessions\":[{\"tops\":[{\"steps\":[[\"read\",\"y\"],[\"set\",\"y\",18446744073709551615]]},{\"steps\":[[\"read\",\"y\"],[\"read\",\"x\"]]},{\"steps\":[]}]}]}";
@@ -65,7 +69,7 @@ fn sets_and_reads_back(rt: HostRuntime) -> Result<(), Fail> {
         "run --serial",
         SETS_AND_READS_BACK,
         calls,
-        (0, 7, REPORT),
+        (0, 19, REPORT),
     )?;
     expect(
         &rt,
@@ -73,9 +77,35 @@ fn sets_and_reads_back(rt: HostRuntime) -> Result<(), Fail> {
         "run",
         SETS_AND_READS_BACK,
         calls,
-        (0, 7, REPORT),
+        (0, 19, REPORT),
     )?;
-    expect(&rt, alloc, "run", TWO_TOPS, calls, (0, 17, REPORT_OF_TWO))
+    expect(&rt, alloc, "run", TWO_TOPS, calls, (0, 37, REPORT_OF_TWO))
+}
+
+fn grants(trail: &[Entry], at: u8) -> usize {
+    trail
+        .iter()
+        .filter(|e| matches!(&e.event, Event::Granted { copy, .. } if *copy == at))
+        .count()
+}
+
+#[test]
+fn goes_to_a_quorum_of_three_copies(rt: HostRuntime) -> Result<(), Fail> {
+    let alloc = rt.alloc();
+    let words = words_of(alloc, "run")?;
+    let bytes = OVER_THREE_COPIES.as_bytes().to_vec(alloc)?;
+    let mut source = MemSource::new(bytes, Vec::new(alloc));
+    let mut sink = MemSink::new(alloc, Vec::new(alloc));
+    let ran = run(alloc, words.as_slice(), &mut source, &mut sink);
+    assert_eq!(rt; ran.status.code(), 0);
+    assert!(rt; sink.bytes() == REPORT.as_bytes());
+    assert_eq!(rt; ran.start.copies(), 3);
+    let trail = ran.trail.as_slice();
+    assert_eq!(rt; trail.len(), 23);
+    for (copy, count) in [(0, 3), (1, 1), (2, 0)] {
+        assert_eq!(rt; grants(trail, copy), count);
+    }
+    Ok(())
 }
 
 #[test]
@@ -90,7 +120,7 @@ fn streams_that_fail_at_their_first_call(rt: HostRuntime) -> Result<(), Fail> {
         (1, 0),
         (4, 0, "qc: read fault\n"),
     )?;
-    expect(&rt, alloc, "run", script, (0, 1), (5, 7, ""))?;
+    expect(&rt, alloc, "run", script, (0, 1), (5, 19, ""))?;
     expect(&rt, alloc, "run", script, (1, 1), (4, 0, ""))
 }
 

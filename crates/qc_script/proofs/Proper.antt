@@ -1,4 +1,4 @@
--- A script that is read is proper: one copy, 1 to 64 records of legal configurations, and steps about these.
+-- A script that is read is proper: 1 to 16 copies, 1 to 64 records of legal configurations, and steps about these.
 use Rattle.std.proofs.Common.{◌≡◌, ℕ, zero, suc, ◌+◌, ◌-◌, ◌<◌, ◌≤◌, Bool, true, false, cond, List, [], ◌∷◌, ◌++◌, length, Option, Some, None, option_map, Result, Ok, Err, refl, sym, ap, ◌∙◌, subst, arith}
 use Rattle.std.specs.Prelude.{◌==◌, ◌||◌, ◌&&◌, nat_lt, nat_le, sum, IfOk, IfSome, ok_or, if◌then◌else◌, codes}
 use Rattle.std.specs.List.{AllByRecursion}
@@ -81,19 +81,19 @@ config_proper copies d =
 
 -- ---- records
 
-row_proper : (rows : List Row) (d : Data) → IfOk (row_of 1 rows d) IsProperRow
-row_proper rows d =
+row_proper : (copies : ℕ) (rows : List Row) (d : Data) → IfOk (row_of copies rows d) (IsProperRow copies)
+row_proper copies rows d =
     then_ok _ _ _ λ _ _. then_ok _ _ _ λ name _. then_ok _ _ _ λ start _. then_ok _ _ _ λ value _. then_ok _ _ _ λ config h.
-    let proper = IfOk-at_ok (IsProperConfig 1) h (config_proper 1 value) in
-    record { legal = proper.0; one_vote = proper.1 }
+    let proper = IfOk-at_ok (IsProperConfig copies) h (config_proper copies value) in
+    record { legal = proper.0; for_copies = proper.1 }
 
 All-push : {A : Type 0} (P : A → Type 0) (xs : List A) (y : A) → AllByRecursion P xs → P y → AllByRecursion P (xs ++ y ∷ [])
 All-push P [] y all h = (h, tt)
 All-push P (x ∷ xs) y all h = (all.0, All-push P xs y all.1 h)
 
-rows_proper : (rows : List Row) (ds : List Data) → AllByRecursion IsProperRow rows → IfOk (rows_of 1 rows ds) (AllByRecursion IsProperRow)
-rows_proper rows [] all = all
-rows_proper rows (d ∷ ds) all = then_ok _ _ _ λ row h. rows_proper (rows ++ row ∷ []) ds (All-push IsProperRow rows row all (IfOk-at_ok IsProperRow h (row_proper rows d)))
+rows_proper : (copies : ℕ) (rows : List Row) (ds : List Data) → AllByRecursion (IsProperRow copies) rows → IfOk (rows_of copies rows ds) (AllByRecursion (IsProperRow copies))
+rows_proper copies rows [] all = all
+rows_proper copies rows (d ∷ ds) all = then_ok _ _ _ λ row h. rows_proper copies (rows ++ row ∷ []) ds (All-push (IsProperRow copies) rows row all (IfOk-at_ok (IsProperRow copies) h (row_proper copies rows d)))
 
 length_push : (rows : List Row) (row : Row) (n : ℕ) → length (rows ++ row ∷ []) + n ≡ length rows + suc n
 length_push [] row n = omega arith
@@ -212,39 +212,43 @@ tops_within rows d = then_ok _ _ _ λ sessions _. then_ok _ _ _ λ _ _. only_wit
 
 -- ---- scripts
 
-one_copy : (d : Data) → IfOk (copies_of d) (λ copies. copies ≡ 1)
-one_copy d = then_ok _ _ _ λ copies _. then_ok _ _ _ λ _ _. then_ok _ _ _ λ t h. eqb-true copies 1 (must_true _ _ t h)
+within_limits : (low high n : ℕ) → (nat_le low n && nat_le n high) ≡ true → (low ≤ n) × (n ≤ high)
+within_limits low high n h = let p = and_parts (nat_le low n) (nat_le n high) h in (leb-true low n p.0, leb-true n high p.1)
+
+some_copies : (d : Data) → IfOk (copies_of d) (λ copies. (1 ≤ copies) × (copies ≤ 16))
+some_copies d = then_ok _ _ _ λ copies _. then_ok _ _ _ λ t limited. within_limits 1 16 copies (must_true _ _ t limited)
 
 -- 1 to 64 proper records
-record AreProper (rows : List Row) : Type 0 where
+record AreProper (copies : ℕ) (rows : List Row) : Type 0 where
   some : 0 < length rows
   few : length rows ≤ 64
-  each_one : AllByRecursion IsProperRow rows
+  each_one : AllByRecursion (IsProperRow copies) rows
 
-limits : (n : ℕ) → (nat_le 1 n && nat_le n 64) ≡ true → (1 ≤ n) × (n ≤ 64)
-limits n h = let p = and_parts (nat_le 1 n) (nat_le n 64) h in (leb-true 1 n p.0, leb-true n 64 p.1)
+all_proper : (copies : ℕ) (list : List Data) (rows : List Row) → rows_of copies [] list ≡ Ok rows → (1 ≤ length list) × (length list ≤ 64) → AreProper copies rows
+all_proper copies list rows h l =
+    let counted : length rows ≡ 0 + length list = IfOk-at_ok (λ (all : List Row). length all ≡ 0 + length list) h (length-rows_of copies [] list) in
+    record { some = omega arith; few = omega arith; each_one = IfOk-at_ok (AllByRecursion (IsProperRow copies)) h (rows_proper copies [] list tt) }
 
-all_proper : (list : List Data) (rows : List Row) → rows_of 1 [] list ≡ Ok rows → (1 ≤ length list) × (length list ≤ 64) → AreProper rows
-all_proper list rows h l =
-    let counted : length rows ≡ 0 + length list = IfOk-at_ok (λ (all : List Row). length all ≡ 0 + length list) h (length-rows_of 1 [] list) in
-    record { some = omega arith; few = omega arith; each_one = IfOk-at_ok (AllByRecursion IsProperRow) h (rows_proper [] list tt) }
-
-records_proper : (d : Data) → IfOk (records_of 1 d) AreProper
-records_proper d =
+records_proper : (copies : ℕ) (d : Data) → IfOk (records_of copies d) (AreProper copies)
+records_proper copies d =
     then_ok _ _ _ λ list _. then_ok _ _ _ λ t limited.
-    let l = limits (length list) (must_true _ _ t limited) in
-    ok_each (rows_of 1 [] list) (λ rows h. all_proper list rows h l)
-
-script_if_one : (copies : ℕ) (d : Data) (rows : List Row) (tops : List Numbered) → copies ≡ 1 → records_of copies d ≡ Ok rows → tops_of rows d ≡ Ok tops → IsProper (record { table = record { copies = copies; records = rows }; tops = tops })
-script_if_one copies d rows tops one r t =
-    let proper = IfOk-at_ok AreProper (ap (λ n. records_of n d) (sym one) ∙ r) (records_proper d) in
-    record { one_copy = one; some_records = proper.some; few_records = proper.few; rows = proper.each_one; tops = IfOk-at_ok (TopsWithin (length rows)) t (tops_within rows d) }
+    let l = within_limits 1 64 (length list) (must_true _ _ t limited) in
+    ok_each (rows_of copies [] list) (λ rows h. all_proper copies list rows h l)
 
 -- what is a script is proper
 pub script_proper : (d : Data) → IfOk (script_of d) IsProper
 script_proper d =
     then_ok _ _ _ λ _ _. then_ok _ _ _ λ copies c. then_ok _ _ _ λ _ _. then_ok _ _ _ λ rows r. then_ok _ _ _ λ tops t.
-    script_if_one copies d rows tops (IfOk-at_ok (λ n. n ≡ 1) c (one_copy d)) r t
+    let limits = IfOk-at_ok (λ n. (1 ≤ n) × (n ≤ 16)) c (some_copies d) in
+    let proper = IfOk-at_ok (AreProper copies) r (records_proper copies d) in
+    record {
+      some_copy = omega arith;
+      few_copies = limits.1;
+      some_records = proper.some;
+      few_records = proper.few;
+      rows = proper.each_one;
+      tops = IfOk-at_ok (TopsWithin (length rows)) t (tops_within rows d);
+    }
 
 -- so is what a reader gives as what the value is
 pub gives_proper : (d : Data) (r : Result Script BadScript) → Gives plan_of_script r (script_of d) → IfOk r (λ s. IsProper (plan_of_script s))

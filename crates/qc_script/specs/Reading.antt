@@ -49,15 +49,16 @@ abbrev pub Gives : {X Y : Type 0} → (X → Y) → Result X BadScript → Read 
 Gives view (Ok x) read = read ≡ Ok (view x)
 Gives view (Err e) read = Fails e read
 
--- a record at one copy with a legal configuration
-pub record IsProperRow (row : Row) : Type 0 where
+-- a record at so many copies with a legal configuration
+pub record IsProperRow (copies : ℕ) (row : Row) : Type 0 where
   pub legal : IsLegal row.config
-  pub one_vote : length row.config.votes ≡ 1
+  pub for_copies : length row.config.votes ≡ copies
 
--- A script with one copy and 1 to 64 records, whose steps are about these records.
+-- A script with 1 to 16 copies and 1 to 64 records, whose steps are about these records.
 pub record IsProper (s : ScriptPlan) : Type 0 where
-  pub one_copy : s.table.copies ≡ 1
+  pub some_copy : 0 < s.table.copies
+  pub few_copies : s.table.copies ≤ 16
   pub some_records : 0 < length s.table.records
   pub few_records : length s.table.records ≤ 64
-  pub rows : AllByRecursion IsProperRow s.table.records
+  pub rows : AllByRecursion (IsProperRow s.table.copies) s.table.records
   pub tops : TopsWithin (length s.table.records) s.tops

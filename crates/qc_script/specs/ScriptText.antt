@@ -269,12 +269,10 @@ only_session rows _ = Err (Shape part.Sessions)
 
 -- SCRIPTS
 
--- one copy: more of them are not built yet
 abbrev pub copies_of : Data → Read ℕ
 copies_of d = do
   copies ← number_at (codes "copies") part.Copies d
   _ ← within part.Copies 1 16 copies
-  _ ← must (copies == 1) (Shape part.Copies)
   Ok copies
 
 abbrev pub records_of : ℕ → Data → Read (List Row)

@@ -32,10 +32,7 @@ fn copies_of(value: &Value) -> Result<u8, BadScript>
 {
     let copies = number_at(value, "copies", Member::Copies)?;
     check_within(Member::Copies, 1, 16, copies)?;
-    if copies != 1 {
-        return Err(BadScript::Shape(Member::Copies));
-    }
-    Ok(1)
+    Ok(copies as u8)
 }
 
 fn records_of(alloc: Global, copies: u8, value: &Value) -> Result<Vec<Row>, BadScript>

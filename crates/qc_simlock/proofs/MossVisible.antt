@@ -224,6 +224,10 @@ module _ (setting : Setting) (past : Past) (t : Name) (legal : Legal setting pas
       let v : Visible (moves past) g served.who = serial-in (start_at setting.base) (moves past) served.who g (follows setting past legal) i in
       sees_granted g v.granted v.shown
 
+  -- a grant whose access it sees it sees
+  pub sees : (g : Given) → granted past g.grant.access ≡ Some g → is_visible past g.grant.access t ≡ true → IsVisible past g t
+  sees g is h = sees_granted g (granted_given past g.grant.access g is) (served.sees g.grant.access h)
+
   -- and all that it sees it is served
   pub all : (g : Given) → IsVisible past g t → Contains (served_order past t) g
   all g v = in_contains (served_order past t) g (subst (In g) (sym served.same_order) (in_reverse _ g

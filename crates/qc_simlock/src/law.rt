@@ -4,7 +4,6 @@ ghost use Rattle.qc_event.specs.Dead.{dead, is_committed, outcome};
 ghost use Rattle.qc_event.specs.declared.event.Grant.{Grant};
 ghost use Rattle.qc_event.specs.History.{Past, Name, Given, grants};
 ghost use Rattle.qc_event.specs.Base.{Setting, start_tuple};
-ghost use Rattle.qc_event.specs.Calls.{LegalCalls};
 ghost use Rattle.qc_event.specs.Legal.{Legal};
 ghost use Rattle.qc_event.specs.Seen.{changed_by};
 ghost use Rattle.qc_serial.specs.Shape.{Reads};
@@ -12,14 +11,12 @@ ghost use Rattle.qc_simlock.specs.Serial.{IsSerialFor, IsUserOf};
 ghost use Rattle.qc_simlock.specs.Visible.{served_order, left_at, Finds, is_visible, IsVisible, KeepsTurns};
 ghost use Rattle.qc_simlock.specs.Walk.{serialise, walk};
 
-/// In a legal history, and in one of calls alone, the serial machine accepts the serial order of every user
+/// In a legal history the serial machine accepts the serial order of every user
 /// transaction without an aborted ancestor, and has exactly its own starts, ends and answers there, where
 /// each read in that order finds the value that was written last. How sessions interleave is left open
 /// (Lynch and Merritt's serial scheduler).
 pub fn serial_where_reads_agree()
-    ensures legal { (setting : Setting) (values : List ℕ) (past : Past) (t : Name) → Legal setting past → IsUserOf past t
-        → dead past t ≡ None → Reads values (serialise past t) → IsSerialFor values past t }
-    ensures calls { (setting : Setting) (values : List ℕ) (past : Past) (t : Name) → LegalCalls setting past → IsUserOf past t
+    ensures { (setting : Setting) (values : List ℕ) (past : Past) (t : Name) → Legal setting past → IsUserOf past t
         → dead past t ≡ None → Reads values (serialise past t) → IsSerialFor values past t }
 {}
 

@@ -1,54 +1,11 @@
 ghost use Rattle.std.specs.Prelude.{◌≡◌, ◌++◌, OnOk};
 ghost use Rattle.qc_run.specs.Report as spec;
 
+use super::managers::{push_failed, push_read, push_reconf, push_set};
 use super::page::Page;
 use super::tally::in_doubt;
 use qc_event::{Answer, Cause, Entry, Event, How, Kind, Name, Row, Table, kind};
 use std::alloc::AllocError;
-
-/// Appends the name of a record, and nothing for a record beyond the table.
-fn push_record(page: &mut Page, table: &Table, rec: u8) -> Result<(), AllocError>
-    ensures { OnOk result (page.new ≡ page.old ++ spec.record_name table.now rec) }
-{
-    match table.records.as_slice().get(usize::from(rec)) {
-        Some(row) => page.push(row.name.as_bytes()),
-        None => Ok(()),
-    }
-}
-
-fn push_read(
-    page: &mut Page,
-    table: &Table,
-    name: &Name,
-    rec: u8,
-    answer: &Answer,
-) -> Result<(), AllocError>
-    ensures { OnOk result
-        (page.new ≡ page.old ++ spec.read_line table.now name.now rec answer.now) }
-{
-    match answer {
-        Answer::Value(value) => {
-            write!(page, "read {name} ")?;
-            push_record(page, table, rec)?;
-            write!(page, " {value}\n")
-        }
-        Answer::Nothing | Answer::Generation(_) | Answer::Reply(_) => Ok(()),
-    }
-}
-
-fn push_set(
-    page: &mut Page,
-    table: &Table,
-    name: &Name,
-    rec: u8,
-    value: u64,
-) -> Result<(), AllocError>
-    ensures { OnOk result (page.new ≡ page.old ++ spec.set_line table.now name.now rec value) }
-{
-    write!(page, "set {name} ")?;
-    push_record(page, table, rec)?;
-    write!(page, " {value}\n")
-}
 
 fn push_commit(page: &mut Page, name: &Name) -> Result<(), AllocError>
     ensures { OnOk result (page.new ≡ page.old ++ spec.commit_line name.now) }
@@ -79,27 +36,6 @@ fn push_abort(page: &mut Page, name: &Name, cause: &Cause) -> Result<(), AllocEr
     write!(page, "\n")
 }
 
-/// Of the aborts of managers only those of orphans are told.
-fn push_orphan(
-    page: &mut Page,
-    table: &Table,
-    name: &Name,
-    rec: u8,
-    cause: &Cause,
-) -> Result<(), AllocError>
-    ensures { OnOk result
-        (page.new ≡ page.old ++ spec.orphan_line table.now name.now rec cause.now) }
-{
-    match cause {
-        Cause::Orphan(ancestor) => {
-            write!(page, "orphan {name} ")?;
-            push_record(page, table, rec)?;
-            write!(page, " {ancestor}\n")
-        }
-        _ => Ok(()),
-    }
-}
-
 fn push_committed(
     page: &mut Page,
     table: &Table,
@@ -114,7 +50,8 @@ fn push_committed(
         Kind::User { .. } => push_commit(page, name),
         Kind::Read { rec } => push_read(page, table, name, *rec, answer),
         Kind::Write { rec, value } => push_set(page, table, name, *rec, *value),
-        Kind::Reconf { .. } | Kind::Access => Ok(()),
+        Kind::Reconf { rec, .. } => push_reconf(page, table, name, *rec, answer),
+        Kind::Access => Ok(()),
     }
 }
 
@@ -130,10 +67,10 @@ fn push_aborted(
 {
     match kind {
         Kind::User { .. } => push_abort(page, name, cause),
-        Kind::Read { rec } | Kind::Write { rec, .. } => {
-            push_orphan(page, table, name, *rec, cause)
+        Kind::Read { rec } | Kind::Write { rec, .. } | Kind::Reconf { rec, .. } => {
+            push_failed(page, table, name, *rec, cause)
         }
-        Kind::Reconf { .. } | Kind::Access => Ok(()),
+        Kind::Access => Ok(()),
     }
 }
 

@@ -40,14 +40,14 @@ fn an_aborted_child_leaves_the_value_from_before_it(rt: HostRuntime) -> Result<(
         &rt,
         alloc,
         r#"{"steps":[["child",{"steps":[["set","x",7],["abort",0]]}],["read","x"]]}"#,
-        9,
+        21,
         "set 1/1.1.1 x 7\nabort 1/1.1 asked 1/1.1\nread 1/1.2 x 1\ncommit 1/1\nfinal x 1\ntops 1 committed 1 aborted 0 doubt 0\n",
     )?;
     prints(
         &rt,
         alloc,
         r#"{"steps":[["child",{"steps":[["child",{"steps":[["set","x",7]]}],["abort",0]]}],["read","x"]]}"#,
-        11,
+        23,
         "set 1/1.1.1.1 x 7\ncommit 1/1.1.1\nabort 1/1.1 asked 1/1.1\nread 1/1.2 x 1\ncommit 1/1\nfinal x 1\ntops 1 committed 1 aborted 0 doubt 0\n",
     )
 }
@@ -59,14 +59,14 @@ fn children_see_what_was_committed_before_them(rt: HostRuntime) -> Result<(), Fa
         &rt,
         alloc,
         r#"{"steps":[["child",{"steps":[["read","x"]]}],["child",{"steps":[["set","x",9]]}]]}"#,
-        11,
+        23,
         "read 1/1.1.1 x 1\ncommit 1/1.1\nset 1/1.2.1 x 9\ncommit 1/1.2\ncommit 1/1\nfinal x 9\ntops 1 committed 1 aborted 0 doubt 0\n",
     )?;
     prints(
         &rt,
         alloc,
         r#"{"steps":[["child",{"steps":[["set","x",9]]}],["child",{"steps":[["read","x"]]}]]}"#,
-        11,
+        23,
         "set 1/1.1.1 x 9\ncommit 1/1.1\nread 1/1.2.1 x 9\ncommit 1/1.2\ncommit 1/1\nfinal x 9\ntops 1 committed 1 aborted 0 doubt 0\n",
     )
 }
@@ -78,21 +78,21 @@ fn an_aborted_ancestor_leaves_orphans(rt: HostRuntime) -> Result<(), Fail> {
         &rt,
         alloc,
         r#"{"steps":[["child",{"steps":[["set","x",7],["child",{"steps":[["set","x",8],["abort",1]]}],["read","x"]]}],["read","x"]]}"#,
-        13,
+        33,
         "set 1/1.1.1 x 7\nset 1/1.1.2.1 x 8\nabort 1/1.1 asked 1/1.1.2\nabort 1/1.1.2 orphan 1/1.1\nread 1/1.2 x 1\ncommit 1/1\nfinal x 1\ntops 1 committed 1 aborted 0 doubt 0\n",
     )?;
     prints(
         &rt,
         alloc,
         r#"{"steps":[["child",{"steps":[["child",{"steps":[["child",{"steps":[["set","x",7],["abort",2]]}],["read","x"]]}],["read","x"]]}],["set","x",9]]}"#,
-        13,
+        29,
         "set 1/1.1.1.1.1 x 7\nabort 1/1.1 asked 1/1.1.1.1\nabort 1/1.1.1.1 orphan 1/1.1\nabort 1/1.1.1 orphan 1/1.1\nset 1/1.2 x 9\ncommit 1/1\nfinal x 9\ntops 1 committed 1 aborted 0 doubt 0\n",
     )?;
     prints(
         &rt,
         alloc,
         r#"{"steps":[["child",{"steps":[["set","x",7],["child",{"steps":[["abort",2]]}]]}],["read","x"]]},{"steps":[["read","x"]]}"#,
-        13,
+        25,
         "set 1/1.1.1 x 7\nabort 1/1 asked 1/1.1.2\nabort 1/1.1.2 orphan 1/1\nabort 1/1.1 orphan 1/1\nread 1/2.1 x 1\ncommit 1/2\nfinal x 1\ntops 2 committed 1 aborted 1 doubt 0\n",
     )
 }
@@ -116,7 +116,7 @@ fn bodies_nest_to_depth_16(rt: HostRuntime) -> Result<(), Fail> {
     let mut sink = crate::io::MemSink::new(alloc, Vec::new(alloc));
     let ran = crate::run(alloc, words.as_slice(), &mut source, &mut sink);
     assert_eq!(rt; ran.status.code(), 0);
-    assert_eq!(rt; ran.trail.len(), 34);
+    assert_eq!(rt; ran.trail.len(), 42);
     let too_deep = nested(alloc, 17, r#"["read","x"]"#)?;
     refuses(
         &rt,
@@ -144,9 +144,14 @@ fn refusals_of_scripts(rt: HostRuntime) -> Result<(), Fail> {
             "qc: script: shape sessions\n",
         ),
         (
+            17,
+            r#""sessions":[{"tops":[]}]"#,
+            "qc: script: limit copies 17\n",
+        ),
+        (
             2,
             r#""sessions":[{"tops":[]}]"#,
-            "qc: script: shape copies\n",
+            "qc: script: limit votes 1\n",
         ),
         (
             1,
@@ -191,7 +196,7 @@ fn scripts_of_the_greatest_length(rt: HostRuntime) -> Result<(), Fail> {
         script.push(' ')?;
     }
     let calls = (0, 0);
-    expect(&rt, alloc, "run", &script, calls, (0, 7, super::REPORT))?;
+    expect(&rt, alloc, "run", &script, calls, (0, 19, super::REPORT))?;
     script.push(' ')?;
     refuses(&rt, alloc, &script, "qc: script: too long\n")
 }

@@ -71,6 +71,23 @@ fn reads_a_script(rt: HostRuntime) -> Result<(), Fail> {
 }
 
 #[test]
+fn reads_a_script_of_three_copies(rt: HostRuntime) -> Result<(), Fail> {
+    let alloc = rt.alloc();
+    let records = r#"[{"name":"x","start":0,"config":{"votes":[2,1,1],"read":2,"write":3}}]"#;
+    let text = script_with(alloc, "3", records, SESSIONS)?;
+    let script = Script::read(alloc, text.as_bytes())
+        .ok()
+        .ok_or("it is a script")?;
+    assert_eq!(rt; script.table.copies, 3);
+    let rows = script.table.records.as_slice();
+    assert_eq!(rt; rows.len(), 1);
+    assert_eq!(rt; rows[0].config.count(), 3);
+    assert_eq!(rt; rows[0].config.votes(0), 2);
+    let fewer = script_with(alloc, "2", records, SESSIONS)?;
+    refuses(&rt, alloc, &fewer, "Votes 3")
+}
+
+#[test]
 fn refuses_other_texts(rt: HostRuntime) -> Result<(), Fail> {
     let texts = [
         ("", "NotJson"),
@@ -86,7 +103,7 @@ fn refuses_other_texts(rt: HostRuntime) -> Result<(), Fail> {
         ),
         (r#"{"copies":0,"records":[],"sessions":[]}"#, "Copies 0"),
         (r#"{"copies":17,"records":[],"sessions":[]}"#, "Copies 17"),
-        (r#"{"copies":2,"records":[],"sessions":[]}"#, "Copies"),
+        (r#"{"copies":16,"records":[],"sessions":[]}"#, "Records 0"),
         (r#"{"copies":1.0,"records":[],"sessions":[]}"#, "Copies"),
         (r#"{"copies":1,"records":7,"sessions":[]}"#, "Records"),
         (r#"{"copies":1,"records":[],"sessions":[]}"#, "Records 0"),

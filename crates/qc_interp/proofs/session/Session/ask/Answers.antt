@@ -1,17 +1,30 @@
-use Rattle.std.proofs.Common.{◌≡◌, ◌-◌, take, ap, ◌∙◌}
-use Rattle.std.proofs.lemmas.Result.{err_from_is_err_and}
+use Rattle.std.proofs.Common.{◌≡◌, ◌-◌, take, sym, ap, ◌∙◌, subst, arith}
+use Rattle.std.specs.Prelude.{None}
+use Rattle.qc_event.specs.declared.event.Cause.{Cause}
+use Rattle.qc_event.specs.declared.event.Cause.TheVariants.{Asked, Orphan}
+use Rattle.qc_event.specs.declared.event.Event.TheVariants.{End}
+use Rattle.qc_event.specs.declared.event.How.TheVariants.{Abort}
+use Rattle.qc_event.specs.History.{Name, end}
+use Rattle.qc_event.specs.Legal.{Allowed}
 use Rattle.qc_interp.specs.Trace as trace
-use Rattle.qc_interp.proofs.Fronts.{stopped_at, refused_at, asked_grows, asked_passes}
+use Rattle.qc_interp.proofs.RunAborts.{may_ask, may_ask_orphan}
 use Rattle.qc_interp.proofs.session.Session.ask.Goals as goal
 
-pub returns-in_err-abort-clause-err : goal.returns-in_err-abort-clause-err
-returns-in_err-abort-clause-err c =
-    let p = err_from_is_err_and c.from_residual.result c.from_residual.ensures.1 in
-    rw (p.1, p.2) (stopped_at _ c.args.self.now c.abort.new.self c.in_err-abort.field-0.0 c.in_err-abort.ensures.err (asked_grows c.args.of.now c.args.levels c.args.self.now).front c.in_err-abort.ensures.room)
+-- a name may be aborted for a cause where it has not ended
+abbrev MayAbort : trace.Now → Name → Cause → Type 0
+MayAbort now m cause = end now.past m ≡ None → Allowed now.setting now.past (trace.by_client (End m (Abort cause)))
 
-pub returns-clause-err : goal.returns-clause-err
-returns-clause-err c =
+pub abort-requires : goal.abort-requires
+abort-requires c =
     let of = c.args.of.now in
     let named : c.ancestor-ancestor.result ≡ trace.above of c.args.levels = c.ancestor-ancestor.ensures ∙ ap (λ n. take (n - c.args.levels) of) c.len.ensures.length in
-    let f = asked_passes of c.ancestor-ancestor.result c.args.levels c.args.self.now c.abort.new.self c.if-levels-eq0.false named c.in_ok-abort.ensures.ok in
-    refused_at c.abort-2.result _ c.abort.new.self c.abort-2.new.self f c.abort-2.ensures.err c.abort-2.ensures.room
+    subst (λ m. MayAbort c.args.self.now m (Asked of)) (sym named) (may_ask of c.requires.running.0 c.args.levels c.args.self.now c.requires.running.1 c.requires.within)
+
+pub abort-requires-2 : goal.abort-requires-2
+abort-requires-2 c =
+    let of = c.args.of.now in
+    let now = c.args.self.now in
+    let named : c.ancestor-ancestor.result ≡ trace.above of c.args.levels = c.ancestor-ancestor.ensures ∙ ap (λ n. take (n - c.args.levels) of) c.len.ensures.length in
+    subst (λ n. MayAbort n of (Orphan c.ancestor-ancestor.result)) (sym c.in_ok-abort.ensures.ok)
+    (subst (λ m. MayAbort (trace.aborted m (Asked of) now) of (Orphan m)) (sym named)
+    (may_ask_orphan of c.requires.running.0 c.args.levels now c.requires.running.1 c.requires.within (omega arith)))

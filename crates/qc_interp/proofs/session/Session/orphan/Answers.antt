@@ -1,9 +1,5 @@
-use Rattle.qc_event.specs.declared.event.Cause.TheVariants.{Orphan}
-use Rattle.qc_interp.proofs.Fronts.{refused_at, aborted_grows}
+use Rattle.qc_interp.proofs.RunAborts.{may_orphan}
 use Rattle.qc_interp.proofs.session.Session.orphan.Goals as goal
 
-pub returns-clause-err : goal.returns-clause-err
-returns-clause-err c =
-    let now = c.args.self.now in
-    let f = aborted_grows c.args.of.now (Orphan c.args.ancestor.now) now in
-    refused_at c.abort.result _ now c.abort.new.self f.front c.abort.ensures.err c.abort.ensures.room
+pub abort-requires : goal.abort-requires
+abort-requires c = may_orphan c.args.of.now c.args.ancestor.now c.requires.running.0 c.args.self.now c.requires.running.1 c.requires.fallen

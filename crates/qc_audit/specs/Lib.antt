@@ -1,0 +1,4 @@
+pub mod Parts
+pub mod Raised
+pub mod Breaks
+pub mod Refused

@@ -1,0 +1,5 @@
+mod aborted;
+mod blocked;
+mod first_run;
+mod short;
+mod trail;

@@ -1,0 +1,4 @@
+pub mod Moving
+pub mod Replaying
+pub mod Serving
+pub mod Weighing

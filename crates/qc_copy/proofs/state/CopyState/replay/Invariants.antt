@@ -1,0 +1,12 @@
+use Rattle.std.proofs.Common.{◌≡◌, take, false}
+use Rattle.qc_moss.specs.Locks.{unheld}
+use Rattle.qc_copy.specs.State.{all_granted}
+use Rattle.qc_copy.proofs.state.CopyState.replay.Given as goal
+
+-- the grants so far, of which each access holds its own lock
+abbrev pub invariant-loop-grant : goal.invariant-loop-grant
+invariant-loop-grant l = record {
+  table : l.locks ≡ all_granted (unheld l.fn.start.items) (take l.grant-index l.grants);
+  start : l.locks.start ≡ l.fn.start.items;
+  used : l.locks.reserved ≡ false;
+}

@@ -1,0 +1,5 @@
+pub mod Rows
+pub mod SameTest
+pub mod OneMore
+pub mod HeardMore
+pub mod GatheredMore

@@ -1,0 +1,127 @@
+-- Tops one after another: each begins at rest, and the session rests once it has ended.
+use Rattle.std.proofs.Common.{ℕ, ◌≡◌, ◌+◌, ◌/◌, ◌%◌, ◌^◌, ◌<◌, ◌≤◌, inl, inr, true, [], ◌∷◌, ◌++◌, length, refl, sym, ap, ◌∙◌, subst, arith}
+use mathlib.Core.Bool.{true≢false}
+use Rattle.std.specs.Prelude.{Option, None, Some, is_some, cond, if◌then◌else◌, nat_le}
+use Rattle.std.proofs.lemmas.Bool.{false_from_ne_true}
+use Rattle.std.proofs.lemmas.Bool.Decides.{nat_tests}
+use Rattle.std.proofs.lemmas.List.{length-append}
+use Rattle.qc_event.specs.declared.event.Event.TheVariants.{Start}
+use Rattle.qc_event.specs.declared.event.How.{How}
+use Rattle.qc_event.specs.declared.event.Kind.TheVariants as kind
+use Rattle.qc_event.specs.History.{Past, Name, same, start, end}
+use Rattle.qc_event.specs.Dead.{outcome_of, is_committed, is_aborted, dead}
+use Rattle.qc_event.specs.Base.{Setting}
+use Rattle.qc_event.specs.Legal.{Legal, Allowed}
+use Rattle.qc_event.proofs.Absent.{same_is, both_none, if_not}
+use Rattle.qc_event.proofs.OneEntry.{some_or_none}
+use Rattle.qc_event.proofs.Lawful.{Lawful, lawful}
+use Rattle.qc_event.proofs.LegalOrderly.{legal_orderly}
+use Rattle.qc_event.proofs.Lineage.{IsFresh, fresh_below, dead_child}
+use Rattle.qc_script.specs.Plan.{Numbered, TopsWithin}
+use Rattle.qc_interp.specs.Trace.{Now, by_client, begun, returned, BodyRuns, top_of}
+use Rattle.qc_interp.proofs.Running.{Running, Ran, Resting}
+use Rattle.qc_interp.proofs.BelowNames.{above_child, below_longer, begins_last}
+use Rattle.qc_interp.proofs.LeftAsItIs.{start_left}
+use Rattle.qc_interp.proofs.ReadyTops.{unstarted_unready}
+use Rattle.qc_interp.proofs.Fallen.{left_dead, left_dead_parent}
+use Rattle.qc_interp.proofs.RunChild.{Over, runs_begun, just_begun, returned_dead, returned_past, returned_setting}
+use Rattle.qc_interp.proofs.RunsRan.{runs_ran}
+
+epoch_one : (i : ℕ) → i < 4294967295 → nat_le 1 ((4294967297 + i) / 2 ^ 32) ≡ true
+epoch_one i few = grind (arith, nat_tests)
+
+place_some : (i : ℕ) → i < 4294967295 → nat_le 1 ((4294967297 + i) % 2 ^ 32) ≡ true
+place_some i few = grind (arith, nat_tests)
+
+pub root_alive : (past : Past) → Lawful past → dead past [] ≡ None
+root_alive past law = ap (λ o. cond (is_aborted (outcome_of o)) (Some []) None) law.no_root_end
+
+begins_root : (p s : Name) → [] ≡ p ++ s → p ≡ []
+begins_root [] s is = refl
+begins_root (x ∷ p) s is = absurd cc
+
+pub law_of : (now : Now) → Legal now.setting now.past → Lawful now.past
+law_of now legal = lawful now.past (legal_orderly now.setting now.past legal)
+
+-- the empty history rests
+pub nothing_rests : (setting : Setting) → Resting 0 (record { setting = setting; past = []; dead = None })
+nothing_rests setting = record {
+  legal = tt;
+  fallen = refl;
+  all_ended = λ n began. absurd (true≢false (sym began));
+  unstarted = λ x after. refl;
+  long = omega arith;
+}
+
+-- THE START OF A TOP
+
+top_fresh : (i : ℕ) (now : Now) → Resting i now → IsFresh now.past (top_of i)
+top_fresh i now h = fresh_below now.past (top_of i) [] (law_of now h.legal) (omega arith) (h.unstarted (4294967297 + i) (omega arith))
+
+pub may_start_top : (i number : ℕ) (now : Now) → Resting i now → i < 4294967295 → Allowed now.setting now.past (by_client (Start (top_of i) (kind.User 0 number)))
+may_start_top i number now h few = record { by_client = refl; user = tt; epoch = epoch_one i few; place = place_some i few; fresh = (top_fresh i now h).no_start }
+
+pub rest_begun : (i number : ℕ) (now : Now) → Resting i now → i < 4294967295 → Running (top_of i) 1 (begun (top_of i) number now)
+rest_begun i number now h few =
+    runs_begun (top_of i) number now (omega arith) h.fallen
+    (just_begun now.setting (top_of i) (kind.User 0 number) now.past h.legal (may_start_top i number now h few) fresh living (λ m began going. absurd (some_or_none (end now.past m) (h.all_ended m began) going)))
+    (λ p r is. elim (begins_last [] p r (4294967297 + i) is) [
+      | inl itself ↦ inl itself
+      | inr (s, over) ↦ inr (subst (Over now.past) (sym (begins_root p s over)) root)
+    ])
+  where
+    law : Lawful now.past
+    law = law_of now h.legal
+
+    fresh : IsFresh now.past (top_of i)
+    fresh = top_fresh i now h
+
+    living : dead now.past (top_of i) ≡ None
+    living = dead_child now.past [] (4294967297 + i) (root_alive now.past law) ∙ ap (λ o. if is_aborted (outcome_of o) then Some (top_of i) else None) fresh.no_end
+
+    root : Over now.past []
+    root = record {
+      user = λ some. absurd (omega arith);
+      uncommitted = ap (λ o. is_committed (outcome_of o)) law.no_root_end;
+      unready = unstarted_unready now.setting now.past [] h.legal law.no_root_start;
+    }
+
+-- THE REST AFTER IT
+
+pub rest_back : (i number : ℕ) (now left : Now) → Resting i now → Ran (top_of i) (begun (top_of i) number now) left → Resting (i + 1) (returned 0 left)
+rest_back i number now left h r = record {
+  legal = subst (λ s. Legal s (returned 0 left).past) (sym (returned_setting 0 left)) (subst (Legal left.setting) (sym (returned_past 0 left)) r.legal);
+  fallen = returned_dead 0 left ∙ ap (left_dead 0) r.fallen ∙ left_dead_parent left.past [] (4294967297 + i) ∙ root_alive left.past law;
+  all_ended = subst (λ p. (n : Name) → is_some (start p n) ≡ true → is_some (end p n) ≡ true) (sym (returned_past 0 left)) (λ n began. ended n began (end left.past n) refl);
+  unstarted = subst (λ p. (x : ℕ) → 4294967297 + (i + 1) ≤ x → start p (x ∷ []) ≡ None) (sym is_whole) unstarted;
+  long = subst (λ p. i + 1 ≤ length p) (sym is_whole) (omega (arith, length-append r.later with_top, h.long));
+}
+  where
+    law : Lawful left.past
+    law = law_of left r.legal
+
+    with_top : Past
+    with_top = by_client (Start (top_of i) (kind.User 0 number)) ∷ now.past
+
+    is_whole : (returned 0 left).past ≡ r.later ++ with_top
+    is_whole = returned_past 0 left ∙ r.is
+
+    ended : (n : Name) → is_some (start left.past n) ≡ true → (o : Option How) → end left.past n ≡ o → is_some o ≡ true
+    ended n began None going =
+        let over = above_child [] n (4294967297 + i) (r.open_above n began going) in
+        absurd (some_or_none (start left.past n) began (ap (start left.past) (begins_root n over.0 over.1) ∙ law.no_root_start))
+    ended n began (Some how) is = refl
+
+    unstarted : (x : ℕ) → 4294967297 + (i + 1) ≤ x → start (r.later ++ with_top) (x ∷ []) ≡ None
+    unstarted x further =
+        start_left (top_of i) (x ∷ []) r.later with_top r.inside (λ below. omega (arith, below_longer (top_of i) (x ∷ []) below))
+        ∙ both_none (start now.past (x ∷ [])) _ (h.unstarted x (omega arith)) (if_not (same (top_of i) (x ∷ [])) _ (false_from_ne_true (same (top_of i) (x ∷ [])) (λ s. other x further (same_is (top_of i) (x ∷ []) s))))
+      where
+        other : (x : ℕ) → 4294967297 + (i + 1) ≤ x → top_of i ≡ x ∷ [] → ⊥
+        other x further is = let e : 4294967297 + i ≡ x = cc in omega arith
+
+-- what a session leaves that has run a top more
+pub top_rests : (i : ℕ) (b : Numbered) (now new : Now) → Resting i now → i < 4294967295 → TopsWithin (length now.setting.firsts) (b ∷ []) → BodyRuns 0 (top_of i) b now new → Resting (i + 1) new × (new.setting ≡ now.setting)
+top_rests i b now new h few within body =
+    let r = runs_ran (top_of i) 1 b.plan (begun (top_of i) b.number now) body.left (rest_begun i b.number now h few) within.0 body.runs in
+    (subst (Resting (i + 1)) (sym body.back) (rest_back i b.number now body.left h r), ap (λ (m : Now). m.setting) body.back ∙ returned_setting 0 body.left ∙ r.same_setting)

@@ -1,0 +1,51 @@
+-- What holds of a session between two steps of a transaction, and between two tops.
+use Rattle.std.specs.Prelude.{ℕ, ◌≡◌, ◌+◌, ◌<◌, ◌≤◌, Bool, false, true, [], ◌∷◌, ◌++◌, length, Option, Some, None, is_some, option_map, Result, Ok, Err}
+use Rattle.qc_event.specs.declared.event.Answer.{Answer}
+use Rattle.qc_event.specs.declared.event.Cause.{Cause}
+use Rattle.qc_event.specs.declared.event.How.{How}
+use Rattle.qc_event.specs.declared.event.How.TheVariants.{Commit, Abort}
+use Rattle.qc_event.specs.declared.event.Kind.{Kind}
+use Rattle.qc_event.specs.Dead as state
+use Rattle.qc_event.specs.History.{Name, start, end, is_ready, children}
+use Rattle.qc_event.specs.Legal.{Legal}
+use Rattle.qc_event.specs.Standing.{Started, IsUser}
+use Rattle.qc_interp.specs.Trace.{Now, aborted, Managed}
+use Rattle.qc_rw.specs.declared.no.MgrNo.{MgrNo}
+use Rattle.qc_rw.specs.Managed.{cause_of}
+
+-- Transaction `of` has started and is the one that runs; its next child has number k.
+pub record Running (of : Name) (k : ℕ) (now : Now) : Type 0 where
+  pub legal : Legal now.setting now.past
+  pub fallen : now.dead ≡ state.dead now.past of
+  pub nonroot : 0 < length of
+  pub user : (p r : Name) → of ≡ p ++ r → 0 < length p → Started now.past p (λ b. IsUser b.kind)
+  pub uncommitted : (p r : Name) → of ≡ p ++ r → state.is_committed (state.outcome now.past p) ≡ false
+  pub unready : (p r : Name) → of ≡ p ++ r → is_ready now.past p ≡ false
+  pub next : length (children now.past of) + 1 ≡ k
+  pub open_above : (n : Name) → is_some (start now.past n) ≡ true → end now.past n ≡ None → (r : Name) × (of ≡ n ++ r)
+
+-- Between two tops, the next of which is top i: every transaction has ended.
+pub record Resting (i : ℕ) (now : Now) : Type 0 where
+  pub legal : Legal now.setting now.past
+  pub fallen : now.dead ≡ None
+  pub all_ended : (n : Name) → is_some (start now.past n) ≡ true → is_some (end now.past n) ≡ true
+  pub unstarted : (x : ℕ) → 4294967297 + i ≤ x → start now.past (x ∷ []) ≡ None
+  pub long : i ≤ length now.past
+
+-- How a manager ends by what it came to: it commits with its answer, or is aborted for the cause of none.
+-- Where there is no cause, memory or room was wanting.
+abbrev pub ending_of : Result Answer MgrNo → Option How
+ending_of (Ok given) = Some (Commit given)
+ending_of (Err why) = option_map (λ (cause : Cause). Abort cause) (cause_of why)
+
+-- What is left of a transaction after a manager that ended so: it goes on, or is aborted with the same cause.
+abbrev pub WentOn : How → Name → Bool → Now → Now → Type 0
+WentOn (Commit given) of goes_on now new = (goes_on ≡ true) × (new ≡ now)
+WentOn (Abort cause) of goes_on now new = (goes_on ≡ false) × (new ≡ aborted of cause now)
+
+-- a transaction has run a manager as child k, and goes on or was aborted by that
+pub record RanManager (of : Name) (k : ℕ) (of_kind : Kind) (goes_on : Bool) (now new : Now) : Type 0 where
+  pub how : How
+  pub mid : Now
+  pub managed : Managed (of ++ k ∷ []) of_kind how now mid
+  pub went_on : WentOn how of goes_on mid new

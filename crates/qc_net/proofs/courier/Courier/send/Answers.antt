@@ -1,0 +1,39 @@
+-- A due step, and then the request meets its fate.
+use Rattle.std.proofs.Common.{◌≡◌, List, inl, sym, ap, ◌∙◌, subst}
+use Rattle.std.specs.Prelude.{option_map}
+use Rattle.qc_event.specs.declared.event.Ask.{Ask}
+use Rattle.qc_net.specs.Plan.{asked, passed}
+use Rattle.qc_net.specs.Courier.{IsLeft}
+use Rattle.qc_net.proofs.Left.{left-same, left-wider, left-err, left-stepped, held-after, all-stepped}
+use Rattle.qc_net.proofs.Steps.{each-plan}
+use Rattle.qc_net.proofs.Sendings.{sends, sends-ok}
+use Rattle.qc_net.proofs.courier.Courier.send.Goals as goal
+
+pub returns-in_err-due_step-clause-held : goal.returns-in_err-due_step-clause-held
+returns-in_err-due_step-clause-held g c =
+    let Gives = g.P.Port.gave c.due_step.new.port in
+    let held = c.args.self.now.held.items in
+    let same : c.due_step.new.self.held.items ≡ held = c.in_err-due_step.ensures.held_err in
+    left-err _ _ _ _ _ _ c.from_residual.ensures.1 (inl (subst (λ (now : List Ask). IsLeft Gives held now) (sym same) (left-same Gives held)))
+
+pub meet-requires-clause-held : goal.meet-requires-clause-held
+meet-requires-clause-held g c =
+    all-stepped (g.P.Port.gave c.due_step.new.port) (g.P.Port.may c.args.port.now) (g.P.Port.may c.due_step.new.port) c.due_step.ensures.may _ _ _ _ c.in_ok-due_step.field-0 c.in_ok-due_step.ensures.stepped c.requires.held
+
+pub returns-clause-held : goal.returns-clause-held
+returns-clause-held g c =
+    let held = c.args.self.now.held.items in
+    let left = left-stepped (g.P.Port.gave c.due_step.new.port) held c.due_step.new.self.held.items _ _ c.in_ok-due_step.field-0 c.in_ok-due_step.ensures.stepped in
+    held-after _ held _ _ _ _ (left-wider _ _ c.meet.ensures.gave held _ left) c.meet.ensures.held
+
+pub returns-clause-told : goal.returns-clause-told
+returns-clause-told g c =
+    let step = c.in_ok-due_step.field-0 in
+    let stepped = c.in_ok-due_step.ensures.stepped in
+    each-plan _ _ (λ first told.
+    let due_plan = c.due_step.ensures.plan ∙ ap (option_map passed) told in
+    let fate_plan = c.fate-fate.ensures.plan ∙ ap (option_map asked) due_plan in
+    let fate_is = rw due_plan at c.fate-fate.ensures.told in
+    let place = rw told at c.in_ok-due_step.ensures.place in
+    let meets = rw fate_plan at c.meet.ensures.told in
+    sends-ok c.meet.result _ _ (λ sent is. sends _ _ c.meet.ensures.gave first _ _ _ _ step stepped place c.fate-fate.result fate_is c.args.ask.now c.args.patience _ _ _ sent is) meets)

@@ -1,0 +1,17 @@
+-- Deliveries: requests, each with the answer that was given to it.
+use Rattle.std.specs.Prelude.{◌≡◌, List, ◌∷◌, Option, option_map}
+use Rattle.qc_event.specs.declared.event.Ask.{Ask}
+use Rattle.qc_event.specs.declared.event.Answered.{Answered}
+
+-- a request, and the answer that was given to it
+pub record Given : Type 0 where
+  pub ask : Ask
+  pub answer : Answered
+
+abbrev pub given : Ask → Answered → Given
+given ask answer = record { ask = ask; answer = answer }
+
+-- a request was delivered two times, and this is the first answer
+abbrev pub GaveTwice : (Ask → Answered → Type 0) → Option (List Given) → Option (List Given) → Ask → Answered → Type 0
+GaveTwice Gave before now ask first =
+    (second : Answered) × Gave ask second × (now ≡ option_map (λ earlier. given ask second ∷ given ask first ∷ earlier) before)

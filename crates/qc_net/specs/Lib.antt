@@ -1,0 +1,5 @@
+pub mod Plan
+pub mod PlanLink
+pub mod Given
+pub mod Sending
+pub mod Courier

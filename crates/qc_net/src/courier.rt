@@ -1,0 +1,163 @@
+//! Carries requests over a link to a port.
+ghost use Rattle.std.specs.Prelude.{◌≡◌, ◌≤◌, [], ◌∷◌, ◌++◌, length, option_map, All, IfOk, OnOk, OnErr, IfSome, IsTrue};
+ghost use Rattle.qc_event.specs.declared.event.Ask.{Ask};
+ghost use Rattle.qc_event.specs.declared.event.Answered.{Answered};
+ghost use Rattle.qc_gather.specs.Carrying.{Rose};
+ghost use Rattle.qc_net.specs.Plan.{Counts, is_trouble, next_fate, passed, anew, due_in};
+ghost use Rattle.qc_net.specs.Sending.{waiting, meeting, sending, IsSending};
+
+use crate::link::{Fate, Link};
+use crate::port::{Port, deliver_twice};
+use qc_event::{Answered, Ask};
+use std::alloc::{AllocError, Global};
+
+/// What came back of a request.
+#[derive(Clone, Copy)]
+pub enum Sent {
+    /// The answer that the port gave.
+    Answer(Answered),
+    /// The request or its answer was lost.
+    Lost,
+    /// It is held, and was not delivered while its sender waited.
+    Late,
+}
+
+// A generic push: one at the type of requests gets no proof today.
+fn append<T: Copy>(items: &mut Vec<T>, item: T) -> Result<(), AllocError>
+    ensures ok { OnOk result (items.new.items ≡ items.old.items ++ item ∷ []) }
+    ensures err { OnErr result (items.new.items ≡ items.old.items) }
+{
+    items.push(item)?;
+    Ok(())
+}
+
+/// Carries requests over a link, and holds those that are delivered later.
+#[derive(Drop)]
+pub struct Courier<L> {
+    link: L,
+    held: Vec<Ask>,
+}
+
+impl<L: Link> Courier<L> {
+    ghost use Rattle.qc_net.specs.Courier.{link_of, held_of, IsLeft, IsHeldBehind, HeldAfter, IsAnswered, HasCause, Stepped};
+
+    /// A courier that holds nothing.
+    pub fn new(alloc: Global, link: L) -> Self
+        ensures link { link_of result ≡ link }
+        ensures held { held_of result ≡ [] }
+    {
+        Courier {
+            link,
+            held: Vec::new(alloc),
+        }
+    }
+
+    // One due step: the place of the request that was delivered, and its answer. A request that finds no memory
+    // stays held.
+    fn due_step<P: Port>(&mut self, port: &mut P) -> Result<Option<(usize, Answered)>, AllocError>
+        requires { All (P.may port.old) (held_of self.old) }
+        ensures stepped { IfOk result (Stepped (P.gave port.new) (held_of self.old) (held_of self.new) (P.made port.old) (P.made port.new)) }
+        ensures held_err { OnErr result (held_of self.new ≡ held_of self.old) }
+        ensures made_err { OnErr result (P.made port.new ≡ P.made port.old) }
+        ensures place { IfSome (L.plan (link_of self.old)) (λ plan. IfOk result (λ step. option_map (λ s. s.0) step ≡ due_in plan (length (held_of self.old)))) }
+        ensures plan { L.plan (link_of self.new) ≡ option_map passed (L.plan (link_of self.old)) }
+        ensures counts { L.troubles (link_of self.new) ≡ L.troubles (link_of self.old) }
+        ensures may { (other : Ask) → P.may port.old other → P.may port.new other }
+        ensures gave { (other : Ask) (answer : Answered) → P.gave port.old other answer → P.gave port.new other answer }
+    {
+        let Some(place) = self.link.due(self.held.len()) else {
+            return Ok(None);
+        };
+        let ask = self.held[place];
+        let answer = port.deliver(&ask)?;
+        self.held.remove(place);
+        Ok(Some((place, answer)))
+    }
+
+    // Holds a request last, and waits for its delivery.
+    fn hold<P: Port>(&mut self, ask: &Ask, port: &mut P, patience: u32) -> Result<Sent, AllocError>
+        requires ask { P.may port.old ask.now }
+        requires held { All (P.may port.old) (held_of self.old) }
+        ensures told { IfSome (L.plan (link_of self.old)) (λ plan. IfOk result (IsSending (waiting patience (record { plan = plan; held = held_of self.old ++ ask.now ∷ []; delivered = [] })) (L.plan (link_of self.new)) (held_of self.new) (P.gave port.new) (P.made port.old) (P.made port.new))) }
+        ensures answered { IfOk result (IsAnswered (P.gave port.new) ask.now) }
+        ensures held { HeldAfter (P.gave port.new) (held_of self.old) ask.now (held_of self.new) result }
+        ensures allowed { All (P.may port.new) (held_of self.new) }
+        ensures may { (other : Ask) → P.may port.old other → P.may port.new other }
+        ensures gave { (other : Ask) (answer : Answered) → P.gave port.old other answer → P.gave port.new other answer }
+        ensures plan { option_map anew (L.plan (link_of self.new)) ≡ option_map anew (L.plan (link_of self.old)) }
+        ensures counts { L.troubles (link_of self.new) ≡ L.troubles (link_of self.old) }
+    {
+        append(&mut self.held, *ask)?;
+        for _ in 0..patience {
+            let last = self.held.len() - 1;
+            if let Some((place, answer)) = self.due_step(port)? {
+                if place == last {
+                    return Ok(Sent::Answer(answer));
+                }
+            }
+        }
+        Ok(Sent::Late)
+    }
+
+    // A request meets its fate.
+    fn meet<P: Port>(
+        &mut self,
+        fate: Fate,
+        ask: &Ask,
+        port: &mut P,
+        patience: u32,
+    ) -> Result<Sent, AllocError>
+        requires ask { P.may port.old ask.now }
+        requires held { All (P.may port.old) (held_of self.old) }
+        ensures told { IfSome (L.plan (link_of self.old)) (λ plan. IfOk result (IsSending (meeting fate ask.now patience (record { plan = plan; held = held_of self.old; delivered = [] })) (L.plan (link_of self.new)) (held_of self.new) (P.gave port.new) (P.made port.old) (P.made port.new))) }
+        ensures answered { IfOk result (IsAnswered (P.gave port.new) ask.now) }
+        ensures held { HeldAfter (P.gave port.new) (held_of self.old) ask.now (held_of self.new) result }
+        ensures allowed { All (P.may port.new) (held_of self.new) }
+        ensures cause { IfOk result (HasCause (IsTrue (is_trouble fate))) }
+        ensures may { (other : Ask) → P.may port.old other → P.may port.new other }
+        ensures gave { (other : Ask) (answer : Answered) → P.gave port.old other answer → P.gave port.new other answer }
+        ensures plan { option_map anew (L.plan (link_of self.new)) ≡ option_map anew (L.plan (link_of self.old)) }
+        ensures counts { L.troubles (link_of self.new) ≡ L.troubles (link_of self.old) }
+    {
+        match fate {
+            Fate::Deliver => Ok(Sent::Answer(port.deliver(ask)?)),
+            Fate::LoseAsk => Ok(Sent::Lost),
+            Fate::LoseReply => {
+                port.deliver(ask)?;
+                Ok(Sent::Lost)
+            }
+            Fate::Hold => self.hold(ask, port, patience),
+            Fate::Twice => Ok(Sent::Answer(deliver_twice(port, ask)?)),
+        }
+    }
+
+    /// Sends a request. First comes one due step: it delivers the held request that the link says, if any, and
+    /// drops its answer. Then the request meets its fate. One that is held waits for at most `patience` due
+    /// steps, and is answered where one of them delivers it.
+    ///
+    /// The only error is want of memory. A request that found none is not delivered: of what was held all is
+    /// left that was not answered, and this request behind it where it was held already.
+    pub fn send<P: Port>(
+        &mut self,
+        ask: &Ask,
+        port: &mut P,
+        patience: u32,
+    ) -> Result<Sent, AllocError>
+        requires ask { P.may port.old ask.now }
+        requires held { All (P.may port.old) (held_of self.old) }
+        ensures told { IfSome (L.plan (link_of self.old)) (λ plan. IfOk result (IsSending (sending plan (held_of self.old) ask.now patience) (L.plan (link_of self.new)) (held_of self.new) (P.gave port.new) (P.made port.old) (P.made port.new))) }
+        ensures answered { IfOk result (IsAnswered (P.gave port.new) ask.now) }
+        ensures held { HeldAfter (P.gave port.new) (held_of self.old) ask.now (held_of self.new) result }
+        ensures allowed { All (P.may port.new) (held_of self.new) }
+        ensures cause { IfOk result (HasCause (Rose (L.troubles (link_of self.old)) (L.troubles (link_of self.new)))) }
+        ensures counts { IfSome (L.plan (link_of self.old)) (λ plan. OnOk result (Counts (next_fate plan.coming) (L.troubles (link_of self.old)) (L.troubles (link_of self.new)))) }
+        ensures later { L.troubles (link_of self.old) ≤ L.troubles (link_of self.new) }
+        ensures may { (other : Ask) → P.may port.old other → P.may port.new other }
+        ensures gave { (other : Ask) (answer : Answered) → P.gave port.old other answer → P.gave port.new other answer }
+        ensures plan { option_map anew (L.plan (link_of self.new)) ≡ option_map anew (L.plan (link_of self.old)) }
+    {
+        self.due_step(port)?;
+        let fate = self.link.fate(ask.copy);
+        self.meet(fate, ask, port, patience)
+    }
+}

@@ -1,0 +1,65 @@
+ghost use Rattle.std.specs.Prelude.{◌≡◌, ◌≤◌, ◌+◌, [], IsTrue, IfOk, IfErr};
+ghost use Rattle.qc_config.specs.Config.{holds_write};
+ghost use Rattle.qc_event.specs.Base.{first_of};
+ghost use Rattle.qc_event.specs.declared.event.Answer.TheVariants as answer;
+ghost use Rattle.qc_event.specs.declared.event.Kind.TheVariants as kind;
+ghost use Rattle.qc_event.specs.declared.event.Phase.TheVariants.{Values, Configs};
+ghost use Rattle.qc_event.specs.History.{children, is_child};
+ghost use Rattle.qc_event.specs.Manager.{newest, replied};
+ghost use Rattle.qc_gather.specs.Carrying.{IsRunning, HasGrown};
+ghost use Rattle.qc_rw.specs.Going.{HasMade};
+ghost use Rattle.qc_rw.specs.Managed.{IsAnswered, IsRefused};
+
+use qc_config::{Config, Op};
+use qc_event::{Name, Phase};
+use qc_gather::Carrier;
+use qc_rw::{MgrNo, collect, put};
+
+/// Changes a record's configuration, for a manager that was started to change it to `new` and has asked
+/// nothing. It collects at a read quorum of the newest configuration. It then puts the value that it found,
+/// with its version as it is, to a write quorum of the new configuration: so whoever learns of that one finds
+/// the value at each of its read quorums (Gifford). Last it puts the new configuration, with the generation
+/// after the newest, to a write quorum of the configuration that was newest: whoever collects by that one
+/// learns of the new one, which need not stand at the new copies (Goldman and Lynch).
+///
+/// It answers the new generation, and the manager may then commit with it. Where the newest generation is
+/// `2^64 - 1` it answers `Last`, and has put nothing. After an error the manager may end for the error's
+/// cause, where it has one; what it asked stands.
+pub fn reconfigure<C: Carrier>(
+    carrier: &mut C,
+    manager: &Name,
+    rec: u8,
+    first: &Config,
+    new: &Config,
+) -> Result<u64, MgrNo>
+    requires manager { IsRunning (C.seat carrier.old) (C.seen carrier.old) manager.now (kind.Reconf rec new.now) }
+    requires no_child { children (C.seen carrier.old) manager.now ≡ [] }
+    requires first { first.now ≡ first_of (C.setting carrier.old) rec }
+    ensures setting { C.setting carrier.new ≡ C.setting carrier.old }
+    ensures seat { C.seat carrier.new ≡ C.seat carrier.old }
+    ensures others { C.others carrier.new ≡ C.others carrier.old }
+    ensures grown { HasGrown (C.others carrier.old) (λ n. IsTrue (is_child manager.now n)) (C.seen carrier.old) (C.seen carrier.new) }
+    ensures own { HasMade manager.now (C.own carrier.old) (C.own carrier.new) }
+    ensures answered { IfOk result (λ generation. IsAnswered (C.setting carrier.old) (C.seat carrier.old) (C.seen carrier.new) manager.now (kind.Reconf rec new.now) (answer.Generation generation)) }
+    ensures generation { IfOk result (λ generation. generation ≡ (newest (C.seen carrier.new) first.now manager.now).generation + 1) }
+    ensures value_moved { IfOk result (λ _. IsTrue (holds_write new.now (replied (C.seen carrier.new) manager.now Values))) }
+    ensures config_moved { IfOk result (λ _. IsTrue (holds_write (newest (C.seen carrier.new) first.now manager.now).config (replied (C.seen carrier.new) manager.now Configs))) }
+    ensures refused { IfErr result (IsRefused (C.setting carrier.old) (C.seat carrier.old) (C.seen carrier.new) manager.now (kind.Reconf rec new.now)) }
+    ensures later { C.troubles carrier.old ≤ C.troubles carrier.new }
+{
+    let gather = collect(carrier, manager, rec, first)?;
+    let (generation, old) = gather.newest();
+    if generation == u64::MAX {
+        return Err(MgrNo::Last);
+    }
+    let (version, value) = gather.greatest();
+    let put_value = Op::PutData { version, value };
+    put(carrier, manager, rec, new, Phase::Values, &put_value)?;
+    let next = generation + 1;
+    let put_config = Op::PutConfig {
+        generation: next,
+        config: *new,
+    };
+    put(carrier, manager, rec, &old, Phase::Configs, &put_config)?;
+    Ok(next)
+}

@@ -1,0 +1,149 @@
+-- The first tuples of a proper script's table are a proper base, and carry the rows' start values.
+use Rattle.std.proofs.Common.{◌≡◌, ℕ, zero, suc, ◌+◌, ◌<◌, true, List, [], ◌∷◌, length, map, replicate, Option, Some, None, refl, sym, ap, ◌∙◌, subst, arith}
+use Rattle.std.specs.Prelude.{All, MatchOption, slice_get, slice_index_or, sum, nat_le, ◌==◌, IsTrue}
+use Rattle.std.specs.List.{AllByRecursion}
+use Rattle.std.specs.Option.{option_map}
+use Rattle.std.proofs.lemmas.Bool.{le-leb}
+use Rattle.std.proofs.lemmas.List.{length-map, length-replicate, get_or-replicate}
+use Rattle.std.proofs.lemmas.List.Elements.{All-nil, All-cons, All-map, All-replicate}
+use Rattle.std.proofs.lemmas.List.Sums.{sum_by-cons}
+use Rattle.std.proofs.lemmas.Option.{slice_get-map, get_or_from_slice_get}
+use Rattle.qc_config.specs.Config.{IsLegal, weight, holds_write, no_config}
+use Rattle.qc_config.specs.declared.tuple.Tuple.{Tuple}
+use Rattle.qc_event.specs.Base.{setting_of, start_values, start_configs, first_of, no_tuple}
+use Rattle.qc_event.specs.Sound.{Carries, IsSound, HasValue, column, greatest_version}
+use Rattle.qc_event.specs.declared.table.Row.{Row}
+use Rattle.qc_event.specs.declared.table.Table.{Table}
+use Rattle.qc_script.specs.Plan.{ScriptPlan}
+use Rattle.qc_script.specs.Reading.{IsProper, IsProperRow}
+use Rattle.qc_store.specs.Stored.{IsProper as IsProperBase}
+use Rattle.qc_run.specs.Run.{base_of, first_tuple}
+
+-- LISTS
+
+map_map : {X Y Z : Type 0} (f : Y → Z) (g : X → Y) (xs : List X) → map f (map g xs) ≡ map (λ x. f (g x)) xs
+map_map f g [] = refl
+map_map f g (x ∷ xs) = ap (λ ys. f (g x) ∷ ys) (map_map f g xs)
+
+map_replicate : {X Y : Type 0} (f : X → Y) (n : ℕ) (x : X) → map f (replicate n x) ≡ replicate n (f x)
+map_replicate f zero x = refl
+map_replicate f (suc n) x = ap (λ ys. f x ∷ ys) (map_replicate f n x)
+
+at_place : {X : Type 0} (P : X → Type 0) (xs : List X) (k : ℕ) (x : X) → AllByRecursion P xs → slice_get xs k ≡ Some x → P x
+at_place P [] k x all is = absurd cc
+at_place P (y ∷ xs) zero x all is = let same : y ≡ x = cc in subst P same all.0
+at_place P (y ∷ xs) (suc k) x all is = at_place P xs k x all.1 is
+
+all_of : {X : Type 0} (P : X → Type 0) (xs : List X) → AllByRecursion P xs → All P xs
+all_of P [] all = All-nil P
+all_of P (x ∷ xs) all = All-cons P x xs all.0 (all_of P xs all.1)
+
+-- ONE RECORD
+
+-- all votes together are held by as many copies as there are votes
+weight_all : (votes : List ℕ) → weight votes (replicate (length votes) true) ≡ sum votes
+weight_all [] = refl
+weight_all (v ∷ votes) = ap (λ n. v + n) (weight_all votes) ∙ sym (sum_by-cons (λ x. x) v votes)
+
+greatest_zero : (row : Row) (n : ℕ) → greatest_version (replicate n (first_tuple row)) ≡ 0
+greatest_zero row zero = refl
+greatest_zero row (suc n) = let rest = greatest_zero row n in omega arith
+
+-- as many first tuples as a configuration has votes carry the start value
+carries : (row : Row) → IsLegal row.config → Carries row.config (replicate (length row.config.votes) (first_tuple row)) row.start
+carries row legal = record {
+  configs = row.config ∷ [];
+  newest = row.config;
+  begins = refl;
+  ends = refl;
+  legal = All-cons IsLegal row.config [] legal (All-nil IsLegal);
+  each_listed = All-replicate (λ (t : Tuple). slice_get (row.config ∷ []) t.generation ≡ Some t.config) (length row.config.votes) (first_tuple row) refl;
+  passed_on = λ g later. absurd (omega arith);
+  version_held = held;
+  values = All-replicate (HasValue (greatest_version tuples) row.start) (length row.config.votes) (first_tuple row) (λ _. refl);
+}
+  where
+    tuples : List Tuple
+    tuples = replicate (length row.config.votes) (first_tuple row)
+
+    marks : map (λ (t : Tuple). t.version == greatest_version tuples) tuples ≡ replicate (length row.config.votes) true
+    marks = map_replicate (λ (t : Tuple). t.version == greatest_version tuples) (length row.config.votes) (first_tuple row) ∙ ap (λ n. replicate (length row.config.votes) (0 == n)) (greatest_zero row (length row.config.votes))
+
+    held : IsTrue (holds_write row.config (map (λ (t : Tuple). t.version == greatest_version tuples) tuples))
+    held = ap (holds_write row.config) marks ∙ ap (nat_le row.config.write) (weight_all row.config.votes) ∙ le-leb row.config.write (sum row.config.votes) legal.write_possible
+
+-- THE TABLE
+
+abbrev first_row : Table → List Tuple
+first_row table = map first_tuple table.records
+
+first_copy : (table : Table) → 0 < table.copies → slice_index_or (base_of table) 0 [] ≡ first_row table
+first_copy table some = get_or-replicate table.copies 0 (first_row table) [] some
+
+pub starts_are : (table : Table) → 0 < table.copies → start_values (base_of table) ≡ map (λ (r : Row). r.start) table.records
+starts_are table some = ap (map (λ (t : Tuple). t.value)) (first_copy table some) ∙ map_map (λ (t : Tuple). t.value) first_tuple table.records
+
+configs_are : (table : Table) → 0 < table.copies → start_configs (base_of table) ≡ map (λ (r : Row). r.config) table.records
+configs_are table some = ap (map (λ (t : Tuple). t.config)) (first_copy table some) ∙ map_map (λ (t : Tuple). t.config) first_tuple table.records
+
+pub firsts_length : (table : Table) → 0 < table.copies → length (start_configs (base_of table)) ≡ length table.records
+firsts_length table some = ap length (configs_are table some) ∙ length-map table.records (λ (r : Row). r.config)
+
+pub base_length : (table : Table) → length (base_of table) ≡ table.copies
+base_length table = length-replicate table.copies (first_row table)
+
+column_is : (table : Table) (rec : ℕ) (row : Row) → slice_get table.records rec ≡ Some row → column (base_of table) rec ≡ replicate table.copies (first_tuple row)
+column_is table rec row is =
+    map_replicate (λ (ts : List Tuple). slice_index_or ts rec no_tuple) table.copies (first_row table)
+    ∙ ap (replicate table.copies) (get_or_from_slice_get (first_row table) rec (first_tuple row) no_tuple (slice_get-map first_tuple table.records rec ∙ ap (option_map first_tuple) is))
+
+first_is : (table : Table) (rec : ℕ) (row : Row) → 0 < table.copies → slice_get table.records rec ≡ Some row → first_of (setting_of (base_of table)) rec ≡ row.config
+first_is table rec row some is =
+    ap (λ cs. slice_index_or cs rec no_config) (configs_are table some)
+    ∙ get_or_from_slice_get (map (λ (r : Row). r.config) table.records) rec row.config no_config (slice_get-map (λ (r : Row). r.config) table.records rec ∙ ap (option_map (λ (r : Row). r.config)) is)
+
+start_is : (table : Table) (rec : ℕ) (row : Row) → slice_get table.records rec ≡ Some row → slice_get (map (λ (r : Row). r.start) table.records) rec ≡ Some row.start
+start_is table rec row is = slice_get-map (λ (r : Row). r.start) table.records rec ∙ ap (option_map (λ (r : Row). r.start)) is
+
+carried_at : (s : ScriptPlan) (rec : ℕ) (row : Row) → IsProper s → slice_get s.table.records rec ≡ Some row → Carries (first_of (setting_of (base_of s.table)) rec) (column (base_of s.table) rec) row.start
+carried_at s rec row proper is =
+    let row_proper = at_place (IsProperRow s.table.copies) s.table.records rec row proper.rows is in
+    subst (λ first. Carries first (column (base_of s.table) rec) row.start) (sym (first_is s.table rec row proper.some_copy is))
+    (subst (λ ts. Carries row.config ts row.start) (ap (λ n. replicate n (first_tuple row)) row_proper.for_copies ∙ sym (column_is s.table rec row is)) (carries row row_proper.legal))
+
+by_row : (s : ScriptPlan) (rec : ℕ) (o : Option Row) → IsProper s → rec < length s.table.records → slice_get s.table.records rec ≡ o → MatchOption (slice_get (map (λ (r : Row). r.start) s.table.records) rec) ⊥ (Carries (first_of (setting_of (base_of s.table)) rec) (column (base_of s.table) rec))
+by_row s rec None proper there is = absurd (none_within s.table.records rec there is)
+  where
+    none_within : (rows : List Row) (k : ℕ) → k < length rows → slice_get rows k ≡ None → ⊥
+    none_within [] k there none = omega arith
+    none_within (r ∷ rows) zero there none = cc
+    none_within (r ∷ rows) (suc k) there none = none_within rows k (omega arith) none
+by_row s rec (Some row) proper there is =
+    subst (λ o. MatchOption o ⊥ (Carries (first_of (setting_of (base_of s.table)) rec) (column (base_of s.table) rec))) (sym (start_is s.table rec row is)) (carried_at s rec row proper is)
+
+-- a script's first tuples carry its start values
+pub start_is_sound : (s : ScriptPlan) → IsProper s → IsSound (setting_of (base_of s.table)) (start_values (base_of s.table))
+start_is_sound s proper = subst (IsSound (setting_of (base_of s.table))) (sym (starts_are s.table proper.some_copy)) (λ rec there.
+    let size = firsts_length s.table proper.some_copy in
+    by_row s rec (slice_get s.table.records rec) proper (omega arith) refl)
+
+pub base_is_proper : (s : ScriptPlan) → IsProper s → IsProperBase (base_of s.table)
+base_is_proper s proper =
+    let size = base_length s.table in
+    let some = proper.some_copy in
+    let few = proper.few_copies in
+    record {
+      some_copy = omega arith;
+      most_copies = omega arith;
+      same_records = All-replicate (λ (row : List Tuple). length row ≡ length (start_configs (base_of s.table))) s.table.copies (first_row s.table)
+          (length-map s.table.records first_tuple ∙ sym (firsts_length s.table some));
+      for_copies = All-replicate (λ (row : List Tuple). All (λ (t : Tuple). length t.config.votes ≡ length (base_of s.table)) row) s.table.copies (first_row s.table)
+          (All-map (λ (t : Tuple). length t.config.votes ≡ length (base_of s.table)) first_tuple s.table.records (all_of (λ (r : Row). length r.config.votes ≡ length (base_of s.table)) s.table.records (votes_for s.table.records proper.rows)));
+    }
+  where
+    votes_for : (rows : List Row) → AllByRecursion (IsProperRow s.table.copies) rows → AllByRecursion (λ (r : Row). length r.config.votes ≡ length (base_of s.table)) rows
+    votes_for [] all = tt
+    votes_for (r ∷ rows) all = (all.0.for_copies ∙ sym (base_length s.table), votes_for rows all.1)
+
+pub values_length : (table : Table) → length (start_values (base_of table)) ≡ length (start_configs (base_of table))
+values_length table = length-map (slice_index_or (base_of table) 0 []) (λ (t : Tuple). t.value) ∙ sym (length-map (slice_index_or (base_of table) 0 []) (λ (t : Tuple). t.config))

@@ -1,0 +1,13 @@
+pub mod Lists
+pub mod Known
+pub mod Served
+pub mod Heard
+pub mod Stages
+pub mod Unasked
+pub mod Short
+pub mod Nexts
+pub mod Collecting
+pub mod Putting
+pub mod Answered
+pub mod Onwards
+pub mod Writing

@@ -1,0 +1,89 @@
+-- A manager that has asked nothing writes, and may commit.
+use Rattle.std.proofs.Common.{refl, subst, sym}
+use Rattle.qc_event.specs.Base.{first_of}
+use Rattle.qc_event.specs.declared.event.Kind.TheVariants as kind
+use Rattle.qc_event.specs.declared.event.Phase.TheVariants.{Collect}
+use Rattle.qc_rw.specs.Told.{told_in}
+use Rattle.qc_rw.specs.Going.{MayCollect, link}
+use Rattle.qc_rw.proofs.Answered.{may_collect}
+use Rattle.qc_rw.proofs.Onwards.{kind_is, has_gathered, may_put}
+use Rattle.qc_rw.proofs.Served.{served_further}
+use Rattle.qc_rw.proofs.Writing.{at_last_version, comes_to_put, is_next, has_written}
+use Rattle.qc_rw.proofs.manager.write.Goals as goal
+
+pub collect-requires : goal.collect-requires
+collect-requires g c κs within =
+    let carrier = g.C.Carrier in
+    let before = c.args.carrier.now in
+    let m = c.args.manager.now in
+    let write = kind.Write c.args.rec c.args.value in
+    let may = may_collect (carrier.setting before) (carrier.seat before) (carrier.seen before) m write c.args.rec c.args.first.now (g.met.C.Carrier.is_legal before) tt c.requires.manager c.requires.no_child refl c.requires.first in
+    (within, subst (λ k. MayCollect (carrier.setting before) (carrier.seat before) (carrier.seen before) m k c.args.rec c.args.first.now) (sym (kind_is (carrier.seat before) (carrier.seen before) m write c.requires.manager)) may)
+
+pub returns-then-greatest-clause-refused : goal.returns-then-greatest-clause-refused
+returns-then-greatest-clause-refused g c =
+    let carrier = g.C.Carrier in
+    let before = c.args.carrier.now in
+    let m = c.args.manager.now in
+    let now = c.collect.new.carrier in
+    let a = link (carrier.setting before) (carrier.seat before) (carrier.own before) (carrier.seen before) (carrier.others before) (carrier.troubles before) in
+    let l = link (carrier.setting now) (carrier.seat now) (carrier.own now) (carrier.seen now) (carrier.others now) (carrier.troubles now) in
+    let first = first_of (carrier.setting before) c.args.rec in
+    let told = told_in (carrier.seen now) m Collect in
+    let h = has_gathered a l m (kind.Write c.args.rec c.args.value) c.args.first.now c.in_ok-gather.gather (g.met.C.Carrier.is_legal before) tt c.requires.manager c.requires.no_child c.requires.first c.collect.ensures.served c.in_ok-gather.ensures.collected in
+    at_last_version a l m c.args.rec c.args.value c.in_ok-gather.gather h c.greatest-greatest.result.0 (c.greatest-greatest.ensures.version first told h.collected.kept) c.if-greatest.true
+
+pub put-requires : goal.put-requires
+put-requires g c κs within =
+    let carrier = g.C.Carrier in
+    let before = c.args.carrier.now in
+    let m = c.args.manager.now in
+    let now = c.collect.new.carrier in
+    let a = link (carrier.setting before) (carrier.seat before) (carrier.own before) (carrier.seen before) (carrier.others before) (carrier.troubles before) in
+    let l = link (carrier.setting now) (carrier.seat now) (carrier.own now) (carrier.seen now) (carrier.others now) (carrier.troubles now) in
+    let first = first_of (carrier.setting before) c.args.rec in
+    let told = told_in (carrier.seen now) m Collect in
+    let h = has_gathered a l m (kind.Write c.args.rec c.args.value) c.args.first.now c.in_ok-gather.gather (g.met.C.Carrier.is_legal before) tt c.requires.manager c.requires.no_child c.requires.first c.collect.ensures.served c.in_ok-gather.ensures.collected in
+    (within, may_put a l m (kind.Write c.args.rec c.args.value) _ _ _ (comes_to_put a l m c.args.rec c.args.value c.in_ok-gather.gather h c.greatest-greatest.result.0 c.newest-config.result.1 (c.greatest-greatest.ensures.version first told h.collected.kept) c.if-greatest.false (c.newest-config.ensures.config first told h.collected.kept)))
+
+pub returns-in_err-put-clause-grown : goal.returns-in_err-put-clause-grown
+returns-in_err-put-clause-grown g c = (served_further c.args.manager.now _ _ _ c.collect.ensures.served c.put.ensures.served).grown
+
+pub returns-in_err-put-clause-own : goal.returns-in_err-put-clause-own
+returns-in_err-put-clause-own g c = (served_further c.args.manager.now _ _ _ c.collect.ensures.served c.put.ensures.served).own
+
+pub returns-clause-grown : goal.returns-clause-grown
+returns-clause-grown g c = (served_further c.args.manager.now _ _ _ c.collect.ensures.served c.put.ensures.served).grown
+
+pub returns-clause-own : goal.returns-clause-own
+returns-clause-own g c = (served_further c.args.manager.now _ _ _ c.collect.ensures.served c.put.ensures.served).own
+
+pub returns-clause-answered : goal.returns-clause-answered
+returns-clause-answered g c =
+    let carrier = g.C.Carrier in
+    let before = c.args.carrier.now in
+    let m = c.args.manager.now in
+    let now = c.collect.new.carrier in
+    let a = link (carrier.setting before) (carrier.seat before) (carrier.own before) (carrier.seen before) (carrier.others before) (carrier.troubles before) in
+    let l = link (carrier.setting now) (carrier.seat now) (carrier.own now) (carrier.seen now) (carrier.others now) (carrier.troubles now) in
+    let first = first_of (carrier.setting before) c.args.rec in
+    let told = told_in (carrier.seen now) m Collect in
+    let h = has_gathered a l m (kind.Write c.args.rec c.args.value) c.args.first.now c.in_ok-gather.gather (g.met.C.Carrier.is_legal before) tt c.requires.manager c.requires.no_child c.requires.first c.collect.ensures.served c.in_ok-gather.ensures.collected in
+    let after = c.put.new.carrier in
+    let l2 = link (carrier.setting after) (carrier.seat after) (carrier.own after) (carrier.seen after) (carrier.others after) (carrier.troubles after) in
+    has_written a l m c.args.rec c.args.value c.in_ok-gather.gather h c.greatest-greatest.result.0 c.newest-config.result.1 (c.greatest-greatest.ensures.version first told h.collected.kept) c.if-greatest.false (c.newest-config.ensures.config first told h.collected.kept) l2 c.in_ok-put.ensures.put
+
+pub returns-clause-version : goal.returns-clause-version
+returns-clause-version g c =
+    let carrier = g.C.Carrier in
+    let before = c.args.carrier.now in
+    let m = c.args.manager.now in
+    let now = c.collect.new.carrier in
+    let a = link (carrier.setting before) (carrier.seat before) (carrier.own before) (carrier.seen before) (carrier.others before) (carrier.troubles before) in
+    let l = link (carrier.setting now) (carrier.seat now) (carrier.own now) (carrier.seen now) (carrier.others now) (carrier.troubles now) in
+    let first = first_of (carrier.setting before) c.args.rec in
+    let told = told_in (carrier.seen now) m Collect in
+    let h = has_gathered a l m (kind.Write c.args.rec c.args.value) c.args.first.now c.in_ok-gather.gather (g.met.C.Carrier.is_legal before) tt c.requires.manager c.requires.no_child c.requires.first c.collect.ensures.served c.in_ok-gather.ensures.collected in
+    let after = c.put.new.carrier in
+    let l2 = link (carrier.setting after) (carrier.seat after) (carrier.own after) (carrier.seen after) (carrier.others after) (carrier.troubles after) in
+    is_next a l m c.args.rec c.args.value c.in_ok-gather.gather h c.greatest-greatest.result.0 c.newest-config.result.1 (c.greatest-greatest.ensures.version first told h.collected.kept) c.if-greatest.false (c.newest-config.ensures.config first told h.collected.kept) l2 c.in_ok-put.ensures.put

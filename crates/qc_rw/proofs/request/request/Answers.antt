@@ -1,0 +1,48 @@
+-- An access that was carried, or not, as its manager sees it.
+use Rattle.std.proofs.Common.{◌≡◌, ◌+◌, length, refl}
+use Rattle.qc_event.specs.History.{children}
+use Rattle.qc_event.proofs.LastNumber.{is_child-last}
+use Rattle.qc_gather.specs.Carrying.{carriage, became}
+use Rattle.qc_rw.proofs.Served.{served_once}
+use Rattle.qc_rw.proofs.Heard.{heard_of, refused_of, made_carried, made_not_carried}
+use Rattle.std.proofs.lemmas.Result.{err_from_is_err_and}
+use Rattle.qc_rw.proofs.request.request.Goals as goal
+
+pub returns-clause-served : goal.returns-clause-served
+returns-clause-served g c =
+    let m = c.args.manager.now in
+    let carrier = g.C.Carrier in
+    let before = c.args.carrier.now in
+    let now = c.carry.new.self in
+    let way = carriage (carrier.seat before) (carrier.seen before) (carrier.seen now) (carrier.own before) (carrier.own now) m c.args.copy c.args.rec c.args.op in
+    let child = is_child-last m (length (children (carrier.seen before) m) + 1) in
+    served_once m _ _ way.ask.access child c.carry.ensures.setting c.carry.ensures.seat c.carry.ensures.others c.carry.ensures.grown (made_carried m way (became c.in_ok-carry.field-0) child c.in_ok-carry.ensures.carried) c.carry.ensures.later
+
+pub returns-in_err-carry-clause-served : goal.returns-in_err-carry-clause-served
+returns-in_err-carry-clause-served g c =
+    let m = c.args.manager.now in
+    let carrier = g.C.Carrier in
+    let before = c.args.carrier.now in
+    let now = c.carry.new.self in
+    let way = carriage (carrier.seat before) (carrier.seen before) (carrier.seen now) (carrier.own before) (carrier.own now) m c.args.copy c.args.rec c.args.op in
+    let child = is_child-last m (length (children (carrier.seen before) m) + 1) in
+    served_once m _ _ way.ask.access child c.carry.ensures.setting c.carry.ensures.seat c.carry.ensures.others c.carry.ensures.grown (made_not_carried m way c.in_err-carry.field-0.0 child c.in_err-carry.ensures.refused) c.carry.ensures.later
+
+pub returns-clause-heard : goal.returns-clause-heard
+returns-clause-heard g c =
+    let m = c.args.manager.now in
+    let carrier = g.C.Carrier in
+    let before = c.args.carrier.now in
+    let now = c.carry.new.self in
+    let way = carriage (carrier.seat before) (carrier.seen before) (carrier.seen now) (carrier.own before) (carrier.own now) m c.args.copy c.args.rec c.args.op in
+    heard_of (carrier.others before) (λ n. n ≡ way.ask.access) (carrier.seat before) m g.kind way (became c.in_ok-carry.field-0) (record { grown = c.carry.ensures.grown; running = c.requires.1.0.running; each_told = c.requires.1.0.each_told; its = refl }) c.in_ok-carry.ensures.carried
+
+pub returns-in_err-carry-clause-refused : goal.returns-in_err-carry-clause-refused
+returns-in_err-carry-clause-refused g c =
+    let m = c.args.manager.now in
+    let carrier = g.C.Carrier in
+    let before = c.args.carrier.now in
+    let now = c.carry.new.self in
+    let way = carriage (carrier.seat before) (carrier.seen before) (carrier.seen now) (carrier.own before) (carrier.own now) m c.args.copy c.args.rec c.args.op in
+    let p = err_from_is_err_and c.from_residual.result c.from_residual.ensures.1 in
+    rw (p.1, p.2) (refused_of (carrier.setting before) (carrier.others before) (λ n. n ≡ way.ask.access) (carrier.seat before) m g.kind way c.in_err-carry.field-0.0 (record { grown = c.carry.ensures.grown; running = c.requires.1.0.running; each_told = c.requires.1.0.each_told; its = refl }) c.in_err-carry.ensures.refused)

@@ -1,0 +1,3 @@
+pub mod Told
+pub mod Managed
+pub mod Going

@@ -1,0 +1,55 @@
+//! The collection of a manager.
+ghost use Rattle.std.specs.Prelude.{◌≡◌, ◌<◌, IfOk, IfErr, List, [], ◌∷◌, ◌++◌};
+ghost use Rattle.qc_config.specs.Config.{Voting};
+ghost use Rattle.qc_event.specs.declared.event.Kind.{Kind};
+ghost use Rattle.qc_gather.specs.Carrying.{became};
+ghost use Rattle.qc_gather.specs.Gathered.{gathered};
+ghost use Rattle.qc_gather.specs.Told.{Told};
+ghost use Rattle.qc_rw.specs.Going.{MayCollect, HasServed, HasCollected, link};
+ghost use Rattle.qc_rw.specs.Managed.{IsRefused};
+
+use crate::no::MgrNo;
+use crate::request::request;
+use qc_config::{Config, Op};
+use qc_event::Name;
+use qc_gather::{Carried, Carrier, Gather, Next};
+
+fn hear(gather: &mut Gather, copy: u8, carried: &Carried)
+    requires { copy < 16 }
+    ensures { (first : Voting) (told : List Told) → gather.old ≡ gathered first told → gather.new ≡ gathered first (told ++ record { copy = copy; result = became carried.now } ∷ []) }
+{
+    match *carried {
+        Carried::Reply(tuple) => gather.add(copy, &tuple),
+        Carried::Blocked(holder) => gather.blocked(copy, &holder),
+        Carried::Gone(why) => gather.miss(copy, why),
+    }
+}
+
+/// Reads copies for a manager, the least first, until those that replied hold a read quorum of the newest
+/// configuration, which may change with each reply (Gifford). It answers what was gathered. The manager is one
+/// that has asked for nothing yet, and `first` is its record's first configuration. After an error the manager
+/// may end for the error's cause, where it has one; what it asked stands.
+pub fn collect<C: Carrier>(
+    carrier: &mut C,
+    manager: &Name,
+    rec: u8,
+    first: &Config,
+) -> Result<Gather, MgrNo>
+    ghost kind: { Kind }
+    requires { MayCollect (C.setting carrier.old) (C.seat carrier.old) (C.seen carrier.old) manager.now kind rec first.now }
+    ensures served { HasServed manager.now (link (C.setting carrier.old) (C.seat carrier.old) (C.own carrier.old) (C.seen carrier.old) (C.others carrier.old) (C.troubles carrier.old)) (link (C.setting carrier.new) (C.seat carrier.new) (C.own carrier.new) (C.seen carrier.new) (C.others carrier.new) (C.troubles carrier.new)) }
+    ensures collected { IfOk result (HasCollected (C.seat carrier.old) (C.seen carrier.old) (C.seen carrier.new) manager.now kind first.now) }
+    ensures refused { IfErr result (IsRefused (C.setting carrier.old) (C.seat carrier.old) (C.seen carrier.new) manager.now kind) }
+{
+    let mut gather = Gather::new(first);
+    loop {
+        match gather.next() {
+            Next::Enough => return Ok(gather),
+            Next::Short => return Err(MgrNo::from(gather.lack())),
+            Next::Copy(copy) => {
+                let carried = request(carrier, manager, copy, rec, Op::Get)?;
+                hear(&mut gather, copy, &carried);
+            }
+        }
+    }
+}

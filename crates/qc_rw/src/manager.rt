@@ -1,0 +1,84 @@
+ghost use Rattle.std.specs.Prelude.{◌≡◌, ◌≤◌, ◌+◌, [], IsTrue, IfOk, IfErr};
+ghost use Rattle.qc_event.specs.Base.{first_of};
+ghost use Rattle.qc_event.specs.declared.event.Answer.TheVariants as answer;
+ghost use Rattle.qc_event.specs.declared.event.Kind.TheVariants as kind;
+ghost use Rattle.qc_event.specs.History.{children, is_child};
+ghost use Rattle.qc_event.specs.Manager.{greatest};
+ghost use Rattle.qc_gather.specs.Carrying.{IsRunning, HasGrown};
+ghost use Rattle.qc_rw.specs.Going.{HasMade};
+ghost use Rattle.qc_rw.specs.Managed.{IsAnswered, IsRefused};
+
+use crate::collection::collect;
+use crate::no::MgrNo;
+use crate::puts::put;
+use qc_config::{Config, Op, Val};
+use qc_event::{Name, Phase};
+use qc_gather::Carrier;
+
+/// Reads a record, for a manager that was started to read it and has asked nothing: the value of the
+/// greatest version at a read quorum of the newest configuration (Gifford). The manager may then commit with
+/// it. After an error the manager may end for the error's cause, where it has one; what it asked stands.
+pub fn read<C: Carrier>(
+    carrier: &mut C,
+    manager: &Name,
+    rec: u8,
+    first: &Config,
+) -> Result<Val, MgrNo>
+    requires manager { IsRunning (C.seat carrier.old) (C.seen carrier.old) manager.now (kind.Read rec) }
+    requires no_child { children (C.seen carrier.old) manager.now ≡ [] }
+    requires first { first.now ≡ first_of (C.setting carrier.old) rec }
+    ensures setting { C.setting carrier.new ≡ C.setting carrier.old }
+    ensures seat { C.seat carrier.new ≡ C.seat carrier.old }
+    ensures others { C.others carrier.new ≡ C.others carrier.old }
+    ensures grown { HasGrown (C.others carrier.old) (λ n. IsTrue (is_child manager.now n)) (C.seen carrier.old) (C.seen carrier.new) }
+    ensures own { HasMade manager.now (C.own carrier.old) (C.own carrier.new) }
+    ensures answered { IfOk result (λ value. IsAnswered (C.setting carrier.old) (C.seat carrier.old) (C.seen carrier.new) manager.now (kind.Read rec) (answer.Value value)) }
+    ensures refused { IfErr result (IsRefused (C.setting carrier.old) (C.seat carrier.old) (C.seen carrier.new) manager.now (kind.Read rec)) }
+    ensures later { C.troubles carrier.old ≤ C.troubles carrier.new }
+{
+    let gather = collect(carrier, manager, rec, first)?;
+    let (_, value) = gather.greatest();
+    Ok(value)
+}
+
+/// Writes a value to a record, for a manager that was started to write it and has asked nothing: it puts
+/// the value, with the version after the greatest at a read quorum, to a write quorum of the newest
+/// configuration (Gifford). It answers that version, and the manager may then commit. After an error the
+/// manager may end for the error's cause, where it has one; what it asked stands.
+pub fn write<C: Carrier>(
+    carrier: &mut C,
+    manager: &Name,
+    rec: u8,
+    first: &Config,
+    value: Val,
+) -> Result<u64, MgrNo>
+    requires manager { IsRunning (C.seat carrier.old) (C.seen carrier.old) manager.now (kind.Write rec value) }
+    requires no_child { children (C.seen carrier.old) manager.now ≡ [] }
+    requires first { first.now ≡ first_of (C.setting carrier.old) rec }
+    ensures setting { C.setting carrier.new ≡ C.setting carrier.old }
+    ensures seat { C.seat carrier.new ≡ C.seat carrier.old }
+    ensures others { C.others carrier.new ≡ C.others carrier.old }
+    ensures grown { HasGrown (C.others carrier.old) (λ n. IsTrue (is_child manager.now n)) (C.seen carrier.old) (C.seen carrier.new) }
+    ensures own { HasMade manager.now (C.own carrier.old) (C.own carrier.new) }
+    ensures answered { IfOk result (λ version. IsAnswered (C.setting carrier.old) (C.seat carrier.old) (C.seen carrier.new) manager.now (kind.Write rec value) answer.Nothing) }
+    ensures version { IfOk result (λ version. version ≡ (greatest (C.seen carrier.new) manager.now).version + 1) }
+    ensures refused { IfErr result (IsRefused (C.setting carrier.old) (C.seat carrier.old) (C.seen carrier.new) manager.now (kind.Write rec value)) }
+    ensures later { C.troubles carrier.old ≤ C.troubles carrier.new }
+{
+    let gather = collect(carrier, manager, rec, first)?;
+    let (greatest, _) = gather.greatest();
+    if greatest == u64::MAX {
+        return Err(MgrNo::Last);
+    }
+    let (_, config) = gather.newest();
+    let version = greatest + 1;
+    put(
+        carrier,
+        manager,
+        rec,
+        &config,
+        Phase::Values,
+        &Op::PutData { version, value },
+    )?;
+    Ok(version)
+}

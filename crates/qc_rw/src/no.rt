@@ -1,0 +1,65 @@
+ghost use Rattle.std.specs.Prelude.{◌≡◌};
+ghost use Rattle.qc_rw.specs.Managed.{cause_of};
+
+use qc_event::{Cause, Lack, Name};
+use qc_gather::{CarryNo, Shortage};
+
+/// Why a manager came to no answer.
+#[derive(Clone, Copy)]
+pub enum MgrNo {
+    /// An ancestor of the manager is aborted.
+    Orphan(Name),
+    /// The access of the manager that was the first to be blocked was blocked at this copy by this access (Moss).
+    Conflict { copy: u8, holder: Name },
+    /// Too few copies replied (Gifford).
+    NoQuorum(Lack),
+    /// The number to raise is at `2^64 - 1`.
+    Last,
+    /// There was no memory. The steps done before stand.
+    Memory,
+    /// The history takes no more entries. The steps done before stand.
+    Room,
+}
+
+impl MgrNo {
+    /// The cause with which the manager ends that came to no answer for this reason; none where memory or
+    /// room was wanting.
+    pub fn cause(&self) -> Option<Cause>
+        ensures { result ≡ cause_of self.now }
+    {
+        match *self {
+            MgrNo::Orphan(ancestor) => Some(Cause::Orphan(ancestor)),
+            MgrNo::Conflict { copy, holder } => Some(Cause::Conflict { copy, holder }),
+            MgrNo::NoQuorum(lack) => Some(Cause::NoQuorum(lack)),
+            MgrNo::Last => Some(Cause::Last),
+            MgrNo::Memory | MgrNo::Room => None,
+        }
+    }
+}
+
+impl From<CarryNo> for MgrNo {
+    ghost use Rattle.qc_rw.specs.Managed.{mgr_no};
+
+    ghost from_gives = { λ no e. e ≡ mgr_no no };
+
+    fn from(no: CarryNo) -> Self {
+        match no {
+            CarryNo::Orphan(ancestor) => MgrNo::Orphan(ancestor),
+            CarryNo::Memory => MgrNo::Memory,
+            CarryNo::Room => MgrNo::Room,
+        }
+    }
+}
+
+impl From<Shortage> for MgrNo {
+    ghost use Rattle.qc_rw.specs.Managed.{no_of};
+
+    ghost from_gives = { λ shortage e. e ≡ no_of shortage };
+
+    fn from(shortage: Shortage) -> Self {
+        match shortage {
+            Shortage::Conflict { copy, holder } => MgrNo::Conflict { copy, holder },
+            Shortage::NoQuorum(lack) => MgrNo::NoQuorum(lack),
+        }
+    }
+}

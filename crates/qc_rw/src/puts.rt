@@ -1,0 +1,58 @@
+//! One phase of a manager's puts.
+ghost use Rattle.std.specs.Prelude.{◌≡◌, ◌<◌, OnOk, IfErr, List, [], ◌∷◌, ◌++◌};
+ghost use Rattle.qc_config.specs.Config.{Voting};
+ghost use Rattle.qc_event.specs.declared.event.Kind.{Kind};
+ghost use Rattle.qc_event.specs.declared.event.Phase.{Phase};
+ghost use Rattle.qc_gather.specs.Carrying.{became};
+ghost use Rattle.qc_gather.specs.Gathered as gathered_words;
+ghost use Rattle.qc_gather.specs.Told.{Told};
+ghost use Rattle.qc_rw.specs.Going.{MayPut, HasServed, HasPut, putting, link};
+ghost use Rattle.qc_rw.specs.Managed.{IsRefused};
+
+use crate::no::MgrNo;
+use crate::request::request;
+use qc_config::{Config, Op};
+use qc_event::{Name, Phase};
+use qc_gather::{Carried, Carrier, Next, Puts};
+
+fn hear(puts: &mut Puts, copy: u8, carried: &Carried)
+    requires { copy < 16 }
+    ensures { (config : Voting) (phase : Phase) (told : List Told) → puts.old ≡ gathered_words.put config phase told → puts.new ≡ gathered_words.put config phase (told ++ record { copy = copy; result = became carried.now } ∷ []) }
+{
+    match *carried {
+        Carried::Reply(_) => puts.add(copy),
+        Carried::Blocked(holder) => puts.blocked(copy, &holder),
+        Carried::Gone(why) => puts.miss(copy, why),
+    }
+}
+
+/// Puts to copies for a manager, the least first, until those that replied hold a write quorum of a
+/// configuration (Gifford). The manager has collected, and has come to the stage at which it asks for this, in
+/// this phase. After an error the manager may end for the error's cause, where it has one; what it asked
+/// stands.
+pub fn put<C: Carrier>(
+    carrier: &mut C,
+    manager: &Name,
+    rec: u8,
+    config: &Config,
+    phase: Phase,
+    op: &Op,
+) -> Result<(), MgrNo>
+    ghost kind: { Kind }
+    requires { MayPut (C.setting carrier.old) (C.seat carrier.old) (C.seen carrier.old) manager.now kind rec (putting config.now phase op.now) }
+    ensures served { HasServed manager.now (link (C.setting carrier.old) (C.seat carrier.old) (C.own carrier.old) (C.seen carrier.old) (C.others carrier.old) (C.troubles carrier.old)) (link (C.setting carrier.new) (C.seat carrier.new) (C.own carrier.new) (C.seen carrier.new) (C.others carrier.new) (C.troubles carrier.new)) }
+    ensures put { OnOk result (HasPut (C.seat carrier.old) (C.seen carrier.old) (C.seen carrier.new) manager.now kind (putting config.now phase op.now)) }
+    ensures refused { IfErr result (IsRefused (C.setting carrier.old) (C.seat carrier.old) (C.seen carrier.new) manager.now kind) }
+{
+    let mut puts = Puts::new(config, phase);
+    loop {
+        match puts.next() {
+            Next::Enough => return Ok(()),
+            Next::Short => return Err(MgrNo::from(puts.lack())),
+            Next::Copy(copy) => {
+                let carried = request(carrier, manager, copy, rec, *op)?;
+                hear(&mut puts, copy, &carried);
+            }
+        }
+    }
+}

@@ -1,0 +1,30 @@
+//! One request of a manager, carried to a copy and back.
+ghost use Rattle.std.specs.Prelude.{◌≡◌, IfOk, IfErr, [], ◌∷◌};
+ghost use Rattle.qc_event.specs.declared.event.Kind.{Kind};
+ghost use Rattle.qc_event.specs.Manager.{phase_of};
+ghost use Rattle.qc_gather.specs.Carrying.{MayCarry, became};
+ghost use Rattle.qc_rw.specs.Going.{MayGoOn, HasHeard, HasServed, link};
+ghost use Rattle.qc_rw.specs.Managed.{IsRefused};
+
+use crate::no::MgrNo;
+use qc_config::Op;
+use qc_event::Name;
+use qc_gather::{Carried, Carrier};
+
+/// Carries one request of a manager that may go on, and says what became of it.
+pub(crate) fn request<C: Carrier>(
+    carrier: &mut C,
+    manager: &Name,
+    copy: u8,
+    rec: u8,
+    op: Op,
+) -> Result<Carried, MgrNo>
+    ghost kind: { Kind }
+    requires goes_on { MayGoOn (C.seat carrier.old) (C.seen carrier.old) manager.now kind }
+    requires may_ask { MayCarry (C.setting carrier.old) (C.seat carrier.old) (C.seen carrier.old) manager.now copy rec op }
+    ensures served { HasServed manager.now (link (C.setting carrier.old) (C.seat carrier.old) (C.own carrier.old) (C.seen carrier.old) (C.others carrier.old) (C.troubles carrier.old)) (link (C.setting carrier.new) (C.seat carrier.new) (C.own carrier.new) (C.seen carrier.new) (C.others carrier.new) (C.troubles carrier.new)) }
+    ensures heard { IfOk result (λ c. HasHeard (C.seat carrier.old) (C.seen carrier.old) (C.seen carrier.new) manager.now kind (phase_of op) (record { copy = copy; result = became c } ∷ [])) }
+    ensures refused { IfErr result (IsRefused (C.setting carrier.old) (C.seat carrier.old) (C.seen carrier.new) manager.now kind) }
+{
+    Ok(carrier.carry(manager, copy, rec, op)?)
+}

@@ -1,0 +1,102 @@
+-- What a manager asks next goes to a copy that there is, for a record of the table, and puts a configuration for
+-- as many copies.
+use Rattle.std.proofs.Common.{◌≡◌, ℕ, zero, suc, ◌<◌, Bool, true, false, List, [], ◌∷◌, length, refl, sym, ap, ◌∙◌, subst, arith}
+use Rattle.std.specs.Prelude.{Option, None, Some, MatchOption, if◌then◌else◌, not, ◌&&◌, nat_lt, is_none, slice_index_or}
+use Rattle.std.specs.List.{AllByRecursion}
+use Rattle.std.proofs.lemmas.Bool.{and_parts, ltb-true}
+use Rattle.std.proofs.lemmas.List.{get_or-map}
+use Rattle.qc_config.specs.Config.{Voting, votes_of, no_config}
+use Rattle.qc_config.specs.declared.tuple.Tuple.{Tuple}
+use Rattle.qc_event.specs.declared.event.Ask.{Ask}
+use Rattle.qc_event.specs.declared.event.Kind.{Kind}
+use Rattle.qc_event.specs.declared.event.Kind.TheVariants as kind
+use Rattle.qc_event.specs.Base.{Setting, setting_of, start_configs, start_tuple, no_tuple, first_of}
+use Rattle.qc_event.specs.History.{Past, Name}
+use Rattle.qc_event.specs.Legal.{Legal}
+use Rattle.qc_event.specs.Manager.{Stage, Newest, Greatest, stages_by, stages, stage, is_enough, at_last_number, newest, greatest, ask_at, first_for, AtStage}
+use Rattle.qc_event.specs.Requests.{IsNextAsk}
+use Rattle.qc_event.specs.Standing.{IsManager}
+use Rattle.qc_store.specs.Stored.{IsProper}
+use Rattle.qc_store.proofs.Found.{found_holds, found_range}
+use Rattle.qc_store.proofs.Begun.{KindFits, record_fits}
+use Rattle.qc_store.proofs.Sized.{IsSized, OpSized, newest_sized}
+
+has_place : (votes : List ℕ) (c : ℕ) → 0 < slice_index_or votes c 0 → c < length votes
+has_place [] c some = absurd (omega arith)
+has_place (v ∷ votes) zero some = omega arith
+has_place (v ∷ votes) (suc c) some = omega (arith, has_place votes c some)
+
+-- STAGES
+
+-- what a stage counts and asks is for this many copies
+abbrev StageSized : ℕ → Stage → Type 0
+StageSized size s = (length s.config.votes ≡ size) × OpSized size s.op
+
+stages_sized : (setting : Setting) (k : Kind) (now : Newest) (best : Greatest) → KindFits setting k → length now.config.votes ≡ length setting.base → AllByRecursion (StageSized (length setting.base)) (stages_by k now best)
+stages_sized setting (kind.Read rec) now best fits here = ((here, tt), tt)
+stages_sized setting (kind.Write rec value) now best fits here = ((here, tt), ((here, tt), tt))
+stages_sized setting (kind.Reconf rec config) now best fits here = ((here, tt), ((fits.1, tt), ((here, fits.1), tt)))
+stages_sized setting (kind.User session body) now best fits here = tt
+stages_sized setting kind.Access now best fits here = tt
+
+not_last : {X : Type 0} (b : Bool) (o : Option X) (x : X) → (if b then None else o) ≡ Some x → o ≡ Some x
+not_last true o x is = absurd cc
+not_last false o x is = is
+
+stage_sized : (setting : Setting) (past : Past) (m : Name) (k : Kind) (s : Stage) → Legal setting past → KindFits setting k → length (first_for setting k).votes ≡ length setting.base → stage past (first_for setting k) m k ≡ Some s → StageSized (length setting.base) s
+stage_sized setting past m k s legal fits here is =
+    found_holds (StageSized (length setting.base)) (λ x. not (is_enough past m x)) (stages past (first_for setting k) m k) s
+    (stages_sized setting k (newest past (first_for setting k) m) (greatest past m) fits (newest_sized setting past (first_for setting k) m legal here))
+    (not_last (at_last_number past (first_for setting k) m k) _ s is)
+
+-- A request fits the table.
+pub record AskFits (setting : Setting) (ask : Ask) : Type 0 where
+  pub below : ask.copy < 16
+  pub is_copy : ask.copy < length setting.base
+  pub is_record : ask.rec < length setting.firsts
+  pub sized : OpSized (length setting.base) ask.op
+
+-- the copy that is asked next is one of sixteen
+pub ask_below : (setting : Setting) (past : Past) (m : Name) (k : Kind) (ask : Ask) → AtStage setting past m k (IsNextAsk past m k ask) → ask.copy < 16
+ask_below setting past m k ask at = by_stage (stage past (first_for setting k) m k) at
+  where
+    by_stage : (o : Option Stage) → MatchOption o ⊥ (IsNextAsk past m k ask) → ask.copy < 16
+    by_stage None next = absurd next
+    by_stage (Some s) next = omega (arith, (found_range (λ copy. nat_lt 0 (votes_of s.config copy) && is_none (ask_at past m s.phase copy)) 0 16 ask.copy next.next).0)
+
+pub ask_fits : (setting : Setting) (past : Past) (m : Name) (k : Kind) (ask : Ask) → Legal setting past → IsManager k → KindFits setting k → length (first_for setting k).votes ≡ length setting.base → AtStage setting past m k (IsNextAsk past m k ask) → AskFits setting ask
+ask_fits setting past m k ask legal manager fits here at = by_stage (stage past (first_for setting k) m k) refl at
+  where
+    by_stage : (o : Option Stage) → stage past (first_for setting k) m k ≡ o → MatchOption o ⊥ (IsNextAsk past m k ask) → AskFits setting ask
+    by_stage None is next = absurd next
+    by_stage (Some s) is next =
+        let sized = stage_sized setting past m k s legal fits here is in
+        let within = found_range (λ copy. nat_lt 0 (votes_of s.config copy) && is_none (ask_at past m s.phase copy)) 0 16 ask.copy next.next in
+        let place = has_place s.config.votes ask.copy (ltb-true 0 (votes_of s.config ask.copy) (and_parts _ _ within.1).0) in
+        record {
+          below = omega (arith, within.0);
+          is_copy = omega (arith, place, sized.0);
+          is_record = subst (λ r. r < length setting.firsts) (sym next.same_record) (record_fits setting k manager fits);
+          sized = subst (OpSized (length setting.base)) (sym next.same_op) sized.1;
+        }
+
+-- PROPER BASES
+
+module _ (base : List (List Tuple)) (proper : IsProper base) where
+  -- the start tuple of a copy and a record is for as many copies
+  pub start_sized : (copy rec : ℕ) → copy < length base → rec < length (start_configs base) → IsSized (length base) (start_tuple base copy rec)
+  start_sized copy rec is_copy is_record =
+      let same : length (slice_index_or base copy []) ≡ length (start_configs base) = proper.same_records copy [] is_copy in
+      proper.for_copies copy [] is_copy rec no_tuple (omega arith)
+
+  config_of : Tuple → Voting
+  config_of t = t.config
+
+  -- a record's first configuration is that of the first copy's tuple
+  pub first_is : (rec : ℕ) → rec < length (start_configs base) → first_of (setting_of base) rec ≡ (start_tuple base 0 rec).config
+  first_is rec is_record =
+      let same : length (slice_index_or base 0 []) ≡ length (start_configs base) = proper.same_records 0 [] proper.some_copy in
+      get_or-map (λ (t : Tuple). t.config) (slice_index_or base 0 []) rec no_tuple no_config (omega arith)
+
+  pub first_sized : (rec : ℕ) → rec < length (start_configs base) → length (first_of (setting_of base) rec).votes ≡ length base
+  first_sized rec is_record = ap (λ (c : Voting). length c.votes) (first_is rec is_record) ∙ start_sized 0 rec proper.some_copy is_record

@@ -1,0 +1,16 @@
+pub mod Unheard
+pub mod Begun
+pub mod Sized
+pub mod Fits
+pub mod Stays
+pub mod Asking
+pub mod Answering
+pub mod Ending
+pub mod Carried
+pub mod Children
+pub mod Sited
+pub mod Pushed
+pub mod Serving
+pub mod Found
+pub mod Orphans
+pub mod Whole
