@@ -4,7 +4,7 @@ ghost use Rattle.qc_event.specs.declared.event.Entry.{Entry};
 ghost use Rattle.qc_event.specs.Base.{Setting};
 ghost use Rattle.qc_event.specs.History.{Past};
 ghost use Rattle.qc_event.specs.Legal.{Legal};
-ghost use Rattle.qc_gather.specs.Carrying.{MayCarry, next_ask, made_by, HasGrown, carriage, became, WasCarried, WasNotCarried, HasReason, Rose};
+ghost use Rattle.qc_gather.specs.Carrying.{MayCarry, next_ask, made_by, HasGrown, carriage, became as result_of, WasCarried, WasNotCarried, HasReason, Rose};
 
 use qc_config::{Op, Tuple};
 use qc_event::{Name, Why};
@@ -51,6 +51,9 @@ pub trait Carrier {
     /// How often its link gave trouble, up to `2^64 - 1`.
     ghost troubles: { Self → ℕ };
 
+    /// Whether carrying alone has made the second of the first.
+    ghost became: { Self → Self → Type 0 };
+
     /// Starts the manager's next access, sends its request to a copy, and ends it by what came back. A
     /// copy's word that the access is dead comes back as `Orphan`.
     fn carry(&mut self, manager: &Name, copy: u8, rec: u8, op: Op) -> Result<Carried, CarryNo>
@@ -59,10 +62,17 @@ pub trait Carrier {
         ensures seat { seat self.new ≡ seat self.old }
         ensures others { others self.new ≡ others self.old }
         ensures grown { HasGrown (others self.old) (λ n. n ≡ (next_ask (seen self.old) manager.now copy rec op).access) (seen self.old) (seen self.new) }
-        ensures carried { IfOk result (λ c. WasCarried (carriage (seat self.old) (seen self.old) (seen self.new) (own self.old) (own self.new) manager.now copy rec op) (became c)) }
+        ensures carried { IfOk result (λ c. WasCarried (carriage (seat self.old) (seen self.old) (seen self.new) (own self.old) (own self.new) manager.now copy rec op) (result_of c)) }
         ensures refused { IfErr result (WasNotCarried (carriage (seat self.old) (seen self.old) (seen self.new) (own self.old) (own self.new) manager.now copy rec op)) }
         ensures reason { IfOk result (HasReason (carriage (seat self.old) (seen self.old) (seen self.new) (own self.old) (own self.new) manager.now copy rec op) (Rose (troubles self.old) (troubles self.new))) }
-        ensures later { troubles self.old ≤ troubles self.new };
+        ensures later { troubles self.old ≤ troubles self.new }
+        ensures became { became self.old self.new };
+
+    /// Where nothing is carried it is as it was.
+    ghost became_itself: { (carrier : Self) → became carrier carrier };
+
+    /// What is carried after what was carried is carried.
+    ghost became_by_both: { (a b c : Self) → became a b → became b c → became a c };
 
     /// The history that it has seen is legal.
     ghost is_legal: { (carrier : Self) → Legal (setting carrier) (seen carrier) };

@@ -1,4 +1,4 @@
-ghost use Rattle.std.specs.Prelude.{◌≡◌, ◌<◌, List, [], ◌∷◌, ◌++◌, option_map};
+ghost use Rattle.std.specs.Prelude.{◌≡◌, ◌<◌, ◌≤◌, length, List, [], ◌∷◌, ◌++◌, option_map};
 ghost use Rattle.qc_config.specs.Config.{Voting, holds_read};
 ghost use Rattle.qc_event.specs.Manager.{Replied, Missing, BlockedBy};
 ghost use Rattle.qc_gather.specs.Told.{Told, newest_in, greatest_in, replied_in};
@@ -54,9 +54,11 @@ impl Gather {
     }
 
     /// What is done next: enough where the copies that replied hold a read quorum of the newest
-    /// configuration, else the least copy with votes there that was not asked.
+    /// configuration, else the least copy with votes there that was not asked. Where it is short, that
+    /// configuration is of no more than sixteen copies.
     pub fn next(&self) -> Next
-        ensures { (first : Voting) (told : List Told) → self.now ≡ gathered first told → result ≡ next_of (holds_read (newest_in first told).config (replied_in told)) (newest_in first told).config told }
+        ensures next { (first : Voting) (told : List Told) → self.now ≡ gathered first told → result ≡ next_of (holds_read (newest_in first told).config (replied_in told)) (newest_in first told).config told }
+        ensures within { result ≡ Next.Short → length self.now.newest.config.votes ≤ 16 }
     {
         let enough = self.config.has_read(self.heard.replied());
         self.heard.next(&self.config, enough)

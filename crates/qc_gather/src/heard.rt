@@ -1,4 +1,4 @@
-ghost use Rattle.std.specs.Prelude.{◌≡◌, ◌<◌, List, [], ◌∷◌, ◌++◌};
+ghost use Rattle.std.specs.Prelude.{◌≡◌, ◌<◌, ◌≤◌, length, List, [], ◌∷◌, ◌++◌};
 ghost use Rattle.qc_config.specs.declared.tuple.Tuple.{Tuple};
 ghost use Rattle.qc_event.specs.Manager.{Replied, Missing, BlockedBy};
 ghost use Rattle.qc_gather.specs.Told.{Told, replied_in, next_in};
@@ -71,9 +71,10 @@ impl Heard {
     }
 
     fn unasked(&self, config: &Config) -> Option<u8>
-        ensures { (told : List Told) → self.now ≡ heard told → result ≡ next_in config.now told }
+        ensures next { (told : List Told) → self.now ≡ heard told → result ≡ next_in config.now told }
+        ensures within { length config.now.votes ≤ 16 }
     {
-        for copy in 0..16 {
+        for copy in 0..config.count() as u8 {
             if config.votes(copy) > 0 && !self.asked.has(copy) {
                 return Some(copy);
             }
@@ -81,9 +82,11 @@ impl Heard {
         None
     }
 
-    /// What is done next, by the configuration that counts and whether its quorum replied.
+    /// What is done next, by the configuration that counts and whether its quorum replied. Where that is
+    /// short, the configuration is of no more than sixteen copies.
     pub fn next(&self, config: &Config, enough: bool) -> Next
-        ensures { (told : List Told) → self.now ≡ heard told → result ≡ next_of enough config.now told }
+        ensures next { (told : List Told) → self.now ≡ heard told → result ≡ next_of enough config.now told }
+        ensures within { result ≡ Next.Short → length config.now.votes ≤ 16 }
     {
         if enough {
             return Next::Enough;

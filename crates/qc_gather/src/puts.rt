@@ -1,4 +1,4 @@
-ghost use Rattle.std.specs.Prelude.{◌≡◌, ◌<◌, List, [], ◌∷◌, ◌++◌};
+ghost use Rattle.std.specs.Prelude.{◌≡◌, ◌<◌, ◌≤◌, length, List, [], ◌∷◌, ◌++◌};
 ghost use Rattle.qc_config.specs.Config.{Voting, holds_write};
 ghost use Rattle.qc_config.specs.declared.tuple.Tuple.{Tuple};
 ghost use Rattle.qc_event.specs.Manager.{Replied, Missing, BlockedBy};
@@ -42,9 +42,11 @@ impl Puts {
     }
 
     /// What is done next: enough where the copies that replied hold a write quorum, else the least
-    /// copy with votes that was not asked.
+    /// copy with votes that was not asked. Where it is short, the configuration is of no more than sixteen
+    /// copies.
     pub fn next(&self) -> Next
-        ensures { (config : Voting) (phase : Phase) (told : List Told) → self.now ≡ put config phase told → result ≡ next_of (holds_write config (replied_in told)) config told }
+        ensures next { (config : Voting) (phase : Phase) (told : List Told) → self.now ≡ put config phase told → result ≡ next_of (holds_write config (replied_in told)) config told }
+        ensures within { result ≡ Next.Short → length self.now.config.votes ≤ 16 }
     {
         let enough = self.config.has_write(self.heard.replied());
         self.heard.next(&self.config, enough)

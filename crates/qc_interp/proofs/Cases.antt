@@ -1,6 +1,6 @@
 -- Case by case: how a transaction that runs goes on at its next step.
-use Rattle.std.proofs.Common.{◌≡◌, refl}
-use Rattle.std.specs.Prelude.{Option, None, Some}
+use Rattle.std.proofs.Common.{◌≡◌, Bool, true, false, refl}
+use Rattle.std.specs.Prelude.{Option, None, Some, MatchBool}
 use Rattle.qc_event.specs.declared.event.Answer.{Answer}
 use Rattle.qc_event.specs.declared.event.Cause.{Cause}
 use Rattle.qc_event.specs.declared.event.Cause.TheVariants.{Orphan}
@@ -25,3 +25,18 @@ unless_dead {P = P} of now new Next alive fallen = by_dead now.dead refl
 pub goes_on : {P : Type 0} (how : How) (of : Name) (Rest : Type 0) (now new : Now) → ((given : Answer) → how ≡ Commit given → Rest → P) → ((cause : Cause) → how ≡ Abort cause → new ≡ aborted of cause now → P) → GoesOnTo how of Rest now new → P
 goes_on (Commit given) of Rest now new further stops h = further given refl h
 goes_on (Abort cause) of Rest now new further stops h = stops cause refl h
+
+-- a body is tried again, or the rest follows
+pub by_try : {P : Type 0} (again : Bool) (Again Rest : Type 0) → (again ≡ true → Again → P) → (again ≡ false → Rest → P) → MatchBool again Again Rest → P
+by_try true Again Rest further ends h = further refl h
+by_try false Again Rest further ends h = ends refl h
+
+-- so it is where that gives something else
+pub either_try : (again : Bool) (Again Again' Rest Rest' : Type 0) → (Again → Again') → (Rest → Rest') → MatchBool again Again Rest → MatchBool again Again' Rest'
+either_try true Again Again' Rest Rest' further ends h = further h
+either_try false Again Again' Rest Rest' further ends h = ends h
+
+-- and where something is known of what it is
+pub both_try : (again : Bool) (Known Again Again' KnownRest Rest Rest' : Type 0) → (Known → Again → Again') → (KnownRest → Rest → Rest') → MatchBool again Known KnownRest → MatchBool again Again Rest → MatchBool again Again' Rest'
+both_try true Known Again Again' KnownRest Rest Rest' further ends known h = further known h
+both_try false Known Again Again' KnownRest Rest Rest' further ends known h = ends known h

@@ -1,27 +1,28 @@
 -- How a manager ends by what it came to over a carrier, and what that leaves to its transaction.
-use Rattle.std.proofs.Common.{◌≡◌, ℕ, ◌⊎◌, inl, inr, Bool, true, false, [], ◌∷◌, ◌++◌, length, refl, sym, ap, ◌∙◌, subst}
+use Rattle.std.proofs.Common.{◌≡◌, ℕ, ◌+◌, Bool, true, false, [], ◌∷◌, ◌++◌, length, refl, sym, ap, ◌∙◌, subst, append-nil}
 use mathlib.Core.Bool.{true≢false}
 use Rattle.std.specs.Prelude.{Option, None, Some, Result, Ok, Err, IsTrue, All, MatchOption, MatchResult, IfOk, IfErr, IsOkAnd, option_map}
 use Rattle.std.specs.Result.{result_and}
-use Rattle.std.proofs.lemmas.List.Elements.{All-weaker}
 use Rattle.std.proofs.lemmas.Result.{IfOk-at_ok}
 use Rattle.qc_event.specs.declared.event.Answer.{Answer}
 use Rattle.qc_event.specs.declared.event.Cause.{Cause}
-use Rattle.qc_event.specs.declared.event.Entry.{Entry}
 use Rattle.qc_event.specs.declared.event.Event.TheVariants.{Start, End}
 use Rattle.qc_event.specs.declared.event.How.{How}
 use Rattle.qc_event.specs.declared.event.How.TheVariants.{Commit, Abort}
 use Rattle.qc_event.specs.declared.event.Kind.{Kind}
 use Rattle.qc_event.specs.declared.log.Short.{Short}
-use Rattle.qc_event.specs.History.{Past, Name, is_child, children}
+use Rattle.qc_event.specs.History.{Past, Name, Begun, is_child, children}
 use Rattle.qc_event.specs.Legal.{Legal, Allowed}
 use Rattle.qc_event.specs.Standing.{IsManager}
 use Rattle.qc_gather.specs.Carrying.{IsRunning, HasGrown}
+use Rattle.qc_store.specs.Served.{is_answer}
 use Rattle.qc_rw.specs.declared.no.MgrNo.{MgrNo}
 use Rattle.qc_rw.specs.Managed.{IsAnswered, IsRefused, IsShort, MayEndFor, cause_of}
-use Rattle.qc_interp.specs.Running.{Running, ending_of, WentOn, RanManager}
+use Rattle.qc_line.specs.Lined.{IsOfTransaction}
+use Rattle.qc_interp.specs.Running.{MayMake, Running, ending_of, WentOn, RanManager}
 use Rattle.qc_interp.specs.Trace.{Now, by_client, aborted, Managed, GoesOnTo, RunsManager}
-use Rattle.qc_interp.proofs.OfAccesses.{OfChild}
+use Rattle.qc_interp.proofs.Making.{manager_no_access, ends_so, may_end_above}
+use Rattle.qc_interp.proofs.OfAccesses.{OfManager}
 use Rattle.qc_interp.proofs.RunChild.{JustBegun, MayStandAt, may_start, child_begun, begun_runs}
 use Rattle.qc_interp.proofs.RunManagers as after
 use Rattle.qc_interp.proofs.WithinManager as manager
@@ -42,7 +43,7 @@ module _ (of : Name) (k : ℕ) (kd : Kind) (now : Now) (h : Running of k now) (a
     pub running : IsRunning 18 past n kd
     pub allowed : Allowed now.setting past (by_client (End n how))
 
-  within_ends : (inner : Past) → Legal now.setting (inner ++ first) → All (OfChild n) inner → (came_to : Result Answer MgrNo) (how : How) → CameTo (inner ++ first) came_to → ending_of came_to ≡ Some how → Ends (inner ++ first) how
+  within_ends : (inner : Past) → Legal now.setting (inner ++ first) → All (OfManager n) inner → (came_to : Result Answer MgrNo) (how : How) → CameTo (inner ++ first) came_to → ending_of came_to ≡ Some how → Ends (inner ++ first) how
   within_ends inner legal each (Ok given) how came is =
       let same : Commit given ≡ how = cc in
       subst (Ends (inner ++ first)) same (record {
@@ -60,36 +61,32 @@ module _ (of : Name) (k : ℕ) (kd : Kind) (now : Now) (h : Running of k now) (a
             allowed = manager.may_abort_manager of k kd now h alive manages inner legal each cause came.running came.licensed;
           })
 
-  -- what the history has grown by, where no others made entries
+  -- what the history has grown by, where others made copies' answers alone
   abbrev pub Grew : Past → Type 0
-  Grew past = HasGrown (λ _. false) (λ m. IsTrue (is_child n m)) first past
-
-  own : (e : Entry) → OfChild n e ⊎ IsTrue false → OfChild n e
-  own e (inl child) = child
-  own e (inr other) = absurd (true≢false (sym other))
-
-  each_own : (past : Past) (g : Grew past) → All (OfChild n) g.newer
-  each_own past g = All-weaker (λ e. OfChild n e ⊎ IsTrue false) (OfChild n) own g.newer g.each
+  Grew past = HasGrown (λ e. is_answer e) (λ m. IsTrue (is_child n m)) first past
 
   -- it may end by what it came to
   pub may_end : (past : Past) → Legal now.setting past → Grew past → (came_to : Result Answer MgrNo) (how : How) → CameTo past came_to → ending_of came_to ≡ Some how → Ends past how
   may_end past legal g came_to how came is =
       subst (λ p. Ends p how) (sym g.grown)
-      (within_ends g.newer (subst (Legal now.setting) g.grown legal) (each_own past g) came_to how (subst (λ p. CameTo p came_to) g.grown came) is)
+      (within_ends g.newer (subst (Legal now.setting) g.grown legal) g.each came_to how (subst (λ p. CameTo p came_to) g.grown came) is)
 
   -- and is a manager that ran then
   pub has_managed : (past : Past) → Legal now.setting past → Grew past → (how : How) → Ends past how → Managed n kd how now (record now { past = by_client (End n how) ∷ past })
   has_managed past legal g how ends =
       subst (λ p. Managed n kd how now (record now { past = by_client (End n how) ∷ p })) (sym g.grown)
-      (manager.was_managed of k kd now h alive manages g.newer (subst (Legal now.setting) g.grown legal) (each_own past g) how
+      (manager.was_managed of k kd now h alive manages g.newer (subst (Legal now.setting) g.grown legal) g.each how
       (subst (λ p. IsRunning 18 p n kd) g.grown ends.running)
       (subst (λ p. Allowed now.setting p (by_client (End n how))) g.grown ends.allowed))
 
 -- WHAT A SESSION KNOWS OF IT
 
-module _ (of : Name) (k : ℕ) (kd : Kind) (now : Now) (h : Running of k now) (alive : now.dead ≡ None) (stands : MayStandAt now.setting (length (of ++ k ∷ [])) kd) (m : Name) (named : m ≡ of ++ k ∷ []) where
-  pub may_start_so : Allowed now.setting now.past (by_client (Start m kd))
-  may_start_so = subst (λ x. Allowed now.setting now.past (by_client (Start x kd))) (sym named) (may_start of k kd now h alive stands)
+module _ (of : Name) (k : ℕ) (kd : Kind) (now : Now) (h : Running of k now) (alive : now.dead ≡ None) (manages : IsManager kd) (stands : MayStandAt now.setting (length (of ++ k ∷ [])) kd) (m : Name) (named : m ≡ of ++ k ∷ []) where
+  pub may_start_so : MayMake now (by_client (Start m kd))
+  may_start_so = record {
+    allowed = subst (λ x. Allowed now.setting now.past (by_client (Start x kd))) (sym named) (may_start of k kd now h alive stands);
+    of_transaction = manager_no_access kd manages;
+  }
 
   begun : JustBegun now.setting m kd (by_client (Start m kd) ∷ now.past)
   begun = subst (λ x. JustBegun now.setting x kd (by_client (Start x kd) ∷ now.past)) (sym named) (child_begun of k kd now h alive stands)
@@ -100,9 +97,9 @@ module _ (of : Name) (k : ℕ) (kd : Kind) (now : Now) (h : Running of k now) (a
   pub begun_childless : (past : Past) → past ≡ by_client (Start m kd) ∷ now.past → children past m ≡ []
   begun_childless past is = ap (λ p. children p m) is ∙ begun.childless
 
--- the history has grown by entries of a manager's accesses
+-- the history has grown by entries of a manager's accesses and copies' answers
 abbrev pub GrewBelow : Name → Past → Past → Type 0
-GrewBelow m before past = HasGrown (λ _. false) (λ x. IsTrue (is_child m x)) before past
+GrewBelow m before past = HasGrown (λ e. is_answer e) (λ x. IsTrue (is_child m x)) before past
 
 -- A manager of a transaction that runs came to this over a carrier, and left a session so.
 pub record Came (of : Name) (k : ℕ) (kd : Kind) (now : Now) (m : Name) (at : Now) (came_to : Result Answer MgrNo) : Type 0 where
@@ -122,6 +119,13 @@ mapped_so P Q answer_of (Err why) came_to mapped answered refused = subst (λ r.
 pub anded : {V : Type 0} (given : Answer) (value : Result V MgrNo) (came_to : Result Answer MgrNo) → came_to ≡ result_and value (Ok given) → MatchResult value (λ v. IsOkAnd came_to (λ g. g ≡ given)) (λ why. came_to ≡ Err why)
 anded given (Ok v) came_to is = subst (λ (r : Result Answer MgrNo). IsOkAnd r (λ g. g ≡ given)) (sym is) refl
 anded given (Err why) came_to is = is
+
+-- a moment differs in its history alone where its setting, its link and who is dead are the same
+pub same_line : (before at : Now) → at.setting ≡ before.setting → at.net ≡ before.net → at.dead ≡ before.dead → at ≡ record before { past = at.past }
+same_line before at set net dead =
+    ap (λ s. let left : Now = record { setting = s; past = at.past; dead = at.dead; net = at.net } in left) set
+    ∙ ap (λ n. let left : Now = record { setting = before.setting; past = at.past; dead = at.dead; net = n } in left) net
+    ∙ ap (λ o. let left : Now = record { setting = before.setting; past = at.past; dead = o; net = before.net } in left) dead
 
 pub came_so : {V : Type 0} (of : Name) (k : ℕ) (kd : Kind) (now : Now) (m : Name) (before at : Now) (answer_of : V → Answer) (value : Result V MgrNo) (came_to : Result Answer MgrNo) → m ≡ of ++ k ∷ [] → before ≡ record now { past = by_client (Start m kd) ∷ now.past } → at ≡ record before { past = at.past } → Legal at.setting at.past → GrewBelow m before.past at.past → MatchResult value (λ v. IsOkAnd came_to (λ given. given ≡ answer_of v)) (λ why. came_to ≡ Err why) → IfOk value (λ v. IsAnswered before.setting 18 at.past m kd (answer_of v)) → IfErr value (IsRefused before.setting 18 at.past m kd) → Came of k kd now m at came_to
 came_so of k kd now m before at answer_of value came_to named begun same legal grown mapped answered refused = record {
@@ -146,9 +150,12 @@ module _ (of : Name) (k : ℕ) (kd : Kind) (now : Now) (h : Running of k now) (a
   managed : (how : How) → ending_of came_to ≡ Some how → Managed (of ++ k ∷ []) kd how now (record now { past = by_client (End (of ++ k ∷ []) how) ∷ at.past })
   managed how is = has_managed of k kd now h alive manages at.past legal_now plain.grown how (ends how is)
 
-  pub came_ends : (how : How) → ending_of came_to ≡ Some how → Allowed at.setting at.past (by_client (End m how))
-  came_ends how is =
-      subst (λ (n : Now). Allowed n.setting at.past (by_client (End m how))) (sym c.same) (subst (λ x. Allowed now.setting at.past (by_client (End x how))) (sym c.named) (ends how is).allowed)
+  pub came_ends : (how : How) → ending_of came_to ≡ Some how → MayMake at (by_client (End m how))
+  came_ends how is = record {
+    allowed = subst (λ (n : Now). Allowed n.setting at.past (by_client (End m how))) (sym c.same) (subst (λ x. Allowed now.setting at.past (by_client (End x how))) (sym c.named) (ends how is).allowed);
+    of_transaction = subst (λ x. IsOfTransaction at.past (End x how)) (sym c.named)
+        (ends_so IsManager manager_no_access at.past (of ++ k ∷ []) how (subst (λ o. MatchOption o ⊥ (λ (b : Begun). IsManager b.kind)) (sym (ends how is).running.started) manages));
+  }
 
   -- the session once the manager has ended
   abbrev Closed : How → Now → Type 0
@@ -160,11 +167,12 @@ module _ (of : Name) (k : ℕ) (kd : Kind) (now : Now) (h : Running of k now) (a
       ∙ ap (λ (n : Now). let left : Now = record n { past = by_client (End m how) ∷ at.past } in left) c.same
       ∙ ap (λ x. let left : Now = record now { past = by_client (End x how) ∷ at.past } in left) c.named
 
-  pub came_aborts : (closed : Result How Short) (mid : Now) → IfOk closed (λ how. ending_of came_to ≡ Some how) → IfOk closed (λ how. Closed how mid) → (cause : Cause) → closed ≡ Ok (Abort cause) → Allowed mid.setting mid.past (by_client (End of (Abort cause)))
+  pub came_aborts : (closed : Result How Short) (mid : Now) → IfOk closed (λ how. ending_of came_to ≡ Some how) → IfOk closed (λ how. Closed how mid) → (cause : Cause) → closed ≡ Ok (Abort cause) → MayMake mid (by_client (End of (Abort cause)))
   came_aborts closed mid ending is cause aborted =
       let so = IfOk-at_ok (λ how. ending_of came_to ≡ Some how) aborted ending in
-      subst (λ (l : Now). Allowed l.setting l.past (by_client (End of (Abort cause)))) (sym (closed_so (Abort cause) mid (IfOk-at_ok (λ how. Closed how mid) aborted is)))
-      (after.may_abort_after of k kd (Abort cause) now _ h alive manages (managed (Abort cause) so) cause refl)
+      subst (λ (l : Now). MayMake l (by_client (End of (Abort cause)))) (sym (closed_so (Abort cause) mid (IfOk-at_ok (λ how. Closed how mid) aborted is)))
+      (may_end_above of of [] (k + 1) 18 (Abort cause) _ (after.managed_running of k kd (Abort cause) now _ h alive manages (managed (Abort cause) so)) (sym (append-nil of)) h.nonroot
+      (after.may_abort_after of k kd (Abort cause) now _ h alive manages (managed (Abort cause) so) cause refl))
 
   pub came_ran : (closed : Result How Short) (mid new : Now) → IfOk closed (λ how. ending_of came_to ≡ Some how) → IfOk closed (λ how. Closed how mid) → (goes_on : Bool) → IsOkAnd closed (λ how. WentOn how of goes_on mid new) → RanManager of k kd goes_on now new
   came_ran (Ok how) mid new ending is goes_on went = record {

@@ -1,6 +1,6 @@
 -- What a transaction leaves that runs from some step on follows the rest of its plan.
-use Rattle.std.proofs.Common.{◌≡◌, ℕ, ◌+◌, inl, inr, List, [], ◌∷◌, ◌++◌, length, refl, sym, ap, ◌∙◌, subst, arith, append-nil, append_assoc}
-use Rattle.std.specs.Prelude.{◌⊎◌, IsTrue, Option, None, Some, is_some, not}
+use Rattle.std.proofs.Common.{◌≡◌, ℕ, zero, suc, ◌+◌, ◌<◌, inl, inr, true, false, List, [], ◌∷◌, ◌++◌, length, refl, sym, ap, ◌∙◌, subst, arith, append-nil, append_assoc}
+use Rattle.std.specs.Prelude.{◌⊎◌, IsTrue, MatchBool, Option, None, Some, is_some, not}
 use Rattle.std.proofs.lemmas.Bool.{false_from_ne_true}
 use Rattle.std.proofs.lemmas.List.{length-append}
 use Rattle.qc_event.specs.declared.event.Answer.{Answer}
@@ -23,19 +23,20 @@ use Rattle.qc_event.proofs.LastNumber.{length_last, is_child-last}
 use Rattle.qc_event.proofs.Lineage.{IsFresh, fresh_child}
 use Rattle.qc_event.proofs.OneEntry.{some_or_none, unless_some, child_added}
 use Rattle.qc_script.specs.Plan.{Plan, PlanWithin}
-use Rattle.qc_interp.specs.Trace.{Now, by_client, begun, aborted, committed, returned, Managed, RunsManager, Runs}
+use Rattle.qc_interp.specs.Trace.{Now, by_client, begun, aborted, committed, returned, Managed, RunsManager, child_of, TryRuns, TriesRun, Runs}
 use Rattle.qc_interp.specs.Follows.{StopsEarly, GoesOn, FollowsPlan, Asks}
+use Rattle.qc_interp.specs.Tries.{is_tried_again, Tries, TriesDo}
 use Rattle.qc_interp.proofs.BelowNames.{below_longer, begins_child, not_within_child}
-use Rattle.qc_interp.proofs.Cases.{unless_dead, goes_on}
+use Rattle.qc_interp.proofs.Cases.{unless_dead, goes_on, by_try}
 use Rattle.qc_interp.proofs.LeftAsItIs.{children_left}
-use Rattle.qc_interp.proofs.LeftAtOnce.{AskedFrom, Early, Left, ran_grown, orphan_left, alive_open, committed_left, asked_left}
+use Rattle.qc_interp.proofs.LeftAtOnce.{AskedFrom, Early, LeftBy, Left, ran_grown, orphan_left, alive_open, committed_left, asked_left}
 use Rattle.qc_interp.proofs.ManagedLeft.{kind_now, end_started, managed_above, managed_asks, managed_end, managed_kind, managed_children}
 use Rattle.qc_interp.proofs.OneEnd.{OneEnd, aborted_end, aborted_last}
 use Rattle.qc_interp.proofs.Running.{Below, Running, Ran}
-use Rattle.qc_interp.proofs.RunChild.{run_begun, returned_past, returned_setting, run_back}
+use Rattle.qc_interp.proofs.RunChild.{run_begun}
 use Rattle.qc_interp.proofs.RunManagers.{managed_running}
-use Rattle.qc_interp.proofs.RunsRan.{runs_ran}
-use Rattle.qc_interp.proofs.Stays.{Grown, grown, whole_stays, asks_stay, follows_ended}
+use Rattle.qc_interp.proofs.RunsRan.{Tried, try_ran, tries_ran, runs_ran}
+use Rattle.qc_interp.proofs.Stays.{Grown, grown, stops_follow, whole_stays, asks_stay, follows_ended}
 
 no_more : {Y : Type 0} (ys : List Y) → length ys + 1 ≡ 1 → ys ≡ []
 no_more [] h = refl
@@ -151,7 +152,7 @@ module _ (of : Name) (k : ℕ) (now : Now) (h : Running of k now) (alive : now.d
 
   -- A CHILD
 
-  module _ (number : ℕ) (inner rest : Plan) (left back : Now) (r : Ran child (begun child number now) left) (l : Left child inner (begun child number now).past left.past) (is_back : back.past ≡ left.past) where
+  module _ (number : ℕ) (inner : Plan) (left back : Now) (r : Ran child (begun child number now) left) (l : Left child inner (begun child number now).past left.past) (is_back : back.past ≡ left.past) where
     back_news : (n : Name) (how : How) → Below n child → end back.past n ≡ Some how → (end now.past n ≡ Some how) ⊎ AskedFrom child how
     back_news n how above is = elim (l.upward n how above (ap (λ p. end p n) (sym is_back) ∙ is)) [
       | inl old ↦ inl (sym (end_started now.past child n (kind.User 0 number)) ∙ old)
@@ -175,14 +176,16 @@ module _ (of : Name) (k : ℕ) (now : Now) (h : Running of k now) (alive : now.d
         ∙ children_left child of r.later (begun child number now).past r.inside (not_within_child of of [] k (sym (append-nil of)))
         ∙ child_added (by_client (Start child (kind.User 0 number))) now.past of child (kind.User 0 number) refl (is_child-last of k)
 
-    child_left : (new : Past) → BodyLeft child number inner now.past left.past new → Left of rest back.past new → Left of (Plan.child_then number inner rest) now.past new
-    child_left new body m = record {
+    child_left : (new : Past) (Follows Follows' : List Name → Type 0) (AsksFor AsksFor' : Name → Name → List Name → Type 0) → BodyLeft child number inner now.past left.past new → LeftBy of Follows AsksFor back.past new
+        → ((more : List Name) → (kind_of new child ≡ Some (kind.User 0 number)) × FollowsPlan new child inner (children new child) (end new child) → Follows more → Follows' (child ∷ more))
+        → ((by n : Name) (more : List Name) → Asks new by n child inner (children new child) ⊎ AsksFor by n more → AsksFor' by n (child ∷ more)) → LeftBy of Follows' AsksFor' now.past new
+    child_left new Follows Follows' AsksFor AsksFor' body m follows asks_for = record {
       more = child ∷ m.more;
       children_are = m.children_are ∙ further child (children now.past of) (children back.past of) m.more children_back;
-      follows = (body.kind, body.steps, m.follows);
+      follows = follows m.more (body.kind, body.steps) m.follows;
       as_asked = λ n by is. elim (m.as_asked n by is) [
-        | inl old ↦ elim (body.as_asked n by (ap (λ p. end p n) (sym is_back) ∙ old)) [ inl older ↦ inl older | inr asks ↦ inr (inl asks) ]
-        | inr asks ↦ inr (inr asks)
+        | inl old ↦ elim (body.as_asked n by (ap (λ p. end p n) (sym is_back) ∙ old)) [ inl older ↦ inl older | inr asks ↦ inr (asks_for by n m.more (inl asks)) ]
+        | inr asks ↦ inr (asks_for by n m.more (inr asks))
       ];
       upward = λ n how above is. elim (m.upward n how above is) [
         | inl old ↦ elim (back_news n how (above.0, above.1 ++ k ∷ [], begins_child of n (above.0 ∷ above.1) k above.2) old) [
@@ -195,16 +198,16 @@ module _ (of : Name) (k : ℕ) (now : Now) (h : Running of k now) (alive : now.d
 
 -- THE STEPS
 
--- what holds of the number of records stays so
-pub at_setting : (P : ℕ → Type 0) (old new : Now) → new.setting ≡ old.setting → P (length old.setting.firsts) → P (length new.setting.firsts)
-at_setting P old new is h = subst (λ (s : Setting). P (length s.firsts)) (sym is) h
+-- what holds of the numbers of copies and of records stays so
+pub at_setting : (P : ℕ → ℕ → Type 0) (old new : Now) → new.setting ≡ old.setting → P (length old.setting.base) (length old.setting.firsts) → P (length new.setting.base) (length new.setting.firsts)
+at_setting P old new is h = subst (λ (s : Setting). P (length s.base) (length s.firsts)) (sym is) h
 
 -- what the rest leaves that a transaction goes on to, whatever it is
 abbrev RestLeft : Name → ℕ → Plan → Now → Type 0
-RestLeft of k rest new = (mid : Now) → Running of k mid → PlanWithin (length mid.setting.firsts) (length of) rest → Early mid.past of → Runs of k rest mid new → Left of rest mid.past new.past
+RestLeft of k rest new = (mid : Now) → Running of k mid → PlanWithin (length mid.setting.base) (length mid.setting.firsts) (length of) rest → Early mid.past of → Runs of k rest mid new → Left of rest mid.past new.past
 
 -- what a manager leaves, and the rest
-manager_step : (of : Name) (k : ℕ) (kd : Kind) (rest plan : Plan) (now new : Now) → Running of k now → now.dead ≡ None → IsManager kd → PlanWithin (length now.setting.firsts) (length of) rest
+manager_step : (of : Name) (k : ℕ) (kd : Kind) (rest plan : Plan) (now new : Now) → Running of k now → now.dead ≡ None → IsManager kd → PlanWithin (length now.setting.base) (length now.setting.firsts) (length of) rest
     → ((more : List Name) (end_of : Option How) → kind_of new.past (of ++ k ∷ []) ≡ Some kd → GoesOn (end new.past (of ++ k ∷ [])) (FollowsPlan new.past of rest more end_of) more end_of → FollowsPlan new.past of plan ((of ++ k ∷ []) ∷ more) end_of)
     → ((n by : Name) (more : List Name) → IsTrue (is_committed (outcome new.past (of ++ k ∷ []))) × Asks new.past by n of rest more → Asks new.past by n of plan ((of ++ k ∷ []) ∷ more))
     → Ran of now new → RestLeft of (k + 1) rest new → RunsManager of k kd (λ mid. Runs of (k + 1) rest mid new) now new → Left of plan now.past new.past
@@ -212,7 +215,7 @@ manager_step of k kd rest plan now new h alive manages within one_step asks r fu
     goes_on m.how of (Runs of (k + 1) rest m.mid new) m.mid new
     (λ given commits runs.
     let on : Running of (k + 1) m.mid = managed_running of k kd m.how now m.mid h alive manages m.managed in
-    let rest_within = at_setting (λ records. PlanWithin records (length of) rest) now m.mid m.managed.same_setting within in
+    let rest_within = at_setting (λ copies records. PlanWithin copies records (length of) rest) now m.mid m.managed.same_setting within in
     manager_left of k now h alive kd manages m.how m.mid m.managed given commits rest plan new.past
     (ran_grown of m.mid new (runs_ran of (k + 1) rest m.mid new on rest_within runs))
     (further m.mid on rest_within (manager_early of k now h alive kd manages m.how m.mid m.managed) runs) one_step asks)
@@ -224,49 +227,126 @@ manager_step of k kd rest plan now new h alive manages within one_step asks r fu
     one one_step)
     m.goes_on
 
--- what a body within a body leaves, and the rest
-child_step : (of : Name) (k number : ℕ) (inner rest : Plan) (now left new : Now) → Running of k now → now.dead ≡ None → PlanWithin (length now.setting.firsts) (length of) (Plan.child_then number inner rest)
-    → RestLeft (of ++ k ∷ []) 1 inner left → RestLeft of (k + 1) rest new → Runs (of ++ k ∷ []) 1 inner (begun (of ++ k ∷ []) number now) left → Runs of (k + 1) rest (returned (length of) left) new → Left of (Plan.child_then number inner rest) now.past new.past
-child_step of k number inner rest now left new h alive within inside further runs rest_runs =
-    let c : Name = of ++ k ∷ [] in
-    let back : Now = returned (length of) left in
-    let is_back : back.past ≡ left.past = returned_past (length of) left in
-    let inner_within : PlanWithin (length now.setting.firsts) (length c) inner = subst (λ d. PlanWithin (length now.setting.firsts) d inner) (sym (length_last of k)) within.1 in
-    let begins : Running c 1 (begun c number now) = run_begun of k number now h alive within.0 in
-    let r : Ran c (begun c number now) left = runs_ran c 1 inner (begun c number now) left begins inner_within runs in
-    let l : Left c inner (begun c number now).past left.past = inside (begun c number now) begins inner_within
-    (λ how is. absurd (some_or_none (end now.past c) (ap is_some (sym (end_started now.past c c (kind.User 0 number)) ∙ is)) (fresh of k now h alive).no_end)) runs in
-    let on : Running of (k + 1) back = run_back of k number now left h r in
-    let rest_within = at_setting (λ records. PlanWithin records (length of) rest) now back (returned_setting (length of) left ∙ r.same_setting) within.2 in
-    let ran : Ran of back new = runs_ran of (k + 1) rest back new on rest_within rest_runs in
-    child_left of k now h alive number inner rest left back r l is_back new.past
-    (body_left c number inner now left new.past (fresh of k now h alive).no_start begins (ran_grown c (begun c number now) left r) (subst (λ p. Grown p new.past) is_back (ran_grown of back new ran)) l)
-    (further back on rest_within (child_early of k now h alive number inner rest left back r l is_back) rest_runs)
+-- what tries of a body within a body leave, and the rest
+module _ (of : Name) (number : ℕ) (inner rest : Plan) (set : Setting) (new : Now) (shallow : length of < 16) (fits : PlanWithin (length set.base) (length set.firsts) (length of + 1) inner) (rest_fits : PlanWithin (length set.base) (length set.firsts) (length of) rest)
+    (inside : (c : Name) (left : Now) → RestLeft c 1 inner left) (further : (j : ℕ) → RestLeft of j rest new) where
+  abbrev RestRuns : ℕ → Now → Type 0
+  RestRuns j mid = Runs of j rest mid new
+
+  abbrev AllRun : ℕ → ℕ → Now → Type 0
+  AllRun tries k now = TriesRun (child_of of) (λ c. TryRuns (length of) c number (λ first left. Runs c 1 inner first left)) RestRuns tries k now
+
+  abbrev IsTry : Name → Type 0
+  IsTry c = (kind_of new.past c ≡ Some (kind.User 0 number)) × FollowsPlan new.past c inner (children new.past c) (end new.past c)
+
+  abbrev RestFollows : List Name → Type 0
+  RestFollows cs = FollowsPlan new.past of rest cs (end new.past of)
+
+  abbrev AllFollow : ℕ → List Name → Type 0
+  AllFollow tries cs = Tries (end new.past) IsTry (StopsEarly new.past of (end new.past of)) RestFollows tries cs
+
+  abbrev RestAsks : Name → Name → List Name → Type 0
+  RestAsks by n cs = Asks new.past by n of rest cs
+
+  abbrev AllAsk : ℕ → Name → Name → List Name → Type 0
+  AllAsk tries by n cs = TriesDo (end new.past) (λ c. Asks new.past by n c inner (children new.past c)) (λ ds. RestAsks by n ds) tries cs
+
+  inner_fits : (c : Name) (first : Now) → first.setting ≡ set → length c ≡ length of + 1 → PlanWithin (length first.setting.base) (length first.setting.firsts) (length c) inner
+  inner_fits c first same long =
+      subst (λ d. PlanWithin (length first.setting.base) (length first.setting.firsts) d inner) (sym long) (subst (λ (s : Setting). PlanWithin (length s.base) (length s.firsts) (length of + 1) inner) (sym same) fits)
+
+  rest_within : (mid : Now) → mid.setting ≡ set → PlanWithin (length mid.setting.base) (length mid.setting.firsts) (length of) rest
+  rest_within mid same = subst (λ (s : Setting). PlanWithin (length s.base) (length s.firsts) (length of) rest) (sym same) rest_fits
+
+  all_ran : (tries k : ℕ) (now : Now) → now.setting ≡ set → Running of k now → now.dead ≡ None → AllRun tries k now → Ran of now new
+  all_ran = tries_ran of number inner RestRuns set new shallow
+      (λ c first left same long begins runs. runs_ran c 1 inner first left begins (inner_fits c first same long) runs)
+      (λ j mid same on runs. runs_ran of j rest mid new on (rest_within mid same) runs)
+
+  -- one try, and what comes behind it
+  module _ (tries k : ℕ) (now left mid : Now) (same : now.setting ≡ set) (h : Running of k now) (alive : now.dead ≡ None) (back : mid ≡ returned (length of) left) (runs : Runs (child_of of k) 1 inner (begun (child_of of k) number now) left) where
+    abbrev c : Name
+    c = child_of of k
+
+    abbrev first : Now
+    first = begun c number now
+
+    begins : Running c 1 first
+    begins = run_begun of k number now h alive shallow
+
+    tried : Tried of k number now left mid
+    tried = try_ran of k number now left mid h back (runs_ran c 1 inner first left begins (inner_fits c first same (length_last of k)) runs)
+
+    l : Left c inner first.past left.past
+    l = inside c left first begins (inner_fits c first same (length_last of k))
+        (λ how is. absurd (some_or_none (end now.past c) (ap is_some (sym (end_started now.past c c (kind.User 0 number)) ∙ is)) (fresh of k now h alive).no_end)) runs
+
+    early : Early mid.past of
+    early = child_early of k now h alive number inner left mid tried.ran l tried.is_back
+
+    body : Ran of mid new → BodyLeft c number inner now.past left.past new.past
+    body r = body_left c number inner now left new.past (fresh of k now h alive).no_start begins (ran_grown c first left tried.ran)
+        (subst (λ p. Grown p new.past) tried.is_back (ran_grown of mid new r)) l
+
+    -- how the try ended, as it stands in the end
+    same_end : Ran of mid new → is_tried_again (end new.past c) ≡ is_tried_again (end mid.past c)
+    same_end r = ap is_tried_again (by_end (end mid.past c) refl)
+      where
+        by_end : (o : Option How) → end mid.past c ≡ o → end new.past c ≡ end mid.past c
+        by_end None is = absurd (some_or_none (end mid.past c) (ap (λ p. is_some (end p c)) tried.is_back ∙ tried.ran.has_ended) is)
+        by_end (Some how) is = (ran_grown of mid new r).ends c how is ∙ sym is
+
+    again : is_tried_again (end mid.past c) ≡ true → Ran of mid new → LeftBy of (AllFollow tries) (AllAsk tries) mid.past new.past → LeftBy of (AllFollow (suc tries)) (AllAsk (suc tries)) now.past new.past
+    again t r m = child_left of k now h alive number inner left mid tried.ran l tried.is_back new.past (AllFollow tries) (AllFollow (suc tries)) (AllAsk tries) (AllAsk (suc tries)) (body r) m
+        (λ more is follows. (is, subst (λ b. MatchBool b (AllFollow tries more) (RestFollows more)) (sym (same_end r ∙ t)) follows))
+        (λ by n more asks. elim asks [ inl here ↦ inl here | inr behind ↦ inr (subst (λ b. MatchBool b (AllAsk tries by n more) (RestAsks by n more)) (sym (same_end r ∙ t)) behind) ])
+
+    last : is_tried_again (end mid.past c) ≡ false → Ran of mid new → Left of rest mid.past new.past → LeftBy of (AllFollow (suc tries)) (AllAsk (suc tries)) now.past new.past
+    last t r m = child_left of k now h alive number inner left mid tried.ran l tried.is_back new.past RestFollows (AllFollow (suc tries)) RestAsks (AllAsk (suc tries)) (body r) m
+        (λ more is follows. (is, subst (λ b. MatchBool b (AllFollow tries more) (RestFollows more)) (sym (same_end r ∙ t)) follows))
+        (λ by n more asks. elim asks [ inl here ↦ inl here | inr behind ↦ inr (subst (λ b. MatchBool b (AllAsk tries by n more) (RestAsks by n more)) (sym (same_end r ∙ t)) behind) ])
+
+  tries_left : (tries k : ℕ) (now : Now) → now.setting ≡ set → Running of k now → now.dead ≡ None → Early now.past of → AllRun tries k now → LeftBy of (AllFollow tries) (AllAsk tries) now.past new.past
+  tries_left zero k now same h alive soon runs = further k now h (rest_within now same) soon runs
+  tries_left (suc tries) k now same h alive soon (mid, ran, after) =
+      let t : Tried of k number now ran.left mid = tried tries k now ran.left mid same h alive ran.back ran.runs in
+      let on : mid.setting ≡ set = t.same_setting ∙ same in
+      let soon : Early mid.past of = early tries k now ran.left mid same h alive ran.back ran.runs in
+      by_try (is_tried_again (end mid.past (child_of of k))) _ _
+      (λ is more. again tries k now ran.left mid same h alive ran.back ran.runs is (all_ran tries (k + 1) mid on t.running (t.alive is) more) (tries_left tries (k + 1) mid on t.running (t.alive is) soon more))
+      (λ is rest_runs. last tries k now ran.left mid same h alive ran.back ran.runs is (runs_ran of (k + 1) rest mid new t.running (rest_within mid on) rest_runs) (further (k + 1) mid t.running (rest_within mid on) soon rest_runs))
+      after
 
 -- what is left by one that is dead
-stops_left : (of a : Name) (k : ℕ) (plan : Plan) (now new : Now) → ((past : Past) (how : Option How) → StopsEarly past of how → FollowsPlan past of plan [] how) → Running of k now → Early now.past of → now.dead ≡ Some a → new ≡ aborted of (Orphan a) now → Left of plan now.past new.past
-stops_left of a k plan now new stops h early fallen is =
-    subst (λ (n : Now). Left of plan now.past n.past) (sym is) (orphan_left of a k plan now (stops (aborted of (Orphan a) now).past (end (aborted of (Orphan a) now).past of)) h fallen early)
+stops_left : (of a : Name) (k : ℕ) (plan : Plan) (now new : Now) → Running of k now → Early now.past of → now.dead ≡ Some a → new ≡ aborted of (Orphan a) now → Left of plan now.past new.past
+stops_left of a k plan now new h early fallen is =
+    subst (λ (n : Now). Left of plan now.past n.past) (sym is)
+    (orphan_left of a k plan now (stops_follow (aborted of (Orphan a) now).past of plan (end (aborted of (Orphan a) now).past of)) h fallen early)
 
-pub run_left : (of : Name) (k : ℕ) (plan : Plan) (now new : Now) → Running of k now → PlanWithin (length now.setting.firsts) (length of) plan → Early now.past of → Runs of k plan now new → Left of plan now.past new.past
+pub run_left : (of : Name) (k : ℕ) (plan : Plan) (now new : Now) → Running of k now → PlanWithin (length now.setting.base) (length now.setting.firsts) (length of) plan → Early now.past of → Runs of k plan now new → Left of plan now.past new.past
 run_left of k Plan.done now new h within early runs = unless_dead of now new (new ≡ committed of now)
     (λ alive is. subst (λ (n : Now). Left of Plan.done now.past n.past) (sym is) (committed_left of now (alive_open of k now h alive)))
-    (λ a fallen is. stops_left of a k Plan.done now new (λ past how stops. inr stops) h early fallen is)
+    (λ a fallen is. stops_left of a k Plan.done now new h early fallen is)
     runs
 run_left of k (Plan.read_then rec rest) now new h within early runs = unless_dead of now new (RunsManager of k (kind.Read rec) (λ mid. Runs of (k + 1) rest mid new) now new)
     (λ alive m. manager_step of k (kind.Read rec) rest (Plan.read_then rec rest) now new h alive tt within.1 (λ more end_of is goes. (is, goes)) (λ n by more asks. asks)
     (runs_ran of k (Plan.read_then rec rest) now new h within runs) (λ mid on fits soon r. run_left of (k + 1) rest mid new on fits soon r) m)
-    (λ a fallen is. stops_left of a k (Plan.read_then rec rest) now new (λ past how stops. stops) h early fallen is)
+    (λ a fallen is. stops_left of a k (Plan.read_then rec rest) now new h early fallen is)
     runs
 run_left of k (Plan.set_then rec value rest) now new h within early runs = unless_dead of now new (RunsManager of k (kind.Write rec value) (λ mid. Runs of (k + 1) rest mid new) now new)
     (λ alive m. manager_step of k (kind.Write rec value) rest (Plan.set_then rec value rest) now new h alive tt within.1 (λ more end_of is goes. (is, goes)) (λ n by more asks. asks)
     (runs_ran of k (Plan.set_then rec value rest) now new h within runs) (λ mid on fits soon r. run_left of (k + 1) rest mid new on fits soon r) m)
-    (λ a fallen is. stops_left of a k (Plan.set_then rec value rest) now new (λ past how stops. stops) h early fallen is)
+    (λ a fallen is. stops_left of a k (Plan.set_then rec value rest) now new h early fallen is)
     runs
-run_left of k (Plan.child_then number inner rest) now new h within early runs = unless_dead of now new ((left : Now) × Runs (of ++ k ∷ []) 1 inner (begun (of ++ k ∷ []) number now) left × Runs of (k + 1) rest (returned (length of) left) new)
-    (λ alive r. child_step of k number inner rest now r.0 new h alive within
-    (λ mid on fits soon s. run_left (of ++ k ∷ []) 1 inner mid r.0 on fits soon s)
-    (λ mid on fits soon s. run_left of (k + 1) rest mid new on fits soon s) r.1 r.2)
-    (λ a fallen is. stops_left of a k (Plan.child_then number inner rest) now new (λ past how stops. stops) h early fallen is)
+run_left of k (Plan.reconf_then rec config rest) now new h within early runs = unless_dead of now new (RunsManager of k (kind.Reconf rec config) (λ mid. Runs of (k + 1) rest mid new) now new)
+    (λ alive m. manager_step of k (kind.Reconf rec config) rest (Plan.reconf_then rec config rest) now new h alive tt within.2 (λ more end_of is goes. (is, goes)) (λ n by more asks. asks)
+    (runs_ran of k (Plan.reconf_then rec config rest) now new h within runs) (λ mid on fits soon r. run_left of (k + 1) rest mid new on fits soon r) m)
+    (λ a fallen is. stops_left of a k (Plan.reconf_then rec config rest) now new h early fallen is)
+    runs
+run_left of k (Plan.child_then number tries inner rest) now new h within early runs = unless_dead of now new (TriesRun (child_of of) (λ c. TryRuns (length of) c number (λ first left. Runs c 1 inner first left)) (λ j mid. Runs of j rest mid new) tries k now)
+    (λ alive r. tries_left of number inner rest now.setting new within.0 within.2 within.3
+    (λ c left mid on fits soon s. run_left c 1 inner mid left on fits soon s)
+    (λ j mid on fits soon s. run_left of j rest mid new on fits soon s) tries k now refl h alive early r)
+    (λ a fallen is. stops_left of a k (Plan.child_then number tries inner rest) now new h early fallen is)
     runs
 run_left of k (Plan.abort_then levels rest) now new h within early is = subst (λ (n : Now). Left of (Plan.abort_then levels rest) now.past n.past) (sym is) (asked_left of k levels rest now h within.0 early)

@@ -1,6 +1,6 @@
 -- The history that the tops of a script make follows it.
-use Rattle.std.proofs.Common.{◌≡◌, ℕ, ◌+◌, ◌<◌, ◌≤◌, inl, inr, Bool, true, false, List, [], ◌∷◌, ◌++◌, length, refl, sym, ap, ◌∙◌, subst, arith, append-nil, append_assoc}
-use Rattle.std.specs.Prelude.{◌⊎◌, ◌==◌, Option, None, Some, is_some, not, ◌||◌, if◌then◌else◌, option_to_list}
+use Rattle.std.proofs.Common.{◌≡◌, ℕ, zero, suc, ◌+◌, ◌<◌, ◌≤◌, inl, inr, Bool, true, false, List, [], ◌∷◌, ◌++◌, length, refl, sym, ap, ◌∙◌, subst, arith, append-nil, append_assoc}
+use Rattle.std.specs.Prelude.{◌⊎◌, ◌==◌, IsTrue, MatchBool, Option, None, Some, is_some, not, ◌||◌, if◌then◌else◌, option_to_list}
 use Rattle.std.specs.List.{list_all}
 use Rattle.std.proofs.lemmas.Bool.{false_from_ne_true, eqb-true, and_from}
 use Rattle.std.proofs.lemmas.List.{length-append}
@@ -9,15 +9,20 @@ use Rattle.qc_event.specs.declared.event.Cause.TheVariants.{Asked}
 use Rattle.qc_event.specs.declared.event.Entry.{Entry}
 use Rattle.qc_event.specs.declared.event.Event.{Event}
 use Rattle.qc_event.specs.declared.event.Event.TheVariants as event
+use Rattle.qc_event.specs.declared.event.How.{How}
 use Rattle.qc_event.specs.declared.event.How.TheVariants.{Abort}
 use Rattle.qc_event.specs.declared.event.Kind.TheVariants as kind
-use Rattle.qc_event.specs.History.{Past, Name, every, start, end, is_ready}
+use Rattle.qc_event.specs.History.{Past, Name, every, start, end, is_ready, children}
 use Rattle.qc_event.specs.Base.{Setting}
 use Rattle.qc_event.proofs.Absent.{if_not}
 use Rattle.qc_event.proofs.OneEntry.{Starting, not_some, some_or_none, start_now, start_stays}
-use Rattle.qc_script.specs.Plan.{Numbered, TopsWithin}
-use Rattle.qc_interp.specs.Trace.{Now, by_client, begun, returned, top_of, TopsRun}
-use Rattle.qc_interp.specs.Follows.{started_in, top_in, tops, is_done, InTurn, FollowsBodies, AsksBelow, FollowsTops}
+use Rattle.qc_line.specs.Messages.{Net, meets_fates}
+use Rattle.qc_script.specs.Plan.{Numbered, PlanWithin, TopsWithin}
+use Rattle.qc_interp.specs.Trace.{Now, by_client, begun, returned, TriesRun, Runs, BodyRuns, top_of, TopsRun}
+use Rattle.qc_interp.specs.Follows.{started_in, top_in, tops, is_done, InTurn, Asks, FollowsBody, FollowsBodies, AsksBelow, FollowsTops}
+use Rattle.qc_interp.specs.Tries.{is_tried_again, Tries, TriesDo}
+use Rattle.qc_interp.proofs.Cases.{by_try}
+use Rattle.qc_interp.proofs.TriesInRow.{tries_rise}
 use Rattle.qc_interp.proofs.FollowsRun.{BodyLeft, body_left, at_setting, run_left}
 use Rattle.qc_interp.proofs.LeftAtOnce.{Left, ran_grown}
 use Rattle.qc_interp.proofs.ManagedLeft.{end_started}
@@ -76,15 +81,20 @@ or_from_left a b h = ap (λ c. c || b) h
 
 -- THE TOPS
 
--- What the tops of bodies leave follows them, where all have ended.
-record TopsLeft (bodies : List Numbered) (old new : Past) : Type 0 where
+-- What tops leave: they follow something, all have ended, and one was aborted as another asked only where they ask
+-- for it.
+record TopsLeftBy (Follows : List Name → Type 0) (AsksFor : Name → Name → List Name → Type 0) (old new : Past) : Type 0 where
   more : List Name
   tops_are : tops new ≡ tops old ++ more
-  follows : FollowsBodies new bodies more
-  as_asked : (n by : Name) → end new n ≡ Some (Abort (Asked by)) → (end old n ≡ Some (Abort (Asked by))) ⊎ AsksBelow new by n bodies more
+  follows : Follows more
+  as_asked : (n by : Name) → end new n ≡ Some (Abort (Asked by)) → (end old n ≡ Some (Abort (Asked by))) ⊎ AsksFor by n more
   turn : InTurn old → InTurn new
   grows : Grown old new
   all_ended : (n : Name) → is_some (start new n) ≡ true → is_some (end new n) ≡ true
+
+-- what the tops of bodies leave
+abbrev TopsLeft : List Numbered → Past → Past → Type 0
+TopsLeft bodies old new = TopsLeftBy (FollowsBodies new bodies) (λ by n ts. AsksBelow new by n bodies ts) old new
 
 no_tops_left : (i : ℕ) (now : Now) → Resting i now → TopsLeft [] now.past now.past
 no_tops_left i now rest = record {
@@ -117,14 +127,16 @@ module _ (i : ℕ) (b : Numbered) (now left : Now) (rest : Resting i now) (begin
   in_turn turn = subst InTurn (sym r.is) (turn_inside top r.later from_start (omega arith) r.inside
       (turn, each_listed (λ e. top_in e.event) (is_done now.past) now.past (λ e n is. top_starts e.event n is) (λ n h. or_from_left _ (is_ready now.past n) (rest.all_ended n h))))
 
-  one_more_top : (bodies : List Numbered) (back : Now) (new : Past) → back.past ≡ left.past → BodyLeft top b.number b.plan now.past left.past new → TopsLeft bodies back.past new → TopsLeft (b ∷ bodies) now.past new
-  one_more_top bodies back new is_back body m = record {
+  one_more_top : (Follows Follows' : List Name → Type 0) (AsksFor AsksFor' : Name → Name → List Name → Type 0) (back : Now) (new : Past) → back.past ≡ left.past → BodyLeft top b.number b.plan now.past left.past new → TopsLeftBy Follows AsksFor back.past new
+      → ((more : List Name) → FollowsBody new b top → Follows more → Follows' (top ∷ more))
+      → ((by n : Name) (more : List Name) → Asks new by n top b.plan (children new top) ⊎ AsksFor by n more → AsksFor' by n (top ∷ more)) → TopsLeftBy Follows' AsksFor' now.past new
+  one_more_top Follows Follows' AsksFor AsksFor' back new is_back body m follows asks_for = record {
     more = top ∷ m.more;
     tops_are = m.tops_are ∙ ap (λ ts. ts ++ m.more) (ap tops is_back ∙ tops_left_by) ∙ append_assoc (tops now.past) (top ∷ []) m.more;
-    follows = (record { kind = body.kind; steps = body.steps }, m.follows);
+    follows = follows m.more (record { kind = body.kind; steps = body.steps }) m.follows;
     as_asked = λ n by is. elim (m.as_asked n by is) [
-      | inl old ↦ elim (body.as_asked n by (ap (λ p. end p n) (sym is_back) ∙ old)) [ inl older ↦ inl older | inr asks ↦ inr (inl asks) ]
-      | inr asks ↦ inr (inr asks)
+      | inl old ↦ elim (body.as_asked n by (ap (λ p. end p n) (sym is_back) ∙ old)) [ inl older ↦ inl older | inr asks ↦ inr (asks_for by n m.more (inl asks)) ]
+      | inr asks ↦ inr (asks_for by n m.more (inr asks))
     ];
     turn = λ turn. m.turn (subst InTurn (sym is_back) (in_turn turn));
     grows = grown_on now.past from_start new (grown now.setting (by_client (event.Start top (kind.User 0 b.number)) ∷ []) now.past begins.legal)
@@ -132,29 +144,103 @@ module _ (i : ℕ) (b : Numbered) (now left : Now) (rest : Resting i now) (begin
     all_ended = m.all_ended;
   }
 
-tops_left : (i : ℕ) (bodies : List Numbered) (now new : Now) → TopsWithin (length now.setting.firsts) bodies → Resting i now → TopsRun i bodies now new → i + length bodies ≤ 4294967295 → TopsLeft bodies now.past new.past
-tops_left i [] now new within rest is few = subst (λ (n : Now). TopsLeft [] now.past n.past) (sym is) (no_tops_left i now rest)
-tops_left i (b ∷ bodies) now new within rest (mid, body, tops_run) few =
-    let top : Name = top_of i in
-    let from_start : Now = begun top b.number now in
-    let left : Now = body.left in
-    let back : Now = returned 0 left in
-    let is_back : back.past ≡ left.past = returned_past 0 left in
-    let is_mid : mid ≡ back = body.back in
-    let on : TopsRun (i + 1) bodies back new = subst (λ (n : Now). TopsRun (i + 1) bodies n new) is_mid tops_run in
-    let begins : Running top 1 from_start = rest_begun i b.number now rest (omega arith) in
-    let r : Ran top from_start left = runs_ran top 1 b.plan from_start left begins within.0 body.runs in
-    let l : Left top b.plan from_start.past left.past = run_left top 1 b.plan from_start left begins within.0
-    (λ how is. absurd (some_or_none (end now.past top) (ap is_some (sym (end_started now.past top top (kind.User 0 b.number)) ∙ is)) (no_end i b now left rest begins r))) body.runs in
-    let m = tops_left (i + 1) bodies back new (at_setting (λ records. TopsWithin records bodies) now back (returned_setting 0 left ∙ r.same_setting) within.1) (rest_back i b.number now left rest r) on (omega arith) in
-    one_more_top i b now left rest begins r bodies back new.past is_back
-    (body_left top b.number b.plan now left new.past (no_start i b now left rest begins r) begins
-    (ran_grown top from_start left r) (subst (λ p. Grown p new.past) is_back m.grows) l)
-    m
+-- what the tries of a body leave as tops, and those of other bodies
+module _ (b : Numbered) (bodies : List Numbered) (set : Setting) (last : ℕ) (new : Now) (fits : PlanWithin (length set.base) (length set.firsts) 1 b.plan) (small : last ≤ 4294967295)
+    (low : (j : ℕ) (mid : Now) → TopsRun j bodies last mid new → j ≤ last) (further : (j : ℕ) (mid : Now) → mid.setting ≡ set → Resting j mid → TopsRun j bodies last mid new → TopsLeft bodies mid.past new.past) where
+  abbrev OthersRun : ℕ → Now → Type 0
+  OthersRun j mid = TopsRun j bodies last mid new
+
+  abbrev AllRun : ℕ → ℕ → Now → Type 0
+  AllRun tries i now = TriesRun top_of (λ t. BodyRuns 0 t b) OthersRun tries i now
+
+  abbrev OthersFollow : List Name → Type 0
+  OthersFollow ts = FollowsBodies new.past bodies ts
+
+  abbrev AllFollow : ℕ → List Name → Type 0
+  AllFollow tries ts = Tries (end new.past) (FollowsBody new.past b) ⊥ OthersFollow tries ts
+
+  abbrev OthersAsk : Name → Name → List Name → Type 0
+  OthersAsk by n ts = AsksBelow new.past by n bodies ts
+
+  abbrev AllAsk : ℕ → Name → Name → List Name → Type 0
+  AllAsk tries by n ts = TriesDo (end new.past) (λ t. Asks new.past by n t b.plan (children new.past t)) (λ us. OthersAsk by n us) tries ts
+
+  -- one try, and what comes behind it
+  module _ (tries i : ℕ) (now left mid : Now) (same : now.setting ≡ set) (rest : Resting i now) (few : i < 4294967295) (back : mid ≡ returned 0 left) (runs : Runs (top_of i) 1 b.plan (begun (top_of i) b.number now) left) where
+    abbrev first : Now
+    first = begun (top_of i) b.number now
+
+    begins : Running (top_of i) 1 first
+    begins = rest_begun i b.number now rest few
+
+    within : PlanWithin (length first.setting.base) (length first.setting.firsts) 1 b.plan
+    within = subst (λ (s : Setting). PlanWithin (length s.base) (length s.firsts) 1 b.plan) (sym same) fits
+
+    r : Ran (top_of i) first left
+    r = runs_ran (top_of i) 1 b.plan first left begins within runs
+
+    is_back : mid.past ≡ left.past
+    is_back = ap (λ (m : Now). m.past) back ∙ returned_past 0 left
+
+    rests : Resting (i + 1) mid
+    rests = subst (Resting (i + 1)) (sym back) (rest_back i b.number now left rest few r)
+
+    same_setting : mid.setting ≡ set
+    same_setting = ap (λ (m : Now). m.setting) back ∙ returned_setting 0 left ∙ r.same_setting ∙ same
+
+    l : Left (top_of i) b.plan first.past left.past
+    l = run_left (top_of i) 1 b.plan first left begins within
+        (λ how is. absurd (some_or_none (end now.past (top_of i)) (ap is_some (sym (end_started now.past (top_of i) (top_of i) (kind.User 0 b.number)) ∙ is)) (no_end i b now left rest begins r))) runs
+
+    body : Grown mid.past new.past → BodyLeft (top_of i) b.number b.plan now.past left.past new.past
+    body grows = body_left (top_of i) b.number b.plan now left new.past (no_start i b now left rest begins r) begins
+        (ran_grown (top_of i) first left r) (subst (λ p. Grown p new.past) is_back grows) l
+
+    same_end : Grown mid.past new.past → is_tried_again (end new.past (top_of i)) ≡ is_tried_again (end mid.past (top_of i))
+    same_end grows = ap is_tried_again (by_end (end mid.past (top_of i)) refl)
+      where
+        by_end : (o : Option How) → end mid.past (top_of i) ≡ o → end new.past (top_of i) ≡ end mid.past (top_of i)
+        by_end None is = absurd (some_or_none (end mid.past (top_of i)) (ap (λ p. is_some (end p (top_of i))) is_back ∙ r.has_ended) is)
+        by_end (Some how) is = grows.ends (top_of i) how is ∙ sym is
+
+    again : is_tried_again (end mid.past (top_of i)) ≡ true → TopsLeftBy (AllFollow tries) (AllAsk tries) mid.past new.past → TopsLeftBy (AllFollow (suc tries)) (AllAsk (suc tries)) now.past new.past
+    again t m = one_more_top i b now left rest begins r (AllFollow tries) (AllFollow (suc tries)) (AllAsk tries) (AllAsk (suc tries)) mid new.past is_back (body m.grows) m
+        (λ more is follows. (is, subst (λ x. MatchBool x (AllFollow tries more) (OthersFollow more)) (sym (same_end m.grows ∙ t)) follows))
+        (λ by n more asks. elim asks [ inl here ↦ inl here | inr behind ↦ inr (subst (λ x. MatchBool x (AllAsk tries by n more) (OthersAsk by n more)) (sym (same_end m.grows ∙ t)) behind) ])
+
+    ends : is_tried_again (end mid.past (top_of i)) ≡ false → TopsLeft bodies mid.past new.past → TopsLeftBy (AllFollow (suc tries)) (AllAsk (suc tries)) now.past new.past
+    ends t m = one_more_top i b now left rest begins r OthersFollow (AllFollow (suc tries)) OthersAsk (AllAsk (suc tries)) mid new.past is_back (body m.grows) m
+        (λ more is follows. (is, subst (λ x. MatchBool x (AllFollow tries more) (OthersFollow more)) (sym (same_end m.grows ∙ t)) follows))
+        (λ by n more asks. elim asks [ inl here ↦ inl here | inr behind ↦ inr (subst (λ x. MatchBool x (AllAsk tries by n more) (OthersAsk by n more)) (sym (same_end m.grows ∙ t)) behind) ])
+
+  tries_left : (tries i : ℕ) (now : Now) → now.setting ≡ set → Resting i now → AllRun tries i now → TopsLeftBy (AllFollow tries) (AllAsk tries) now.past new.past
+  tries_left zero i now same rest runs = further i now same rest runs
+  tries_left (suc tries) i now same rest (mid, ran, after) =
+      let next : i + 1 ≤ last = by_try (is_tried_again (end mid.past (top_of i))) _ _ (λ is more. tries_rise top_of (λ t. BodyRuns 0 t b) OthersRun last low tries (i + 1) mid more) (λ is more. low (i + 1) mid more) after in
+      let few : i < 4294967295 = omega arith in
+      let on : mid.setting ≡ set = same_setting tries i now ran.left mid same rest few ran.back ran.runs in
+      let after_it : Resting (i + 1) mid = rests tries i now ran.left mid same rest few ran.back ran.runs in
+      by_try (is_tried_again (end mid.past (top_of i))) _ _
+      (λ is more. again tries i now ran.left mid same rest few ran.back ran.runs is (tries_left tries (i + 1) mid on after_it more))
+      (λ is others. ends tries i now ran.left mid same rest few ran.back ran.runs is (further (i + 1) mid on after_it others))
+      after
+
+-- the number of the next top is no smaller than that of the first
+tops_rise : (bodies : List Numbered) (last : ℕ) (new : Now) (i : ℕ) (now : Now) → TopsRun i bodies last now new → i ≤ last
+tops_rise [] last new i now runs = omega (arith, runs.0)
+tops_rise (b ∷ bodies) last new i now runs =
+    tries_rise top_of (λ t. BodyRuns 0 t b) (λ j mid. TopsRun j bodies last mid new) last (tops_rise bodies last new) b.tries i now runs
+
+tops_left : (i : ℕ) (bodies : List Numbered) (last : ℕ) (now new : Now) → TopsWithin (length now.setting.base) (length now.setting.firsts) bodies → Resting i now → TopsRun i bodies last now new → last ≤ 4294967295 → TopsLeft bodies now.past new.past
+tops_left i [] last now new fits rest is few = subst (λ (n : Now). TopsLeft [] now.past n.past) (sym is.1) (no_tops_left i now rest)
+tops_left i (b ∷ bodies) last now new fits rest runs few =
+    tries_left b bodies now.setting last new fits.1 few (tops_rise bodies last new)
+    (λ j mid same rests others. tops_left j bodies last mid new (at_setting (λ copies records. TopsWithin copies records bodies) now mid same fits.2) rests others few)
+    b.tries i now refl rest runs
 
 -- the history that the tops of a script make follows it
-pub tops_follow : (setting : Setting) (bodies : List Numbered) (new : Now) → TopsWithin (length setting.firsts) bodies → TopsRun 0 bodies (record { setting = setting; past = []; dead = None }) new → length bodies ≤ 4294967295 → FollowsTops bodies new.past
-tops_follow setting bodies new within runs few = record {
+pub tops_follow : (setting : Setting) (net : Net) (bodies : List Numbered) (last : ℕ) (new : Now) → TopsWithin (length setting.base) (length setting.firsts) bodies → TopsRun 0 bodies last (record { setting = setting; past = []; dead = None; net = net }) new → last ≤ 4294967295 → IsTrue (meets_fates 18 net new.past) → FollowsTops net bodies new.past
+tops_follow setting net bodies last new within runs few met = record {
   bodies_run = subst (FollowsBodies new.past bodies) (sym l.tops_are) l.follows;
   in_turn = l.turn tt;
   each_ended = each_listed (λ e. started_in e.event) (λ n. is_some (end new.past n)) new.past (λ e n is. started_starts e.event n is) l.all_ended;
@@ -162,10 +248,11 @@ tops_follow setting bodies new within runs few = record {
     | inl old ↦ absurd (nothing_ended by old)
     | inr asks ↦ subst (AsksBelow new.past by n bodies) (sym l.tops_are) asks
   ];
+  messages = met;
 }
   where
     l : TopsLeft bodies [] new.past
-    l = tops_left 0 bodies (record { setting = setting; past = []; dead = None }) new within (nothing_rests setting) runs (omega arith)
+    l = tops_left 0 bodies last (record { setting = setting; past = []; dead = None; net = net }) new within (nothing_rests setting net) runs few
 
     nothing_ended : (by : Name) → None ≡ Some (Abort (Asked by)) → ⊥
     nothing_ended by is = cc

@@ -8,6 +8,7 @@ use Rattle.qc_event.specs.declared.event.Answer.{Answer}
 use Rattle.qc_event.specs.declared.event.Entry.{Entry}
 use Rattle.qc_event.specs.declared.event.Event.{Event}
 use Rattle.qc_event.specs.declared.event.Event.TheVariants as event
+use Rattle.qc_event.specs.declared.event.How.{How}
 use Rattle.qc_event.specs.declared.event.How.TheVariants.{Commit, Abort}
 use Rattle.qc_event.specs.declared.event.Kind.{Kind}
 use Rattle.qc_event.specs.History.{Past, Name, Begun, start, start_in, end, ready_in, is_ready, is_child, child_in, children, earliest, every}
@@ -19,6 +20,7 @@ use Rattle.qc_event.proofs.Lawful.{committed_is}
 use Rattle.qc_event.proofs.Histories.{or_none}
 use Rattle.qc_interp.proofs.Running.{Below, Inside, AllInside}
 use Rattle.qc_interp.proofs.BelowNames.{above_child, below_child, begins_below}
+use Rattle.qc_interp.specs.Tries.{is_tried_again}
 
 pub all_inside-append : (of : Name) (newer older : Past) → AllInside of newer → AllInside of older → AllInside of (newer ++ older)
 all_inside-append of [] older new old = old
@@ -33,13 +35,13 @@ inside_parent of k (event.End m (Abort cause)) pos (inl is) = inr (inl (k, [], i
 inside_parent of k (event.End m (Abort cause)) pos (inr (inl below)) = inr (inl (below_child of m k below))
 inside_parent of k (event.End m (Abort cause)) pos (inr (inr above)) = let s = above_child of m k above.0 in elim (begins_below of m s.0 s.1) [
   | inl same ↦ inl same
-  | inr higher ↦ inr (inr (higher, above.1))
+  | inr higher ↦ inr (inr (higher, above.1, above.2))
 ]
 inside_parent of k (event.Ready m) pos i = absurd (omega (arith, i.1, ap length i.0, length_last of k))
 inside_parent of k (event.Ask ask) pos i = below_child of ask.access k i
 inside_parent of k (event.Gone m why) pos i = below_child of m k i
-inside_parent of k (event.Granted copy grant) pos i = below_child of grant.access k i
-inside_parent of k (event.Refused m copy refusal) pos i = below_child of m k i
+inside_parent of k (event.Granted copy grant) pos i = tt
+inside_parent of k (event.Refused m copy refusal) pos i = tt
 inside_parent of k (event.Unable m why) pos i = below_child of m k i
 inside_parent of k (event.Mark by session) pos i = absurd i
 
@@ -101,4 +103,22 @@ uncommitted_left of m (e ∷ later) past inside out h = false_from_ne_true _ (λ
     committed_now before (given, is) = elim (end_step e (later ++ past) m (Commit given) is) [
       | inl old ↦ true≢false (sym (ap (λ o. is_committed (outcome_of o)) old) ∙ before)
       | inr new ↦ out (subst (Inside of) new.1 inside.0)
+    ]
+
+-- nothing is tried again after what is done inside a transaction below it
+pub untried_left : (of m : Name) (later past : Past) → AllInside of later → ((m ≡ of) ⊎ Below of m → ⊥) → is_tried_again (end past m) ≡ false → is_tried_again (end (later ++ past) m) ≡ false
+untried_left of m [] past inside out h = h
+untried_left of m (e ∷ later) past inside out h = by_end (end (later ++ past) m) (end (e ∷ later ++ past) m) refl refl (untried_left of m later past inside.1 out h)
+  where
+    not_tried : (how : How) → Inside of (event.End m how) → is_tried_again (Some how) ≡ false
+    not_tried (Commit given) i = refl
+    not_tried (Abort cause) (inl itself) = absurd (out (inl itself))
+    not_tried (Abort cause) (inr (inl below)) = absurd (out (inr below))
+    not_tried (Abort cause) (inr (inr above)) = above.2
+
+    by_end : (o p : Option How) → end (later ++ past) m ≡ o → end (e ∷ later ++ past) m ≡ p → is_tried_again o ≡ false → is_tried_again p ≡ false
+    by_end o None was is before = refl
+    by_end o (Some how) was is before = elim (end_step e (later ++ past) m how is) [
+      | inl old ↦ ap is_tried_again (sym old ∙ was) ∙ before
+      | inr new ↦ not_tried how (subst (Inside of) new.1 inside.0)
     ]

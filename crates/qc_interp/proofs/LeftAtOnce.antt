@@ -32,14 +32,18 @@ AskedFrom of how = (r : Name) × (how ≡ Abort (Asked (of ++ r)))
 abbrev pub Early : Past → Name → Type 0
 Early past of = (how : How) → end past of ≡ Some how → StopsEarly past of (Some how)
 
--- What a transaction leaves follows this plan. It aborts as another asked only where its plan says so; above
--- it, it ends no one else.
-pub record Left (of : Name) (plan : Plan) (old new : Past) : Type 0 where
+-- What a transaction leaves: the children that it got follow something. It aborts as another asked only where they
+-- ask for it; above it, it ends no one else.
+pub record LeftBy (of : Name) (Follows : List Name → Type 0) (AsksFor : Name → Name → List Name → Type 0) (old new : Past) : Type 0 where
   pub more : List Name
   pub children_are : children new of ≡ children old of ++ more
-  pub follows : FollowsPlan new of plan more (end new of)
-  pub as_asked : (n by : Name) → end new n ≡ Some (Abort (Asked by)) → (end old n ≡ Some (Abort (Asked by))) ⊎ Asks new by n of plan more
+  pub follows : Follows more
+  pub as_asked : (n by : Name) → end new n ≡ Some (Abort (Asked by)) → (end old n ≡ Some (Abort (Asked by))) ⊎ AsksFor by n more
   pub upward : (n : Name) (how : How) → Below n of → end new n ≡ Some how → (end old n ≡ Some how) ⊎ AskedFrom of how
+
+-- what a transaction leaves that follows a plan
+abbrev pub Left : Name → Plan → Past → Past → Type 0
+Left of plan old new = LeftBy of (λ more. FollowsPlan new of plan more (end new of)) (λ by n more. Asks new by n of plan more) old new
 
 -- ONE END
 

@@ -1,6 +1,7 @@
 pub mod Plans
 pub mod Running
 pub mod BelowNames
+pub mod Making
 pub mod LeftAsItIs
 pub mod ReadyTops
 pub mod Fallen
@@ -13,7 +14,10 @@ pub mod OfAccesses
 pub mod WithinManager
 pub mod RunManagers
 pub mod Cases
+pub mod TriesInRow
+pub mod TriesDone
 pub mod RunsRan
+pub mod ChildTries
 pub mod RunTops
 pub mod Stays
 pub mod OneEnd

@@ -4,8 +4,10 @@ use Rattle.std.proofs.Common.{◌≡◌, ℕ, ◌<◌, inl, inr, Bool, true, fal
 use Rattle.std.specs.Prelude.{◌⊎◌, Option, None, Some, MatchOption, All, if◌then◌else◌, option_to_list}
 use Rattle.std.specs.Option.{option_or, option_map}
 use Rattle.std.proofs.lemmas.Bool.{false_from_ne_true}
+use mathlib.Core.Bool.{true≢false}
 use Rattle.std.proofs.lemmas.List.Elements.{All-head, All-tail}
 use Rattle.qc_event.specs.declared.event.Cause.TheVariants.{Asked}
+use Rattle.qc_event.specs.declared.event.Entry.{Entry}
 use Rattle.qc_event.specs.declared.event.Event.{Event}
 use Rattle.qc_event.specs.declared.event.Event.TheVariants as event
 use Rattle.qc_event.specs.declared.event.How.{How}
@@ -24,8 +26,9 @@ use Rattle.qc_event.proofs.Lawful.{lawful, started_wider, user_parent}
 use Rattle.qc_event.proofs.LegalOrderly.{legal_orderly}
 use Rattle.qc_event.proofs.OneEntry.{started_stays, end_step, child_added}
 use Rattle.qc_gather.specs.Carrying.{name_of}
+use Rattle.qc_store.specs.Served.{is_reply}
 use Rattle.qc_interp.specs.Trace.{Now, by_client, Managed}
-use Rattle.qc_interp.proofs.OfAccesses.{OfChild, end_apart, not_both}
+use Rattle.qc_interp.proofs.OfAccesses.{OfManager, answer_replies, end_apart, not_both}
 use Rattle.qc_interp.proofs.OneEnd.{OneEnd, one_end}
 use Rattle.qc_interp.proofs.Stays.{Grown, grown}
 
@@ -41,16 +44,24 @@ kind_now past n k none =
 
 -- ENTRIES OF ACCESSES
 
-child_in_apart : (n p : Name) (ev : Event) → is_child n (name_of ev) ≡ true → ((c : Name) → is_child n c ≡ true → is_child p c ≡ false) → child_in p ev ≡ None
-child_in_apart n p (event.Start c k) is out = if_not (is_child p c) _ (out c is)
-child_in_apart n p _ is out = refl
+child_in_access : (n p : Name) (ev : Event) → is_child n (name_of ev) ≡ true → ((c : Name) → is_child n c ≡ true → is_child p c ≡ false) → child_in p ev ≡ None
+child_in_access n p (event.Start c k) is out = if_not (is_child p c) _ (out c is)
+child_in_access n p _ is out = refl
+
+child_in_reply : (p : Name) (ev : Event) → is_reply ev ≡ true → child_in p ev ≡ None
+child_in_reply p (event.Start c k) is = absurd (true≢false (sym is))
+child_in_reply p _ is = refl
+
+child_in_apart : (n p : Name) (e : Entry) → OfManager n e → ((c : Name) → is_child n c ≡ true → is_child p c ≡ false) → child_in p e.event ≡ None
+child_in_apart n p e (inl access) out = child_in_access n p e.event access out
+child_in_apart n p e (inr answer) out = child_in_reply p e.event (answer_replies e answer)
 
 -- the entries of a manager's accesses start no child of another name
-children_apart : (n p : Name) (inner past : Past) → All (OfChild n) inner → ((c : Name) → is_child n c ≡ true → is_child p c ≡ false) → children (inner ++ past) p ≡ children past p
+children_apart : (n p : Name) (inner past : Past) → All (OfManager n) inner → ((c : Name) → is_child n c ≡ true → is_child p c ≡ false) → children (inner ++ past) p ≡ children past p
 children_apart n p [] past each out = refl
 children_apart n p (e ∷ inner) past each out =
-    ap (λ cs. cs ++ option_to_list (child_in p e.event)) (children_apart n p inner past (All-tail (OfChild n) e inner each) out)
-    ∙ ap (λ o. children past p ++ option_to_list o) (child_in_apart n p e.event (All-head (OfChild n) e inner each) out)
+    ap (λ cs. cs ++ option_to_list (child_in p e.event)) (children_apart n p inner past (All-tail (OfManager n) e inner each) out)
+    ∙ ap (λ o. children past p ++ option_to_list o) (child_in_apart n p e (All-head (OfManager n) e inner each) out)
     ∙ append-nil (children past p)
 
 no_own_child : (n : Name) → is_child n n ≡ false

@@ -1,5 +1,5 @@
 -- How a transaction that runs is aborted: as an orphan, and as it asked, itself or one above it.
-use Rattle.std.proofs.Common.{ℕ, ◌≡◌, ◌-◌, ◌<◌, inl, inr, zero, suc, true, false, [], ◌∷◌, ◌++◌, length, drop, sym, ap, ◌∙◌, arith, append-nil}
+use Rattle.std.proofs.Common.{ℕ, ◌≡◌, ◌-◌, ◌<◌, inl, inr, zero, suc, true, false, [], ◌∷◌, ◌++◌, length, drop, refl, sym, ap, ◌∙◌, arith, append-nil}
 use mathlib.Core.Bool.{true≢false}
 use Rattle.std.specs.Prelude.{Option, None, Some, is_some, not, MatchOption}
 use Rattle.std.proofs.lemmas.Bool.{false_from_ne_true}
@@ -12,13 +12,14 @@ use Rattle.qc_event.specs.History.{Name, same, end}
 use Rattle.qc_event.specs.Dead.{outcome, outcome_of, is_committed, is_aborted}
 use Rattle.qc_event.specs.Standing.{IsAbort, IsOrphanOf}
 use Rattle.qc_event.specs.Users.{UserCause}
-use Rattle.qc_event.specs.Legal.{Allowed}
+use Rattle.qc_interp.specs.Running.{MayMake}
 use Rattle.qc_event.proofs.Absent.{same_is}
 use Rattle.qc_interp.specs.Trace.{Now, by_client, aborted, asked, above}
 use Rattle.qc_interp.proofs.Running.{Below, Running, Ran}
 use Rattle.qc_interp.proofs.BelowNames.{below_longer, begins_below, begins_ancestor}
 use Rattle.qc_interp.proofs.Fallen.{dead_is}
 use Rattle.qc_interp.proofs.RunEnds.{may_abort, ran_longer, ran_aborted, RunsOn, above_aborted}
+use Rattle.qc_interp.proofs.Making.{may_end_above}
 
 -- ORPHANS
 
@@ -37,11 +38,13 @@ orphan_of of a k now h fallen going =
       aborted = aborted_is (end now.past a) found.0;
     }
 
-pub may_orphan : (of a : Name) (k : ℕ) (now : Now) → Running of k now → now.dead ≡ Some a → end now.past of ≡ None → Allowed now.setting now.past (by_client (End of (Abort (Orphan a))))
-may_orphan of a k now h fallen going = may_abort of of [] k (Orphan a) now h (sym (append-nil of)) h.nonroot going (λ session. orphan_of of a k now h fallen going)
+pub may_orphan : (of a : Name) (k : ℕ) (now : Now) → Running of k now → now.dead ≡ Some a → end now.past of ≡ None → MayMake now (by_client (End of (Abort (Orphan a))))
+may_orphan of a k now h fallen going =
+    may_end_above of of [] k 18 (Abort (Orphan a)) now h (sym (append-nil of)) h.nonroot
+    (may_abort of of [] k (Orphan a) now h (sym (append-nil of)) h.nonroot going (λ session. orphan_of of a k now h fallen going))
 
 pub ran_orphan : (of a : Name) (k : ℕ) (now : Now) → Running of k now → now.dead ≡ Some a → Ran of now (aborted of (Orphan a) now)
-ran_orphan of a k now h fallen = ran_aborted of k (Orphan a) now h (λ going session. orphan_of of a k now h fallen going)
+ran_orphan of a k now h fallen = ran_aborted of k (Orphan a) now h (λ again. absurd (true≢false (sym again))) (λ going session. orphan_of of a k now h fallen going)
 
 -- who was asked for is above, and has ended: it was aborted
 orphaned : (of m : Name) (k : ℕ) (now : Now) → Running of k now → Below m of → is_some (end now.past m) ≡ true → IsOrphanOf now.past of m
@@ -79,31 +82,33 @@ module _ (of : Name) (levels : ℕ) (low : levels < length of) where
   ]
 
 -- the transaction asked for may be aborted, unless it has ended
-pub may_ask : (of : Name) (k levels : ℕ) (now : Now) → Running of k now → levels < length of → end now.past (above of levels) ≡ None → Allowed now.setting now.past (by_client (End (above of levels) (Abort (Asked of))))
+pub may_ask : (of : Name) (k levels : ℕ) (now : Now) → Running of k now → levels < length of → end now.past (above of levels) ≡ None → MayMake now (by_client (End (above of levels) (Abort (Asked of))))
 may_ask of k levels now h low going =
-    may_abort of (above of levels) (drop (length of - levels) of) k (Asked of) now h (above_begins of levels low) (above_nonroot of levels low) going
-    (asks_for of (above of levels) (drop (length of - levels) of) k now h (above_begins of levels low))
+    may_end_above of (above of levels) (drop (length of - levels) of) k 18 (Abort (Asked of)) now h (above_begins of levels low) (above_nonroot of levels low)
+    (may_abort of (above of levels) (drop (length of - levels) of) k (Asked of) now h (above_begins of levels low) (above_nonroot of levels low) going
+    (asks_for of (above of levels) (drop (length of - levels) of) k now h (above_begins of levels low)))
 
 -- the transaction goes on where it had one above it aborted
 pub runs_asked : (of : Name) (k levels : ℕ) (now : Now) → Running of k now → levels < length of → 0 < levels → RunsOn of (above of levels) k now (aborted (above of levels) (Asked of) now)
 runs_asked of k levels now h low some =
-    above_aborted of (above of levels) k (Asked of) now h (above_below of levels low some) (above_nonroot of levels low)
+    above_aborted of (above of levels) k (Asked of) now h (above_below of levels low some) (above_nonroot of levels low) refl
     (asks_for of (above of levels) (drop (length of - levels) of) k now h (above_begins of levels low))
 
 -- to be aborted as its orphan, unless it has ended
-pub may_ask_orphan : (of : Name) (k levels : ℕ) (now : Now) → Running of k now → levels < length of → 0 < levels → end (aborted (above of levels) (Asked of) now).past of ≡ None → Allowed (aborted (above of levels) (Asked of) now).setting (aborted (above of levels) (Asked of) now).past (by_client (End of (Abort (Orphan (above of levels)))))
+pub may_ask_orphan : (of : Name) (k levels : ℕ) (now : Now) → Running of k now → levels < length of → 0 < levels → end (aborted (above of levels) (Asked of) now).past of ≡ None → MayMake (aborted (above of levels) (Asked of) now) (by_client (End of (Abort (Orphan (above of levels)))))
 may_ask_orphan of k levels now h low some going =
     let on = runs_asked of k levels now h low some in
-    may_abort of of [] k (Orphan (above of levels)) (aborted (above of levels) (Asked of) now) on.running (sym (append-nil of)) h.nonroot going
-    (λ session. orphaned of (above of levels) k (aborted (above of levels) (Asked of) now) on.running (above_below of levels low some) on.has_ended)
+    may_end_above of of [] k 18 (Abort (Orphan (above of levels))) (aborted (above of levels) (Asked of) now) on.running (sym (append-nil of)) h.nonroot
+    (may_abort of of [] k (Orphan (above of levels)) (aborted (above of levels) (Asked of) now) on.running (sym (append-nil of)) h.nonroot going
+    (λ session. orphaned of (above of levels) k (aborted (above of levels) (Asked of) now) on.running (above_below of levels low some) on.has_ended))
 
 above_asked : (of : Name) (k levels : ℕ) (now : Now) → Running of k now → levels < length of → 0 < levels → Ran of now (aborted of (Orphan (above of levels)) (aborted (above of levels) (Asked of) now))
 above_asked of k levels now h low some =
     let on = runs_asked of k levels now h low some in
-    ran_longer of now (aborted (above of levels) (Asked of) now) _ on.more on.same_setting on.is on.inside
-    (ran_aborted of k (Orphan (above of levels)) (aborted (above of levels) (Asked of) now) on.running
+    ran_longer of now (aborted (above of levels) (Asked of) now) _ on.more on.same_setting on.same_net on.is on.inside
+    (ran_aborted of k (Orphan (above of levels)) (aborted (above of levels) (Asked of) now) on.running (λ again. absurd (true≢false (sym again)))
     (λ going session. orphaned of (above of levels) k (aborted (above of levels) (Asked of) now) on.running (above_below of levels low some) on.has_ended))
 
 pub ran_asked : (of : Name) (k levels : ℕ) (now : Now) → Running of k now → levels < length of → Ran of now (asked of levels now)
-ran_asked of k zero now h low = ran_aborted of k (Asked of) now h (λ going. asks_for of of [] k now h (sym (append-nil of)))
+ran_asked of k zero now h low = ran_aborted of k (Asked of) now h (λ again. absurd (true≢false (sym again))) (λ going. asks_for of of [] k now h (sym (append-nil of)))
 ran_asked of k (suc fewer) now h low = above_asked of k (suc fewer) now h low (omega arith)

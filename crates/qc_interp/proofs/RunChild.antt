@@ -1,15 +1,17 @@
 -- A child of a transaction that runs: what it begins with, and what its parent goes on with once it has ended.
-use Rattle.std.proofs.Common.{◌≡◌, ℕ, ◌+◌, ◌<◌, ◌⊎◌, inl, inr, true, false, [], ◌∷◌, ◌++◌, length, refl, sym, ap, ◌∙◌, subst, arith, append-nil}
+use Rattle.std.proofs.Common.{◌≡◌, ℕ, ◌+◌, ◌<◌, ◌≤◌, ◌⊎◌, inl, inr, true, false, [], ◌∷◌, ◌++◌, length, refl, sym, ap, ◌∙◌, subst, arith, append-nil}
+use mathlib.Core.Bool.{true≢false}
 use Rattle.std.specs.Prelude.{Option, None, Some, is_some, is_none, if◌then◌else◌, find, MatchOption, option_to_list, nat_lt}
 use Rattle.std.specs.Option.{option_or}
-use Rattle.std.proofs.lemmas.Bool.{le-leb}
+use Rattle.std.proofs.lemmas.Bool.{le-leb, lt-leb}
 use Rattle.std.proofs.lemmas.Bool.Decides.{nat_tests}
 use Rattle.std.proofs.lemmas.List.{length-append}
+use Rattle.qc_config.specs.Config.{Voting}
 use Rattle.qc_event.specs.declared.event.Entry.{Entry}
 use Rattle.qc_event.specs.declared.event.Event.TheVariants.{Start}
 use Rattle.qc_event.specs.declared.event.Kind.{Kind}
 use Rattle.qc_event.specs.declared.event.Kind.TheVariants as kind
-use Rattle.qc_event.specs.History.{Past, Name, Begun, start, start_in, end, is_ready, is_child, children}
+use Rattle.qc_event.specs.History.{Past, Name, Begun, start, start_in, end, is_ready, is_child, child_in, children}
 use Rattle.qc_event.specs.Dead.{outcome, outcome_of, is_committed, is_aborted, dead}
 use Rattle.qc_event.specs.Base.{Setting}
 use Rattle.qc_event.specs.Standing.{IsGoing, IsUser, Started}
@@ -23,14 +25,16 @@ use Rattle.qc_event.proofs.LegalOrderly.{legal_orderly}
 use Rattle.qc_event.proofs.Lineage.{neither, IsFresh, fresh_child, dead_child, alive_not_aborted}
 use Rattle.qc_event.proofs.Histories.{or_none}
 use Rattle.qc_gather.specs.Carrying.{IsRunning}
+use Rattle.qc_script.specs.Plan.{IsConfigFor}
 use Rattle.qc_interp.specs.Trace.{Now, by_client, begun, returned, still_dead}
 use Rattle.qc_interp.proofs.Running.{Running, Ran}
 use Rattle.qc_interp.proofs.BelowNames.{above_child, begins_child, begins_last, not_within_child, no_child_length}
-use Rattle.qc_interp.proofs.LeftAsItIs.{started_left, ready_left, children_left, uncommitted_left}
+use Rattle.qc_interp.proofs.LeftAsItIs.{started_left, ready_left, children_left, uncommitted_left, untried_left}
 use Rattle.qc_interp.proofs.ReadyTops.{unstarted_unready}
 use Rattle.qc_interp.proofs.Fallen.{dead_calm, left_dead, left_dead_parent}
 use Rattle.qc_interp.proofs.NextAllowed.{may_start_child}
 use Rattle.qc_interp.proofs.RunEnds.{was_none}
+use Rattle.qc_interp.specs.Tries.{is_tried_again}
 
 -- THE START
 
@@ -67,6 +71,7 @@ pub record Over (past : Past) (p : Name) : Type 0 where
   pub user : 0 < length p → Started past p (λ b. IsUser b.kind)
   pub uncommitted : is_committed (outcome past p) ≡ false
   pub unready : is_ready past p ≡ false
+  pub untried : is_tried_again (end past p) ≡ false
 
 -- a user transaction runs once it is started
 pub runs_begun : (n : Name) (number : ℕ) (now : Now) → 0 < length n → now.dead ≡ None → JustBegun now.setting n (kind.User 0 number) (begun n number now).past → ((p r : Name) → n ≡ p ++ r → (p ≡ n) ⊎ Over now.past p) → Running n 1 (begun n number now)
@@ -85,6 +90,10 @@ runs_begun n number now pos living b over = record {
   unready = λ p r is. elim (over p r is) [
     | inl itself ↦ ap (is_ready (begun n number now).past) itself ∙ b.unready
     | inr above ↦ ap is_some (sym (or_none _)) ∙ above.unready
+  ];
+  untried = λ p r is. elim (over p r is) [
+    | inl itself ↦ ap (λ m. is_tried_again (end (begun n number now).past m)) itself ∙ ap is_tried_again b.not_ended
+    | inr above ↦ ap is_tried_again (sym (or_none (end now.past p))) ∙ above.untried
   ];
   next = ap (λ cs. length cs + 1) b.childless;
   open_above = b.open_above;
@@ -127,6 +136,9 @@ read_stands setting depth rec within b is = (is, below_is rec (length setting.fi
 pub write_stands : (setting : Setting) (depth rec value : ℕ) → rec < length setting.firsts → MayStandAt setting depth (kind.Write rec value)
 write_stands setting depth rec value within b is = (is, below_is rec (length setting.firsts) within)
 
+pub reconf_stands : (setting : Setting) (depth rec : ℕ) (config : Voting) → rec < length setting.firsts → IsConfigFor (length setting.base) config → MayStandAt setting depth (kind.Reconf rec config)
+reconf_stands setting depth rec config within fits b is = (is, below_is rec (length setting.firsts) within, fits.for_copies, fits.legal)
+
 -- the next child may start
 pub may_start : (of : Name) (k : ℕ) (of_kind : Kind) (now : Now) → Running of k now → now.dead ≡ None → MayStandAt now.setting (length (of ++ k ∷ [])) of_kind → Allowed now.setting now.past (by_client (Start (of ++ k ∷ []) of_kind))
 may_start of k of_kind now h alive stands =
@@ -157,17 +169,17 @@ run_begun of k number now h alive shallow =
     (child_begun of k (kind.User 0 number) now h alive (user_stands now.setting of k number shallow))
     (λ p r is. elim (begins_last of p r k is) [
       | inl itself ↦ inl itself
-      | inr (s, over) ↦ inr (record { user = h.user p s over; uncommitted = h.uncommitted p s over; unready = h.unready p s over })
+      | inr (s, over) ↦ inr (record { user = h.user p s over; uncommitted = h.uncommitted p s over; unready = h.unready p s over; untried = h.untried p s over })
     ])
 
 -- THE WAY BACK
 
 -- what runs depends on the parts of a moment
-running_at : (of : Name) (k : ℕ) (set : Setting) (past : Past) (fallen : Option Name) (new : Now) → new.setting ≡ set → new.past ≡ past → new.dead ≡ fallen → Running of k (record { setting = set; past = past; dead = fallen }) → Running of k new
+running_at : (of : Name) (k : ℕ) (set : Setting) (past : Past) (fallen : Option Name) (new : Now) → new.setting ≡ set → new.past ≡ past → new.dead ≡ fallen → Running of k (record { setting = set; past = past; dead = fallen; net = new.net }) → Running of k new
 running_at of k set past fallen new same is falls h =
-    subst (λ x. Running of k (record { setting = x; past = new.past; dead = new.dead })) (sym same)
-    (subst (λ p. Running of k (record { setting = set; past = p; dead = new.dead })) (sym is)
-    (subst (λ o. Running of k (record { setting = set; past = past; dead = o })) (sym falls) h))
+    subst (λ x. Running of k (record { setting = x; past = new.past; dead = new.dead; net = new.net })) (sym same)
+    (subst (λ p. Running of k (record { setting = set; past = p; dead = new.dead; net = new.net })) (sym is)
+    (subst (λ o. Running of k (record { setting = set; past = past; dead = o; net = new.net })) (sym falls) h))
 
 -- once a child has ended, its parent goes on, dead where the history says so
 pub child_left : (of : Name) (k : ℕ) (of_kind : Kind) (now inner new : Now) → Running of k now → Ran (of ++ k ∷ []) (record now { past = by_client (Start (of ++ k ∷ []) of_kind) ∷ now.past }) inner → new.setting ≡ inner.setting → new.past ≡ inner.past → new.dead ≡ dead inner.past of → Running of (k + 1) new
@@ -179,6 +191,7 @@ child_left of k of_kind now inner new h r same is falls =
       user = λ p s is some. started_left p r.later with_child _ (started_stays e now.past p _ (h.user p s is some));
       uncommitted = λ p s is. uncommitted_left (of ++ k ∷ []) p r.later with_child r.inside (not_within_child of p s k is) (ap (λ o. is_committed (outcome_of o)) (sym (or_none (end now.past p))) ∙ h.uncommitted p s is);
       unready = λ p s is. ready_left (of ++ k ∷ []) p r.later with_child r.inside (λ itself. not_within_child of p s k is (inl itself)) ∙ ap is_some (sym (or_none _)) ∙ h.unready p s is;
+      untried = λ p s is. untried_left (of ++ k ∷ []) p r.later with_child r.inside (not_within_child of p s k is) (ap is_tried_again (sym (or_none (end now.past p))) ∙ h.untried p s is);
       next = one_more;
       open_above = λ m began going. above_child of m k (r.open_above m (subst (λ p. is_some (start p m) ≡ true) (sym r.is) began) (subst (λ p. end p m ≡ None) (sym r.is) going));
     })
@@ -221,8 +234,42 @@ returned_dead depth now = by_dead now.dead refl
     by_dead None is = is
     by_dead (Some a) is = refl
 
+pub returned_net : (depth : ℕ) (now : Now) → (returned depth now).net ≡ now.net
+returned_net depth now = by_dead now.dead
+  where
+    by_dead : (o : Option Name) → (returned_by depth now o).net ≡ now.net
+    by_dead None = refl
+    by_dead (Some a) = refl
+
 -- a transaction goes on after a child that is a user transaction
 pub run_back : (of : Name) (k number : ℕ) (now left : Now) → Running of k now → Ran (of ++ k ∷ []) (begun (of ++ k ∷ []) number now) left → Running of (k + 1) (returned (length of) left)
 run_back of k number now left h r =
     child_left of k (kind.User 0 number) now left (returned (length of) left) h r (returned_setting (length of) left) (returned_past (length of) left)
     (returned_dead (length of) left ∙ ap (left_dead (length of)) r.fallen ∙ left_dead_parent left.past of k)
+
+-- and where the child is tried again, nothing above it is aborted
+pub alive_back : (of c : Name) (old left : Now) → length of < length c → Ran c old left → is_tried_again (end left.past c) ≡ true → (returned (length of) left).dead ≡ None
+alive_back of c old left longer r again =
+    returned_dead (length of) left ∙ ap (left_dead (length of)) (r.to_try again) ∙ ap (λ t. if t then Some c else None) (lt-leb (length c) (length of) longer)
+
+-- THE NUMBER OF THE NEXT CHILD
+
+one_at_most : (o : Option Name) → length (option_to_list o) ≤ 1
+one_at_most None = omega arith
+one_at_most (Some m) = omega arith
+
+children_few : (past : Past) (n : Name) → length (children past n) ≤ length past
+children_few [] n = omega arith
+children_few (e ∷ past) n = omega (arith, children_few past n, length-append (children past n) (option_to_list (child_in n e.event)), one_at_most (child_in n e.event))
+
+-- a started name has fewer children than there are entries
+started_few : (past : Past) (n : Name) → is_some (start past n) ≡ true → length (children past n) < length past
+started_few [] n began = absurd (true≢false (sym began))
+started_few (e ∷ past) n began = elim (start_step e past n began) [
+  | inl old ↦ omega (arith, started_few past n old, length-append (children past n) (option_to_list (child_in n e.event)), one_at_most (child_in n e.event))
+  | inr new ↦ omega (arith, children_few past n, ap (λ ev. length (children past n ++ option_to_list (child_in n ev))) new.1.1 ∙ ap (λ b. length (children past n ++ option_to_list (if b then Some n else None))) (no_child_length n n (λ e. omega (arith, e))) ∙ ap length (append-nil (children past n)))
+]
+
+-- the number of the next child is no greater than the number of entries
+pub running_few : (of : Name) (k : ℕ) (now : Now) → Running of k now → k ≤ length now.past
+running_few of k now h = omega (arith, h.next, started_few now.past of (started_some _ (start now.past of) (h.user of [] (sym (append-nil of)) h.nonroot)))

@@ -1,5 +1,6 @@
 -- How a transaction that runs commits.
 use Rattle.std.proofs.Common.{◌≡◌, ℕ, ◌<◌, true, false, [], ◌∷◌, length, refl, sym, ap, ◌∙◌, arith, append-nil}
+use mathlib.Core.Bool.{true≢false}
 use Rattle.std.specs.Prelude.{Option, None, Some, is_some, is_none, not}
 use Rattle.qc_event.specs.declared.event.Answer.TheVariants.{Nothing}
 use Rattle.qc_event.specs.declared.event.Event.TheVariants.{Ready, End}
@@ -19,6 +20,8 @@ use Rattle.qc_interp.proofs.Fallen.{dead_calm}
 use Rattle.qc_interp.proofs.NextAllowed.{no_child_found, may_commit_user}
 use Rattle.qc_interp.proofs.RunEnds.{was_none, some_now, ran_ended, ran_longer}
 use Rattle.qc_interp.proofs.RunChild.{is_going}
+use Rattle.qc_interp.specs.Running.{MayMake}
+use Rattle.qc_interp.proofs.Making.{user_no_access, ends_so}
 
 -- no child of a transaction that runs is open
 pub none_open : (of : Name) (k : ℕ) (now : Now) → Running of k now → open_child now.past of ≡ None
@@ -40,10 +43,10 @@ module _ (of : Name) (k : ℕ) (now : Now) (h : Running of k now) (alive : now.d
   may_below : MayCommitUser now.past 18 of Nothing
   may_below = record { by_client = refl; going = going; children_ended = none_open of k now h; nothing = refl }
 
-  commits_below : Allowed now.setting now.past (by_client (End of (Commit Nothing))) → Ran of now (record { setting = now.setting; past = by_client (End of (Commit Nothing)) ∷ now.past; dead = now.dead })
+  commits_below : Allowed now.setting now.past (by_client (End of (Commit Nothing))) → Ran of now (record { setting = now.setting; past = by_client (End of (Commit Nothing)) ∷ now.past; dead = now.dead; net = now.net })
   commits_below allowed =
       ran_ended of 18 (Commit Nothing) now.dead now h.legal allowed h.open_above
-      (h.fallen ∙ sym (dead_calm (by_client (End of (Commit Nothing))) now.past of tt))
+      (h.fallen ∙ sym (dead_calm (by_client (End of (Commit Nothing))) now.past of tt)) going.is_open.not_ended (λ again. absurd (true≢false (sym again)))
 
   -- A TOP
 
@@ -68,11 +71,11 @@ module _ (of : Name) (k : ℕ) (now : Now) (h : Running of k now) (alive : now.d
   top_allowed : MayCommitUserOrTop readied.past 1 of Nothing → Allowed now.setting readied.past (by_ledger (End of (Commit Nothing)))
   top_allowed may = may_commit_user now.setting readied.past 1 of (started_stays (by_client (Ready of)) now.past of _ user) may
 
-  commits_top : length of ≡ 1 → Allowed now.setting readied.past (by_ledger (End of (Commit Nothing))) → Ran of now (record { setting = now.setting; past = by_ledger (End of (Commit Nothing)) ∷ by_client (Ready of) ∷ now.past; dead = now.dead })
-  commits_top top allowed = ran_longer of now readied _ (by_client (Ready of) ∷ []) refl refl ((refl, top), tt)
+  commits_top : length of ≡ 1 → Allowed now.setting readied.past (by_ledger (End of (Commit Nothing))) → Ran of now (record { setting = now.setting; past = by_ledger (End of (Commit Nothing)) ∷ by_client (Ready of) ∷ now.past; dead = now.dead; net = now.net })
+  commits_top top allowed = ran_longer of now readied _ (by_client (Ready of) ∷ []) refl refl refl ((refl, top), tt)
       (ran_ended of 1 (Commit Nothing) now.dead readied (h.legal, may_be_ready top) allowed
       (λ m began unended. h.open_above m (ap is_some (or_none (start now.past m)) ∙ began) (was_none (end now.past m) None unended))
-      (h.fallen ∙ sym (dead_calm (by_ledger (End of (Commit Nothing))) readied.past of tt ∙ dead_calm (by_client (Ready of)) now.past of tt)))
+      (h.fallen ∙ sym (dead_calm (by_ledger (End of (Commit Nothing))) readied.past of tt ∙ dead_calm (by_client (Ready of)) now.past of tt)) still_open.not_ended (λ again. absurd (true≢false (sym again))))
 
 -- below a top a transaction that runs may commit
 pub may_commit : (of : Name) (k : ℕ) (now : Now) → Running of k now → now.dead ≡ None → 1 < length of → Allowed now.setting now.past (by_client (End of (Commit Nothing)))
@@ -90,3 +93,9 @@ pub ran_commit : (of : Name) (k : ℕ) (now : Now) → Running of k now → now.
 ran_commit [] k now h alive = absurd (omega (arith, h.nonroot))
 ran_commit (x ∷ []) k now h alive = commits_top (x ∷ []) k now h alive refl (may_commit_top (x ∷ []) k now h alive refl)
 ran_commit (x ∷ y ∷ r) k now h alive = commits_below (x ∷ y ∷ r) k now h alive (may_commit (x ∷ y ∷ r) k now h alive (omega arith))
+
+pub may_end_top : (of : Name) (k : ℕ) (now : Now) → Running of k now → now.dead ≡ None → length of ≡ 1 → MayMake (record now { past = by_client (Ready of) ∷ now.past }) (by_ledger (End of (Commit Nothing)))
+may_end_top of k now h alive top = record {
+  allowed = may_commit_top of k now h alive top;
+  of_transaction = ends_so IsUser user_no_access (by_client (Ready of) ∷ now.past) of (Commit Nothing) (started_stays (by_client (Ready of)) now.past of _ (user of k now h alive));
+}

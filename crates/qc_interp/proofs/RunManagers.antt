@@ -1,6 +1,7 @@
 -- How a transaction that runs goes on after a manager: to its next step, or to its own abort.
 use Rattle.std.proofs.Common.{◌≡◌, ℕ, ◌+◌, inl, inr, true, [], ◌∷◌, ◌++◌, length, refl, sym, ap, ◌∙◌, subst, arith, append_assoc, append-nil}
-use Rattle.std.specs.Prelude.{None, Some, is_some, if◌then◌else◌, MatchOption}
+use mathlib.Core.Bool.{true≢false}
+use Rattle.std.specs.Prelude.{Option, None, Some, is_some, if◌then◌else◌, MatchOption}
 use Rattle.std.specs.Option.{option_or}
 use Rattle.std.proofs.lemmas.Bool.{false_from_ne_true}
 use Rattle.qc_event.specs.declared.event.Cause.{Cause}
@@ -8,12 +9,12 @@ use Rattle.qc_event.specs.declared.event.Cause.TheVariants as cause
 use Rattle.qc_event.specs.declared.event.Entry.{Entry}
 use Rattle.qc_event.specs.declared.event.Event.TheVariants.{Start, End}
 use Rattle.qc_event.specs.declared.event.How.{How}
-use Rattle.qc_event.specs.declared.event.How.TheVariants.{Abort}
+use Rattle.qc_event.specs.declared.event.How.TheVariants.{Commit, Abort}
 use Rattle.qc_event.specs.declared.event.Kind.{Kind}
 use Rattle.qc_event.specs.declared.event.Kind.TheVariants as kind
 use Rattle.qc_event.specs.Aborts.{ManagerCause, Licensed}
 use Rattle.qc_event.specs.Base.{Setting}
-use Rattle.qc_event.specs.Dead.{dead}
+use Rattle.qc_event.specs.Dead.{outcome_of, is_aborted, dead}
 use Rattle.qc_event.specs.History.{Past, Name, Begun, same, start, end}
 use Rattle.qc_event.specs.Legal.{Legal, Allowed, MayEnd}
 use Rattle.qc_event.specs.Standing.{IsManager, Started, IsOrphanOf, open_child}
@@ -23,6 +24,7 @@ use Rattle.qc_event.proofs.Histories.{or_none}
 use Rattle.qc_event.proofs.LastNumber.{length_last, is_child-last, child_last}
 use Rattle.qc_event.proofs.Lawful.{no_open_child, ends_open}
 use Rattle.qc_event.proofs.LegalOrderly.{legal_orderly}
+use Rattle.qc_event.proofs.Lineage.{dead_child}
 use Rattle.qc_event.proofs.OneEntry.{some_or_none}
 use Rattle.qc_interp.specs.Trace.{Now, by_client, aborted, Managed}
 use Rattle.qc_interp.proofs.Running.{Below, AllInside, Running, Ran}
@@ -32,6 +34,7 @@ use Rattle.qc_interp.proofs.OfAccesses.{open_earlier, dead_same, start_apart}
 use Rattle.qc_interp.proofs.RunChild.{is_going, child_left}
 use Rattle.qc_interp.proofs.RunEnds.{end_inside, some_now, above_ended, may_abort, ran_longer, ran_aborted}
 use Rattle.qc_interp.proofs.WithinManager.{just, within, started_within, ends_above, no_orphan_within}
+use Rattle.qc_interp.specs.Tries.{is_tried_again}
 
 -- BY KIND AND CAUSE
 
@@ -49,6 +52,12 @@ cause_above setting past new n of k (cause.NoQuorum lack) session none may child
 cause_above setting past new n of k cause.Last session none may child = child
 cause_above setting past new n of k (cause.Orphan a) session none may child = absurd (none a may)
 cause_above setting past new n of k _ session none may child = absurd may
+
+-- what is tried again was aborted
+tried_aborted : (o : Option How) → is_tried_again o ≡ true → is_aborted (outcome_of o) ≡ true
+tried_aborted (Some (Abort cause)) again = refl
+tried_aborted (Some (Commit given)) again = absurd (true≢false (sym again))
+tried_aborted None again = absurd (true≢false (sym again))
 
 module _ (of : Name) (k : ℕ) (kd : Kind) (how : How) (now mid : Now) (h : Running of k now) (alive : now.dead ≡ None) (manages : IsManager kd) (m : Managed (of ++ k ∷ []) kd how now mid) where
   abbrev n : Name
@@ -96,7 +105,7 @@ module _ (of : Name) (k : ℕ) (kd : Kind) (how : How) (now mid : Now) (h : Runn
   ]
 
   abbrev left : Now
-  left = record { setting = now.setting; past = e ∷ before; dead = dead (e ∷ before) n }
+  left = record { setting = now.setting; past = e ∷ before; dead = dead (e ∷ before) n; net = now.net }
 
   manager_ran : Ran n (record now { past = first }) left
   manager_ran = record {
@@ -105,8 +114,10 @@ module _ (of : Name) (k : ℕ) (kd : Kind) (how : How) (now mid : Now) (h : Runn
     later = e ∷ m.inner;
     is = refl;
     same_setting = refl;
+    same_net = refl;
     inside = inside;
     has_ended = has_ended;
+    to_try = λ again. dead_child (e ∷ before) of k parent_lives ∙ ap (λ b. if b then Some n else None) (tried_aborted (end (e ∷ before) n) again);
     open_above = closed;
   }
 
@@ -120,7 +131,7 @@ module _ (of : Name) (k : ℕ) (kd : Kind) (how : How) (now mid : Now) (h : Runn
   -- what a transaction leaves that ran on after a manager, it leaves from before the manager on
   pub managed_longer : (new : Now) → Ran of mid new → Ran of now new
   managed_longer new r =
-      ran_longer of now mid new ((e ∷ m.inner) ++ by_client (Start n kd) ∷ []) m.same_setting
+      ran_longer of now mid new ((e ∷ m.inner) ++ by_client (Start n kd) ∷ []) m.same_setting m.same_net
       (m.is ∙ sym (append_assoc (e ∷ m.inner) (by_client (Start n kd) ∷ []) now.past))
       (all_inside-append of (e ∷ m.inner) (by_client (Start n kd) ∷ []) (all_inside_parent of k (e ∷ m.inner) h.nonroot inside) ((k, [], refl), tt)) r
 
@@ -163,4 +174,4 @@ module _ (of : Name) (k : ℕ) (kd : Kind) (how : How) (now mid : Now) (h : Runn
   may_abort_after why is = may_abort of of [] (k + 1) why mid managed_running (sym (append-nil of)) h.nonroot managed_going (managed_cause why is)
 
   pub ran_after_abort : (why : Cause) → how ≡ Abort why → Ran of now (aborted of why mid)
-  ran_after_abort why is = managed_longer (aborted of why mid) (ran_aborted of (k + 1) why mid managed_running (λ going session. managed_cause why is session))
+  ran_after_abort why is = managed_longer (aborted of why mid) (ran_aborted of (k + 1) why mid managed_running (λ again. managed_alive) (λ going session. managed_cause why is session))

@@ -17,8 +17,10 @@ use Rattle.qc_event.proofs.OneEntry.{some_or_none}
 use Rattle.qc_event.proofs.Lawful.{Lawful, lawful}
 use Rattle.qc_event.proofs.LegalOrderly.{legal_orderly}
 use Rattle.qc_event.proofs.Lineage.{IsFresh, fresh_below, dead_child}
-use Rattle.qc_script.specs.Plan.{Numbered, TopsWithin}
-use Rattle.qc_interp.specs.Trace.{Now, by_client, begun, returned, BodyRuns, top_of}
+use Rattle.qc_line.specs.Messages.{Net}
+use Rattle.qc_script.specs.Plan.{Plan, PlanWithin}
+use Rattle.qc_interp.specs.Trace.{Now, by_client, begun, returned, TryRuns, Runs, top_of}
+use Rattle.qc_interp.specs.Tries.{is_tried_again}
 use Rattle.qc_interp.proofs.Running.{Running, Ran, Resting}
 use Rattle.qc_interp.proofs.BelowNames.{above_child, below_longer, begins_last}
 use Rattle.qc_interp.proofs.LeftAsItIs.{start_left}
@@ -44,13 +46,14 @@ pub law_of : (now : Now) → Legal now.setting now.past → Lawful now.past
 law_of now legal = lawful now.past (legal_orderly now.setting now.past legal)
 
 -- the empty history rests
-pub nothing_rests : (setting : Setting) → Resting 0 (record { setting = setting; past = []; dead = None })
-nothing_rests setting = record {
+pub nothing_rests : (setting : Setting) (net : Net) → Resting 0 (record { setting = setting; past = []; dead = None; net = net })
+nothing_rests setting net = record {
   legal = tt;
   fallen = refl;
   all_ended = λ n began. absurd (true≢false (sym began));
   unstarted = λ x after. refl;
   long = omega arith;
+  few = omega arith;
 }
 
 -- THE START OF A TOP
@@ -84,17 +87,19 @@ rest_begun i number now h few =
       user = λ some. absurd (omega arith);
       uncommitted = ap (λ o. is_committed (outcome_of o)) law.no_root_end;
       unready = unstarted_unready now.setting now.past [] h.legal law.no_root_start;
+      untried = ap is_tried_again law.no_root_end;
     }
 
 -- THE REST AFTER IT
 
-pub rest_back : (i number : ℕ) (now left : Now) → Resting i now → Ran (top_of i) (begun (top_of i) number now) left → Resting (i + 1) (returned 0 left)
-rest_back i number now left h r = record {
+pub rest_back : (i number : ℕ) (now left : Now) → Resting i now → i < 4294967295 → Ran (top_of i) (begun (top_of i) number now) left → Resting (i + 1) (returned 0 left)
+rest_back i number now left h few r = record {
   legal = subst (λ s. Legal s (returned 0 left).past) (sym (returned_setting 0 left)) (subst (Legal left.setting) (sym (returned_past 0 left)) r.legal);
   fallen = returned_dead 0 left ∙ ap (left_dead 0) r.fallen ∙ left_dead_parent left.past [] (4294967297 + i) ∙ root_alive left.past law;
   all_ended = subst (λ p. (n : Name) → is_some (start p n) ≡ true → is_some (end p n) ≡ true) (sym (returned_past 0 left)) (λ n began. ended n began (end left.past n) refl);
   unstarted = subst (λ p. (x : ℕ) → 4294967297 + (i + 1) ≤ x → start p (x ∷ []) ≡ None) (sym is_whole) unstarted;
   long = subst (λ p. i + 1 ≤ length p) (sym is_whole) (omega (arith, length-append r.later with_top, h.long));
+  few = omega arith;
 }
   where
     law : Lawful left.past
@@ -121,7 +126,7 @@ rest_back i number now left h r = record {
         other x further is = let e : 4294967297 + i ≡ x = cc in omega arith
 
 -- what a session leaves that has run a top more
-pub top_rests : (i : ℕ) (b : Numbered) (now new : Now) → Resting i now → i < 4294967295 → TopsWithin (length now.setting.firsts) (b ∷ []) → BodyRuns 0 (top_of i) b now new → Resting (i + 1) new × (new.setting ≡ now.setting)
-top_rests i b now new h few within body =
-    let r = runs_ran (top_of i) 1 b.plan (begun (top_of i) b.number now) body.left (rest_begun i b.number now h few) within.0 body.runs in
-    (subst (Resting (i + 1)) (sym body.back) (rest_back i b.number now body.left h r), ap (λ (m : Now). m.setting) body.back ∙ returned_setting 0 body.left ∙ r.same_setting)
+pub top_rests : (i number : ℕ) (plan : Plan) (now new : Now) → Resting i now → i < 4294967295 → PlanWithin (length now.setting.base) (length now.setting.firsts) 1 plan → TryRuns 0 (top_of i) number (Runs (top_of i) 1 plan) now new → Resting (i + 1) new
+top_rests i number plan now new h few within body =
+    subst (Resting (i + 1)) (sym body.back)
+    (rest_back i number now body.left h few (runs_ran (top_of i) 1 plan (begun (top_of i) number now) body.left (rest_begun i number now h few) within body.runs))

@@ -1,7 +1,7 @@
 -- What a history says of how it follows a script stays as it grows: names keep their kinds and their ends, and
 -- what has ended gets no further child.
-use Rattle.std.proofs.Common.{◌≡◌, ℕ, zero, suc, inl, inr, true, List, [], ◌∷◌, ◌++◌, refl, sym, ap, ◌∙◌, subst, arith, append-nil}
-use Rattle.std.specs.Prelude.{IsTrue, Option, None, Some, is_some, MatchOption, option_to_list}
+use Rattle.std.proofs.Common.{◌≡◌, ℕ, zero, suc, inl, inr, Bool, true, List, [], ◌∷◌, ◌++◌, refl, sym, ap, ◌∙◌, subst, arith, append-nil}
+use Rattle.std.specs.Prelude.{IsTrue, Option, None, Some, is_some, MatchOption, MatchBool, option_to_list}
 use Rattle.std.specs.Option.{option_or, option_map}
 use Rattle.std.proofs.lemmas.Bool.{false_from_ne_true}
 use Rattle.qc_event.specs.declared.event.Cause.TheVariants.{Asked, Orphan}
@@ -23,6 +23,8 @@ use Rattle.qc_event.proofs.Lawful.{lawful, child_starts, committed_is, some_how}
 use Rattle.qc_event.proofs.OneEntry.{some_or_none}
 use Rattle.qc_script.specs.Plan.{Plan}
 use Rattle.qc_interp.specs.Follows.{asked_end, StopsEarly, GoesOn, FollowsPlan, Asks}
+use Rattle.qc_interp.specs.Tries.{is_tried_again, Tries, TriesDo}
+use Rattle.qc_interp.proofs.Cases.{by_try, either_try, both_try}
 
 -- a history has grown into another
 pub record Grown (old new : Past) : Type 0 where
@@ -86,6 +88,23 @@ goes_ended (Some (Commit given)) rest further how more h = more h
 goes_ended (Some (Abort cause)) rest further how more h = ap is_some h.1
 goes_ended None rest further how more h = absurd h
 
+-- who stops early follows every plan
+pub stops_follow : (past : Past) (n : Name) (plan : Plan) (how : Option How) → StopsEarly past n how → FollowsPlan past n plan [] how
+stops_follow past n Plan.done how h = inr h
+stops_follow past n (Plan.read_then rec rest) how h = h
+stops_follow past n (Plan.set_then rec value rest) how h = h
+stops_follow past n (Plan.reconf_then rec config rest) how h = h
+stops_follow past n (Plan.child_then number zero inner rest) how h = stops_follow past n rest how h
+stops_follow past n (Plan.child_then number (suc tries) inner rest) how h = h
+stops_follow past n (Plan.abort_then levels rest) how h = inr h
+
+-- who stopped among tries of a body, or did the rest, has ended
+tries_ended : (ended : Name → Option How) (IsTry : Name → Type 0) (Stopped : Type 0) (Rest : List Name → Type 0) (has_ended : Bool) → (Stopped → has_ended ≡ true) → ((cs : List Name) → Rest cs → has_ended ≡ true) → (tries : ℕ) (cs : List Name) → Tries ended IsTry Stopped Rest tries cs → has_ended ≡ true
+tries_ended ended IsTry Stopped Rest has_ended stopped rest zero cs h = rest cs h
+tries_ended ended IsTry Stopped Rest has_ended stopped rest (suc tries) [] h = stopped h
+tries_ended ended IsTry Stopped Rest has_ended stopped rest (suc tries) (c ∷ cs) h =
+    by_try (is_tried_again (ended c)) _ _ (λ again more. tries_ended ended IsTry Stopped Rest has_ended stopped rest tries cs more) (λ none more. rest cs more) h.1
+
 -- who follows a plan has ended
 pub follows_ended : (past : Past) (n : Name) (plan : Plan) (cs : List Name) (how : Option How) → FollowsPlan past n plan cs how → is_some how ≡ true
 follows_ended past n Plan.done [] how (inl is) = ap is_some is
@@ -95,8 +114,10 @@ follows_ended past n (Plan.read_then rec rest) [] how h = stops_ended past n how
 follows_ended past n (Plan.read_then rec rest) (c ∷ cs) how h = goes_ended (end past c) _ cs how (follows_ended past n rest cs how) h.1
 follows_ended past n (Plan.set_then rec value rest) [] how h = stops_ended past n how h
 follows_ended past n (Plan.set_then rec value rest) (c ∷ cs) how h = goes_ended (end past c) _ cs how (follows_ended past n rest cs how) h.1
-follows_ended past n (Plan.child_then number inner rest) [] how h = stops_ended past n how h
-follows_ended past n (Plan.child_then number inner rest) (c ∷ cs) how h = follows_ended past n rest cs how h.2
+follows_ended past n (Plan.reconf_then rec config rest) [] how h = stops_ended past n how h
+follows_ended past n (Plan.reconf_then rec config rest) (c ∷ cs) how h = goes_ended (end past c) _ cs how (follows_ended past n rest cs how) h.1
+follows_ended past n (Plan.child_then number tries inner rest) cs how h =
+    tries_ended (end past) _ (StopsEarly past n how) _ (is_some how) (stops_ended past n how) (λ further more. follows_ended past n rest further how more) tries cs h
 follows_ended past n (Plan.abort_then levels rest) [] how (inl is) = ap is_some is ∙ asked_ended n levels
   where
     asked_ended : (n : Name) (levels : ℕ) → is_some (asked_end n levels) ≡ true
@@ -127,6 +148,27 @@ module _ (old new : Past) (g : Grown old new) where
   moved : (c : Name) (P : List Name → Option How → Type 0) → is_some (end old c) ≡ true → P (children old c) (end old c) → P (children new c) (end new c)
   moved c P ended h = subst (P (children new c)) (sym (end_stays c ended)) (subst (λ cs. P cs (end old c)) (sym (g.same_children c ended)) h)
 
+  -- tries stay, and so does the rest
+  pub tries_stay : (IsTry IsTry' : Name → Type 0) (Stopped Stopped' : Type 0) (Rest Rest' : List Name → Type 0) → ((c : Name) → IsTry c → is_some (end old c) ≡ true) → ((c : Name) → IsTry c → IsTry' c) → (Stopped → Stopped') → ((cs : List Name) → Rest cs → Rest' cs)
+      → (tries : ℕ) (cs : List Name) → Tries (end old) IsTry Stopped Rest tries cs → Tries (end new) IsTry' Stopped' Rest' tries cs
+  tries_stay IsTry IsTry' Stopped Stopped' Rest Rest' ended try stopped rest zero cs h = rest cs h
+  tries_stay IsTry IsTry' Stopped Stopped' Rest Rest' ended try stopped rest (suc tries) [] h = stopped h
+  tries_stay IsTry IsTry' Stopped Stopped' Rest Rest' ended try stopped rest (suc tries) (c ∷ cs) h = (
+    try c h.0,
+    subst (λ o. MatchBool (is_tried_again o) (Tries (end new) IsTry' Stopped' Rest' tries cs) (Rest' cs)) (sym (end_stays c (ended c h.0)))
+        (either_try (is_tried_again (end old c)) _ _ _ _ (tries_stay IsTry IsTry' Stopped Stopped' Rest Rest' ended try stopped rest tries cs) (rest cs) h.1),
+  )
+
+  -- and what one of them did, or the rest
+  pub tries_do_stay : (IsTry : Name → Type 0) (Stopped : Type 0) (Rest : List Name → Type 0) (TryDoes TryDoes' : Name → Type 0) (RestDoes RestDoes' : List Name → Type 0) → ((c : Name) → IsTry c → is_some (end old c) ≡ true) → ((c : Name) → IsTry c → TryDoes c → TryDoes' c) → ((cs : List Name) → Rest cs → RestDoes cs → RestDoes' cs)
+      → (tries : ℕ) (cs : List Name) → Tries (end old) IsTry Stopped Rest tries cs → TriesDo (end old) TryDoes RestDoes tries cs → TriesDo (end new) TryDoes' RestDoes' tries cs
+  tries_do_stay IsTry Stopped Rest TryDoes TryDoes' RestDoes RestDoes' ended try rest zero cs follows h = rest cs follows h
+  tries_do_stay IsTry Stopped Rest TryDoes TryDoes' RestDoes RestDoes' ended try rest (suc tries) [] follows h = absurd h
+  tries_do_stay IsTry Stopped Rest TryDoes TryDoes' RestDoes RestDoes' ended try rest (suc tries) (c ∷ cs) follows (inl h) = inl (try c follows.0 h)
+  tries_do_stay IsTry Stopped Rest TryDoes TryDoes' RestDoes RestDoes' ended try rest (suc tries) (c ∷ cs) follows (inr h) =
+      inr (subst (λ o. MatchBool (is_tried_again o) (TriesDo (end new) TryDoes' RestDoes' tries cs) (RestDoes' cs)) (sym (end_stays c (ended c follows.0)))
+      (both_try (is_tried_again (end old c)) _ _ _ _ _ _ (tries_do_stay IsTry Stopped Rest TryDoes TryDoes' RestDoes RestDoes' ended try rest tries cs) (rest cs) follows.1 h))
+
   pub follows_stay : (n : Name) (plan : Plan) (cs : List Name) (how : Option How) → FollowsPlan old n plan cs how → FollowsPlan new n plan cs how
   follows_stay n Plan.done [] how (inl is) = inl is
   follows_stay n Plan.done [] how (inr early) = inr (stops_stay n how early)
@@ -135,12 +177,12 @@ module _ (old new : Past) (g : Grown old new) where
   follows_stay n (Plan.read_then rec rest) (c ∷ cs) how h = (g.kinds c _ h.0, goes_stay c (end old c) _ _ cs how refl (follows_stay n rest cs how) h.1)
   follows_stay n (Plan.set_then rec value rest) [] how h = stops_stay n how h
   follows_stay n (Plan.set_then rec value rest) (c ∷ cs) how h = (g.kinds c _ h.0, goes_stay c (end old c) _ _ cs how refl (follows_stay n rest cs how) h.1)
-  follows_stay n (Plan.child_then number inner rest) [] how h = stops_stay n how h
-  follows_stay n (Plan.child_then number inner rest) (c ∷ cs) how h = (
-    g.kinds c _ h.0,
-    moved c (FollowsPlan new c inner) (follows_ended old c inner (children old c) (end old c) h.1) (follows_stay c inner (children old c) (end old c) h.1),
-    follows_stay n rest cs how h.2,
-  )
+  follows_stay n (Plan.reconf_then rec config rest) [] how h = stops_stay n how h
+  follows_stay n (Plan.reconf_then rec config rest) (c ∷ cs) how h = (g.kinds c _ h.0, goes_stay c (end old c) _ _ cs how refl (follows_stay n rest cs how) h.1)
+  follows_stay n (Plan.child_then number tries inner rest) cs how h = tries_stay _ _ (StopsEarly old n how) (StopsEarly new n how) _ _
+      (λ c is. follows_ended old c inner (children old c) (end old c) is.1)
+      (λ c is. (g.kinds c _ is.0, moved c (FollowsPlan new c inner) (follows_ended old c inner (children old c) (end old c) is.1) (follows_stay c inner (children old c) (end old c) is.1)))
+      (stops_stay n how) (λ further more. follows_stay n rest further how more) tries cs h
   follows_stay n (Plan.abort_then levels rest) [] how (inl is) = inl is
   follows_stay n (Plan.abort_then levels rest) [] how (inr early) = inr (stops_stay n how early)
   follows_stay n (Plan.abort_then levels rest) (c ∷ cs) how h = absurd h
@@ -153,7 +195,9 @@ module _ (old new : Past) (g : Grown old new) where
   asks_at_once by target n Plan.done h = absurd h
   asks_at_once by target n (Plan.read_then rec rest) h = absurd h
   asks_at_once by target n (Plan.set_then rec value rest) h = absurd h
-  asks_at_once by target n (Plan.child_then number inner rest) h = absurd h
+  asks_at_once by target n (Plan.reconf_then rec config rest) h = absurd h
+  asks_at_once by target n (Plan.child_then number zero inner rest) h = asks_at_once by target n rest h
+  asks_at_once by target n (Plan.child_then number (suc tries) inner rest) h = absurd h
   asks_at_once by target n (Plan.abort_then levels rest) h = h
 
   goes_asks : (o : Option How) (F : Type 0) (further : List Name) (how : Option How) (A B : List Name → Type 0) → (F → A further → B further) → (A [] → B []) → GoesOn o F further how → A further → B further
@@ -171,8 +215,10 @@ module _ (old new : Past) (g : Grown old new) where
       (committed_stays c h.0, goes_asks (end old c) _ cs how (Asks old by target n rest) (Asks new by target n rest) (asks_stay by target n rest cs how) (asks_at_once by target n rest) follows.1 h.1)
   asks_stay by target n (Plan.set_then rec value rest) (c ∷ cs) how follows h =
       (committed_stays c h.0, goes_asks (end old c) _ cs how (Asks old by target n rest) (Asks new by target n rest) (asks_stay by target n rest cs how) (asks_at_once by target n rest) follows.1 h.1)
-  asks_stay by target n (Plan.child_then number inner rest) (c ∷ cs) how follows (inl h) =
-      let ended = follows_ended old c inner (children old c) (end old c) follows.1 in
-      inl (moved c (λ ds o. Asks new by target c inner ds) ended (asks_stay by target c inner (children old c) (end old c) follows.1 h))
-  asks_stay by target n (Plan.child_then number inner rest) (c ∷ cs) how follows (inr h) = inr (asks_stay by target n rest cs how follows.2 h)
+  asks_stay by target n (Plan.reconf_then rec config rest) (c ∷ cs) how follows h =
+      (committed_stays c h.0, goes_asks (end old c) _ cs how (Asks old by target n rest) (Asks new by target n rest) (asks_stay by target n rest cs how) (asks_at_once by target n rest) follows.1 h.1)
+  asks_stay by target n (Plan.child_then number tries inner rest) (c ∷ cs) how follows h = tries_do_stay _ (StopsEarly old n how) _ _ _ _ _
+      (λ d is. follows_ended old d inner (children old d) (end old d) is.1)
+      (λ d is asks. moved d (λ ds o. Asks new by target d inner ds) (follows_ended old d inner (children old d) (end old d) is.1) (asks_stay by target d inner (children old d) (end old d) is.1 asks))
+      (λ further more asks. asks_stay by target n rest further how more asks) tries (c ∷ cs) follows h
   asks_stay by target n (Plan.abort_then levels rest) (c ∷ cs) how follows h = absurd h

@@ -30,7 +30,7 @@ use Rattle.qc_interp.proofs.Running.{AllInside, Running}
 use Rattle.qc_interp.proofs.BelowNames.{below_longer, begins_short, no_child_length}
 use Rattle.qc_interp.proofs.LeftAsItIs.{start_left}
 use Rattle.qc_interp.proofs.NextAllowed.{no_child_found}
-use Rattle.qc_interp.proofs.OfAccesses.{OfChild, older_legal, end_apart, dead_same, accesses_inside}
+use Rattle.qc_interp.proofs.OfAccesses.{OfManager, older_legal, end_apart, dead_same, accesses_inside}
 use Rattle.qc_interp.proofs.ReadyTops.{ready_is_top}
 use Rattle.qc_interp.proofs.RunChild.{JustBegun, begun_so}
 
@@ -78,7 +78,7 @@ still_closed seat past n how none = no_child_found (λ c. is_none (end (e ∷ pa
         let before : is_some (start past (n ++ last.0 ∷ [])) ≡ true = ap (λ m. is_some (start past m)) (sym last.1) ∙ ap is_some (or_none (start past c)) ∙ began in
         not_none (end (e ∷ past) c) (end_stays e past c (ap (λ m. is_some (end past m)) last.1 ∙ no_open_child past n last.0 none before))
 
-module _ (of : Name) (k : ℕ) (kd : Kind) (now : Now) (h : Running of k now) (alive : now.dead ≡ None) (manages : IsManager kd) (inner : Past) (legal : Legal now.setting (inner ++ by_client (Start (of ++ k ∷ []) kd) ∷ now.past)) (each : All (OfChild (of ++ k ∷ [])) inner) where
+module _ (of : Name) (k : ℕ) (kd : Kind) (now : Now) (h : Running of k now) (alive : now.dead ≡ None) (manages : IsManager kd) (inner : Past) (legal : Legal now.setting (inner ++ by_client (Start (of ++ k ∷ []) kd) ∷ now.past)) (each : All (OfManager (of ++ k ∷ [])) inner) where
   abbrev n : Name
   n = of ++ k ∷ []
 
@@ -150,4 +150,5 @@ module _ (of : Name) (k : ℕ) (kd : Kind) (now : Now) (h : Running of k now) (a
     legal = (legal, allowed);
     same_setting = refl;
     same_dead = refl;
+    same_net = refl;
   }

@@ -1,3 +1,4 @@
+pub mod Tries
 pub mod Trace
 pub mod Follows
 pub mod Running

@@ -2,18 +2,27 @@
 use Rattle.std.specs.Prelude.{ℕ, ◌≡◌, ◌+◌, ◌<◌, ◌≤◌, Bool, false, true, [], ◌∷◌, ◌++◌, length, Option, Some, None, is_some, option_map, Result, Ok, Err}
 use Rattle.qc_event.specs.declared.event.Answer.{Answer}
 use Rattle.qc_event.specs.declared.event.Cause.{Cause}
+use Rattle.qc_event.specs.declared.event.Entry.{Entry}
 use Rattle.qc_event.specs.declared.event.How.{How}
 use Rattle.qc_event.specs.declared.event.How.TheVariants.{Commit, Abort}
 use Rattle.qc_event.specs.declared.event.Kind.{Kind}
 use Rattle.qc_event.specs.Dead as state
-use Rattle.qc_event.specs.History.{Name, start, end, is_ready, children}
-use Rattle.qc_event.specs.Legal.{Legal}
+use Rattle.qc_event.specs.History.{Name, limit, start, end, is_ready, children}
+use Rattle.qc_event.specs.Legal.{Legal, Allowed}
 use Rattle.qc_event.specs.Standing.{Started, IsUser}
+use Rattle.qc_line.specs.Lined.{IsOfTransaction}
 use Rattle.qc_interp.specs.Trace.{Now, aborted, Managed}
+use Rattle.qc_interp.specs.Tries.{is_tried_again}
 use Rattle.qc_rw.specs.declared.no.MgrNo.{MgrNo}
 use Rattle.qc_rw.specs.Managed.{cause_of}
 
--- Transaction `of` has started and is the one that runs; its next child has number k.
+-- An entry of a transaction may be made next.
+pub record MayMake (now : Now) (e : Entry) : Type 0 where
+  pub allowed : Allowed now.setting now.past e
+  pub of_transaction : IsOfTransaction now.past e.event
+
+-- Transaction `of` has started and is the one that runs; its next child has number k. Neither it nor one above it is to
+-- be tried again.
 pub record Running (of : Name) (k : ℕ) (now : Now) : Type 0 where
   pub legal : Legal now.setting now.past
   pub fallen : now.dead ≡ state.dead now.past of
@@ -21,6 +30,7 @@ pub record Running (of : Name) (k : ℕ) (now : Now) : Type 0 where
   pub user : (p r : Name) → of ≡ p ++ r → 0 < length p → Started now.past p (λ b. IsUser b.kind)
   pub uncommitted : (p r : Name) → of ≡ p ++ r → state.is_committed (state.outcome now.past p) ≡ false
   pub unready : (p r : Name) → of ≡ p ++ r → is_ready now.past p ≡ false
+  pub untried : (p r : Name) → of ≡ p ++ r → is_tried_again (end now.past p) ≡ false
   pub next : length (children now.past of) + 1 ≡ k
   pub open_above : (n : Name) → is_some (start now.past n) ≡ true → end now.past n ≡ None → (r : Name) × (of ≡ n ++ r)
 
@@ -31,6 +41,7 @@ pub record Resting (i : ℕ) (now : Now) : Type 0 where
   pub all_ended : (n : Name) → is_some (start now.past n) ≡ true → is_some (end now.past n) ≡ true
   pub unstarted : (x : ℕ) → 4294967297 + i ≤ x → start now.past (x ∷ []) ≡ None
   pub long : i ≤ length now.past
+  pub few : i ≤ limit
 
 -- How a manager ends by what it came to: it commits with its answer, or is aborted for the cause of none.
 -- Where there is no cause, memory or room was wanting.

@@ -1,5 +1,5 @@
 -- How the bodies of a script run, one after another: what history each step of them leaves.
-use Rattle.std.specs.Prelude.{ℕ, ◌≡◌, ◌+◌, ◌-◌, IsTrue, if◌then◌else◌, List, [], ◌∷◌, ◌++◌, length, take, nat_le, All, Option, None, Some, is_some}
+use Rattle.std.specs.Prelude.{ℕ, ◌≡◌, ◌+◌, ◌-◌, ◌⊎◌, IsTrue, MatchBool, if◌then◌else◌, List, [], ◌∷◌, ◌++◌, length, take, nat_le, All, Option, None, Some, is_some}
 use Rattle.std.proofs.Common.{zero, suc}
 use Rattle.qc_event.specs.declared.event.Answer.TheVariants.{Nothing}
 use Rattle.qc_event.specs.declared.event.Cause.{Cause}
@@ -16,14 +16,18 @@ use Rattle.qc_event.specs.History.{Past, Name, end, is_child}
 use Rattle.qc_event.specs.Legal.{Legal}
 use Rattle.qc_event.specs.Standing.{open_child}
 use Rattle.qc_gather.specs.Carrying.{name_of}
+use Rattle.qc_line.specs.Messages.{Net}
 use Rattle.qc_script.specs.Plan.{Plan, Numbered}
+use Rattle.qc_store.specs.Served.{is_answer}
+use Rattle.qc_interp.specs.Tries.{is_tried_again}
 
--- What a session starts from, its history, and the shortest aborted ancestor of the transaction that runs,
--- itself among them.
+-- What a session starts from, its history, the shortest aborted ancestor of the transaction that runs, itself among
+-- them, and what its link is.
 pub record Now : Type 0 where
   pub setting : Setting
   pub past : Past
   pub dead : Option Name
+  pub net : Net
 
 -- an entry under the seat of the session
 abbrev pub by_client : Event → Entry
@@ -73,16 +77,17 @@ returned depth now = elim now.dead [ None ↦ now | Some a ↦ record now { dead
 
 -- MANAGERS
 
--- A manager of a kind ran from its start to its end: between the two nothing was done but by its accesses,
--- each of which has ended.
+-- A manager of a kind ran from its start to its end: between the two stand entries of its accesses alone, each of which
+-- has ended, and copies' answers, which may be late ones to accesses of other managers.
 pub record Managed (n : Name) (k : Kind) (how : How) (old new : Now) : Type 0 where
   pub inner : Past
   pub is : new.past ≡ by_client (End n how) ∷ inner ++ by_client (Start n k) ∷ old.past
-  pub of_accesses : All (λ e. IsTrue (is_child n (name_of e.event))) inner
+  pub of_accesses : All (λ e. IsTrue (is_child n (name_of e.event)) ⊎ IsTrue (is_answer e)) inner
   pub all_ended : open_child new.past n ≡ None
   pub legal : Legal new.setting new.past
   pub same_setting : new.setting ≡ old.setting
   pub same_dead : new.dead ≡ old.dead
+  pub same_net : new.net ≡ old.net
 
 -- A transaction goes on to the rest where its manager committed. Where that was aborted, it is aborted with
 -- the same cause.
@@ -97,6 +102,25 @@ pub record RunsManager (of : Name) (k : ℕ) (of_kind : Kind) (Rest : Now → Ty
   pub managed : Managed (of ++ k ∷ []) of_kind how now mid
   pub goes_on : GoesOnTo how of (Rest mid) mid new
 
+-- TRIES
+
+-- a child of a name, by its number
+abbrev pub child_of : Name → ℕ → Name
+child_of of k = of ++ k ∷ []
+
+-- A body has run as this name, below a parent of this depth: it began, its steps ran, and it gave back to its parent.
+pub record TryRuns (depth : ℕ) (n : Name) (number : ℕ) (StepsRun : Now → Now → Type 0) (now new : Now) : Type 0 where
+  pub left : Now
+  pub runs : StepsRun (begun n number now) left
+  pub back : new ≡ returned depth left
+
+-- Tries of a body in a row, of which so many are left, the next of them with number k: it runs, then a further one with
+-- number k + 1 where it ended so that it is tried again, else the rest goes on from number k + 1.
+abbrev pub TriesRun : (ℕ → Name) → (Name → Now → Now → Type 0) → (ℕ → Now → Type 0) → ℕ → ℕ → Now → Type 0
+TriesRun named Runs Rest zero k now = Rest k now
+TriesRun named Runs Rest (suc left) k now =
+    (mid : Now) × Runs (named k) now mid × MatchBool (is_tried_again (end mid.past (named k))) (TriesRun named Runs Rest left (k + 1) mid) (Rest (k + 1) mid)
+
 -- STEPS
 
 -- What a transaction without an aborted ancestor goes on to. One that is dead stops as an orphan.
@@ -110,21 +134,25 @@ Runs of k (Plan.read_then rec rest) now new =
     UnlessDead of now new (RunsManager of k (kind.Read rec) (λ mid. Runs of (k + 1) rest mid new) now new)
 Runs of k (Plan.set_then rec value rest) now new =
     UnlessDead of now new (RunsManager of k (kind.Write rec value) (λ mid. Runs of (k + 1) rest mid new) now new)
-Runs of k (Plan.child_then number inner rest) now new =
-    UnlessDead of now new ((left : Now) × Runs (of ++ k ∷ []) 1 inner (begun (of ++ k ∷ []) number now) left × Runs of (k + 1) rest (returned (length of) left) new)
+Runs of k (Plan.reconf_then rec config rest) now new =
+    UnlessDead of now new (RunsManager of k (kind.Reconf rec config) (λ mid. Runs of (k + 1) rest mid new) now new)
+Runs of k (Plan.child_then number tries inner rest) now new =
+    UnlessDead of now new (TriesRun (child_of of) (λ c. TryRuns (length of) c number (λ first left. Runs c 1 inner first left)) (λ j mid. Runs of j rest mid new) tries k now)
 Runs of k (Plan.abort_then levels rest) now new = new ≡ asked of levels now
 
 -- what a transaction of a body leaves, to a parent of this depth
-pub record BodyRuns (depth : ℕ) (n : Name) (body : Numbered) (now new : Now) : Type 0 where
-  pub left : Now
-  pub runs : Runs n 1 body.plan (begun n body.number now) left
-  pub back : new ≡ returned depth left
+abbrev pub BodyRuns : ℕ → Name → Numbered → Now → Now → Type 0
+BodyRuns depth n body now new = TryRuns depth n body.number (Runs n 1 body.plan) now new
 
 -- the name of top i, in the first epoch
 abbrev pub top_of : ℕ → Name
 top_of i = (4294967297 + i) ∷ []
 
--- what the tops of bodies leave, the first of them as top i
-abbrev pub TopsRun : ℕ → List Numbered → Now → Now → Type 0
-TopsRun i [] now new = new ≡ now
-TopsRun i (b ∷ bodies) now new = (mid : Now) × BodyRuns 0 (top_of i) b now mid × TopsRun (i + 1) bodies mid new
+-- what the tops of bodies leave, the first of them as top i, and the next that would come as this one
+abbrev pub TopsRun : ℕ → List Numbered → ℕ → Now → Now → Type 0
+TopsRun i [] next now new = (i ≡ next) × (new ≡ now)
+TopsRun i (b ∷ bodies) next now new = TriesRun top_of (λ t. BodyRuns 0 t b) (λ j mid. TopsRun j bodies next mid new) b.tries i now
+
+-- the tries of a body have run, by these names, the first of them with number k; the next number is this
+abbrev pub TriesRan : ℕ → (ℕ → Name) → Numbered → ℕ → ℕ → Now → Now → Type 0
+TriesRan depth named body k next now new = TriesRun named (λ n. BodyRuns depth n body) (λ j mid. (j ≡ next) × (mid ≡ new)) body.tries k now

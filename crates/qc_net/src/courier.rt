@@ -64,6 +64,7 @@ impl<L: Link> Courier<L> {
         ensures counts { L.troubles (link_of self.new) ≡ L.troubles (link_of self.old) }
         ensures may { (other : Ask) → P.may port.old other → P.may port.new other }
         ensures gave { (other : Ask) (answer : Answered) → P.gave port.old other answer → P.gave port.new other answer }
+        ensures became { P.became port.old port.new }
     {
         let Some(place) = self.link.due(self.held.len()) else {
             return Ok(None);
@@ -84,6 +85,7 @@ impl<L: Link> Courier<L> {
         ensures allowed { All (P.may port.new) (held_of self.new) }
         ensures may { (other : Ask) → P.may port.old other → P.may port.new other }
         ensures gave { (other : Ask) (answer : Answered) → P.gave port.old other answer → P.gave port.new other answer }
+        ensures became { P.became port.old port.new }
         ensures plan { option_map anew (L.plan (link_of self.new)) ≡ option_map anew (L.plan (link_of self.old)) }
         ensures counts { L.troubles (link_of self.new) ≡ L.troubles (link_of self.old) }
     {
@@ -116,6 +118,7 @@ impl<L: Link> Courier<L> {
         ensures cause { IfOk result (HasCause (IsTrue (is_trouble fate))) }
         ensures may { (other : Ask) → P.may port.old other → P.may port.new other }
         ensures gave { (other : Ask) (answer : Answered) → P.gave port.old other answer → P.gave port.new other answer }
+        ensures became { P.became port.old port.new }
         ensures plan { option_map anew (L.plan (link_of self.new)) ≡ option_map anew (L.plan (link_of self.old)) }
         ensures counts { L.troubles (link_of self.new) ≡ L.troubles (link_of self.old) }
     {
@@ -154,6 +157,7 @@ impl<L: Link> Courier<L> {
         ensures later { L.troubles (link_of self.old) ≤ L.troubles (link_of self.new) }
         ensures may { (other : Ask) → P.may port.old other → P.may port.new other }
         ensures gave { (other : Ask) (answer : Answered) → P.gave port.old other answer → P.gave port.new other answer }
+        ensures became { P.became port.old port.new }
         ensures plan { option_map anew (L.plan (link_of self.new)) ≡ option_map anew (L.plan (link_of self.old)) }
     {
         self.due_step(port)?;

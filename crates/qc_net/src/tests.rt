@@ -17,6 +17,8 @@ impl Port for Counting {
 
     ghost gave = { λ port ask answer. Unit {0} };
 
+    ghost became = { λ before now. Unit {0} };
+
     fn deliver(&mut self, ask: &Ask) -> Result<Answered, AllocError> {
         self.deliveries = self.deliveries.saturating_add(1);
         Ok(match ask.op {
@@ -29,6 +31,10 @@ impl Port for Counting {
             _ => Answered::Dead(ask.access),
         })
     }
+
+    ghost became_itself = { λ port. tt };
+
+    ghost became_by_both = { λ a b c to then. tt };
 }
 
 // What the sender sees: the number of the delivery that answered, or why none did.

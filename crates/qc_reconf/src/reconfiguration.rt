@@ -9,6 +9,7 @@ ghost use Rattle.qc_event.specs.Manager.{newest, replied};
 ghost use Rattle.qc_gather.specs.Carrying.{IsRunning, HasGrown};
 ghost use Rattle.qc_rw.specs.Going.{HasMade};
 ghost use Rattle.qc_rw.specs.Managed.{IsAnswered, IsRefused};
+ghost use Rattle.qc_rw.specs.Undisturbed.{IsUndisturbed, IsShortage};
 
 use qc_config::{Config, Op};
 use qc_event::{Name, Phase};
@@ -24,7 +25,8 @@ use qc_rw::{MgrNo, collect, put};
 ///
 /// It answers the new generation, and the manager may then commit with it. Where the newest generation is
 /// `2^64 - 1` it answers `Last`, and has put nothing. After an error the manager may end for the error's
-/// cause, where it has one; what it asked stands.
+/// cause, where it has one; what it asked stands. Where nothing disturbed the manager, only memory or room was
+/// wanting.
 pub fn reconfigure<C: Carrier>(
     carrier: &mut C,
     manager: &Name,
@@ -45,6 +47,8 @@ pub fn reconfigure<C: Carrier>(
     ensures value_moved { IfOk result (λ _. IsTrue (holds_write new.now (replied (C.seen carrier.new) manager.now Values))) }
     ensures config_moved { IfOk result (λ _. IsTrue (holds_write (newest (C.seen carrier.new) first.now manager.now).config (replied (C.seen carrier.new) manager.now Configs))) }
     ensures refused { IfErr result (IsRefused (C.setting carrier.old) (C.seat carrier.old) (C.seen carrier.new) manager.now (kind.Reconf rec new.now)) }
+    ensures complete { IfErr result (λ why. IsUndisturbed (C.setting carrier.old) (C.seen carrier.new) manager.now (kind.Reconf rec new.now) (C.troubles carrier.old) (C.troubles carrier.new) → IsShortage why) }
+    ensures became { C.became carrier.old carrier.new }
     ensures later { C.troubles carrier.old ≤ C.troubles carrier.new }
 {
     let gather = collect(carrier, manager, rec, first)?;

@@ -29,7 +29,7 @@ pub record GaveBack (s : ScriptPlan) (start : List (List Tuple)) (trail : List E
   pub entries : reverse trail ≡ now.past
   pub legal : Legal (setting_of (base_of s.table)) now.past
 
-pub gave_back : (s : ScriptPlan) (start : List (List Tuple)) (trail : List Entry) (old now : Now) → old ≡ fresh s.table → now.setting ≡ old.setting → start ≡ now.setting.base → reverse trail ≡ now.past → Legal now.setting now.past → GaveBack s start trail now
+pub gave_back : (s : ScriptPlan) (start : List (List Tuple)) (trail : List Entry) (old now : Now) → old ≡ fresh s → now.setting ≡ old.setting → start ≡ now.setting.base → reverse trail ≡ now.past → Legal now.setting now.past → GaveBack s start trail now
 gave_back s start trail old now begun kept base entries legal =
     let setting : now.setting ≡ setting_of (base_of s.table) = kept ∙ ap (λ (n : Now). n.setting) begun in
     record {

@@ -15,6 +15,7 @@ use Rattle.qc_refine.specs.Final.{final_value}
 use Rattle.qc_run.specs.Report.{Text, report}
 use Rattle.qc_simlock.specs.Serial.{final_values}
 use Rattle.qc_interp.specs.Trace.{Now}
+use Rattle.qc_line.specs.Messages.{Net}
 use Rattle.qc_run.specs.FaultLine.{fault_line}
 use Rattle.qc_script.specs.declared.bad_script.BadScript.TheVariants.{Memory}
 use Rattle.qc_script.specs.Plan.{ScriptPlan}
@@ -29,9 +30,13 @@ first_tuple row = record { version = 0; value = row.start; generation = 0; confi
 abbrev pub base_of : Table → List (List Tuple)
 base_of table = replicate table.copies (map first_tuple table.records)
 
--- a session over a table's copies that has done nothing
-abbrev pub fresh : Table → Now
-fresh table = record { setting = setting_of (base_of table); past = []; dead = None }
+-- the network of a script's session
+abbrev pub net_of : ScriptPlan → Net
+net_of s = record { fates = s.fates; hold = s.hold; patience = s.patience }
+
+-- a session of a script that has done nothing
+abbrev pub fresh : ScriptPlan → Now
+fresh s = record { setting = setting_of (base_of s.table); past = []; dead = None; net = net_of s }
 
 -- The source was read to its end, and its bytes are this script.
 pub record ReadsScript (before now : Option (List ℕ)) (s : ScriptPlan) : Type 0 where

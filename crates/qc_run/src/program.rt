@@ -120,13 +120,15 @@ fn conclude<K: Sink>(alloc: Global, table: &Table, session: &Session, sink: &mut
     }
 }
 
-// A session that has done nothing, over the first tuples of a script's table.
-fn open(alloc: Global, table: &Table) -> Result<Session, AllocError>
-    requires { IsProperBase (terms.base_of table.now) }
-    ensures { IfOk result (λ session. session ≡ terms.fresh table.now) }
+// A session that has done nothing, over the first tuples of a script's table and its session's network.
+fn open(alloc: Global, script: &Script) -> Result<Session, AllocError>
+    requires base { IsProperBase (terms.base_of script.now.table) }
+    requires hold { 1 ≤ script.now.session.hold }
+    ensures { IfOk result (λ session. session ≡ terms.fresh (plan_of_script script.now)) }
 {
-    let start = base_of(alloc, table)?;
-    Session::new(alloc, start)
+    let start = base_of(alloc, &script.table)?;
+    let fates = script.session.fates.clone()?;
+    Session::new(alloc, start, fates, script.session.hold, script.patience)
 }
 
 // Ends a run that stopped for want of memory or of room.
@@ -146,12 +148,12 @@ fn halt<K: Sink>(alloc: Global, short: Short, sink: &mut K) -> Status
 // Runs a script from its start, and reports it.
 fn proceed<K: Sink>(alloc: Global, script: &Script, mut session: Session, sink: &mut K) -> Ran
     requires proper { IsProper (plan_of_script script.now) }
-    requires session { session ≡ terms.fresh script.now.table }
+    requires session { session ≡ terms.fresh (plan_of_script script.now) }
     ensures legal_history { Legal (setting_of result.start) (reverse result.trail.items) }
     ensures serial_order { IsSerialThroughout (start_values result.start) result.trail.items }
     ensures start { result.start ≡ terms.base_of script.now.table }
     ensures follows { terms.RanToEnd result.status
-        → FollowsTops (plan_of_script script.now).tops (reverse result.trail.items) }
+        → FollowsTops (terms.net_of (plan_of_script script.now)) (plan_of_script script.now).tops (reverse result.trail.items) }
     ensures answer { terms.IsPerformed result.status }
     ensures done { result.status ≡ Status.Done → Appends (K.taken sink.old) (K.taken sink.new)
         (terms.report_of (plan_of_script script.now) result.start result.trail.items) }
@@ -164,7 +166,7 @@ fn proceed<K: Sink>(alloc: Global, script: &Script, mut session: Session, sink: 
     ensures room { result.status ≡ Status.Room → length result.trail.items ≡ limit }
     ensures faults { K.faults sink.old ≤ K.faults sink.new }
 {
-    let status = match session.tops(script.tops.as_slice()) {
+    let status = match session.tops(script.session.tops.as_slice()) {
         Ok(()) => conclude(alloc, &script.table, &session, sink),
         Err(short) => halt(alloc, short, sink),
     };
@@ -183,7 +185,7 @@ fn perform<K: Sink>(alloc: Global, script: &Script, sink: &mut K) -> Ran
     ensures serial_order { IsSerialThroughout (start_values result.start) result.trail.items }
     ensures start { terms.ReadIt result.status → result.start ≡ terms.base_of script.now.table }
     ensures follows { terms.RanToEnd result.status
-        → FollowsTops (plan_of_script script.now).tops (reverse result.trail.items) }
+        → FollowsTops (terms.net_of (plan_of_script script.now)) (plan_of_script script.now).tops (reverse result.trail.items) }
     ensures answer { terms.IsPerformed result.status }
     ensures done { result.status ≡ Status.Done → Appends (K.taken sink.old) (K.taken sink.new)
         (terms.report_of (plan_of_script script.now) result.start result.trail.items) }
@@ -196,7 +198,7 @@ fn perform<K: Sink>(alloc: Global, script: &Script, sink: &mut K) -> Ran
     ensures room { result.status ≡ Status.Room → length result.trail.items ≡ limit }
     ensures faults { K.faults sink.old ≤ K.faults sink.new }
 {
-    match open(alloc, &script.table) {
+    match open(alloc, script) {
         Ok(session) => proceed(alloc, script, session, sink),
         Err(AllocError) => nothing(alloc, Status::Memory),
     }
@@ -225,7 +227,7 @@ fn over<K: Sink>(alloc: Global, bytes: &[u8], sink: &mut K) -> Ran
         → (result.trail.items ≡ []) × (result.start ≡ []) }
     ensures started { terms.ReadIt result.status → terms.OfBytes bytes.now result.start (λ _. ⊤) }
     ensures follows { terms.RanToEnd result.status → terms.OfBytes bytes.now result.start
-        (λ s. FollowsTops s.tops (reverse result.trail.items)) }
+        (λ s. FollowsTops (terms.net_of s) s.tops (reverse result.trail.items)) }
     ensures answer { terms.IsOver result.status }
     ensures refused { terms.IsScriptFault (Some bytes.now) result.status }
     ensures done { result.status ≡ Status.Done → terms.OfBytes bytes.now result.start
@@ -256,7 +258,7 @@ fn answer<S: Source, K: Sink>(alloc: Global, words: &[String], source: &mut S, s
         → terms.OfScript (S.left source.old) (S.left source.new) result.start (λ _. ⊤) }
     ensures follows_script { terms.RanToEnd result.status
         → terms.OfScript (S.left source.old) (S.left source.new) result.start
-        (λ s. FollowsTops s.tops (reverse result.trail.items)) }
+        (λ s. FollowsTops (terms.net_of s) s.tops (reverse result.trail.items)) }
     ensures output { result.status ≡ Status.Done
         → terms.OfScript (S.left source.old) (S.left source.new) result.start
         (λ s. Appends (K.taken sink.old) (K.taken sink.new) (terms.report_of s result.start result.trail.items)) }
@@ -308,7 +310,7 @@ pub fn run<S: Source, K: Sink>(alloc: Global, words: &[String], source: &mut S, 
     // What ran to its end is a script that the source held, and the history follows it.
     ensures follows_script { terms.RanToEnd result.status
         → terms.OfScript (S.left source.old) (S.left source.new) result.start
-        (λ s. FollowsTops s.tops (reverse result.trail.items)) }
+        (λ s. FollowsTops (terms.net_of s) s.tops (reverse result.trail.items)) }
     ensures started { terms.ReadIt result.status
         → terms.OfScript (S.left source.old) (S.left source.new) result.start (λ _. ⊤) }
 

@@ -1,7 +1,9 @@
 mod nested;
+mod network;
+mod reconfiguring;
 
 use crate::io::{MemSink, MemSource};
-use crate::run;
+use crate::{Ran, run};
 use qc_event::{Entry, Event};
 use std::alloc::Global;
 use std::process::Abort;
@@ -89,19 +91,29 @@ fn grants(trail: &[Entry], at: u8) -> usize {
         .count()
 }
 
+// What a line of words answers over a script, where no stream fails.
+fn ran_of(alloc: Global, line: &str, script: &str) -> Result<Ran, Fail> {
+    let words = words_of(alloc, line)?;
+    let bytes = script.as_bytes().to_vec(alloc)?;
+    let mut source = MemSource::new(bytes, Vec::new(alloc));
+    let mut sink = MemSink::new(alloc, Vec::new(alloc));
+    Ok(run(alloc, words.as_slice(), &mut source, &mut sink))
+}
+
 #[test]
 fn goes_to_a_quorum_of_three_copies(rt: HostRuntime) -> Result<(), Fail> {
     let alloc = rt.alloc();
-    let words = words_of(alloc, "run")?;
-    let bytes = OVER_THREE_COPIES.as_bytes().to_vec(alloc)?;
-    let mut source = MemSource::new(bytes, Vec::new(alloc));
-    let mut sink = MemSink::new(alloc, Vec::new(alloc));
-    let ran = run(alloc, words.as_slice(), &mut source, &mut sink);
-    assert_eq!(rt; ran.status.code(), 0);
-    assert!(rt; sink.bytes() == REPORT.as_bytes());
+    expect(
+        &rt,
+        alloc,
+        "run",
+        OVER_THREE_COPIES,
+        (0, 0),
+        (0, 23, REPORT),
+    )?;
+    let ran = ran_of(alloc, "run", OVER_THREE_COPIES)?;
     assert_eq!(rt; ran.start.copies(), 3);
     let trail = ran.trail.as_slice();
-    assert_eq!(rt; trail.len(), 23);
     for (copy, count) in [(0, 3), (1, 1), (2, 0)] {
         assert_eq!(rt; grants(trail, copy), count);
     }

@@ -1,13 +1,13 @@
 -- A manager that collects: what it asks next, when it has enough, and why it is short.
 use Rattle.std.proofs.Common.{◌≡◌, ℕ, ◌<◌, false, List, [], ◌∷◌, ◌++◌, refl, sym, ap, ◌∙◌, subst}
-use Rattle.std.specs.Prelude.{Option, None, Some}
+use Rattle.std.specs.Prelude.{◌≤◌, length, All, Option, None, Some}
 use Rattle.qc_config.specs.Config.{Voting, holds_read}
 use Rattle.qc_config.specs.declared.tuple.Op.TheVariants.{Get}
 use Rattle.qc_event.specs.declared.event.Kind.{Kind}
 use Rattle.qc_event.specs.declared.event.Phase.TheVariants.{Collect}
 use Rattle.qc_event.specs.History.{Past, Name}
 use Rattle.qc_event.specs.Manager.{Stage, Newest, collecting, newest, is_enough, stage, record_of, first_for}
-use Rattle.qc_gather.specs.Carrying.{MayCarry}
+use Rattle.qc_gather.specs.Carrying.{MayCarry, Rose}
 use Rattle.qc_gather.specs.declared.next.Next.{Next}
 use Rattle.qc_gather.specs.declared.next.Next.TheVariants.{Enough, Copy, Short}
 use Rattle.qc_gather.specs.declared.shortage.Shortage.{Shortage}
@@ -18,11 +18,14 @@ use Rattle.qc_rw.specs.Told.{told_in}
 use Rattle.qc_rw.specs.Going.{MayGoOn, SameElsewhere, HasHeard, HasServed, MayCollect, HasCollected, Link}
 use Rattle.qc_rw.specs.declared.no.MgrNo.{MgrNo}
 use Rattle.qc_rw.specs.Managed.{IsRefused, no_of}
+use Rattle.qc_rw.specs.Undisturbed.{HasCause, IsUndisturbed, IsShortage}
+use Rattle.qc_rw.proofs.Causes.{causes_none, causes_further}
 use Rattle.qc_rw.proofs.Known.{newest-told, replied-told}
 use Rattle.qc_rw.proofs.Nexts.{next_enough, next_short, next_copy_of}
 use Rattle.qc_rw.proofs.Served.{served_none, served_further}
 use Rattle.qc_rw.proofs.Short.{refused_short}
 use Rattle.qc_rw.proofs.Stages.{collects, may_carry}
+use Rattle.qc_rw.proofs.Undisturbed.{never_short, undisturbed_since}
 use Rattle.qc_rw.proofs.Unasked.{unasked, unasked_fewer, next_within}
 
 -- a manager that collects, between the carrier where it began and the carrier now
@@ -31,10 +34,11 @@ pub record IsCollecting (a now : Link) (m : Name) (k : Kind) (first : Voting) (k
   pub goes_on : MayGoOn a.seat now.seen m k
   pub elsewhere : SameElsewhere a.seen now.seen m Collect
   pub kept_is : kept ≡ gathered first (told_in now.seen m Collect)
+  pub causes : All (HasCause now.seen m (Rose a.troubles now.troubles)) (told_in now.seen m Collect)
 
 pub collecting_begins : (a : Link) (m : Name) (k : Kind) (rec : ℕ) (first : Voting) (kept : Gathered) → MayCollect a.setting a.seat a.seen m k rec first → kept ≡ gathered first [] → IsCollecting a a m k first kept
 collecting_begins a m k rec first kept may is =
-    record { served = served_none m a; goes_on = may.goes_on; elsewhere = λ p other. refl; kept_is = is ∙ ap (gathered first) (sym may.nothing_told) }
+    record { served = served_none m a; goes_on = may.goes_on; elsewhere = λ p other. refl; kept_is = is ∙ ap (gathered first) (sym may.nothing_told); causes = causes_none a m Collect may.nothing_told }
 
 -- whether enough was collected, by what was told
 got-told : (past : Past) (first : Voting) (m : Name) → is_enough past m (collecting (newest past first m)) ≡ holds_read (newest_in first (told_in past m Collect)).config (replied_in (told_in past m Collect))
@@ -78,6 +82,14 @@ module _ (a now : Link) (m : Name) (k : Kind) (first : Voting) (kept : Gathered)
         subst (IsRefused a.setting a.seat now.seen m k) (sym (for ∙ ap no_of by))
         (refused_short a.setting a.seat now.seen m k here h.goes_on (at_here next.0) (next_here None next.1))
 
+    -- where it is short, it was disturbed
+    pub short_disturbed : length kept.newest.config.votes ≤ 16 → Does Short → IsUndisturbed a.setting now.seen m k a.troubles now.troubles → ⊥
+    short_disturbed few does u =
+        let next = next_short _ (newest_in first told).config told does in
+        let same : kept.newest.config ≡ here.config = ap (λ (g : Gathered). g.newest.config) h.kept_is ∙ ap (λ (n : Newest). n.config) (sym (newest-told now.seen first m)) in
+        never_short a.setting now.seen m k a.troubles now.troubles u here (at_here next.0) (subst (λ (c : Voting). length c.votes ≤ 16) same few) h.causes (next_here None next.1)
+        (ap (λ (n : Newest). holds_read n.config (replied_in told)) (newest-told now.seen first m) ∙ next.0)
+
   pub copy_within : (copy : ℕ) → Does (Copy copy) → copy < 16
   copy_within copy does = next_within (newest_in first told).config told copy (next_copy_of _ (newest_in first told).config told copy does).1
 
@@ -85,13 +97,14 @@ module _ (a now : Link) (m : Name) (k : Kind) (first : Voting) (kept : Gathered)
   may_go_on = subst (λ seat. MayGoOn seat now.seen m k) (sym h.served.seat) h.goes_on
 
   module _ (then : Link) (t : Told) (served : HasServed m now then) (heard : HasHeard now.seat now.seen then.seen m k Collect (t ∷ [])) where
-    pub collects_on : (kept' : Gathered) → kept' ≡ gathered first (told ++ t ∷ []) → IsCollecting a then m k first kept'
-    collects_on kept' is =
+    pub collects_on : HasCause then.seen m (Rose now.troubles then.troubles) t → (kept' : Gathered) → kept' ≡ gathered first (told ++ t ∷ []) → IsCollecting a then m k first kept'
+    collects_on cause kept' is =
         record {
           served = served_further m a now then h.served served;
           goes_on = subst (λ seat. MayGoOn seat then.seen m k) h.served.seat heard.goes_on;
           elsewhere = λ p other. heard.elsewhere p other ∙ h.elsewhere p other;
           kept_is = is ∙ ap (gathered first) (sym heard.here);
+          causes = causes_further a now then m Collect t h.served served heard.here h.causes cause;
         }
 
     pub fewer_left : (copy : ℕ) → Does (Copy copy) → t.copy ≡ copy → unasked (told_in then.seen m Collect) < unasked told
@@ -103,3 +116,7 @@ module _ (a now : Link) (m : Name) (k : Kind) (first : Voting) (kept : Gathered)
   pub refused_on : (past : Past) (why : MgrNo) → IsRefused now.setting now.seat past m k why → IsRefused a.setting a.seat past m k why
   refused_on past why refused =
       subst (λ setting. IsRefused setting a.seat past m k why) h.served.setting (subst (λ seat. IsRefused now.setting seat past m k why) h.served.seat refused)
+
+  -- and where nothing disturbed the manager, memory or room was wanting
+  pub complete_on : (past : Past) (troubles : ℕ) (why : MgrNo) → (IsUndisturbed now.setting past m k now.troubles troubles → IsShortage why) → IsUndisturbed a.setting past m k a.troubles troubles → IsShortage why
+  complete_on past troubles why complete u = complete (undisturbed_since a.setting now.setting past m k a.troubles now.troubles troubles h.served.setting h.served.later u)

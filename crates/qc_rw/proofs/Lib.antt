@@ -5,6 +5,9 @@ pub mod Heard
 pub mod Stages
 pub mod Unasked
 pub mod Short
+pub mod Causes
+pub mod Quorums
+pub mod Undisturbed
 pub mod Nexts
 pub mod Collecting
 pub mod Putting

@@ -22,9 +22,11 @@ use Rattle.qc_rw.specs.declared.no.MgrNo.TheVariants as mgr
 use Rattle.qc_rw.specs.Told.{told_in}
 use Rattle.qc_rw.specs.Going.{HasServed, HasCollected, MayPut, HasPut, Link}
 use Rattle.qc_rw.specs.Managed.{IsAnswered, IsRefused}
+use Rattle.qc_rw.specs.Undisturbed.{IsUndisturbed, IsShortage}
 use Rattle.qc_rw.proofs.Answered.{kind_or, kind_at, nothing_asked, nothing_told}
 use Rattle.qc_rw.proofs.Served.{served_further}
 use Rattle.qc_rw.proofs.Stages.{each_enough_stays, stages_stay, last_stays}
+use Rattle.qc_rw.proofs.Undisturbed.{undisturbed_since}
 
 -- the kind of a manager that runs is that with which it was started
 pub kind_is : (seat : ℕ) (past : Past) (m : Name) (k : Kind) → IsRunning seat past m k → kind_at past m ≡ k
@@ -117,6 +119,12 @@ module _ (a now : Link) (m : Name) (k : Kind) (earlier : List Stage) (s : Stage)
       subst (λ x. IsRefused x a.seat past m k why) h.served.setting
       (subst (λ x. IsRefused now.setting x past m k why) h.served.seat
       (subst (λ x. IsRefused now.setting now.seat past m x why) (kind_is a.seat now.seen m k h.may.goes_on.running) refused))
+
+  -- where it came to no answer there, and nothing disturbed it, memory or room was wanting
+  pub complete_there : (past : Past) (troubles : ℕ) (why : MgrNo) → (IsUndisturbed now.setting past m (kind_at now.seen m) now.troubles troubles → IsShortage why) → IsUndisturbed a.setting past m k a.troubles troubles → IsShortage why
+  complete_there past troubles why complete u =
+      complete (subst (λ x. IsUndisturbed now.setting past m x now.troubles troubles) (sym (kind_is a.seat now.seen m k h.may.goes_on.running))
+      (undisturbed_since a.setting now.setting past m k a.troubles now.troubles troubles h.served.setting h.served.later u))
 
   -- it has put enough there
   module _ (then : Link) (did : HasPut now.seat now.seen then.seen m (kind_at now.seen m) s) where

@@ -1,13 +1,13 @@
 -- A manager that puts at a stage: what it asks next, when it has put enough, and why it is short.
 use Rattle.std.proofs.Common.{◌≡◌, ℕ, ◌<◌, false, List, [], ◌∷◌, ◌++◌, refl, sym, ap, ◌∙◌, subst}
-use Rattle.std.specs.Prelude.{Some}
+use Rattle.std.specs.Prelude.{◌≤◌, length, All, Some}
 use Rattle.qc_config.specs.Config.{Voting, holds_write}
 use Rattle.qc_config.specs.declared.tuple.Op.{Op}
 use Rattle.qc_event.specs.declared.event.Kind.{Kind}
 use Rattle.qc_event.specs.declared.event.Phase.{Phase}
 use Rattle.qc_event.specs.History.{Past, Name}
 use Rattle.qc_event.specs.Manager.{phase_of, stage, record_of, first_for}
-use Rattle.qc_gather.specs.Carrying.{MayCarry}
+use Rattle.qc_gather.specs.Carrying.{MayCarry, Rose}
 use Rattle.qc_gather.specs.declared.next.Next.{Next}
 use Rattle.qc_gather.specs.declared.next.Next.TheVariants.{Enough, Copy, Short}
 use Rattle.qc_gather.specs.declared.shortage.Shortage.{Shortage}
@@ -18,10 +18,13 @@ use Rattle.qc_rw.specs.Told.{told_in}
 use Rattle.qc_rw.specs.Going.{MayGoOn, SameElsewhere, HasHeard, HasServed, MayPut, HasPut, putting, Link}
 use Rattle.qc_rw.specs.declared.no.MgrNo.{MgrNo}
 use Rattle.qc_rw.specs.Managed.{IsRefused, no_of}
+use Rattle.qc_rw.specs.Undisturbed.{HasCause, IsUndisturbed, IsShortage}
+use Rattle.qc_rw.proofs.Causes.{causes_none, causes_further}
 use Rattle.qc_rw.proofs.Nexts.{next_enough, next_short, next_copy_of}
 use Rattle.qc_rw.proofs.Served.{served_none, served_further}
 use Rattle.qc_rw.proofs.Short.{refused_short}
 use Rattle.qc_rw.proofs.Stages.{is_enough-told, reached_stays, stage_at, may_carry}
+use Rattle.qc_rw.proofs.Undisturbed.{never_short, undisturbed_since}
 use Rattle.qc_rw.proofs.Unasked.{unasked, unasked_fewer, next_within}
 
 -- a manager that puts, between the carrier where it began and the carrier now
@@ -30,10 +33,11 @@ pub record IsPutting (a now : Link) (m : Name) (k : Kind) (config : Voting) (pha
   pub goes_on : MayGoOn a.seat now.seen m k
   pub elsewhere : SameElsewhere a.seen now.seen m phase
   pub kept_is : kept ≡ put config phase (told_in now.seen m phase)
+  pub causes : All (HasCause now.seen m (Rose a.troubles now.troubles)) (told_in now.seen m phase)
 
 pub putting_begins : (a : Link) (m : Name) (k : Kind) (rec : ℕ) (config : Voting) (phase : Phase) (op : Op) (kept : Putting) → MayPut a.setting a.seat a.seen m k rec (putting config phase op) → kept ≡ put config phase [] → IsPutting a a m k config phase kept
 putting_begins a m k rec config phase op kept may is =
-    record { served = served_none m a; goes_on = may.goes_on; elsewhere = λ p other. refl; kept_is = is ∙ ap (put config phase) (sym may.nothing_told) }
+    record { served = served_none m a; goes_on = may.goes_on; elsewhere = λ p other. refl; kept_is = is ∙ ap (put config phase) (sym may.nothing_told); causes = causes_none a m phase may.nothing_told }
 
 module _ (a now : Link) (m : Name) (k : Kind) (config : Voting) (phase : Phase) (kept : Putting) (h : IsPutting a now m k config phase kept) where
   abbrev told : List Told
@@ -64,17 +68,24 @@ module _ (a now : Link) (m : Name) (k : Kind) (config : Voting) (phase : Phase) 
         let next = next_short _ config told does in
         subst (IsRefused a.setting a.seat now.seen m k) (sym (for ∙ ap no_of by)) (refused_short a.setting a.seat now.seen m k (putting config phase op) h.goes_on (at_here next.0) next.1)
 
+    -- where it is short, it was disturbed
+    pub short_disturbed : length kept.config.votes ≤ 16 → Does Short → IsUndisturbed a.setting now.seen m k a.troubles now.troubles → ⊥
+    short_disturbed few does u =
+        let next = next_short _ config told does in
+        never_short a.setting now.seen m k a.troubles now.troubles u (putting config phase op) (at_here next.0) (subst (λ (p : Putting). length p.config.votes ≤ 16) h.kept_is few) h.causes next.1 next.0
+
     module _ (then : Link) (t : Told) (served : HasServed m now then) (heard : HasHeard now.seat now.seen then.seen m k (phase_of op) (t ∷ [])) where
       heard_here : HasHeard now.seat now.seen then.seen m k phase (t ∷ [])
       heard_here = subst (λ p. HasHeard now.seat now.seen then.seen m k p (t ∷ [])) (sym may.of_phase) heard
 
-      pub puts_on : (kept' : Putting) → kept' ≡ put config phase (told ++ t ∷ []) → IsPutting a then m k config phase kept'
-      puts_on kept' is =
+      pub puts_on : HasCause then.seen m (Rose now.troubles then.troubles) t → (kept' : Putting) → kept' ≡ put config phase (told ++ t ∷ []) → IsPutting a then m k config phase kept'
+      puts_on cause kept' is =
           record {
             served = served_further m a now then h.served served;
             goes_on = subst (λ seat. MayGoOn seat then.seen m k) h.served.seat heard_here.goes_on;
             elsewhere = λ p other. heard_here.elsewhere p other ∙ h.elsewhere p other;
             kept_is = is ∙ ap (put config phase) (sym heard_here.here);
+            causes = causes_further a now then m phase t h.served served heard_here.here h.causes cause;
           }
 
       pub fewer_left : (copy : ℕ) → Does (Copy copy) → t.copy ≡ copy → unasked (told_in then.seen m phase) < unasked told
@@ -91,3 +102,7 @@ module _ (a now : Link) (m : Name) (k : Kind) (config : Voting) (phase : Phase) 
   pub refused_on : (past : Past) (why : MgrNo) → IsRefused now.setting now.seat past m k why → IsRefused a.setting a.seat past m k why
   refused_on past why refused =
       subst (λ setting. IsRefused setting a.seat past m k why) h.served.setting (subst (λ seat. IsRefused now.setting seat past m k why) h.served.seat refused)
+
+  -- and where nothing disturbed the manager, memory or room was wanting
+  pub complete_on : (past : Past) (troubles : ℕ) (why : MgrNo) → (IsUndisturbed now.setting past m k now.troubles troubles → IsShortage why) → IsUndisturbed a.setting past m k a.troubles troubles → IsShortage why
+  complete_on past troubles why complete u = complete (undisturbed_since a.setting now.setting past m k a.troubles now.troubles troubles h.served.setting h.served.later u)

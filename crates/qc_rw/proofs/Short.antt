@@ -27,7 +27,7 @@ use Rattle.qc_rw.proofs.Stages.{at_stage}
 -- EACH COPY IS KNOWN
 
 -- where none is blocked, a copy that was asked replied or is missing
-known_in : (told : List Told) (copy : ℕ) → blocked_in told ≡ None → was_asked told copy ≡ true → (replied_by told copy || is_some (missing_in told copy)) ≡ true
+pub known_in : (told : List Told) (copy : ℕ) → blocked_in told ≡ None → was_asked told copy ≡ true → (replied_by told copy || is_some (missing_in told copy)) ≡ true
 known_in [] copy free asked = absurd cc
 known_in (t ∷ told) copy free asked = step t.result (t.copy == copy) free asked (known_in told copy)
   where
@@ -38,7 +38,7 @@ known_in (t ∷ told) copy free asked = step t.result (t.copy == copy) free aske
     step (Missing why) false free asked below = below free asked
     step (BlockedBy holder) b free asked below = absurd cc
 
-found_none : (b : Bool) (x : ℕ) (rest : Option ℕ) → cond b (Some x) rest ≡ None → (b ≡ false) × (rest ≡ None)
+pub found_none : (b : Bool) (x : ℕ) (rest : Option ℕ) → cond b (Some x) rest ≡ None → (b ≡ false) × (rest ≡ None)
 found_none true x rest is = absurd cc
 found_none false x rest is = (refl, is)
 

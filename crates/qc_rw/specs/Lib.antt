@@ -1,3 +1,4 @@
 pub mod Told
 pub mod Managed
 pub mod Going
+pub mod Undisturbed

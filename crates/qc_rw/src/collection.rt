@@ -7,6 +7,7 @@ ghost use Rattle.qc_gather.specs.Gathered.{gathered};
 ghost use Rattle.qc_gather.specs.Told.{Told};
 ghost use Rattle.qc_rw.specs.Going.{MayCollect, HasServed, HasCollected, link};
 ghost use Rattle.qc_rw.specs.Managed.{IsRefused};
+ghost use Rattle.qc_rw.specs.Undisturbed.{IsUndisturbed, IsShortage};
 
 use crate::no::MgrNo;
 use crate::request::request;
@@ -28,7 +29,8 @@ fn hear(gather: &mut Gather, copy: u8, carried: &Carried)
 /// Reads copies for a manager, the least first, until those that replied hold a read quorum of the newest
 /// configuration, which may change with each reply (Gifford). It answers what was gathered. The manager is one
 /// that has asked for nothing yet, and `first` is its record's first configuration. After an error the manager
-/// may end for the error's cause, where it has one; what it asked stands.
+/// may end for the error's cause, where it has one; what it asked stands. Where nothing disturbed it, only
+/// memory or room was wanting.
 pub fn collect<C: Carrier>(
     carrier: &mut C,
     manager: &Name,
@@ -40,6 +42,8 @@ pub fn collect<C: Carrier>(
     ensures served { HasServed manager.now (link (C.setting carrier.old) (C.seat carrier.old) (C.own carrier.old) (C.seen carrier.old) (C.others carrier.old) (C.troubles carrier.old)) (link (C.setting carrier.new) (C.seat carrier.new) (C.own carrier.new) (C.seen carrier.new) (C.others carrier.new) (C.troubles carrier.new)) }
     ensures collected { IfOk result (HasCollected (C.seat carrier.old) (C.seen carrier.old) (C.seen carrier.new) manager.now kind first.now) }
     ensures refused { IfErr result (IsRefused (C.setting carrier.old) (C.seat carrier.old) (C.seen carrier.new) manager.now kind) }
+    ensures complete { IfErr result (λ why. IsUndisturbed (C.setting carrier.old) (C.seen carrier.new) manager.now kind (C.troubles carrier.old) (C.troubles carrier.new) → IsShortage why) }
+    ensures became { C.became carrier.old carrier.new }
 {
     let mut gather = Gather::new(first);
     loop {

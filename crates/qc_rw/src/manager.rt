@@ -7,6 +7,7 @@ ghost use Rattle.qc_event.specs.Manager.{greatest};
 ghost use Rattle.qc_gather.specs.Carrying.{IsRunning, HasGrown};
 ghost use Rattle.qc_rw.specs.Going.{HasMade};
 ghost use Rattle.qc_rw.specs.Managed.{IsAnswered, IsRefused};
+ghost use Rattle.qc_rw.specs.Undisturbed.{IsUndisturbed, IsShortage};
 
 use crate::collection::collect;
 use crate::no::MgrNo;
@@ -18,6 +19,7 @@ use qc_gather::Carrier;
 /// Reads a record, for a manager that was started to read it and has asked nothing: the value of the
 /// greatest version at a read quorum of the newest configuration (Gifford). The manager may then commit with
 /// it. After an error the manager may end for the error's cause, where it has one; what it asked stands.
+/// Where nothing disturbed the manager, only memory or room was wanting.
 pub fn read<C: Carrier>(
     carrier: &mut C,
     manager: &Name,
@@ -34,6 +36,8 @@ pub fn read<C: Carrier>(
     ensures own { HasMade manager.now (C.own carrier.old) (C.own carrier.new) }
     ensures answered { IfOk result (λ value. IsAnswered (C.setting carrier.old) (C.seat carrier.old) (C.seen carrier.new) manager.now (kind.Read rec) (answer.Value value)) }
     ensures refused { IfErr result (IsRefused (C.setting carrier.old) (C.seat carrier.old) (C.seen carrier.new) manager.now (kind.Read rec)) }
+    ensures complete { IfErr result (λ why. IsUndisturbed (C.setting carrier.old) (C.seen carrier.new) manager.now (kind.Read rec) (C.troubles carrier.old) (C.troubles carrier.new) → IsShortage why) }
+    ensures became { C.became carrier.old carrier.new }
     ensures later { C.troubles carrier.old ≤ C.troubles carrier.new }
 {
     let gather = collect(carrier, manager, rec, first)?;
@@ -44,7 +48,8 @@ pub fn read<C: Carrier>(
 /// Writes a value to a record, for a manager that was started to write it and has asked nothing: it puts
 /// the value, with the version after the greatest at a read quorum, to a write quorum of the newest
 /// configuration (Gifford). It answers that version, and the manager may then commit. After an error the
-/// manager may end for the error's cause, where it has one; what it asked stands.
+/// manager may end for the error's cause, where it has one; what it asked stands. Where nothing disturbed the
+/// manager, only memory or room was wanting.
 pub fn write<C: Carrier>(
     carrier: &mut C,
     manager: &Name,
@@ -63,6 +68,8 @@ pub fn write<C: Carrier>(
     ensures answered { IfOk result (λ version. IsAnswered (C.setting carrier.old) (C.seat carrier.old) (C.seen carrier.new) manager.now (kind.Write rec value) answer.Nothing) }
     ensures version { IfOk result (λ version. version ≡ (greatest (C.seen carrier.new) manager.now).version + 1) }
     ensures refused { IfErr result (IsRefused (C.setting carrier.old) (C.seat carrier.old) (C.seen carrier.new) manager.now (kind.Write rec value)) }
+    ensures complete { IfErr result (λ why. IsUndisturbed (C.setting carrier.old) (C.seen carrier.new) manager.now (kind.Write rec value) (C.troubles carrier.old) (C.troubles carrier.new) → IsShortage why) }
+    ensures became { C.became carrier.old carrier.new }
     ensures later { C.troubles carrier.old ≤ C.troubles carrier.new }
 {
     let gather = collect(carrier, manager, rec, first)?;

@@ -8,6 +8,7 @@ ghost use Rattle.qc_gather.specs.Gathered as gathered_words;
 ghost use Rattle.qc_gather.specs.Told.{Told};
 ghost use Rattle.qc_rw.specs.Going.{MayPut, HasServed, HasPut, putting, link};
 ghost use Rattle.qc_rw.specs.Managed.{IsRefused};
+ghost use Rattle.qc_rw.specs.Undisturbed.{IsUndisturbed, IsShortage};
 
 use crate::no::MgrNo;
 use crate::request::request;
@@ -29,7 +30,7 @@ fn hear(puts: &mut Puts, copy: u8, carried: &Carried)
 /// Puts to copies for a manager, the least first, until those that replied hold a write quorum of a
 /// configuration (Gifford). The manager has collected, and has come to the stage at which it asks for this, in
 /// this phase. After an error the manager may end for the error's cause, where it has one; what it asked
-/// stands.
+/// stands. Where nothing disturbed it, only memory or room was wanting.
 pub fn put<C: Carrier>(
     carrier: &mut C,
     manager: &Name,
@@ -43,6 +44,8 @@ pub fn put<C: Carrier>(
     ensures served { HasServed manager.now (link (C.setting carrier.old) (C.seat carrier.old) (C.own carrier.old) (C.seen carrier.old) (C.others carrier.old) (C.troubles carrier.old)) (link (C.setting carrier.new) (C.seat carrier.new) (C.own carrier.new) (C.seen carrier.new) (C.others carrier.new) (C.troubles carrier.new)) }
     ensures put { OnOk result (HasPut (C.seat carrier.old) (C.seen carrier.old) (C.seen carrier.new) manager.now kind (putting config.now phase op.now)) }
     ensures refused { IfErr result (IsRefused (C.setting carrier.old) (C.seat carrier.old) (C.seen carrier.new) manager.now kind) }
+    ensures complete { IfErr result (λ why. IsUndisturbed (C.setting carrier.old) (C.seen carrier.new) manager.now kind (C.troubles carrier.old) (C.troubles carrier.new) → IsShortage why) }
+    ensures became { C.became carrier.old carrier.new }
 {
     let mut puts = Puts::new(config, phase);
     loop {

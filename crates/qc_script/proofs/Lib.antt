@@ -2,5 +2,6 @@ pub mod Objects
 pub mod Parts
 pub mod Plans
 pub mod Refusals
+pub mod Names
 pub mod Proper
 pub mod OneScript

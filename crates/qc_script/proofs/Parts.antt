@@ -1,5 +1,5 @@
 -- What the loops of a reader keep: the parts that are left decide.
-use Rattle.std.specs.Prelude.{ℕ, ◌+◌, List, [], ◌∷◌, ◌++◌, Ok, Option, option_map}
+use Rattle.std.specs.Prelude.{List, [], ◌∷◌, ◌++◌, Ok}
 use Rattle.qc_script.specs.declared.script.Step.{Step}
 use Rattle.qc_script.specs.Plan.{Plan}
 use Rattle.qc_script.specs.ScriptText.{Read, Counted, ◌>>=◌}
@@ -17,7 +17,3 @@ put_all (s ∷ steps) rest = put s (put_all steps rest)
 -- the steps that were read, and those that are still read
 abbrev pub with_steps : List Step → Counted Plan → Counted Plan
 with_steps front r = r >>= λ rest. Ok (put_all front rest.0, rest.1)
-
--- a place in what is left after i rows, as a place in all of them
-abbrev pub after : ℕ → Option ℕ → Option ℕ
-after i o = option_map (λ k. k + i) o

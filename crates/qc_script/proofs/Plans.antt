@@ -4,7 +4,7 @@ use Rattle.std.proofs.lemmas.List.{drop_all}
 use Rattle.serde_json.specs.Data.{Data}
 use Rattle.serde_json.specs.View.{view}
 use Rattle.serde_json.specs.declared.value.Value.{Value}
-use Rattle.qc_event.specs.declared.table.Row.{Row}
+use Rattle.qc_event.specs.declared.table.Table.{Table}
 use Rattle.qc_script.specs.declared.script.Body.{Body, roll-Body, fold-roll-Body}
 use Rattle.qc_script.specs.declared.script.Step.{Step}
 use Rattle.qc_script.specs.declared.script.Step.TheOpen.{Body-F}
@@ -17,11 +17,11 @@ all_before-map : (steps : List Step) → all_before (map put steps) ≡ plan_of 
 all_before-map [] = refl
 all_before-map (s ∷ steps) = ap (put s) (all_before-map steps)
 
--- the number and the plan of a body
-pub numbered_roll : (b : Body-F Step Body) → numbered (roll-Body b) ≡ record { number = b.number; plan = plan_of b.steps.items }
+-- the number, the tries and the plan of a body
+pub numbered_roll : (b : Body-F Step Body) → numbered (roll-Body b) ≡ record { number = b.number; tries = b.tries; plan = plan_of b.steps.items }
 numbered_roll b =
     fold-roll-Body (Plan → Plan) Numbered before layer b
-    ∙ ap (λ (p : Plan). let n : Numbered = record { number = b.number; plan = p } in n) (all_before-map b.steps.items)
+    ∙ ap (λ (p : Plan). let n : Numbered = record { number = b.number; tries = b.tries; plan = p } in n) (all_before-map b.steps.items)
 
 put_all-done : (steps : List Step) → put_all steps Plan.done ≡ plan_of steps
 put_all-done [] = refl
@@ -36,22 +36,22 @@ unfolding followed
 put_next front s (Ok rest) = ap (λ (p : Plan). Ok (p, rest.1)) (sym (put_all-push front s rest.0))
 put_next front s (Err e) = refl
 
-with_steps-cons : (body : ℕ → Data → Counted Numbered) (depth : ℕ) (rows : List Row) (next after : ℕ) (front : List Step) (s : Step) (d : Data) (ds : List Data) → step_of body depth rows next d ≡ Ok (put s, after) → with_steps front (steps_of body depth rows next (d ∷ ds)) ≡ with_steps (front ++ s ∷ []) (steps_of body depth rows after ds)
+with_steps-cons : (body : ℕ → Data → Counted Numbered) (depth : ℕ) (table : Table) (next after : ℕ) (front : List Step) (s : Step) (d : Data) (ds : List Data) → step_of body depth table next d ≡ Ok (put s, after) → with_steps front (steps_of body depth table next (d ∷ ds)) ≡ with_steps (front ++ s ∷ []) (steps_of body depth table after ds)
 unfolding followed
-with_steps-cons body depth rows next after front s d ds h =
-    ap (λ (r : Counted Front). with_steps front (r >>= λ first. steps_of body depth rows first.1 ds >>= λ rest. Ok (first.0 rest.0, rest.1))) h
-    ∙ put_next front s (steps_of body depth rows after ds)
+with_steps-cons body depth table next after front s d ds h =
+    ap (λ (r : Counted Front). with_steps front (r >>= λ first. steps_of body depth table first.1 ds >>= λ rest. Ok (first.0 rest.0, rest.1))) h
+    ∙ put_next front s (steps_of body depth table after ds)
 
 -- one more step is read
-pub with_steps-next : (body : ℕ → Data → Counted Numbered) (depth : ℕ) (rows : List Row) (next after : ℕ) (front : List Step) (s : Step) (list : List Value) (i : ℕ) (x : Value) → i < length list → x ≡ get_or list i x → step_of body depth rows next (view x) ≡ Ok (put s, after) → with_steps front (steps_of body depth rows next (map view (drop i list))) ≡ with_steps (front ++ s ∷ []) (steps_of body depth rows after (map view (drop (i + 1) list)))
-with_steps-next body depth rows next after front s list i x below is h =
+pub with_steps-next : (body : ℕ → Data → Counted Numbered) (depth : ℕ) (table : Table) (next after : ℕ) (front : List Step) (s : Step) (list : List Value) (i : ℕ) (x : Value) → i < length list → x ≡ get_or list i x → step_of body depth table next (view x) ≡ Ok (put s, after) → with_steps front (steps_of body depth table next (map view (drop i list))) ≡ with_steps (front ++ s ∷ []) (steps_of body depth table after (map view (drop (i + 1) list)))
+with_steps-next body depth table next after front s list i x below is h =
     let split : drop i list ≡ x ∷ drop (i + 1) list = rw add-one (drop-cons list i x below ∙ ap (λ y. y ∷ drop (suc i) list) (sym is)) in
-    ap (λ (vs : List Value). with_steps front (steps_of body depth rows next (map view vs))) split
-    ∙ with_steps-cons body depth rows next after front s (view x) (map view (drop (i + 1) list)) h
+    ap (λ (vs : List Value). with_steps front (steps_of body depth table next (map view vs))) split
+    ∙ with_steps-cons body depth table next after front s (view x) (map view (drop (i + 1) list)) h
 
 -- none is left
-pub with_steps-end : (body : ℕ → Data → Counted Numbered) (depth : ℕ) (rows : List Row) (next : ℕ) (front : List Step) (list : List Value) (i : ℕ) → length list ≤ i → with_steps front (steps_of body depth rows next (map view (drop i list))) ≡ Ok (plan_of front, next)
+pub with_steps-end : (body : ℕ → Data → Counted Numbered) (depth : ℕ) (table : Table) (next : ℕ) (front : List Step) (list : List Value) (i : ℕ) → length list ≤ i → with_steps front (steps_of body depth table next (map view (drop i list))) ≡ Ok (plan_of front, next)
 unfolding followed
-with_steps-end body depth rows next front list i past =
-    ap (λ (vs : List Value). with_steps front (steps_of body depth rows next (map view vs))) (drop_all i list past)
+with_steps-end body depth table next front list i past =
+    ap (λ (vs : List Value). with_steps front (steps_of body depth table next (map view vs))) (drop_all i list past)
     ∙ ap (λ (p : Plan). Ok (p, next)) (put_all-done front)

@@ -1,21 +1,28 @@
--- A script that is read is proper: 1 to 16 copies, 1 to 64 records of legal configurations, and steps about these.
-use Rattle.std.proofs.Common.{◌≡◌, ℕ, zero, suc, ◌+◌, ◌-◌, ◌<◌, ◌≤◌, Bool, true, false, cond, List, [], ◌∷◌, ◌++◌, length, Option, Some, None, option_map, Result, Ok, Err, refl, sym, ap, ◌∙◌, subst, arith}
+-- A script that is read is proper: its numbers are within their limits, its records have legal configurations,
+-- and its steps are about these.
+use Rattle.std.proofs.Common.{◌≡◌, ℕ, zero, suc, ◌+◌, ◌-◌, ◌*◌, ◌<◌, ◌≤◌, Bool, true, false, cond, List, [], ◌∷◌, ◌++◌, length, Option, Some, None, Result, Ok, Err, refl, sym, ap, ◌∙◌, subst, arith}
 use Rattle.std.specs.Prelude.{◌==◌, ◌||◌, ◌&&◌, nat_lt, nat_le, sum, IfOk, IfSome, ok_or, if◌then◌else◌, codes}
-use Rattle.std.specs.List.{AllByRecursion}
+use Rattle.std.specs.List.{AllByRecursion, position}
 use Rattle.std.specs.Str.{bytes_eq}
 use Rattle.std.proofs.lemmas.Bool.{eqb-true, eqb-false, leb-true, leb-false, ltb-true, ltb-false, or_parts, and_parts}
+use Rattle.std.proofs.lemmas.List.{length-map}
+use Rattle.std.proofs.lemmas.List.Quantifiers.{position-Some}
 use Rattle.std.proofs.lemmas.Result.{IfOk-at_ok, IfOk-weaker}
 use Rattle.serde_json.specs.Data.{Data}
-use Rattle.qc_config.specs.Config.{Voting, IsLegal, fault}
+use Rattle.serde_json.specs.Find.{get}
+use Rattle.qc_config.specs.Config.{IsLegal, fault}
 use Rattle.qc_config.specs.declared.config.BadConfig.{BadConfig}
 use Rattle.qc_event.specs.declared.table.Row.{Row}
-use Rattle.qc_script.specs.Plan.{Plan, Numbered, PlanWithin, TopsWithin}
+use Rattle.qc_event.specs.declared.table.Table.{Table}
+use Rattle.qc_net.specs.declared.link.Fate.{Fate}
+use Rattle.qc_script.specs.Plan.{Plan, Numbered, SessionPlan, IsTried, IsConfigFor, PlanWithin, TopsWithin}
 use Rattle.qc_script.specs.Steps.{plan_of_script}
 use Rattle.qc_script.specs.declared.bad_script.BadScript.{BadScript}
 use Rattle.qc_script.specs.declared.bad_script.BadScript.TheVariants.{Shape, Config, Unknown}
+use Rattle.qc_script.specs.declared.bad_script.Member.{Member}
 use Rattle.qc_script.specs.declared.bad_script.Member.TheVariants as part
 use Rattle.qc_script.specs.declared.script.Script.{Script}
-use Rattle.qc_script.specs.ScriptText.{Read, Text, Front, Counted, followed, ◌>>=◌, must, each, config_of, row_of, rows_of, place_of, number_of, is_word, read_of, set_of, child_of, abort_of, step_in, step_of, steps_of, body_of, bodies_of, session_of, only_session, copies_of, records_of, tops_of, script_of}
+use Rattle.qc_script.specs.ScriptText.{Read, Text, Front, Counted, Net, followed, ◌>>=◌, must, each, limited, member_or, config_of, row_of, names_of, rows_of, number_of, fate_of, fates_of, net_of, is_word, read_of, set_of, reconf_of, child_of, abort_of, step_in, step_of, steps_of, tries_of, body_of, bodies_of, session_of, only_session, copies_of, records_of, session_at, script_of}
 use Rattle.qc_script.specs.Reading.{Gives, IsProperRow, IsProper}
 
 -- what holds of the last of several parts, where each of them is read
@@ -35,6 +42,29 @@ must_true false e t h = absurd cc
 ok_or_some : {A : Type 0} (P : A → Type 0) (o : Option A) (e : BadScript) → IfSome o P → IfOk (ok_or o e) P
 ok_or_some P None e h = tt
 ok_or_some P (Some x) e h = h
+
+-- ---- limits
+
+within_limits : (low high n : ℕ) → (nat_le low n && nat_le n high) ≡ true → (low ≤ n) × (n ≤ high)
+within_limits low high n h = let p = and_parts (nat_le low n) (nat_le n high) h in (leb-true low n p.0, leb-true n high p.1)
+
+limited_within : (word : Member) (low high : ℕ) (d : Data) → IfOk (limited word low high d) (λ n. (low ≤ n) × (n ≤ high))
+limited_within word low high d = then_ok _ _ _ λ n _. then_ok _ _ _ λ t h. within_limits low high n (must_true _ _ t h)
+
+found_or : {A : Type 0} (P : A → Type 0) (default : A) (read : Data → Read A) (o : Option Data) → P default → ((d : Data) → IfOk (read d) P) → IfOk (elim o [ None ↦ Ok default | Some d ↦ read d ]) P
+found_or P default read None p h = p
+found_or P default read (Some d) p h = h d
+
+-- what holds of the default and of what is read
+given_or : {A : Type 0} (P : A → Type 0) (name : Text) (default : A) (read : Data → Read A) (d : Data) → P default → ((d : Data) → IfOk (read d) P) → IfOk (member_or name default read d) P
+given_or P name default read d p h = found_or P default read (get name d) p h
+
+-- a number of 1 to 64
+abbrev IsFew : ℕ → Type 0
+IsFew n = (1 ≤ n) × (n ≤ 64)
+
+few_or : (word : Member) (name : Text) (default : ℕ) (d : Data) → IsFew default → IfOk (member_or name default (limited word 1 64) d) IsFew
+few_or word name default d few = given_or IsFew name default (limited word 1 64) d few (limited_within word 1 64)
 
 -- ---- configurations
 
@@ -67,25 +97,21 @@ length-each : {A B : Type 0} (f : A → Read B) (xs : List A) → IfOk (each f x
 length-each f [] = refl
 length-each f (x ∷ xs) = then_ok _ _ _ λ y _. then_ok _ _ _ λ ys h. ap suc (IfOk-at_ok (λ zs. length zs ≡ length xs) h (length-each f xs))
 
--- a legal configuration, with one vote for each of so many copies
-abbrev IsProperConfig : ℕ → Voting → Type 0
-IsProperConfig copies config = IsLegal config × (length config.votes ≡ copies)
-
-config_proper : (copies : ℕ) (d : Data) → IfOk (config_of copies d) (IsProperConfig copies)
+config_proper : (copies : ℕ) (d : Data) → IfOk (config_of copies d) (IsConfigFor copies)
 config_proper copies d =
     then_ok _ _ _ λ _ _. then_ok _ _ _ λ list _. then_ok _ _ _ λ t counted. then_ok _ _ _ λ votes v. then_ok _ _ _ λ read _. then_ok _ _ _ λ write _.
-    no_fault (IsProperConfig copies) (fault votes read write) _ (λ h. (
-      legal_unless_fault votes read write h,
-      IfOk-at_ok (λ ys. length ys ≡ length list) v (length-each _ list) ∙ eqb-true (length list) copies (must_true _ _ t counted),
-    ))
+    no_fault (IsConfigFor copies) (fault votes read write) _ (λ h. record {
+      legal = legal_unless_fault votes read write h;
+      for_copies = IfOk-at_ok (λ ys. length ys ≡ length list) v (length-each _ list) ∙ eqb-true (length list) copies (must_true _ _ t counted);
+    })
 
 -- ---- records
 
-row_proper : (copies : ℕ) (rows : List Row) (d : Data) → IfOk (row_of copies rows d) (IsProperRow copies)
-row_proper copies rows d =
+row_proper : (copies : ℕ) (names : List Text) (d : Data) → IfOk (row_of copies names d) (IsProperRow copies)
+row_proper copies names d =
     then_ok _ _ _ λ _ _. then_ok _ _ _ λ name _. then_ok _ _ _ λ start _. then_ok _ _ _ λ value _. then_ok _ _ _ λ config h.
-    let proper = IfOk-at_ok (IsProperConfig copies) h (config_proper copies value) in
-    record { legal = proper.0; for_copies = proper.1 }
+    let proper = IfOk-at_ok (IsConfigFor copies) h (config_proper copies value) in
+    record { legal = proper.legal; for_copies = proper.for_copies }
 
 All-push : {A : Type 0} (P : A → Type 0) (xs : List A) (y : A) → AllByRecursion P xs → P y → AllByRecursion P (xs ++ y ∷ [])
 All-push P [] y all h = (h, tt)
@@ -93,7 +119,7 @@ All-push P (x ∷ xs) y all h = (all.0, All-push P xs y all.1 h)
 
 rows_proper : (copies : ℕ) (rows : List Row) (ds : List Data) → AllByRecursion (IsProperRow copies) rows → IfOk (rows_of copies rows ds) (AllByRecursion (IsProperRow copies))
 rows_proper copies rows [] all = all
-rows_proper copies rows (d ∷ ds) all = then_ok _ _ _ λ row h. rows_proper copies (rows ++ row ∷ []) ds (All-push (IsProperRow copies) rows row all (IfOk-at_ok (IsProperRow copies) h (row_proper copies rows d)))
+rows_proper copies rows (d ∷ ds) all = then_ok _ _ _ λ row h. rows_proper copies (rows ++ row ∷ []) ds (All-push (IsProperRow copies) rows row all (IfOk-at_ok (IsProperRow copies) h (row_proper copies (names_of rows) d)))
 
 length_push : (rows : List Row) (row : Row) (n : ℕ) → length (rows ++ row ∷ []) + n ≡ length rows + suc n
 length_push [] row n = omega arith
@@ -106,148 +132,204 @@ length-rows_of copies rows (d ∷ ds) =
 
 -- ---- steps
 
-place_first : (b : Bool) (o : Option ℕ) (n : ℕ) → IfSome o (λ i. i < n) → IfSome (cond b (Some 0) (option_map (λ i. i + 1) o)) (λ i. i < suc n)
-place_first true o n h = omega arith
-place_first false None n h = tt
-place_first false (Some i) n h = omega arith
+place_within : {A : Type 0} (test : A → Bool) (xs : List A) (o : Option ℕ) → position test xs ≡ o → IfSome o (λ i. i < length xs)
+place_within test xs None h = tt
+place_within test [] (Some i) h = absurd cc
+place_within test (x ∷ xs) (Some i) h = (position-Some test (x ∷ xs) i x h).0
 
-place_within : (rows : List Row) (name : Text) → IfSome (place_of rows name) (λ i. i < length rows)
-place_within [] name = tt
-place_within (row ∷ rows) name = place_first (bytes_eq row.name name) (place_of rows name) (length rows) (place_within rows name)
+number_within : (table : Table) (name : Text) → IfOk (number_of table name) (λ i. i < length table.records)
+number_within table name =
+    let place = position (bytes_eq name) (names_of table.records) in
+    ok_or_some (λ i. i < length table.records) place (Unknown name)
+    (subst (λ n. IfSome place (λ i. i < n)) (length-map table.records (λ row. row.name)) (place_within (bytes_eq name) (names_of table.records) place refl))
 
-number_within : (rows : List Row) (name : Text) → IfOk (number_of rows name) (λ i. i < length rows)
-number_within rows name = ok_or_some (λ i. i < length rows) (place_of rows name) (Unknown name) (place_within rows name)
+-- a plan of this depth over the records of a table
+abbrev Within : Table → ℕ → Plan → Type 0
+Within table depth plan = PlanWithin table.copies (length table.records) depth plan
 
 -- a step, before a plan within bounds
-abbrev KeepsWithin : ℕ → ℕ → Front × ℕ → Type 0
-KeepsWithin records depth p = (rest : Plan) → PlanWithin records depth rest → PlanWithin records depth (p.0 rest)
+abbrev KeepsWithin : Table → ℕ → Front × ℕ → Type 0
+KeepsWithin table depth p = (rest : Plan) → Within table depth rest → Within table depth (p.0 rest)
 
 -- a body in a body of this depth
-abbrev IsInner : ℕ → ℕ → Numbered × ℕ → Type 0
-IsInner records depth p = (depth < 16) × PlanWithin records (depth + 1) p.0.plan
+abbrev IsInner : Table → ℕ → Numbered × ℕ → Type 0
+IsInner table depth p = (depth < 16) × IsTried p.0.tries × Within table (depth + 1) p.0.plan
 
-read_within : (rows : List Row) (depth next : ℕ) (rec : Data) → IfOk (read_of rows next rec) (KeepsWithin (length rows) depth)
-read_within rows depth next rec = then_ok _ _ _ λ name _. then_ok _ _ _ λ i h rest within. (IfOk-at_ok (λ k. k < length rows) h (number_within rows name), within)
+read_within : (table : Table) (depth next : ℕ) (rec : Data) → IfOk (read_of table next rec) (KeepsWithin table depth)
+read_within table depth next rec = then_ok _ _ _ λ name _. then_ok _ _ _ λ i h rest within. (IfOk-at_ok (λ k. k < length table.records) h (number_within table name), within)
 
-set_within : (rows : List Row) (depth next : ℕ) (rec value : Data) → IfOk (set_of rows next rec value) (KeepsWithin (length rows) depth)
-set_within rows depth next rec value =
-    then_ok _ _ _ λ name _. then_ok _ _ _ λ n _. then_ok _ _ _ λ i h rest within. (IfOk-at_ok (λ k. k < length rows) h (number_within rows name), within)
+set_within : (table : Table) (depth next : ℕ) (rec value : Data) → IfOk (set_of table next rec value) (KeepsWithin table depth)
+set_within table depth next rec value =
+    then_ok _ _ _ λ name _. then_ok _ _ _ λ n _. then_ok _ _ _ λ i h rest within. (IfOk-at_ok (λ k. k < length table.records) h (number_within table name), within)
 
-abort_within : (records depth next : ℕ) (d : Data) → IfOk (abort_of depth next d) (KeepsWithin records depth)
-abort_within records depth next d = then_ok _ _ _ λ k _. then_ok _ _ _ λ t h rest within. (ltb-true k depth (must_true _ _ t h), within)
-
--- what is read so is a body in a body of this depth
-abbrev ReadsInner : ℕ → ℕ → (ℕ → Data → Counted Numbered) → Type 0
-ReadsInner records depth body = (next : ℕ) (d : Data) → IfOk (body next d) (IsInner records depth)
-
-child_within : (records depth : ℕ) (body : ℕ → Data → Counted Numbered) (next : ℕ) (d : Data) → ReadsInner records depth body → IfOk (child_of body next d) (KeepsWithin records depth)
-child_within records depth body next d inner =
-    then_ok _ _ _ λ _ _. then_ok _ _ _ λ b h rest within. let p = IfOk-at_ok (IsInner records depth) h (inner next d) in (p.0, p.1, within)
-
--- by what the word of a step is
-two_within : (rows : List Row) (depth : ℕ) (body : ℕ → Data → Counted Numbered) (next : ℕ) (d : Data) (read child abort : Bool) → ReadsInner (length rows) depth body → IfOk (if read then read_of rows next d else if child then child_of body next d else if abort then abort_of depth next d else Err (Shape part.Step)) (KeepsWithin (length rows) depth)
-two_within rows depth body next d true child abort inner = read_within rows depth next d
-two_within rows depth body next d false true abort inner = child_within (length rows) depth body next d inner
-two_within rows depth body next d false false true inner = abort_within (length rows) depth next d
-two_within rows depth body next d false false false inner = tt
-
-three_within : (rows : List Row) (depth next : ℕ) (rec value : Data) (set : Bool) → IfOk (if set then set_of rows next rec value else Err (Shape part.Step)) (KeepsWithin (length rows) depth)
-three_within rows depth next rec value true = set_within rows depth next rec value
-three_within rows depth next rec value false = tt
-
-parts_within : (rows : List Row) (depth : ℕ) (body : ℕ → Data → Counted Numbered) (next : ℕ) (parts : List Data) → ReadsInner (length rows) depth body → IfOk (step_in body depth rows next parts) (KeepsWithin (length rows) depth)
-parts_within rows depth body next [] inner = tt
-parts_within rows depth body next (word ∷ []) inner = tt
-parts_within rows depth body next (word ∷ d ∷ []) inner = two_within rows depth body next d (is_word (codes "read") word) (is_word (codes "child") word) (is_word (codes "abort") word) inner
-parts_within rows depth body next (word ∷ rec ∷ value ∷ []) inner = three_within rows depth next rec value (is_word (codes "set") word)
-parts_within rows depth body next (word ∷ rec ∷ value ∷ more ∷ others) inner = tt
-
-step_within : (rows : List Row) (depth : ℕ) (body : ℕ → Data → Counted Numbered) (next : ℕ) (d : Data) → ReadsInner (length rows) depth body → IfOk (step_of body depth rows next d) (KeepsWithin (length rows) depth)
-step_within rows depth body next d inner = then_ok _ _ _ λ parts _. parts_within rows depth body next parts inner
-
-steps_within : (rows : List Row) (depth : ℕ) (body : ℕ → Data → Counted Numbered) (next : ℕ) (ds : List Data) → ReadsInner (length rows) depth body → IfOk (steps_of body depth rows next ds) (λ p. PlanWithin (length rows) depth p.0)
-steps_within rows depth body next [] inner = tt
-steps_within rows depth body next (d ∷ ds) inner =
-    then_ok _ _ _ λ first h. then_ok _ _ _ λ rest hs.
-    IfOk-at_ok (KeepsWithin (length rows) depth) h (step_within rows depth body next d inner) rest.0
-    (IfOk-at_ok (λ (p : Plan × ℕ). PlanWithin (length rows) depth p.0) hs (steps_within rows depth body first.1 ds inner))
-
--- a body that may have so many levels, in the body above it
-inner_within : (rows : List Row) (levels next : ℕ) (d : Data) → levels ≤ 15 → IfOk (body_of levels rows next d) (λ p. PlanWithin (length rows) (17 - levels) p.0.plan) → IfOk (body_of levels rows next d) (IsInner (length rows) (16 - levels))
-inner_within rows zero next d few h = then_ok _ _ _ λ _ _. tt
-inner_within rows (suc below) next d few h =
-    IfOk-weaker (body_of (suc below) rows next d) _ _ (λ p within.
-    let depth : 17 - suc below ≡ 16 - suc below + 1 = omega arith in
-    let P : ℕ → Type 0 = λ n. PlanWithin (length rows) n p.0.plan in
-    (omega arith, subst P depth within)) h
-
-body_within : (rows : List Row) (levels next : ℕ) (d : Data) → levels ≤ 16 → IfOk (body_of levels rows next d) (λ p. PlanWithin (length rows) (17 - levels) p.0.plan)
-body_within rows zero next d few = then_ok _ _ _ λ _ _. tt
-body_within rows (suc below) next d few =
-    then_ok _ _ _ λ _ _. then_ok _ _ _ λ _ _. then_ok _ _ _ λ _ _. then_ok _ _ _ λ list _. then_ok _ _ _ λ steps h.
-    let depth : 16 - below ≡ 17 - suc below = omega arith in
-    let P : ℕ → Type 0 = λ n. PlanWithin (length rows) n steps.0 in
-    subst P depth (
-    IfOk-at_ok (λ (p : Plan × ℕ). PlanWithin (length rows) (16 - below) p.0) h
-    (steps_within rows (16 - below) (body_of below rows) (next + 1) list (λ n x. inner_within rows below n x (omega arith) (body_within rows below n x (omega arith)))))
-
-bodies_within : (rows : List Row) (next : ℕ) (ds : List Data) → IfOk (bodies_of rows next ds) (TopsWithin (length rows))
-bodies_within rows next [] = tt
-bodies_within rows next (d ∷ ds) =
-    then_ok _ _ _ λ b h. then_ok _ _ _ λ bodies hs. (
-      IfOk-at_ok (λ (p : Numbered × ℕ). PlanWithin (length rows) 1 p.0.plan) h (body_within rows 16 next d (omega arith)),
-      IfOk-at_ok (TopsWithin (length rows)) hs (bodies_within rows b.1 ds),
+reconf_within : (table : Table) (depth next : ℕ) (rec config : Data) → IfOk (reconf_of table next rec config) (KeepsWithin table depth)
+reconf_within table depth next rec config =
+    then_ok _ _ _ λ name _. then_ok _ _ _ λ _ _. then_ok _ _ _ λ i h. then_ok _ _ _ λ c hc rest within. (
+      IfOk-at_ok (λ k. k < length table.records) h (number_within table name),
+      IfOk-at_ok (IsConfigFor table.copies) hc (config_proper table.copies config),
+      within,
     )
 
-session_within : (rows : List Row) (d : Data) → IfOk (session_of rows d) (TopsWithin (length rows))
-session_within rows d = then_ok _ _ _ λ _ _. then_ok _ _ _ λ _ _. then_ok _ _ _ λ list _. bodies_within rows 0 list
+abort_within : (table : Table) (depth next : ℕ) (d : Data) → IfOk (abort_of depth next d) (KeepsWithin table depth)
+abort_within table depth next d = then_ok _ _ _ λ k _. then_ok _ _ _ λ t h rest within. (ltb-true k depth (must_true _ _ t h), within)
 
-only_within : (rows : List Row) (ds : List Data) → IfOk (only_session rows ds) (TopsWithin (length rows))
-only_within rows [] = tt
-only_within rows (d ∷ []) = session_within rows d
-only_within rows (d ∷ e ∷ ds) = tt
+-- what is read so is a body in a body of this depth
+abbrev ReadsInner : Table → ℕ → (ℕ → Data → Counted Numbered) → Type 0
+ReadsInner table depth body = (next : ℕ) (d : Data) → IfOk (body next d) (IsInner table depth)
 
-tops_within : (rows : List Row) (d : Data) → IfOk (tops_of rows d) (TopsWithin (length rows))
-tops_within rows d = then_ok _ _ _ λ sessions _. then_ok _ _ _ λ _ _. only_within rows sessions
+child_within : (table : Table) (depth : ℕ) (body : ℕ → Data → Counted Numbered) (next : ℕ) (d : Data) → ReadsInner table depth body → IfOk (child_of body next d) (KeepsWithin table depth)
+child_within table depth body next d inner =
+    then_ok _ _ _ λ _ _. then_ok _ _ _ λ b h rest within. let p = IfOk-at_ok (IsInner table depth) h (inner next d) in (p.0, p.1, p.2, within)
+
+-- by what the word of a step is
+two_within : (table : Table) (depth : ℕ) (body : ℕ → Data → Counted Numbered) (next : ℕ) (d : Data) (read child abort : Bool) → ReadsInner table depth body → IfOk (if read then read_of table next d else if child then child_of body next d else if abort then abort_of depth next d else Err (Shape part.Step)) (KeepsWithin table depth)
+two_within table depth body next d true child abort inner = read_within table depth next d
+two_within table depth body next d false true abort inner = child_within table depth body next d inner
+two_within table depth body next d false false true inner = abort_within table depth next d
+two_within table depth body next d false false false inner = tt
+
+three_within : (table : Table) (depth next : ℕ) (rec value : Data) (set reconf : Bool) → IfOk (if set then set_of table next rec value else if reconf then reconf_of table next rec value else Err (Shape part.Step)) (KeepsWithin table depth)
+three_within table depth next rec value true reconf = set_within table depth next rec value
+three_within table depth next rec value false true = reconf_within table depth next rec value
+three_within table depth next rec value false false = tt
+
+parts_within : (table : Table) (depth : ℕ) (body : ℕ → Data → Counted Numbered) (next : ℕ) (parts : List Data) → ReadsInner table depth body → IfOk (step_in body depth table next parts) (KeepsWithin table depth)
+parts_within table depth body next [] inner = tt
+parts_within table depth body next (word ∷ []) inner = tt
+parts_within table depth body next (word ∷ d ∷ []) inner = two_within table depth body next d (is_word (codes "read") word) (is_word (codes "child") word) (is_word (codes "abort") word) inner
+parts_within table depth body next (word ∷ rec ∷ value ∷ []) inner = three_within table depth next rec value (is_word (codes "set") word) (is_word (codes "reconf") word)
+parts_within table depth body next (word ∷ rec ∷ value ∷ more ∷ others) inner = tt
+
+step_within : (table : Table) (depth : ℕ) (body : ℕ → Data → Counted Numbered) (next : ℕ) (d : Data) → ReadsInner table depth body → IfOk (step_of body depth table next d) (KeepsWithin table depth)
+step_within table depth body next d inner = then_ok _ _ _ λ parts _. parts_within table depth body next parts inner
+
+steps_within : (table : Table) (depth : ℕ) (body : ℕ → Data → Counted Numbered) (next : ℕ) (ds : List Data) → ReadsInner table depth body → IfOk (steps_of body depth table next ds) (λ p. Within table depth p.0)
+steps_within table depth body next [] inner = tt
+steps_within table depth body next (d ∷ ds) inner =
+    then_ok _ _ _ λ first h. then_ok _ _ _ λ rest hs.
+    IfOk-at_ok (KeepsWithin table depth) h (step_within table depth body next d inner) rest.0
+    (IfOk-at_ok (λ (p : Plan × ℕ). Within table depth p.0) hs (steps_within table depth body first.1 ds inner))
+
+tried : (around : ℕ) (d : Data) → IfOk (tries_of around d) IsTried
+tried around d =
+    then_ok _ _ _ λ tries h. then_ok _ _ _ λ _ _.
+    IfOk-at_ok IsTried h (given_or IsTried (codes "tries") 1 (limited part.Tries 1 16) d (omega arith, omega arith) (limited_within part.Tries 1 16))
+
+-- a body of this depth
+abbrev IsBody : Table → ℕ → Numbered × ℕ → Type 0
+IsBody table depth p = IsTried p.0.tries × Within table depth p.0.plan
+
+-- a body that may have so many levels, in the body above it
+inner_within : (table : Table) (levels around next : ℕ) (d : Data) → levels ≤ 15 → IfOk (body_of levels around table next d) (IsBody table (17 - levels)) → IfOk (body_of levels around table next d) (IsInner table (16 - levels))
+inner_within table zero around next d few h = then_ok _ _ _ λ _ _. tt
+inner_within table (suc below) around next d few h =
+    IfOk-weaker (body_of (suc below) around table next d) _ _ (λ p within.
+    let depth : 17 - suc below ≡ 16 - suc below + 1 = omega arith in
+    let P : ℕ → Type 0 = λ n. Within table n p.0.plan in
+    (omega arith, within.0, subst P depth within.1)) h
+
+body_within : (table : Table) (levels around next : ℕ) (d : Data) → levels ≤ 16 → IfOk (body_of levels around table next d) (IsBody table (17 - levels))
+body_within table zero around next d few = then_ok _ _ _ λ _ _. tt
+body_within table (suc below) around next d few =
+    then_ok _ _ _ λ _ _. then_ok _ _ _ λ tries t. then_ok _ _ _ λ _ _. then_ok _ _ _ λ list _. then_ok _ _ _ λ steps h.
+    let depth : 16 - below ≡ 17 - suc below = omega arith in
+    let P : ℕ → Type 0 = λ n. Within table n steps.0 in (
+      IfOk-at_ok IsTried t (tried around d),
+      subst P depth (
+          IfOk-at_ok (λ (p : Plan × ℕ). Within table (16 - below) p.0) h
+          (steps_within table (16 - below) (body_of below (around * tries) table) (next + 1) list (λ n x. inner_within table below (around * tries) n x (omega arith) (body_within table below (around * tries) n x (omega arith))))),
+    )
+
+bodies_within : (table : Table) (next : ℕ) (ds : List Data) → IfOk (bodies_of table next ds) (TopsWithin table.copies (length table.records))
+bodies_within table next [] = tt
+bodies_within table next (d ∷ ds) =
+    then_ok _ _ _ λ b h. then_ok _ _ _ λ bodies hs.
+    let top = IfOk-at_ok (IsBody table 1) h (body_within table 16 1 next d (omega arith)) in
+    (top.0, top.1, IfOk-at_ok (TopsWithin table.copies (length table.records)) hs (bodies_within table b.1 ds))
+
+-- ---- sessions
+
+fates_few : (d : Data) → IfOk (fates_of d) (λ fates. length fates ≤ 64)
+fates_few d =
+    then_ok _ _ _ λ text _. then_ok _ _ _ λ fates h. then_ok _ _ _ λ t limited.
+    let counted = IfOk-at_ok (λ (ys : List Fate). length ys ≡ length text) h (length-each fate_of text) in
+    let few = within_limits 0 64 (length text) (must_true _ _ t limited) in
+    omega arith
+
+-- few fates, and a hold within its limits
+abbrev IsProperNet : Net → Type 0
+IsProperNet net = (length net.0 ≤ 64) × IsFew net.1
+
+net_proper : (d : Data) → IfOk (net_of d) IsProperNet
+net_proper d =
+    then_ok _ _ _ λ _ _. then_ok _ _ _ λ fates f. then_ok _ _ _ λ hold h. (
+      IfOk-at_ok (λ (fs : List Fate). length fs ≤ 64) f (given_or (λ fs. length fs ≤ 64) (codes "fates") [] fates_of d (omega arith) fates_few),
+      IfOk-at_ok IsFew h (few_or part.Hold (codes "hold") 1 d (omega arith, omega arith)),
+    )
+
+-- a session over the records of a table
+record IsProperSession (table : Table) (s : SessionPlan) : Type 0 where
+  net : IsProperNet (s.fates, s.hold)
+  within : TopsWithin table.copies (length table.records) s.tops
+
+session_proper : (table : Table) (d : Data) → IfOk (session_of table d) (IsProperSession table)
+session_proper table d =
+    then_ok _ _ _ λ _ _. then_ok _ _ _ λ net n. then_ok _ _ _ λ list _. then_ok _ _ _ λ tops t.
+    record {
+      net = IfOk-at_ok IsProperNet n (given_or IsProperNet (codes "net") ([], 1) net_of d (omega arith, (omega arith, omega arith)) net_proper);
+      within = IfOk-at_ok (TopsWithin table.copies (length table.records)) t (bodies_within table 0 list);
+    }
+
+only_proper : (table : Table) (ds : List Data) → IfOk (only_session table ds) (IsProperSession table)
+only_proper table [] = tt
+only_proper table (d ∷ []) = session_proper table d
+only_proper table (d ∷ e ∷ ds) = tt
+
+one_proper : (table : Table) (d : Data) → IfOk (session_at table d) (IsProperSession table)
+one_proper table d = then_ok _ _ _ λ sessions _. then_ok _ _ _ λ _ _. only_proper table sessions
 
 -- ---- scripts
-
-within_limits : (low high n : ℕ) → (nat_le low n && nat_le n high) ≡ true → (low ≤ n) × (n ≤ high)
-within_limits low high n h = let p = and_parts (nat_le low n) (nat_le n high) h in (leb-true low n p.0, leb-true n high p.1)
 
 some_copies : (d : Data) → IfOk (copies_of d) (λ copies. (1 ≤ copies) × (copies ≤ 16))
 some_copies d = then_ok _ _ _ λ copies _. then_ok _ _ _ λ t limited. within_limits 1 16 copies (must_true _ _ t limited)
 
--- 1 to 64 proper records
-record AreProper (copies : ℕ) (rows : List Row) : Type 0 where
-  some : 0 < length rows
-  few : length rows ≤ 64
-  each_one : AllByRecursion (IsProperRow copies) rows
+-- a table of 1 to 64 proper records at so many copies
+record IsProperTable (copies : ℕ) (table : Table) : Type 0 where
+  at_copies : table.copies ≡ copies
+  some : 0 < length table.records
+  few : length table.records ≤ 64
+  each_one : AllByRecursion (IsProperRow copies) table.records
 
-all_proper : (copies : ℕ) (list : List Data) (rows : List Row) → rows_of copies [] list ≡ Ok rows → (1 ≤ length list) × (length list ≤ 64) → AreProper copies rows
+all_proper : (copies : ℕ) (list : List Data) (rows : List Row) → rows_of copies [] list ≡ Ok rows → IsFew (length list) → IsProperTable copies (record { copies = copies; records = rows })
 all_proper copies list rows h l =
     let counted : length rows ≡ 0 + length list = IfOk-at_ok (λ (all : List Row). length all ≡ 0 + length list) h (length-rows_of copies [] list) in
-    record { some = omega arith; few = omega arith; each_one = IfOk-at_ok (AllByRecursion (IsProperRow copies)) h (rows_proper copies [] list tt) }
+    record { at_copies = refl; some = omega arith; few = omega arith; each_one = IfOk-at_ok (AllByRecursion (IsProperRow copies)) h (rows_proper copies [] list tt) }
 
-records_proper : (copies : ℕ) (d : Data) → IfOk (records_of copies d) (AreProper copies)
+records_proper : (copies : ℕ) (d : Data) → IfOk (records_of copies d) (IsProperTable copies)
 records_proper copies d =
-    then_ok _ _ _ λ list _. then_ok _ _ _ λ t limited.
-    let l = within_limits 1 64 (length list) (must_true _ _ t limited) in
-    ok_each (rows_of copies [] list) (λ rows h. all_proper copies list rows h l)
+    then_ok _ _ _ λ list _. then_ok _ _ _ λ t limited. then_ok _ _ _ λ rows h.
+    all_proper copies list rows h (within_limits 1 64 (length list) (must_true _ _ t limited))
 
 -- what is a script is proper
 pub script_proper : (d : Data) → IfOk (script_of d) IsProper
 script_proper d =
-    then_ok _ _ _ λ _ _. then_ok _ _ _ λ copies c. then_ok _ _ _ λ _ _. then_ok _ _ _ λ rows r. then_ok _ _ _ λ tops t.
+    then_ok _ _ _ λ _ _. then_ok _ _ _ λ copies c. then_ok _ _ _ λ patience w. then_ok _ _ _ λ table r. then_ok _ _ _ λ session s.
     let limits = IfOk-at_ok (λ n. (1 ≤ n) × (n ≤ 16)) c (some_copies d) in
-    let proper = IfOk-at_ok (AreProper copies) r (records_proper copies d) in
+    let patient = IfOk-at_ok IsFew w (few_or part.Patience (codes "patience") 4 d (omega arith, omega arith)) in
+    let records = IfOk-at_ok (IsProperTable copies) r (records_proper copies d) in
+    let proper = IfOk-at_ok (IsProperSession table) s (one_proper table d) in
     record {
       some_copy = omega arith;
-      few_copies = limits.1;
-      some_records = proper.some;
-      few_records = proper.few;
-      rows = proper.each_one;
-      tops = IfOk-at_ok (TopsWithin (length rows)) t (tops_within rows d);
+      few_copies = omega arith;
+      some_patience = omega arith;
+      little_patience = patient.1;
+      some_records = records.some;
+      few_records = records.few;
+      rows = subst (λ n. AllByRecursion (IsProperRow n) table.records) (sym records.at_copies) records.each_one;
+      few_fates = proper.net.0;
+      some_hold = omega arith;
+      short_hold = proper.net.1.1;
+      tops = proper.within;
     }
 
 -- so is what a reader gives as what the value is

@@ -1,12 +1,12 @@
 -- What a reader of scripts answers.
-use Rattle.std.specs.Prelude.{ℕ, ◌≡◌, ◌<◌, ◌≤◌, ◌^◌, List, length, Some, Result, Ok, Err, IsUtf8}
+use Rattle.std.specs.Prelude.{ℕ, ◌≡◌, ◌<◌, ◌≤◌, ◌^◌, List, length, map, Some, Result, Ok, Err, IsUtf8}
+use Rattle.std.specs.Borrow.{Bor}
 use Rattle.std.specs.List.{AllByRecursion}
 use Rattle.serde_json.specs.Data.{Data}
 use Rattle.serde_json.specs.Read.{read}
-use Rattle.qc_config.specs.Config.{IsLegal}
 use Rattle.qc_event.specs.declared.table.Row.{Row}
 use Rattle.qc_script.specs.ScriptText.{Read, script_of}
-use Rattle.qc_script.specs.Plan.{ScriptPlan, TopsWithin}
+use Rattle.qc_script.specs.Plan.{ScriptPlan, IsConfigFor, TopsWithin}
 use Rattle.qc_script.specs.declared.bad_script.BadScript.{BadScript}
 use Rattle.qc_script.specs.declared.bad_script.BadScript.TheVariants.{NotJson, TooLong, Memory}
 
@@ -49,16 +49,25 @@ abbrev pub Gives : {X Y : Type 0} → (X → Y) → Result X BadScript → Read 
 Gives view (Ok x) read = read ≡ Ok (view x)
 Gives view (Err e) read = Fails e read
 
--- a record at so many copies with a legal configuration
-pub record IsProperRow (copies : ℕ) (row : Row) : Type 0 where
-  pub legal : IsLegal row.config
-  pub for_copies : length row.config.votes ≡ copies
+-- the texts behind references
+abbrev pub texts_of : List (Bor (List ℕ)) → List (List ℕ)
+texts_of names = map (λ n. n.now) names
 
--- A script with 1 to 16 copies and 1 to 64 records, whose steps are about these records.
+-- a record at so many copies with a legal configuration
+abbrev pub IsProperRow : ℕ → Row → Type 0
+IsProperRow copies row = IsConfigFor copies row.config
+
+-- A script with 1 to 16 copies and 1 to 64 records, whose sender and link wait for 1 to 64 due steps, with at
+-- most 64 fates, and whose steps are about these records.
 pub record IsProper (s : ScriptPlan) : Type 0 where
   pub some_copy : 0 < s.table.copies
   pub few_copies : s.table.copies ≤ 16
+  pub some_patience : 0 < s.patience
+  pub little_patience : s.patience ≤ 64
   pub some_records : 0 < length s.table.records
   pub few_records : length s.table.records ≤ 64
   pub rows : AllByRecursion (IsProperRow s.table.copies) s.table.records
-  pub tops : TopsWithin (length s.table.records) s.tops
+  pub few_fates : length s.fates ≤ 64
+  pub some_hold : 0 < s.hold
+  pub short_hold : s.hold ≤ 64
+  pub tops : TopsWithin s.table.copies (length s.table.records) s.tops

@@ -1,19 +1,22 @@
 -- What a script is, as a function on a JSON value: its parts from outside in, and the first refusal.
-use Rattle.std.specs.Prelude.{ℕ, ◌+◌, ◌-◌, ◌==◌, Bool, true, false, ◌&&◌, ◌||◌, nat_lt, nat_le, if◌then◌else◌, List, [], ◌∷◌, ◌++◌, length, codes, Option, None, Some, is_some, is_none, ok_or, option_map, option_and_then, Result, Ok, Err}
+use Rattle.std.specs.Prelude.{ℕ, ◌+◌, ◌-◌, ◌*◌, ◌==◌, Bool, true, false, not, ◌&&◌, ◌||◌, nat_lt, nat_le, if◌then◌else◌, List, [], ◌∷◌, ◌++◌, length, map, codes, Option, None, Some, is_some, is_none, ok_or, option_map, option_and_then, Result, Ok, Err}
 use Rattle.std.proofs.Common.{zero, suc}
 use Rattle.std.specs.Char.{is_ascii_alphanumeric}
-use Rattle.std.specs.List.{list_all, list_any}
+use Rattle.std.specs.List.{list_all, list_any, position}
 use Rattle.std.specs.Result.{is_ok}
 use Rattle.std.specs.Str.{bytes_eq}
 use Rattle.serde_json.specs.Data.{Data, Items, no_items, item, Members, no_members, member}
 use Rattle.serde_json.specs.Find.{get, as_number, as_str, as_array, as_object, as_u64}
 use Rattle.qc_config.specs.Config.{Voting, fault}
 use Rattle.qc_event.specs.declared.table.Row.{Row}
+use Rattle.qc_event.specs.declared.table.Table.{Table}
+use Rattle.qc_net.specs.declared.link.Fate.{Fate}
+use Rattle.qc_net.specs.declared.link.Fate.TheVariants.{Deliver, LoseAsk, LoseReply, Hold, Twice as TwoTimes}
 use Rattle.qc_script.specs.declared.bad_script.BadScript.{BadScript}
 use Rattle.qc_script.specs.declared.bad_script.BadScript.TheVariants.{Shape, Limit, Config, Unknown, Twice}
 use Rattle.qc_script.specs.declared.bad_script.Member.{Member}
 use Rattle.qc_script.specs.declared.bad_script.Member.TheVariants as part
-use Rattle.qc_script.specs.Plan.{Plan, Numbered, ScriptPlan}
+use Rattle.qc_script.specs.Plan.{Plan, Numbered, SessionPlan, ScriptPlan}
 
 -- a text, as its bytes
 abbrev pub Text : Type 0
@@ -96,6 +99,17 @@ without name word d = must (is_none (get name d)) (Shape word)
 abbrev pub within : Member → ℕ → ℕ → ℕ → Read (Unit {0})
 within word low high n = must (nat_le low n && nat_le n high) (Limit word n)
 
+-- a number within limits
+abbrev pub limited : Member → ℕ → ℕ → Data → Read ℕ
+limited word low high d = do
+  n ← ok_or (digits_of d) (Shape word)
+  _ ← within word low high n
+  Ok n
+
+-- a member that may be absent, and then is this
+abbrev pub member_or : {A : Type 0} → Text → A → (Data → Read A) → Data → Read A
+member_or name default read d = elim (get name d) [ None ↦ Ok default | Some value ↦ read value ]
+
 -- RECORDS
 
 -- The form of a record's name: 1 to 16 ASCII letters and digits.
@@ -104,27 +118,23 @@ form_of_name text = do
   _ ← must (list_all is_ascii_alphanumeric text) (Shape part.Name)
   within part.Name 1 16 (length text)
 
--- the place of the first record of a name
-abbrev pub place_of : List Row → Text → Option ℕ
-place_of [] name = None
-place_of (row ∷ rows) name = if bytes_eq row.name name then Some 0 else option_map (λ i. i + 1) (place_of rows name)
+-- the names of records, each at its record's number
+abbrev pub names_of : List Row → List Text
+names_of rows = map (λ row. row.name) rows
 
--- a name that none of the records has
-abbrev pub fresh : List Row → Text → Read (Unit {0})
-fresh rows name = must (is_none (place_of rows name)) (Twice name)
+-- a name that is none of these
+abbrev pub fresh : List Text → Text → Read (Unit {0})
+fresh names name = must (not (list_any (bytes_eq name) names)) (Twice name)
 
-abbrev pub name_of : List Row → Data → Read Text
-name_of rows d = do
+abbrev pub name_of : List Text → Data → Read Text
+name_of names d = do
   name ← text_at (codes "name") part.Name d
   _ ← form_of_name name
-  _ ← fresh rows name
+  _ ← fresh names name
   Ok name
 
 abbrev pub vote_of : Data → Read ℕ
-vote_of d = do
-  n ← ok_or (digits_of d) (Shape part.Votes)
-  _ ← within part.Votes 0 255 n
-  Ok n
+vote_of d = limited part.Votes 0 255 d
 
 -- a configuration, or its first fault
 abbrev pub configured : List ℕ → ℕ → ℕ → Read Voting
@@ -140,11 +150,11 @@ config_of copies d = do
   write ← number_at (codes "write") part.Write d
   configured votes read write
 
--- a record, behind those of these rows
-abbrev pub row_of : ℕ → List Row → Data → Read Row
-row_of copies rows d = do
+-- a record, behind those of these names
+abbrev pub row_of : ℕ → List Text → Data → Read Row
+row_of copies names d = do
   _ ← object_of part.RecordRow (codes "name" ∷ codes "start" ∷ codes "config" ∷ []) [] d
-  name ← name_of rows d
+  name ← name_of names d
   start ← number_at (codes "start") part.Start d
   config ← member_at (codes "config") part.Config d
   config ← config_of copies config
@@ -153,9 +163,43 @@ row_of copies rows d = do
 -- the rows, and one more for each of the elements
 abbrev pub rows_of : ℕ → List Row → List Data → Read (List Row)
 rows_of copies rows [] = Ok rows
-rows_of copies rows (d ∷ ds) = row_of copies rows d >>= λ row. rows_of copies (rows ++ row ∷ []) ds
+rows_of copies rows (d ∷ ds) = row_of copies (names_of rows) d >>= λ row. rows_of copies (rows ++ row ∷ []) ds
 
--- SESSIONS
+-- NETS
+
+abbrev pub is_letter : Text → ℕ → Bool
+is_letter text letter = bytes_eq text (letter ∷ [])
+
+-- the fate that a letter stands for
+abbrev pub fate_of : ℕ → Read Fate
+fate_of letter =
+    if is_letter (codes "d") letter then Ok Deliver
+    else if is_letter (codes "a") letter then Ok LoseAsk
+    else if is_letter (codes "r") letter then Ok LoseReply
+    else if is_letter (codes "h") letter then Ok Hold
+    else if is_letter (codes "t") letter then Ok TwoTimes
+    else Err (Shape part.Fates)
+
+-- at most 64 fates, as their letters
+abbrev pub fates_of : Data → Read (List Fate)
+fates_of d = do
+  text ← ok_or (as_str d) (Shape part.Fates)
+  fates ← each fate_of text
+  _ ← within part.Fates 0 64 (length text)
+  Ok fates
+
+-- the fates of requests, and after how many due steps a held one is delivered
+abbrev pub Net : Type 0
+Net = List Fate × ℕ
+
+abbrev pub net_of : Data → Read Net
+net_of d = do
+  _ ← object_of part.Net [] (codes "fates" ∷ codes "hold" ∷ []) d
+  fates ← member_or (codes "fates") [] fates_of d
+  hold ← member_or (codes "hold") 1 (limited part.Hold 1 64) d
+  Ok (fates, hold)
+
+-- BODIES
 
 abbrev pub is_word : Text → Data → Bool
 is_word word d = elim (as_str d) [ None ↦ false | Some text ↦ bytes_eq text word ]
@@ -167,8 +211,9 @@ step_name d = do
   _ ← must (is_ok (form_of_name name)) (Shape part.Step)
   Ok name
 
-abbrev pub number_of : List Row → Text → Read ℕ
-number_of rows name = ok_or (place_of rows name) (Unknown name)
+-- the number of the record of a name
+abbrev pub number_of : Table → Text → Read ℕ
+number_of table name = ok_or (position (bytes_eq name) (names_of table.records)) (Unknown name)
 
 -- A step, as what it makes of the plan of the steps after it.
 abbrev pub Front : Type 0
@@ -179,26 +224,35 @@ abbrev pub Counted : Type 0 → Type 0
 Counted A = Read (A × ℕ)
 
 -- ["read", R]
-abbrev pub read_of : List Row → ℕ → Data → Counted Front
-read_of rows next rec = do
+abbrev pub read_of : Table → ℕ → Data → Counted Front
+read_of table next rec = do
   name ← step_name rec
-  i ← number_of rows name
+  i ← number_of table name
   Ok (Plan.read_then i, next)
 
 -- ["set", R, n]
-abbrev pub set_of : List Row → ℕ → Data → Data → Counted Front
-set_of rows next rec value = do
+abbrev pub set_of : Table → ℕ → Data → Data → Counted Front
+set_of table next rec value = do
   name ← step_name rec
   n ← ok_or (digits_of value) (Shape part.Step)
-  i ← number_of rows name
+  i ← number_of table name
   Ok (Plan.set_then i n, next)
+
+-- ["reconf", R, config]
+abbrev pub reconf_of : Table → ℕ → Data → Data → Counted Front
+reconf_of table next rec config = do
+  name ← step_name rec
+  _ ← must (is_some (as_object config)) (Shape part.Step)
+  i ← number_of table name
+  c ← config_of table.copies config
+  Ok (Plan.reconf_then i c, next)
 
 -- ["child", body], where the body is read so
 abbrev pub child_of : (ℕ → Data → Counted Numbered) → ℕ → Data → Counted Front
 child_of body next d = do
   _ ← must (is_some (as_object d)) (Shape part.Step)
   inner ← body next d
-  Ok (Plan.child_then inner.0.number inner.0.plan, inner.1)
+  Ok (Plan.child_then inner.0.number inner.0.tries inner.0.plan, inner.1)
 
 -- ["abort", k], in a body of this depth
 abbrev pub abort_of : ℕ → ℕ → Data → Counted Front
@@ -208,64 +262,78 @@ abort_of depth next levels = do
   Ok (Plan.abort_then k, next)
 
 -- a step of two elements
-abbrev pub two_of : (ℕ → Data → Counted Numbered) → ℕ → List Row → ℕ → Data → Data → Counted Front
-two_of body depth rows next word d =
-    if is_word (codes "read") word then read_of rows next d
+abbrev pub two_of : (ℕ → Data → Counted Numbered) → ℕ → Table → ℕ → Data → Data → Counted Front
+two_of body depth table next word d =
+    if is_word (codes "read") word then read_of table next d
     else if is_word (codes "child") word then child_of body next d
     else if is_word (codes "abort") word then abort_of depth next d
     else Err (Shape part.Step)
 
 -- a step of three elements
-abbrev pub three_of : List Row → ℕ → Data → Data → Data → Counted Front
-three_of rows next word rec value = if is_word (codes "set") word then set_of rows next rec value else Err (Shape part.Step)
+abbrev pub three_of : Table → ℕ → Data → Data → Data → Counted Front
+three_of table next word rec value =
+    if is_word (codes "set") word then set_of table next rec value
+    else if is_word (codes "reconf") word then reconf_of table next rec value
+    else Err (Shape part.Step)
 
 -- the elements of a step
-abbrev pub step_in : (ℕ → Data → Counted Numbered) → ℕ → List Row → ℕ → List Data → Counted Front
-step_in body depth rows next (word ∷ d ∷ []) = two_of body depth rows next word d
-step_in body depth rows next (word ∷ rec ∷ value ∷ []) = three_of rows next word rec value
-step_in body depth rows next _ = Err (Shape part.Step)
+abbrev pub step_in : (ℕ → Data → Counted Numbered) → ℕ → Table → ℕ → List Data → Counted Front
+step_in body depth table next (word ∷ d ∷ []) = two_of body depth table next word d
+step_in body depth table next (word ∷ rec ∷ value ∷ []) = three_of table next word rec value
+step_in body depth table next _ = Err (Shape part.Step)
 
 -- a step of a body of this depth, where bodies in it are read so
-abbrev pub step_of : (ℕ → Data → Counted Numbered) → ℕ → List Row → ℕ → Data → Counted Front
-step_of body depth rows next d = ok_or (list_of d) (Shape part.Step) >>= step_in body depth rows next
+abbrev pub step_of : (ℕ → Data → Counted Numbered) → ℕ → Table → ℕ → Data → Counted Front
+step_of body depth table next d = ok_or (list_of d) (Shape part.Step) >>= step_in body depth table next
 
-abbrev pub steps_of : (ℕ → Data → Counted Numbered) → ℕ → List Row → ℕ → List Data → Counted Plan
-steps_of body depth rows next [] = Ok (Plan.done, next)
-steps_of body depth rows next (d ∷ ds) =
-    step_of body depth rows next d >>= λ first. steps_of body depth rows first.1 ds >>= λ rest. Ok (first.0 rest.0, rest.1)
+abbrev pub steps_of : (ℕ → Data → Counted Numbered) → ℕ → Table → ℕ → List Data → Counted Plan
+steps_of body depth table next [] = Ok (Plan.done, next)
+steps_of body depth table next (d ∷ ds) =
+    step_of body depth table next d >>= λ first. steps_of body depth table first.1 ds >>= λ rest. Ok (first.0 rest.0, rest.1)
 
 abbrev pub body_object : Data → Read (Unit {0})
 body_object d = object_of part.Body (codes "steps" ∷ []) (codes "tries" ∷ codes "must" ∷ []) d
 
--- A body that may have so many levels of bodies, itself among them, with this number. The depth of a
--- top's body is 1, and no body is deeper than 16.
-abbrev pub body_of : ℕ → List Row → ℕ → Data → Counted Numbered
-body_of zero rows next d = body_object d >>= λ _. Err (Limit part.Body 17)
-body_of (suc below) rows next d = do
+-- How often a body is tried at most. With the tries of the bodies around it, whose product this is, it is 256
+-- times at most.
+abbrev pub tries_of : ℕ → Data → Read ℕ
+tries_of around d = do
+  tries ← member_or (codes "tries") 1 (limited part.Tries 1 16) d
+  _ ← within part.Tries 0 256 (around * tries)
+  Ok tries
+
+-- A body that may have so many levels of bodies, itself among them, with this number, where the tries of the
+-- bodies around it have this product. The depth of a top's body is 1, and no body is deeper than 16.
+abbrev pub body_of : ℕ → ℕ → Table → ℕ → Data → Counted Numbered
+body_of zero around table next d = body_object d >>= λ _. Err (Limit part.Body 17)
+body_of (suc below) around table next d = do
   _ ← body_object d
-  _ ← without (codes "tries") part.Tries d
+  tries ← tries_of around d
   _ ← without (codes "must") part.Must d
   steps ← list_at (codes "steps") part.Steps d
-  plan ← steps_of (body_of below rows) (16 - below) rows (next + 1) steps
-  Ok (record { number = next; plan = plan.0 }, plan.1)
+  plan ← steps_of (body_of below (around * tries) table) (16 - below) table (next + 1) steps
+  Ok (record { number = next; tries = tries; plan = plan.0 }, plan.1)
 
 -- the bodies of tops, the first of them with this number
-abbrev pub bodies_of : List Row → ℕ → List Data → Read (List Numbered)
-bodies_of rows next [] = Ok []
-bodies_of rows next (d ∷ ds) = body_of 16 rows next d >>= λ b. bodies_of rows b.1 ds >>= λ rest. Ok (b.0 ∷ rest)
+abbrev pub bodies_of : Table → ℕ → List Data → Read (List Numbered)
+bodies_of table next [] = Ok []
+bodies_of table next (d ∷ ds) = body_of 16 1 table next d >>= λ b. bodies_of table b.1 ds >>= λ rest. Ok (b.0 ∷ rest)
 
--- the bodies of a session's tops
-abbrev pub session_of : List Row → Data → Read (List Numbered)
-session_of rows d = do
+-- SESSIONS
+
+-- a session; without a net every request is delivered
+abbrev pub session_of : Table → Data → Read SessionPlan
+session_of table d = do
   _ ← object_of part.Session (codes "tops" ∷ []) (codes "net" ∷ []) d
-  _ ← without (codes "net") part.Net d
+  net ← member_or (codes "net") ([], 1) net_of d
   tops ← list_at (codes "tops") part.Tops d
-  bodies_of rows 0 tops
+  bodies ← bodies_of table 0 tops
+  Ok (record { fates = net.0; hold = net.1; tops = bodies })
 
 -- the one session: more of them are not built yet
-abbrev pub only_session : List Row → List Data → Read (List Numbered)
-only_session rows (d ∷ []) = session_of rows d
-only_session rows _ = Err (Shape part.Sessions)
+abbrev pub only_session : Table → List Data → Read SessionPlan
+only_session table (d ∷ []) = session_of table d
+only_session table _ = Err (Shape part.Sessions)
 
 -- SCRIPTS
 
@@ -275,23 +343,24 @@ copies_of d = do
   _ ← within part.Copies 1 16 copies
   Ok copies
 
-abbrev pub records_of : ℕ → Data → Read (List Row)
+abbrev pub records_of : ℕ → Data → Read Table
 records_of copies d = do
   records ← list_at (codes "records") part.Records d
   _ ← within part.Records 1 64 (length records)
-  rows_of copies [] records
+  rows ← rows_of copies [] records
+  Ok (record { copies = copies; records = rows })
 
-abbrev pub tops_of : List Row → Data → Read (List Numbered)
-tops_of rows d = do
+abbrev pub session_at : Table → Data → Read SessionPlan
+session_at table d = do
   sessions ← list_at (codes "sessions") part.Sessions d
   _ ← within part.Sessions 1 16 (length sessions)
-  only_session rows sessions
+  only_session table sessions
 
 abbrev pub script_of : Data → Read ScriptPlan
 script_of d = do
   _ ← object_of part.Script (codes "copies" ∷ codes "records" ∷ codes "sessions" ∷ []) (codes "patience" ∷ []) d
   copies ← copies_of d
-  _ ← without (codes "patience") part.Patience d
-  rows ← records_of copies d
-  tops ← tops_of rows d
-  Ok (record { table = record { copies = copies; records = rows }; tops = tops })
+  patience ← member_or (codes "patience") 4 (limited part.Patience 1 64) d
+  table ← records_of copies d
+  session ← session_at table d
+  Ok (record { table = table; patience = patience; fates = session.fates; hold = session.hold; tops = session.tops })

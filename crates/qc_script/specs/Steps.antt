@@ -2,15 +2,17 @@
 use Rattle.std.specs.Prelude.{List, [], ◌∷◌, map}
 use Rattle.qc_script.specs.declared.script.Body.{Body, fold-Body}
 use Rattle.qc_script.specs.declared.script.Script.{Script}
+use Rattle.qc_script.specs.declared.script.Session.{Session}
 use Rattle.qc_script.specs.declared.script.Step.{Step, fold-Step, Step-F}
 use Rattle.qc_script.specs.declared.script.Step.TheOpen.{Body-F}
-use Rattle.qc_script.specs.Plan.{Plan, Numbered, ScriptPlan}
+use Rattle.qc_script.specs.Plan.{Plan, Numbered, SessionPlan, ScriptPlan}
 
 -- a step, before the plan of the steps after it
 abbrev pub before : Step-F (Plan → Plan) Numbered → Plan → Plan
 before (Step-F.Read rec) rest = Plan.read_then rec rest
 before (Step-F.Set rec value) rest = Plan.set_then rec value rest
-before (Step-F.Child body) rest = Plan.child_then body.number body.plan rest
+before (Step-F.Reconf rec config) rest = Plan.reconf_then rec config rest
+before (Step-F.Child body) rest = Plan.child_then body.number body.tries body.plan rest
 before (Step-F.Abort levels) rest = Plan.abort_then levels rest
 
 abbrev pub all_before : List (Plan → Plan) → Plan
@@ -18,9 +20,9 @@ all_before [] = Plan.done
 all_before (s ∷ steps) = s (all_before steps)
 
 abbrev pub layer : Body-F (Plan → Plan) Numbered → Numbered
-layer b = record { number = b.number; plan = all_before b.steps.items }
+layer b = record { number = b.number; tries = b.tries; plan = all_before b.steps.items }
 
--- a body's number and plan
+-- a body's number, tries and plan
 abbrev pub numbered : Body → Numbered
 numbered = fold-Body (Plan → Plan) Numbered before layer
 
@@ -33,6 +35,11 @@ abbrev pub plan_of : List Step → Plan
 plan_of [] = Plan.done
 plan_of (s ∷ steps) = put s (plan_of steps)
 
+-- what a session is
+abbrev pub plan_of_session : Session → SessionPlan
+plan_of_session s = record { fates = s.fates.items; hold = s.hold; tops = map numbered s.tops.items }
+
 -- what a script is
 abbrev pub plan_of_script : Script → ScriptPlan
-plan_of_script s = record { table = s.table; tops = map numbered s.tops.items }
+plan_of_script s =
+    record { table = s.table; patience = s.patience; fates = s.session.fates.items; hold = s.session.hold; tops = map numbered s.session.tops.items }

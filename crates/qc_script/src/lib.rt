@@ -7,4 +7,4 @@ mod script;
 
 pub use bad_script::{BadScript, Member};
 pub use reader::MOST_BYTES;
-pub use script::{Body, Script, Step};
+pub use script::{Body, Script, Session, Step};

@@ -2,26 +2,26 @@
 //! the want of memory.
 #![tactic(auto, unfolding(crate::specs::ScriptText::followed))]
 
-ghost use Rattle.std.specs.Prelude.{◌≡◌, ◌≤◌, map, length, vec_len, IfOk, IfErr};
+ghost use Rattle.std.specs.Prelude.{◌≡◌, ◌≤◌, IfOk, IfErr};
 ghost use Rattle.serde_json.specs.View.{view};
 ghost use Rattle.qc_script.specs.ScriptText as script;
-ghost use Rattle.qc_script.specs.Steps.{numbered, plan_of_script};
+ghost use Rattle.qc_script.specs.Steps.{plan_of_session, plan_of_script};
 ghost use Rattle.qc_script.specs.Reading.{Gives, IsScript, IsRefused, IsProper};
 
 mod object;
 mod rows;
+mod session;
 mod steps;
 #[cfg(test)]
 mod tests;
 
 use crate::bad_script::{BadScript, Member};
-use crate::script::{Body, Script};
-use object::{check_absent, check_object, check_within, list_at, number_at};
-use qc_event::{Row, Rows, Table};
-use rows::rows_of;
+use crate::script::{Script, Session};
+use object::{check_object, check_within, list_at, number_at, number_or};
+use rows::{Records, rows_of};
 use serde_json::Value;
+use session::session_of;
 use std::alloc::Global;
-use steps::session_of;
 
 /// The most bytes of a script.
 pub const MOST_BYTES: usize = 1_048_576;
@@ -35,24 +35,22 @@ fn copies_of(value: &Value) -> Result<u8, BadScript>
     Ok(copies as u8)
 }
 
-fn records_of(alloc: Global, copies: u8, value: &Value) -> Result<Vec<Row>, BadScript>
+fn records_of<'v>(alloc: Global, copies: u8, value: &'v Value) -> Result<Records<'v>, BadScript>
     requires { copies ≤ 16 }
-    ensures exact { Gives (λ rows. rows.items) result (script.records_of copies (view value.now)) }
-    ensures few { IfOk result (λ rows. vec_len rows ≤ 64) }
+    ensures { Gives (λ r. r.table) result (script.records_of copies (view value.now)) }
 {
     let records = list_at(value, "records", Member::Records)?;
     check_within(Member::Records, 1, 64, records.len() as u64)?;
     rows_of(alloc, copies, records)
 }
 
-fn tops_of(alloc: Global, rows: &[Row], value: &Value) -> Result<Vec<Body>, BadScript>
-    requires { length rows.now ≤ 64 }
-    ensures { Gives (λ bodies. map numbered bodies.items) result (script.tops_of rows.now (view value.now)) }
+fn session_at(alloc: Global, records: &Records<'_>, value: &Value) -> Result<Session, BadScript>
+    ensures { Gives plan_of_session result (script.session_at records.now.table (view value.now)) }
 {
     let sessions = list_at(value, "sessions", Member::Sessions)?;
     check_within(Member::Sessions, 1, 16, sessions.len() as u64)?;
     match sessions {
-        [session] => session_of(alloc, rows, session),
+        [session] => session_of(alloc, records, session),
         _ => Err(BadScript::Shape(Member::Sessions)),
     }
 }
@@ -67,13 +65,13 @@ fn script_of(alloc: Global, value: &Value) -> Result<Script, BadScript>
         &["patience"],
     )?;
     let copies = copies_of(value)?;
-    check_absent(value, "patience", Member::Patience)?;
-    let rows = records_of(alloc, copies, value)?;
-    let tops = tops_of(alloc, &rows, value)?;
-    let records = Rows::new(rows);
+    let patience = number_or(value, "patience", 4, Member::Patience, 1, 64)?;
+    let records = records_of(alloc, copies, value)?;
+    let session = session_at(alloc, &records, value)?;
     Ok(Script {
-        table: Table { copies, records },
-        tops,
+        table: records.table,
+        patience: patience as u32,
+        session,
     })
 }
 

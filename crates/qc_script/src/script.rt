@@ -1,4 +1,5 @@
-use qc_event::Table;
+use qc_event::{Config, Table};
+use qc_net::Fate;
 
 /// One step of a body.
 #[cycle(script)]
@@ -8,24 +9,37 @@ pub enum Step {
     Read { rec: u8 },
     /// Writes a value to a record.
     Set { rec: u8, value: u64 },
+    /// Gives a record another configuration.
+    Reconf { rec: u8, config: Config },
     /// Runs a child.
     Child(Body),
     /// Aborts the ancestor so many levels up; 0 is the transaction itself.
     Abort { levels: u8 },
 }
 
-/// What a transaction does: its steps in order. Bodies are numbered from 0 in the order in which they
-/// begin in a script.
+/// What a transaction does: its steps in order, and how often it is tried at most. Bodies are numbered from 0
+/// in the order in which they begin in a script.
 #[cycle(script)]
 #[derive(Drop)]
 pub struct Body {
     pub number: u32,
+    pub tries: u32,
     pub steps: Vec<Step>,
 }
 
-/// A script: a table of records, and the bodies of the tops of its one session, in order.
+/// A session: the fates of its requests, over and over; after how many due steps a held one is delivered; and
+/// the bodies of its tops, in order.
+#[derive(Drop)]
+pub struct Session {
+    pub fates: Vec<Fate>,
+    pub hold: u64,
+    pub tops: Vec<Body>,
+}
+
+/// A script: a table of records, how many due steps the sender of a held request waits, and its one session.
 #[derive(Drop)]
 pub struct Script {
     pub table: Table,
-    pub tops: Vec<Body>,
+    pub patience: u32,
+    pub session: Session,
 }

@@ -1,20 +1,34 @@
--- What the start of a name tells: how long it is, and that the kind fits the table. No manager is ever ready.
+-- What the start of a name tells: how long it is, that the kind fits the table, and that an access stands under a
+-- manager. No manager is ever ready.
 use Rattle.std.proofs.Common.{◌≡◌, ℕ, ◌-◌, ◌<◌, ◌≤◌, true, [], ◌∷◌, length, refl, sym, ap, ◌∙◌, subst, inl, inr, arith}
 use mathlib.Core.Bool.{true≢false}
 use Rattle.std.specs.Prelude.{Option, None, Some, is_some, MatchOption}
 use Rattle.std.proofs.lemmas.Bool.{ltb-true, leb-true}
 use Rattle.std.proofs.lemmas.List.{length-take-le}
 use Rattle.qc_names.specs.Name as name
+use Rattle.qc_event.specs.declared.event.Entry.{Entry}
 use Rattle.qc_event.specs.declared.event.Kind.{Kind}
 use Rattle.qc_event.specs.declared.event.Kind.TheVariants as kind
 use Rattle.qc_event.specs.Base.{Setting}
 use Rattle.qc_event.specs.History.{Past, Name, Begun, start, start_in, is_ready}
 use Rattle.qc_event.specs.Legal.{Legal, MayHappen}
 use Rattle.qc_event.specs.Manager.{record_of}
-use Rattle.qc_event.specs.Standing.{IsUser, IsManager}
+use Rattle.qc_event.specs.Standing.{IsUser, IsManager, Started}
 use Rattle.qc_event.specs.Starts.{Stands, Starts}
 use Rattle.qc_event.specs.Users.{MayReady}
-use Rattle.qc_event.proofs.OneEntry.{Starting, first_is, start_is, starting, ready_step}
+use Rattle.qc_event.proofs.Lawful.{started_wider}
+use Rattle.qc_event.proofs.OneEntry.{Starting, first_is, start_is, starting, started_stays, ready_step}
+
+-- THE MOMENT
+
+some_same : (x y : Begun) → Some x ≡ Some y → x ≡ y
+some_same x y h = cc
+
+-- the entry that starts a name is allowed
+starts_now : (setting : Setting) (e : Entry) (past : Past) (n : Name) (b : Begun) → Legal setting (e ∷ past) → start (e ∷ past) n ≡ Some b → start past n ≡ None → Starting n e.event → Starts setting past b.seat n b.kind
+starts_now setting e past n b legal is none (k, at) =
+    let same : record { seat = e.seat; kind = k } ≡ b = some_same _ b (sym (start_is e past n k none at) ∙ is) in
+    subst (λ (x : Begun). Starts setting past x.seat n x.kind) same (subst (MayHappen setting past e.seat) at legal.1)
 
 -- the moment at which a name was started
 pub record WasBegun (setting : Setting) (n : Name) (b : Begun) : Type 0 where
@@ -26,20 +40,8 @@ pub was_begun : (setting : Setting) (past : Past) (n : Name) (b : Begun) → Leg
 was_begun setting [] n b legal is = absurd cc
 was_begun setting (e ∷ past) n b legal is = elim (first_is (start past n) (start_in n e.seat e.event) b is) [
   | inl old ↦ was_begun setting past n b legal.0 old
-  | inr new ↦ now new.0 (starting n e.seat e.event (ap is_some new.1))
+  | inr new ↦ record { before = past; legal = legal.0; may = starts_now setting e past n b legal is new.0 (starting n e.seat e.event (ap is_some new.1)) }
 ]
-  where
-    some_same : (x y : Begun) → Some x ≡ Some y → x ≡ y
-    some_same x y h = cc
-
-    now : start past n ≡ None → Starting n e.event → WasBegun setting n b
-    now none (k, at) =
-        let same : record { seat = e.seat; kind = k } ≡ b = some_same _ b (sym (start_is e past n k none at) ∙ is) in
-        record {
-          before = past;
-          legal = legal.0;
-          may = subst (λ (x : Begun). Starts setting past x.seat n x.kind) same (subst (MayHappen setting past e.seat) at legal.1);
-        }
 
 -- LENGTHS
 
@@ -144,3 +146,22 @@ record_fits setting (kind.Write rec value) manager fits = fits
 record_fits setting (kind.Reconf rec config) manager fits = fits.0
 record_fits setting (kind.User session body) manager fits = absurd manager
 record_fits setting kind.Access manager fits = absurd manager
+
+-- ACCESSES
+
+-- a name's parent is a started manager
+abbrev pub IsManaged : Past → Name → Type 0
+IsManaged past n = Started past (name.front n) (λ p. IsManager p.kind)
+
+starts_managed : (setting : Setting) (past : Past) (seat : ℕ) (n : Name) → Starts setting past seat n kind.Access → IsManaged past n
+starts_managed setting past seat [] may = absurd may
+starts_managed setting past seat (x ∷ []) may = absurd may.user
+starts_managed setting past seat (x ∷ y ∷ r) may = started_wider (λ p. IsManager p.kind × (seat ≡ p.seat)) (λ p. IsManager p.kind) (start past (name.front (x ∷ y ∷ r))) (λ p h. h.0) may.stands
+
+-- an access stands under a manager
+pub access_managed : (setting : Setting) (past : Past) (n : Name) (b : Begun) → Legal setting past → start past n ≡ Some b → b.kind ≡ kind.Access → IsManaged past n
+access_managed setting [] n b legal is access = absurd cc
+access_managed setting (e ∷ past) n b legal is access = started_stays e past (name.front n) (λ p. IsManager p.kind) (elim (first_is (start past n) (start_in n e.seat e.event) b is) [
+  | inl old ↦ access_managed setting past n b legal.0 old access
+  | inr new ↦ starts_managed setting past b.seat n (subst (Starts setting past b.seat n) access (starts_now setting e past n b legal is new.0 (starting n e.seat e.event (ap is_some new.1))))
+])

@@ -1,8 +1,9 @@
--- A copy of a store answers an access that has asked what the history says: it grants or is blocked, which may be
--- entered, and then the copies have what the history tells.
-use Rattle.std.proofs.Common.{◌≡◌, ◌+◌, ◌<◌, Bool, List, [], ◌∷◌, ◌++◌, length, refl, sym, ap, ap₂, ◌∙◌, subst, arith}
+-- A copy of a store answers a request that stands in the history what the history says: it was granted before, or is
+-- granted or refused, which may be entered, and then the copies have what the history tells.
+use Rattle.std.proofs.Common.{◌≡◌, ◌+◌, ◌<◌, Bool, true, false, List, [], ◌∷◌, ◌++◌, length, refl, sym, ap, ap₂, ◌∙◌, subst, arith}
 use mathlib.Core.Bool.{true≢false}
-use Rattle.std.specs.Prelude.{Result, Ok, Err, IfOk, OnErr, is_err, Option, None, Some, ◌||◌, if◌then◌else◌, is_some, find, filter, slice_index_or, slice_set}
+use Rattle.std.proofs.lemmas.Bool.{lt-ltb}
+use Rattle.std.specs.Prelude.{Result, Ok, Err, OnOk, is_err, IsTrue, nat_lt, Option, None, Some, ◌||◌, if◌then◌else◌, is_some, find, filter, slice_index_or, slice_set}
 use Rattle.std.specs.Option.{option_map, option_map_or}
 use Rattle.qc_config.specs.declared.tuple.Tuple.{Tuple}
 use Rattle.qc_config.specs.Tuple.{after}
@@ -10,175 +11,206 @@ use Rattle.qc_event.specs.declared.event.Answered.{Answered}
 use Rattle.qc_event.specs.declared.event.Answered.TheVariants.{Granted, Blocked, Dead}
 use Rattle.qc_event.specs.declared.event.Ask.{Ask}
 use Rattle.qc_event.specs.declared.event.Grant.{Grant}
+use Rattle.qc_event.specs.declared.event.Refusal.TheVariants as refusal
 use Rattle.qc_event.specs.Base.{setting_of, start_configs, no_tuple}
 use Rattle.qc_event.specs.Dead.{dead}
-use Rattle.qc_event.specs.History.{Past, Name, grants}
-use Rattle.qc_event.specs.Legal.{Legal}
-use Rattle.qc_event.specs.Manager.{record_of}
+use Rattle.qc_event.specs.History.{Past, Name, Asked, granted, grants}
+use Rattle.qc_event.specs.Legal.{Legal, Allowed}
 use Rattle.qc_event.proofs.LegalAgain.{legal_again}
 use Rattle.qc_event.specs.Seen.{is_in_way, is_live_at, changed_by, seen, holder}
-use Rattle.qc_gather.specs.Carrying.{began}
-use Rattle.qc_gather.specs.declared.carrier.Carried.{Carried}
-use Rattle.qc_gather.specs.declared.carrier.CarryNo.{CarryNo}
 use Rattle.qc_moss.specs.Follows.{Follows}
 use Rattle.qc_copy.specs.State as copy
 use Rattle.qc_copy.specs.State.{State}
-use Rattle.qc_store.specs.Access.{MayAccess, HasAsked, IsAnswered, IsServed, Says}
+use Rattle.qc_store.specs.Served.{MayServe, HasAnswered, IsOfCopy, is_answer, answer_entry, refusal_entry}
 use Rattle.qc_store.specs.Sites.{IsSite, AreSites, IsKept}
-use Rattle.qc_store.specs.Stored.{IsProper, Stored, setting}
+use Rattle.qc_store.specs.Stored.{IsProper, Stored}
 use Rattle.qc_store.proofs.Answering as answering
-use Rattle.qc_store.proofs.Asking as asking
-use Rattle.qc_store.proofs.Begun.{KindFits, kind_fits, record_fits}
-use Rattle.qc_store.proofs.Fits.{AskFits, ask_fits, start_sized, first_sized}
-use Rattle.qc_store.proofs.Sited.{sites_still, sites_settled, sites_granted, not_again}
+use Rattle.qc_store.proofs.Asked.{asked_fits}
+use Rattle.qc_store.proofs.Fits.{AskFits, start_sized}
+use Rattle.qc_store.proofs.Repeats.{again_granted, none_granted, was_granted}
+use Rattle.qc_store.proofs.Sited.{sites_still, sites_settled, sites_granted}
 
-module _ (base : List (List Tuple)) (before : Past) (m : Name) (ask : Ask) (proper : IsProper base) (legal : Legal (setting_of base) before) (may : MayAccess (setting_of base) before m ask) where
-  abbrev told : Past
-  told = began 18 ask ++ before
+-- a request that was made stands in a legal history
+pub record IsReady (base : List (List Tuple)) (past : Past) (ask : Ask) : Type 0 where
+  pub proper : IsProper base
+  pub legal : Legal (setting_of base) past
+  pub may : MayServe past ask
 
+pub ready : (base : List (List Tuple)) (past : Past) (ask : Ask) (shown : ∥ Legal (setting_of base) past ∥₁) (v : Stored) → IsProper base → record { base = base; past = past; is_legal = shown } ≡ v → MayServe v.past ask → IsReady base past ask
+ready base past ask shown v proper is may = record {
+  proper = proper;
+  legal = legal_again (setting_of base) past shown;
+  may = subst (λ (x : Stored). MayServe x.past ask) (sym is) may;
+}
+
+module _ (base : List (List Tuple)) (past : Past) (ask : Ask) (r : IsReady base past ask) where
   pub fits : AskFits (setting_of base) ask
-  fits =
-      let kind : KindFits (setting_of base) may.carries.kind = kind_fits (setting_of base) before m _ legal may.carries.running.started in
-      ask_fits (setting_of base) before m may.carries.kind ask legal may.carries.manages kind
-      (first_sized base proper (record_of may.carries.kind) (record_fits (setting_of base) may.carries.kind may.carries.manages kind))
-      (asking.of_stage (setting_of base) before m ask legal may)
+  fits = asked_fits base past ask.access (record { seat = r.may.0; ask = ask }) r.proper r.legal r.may.1
+
+  pub is_place : (sites : List State) → AreSites base past sites → ask.copy < length sites
+  is_place sites are = let same = are.same_length in let place = fits.is_copy in omega arith
+
+  -- REPEATS
+
+  again_told : copy.again (grants past ask.copy) ask.access ≡ option_map (λ g. g.grant.tuple) (granted past ask.access)
+  again_told = again_granted ask.access ask.copy (setting_of base) past r.legal (λ a is. by_copy a (sym is ∙ r.may.1))
+    where
+      by_copy : (a : Asked) → Some a ≡ Some (record { seat = r.may.0; ask = ask }) → a.ask.copy ≡ ask.copy
+      by_copy a h = let same : a ≡ record { seat = r.may.0; ask = ask } = cc in ap (λ (x : Asked). x.ask.copy) same
+
+  -- a repeat is answered with its grant's tuple
+  pub repeat_told : (s : State) (a : Answered) → IsSite base past ask.copy s → is_some (copy.again s.grants ask.access) ≡ true → a ≡ copy.answer past s ask → HasAnswered past ask a
+  repeat_told s a site some is = by_again (copy.again s.grants ask.access) refl some
+    where
+      by_again : (o : Option Tuple) → copy.again s.grants ask.access ≡ o → is_some o ≡ true → HasAnswered past ask a
+      by_again None at h = absurd (true≢false (sym h))
+      by_again (Some t) at h =
+          subst (HasAnswered past ask) (sym (is ∙ ap (λ o. option_map_or Granted o (option_map_or Dead (dead past ask.access) (option_map_or Blocked (copy.blocker past s ask) (Granted (copy.tuple_after past s ask))))) at))
+          (was_granted (granted past ask.access) t (sym again_told ∙ ap (λ gs. copy.again gs ask.access) (sym site.granted) ∙ at))
+
+  -- ANSWERS
 
   abbrev held : Option Name
-  held = holder told ask.copy ask.rec ask.op ask.access
+  held = holder past ask.copy ask.rec ask.op ask.access
 
   abbrev tuple : Tuple
-  tuple = after (seen base told ask.copy ask.rec) ask.op
+  tuple = after (seen base past ask.copy ask.rec) ask.op
 
   -- what is answered and granted, by what a copy has
   abbrev answer_by : List Tuple → List Grant → Answered
   answer_by start given =
       option_map_or Granted (copy.again given ask.access)
-      (option_map_or Dead (dead told ask.access)
-      (option_map_or Blocked (option_map (λ (g : Grant). g.access) (find (is_in_way told ask.rec ask.op ask.access) given))
-      (Granted (after (changed_by (slice_index_or start ask.rec no_tuple) (filter (is_live_at told ask.rec) given)) ask.op))))
+      (option_map_or Dead (dead past ask.access)
+      (option_map_or Blocked (option_map (λ (g : Grant). g.access) (find (is_in_way past ask.rec ask.op ask.access) given))
+      (Granted (after (changed_by (slice_index_or start ask.rec no_tuple) (filter (is_live_at past ask.rec) given)) ask.op))))
 
   abbrev grants_by : List Tuple → List Grant → List Grant
   grants_by start given =
-      if is_some (copy.again given ask.access) || is_some (dead told ask.access) || is_some (option_map (λ (g : Grant). g.access) (find (is_in_way told ask.rec ask.op ask.access) given)) then given else
-      given ++ copy.grant_with ask (after (changed_by (slice_index_or start ask.rec no_tuple) (filter (is_live_at told ask.rec) given)) ask.op) ∷ []
+      if is_some (copy.again given ask.access) || is_some (dead past ask.access) || is_some (option_map (λ (g : Grant). g.access) (find (is_in_way past ask.rec ask.op ask.access) given)) then given else
+      given ++ copy.grant_with ask (after (changed_by (slice_index_or start ask.rec no_tuple) (filter (is_live_at past ask.rec) given)) ask.op) ∷ []
 
-  none_again : copy.again (grants told ask.copy) ask.access ≡ None
-  none_again = not_again told ask.copy ask.access (answering.told_granted (setting_of base) before m ask legal may)
+  -- how a copy may answer what it did not grant before, and what it has granted then
+  data Turn (a : Answered) (given : List Grant) : Type 0 where
+    is_dead : (x : Name) → dead past ask.access ≡ Some x → a ≡ Dead x → given ≡ grants past ask.copy → Turn a given
+    is_blocked : (h : Name) → dead past ask.access ≡ None → held ≡ Some h → a ≡ Blocked h → given ≡ grants past ask.copy → Turn a given
+    is_granted : dead past ask.access ≡ None → held ≡ None → a ≡ Granted tuple → given ≡ grants past ask.copy ++ copy.grant_with ask tuple ∷ [] → Turn a given
 
-  alive : dead told ask.access ≡ None
-  alive = answering.told_alive (setting_of base) before m ask legal may
-
-  module _ (s : State) (site : IsSite base told ask.copy s) where
+  module _ (s : State) (site : IsSite base past ask.copy s) where
     pub within : ask.rec < length s.table.start
     within =
-        let row : length (slice_index_or base ask.copy []) ≡ length (start_configs base) = proper.same_records ask.copy [] fits.is_copy in
+        let row : length (slice_index_or base ask.copy []) ≡ length (start_configs base) = r.proper.same_records ask.copy [] fits.is_copy in
         let here = ap length site.start in
         let rec_fits = fits.is_record in
         omega arith
 
-    answers : copy.answer told s ask ≡ option_map_or Blocked held (Granted tuple)
-    answers =
-        ap₂ answer_by site.start site.granted
-        ∙ ap (λ o. option_map_or Granted o (option_map_or Dead (dead told ask.access) (option_map_or Blocked held (Granted tuple)))) none_again
-        ∙ ap (λ o. option_map_or Dead o (option_map_or Blocked held (Granted tuple))) alive
+    module _ (new : copy.again s.grants ask.access ≡ None) (a : Answered) (is : a ≡ copy.answer past s ask) where
+      none_again : copy.again (grants past ask.copy) ask.access ≡ None
+      none_again = ap (λ gs. copy.again gs ask.access) (sym site.granted) ∙ new
 
-    grants_more : copy.grants_after told s ask ≡ (if is_some held then grants told ask.copy else grants told ask.copy ++ copy.grant_with ask tuple ∷ [])
-    grants_more =
-        ap₂ grants_by site.start site.granted
-        ∙ ap (λ o. if is_some o || is_some (dead told ask.access) || is_some held then grants told ask.copy else grants told ask.copy ++ copy.grant_with ask tuple ∷ []) none_again
-        ∙ ap (λ (o : Option Name). if is_some o || is_some held then grants told ask.copy else grants told ask.copy ++ copy.grant_with ask tuple ∷ []) alive
+      first_time : granted past ask.access ≡ None
+      first_time = none_granted (granted past ask.access) (sym again_told ∙ none_again)
 
-    -- the answer is a grant or a holder in the way
-    pub serves : (a : Answered) → a ≡ copy.answer told s ask → IsServed a
-    serves a is = subst IsServed (sym (is ∙ answers)) (by_holder held)
-      where
-        by_holder : (o : Option Name) → IsServed (option_map_or Blocked o (Granted tuple))
-        by_holder None = tt
-        by_holder (Some h) = tt
+      answers : a ≡ option_map_or Dead (dead past ask.access) (option_map_or Blocked held (Granted tuple))
+      answers =
+          is
+          ∙ ap₂ answer_by site.start site.granted
+          ∙ ap (λ o. option_map_or Granted o (option_map_or Dead (dead past ask.access) (option_map_or Blocked held (Granted tuple)))) none_again
 
-    module _ (a : Answered) (c : Carried) (now : Past) (is : a ≡ copy.answer told s ask) (says : Says a c) (answered : IsAnswered told ask c now) where
-      said : (o : Option Name) → held ≡ o → Says (option_map_or Blocked o (Granted tuple)) c
-      said o at = subst (λ x. Says x c) (is ∙ answers ∙ ap (λ x. option_map_or Blocked x (Granted tuple)) at) says
+      abbrev more : List Grant
+      more = grants past ask.copy ++ copy.grant_with ask tuple ∷ []
+
+      grants_more : copy.grants_after past s ask ≡ (if is_some (dead past ask.access) || is_some held then grants past ask.copy else more)
+      grants_more =
+          ap₂ grants_by site.start site.granted
+          ∙ ap (λ (o : Option Tuple). if is_some o || is_some (dead past ask.access) || is_some held then grants past ask.copy else more) none_again
+
+      abbrev said : Option Name → Option Name → Answered
+      said d h = option_map_or Dead d (option_map_or Blocked h (Granted tuple))
+
+      abbrev given : Option Name → Option Name → List Grant
+      given d h = if is_some d || is_some h then grants past ask.copy else more
+
+      turn : Turn a (copy.grants_after past s ask)
+      turn = by_both (dead past ask.access) held refl refl
+        where
+          by_both : (d h : Option Name) → dead past ask.access ≡ d → held ≡ h → Turn a (copy.grants_after past s ask)
+          by_both (Some x) h at way = is_dead x at (answers ∙ ap (λ d. said d held) at) (grants_more ∙ ap (λ d. given d held) at)
+          by_both None (Some h) at way = is_blocked h at way (answers ∙ ap₂ said at way) (grants_more ∙ ap₂ given at way)
+          by_both None None at way = is_granted at way (answers ∙ ap₂ said at way) (grants_more ∙ ap₂ given at way)
+
+      -- what holds of the three answers holds of this one
+      by_turn : (P : Answered → Type 0)
+          → ((x : Name) → dead past ask.access ≡ Some x → copy.grants_after past s ask ≡ grants past ask.copy → P (Dead x))
+          → ((h : Name) → dead past ask.access ≡ None → held ≡ Some h → copy.grants_after past s ask ≡ grants past ask.copy → P (Blocked h))
+          → (dead past ask.access ≡ None → held ≡ None → copy.grants_after past s ask ≡ more → P (Granted tuple))
+          → Turn a (copy.grants_after past s ask) → P a
+      by_turn P dies blocks grants (is_dead x d at given) = subst P (sym at) (dies x d given)
+      by_turn P dies blocks grants (is_blocked h d w at given) = subst P (sym at) (blocks h d w given)
+      by_turn P dies blocks grants (is_granted d w at given) = subst P (sym at) (grants d w given)
+
+      -- the answer is of a copy that is up
+      pub serves : IsOfCopy a
+      serves = by_turn IsOfCopy (λ x d given. tt) (λ h d w given. tt) (λ d w given. tt) turn
 
       -- what the copy answered may be entered
-      pub answer_legal : Legal (setting_of base) now
-      answer_legal = by_holder held refl
+      pub answer_allowed : Allowed (setting_of base) past (answer_entry ask a)
+      answer_allowed = by_turn (λ x. Allowed (setting_of base) past (answer_entry ask x))
+          (λ x d given. answering.dead_allowed (setting_of base) past r.may.0 ask r.legal r.may.1 x d)
+          (λ h d w given. answering.blocked_allowed (setting_of base) past r.may.0 ask r.legal r.may.1 h d w)
+          (λ d w given. answering.grant_allowed (setting_of base) past r.may.0 ask r.legal r.may.1 first_time d w (start_sized base r.proper ask.copy ask.rec fits.is_copy fits.is_record) fits.sized)
+          turn
+
+      -- and is a copy's answer
+      pub is_told : IsTrue (is_answer (answer_entry ask a))
+      is_told = by_turn (λ x. IsTrue (is_answer (answer_entry ask x))) (λ x d given. under) (λ h d w given. under) (λ d w given. under) turn
         where
-          by_holder : (o : Option Name) → held ≡ o → Legal (setting_of base) now
-          by_holder None at =
-              subst (Legal (setting_of base)) (sym (subst (λ x. IsAnswered told ask x now) (said None at) answered)) (
-                answering.told_legal (setting_of base) before m ask legal may,
-                answering.grant_allowed (setting_of base) before m ask legal may tuple at refl (start_sized base proper ask.copy ask.rec fits.is_copy fits.is_record) fits.sized,
-              )
-          by_holder (Some h) at =
-              subst (Legal (setting_of base)) (sym (subst (λ x. IsAnswered told ask x now) (said (Some h) at) answered))
-              (answering.told_legal (setting_of base) before m ask legal may, answering.refuse_allowed (setting_of base) before m ask legal may h at)
+          under : nat_lt (ask.copy + 2) 18 ≡ true
+          under = lt-ltb (ask.copy + 2) 18 (let lt = fits.below in omega arith)
+
+      -- and then tells what was answered
+      pub answer_told : HasAnswered (answer_entry ask a ∷ past) ask a
+      answer_told = by_turn (λ x. HasAnswered (answer_entry ask x ∷ past) ask x)
+          (λ x d given. answering.refusal_told past ask (refusal.Dead x))
+          (λ h d w given. answering.refusal_told past ask (refusal.Blocked h))
+          (λ d w given. answering.grant_told past ask tuple first_time)
+          turn
 
       -- the copies have then what the history tells
-      pub answer_sites : (sites : List State) (new : State) → AreSites base told sites → new.table.start ≡ s.table.start → new.grants ≡ copy.grants_after told s ask → Follows told new.grants new.table
-          → AreSites base now (slice_set sites ask.copy new)
-      answer_sites sites new are start given follows = by_holder held refl
+      pub answer_sites : (sites : List State) (after : State) → AreSites base past sites → after.table.start ≡ s.table.start → after.grants ≡ copy.grants_after past s ask → Follows past after.grants after.table
+          → AreSites base (answer_entry ask a ∷ past) (slice_set sites ask.copy after)
+      answer_sites sites after are start same follows = by_turn (λ x. AreSites base (answer_entry ask x ∷ past) (slice_set sites ask.copy after))
+          (λ x d given. sites_still base (refusal_entry ask (refusal.Dead x)) past (slice_set sites ask.copy after) refl (settled (same ∙ given)))
+          (λ h d w given. sites_still base (refusal_entry ask (refusal.Blocked h)) past (slice_set sites ask.copy after) refl (settled (same ∙ given)))
+          (λ d w given. sites_granted base past sites ask.copy (ask.copy + 2) (copy.grant_with ask tuple) after are (start ∙ site.start) (same ∙ given) follows)
+          turn
         where
-          by_holder : (o : Option Name) → held ≡ o → AreSites base now (slice_set sites ask.copy new)
-          by_holder None at =
-              subst (λ p. AreSites base p (slice_set sites ask.copy new)) (sym (subst (λ x. IsAnswered told ask x now) (said None at) answered))
-              (sites_granted base told sites ask.copy (ask.copy + 2) (copy.grant_with ask tuple) new are (start ∙ site.start)
-              (given ∙ grants_more ∙ ap (λ (o : Option Name). if is_some o then grants told ask.copy else grants told ask.copy ++ copy.grant_with ask tuple ∷ []) at) follows)
-          by_holder (Some h) at =
-              subst (λ p. AreSites base p (slice_set sites ask.copy new)) (sym (subst (λ x. IsAnswered told ask x now) (said (Some h) at) answered))
-              (sites_still base _ told (slice_set sites ask.copy new) refl
-              (sites_settled base told sites ask.copy new are (record {
-                start = start ∙ site.start;
-                granted = given ∙ grants_more ∙ ap (λ (o : Option Name). if is_some o then grants told ask.copy else grants told ask.copy ++ copy.grant_with ask tuple ∷ []) at;
-                follows = follows;
-              })))
+          settled : after.grants ≡ grants past ask.copy → AreSites base past (slice_set sites ask.copy after)
+          settled given = sites_settled base past sites ask.copy after are (record { start = start ∙ site.start; granted = given; follows = follows })
 
--- AT ANY TIME
-
--- an access has asked, and nothing came after
-pub record IsReady (base : List (List Tuple)) (log : Past) (ask : Ask) : Type 0 where
-  pub before : Past
-  pub manager : Name
-  pub legal : Legal (setting_of base) before
-  pub may : MayAccess (setting_of base) before manager ask
-  pub asks : log ≡ began 18 ask ++ before
-
-pub ready : (base : List (List Tuple)) (log : Past) (ask : Ask) (shown : ∥ Legal (setting_of base) log ∥₁) (v : Stored) → record { base = base; past = log; is_legal = shown } ≡ v → HasAsked (setting v) v.past ask → IsReady base log ask
-ready base log ask shown v is asked =
-    let here : HasAsked (setting_of base) log ask = subst (λ (x : Stored). HasAsked (setting x) x.past ask) (sym is) asked in
-    let legal : Legal (setting_of base) (began 18 ask ++ here.before) = subst (Legal (setting_of base)) here.asks (legal_again (setting_of base) log shown) in
-    record { before = here.before; manager = here.manager; legal = legal.0.0; may = here.may; asks = here.asks }
-
-module _ (base : List (List Tuple)) (log : Past) (ask : Ask) (proper : IsProper base) (r : IsReady base log ask) where
-  pub ready_fits : AskFits (setting_of base) ask
-  ready_fits = fits base r.before r.manager ask proper r.legal r.may
-
-  pub ready_copy : (sites : List State) → AreSites base log sites → ask.copy < length sites
-  ready_copy sites are = let same = are.same_length in let place = ready_fits.is_copy in omega arith
-
-  pub ready_site : (sites : List State) (s : State) → AreSites base log sites → s ≡ slice_index_or sites ask.copy s → IsSite base log ask.copy s
-  ready_site sites s are item = subst (IsSite base log ask.copy) (sym item) (are.each ask.copy s (ready_copy sites are))
-
-  module _ (s : State) (site : IsSite base log ask.copy s) where
-    here : IsSite base (began 18 ask ++ r.before) ask.copy s
-    here = subst (λ p. IsSite base p ask.copy s) r.asks site
-
-    pub ready_within : ask.rec < length s.table.start
-    ready_within = within base r.before r.manager ask proper r.legal r.may s here
-
-    pub ready_serves : (a : Answered) → a ≡ copy.answer log s ask → IsServed a
-    ready_serves a is = serves base r.before r.manager ask proper r.legal r.may s here a (is ∙ ap (λ p. copy.answer p s ask) r.asks)
-
-    module _ (a : Answered) (is : a ≡ copy.answer log s ask) (now : Past) where
-      pub ready_legal : (entered : Result Carried CarryNo) → IfOk entered (λ c. IsAnswered log ask c now) → IfOk entered (Says a) → OnErr entered (now ≡ log) → ∥ Legal (setting_of base) log ∥₁ → ∥ Legal (setting_of base) now ∥₁
-      ready_legal (Ok c) answered says same shown = ∣ answer_legal base r.before r.manager ask proper r.legal r.may s here a c now (is ∙ ap (λ p. copy.answer p s ask) r.asks) says (subst (λ p. IsAnswered p ask c now) r.asks answered) ∣₁
-      ready_legal (Err e) answered says same shown = subst (λ p. ∥ Legal (setting_of base) p ∥₁) (sym same) shown
-
-      pub ready_kept : (entered : Result Carried CarryNo) (torn : Bool) → torn ≡ is_err entered → IfOk entered (λ c. IsAnswered log ask c now) → IfOk entered (Says a) → (sites : List State) (new : State) → AreSites base log sites
-          → new.table.start ≡ s.table.start → new.grants ≡ copy.grants_after log s ask → Follows log new.grants new.table → IsKept base now (slice_set sites ask.copy new) torn
-      ready_kept (Ok c) torn tears answered says sites new are start given follows = record {
-        proper = proper;
-        sites = λ whole. answer_sites base r.before r.manager ask proper r.legal r.may s here a c now (is ∙ ap (λ p. copy.answer p s ask) r.asks) says (subst (λ p. IsAnswered p ask c now) r.asks answered) sites new
-            (subst (λ p. AreSites base p sites) r.asks are) start (given ∙ ap (λ p. copy.grants_after p s ask) r.asks) (subst (λ p. Follows p new.grants new.table) r.asks follows);
+      -- so the store keeps what it keeps, once the answer is entered
+      pub answer_kept : (now : Past) (torn : Bool) → now ≡ answer_entry ask a ∷ past → (sites : List State) (after : State) → AreSites base past sites
+          → after.table.start ≡ s.table.start → after.grants ≡ copy.grants_after past s ask → Follows past after.grants after.table → IsKept base now (slice_set sites ask.copy after) torn
+      answer_kept now torn grown sites after are start same follows = record {
+        proper = r.proper;
+        sites = λ whole. subst (λ p. AreSites base p (slice_set sites ask.copy after)) (sym grown) (answer_sites sites after are start same follows);
       }
-      ready_kept (Err e) torn tears answered says sites new are start given follows = record { proper = proper; sites = λ whole. absurd (true≢false (sym tears ∙ whole)) }
+
+      pub answer_legal : (now : Past) → now ≡ answer_entry ask a ∷ past → ∥ Legal (setting_of base) now ∥₁
+      answer_legal now grown = subst (λ p. ∥ Legal (setting_of base) p ∥₁) (sym grown) ∣ (r.legal, answer_allowed) ∣₁
+
+-- A request that was made has come to a copy of a store that is not torn.
+pub record IsAt (base : List (List Tuple)) (past : Past) (ask : Ask) (s : State) : Type 0 where
+  pub ready : IsReady base past ask
+  pub site : IsSite base past ask.copy s
+
+pub at_copy : (base : List (List Tuple)) (past : Past) (ask : Ask) (sites : List State) (s : State) → IsReady base past ask → AreSites base past sites → s ≡ slice_index_or sites ask.copy s → IsAt base past ask s
+at_copy base past ask sites s r are item = record { ready = r; site = subst (IsSite base past ask.copy) (sym item) (are.each ask.copy s (is_place base past ask r sites are)) }
+
+-- what an entry made is there where there was no error
+pub made : {T E : Type 0} (r : Result T E) {P : Type 0} → is_err r ≡ false → OnOk r P → P
+made (Ok t) none h = h
+made (Err e) none h = absurd (true≢false none)
+
+pub not_again : (o : Option Tuple) → is_some o ≡ false → o ≡ None
+not_again None h = refl
+not_again (Some t) h = absurd (true≢false h)

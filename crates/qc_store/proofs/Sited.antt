@@ -1,21 +1,19 @@
 -- The copies of a store go on to have what its history tells: while it grows by entries that grant nothing, where
 -- a copy settles its locks, and where it grants.
-use Rattle.std.proofs.Common.{◌≡◌, ℕ, ◌<◌, Bool, true, false, List, [], ◌∷◌, ◌++◌, length, refl, sym, ap, ◌∙◌, subst, inl, inr, append-nil, get_or-set_same, get_or-set_other, cond}
+use Rattle.std.proofs.Common.{◌≡◌, ℕ, ◌<◌, Bool, List, [], ◌∷◌, ◌++◌, length, refl, sym, ap, ◌∙◌, subst, inl, inr, append-nil, get_or-set_same, get_or-set_other}
 use mathlib.Core.Bool.{true≢false}
-use Rattle.std.specs.Prelude.{Option, None, Some, find, option_to_list, if◌then◌else◌, ◌==◌, slice_index_or, slice_set, not, IsTrue}
-use Rattle.std.specs.Option.{option_or, option_map}
+use Rattle.std.specs.Prelude.{None, Some, option_to_list, if◌then◌else◌, ◌==◌, slice_index_or, slice_set, not, IsTrue}
 use Rattle.std.proofs.lemmas.Bool.{cases_Bool, false_from_ne_true, eqb-true, eq-eqb}
-use Rattle.std.proofs.lemmas.List.Folds.{find-append}
 use Rattle.std.proofs.Math.ListN.{length-set}
 use Rattle.qc_config.specs.declared.tuple.Tuple.{Tuple}
 use Rattle.qc_event.specs.declared.event.Entry.{Entry}
 use Rattle.qc_event.specs.declared.event.Event.{Event}
 use Rattle.qc_event.specs.declared.event.Event.TheVariants as event
 use Rattle.qc_event.specs.declared.event.Grant.{Grant}
-use Rattle.qc_event.specs.History.{Past, Name, Given, same, granted, grant_in, grant_at, grants}
+use Rattle.qc_event.specs.History.{Past, grant_at, grants}
 use Rattle.qc_moss.specs.Follows.{Follows}
 use Rattle.qc_moss.proofs.Following.{grows}
-use Rattle.qc_copy.specs.State.{State, again}
+use Rattle.qc_copy.specs.State.{State}
 use Rattle.qc_store.specs.Sites.{is_grant, IsSite, AreSites}
 
 -- NO GRANT
@@ -76,30 +74,3 @@ sites_granted base past sites copy seat g s are start given follows =
       follows = grows past e s.grants s.table follows;
     })
     (λ c x apart site. site_still base e past c x (ap (λ (b : Bool). if b then Some g else None) (false_from_ne_true (copy == c) (λ is. apart (eqb-true copy c is)))) site)
-
--- NO REPEAT
-
--- a copy granted nothing to an access that was granted nothing
-pub not_again : (past : Past) (copy : ℕ) (n : Name) → granted past n ≡ None → again (grants past copy) n ≡ None
-not_again past copy n none = ap (λ o. option_map (λ (g : Grant). g.tuple) o) (none_there past none)
-  where
-    before : (o new : Option Given) → option_or o new ≡ None → (o ≡ None) × (new ≡ None)
-    before None new h = (refl, h)
-    before (Some g) new h = absurd cc
-
-    by_same : (c : ℕ) (g : Grant) (b t : Bool) → cond {A = Option Given} b (Some (record { copy = c; grant = g })) None ≡ None → same g.access n ≡ b → find (λ (x : Grant). same x.access n) (option_to_list (if t then Some g else None)) ≡ None
-    by_same c g true t h is = absurd cc
-    by_same c g false true h is = ap (λ b. cond b (Some g) None) is
-    by_same c g false false h is = refl
-
-    here : (ev : Event) → grant_in n ev ≡ None → find (λ (x : Grant). same x.access n) (option_to_list (grant_at copy ev)) ≡ None
-    here (event.Granted c g) h = by_same c g (same g.access n) (c == copy) h refl
-    here _ h = refl
-
-    none_there : (older : Past) → granted older n ≡ None → find (λ (x : Grant). same x.access n) (grants older copy) ≡ None
-    none_there [] h = refl
-    none_there (e ∷ older) h =
-        let parts = before (granted older n) (grant_in n e.event) h in
-        find-append (λ (x : Grant). same x.access n) (grants older copy) (option_to_list (grant_at copy e.event))
-        ∙ ap (λ o. option_or o (find (λ (x : Grant). same x.access n) (option_to_list (grant_at copy e.event)))) (none_there older parts.0)
-        ∙ here e.event parts.1

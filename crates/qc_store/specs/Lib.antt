@@ -1,3 +1,4 @@
 pub mod Stored
 pub mod Sites
-pub mod Access
+pub mod Served
+pub mod Laws

@@ -1,24 +1,17 @@
-ghost use Rattle.std.specs.Prelude.{◌≡◌, ◌+◌, ◌<◌, ◌≤◌, ◌↔◌, ◌∷◌, [], false, not, IsTrue, IsErrOf, IfOk, IfErr, OnOk, OnErr, reverse, length};
+ghost use Rattle.std.specs.Prelude.{◌≡◌, ◌≤◌, ◌↔◌, ◌∷◌, [], not, IsTrue, IsErrOf, IfOk, OnOk, OnErr, reverse, length};
 ghost use Rattle.qc_event.specs.Base.{setting_of, first_of};
-ghost use Rattle.qc_event.specs.History.{limit, children};
+ghost use Rattle.qc_event.specs.History.{limit};
 ghost use Rattle.qc_event.specs.Legal.{Allowed, Legal};
-ghost use Rattle.qc_gather.specs.Carrying.{MayCarry, entry, next_ask};
-ghost use Rattle.qc_store.specs.Access as access;
+ghost use Rattle.qc_store.specs.Served as served;
 ghost use Rattle.qc_store.specs.Sites.{is_grant, AreSites};
 ghost use Rattle.qc_store.specs.Stored.{IsProper, setting};
 
-use qc_config::{Config, Op};
+use qc_config::Config;
 use qc_copy::CopyState;
-use qc_event::{
-    Answer, Answered, Ask, Base, Cause, Entry, Event, Grant, How, Kind, Log, Name, Refusal, Short,
-    Tuple, dead,
-};
-use qc_gather::{Carried, Carrier, CarryNo};
+use qc_event::{Answered, Ask, Base, Entry, Event, Grant, Log, Refusal, Short, Tuple};
+use qc_net::Port;
 use std::alloc::{AllocError, Global};
 use std::marker::Model;
-
-/// The seat under which managers and their accesses stand.
-const CLIENT: u32 = 18;
 
 /// The copies of a run, each of which replies at once, and the history that they make. Contracts see it as
 /// the copies' start tuples and the history, which is legal.
@@ -55,34 +48,9 @@ fn sites_of(alloc: Global, base: &Base) -> Result<Vec<CopyState>, AllocError>
     Ok(sites)
 }
 
-// How many children of a name have started.
-fn count_children(h: &[Entry], n: &Name) -> usize
-    ensures { result ≡ length (children (reverse h.now) n.now) }
-{
-    let mut count = 0;
-    for e in h {
-        if let Event::Start { name, .. } = &e.event {
-            if name.len() == n.len() + 1 && n.is_ancestor(name) {
-                count += 1;
-            }
-        }
-    }
-    count
-}
-
-// How an access ends that was answered.
-fn end_of(answer: &Carried) -> How
-    ensures { result ≡ access.how_of answer.now }
-{
-    match answer {
-        Carried::Reply(tuple) => How::Commit(Answer::Reply(*tuple)),
-        Carried::Blocked(_) | Carried::Gone(_) => How::Abort(Cause::Missed),
-    }
-}
-
 // The entry of a copy's grant.
 fn granted(ask: &Ask, tuple: &Tuple) -> Entry
-    ensures { result ≡ access.grant_entry ask.now tuple.now }
+    ensures { result ≡ served.grant_entry ask.now tuple.now }
 {
     let grant = Grant {
         access: ask.access,
@@ -99,47 +67,31 @@ fn granted(ask: &Ask, tuple: &Tuple) -> Entry
     }
 }
 
-// The entry of a copy's refusal, for an access in the way.
-fn refused(ask: &Ask, holder: &Name) -> Entry
-    ensures { result ≡ access.refusal_entry ask.now holder.now }
+// The entry of a copy's refusal.
+fn refused(ask: &Ask, refusal: Refusal) -> Entry
+    ensures { result ≡ served.refusal_entry ask.now refusal }
 {
     Entry {
         seat: u32::from(ask.copy) + 2,
         event: Event::Refused {
             access: ask.access,
             copy: ask.copy,
-            refusal: Refusal::Blocked(*holder),
+            refusal,
         },
     }
 }
 
-// Enters what a copy answered. No access is dead that a store serves, and no copy in one process is down.
-fn enter_answer(log: &mut Log, ask: &Ask, answered: &Answered) -> Result<Carried, CarryNo>
-    requires { access.IsServed answered.now }
-    ensures ok { IfOk result (λ answer. access.IsAnswered log.old ask.now answer log.new) }
-    ensures same { IfOk result (access.Says answered.now) }
+// Enters what a copy answered to a request that it had not granted before. No copy in one process is down.
+fn enter_answer(log: &mut Log, ask: &Ask, answered: &Answered) -> Result<(), Short>
+    requires { served.IsOfCopy answered.now }
+    ensures ok { OnOk result (log.new ≡ served.answer_entry ask.now answered.now ∷ log.old) }
     ensures err { OnErr result (log.new ≡ log.old) }
-    ensures short { IfErr result (access.IsShort log.old) }
 {
     match answered {
-        Answered::Granted(tuple) => match log.push(granted(ask, tuple)) {
-            Ok(()) => Ok(Carried::Reply(*tuple)),
-            Err(short) => Err(no_of(short)),
-        },
-        Answered::Blocked(holder) => match log.push(refused(ask, holder)) {
-            Ok(()) => Ok(Carried::Blocked(*holder)),
-            Err(short) => Err(no_of(short)),
-        },
-        Answered::Dead(_) | Answered::Down | Answered::Full | Answered::Strange => unreachable!(),
-    }
-}
-
-fn no_of(short: Short) -> CarryNo
-    ensures { result ≡ access.no_of short }
-{
-    match short {
-        Short::Memory => CarryNo::Memory,
-        Short::Room => CarryNo::Room,
+        Answered::Granted(tuple) => log.push(granted(ask, tuple)),
+        Answered::Blocked(holder) => log.push(refused(ask, Refusal::Blocked(*holder))),
+        Answered::Dead(ancestor) => log.push(refused(ask, Refusal::Dead(*ancestor))),
+        Answered::Down | Answered::Full | Answered::Strange => unreachable!(),
     }
 }
 
@@ -221,103 +173,38 @@ impl Store {
         let Store { log, base, .. } = self;
         (base, log.into_entries())
     }
-
-    // Appends an entry of the store's own.
-    fn enter(&mut self, event: Event) -> Result<(), CarryNo>
-        requires allowed { Allowed (setting self.old) self.old.past (entry 18 event) }
-        requires no_grant { IsTrue (not (is_grant event)) }
-        ensures base { self.new.base ≡ self.old.base }
-        ensures ok { OnOk result (self.new.past ≡ entry 18 event ∷ self.old.past) }
-        ensures err { OnErr result (self.new.past ≡ self.old.past) }
-        ensures short { IfErr result (access.IsShort self.old.past) }
-    {
-        let entry = Entry {
-            seat: CLIENT,
-            event,
-        };
-        match self.push(entry) {
-            Ok(()) => Ok(()),
-            Err(short) => Err(no_of(short)),
-        }
-    }
-
-    // The request of a manager's next access.
-    fn next_ask(&self, manager: &Name, copy: u8, rec: u8, op: &Op) -> Ask
-        requires may { MayCarry (setting self.now) 18 self.now.past manager.now copy rec op.now }
-        requires bounded { length self.now.past ≤ limit }
-        ensures { result ≡ next_ask self.now.past manager.now copy rec op.now }
-    {
-        let number = count_children(self.log.as_slice(), manager) + 1;
-        Ask {
-            access: manager.child(number as u32),
-            copy,
-            rec,
-            op: *op,
-        }
-    }
-
-    // Has a copy answer a request, and enters what it says. Where that is not entered, the copy and the
-    // history may part: the store is torn, and serves no one more.
-    fn serve(&mut self, ask: &Ask) -> Result<Carried, CarryNo>
-        requires { access.HasAsked (setting self.old) self.old.past ask.now }
-        ensures base { self.new.base ≡ self.old.base }
-        ensures ok { IfOk result (λ answer. access.IsAnswered self.old.past ask.now answer self.new.past) }
-        ensures err { OnErr result (self.new.past ≡ self.old.past) }
-        ensures short { IfErr result (access.IsShort self.old.past) }
-    {
-        if self.torn {
-            return Err(CarryNo::Memory);
-        }
-        match self.sites[ask.copy as usize].serve_with(ask, self.log.as_slice()) {
-            Ok(answered) => {
-                let entered = enter_answer(&mut self.log, ask, &answered);
-                self.torn = entered.is_err();
-                entered
-            }
-            Err(AllocError) => Err(CarryNo::Memory),
-        }
-    }
 }
 
-impl Carrier for Store {
-    ghost use Rattle.std.specs.Prelude.{refl};
-    ghost use Rattle.qc_event.proofs.LegalAgain.{legal_again};
-    ghost use Rattle.qc_gather.specs.Carrying.{made_by, HasGrown, carriage, became, WasCarried, WasNotCarried, HasReason, Rose};
+impl Port for Store {
+    ghost use Rattle.qc_store.specs.Served.{MayServe, HasAnswered, HasServed};
+    ghost use Rattle.qc_store.specs.Laws.{served_itself, served_by_both};
 
-    ghost setting = { setting };
+    ghost may = { λ store ask. MayServe store.past ask };
 
-    ghost seat = { λ _. 18 };
+    ghost gave = { λ store ask answer. HasAnswered store.past ask answer };
 
-    ghost own = { λ store. made_by 18 store.past };
+    ghost became = { HasServed };
 
-    ghost seen = { λ store. store.past };
+    ghost became_itself = { served_itself };
 
-    ghost others = { λ _ _. false };
+    ghost became_by_both = { served_by_both };
 
-    ghost troubles = { λ _. 0 };
-
-    ghost is_legal = { λ store. legal_again (setting store) store.past store.is_legal };
-
-    ghost own_are_seen = { λ store. refl };
-
-    fn carry(&mut self, manager: &Name, copy: u8, rec: u8, op: Op) -> Result<Carried, CarryNo> {
-        if let Some(ancestor) = dead(self.log.as_slice(), manager) {
-            return Err(CarryNo::Orphan(ancestor));
+    // An error is want of memory, or of room in the history. Where the answer is not entered, the copy and the
+    // history may part: the store is torn, and serves no one more.
+    fn deliver(&mut self, ask: &Ask) -> Result<Answered, AllocError> {
+        if self.torn {
+            return Err(AllocError);
         }
-        if self.log.is_full() {
-            return Err(CarryNo::Room);
+        let site = &mut self.sites[ask.copy as usize];
+        let repeated = site.again(&ask.access).is_some();
+        let answered = site.serve_with(ask, self.log.as_slice())?;
+        if repeated {
+            return Ok(answered);
         }
-        let ask = &self.next_ask(manager, copy, rec, &op);
-        self.enter(Event::Start {
-            name: ask.access,
-            kind: Kind::Access,
-        })?;
-        self.enter(Event::Ask(*ask))?;
-        let answer = self.serve(ask)?;
-        self.enter(Event::End {
-            name: ask.access,
-            how: end_of(&answer),
-        })?;
-        Ok(answer)
+        if enter_answer(&mut self.log, ask, &answered).is_err() {
+            self.torn = true;
+            return Err(AllocError);
+        }
+        Ok(answered)
     }
 }

@@ -1,5 +1,5 @@
 //! Members of JSON objects, and checks on them.
-ghost use Rattle.std.specs.Prelude.{◌≡◌, ◌≢◌, ◌≤◌, map, IfErr, OnOk};
+ghost use Rattle.std.specs.Prelude.{◌≡◌, ◌≢◌, ◌≤◌, map, IfOk, IfErr, OnOk};
 ghost use Rattle.serde_json.specs.View.{view, members_view};
 ghost use Rattle.qc_script.specs.ScriptText as script;
 ghost use Rattle.qc_script.specs.Reading.{Gives};
@@ -124,4 +124,36 @@ pub(crate) fn check_within(word: Member, low: u64, high: u64, number: u64) -> Re
         return Err(BadScript::Limit(word, number));
     }
     Ok(())
+}
+
+/// A number within its limits, written in digits alone.
+pub(crate) fn limited(word: Member, low: u64, high: u64, value: &Value) -> Result<u64, BadScript>
+    ensures exact { Gives (λ n. n) result (script.limited word low high (view value.now)) }
+    ensures inside { IfOk result (λ n. (low ≤ n) × (n ≤ high)) }
+    ensures no_memory { IfErr result (λ e. e ≢ BadScript.Memory) }
+{
+    let number = value.as_u64().ok_or(BadScript::Shape(word))?;
+    check_within(word, low, high, number)?;
+    Ok(number)
+}
+
+/// A member that is a number within its limits. Where the object has no such member it is the default.
+pub(crate) fn number_or(
+    object: &Value,
+    name: &str,
+    default: u64,
+    word: Member,
+    low: u64,
+    high: u64,
+) -> Result<u64, BadScript>
+    requires { default ≤ high }
+    ensures exact { Gives (λ n. n) result
+        (script.member_or name.now default (script.limited word low high) (view object.now)) }
+    ensures inside { IfOk result (λ n. n ≤ high) }
+    ensures no_memory { IfErr result (λ e. e ≢ BadScript.Memory) }
+{
+    match object.get(name) {
+        Some(value) => limited(word, low, high, value),
+        None => Ok(default),
+    }
 }

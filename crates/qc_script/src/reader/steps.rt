@@ -1,17 +1,19 @@
-//! Sessions: their tops, the bodies of these, and the steps of the bodies.
+//! The bodies of tops, and their steps.
 #![tactic(auto, unfolding(crate::specs::ScriptText::followed))]
 
-ghost use Rattle.std.specs.Prelude.{◌≡◌, ◌≢◌, ℕ, ◌-◌, ◌≤◌, map, length, IfErr};
+ghost use Rattle.std.specs.Prelude.{◌≡◌, ◌≢◌, ℕ, ◌-◌, ◌*◌, ◌≤◌, map, length, IfOk, IfErr};
 ghost use Rattle.serde_json.specs.View.{view};
 ghost use Rattle.qc_script.specs.ScriptText as script;
 ghost use Rattle.qc_script.specs.Steps.{put, plan_of, numbered};
 ghost use Rattle.qc_script.specs.Reading.{Gives};
 
+#[cfg(test)]
+mod tests;
+
 use crate::bad_script::{BadScript, Member};
-use crate::reader::object::{check_absent, check_object, list_at};
-use crate::reader::rows::{check_name, place_of};
+use crate::reader::object::{check_absent, check_object, check_within, list_at, number_or};
+use crate::reader::rows::{Records, check_name, config_of};
 use crate::script::{Body, Step};
-use qc_event::{Label, Row};
 use serde_json::Value;
 use std::alloc::Global;
 
@@ -37,51 +39,65 @@ fn step_name(value: &Value) -> Result<&str, BadScript>
     }
 }
 
-fn number_of(alloc: Global, rows: &[Row], name: &str) -> Result<u8, BadScript>
-    requires { length rows.now ≤ 64 }
-    ensures { Gives (λ i. i) result (script.number_of rows.now name.now) }
-{
-    match place_of(rows, name) {
-        Some(i) => Ok(i as u8),
-        None => Err(BadScript::Unknown(Label::new(alloc, name.as_bytes())?)),
-    }
-}
-
-fn read_of(alloc: Global, rows: &[Row], rec: &Value) -> Result<Step, BadScript>
-    requires { length rows.now ≤ 64 }
-    ensures { (next : ℕ) → Gives (λ s. (put s, next)) result (script.read_of rows.now next (view rec.now)) }
+fn read_of(alloc: Global, records: &Records<'_>, rec: &Value) -> Result<Step, BadScript>
+    ensures { (next : ℕ) → Gives (λ s. (put s, next)) result
+        (script.read_of records.now.table next (view rec.now)) }
 {
     let name = step_name(rec)?;
-    let rec = number_of(alloc, rows, name)?;
+    let rec = records.number_of(alloc, name)?;
     Ok(Step::Read { rec })
 }
 
-fn set_of(alloc: Global, rows: &[Row], rec: &Value, value: &Value) -> Result<Step, BadScript>
-    requires { length rows.now ≤ 64 }
+fn set_of(
+    alloc: Global,
+    records: &Records<'_>,
+    rec: &Value,
+    value: &Value,
+) -> Result<Step, BadScript>
     ensures { (next : ℕ) → Gives (λ s. (put s, next)) result
-        (script.set_of rows.now next (view rec.now) (view value.now)) }
+        (script.set_of records.now.table next (view rec.now) (view value.now)) }
 {
     let name = step_name(rec)?;
     let value = value.as_u64().ok_or(BadScript::Shape(Member::Step))?;
-    let rec = number_of(alloc, rows, name)?;
+    let rec = records.number_of(alloc, name)?;
     Ok(Step::Set { rec, value })
+}
+
+fn reconf_of(
+    alloc: Global,
+    records: &Records<'_>,
+    rec: &Value,
+    config: &Value,
+) -> Result<Step, BadScript>
+    ensures { (next : ℕ) → Gives (λ s. (put s, next)) result
+        (script.reconf_of records.now.table next (view rec.now) (view config.now)) }
+{
+    let name = step_name(rec)?;
+    if config.as_object().is_none() {
+        return Err(BadScript::Shape(Member::Step));
+    }
+    let rec = records.number_of(alloc, name)?;
+    let config = config_of(alloc, records.table.copies, config)?;
+    Ok(Step::Reconf { rec, config })
 }
 
 fn three_of(
     alloc: Global,
-    rows: &[Row],
+    records: &Records<'_>,
     word: &Value,
     rec: &Value,
     value: &Value,
 ) -> Result<Step, BadScript>
-    requires { length rows.now ≤ 64 }
     ensures { (next : ℕ) → Gives (λ s. (put s, next)) result
-        (script.three_of rows.now next (view word.now) (view rec.now) (view value.now)) }
+        (script.three_of records.now.table next (view word.now) (view rec.now) (view value.now)) }
 {
-    if !is_word(word, "set") {
-        return Err(BadScript::Shape(Member::Step));
+    if is_word(word, "set") {
+        set_of(alloc, records, rec, value)
+    } else if is_word(word, "reconf") {
+        reconf_of(alloc, records, rec, value)
+    } else {
+        Err(BadScript::Shape(Member::Step))
     }
-    set_of(alloc, rows, rec, value)
 }
 
 fn abort_of(depth: u8, levels: &Value) -> Result<Step, BadScript>
@@ -100,19 +116,20 @@ fn abort_of(depth: u8, levels: &Value) -> Result<Step, BadScript>
 fn child_of(
     alloc: Global,
     below: u8,
-    rows: &[Row],
+    around: u32,
+    records: &Records<'_>,
     next: &mut u32,
     body: &Value,
 ) -> Result<Step, BadScript>
-    requires few { length rows.now ≤ 64 }
     requires bounded { below ≤ 16 }
+    requires tried { around ≤ 256 }
     ensures { Gives (λ s. (put s, next.new)) result
-        (script.child_of (script.body_of below rows.now) next.old (view body.now)) }
+        (script.child_of (script.body_of below around records.now.table) next.old (view body.now)) }
 {
     if body.as_object().is_none() {
         return Err(BadScript::Shape(Member::Step));
     }
-    let body = body_of(alloc, below, rows, next, body)?;
+    let body = body_of(alloc, below, around, records, next, body)?;
     Ok(Step::Child(body))
 }
 
@@ -120,20 +137,22 @@ fn child_of(
 fn two_of(
     alloc: Global,
     below: u8,
-    rows: &[Row],
+    around: u32,
+    records: &Records<'_>,
     next: &mut u32,
     word: &Value,
     part: &Value,
 ) -> Result<Step, BadScript>
-    requires few { length rows.now ≤ 64 }
     requires bounded { below ≤ 16 }
+    requires tried { around ≤ 256 }
     ensures { Gives (λ s. (put s, next.new)) result
-        (script.two_of (script.body_of below rows.now) (16 - below) rows.now next.old (view word.now) (view part.now)) }
+        (script.two_of (script.body_of below around records.now.table) (16 - below) records.now.table
+        next.old (view word.now) (view part.now)) }
 {
     if is_word(word, "read") {
-        read_of(alloc, rows, part)
+        read_of(alloc, records, part)
     } else if is_word(word, "child") {
-        child_of(alloc, below, rows, next, part)
+        child_of(alloc, below, around, records, next, part)
     } else if is_word(word, "abort") {
         abort_of(16 - below, part)
     } else {
@@ -145,18 +164,20 @@ fn two_of(
 fn step_in(
     alloc: Global,
     below: u8,
-    rows: &[Row],
+    around: u32,
+    records: &Records<'_>,
     next: &mut u32,
     parts: &[Value],
 ) -> Result<Step, BadScript>
-    requires few { length rows.now ≤ 64 }
     requires bounded { below ≤ 16 }
+    requires tried { around ≤ 256 }
     ensures { Gives (λ s. (put s, next.new)) result
-        (script.step_in (script.body_of below rows.now) (16 - below) rows.now next.old (map view parts.now)) }
+        (script.step_in (script.body_of below around records.now.table) (16 - below) records.now.table
+        next.old (map view parts.now)) }
 {
     match parts {
-        [word, part] => two_of(alloc, below, rows, next, word, part),
-        [word, rec, value] => three_of(alloc, rows, word, rec, value),
+        [word, part] => two_of(alloc, below, around, records, next, word, part),
+        [word, rec, value] => three_of(alloc, records, word, rec, value),
         _ => Err(BadScript::Shape(Member::Step)),
     }
 }
@@ -166,17 +187,19 @@ fn step_in(
 fn step_of(
     alloc: Global,
     below: u8,
-    rows: &[Row],
+    around: u32,
+    records: &Records<'_>,
     next: &mut u32,
     value: &Value,
 ) -> Result<Step, BadScript>
-    requires few { length rows.now ≤ 64 }
     requires bounded { below ≤ 16 }
+    requires tried { around ≤ 256 }
     ensures { Gives (λ s. (put s, next.new)) result
-        (script.step_of (script.body_of below rows.now) (16 - below) rows.now next.old (view value.now)) }
+        (script.step_of (script.body_of below around records.now.table) (16 - below) records.now.table
+        next.old (view value.now)) }
 {
     match value.as_array() {
-        Some(parts) => step_in(alloc, below, rows, next, parts.as_slice()),
+        Some(parts) => step_in(alloc, below, around, records, next, parts.as_slice()),
         None => Err(BadScript::Shape(Member::Step)),
     }
 }
@@ -185,72 +208,84 @@ fn step_of(
 fn steps_of(
     alloc: Global,
     below: u8,
-    rows: &[Row],
+    around: u32,
+    records: &Records<'_>,
     next: &mut u32,
     list: &[Value],
 ) -> Result<Vec<Step>, BadScript>
-    requires few { length rows.now ≤ 64 }
     requires bounded { below ≤ 16 }
+    requires tried { around ≤ 256 }
     ensures { Gives (λ steps. (plan_of steps.items, next.new)) result
-        (script.steps_of (script.body_of below rows.now) (16 - below) rows.now next.old (map view list.now)) }
+        (script.steps_of (script.body_of below around records.now.table) (16 - below) records.now.table
+        next.old (map view list.now)) }
 {
     let mut steps = Vec::new(alloc);
     for value in list {
-        let step = step_of(alloc, below, rows, next, value)?;
+        let step = step_of(alloc, below, around, records, next, value)?;
         steps.push(step)?;
     }
     Ok(steps)
 }
 
-// A body that may have so many levels of bodies, itself among them.
+// How often a body is tried at most, where the tries of the bodies around it have this product.
+fn tries_of(around: u32, value: &Value) -> Result<u32, BadScript>
+    requires { around ≤ 256 }
+    ensures exact { Gives (λ n. n) result (script.tries_of around (view value.now)) }
+    ensures few { IfOk result (λ n. around * n ≤ 256) }
+    ensures no_memory { IfErr result (λ e. e ≢ BadScript.Memory) }
+{
+    let tries = number_or(value, "tries", 1, Member::Tries, 1, 16)? as u32;
+    check_within(Member::Tries, 0, 256, (around * tries) as u64)?;
+    Ok(tries)
+}
+
+// A body that may have so many levels of bodies, itself among them, where the tries of the bodies around it
+// have this product.
 #[cycle(bodies)]
 fn body_of(
     alloc: Global,
     levels: u8,
-    rows: &[Row],
+    around: u32,
+    records: &Records<'_>,
     next: &mut u32,
     value: &Value,
 ) -> Result<Body, BadScript>
-    requires few { length rows.now ≤ 64 }
     requires bounded { levels ≤ 16 }
+    requires tried { around ≤ 256 }
     ensures { Gives (λ b. (numbered b, next.new)) result
-        (script.body_of levels rows.now next.old (view value.now)) }
+        (script.body_of levels around records.now.table next.old (view value.now)) }
 {
     check_object(value, Member::Body, &["steps"], &["tries", "must"])?;
     if levels == 0 {
         return Err(BadScript::Limit(Member::Body, 17));
     }
-    check_absent(value, "tries", Member::Tries)?;
+    let tries = tries_of(around, value)?;
     check_absent(value, "must", Member::Must)?;
     let list = list_at(value, "steps", Member::Steps)?;
     let number = *next;
     *next = number.checked_add(1).ok_or(BadScript::Memory)?;
-    let steps = steps_of(alloc, levels - 1, rows, next, list)?;
-    Ok(Body { number, steps })
+    let steps = steps_of(alloc, levels - 1, around * tries, records, next, list)?;
+    Ok(Body {
+        number,
+        tries,
+        steps,
+    })
 }
 
-fn bodies_of(alloc: Global, rows: &[Row], list: &[Value]) -> Result<Vec<Body>, BadScript>
-    requires { length rows.now ≤ 64 }
+/// The bodies of tops, in order.
+pub(crate) fn bodies_of(
+    alloc: Global,
+    records: &Records<'_>,
+    list: &[Value],
+) -> Result<Vec<Body>, BadScript>
     ensures { Gives (λ bodies. map numbered bodies.items) result
-        (script.bodies_of rows.now 0 (map view list.now)) }
+        (script.bodies_of records.now.table 0 (map view list.now)) }
 {
     let mut next = 0;
     let mut bodies = Vec::new(alloc);
     for value in list {
-        let body = body_of(alloc, 16, rows, &mut next, value)?;
+        let body = body_of(alloc, 16, 1, records, &mut next, value)?;
         bodies.push(body)?;
     }
     Ok(bodies)
-}
-
-/// The bodies of a session's tops.
-pub(crate) fn session_of(alloc: Global, rows: &[Row], value: &Value) -> Result<Vec<Body>, BadScript>
-    requires { length rows.now ≤ 64 }
-    ensures { Gives (λ bodies. map numbered bodies.items) result
-        (script.session_of rows.now (view value.now)) }
-{
-    check_object(value, Member::Session, &["tops"], &["net"])?;
-    check_absent(value, "net", Member::Net)?;
-    let list = list_at(value, "tops", Member::Tops)?;
-    bodies_of(alloc, rows, list)
 }

@@ -3,22 +3,23 @@ use crate::script::Step;
 use std::process::Abort;
 use std::test::Fail;
 
-const RECORDS: &str = r#"[{"name":"x","start":0,"config":{"votes":[1],"read":1,"write":1}}]"#;
+pub(crate) const RECORDS: &str =
+    r#"[{"name":"x","start":0,"config":{"votes":[1],"read":1,"write":1}}]"#;
 
 const SESSIONS: &str = r#"[{"tops":[{"steps":[["set","x",5],["read","x"]]}]}]"#;
 
-fn script_with(alloc: Global, copies: &str, records: &str, sessions: &str) -> Result<String, Fail> {
+pub(crate) fn script_with(
+    alloc: Global,
+    copies: &str,
+    records: &str,
+    sessions: &str,
+) -> Result<String, Fail> {
     Ok(format!(in alloc; r#"{{"copies":{copies},"records":{records},"sessions":{sessions}}}"#)?)
 }
 
 fn with_record(alloc: Global, name: &str, start: &str, config: &str) -> Result<String, Fail> {
     let records = format!(in alloc; r#"[{{"name":{name},"start":{start},"config":{config}}}]"#)?;
     script_with(alloc, "1", &records, SESSIONS)
-}
-
-fn with_step(alloc: Global, step: &str) -> Result<String, Fail> {
-    let sessions = format!(in alloc; r#"[{{"tops":[{{"steps":[{step}]}}]}}]"#)?;
-    script_with(alloc, "1", RECORDS, &sessions)
 }
 
 fn refusal(alloc: Global, bytes: &[u8]) -> Result<String, Fail> {
@@ -36,7 +37,12 @@ fn refusal(alloc: Global, bytes: &[u8]) -> Result<String, Fail> {
     Ok(said?)
 }
 
-fn refuses(rt: &impl Abort, alloc: Global, text: &str, wanted: &str) -> Result<(), Fail> {
+pub(crate) fn refuses(
+    rt: &impl Abort,
+    alloc: Global,
+    text: &str,
+    wanted: &str,
+) -> Result<(), Fail> {
     let said = refusal(alloc, text.as_bytes())?;
     assert_eq!(rt; said.as_str(), wanted, "at {text}");
     Ok(())
@@ -54,8 +60,12 @@ fn reads_a_script(rt: HostRuntime) -> Result<(), Fail> {
     assert_eq!(rt; rows.len(), 1);
     assert_eq!(rt; rows[0].name.as_bytes(), b"x".as_slice());
     assert_eq!(rt; rows[0].start, 0);
-    let tops = script.tops.as_slice();
+    assert_eq!(rt; script.patience, 4);
+    assert_eq!(rt; script.session.fates.len(), 0);
+    assert_eq!(rt; script.session.hold, 1);
+    let tops = script.session.tops.as_slice();
     assert_eq!(rt; tops.len(), 1);
+    assert_eq!(rt; tops[0].tries, 1);
     let steps = tops[0].steps.as_slice();
     assert_eq!(rt; steps.len(), 2);
     assert!(rt; matches!(steps[0], Step::Set { rec: 0, value: 5 }));
@@ -88,6 +98,20 @@ fn reads_a_script_of_three_copies(rt: HostRuntime) -> Result<(), Fail> {
 }
 
 #[test]
+fn reads_patience(rt: HostRuntime) -> Result<(), Fail> {
+    let alloc = rt.alloc();
+    let text = format!(in alloc;
+        r#"{{"patience":64,"copies":1,"records":{RECORDS},"sessions":{SESSIONS}}}"#
+    )?;
+    let script = Script::read(alloc, text.as_bytes())
+        .ok()
+        .ok_or("it is a script")?;
+    assert_eq!(rt; script.patience, 64);
+    assert_eq!(rt; script.session.hold, 1);
+    Ok(())
+}
+
+#[test]
 fn refuses_other_texts(rt: HostRuntime) -> Result<(), Fail> {
     let texts = [
         ("", "NotJson"),
@@ -98,8 +122,24 @@ fn refuses_other_texts(rt: HostRuntime) -> Result<(), Fail> {
             "Script",
         ),
         (
-            r#"{"copies":1,"records":[],"sessions":[],"patience":0}"#,
+            r#"{"copies":1,"records":7,"sessions":[],"patience":"4"}"#,
             "Patience",
+        ),
+        (
+            r#"{"copies":1,"records":7,"sessions":[],"patience":0}"#,
+            "Patience 0",
+        ),
+        (
+            r#"{"copies":1,"records":7,"sessions":[],"patience":65}"#,
+            "Patience 65",
+        ),
+        (
+            r#"{"copies":1,"records":7,"sessions":[],"patience":64}"#,
+            "Records",
+        ),
+        (
+            r#"{"copies":0,"records":7,"sessions":[],"patience":0}"#,
+            "Copies 0",
         ),
         (r#"{"copies":0,"records":[],"sessions":[]}"#, "Copies 0"),
         (r#"{"copies":17,"records":[],"sessions":[]}"#, "Copies 17"),
@@ -194,125 +234,6 @@ fn refuses_other_records(rt: HostRuntime) -> Result<(), Fail> {
         &script_with(alloc, "1", &records, "[]")?,
         "Twice [120]",
     )
-}
-
-#[test]
-fn refuses_other_sessions(rt: HostRuntime) -> Result<(), Fail> {
-    let sessions = [
-        ("7", "Sessions"),
-        ("[]", "Sessions 0"),
-        (r#"[{"tops":[]},{"tops":[]}]"#, "Sessions"),
-        ("[{}]", "Session"),
-        (r#"[{"tops":7,"net":1}]"#, "Net"),
-        (r#"[{"tops":7}]"#, "Tops"),
-        (r#"[{"tops":[7]}]"#, "Body"),
-        (r#"[{"tops":[{"steps":7,"tries":1}]}]"#, "Tries"),
-        (r#"[{"tops":[{"steps":7,"must":1}]}]"#, "Must"),
-        (r#"[{"tops":[{"steps":7}]}]"#, "Steps"),
-        (r#"[{"tops":[{"steps":[["read","y"]]}]}]"#, "Unknown [121]"),
-    ];
-    let alloc = rt.alloc();
-    for (text, wanted) in sessions {
-        refuses(&rt, alloc, &script_with(alloc, "1", RECORDS, text)?, wanted)?;
-    }
-    Ok(())
-}
-
-#[test]
-fn refuses_other_steps(rt: HostRuntime) -> Result<(), Fail> {
-    let steps = [
-        ("7", "Step"),
-        ("[]", "Step"),
-        (r#"["read"]"#, "Step"),
-        (r#"["set","x"]"#, "Step"),
-        (r#"["read","x",5]"#, "Step"),
-        (r#"["read","a b"]"#, "Step"),
-        (r#"["set","y","z"]"#, "Step"),
-        (r#"["set","x",18446744073709551615]"#, "none"),
-        (r#"["set","x",18446744073709551616]"#, "Step"),
-        (r#"["abort",0]"#, "none"),
-        (r#"["abort",1]"#, "Levels 1"),
-        (r#"["abort",-1]"#, "Step"),
-        (r#"["abort","x"]"#, "Step"),
-        (r#"["child"]"#, "Step"),
-        (r#"["child",7]"#, "Step"),
-        (r#"["child",{}]"#, "Body"),
-        (r#"["child",{},1]"#, "Step"),
-        (r#"["par",[]]"#, "Step"),
-        (r#"["kill",0]"#, "Step"),
-        (r#"["crash",0]"#, "Step"),
-        (r#"["add","x",1]"#, "Step"),
-        (r#"["reconf","x",1]"#, "Step"),
-    ];
-    let alloc = rt.alloc();
-    for (step, wanted) in steps {
-        refuses(&rt, alloc, &with_step(alloc, step)?, wanted)?;
-    }
-    Ok(())
-}
-
-fn child_at(body: &Body, i: usize) -> Option<&Body> {
-    match body.steps.get(i) {
-        Some(Step::Child(inner)) => Some(inner),
-        _ => None,
-    }
-}
-
-#[test]
-fn numbers_bodies_as_they_begin(rt: HostRuntime) -> Result<(), Fail> {
-    let alloc = rt.alloc();
-    let grandchild = r#"{"steps":[["abort",2],["read","x"]]}"#;
-    let first = format!(in alloc; r#"{{"steps":[["read","x"],["child",{grandchild}]]}}"#)?;
-    let second = r#"{"steps":[["abort",1]]}"#;
-    let top = format!(in alloc; r#"{{"steps":[["child",{first}],["child",{second}]]}}"#)?;
-    let sessions = format!(in alloc; r#"[{{"tops":[{top},{{"steps":[]}}]}}]"#)?;
-    let text = script_with(alloc, "1", RECORDS, &sessions)?;
-    let script = Script::read(alloc, text.as_bytes())
-        .ok()
-        .ok_or("it is a script")?;
-    let top = script.tops.first().ok_or("a top")?;
-    let first = child_at(top, 0).ok_or("a child")?;
-    let grandchild = child_at(first, 1).ok_or("a grandchild")?;
-    let second = child_at(top, 1).ok_or("a second child")?;
-    let next = script.tops.get(1).ok_or("a second top")?;
-    assert_eq!(rt; top.number, 0);
-    assert_eq!(rt; first.number, 1);
-    assert_eq!(rt; grandchild.number, 2);
-    assert_eq!(rt; second.number, 3);
-    assert_eq!(rt; next.number, 4);
-    assert!(rt; next.steps.is_empty());
-    let steps = grandchild.steps.as_slice();
-    assert_eq!(rt; steps.len(), 2);
-    assert!(rt; matches!(steps[0], Step::Abort { levels: 2 }));
-    assert!(rt; matches!(steps[1], Step::Read { rec: 0 }));
-    Ok(())
-}
-
-fn with_body_at(alloc: Global, depth: usize, body: &str) -> Result<String, Fail> {
-    let mut text = format!(in alloc; "{body}")?;
-    for _ in 1..depth {
-        text = format!(in alloc; r#"{{"steps":[["child",{text}]]}}"#)?;
-    }
-    let sessions = format!(in alloc; r#"[{{"tops":[{text}]}}]"#)?;
-    script_with(alloc, "1", RECORDS, &sessions)
-}
-
-#[test]
-fn bounds_depths(rt: HostRuntime) -> Result<(), Fail> {
-    let bodies = [
-        (16, r#"{"steps":[["read","x"]]}"#, "none"),
-        (16, r#"{"steps":[["abort",15]]}"#, "none"),
-        (16, r#"{"steps":[["abort",16]]}"#, "Levels 16"),
-        (17, r#"{"steps":[]}"#, "Body 17"),
-        (17, r#"{"steps":7}"#, "Body 17"),
-        (17, r#"{"steps":7,"tries":1}"#, "Body 17"),
-        (17, "{}", "Body"),
-    ];
-    let alloc = rt.alloc();
-    for (depth, body, wanted) in bodies {
-        refuses(&rt, alloc, &with_body_at(alloc, depth, body)?, wanted)?;
-    }
-    Ok(())
 }
 
 // The text, with blanks behind it to this length.

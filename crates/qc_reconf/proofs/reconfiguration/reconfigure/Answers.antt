@@ -1,6 +1,7 @@
 -- A manager that has asked nothing reconfigures, and may commit.
 use Rattle.std.proofs.Common.{◌≡◌, ◌+◌, refl, subst, sym}
 use Rattle.std.specs.Prelude.{IsTrue}
+use Rattle.std.proofs.lemmas.Result.{err_from_is_err_and}
 use Rattle.qc_config.specs.Config.{holds_write}
 use Rattle.qc_event.specs.Base.{first_of}
 use Rattle.qc_event.specs.declared.event.Kind.TheVariants as kind
@@ -9,8 +10,9 @@ use Rattle.qc_event.specs.Manager.{newest, replied}
 use Rattle.qc_rw.specs.Told.{told_in}
 use Rattle.qc_rw.specs.Going.{MayCollect, link}
 use Rattle.qc_rw.proofs.Answered.{may_collect}
-use Rattle.qc_rw.proofs.Onwards.{kind_is, has_gathered, may_put}
+use Rattle.qc_rw.proofs.Onwards.{kind_is, has_gathered, may_put, complete_there}
 use Rattle.qc_rw.proofs.Served.{served_further}
+use Rattle.qc_rw.proofs.Undisturbed.{never_last}
 use Rattle.qc_reconf.proofs.Moving.{at_last_generation, comes_to_move, comes_to_teach, is_next, has_moved, has_taught, has_reconfigured}
 use Rattle.qc_reconf.proofs.reconfiguration.reconfigure.Goals as goal
 
@@ -35,6 +37,9 @@ returns-then-generation-clause-refused g c =
     let told = told_in (carrier.seen now) m Collect in
     let h = has_gathered a l m (kind.Reconf c.args.rec c.args.new.now) c.args.first.now c.in_ok-gather.gather (g.met.C.Carrier.is_legal before) tt c.requires.manager c.requires.no_child c.requires.first c.collect.ensures.served c.in_ok-gather.ensures.collected in
     at_last_generation a l m c.args.rec c.args.new.now c.in_ok-gather.gather h c.newest-generation.result.0 (c.newest-generation.ensures.generation first told h.collected.kept) c.if-generation.true
+
+pub returns-then-generation-clause-complete : goal.returns-then-generation-clause-complete
+returns-then-generation-clause-complete g c = λ u. never_last _ _ _ _ _ _ u (returns-then-generation-clause-refused g c).licensed
 
 pub put-requires : goal.put-requires
 put-requires g c κs within =
@@ -63,6 +68,36 @@ put-requires-2 g c κs within =
     let mid = c.put.new.carrier in
     let l2 = link (carrier.setting mid) (carrier.seat mid) (carrier.own mid) (carrier.seen mid) (carrier.others mid) (carrier.troubles mid) in
     (within, may_put a l2 m (kind.Reconf c.args.rec c.args.new.now) _ _ _ (comes_to_teach a l m c.args.rec c.args.new.now c.in_ok-gather.gather h c.newest-generation.result.0 c.newest-generation.result.1 c.greatest-version.result.0 c.greatest-version.result.1 (c.newest-generation.ensures.generation first told h.collected.kept) (c.newest-generation.ensures.config first told h.collected.kept) (c.greatest-version.ensures.version first told h.collected.kept) (c.greatest-version.ensures.value first told h.collected.kept) c.if-generation.false l2 c.put.ensures.served c.in_ok-put.ensures.put))
+
+pub returns-in_err-put-clause-complete : goal.returns-in_err-put-clause-complete
+returns-in_err-put-clause-complete g c =
+    let carrier = g.C.Carrier in
+    let before = c.args.carrier.now in
+    let m = c.args.manager.now in
+    let now = c.collect.new.carrier in
+    let a = link (carrier.setting before) (carrier.seat before) (carrier.own before) (carrier.seen before) (carrier.others before) (carrier.troubles before) in
+    let l = link (carrier.setting now) (carrier.seat now) (carrier.own now) (carrier.seen now) (carrier.others now) (carrier.troubles now) in
+    let first = first_of (carrier.setting before) c.args.rec in
+    let told = told_in (carrier.seen now) m Collect in
+    let h = has_gathered a l m (kind.Reconf c.args.rec c.args.new.now) c.args.first.now c.in_ok-gather.gather (g.met.C.Carrier.is_legal before) tt c.requires.manager c.requires.no_child c.requires.first c.collect.ensures.served c.in_ok-gather.ensures.collected in
+    let p = err_from_is_err_and c.from_residual-in_err-put.result c.from_residual-in_err-put.ensures.1 in
+    rw (p.1, p.2) (complete_there a l m (kind.Reconf c.args.rec c.args.new.now) _ _ _ (comes_to_move a l m c.args.rec c.args.new.now c.in_ok-gather.gather h c.newest-generation.result.0 c.newest-generation.result.1 c.greatest-version.result.0 c.greatest-version.result.1 (c.newest-generation.ensures.generation first told h.collected.kept) (c.newest-generation.ensures.config first told h.collected.kept) (c.greatest-version.ensures.version first told h.collected.kept) (c.greatest-version.ensures.value first told h.collected.kept) c.if-generation.false) (carrier.seen c.put.new.carrier) (carrier.troubles c.put.new.carrier) c.in_err-put.field-0.0 c.in_err-put.ensures.complete)
+
+pub returns-in_err-put-2-clause-complete : goal.returns-in_err-put-2-clause-complete
+returns-in_err-put-2-clause-complete g c =
+    let carrier = g.C.Carrier in
+    let before = c.args.carrier.now in
+    let m = c.args.manager.now in
+    let now = c.collect.new.carrier in
+    let a = link (carrier.setting before) (carrier.seat before) (carrier.own before) (carrier.seen before) (carrier.others before) (carrier.troubles before) in
+    let l = link (carrier.setting now) (carrier.seat now) (carrier.own now) (carrier.seen now) (carrier.others now) (carrier.troubles now) in
+    let first = first_of (carrier.setting before) c.args.rec in
+    let told = told_in (carrier.seen now) m Collect in
+    let h = has_gathered a l m (kind.Reconf c.args.rec c.args.new.now) c.args.first.now c.in_ok-gather.gather (g.met.C.Carrier.is_legal before) tt c.requires.manager c.requires.no_child c.requires.first c.collect.ensures.served c.in_ok-gather.ensures.collected in
+    let mid = c.put.new.carrier in
+    let l2 = link (carrier.setting mid) (carrier.seat mid) (carrier.own mid) (carrier.seen mid) (carrier.others mid) (carrier.troubles mid) in
+    let p = err_from_is_err_and c.from_residual-in_err-put-2.result c.from_residual-in_err-put-2.ensures.1 in
+    rw (p.1, p.2) (complete_there a l2 m (kind.Reconf c.args.rec c.args.new.now) _ _ _ (comes_to_teach a l m c.args.rec c.args.new.now c.in_ok-gather.gather h c.newest-generation.result.0 c.newest-generation.result.1 c.greatest-version.result.0 c.greatest-version.result.1 (c.newest-generation.ensures.generation first told h.collected.kept) (c.newest-generation.ensures.config first told h.collected.kept) (c.greatest-version.ensures.version first told h.collected.kept) (c.greatest-version.ensures.value first told h.collected.kept) c.if-generation.false l2 c.put.ensures.served c.in_ok-put.ensures.put) (carrier.seen c.put-2.new.carrier) (carrier.troubles c.put-2.new.carrier) c.in_err-put-2.field-0.0 c.in_err-put-2.ensures.complete)
 
 pub returns-in_err-put-clause-grown : goal.returns-in_err-put-clause-grown
 returns-in_err-put-clause-grown g c = (served_further c.args.manager.now _ _ _ c.collect.ensures.served c.put.ensures.served).grown

@@ -11,10 +11,14 @@ ghost-request g a = g.kind
 
 abbrev pub invariant-loop-gather : goal.invariant-loop-gather
 invariant-loop-gather g l =
-    IsCollecting
-    (link (g.C.Carrier.setting l.fn.carrier) (g.C.Carrier.seat l.fn.carrier) (g.C.Carrier.own l.fn.carrier) (g.C.Carrier.seen l.fn.carrier) (g.C.Carrier.others l.fn.carrier) (g.C.Carrier.troubles l.fn.carrier))
-    (link (g.C.Carrier.setting l.carrier) (g.C.Carrier.seat l.carrier) (g.C.Carrier.own l.carrier) (g.C.Carrier.seen l.carrier) (g.C.Carrier.others l.carrier) (g.C.Carrier.troubles l.carrier))
-    l.manager g.kind l.first l.gather
+    record {
+      met :
+          IsCollecting
+          (link (g.C.Carrier.setting l.fn.carrier) (g.C.Carrier.seat l.fn.carrier) (g.C.Carrier.own l.fn.carrier) (g.C.Carrier.seen l.fn.carrier) (g.C.Carrier.others l.fn.carrier) (g.C.Carrier.troubles l.fn.carrier))
+          (link (g.C.Carrier.setting l.carrier) (g.C.Carrier.seat l.carrier) (g.C.Carrier.own l.carrier) (g.C.Carrier.seen l.carrier) (g.C.Carrier.others l.carrier) (g.C.Carrier.troubles l.carrier))
+          l.manager g.kind l.first l.gather;
+      became : g.C.Carrier.became l.fn.carrier l.carrier;
+    }
 
 abbrev pub decreases-loop-gather : goal.decreases-loop-gather
 decreases-loop-gather g l = unasked (told_in (g.C.Carrier.seen l.carrier) l.manager Collect)

@@ -2,8 +2,10 @@
 use Rattle.std.proofs.Common.{◌≡◌, ◌+◌, length, refl}
 use Rattle.qc_event.specs.History.{children}
 use Rattle.qc_event.proofs.LastNumber.{is_child-last}
-use Rattle.qc_gather.specs.Carrying.{carriage, became}
+use Rattle.qc_gather.specs.Carrying.{carriage, Rose, became}
+use Rattle.qc_rw.proofs.Causes.{cause_of_request}
 use Rattle.qc_rw.proofs.Served.{served_once}
+use Rattle.qc_rw.proofs.Undisturbed.{shortage_of}
 use Rattle.qc_rw.proofs.Heard.{heard_of, refused_of, made_carried, made_not_carried}
 use Rattle.std.proofs.lemmas.Result.{err_from_is_err_and}
 use Rattle.qc_rw.proofs.request.request.Goals as goal
@@ -46,3 +48,22 @@ returns-in_err-carry-clause-refused g c =
     let way = carriage (carrier.seat before) (carrier.seen before) (carrier.seen now) (carrier.own before) (carrier.own now) m c.args.copy c.args.rec c.args.op in
     let p = err_from_is_err_and c.from_residual.result c.from_residual.ensures.1 in
     rw (p.1, p.2) (refused_of (carrier.setting before) (carrier.others before) (λ n. n ≡ way.ask.access) (carrier.seat before) m g.kind way c.in_err-carry.field-0.0 (record { grown = c.carry.ensures.grown; running = c.requires.1.0.running; each_told = c.requires.1.0.each_told; its = refl }) c.in_err-carry.ensures.refused)
+
+pub returns-clause-cause : goal.returns-clause-cause
+returns-clause-cause g c =
+    let m = c.args.manager.now in
+    let carrier = g.C.Carrier in
+    let before = c.args.carrier.now in
+    let now = c.carry.new.self in
+    let way = carriage (carrier.seat before) (carrier.seen before) (carrier.seen now) (carrier.own before) (carrier.own now) m c.args.copy c.args.rec c.args.op in
+    cause_of_request way m (Rose (carrier.troubles before) (carrier.troubles now)) c.in_ok-carry.field-0 refl c.in_ok-carry.ensures.carried c.in_ok-carry.ensures.reason
+
+pub returns-in_err-carry-clause-complete : goal.returns-in_err-carry-clause-complete
+returns-in_err-carry-clause-complete g c =
+    let m = c.args.manager.now in
+    let carrier = g.C.Carrier in
+    let before = c.args.carrier.now in
+    let now = c.carry.new.self in
+    let way = carriage (carrier.seat before) (carrier.seen before) (carrier.seen now) (carrier.own before) (carrier.own now) m c.args.copy c.args.rec c.args.op in
+    let p = err_from_is_err_and c.from_residual.result c.from_residual.ensures.1 in
+    rw (p.1, p.2) (shortage_of (carrier.setting before) way m g.kind (carrier.troubles before) (carrier.troubles now) c.in_err-carry.field-0.0 refl c.in_err-carry.ensures.refused)

@@ -6,14 +6,14 @@ use Rattle.qc_gather.specs.Gathered.{Gathered}
 use Rattle.qc_gather.proofs.SameTest.{same_test}
 use Rattle.qc_gather.proofs.gather.Gather.next.Goals as goal
 
-pub returns : goal.returns
-returns c = λ first told is.
+pub returns-clause-next : goal.returns-clause-next
+returns-clause-next c = λ first told is.
     let was = c.self.view_is ∙ is in
     let heard = ap (λ (g : Gathered). g.heard) was in
     let enough : c.has_read-enough.result ≡ holds_read (newest_in first told).config (replied_in told) =
     same_test _ _ c.has_read-enough.ensures
     ∙ ap (λ r. holds_read c.self.inside.config r) (c.replied.ensures told heard)
     ∙ ap (λ (g : Gathered). holds_read g.newest.config (replied_in told)) was in
-    c.next.ensures told heard
+    c.next.ensures.next told heard
     ∙ ap (λ b. next_of b c.self.inside.config told) enough
     ∙ ap (λ (g : Gathered). next_of (holds_read (newest_in first told).config (replied_in told)) g.newest.config told) was

@@ -5,14 +5,14 @@ use Rattle.qc_event.specs.declared.event.Cause.TheVariants.{Asked, Orphan}
 use Rattle.qc_event.specs.declared.event.Event.TheVariants.{End}
 use Rattle.qc_event.specs.declared.event.How.TheVariants.{Abort}
 use Rattle.qc_event.specs.History.{Name, end}
-use Rattle.qc_event.specs.Legal.{Allowed}
+use Rattle.qc_interp.specs.Running.{MayMake}
 use Rattle.qc_interp.specs.Trace as trace
 use Rattle.qc_interp.proofs.RunAborts.{may_ask, may_ask_orphan}
 use Rattle.qc_interp.proofs.session.Session.ask.Goals as goal
 
 -- a name may be aborted for a cause where it has not ended
 abbrev MayAbort : trace.Now → Name → Cause → Type 0
-MayAbort now m cause = end now.past m ≡ None → Allowed now.setting now.past (trace.by_client (End m (Abort cause)))
+MayAbort now m cause = end now.past m ≡ None → MayMake now (trace.by_client (End m (Abort cause)))
 
 pub abort-requires : goal.abort-requires
 abort-requires c =

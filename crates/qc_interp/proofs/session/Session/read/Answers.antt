@@ -1,59 +1,59 @@
-use Rattle.std.proofs.Common.{[], ◌∷◌, ◌++◌, length, ap, ◌∙◌}
+use Rattle.std.proofs.Common.{[], ◌∷◌, ◌++◌, length, refl, ap, ◌∙◌}
 use Rattle.std.proofs.lemmas.Result.{IfOk-weaker}
 use Rattle.qc_event.specs.declared.event.Answer.TheVariants as answer
 use Rattle.qc_event.specs.declared.event.Kind.TheVariants as kind
 use Rattle.qc_event.specs.Base.{setting_of}
 use Rattle.qc_event.proofs.LegalAgain.{legal_again}
 use Rattle.qc_interp.specs.Trace as trace
-use Rattle.qc_interp.proofs.Closing.{may_start_so, begun_runs_so, begun_childless, came_so, came_ends, came_aborts, came_ran}
+use Rattle.qc_interp.proofs.Closing.{may_start_so, begun_runs_so, begun_childless, same_line, came_so, came_ends, came_aborts, came_ran}
 use Rattle.qc_interp.proofs.RunChild.{read_stands}
 use Rattle.qc_interp.proofs.session.Session.read.Goals as goal
 
-pub append-requires-clause-allowed : goal.append-requires-clause-allowed
-append-requires-clause-allowed c =
-    may_start_so c.args.of.now c.args.k (kind.Read c.args.rec) c.args.self.now c.requires.running c.requires.alive
+pub append-requires : goal.append-requires
+append-requires c =
+    may_start_so c.args.of.now c.args.k (kind.Read c.args.rec) c.args.self.now c.requires.running c.requires.alive tt
     (read_stands c.args.self.now.setting (length (c.args.of.now ++ c.args.k ∷ [])) c.args.rec c.requires.within) c.child-name.result c.child-name.ensures
 
 pub read-value-requires-clause-manager : goal.read-value-requires-clause-manager
 read-value-requires-clause-manager c =
-    begun_runs_so c.args.of.now c.args.k (kind.Read c.args.rec) c.args.self.now c.requires.running c.requires.alive
+    begun_runs_so c.args.of.now c.args.k (kind.Read c.args.rec) c.args.self.now c.requires.running c.requires.alive tt
     (read_stands c.args.self.now.setting (length (c.args.of.now ++ c.args.k ∷ [])) c.args.rec c.requires.within) c.child-name.result c.child-name.ensures
-    c.self.inside.store.past (ap (λ (n : trace.Now). n.past) (c.self.view_is ∙ c.in_ok-append.ensures.ok))
+    c.self.inside.line.past (ap (λ (n : trace.Now). n.past) (c.self.view_is ∙ c.in_ok-append.ensures.ok))
 
 pub read-value-requires-clause-no_child : goal.read-value-requires-clause-no_child
 read-value-requires-clause-no_child c =
-    begun_childless c.args.of.now c.args.k (kind.Read c.args.rec) c.args.self.now c.requires.running c.requires.alive
+    begun_childless c.args.of.now c.args.k (kind.Read c.args.rec) c.args.self.now c.requires.running c.requires.alive tt
     (read_stands c.args.self.now.setting (length (c.args.of.now ++ c.args.k ∷ [])) c.args.rec c.requires.within) c.child-name.result c.child-name.ensures
-    c.self.inside.store.past (ap (λ (n : trace.Now). n.past) (c.self.view_is ∙ c.in_ok-append.ensures.ok))
+    c.self.inside.line.past (ap (λ (n : trace.Now). n.past) (c.self.view_is ∙ c.in_ok-append.ensures.ok))
 
 pub close-closed-requires-clause-may_end : goal.close-closed-requires-clause-may_end
 close-closed-requires-clause-may_end c =
     let kd = kind.Read c.args.rec in
-    let at : trace.Now = record { setting = setting_of c.read-value.new.carrier.base; past = c.read-value.new.carrier.past; dead = c.self.inside.dead } in
-    let before : trace.Now = record { setting = setting_of c.self.inside.store.base; past = c.self.inside.store.past; dead = c.self.inside.dead } in
+    let at : trace.Now = record { setting = setting_of c.read-value.new.carrier.base; past = c.read-value.new.carrier.past; dead = c.self.inside.dead; net = c.read-value.new.carrier.net } in
+    let before : trace.Now = record { setting = setting_of c.self.inside.line.base; past = c.self.inside.line.past; dead = c.self.inside.dead; net = c.self.inside.line.net } in
     let came =
     came_so c.args.of.now c.args.k kd c.args.self.now c.child-name.result before at answer.Value c.read-value.result c.map.result c.child-name.ensures (c.self.view_is ∙ c.in_ok-append.ensures.ok)
-    (ap (λ s. let left : trace.Now = record { setting = s; past = at.past; dead = at.dead } in left) c.read-value.ensures.setting) (legal_again at.setting at.past c.read-value.new.carrier.is_legal) c.read-value.ensures.grown c.map.ensures.cases c.read-value.ensures.answered c.read-value.ensures.refused in
+    (same_line before at c.read-value.ensures.setting c.read-value.ensures.became refl) (legal_again at.setting at.past c.read-value.new.carrier.is_legal) c.read-value.ensures.grown c.map.ensures.cases c.read-value.ensures.answered c.read-value.ensures.refused in
     came_ends c.args.of.now c.args.k kd c.args.self.now c.requires.running c.requires.alive tt c.child-name.result at c.map.result came
 
 pub go_on-requires-clause-may_abort : goal.go_on-requires-clause-may_abort
 go_on-requires-clause-may_abort c =
     let kd = kind.Read c.args.rec in
-    let at : trace.Now = record { setting = setting_of c.read-value.new.carrier.base; past = c.read-value.new.carrier.past; dead = c.self.inside.dead } in
-    let before : trace.Now = record { setting = setting_of c.self.inside.store.base; past = c.self.inside.store.past; dead = c.self.inside.dead } in
+    let at : trace.Now = record { setting = setting_of c.read-value.new.carrier.base; past = c.read-value.new.carrier.past; dead = c.self.inside.dead; net = c.read-value.new.carrier.net } in
+    let before : trace.Now = record { setting = setting_of c.self.inside.line.base; past = c.self.inside.line.past; dead = c.self.inside.dead; net = c.self.inside.line.net } in
     let came =
     came_so c.args.of.now c.args.k kd c.args.self.now c.child-name.result before at answer.Value c.read-value.result c.map.result c.child-name.ensures (c.self.view_is ∙ c.in_ok-append.ensures.ok)
-    (ap (λ s. let left : trace.Now = record { setting = s; past = at.past; dead = at.dead } in left) c.read-value.ensures.setting) (legal_again at.setting at.past c.read-value.new.carrier.is_legal) c.read-value.ensures.grown c.map.ensures.cases c.read-value.ensures.answered c.read-value.ensures.refused in
+    (same_line before at c.read-value.ensures.setting c.read-value.ensures.became refl) (legal_again at.setting at.past c.read-value.new.carrier.is_legal) c.read-value.ensures.grown c.map.ensures.cases c.read-value.ensures.answered c.read-value.ensures.refused in
     came_aborts c.args.of.now c.args.k kd c.args.self.now c.requires.running c.requires.alive tt c.child-name.result at c.map.result came c.close-closed.result c.close-closed.new.self c.close-closed.ensures.ending c.close-closed.ensures.ok
 
 pub returns-clause-ok : goal.returns-clause-ok
 returns-clause-ok c =
     let kd = kind.Read c.args.rec in
-    let at : trace.Now = record { setting = setting_of c.read-value.new.carrier.base; past = c.read-value.new.carrier.past; dead = c.self.inside.dead } in
-    let before : trace.Now = record { setting = setting_of c.self.inside.store.base; past = c.self.inside.store.past; dead = c.self.inside.dead } in
+    let at : trace.Now = record { setting = setting_of c.read-value.new.carrier.base; past = c.read-value.new.carrier.past; dead = c.self.inside.dead; net = c.read-value.new.carrier.net } in
+    let before : trace.Now = record { setting = setting_of c.self.inside.line.base; past = c.self.inside.line.past; dead = c.self.inside.dead; net = c.self.inside.line.net } in
     let came =
     came_so c.args.of.now c.args.k kd c.args.self.now c.child-name.result before at answer.Value c.read-value.result c.map.result c.child-name.ensures (c.self.view_is ∙ c.in_ok-append.ensures.ok)
-    (ap (λ s. let left : trace.Now = record { setting = s; past = at.past; dead = at.dead } in left) c.read-value.ensures.setting) (legal_again at.setting at.past c.read-value.new.carrier.is_legal) c.read-value.ensures.grown c.map.ensures.cases c.read-value.ensures.answered c.read-value.ensures.refused in
+    (same_line before at c.read-value.ensures.setting c.read-value.ensures.became refl) (legal_again at.setting at.past c.read-value.new.carrier.is_legal) c.read-value.ensures.grown c.map.ensures.cases c.read-value.ensures.answered c.read-value.ensures.refused in
     IfOk-weaker c.go_on.result _ _
     (came_ran c.args.of.now c.args.k kd c.args.self.now c.requires.running c.requires.alive tt c.child-name.result at c.map.result came c.close-closed.result c.close-closed.new.self c.go_on.new.self c.close-closed.ensures.ending c.close-closed.ensures.ok)
     c.go_on.ensures.ok

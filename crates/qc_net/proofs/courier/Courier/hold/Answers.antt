@@ -31,6 +31,7 @@ loop-init g c =
       allowed = All-same May _ _ pushed (All-push May held mine c.requires.held c.requires.ask);
       may = λ other is. is;
       gave = λ other answer is. is;
+      became = g.met.P.Port.became_itself c.args.port.now;
       plan = refl;
       counts = refl;
       told = λ first told. rw (whole, pushed) (waits-begin Gave c.args.patience _ (held ++ mine ∷ []) _ first told);
@@ -61,6 +62,9 @@ returns-in_err-place-clause-may g c = λ other is. c.due_step.ensures.may other 
 
 pub returns-in_err-place-clause-gave : goal.returns-in_err-place-clause-gave
 returns-in_err-place-clause-gave g c = λ other answer is. c.due_step.ensures.gave other answer (c.loop.invariant.gave other answer is)
+
+pub returns-in_err-place-clause-became : goal.returns-in_err-place-clause-became
+returns-in_err-place-clause-became g c = g.met.P.Port.became_by_both _ _ _ c.loop.invariant.became c.due_step.ensures.became
 
 pub returns-in_err-place-clause-plan : goal.returns-in_err-place-clause-plan
 returns-in_err-place-clause-plan g c = anew-passed _ _ c.due_step.ensures.plan ∙ c.loop.invariant.plan
@@ -103,6 +107,9 @@ returns-then-place-last-clause-may g c = λ other is. c.due_step.ensures.may oth
 pub returns-then-place-last-clause-gave : goal.returns-then-place-last-clause-gave
 returns-then-place-last-clause-gave g c = λ other answer is. c.due_step.ensures.gave other answer (c.loop.invariant.gave other answer is)
 
+pub returns-then-place-last-clause-became : goal.returns-then-place-last-clause-became
+returns-then-place-last-clause-became g c = g.met.P.Port.became_by_both _ _ _ c.loop.invariant.became c.due_step.ensures.became
+
 pub returns-then-place-last-clause-plan : goal.returns-then-place-last-clause-plan
 returns-then-place-last-clause-plan g c = anew-passed _ _ c.due_step.ensures.plan ∙ c.loop.invariant.plan
 
@@ -130,6 +137,7 @@ loop-preserved g c =
       allowed = all-stepped Gives (g.P.Port.may c.loop.port) (g.P.Port.may c.due_step.new.port) c.due_step.ensures.may _ _ _ _ step stepped c.loop.invariant.allowed;
       may = λ ask is. c.due_step.ensures.may ask (c.loop.invariant.may ask is);
       gave = λ ask answer is. c.due_step.ensures.gave ask answer (c.loop.invariant.gave ask answer is);
+      became = g.met.P.Port.became_by_both _ _ _ c.loop.invariant.became c.due_step.ensures.became;
       plan = anew-passed _ _ c.due_step.ensures.plan ∙ c.loop.invariant.plan;
       counts = c.due_step.ensures.counts ∙ c.loop.invariant.counts;
       told = λ first told. wait-goes _ _ _ _ _ _ _ _
@@ -152,6 +160,9 @@ returns-clause-may g c = c.loop.invariant.may
 
 pub returns-clause-gave : goal.returns-clause-gave
 returns-clause-gave g c = c.loop.invariant.gave
+
+pub returns-clause-became : goal.returns-clause-became
+returns-clause-became g c = c.loop.invariant.became
 
 pub returns-clause-plan : goal.returns-clause-plan
 returns-clause-plan g c = c.loop.invariant.plan

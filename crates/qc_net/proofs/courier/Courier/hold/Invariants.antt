@@ -15,6 +15,7 @@ invariant-loop g l = record {
   may : (other : Ask) → g.P.Port.may l.fn.port other → g.P.Port.may l.port other;
   gave : (other : Ask) (answer : Answered) → g.P.Port.gave l.fn.port other answer → g.P.Port.gave l.port other answer;
   plan : option_map anew (g.L.Link.plan l.self.link) ≡ option_map anew (g.L.Link.plan l.fn.self.link);
+  became : g.P.Port.became l.fn.port l.port;
   counts : g.L.Link.troubles l.self.link ≡ g.L.Link.troubles l.fn.self.link;
   told : (first : Plan) → g.L.Link.plan l.fn.self.link ≡ Some first → Waits (g.P.Port.gave l.port) (waiting l.patience (record { plan = first; held = l.fn.self.held.items ++ l.ask ∷ []; delivered = [] })) (l.patience - l.counter) (g.L.Link.plan l.self.link) l.self.held.items (g.P.Port.made l.fn.port) (g.P.Port.made l.port);
 }

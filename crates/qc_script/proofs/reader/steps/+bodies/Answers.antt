@@ -12,8 +12,8 @@ use Rattle.qc_script.proofs.reader.steps.+bodies.Goals.{step_in-in_default-via-t
 pub step_in-returns-in_default : goal.step_in-returns-in_default
 step_in-returns-in_default t c =
     elim c.in_default.branch [
-      | step_in-in_default-via-then-parts-lt2 w ↦ step_in-other (script.body_of c.args.below c.args.rows.now) (16 - c.args.below) _ _ c.args.parts.now (inl (omega (arith, ltb-true)))
-      | step_in-in_default-via-else-parts-lt2+else-parts-lt3+else-parts-lt4 w ↦ step_in-other (script.body_of c.args.below c.args.rows.now) (16 - c.args.below) _ _ c.args.parts.now (inr (omega (arith, ltb-false)))
+      | step_in-in_default-via-then-parts-lt2 w ↦ step_in-other (script.body_of c.args.below c.args.around c.args.records.now.table) (16 - c.args.below) _ _ c.args.parts.now (inl (omega (arith, ltb-true)))
+      | step_in-in_default-via-else-parts-lt2+else-parts-lt3+else-parts-lt4 w ↦ step_in-other (script.body_of c.args.below c.args.around c.args.records.now.table) (16 - c.args.below) _ _ c.args.parts.now (inr (omega (arith, ltb-false)))
     ]
 
 pub steps_of-loop-value-preserved : goal.steps_of-loop-value-preserved
@@ -25,27 +25,27 @@ pub steps_of-returns : goal.steps_of-returns
 steps_of-returns t c =
     sym c.loop-value.invariant ∙ with_steps-end _ _ _ _ c.loop-value.steps.items c.args.list.now c.loop-value.value-index c.loop-value-test.false
 
+pub body_of-returns-in_err-tries : goal.body_of-returns-in_err-tries
+body_of-returns-in_err-tries t c =
+    let p = err_from_is_err_and c.from_residual-in_err-tries.result c.from_residual-in_err-tries.ensures.1 in
+    rw (p.1, p.2)
+    (tries_refused _ (c.args.levels - 1) _ _ _ _ _ (omega arith) c.in_ok-check_object.ensures.exact c.in_err-tries.ensures.exact)
+
 pub body_of-returns-in_err-check_absent : goal.body_of-returns-in_err-check_absent
 body_of-returns-in_err-check_absent t c =
     let p = err_from_is_err_and c.from_residual-in_err-check_absent.result c.from_residual-in_err-check_absent.ensures.1 in
     rw (p.1, p.2)
-    (tries_refused _ (c.args.levels - 1) _ _ _ _ (omega arith) c.in_ok-check_object.ensures.exact c.in_err-check_absent.ensures.exact)
-
-pub body_of-returns-in_err-check_absent-2 : goal.body_of-returns-in_err-check_absent-2
-body_of-returns-in_err-check_absent-2 t c =
-    let p = err_from_is_err_and c.from_residual-in_err-check_absent-2.result c.from_residual-in_err-check_absent-2.ensures.1 in
-    rw (p.1, p.2)
-    (must_refused _ (c.args.levels - 1) _ _ _ _ (omega arith) c.in_ok-check_object.ensures.exact c.in_ok-check_absent.ensures.exact c.in_err-check_absent-2.ensures.exact)
+    (must_refused _ (c.args.levels - 1) _ _ _ _ _ _ (omega arith) c.in_ok-check_object.ensures.exact c.in_ok-tries.ensures.exact c.in_err-check_absent.ensures.exact)
 
 pub body_of-returns-in_err-list : goal.body_of-returns-in_err-list
 body_of-returns-in_err-list t c =
     let p = err_from_is_err_and c.from_residual-in_err-list.result c.from_residual-in_err-list.ensures.1 in
     rw (p.1, p.2)
-    (list_refused _ (c.args.levels - 1) _ _ _ _ (record {
+    (list_refused _ (c.args.levels - 1) _ _ _ _ _ _ (record {
       level = omega arith;
       checked = c.in_ok-check_object.ensures.exact;
-      no_tries = c.in_ok-check_absent.ensures.exact;
-      no_must = c.in_ok-check_absent-2.ensures.exact;
+      tried = c.in_ok-tries.ensures.exact;
+      no_must = c.in_ok-check_absent.ensures.exact;
     }) c.in_err-list.ensures.exact)
 
 pub body_of-returns-in_err-steps : goal.body_of-returns-in_err-steps
@@ -53,20 +53,20 @@ body_of-returns-in_err-steps t c =
     let next : c.in_ok-next.field-0 ≡ c.args.next.now + 1 = grind (arith, common_steps) in
     let p = err_from_is_err_and c.from_residual-in_err-steps.result c.from_residual-in_err-steps.ensures.1 in
     rw (p.1, p.2)
-    (steps_refused _ (c.args.levels - 1) _ _ _ _ _ (record {
+    (steps_refused _ (c.args.levels - 1) _ _ _ _ _ _ _ (record {
       level = omega arith;
       checked = c.in_ok-check_object.ensures.exact;
-      no_tries = c.in_ok-check_absent.ensures.exact;
-      no_must = c.in_ok-check_absent-2.ensures.exact;
+      tried = c.in_ok-tries.ensures.exact;
+      no_must = c.in_ok-check_absent.ensures.exact;
     }) c.in_ok-list.ensures.exact (rw next at c.in_err-steps.ensures))
 
 pub body_of-returns : goal.body_of-returns
 body_of-returns t c =
     let next : c.in_ok-next.field-0 ≡ c.args.next.now + 1 = grind (arith, common_steps) in
     rw numbered_roll
-    (body_read _ (c.args.levels - 1) _ _ _ _ _ _ (record {
+    (body_read _ (c.args.levels - 1) _ _ _ _ _ _ _ _ (record {
       level = omega arith;
       checked = c.in_ok-check_object.ensures.exact;
-      no_tries = c.in_ok-check_absent.ensures.exact;
-      no_must = c.in_ok-check_absent-2.ensures.exact;
+      tried = c.in_ok-tries.ensures.exact;
+      no_must = c.in_ok-check_absent.ensures.exact;
     }) c.in_ok-list.ensures.exact (rw next at c.in_ok-steps.ensures))

@@ -7,4 +7,4 @@ use Rattle.qc_script.proofs.reader.steps.bodies_of.Given as goal
 
 -- the elements that are left decide
 abbrev pub invariant-loop-value : goal.invariant-loop-value
-invariant-loop-value l = with_front (map numbered l.bodies.items) (script.bodies_of l.rows l.next (map view (drop l.value-index l.list))) ≡ script.bodies_of l.rows 0 (map view l.list)
+invariant-loop-value l = with_front (map numbered l.bodies.items) (script.bodies_of l.records.table l.next (map view (drop l.value-index l.list))) ≡ script.bodies_of l.records.table 0 (map view l.list)

@@ -1,0 +1,16 @@
+pub mod Unheard
+pub mod Stays
+pub mod Asking
+pub mod Orphans
+pub mod Children
+pub mod AnswersLeave
+pub mod Refusals
+pub mod Heard
+pub mod Ending
+pub mod Carried
+pub mod Waiting
+pub mod Answered
+pub mod Meeting
+pub mod Pushing
+pub mod Keeping
+pub mod Course

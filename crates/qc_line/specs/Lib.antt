@@ -1,0 +1,4 @@
+pub mod Messages
+pub mod Lined
+pub mod Kept
+pub mod Access

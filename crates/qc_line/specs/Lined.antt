@@ -1,0 +1,36 @@
+-- What a line keeps.
+use Rattle.std.specs.Prelude.{ℕ, ◌≡◌, List, Some}
+use Rattle.qc_config.specs.declared.tuple.Tuple.{Tuple}
+use Rattle.qc_event.specs.Base.{Setting, setting_of}
+use Rattle.qc_event.specs.declared.event.Event.{Event}
+use Rattle.qc_event.specs.declared.event.Event.TheVariants as event
+use Rattle.qc_event.specs.declared.event.Kind.{Kind}
+use Rattle.qc_event.specs.declared.event.Kind.TheVariants as kind
+use Rattle.qc_event.specs.History.{Past, kind_of}
+use Rattle.qc_event.specs.Legal.{Legal}
+use Rattle.qc_line.specs.Messages.{Net}
+
+-- what a line keeps: its start tuples, the history, the latest entry first, which is legal, what its link is, and
+-- how often that gave trouble
+pub record Lined : Type 0 where
+  pub base : List (List Tuple)
+  pub past : Past
+  pub net : Net
+  pub troubles : ℕ
+  pub is_legal : ∥ Legal (setting_of base) past ∥₁
+
+-- the setting of a line
+abbrev pub setting : Lined → Setting
+setting s = setting_of s.base
+
+-- a kind of transaction that is no access
+abbrev pub IsNoAccess : Kind → Type 0
+IsNoAccess kind.Access = ⊥
+IsNoAccess _ = Unit {0}
+
+-- An event of a user transaction or a manager: it starts, is ready, or ends.
+abbrev pub IsOfTransaction : Past → Event → Type 0
+IsOfTransaction past (event.Start n k) = IsNoAccess k
+IsOfTransaction past (event.Ready top) = Unit {0}
+IsOfTransaction past (event.End n how) = (k : Kind) × (kind_of past n ≡ Some k) × IsNoAccess k
+IsOfTransaction past _ = ⊥

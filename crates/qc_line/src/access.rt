@@ -1,0 +1,238 @@
+//! One access of a manager: started, sent, and ended by what comes back.
+ghost use Rattle.std.specs.Prelude.{◌≡◌, ◌≤◌, ◌++◌, ◌∷◌, false, not, IsTrue, All, IfOk, IfErr, OnOk, OnErr, reverse, length};
+ghost use Rattle.qc_event.specs.History.{limit, children};
+ghost use Rattle.qc_event.specs.Legal.{Allowed};
+ghost use Rattle.qc_gather.specs.Carrying.{MayCarry, HasGrown, WasCarried, WasNotCarried, HasReason, Rose, entry, began, made_by, carriage, became, next_ask};
+ghost use Rattle.qc_line.specs.Access as words;
+ghost use Rattle.qc_line.specs.Kept.{IsInStep, net_of};
+ghost use Rattle.qc_line.specs.Messages.{meets_fates};
+ghost use Rattle.qc_net.specs.Courier.{link_of, held_of};
+ghost use Rattle.qc_net.specs.declared.courier.Sent.TheVariants as sent;
+ghost use Rattle.qc_net.specs.Plan.{anew};
+ghost use Rattle.qc_net.specs.PlanLink.{plan_of, troubles_of};
+ghost use Rattle.qc_net.specs.Sending.{sending};
+ghost use Rattle.qc_store.specs.Served.{MayServe, HasServed, is_answer};
+ghost use Rattle.qc_store.specs.Sites.{is_grant};
+ghost use Rattle.qc_store.specs.Stored.{setting};
+
+use qc_config::Op;
+use qc_event::{Answer, Answered, Ask, Cause, Entry, Event, How, Kind, Name, Short, Why, dead};
+use qc_gather::{Carried, CarryNo};
+use qc_net::{Courier, PlanLink, Sent};
+use qc_store::Store;
+use std::alloc::AllocError;
+
+/// The seat under which managers and their accesses stand.
+const CLIENT: u32 = 18;
+
+// How many children of a name have started.
+fn count_children(h: &[Entry], n: &Name) -> usize
+    ensures { result ≡ length (children (reverse h.now) n.now) }
+{
+    let mut count = 0;
+    for e in h {
+        if let Event::Start { name, .. } = &e.event {
+            if name.len() == n.len() + 1 && n.is_ancestor(name) {
+                count += 1;
+            }
+        }
+    }
+    count
+}
+
+// The request of a manager's next access.
+fn next_ask(store: &Store, manager: &Name, copy: u8, rec: u8, op: &Op) -> Ask
+    requires may { MayCarry (setting store.now) 18 store.now.past manager.now copy rec op.now }
+    requires bounded { length store.now.past ≤ limit }
+    ensures { result ≡ next_ask store.now.past manager.now copy rec op.now }
+{
+    let number = count_children(store.entries(), manager) + 1;
+    Ask {
+        access: manager.child(number as u32),
+        copy,
+        rec,
+        op: *op,
+    }
+}
+
+fn no_of(short: Short) -> CarryNo
+    ensures { result ≡ words.no_of short }
+{
+    match short {
+        Short::Memory => CarryNo::Memory,
+        Short::Room => CarryNo::Room,
+    }
+}
+
+// Appends an entry under the client's seat.
+fn enter(store: &mut Store, event: Event) -> Result<(), CarryNo>
+    requires allowed { Allowed (setting store.old) store.old.past (entry 18 event) }
+    requires no_grant { IsTrue (not (is_grant event)) }
+    ensures base { store.new.base ≡ store.old.base }
+    ensures ok { OnOk result (store.new.past ≡ entry 18 event ∷ store.old.past) }
+    ensures err { OnErr result (store.new.past ≡ store.old.past) }
+    ensures short { IfErr result (words.IsShort store.new.past) }
+{
+    let entry = Entry {
+        seat: CLIENT,
+        event,
+    };
+    match store.push(entry) {
+        Ok(()) => Ok(()),
+        Err(short) => Err(no_of(short)),
+    }
+}
+
+// Starts an access, which asks.
+fn begin(store: &mut Store, ask: &Ask) -> Result<(), CarryNo>
+    requires may { words.MayBegin (setting store.old) store.old.past ask.now }
+    ensures base { store.new.base ≡ store.old.base }
+    ensures ok { OnOk result (store.new.past ≡ began 18 ask.now ++ store.old.past) }
+    ensures err { OnErr result (words.IsCutOffAtStart store.old.past ask.now store.new.past) }
+    ensures short { IfErr result (words.IsShort store.new.past) }
+{
+    enter(
+        store,
+        Event::Start {
+            name: ask.access,
+            kind: Kind::Access,
+        },
+    )?;
+    enter(store, Event::Ask(*ask))
+}
+
+// What a manager is told of a copy's answer. No ancestor of it was aborted while it waited.
+fn told(answered: &Answered) -> Carried
+    requires { words.IsNoDeath answered.now }
+    ensures { words.Tells (sent.Answer answered.now) result }
+{
+    match answered {
+        Answered::Granted(tuple) => Carried::Reply(*tuple),
+        Answered::Blocked(holder) => Carried::Blocked(*holder),
+        Answered::Dead(_) => unreachable!(),
+        Answered::Down => Carried::Gone(Why::Down),
+        Answered::Full => Carried::Gone(Why::Full),
+        Answered::Strange => Carried::Gone(Why::Strange),
+    }
+}
+
+// Sends a request through the courier, and tells what came back.
+fn send(
+    store: &mut Store,
+    courier: &mut Courier<PlanLink>,
+    ask: &Ask,
+    patience: u32,
+) -> Result<Carried, CarryNo>
+    requires waits { words.Waits (setting store.old) store.old.past ask.now }
+    requires held { All (MayServe store.old.past) (held_of courier.old) }
+    ensures served { HasServed store.old store.new }
+    ensures sent { IfOk result (words.WasSent (sending (plan_of (link_of courier.old)) (held_of courier.old) ask.now patience) (plan_of (link_of courier.new)) (held_of courier.new) store.new.past (Rose (troubles_of (link_of courier.old)) (troubles_of (link_of courier.new))) ask.now) }
+    ensures allowed { All (MayServe store.new.past) (held_of courier.new) }
+    ensures later { troubles_of (link_of courier.old) ≤ troubles_of (link_of courier.new) }
+    ensures plan { anew (plan_of (link_of courier.new)) ≡ anew (plan_of (link_of courier.old)) }
+    ensures short { IfErr result (words.IsShort store.new.past) }
+{
+    match courier.send(ask, store, patience) {
+        Ok(Sent::Answer(answered)) => Ok(told(&answered)),
+        Ok(Sent::Lost) => Ok(Carried::Gone(Why::Lost)),
+        Ok(Sent::Late) => Ok(Carried::Gone(Why::Late)),
+        Err(AllocError) if store.is_full() => Err(CarryNo::Room),
+        Err(AllocError) => Err(CarryNo::Memory),
+    }
+}
+
+// How an access ends of which its manager is told this.
+fn end_of(told: &Carried) -> How
+    ensures { result ≡ words.how_of told.now }
+{
+    match told {
+        Carried::Reply(tuple) => How::Commit(Answer::Reply(*tuple)),
+        Carried::Blocked(_) | Carried::Gone(_) => How::Abort(Cause::Missed),
+    }
+}
+
+// Gives an access up where no answer came.
+fn give_up(store: &mut Store, ask: &Ask, told: &Carried) -> Result<(), CarryNo>
+    requires waits { words.Waits (setting store.old) store.old.past ask.now }
+    requires stands { words.Stands store.old.past ask.now told.now }
+    ensures base { store.new.base ≡ store.old.base }
+    ensures ok { OnOk result (store.new.past ≡ words.given_up ask.now told.now ++ store.old.past) }
+    ensures err { OnErr result (store.new.past ≡ store.old.past) }
+    ensures short { IfErr result (words.IsShort store.new.past) }
+{
+    match told {
+        Carried::Gone(why) => enter(
+            store,
+            Event::Gone {
+                access: ask.access,
+                why: *why,
+            },
+        ),
+        Carried::Reply(_) | Carried::Blocked(_) => Ok(()),
+    }
+}
+
+// Ends an access by what its manager is told.
+fn finish(store: &mut Store, ask: &Ask, told: &Carried) -> Result<(), CarryNo>
+    requires waits { words.Waits (setting store.old) store.old.past ask.now }
+    requires stands { words.Stands store.old.past ask.now told.now }
+    ensures base { store.new.base ≡ store.old.base }
+    ensures ok { OnOk result (store.new.past ≡ words.ending ask.now told.now ++ store.old.past) }
+    ensures err { OnErr result (words.IsCutOffAtEnd store.old.past ask.now told.now store.new.past) }
+    ensures short { IfErr result (words.IsShort store.new.past) }
+{
+    give_up(store, ask, told)?;
+    enter(
+        store,
+        Event::End {
+            name: ask.access,
+            how: end_of(told),
+        },
+    )
+}
+
+/// Whether an access was cut off, so that what was sent and the history may part.
+pub(crate) fn is_cut_off(carried: &Result<Carried, CarryNo>) -> bool
+    ensures { result ≡ words.is_cut_off carried.now }
+{
+    match carried {
+        Err(CarryNo::Memory | CarryNo::Room) => true,
+        Ok(_) | Err(CarryNo::Orphan(_)) => false,
+    }
+}
+
+/// Carries a manager's next access: starts it, sends its request, and ends it by what comes back.
+pub(crate) fn access(
+    store: &mut Store,
+    courier: &mut Courier<PlanLink>,
+    patience: u32,
+    manager: &Name,
+    copy: u8,
+    rec: u8,
+    op: &Op,
+) -> Result<Carried, CarryNo>
+    requires may { MayCarry (setting store.old) 18 store.old.past manager.now copy rec op.now }
+    requires in_step { IsInStep (net_of (plan_of (link_of courier.old)) patience) store.old.past (plan_of (link_of courier.old)) (held_of courier.old) }
+    requires met { IsTrue (meets_fates 18 (net_of (plan_of (link_of courier.old)) patience) store.old.past) }
+    ensures base { store.new.base ≡ store.old.base }
+    ensures grown { HasGrown is_answer (λ n. n ≡ (next_ask store.old.past manager.now copy rec op.now).access) store.old.past store.new.past }
+    ensures carried { IfOk result (λ c. WasCarried (carriage 18 store.old.past store.new.past (made_by 18 store.old.past) (made_by 18 store.new.past) manager.now copy rec op.now) (became c)) }
+    ensures refused { IfErr result (WasNotCarried (carriage 18 store.old.past store.new.past (made_by 18 store.old.past) (made_by 18 store.new.past) manager.now copy rec op.now)) }
+    ensures reason { IfOk result (HasReason (carriage 18 store.old.past store.new.past (made_by 18 store.old.past) (made_by 18 store.new.past) manager.now copy rec op.now) (Rose (troubles_of (link_of courier.old)) (troubles_of (link_of courier.new)))) }
+    ensures later { troubles_of (link_of courier.old) ≤ troubles_of (link_of courier.new) }
+    ensures plan { anew (plan_of (link_of courier.new)) ≡ anew (plan_of (link_of courier.old)) }
+    ensures in_step { words.is_cut_off result ≡ false → IsInStep (net_of (plan_of (link_of courier.new)) patience) store.new.past (plan_of (link_of courier.new)) (held_of courier.new) }
+    ensures met { IsTrue (meets_fates 18 (net_of (plan_of (link_of courier.new)) patience) store.new.past) }
+{
+    if let Some(ancestor) = dead(store.entries(), manager) {
+        return Err(CarryNo::Orphan(ancestor));
+    }
+    if store.is_full() {
+        return Err(CarryNo::Room);
+    }
+    let ask = next_ask(store, manager, copy, rec, op);
+    begin(store, &ask)?;
+    let carried = send(store, courier, &ask, patience)?;
+    finish(store, &ask, &carried)?;
+    Ok(carried)
+}

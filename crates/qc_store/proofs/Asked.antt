@@ -1,0 +1,81 @@
+-- A request that stands in a legal history was allowed when it was made, so it fits the table.
+use Rattle.std.proofs.Common.{◌≡◌, ℕ, [], ◌∷◌, refl, sym, ap, ◌∙◌, subst, inl, inr, List}
+use Rattle.std.specs.Prelude.{Option, None, Some, MatchOption}
+use Rattle.qc_config.specs.declared.tuple.Tuple.{Tuple}
+use Rattle.qc_names.specs.Name as name
+use Rattle.qc_event.specs.declared.event.Ask.{Ask}
+use Rattle.qc_event.specs.declared.event.Event.{Event}
+use Rattle.qc_event.specs.declared.event.Event.TheVariants as event
+use Rattle.qc_event.specs.declared.event.Kind.TheVariants as kind
+use Rattle.qc_event.specs.Base.{Setting, setting_of}
+use Rattle.qc_event.specs.History.{Past, Name, Asked, Begun, same, start, asked, ask_in}
+use Rattle.qc_event.specs.Legal.{Legal, MayHappen}
+use Rattle.qc_event.specs.Manager.{record_of, AtStage}
+use Rattle.qc_event.specs.Requests.{IsNextAsk, MayAsk}
+use Rattle.qc_event.specs.Standing.{IsManager}
+use Rattle.qc_event.proofs.Absent.{same_is}
+use Rattle.qc_event.proofs.OneEntry.{if_is, first_is}
+use Rattle.qc_store.specs.Stored.{IsProper}
+use Rattle.qc_store.proofs.Begun.{KindFits, IsManaged, kind_fits, record_fits, access_managed}
+use Rattle.qc_store.proofs.Fits.{AskFits, ask_fits, first_sized}
+
+-- the moment at which an access asked
+pub record WasAsked (setting : Setting) (a : Asked) : Type 0 where
+  pub before : Past
+  pub legal : Legal setting before
+  pub may : MayAsk setting before a.seat a.ask
+
+-- An entry is this request, of this name.
+record IsAsk (n : Name) (seat : ℕ) (ev : Event) (a : Asked) : Type 0 where
+  same_seat : seat ≡ a.seat
+  asks : ev ≡ event.Ask a.ask
+  of_name : a.ask.access ≡ n
+
+asking : (n : Name) (seat : ℕ) (ev : Event) (a : Asked) → ask_in n seat ev ≡ Some a → IsAsk n seat ev a
+asking n seat (event.Ask ask) a is =
+    let parts = if_is (same ask.access n) (record { seat = seat; ask = ask }) a is in
+    record {
+      same_seat = ap (λ (x : Asked). x.seat) parts.1;
+      asks = ap (λ (x : Asked). event.Ask x.ask) parts.1;
+      of_name = sym (ap (λ (x : Asked). x.ask.access) parts.1) ∙ same_is ask.access n parts.0;
+    }
+asking n seat _ a is = absurd cc
+
+pub was_asked : (setting : Setting) (past : Past) (n : Name) (a : Asked) → Legal setting past → asked past n ≡ Some a → WasAsked setting a
+was_asked setting [] n a legal is = absurd cc
+was_asked setting (e ∷ past) n a legal is = elim (first_is (asked past n) (ask_in n e.seat e.event) a is) [
+  | inl old ↦ was_asked setting past n a legal.0 old
+  | inr new ↦
+      let at = asking n e.seat e.event a new.1 in
+      record { before = past; legal = legal.0; may = subst (λ seat. MayAsk setting past seat a.ask) at.same_seat (subst (MayHappen setting past e.seat) at.asks legal.1) }
+]
+
+-- the request of a name is of its access
+pub asked_access : (past : Past) (n : Name) (a : Asked) → asked past n ≡ Some a → a.ask.access ≡ n
+asked_access [] n a is = absurd cc
+asked_access (e ∷ past) n a is = elim (first_is (asked past n) (ask_in n e.seat e.event) a is) [
+  | inl old ↦ asked_access past n a old
+  | inr new ↦ (asking n e.seat e.event a new.1).of_name
+]
+
+-- who asked was started as an access, under a manager
+managed : (setting : Setting) (past : Past) (seat : ℕ) (ask : Ask) → Legal setting past → MayAsk setting past seat ask → IsManaged past ask.access
+managed setting past seat ask legal may = by_start (start past ask.access) refl may.started
+  where
+    by_start : (o : Option Begun) → start past ask.access ≡ o → MatchOption o ⊥ (λ b. (b.seat ≡ seat) × (b.kind ≡ kind.Access)) → IsManaged past ask.access
+    by_start None is started = absurd started
+    by_start (Some b) is started = access_managed setting past ask.access b legal is started.1
+
+-- a request goes to a copy that there is, for a record of the table, and puts a configuration for as many copies
+pub asked_fits : (base : List (List Tuple)) (past : Past) (n : Name) (a : Asked) → IsProper base → Legal (setting_of base) past → asked past n ≡ Some a → AskFits (setting_of base) a.ask
+asked_fits base past n a proper legal is =
+    let was = was_asked (setting_of base) past n a legal is in
+    by_manager was.before was.legal (start was.before (name.front a.ask.access)) refl was.may.of_stage (managed (setting_of base) was.before a.seat a.ask was.legal was.may)
+  where
+    by_manager : (before : Past) → Legal (setting_of base) before → (o : Option Begun) → start before (name.front a.ask.access) ≡ o
+        → MatchOption o ⊥ (λ m. AtStage (setting_of base) before (name.front a.ask.access) m.kind (IsNextAsk before (name.front a.ask.access) m.kind a.ask)) → MatchOption o ⊥ (λ m. IsManager m.kind) → AskFits (setting_of base) a.ask
+    by_manager before legal None is at manages = absurd at
+    by_manager before legal (Some m) is at manages =
+        let kind : KindFits (setting_of base) m.kind = kind_fits (setting_of base) before (name.front a.ask.access) m legal is in
+        ask_fits (setting_of base) before (name.front a.ask.access) m.kind a.ask legal manages kind
+        (first_sized base proper (record_of m.kind) (record_fits (setting_of base) m.kind manages kind)) at
