@@ -1,7 +1,5 @@
 ghost use Rattle.std.specs.Prelude.{◌≡◌, ℕ, ◌+◌, ◌<◌, ◌≤◌, ◌∷◌, [], length, Some, None, IfOk, IfErr, IsTrue, OnOk, OnErr, reverse};
 ghost use Rattle.qc_event.specs.Base.{setting_of};
-ghost use Rattle.qc_event.specs.declared.event.Cause.{Cause};
-ghost use Rattle.qc_event.specs.declared.event.How.{How};
 ghost use Rattle.qc_event.specs.declared.event.Kind.TheVariants as kind;
 ghost use Rattle.qc_event.specs.History.{limit, end};
 ghost use Rattle.qc_event.specs.Legal.{Legal};
