@@ -289,8 +289,9 @@ fn answer<S: Source, K: Sink>(alloc: Global, words: &[String], source: &mut S, s
 }
 
 /// Does what the words of the command line say, over these streams: `run` and `run --serial` read a
-/// script from the source, run its session over the copies of its records, and write the report; all
-/// other words are refused with the usage line.
+/// script from the source, run its session over the copies of its records, by a network that loses,
+/// delays and repeats requests as the script says, and write the report; all other words are refused
+/// with the usage line.
 ///
 /// Whatever it answers, its history is legal, with the requests to copies and their grants in it, and
 /// the serial machine with one value per record accepts the order that completion gives it, in which
@@ -307,7 +308,8 @@ pub fn run<S: Source, K: Sink>(alloc: Global, words: &[String], source: &mut S, 
     // At each moment of the history, each user transaction without an aborted ancestor has its serial order.
     ensures serial_order { IsSerialThroughout (start_values result.start) result.trail.items }
 
-    // What ran to its end is a script that the source held, and the history follows it.
+    // What ran to its end is a script that the source held, and the history follows it, with requests
+    // that meet the fates of its network.
     ensures follows_script { terms.RanToEnd result.status
         → terms.OfScript (S.left source.old) (S.left source.new) result.start
         (λ s. FollowsTops (terms.net_of s) s.tops (reverse result.trail.items)) }
