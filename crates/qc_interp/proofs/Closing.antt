@@ -2,7 +2,6 @@
 use Rattle.std.proofs.Common.{◌≡◌, ℕ, ◌+◌, Bool, true, false, [], ◌∷◌, ◌++◌, length, refl, sym, ap, ◌∙◌, subst, append-nil}
 use mathlib.Core.Bool.{true≢false}
 use Rattle.std.specs.Prelude.{Option, None, Some, Result, Ok, Err, IsTrue, All, MatchOption, MatchResult, IfOk, IfErr, IsOkAnd, option_map}
-use Rattle.std.specs.Result.{result_and}
 use Rattle.std.proofs.lemmas.Result.{IfOk-at_ok}
 use Rattle.qc_event.specs.declared.event.Answer.{Answer}
 use Rattle.qc_event.specs.declared.event.Cause.{Cause}
@@ -19,11 +18,11 @@ use Rattle.qc_store.specs.Served.{is_answer}
 use Rattle.qc_rw.specs.declared.no.MgrNo.{MgrNo}
 use Rattle.qc_rw.specs.Managed.{IsAnswered, IsRefused, IsShort, MayEndFor, cause_of}
 use Rattle.qc_line.specs.Lined.{IsOfTransaction}
-use Rattle.qc_interp.specs.Running.{MayMake, Running, ending_of, WentOn, RanManager}
+use Rattle.qc_interp.specs.Running.{MayMake, Running, ManagerFits, ending_of, WentOn, RanManager}
 use Rattle.qc_interp.specs.Trace.{Now, by_client, aborted, Managed, GoesOnTo, RunsManager}
-use Rattle.qc_interp.proofs.Making.{manager_no_access, ends_so, may_end_above}
+use Rattle.qc_interp.proofs.Making.{manager_no_access, fits_manager, ends_so, may_end_above}
 use Rattle.qc_interp.proofs.OfAccesses.{OfManager}
-use Rattle.qc_interp.proofs.RunChild.{JustBegun, MayStandAt, may_start, child_begun, begun_runs}
+use Rattle.qc_interp.proofs.RunChild.{JustBegun, MayStandAt, manager_stands, may_start, child_begun, begun_runs}
 use Rattle.qc_interp.proofs.RunManagers as after
 use Rattle.qc_interp.proofs.WithinManager as manager
 
@@ -81,11 +80,14 @@ module _ (of : Name) (k : ℕ) (kd : Kind) (now : Now) (h : Running of k now) (a
 
 -- WHAT A SESSION KNOWS OF IT
 
-module _ (of : Name) (k : ℕ) (kd : Kind) (now : Now) (h : Running of k now) (alive : now.dead ≡ None) (manages : IsManager kd) (stands : MayStandAt now.setting (length (of ++ k ∷ [])) kd) (m : Name) (named : m ≡ of ++ k ∷ []) where
+module _ (of : Name) (k : ℕ) (kd : Kind) (now : Now) (h : Running of k now) (alive : now.dead ≡ None) (fits : ManagerFits now.setting kd) (m : Name) (named : m ≡ of ++ k ∷ []) where
+  stands : MayStandAt now.setting (length (of ++ k ∷ [])) kd
+  stands = manager_stands now.setting (length (of ++ k ∷ [])) kd fits
+
   pub may_start_so : MayMake now (by_client (Start m kd))
   may_start_so = record {
     allowed = subst (λ x. Allowed now.setting now.past (by_client (Start x kd))) (sym named) (may_start of k kd now h alive stands);
-    of_transaction = manager_no_access kd manages;
+    of_transaction = manager_no_access kd (fits_manager now.setting kd fits);
   }
 
   begun : JustBegun now.setting m kd (by_client (Start m kd) ∷ now.past)
@@ -109,35 +111,25 @@ pub record Came (of : Name) (k : ℕ) (kd : Kind) (now : Now) (m : Name) (at : N
   pub grown : GrewBelow m (by_client (Start m kd) ∷ now.past) at.past
   pub came : MatchResult came_to (IsAnswered now.setting 18 at.past m kd) (IsRefused now.setting 18 at.past m kd)
 
--- what a manager came to whose answer was mapped
-mapped_so : {V : Type 0} (P : Answer → Type 0) (Q : MgrNo → Type 0) (answer_of : V → Answer) (value : Result V MgrNo) (came_to : Result Answer MgrNo) → MatchResult value (λ v. IsOkAnd came_to (λ given. given ≡ answer_of v)) (λ why. came_to ≡ Err why) → IfOk value (λ v. P (answer_of v)) → IfErr value Q → MatchResult came_to P Q
-mapped_so P Q answer_of (Ok v) (Ok given) mapped answered refused = subst P (sym mapped) answered
-mapped_so P Q answer_of (Ok v) (Err why) mapped answered refused = absurd mapped
-mapped_so P Q answer_of (Err why) came_to mapped answered refused = subst (λ r. MatchResult r P Q) (sym mapped) refused
+-- what a manager came to, from its answer or its reason for none
+either_so : (P : Answer → Type 0) (Q : MgrNo → Type 0) (came_to : Result Answer MgrNo) → IfOk came_to P → IfErr came_to Q → MatchResult came_to P Q
+either_so P Q (Ok given) answered refused = answered
+either_so P Q (Err why) answered refused = refused
 
--- so it did whose answer is the same for every value
-pub anded : {V : Type 0} (given : Answer) (value : Result V MgrNo) (came_to : Result Answer MgrNo) → came_to ≡ result_and value (Ok given) → MatchResult value (λ v. IsOkAnd came_to (λ g. g ≡ given)) (λ why. came_to ≡ Err why)
-anded given (Ok v) came_to is = subst (λ (r : Result Answer MgrNo). IsOkAnd r (λ g. g ≡ given)) (sym is) refl
-anded given (Err why) came_to is = is
-
--- a moment differs in its history alone where its setting, its link and who is dead are the same
-pub same_line : (before at : Now) → at.setting ≡ before.setting → at.net ≡ before.net → at.dead ≡ before.dead → at ≡ record before { past = at.past }
-same_line before at set net dead =
-    ap (λ s. let left : Now = record { setting = s; past = at.past; dead = at.dead; net = at.net } in left) set
-    ∙ ap (λ n. let left : Now = record { setting = before.setting; past = at.past; dead = at.dead; net = n } in left) net
-    ∙ ap (λ o. let left : Now = record { setting = before.setting; past = at.past; dead = o; net = before.net } in left) dead
-
-pub came_so : {V : Type 0} (of : Name) (k : ℕ) (kd : Kind) (now : Now) (m : Name) (before at : Now) (answer_of : V → Answer) (value : Result V MgrNo) (came_to : Result Answer MgrNo) → m ≡ of ++ k ∷ [] → before ≡ record now { past = by_client (Start m kd) ∷ now.past } → at ≡ record before { past = at.past } → Legal at.setting at.past → GrewBelow m before.past at.past → MatchResult value (λ v. IsOkAnd came_to (λ given. given ≡ answer_of v)) (λ why. came_to ≡ Err why) → IfOk value (λ v. IsAnswered before.setting 18 at.past m kd (answer_of v)) → IfErr value (IsRefused before.setting 18 at.past m kd) → Came of k kd now m at came_to
-came_so of k kd now m before at answer_of value came_to named begun same legal grown mapped answered refused = record {
+pub came_so : (of : Name) (k : ℕ) (kd : Kind) (now : Now) (m : Name) (before at : Now) (came_to : Result Answer MgrNo) → m ≡ of ++ k ∷ [] → before ≡ record now { past = by_client (Start m kd) ∷ now.past } → at ≡ record before { past = at.past } → Legal at.setting at.past → GrewBelow m before.past at.past → IfOk came_to (IsAnswered before.setting 18 at.past m kd) → IfErr came_to (IsRefused before.setting 18 at.past m kd) → Came of k kd now m at came_to
+came_so of k kd now m before at came_to named begun same legal grown answered refused = record {
   named = named;
   same = same ∙ ap (λ (n : Now). let left : Now = record n { past = at.past } in left) begun;
   legal = legal;
   grown = subst (λ (n : Now). GrewBelow m n.past at.past) begun grown;
   came = subst (λ (n : Now). MatchResult came_to (IsAnswered n.setting 18 at.past m kd) (IsRefused n.setting 18 at.past m kd)) begun
-      (mapped_so (IsAnswered before.setting 18 at.past m kd) (IsRefused before.setting 18 at.past m kd) answer_of value came_to mapped answered refused);
+      (either_so (IsAnswered before.setting 18 at.past m kd) (IsRefused before.setting 18 at.past m kd) came_to answered refused);
 }
 
-module _ (of : Name) (k : ℕ) (kd : Kind) (now : Now) (h : Running of k now) (alive : now.dead ≡ None) (manages : IsManager kd) (m : Name) (at : Now) (came_to : Result Answer MgrNo) (c : Came of k kd now m at came_to) where
+module _ (of : Name) (k : ℕ) (kd : Kind) (now : Now) (h : Running of k now) (alive : now.dead ≡ None) (fits : ManagerFits now.setting kd) (m : Name) (at : Now) (came_to : Result Answer MgrNo) (c : Came of k kd now m at came_to) where
+  manages : IsManager kd
+  manages = fits_manager now.setting kd fits
+
   plain : Came of k kd now (of ++ k ∷ []) at came_to
   plain = subst (λ x. Came of k kd now x at came_to) c.named c
 

@@ -6,12 +6,13 @@ use Rattle.qc_event.specs.declared.event.Event.TheVariants.{End}
 use Rattle.qc_event.specs.declared.event.How.{How}
 use Rattle.qc_event.specs.declared.event.Kind.{Kind}
 use Rattle.qc_event.specs.declared.event.Kind.TheVariants as kind
+use Rattle.qc_event.specs.Base.{Setting}
 use Rattle.qc_event.specs.History.{Past, Name, Begun, start, kind_of}
 use Rattle.qc_event.specs.Legal.{Allowed}
 use Rattle.qc_event.specs.Standing.{IsUser, IsManager, Started}
 use Rattle.qc_line.specs.Lined.{IsNoAccess, IsOfTransaction}
 use Rattle.qc_interp.specs.Trace.{Now}
-use Rattle.qc_interp.specs.Running.{MayMake, Running}
+use Rattle.qc_interp.specs.Running.{MayMake, Running, ManagerFits}
 
 pub user_no_access : (k : Kind) → IsUser k → IsNoAccess k
 user_no_access kind.Access is = absurd is
@@ -20,6 +21,14 @@ user_no_access _ is = tt
 pub manager_no_access : (k : Kind) → IsManager k → IsNoAccess k
 manager_no_access kind.Access is = absurd is
 manager_no_access _ is = tt
+
+-- a kind of manager that can run is one
+pub fits_manager : (setting : Setting) (k : Kind) → ManagerFits setting k → IsManager k
+fits_manager setting (kind.User session body) fits = absurd fits
+fits_manager setting (kind.Read rec) fits = tt
+fits_manager setting (kind.Write rec value) fits = tt
+fits_manager setting (kind.Reconf rec config) fits = tt
+fits_manager setting kind.Access fits = absurd fits
 
 -- the end of a name that was started, for no access
 pub ends_so : (P : Kind → Type 0) → ((k : Kind) → P k → IsNoAccess k) → (past : Past) (n : Name) (how : How) → Started past n (λ b. P b.kind) → IsOfTransaction past (End n how)

@@ -16,9 +16,9 @@ use Rattle.qc_script.specs.declared.script.Body.{Body}
 use Rattle.qc_script.specs.declared.script.Step.{Step, Step-F, out-Step, roll-Step, roll-out-Step}
 use Rattle.qc_script.specs.declared.script.Step.TheVariants as step
 use Rattle.qc_line.specs.Messages.{Net, meets_fates}
-use Rattle.qc_script.specs.Plan.{Plan, IsTried, IsConfigFor, PlanWithin, TopsWithin}
+use Rattle.qc_script.specs.Plan.{Plan, IsTried, PlanWithin, TopsWithin}
 use Rattle.qc_script.specs.Steps.{numbered, plan_of}
-use Rattle.qc_interp.specs.Running.{Running, Resting, RanManager}
+use Rattle.qc_interp.specs.Running.{Running, Resting, ManagerFits, RanManager}
 use Rattle.qc_interp.specs.Trace.{Now, aborted, asked, committed, UnlessDead, RunsManager, child_of, Runs, BodyRuns, top_of, TopsRun, TriesRan}
 use Rattle.qc_interp.proofs.Cases.{NextBy}
 use Rattle.qc_interp.proofs.Closing.{goes_on_so, stops_so}
@@ -97,8 +97,8 @@ module _ {of : Name} {steps : List Step} {old now : Now} {j k : ℕ} (left : Ste
       plan_read : plan_of (drop j steps) ≡ Plan.read_then rec rest
       plan_read = plan_at steps j s (step.Read rec) lt here is ∙ plan_of_read rec (drop (j + 1) steps)
 
-      pub read_within : rec < length now.setting.firsts
-      read_within = (within_at (Plan.read_then rec rest) plan_read).0
+      pub read_fits : ManagerFits now.setting (kind.Read rec)
+      read_fits = (within_at (Plan.read_then rec rest) plan_read).0
 
       pub read_done : (mid : Now) → now.dead ≡ None → RanManager of k (kind.Read rec) true now mid → StepsDone of steps old (j + 1) (k + 1) mid
       read_done mid alive ran =
@@ -114,8 +114,8 @@ module _ {of : Name} {steps : List Step} {old now : Now} {j k : ℕ} (left : Ste
       plan_set : plan_of (drop j steps) ≡ Plan.set_then rec value rest
       plan_set = plan_at steps j s (step.Set rec value) lt here is ∙ plan_of_set rec value (drop (j + 1) steps)
 
-      pub set_within : rec < length now.setting.firsts
-      set_within = (within_at (Plan.set_then rec value rest) plan_set).0
+      pub set_fits : ManagerFits now.setting (kind.Write rec value)
+      set_fits = (within_at (Plan.set_then rec value rest) plan_set).0
 
       pub set_done : (mid : Now) → now.dead ≡ None → RanManager of k (kind.Write rec value) true now mid → StepsDone of steps old (j + 1) (k + 1) mid
       set_done mid alive ran =
@@ -131,11 +131,8 @@ module _ {of : Name} {steps : List Step} {old now : Now} {j k : ℕ} (left : Ste
       plan_reconf : plan_of (drop j steps) ≡ Plan.reconf_then rec config rest
       plan_reconf = plan_at steps j s (step.Reconf rec config) lt here is ∙ plan_of_reconf rec config (drop (j + 1) steps)
 
-      pub reconf_within : rec < length now.setting.firsts
-      reconf_within = (within_at (Plan.reconf_then rec config rest) plan_reconf).0
-
-      pub reconf_fits : IsConfigFor (length now.setting.base) config
-      reconf_fits = (within_at (Plan.reconf_then rec config rest) plan_reconf).1
+      pub reconf_fits : ManagerFits now.setting (kind.Reconf rec config)
+      reconf_fits = let within = within_at (Plan.reconf_then rec config rest) plan_reconf in (within.0, within.1)
 
       pub reconf_done : (mid : Now) → now.dead ≡ None → RanManager of k (kind.Reconf rec config) true now mid → StepsDone of steps old (j + 1) (k + 1) mid
       reconf_done mid alive ran =

@@ -6,7 +6,6 @@ use Rattle.std.specs.Option.{option_or}
 use Rattle.std.proofs.lemmas.Bool.{le-leb, lt-leb}
 use Rattle.std.proofs.lemmas.Bool.Decides.{nat_tests}
 use Rattle.std.proofs.lemmas.List.{length-append}
-use Rattle.qc_config.specs.Config.{Voting}
 use Rattle.qc_event.specs.declared.event.Entry.{Entry}
 use Rattle.qc_event.specs.declared.event.Event.TheVariants.{Start}
 use Rattle.qc_event.specs.declared.event.Kind.{Kind}
@@ -25,7 +24,7 @@ use Rattle.qc_event.proofs.LegalOrderly.{legal_orderly}
 use Rattle.qc_event.proofs.Lineage.{neither, IsFresh, fresh_child, dead_child, alive_not_aborted}
 use Rattle.qc_event.proofs.Histories.{or_none}
 use Rattle.qc_gather.specs.Carrying.{IsRunning}
-use Rattle.qc_script.specs.Plan.{IsConfigFor}
+use Rattle.qc_interp.specs.Running.{ManagerFits}
 use Rattle.qc_interp.specs.Trace.{Now, by_client, begun, returned, still_dead}
 use Rattle.qc_interp.proofs.Running.{Running, Ran}
 use Rattle.qc_interp.proofs.BelowNames.{above_child, begins_child, begins_last, not_within_child, no_child_length}
@@ -130,14 +129,13 @@ user_stands setting of k number shallow b is = (is, le-leb (length (of ++ k ∷ 
 below_is : (a b : ℕ) → a < b → nat_lt a b ≡ true
 below_is a b h = grind (arith, nat_tests)
 
-pub read_stands : (setting : Setting) (depth rec : ℕ) → rec < length setting.firsts → MayStandAt setting depth (kind.Read rec)
-read_stands setting depth rec within b is = (is, below_is rec (length setting.firsts) within)
-
-pub write_stands : (setting : Setting) (depth rec value : ℕ) → rec < length setting.firsts → MayStandAt setting depth (kind.Write rec value)
-write_stands setting depth rec value within b is = (is, below_is rec (length setting.firsts) within)
-
-pub reconf_stands : (setting : Setting) (depth rec : ℕ) (config : Voting) → rec < length setting.firsts → IsConfigFor (length setting.base) config → MayStandAt setting depth (kind.Reconf rec config)
-reconf_stands setting depth rec config within fits b is = (is, below_is rec (length setting.firsts) within, fits.for_copies, fits.legal)
+-- a manager that can run may stand there
+pub manager_stands : (setting : Setting) (depth : ℕ) (k : Kind) → ManagerFits setting k → MayStandAt setting depth k
+manager_stands setting depth (kind.User session body) fits b is = absurd fits
+manager_stands setting depth (kind.Read rec) fits b is = (is, below_is rec (length setting.firsts) fits)
+manager_stands setting depth (kind.Write rec value) fits b is = (is, below_is rec (length setting.firsts) fits)
+manager_stands setting depth (kind.Reconf rec config) fits b is = (is, below_is rec (length setting.firsts) fits.0, fits.1.for_copies, fits.1.legal)
+manager_stands setting depth kind.Access fits b is = absurd fits
 
 -- the next child may start
 pub may_start : (of : Name) (k : ℕ) (of_kind : Kind) (now : Now) → Running of k now → now.dead ≡ None → MayStandAt now.setting (length (of ++ k ∷ [])) of_kind → Allowed now.setting now.past (by_client (Start (of ++ k ∷ []) of_kind))

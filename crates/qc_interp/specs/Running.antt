@@ -6,11 +6,14 @@ use Rattle.qc_event.specs.declared.event.Entry.{Entry}
 use Rattle.qc_event.specs.declared.event.How.{How}
 use Rattle.qc_event.specs.declared.event.How.TheVariants.{Commit, Abort}
 use Rattle.qc_event.specs.declared.event.Kind.{Kind}
+use Rattle.qc_event.specs.declared.event.Kind.TheVariants as kind
+use Rattle.qc_event.specs.Base.{Setting}
 use Rattle.qc_event.specs.Dead as state
 use Rattle.qc_event.specs.History.{Name, limit, start, end, is_ready, children}
 use Rattle.qc_event.specs.Legal.{Legal, Allowed}
 use Rattle.qc_event.specs.Standing.{Started, IsUser}
 use Rattle.qc_line.specs.Lined.{IsOfTransaction}
+use Rattle.qc_script.specs.Plan.{IsConfigFor}
 use Rattle.qc_interp.specs.Trace.{Now, aborted, Managed}
 use Rattle.qc_interp.specs.Tries.{is_tried_again}
 use Rattle.qc_rw.specs.declared.no.MgrNo.{MgrNo}
@@ -42,6 +45,13 @@ pub record Resting (i : ℕ) (now : Now) : Type 0 where
   pub unstarted : (x : ℕ) → 4294967297 + i ≤ x → start now.past (x ∷ []) ≡ None
   pub long : i ≤ length now.past
   pub few : i ≤ limit
+
+-- A manager of this kind can run: its record is there, and a configuration that it brings is one for the copies.
+abbrev pub ManagerFits : Setting → Kind → Type 0
+ManagerFits setting (kind.Read rec) = rec < length setting.firsts
+ManagerFits setting (kind.Write rec value) = rec < length setting.firsts
+ManagerFits setting (kind.Reconf rec config) = (rec < length setting.firsts) × IsConfigFor (length setting.base) config
+ManagerFits setting _ = ⊥
 
 -- How a manager ends by what it came to: it commits with its answer, or is aborted for the cause of none.
 -- Where there is no cause, memory or room was wanting.

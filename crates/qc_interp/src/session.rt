@@ -270,19 +270,27 @@ impl Session {
             }
             match step {
                 Step::Read { rec } => {
-                    if !self.read(of, k, *rec)? {
+                    if !self.manage(of, k, &Kind::Read { rec: *rec })? {
                         return Ok(());
                     }
                     k += 1;
                 }
                 Step::Set { rec, value } => {
-                    if !self.set(of, k, *rec, *value)? {
+                    let kind = Kind::Write {
+                        rec: *rec,
+                        value: *value,
+                    };
+                    if !self.manage(of, k, &kind)? {
                         return Ok(());
                     }
                     k += 1;
                 }
                 Step::Reconf { rec, config } => {
-                    if !self.reconf(of, k, *rec, config)? {
+                    let kind = Kind::Reconf {
+                        rec: *rec,
+                        config: *config,
+                    };
+                    if !self.manage(of, k, &kind)? {
                         return Ok(());
                     }
                     k += 1;

@@ -1,15 +1,17 @@
 //! The managers that a session runs, one at a time.
-ghost use Rattle.std.specs.Prelude.{◌≡◌, ℕ, ◌+◌, ◌<◌, ◌∷◌, length, Some, None, Ok, Err, IfOk, IfErr, IsOkAnd, OnErr};
+ghost use Rattle.std.specs.Prelude.{◌≡◌, ℕ, ◌+◌, ◌<◌, [], ◌∷◌, length, Some, None, Ok, Err, IsTrue, IfOk, IfErr, IsOkAnd, OnErr};
 ghost use Rattle.qc_event.specs.declared.event.Cause.{Cause};
 ghost use Rattle.qc_event.specs.declared.event.How.{How};
-ghost use Rattle.qc_event.specs.declared.event.Kind.TheVariants as kind;
-ghost use Rattle.qc_event.specs.History.{limit};
-ghost use Rattle.qc_interp.specs.Running.{MayMake, Running, ending_of, WentOn, RanManager};
+ghost use Rattle.qc_event.specs.History.{limit, is_child, children};
+ghost use Rattle.qc_event.specs.Legal.{Legal};
+ghost use Rattle.qc_gather.specs.Carrying.{IsRunning, HasGrown};
+ghost use Rattle.qc_interp.specs.Running.{MayMake, Running, ManagerFits, ending_of, WentOn, RanManager};
 ghost use Rattle.qc_interp.specs.Trace as trace;
-ghost use Rattle.qc_script.specs.Plan.{IsConfigFor};
+ghost use Rattle.qc_rw.specs.Managed.{IsAnswered, IsRefused};
+ghost use Rattle.qc_store.specs.Served.{is_answer};
 
 use crate::session::{CLIENT, Session};
-use qc_event::{Answer, Cause, Config, Event, How, Kind, Name, Short, Val};
+use qc_event::{Answer, Cause, Event, How, Kind, Name, Short};
 use qc_rw::MgrNo;
 
 // How a manager ends by what it came to. Where memory or room was wanting it does not end, and the session
@@ -69,73 +71,53 @@ impl Session {
         }
     }
 
-    // Child k of a transaction reads a record. It answers whether the transaction goes on.
-    pub(super) fn read(&mut self, of: &Name, k: u32, rec: u8) -> Result<bool, Short>
-        requires running { Running of.now k self.old }
-        requires alive { self.old.dead ≡ None }
-        requires depth { length of.now < 18 }
-        requires within { rec < length self.old.setting.firsts }
-        ensures ok { IfOk result (λ goes_on. RanManager of.now k (kind.Read rec) goes_on self.old self.new) }
-        ensures setting { self.new.setting ≡ self.old.setting }
-        ensures net { self.new.net ≡ self.old.net }
-        ensures room { IfErr result (λ e. e ≡ Short.Room → length self.new.past ≡ limit) }
+    // What a manager comes to that has just started as one of a kind, over the line to the copies. It has not
+    // ended yet.
+    fn come_to(&mut self, name: &Name, kind: &Kind) -> Result<Answer, MgrNo>
+        requires fits { ManagerFits self.old.setting kind.now }
+        requires manager { IsRunning 18 self.old.past name.now kind.now }
+        requires no_child { children self.old.past name.now ≡ [] }
+        ensures same { self.new ≡ record self.old { past = self.new.past } }
+        ensures legal { Legal self.new.setting self.new.past }
+        ensures grown { HasGrown (λ e. is_answer e) (λ n. IsTrue (is_child name.now n)) self.old.past self.new.past }
+        ensures answered { IfOk result (IsAnswered self.old.setting 18 self.new.past name.now kind.now) }
+        ensures refused { IfErr result (IsRefused self.old.setting 18 self.new.past name.now kind.now) }
     {
-        let name = of.child(k);
-        let kind = Kind::Read { rec };
-        self.append(CLIENT, Event::Start { name, kind })?;
-        let first = self.line.first(rec);
-        let value = qc_rw::read(&mut self.line, &name, rec, &first);
-        let closed = self.close(&name, &value.map(Answer::Value));
-        self.go_on(of, &closed)
+        match kind {
+            Kind::Read { rec } => {
+                let first = self.line.first(*rec);
+                let value = qc_rw::read(&mut self.line, name, *rec, &first);
+                value.map(Answer::Value)
+            }
+            Kind::Write { rec, value } => {
+                let first = self.line.first(*rec);
+                let version = qc_rw::write(&mut self.line, name, *rec, &first, *value);
+                version.and(Ok(Answer::Nothing))
+            }
+            Kind::Reconf { rec, config } => {
+                let first = self.line.first(*rec);
+                let generation = qc_reconf::reconfigure(&mut self.line, name, *rec, &first, config);
+                generation.map(Answer::Generation)
+            }
+            Kind::User { .. } | Kind::Access => unreachable!(),
+        }
     }
 
-    // Child k of a transaction writes a value to a record. It answers whether the transaction goes on.
-    pub(super) fn set(&mut self, of: &Name, k: u32, rec: u8, value: Val) -> Result<bool, Short>
+    // Child k of a transaction runs as a manager of a kind. It answers whether the transaction goes on.
+    pub(super) fn manage(&mut self, of: &Name, k: u32, kind: &Kind) -> Result<bool, Short>
         requires running { Running of.now k self.old }
         requires alive { self.old.dead ≡ None }
         requires depth { length of.now < 18 }
-        requires within { rec < length self.old.setting.firsts }
-        ensures ok { IfOk result (λ goes_on. RanManager of.now k (kind.Write rec value) goes_on self.old self.new) }
+        requires fits { ManagerFits self.old.setting kind.now }
+        ensures ok { IfOk result (λ goes_on. RanManager of.now k kind.now goes_on self.old self.new) }
         ensures setting { self.new.setting ≡ self.old.setting }
         ensures net { self.new.net ≡ self.old.net }
         ensures room { IfErr result (λ e. e ≡ Short.Room → length self.new.past ≡ limit) }
     {
         let name = of.child(k);
-        let kind = Kind::Write { rec, value };
-        self.append(CLIENT, Event::Start { name, kind })?;
-        let first = self.line.first(rec);
-        let version = qc_rw::write(&mut self.line, &name, rec, &first, value);
-        let closed = self.close(&name, &version.and(Ok(Answer::Nothing)));
-        self.go_on(of, &closed)
-    }
-
-    // Child k of a transaction gives a record another configuration. It answers whether the transaction goes on.
-    pub(super) fn reconf(
-        &mut self,
-        of: &Name,
-        k: u32,
-        rec: u8,
-        config: &Config,
-    ) -> Result<bool, Short>
-        requires running { Running of.now k self.old }
-        requires alive { self.old.dead ≡ None }
-        requires depth { length of.now < 18 }
-        requires within { rec < length self.old.setting.firsts }
-        requires fits { IsConfigFor (length self.old.setting.base) config.now }
-        ensures ok { IfOk result (λ goes_on. RanManager of.now k (kind.Reconf rec config.now) goes_on self.old self.new) }
-        ensures setting { self.new.setting ≡ self.old.setting }
-        ensures net { self.new.net ≡ self.old.net }
-        ensures room { IfErr result (λ e. e ≡ Short.Room → length self.new.past ≡ limit) }
-    {
-        let name = of.child(k);
-        let kind = Kind::Reconf {
-            rec,
-            config: *config,
-        };
-        self.append(CLIENT, Event::Start { name, kind })?;
-        let first = self.line.first(rec);
-        let generation = qc_reconf::reconfigure(&mut self.line, &name, rec, &first, config);
-        let closed = self.close(&name, &generation.map(Answer::Generation));
+        self.append(CLIENT, Event::Start { name, kind: *kind })?;
+        let came_to = self.come_to(&name, kind);
+        let closed = self.close(&name, &came_to);
         self.go_on(of, &closed)
     }
 }

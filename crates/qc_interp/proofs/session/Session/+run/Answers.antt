@@ -5,7 +5,7 @@ use Rattle.qc_script.specs.Plan.{Numbered, PlanWithin}
 use Rattle.qc_script.specs.Steps.{plan_of, numbered}
 use Rattle.qc_interp.specs.Running.{Running, RanManager}
 use Rattle.qc_interp.specs.Trace as trace
-use Rattle.qc_interp.proofs.Rest.{StepsDone, none_done, not_full, plan_at_child, read_within, read_done, read_stops, set_within, set_done, set_stops, reconf_within, reconf_fits, reconf_done, reconf_stops, child_fits, child_done, abort_within, asks, stops, ends_orphan, ends_commit}
+use Rattle.qc_interp.proofs.Rest.{StepsDone, none_done, not_full, plan_at_child, read_fits, read_done, read_stops, set_fits, set_done, set_stops, reconf_fits, reconf_done, reconf_stops, child_fits, child_done, abort_within, asks, stops, ends_orphan, ends_commit}
 use Rattle.qc_interp.proofs.ChildTries.{child_runs, child_short, child_within, ran_so, was_tried}
 use Rattle.qc_interp.proofs.RunChild.{running_few}
 use Rattle.qc_interp.proofs.Plans.{weight, rest_lighter, numbered_is, tries_of, plan_is}
@@ -13,7 +13,7 @@ use Rattle.qc_interp.specs.Trace.{child_of}
 use Rattle.qc_event.specs.Base.{Setting}
 use Rattle.qc_interp.proofs.TriesDone.{tried_last, tried_again, tried_all, told}
 use Rattle.qc_interp.proofs.session.Session.+run.Goals as goal
-use Rattle.qc_interp.proofs.session.Session.+run.Goals.{steps-in-Read+in_ok-read-in-Read+else-not-branch, steps-in-Set+in_ok-set-in-Set+else-not-branch-2, steps-in-Reconf+in_ok-reconf-in-Reconf+else-not-branch-3, steps-in-Child+in_ok-k-in-Child}
+use Rattle.qc_interp.proofs.session.Session.+run.Goals.{steps-in-Read+in_ok-manage-in-Read+else-not-branch, steps-in-Set+in_ok-manage-in-Set+else-not-branch-2, steps-in-Reconf+in_ok-manage-in-Reconf+else-not-branch-3, steps-in-Child+in_ok-k-in-Child}
 
 pub body-steps-requires : goal.body-steps-requires
 body-steps-requires t c =
@@ -145,44 +145,41 @@ steps-returns-in_default-step t c =
       room = c.orphan.ensures.room;
     }
 
-pub steps-read-requires-clause-running : goal.steps-read-requires-clause-running
-steps-read-requires-clause-running t c = c.loop-step.invariant.running
+pub steps-manage-requires-clause-running : goal.steps-manage-requires-clause-running
+steps-manage-requires-clause-running t c = c.loop-step.invariant.running
 
-pub steps-read-requires-clause-within : goal.steps-read-requires-clause-within
-steps-read-requires-clause-within t c = read_within c.loop-step.invariant c.loop-step-test.true c.step-item.is c.in-Read.rec c.in-Read.is
+pub steps-manage-requires-clause-fits : goal.steps-manage-requires-clause-fits
+steps-manage-requires-clause-fits t c = read_fits c.loop-step.invariant c.loop-step-test.true c.step-item.is c.in-Read.rec c.in-Read.is
 
 pub steps-returns-then-not-branch-clause-ok : goal.steps-returns-then-not-branch-clause-ok
 steps-returns-then-not-branch-clause-ok t c =
     let alive = ap (λ (n : trace.Now). n.dead) (sym c.self.view_is) ∙ c.in_default.is in
-    read_stops c.loop-step.invariant c.loop-step-test.true c.step-item.is c.in-Read.rec c.in-Read.is c.read.new.self alive
-    (subst (λ b. RanManager c.args.of.now c.loop-step.k (kind.Read c.in-Read.rec) b c.loop-step.self c.read.new.self) c.if-not-branch.true c.in_ok-read-in-Read.ensures.ok)
+    read_stops c.loop-step.invariant c.loop-step-test.true c.step-item.is c.in-Read.rec c.in-Read.is c.manage.new.self alive
+    (subst (λ b. RanManager c.args.of.now c.loop-step.k (kind.Read c.in-Read.rec) b c.loop-step.self c.manage.new.self) c.if-not-branch.true c.in_ok-manage-in-Read.ensures.ok)
 
-pub steps-set-requires-clause-running : goal.steps-set-requires-clause-running
-steps-set-requires-clause-running t c = c.loop-step.invariant.running
+pub steps-manage-requires-in-Set-clause-running : goal.steps-manage-requires-in-Set-clause-running
+steps-manage-requires-in-Set-clause-running t c = c.loop-step.invariant.running
 
-pub steps-set-requires-clause-within : goal.steps-set-requires-clause-within
-steps-set-requires-clause-within t c = set_within c.loop-step.invariant c.loop-step-test.true c.step-item.is c.in-Set.rec c.in-Set.value c.in-Set.is
+pub steps-manage-requires-in-Set-clause-fits : goal.steps-manage-requires-in-Set-clause-fits
+steps-manage-requires-in-Set-clause-fits t c = set_fits c.loop-step.invariant c.loop-step-test.true c.step-item.is c.in-Set.rec c.in-Set.value c.in-Set.is
 
 pub steps-returns-then-not-branch-2-clause-ok : goal.steps-returns-then-not-branch-2-clause-ok
 steps-returns-then-not-branch-2-clause-ok t c =
     let alive = ap (λ (n : trace.Now). n.dead) (sym c.self.view_is) ∙ c.in_default.is in
-    set_stops c.loop-step.invariant c.loop-step-test.true c.step-item.is c.in-Set.rec c.in-Set.value c.in-Set.is c.set.new.self alive
-    (subst (λ b. RanManager c.args.of.now c.loop-step.k (kind.Write c.in-Set.rec c.in-Set.value) b c.loop-step.self c.set.new.self) c.if-not-branch-2.true c.in_ok-set-in-Set.ensures.ok)
+    set_stops c.loop-step.invariant c.loop-step-test.true c.step-item.is c.in-Set.rec c.in-Set.value c.in-Set.is c.manage-in-Set.new.self alive
+    (subst (λ b. RanManager c.args.of.now c.loop-step.k (kind.Write c.in-Set.rec c.in-Set.value) b c.loop-step.self c.manage-in-Set.new.self) c.if-not-branch-2.true c.in_ok-manage-in-Set.ensures.ok)
 
-pub steps-reconf-requires-clause-running : goal.steps-reconf-requires-clause-running
-steps-reconf-requires-clause-running t c = c.loop-step.invariant.running
+pub steps-manage-requires-in-Reconf-clause-running : goal.steps-manage-requires-in-Reconf-clause-running
+steps-manage-requires-in-Reconf-clause-running t c = c.loop-step.invariant.running
 
-pub steps-reconf-requires-clause-within : goal.steps-reconf-requires-clause-within
-steps-reconf-requires-clause-within t c = reconf_within c.loop-step.invariant c.loop-step-test.true c.step-item.is c.in-Reconf.rec c.in-Reconf.config c.in-Reconf.is
-
-pub steps-reconf-requires-clause-fits : goal.steps-reconf-requires-clause-fits
-steps-reconf-requires-clause-fits t c = reconf_fits c.loop-step.invariant c.loop-step-test.true c.step-item.is c.in-Reconf.rec c.in-Reconf.config c.in-Reconf.is
+pub steps-manage-requires-in-Reconf-clause-fits : goal.steps-manage-requires-in-Reconf-clause-fits
+steps-manage-requires-in-Reconf-clause-fits t c = reconf_fits c.loop-step.invariant c.loop-step-test.true c.step-item.is c.in-Reconf.rec c.in-Reconf.config c.in-Reconf.is
 
 pub steps-returns-then-not-branch-3-clause-ok : goal.steps-returns-then-not-branch-3-clause-ok
 steps-returns-then-not-branch-3-clause-ok t c =
     let alive = ap (λ (n : trace.Now). n.dead) (sym c.self.view_is) ∙ c.in_default.is in
-    reconf_stops c.loop-step.invariant c.loop-step-test.true c.step-item.is c.in-Reconf.rec c.in-Reconf.config c.in-Reconf.is c.reconf.new.self alive
-    (subst (λ b. RanManager c.args.of.now c.loop-step.k (kind.Reconf c.in-Reconf.rec c.in-Reconf.config) b c.loop-step.self c.reconf.new.self) c.if-not-branch-3.true c.in_ok-reconf-in-Reconf.ensures.ok)
+    reconf_stops c.loop-step.invariant c.loop-step-test.true c.step-item.is c.in-Reconf.rec c.in-Reconf.config c.in-Reconf.is c.manage-in-Reconf.new.self alive
+    (subst (λ b. RanManager c.args.of.now c.loop-step.k (kind.Reconf c.in-Reconf.rec c.in-Reconf.config) b c.loop-step.self c.manage-in-Reconf.new.self) c.if-not-branch-3.true c.in_ok-manage-in-Reconf.ensures.ok)
 
 pub steps-child_tries-requires : goal.steps-child_tries-requires
 steps-child_tries-requires t c =
@@ -223,18 +220,18 @@ steps-loop-step-preserved t c =
     let left = c.loop-step.invariant in
     let Next : ℕ → trace.Now → Type 0 = λ k n. StepsDone c.args.of.now c.args.steps.now c.args.self.now (c.loop-step.step-index + 1) k n in
     elim c.match-step-2.branch [
-      | steps-in-Read+in_ok-read-in-Read+else-not-branch w ↦
+      | steps-in-Read+in_ok-manage-in-Read+else-not-branch w ↦
           subst₂ Next (sym w.k-is) (sym w.self-is)
-          (read_done left c.loop-step-test.true c.step-item.is w.in-Read.rec w.in-Read.is w.read.new.self alive
-          (subst (λ b. RanManager c.args.of.now c.loop-step.k (kind.Read w.in-Read.rec) b c.loop-step.self w.read.new.self) w.if-not-branch.false w.in_ok-read-in-Read.ensures.ok))
-      | steps-in-Set+in_ok-set-in-Set+else-not-branch-2 w ↦
+          (read_done left c.loop-step-test.true c.step-item.is w.in-Read.rec w.in-Read.is w.manage.new.self alive
+          (subst (λ b. RanManager c.args.of.now c.loop-step.k (kind.Read w.in-Read.rec) b c.loop-step.self w.manage.new.self) w.if-not-branch.false w.in_ok-manage-in-Read.ensures.ok))
+      | steps-in-Set+in_ok-manage-in-Set+else-not-branch-2 w ↦
           subst₂ Next (sym w.k-is) (sym w.self-is)
-          (set_done left c.loop-step-test.true c.step-item.is w.in-Set.rec w.in-Set.value w.in-Set.is w.set.new.self alive
-          (subst (λ b. RanManager c.args.of.now c.loop-step.k (kind.Write w.in-Set.rec w.in-Set.value) b c.loop-step.self w.set.new.self) w.if-not-branch-2.false w.in_ok-set-in-Set.ensures.ok))
-      | steps-in-Reconf+in_ok-reconf-in-Reconf+else-not-branch-3 w ↦
+          (set_done left c.loop-step-test.true c.step-item.is w.in-Set.rec w.in-Set.value w.in-Set.is w.manage-in-Set.new.self alive
+          (subst (λ b. RanManager c.args.of.now c.loop-step.k (kind.Write w.in-Set.rec w.in-Set.value) b c.loop-step.self w.manage-in-Set.new.self) w.if-not-branch-2.false w.in_ok-manage-in-Set.ensures.ok))
+      | steps-in-Reconf+in_ok-manage-in-Reconf+else-not-branch-3 w ↦
           subst₂ Next (sym w.k-is) (sym w.self-is)
-          (reconf_done left c.loop-step-test.true c.step-item.is w.in-Reconf.rec w.in-Reconf.config w.in-Reconf.is w.reconf.new.self alive
-          (subst (λ b. RanManager c.args.of.now c.loop-step.k (kind.Reconf w.in-Reconf.rec w.in-Reconf.config) b c.loop-step.self w.reconf.new.self) w.if-not-branch-3.false w.in_ok-reconf-in-Reconf.ensures.ok))
+          (reconf_done left c.loop-step-test.true c.step-item.is w.in-Reconf.rec w.in-Reconf.config w.in-Reconf.is w.manage-in-Reconf.new.self alive
+          (subst (λ b. RanManager c.args.of.now c.loop-step.k (kind.Reconf w.in-Reconf.rec w.in-Reconf.config) b c.loop-step.self w.manage-in-Reconf.new.self) w.if-not-branch-3.false w.in_ok-manage-in-Reconf.ensures.ok))
       | steps-in-Child+in_ok-k-in-Child w ↦
           subst₂ Next (sym w.k-is) (sym w.self-is)
           (child_done left c.loop-step-test.true c.step-item.is w.in-Child.body w.in-Child.is alive w.in_ok-k-in-Child.k w.child_tries.new.self w.in_ok-k-in-Child.ensures.ok w.in_ok-k-in-Child.ensures.running w.in_ok-k-in-Child.ensures.setting w.in_ok-k-in-Child.ensures.net)
