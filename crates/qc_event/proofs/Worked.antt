@@ -16,6 +16,7 @@ use Rattle.qc_event.specs.declared.event.How.TheVariants.{Commit, Abort}
 use Rattle.qc_event.specs.declared.event.Kind.{Kind}
 use Rattle.qc_event.specs.declared.event.Kind.TheVariants as kind
 use Rattle.qc_event.specs.History.{Name}
+use Rattle.qc_event.specs.Seats.{client_seat, ledger_seat, copy_seat, number_in, top_name}
 use Rattle.qc_event.specs.Legal.{Allowed, Legal}
 
 abbrev pub one : Voting
@@ -32,7 +33,7 @@ abbrev pub setting : Setting
 setting = setting_at 0
 
 abbrev pub client : Event → Entry
-client ev = record { seat = 18; event = ev }
+client ev = record { seat = client_seat; event = ev }
 
 abbrev pub start : Name → Kind → Entry
 start n k = client (event.Start n k)
@@ -47,7 +48,7 @@ abbrev pub abort : Name → Cause → Entry
 abort n c = client (event.End n (Abort c))
 
 abbrev pub grant : Name → Op → Tuple → Entry
-grant n op t = record { seat = 2; event = event.Granted 0 (record { access = n; rec = 0; op = op; tuple = t }) }
+grant n op t = record { seat = copy_seat 0; event = event.Granted 0 (record { access = n; rec = 0; op = op; tuple = t }) }
 
 abbrev pub get : Name → Tuple → List Entry
 get n t = start n kind.Access ∷ ask n Get ∷ grant n Get t ∷ commit n (answer.Reply t) ∷ []
@@ -57,22 +58,22 @@ put n op t = start n kind.Access ∷ ask n op ∷ grant n op t ∷ commit n (ans
 
 -- a top that is ready and commits
 abbrev pub ends : Name → List Entry
-ends n = client (event.Ready n) ∷ record { seat = 1; event = event.End n (Commit answer.Nothing) } ∷ []
+ends n = client (event.Ready n) ∷ record { seat = ledger_seat; event = event.End n (Commit answer.Nothing) } ∷ []
 
 -- A WRITE
 
 -- a top that writes 5, up to its manager's answer
 abbrev pub write : List Entry
 write =
-    start (4294967297 ∷ []) (kind.User 0 0)
-    ∷ start (4294967297 ∷ 1 ∷ []) (kind.Write 0 5)
-    ∷ get (4294967297 ∷ 1 ∷ 1 ∷ []) (tuple 0 0)
-    ++ put (4294967297 ∷ 1 ∷ 2 ∷ []) (PutData 1 5) (tuple 1 5)
-    ++ commit (4294967297 ∷ 1 ∷ []) answer.Nothing
+    start (top_name 1 1) (kind.User 0 0)
+    ∷ start (number_in 1 1 ∷ 1 ∷ []) (kind.Write 0 5)
+    ∷ get (number_in 1 1 ∷ 1 ∷ 1 ∷ []) (tuple 0 0)
+    ++ put (number_in 1 1 ∷ 1 ∷ 2 ∷ []) (PutData 1 5) (tuple 1 5)
+    ++ commit (number_in 1 1 ∷ 1 ∷ []) answer.Nothing
     ∷ []
 
 abbrev pub written : List Entry
-written = write ++ ends (4294967297 ∷ [])
+written = write ++ ends (top_name 1 1)
 
 legal_written : Legal setting (reverse written)
 legal_written = search rules
@@ -82,19 +83,19 @@ legal_written = search rules
 abbrev reading : List Entry
 reading =
     written
-    ++ start (4294967298 ∷ []) (kind.User 1 0)
-    ∷ start (4294967298 ∷ 1 ∷ []) (kind.Read 0)
-    ∷ get (4294967298 ∷ 1 ∷ 1 ∷ []) (tuple 1 5)
+    ++ start (top_name 1 2) (kind.User 1 0)
+    ∷ start (number_in 1 2 ∷ 1 ∷ []) (kind.Read 0)
+    ∷ get (number_in 1 2 ∷ 1 ∷ 1 ∷ []) (tuple 1 5)
 
-legal_read : Legal setting (reverse (reading ++ commit (4294967298 ∷ 1 ∷ []) (answer.Value 5) ∷ []))
+legal_read : Legal setting (reverse (reading ++ commit (number_in 1 2 ∷ 1 ∷ []) (answer.Value 5) ∷ []))
 legal_read = search rules
 
 -- a reader answers no other value
-no_other_value : Allowed setting (reverse reading) (commit (4294967298 ∷ 1 ∷ []) (answer.Value 0)) → ⊥
+no_other_value : Allowed setting (reverse reading) (commit (number_in 1 2 ∷ 1 ∷ []) (answer.Value 0)) → ⊥
 no_other_value may = absurd (let same = may.answers in cc)
 
 -- nor does it answer before it has collected enough
-no_early_answer : Allowed setting (start (4294967297 ∷ 1 ∷ []) (kind.Read 0) ∷ start (4294967297 ∷ []) (kind.User 0 0) ∷ []) (commit (4294967297 ∷ 1 ∷ []) (answer.Value 0)) → ⊥
+no_early_answer : Allowed setting (start (number_in 1 1 ∷ 1 ∷ []) (kind.Read 0) ∷ start (top_name 1 1) (kind.User 0 0) ∷ []) (commit (number_in 1 1 ∷ 1 ∷ []) (answer.Value 0)) → ⊥
 no_early_answer may = absurd (let enough = may.complete in cc)
 
 -- A RECONFIGURATION
@@ -106,11 +107,11 @@ abbrev moved : Tuple
 moved = record { version = 0; value = 0; generation = 1; config = two }
 
 legal_reconfigured : Legal setting (reverse (
-    start (4294967297 ∷ []) (kind.User 0 0)
-    ∷ start (4294967297 ∷ 1 ∷ []) (kind.Reconf 0 two)
-    ∷ get (4294967297 ∷ 1 ∷ 1 ∷ []) (tuple 0 0)
-    ++ put (4294967297 ∷ 1 ∷ 2 ∷ []) (PutData 0 0) (tuple 0 0)
-    ++ put (4294967297 ∷ 1 ∷ 3 ∷ []) (PutConfig 1 two) moved
-    ++ commit (4294967297 ∷ 1 ∷ []) (answer.Generation 1)
-    ∷ ends (4294967297 ∷ [])))
+    start (top_name 1 1) (kind.User 0 0)
+    ∷ start (number_in 1 1 ∷ 1 ∷ []) (kind.Reconf 0 two)
+    ∷ get (number_in 1 1 ∷ 1 ∷ 1 ∷ []) (tuple 0 0)
+    ++ put (number_in 1 1 ∷ 1 ∷ 2 ∷ []) (PutData 0 0) (tuple 0 0)
+    ++ put (number_in 1 1 ∷ 1 ∷ 3 ∷ []) (PutConfig 1 two) moved
+    ++ commit (number_in 1 1 ∷ 1 ∷ []) (answer.Generation 1)
+    ∷ ends (top_name 1 1)))
 legal_reconfigured = search rules

@@ -1,6 +1,6 @@
 -- What a run starts from: its tuples are a list, by copy, of lists, by record.
-use Rattle.std.specs.Prelude.{ℕ, ◌<◌, List, [], length, map, slice_get, slice_index_or, MatchOption}
-use Rattle.qc_config.specs.Config.{Voting, no_config}
+use Rattle.std.specs.Prelude.{ℕ, ◌≡◌, ◌<◌, ◌≤◌, List, [], length, slice_get, slice_index_or, All, MatchOption}
+use Rattle.qc_config.specs.Config.{Voting, IsLegal, no_config}
 use Rattle.qc_config.specs.declared.tuple.Tuple.{Tuple}
 
 -- the tuple where there is none
@@ -15,23 +15,37 @@ IsWithin base copy rec = MatchOption (slice_get base copy) ⊥ (λ row. rec < le
 abbrev pub start_tuple : List (List Tuple) → ℕ → ℕ → Tuple
 start_tuple base copy rec = slice_index_or (slice_index_or base copy []) rec no_tuple
 
--- each record's value at the first copy; where a run begins anew, it is the record's start value
-abbrev pub start_values : List (List Tuple) → List ℕ
-start_values base = map (λ (t : Tuple). t.value) (slice_index_or base 0 [])
-
--- each record's configuration at the first copy
-abbrev pub start_configs : List (List Tuple) → List Voting
-start_configs base = map (λ (t : Tuple). t.config) (slice_index_or base 0 [])
-
 -- What a run starts from: each record's first configuration, and the tuples of each copy.
 pub record Setting : Type 0 where
   pub firsts : List Voting
   pub base : List (List Tuple)
 
--- where every copy starts with each record's first configuration
-abbrev pub setting_of : List (List Tuple) → Setting
-setting_of base = record { firsts = start_configs base; base = base }
-
 -- a record's first configuration, which has generation 0
 abbrev pub first_of : Setting → ℕ → Voting
 first_of setting rec = slice_index_or setting.firsts rec no_config
+
+-- PROPER SETTINGS
+
+-- a legal configuration, with one vote for each of so many copies
+pub record IsConfigFor (copies : ℕ) (config : Voting) : Type 0 where
+  pub legal : IsLegal config
+  pub for_copies : length config.votes ≡ copies
+
+-- the row of a copy has so many tuples, each with a legal configuration for so many copies
+pub record IsRowFor (copies records : ℕ) (row : List Tuple) : Type 0 where
+  pub same_records : length row ≡ records
+  pub configs : All (λ (t : Tuple). IsConfigFor copies t.config) row
+
+-- A base is proper where it has 1 to 16 copies, the same 1 to 64 records at each, and legal configurations for as
+-- many copies.
+pub record IsProperBase (records : ℕ) (base : List (List Tuple)) : Type 0 where
+  pub some_copy : 0 < length base
+  pub most_copies : length base ≤ 16
+  pub some_record : 0 < records
+  pub most_records : records ≤ 64
+  pub rows : All (IsRowFor (length base) records) base
+
+-- A setting is proper where its base is, and has a legal first configuration for as many copies for each record.
+pub record IsProper (setting : Setting) : Type 0 where
+  pub base : IsProperBase (length setting.firsts) setting.base
+  pub firsts : All (IsConfigFor (length setting.base)) setting.firsts

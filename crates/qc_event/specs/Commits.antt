@@ -8,7 +8,8 @@ use Rattle.qc_event.specs.declared.event.Kind.{Kind}
 use Rattle.qc_event.specs.declared.event.Kind.TheVariants as kind
 use Rattle.qc_event.specs.History.{Past, Name, Begun, asked, granted}
 use Rattle.qc_event.specs.Manager.{newest, greatest, is_complete, first_for}
-use Rattle.qc_event.specs.Standing.{is_client, open_child, IsGoing}
+use Rattle.qc_event.specs.Seats.{is_client}
+use Rattle.qc_event.specs.Standing.{open_child, IsGoing}
 use Rattle.qc_event.specs.Users.{MayCommitUserOrTop}
 
 -- An access commits under the seat at which it asked, with the tuple that was granted.

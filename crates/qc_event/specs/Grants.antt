@@ -1,5 +1,5 @@
 -- What a copy may grant, and how it may refuse.
-use Rattle.std.specs.Prelude.{ℕ, ◌≡◌, ◌+◌, length, None, Some, IfNone, MatchOption}
+use Rattle.std.specs.Prelude.{ℕ, ◌≡◌, length, None, Some, IfNone, MatchOption}
 use Rattle.qc_config.specs.declared.tuple.Op.{Op}
 use Rattle.qc_config.specs.declared.tuple.Op.TheVariants.{Get, PutData, PutConfig}
 use Rattle.qc_config.specs.declared.tuple.Tuple.{Tuple}
@@ -11,6 +11,7 @@ use Rattle.qc_event.specs.declared.event.Refusal.{Refusal}
 use Rattle.qc_event.specs.declared.event.Refusal.TheVariants.{Blocked, Dead}
 use Rattle.qc_event.specs.History.{Past, Name, asked, granted}
 use Rattle.qc_event.specs.Dead.{dead}
+use Rattle.qc_event.specs.Seats.{copy_seat}
 use Rattle.qc_event.specs.Seen.{seen, holder}
 
 -- the tuple has the operation's values in the fields that the operation sets
@@ -26,7 +27,7 @@ pub record IsServed (setting : Setting) (past : Past) (copy : ℕ) (grant : Gran
 
 -- A copy grants, once, what an access asked of it. What it tells a dead access is of no account.
 pub record MayGrant (setting : Setting) (past : Past) (seat copy : ℕ) (grant : Grant) : Type 0 where
-  pub by_copy : seat ≡ copy + 2
+  pub by_copy : seat ≡ copy_seat copy
   pub request : MatchOption (asked past grant.access) ⊥ (λ a. a.ask ≡ record { access = grant.access; copy = copy; rec = grant.rec; op = grant.op })
   pub first_time : granted past grant.access ≡ None
   pub sets : Sets grant.op grant.tuple
@@ -41,6 +42,6 @@ IsRefusal past ask (Blocked h) = (dead past ask.access ≡ None) × (holder past
 
 -- A copy may refuse an access that asked it.
 pub record MayRefuse (past : Past) (seat : ℕ) (access : Name) (copy : ℕ) (refusal : Refusal) : Type 0 where
-  pub by_copy : seat ≡ copy + 2
+  pub by_copy : seat ≡ copy_seat copy
   pub request : MatchOption (asked past access) ⊥ (λ a. a.ask.copy ≡ copy)
   pub reason : MatchOption (asked past access) ⊥ (λ a. IsRefusal past a.ask refusal)

@@ -1,4 +1,6 @@
 pub mod Base
+pub mod Seats
+pub mod Tables
 pub mod History
 pub mod Dead
 pub mod Clear

@@ -1,5 +1,5 @@
 -- What a manager's accesses may ask, when one is given up, and who may be unable to serve.
-use Rattle.std.specs.Prelude.{ℕ, ◌≡◌, ◌+◌, ◌⊎◌, Bool, true, false, ◌||◌, not, IsTrue, if◌then◌else◌, length, Option, None, Some, MatchOption}
+use Rattle.std.specs.Prelude.{ℕ, ◌≡◌, ◌⊎◌, Bool, true, false, ◌||◌, not, IsTrue, if◌then◌else◌, length, Option, None, Some, MatchOption}
 use Rattle.std.specs.List.{list_any}
 use Rattle.std.specs.Option.{option_map_or}
 use Rattle.qc_names.specs.Name as name
@@ -14,7 +14,8 @@ use Rattle.qc_event.specs.declared.event.Why.{Why}
 use Rattle.qc_event.specs.declared.event.Why.TheVariants.{Lost, Late, Down, Full, Strange}
 use Rattle.qc_event.specs.History.{Past, Name, same, asked, gone, is_ready, IsOpen}
 use Rattle.qc_event.specs.Manager.{Stage, next_copy, waiting, record_of, AtStage}
-use Rattle.qc_event.specs.Standing.{is_client, Started, IsGoing}
+use Rattle.qc_event.specs.Seats.{ledger_seat, copy_seat, is_client}
+use Rattle.qc_event.specs.Standing.{Started, IsGoing}
 
 -- REQUESTS
 
@@ -51,12 +52,12 @@ is_ledger_fault _ = false
 
 -- A copy may be unable to serve an access that asked it.
 pub record IsUnableCopy (past : Past) (seat : ℕ) (n : Name) (why : Why) : Type 0 where
-  pub asked_there : MatchOption (asked past n) ⊥ (λ a. seat ≡ a.ask.copy + 2)
+  pub asked_there : MatchOption (asked past n) ⊥ (λ a. seat ≡ copy_seat a.ask.copy)
   pub fault : IsTrue (is_fault why)
 
 -- The ledger may be unable to log a top that is ready.
 pub record IsUnableLedger (past : Past) (seat : ℕ) (n : Name) (why : Why) : Type 0 where
-  pub ledger : seat ≡ 1
+  pub ledger : seat ≡ ledger_seat
   pub is_top : length n ≡ 1
   pub ready : IsTrue (is_ready past n)
   pub fault : IsTrue (is_ledger_fault why)

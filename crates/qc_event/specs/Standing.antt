@@ -1,5 +1,5 @@
 -- How names stand in a history: who may act, and what is open.
-use Rattle.std.specs.Prelude.{ℕ, ◌≡◌, ◌==◌, Bool, ◌||◌, not, IsTrue, nat_lt, find, is_none, Option, None, MatchOption}
+use Rattle.std.specs.Prelude.{◌≡◌, not, IsTrue, find, is_none, Option, None, MatchOption}
 use Rattle.qc_names.specs.Name as name
 use Rattle.qc_event.specs.declared.event.How.{How}
 use Rattle.qc_event.specs.declared.event.How.TheVariants.{Commit, Abort}
@@ -7,10 +7,6 @@ use Rattle.qc_event.specs.declared.event.Kind.{Kind}
 use Rattle.qc_event.specs.declared.event.Kind.TheVariants as kind
 use Rattle.qc_event.specs.History.{Past, Name, Begun, same, start, end, IsOpen, children}
 use Rattle.qc_event.specs.Dead.{dead}
-
--- The seat of what sessions do is 0 or above 17. Seat 1 is the ledger's, seat c + 2 copy c's.
-abbrev pub is_client : ℕ → Bool
-is_client seat = (seat == 0) || nat_lt 17 seat
 
 -- the kind is a user transaction
 abbrev pub IsUser : Kind → Type 0

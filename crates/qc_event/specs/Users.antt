@@ -16,7 +16,8 @@ use Rattle.qc_event.specs.declared.event.How.TheVariants.{Abort}
 use Rattle.qc_event.specs.declared.event.Kind.{Kind}
 use Rattle.qc_event.specs.declared.event.Kind.TheVariants as kind
 use Rattle.qc_event.specs.History.{Past, Name, Begun, start, end, is_ready, IsOpen, is_child, children}
-use Rattle.qc_event.specs.Standing.{is_client, IsUser, IsManager, Started, open_child, IsGoing, IsAbort, IsOrphanOf}
+use Rattle.qc_event.specs.Seats.{ledger_seat, is_client}
+use Rattle.qc_event.specs.Standing.{IsUser, IsManager, Started, open_child, IsGoing, IsAbort, IsOrphanOf}
 
 -- STARTS
 
@@ -73,7 +74,7 @@ pub record MayCommitUser (past : Past) (seat : ℕ) (n : Name) (given : Answer) 
 
 -- A top commits under the ledger's seat, once it is ready.
 pub record MayCommitTop (past : Past) (seat : ℕ) (n : Name) (given : Answer) : Type 0 where
-  pub ledger : seat ≡ 1
+  pub ledger : seat ≡ ledger_seat
   pub is_open : IsOpen past n
   pub ready : IsTrue (is_ready past n)
   pub nothing : given ≡ answer.Nothing

@@ -5,6 +5,7 @@ mod base;
 mod event;
 mod log;
 mod scan;
+mod seat;
 mod table;
 
 pub use base::Base;
@@ -16,6 +17,7 @@ pub use log::{Log, Short};
 pub use qc_config::{BadConfig, Config, Copies, Op, Tuple, Val};
 pub use qc_names::Name;
 pub use scan::{clear, dead, holder, kind, outcome, seen};
+pub use seat::{CLIENT_SEAT, LEDGER_SEAT, copy_seat, is_client, top_name};
 pub use table::{Label, Row, Rows, Table};
 
 #[cfg(test)]

@@ -80,11 +80,12 @@ impl Log {
         self.entries.len() >= LIMIT
     }
 
-    /// Appends an entry. An error leaves the history as it was.
+    /// Appends an entry; `Room` comes exactly where the history takes no more. An error leaves the history as it was.
     pub fn push(&mut self, entry: Entry) -> Result<(), Short>
         ensures ok { OnOk result (self.new ≡ entry ∷ self.old) }
         ensures err { OnErr result (self.new ≡ self.old) }
         ensures room { IsErrOf result Short.Room → length self.old ≡ limit }
+        ensures full { length self.old ≡ limit → IsErrOf result Short.Room }
     {
         if self.is_full() {
             return Err(Short::Room);

@@ -5,18 +5,19 @@ use Rattle.qc_event.specs.declared.event.Answer.TheVariants as answer
 use Rattle.qc_event.specs.declared.event.Entry.{Entry}
 use Rattle.qc_event.specs.declared.event.Kind.TheVariants as kind
 use Rattle.qc_event.specs.History.{Name, Given}
+use Rattle.qc_event.specs.Seats.{number_in}
 use Rattle.qc_event.specs.Legal.{Legal}
 use Rattle.qc_event.proofs.Worked.{setting, tuple, start, commit, get}
 use Rattle.qc_simlock.specs.Visible.{served_order}
 
 abbrev top : Name
-top = 4294967297 ∷ []
+top = number_in 1 1 ∷ []
 
 abbrev first : Name
-first = 4294967297 ∷ 1 ∷ []
+first = number_in 1 1 ∷ 1 ∷ []
 
 abbrev second : Name
-second = 4294967297 ∷ 2 ∷ []
+second = number_in 1 1 ∷ 2 ∷ []
 
 -- the grant of the read that a child's manager makes
 abbrev read_of : Name → Given
@@ -27,14 +28,14 @@ abbrev side_by_side : List Entry
 side_by_side =
     start top (kind.User 0 0)
     ∷ start first (kind.User 0 0)
-    ∷ start (4294967297 ∷ 1 ∷ 1 ∷ []) (kind.Read 0)
-    ∷ get (4294967297 ∷ 1 ∷ 1 ∷ 1 ∷ []) (tuple 0 0)
+    ∷ start (number_in 1 1 ∷ 1 ∷ 1 ∷ []) (kind.Read 0)
+    ∷ get (number_in 1 1 ∷ 1 ∷ 1 ∷ 1 ∷ []) (tuple 0 0)
     ++ start second (kind.User 0 0)
-    ∷ start (4294967297 ∷ 2 ∷ 1 ∷ []) (kind.Read 0)
-    ∷ get (4294967297 ∷ 2 ∷ 1 ∷ 1 ∷ []) (tuple 0 0)
-    ++ commit (4294967297 ∷ 2 ∷ 1 ∷ []) (answer.Value 0)
+    ∷ start (number_in 1 1 ∷ 2 ∷ 1 ∷ []) (kind.Read 0)
+    ∷ get (number_in 1 1 ∷ 2 ∷ 1 ∷ 1 ∷ []) (tuple 0 0)
+    ++ commit (number_in 1 1 ∷ 2 ∷ 1 ∷ []) (answer.Value 0)
     ∷ commit second answer.Nothing
-    ∷ commit (4294967297 ∷ 1 ∷ 1 ∷ []) (answer.Value 0)
+    ∷ commit (number_in 1 1 ∷ 1 ∷ 1 ∷ []) (answer.Value 0)
     ∷ []
 
 abbrev both_ended : List Entry
