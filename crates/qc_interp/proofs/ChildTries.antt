@@ -7,6 +7,7 @@ use Rattle.qc_script.specs.Plan.{Numbered, PlanWithin}
 use Rattle.qc_interp.specs.Running.{Running}
 use Rattle.qc_interp.specs.Trace.{Now, begun, child_of, BodyRuns}
 use Rattle.qc_interp.proofs.RunChild.{run_begun}
+use Rattle.qc_names.specs.Name.{longest}
 use Rattle.qc_interp.proofs.RunsRan.{Tried, try_ran, runs_ran}
 
 module _ (of : Name) (body : Numbered) (k : ℕ) (now : Now) (h : Running of k now) (alive : now.dead ≡ None) (shallow : length of < 16) (fits : PlanWithin (length now.setting.base) (length now.setting.firsts) (length of + 1) body.plan) (child : Name) (named : child ≡ of ++ k ∷ []) where
@@ -17,7 +18,7 @@ module _ (of : Name) (body : Numbered) (k : ℕ) (now : Now) (h : Running of k n
   child_runs = subst (λ c. Running c 1 (begun c body.number now)) (sym named) (run_begun of k body.number now h alive shallow)
 
   -- it is no deeper than 16, and within the records at its depth
-  pub child_short : length child < 18
+  pub child_short : length child < longest
   child_short = omega (arith, long, shallow)
 
   pub child_within : PlanWithin (length now.setting.base) (length now.setting.firsts) (length child) body.plan

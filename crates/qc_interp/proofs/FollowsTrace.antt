@@ -30,6 +30,7 @@ use Rattle.qc_interp.proofs.RunChild.{returned_past, returned_setting}
 use Rattle.qc_interp.proofs.RunTops.{law_of, nothing_rests, rest_begun, rest_back}
 use Rattle.qc_interp.proofs.RunsRan.{runs_ran}
 use Rattle.qc_interp.proofs.Running.{Inside, AllInside, Running, Ran, Resting}
+use Rattle.qc_event.specs.Seats.{client_seat}
 use Rattle.qc_interp.proofs.Stays.{Grown, grown, grown_on}
 
 -- WHAT IS LISTED
@@ -239,7 +240,7 @@ tops_left i (b ∷ bodies) last now new fits rest runs few =
     b.tries i now refl rest runs
 
 -- the history that the tops of a script make follows it
-pub tops_follow : (setting : Setting) (net : Net) (bodies : List Numbered) (last : ℕ) (new : Now) → TopsWithin (length setting.base) (length setting.firsts) bodies → TopsRun 0 bodies last (record { setting = setting; past = []; dead = None; net = net }) new → last ≤ 4294967295 → IsTrue (meets_fates 18 net new.past) → FollowsTops net bodies new.past
+pub tops_follow : (setting : Setting) (net : Net) (bodies : List Numbered) (last : ℕ) (new : Now) → TopsWithin (length setting.base) (length setting.firsts) bodies → TopsRun 0 bodies last (record { setting = setting; past = []; dead = None; net = net }) new → last ≤ 4294967295 → IsTrue (meets_fates client_seat net new.past) → FollowsTops net bodies new.past
 tops_follow setting net bodies last new within runs few met = record {
   bodies_run = subst (FollowsBodies new.past bodies) (sym l.tops_are) l.follows;
   in_turn = l.turn tt;

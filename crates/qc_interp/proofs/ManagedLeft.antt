@@ -30,6 +30,7 @@ use Rattle.qc_store.specs.Served.{is_reply}
 use Rattle.qc_interp.specs.Trace.{Now, by_client, Managed}
 use Rattle.qc_interp.proofs.OfAccesses.{OfManager, answer_replies, end_apart, not_both}
 use Rattle.qc_interp.proofs.OneEnd.{OneEnd, one_end}
+use Rattle.qc_event.specs.Seats.{client_seat}
 use Rattle.qc_interp.proofs.Stays.{Grown, grown}
 
 -- a start ends nothing
@@ -39,8 +40,8 @@ end_started past n m k = sym (or_none (end past m))
 -- a name that starts has this kind from then on
 pub kind_now : (past : Past) (n : Name) (k : Kind) → start past n ≡ None → kind_of (by_client (event.Start n k) ∷ past) n ≡ Some k
 kind_now past n k none =
-    ap (λ o. option_map (λ (b : Begun). b.kind) (option_or o (start_in n 18 (event.Start n k)))) none
-    ∙ ap (λ (b : Bool). option_map (λ (b : Begun). b.kind) (if b then Some (record { seat = 18; kind = k }) else None)) (same_itself n)
+    ap (λ o. option_map (λ (b : Begun). b.kind) (option_or o (start_in n client_seat (event.Start n k)))) none
+    ∙ ap (λ (b : Bool). option_map (λ (b : Begun). b.kind) (if b then Some (record { seat = client_seat; kind = k }) else None)) (same_itself n)
 
 -- ENTRIES OF ACCESSES
 
@@ -111,7 +112,7 @@ module _ (n : Name) (k : Kind) (how : How) (old new : Now) (m : Managed n k how 
   legal = subst (Legal new.setting) m.is m.legal
 
   last : OneEnd n how still (by_client (event.End n how) ∷ still)
-  last = one_end 18 n how still
+  last = one_end client_seat n how still
 
   was : (c : Name) → is_child n c ≡ false → end still c ≡ end old.past c
   was c out = end_apart n c m.inner begun m.of_accesses out ∙ end_started old.past n c k

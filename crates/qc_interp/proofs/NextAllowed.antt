@@ -21,6 +21,7 @@ use Rattle.qc_event.specs.Legal.{Allowed, MayEnd}
 use Rattle.qc_event.proofs.LastNumber.{front_last, length_last}
 use Rattle.qc_event.proofs.OneEntry.{start_stays, start_now}
 use Rattle.qc_event.proofs.Lawful.{started_wider}
+use Rattle.qc_event.specs.Seats.{client_seat}
 use Rattle.qc_interp.specs.Trace.{by_client}
 
 -- STARTS
@@ -30,13 +31,13 @@ below_top_starts setting past seat [] k long may = absurd (omega arith)
 below_top_starts setting past seat (x ∷ []) k long may = absurd (omega arith)
 below_top_starts setting past seat (x ∷ y ∷ r) k long may = may
 
-pub may_start_child : (setting : Setting) (past : Past) (of : Name) (k : ℕ) (of_kind : Kind) → 0 < length of → IsGoing past of → is_ready past of ≡ false → length (children past of) + 1 ≡ k → Started past of (λ b. Stands setting 18 b (length (of ++ k ∷ [])) of_kind) → Allowed setting past (by_client (event.Start (of ++ k ∷ []) of_kind))
-may_start_child setting past of k of_kind nonroot going unready next stands = below_top_starts setting past 18 (of ++ k ∷ []) of_kind (omega (arith, length_last of k)) (record {
+pub may_start_child : (setting : Setting) (past : Past) (of : Name) (k : ℕ) (of_kind : Kind) → 0 < length of → IsGoing past of → is_ready past of ≡ false → length (children past of) + 1 ≡ k → Started past of (λ b. Stands setting client_seat b (length (of ++ k ∷ [])) of_kind) → Allowed setting past (by_client (event.Start (of ++ k ∷ []) of_kind))
+may_start_child setting past of k of_kind nonroot going unready next stands = below_top_starts setting past client_seat (of ++ k ∷ []) of_kind (omega (arith, length_last of k)) (record {
   by_client = refl;
   parent_going = subst (IsGoing past) (sym (front_last of k)) going;
   parent_not_ready = subst (λ q. IsTrue (not (is_ready past q))) (sym (front_last of k)) (ap not unready);
   next_child = sym (ap (λ q. q ++ (length (children past q) + 1) ∷ []) (front_last of k) ∙ ap (λ j. of ++ j ∷ []) next);
-  stands = subst (λ q. Started past q (λ b. Stands setting 18 b (length (of ++ k ∷ [])) of_kind)) (sym (front_last of k)) stands;
+  stands = subst (λ q. Started past q (λ b. Stands setting client_seat b (length (of ++ k ∷ [])) of_kind)) (sym (front_last of k)) stands;
 })
 
 -- COMMITS
@@ -77,9 +78,9 @@ user_licensed setting past seat n b (kind.Reconf rec config) cause is license = 
 user_licensed setting past seat n b kind.Access cause is license = absurd is
 
 pub may_abort_user : (setting : Setting) (past : Past) (n : Name) (cause : Cause) → Started past n (λ b. IsUser b.kind) → IsOpen past n → is_ready past n ≡ false → ((session : ℕ) → UserCause past n session cause) → Allowed setting past (by_client (event.End n (Abort cause)))
-may_abort_user setting past n cause user is_open unready license = started_wider (λ b. IsUser b.kind) (MayEnd setting past 18 n (Abort cause)) (start past n) (λ b is. record {
+may_abort_user setting past n cause user is_open unready license = started_wider (λ b. IsUser b.kind) (MayEnd setting past client_seat n (Abort cause)) (start past n) (λ b is. record {
   by_client = refl;
   is_open = is_open;
   not_ready = ap not unready;
-  licensed = user_licensed setting past 18 n b b.kind cause is license;
+  licensed = user_licensed setting past client_seat n b b.kind cause is license;
 }) user

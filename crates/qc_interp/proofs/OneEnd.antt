@@ -11,6 +11,7 @@ use Rattle.qc_event.specs.declared.event.How.TheVariants.{Commit, Abort}
 use Rattle.qc_event.specs.History.{Past, Name, end, end_in, children}
 use Rattle.qc_event.proofs.OneEntry.{end_step, end_now, some_or_none}
 use Rattle.qc_event.proofs.Histories.{or_none}
+use Rattle.qc_event.specs.Seats.{client_seat}
 use Rattle.qc_interp.specs.Trace.{Now, by_client, shorter, aborted, committed}
 
 -- A history ends a name so, unless it has ended, and does no more.
@@ -48,9 +49,9 @@ after_ready r n how past new one = record {
     same m = sym (or_none (end past m))
 
 pub committed_end : (n : Name) (now : Now) → OneEnd n (Commit Nothing) now.past (committed n now).past
-committed_end [] now = one_end 18 [] (Commit Nothing) now.past
+committed_end [] now = one_end client_seat [] (Commit Nothing) now.past
 committed_end (x ∷ []) now = after_ready (x ∷ []) (x ∷ []) (Commit Nothing) now.past _ (one_end 1 (x ∷ []) (Commit Nothing) (by_client (Ready (x ∷ [])) ∷ now.past))
-committed_end (x ∷ y ∷ r) now = one_end 18 (x ∷ y ∷ r) (Commit Nothing) now.past
+committed_end (x ∷ y ∷ r) now = one_end client_seat (x ∷ y ∷ r) (Commit Nothing) now.past
 
 has_ended : (n : Name) (how : How) (past : Past) → is_some (end past n) ≡ true → OneEnd n how past past
 has_ended n how past ended = record {
@@ -65,7 +66,7 @@ aborted_end n cause now = by_end (is_some (end now.past n)) refl
   where
     by_end : (b : Bool) → is_some (end now.past n) ≡ b → OneEnd n (Abort cause) now.past (if b then now else record now { past = by_client (End n (Abort cause)) ∷ now.past; dead = Some (shorter now.dead n) }).past
     by_end true ended = has_ended n (Abort cause) now.past ended
-    by_end false going = one_end 18 n (Abort cause) now.past
+    by_end false going = one_end client_seat n (Abort cause) now.past
 
 -- an abort that is made stands as the last entry
 pub aborted_last : (n : Name) (cause : Cause) (now : Now) → end now.past n ≡ None → (aborted n cause now).past ≡ by_client (End n (Abort cause)) ∷ now.past

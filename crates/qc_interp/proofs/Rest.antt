@@ -28,6 +28,7 @@ use Rattle.qc_interp.proofs.Plans.{plan_of_read, plan_of_set, plan_of_reconf, pl
 use Rattle.qc_interp.proofs.RunManagers.{managed_running}
 use Rattle.qc_interp.proofs.RunTops.{nothing_rests}
 use Rattle.qc_interp.proofs.TriesDone.{Stands}
+use Rattle.qc_event.specs.Seats.{client_seat}
 use Rattle.qc_interp.proofs.TriesInRow.{tries_wider}
 
 -- the first of what is left of a list
@@ -220,7 +221,7 @@ pub record TopsDone (bodies : List Body) (old : Now) (done i : ℕ) (now : Now) 
   pub net : now.net ≡ old.net
   pub leads : (last : ℕ) (new : Now) → TopsRun i (map numbered (drop done bodies)) last now new → TopsRun 0 (map numbered bodies) last old new
   pub within : TopsWithin (length now.setting.base) (length now.setting.firsts) (map numbered (drop done bodies))
-  pub met : IsTrue (meets_fates 18 now.net now.past)
+  pub met : IsTrue (meets_fates client_seat now.net now.past)
 
 has_done_nothing : (old : Now) → old.past ≡ [] → old.dead ≡ None → old ≡ record { setting = old.setting; past = []; dead = None; net = old.net }
 has_done_nothing old fresh alive =
@@ -235,7 +236,7 @@ no_top_done bodies old fresh alive within = record {
   net = refl;
   leads = λ last new runs. runs;
   within = within;
-  met = subst (λ p. IsTrue (meets_fates 18 old.net p)) (sym fresh) refl;
+  met = subst (λ p. IsTrue (meets_fates client_seat old.net p)) (sym fresh) refl;
 }
 
 module _ {bodies : List Body} {old now : Now} {done i : ℕ} {b : Body} (left : TopsDone bodies old done i now) (lt : done < length bodies) (here : b ≡ get_or bodies done b) where
@@ -245,7 +246,7 @@ module _ {bodies : List Body} {old now : Now} {done i : ℕ} {b : Body} (left : 
   pub top_within : IsTried (numbered b).tries × PlanWithin (length now.setting.base) (length now.setting.firsts) 1 (numbered b).plan × TopsWithin (length now.setting.base) (length now.setting.firsts) (map numbered others)
   top_within = subst (λ l. TopsWithin (length now.setting.base) (length now.setting.firsts) (map numbered l)) (next_is bodies done b lt here) left.within
 
-  pub top_done : (next : ℕ) (new : Now) → TriesRan 0 top_of (numbered b) i next now new → Resting next new → new.setting ≡ now.setting → new.net ≡ now.net → IsTrue (meets_fates 18 new.net new.past) → TopsDone bodies old (done + 1) next new
+  pub top_done : (next : ℕ) (new : Now) → TriesRan 0 top_of (numbered b) i next now new → Resting next new → new.setting ≡ now.setting → new.net ≡ now.net → IsTrue (meets_fates client_seat new.net new.past) → TopsDone bodies old (done + 1) next new
   top_done next new ran rests same same_net met = record {
     resting = rests;
     setting = same ∙ left.setting;
@@ -264,7 +265,7 @@ tops_followed bodies old done i now left over fresh alive within =
     subst (λ (n : Net). FollowsTops n (map numbered bodies) now.past) (sym left.net)
     (tops_follow old.setting old.net (map numbered bodies) i now within
     (subst (λ n. TopsRun 0 (map numbered bodies) i n now) (has_done_nothing old fresh alive) all_ran)
-    left.resting.few (subst (λ (n : Net). IsTrue (meets_fates 18 n now.past)) left.net left.met))
+    left.resting.few (subst (λ (n : Net). IsTrue (meets_fates client_seat n now.past)) left.net left.met))
   where
     all_ran : TopsRun 0 (map numbered bodies) i old now
     all_ran = left.leads i now (subst (λ l. TopsRun i (map numbered l) i now now) (sym (drop_all done bodies over)) (refl, refl))

@@ -33,6 +33,7 @@ use Rattle.qc_interp.proofs.ReadyTops.{unstarted_unready}
 use Rattle.qc_interp.proofs.Fallen.{dead_calm, left_dead, left_dead_parent}
 use Rattle.qc_interp.proofs.NextAllowed.{may_start_child}
 use Rattle.qc_interp.proofs.RunEnds.{was_none}
+use Rattle.qc_event.specs.Seats.{client_seat}
 use Rattle.qc_interp.specs.Tries.{is_tried_again}
 
 -- THE START
@@ -40,7 +41,7 @@ use Rattle.qc_interp.specs.Tries.{is_tried_again}
 -- what is known of a name that has just been started
 pub record JustBegun (setting : Setting) (n : Name) (k : Kind) (past : Past) : Type 0 where
   pub legal : Legal setting past
-  pub begun : start past n ≡ Some (record { seat = 18; kind = k })
+  pub begun : start past n ≡ Some (record { seat = client_seat; kind = k })
   pub not_ended : end past n ≡ None
   pub alive : dead past n ≡ None
   pub unready : is_ready past n ≡ false
@@ -50,7 +51,7 @@ pub record JustBegun (setting : Setting) (n : Name) (k : Kind) (past : Past) : T
 pub just_begun : (setting : Setting) (n : Name) (k : Kind) (past : Past) → Legal setting past → Allowed setting past (by_client (Start n k)) → IsFresh past n → dead past n ≡ None → ((m : Name) → is_some (start past m) ≡ true → end past m ≡ None → (r : Name) × (n ≡ m ++ r)) → JustBegun setting n k (by_client (Start n k) ∷ past)
 just_begun setting n k past legal allowed fresh alive open_above = record {
   legal = (legal, allowed);
-  begun = ap (λ o. option_or o (start_in n 18 (Start n k))) fresh.no_start ∙ ap (λ b. if b then Some (record { seat = 18; kind = k }) else None) (same_itself n);
+  begun = ap (λ o. option_or o (start_in n client_seat (Start n k))) fresh.no_start ∙ ap (λ b. if b then Some (record { seat = client_seat; kind = k }) else None) (same_itself n);
   not_ended = ap (λ o. option_or o None) fresh.no_end;
   alive = dead_calm (by_client (Start n k)) past n tt ∙ alive;
   unready = ap is_some (sym (or_none _)) ∙ unstarted_unready setting past n legal fresh.no_start;
@@ -62,7 +63,7 @@ just_begun setting n k past legal allowed fresh alive open_above = record {
 }
 
 -- what has just begun runs, as a manager does
-pub begun_runs : (setting : Setting) (n : Name) (k : Kind) (past : Past) → JustBegun setting n k past → IsRunning 18 past n k
+pub begun_runs : (setting : Setting) (n : Name) (k : Kind) (past : Past) → JustBegun setting n k past → IsRunning client_seat past n k
 begun_runs setting n k past b = record { started = b.begun; not_ended = b.not_ended; children_ended = ap (find (λ c. is_none (end past c))) b.childless }
 
 -- what is known of a name above one that runs
@@ -121,7 +122,7 @@ next_fresh of r k now h = fresh_child now.past of k r (lawful now.past (legal_or
 
 -- The kind may stand under a user transaction, at this depth.
 abbrev pub MayStandAt : Setting → ℕ → Kind → Type 0
-MayStandAt setting depth k = (b : Begun) → IsUser b.kind → Stands setting 18 b depth k
+MayStandAt setting depth k = (b : Begun) → IsUser b.kind → Stands setting client_seat b depth k
 
 pub user_stands : (setting : Setting) (of : Name) (k number : ℕ) → length of < 16 → MayStandAt setting (length (of ++ k ∷ [])) (kind.User 0 number)
 user_stands setting of k number shallow b is = (is, le-leb (length (of ++ k ∷ [])) 16 (omega (arith, length_last of k)))
@@ -141,7 +142,7 @@ manager_stands setting depth kind.Access fits b is = absurd fits
 pub may_start : (of : Name) (k : ℕ) (of_kind : Kind) (now : Now) → Running of k now → now.dead ≡ None → MayStandAt now.setting (length (of ++ k ∷ [])) of_kind → Allowed now.setting now.past (by_client (Start (of ++ k ∷ []) of_kind))
 may_start of k of_kind now h alive stands =
     may_start_child now.setting now.past of k of_kind h.nonroot (is_going of k now h alive) (h.unready of [] (sym (append-nil of))) h.next
-    (started_wider (λ b. IsUser b.kind) (λ b. Stands now.setting 18 b (length (of ++ k ∷ [])) of_kind) (start now.past of) stands (h.user of [] (sym (append-nil of)) h.nonroot))
+    (started_wider (λ b. IsUser b.kind) (λ b. Stands now.setting client_seat b (length (of ++ k ∷ [])) of_kind) (start now.past of) stands (h.user of [] (sym (append-nil of)) h.nonroot))
 
 -- what is known of it then
 pub begun_so : (of : Name) (k : ℕ) (of_kind : Kind) (now : Now) → Running of k now → now.dead ≡ None → Allowed now.setting now.past (by_client (Start (of ++ k ∷ []) of_kind)) → JustBegun now.setting (of ++ k ∷ []) of_kind (by_client (Start (of ++ k ∷ []) of_kind) ∷ now.past)

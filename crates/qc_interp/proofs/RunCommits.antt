@@ -21,6 +21,7 @@ use Rattle.qc_interp.proofs.NextAllowed.{no_child_found, may_commit_user}
 use Rattle.qc_interp.proofs.RunEnds.{was_none, some_now, ran_ended, ran_longer}
 use Rattle.qc_interp.proofs.RunChild.{is_going}
 use Rattle.qc_interp.specs.Running.{MayMake}
+use Rattle.qc_event.specs.Seats.{client_seat}
 use Rattle.qc_interp.proofs.Making.{user_no_access, ends_so}
 
 -- no child of a transaction that runs is open
@@ -40,12 +41,12 @@ module _ (of : Name) (k : ℕ) (now : Now) (h : Running of k now) (alive : now.d
 
   -- BELOW A TOP
 
-  may_below : MayCommitUser now.past 18 of Nothing
+  may_below : MayCommitUser now.past client_seat of Nothing
   may_below = record { by_client = refl; going = going; children_ended = none_open of k now h; nothing = refl }
 
   commits_below : Allowed now.setting now.past (by_client (End of (Commit Nothing))) → Ran of now (record { setting = now.setting; past = by_client (End of (Commit Nothing)) ∷ now.past; dead = now.dead; net = now.net })
   commits_below allowed =
-      ran_ended of 18 (Commit Nothing) now.dead now h.legal allowed h.open_above
+      ran_ended of client_seat (Commit Nothing) now.dead now h.legal allowed h.open_above
       (h.fallen ∙ sym (dead_calm (by_client (End of (Commit Nothing))) now.past of tt)) going.is_open.not_ended (λ again. absurd (true≢false (sym again)))
 
   -- A TOP
@@ -81,7 +82,7 @@ module _ (of : Name) (k : ℕ) (now : Now) (h : Running of k now) (alive : now.d
 pub may_commit : (of : Name) (k : ℕ) (now : Now) → Running of k now → now.dead ≡ None → 1 < length of → Allowed now.setting now.past (by_client (End of (Commit Nothing)))
 may_commit [] k now h alive long = absurd (omega (arith, long))
 may_commit (x ∷ []) k now h alive long = absurd (omega (arith, long))
-may_commit (x ∷ y ∷ r) k now h alive long = may_commit_user now.setting now.past 18 (x ∷ y ∷ r) (user (x ∷ y ∷ r) k now h alive) (may_below (x ∷ y ∷ r) k now h alive)
+may_commit (x ∷ y ∷ r) k now h alive long = may_commit_user now.setting now.past client_seat (x ∷ y ∷ r) (user (x ∷ y ∷ r) k now h alive) (may_below (x ∷ y ∷ r) k now h alive)
 
 -- a top that runs may commit, once it is ready
 pub may_commit_top : (of : Name) (k : ℕ) (now : Now) → Running of k now → now.dead ≡ None → length of ≡ 1 → Allowed now.setting (by_client (Ready of) ∷ now.past) (by_ledger (End of (Commit Nothing)))

@@ -23,6 +23,7 @@ use Rattle.qc_interp.proofs.BelowNames.{begins_below}
 use Rattle.qc_interp.proofs.LeftAsItIs.{all_inside-append}
 use Rattle.qc_interp.proofs.Fallen.{dead_abort}
 use Rattle.qc_interp.proofs.NextAllowed.{may_abort_user}
+use Rattle.qc_event.specs.Seats.{client_seat}
 use Rattle.qc_interp.specs.Tries.{is_tried_again}
 
 -- what a transaction leaves that ran from later on
@@ -96,10 +97,10 @@ ran_aborted of k cause now h alive license = by_end (end now.past of) refl
   where
     by_end : (o : Option How) → end now.past of ≡ o → Ran of now (if is_some o then now else record now { past = by_client (End of (Abort cause)) ∷ now.past; dead = Some (shorter now.dead of) })
     by_end None going =
-        ran_ended of 18 (Abort cause) (Some (shorter now.dead of)) now h.legal
+        ran_ended of client_seat (Abort cause) (Some (shorter now.dead of)) now h.legal
         (may_abort of of [] k cause now h (sym (append-nil of)) h.nonroot going (license going))
         h.open_above
-        (ap (λ o. Some (shorter o of)) h.fallen ∙ sym (dead_abort 18 now.past of of [] cause (sym (append-nil of)) going))
+        (ap (λ o. Some (shorter o of)) h.fallen ∙ sym (dead_abort client_seat now.past of of [] cause (sym (append-nil of)) going))
         going (λ t. ap (λ o. Some (shorter o of)) (alive t))
     by_end (Some how) is = record {
       legal = h.legal;
@@ -147,7 +148,7 @@ above_aborted of m k cause now h below pos never license = by_end (end now.past 
     running : end now.past m ≡ None → Running of k (record { setting = now.setting; past = by_client (End m (Abort cause)) ∷ now.past; dead = Some (shorter now.dead m); net = now.net })
     running going = record {
       legal = (h.legal, may_abort of m rest k cause now h below.2 pos going license);
-      fallen = ap (λ o. Some (shorter o m)) h.fallen ∙ sym (dead_abort 18 now.past of m rest cause below.2 going);
+      fallen = ap (λ o. Some (shorter o m)) h.fallen ∙ sym (dead_abort client_seat now.past of m rest cause below.2 going);
       nonroot = h.nonroot;
       user = λ p r is some. started_stays e now.past p _ (h.user p r is some);
       uncommitted = λ p r is. not_committed (end now.past p) (same m p) (h.uncommitted p r is);

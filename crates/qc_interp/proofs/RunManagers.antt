@@ -34,6 +34,7 @@ use Rattle.qc_interp.proofs.OfAccesses.{open_earlier, dead_same, start_apart}
 use Rattle.qc_interp.proofs.RunChild.{is_going, child_left}
 use Rattle.qc_interp.proofs.RunEnds.{end_inside, some_now, above_ended, may_abort, ran_longer, ran_aborted}
 use Rattle.qc_interp.proofs.WithinManager.{just, within, started_within, ends_above, no_orphan_within}
+use Rattle.qc_event.specs.Seats.{client_seat}
 use Rattle.qc_interp.specs.Tries.{is_tried_again}
 
 -- BY KIND AND CAUSE
@@ -138,7 +139,7 @@ module _ (of : Name) (k : ℕ) (kd : Kind) (how : How) (now mid : Now) (h : Runn
   ended_so : end (e ∷ before) n ≡ Some how
   ended_so = ap (λ o. option_or o (if same n n then Some how else None)) going ∙ ap (λ b. if b then Some how else None) (same_itself n)
 
-  started_so : start (e ∷ before) n ≡ Some (record { seat = 18; kind = kd })
+  started_so : start (e ∷ before) n ≡ Some (record { seat = client_seat; kind = kd })
   started_so = sym (or_none (start before n)) ∙ started_within of k kd now h alive manages m.inner legal.0 m.of_accesses
 
   child_aborted : (why : Cause) → how ≡ Abort why → ChildAborted mid.past of why
@@ -151,10 +152,10 @@ module _ (of : Name) (k : ℕ) (kd : Kind) (how : How) (now mid : Now) (h : Runn
 
   license : (why : Cause) → how ≡ Abort why → ManagerCause now.setting before n kd why
   license why is =
-      let ends : Started before n (MayEnd now.setting before 18 n (Abort why)) = subst (λ x. Started before n (MayEnd now.setting before 18 n x)) is legal.1 in
-      let may : MayAbort (Licensed now.setting before 18 n (record { seat = 18; kind = kd }) kd why) before 18 n =
-      subst (λ o. MatchOption o ⊥ (MayEnd now.setting before 18 n (Abort why))) (started_within of k kd now h alive manages m.inner legal.0 m.of_accesses) ends in
-      licensed_manager now.setting before 18 n (record { seat = 18; kind = kd }) kd why manages may.licensed
+      let ends : Started before n (MayEnd now.setting before client_seat n (Abort why)) = subst (λ x. Started before n (MayEnd now.setting before client_seat n x)) is legal.1 in
+      let may : MayAbort (Licensed now.setting before client_seat n (record { seat = client_seat; kind = kd }) kd why) before client_seat n =
+      subst (λ o. MatchOption o ⊥ (MayEnd now.setting before client_seat n (Abort why))) (started_within of k kd now h alive manages m.inner legal.0 m.of_accesses) ends in
+      licensed_manager now.setting before client_seat n (record { seat = client_seat; kind = kd }) kd why manages may.licensed
 
   -- WHERE IT WAS ABORTED
 

@@ -16,6 +16,7 @@ use Rattle.qc_event.specs.Standing.{IsOrphanOf}
 use Rattle.qc_line.specs.Messages.{Net, meets_fates}
 use Rattle.qc_script.specs.Plan.{Plan, Numbered}
 use Rattle.qc_interp.specs.Tries.{Tries, TriesDo}
+use Rattle.qc_event.specs.Seats.{client_seat}
 use Rattle.qc_interp.specs.Trace.{above}
 
 abbrev pub started_in : Event → Option Name
@@ -118,4 +119,4 @@ pub record FollowsTops (net : Net) (bodies : List Numbered) (past : Past) : Type
   pub in_turn : InTurn past
   pub each_ended : IsTrue (list_all (λ n. is_some (end past n)) (started past))
   pub as_asked : (n by : Name) → end past n ≡ Some (Abort (Asked by)) → AsksBelow past by n bodies (tops past)
-  pub messages : IsTrue (meets_fates 18 net past)
+  pub messages : IsTrue (meets_fates client_seat net past)

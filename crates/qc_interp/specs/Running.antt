@@ -7,13 +7,12 @@ use Rattle.qc_event.specs.declared.event.How.{How}
 use Rattle.qc_event.specs.declared.event.How.TheVariants.{Commit, Abort}
 use Rattle.qc_event.specs.declared.event.Kind.{Kind}
 use Rattle.qc_event.specs.declared.event.Kind.TheVariants as kind
-use Rattle.qc_event.specs.Base.{Setting}
+use Rattle.qc_event.specs.Base.{Setting, IsConfigFor}
 use Rattle.qc_event.specs.Dead as state
 use Rattle.qc_event.specs.History.{Name, limit, start, end, is_ready, children}
 use Rattle.qc_event.specs.Legal.{Legal, Allowed}
 use Rattle.qc_event.specs.Standing.{Started, IsUser}
 use Rattle.qc_line.specs.Lined.{IsOfTransaction}
-use Rattle.qc_script.specs.Plan.{IsConfigFor}
 use Rattle.qc_interp.specs.Trace.{Now, aborted, Managed}
 use Rattle.qc_interp.specs.Tries.{is_tried_again}
 use Rattle.qc_rw.specs.declared.no.MgrNo.{MgrNo}

@@ -19,6 +19,7 @@ use Rattle.qc_gather.specs.Carrying.{name_of}
 use Rattle.qc_line.specs.Messages.{Net}
 use Rattle.qc_script.specs.Plan.{Plan, Numbered}
 use Rattle.qc_store.specs.Served.{is_answer}
+use Rattle.qc_event.specs.Seats.{client_seat}
 use Rattle.qc_interp.specs.Tries.{is_tried_again}
 
 -- What a session starts from, its history, the shortest aborted ancestor of the transaction that runs, itself among
@@ -31,7 +32,7 @@ pub record Now : Type 0 where
 
 -- an entry under the seat of the session
 abbrev pub by_client : Event → Entry
-by_client event = record { seat = 18; event = event }
+by_client event = record { seat = client_seat; event = event }
 
 -- an entry under the seat of the ledger
 abbrev pub by_ledger : Event → Entry

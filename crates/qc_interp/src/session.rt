@@ -1,31 +1,28 @@
 ghost use Rattle.std.specs.Prelude.{◌≡◌, ℕ, ◌+◌, ◌<◌, ◌≤◌, ◌∷◌, [], length, Some, None, IfOk, IfErr, IsTrue, OnOk, OnErr, reverse};
-ghost use Rattle.qc_event.specs.Base.{setting_of};
+ghost use Rattle.qc_event.specs.Base.{IsProper};
 ghost use Rattle.qc_event.specs.declared.event.Kind.TheVariants as kind;
 ghost use Rattle.qc_event.specs.History.{limit, end};
 ghost use Rattle.qc_event.specs.Legal.{Legal};
+ghost use Rattle.qc_event.specs.Seats.{client_seat};
+ghost use Rattle.qc_names.specs.Name.{longest};
 ghost use Rattle.qc_interp.specs.Running.{MayMake, Running};
 ghost use Rattle.qc_interp.specs.Trace as trace;
 ghost use Rattle.qc_line.specs.Messages.{meets_fates};
 ghost use Rattle.qc_script.specs.Plan.{PlanWithin};
 ghost use Rattle.qc_script.specs.Steps.{plan_of, numbered};
-ghost use Rattle.qc_store.specs.Stored.{IsProper};
 
 mod managers;
 mod tops;
 
 use crate::tries::is_tried_again;
-use qc_event::{Answer, Base, Cause, Entry, Event, How, Kind, Name, Short, outcome};
+use qc_event::{
+    Answer, Base, CLIENT_SEAT, Cause, Config, Entry, Event, How, Kind, LEDGER_SEAT, Name, Short, outcome,
+};
 use qc_line::Line;
 use qc_net::Fate;
 use qc_script::{Body, Step};
 use std::alloc::{AllocError, Global};
 use std::marker::Model;
-
-/// The seat under which a session's entries stand.
-const CLIENT: u32 = 18;
-
-/// The seat under which a top's commit stands.
-const LEDGER: u32 = 1;
 
 /// A session as it runs: the line to the copies, with the history so far, and the shortest aborted ancestor of the
 /// transaction that runs.
@@ -40,12 +37,11 @@ pub struct Session {
 }
 
 impl Model for Session {
-    ghost use Rattle.qc_event.specs.Base.{setting_of};
     ghost use Rattle.qc_interp.specs.Trace.{Now};
 
     ghost Value = { Now };
 
-    ghost view = { λ s. record { setting = setting_of s.line.base; past = s.line.past; dead = s.dead; net = s.line.net } };
+    ghost view = { λ s. record { setting = s.line.setting; past = s.line.past; dead = s.dead; net = s.line.net } };
 }
 
 // The shorter of an aborted ancestor and a name.
@@ -63,22 +59,28 @@ impl Session {
     ghost use Rattle.qc_event.specs.declared.event.How.TheVariants.{Commit, Abort};
     ghost use Rattle.qc_event.specs.declared.event.Cause.TheVariants.{Orphan};
 
-    /// A session that has done nothing, over copies with these tuples. Its requests meet these fates, over and
+    /// A session that has done nothing, over these first configurations and copies with these tuples. Its requests meet these fates, over and
     /// over; after every so many due steps the request held first is delivered, and the sender of a held one waits
     /// for so many due steps.
     pub fn new(
         alloc: Global,
+        firsts: Vec<Config>,
         start: Base,
         fates: Vec<Fate>,
         hold: u64,
         patience: u32,
     ) -> Result<Self, AllocError>
-        requires proper { IsProper start }
+        requires proper { IsProper (record { firsts = firsts.items; base = start }) }
         requires hold { 1 ≤ hold }
-        ensures { IfOk result (λ s. s ≡ record { setting = setting_of start; past = []; dead = None; net = record { fates = fates.items; hold = hold; patience = patience } }) }
+        ensures { IfOk result (λ s. s ≡ record {
+            setting = record { firsts = firsts.items; base = start };
+            past = [];
+            dead = None;
+            net = record { fates = fates.items; hold = hold; patience = patience };
+        }) }
     {
         Ok(Session {
-            line: Line::new(alloc, start, fates, hold, patience)?,
+            line: Line::new(alloc, firsts, start, fates, hold, patience)?,
             dead: None,
         })
     }
@@ -100,7 +102,7 @@ impl Session {
         ensures room { IfErr result (λ e. e ≡ Short.Room → length self.old.past ≡ limit) }
     {
         self.append(
-            CLIENT,
+            CLIENT_SEAT,
             Event::End {
                 name: *name,
                 how: *how,
@@ -135,7 +137,7 @@ impl Session {
         ensures room { IfErr result (λ e. e ≡ Short.Room → length self.old.past ≡ limit) }
     {
         let kind = Kind::User { session: 0, body };
-        self.append(CLIENT, Event::Start { name: *name, kind })
+        self.append(CLIENT_SEAT, Event::Start { name: *name, kind })
     }
 
     // Stops a transaction below an aborted ancestor.
@@ -181,10 +183,10 @@ impl Session {
             how: How::Commit(Answer::Nothing),
         };
         if name.len() != 1 {
-            return self.append(CLIENT, end);
+            return self.append(CLIENT_SEAT, end);
         }
-        self.append(CLIENT, Event::Ready { top: *name })?;
-        self.append(LEDGER, end)
+        self.append(CLIENT_SEAT, Event::Ready { top: *name })?;
+        self.append(LEDGER_SEAT, end)
     }
 
     // Gives back to a parent of this depth.
@@ -204,7 +206,7 @@ impl Session {
     #[cycle(run)]
     fn body(&mut self, depth: usize, name: &Name, body: &Body) -> Result<(), Short>
         requires running { Running name.now 1 (trace.begun name.now (numbered body.now).number self.old) }
-        requires depth { length name.now < 18 }
+        requires depth { length name.now < longest }
         requires within { PlanWithin (length self.old.setting.base) (length self.old.setting.firsts) (length name.now) (numbered body.now).plan }
         ensures ok { OnOk result (trace.BodyRuns depth name.now (numbered body.now) self.old self.new) }
         ensures setting { self.new.setting ≡ self.old.setting }
@@ -250,7 +252,7 @@ impl Session {
     #[cycle(run)]
     fn steps(&mut self, of: &Name, steps: &[Step]) -> Result<(), Short>
         requires running { Running of.now 1 self.old }
-        requires depth { length of.now < 18 }
+        requires depth { length of.now < longest }
         requires within { PlanWithin (length self.old.setting.base) (length self.old.setting.firsts) (length of.now) (plan_of steps.now) }
         ensures ok { OnOk result (trace.Runs of.now 1 (plan_of steps.now) self.old self.new) }
         ensures setting { self.new.setting ≡ self.old.setting }
@@ -309,15 +311,14 @@ impl Session {
     pub fn entries(&self) -> &[Entry]
         ensures entries { reverse result.now ≡ self.now.past }
         ensures legal { Legal self.now.setting self.now.past }
-        ensures met { IsTrue (meets_fates 18 self.now.net self.now.past) }
+        ensures met { IsTrue (meets_fates client_seat self.now.net self.now.past) }
     {
         self.line.entries()
     }
 
     /// The start tuples.
     pub fn base(&self) -> &Base
-        ensures base { result.now ≡ self.now.setting.base }
-        ensures setting { self.now.setting ≡ setting_of self.now.setting.base }
+        ensures { result.now ≡ self.now.setting.base }
     {
         self.line.base()
     }
@@ -325,11 +326,10 @@ impl Session {
     /// The start tuples, and the history, the oldest entry first. It takes no memory.
     pub fn into_parts(self) -> (Base, Vec<Entry>)
         ensures base { result.0 ≡ self.setting.base }
-        ensures setting { self.setting ≡ setting_of self.setting.base }
         ensures entries { reverse result.1.items ≡ self.past }
         ensures bounded { length result.1.items ≤ limit }
         ensures legal { Legal self.setting self.past }
-        ensures met { IsTrue (meets_fates 18 self.net self.past) }
+        ensures met { IsTrue (meets_fates client_seat self.net self.past) }
     {
         self.line.into_parts()
     }

@@ -1,10 +1,10 @@
 -- What copies' answers leave of a history: every start, end, child, request, reason and result stays.
-use Rattle.std.proofs.Common.{◌≡◌, ℕ, Bool, true, false, [], ◌∷◌, ◌++◌, ◌<◌, arith, refl, sym, ap, ◌∙◌, append-nil}
+use Rattle.std.proofs.Common.{◌≡◌, ℕ, Bool, true, false, [], ◌∷◌, ◌++◌, refl, sym, ap, ◌∙◌, append-nil}
 use mathlib.Core.Bool.{true≢false}
-use Rattle.std.specs.Prelude.{Option, None, Some, MatchOption, ◌==◌, nat_lt, cond, if◌then◌else◌, is_some, option_to_list}
+use Rattle.std.specs.Prelude.{Option, None, Some, MatchOption, ◌==◌, not, cond, if◌then◌else◌, is_some, option_to_list}
 use Rattle.std.specs.List.{AllByRecursion}
 use Rattle.std.specs.Option.{option_or}
-use Rattle.std.proofs.lemmas.Bool.{and_parts, false_from_ne_true, eqb-true, ltb-true}
+use Rattle.std.proofs.lemmas.Bool.{and_parts, false_from_ne_true, eqb-true}
 use Rattle.qc_event.specs.declared.event.Answer.{Answer}
 use Rattle.qc_event.specs.declared.event.Answer.TheVariants.{Reply}
 use Rattle.qc_event.specs.declared.event.Ask.{Ask}
@@ -23,6 +23,7 @@ use Rattle.qc_event.specs.Grants.{IsRefusal, MayRefuse}
 use Rattle.qc_event.specs.History.{Past, Name, same, earliest, every, start, start_in, end, end_in, gone, gone_in, asked, ask_in, refused, refusal_in, children, child_in, asks, ask_below}
 use Rattle.qc_event.specs.Legal.{Legal, Allowed, MayHappen}
 use Rattle.qc_event.specs.Manager.{result, result_by}
+use Rattle.qc_event.specs.Seats.{is_client, client_seat}
 use Rattle.qc_event.proofs.Absent.{same_is}
 use Rattle.qc_event.proofs.Lawful.{some_how}
 use Rattle.qc_event.proofs.Lineage.{alive_not_aborted}
@@ -37,7 +38,7 @@ abbrev pub AreAnswers : Past → Type 0
 AreAnswers newer = AllByRecursion (λ (e : Entry). is_answer e ≡ true) newer
 
 pub reply_of_answer : (e : Entry) → is_answer e ≡ true → is_reply e.event ≡ true
-reply_of_answer e h = (and_parts (is_reply e.event) (nat_lt e.seat 18) h).0
+reply_of_answer e h = (and_parts (is_reply e.event) (not (is_client e.seat)) h).0
 
 -- WHAT ANSWERS DO NOT TELL
 
@@ -77,11 +78,12 @@ no_request : (ev : Event) → is_reply ev ≡ true → ask_of ev ≡ None
 no_request (event.Ask ask) h = absurd (true≢false (sym h))
 no_request _ h = refl
 
-not_by_client : (e : Entry) → is_answer e ≡ true → (e.seat == 18) ≡ false
-not_by_client e h = false_from_ne_true (e.seat == 18) (λ is. below (ltb-true e.seat 18 (and_parts (is_reply e.event) (nat_lt e.seat 18) h).1) (eqb-true e.seat 18 is))
+not_by_client : (seat : ℕ) (e : Entry) → is_client seat ≡ true → is_answer e ≡ true → (e.seat == seat) ≡ false
+not_by_client seat e client h = false_from_ne_true (e.seat == seat) (λ is. clash (is_client e.seat) (and_parts (is_reply e.event) (not (is_client e.seat)) h).1 (ap is_client (eqb-true e.seat seat is) ∙ client))
   where
-    below : e.seat < 18 → e.seat ≡ 18 → ⊥
-    below lt is = omega arith
+    clash : (b : Bool) → not b ≡ true → b ≡ true → ⊥
+    clash true bars is = true≢false (sym bars)
+    clash false bars is = true≢false (sym is)
 
 module _ (newer past : Past) (all : AreAnswers newer) where
   pub starts_stay : (x : Name) → start (newer ++ past) x ≡ start past x
@@ -113,9 +115,9 @@ module _ (newer past : Past) (all : AreAnswers newer) where
       none e h = ap (λ o. if e.seat == seat then o else None) (no_request e.event (reply_of_answer e h)) ∙ either (e.seat == seat)
 
 -- no answer is the client's own entry
-pub own_stay : (newer past : Past) → AreAnswers newer → made_by 18 (newer ++ past) ≡ made_by 18 past
+pub own_stay : (newer past : Past) → AreAnswers newer → made_by client_seat (newer ++ past) ≡ made_by client_seat past
 own_stay [] past all = refl
-own_stay (e ∷ newer) past all = ap (λ b. cond b (e ∷ made_by 18 (newer ++ past)) (made_by 18 (newer ++ past))) (not_by_client e all.0) ∙ own_stay newer past all.1
+own_stay (e ∷ newer) past all = ap (λ b. cond b (e ∷ made_by client_seat (newer ++ past)) (made_by client_seat (newer ++ past))) (not_by_client client_seat e refl all.0) ∙ own_stay newer past all.1
 
 -- WHAT A LATE REFUSAL CHANGES
 

@@ -15,6 +15,7 @@ use Rattle.qc_event.specs.Base.{Setting}
 use Rattle.qc_event.specs.History.{Past, Name, end, gone, refused}
 use Rattle.qc_event.specs.Legal.{Legal, Allowed}
 use Rattle.qc_event.specs.Manager.{result, result_by}
+use Rattle.qc_event.specs.Seats.{client_seat}
 use Rattle.qc_gather.specs.Carrying.{Carriage, entry, began, access_entries, made_by, name_of, became, HasGrown, WasCarried, WasCutOff}
 use Rattle.qc_gather.specs.declared.carrier.Carried.{Carried}
 use Rattle.qc_gather.specs.declared.carrier.Carried.TheVariants.{Reply, Blocked, Gone}
@@ -27,7 +28,7 @@ use Rattle.qc_store.specs.Served.{is_answer}
 
 -- an access of a manager, from one history to the next
 abbrev pub way : Past → Name → Ask → Past → Carriage
-way past m q now = record { seat = 18; before = past; now = now; own = made_by 18 past; owned = made_by 18 now; manager = m; ask = q }
+way past m q now = record { seat = client_seat; before = past; now = now; own = made_by client_seat past; owned = made_by client_seat now; manager = m; ask = q }
 
 abbrev pub Of : Name → Name → Type 0
 Of n x = x ≡ n
@@ -54,10 +55,10 @@ its_given_up ask (Blocked h) = tt
 its_given_up ask (Gone why) = (inl refl, tt)
 
 -- what copies answer after an access has asked, and what comes then of the access
-grown_with : (past : Past) (ask : Ask) (newer front : Past) → AreAnswers newer → Its ask.access front → HasGrown is_answer (Of ask.access) past (front ++ (newer ++ (began 18 ask ++ past)))
+grown_with : (past : Past) (ask : Ask) (newer front : Past) → AreAnswers newer → Its ask.access front → HasGrown is_answer (Of ask.access) past (front ++ (newer ++ (began client_seat ask ++ past)))
 grown_with past ask newer front all its =
-    subst (HasGrown is_answer (Of ask.access) past) (append_assoc front (newer ++ began 18 ask) past ∙ ap (λ p. front ++ p) (append_assoc newer (began 18 ask) past))
-    (grown_by past ask.access (front ++ (newer ++ began 18 ask)) (its_both ask.access front (newer ++ began 18 ask) its (its_both ask.access newer (began 18 ask) (its_answers ask.access newer all) (inl refl, (inl refl, tt)))))
+    subst (HasGrown is_answer (Of ask.access) past) (append_assoc front (newer ++ began client_seat ask) past ∙ ap (λ p. front ++ p) (append_assoc newer (began client_seat ask) past))
+    (grown_by past ask.access (front ++ (newer ++ began client_seat ask)) (its_both ask.access front (newer ++ began client_seat ask) its (its_both ask.access newer (began client_seat ask) (its_answers ask.access newer all) (inl refl, (inl refl, tt)))))
 
 pub grown_none : (past : Past) (n : Name) → HasGrown is_answer (Of n) past past
 grown_none past n = grown_by past n [] tt
@@ -65,41 +66,41 @@ grown_none past n = grown_by past n [] tt
 pub grown_at_start : (past : Past) (ask : Ask) (now : Past) → IsCutOffAtStart past ask now → HasGrown is_answer (Of ask.access) past now
 grown_at_start past ask now cut = elim cut [
   | inl same ↦ subst (HasGrown is_answer (Of ask.access) past) (sym same) (grown_none past ask.access)
-  | inr started ↦ subst (HasGrown is_answer (Of ask.access) past) (sym started) (grown_by past ask.access (entry 18 (event.Start ask.access kind.Access) ∷ []) (inl refl, tt))
+  | inr started ↦ subst (HasGrown is_answer (Of ask.access) past) (sym started) (grown_by past ask.access (entry client_seat (event.Start ask.access kind.Access) ∷ []) (inl refl, tt))
 ]
 
 module _ (past : Past) (m : Name) (ask : Ask) where
   -- CUT OFF
 
   pub cut_none : (q : Ask) (now : Past) → now ≡ past → WasCutOff (way past m q now)
-  cut_none q now at = record { made = []; part = inl refl; added = ap (made_by 18) at }
+  cut_none q now at = record { made = []; part = inl refl; added = ap (made_by client_seat) at }
 
   pub cut_at_start : (now : Past) → IsCutOffAtStart past ask now → WasCutOff (way past m ask now)
   cut_at_start now cut = elim cut [
     | inl same ↦ cut_none ask now same
-    | inr started ↦ record { made = entry 18 (event.Start ask.access kind.Access) ∷ []; part = inr (inl refl); added = ap (made_by 18) started }
+    | inr started ↦ record { made = entry client_seat (event.Start ask.access kind.Access) ∷ []; part = inr (inl refl); added = ap (made_by client_seat) started }
   ]
 
   module _ (newer : Past) (all : AreAnswers newer) where
     abbrev mid : Past
-    mid = newer ++ (began 18 ask ++ past)
+    mid = newer ++ (began client_seat ask ++ past)
 
     pub grown_waiting : HasGrown is_answer (Of ask.access) past mid
     grown_waiting = grown_with past ask newer [] all tt
 
-    own_waiting : made_by 18 mid ≡ began 18 ask ++ made_by 18 past
-    own_waiting = own_stay newer (began 18 ask ++ past) all
+    own_waiting : made_by client_seat mid ≡ began client_seat ask ++ made_by client_seat past
+    own_waiting = own_stay newer (began client_seat ask ++ past) all
 
     pub cut_waiting : WasCutOff (way past m ask mid)
-    cut_waiting = record { made = began 18 ask; part = inr (inr (inl refl)); added = own_waiting }
+    cut_waiting = record { made = began client_seat ask; part = inr (inr (inl refl)); added = own_waiting }
 
     cut_given_up : (c : Carried) → WasCutOff (way past m ask (given_up ask c ++ mid))
     cut_given_up (Reply t) = cut_waiting
     cut_given_up (Blocked h) = cut_waiting
     cut_given_up (Gone why) = record {
-      made = entry 18 (event.Gone ask.access why) ∷ began 18 ask;
+      made = entry client_seat (event.Gone ask.access why) ∷ began client_seat ask;
       part = inr (inr (inr (why, refl)));
-      added = ap (λ made. entry 18 (event.Gone ask.access why) ∷ made) own_waiting;
+      added = ap (λ made. entry client_seat (event.Gone ask.access why) ∷ made) own_waiting;
     }
 
     pub grown_at_end : (c : Carried) (now : Past) → IsCutOffAtEnd mid ask c now → HasGrown is_answer (Of ask.access) past now
@@ -117,10 +118,10 @@ module _ (past : Past) (m : Name) (ask : Ask) where
     pub grown_ended : (c : Carried) → HasGrown is_answer (Of ask.access) past (ending ask c ++ mid)
     grown_ended c = grown_with past ask newer (ending ask c) all (inl refl, its_given_up ask c)
 
-    own_ended : (c : Carried) → made_by 18 (ending ask c ++ mid) ≡ access_entries 18 ask (became c) ++ made_by 18 past
-    own_ended (Reply t) = ap (λ made. entry 18 (event.End ask.access (Commit (answer.Reply t))) ∷ made) own_waiting
-    own_ended (Blocked h) = ap (λ made. entry 18 (event.End ask.access (Abort Missed)) ∷ made) own_waiting
-    own_ended (Gone why) = ap (λ made. entry 18 (event.End ask.access (Abort Missed)) ∷ entry 18 (event.Gone ask.access why) ∷ made) own_waiting
+    own_ended : (c : Carried) → made_by client_seat (ending ask c ++ mid) ≡ access_entries client_seat ask (became c) ++ made_by client_seat past
+    own_ended (Reply t) = ap (λ made. entry client_seat (event.End ask.access (Commit (answer.Reply t))) ∷ made) own_waiting
+    own_ended (Blocked h) = ap (λ made. entry client_seat (event.End ask.access (Abort Missed)) ∷ made) own_waiting
+    own_ended (Gone why) = ap (λ made. entry client_seat (event.End ask.access (Abort Missed)) ∷ entry client_seat (event.Gone ask.access why) ∷ made) own_waiting
 
     -- THE END
 
@@ -146,13 +147,13 @@ module _ (past : Past) (m : Name) (ask : Ask) where
       given_up_heard (Blocked h) = mid_heard
       given_up_heard (Gone why) = endings.given_up_heard setting past mid m ask legal may mid_legal mid_heard why
 
-      pub end_allowed : (c : Carried) → Stands mid ask c → Allowed setting (given_up ask c ++ mid) (entry 18 (event.End ask.access (how_of c)))
+      pub end_allowed : (c : Carried) → Stands mid ask c → Allowed setting (given_up ask c ++ mid) (entry client_seat (event.End ask.access (how_of c)))
       end_allowed (Reply t) (g, granted, same) =
-          subst (λ x. Allowed setting mid (entry 18 (event.End ask.access (Commit (answer.Reply x))))) same (endings.commit_allowed setting past mid m ask legal may mid_legal mid_heard g granted)
+          subst (λ x. Allowed setting mid (entry client_seat (event.End ask.access (Commit (answer.Reply x))))) same (endings.commit_allowed setting past mid m ask legal may mid_legal mid_heard g granted)
       end_allowed (Blocked h) stands =
           endings.abort_allowed setting past mid m ask legal may mid_legal mid_heard (or_right (is_some (gone mid ask.access)) (is_some (refused mid ask.access)) (ap is_some stands))
       end_allowed (Gone why) stands =
-          let now = entry 18 (event.Gone ask.access why) ∷ mid in
+          let now = entry client_seat (event.Gone ask.access why) ∷ mid in
           endings.abort_allowed setting past now m ask legal may (given_up_legal (Gone why) stands) (given_up_heard (Gone why))
           (or_left (is_some (gone now ask.access)) (is_some (refused now ask.access)) (ap is_some (endings.gone_so setting past mid m ask legal may mid_legal mid_heard why ungone)))
 

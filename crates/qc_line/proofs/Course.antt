@@ -5,11 +5,12 @@ use Rattle.std.proofs.lemmas.List.Elements.{All-from_recursion, recursion_from_A
 use Rattle.qc_config.specs.declared.tuple.Op.{Op}
 use Rattle.qc_event.specs.declared.event.Ask.{Ask}
 use Rattle.qc_event.specs.declared.event.Entry.{Entry}
-use Rattle.qc_event.specs.Base.{Setting, setting_of}
+use Rattle.qc_event.specs.Base.{Setting}
 use Rattle.qc_event.specs.Dead.{dead}
 use Rattle.qc_event.specs.History.{Past, Name}
 use Rattle.qc_event.specs.Legal.{Legal}
 use Rattle.qc_event.proofs.LegalAgain.{legal_again}
+use Rattle.qc_event.specs.Seats.{client_seat}
 use Rattle.qc_gather.specs.Carrying.{MayCarry, Carriage, began, next_ask, became, HasGrown, WasCarried, WasOrphaned, WasCutOff, WasNotCarried}
 use Rattle.qc_gather.specs.declared.carrier.Carried.{Carried}
 use Rattle.qc_gather.specs.declared.carrier.CarryNo.{CarryNo}
@@ -25,10 +26,10 @@ use Rattle.qc_line.proofs.Orphans.{orphan_of}
 use Rattle.qc_net.specs.Plan.{Plan}
 use Rattle.qc_net.specs.Sending.{sending}
 use Rattle.qc_store.specs.Served.{is_answer, MayServe, HasServed}
-use Rattle.qc_store.specs.Stored.{Stored, setting}
+use Rattle.qc_store.specs.Stored.{Stored}
 
 -- an access of a dead manager does not start
-pub not_started : (setting : Setting) (past : Past) (m : Name) (copy rec : ℕ) (op : Op) (a : Name) → MayCarry setting 18 past m copy rec op → dead past m ≡ Some a → WasOrphaned (way past m (next_ask past m copy rec op) past) a
+pub not_started : (setting : Setting) (past : Past) (m : Name) (copy rec : ℕ) (op : Op) (a : Name) → MayCarry setting client_seat past m copy rec op → dead past m ≡ Some a → WasOrphaned (way past m (next_ask past m copy rec op) past) a
 not_started setting past m copy rec op a may is = record {
   made = [];
   stopped = inl refl;
@@ -38,7 +39,7 @@ not_started setting past m copy rec op a may is = record {
   children_ended = may.running.children_ended;
 }
 
-pub may_access : (setting : Setting) (past : Past) (m : Name) (copy rec : ℕ) (op : Op) (q : Ask) → q ≡ next_ask past m copy rec op → MayCarry setting 18 past m copy rec op → dead past m ≡ None → MayAccess setting past m q
+pub may_access : (setting : Setting) (past : Past) (m : Name) (copy rec : ℕ) (op : Op) (q : Ask) → q ≡ next_ask past m copy rec op → MayCarry setting client_seat past m copy rec op → dead past m ≡ None → MayAccess setting past m q
 may_access setting past m copy rec op q is may alive = subst (MayAccess setting past m) (sym is) (record { carries = may; alive = alive; next = refl })
 
 -- an access that was cut off was not carried
@@ -49,40 +50,40 @@ not_carried way no.Room cut short = (cut, short)
 
 -- A request was sent: its access had begun, and copies have answered since.
 pub record IsSent (before now : Stored) (m : Name) (q : Ask) : Type 0 where
-  pub may : MayAccess (setting before) before.past m q
+  pub may : MayAccess before.setting before.past m q
   pub newer : Past
   pub all : AreAnswers newer
-  pub same_base : now.base ≡ before.base
-  pub grown : now.past ≡ newer ++ (began 18 q ++ before.past)
+  pub same_setting : now.setting ≡ before.setting
+  pub grown : now.past ≡ newer ++ (began client_seat q ++ before.past)
 
-pub sent : (before begun now : Stored) (m : Name) (q : Ask) → MayAccess (setting before) before.past m q → begun.base ≡ before.base → begun.past ≡ began 18 q ++ before.past → HasServed begun now → IsSent before now m q
+pub sent : (before begun now : Stored) (m : Name) (q : Ask) → MayAccess before.setting before.past m q → begun.setting ≡ before.setting → begun.past ≡ began client_seat q ++ before.past → HasServed begun now → IsSent before now m q
 sent before begun now m q may base begins served = record {
   may = may;
   newer = served.newer;
   all = recursion_from_All (λ (e : Entry). is_answer e ≡ true) served.newer served.answers;
-  same_base = served.same_base ∙ base;
+  same_setting = served.same_setting ∙ base;
   grown = served.grown ∙ ap (λ p. served.newer ++ p) begins;
 }
 
 module _ (before now : Stored) (m : Name) (q : Ask) (s : IsSent before now m q) where
   abbrev mid : Past
-  mid = s.newer ++ (began 18 q ++ before.past)
+  mid = s.newer ++ (began client_seat q ++ before.past)
 
-  pub waits : Waits (setting now) now.past q
+  pub waits : Waits now.setting now.past q
   waits = record {
     before = before.past;
     manager = m;
-    may = subst (λ b. MayAccess (setting_of b) before.past m q) (sym s.same_base) s.may;
+    may = subst (λ b. MayAccess b before.past m q) (sym s.same_setting) s.may;
     newer = s.newer;
     answers = All-from_recursion (λ (e : Entry). is_answer e ≡ true) s.newer s.all;
     grown = s.grown;
   }
 
-  legal : Legal (setting before) before.past
-  legal = legal_again (setting before) before.past before.is_legal
+  legal : Legal before.setting before.past
+  legal = legal_again before.setting before.past before.is_legal
 
-  mid_legal : Legal (setting before) mid
-  mid_legal = subst (Legal (setting before)) s.grown (subst (λ b. Legal (setting_of b) now.past) s.same_base (legal_again (setting now) now.past now.is_legal))
+  mid_legal : Legal before.setting mid
+  mid_legal = subst (Legal before.setting) s.grown (subst (λ b. Legal b now.past) s.same_setting (legal_again now.setting now.past now.is_legal))
 
   -- WHERE IT WAS CUT OFF
 
@@ -109,16 +110,16 @@ module _ (before now : Stored) (m : Name) (q : Ask) (s : IsSent before now m q) 
   pub carried : (c : Carried) (last : Past) → last ≡ ending q c ++ now.past → Stands now.past q c → WasCarried (way before.past m q last) (became c)
   carried c last is stands =
       subst (λ p. WasCarried (way before.past m q p) (became c)) (sym (is ∙ ap (λ p. ending q c ++ p) s.grown))
-      (carry.carried before.past m q s.newer s.all (setting before) legal s.may mid_legal c (subst (λ p. Stands p q c) s.grown stands))
+      (carry.carried before.past m q s.newer s.all before.setting legal s.may mid_legal c (subst (λ p. Stands p q c) s.grown stands))
 
   -- WHAT THE LINE KEEPS
 
-  module _ (plan : Plan) (held : List Ask) (patience : ℕ) (met : IsTrue (meets_fates 18 (net_of plan patience) before.past)) where
-    pub met_waiting : IsTrue (meets_fates 18 (net_of plan patience) now.past)
-    met_waiting = subst (λ p. IsTrue (meets_fates 18 (net_of plan patience) p)) (sym s.grown) (keep.met_waiting (setting before) before.past m q legal s.may s.newer s.all mid_legal (net_of plan patience) met)
+  module _ (plan : Plan) (held : List Ask) (patience : ℕ) (met : IsTrue (meets_fates client_seat (net_of plan patience) before.past)) where
+    pub met_waiting : IsTrue (meets_fates client_seat (net_of plan patience) now.past)
+    met_waiting = subst (λ p. IsTrue (meets_fates client_seat (net_of plan patience) p)) (sym s.grown) (keep.met_waiting before.setting before.past m q legal s.may s.newer s.all mid_legal (net_of plan patience) met)
 
-    pub met_at_end : (c : Carried) (last : Past) → IsCutOffAtEnd now.past q c last → IsTrue (meets_fates 18 (net_of plan patience) last)
-    met_at_end c last cut = keep.met_at_end (setting before) before.past m q legal s.may s.newer s.all mid_legal (net_of plan patience) met c last (at_mid c last cut)
+    pub met_at_end : (c : Carried) (last : Past) → IsCutOffAtEnd now.past q c last → IsTrue (meets_fates client_seat (net_of plan patience) last)
+    met_at_end c last cut = keep.met_at_end before.setting before.past m q legal s.may s.newer s.all mid_legal (net_of plan patience) met c last (at_mid c last cut)
 
     module _ (step : IsInStep (net_of plan patience) before.past plan held) (c : Carried) (last : Past) (is : last ≡ ending q c ++ now.past) (stands : Stands now.past q c)
         (plan' : Plan) (held' : List Ask) (Trouble : Type 0) (was : WasSent (sending plan held q patience) plan' held' now.past Trouble q c) where
@@ -131,11 +132,11 @@ module _ (before now : Stored) (m : Name) (q : Ask) (s : IsSent before now m q) 
           (subst (λ h. WasSent (sending plan h q patience) plan' held' mid Trouble q c) step.same_held
           (subst (λ p. WasSent (sending plan held q patience) plan' held' p Trouble q c) s.grown was))
 
-      pub met_ended : IsTrue (meets_fates 18 (net_of plan patience) last)
-      met_ended = subst (λ p. IsTrue (meets_fates 18 (net_of plan patience) p)) (sym there)
-          (keep.met_ended (setting before) before.past m q legal s.may s.newer s.all mid_legal (net_of plan patience) met c (subst (λ p. Stands p q c) s.grown stands) plan' held' Trouble sent_there)
+      pub met_ended : IsTrue (meets_fates client_seat (net_of plan patience) last)
+      met_ended = subst (λ p. IsTrue (meets_fates client_seat (net_of plan patience) p)) (sym there)
+          (keep.met_ended before.setting before.past m q legal s.may s.newer s.all mid_legal (net_of plan patience) met c (subst (λ p. Stands p q c) s.grown stands) plan' held' Trouble sent_there)
 
       pub in_step_ended : All (MayServe now.past) held' → IsInStep (net_of plan patience) last plan' held'
       in_step_ended serves = subst (λ p. IsInStep (net_of plan patience) p plan' held') (sym there)
-          (keep.in_step_ended (setting before) before.past m q legal s.may s.newer s.all mid_legal (net_of plan patience) met c (subst (λ p. Stands p q c) s.grown stands) plan' held' Trouble sent_there
+          (keep.in_step_ended before.setting before.past m q legal s.may s.newer s.all mid_legal (net_of plan patience) met c (subst (λ p. Stands p q c) s.grown stands) plan' held' Trouble sent_there
           (subst (λ p. All (MayServe p) held') s.grown serves))

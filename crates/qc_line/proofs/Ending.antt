@@ -28,6 +28,7 @@ use Rattle.qc_event.specs.Users.{MayAbort}
 use Rattle.qc_event.proofs.Absent.{same_itself, same_is}
 use Rattle.qc_event.proofs.LastNumber.{length_last}
 use Rattle.qc_event.proofs.OneEntry.{no_child_passes, some_or_none}
+use Rattle.qc_event.specs.Seats.{client_seat}
 use Rattle.qc_gather.specs.Carrying.{entry, IsTold}
 use Rattle.qc_line.specs.Access.{MayAccess}
 use Rattle.qc_line.proofs.Asking as asking
@@ -67,25 +68,25 @@ module _ (setting : Setting) (past now : Past) (m : Name) (ask : Ask) (legal : L
   matches : {X : Type 0} (o : Option X) (P : X → Type 0) (x : X) → o ≡ Some x → P x → MatchOption o ⊥ P
   matches o P x is h = subst (λ y. MatchOption y ⊥ P) (sym is) h
 
-  pub give_up_allowed : (why : Why) → gone now ask.access ≡ None → IsTrue (not (is_fault why) || was_unable now ask.access why) → Allowed setting now (entry 18 (event.Gone ask.access why))
+  pub give_up_allowed : (why : Why) → gone now ask.access ≡ None → IsTrue (not (is_fault why) || was_unable now ask.access why) → Allowed setting now (entry client_seat (event.Gone ask.access why))
   give_up_allowed why none told = gives_up
     where
-      gives_up : MayGiveUp now 18 ask.access why
+      gives_up : MayGiveUp now client_seat ask.access why
       gives_up = record {
         by_client = refl;
-        asked_here = matches (asked now ask.access) (λ a. a.seat ≡ 18) _ heard.asks_it refl;
+        asked_here = matches (asked now ask.access) (λ a. a.seat ≡ client_seat) _ heard.asks_it refl;
         is_open = going.is_open;
         first_time = none;
         told = told;
       }
 
-  pub commit_allowed : (g : Given) → granted now ask.access ≡ Some g → Allowed setting now (entry 18 (event.End ask.access (Commit (Reply g.grant.tuple))))
-  commit_allowed g is = matches (start now ask.access) (MayEnd setting now 18 ask.access (Commit (Reply g.grant.tuple))) _ heard.started may_commit
+  pub commit_allowed : (g : Given) → granted now ask.access ≡ Some g → Allowed setting now (entry client_seat (event.End ask.access (Commit (Reply g.grant.tuple))))
+  commit_allowed g is = matches (start now ask.access) (MayEnd setting now client_seat ask.access (Commit (Reply g.grant.tuple))) _ heard.started may_commit
     where
-      may_commit : MayCommitAccess now 18 ask.access (Reply g.grant.tuple)
+      may_commit : MayCommitAccess now client_seat ask.access (Reply g.grant.tuple)
       may_commit = record {
         by_client = refl;
-        asked_here = matches (asked now ask.access) (λ a. a.seat ≡ 18) _ heard.asks_it refl;
+        asked_here = matches (asked now ask.access) (λ a. a.seat ≡ client_seat) _ heard.asks_it refl;
         going = going;
         reply = matches (granted now ask.access) (λ x. Reply g.grant.tuple ≡ Reply x.grant.tuple) g is refl;
       }
@@ -96,13 +97,13 @@ module _ (setting : Setting) (past now : Past) (m : Name) (ask : Ask) (legal : L
       let named = asking.managers_name setting past m ask legal may in
       omega (arith, named.below_a_top, ap length may.next, length_last m (length (children past m) + 1)))
 
-  pub abort_allowed : IsTrue (is_some (gone now ask.access) || is_some (refused now ask.access)) → Allowed setting now (entry 18 (event.End ask.access (Abort Missed)))
-  abort_allowed missed = matches (start now ask.access) (MayEnd setting now 18 ask.access (Abort Missed)) _ heard.started may_abort
+  pub abort_allowed : IsTrue (is_some (gone now ask.access) || is_some (refused now ask.access)) → Allowed setting now (entry client_seat (event.End ask.access (Abort Missed)))
+  abort_allowed missed = matches (start now ask.access) (MayEnd setting now client_seat ask.access (Abort Missed)) _ heard.started may_abort
     where
-      licence : IsTrue (is_some (gone now ask.access) || is_some (refused now ask.access)) × Started now (name.front ask.access) (λ p. 18 ≡ p.seat)
-      licence = (missed, subst (λ x. Started now x (λ p. 18 ≡ p.seat)) (sym (asking.front setting past m ask legal may)) (matches (start now m) (λ p. 18 ≡ p.seat) _ heard.manager refl))
+      licence : IsTrue (is_some (gone now ask.access) || is_some (refused now ask.access)) × Started now (name.front ask.access) (λ p. client_seat ≡ p.seat)
+      licence = (missed, subst (λ x. Started now x (λ p. client_seat ≡ p.seat)) (sym (asking.front setting past m ask legal may)) (matches (start now m) (λ p. client_seat ≡ p.seat) _ heard.manager refl))
 
-      may_abort : MayAbort (Licensed setting now 18 ask.access (record { seat = 18; kind = kind.Access }) kind.Access Missed) now 18 ask.access
+      may_abort : MayAbort (Licensed setting now client_seat ask.access (record { seat = client_seat; kind = kind.Access }) kind.Access Missed) now client_seat ask.access
       may_abort = record { by_client = refl; is_open = going.is_open; not_ready = ap not not_ready; licensed = licence }
 
   -- GIVEN UP
@@ -111,7 +112,7 @@ module _ (setting : Setting) (past now : Past) (m : Name) (ask : Ask) (legal : L
   not_its x ended same = some_or_none (end past x) ended (ap (end past) (sym same) ∙ asking.not_ended setting past m ask legal may)
 
   abbrev given_up : Why → Past
-  given_up why = entry 18 (event.Gone ask.access why) ∷ now
+  given_up why = entry client_seat (event.Gone ask.access why) ∷ now
 
   other_gone : (why : Why) (x : Name) → (ask.access ≡ x → ⊥) → gone (given_up why) x ≡ gone now x
   other_gone why x other =
@@ -137,7 +138,7 @@ module _ (setting : Setting) (past now : Past) (m : Name) (ask : Ask) (legal : L
 
   module _ (how : How) where
     abbrev ended : Past
-    ended = entry 18 (event.End ask.access how) ∷ now
+    ended = entry client_seat (event.End ask.access how) ∷ now
 
     pub end_is : end ended ask.access ≡ Some how
     end_is = none_or _ _ waiting_still ∙ ap (λ (b : Bool). if b then Some how else None) (same_itself ask.access)

@@ -15,6 +15,7 @@ use Rattle.qc_event.specs.Base.{Setting}
 use Rattle.qc_event.specs.History.{Past, Name, Begun, start, end, gone}
 use Rattle.qc_event.specs.Legal.{Legal}
 use Rattle.qc_event.specs.Requests.{is_why}
+use Rattle.qc_event.specs.Seats.{client_seat}
 use Rattle.qc_gather.specs.Carrying.{entry, began}
 use Rattle.qc_gather.specs.declared.carrier.Carried.{Carried}
 use Rattle.qc_gather.specs.declared.carrier.Carried.TheVariants.{Reply, Blocked, Gone}
@@ -77,32 +78,32 @@ outcome_told net.late made s c is tells = ap (λ y. told_by (reason_of y) net.la
 pub same_net : (plan plan' : Plan) (patience : ℕ) → anew plan' ≡ anew plan → net_of plan' patience ≡ net_of plan patience
 same_net plan plan' patience same = ap (λ p. net_of p patience) same
 
-pub met_at_start : (net : Net) (past : Past) (ask : Ask) (now : Past) → IsCutOffAtStart past ask now → IsTrue (meets_fates 18 net past) → IsTrue (meets_fates 18 net now)
+pub met_at_start : (net : Net) (past : Past) (ask : Ask) (now : Past) → IsCutOffAtStart past ask now → IsTrue (meets_fates client_seat net past) → IsTrue (meets_fates client_seat net now)
 met_at_start net past ask now cut met = elim cut [
-  | inl same ↦ subst (λ p. IsTrue (meets_fates 18 net p)) (sym same) met
-  | inr started ↦ subst (λ p. IsTrue (meets_fates 18 net p)) (sym started) (met_still net (entry 18 (event.Start ask.access kind.Access) ∷ []) past (append-nil (asked_under 18 past)) (each (asked_under 18 past)) met)
+  | inl same ↦ subst (λ p. IsTrue (meets_fates client_seat net p)) (sym same) met
+  | inr started ↦ subst (λ p. IsTrue (meets_fates client_seat net p)) (sym started) (met_still net (entry client_seat (event.Start ask.access kind.Access) ∷ []) past (append-nil (asked_under client_seat past)) (each (asked_under client_seat past)) met)
 ]
   where
-    each : (requests : List Ask) → AllByRecursion (λ (a : Ask). IsLeft past (entry 18 (event.Start ask.access kind.Access) ∷ past) a.access) requests
+    each : (requests : List Ask) → AllByRecursion (λ (a : Ask). IsLeft past (entry client_seat (event.Start ask.access kind.Access) ∷ past) a.access) requests
     each [] = tt
     each (a ∷ rest) = (record { ends = still (end past a.access); goes = inr (still (gone past a.access)) }, each rest)
 
 -- ONCE IT HAS ASKED
 
-module _ (setting : Setting) (past : Past) (m : Name) (ask : Ask) (legal : Legal setting past) (may : MayAccess setting past m ask) (newer : Past) (all : AreAnswers newer) (mid_legal : Legal setting (newer ++ (began 18 ask ++ past))) where
+module _ (setting : Setting) (past : Past) (m : Name) (ask : Ask) (legal : Legal setting past) (may : MayAccess setting past m ask) (newer : Past) (all : AreAnswers newer) (mid_legal : Legal setting (newer ++ (began client_seat ask ++ past))) where
   abbrev mid : Past
-  mid = newer ++ (began 18 ask ++ past)
+  mid = newer ++ (began client_seat ask ++ past)
 
-  mid_asks : asked_under 18 mid ≡ asked_under 18 past ++ ask ∷ []
-  mid_asks = asked_under_stays newer (began 18 ask ++ past) all 18 ∙ ap (λ xs. xs ++ ask ∷ []) (append-nil (asked_under 18 past))
+  mid_asks : asked_under client_seat mid ≡ asked_under client_seat past ++ ask ∷ []
+  mid_asks = asked_under_stays newer (began client_seat ask ++ past) all client_seat ∙ ap (λ xs. xs ++ ask ∷ []) (append-nil (asked_under client_seat past))
 
-  given_up_asks : (c : Carried) → asked_under 18 (given_up ask c ++ mid) ≡ asked_under 18 past ++ ask ∷ []
+  given_up_asks : (c : Carried) → asked_under client_seat (given_up ask c ++ mid) ≡ asked_under client_seat past ++ ask ∷ []
   given_up_asks (Reply t) = mid_asks
   given_up_asks (Blocked h) = mid_asks
-  given_up_asks (Gone why) = append-nil (asked_under 18 mid) ∙ mid_asks
+  given_up_asks (Gone why) = append-nil (asked_under client_seat mid) ∙ mid_asks
 
-  ended_asks : (c : Carried) → asked_under 18 (ending ask c ++ mid) ≡ asked_under 18 past ++ ask ∷ []
-  ended_asks c = append-nil (asked_under 18 (given_up ask c ++ mid)) ∙ given_up_asks c
+  ended_asks : (c : Carried) → asked_under client_seat (ending ask c ++ mid) ≡ asked_under client_seat past ++ ask ∷ []
+  ended_asks c = append-nil (asked_under client_seat (given_up ask c ++ mid)) ∙ given_up_asks c
 
   -- no request before is of this access
   not_this : (a : Ask) → IsAccess past a → ask.access ≡ a.access → ⊥
@@ -120,41 +121,41 @@ module _ (setting : Setting) (past : Past) (m : Name) (ask : Ask) (legal : Legal
   )
 
   -- where this request is met, all are
-  module _ (net : Net) (met : IsTrue (meets_fates 18 net past)) where
+  module _ (net : Net) (met : IsTrue (meets_fates client_seat net past)) where
     abbrev first : Way
     first = record { plan = starting net.fates net.hold; held = []; delivered = [] }
 
     met_with : (front : Past) → ((x : Name) → (ask.access ≡ x → ⊥) → end (front ++ past) x ≡ end past x) → ((x : Name) → (ask.access ≡ x → ⊥) → gone (front ++ past) x ≡ gone past x)
-        → asked_under 18 (front ++ past) ≡ asked_under 18 past ++ ask ∷ [] → is_met (front ++ past) ask (sending (way_of net past).plan (way_of net past).held ask net.patience) ≡ true → IsTrue (meets_fates 18 net (front ++ past))
+        → asked_under client_seat (front ++ past) ≡ asked_under client_seat past ++ ask ∷ [] → is_met (front ++ past) ask (sending (way_of net past).plan (way_of net past).held ask net.patience) ≡ true → IsTrue (meets_fates client_seat net (front ++ past))
     met_with front ends goes asks here =
         ap (are_met net.patience (front ++ past) first.plan first.held) asks
-        ∙ are_met_more net.patience (front ++ past) first (asked_under 18 past) ask
-        (are_met_still net.patience front past first.plan first.held (asked_under 18 past) (each_left (front ++ past) ends goes (asked_under 18 past) (asks_of_accesses setting past 18 legal)) met) here
+        ∙ are_met_more net.patience (front ++ past) first (asked_under client_seat past) ask
+        (are_met_still net.patience front past first.plan first.held (asked_under client_seat past) (each_left (front ++ past) ends goes (asked_under client_seat past) (asks_of_accesses setting past client_seat legal)) met) here
 
     -- the same, of entries before the access's
     met_before : (front : Past) → ((x : Name) → (ask.access ≡ x → ⊥) → end (front ++ mid) x ≡ end past x) → ((x : Name) → (ask.access ≡ x → ⊥) → gone (front ++ mid) x ≡ gone past x)
-        → asked_under 18 (front ++ mid) ≡ asked_under 18 past ++ ask ∷ [] → is_met (front ++ mid) ask (sending (way_of net past).plan (way_of net past).held ask net.patience) ≡ true → IsTrue (meets_fates 18 net (front ++ mid))
+        → asked_under client_seat (front ++ mid) ≡ asked_under client_seat past ++ ask ∷ [] → is_met (front ++ mid) ask (sending (way_of net past).plan (way_of net past).held ask net.patience) ≡ true → IsTrue (meets_fates client_seat net (front ++ mid))
     met_before front =
         subst (λ p. ((x : Name) → (ask.access ≡ x → ⊥) → end p x ≡ end past x) → ((x : Name) → (ask.access ≡ x → ⊥) → gone p x ≡ gone past x)
-        → asked_under 18 p ≡ asked_under 18 past ++ ask ∷ [] → is_met p ask (sending (way_of net past).plan (way_of net past).held ask net.patience) ≡ true → IsTrue (meets_fates 18 net p))
-        (append_assoc front (newer ++ began 18 ask) past ∙ ap (λ p. front ++ p) (append_assoc newer (began 18 ask) past))
-        (met_with (front ++ (newer ++ began 18 ask)))
+        → asked_under client_seat p ≡ asked_under client_seat past ++ ask ∷ [] → is_met p ask (sending (way_of net past).plan (way_of net past).held ask net.patience) ≡ true → IsTrue (meets_fates client_seat net p))
+        (append_assoc front (newer ++ began client_seat ask) past ∙ ap (λ p. front ++ p) (append_assoc newer (began client_seat ask) past))
+        (met_with (front ++ (newer ++ began client_seat ask)))
 
     -- CUT OFF
 
-    met_unfinished : (c : Carried) → IsTrue (meets_fates 18 net (given_up ask c ++ mid))
+    met_unfinished : (c : Carried) → IsTrue (meets_fates client_seat net (given_up ask c ++ mid))
     met_unfinished c =
         let heard = carry.given_up_heard past m ask newer all setting legal may mid_legal c in
         met_before (given_up ask c) (λ x other. heard.ends x) heard.goes (given_up_asks c)
         (met_unended (given_up ask c ++ mid) ask (sending (way_of net past).plan (way_of net past).held ask net.patience) (heard.ends ask.access ∙ asking.not_ended setting past m ask legal may))
 
-    pub met_waiting : IsTrue (meets_fates 18 net mid)
+    pub met_waiting : IsTrue (meets_fates client_seat net mid)
     met_waiting = met_unfinished (Blocked [])
 
-    pub met_at_end : (c : Carried) (now : Past) → IsCutOffAtEnd mid ask c now → IsTrue (meets_fates 18 net now)
+    pub met_at_end : (c : Carried) (now : Past) → IsCutOffAtEnd mid ask c now → IsTrue (meets_fates client_seat net now)
     met_at_end c now cut = elim cut [
-      | inl same ↦ subst (λ p. IsTrue (meets_fates 18 net p)) (sym same) met_waiting
-      | inr given ↦ subst (λ p. IsTrue (meets_fates 18 net p)) (sym given) (met_unfinished c)
+      | inl same ↦ subst (λ p. IsTrue (meets_fates client_seat net p)) (sym same) met_waiting
+      | inr given ↦ subst (λ p. IsTrue (meets_fates client_seat net p)) (sym given) (met_unfinished c)
     ]
 
     -- ENDED
@@ -171,7 +172,7 @@ module _ (setting : Setting) (past : Past) (m : Name) (ask : Ask) (legal : Legal
           by_told (Blocked n) h = ungone
           by_told (Gone why) h = endings.gone_so setting past mid m ask legal may mid_legal (carry.mid_heard past m ask newer all setting legal may mid_legal) why ungone
 
-      pub met_ended : (plan' : Plan) (held' : List Ask) (Trouble : Type 0) → WasSent (sending (way_of net past).plan (way_of net past).held ask net.patience) plan' held' mid Trouble ask c → IsTrue (meets_fates 18 net (ending ask c ++ mid))
+      pub met_ended : (plan' : Plan) (held' : List Ask) (Trouble : Type 0) → WasSent (sending (way_of net past).plan (way_of net past).held ask net.patience) plan' held' mid Trouble ask c → IsTrue (meets_fates client_seat net (ending ask c ++ mid))
       met_ended plan' held' Trouble was =
           let s : Sending = sending (way_of net past).plan (way_of net past).held ask net.patience in
           let heard = carry.given_up_heard past m ask newer all setting legal may mid_legal c in
@@ -189,7 +190,7 @@ module _ (setting : Setting) (past : Past) (m : Name) (ask : Ask) (legal : Legal
       pub in_step_ended : (plan' : Plan) (held' : List Ask) (Trouble : Type 0) → WasSent (sending (way_of net past).plan (way_of net past).held ask net.patience) plan' held' mid Trouble ask c
           → All (MayServe mid) held' → IsInStep net (ending ask c ++ mid) plan' held'
       in_step_ended plan' held' Trouble was serves =
-          let ways : way_of net (ending ask c ++ mid) ≡ (sending (way_of net past).plan (way_of net past).held ask net.patience).way = ap (sendings net.patience first) (ended_asks c) ∙ sendings_more net.patience first (asked_under 18 past) ask in
+          let ways : way_of net (ending ask c ++ mid) ≡ (sending (way_of net past).plan (way_of net past).held ask net.patience).way = ap (sendings net.patience first) (ended_asks c) ∙ sendings_more net.patience first (asked_under client_seat past) ask in
           record {
             same_plan = some_same _ _ was.is_sending.plan_after ∙ ap (λ w. w.plan) (sym ways);
             same_held = was.is_sending.held_after ∙ ap (λ w. w.held) (sym ways);

@@ -17,6 +17,7 @@ use Rattle.qc_event.specs.Base.{Setting}
 use Rattle.qc_event.specs.Dead.{dead}
 use Rattle.qc_event.specs.History.{Past, Name, Given, limit, children, granted, refused}
 use Rattle.qc_event.specs.Requests.{is_fault, was_unable}
+use Rattle.qc_event.specs.Seats.{client_seat}
 use Rattle.qc_gather.specs.Carrying.{MayCarry, entry, began}
 use Rattle.qc_gather.specs.declared.carrier.Carried.{Carried}
 use Rattle.qc_gather.specs.declared.carrier.Carried.TheVariants.{Reply, Blocked, Gone}
@@ -31,7 +32,7 @@ use Rattle.qc_store.specs.Served.{is_answer, HasAnswered}
 
 -- A manager that is not dead may make its next access, which asks this.
 pub record MayAccess (setting : Setting) (past : Past) (m : Name) (ask : Ask) : Type 0 where
-  pub carries : MayCarry setting 18 past m ask.copy ask.rec ask.op
+  pub carries : MayCarry setting client_seat past m ask.copy ask.rec ask.op
   pub alive : dead past m ≡ None
   pub next : ask.access ≡ m ++ (length (children past m) + 1) ∷ []
 
@@ -46,7 +47,7 @@ pub record Waits (setting : Setting) (past : Past) (ask : Ask) : Type 0 where
   pub may : MayAccess setting before manager ask
   pub newer : Past
   pub answers : All (λ e. IsTrue (is_answer e)) newer
-  pub grown : past ≡ newer ++ (began 18 ask ++ before)
+  pub grown : past ≡ newer ++ (began client_seat ask ++ before)
 
 -- what a manager is told of what came back
 abbrev pub Tells : Sent → Carried → Type 0
@@ -85,16 +86,16 @@ how_of _ = Abort Missed
 
 -- the entry with which an access is given up, where it is
 abbrev pub given_up : Ask → Carried → Past
-given_up ask (Gone why) = entry 18 (event.Gone ask.access why) ∷ []
+given_up ask (Gone why) = entry client_seat (event.Gone ask.access why) ∷ []
 given_up ask _ = []
 
 -- the entries with which an access ends
 abbrev pub ending : Ask → Carried → Past
-ending ask told = entry 18 (event.End ask.access (how_of told)) ∷ given_up ask told
+ending ask told = entry client_seat (event.End ask.access (how_of told)) ∷ given_up ask told
 
 -- an access was cut off at its start: nothing was entered, or it has only started
 abbrev pub IsCutOffAtStart : Past → Ask → Past → Type 0
-IsCutOffAtStart before ask now = (now ≡ before) ⊎ (now ≡ entry 18 (event.Start ask.access kind.Access) ∷ before)
+IsCutOffAtStart before ask now = (now ≡ before) ⊎ (now ≡ entry client_seat (event.Start ask.access kind.Access) ∷ before)
 
 -- an access was cut off at its end: nothing more was entered, or it was only given up
 abbrev pub IsCutOffAtEnd : Past → Ask → Carried → Past → Type 0

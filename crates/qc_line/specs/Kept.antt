@@ -2,6 +2,7 @@
 use Rattle.std.specs.Prelude.{ℕ, ◌≡◌, Bool, false, IsTrue, List, [], ◌∷◌, All}
 use Rattle.qc_event.specs.declared.event.Ask.{Ask}
 use Rattle.qc_event.specs.History.{Past}
+use Rattle.qc_event.specs.Seats.{client_seat}
 use Rattle.qc_net.specs.Plan.{Plan, starting}
 use Rattle.qc_net.specs.Sending.{Way, sending}
 use Rattle.qc_store.specs.Served.{MayServe}
@@ -18,7 +19,7 @@ sendings patience way (ask ∷ asks) = sendings patience (sending way.plan way.h
 
 -- how far the link is once the requests of the client under seat 18 were sent
 abbrev pub way_of : Net → Past → Way
-way_of net past = sendings net.patience (record { plan = starting net.fates net.hold; held = []; delivered = [] }) (asked_under 18 past)
+way_of net past = sendings net.patience (record { plan = starting net.fates net.hold; held = []; delivered = [] }) (asked_under client_seat past)
 
 -- The courier stands where the requests of the history leave it, and each that it holds was made.
 pub record IsInStep (net : Net) (past : Past) (plan : Plan) (held : List Ask) : Type 0 where
@@ -28,5 +29,5 @@ pub record IsInStep (net : Net) (past : Past) (plan : Plan) (held : List Ask) : 
 
 -- What a line keeps: its requests meet the fates of its link, and unless it is torn, its courier is in step.
 pub record IsKept (plan : Plan) (held : List Ask) (patience : ℕ) (past : Past) (torn : Bool) : Type 0 where
-  pub met : IsTrue (meets_fates 18 (net_of plan patience) past)
+  pub met : IsTrue (meets_fates client_seat (net_of plan patience) past)
   pub in_step : torn ≡ false → IsInStep (net_of plan patience) past plan held

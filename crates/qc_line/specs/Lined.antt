@@ -1,7 +1,6 @@
 -- What a line keeps.
-use Rattle.std.specs.Prelude.{ℕ, ◌≡◌, List, Some}
-use Rattle.qc_config.specs.declared.tuple.Tuple.{Tuple}
-use Rattle.qc_event.specs.Base.{Setting, setting_of}
+use Rattle.std.specs.Prelude.{ℕ, ◌≡◌, Some}
+use Rattle.qc_event.specs.Base.{Setting}
 use Rattle.qc_event.specs.declared.event.Event.{Event}
 use Rattle.qc_event.specs.declared.event.Event.TheVariants as event
 use Rattle.qc_event.specs.declared.event.Kind.{Kind}
@@ -10,18 +9,14 @@ use Rattle.qc_event.specs.History.{Past, kind_of}
 use Rattle.qc_event.specs.Legal.{Legal}
 use Rattle.qc_line.specs.Messages.{Net}
 
--- what a line keeps: its start tuples, the history, the latest entry first, which is legal, what its link is, and
--- how often that gave trouble
+-- what a line keeps: its setting, the history, the latest entry first, which is legal, what its link is, and how
+-- often that gave trouble
 pub record Lined : Type 0 where
-  pub base : List (List Tuple)
+  pub setting : Setting
   pub past : Past
   pub net : Net
   pub troubles : ℕ
-  pub is_legal : ∥ Legal (setting_of base) past ∥₁
-
--- the setting of a line
-abbrev pub setting : Lined → Setting
-setting s = setting_of s.base
+  pub is_legal : ∥ Legal setting past ∥₁
 
 -- a kind of transaction that is no access
 abbrev pub IsNoAccess : Kind → Type 0

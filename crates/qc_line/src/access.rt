@@ -2,6 +2,7 @@
 ghost use Rattle.std.specs.Prelude.{◌≡◌, ◌≤◌, ◌++◌, ◌∷◌, false, not, IsTrue, All, IfOk, IfErr, OnOk, OnErr, reverse, length};
 ghost use Rattle.qc_event.specs.History.{limit, children};
 ghost use Rattle.qc_event.specs.Legal.{Allowed};
+ghost use Rattle.qc_event.specs.Seats.{client_seat};
 ghost use Rattle.qc_gather.specs.Carrying.{MayCarry, HasGrown, WasCarried, WasNotCarried, HasReason, Rose, entry, began, made_by, carriage, became, next_ask};
 ghost use Rattle.qc_line.specs.Access as words;
 ghost use Rattle.qc_line.specs.Kept.{IsInStep, net_of};
@@ -13,17 +14,15 @@ ghost use Rattle.qc_net.specs.PlanLink.{plan_of, troubles_of};
 ghost use Rattle.qc_net.specs.Sending.{sending};
 ghost use Rattle.qc_store.specs.Served.{MayServe, HasServed, is_answer};
 ghost use Rattle.qc_store.specs.Sites.{is_grant};
-ghost use Rattle.qc_store.specs.Stored.{setting};
 
 use qc_config::Op;
-use qc_event::{Answer, Answered, Ask, Cause, Entry, Event, How, Kind, Name, Short, Why, dead};
+use qc_event::{
+    Answer, Answered, Ask, CLIENT_SEAT, Cause, Entry, Event, How, Kind, Name, Short, Why, dead,
+};
 use qc_gather::{Carried, CarryNo};
 use qc_net::{Courier, PlanLink, Sent};
 use qc_store::Store;
 use std::alloc::AllocError;
-
-/// The seat under which managers and their accesses stand.
-const CLIENT: u32 = 18;
 
 // How many children of a name have started.
 fn count_children(h: &[Entry], n: &Name) -> usize
@@ -42,7 +41,7 @@ fn count_children(h: &[Entry], n: &Name) -> usize
 
 // The request of a manager's next access.
 fn next_ask(store: &Store, manager: &Name, copy: u8, rec: u8, op: &Op) -> Ask
-    requires may { MayCarry (setting store.now) 18 store.now.past manager.now copy rec op.now }
+    requires may { MayCarry store.now.setting client_seat store.now.past manager.now copy rec op.now }
     requires bounded { length store.now.past ≤ limit }
     ensures { result ≡ next_ask store.now.past manager.now copy rec op.now }
 {
@@ -66,15 +65,15 @@ fn no_of(short: Short) -> CarryNo
 
 // Appends an entry under the client's seat.
 fn enter(store: &mut Store, event: Event) -> Result<(), CarryNo>
-    requires allowed { Allowed (setting store.old) store.old.past (entry 18 event) }
+    requires allowed { Allowed store.old.setting store.old.past (entry client_seat event) }
     requires no_grant { IsTrue (not (is_grant event)) }
-    ensures base { store.new.base ≡ store.old.base }
-    ensures ok { OnOk result (store.new.past ≡ entry 18 event ∷ store.old.past) }
+    ensures setting { store.new.setting ≡ store.old.setting }
+    ensures ok { OnOk result (store.new.past ≡ entry client_seat event ∷ store.old.past) }
     ensures err { OnErr result (store.new.past ≡ store.old.past) }
     ensures short { IfErr result (words.IsShort store.new.past) }
 {
     let entry = Entry {
-        seat: CLIENT,
+        seat: CLIENT_SEAT,
         event,
     };
     match store.push(entry) {
@@ -85,9 +84,9 @@ fn enter(store: &mut Store, event: Event) -> Result<(), CarryNo>
 
 // Starts an access, which asks.
 fn begin(store: &mut Store, ask: &Ask) -> Result<(), CarryNo>
-    requires may { words.MayBegin (setting store.old) store.old.past ask.now }
-    ensures base { store.new.base ≡ store.old.base }
-    ensures ok { OnOk result (store.new.past ≡ began 18 ask.now ++ store.old.past) }
+    requires may { words.MayBegin store.old.setting store.old.past ask.now }
+    ensures setting { store.new.setting ≡ store.old.setting }
+    ensures ok { OnOk result (store.new.past ≡ began client_seat ask.now ++ store.old.past) }
     ensures err { OnErr result (words.IsCutOffAtStart store.old.past ask.now store.new.past) }
     ensures short { IfErr result (words.IsShort store.new.past) }
 {
@@ -123,7 +122,7 @@ fn send(
     ask: &Ask,
     patience: u32,
 ) -> Result<Carried, CarryNo>
-    requires waits { words.Waits (setting store.old) store.old.past ask.now }
+    requires waits { words.Waits store.old.setting store.old.past ask.now }
     requires held { All (MayServe store.old.past) (held_of courier.old) }
     ensures served { HasServed store.old store.new }
     ensures sent { IfOk result (words.WasSent (sending (plan_of (link_of courier.old)) (held_of courier.old) ask.now patience) (plan_of (link_of courier.new)) (held_of courier.new) store.new.past (Rose (troubles_of (link_of courier.old)) (troubles_of (link_of courier.new))) ask.now) }
@@ -153,9 +152,9 @@ fn end_of(told: &Carried) -> How
 
 // Gives an access up where no answer came.
 fn give_up(store: &mut Store, ask: &Ask, told: &Carried) -> Result<(), CarryNo>
-    requires waits { words.Waits (setting store.old) store.old.past ask.now }
+    requires waits { words.Waits store.old.setting store.old.past ask.now }
     requires stands { words.Stands store.old.past ask.now told.now }
-    ensures base { store.new.base ≡ store.old.base }
+    ensures setting { store.new.setting ≡ store.old.setting }
     ensures ok { OnOk result (store.new.past ≡ words.given_up ask.now told.now ++ store.old.past) }
     ensures err { OnErr result (store.new.past ≡ store.old.past) }
     ensures short { IfErr result (words.IsShort store.new.past) }
@@ -174,9 +173,9 @@ fn give_up(store: &mut Store, ask: &Ask, told: &Carried) -> Result<(), CarryNo>
 
 // Ends an access by what its manager is told.
 fn finish(store: &mut Store, ask: &Ask, told: &Carried) -> Result<(), CarryNo>
-    requires waits { words.Waits (setting store.old) store.old.past ask.now }
+    requires waits { words.Waits store.old.setting store.old.past ask.now }
     requires stands { words.Stands store.old.past ask.now told.now }
-    ensures base { store.new.base ≡ store.old.base }
+    ensures setting { store.new.setting ≡ store.old.setting }
     ensures ok { OnOk result (store.new.past ≡ words.ending ask.now told.now ++ store.old.past) }
     ensures err { OnErr result (words.IsCutOffAtEnd store.old.past ask.now told.now store.new.past) }
     ensures short { IfErr result (words.IsShort store.new.past) }
@@ -211,18 +210,18 @@ pub(crate) fn access(
     rec: u8,
     op: &Op,
 ) -> Result<Carried, CarryNo>
-    requires may { MayCarry (setting store.old) 18 store.old.past manager.now copy rec op.now }
+    requires may { MayCarry store.old.setting client_seat store.old.past manager.now copy rec op.now }
     requires in_step { IsInStep (net_of (plan_of (link_of courier.old)) patience) store.old.past (plan_of (link_of courier.old)) (held_of courier.old) }
-    requires met { IsTrue (meets_fates 18 (net_of (plan_of (link_of courier.old)) patience) store.old.past) }
-    ensures base { store.new.base ≡ store.old.base }
+    requires met { IsTrue (meets_fates client_seat (net_of (plan_of (link_of courier.old)) patience) store.old.past) }
+    ensures setting { store.new.setting ≡ store.old.setting }
     ensures grown { HasGrown is_answer (λ n. n ≡ (next_ask store.old.past manager.now copy rec op.now).access) store.old.past store.new.past }
-    ensures carried { IfOk result (λ c. WasCarried (carriage 18 store.old.past store.new.past (made_by 18 store.old.past) (made_by 18 store.new.past) manager.now copy rec op.now) (became c)) }
-    ensures refused { IfErr result (WasNotCarried (carriage 18 store.old.past store.new.past (made_by 18 store.old.past) (made_by 18 store.new.past) manager.now copy rec op.now)) }
-    ensures reason { IfOk result (HasReason (carriage 18 store.old.past store.new.past (made_by 18 store.old.past) (made_by 18 store.new.past) manager.now copy rec op.now) (Rose (troubles_of (link_of courier.old)) (troubles_of (link_of courier.new)))) }
+    ensures carried { IfOk result (λ c. WasCarried (carriage client_seat store.old.past store.new.past (made_by client_seat store.old.past) (made_by client_seat store.new.past) manager.now copy rec op.now) (became c)) }
+    ensures refused { IfErr result (WasNotCarried (carriage client_seat store.old.past store.new.past (made_by client_seat store.old.past) (made_by client_seat store.new.past) manager.now copy rec op.now)) }
+    ensures reason { IfOk result (HasReason (carriage client_seat store.old.past store.new.past (made_by client_seat store.old.past) (made_by client_seat store.new.past) manager.now copy rec op.now) (Rose (troubles_of (link_of courier.old)) (troubles_of (link_of courier.new)))) }
     ensures later { troubles_of (link_of courier.old) ≤ troubles_of (link_of courier.new) }
     ensures plan { anew (plan_of (link_of courier.new)) ≡ anew (plan_of (link_of courier.old)) }
     ensures in_step { words.is_cut_off result ≡ false → IsInStep (net_of (plan_of (link_of courier.new)) patience) store.new.past (plan_of (link_of courier.new)) (held_of courier.new) }
-    ensures met { IsTrue (meets_fates 18 (net_of (plan_of (link_of courier.new)) patience) store.new.past) }
+    ensures met { IsTrue (meets_fates client_seat (net_of (plan_of (link_of courier.new)) patience) store.new.past) }
 {
     if let Some(ancestor) = dead(store.entries(), manager) {
         return Err(CarryNo::Orphan(ancestor));

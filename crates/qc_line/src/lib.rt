@@ -6,5 +6,3 @@ mod line;
 
 pub use line::Line;
 
-#[cfg(test)]
-mod tests;

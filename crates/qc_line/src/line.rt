@@ -1,10 +1,10 @@
 ghost use Rattle.std.specs.Prelude.{◌≡◌, ◌≤◌, ◌↔◌, ◌∷◌, [], IsTrue, IsErrOf, IfOk, OnOk, OnErr, reverse, length};
-ghost use Rattle.qc_event.specs.Base.{first_of};
+ghost use Rattle.qc_event.specs.Base.{first_of, IsProper};
 ghost use Rattle.qc_event.specs.History.{limit};
 ghost use Rattle.qc_event.specs.Legal.{Allowed, Legal};
-ghost use Rattle.qc_line.specs.Lined.{IsOfTransaction, setting};
+ghost use Rattle.qc_event.specs.Seats.{client_seat};
+ghost use Rattle.qc_line.specs.Lined.{IsOfTransaction};
 ghost use Rattle.qc_line.specs.Messages.{meets_fates};
-ghost use Rattle.qc_store.specs.Stored.{IsProper};
 
 use crate::access::{access, is_cut_off};
 use qc_config::{Config, Op};
@@ -15,8 +15,8 @@ use qc_store::Store;
 use std::alloc::{AllocError, Global};
 use std::marker::Model;
 
-/// The copies of a run behind a link that loses, delays and repeats requests. Contracts see it as the copies'
-/// start tuples, the history, which is legal, and what the link is.
+/// The copies of a run behind a link that loses, delays and repeats requests. Contracts see it as its setting,
+/// the history, which is legal, and what the link is.
 #[derive(Drop)]
 pub struct Line {
     store: Store,
@@ -34,30 +34,39 @@ impl Model for Line {
 
     ghost Value = { Lined };
 
-    ghost view = { λ s. record { base = s.store.base; past = s.store.past; net = net_of (plan_of (link_of s.courier)) s.patience; troubles = troubles_of (link_of s.courier); is_legal = s.store.is_legal } };
+    ghost view = { λ s. record {
+        setting = s.store.setting;
+        past = s.store.past;
+        net = net_of (plan_of (link_of s.courier)) s.patience;
+        troubles = troubles_of (link_of s.courier);
+        is_legal = s.store.is_legal;
+    } };
 
     ghost invariant = { λ s. IsKept (plan_of (link_of s.courier)) (held_of s.courier) s.patience s.store.past s.torn };
 }
 
 impl Line {
-    /// A line to copies of these start tuples, whose history is empty. Its requests meet these fates, over and
+    /// A line to copies of these start tuples, over these first configurations, whose history is empty. Its requests meet these fates, over and
     /// over; after every so many due steps the request held first is delivered, and the sender of a held one
     /// waits for so many due steps. The only error is want of memory.
     pub fn new(
         alloc: Global,
+        firsts: Vec<Config>,
         base: Base,
         fates: Vec<Fate>,
         hold: u64,
         patience: u32,
     ) -> Result<Self, AllocError>
-        requires proper { IsProper base }
+        requires proper { IsProper (record { firsts = firsts.items; base = base }) }
         requires hold { 1 ≤ hold }
-        ensures base { IfOk result (λ line. line.base ≡ base) }
+        ensures setting { IfOk result
+            (λ line. line.setting ≡ record { firsts = firsts.items; base = base }) }
         ensures past { IfOk result (λ line. line.past ≡ []) }
-        ensures net { IfOk result (λ line. line.net ≡ record { fates = fates.items; hold = hold; patience = patience }) }
+        ensures net { IfOk result
+            (λ line. line.net ≡ record { fates = fates.items; hold = hold; patience = patience }) }
     {
         Ok(Line {
-            store: Store::new(alloc, base)?,
+            store: Store::new(alloc, firsts, base)?,
             courier: Courier::new(alloc, PlanLink::new(fates, hold)),
             patience,
             torn: false,
@@ -67,30 +76,30 @@ impl Line {
     /// The entries, the oldest first.
     pub fn entries(&self) -> &[Entry]
         ensures entries { reverse result.now ≡ self.now.past }
-        ensures legal { Legal (setting self.now) self.now.past }
-        ensures met { IsTrue (meets_fates 18 self.now.net self.now.past) }
+        ensures legal { Legal self.now.setting self.now.past }
+        ensures met { IsTrue (meets_fates client_seat self.now.net self.now.past) }
     {
         self.store.entries()
     }
 
     /// The tuples with which the copies started.
     pub fn base(&self) -> &Base
-        ensures base { result.now ≡ self.now.base }
-        ensures proper { IsProper self.now.base }
+        ensures base { result.now ≡ self.now.setting.base }
+        ensures proper { IsProper self.now.setting }
     {
         self.store.base()
     }
 
     /// How many records there are.
     pub fn records(&self) -> usize
-        ensures { result ≡ length (setting self.now).firsts }
+        ensures { result ≡ length self.now.setting.firsts }
     {
         self.store.records()
     }
 
     /// The first configuration of a record; one without votes where there is no such record.
     pub fn first(&self, rec: u8) -> Config
-        ensures { result ≡ first_of (setting self.now) rec }
+        ensures { result ≡ first_of self.now.setting rec }
     {
         self.store.first(rec)
     }
@@ -105,25 +114,26 @@ impl Line {
 
     /// Appends an entry of a user transaction or a manager that may come next. An error leaves all as it was.
     pub fn push(&mut self, entry: Entry) -> Result<(), Short>
-        requires allowed { Allowed (setting self.old) self.old.past entry }
+        requires allowed { Allowed self.old.setting self.old.past entry }
         requires of_transaction { IsOfTransaction self.old.past entry.event }
-        ensures base { self.new.base ≡ self.old.base }
+        ensures setting { self.new.setting ≡ self.old.setting }
         ensures net { self.new.net ≡ self.old.net }
         ensures ok { OnOk result (self.new.past ≡ entry ∷ self.old.past) }
         ensures err { OnErr result (self.new.past ≡ self.old.past) }
         ensures room { IsErrOf result Short.Room → length self.old.past ≡ limit }
+        ensures full { length self.old.past ≡ limit → IsErrOf result Short.Room }
     {
         self.store.push(entry)
     }
 
     /// The start tuples, and the entries, the oldest first. It takes no memory.
     pub fn into_parts(self) -> (Base, Vec<Entry>)
-        ensures base { result.0 ≡ self.base }
+        ensures base { result.0 ≡ self.setting.base }
         ensures entries { reverse result.1.items ≡ self.past }
         ensures bounded { length result.1.items ≤ limit }
-        ensures legal { Legal (setting self) self.past }
-        ensures proper { IsProper self.base }
-        ensures met { IsTrue (meets_fates 18 self.net self.past) }
+        ensures legal { Legal self.setting self.past }
+        ensures proper { IsProper self.setting }
+        ensures met { IsTrue (meets_fates client_seat self.net self.past) }
     {
         let Line { store, .. } = self;
         store.into_parts()
@@ -137,11 +147,11 @@ impl Carrier for Line {
     ghost use Rattle.qc_gather.specs.Carrying.{made_by};
     ghost use Rattle.qc_store.specs.Served.{is_answer};
 
-    ghost setting = { setting };
+    ghost setting = { λ line. line.setting };
 
-    ghost seat = { λ _. 18 };
+    ghost seat = { λ _. client_seat };
 
-    ghost own = { λ line. made_by 18 line.past };
+    ghost own = { λ line. made_by client_seat line.past };
 
     ghost seen = { λ line. line.past };
 
@@ -155,7 +165,7 @@ impl Carrier for Line {
 
     ghost became_by_both = { λ a b c first next. next ∙ first };
 
-    ghost is_legal = { λ line. legal_again (setting line) line.past line.is_legal };
+    ghost is_legal = { λ line. legal_again line.setting line.past line.is_legal };
 
     ghost own_are_seen = { λ line. refl };
 

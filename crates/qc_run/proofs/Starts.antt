@@ -10,14 +10,14 @@ use Rattle.std.proofs.lemmas.List.Sums.{sum_by-cons}
 use Rattle.std.proofs.lemmas.Option.{slice_get-map, get_or_from_slice_get}
 use Rattle.qc_config.specs.Config.{IsLegal, weight, holds_write, no_config}
 use Rattle.qc_config.specs.declared.tuple.Tuple.{Tuple}
-use Rattle.qc_event.specs.Base.{setting_of, start_values, start_configs, first_of, no_tuple}
+use Rattle.qc_event.specs.Base.{first_of, no_tuple, IsConfigFor, IsRowFor}
+use Rattle.qc_event.specs.Base.{IsProper as IsProperSetting}
 use Rattle.qc_event.specs.Sound.{Carries, IsSound, HasValue, column, greatest_version}
+use Rattle.qc_event.specs.Tables.{base_of, setting_of, first_tuple, first_configs, first_values}
 use Rattle.qc_event.specs.declared.table.Row.{Row}
 use Rattle.qc_event.specs.declared.table.Table.{Table}
 use Rattle.qc_script.specs.Plan.{ScriptPlan}
 use Rattle.qc_script.specs.Reading.{IsProper, IsProperRow}
-use Rattle.qc_store.specs.Stored.{IsProper as IsProperBase}
-use Rattle.qc_run.specs.Run.{base_of, first_tuple}
 
 -- LISTS
 
@@ -77,17 +77,8 @@ carries row legal = record {
 abbrev first_row : Table → List Tuple
 first_row table = map first_tuple table.records
 
-first_copy : (table : Table) → 0 < table.copies → slice_index_or (base_of table) 0 [] ≡ first_row table
-first_copy table some = get_or-replicate table.copies 0 (first_row table) [] some
-
-pub starts_are : (table : Table) → 0 < table.copies → start_values (base_of table) ≡ map (λ (r : Row). r.start) table.records
-starts_are table some = ap (map (λ (t : Tuple). t.value)) (first_copy table some) ∙ map_map (λ (t : Tuple). t.value) first_tuple table.records
-
-configs_are : (table : Table) → 0 < table.copies → start_configs (base_of table) ≡ map (λ (r : Row). r.config) table.records
-configs_are table some = ap (map (λ (t : Tuple). t.config)) (first_copy table some) ∙ map_map (λ (t : Tuple). t.config) first_tuple table.records
-
-pub firsts_length : (table : Table) → 0 < table.copies → length (start_configs (base_of table)) ≡ length table.records
-firsts_length table some = ap length (configs_are table some) ∙ length-map table.records (λ (r : Row). r.config)
+pub firsts_length : (table : Table) → length (first_configs table) ≡ length table.records
+firsts_length table = length-map table.records (λ (r : Row). r.config)
 
 pub base_length : (table : Table) → length (base_of table) ≡ table.copies
 base_length table = length-replicate table.copies (first_row table)
@@ -97,21 +88,20 @@ column_is table rec row is =
     map_replicate (λ (ts : List Tuple). slice_index_or ts rec no_tuple) table.copies (first_row table)
     ∙ ap (replicate table.copies) (get_or_from_slice_get (first_row table) rec (first_tuple row) no_tuple (slice_get-map first_tuple table.records rec ∙ ap (option_map first_tuple) is))
 
-first_is : (table : Table) (rec : ℕ) (row : Row) → 0 < table.copies → slice_get table.records rec ≡ Some row → first_of (setting_of (base_of table)) rec ≡ row.config
-first_is table rec row some is =
-    ap (λ cs. slice_index_or cs rec no_config) (configs_are table some)
-    ∙ get_or_from_slice_get (map (λ (r : Row). r.config) table.records) rec row.config no_config (slice_get-map (λ (r : Row). r.config) table.records rec ∙ ap (option_map (λ (r : Row). r.config)) is)
+first_is : (table : Table) (rec : ℕ) (row : Row) → slice_get table.records rec ≡ Some row → first_of (setting_of table (base_of table)) rec ≡ row.config
+first_is table rec row is =
+    get_or_from_slice_get (map (λ (r : Row). r.config) table.records) rec row.config no_config (slice_get-map (λ (r : Row). r.config) table.records rec ∙ ap (option_map (λ (r : Row). r.config)) is)
 
-start_is : (table : Table) (rec : ℕ) (row : Row) → slice_get table.records rec ≡ Some row → slice_get (map (λ (r : Row). r.start) table.records) rec ≡ Some row.start
+start_is : (table : Table) (rec : ℕ) (row : Row) → slice_get table.records rec ≡ Some row → slice_get (first_values table) rec ≡ Some row.start
 start_is table rec row is = slice_get-map (λ (r : Row). r.start) table.records rec ∙ ap (option_map (λ (r : Row). r.start)) is
 
-carried_at : (s : ScriptPlan) (rec : ℕ) (row : Row) → IsProper s → slice_get s.table.records rec ≡ Some row → Carries (first_of (setting_of (base_of s.table)) rec) (column (base_of s.table) rec) row.start
+carried_at : (s : ScriptPlan) (rec : ℕ) (row : Row) → IsProper s → slice_get s.table.records rec ≡ Some row → Carries (first_of (setting_of s.table (base_of s.table)) rec) (column (base_of s.table) rec) row.start
 carried_at s rec row proper is =
     let row_proper = at_place (IsProperRow s.table.copies) s.table.records rec row proper.rows is in
-    subst (λ first. Carries first (column (base_of s.table) rec) row.start) (sym (first_is s.table rec row proper.some_copy is))
+    subst (λ first. Carries first (column (base_of s.table) rec) row.start) (sym (first_is s.table rec row is))
     (subst (λ ts. Carries row.config ts row.start) (ap (λ n. replicate n (first_tuple row)) row_proper.for_copies ∙ sym (column_is s.table rec row is)) (carries row row_proper.legal))
 
-by_row : (s : ScriptPlan) (rec : ℕ) (o : Option Row) → IsProper s → rec < length s.table.records → slice_get s.table.records rec ≡ o → MatchOption (slice_get (map (λ (r : Row). r.start) s.table.records) rec) ⊥ (Carries (first_of (setting_of (base_of s.table)) rec) (column (base_of s.table) rec))
+by_row : (s : ScriptPlan) (rec : ℕ) (o : Option Row) → IsProper s → rec < length s.table.records → slice_get s.table.records rec ≡ o → MatchOption (slice_get (first_values s.table) rec) ⊥ (Carries (first_of (setting_of s.table (base_of s.table)) rec) (column (base_of s.table) rec))
 by_row s rec None proper there is = absurd (none_within s.table.records rec there is)
   where
     none_within : (rows : List Row) (k : ℕ) → k < length rows → slice_get rows k ≡ None → ⊥
@@ -119,31 +109,37 @@ by_row s rec None proper there is = absurd (none_within s.table.records rec ther
     none_within (r ∷ rows) zero there none = cc
     none_within (r ∷ rows) (suc k) there none = none_within rows k (omega arith) none
 by_row s rec (Some row) proper there is =
-    subst (λ o. MatchOption o ⊥ (Carries (first_of (setting_of (base_of s.table)) rec) (column (base_of s.table) rec))) (sym (start_is s.table rec row is)) (carried_at s rec row proper is)
+    subst (λ o. MatchOption o ⊥ (Carries (first_of (setting_of s.table (base_of s.table)) rec) (column (base_of s.table) rec))) (sym (start_is s.table rec row is)) (carried_at s rec row proper is)
 
 -- a script's first tuples carry its start values
-pub start_is_sound : (s : ScriptPlan) → IsProper s → IsSound (setting_of (base_of s.table)) (start_values (base_of s.table))
-start_is_sound s proper = subst (IsSound (setting_of (base_of s.table))) (sym (starts_are s.table proper.some_copy)) (λ rec there.
-    let size = firsts_length s.table proper.some_copy in
-    by_row s rec (slice_get s.table.records rec) proper (omega arith) refl)
+pub start_is_sound : (s : ScriptPlan) → IsProper s → IsSound (setting_of s.table (base_of s.table)) (first_values s.table)
+start_is_sound s proper rec there =
+    let size = firsts_length s.table in
+    by_row s rec (slice_get s.table.records rec) proper (omega arith) refl
 
-pub base_is_proper : (s : ScriptPlan) → IsProper s → IsProperBase (base_of s.table)
-base_is_proper s proper =
+-- a table of legal configurations for its copies, and its first tuples, are a proper setting
+pub setting_is_proper : (s : ScriptPlan) → IsProper s → IsProperSetting (setting_of s.table (base_of s.table))
+setting_is_proper s proper =
     let size = base_length s.table in
-    let some = proper.some_copy in
-    let few = proper.few_copies in
+    let many = firsts_length s.table in
+    let some_copy = proper.some_copy in
+    let few_copies = proper.few_copies in
+    let some_record = proper.some_records in
+    let few_records = proper.few_records in
     record {
-      some_copy = omega arith;
-      most_copies = omega arith;
-      same_records = All-replicate (λ (row : List Tuple). length row ≡ length (start_configs (base_of s.table))) s.table.copies (first_row s.table)
-          (length-map s.table.records first_tuple ∙ sym (firsts_length s.table some));
-      for_copies = All-replicate (λ (row : List Tuple). All (λ (t : Tuple). length t.config.votes ≡ length (base_of s.table)) row) s.table.copies (first_row s.table)
-          (All-map (λ (t : Tuple). length t.config.votes ≡ length (base_of s.table)) first_tuple s.table.records (all_of (λ (r : Row). length r.config.votes ≡ length (base_of s.table)) s.table.records (votes_for s.table.records proper.rows)));
+      base = record {
+        some_copy = omega arith;
+        most_copies = omega arith;
+        some_record = omega arith;
+        most_records = omega arith;
+        rows = All-replicate (IsRowFor (length (base_of s.table)) (length (first_configs s.table))) s.table.copies (first_row s.table) (record {
+          same_records = length-map s.table.records first_tuple ∙ sym many;
+          configs = All-map (λ (t : Tuple). IsConfigFor (length (base_of s.table)) t.config) first_tuple s.table.records fitting;
+        });
+      };
+      firsts = All-map (IsConfigFor (length (base_of s.table))) (λ (r : Row). r.config) s.table.records fitting;
     }
   where
-    votes_for : (rows : List Row) → AllByRecursion (IsProperRow s.table.copies) rows → AllByRecursion (λ (r : Row). length r.config.votes ≡ length (base_of s.table)) rows
-    votes_for [] all = tt
-    votes_for (r ∷ rows) all = (all.0.for_copies ∙ sym (base_length s.table), votes_for rows all.1)
-
-pub values_length : (table : Table) → length (start_values (base_of table)) ≡ length (start_configs (base_of table))
-values_length table = length-map (slice_index_or (base_of table) 0 []) (λ (t : Tuple). t.value) ∙ sym (length-map (slice_index_or (base_of table) 0 []) (λ (t : Tuple). t.config))
+    fitting : All (λ (r : Row). IsConfigFor (length (base_of s.table)) r.config) s.table.records
+    fitting = all_of (λ (r : Row). IsConfigFor (length (base_of s.table)) r.config) s.table.records
+        (subst (λ n. AllByRecursion (λ (r : Row). IsConfigFor n r.config) s.table.records) (sym (base_length s.table)) proper.rows)

@@ -1,19 +1,19 @@
 -- What a run answers: words for the clauses of the top call.
-use Rattle.std.specs.Prelude.{ℕ, ◌≡◌, ◌≢◌, ◌⊎◌, List, [], length, map, reverse, replicate, Option, None, IfSome}
+use Rattle.std.specs.Prelude.{ℕ, ◌≡◌, ◌≢◌, ◌⊎◌, List, [], length, map, reverse, Option, None, IfSome}
 use Rattle.std.specs.List.{range_with_len}
-use Rattle.qc_event.specs.Base.{start_values, setting_of}
+use Rattle.qc_event.specs.Sound.{IsSound}
+use Rattle.qc_event.specs.Tables.{base_of, setting_of}
 use Rattle.qc_event.specs.History.{Past}
 use Rattle.qc_event.specs.declared.event.Entry.{Entry}
 use Rattle.qc_event.specs.declared.log.Short.{Short}
 use Rattle.qc_event.specs.declared.log.Short.TheVariants as short
-use Rattle.qc_event.specs.declared.table.Row.{Row}
 use Rattle.qc_event.specs.declared.table.Table.{Table}
 use Rattle.qc_config.specs.declared.tuple.Tuple.{Tuple}
 use Rattle.qc_run.specs.Io.{IsAtEnd, Rose, Appends, AppendsFront}
 use Rattle.qc_script.specs.Reading.{IsScript, IsRefused}
 use Rattle.qc_refine.specs.Final.{final_value}
 use Rattle.qc_run.specs.Report.{Text, report}
-use Rattle.qc_simlock.specs.Serial.{final_values}
+use Rattle.qc_simlock.specs.Serial.{IsSerialThroughout, final_values}
 use Rattle.qc_interp.specs.Trace.{Now}
 use Rattle.qc_line.specs.Messages.{Net}
 use Rattle.qc_run.specs.FaultLine.{fault_line}
@@ -22,21 +22,13 @@ use Rattle.qc_script.specs.Plan.{ScriptPlan}
 use Rattle.qc_run.specs.declared.status.Status.{Status}
 use Rattle.qc_run.specs.declared.status.Status.TheVariants as status
 
--- the tuple with which every copy starts a record: version 0, the start value, generation 0
-abbrev pub first_tuple : Row → Tuple
-first_tuple row = record { version = 0; value = row.start; generation = 0; config = row.config }
-
--- the tuples with which a table's copies start
-abbrev pub base_of : Table → List (List Tuple)
-base_of table = replicate table.copies (map first_tuple table.records)
-
 -- the network of a script's session
 abbrev pub net_of : ScriptPlan → Net
 net_of s = record { fates = s.fates; hold = s.hold; patience = s.patience }
 
 -- a session of a script that has done nothing
 abbrev pub fresh : ScriptPlan → Now
-fresh s = record { setting = setting_of (base_of s.table); past = []; dead = None; net = net_of s }
+fresh s = record { setting = setting_of s.table (base_of s.table); past = []; dead = None; net = net_of s }
 
 -- The source was read to its end, and its bytes are this script.
 pub record ReadsScript (before now : Option (List ℕ)) (s : ScriptPlan) : Type 0 where
@@ -52,6 +44,23 @@ OfScript before now start IsSo = (s : ScriptPlan) × ReadsScript before now s ×
 -- the same of a script that the bytes are
 abbrev pub OfBytes : List ℕ → List (List Tuple) → (ScriptPlan → Type 0) → Type 0
 OfBytes bytes start IsSo = (s : ScriptPlan) × IsScript bytes s × (start ≡ base_of s.table) × IsSo s
+
+-- nothing was begun: there are no start tuples and no history
+abbrev pub NoneBegun : List (List Tuple) → List Entry → Type 0
+NoneBegun start trail = (start ≡ []) × (trail ≡ [])
+
+-- nothing was begun, or a script that the source held was read, the run started from its table, and it is so of it
+abbrev pub OfRun : Option (List ℕ) → Option (List ℕ) → List (List Tuple) → List Entry → (ScriptPlan → Type 0) → Type 0
+OfRun before now start trail IsSo = NoneBegun start trail ⊎ OfScript before now start IsSo
+
+-- the same of a run of the script that the bytes are
+abbrev pub OfBytesRun : List ℕ → List (List Tuple) → List Entry → (ScriptPlan → Type 0) → Type 0
+OfBytesRun bytes start trail IsSo = NoneBegun start trail ⊎ OfBytes bytes start IsSo
+
+-- Where the start is sound for a map of values over the table's first configurations, each user transaction without
+-- an aborted ancestor has its serial order from that map on, at every moment.
+abbrev pub HasSerialOrders : Table → List (List Tuple) → List Entry → Type 0
+HasSerialOrders table start trail = (values : List ℕ) → IsSound (setting_of table start) values → IsSerialThroughout values trail
 
 -- every session ran to its end
 abbrev pub RanToEnd : Status → Type 0
@@ -100,10 +109,6 @@ IsDoneOrShort status.Memory = Unit {0}
 IsDoneOrShort status.Room = Unit {0}
 IsDoneOrShort _ = ⊥
 
--- the report of a history, in which the last values are those of the serial machine
-abbrev pub report_of : ScriptPlan → List (List Tuple) → List Entry → Text
-report_of s start trail = report s.table (final_values (start_values start) (reverse trail)) trail
-
 -- A fault's line was written, all of it unless the sink failed meanwhile.
 pub record TellsFault (before now : Option (List ℕ)) (faults_before faults_now : ℕ) (why : Status) : Type 0 where
   pub front : AppendsFront before now (fault_line why)
@@ -124,6 +129,17 @@ IsConcluded _ = ⊥
 abbrev pub values_by_version : List (List Tuple) → Past → ℕ → List ℕ
 values_by_version base past records = map (final_value base past) (range_with_len 0 records)
 
+-- the report of a history, in which the last values go by versions
+abbrev pub report_of : ScriptPlan → List (List Tuple) → List Entry → Text
+report_of s start trail = report s.table (values_by_version start (reverse trail) (length s.table.records)) trail
+
+-- Where the start is sound for a map with a value for each record, the last values by versions are those of the serial
+-- machine from that map on.
+abbrev pub HasSerialValues : Table → List (List Tuple) → List Entry → Type 0
+HasSerialValues table start trail =
+    (values : List ℕ) → IsSound (setting_of table start) values → length values ≡ length table.records
+    → values_by_version start (reverse trail) (length table.records) ≡ final_values values (reverse trail)
+
 -- the report of a session, with the values by the versions of its tuples
 abbrev pub page : Table → Now → Text
 page table now = report table (values_by_version now.setting.base now.past (length table.records)) (reverse now.past)
@@ -131,7 +147,7 @@ page table now = report table (values_by_version now.setting.base now.past (leng
 -- what a run that stopped may answer
 abbrev pub IsHalted : Short → Status → Type 0
 IsHalted short.Memory answer = answer ≡ status.Memory
-IsHalted short.Room answer = IsOrMemory status.Room answer
+IsHalted short.Room answer = answer ≡ status.Room
 
 -- what the run of a script may answer
 abbrev pub IsPerformed : Status → Type 0

@@ -1,32 +1,31 @@
 //! The top call: all that the program does, over the streams that it is handed.
-ghost use Rattle.std.specs.Prelude.{ℕ, List, ⊤, ◌≡◌, ◌≤◌, [], false, true, length, map, reverse, string_bytes, Some, IfSome, IfOk};
-ghost use Rattle.qc_event.specs.Base.{start_values};
+ghost use Rattle.std.specs.Prelude.{ℕ, List, ⊤, ◌≡◌, ◌≤◌, ◌⊎◌, [], false, true, length, map, reverse, string_bytes, Some, IfSome, IfOk};
 ghost use Rattle.qc_event.specs.History.{limit};
-ghost use Rattle.qc_event.specs.Base.{setting_of};
+ghost use Rattle.qc_event.specs.Base.{IsProper as IsProperSetting};
 ghost use Rattle.qc_event.specs.Legal.{Legal};
+ghost use Rattle.qc_event.specs.Sound.{IsSound};
+ghost use Rattle.qc_event.specs.Tables.{base_of, first_configs, first_tuple, first_values, setting_of};
 ghost use Rattle.qc_script.specs.Plan.{ScriptPlan};
 ghost use Rattle.qc_script.specs.Steps.{plan_of_script};
 ghost use Rattle.qc_run.specs.FaultLine.{fault_line};
 ghost use Rattle.qc_interp.specs.Follows.{FollowsTops};
 ghost use Rattle.qc_run.specs.Io.{Rose, Keeps, Appends, AppendsFront};
 ghost use Rattle.qc_script.specs.Reading.{IsScript, IsProper};
-ghost use Rattle.qc_store.specs.Stored.{IsProper as IsProperBase};
 ghost use Rattle.qc_run.specs.Run as terms;
-ghost use Rattle.qc_simlock.specs.Serial.{IsSerialThroughout};
 ghost use Rattle.qc_run.specs.Words as line;
 
 use crate::io::{Sink, Source, Untaken, take_all, write_all};
 use crate::report::finals::finals;
 use crate::report::report;
-use crate::status::{Status, fault_line};
+use crate::status::{ROOM_LINE, Status, fault_line};
 use crate::words::is_command;
-use qc_event::{Base, Entry, Row, Short, Table, Tuple};
+use qc_event::{Base, Config, Entry, Row, Short, Table, Tuple};
 use qc_interp::Session;
 use qc_script::{BadScript, MOST_BYTES, Script};
 use std::alloc::{AllocError, Global};
 
 fn first_tuples(alloc: Global, rows: &[Row]) -> Result<Vec<Tuple>, AllocError>
-    ensures { IfOk result (λ v. v.items ≡ map terms.first_tuple rows.now) }
+    ensures { IfOk result (λ v. v.items ≡ map first_tuple rows.now) }
 {
     rows.iter()
         .map(|row| Tuple {
@@ -39,13 +38,25 @@ fn first_tuples(alloc: Global, rows: &[Row]) -> Result<Vec<Tuple>, AllocError>
 }
 
 fn base_of(alloc: Global, table: &Table) -> Result<Base, AllocError>
-    ensures { IfOk result (λ b. b ≡ terms.base_of table.now) }
+    ensures { IfOk result (λ b. b ≡ base_of table.now) }
 {
     let mut copies = Vec::new(alloc);
     for _ in 0..table.copies {
         copies.push(first_tuples(alloc, table.records.as_slice())?)?;
     }
     Ok(Base::new(copies))
+}
+
+// The first configuration of each record.
+fn configs_of(alloc: Global, table: &Table) -> Result<Vec<Config>, AllocError>
+    ensures { IfOk result (λ v. v.items ≡ first_configs table.now) }
+{
+    table
+        .records
+        .as_slice()
+        .iter()
+        .map(|row| row.config)
+        .collect(alloc)
 }
 
 /// What a run answers: how it ended, the tuples from which it started, and its history, the oldest
@@ -122,17 +133,18 @@ fn conclude<K: Sink>(alloc: Global, table: &Table, session: &Session, sink: &mut
 
 // A session that has done nothing, over the first tuples of a script's table and its session's network.
 fn open(alloc: Global, script: &Script) -> Result<Session, AllocError>
-    requires base { IsProperBase (terms.base_of script.now.table) }
+    requires proper { IsProperSetting (setting_of script.now.table (base_of script.now.table)) }
     requires hold { 1 ≤ script.now.session.hold }
     ensures { IfOk result (λ session. session ≡ terms.fresh (plan_of_script script.now)) }
 {
+    let firsts = configs_of(alloc, &script.table)?;
     let start = base_of(alloc, &script.table)?;
     let fates = script.session.fates.clone()?;
-    Session::new(alloc, start, fates, script.session.hold, script.patience)
+    Session::new(alloc, firsts, start, fates, script.session.hold, script.patience)
 }
 
-// Ends a run that stopped for want of memory or of room.
-fn halt<K: Sink>(alloc: Global, short: Short, sink: &mut K) -> Status
+// Ends a run that stopped for want of memory or of room. To tell of room takes no memory.
+fn halt<K: Sink>(short: Short, sink: &mut K) -> Status
     ensures answer { terms.IsHalted short result }
     ensures told { terms.IsTold result → terms.TellsFault (K.taken sink.old) (K.taken sink.new)
         (K.faults sink.old) (K.faults sink.new) result }
@@ -141,7 +153,10 @@ fn halt<K: Sink>(alloc: Global, short: Short, sink: &mut K) -> Status
 {
     match short {
         Short::Memory => Status::Memory,
-        Short::Room => tell(alloc, Status::Room, sink),
+        Short::Room => {
+            let _ = write_all(sink, ROOM_LINE);
+            Status::Room
+        }
     }
 }
 
@@ -149,9 +164,8 @@ fn halt<K: Sink>(alloc: Global, short: Short, sink: &mut K) -> Status
 fn proceed<K: Sink>(alloc: Global, script: &Script, mut session: Session, sink: &mut K) -> Ran
     requires proper { IsProper (plan_of_script script.now) }
     requires session { session ≡ terms.fresh (plan_of_script script.now) }
-    ensures legal_history { Legal (setting_of result.start) (reverse result.trail.items) }
-    ensures serial_order { IsSerialThroughout (start_values result.start) result.trail.items }
-    ensures start { result.start ≡ terms.base_of script.now.table }
+    ensures legal_history { Legal (setting_of script.now.table result.start) (reverse result.trail.items) }
+    ensures start { result.start ≡ base_of script.now.table }
     ensures follows { terms.RanToEnd result.status
         → FollowsTops (terms.net_of (plan_of_script script.now)) (plan_of_script script.now).tops (reverse result.trail.items) }
     ensures answer { terms.IsPerformed result.status }
@@ -168,7 +182,7 @@ fn proceed<K: Sink>(alloc: Global, script: &Script, mut session: Session, sink: 
 {
     let status = match session.tops(script.session.tops.as_slice()) {
         Ok(()) => conclude(alloc, &script.table, &session, sink),
-        Err(short) => halt(alloc, short, sink),
+        Err(short) => halt(short, sink),
     };
     let (start, trail) = session.into_parts();
     Ran {
@@ -181,9 +195,10 @@ fn proceed<K: Sink>(alloc: Global, script: &Script, mut session: Session, sink: 
 // Runs a proper script, and reports it.
 fn perform<K: Sink>(alloc: Global, script: &Script, sink: &mut K) -> Ran
     requires { IsProper (plan_of_script script.now) }
-    ensures legal_history { Legal (setting_of result.start) (reverse result.trail.items) }
-    ensures serial_order { IsSerialThroughout (start_values result.start) result.trail.items }
-    ensures start { terms.ReadIt result.status → result.start ≡ terms.base_of script.now.table }
+    ensures legal_history { terms.NoneBegun result.start result.trail.items
+        ⊎ ((result.start ≡ base_of script.now.table)
+        × Legal (setting_of script.now.table result.start) (reverse result.trail.items)) }
+    ensures start { terms.ReadIt result.status → result.start ≡ base_of script.now.table }
     ensures follows { terms.RanToEnd result.status
         → FollowsTops (terms.net_of (plan_of_script script.now)) (plan_of_script script.now).tops (reverse result.trail.items) }
     ensures answer { terms.IsPerformed result.status }
@@ -221,8 +236,8 @@ fn refuse<K: Sink>(alloc: Global, status: Status, sink: &mut K) -> Ran
 
 // Runs the script that the bytes are, or refuses them.
 fn over<K: Sink>(alloc: Global, bytes: &[u8], sink: &mut K) -> Ran
-    ensures legal_history { Legal (setting_of result.start) (reverse result.trail.items) }
-    ensures serial_order { IsSerialThroughout (start_values result.start) result.trail.items }
+    ensures legal_history { terms.OfBytesRun bytes.now result.start result.trail.items
+        (λ s. Legal (setting_of s.table result.start) (reverse result.trail.items)) }
     ensures nothing_begun { terms.BeganNothing result.status
         → (result.trail.items ≡ []) × (result.start ≡ []) }
     ensures started { terms.ReadIt result.status → terms.OfBytes bytes.now result.start (λ _. ⊤) }
@@ -250,8 +265,8 @@ fn over<K: Sink>(alloc: Global, bytes: &[u8], sink: &mut K) -> Ran
 
 // Does what the words say.
 fn answer<S: Source, K: Sink>(alloc: Global, words: &[String], source: &mut S, sink: &mut K) -> Ran
-    ensures legal_history { Legal (setting_of result.start) (reverse result.trail.items) }
-    ensures serial_order { IsSerialThroughout (start_values result.start) result.trail.items }
+    ensures legal_history { terms.OfRun (S.left source.old) (S.left source.new) result.start result.trail.items
+        (λ s. Legal (setting_of s.table result.start) (reverse result.trail.items)) }
     ensures nothing_begun { terms.BeganNothing result.status
         → (result.trail.items ≡ []) × (result.start ≡ []) }
     ensures started { terms.ReadIt result.status
@@ -300,13 +315,23 @@ fn answer<S: Source, K: Sink>(alloc: Global, words: &[String], source: &mut S, s
 /// byte past the longest script. Want of memory may be answered at any time; it leaves the sink as it
 /// was.
 pub fn run<S: Source, K: Sink>(alloc: Global, words: &[String], source: &mut S, sink: &mut K) -> Ran
-    // The history is legal from its start, and empty where nothing was begun.
-    ensures legal_history { Legal (setting_of result.start) (reverse result.trail.items) }
+    // Nothing was begun, or the source held a script, the run started from its table, and the history is legal over
+    // the first configurations of that table.
+    ensures legal_history { terms.OfRun (S.left source.old) (S.left source.new) result.start result.trail.items
+        (λ s. Legal (setting_of s.table result.start) (reverse result.trail.items)) }
     ensures nothing_begun { terms.BeganNothing result.status
         → (result.trail.items ≡ []) × (result.start ≡ []) }
 
-    // At each moment of the history, each user transaction without an aborted ancestor has its serial order.
-    ensures serial_order { IsSerialThroughout (start_values result.start) result.trail.items }
+    // At each moment of the history, each user transaction without an aborted ancestor has its serial order, from
+    // each map of values for which the start is sound; it is for the start values of the table.
+    ensures serial_order { terms.OfRun (S.left source.old) (S.left source.new) result.start result.trail.items
+        (λ s. terms.HasSerialOrders s.table result.start result.trail.items) }
+    ensures sound_start { terms.OfRun (S.left source.old) (S.left source.new) result.start result.trail.items
+        (λ s. IsSound (setting_of s.table result.start) (first_values s.table)) }
+
+    // The last values of the report, which go by versions, are then those of the serial machine.
+    ensures last_values { terms.OfRun (S.left source.old) (S.left source.new) result.start result.trail.items
+        (λ s. terms.HasSerialValues s.table result.start result.trail.items) }
 
     // What ran to its end is a script that the source held, and the history follows it, with requests
     // that meet the fates of its network.

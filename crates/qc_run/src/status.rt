@@ -44,6 +44,9 @@ impl Status {
     }
 }
 
+/// The line that tells that the history had no room.
+pub(crate) const ROOM_LINE: &[u8] = b"qc: room\n";
+
 /// The line that tells a fault, with its newline. A run that is done has none, nor has one that could
 /// not write or had no memory.
 pub(crate) fn fault_line(alloc: Global, status: &Status) -> Result<Vec<u8>, AllocError>

@@ -10,12 +10,13 @@ use Rattle.std.proofs.lemmas.List.Quantifiers.{position-Some}
 use Rattle.std.proofs.lemmas.Result.{IfOk-at_ok, IfOk-weaker}
 use Rattle.serde_json.specs.Data.{Data}
 use Rattle.serde_json.specs.Find.{get}
+use Rattle.qc_event.specs.Base.{IsConfigFor}
 use Rattle.qc_config.specs.Config.{IsLegal, fault}
 use Rattle.qc_config.specs.declared.config.BadConfig.{BadConfig}
 use Rattle.qc_event.specs.declared.table.Row.{Row}
 use Rattle.qc_event.specs.declared.table.Table.{Table}
 use Rattle.qc_net.specs.declared.link.Fate.{Fate}
-use Rattle.qc_script.specs.Plan.{Plan, Numbered, SessionPlan, IsTried, IsConfigFor, PlanWithin, TopsWithin}
+use Rattle.qc_script.specs.Plan.{Plan, Numbered, ScriptPlan, SessionPlan, IsTried, PlanWithin, TopsWithin}
 use Rattle.qc_script.specs.Steps.{plan_of_script}
 use Rattle.qc_script.specs.declared.bad_script.BadScript.{BadScript}
 use Rattle.qc_script.specs.declared.bad_script.BadScript.TheVariants.{Shape, Config, Unknown}
@@ -23,7 +24,7 @@ use Rattle.qc_script.specs.declared.bad_script.Member.{Member}
 use Rattle.qc_script.specs.declared.bad_script.Member.TheVariants as part
 use Rattle.qc_script.specs.declared.script.Script.{Script}
 use Rattle.qc_script.specs.ScriptText.{Read, Text, Front, Counted, Net, followed, ◌>>=◌, must, each, limited, member_or, config_of, row_of, names_of, rows_of, number_of, fate_of, fates_of, net_of, is_word, read_of, set_of, reconf_of, child_of, abort_of, step_in, step_of, steps_of, tries_of, body_of, bodies_of, session_of, only_session, copies_of, records_of, session_at, script_of}
-use Rattle.qc_script.specs.Reading.{Gives, IsProperRow, IsProper}
+use Rattle.qc_script.specs.Reading.{Gives, IsScript, IsProperRow, IsProper}
 
 -- what holds of the last of several parts, where each of them is read
 then_ok : {A B : Type 0} (P : B → Type 0) (r : Read A) (f : A → Read B) → ((x : A) → r ≡ Ok x → IfOk (f x) P) → IfOk (r >>= f) P
@@ -331,6 +332,10 @@ script_proper d =
       short_hold = proper.net.1.1;
       tops = proper.within;
     }
+
+-- so is what bytes are
+pub proper_script : (bytes : List ℕ) (s : ScriptPlan) → IsScript bytes s → IsProper s
+proper_script bytes s is = subst (λ r. IfOk r IsProper) is.reads (script_proper is.value)
 
 -- so is what a reader gives as what the value is
 pub gives_proper : (d : Data) (r : Result Script BadScript) → Gives plan_of_script r (script_of d) → IfOk r (λ s. IsProper (plan_of_script s))

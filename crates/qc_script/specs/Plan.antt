@@ -1,6 +1,7 @@
 -- What a body does: its steps one after another; and what a script is.
 use Rattle.std.specs.Prelude.{◌≡◌, ℕ, ◌+◌, ◌<◌, ◌≤◌, List, [], ◌∷◌, length}
-use Rattle.qc_config.specs.Config.{Voting, IsLegal}
+use Rattle.qc_config.specs.Config.{Voting}
+use Rattle.qc_event.specs.Base.{IsConfigFor}
 use Rattle.qc_event.specs.declared.table.Table.{Table}
 use Rattle.qc_net.specs.declared.link.Fate.{Fate}
 
@@ -38,11 +39,6 @@ pub record ScriptPlan : Type 0 where
 -- a body is tried once or more
 abbrev pub IsTried : ℕ → Type 0
 IsTried tries = (1 ≤ tries) × (tries ≤ 16)
-
--- a legal configuration, with one vote for each of so many copies
-pub record IsConfigFor (copies : ℕ) (config : Voting) : Type 0 where
-  pub legal : IsLegal config
-  pub for_copies : length config.votes ≡ copies
 
 -- Each step of a body of this depth is about one of so many records at so many copies, its configurations are
 -- for these copies, its bodies are no deeper than 16 and tried, and what it aborts is the transaction itself or

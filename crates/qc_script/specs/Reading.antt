@@ -4,9 +4,10 @@ use Rattle.std.specs.Borrow.{Bor}
 use Rattle.std.specs.List.{AllByRecursion}
 use Rattle.serde_json.specs.Data.{Data}
 use Rattle.serde_json.specs.Read.{read}
+use Rattle.qc_event.specs.Base.{IsConfigFor}
 use Rattle.qc_event.specs.declared.table.Row.{Row}
 use Rattle.qc_script.specs.ScriptText.{Read, script_of}
-use Rattle.qc_script.specs.Plan.{ScriptPlan, IsConfigFor, TopsWithin}
+use Rattle.qc_script.specs.Plan.{ScriptPlan, TopsWithin}
 use Rattle.qc_script.specs.declared.bad_script.BadScript.{BadScript}
 use Rattle.qc_script.specs.declared.bad_script.BadScript.TheVariants.{NotJson, TooLong, Memory}
 

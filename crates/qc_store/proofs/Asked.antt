@@ -1,13 +1,12 @@
 -- A request that stands in a legal history was allowed when it was made, so it fits the table.
 use Rattle.std.proofs.Common.{◌≡◌, ℕ, [], ◌∷◌, refl, sym, ap, ◌∙◌, subst, inl, inr, List}
 use Rattle.std.specs.Prelude.{Option, None, Some, MatchOption}
-use Rattle.qc_config.specs.declared.tuple.Tuple.{Tuple}
 use Rattle.qc_names.specs.Name as name
 use Rattle.qc_event.specs.declared.event.Ask.{Ask}
 use Rattle.qc_event.specs.declared.event.Event.{Event}
 use Rattle.qc_event.specs.declared.event.Event.TheVariants as event
 use Rattle.qc_event.specs.declared.event.Kind.TheVariants as kind
-use Rattle.qc_event.specs.Base.{Setting, setting_of}
+use Rattle.qc_event.specs.Base.{Setting, IsProper}
 use Rattle.qc_event.specs.History.{Past, Name, Asked, Begun, same, start, asked, ask_in}
 use Rattle.qc_event.specs.Legal.{Legal, MayHappen}
 use Rattle.qc_event.specs.Manager.{record_of, AtStage}
@@ -15,7 +14,6 @@ use Rattle.qc_event.specs.Requests.{IsNextAsk, MayAsk}
 use Rattle.qc_event.specs.Standing.{IsManager}
 use Rattle.qc_event.proofs.Absent.{same_is}
 use Rattle.qc_event.proofs.OneEntry.{if_is, first_is}
-use Rattle.qc_store.specs.Stored.{IsProper}
 use Rattle.qc_store.proofs.Begun.{KindFits, IsManaged, kind_fits, record_fits, access_managed}
 use Rattle.qc_store.proofs.Fits.{AskFits, ask_fits, first_sized}
 
@@ -67,15 +65,15 @@ managed setting past seat ask legal may = by_start (start past ask.access) refl 
     by_start (Some b) is started = access_managed setting past ask.access b legal is started.1
 
 -- a request goes to a copy that there is, for a record of the table, and puts a configuration for as many copies
-pub asked_fits : (base : List (List Tuple)) (past : Past) (n : Name) (a : Asked) → IsProper base → Legal (setting_of base) past → asked past n ≡ Some a → AskFits (setting_of base) a.ask
-asked_fits base past n a proper legal is =
-    let was = was_asked (setting_of base) past n a legal is in
-    by_manager was.before was.legal (start was.before (name.front a.ask.access)) refl was.may.of_stage (managed (setting_of base) was.before a.seat a.ask was.legal was.may)
+pub asked_fits : (setting : Setting) (past : Past) (n : Name) (a : Asked) → IsProper setting → Legal setting past → asked past n ≡ Some a → AskFits setting a.ask
+asked_fits setting past n a proper legal is =
+    let was = was_asked setting past n a legal is in
+    by_manager was.before was.legal (start was.before (name.front a.ask.access)) refl was.may.of_stage (managed setting was.before a.seat a.ask was.legal was.may)
   where
-    by_manager : (before : Past) → Legal (setting_of base) before → (o : Option Begun) → start before (name.front a.ask.access) ≡ o
-        → MatchOption o ⊥ (λ m. AtStage (setting_of base) before (name.front a.ask.access) m.kind (IsNextAsk before (name.front a.ask.access) m.kind a.ask)) → MatchOption o ⊥ (λ m. IsManager m.kind) → AskFits (setting_of base) a.ask
+    by_manager : (before : Past) → Legal setting before → (o : Option Begun) → start before (name.front a.ask.access) ≡ o
+        → MatchOption o ⊥ (λ m. AtStage setting before (name.front a.ask.access) m.kind (IsNextAsk before (name.front a.ask.access) m.kind a.ask)) → MatchOption o ⊥ (λ m. IsManager m.kind) → AskFits setting a.ask
     by_manager before legal None is at manages = absurd at
     by_manager before legal (Some m) is at manages =
-        let kind : KindFits (setting_of base) m.kind = kind_fits (setting_of base) before (name.front a.ask.access) m legal is in
-        ask_fits (setting_of base) before (name.front a.ask.access) m.kind a.ask legal manages kind
-        (first_sized base proper (record_of m.kind) (record_fits (setting_of base) m.kind manages kind)) at
+        let kind : KindFits setting m.kind = kind_fits setting before (name.front a.ask.access) m legal is in
+        ask_fits setting before (name.front a.ask.access) m.kind a.ask legal manages kind
+        (first_sized setting proper (record_of m.kind) (record_fits setting m.kind manages kind)) at

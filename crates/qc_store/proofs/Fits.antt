@@ -4,19 +4,16 @@ use Rattle.std.proofs.Common.{◌≡◌, ℕ, zero, suc, ◌<◌, Bool, true, fa
 use Rattle.std.specs.Prelude.{Option, None, Some, MatchOption, if◌then◌else◌, not, ◌&&◌, nat_lt, is_none, slice_index_or}
 use Rattle.std.specs.List.{AllByRecursion}
 use Rattle.std.proofs.lemmas.Bool.{and_parts, ltb-true}
-use Rattle.std.proofs.lemmas.List.{get_or-map}
 use Rattle.qc_config.specs.Config.{Voting, votes_of, no_config}
-use Rattle.qc_config.specs.declared.tuple.Tuple.{Tuple}
 use Rattle.qc_event.specs.declared.event.Ask.{Ask}
 use Rattle.qc_event.specs.declared.event.Kind.{Kind}
 use Rattle.qc_event.specs.declared.event.Kind.TheVariants as kind
-use Rattle.qc_event.specs.Base.{Setting, setting_of, start_configs, start_tuple, no_tuple, first_of}
+use Rattle.qc_event.specs.Base.{Setting, start_tuple, no_tuple, first_of, IsProper}
 use Rattle.qc_event.specs.History.{Past, Name}
 use Rattle.qc_event.specs.Legal.{Legal}
 use Rattle.qc_event.specs.Manager.{Stage, Newest, Greatest, stages_by, stages, stage, is_enough, at_last_number, newest, greatest, ask_at, first_for, AtStage}
 use Rattle.qc_event.specs.Requests.{IsNextAsk}
 use Rattle.qc_event.specs.Standing.{IsManager}
-use Rattle.qc_store.specs.Stored.{IsProper}
 use Rattle.qc_store.proofs.Found.{found_holds, found_range}
 use Rattle.qc_store.proofs.Begun.{KindFits, record_fits}
 use Rattle.qc_store.proofs.Sized.{IsSized, OpSized, newest_sized}
@@ -80,23 +77,15 @@ ask_fits setting past m k ask legal manager fits here at = by_stage (stage past 
           sized = subst (OpSized (length setting.base)) (sym next.same_op) sized.1;
         }
 
--- PROPER BASES
+-- PROPER SETTINGS
 
-module _ (base : List (List Tuple)) (proper : IsProper base) where
+module _ (setting : Setting) (proper : IsProper setting) where
   -- the start tuple of a copy and a record is for as many copies
-  pub start_sized : (copy rec : ℕ) → copy < length base → rec < length (start_configs base) → IsSized (length base) (start_tuple base copy rec)
+  pub start_sized : (copy rec : ℕ) → copy < length setting.base → rec < length setting.firsts → IsSized (length setting.base) (start_tuple setting.base copy rec)
   start_sized copy rec is_copy is_record =
-      let same : length (slice_index_or base copy []) ≡ length (start_configs base) = proper.same_records copy [] is_copy in
-      proper.for_copies copy [] is_copy rec no_tuple (omega arith)
+      let row = proper.base.rows copy [] is_copy in
+      (row.configs rec no_tuple (omega (arith, row.same_records))).for_copies
 
-  config_of : Tuple → Voting
-  config_of t = t.config
-
-  -- a record's first configuration is that of the first copy's tuple
-  pub first_is : (rec : ℕ) → rec < length (start_configs base) → first_of (setting_of base) rec ≡ (start_tuple base 0 rec).config
-  first_is rec is_record =
-      let same : length (slice_index_or base 0 []) ≡ length (start_configs base) = proper.same_records 0 [] proper.some_copy in
-      get_or-map (λ (t : Tuple). t.config) (slice_index_or base 0 []) rec no_tuple no_config (omega arith)
-
-  pub first_sized : (rec : ℕ) → rec < length (start_configs base) → length (first_of (setting_of base) rec).votes ≡ length base
-  first_sized rec is_record = ap (λ (c : Voting). length c.votes) (first_is rec is_record) ∙ start_sized 0 rec proper.some_copy is_record
+  -- and so is a record's first configuration
+  pub first_sized : (rec : ℕ) → rec < length setting.firsts → length (first_of setting rec).votes ≡ length setting.base
+  first_sized rec is_record = (proper.firsts rec no_config is_record).for_copies

@@ -37,9 +37,9 @@ pub gave_on : (past now : Past) (e : Entry) (v : Stored) → v.past ≡ past →
 gave_on past now e v is grown ask answer h = subst (λ p. HasAnswered p ask answer) (sym grown) (gave_still e past ask answer (subst (λ p. HasAnswered p ask answer) is h))
 
 -- a store that grew by a copy's answer has served
-pub served_on : (v now : Stored) (past : Past) (e : Entry) → now.base ≡ v.base → v.past ≡ past → now.past ≡ e ∷ past → IsTrue (is_answer e) → HasServed v now
+pub served_on : (v now : Stored) (past : Past) (e : Entry) → now.setting ≡ v.setting → v.past ≡ past → now.past ≡ e ∷ past → IsTrue (is_answer e) → HasServed v now
 served_on v now past e same is grown told = record {
-  same_base = same;
+  same_setting = same;
   newer = e ∷ [];
   grown = grown ∙ ap (λ p. e ∷ p) (sym is);
   answers = All-cons (λ (x : Entry). IsTrue (is_answer x)) e [] told (All-nil (λ (x : Entry). IsTrue (is_answer x)));

@@ -2,7 +2,6 @@
 use Rattle.std.proofs.Common.{◌≡◌, Bool, List, ◌∷◌, sym, subst}
 use Rattle.std.proofs.Math.Logic.{∥∥₁_map}
 use Rattle.std.specs.Prelude.{Result, Ok, Err, OnOk, OnErr, IsTrue, not}
-use Rattle.qc_config.specs.declared.tuple.Tuple.{Tuple}
 use Rattle.qc_event.specs.declared.event.Entry.{Entry}
 use Rattle.qc_event.specs.Base.{Setting}
 use Rattle.qc_event.specs.History.{Past}
@@ -22,9 +21,9 @@ module _ {T E : Type 0} (past now : Past) (e : Entry) (r : Result T E) (ok : OnO
       by_result (Ok t) is none = subst (λ p. ∥ Legal setting p ∥₁) (sym is) (legal_more setting past e legal may)
       by_result (Err x) none is = subst (λ p. ∥ Legal setting p ∥₁) (sym is) legal
 
-  pub pushed_kept : (base : List (List Tuple)) (copies : List State) (torn : Bool) → IsTrue (not (is_grant e.event)) → IsKept base past copies torn → IsKept base now copies torn
-  pushed_kept base copies torn none kept = by_result r ok err
+  pub pushed_kept : (setting : Setting) (copies : List State) (torn : Bool) → IsTrue (not (is_grant e.event)) → IsKept setting past copies torn → IsKept setting now copies torn
+  pushed_kept setting copies torn none kept = by_result r ok err
     where
-      by_result : (x : Result T E) → OnOk x (now ≡ e ∷ past) → OnErr x (now ≡ past) → IsKept base now copies torn
-      by_result (Ok t) is never = subst (λ p. IsKept base p copies torn) (sym is) (record { proper = kept.proper; sites = λ whole. sites_still base e past copies none (kept.sites whole) })
-      by_result (Err x) never is = subst (λ p. IsKept base p copies torn) (sym is) kept
+      by_result : (x : Result T E) → OnOk x (now ≡ e ∷ past) → OnErr x (now ≡ past) → IsKept setting now copies torn
+      by_result (Ok t) is never = subst (λ p. IsKept setting p copies torn) (sym is) (record { proper = kept.proper; sites = λ whole. sites_still setting.base e past copies none (kept.sites whole) })
+      by_result (Err x) never is = subst (λ p. IsKept setting p copies torn) (sym is) kept

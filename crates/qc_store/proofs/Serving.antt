@@ -1,9 +1,9 @@
 -- A copy of a store answers a request that stands in the history what the history says: it was granted before, or is
 -- granted or refused, which may be entered, and then the copies have what the history tells.
-use Rattle.std.proofs.Common.{◌≡◌, ◌+◌, ◌<◌, Bool, true, false, List, [], ◌∷◌, ◌++◌, length, refl, sym, ap, ap₂, ◌∙◌, subst, arith}
+use Rattle.std.proofs.Common.{◌≡◌, ℕ, ◌+◌, ◌<◌, Bool, true, false, List, [], ◌∷◌, ◌++◌, length, refl, sym, ap, ap₂, ◌∙◌, subst, arith}
 use mathlib.Core.Bool.{true≢false}
-use Rattle.std.proofs.lemmas.Bool.{lt-ltb}
-use Rattle.std.specs.Prelude.{Result, Ok, Err, OnOk, is_err, IsTrue, nat_lt, Option, None, Some, ◌||◌, if◌then◌else◌, is_some, find, filter, slice_index_or, slice_set}
+use Rattle.std.proofs.lemmas.Bool.{le-ltb, ne_eqb}
+use Rattle.std.specs.Prelude.{Result, Ok, Err, OnOk, is_err, IsTrue, nat_lt, Option, None, Some, ◌||◌, if◌then◌else◌, is_some, not, find, filter, slice_index_or, slice_set}
 use Rattle.std.specs.Option.{option_map, option_map_or}
 use Rattle.qc_config.specs.declared.tuple.Tuple.{Tuple}
 use Rattle.qc_config.specs.Tuple.{after}
@@ -12,54 +12,59 @@ use Rattle.qc_event.specs.declared.event.Answered.TheVariants.{Granted, Blocked,
 use Rattle.qc_event.specs.declared.event.Ask.{Ask}
 use Rattle.qc_event.specs.declared.event.Grant.{Grant}
 use Rattle.qc_event.specs.declared.event.Refusal.TheVariants as refusal
-use Rattle.qc_event.specs.Base.{setting_of, start_configs, no_tuple}
+use Rattle.qc_event.specs.Base.{Setting, no_tuple, IsProper}
 use Rattle.qc_event.specs.Dead.{dead}
 use Rattle.qc_event.specs.History.{Past, Name, Asked, granted, grants}
 use Rattle.qc_event.specs.Legal.{Legal, Allowed}
 use Rattle.qc_event.proofs.LegalAgain.{legal_again}
+use Rattle.qc_event.specs.Seats.{copy_seat, is_client}
 use Rattle.qc_event.specs.Seen.{is_in_way, is_live_at, changed_by, seen, holder}
 use Rattle.qc_moss.specs.Follows.{Follows}
 use Rattle.qc_copy.specs.State as copy
 use Rattle.qc_copy.specs.State.{State}
 use Rattle.qc_store.specs.Served.{MayServe, HasAnswered, IsOfCopy, is_answer, answer_entry, refusal_entry}
 use Rattle.qc_store.specs.Sites.{IsSite, AreSites, IsKept}
-use Rattle.qc_store.specs.Stored.{IsProper, Stored}
+use Rattle.qc_store.specs.Stored.{Stored}
 use Rattle.qc_store.proofs.Answering as answering
 use Rattle.qc_store.proofs.Asked.{asked_fits}
 use Rattle.qc_store.proofs.Fits.{AskFits, start_sized}
 use Rattle.qc_store.proofs.Repeats.{again_granted, none_granted, was_granted}
 use Rattle.qc_store.proofs.Sited.{sites_still, sites_settled, sites_granted}
 
+-- a copy's seat is no client's
+no_client : (copy : ℕ) → copy < 16 → not (is_client (copy_seat copy)) ≡ true
+no_client copy few = ap not (ap₂ ◌||◌ (ne_eqb (copy + 2) 0 (λ is. omega arith)) (le-ltb 17 (copy + 2) (omega arith)))
+
 -- a request that was made stands in a legal history
-pub record IsReady (base : List (List Tuple)) (past : Past) (ask : Ask) : Type 0 where
-  pub proper : IsProper base
-  pub legal : Legal (setting_of base) past
+pub record IsReady (setting : Setting) (past : Past) (ask : Ask) : Type 0 where
+  pub proper : IsProper setting
+  pub legal : Legal setting past
   pub may : MayServe past ask
 
-pub ready : (base : List (List Tuple)) (past : Past) (ask : Ask) (shown : ∥ Legal (setting_of base) past ∥₁) (v : Stored) → IsProper base → record { base = base; past = past; is_legal = shown } ≡ v → MayServe v.past ask → IsReady base past ask
-ready base past ask shown v proper is may = record {
+pub ready : (setting : Setting) (past : Past) (ask : Ask) (shown : ∥ Legal setting past ∥₁) (v : Stored) → IsProper setting → record { setting = setting; past = past; is_legal = shown } ≡ v → MayServe v.past ask → IsReady setting past ask
+ready setting past ask shown v proper is may = record {
   proper = proper;
-  legal = legal_again (setting_of base) past shown;
+  legal = legal_again setting past shown;
   may = subst (λ (x : Stored). MayServe x.past ask) (sym is) may;
 }
 
-module _ (base : List (List Tuple)) (past : Past) (ask : Ask) (r : IsReady base past ask) where
-  pub fits : AskFits (setting_of base) ask
-  fits = asked_fits base past ask.access (record { seat = r.may.0; ask = ask }) r.proper r.legal r.may.1
+module _ (setting : Setting) (past : Past) (ask : Ask) (r : IsReady setting past ask) where
+  pub fits : AskFits setting ask
+  fits = asked_fits setting past ask.access (record { seat = r.may.0; ask = ask }) r.proper r.legal r.may.1
 
-  pub is_place : (sites : List State) → AreSites base past sites → ask.copy < length sites
+  pub is_place : (sites : List State) → AreSites setting.base past sites → ask.copy < length sites
   is_place sites are = let same = are.same_length in let place = fits.is_copy in omega arith
 
   -- REPEATS
 
   again_told : copy.again (grants past ask.copy) ask.access ≡ option_map (λ g. g.grant.tuple) (granted past ask.access)
-  again_told = again_granted ask.access ask.copy (setting_of base) past r.legal (λ a is. by_copy a (sym is ∙ r.may.1))
+  again_told = again_granted ask.access ask.copy setting past r.legal (λ a is. by_copy a (sym is ∙ r.may.1))
     where
       by_copy : (a : Asked) → Some a ≡ Some (record { seat = r.may.0; ask = ask }) → a.ask.copy ≡ ask.copy
       by_copy a h = let same : a ≡ record { seat = r.may.0; ask = ask } = cc in ap (λ (x : Asked). x.ask.copy) same
 
   -- a repeat is answered with its grant's tuple
-  pub repeat_told : (s : State) (a : Answered) → IsSite base past ask.copy s → is_some (copy.again s.grants ask.access) ≡ true → a ≡ copy.answer past s ask → HasAnswered past ask a
+  pub repeat_told : (s : State) (a : Answered) → IsSite setting.base past ask.copy s → is_some (copy.again s.grants ask.access) ≡ true → a ≡ copy.answer past s ask → HasAnswered past ask a
   repeat_told s a site some is = by_again (copy.again s.grants ask.access) refl some
     where
       by_again : (o : Option Tuple) → copy.again s.grants ask.access ≡ o → is_some o ≡ true → HasAnswered past ask a
@@ -74,7 +79,7 @@ module _ (base : List (List Tuple)) (past : Past) (ask : Ask) (r : IsReady base 
   held = holder past ask.copy ask.rec ask.op ask.access
 
   abbrev tuple : Tuple
-  tuple = after (seen base past ask.copy ask.rec) ask.op
+  tuple = after (seen setting.base past ask.copy ask.rec) ask.op
 
   -- what is answered and granted, by what a copy has
   abbrev answer_by : List Tuple → List Grant → Answered
@@ -95,10 +100,10 @@ module _ (base : List (List Tuple)) (past : Past) (ask : Ask) (r : IsReady base 
     is_blocked : (h : Name) → dead past ask.access ≡ None → held ≡ Some h → a ≡ Blocked h → given ≡ grants past ask.copy → Turn a given
     is_granted : dead past ask.access ≡ None → held ≡ None → a ≡ Granted tuple → given ≡ grants past ask.copy ++ copy.grant_with ask tuple ∷ [] → Turn a given
 
-  module _ (s : State) (site : IsSite base past ask.copy s) where
+  module _ (s : State) (site : IsSite setting.base past ask.copy s) where
     pub within : ask.rec < length s.table.start
     within =
-        let row : length (slice_index_or base ask.copy []) ≡ length (start_configs base) = r.proper.same_records ask.copy [] fits.is_copy in
+        let row : length (slice_index_or setting.base ask.copy []) ≡ length setting.firsts = (r.proper.base.rows ask.copy [] fits.is_copy).same_records in
         let here = ap length site.start in
         let rec_fits = fits.is_record in
         omega arith
@@ -153,19 +158,19 @@ module _ (base : List (List Tuple)) (past : Past) (ask : Ask) (r : IsReady base 
       serves = by_turn IsOfCopy (λ x d given. tt) (λ h d w given. tt) (λ d w given. tt) turn
 
       -- what the copy answered may be entered
-      pub answer_allowed : Allowed (setting_of base) past (answer_entry ask a)
-      answer_allowed = by_turn (λ x. Allowed (setting_of base) past (answer_entry ask x))
-          (λ x d given. answering.dead_allowed (setting_of base) past r.may.0 ask r.legal r.may.1 x d)
-          (λ h d w given. answering.blocked_allowed (setting_of base) past r.may.0 ask r.legal r.may.1 h d w)
-          (λ d w given. answering.grant_allowed (setting_of base) past r.may.0 ask r.legal r.may.1 first_time d w (start_sized base r.proper ask.copy ask.rec fits.is_copy fits.is_record) fits.sized)
+      pub answer_allowed : Allowed setting past (answer_entry ask a)
+      answer_allowed = by_turn (λ x. Allowed setting past (answer_entry ask x))
+          (λ x d given. answering.dead_allowed setting past r.may.0 ask r.legal r.may.1 x d)
+          (λ h d w given. answering.blocked_allowed setting past r.may.0 ask r.legal r.may.1 h d w)
+          (λ d w given. answering.grant_allowed setting past r.may.0 ask r.legal r.may.1 first_time d w (start_sized setting r.proper ask.copy ask.rec fits.is_copy fits.is_record) fits.sized)
           turn
 
       -- and is a copy's answer
       pub is_told : IsTrue (is_answer (answer_entry ask a))
       is_told = by_turn (λ x. IsTrue (is_answer (answer_entry ask x))) (λ x d given. under) (λ h d w given. under) (λ d w given. under) turn
         where
-          under : nat_lt (ask.copy + 2) 18 ≡ true
-          under = lt-ltb (ask.copy + 2) 18 (let lt = fits.below in omega arith)
+          under : not (is_client (copy_seat ask.copy)) ≡ true
+          under = no_client ask.copy fits.below
 
       -- and then tells what was answered
       pub answer_told : HasAnswered (answer_entry ask a ∷ past) ask a
@@ -176,35 +181,35 @@ module _ (base : List (List Tuple)) (past : Past) (ask : Ask) (r : IsReady base 
           turn
 
       -- the copies have then what the history tells
-      pub answer_sites : (sites : List State) (after : State) → AreSites base past sites → after.table.start ≡ s.table.start → after.grants ≡ copy.grants_after past s ask → Follows past after.grants after.table
-          → AreSites base (answer_entry ask a ∷ past) (slice_set sites ask.copy after)
-      answer_sites sites after are start same follows = by_turn (λ x. AreSites base (answer_entry ask x ∷ past) (slice_set sites ask.copy after))
-          (λ x d given. sites_still base (refusal_entry ask (refusal.Dead x)) past (slice_set sites ask.copy after) refl (settled (same ∙ given)))
-          (λ h d w given. sites_still base (refusal_entry ask (refusal.Blocked h)) past (slice_set sites ask.copy after) refl (settled (same ∙ given)))
-          (λ d w given. sites_granted base past sites ask.copy (ask.copy + 2) (copy.grant_with ask tuple) after are (start ∙ site.start) (same ∙ given) follows)
+      pub answer_sites : (sites : List State) (after : State) → AreSites setting.base past sites → after.table.start ≡ s.table.start → after.grants ≡ copy.grants_after past s ask → Follows past after.grants after.table
+          → AreSites setting.base (answer_entry ask a ∷ past) (slice_set sites ask.copy after)
+      answer_sites sites after are start same follows = by_turn (λ x. AreSites setting.base (answer_entry ask x ∷ past) (slice_set sites ask.copy after))
+          (λ x d given. sites_still setting.base (refusal_entry ask (refusal.Dead x)) past (slice_set sites ask.copy after) refl (settled (same ∙ given)))
+          (λ h d w given. sites_still setting.base (refusal_entry ask (refusal.Blocked h)) past (slice_set sites ask.copy after) refl (settled (same ∙ given)))
+          (λ d w given. sites_granted setting.base past sites ask.copy (ask.copy + 2) (copy.grant_with ask tuple) after are (start ∙ site.start) (same ∙ given) follows)
           turn
         where
-          settled : after.grants ≡ grants past ask.copy → AreSites base past (slice_set sites ask.copy after)
-          settled given = sites_settled base past sites ask.copy after are (record { start = start ∙ site.start; granted = given; follows = follows })
+          settled : after.grants ≡ grants past ask.copy → AreSites setting.base past (slice_set sites ask.copy after)
+          settled given = sites_settled setting.base past sites ask.copy after are (record { start = start ∙ site.start; granted = given; follows = follows })
 
       -- so the store keeps what it keeps, once the answer is entered
-      pub answer_kept : (now : Past) (torn : Bool) → now ≡ answer_entry ask a ∷ past → (sites : List State) (after : State) → AreSites base past sites
-          → after.table.start ≡ s.table.start → after.grants ≡ copy.grants_after past s ask → Follows past after.grants after.table → IsKept base now (slice_set sites ask.copy after) torn
+      pub answer_kept : (now : Past) (torn : Bool) → now ≡ answer_entry ask a ∷ past → (sites : List State) (after : State) → AreSites setting.base past sites
+          → after.table.start ≡ s.table.start → after.grants ≡ copy.grants_after past s ask → Follows past after.grants after.table → IsKept setting now (slice_set sites ask.copy after) torn
       answer_kept now torn grown sites after are start same follows = record {
         proper = r.proper;
-        sites = λ whole. subst (λ p. AreSites base p (slice_set sites ask.copy after)) (sym grown) (answer_sites sites after are start same follows);
+        sites = λ whole. subst (λ p. AreSites setting.base p (slice_set sites ask.copy after)) (sym grown) (answer_sites sites after are start same follows);
       }
 
-      pub answer_legal : (now : Past) → now ≡ answer_entry ask a ∷ past → ∥ Legal (setting_of base) now ∥₁
-      answer_legal now grown = subst (λ p. ∥ Legal (setting_of base) p ∥₁) (sym grown) ∣ (r.legal, answer_allowed) ∣₁
+      pub answer_legal : (now : Past) → now ≡ answer_entry ask a ∷ past → ∥ Legal setting now ∥₁
+      answer_legal now grown = subst (λ p. ∥ Legal setting p ∥₁) (sym grown) ∣ (r.legal, answer_allowed) ∣₁
 
 -- A request that was made has come to a copy of a store that is not torn.
-pub record IsAt (base : List (List Tuple)) (past : Past) (ask : Ask) (s : State) : Type 0 where
-  pub ready : IsReady base past ask
-  pub site : IsSite base past ask.copy s
+pub record IsAt (setting : Setting) (past : Past) (ask : Ask) (s : State) : Type 0 where
+  pub ready : IsReady setting past ask
+  pub site : IsSite setting.base past ask.copy s
 
-pub at_copy : (base : List (List Tuple)) (past : Past) (ask : Ask) (sites : List State) (s : State) → IsReady base past ask → AreSites base past sites → s ≡ slice_index_or sites ask.copy s → IsAt base past ask s
-at_copy base past ask sites s r are item = record { ready = r; site = subst (IsSite base past ask.copy) (sym item) (are.each ask.copy s (is_place base past ask r sites are)) }
+pub at_copy : (setting : Setting) (past : Past) (ask : Ask) (sites : List State) (s : State) → IsReady setting past ask → AreSites setting.base past sites → s ≡ slice_index_or sites ask.copy s → IsAt setting past ask s
+at_copy setting past ask sites s r are item = record { ready = r; site = subst (IsSite setting.base past ask.copy) (sym item) (are.each ask.copy s (is_place setting past ask r sites are)) }
 
 -- what an entry made is there where there was no error
 pub made : {T E : Type 0} (r : Result T E) {P : Type 0} → is_err r ≡ false → OnOk r P → P

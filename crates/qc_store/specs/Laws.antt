@@ -8,12 +8,12 @@ use Rattle.qc_store.specs.Stored.{Stored}
 
 -- without serving a store is as it was
 pub served_itself : (s : Stored) → HasServed s s
-served_itself s = record { same_base = refl; newer = []; grown = refl; answers = All-nil (λ (e : Entry). IsTrue (is_answer e)) }
+served_itself s = record { same_setting = refl; newer = []; grown = refl; answers = All-nil (λ (e : Entry). IsTrue (is_answer e)) }
 
 -- serving after serving is serving
 pub served_by_both : (a b c : Stored) → HasServed a b → HasServed b c → HasServed a c
 served_by_both a b c first second = record {
-  same_base = second.same_base ∙ first.same_base;
+  same_setting = second.same_setting ∙ first.same_setting;
   newer = second.newer ++ first.newer;
   grown = second.grown ∙ ap (λ p. second.newer ++ p) first.grown ∙ sym (append_assoc second.newer first.newer a.past);
   answers = All-append (λ (e : Entry). IsTrue (is_answer e)) second.newer first.newer second.answers first.answers;

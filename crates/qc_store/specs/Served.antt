@@ -1,5 +1,5 @@
 -- What the copies' answers add to a history.
-use Rattle.std.specs.Prelude.{◌≡◌, ℕ, nat_lt, Bool, true, false, ◌&&◌, IsTrue, ◌+◌, ◌++◌, All, Contains, Some}
+use Rattle.std.specs.Prelude.{◌≡◌, ℕ, Bool, true, false, ◌&&◌, not, IsTrue, ◌++◌, All, Contains, Some}
 use Rattle.qc_config.specs.declared.tuple.Tuple.{Tuple}
 use Rattle.qc_event.specs.Base.{no_tuple}
 use Rattle.qc_event.specs.declared.event.Answered.{Answered}
@@ -13,6 +13,7 @@ use Rattle.qc_event.specs.declared.event.Refusal.TheVariants.{Blocked, Dead}
 use Rattle.qc_event.specs.declared.event.Why.TheVariants.{Down, Full, Strange}
 use Rattle.qc_event.specs.History.{Past, Given, asked, granted}
 use Rattle.qc_event.specs.Requests.{was_unable}
+use Rattle.qc_event.specs.Seats.{copy_seat, is_client}
 use Rattle.qc_gather.specs.Carrying.{entry}
 use Rattle.qc_store.specs.Stored.{Stored}
 
@@ -24,16 +25,16 @@ is_reply _ = false
 
 -- whether an entry is a copy's answer to a request: a grant or a refusal, under no client's seat
 abbrev pub is_answer : Entry → Bool
-is_answer e = is_reply e.event && nat_lt e.seat 18
+is_answer e = is_reply e.event && not (is_client e.seat)
 
 -- the entry of a copy's grant
 abbrev pub grant_entry : Ask → Tuple → Entry
 grant_entry ask tuple =
-    entry (ask.copy + 2) (event.Granted ask.copy (record { access = ask.access; rec = ask.rec; op = ask.op; tuple = tuple }))
+    entry (copy_seat ask.copy) (event.Granted ask.copy (record { access = ask.access; rec = ask.rec; op = ask.op; tuple = tuple }))
 
 -- the entry of a copy's refusal
 abbrev pub refusal_entry : Ask → Refusal → Entry
-refusal_entry ask refusal = entry (ask.copy + 2) (event.Refused ask.access ask.copy refusal)
+refusal_entry ask refusal = entry (copy_seat ask.copy) (event.Refused ask.access ask.copy refusal)
 
 -- a copy that is up grants, or it refuses
 abbrev pub IsOfCopy : Answered → Type 0
@@ -64,7 +65,7 @@ HasAnswered past ask answered.Strange = IsTrue (was_unable past ask.access Stran
 
 -- Deliveries have made the second store of the first: copies' answers were added, and nothing else.
 pub record HasServed (before now : Stored) : Type 0 where
-  pub same_base : now.base ≡ before.base
+  pub same_setting : now.setting ≡ before.setting
   pub newer : Past
   pub grown : now.past ≡ newer ++ before.past
   pub answers : All (λ e. IsTrue (is_answer e)) newer

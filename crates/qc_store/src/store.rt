@@ -1,27 +1,28 @@
 ghost use Rattle.std.specs.Prelude.{◌≡◌, ◌≤◌, ◌↔◌, ◌∷◌, [], not, IsTrue, IsErrOf, IfOk, OnOk, OnErr, reverse, length};
-ghost use Rattle.qc_event.specs.Base.{setting_of, first_of};
+ghost use Rattle.qc_event.specs.Base.{first_of, IsProper};
 ghost use Rattle.qc_event.specs.History.{limit};
 ghost use Rattle.qc_event.specs.Legal.{Allowed, Legal};
 ghost use Rattle.qc_store.specs.Served as served;
 ghost use Rattle.qc_store.specs.Sites.{is_grant, AreSites};
-ghost use Rattle.qc_store.specs.Stored.{IsProper, setting};
 
 use qc_config::Config;
 use qc_copy::CopyState;
-use qc_event::{Answered, Ask, Base, Entry, Event, Grant, Log, Refusal, Short, Tuple};
+use qc_event::{Answered, Ask, Base, Entry, Event, Grant, Log, Refusal, Short, Tuple, copy_seat};
 use qc_net::Port;
 use std::alloc::{AllocError, Global};
 use std::marker::Model;
 
 /// The copies of a run, each of which replies at once, and the history that they make. Contracts see it as
-/// the copies' start tuples and the history, which is legal.
+/// its setting, which is each record's first configuration with the copies' start tuples, and the history,
+/// which is legal.
 #[derive(Drop)]
 pub struct Store {
     log: Log,
+    firsts: Vec<Config>,
     base: Base,
     sites: Vec<CopyState>,
     torn: bool,
-    ghost is_legal: { ∥ Legal (setting_of base) log ∥₁ },
+    ghost is_legal: { ∥ Legal (record { firsts = firsts.items; base = base }) log ∥₁ },
 }
 
 impl Model for Store {
@@ -30,9 +31,13 @@ impl Model for Store {
 
     ghost Value = { Stored };
 
-    ghost view = { λ s. record { base = s.base; past = s.log; is_legal = s.is_legal } };
+    ghost view = { λ s. record {
+        setting = record { firsts = s.firsts.items; base = s.base };
+        past = s.log;
+        is_legal = s.is_legal;
+    } };
 
-    ghost invariant = { λ s. IsKept s.base s.log s.sites.items s.torn };
+    ghost invariant = { λ s. IsKept (record { firsts = s.firsts.items; base = s.base }) s.log s.sites.items s.torn };
 }
 
 // A copy for each row of the base.
@@ -59,7 +64,7 @@ fn granted(ask: &Ask, tuple: &Tuple) -> Entry
         tuple: *tuple,
     };
     Entry {
-        seat: u32::from(ask.copy) + 2,
+        seat: copy_seat(ask.copy),
         event: Event::Granted {
             copy: ask.copy,
             grant,
@@ -72,7 +77,7 @@ fn refused(ask: &Ask, refusal: Refusal) -> Entry
     ensures { result ≡ served.refusal_entry ask.now refusal }
 {
     Entry {
-        seat: u32::from(ask.copy) + 2,
+        seat: copy_seat(ask.copy),
         event: Event::Refused {
             access: ask.access,
             copy: ask.copy,
@@ -96,15 +101,17 @@ fn enter_answer(log: &mut Log, ask: &Ask, answered: &Answered) -> Result<(), Sho
 }
 
 impl Store {
-    /// A store of these start tuples, whose history is empty.
-    pub fn new(alloc: Global, base: Base) -> Result<Self, AllocError>
-        requires { IsProper base }
-        ensures base { IfOk result (λ store. store.base ≡ base) }
+    /// A store of these first configurations of the records and these start tuples, whose history is empty.
+    pub fn new(alloc: Global, firsts: Vec<Config>, base: Base) -> Result<Self, AllocError>
+        requires { IsProper (record { firsts = firsts.items; base = base }) }
+        ensures setting { IfOk result
+            (λ store. store.setting ≡ record { firsts = firsts.items; base = base }) }
         ensures past { IfOk result (λ store. store.past ≡ []) }
     {
         let sites = sites_of(alloc, &base)?;
         Ok(Store {
             log: Log::new(alloc),
+            firsts,
             base,
             sites,
             torn: false,
@@ -114,31 +121,34 @@ impl Store {
     /// The entries, the oldest first.
     pub fn entries(&self) -> &[Entry]
         ensures entries { reverse result.now ≡ self.now.past }
-        ensures legal { Legal (setting self.now) self.now.past }
+        ensures legal { Legal self.now.setting self.now.past }
     {
         self.log.as_slice()
     }
 
     /// The tuples with which the copies started.
     pub fn base(&self) -> &Base
-        ensures base { result.now ≡ self.now.base }
-        ensures proper { IsProper self.now.base }
+        ensures base { result.now ≡ self.now.setting.base }
+        ensures proper { IsProper self.now.setting }
     {
         &self.base
     }
 
     /// How many records there are.
     pub fn records(&self) -> usize
-        ensures { result ≡ length (setting self.now).firsts }
+        ensures { result ≡ length self.now.setting.firsts }
     {
-        self.base.row(0).len()
+        self.firsts.len()
     }
 
     /// The first configuration of a record; one without votes where there is no such record.
     pub fn first(&self, rec: u8) -> Config
-        ensures { result ≡ first_of (setting self.now) rec }
+        ensures { result ≡ first_of self.now.setting rec }
     {
-        self.base.tuple(0, rec).config
+        match self.firsts.get(rec as usize) {
+            Some(config) => *config,
+            None => Config::none(),
+        }
     }
 
     /// Whether the history takes no more entries.
@@ -149,26 +159,27 @@ impl Store {
         self.log.is_full()
     }
 
-    /// Appends an entry that may come next and is no grant, since a copy alone grants. An error leaves all as
-    /// it was.
+    /// Appends an entry that may come next and is no grant, since a copy alone grants; `Room` comes exactly
+    /// where the history takes no more. An error leaves all as it was.
     pub fn push(&mut self, entry: Entry) -> Result<(), Short>
-        requires allowed { Allowed (setting self.old) self.old.past entry }
+        requires allowed { Allowed self.old.setting self.old.past entry }
         requires no_grant { IsTrue (not (is_grant entry.event)) }
-        ensures base { self.new.base ≡ self.old.base }
+        ensures setting { self.new.setting ≡ self.old.setting }
         ensures ok { OnOk result (self.new.past ≡ entry ∷ self.old.past) }
         ensures err { OnErr result (self.new.past ≡ self.old.past) }
         ensures room { IsErrOf result Short.Room → length self.old.past ≡ limit }
+        ensures full { length self.old.past ≡ limit → IsErrOf result Short.Room }
     {
         self.log.push(entry)
     }
 
     /// The start tuples, and the entries, the oldest first. It takes no memory.
     pub fn into_parts(self) -> (Base, Vec<Entry>)
-        ensures base { result.0 ≡ self.base }
+        ensures base { result.0 ≡ self.setting.base }
         ensures entries { reverse result.1.items ≡ self.past }
         ensures bounded { length result.1.items ≤ limit }
-        ensures legal { Legal (setting self) self.past }
-        ensures proper { IsProper self.base }
+        ensures legal { Legal self.setting self.past }
+        ensures proper { IsProper self.setting }
     {
         let Store { log, base, .. } = self;
         (base, log.into_entries())

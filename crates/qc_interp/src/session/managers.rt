@@ -5,13 +5,15 @@ ghost use Rattle.qc_event.specs.declared.event.How.{How};
 ghost use Rattle.qc_event.specs.History.{limit, is_child, children};
 ghost use Rattle.qc_event.specs.Legal.{Legal};
 ghost use Rattle.qc_gather.specs.Carrying.{IsRunning, HasGrown};
+ghost use Rattle.qc_event.specs.Seats.{client_seat};
+ghost use Rattle.qc_names.specs.Name.{longest};
 ghost use Rattle.qc_interp.specs.Running.{MayMake, Running, ManagerFits, ending_of, WentOn, RanManager};
 ghost use Rattle.qc_interp.specs.Trace as trace;
 ghost use Rattle.qc_rw.specs.Managed.{IsAnswered, IsRefused};
 ghost use Rattle.qc_store.specs.Served.{is_answer};
 
-use crate::session::{CLIENT, Session};
-use qc_event::{Answer, Cause, Event, How, Kind, Name, Short};
+use crate::session::Session;
+use qc_event::{Answer, CLIENT_SEAT, Cause, Event, How, Kind, Name, Short};
 use qc_rw::MgrNo;
 
 // How a manager ends by what it came to. Where memory or room was wanting it does not end, and the session
@@ -75,13 +77,13 @@ impl Session {
     // ended yet.
     fn come_to(&mut self, name: &Name, kind: &Kind) -> Result<Answer, MgrNo>
         requires fits { ManagerFits self.old.setting kind.now }
-        requires manager { IsRunning 18 self.old.past name.now kind.now }
+        requires manager { IsRunning client_seat self.old.past name.now kind.now }
         requires no_child { children self.old.past name.now ≡ [] }
         ensures same { self.new ≡ record self.old { past = self.new.past } }
         ensures legal { Legal self.new.setting self.new.past }
         ensures grown { HasGrown (λ e. is_answer e) (λ n. IsTrue (is_child name.now n)) self.old.past self.new.past }
-        ensures answered { IfOk result (IsAnswered self.old.setting 18 self.new.past name.now kind.now) }
-        ensures refused { IfErr result (IsRefused self.old.setting 18 self.new.past name.now kind.now) }
+        ensures answered { IfOk result (IsAnswered self.old.setting client_seat self.new.past name.now kind.now) }
+        ensures refused { IfErr result (IsRefused self.old.setting client_seat self.new.past name.now kind.now) }
     {
         match kind {
             Kind::Read { rec } => {
@@ -107,7 +109,7 @@ impl Session {
     pub(super) fn manage(&mut self, of: &Name, k: u32, kind: &Kind) -> Result<bool, Short>
         requires running { Running of.now k self.old }
         requires alive { self.old.dead ≡ None }
-        requires depth { length of.now < 18 }
+        requires depth { length of.now < longest }
         requires fits { ManagerFits self.old.setting kind.now }
         ensures ok { IfOk result (λ goes_on. RanManager of.now k kind.now goes_on self.old self.new) }
         ensures setting { self.new.setting ≡ self.old.setting }
@@ -115,7 +117,7 @@ impl Session {
         ensures room { IfErr result (λ e. e ≡ Short.Room → length self.new.past ≡ limit) }
     {
         let name = of.child(k);
-        self.append(CLIENT, Event::Start { name, kind: *kind })?;
+        self.append(CLIENT_SEAT, Event::Start { name, kind: *kind })?;
         let came_to = self.come_to(&name, kind);
         let closed = self.close(&name, &came_to);
         self.go_on(of, &closed)

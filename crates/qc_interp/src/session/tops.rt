@@ -1,6 +1,7 @@
 //! The tops of a session.
 ghost use Rattle.std.specs.Prelude.{◌≡◌, [], length, map, None, IfOk, IfErr, IsTrue, OnOk};
 ghost use Rattle.qc_event.specs.History.{limit};
+ghost use Rattle.qc_event.specs.Seats.{client_seat};
 ghost use Rattle.qc_interp.specs.Follows.{FollowsTops};
 ghost use Rattle.qc_interp.specs.Running.{Resting};
 ghost use Rattle.qc_interp.specs.Trace as trace;
@@ -21,10 +22,10 @@ impl Session {
     fn top_tries(&mut self, i: u64, body: &Body) -> Result<u64, Short>
         requires resting { Resting i self.old }
         requires within { PlanWithin (length self.old.setting.base) (length self.old.setting.firsts) 1 (numbered body.now).plan }
-        requires met { IsTrue (meets_fates 18 self.old.net self.old.past) }
+        requires met { IsTrue (meets_fates client_seat self.old.net self.old.past) }
         ensures ok { IfOk result (λ next. trace.TriesRan 0 trace.top_of (numbered body.now) i next self.old self.new) }
         ensures resting { IfOk result (λ next. Resting next self.new) }
-        ensures met { OnOk result (IsTrue (meets_fates 18 self.new.net self.new.past)) }
+        ensures met { OnOk result (IsTrue (meets_fates client_seat self.new.net self.new.past)) }
         ensures setting { self.new.setting ≡ self.old.setting }
         ensures net { self.new.net ≡ self.old.net }
         ensures room { IfErr result (λ e. e ≡ Short.Room → length self.new.past ≡ limit) }

@@ -5,6 +5,7 @@ use Rattle.std.proofs.lemmas.List.Elements.{All-weaker}
 use Rattle.std.proofs.lemmas.Result.{err_from_is_err_and}
 use Rattle.qc_event.specs.Dead.{dead}
 use Rattle.qc_event.proofs.LegalAgain.{legal_again}
+use Rattle.qc_event.specs.Seats.{client_seat}
 use Rattle.qc_gather.specs.Carrying.{next_ask, began, became, HasGrown, WasCarried, WasCutOff}
 use Rattle.qc_line.specs.Access.{MayAccess, Waits, Stands}
 use Rattle.qc_line.specs.Kept.{IsInStep, net_of}
@@ -20,27 +21,25 @@ use Rattle.qc_line.proofs.access.access.Goals.{After-next_ask-ask, After-send, I
 use Rattle.qc_net.specs.Courier.{link_of, held_of}
 use Rattle.qc_net.specs.PlanLink.{plan_of}
 use Rattle.qc_store.specs.Served.{is_answer, MayServe}
-use Rattle.qc_store.specs.Stored.{setting}
-use Rattle.qc_event.specs.Base.{setting_of}
 
-may : (c : After-next_ask-ask) → MayAccess (setting c.args.store.now) c.args.store.now.past c.args.manager.now c.next_ask-ask.result
+may : (c : After-next_ask-ask) → MayAccess c.args.store.now.setting c.args.store.now.past c.args.manager.now c.next_ask-ask.result
 may c =
     let s = c.args.store.now in
-    course.may_access (setting s) s.past c.args.manager.now c.args.copy c.args.rec c.args.op.now c.next_ask-ask.result c.next_ask-ask.ensures c.requires.may
+    course.may_access s.setting s.past c.args.manager.now c.args.copy c.args.rec c.args.op.now c.next_ask-ask.result c.next_ask-ask.ensures c.requires.may
     (ap (λ p. dead p c.args.manager.now) (sym c.entries.ensures.entries) ∙ sym c.dead.ensures ∙ c.in_default.is)
 
 is_sent : (c : After-send) → IsSent c.args.store.now c.send.new.store c.args.manager.now c.next_ask-ask.result
 is_sent c =
     let s = c.args.store.now in
     course.sent s c.begin.new.store c.send.new.store c.args.manager.now c.next_ask-ask.result
-    (course.may_access (setting s) s.past c.args.manager.now c.args.copy c.args.rec c.args.op.now c.next_ask-ask.result c.next_ask-ask.ensures c.requires.may
+    (course.may_access s.setting s.past c.args.manager.now c.args.copy c.args.rec c.args.op.now c.next_ask-ask.result c.next_ask-ask.ensures c.requires.may
     (ap (λ p. dead p c.args.manager.now) (sym c.entries.ensures.entries) ∙ sym c.dead.ensures ∙ c.in_default.is))
-    c.in_ok-begin.ensures.base c.in_ok-begin.ensures.ok c.send.ensures.served
+    c.in_ok-begin.ensures.setting c.in_ok-begin.ensures.ok c.send.ensures.served
 
 pub returns-in-Some-clause-refused : goal.returns-in-Some-clause-refused
 returns-in-Some-clause-refused c =
     let s = c.args.store.now in
-    course.not_started (setting s) s.past c.args.manager.now c.args.copy c.args.rec c.args.op.now c.in-Some.ancestor c.requires.may
+    course.not_started s.setting s.past c.args.manager.now c.args.copy c.args.rec c.args.op.now c.in-Some.ancestor c.requires.may
     (ap (λ p. dead p c.args.manager.now) (sym c.entries.ensures.entries) ∙ sym c.dead.ensures ∙ c.in-Some.is)
 
 pub returns-then-is_full-clause-refused : goal.returns-then-is_full-clause-refused
@@ -71,15 +70,15 @@ returns-in_err-begin-clause-met c = met_at_start (net_of (plan_of (link_of c.arg
 pub send-requires-clause-waits : goal.send-requires-clause-waits
 send-requires-clause-waits c =
     let s = c.args.store.now in
-    subst (λ p. Waits (setting c.begin.new.store) p c.next_ask-ask.result) (sym c.in_ok-begin.ensures.ok)
-    (waits_now (setting c.begin.new.store) s.past c.args.manager.now c.next_ask-ask.result
-    (subst (λ b. MayAccess (setting_of b) s.past c.args.manager.now c.next_ask-ask.result) (sym c.in_ok-begin.ensures.base) (may (goal.at.send-requires-clause-waits c).After-next_ask-ask)))
+    subst (λ p. Waits c.begin.new.store.setting p c.next_ask-ask.result) (sym c.in_ok-begin.ensures.ok)
+    (waits_now c.begin.new.store.setting s.past c.args.manager.now c.next_ask-ask.result
+    (subst (λ b. MayAccess b s.past c.args.manager.now c.next_ask-ask.result) (sym c.in_ok-begin.ensures.setting) (may (goal.at.send-requires-clause-waits c).After-next_ask-ask)))
 
 pub send-requires-clause-held : goal.send-requires-clause-held
 send-requires-clause-held c =
     let s = c.args.store.now in
     subst (λ p. All (MayServe p) (held_of c.args.courier.now)) (sym c.in_ok-begin.ensures.ok)
-    (All-weaker (MayServe s.past) (MayServe (began 18 c.next_ask-ask.result ++ s.past)) (λ a h. serves_still (began 18 c.next_ask-ask.result) s.past a h) (held_of c.args.courier.now) c.requires.in_step.may_serve)
+    (All-weaker (MayServe s.past) (MayServe (began client_seat c.next_ask-ask.result ++ s.past)) (λ a h. serves_still (began client_seat c.next_ask-ask.result) s.past a h) (held_of c.args.courier.now) c.requires.in_step.may_serve)
 
 pub returns-in_err-carried-clause-grown : goal.returns-in_err-carried-clause-grown
 returns-in_err-carried-clause-grown c =
@@ -100,14 +99,14 @@ returns-in_err-carried-clause-refused c =
 pub returns-in_err-carried-clause-met : goal.returns-in_err-carried-clause-met
 returns-in_err-carried-clause-met c =
     let plan = plan_of (link_of c.args.courier.now) in
-    subst (λ n. IsTrue (meets_fates 18 n c.send.new.store.past)) (sym (same_net plan (plan_of (link_of c.send.new.courier)) c.args.patience c.send.ensures.plan))
+    subst (λ n. IsTrue (meets_fates client_seat n c.send.new.store.past)) (sym (same_net plan (plan_of (link_of c.send.new.courier)) c.args.patience c.send.ensures.plan))
     (course.met_waiting c.args.store.now c.send.new.store c.args.manager.now c.next_ask-ask.result (is_sent (goal.at.returns-in_err-carried-clause-met c).After-send) plan (held_of c.args.courier.now) c.args.patience c.requires.met)
 
 stands : (c : In_ok-carried) → IsSent c.args.store.now c.send.new.store c.args.manager.now c.next_ask-ask.result → Stands c.send.new.store.past c.next_ask-ask.result c.in_ok-carried.carried
 stands c sent =
     let now = c.send.new.store in
     let was = c.in_ok-carried.ensures.sent in
-    what_came_stands (setting now) now.past c.next_ask-ask.result (legal_again (setting now) now.past now.is_legal)
+    what_came_stands now.setting now.past c.next_ask-ask.result (legal_again now.setting now.past now.is_legal)
     (course.waits c.args.store.now now c.args.manager.now c.next_ask-ask.result sent) was.sent c.in_ok-carried.carried was.answered was.tells
 
 pub finish-requires-clause-stands : goal.finish-requires-clause-stands
@@ -137,7 +136,7 @@ returns-in_err-finish-clause-refused c =
 pub returns-in_err-finish-clause-met : goal.returns-in_err-finish-clause-met
 returns-in_err-finish-clause-met c =
     let plan = plan_of (link_of c.args.courier.now) in
-    subst (λ n. IsTrue (meets_fates 18 n c.finish.new.store.past)) (sym (same_net plan (plan_of (link_of c.send.new.courier)) c.args.patience c.send.ensures.plan))
+    subst (λ n. IsTrue (meets_fates client_seat n c.finish.new.store.past)) (sym (same_net plan (plan_of (link_of c.send.new.courier)) c.args.patience c.send.ensures.plan))
     (course.met_at_end c.args.store.now c.send.new.store c.args.manager.now c.next_ask-ask.result (is_sent (goal.at.returns-in_err-finish-clause-met c).After-send) plan (held_of c.args.courier.now) c.args.patience c.requires.met
     c.in_ok-carried.carried c.finish.new.store.past c.in_err-finish.ensures.err)
 
@@ -169,6 +168,6 @@ returns-clause-met c =
     let plan = plan_of (link_of c.args.courier.now) in
     let plan' = plan_of (link_of c.send.new.courier) in
     let sent = is_sent (goal.at.returns-clause-met c).After-send in
-    subst (λ n. IsTrue (meets_fates 18 n c.finish.new.store.past)) (sym (same_net plan plan' c.args.patience c.send.ensures.plan))
+    subst (λ n. IsTrue (meets_fates client_seat n c.finish.new.store.past)) (sym (same_net plan plan' c.args.patience c.send.ensures.plan))
     (course.met_ended c.args.store.now c.send.new.store c.args.manager.now c.next_ask-ask.result sent plan (held_of c.args.courier.now) c.args.patience c.requires.met c.requires.in_step c.in_ok-carried.carried c.finish.new.store.past
     c.in_ok-finish.ensures.ok (stands (goal.at.returns-clause-met c).In_ok-carried sent) plan' (held_of c.send.new.courier) _ c.in_ok-carried.ensures.sent)

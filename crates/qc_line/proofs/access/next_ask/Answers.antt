@@ -5,7 +5,6 @@ use Rattle.qc_event.specs.History.{children}
 use Rattle.qc_event.proofs.LegalAgain.{legal_again}
 use Rattle.qc_line.proofs.Children.{children_fewer}
 use Rattle.qc_line.proofs.access.next_ask.Goals as goal
-use Rattle.qc_store.specs.Stored.{setting}
 use Rattle.qc_store.proofs.Begun.{IsManagerName, manager_name}
 
 pub overflow_add-number : goal.overflow_add-number
@@ -24,10 +23,10 @@ overflow_cast-number c =
 
 pub child-requires-clause-below_a_top : goal.child-requires-clause-below_a_top
 child-requires-clause-below_a_top c =
-    let named : IsManagerName c.args.manager.now = manager_name (setting c.args.store.now) c.args.store.now.past c.args.manager.now _ (legal_again (setting c.args.store.now) c.args.store.now.past c.args.store.now.is_legal) c.requires.may.running.started c.requires.may.manages in
+    let named : IsManagerName c.args.manager.now = manager_name c.args.store.now.setting c.args.store.now.past c.args.manager.now _ (legal_again c.args.store.now.setting c.args.store.now.past c.args.store.now.is_legal) c.requires.may.running.started c.requires.may.manages in
     omega arith
 
 pub child-requires-clause-room : goal.child-requires-clause-room
 child-requires-clause-room c =
-    let named : IsManagerName c.args.manager.now = manager_name (setting c.args.store.now) c.args.store.now.past c.args.manager.now _ (legal_again (setting c.args.store.now) c.args.store.now.past c.args.store.now.is_legal) c.requires.may.running.started c.requires.may.manages in
+    let named : IsManagerName c.args.manager.now = manager_name c.args.store.now.setting c.args.store.now.past c.args.manager.now _ (legal_again c.args.store.now.setting c.args.store.now.past c.args.store.now.is_legal) c.requires.may.running.started c.requires.may.manages in
     omega arith

@@ -5,16 +5,15 @@ use Rattle.qc_line.proofs.Waiting.{may_serve, not_dead, waits_still}
 use Rattle.qc_line.proofs.access.send.Goals as goal
 use Rattle.qc_net.specs.Courier.{IsAnswered}
 use Rattle.qc_store.specs.Served.{HasAnswered}
-use Rattle.qc_store.specs.Stored.{setting}
 
 pub send-requires-clause-ask : goal.send-requires-clause-ask
 send-requires-clause-ask c =
     let s = c.args.store.now in
-    may_serve (setting s) s.past c.args.ask.now (legal_again (setting s) s.past s.is_legal) c.requires.waits
+    may_serve s.setting s.past c.args.ask.now (legal_again s.setting s.past s.is_legal) c.requires.waits
 
 pub told-requires : goal.told-requires
 told-requires c =
     let now = c.send.new.port in
     let waits = waits_still c.args.store.now now c.args.ask.now c.requires.waits c.send.ensures.became in
-    not_dead (setting now) now.past c.args.ask.now (legal_again (setting now) now.past now.is_legal) waits c.in-Ok-Answer.answered
+    not_dead now.setting now.past c.args.ask.now (legal_again now.setting now.past now.is_legal) waits c.in-Ok-Answer.answered
     (subst (IsAnswered (HasAnswered now.past) c.args.ask.now) c.in-Ok-Answer.field-0-is c.in-Ok-Answer.ensures.answered)

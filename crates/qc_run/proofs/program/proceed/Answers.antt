@@ -1,22 +1,19 @@
 use Rattle.std.proofs.Common.{◌∙◌, sym, subst}
-use Rattle.qc_event.specs.Base.{start_values}
 use Rattle.qc_run.specs.Io.{Appends, AppendsFront}
 use Rattle.qc_run.specs.Run as terms
-use Rattle.qc_simlock.specs.Serial.{IsSerialThroughout}
 use Rattle.qc_script.specs.Steps.{plan_of_script}
-use Rattle.qc_run.proofs.Moments.{serial_throughout}
 use Rattle.qc_run.proofs.RunFacts.{gave_back, trail_legal, page_is_report, halted_not_ended}
 use Rattle.qc_run.proofs.program.proceed.Goals as goal
 use Rattle.qc_run.proofs.program.proceed.Goals.{in-Ok, in-Err}
 
-pub returns-clause-serial_order : goal.returns-clause-serial_order
-returns-clause-serial_order g c =
+pub returns-clause-legal_history : goal.returns-clause-legal_history
+returns-clause-legal_history g c =
     let s = plan_of_script c.args.script.now in
     let start = c.into_parts-start.result.0 in
     let trail = c.into_parts-start.result.1.items in
     let parts = c.into_parts-start.ensures in
     let back = gave_back s start trail c.args.session c.tops.new.self c.requires.session c.tops.ensures.setting parts.base parts.entries parts.legal in
-    subst (λ b. IsSerialThroughout (start_values b) trail) (sym back.base) (serial_throughout s trail c.requires.proper (trail_legal s start trail c.tops.new.self back))
+    trail_legal s start trail c.tops.new.self back
 
 pub returns-clause-done : goal.returns-clause-done
 returns-clause-done g c = λ done.
@@ -27,7 +24,7 @@ returns-clause-done g c = λ done.
     elim c.match-tops.branch [
       | in-Ok w ↦
           let back = gave_back s start trail c.args.session c.tops.new.self c.requires.session c.tops.ensures.setting parts.base parts.entries parts.legal in
-          let text = page_is_report s start trail c.tops.new.self c.requires.proper back in
+          let text = page_is_report s start trail c.tops.new.self back in
           subst (λ k. Appends (g.K.Sink.taken c.args.sink.now) (g.K.Sink.taken k) (terms.report_of s start trail)) (sym w.sink-is)
           (subst (λ t. Appends (g.K.Sink.taken c.args.sink.now) (g.K.Sink.taken w.conclude-status.new.sink) t) text (w.conclude-status.ensures.done (sym w.status-is ∙ done)))
       | in-Err w ↦ absurd (halted_not_ended w.in-Err.short w.halt-status.result w.halt-status.ensures.answer (subst terms.RanToEnd (sym done ∙ w.status-is) tt))
@@ -42,7 +39,7 @@ returns-clause-front g c = λ failed.
     elim c.match-tops.branch [
       | in-Ok w ↦
           let back = gave_back s start trail c.args.session c.tops.new.self c.requires.session c.tops.ensures.setting parts.base parts.entries parts.legal in
-          let text = page_is_report s start trail c.tops.new.self c.requires.proper back in
+          let text = page_is_report s start trail c.tops.new.self back in
           subst (λ k. AppendsFront (g.K.Sink.taken c.args.sink.now) (g.K.Sink.taken k) (terms.report_of s start trail)) (sym w.sink-is)
           (subst (λ t. AppendsFront (g.K.Sink.taken c.args.sink.now) (g.K.Sink.taken w.conclude-status.new.sink) t) text (w.conclude-status.ensures.front (sym w.status-is ∙ failed)))
       | in-Err w ↦ absurd (halted_not_ended w.in-Err.short w.halt-status.result w.halt-status.ensures.answer (subst terms.RanToEnd (sym failed ∙ w.status-is) tt))

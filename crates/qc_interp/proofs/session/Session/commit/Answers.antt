@@ -6,12 +6,13 @@ use Rattle.qc_interp.specs.Running.{MayMake}
 use Rattle.qc_interp.specs.Trace as trace
 use Rattle.qc_interp.proofs.Making.{may_end_above}
 use Rattle.qc_interp.proofs.RunCommits.{may_be_ready, may_commit, may_end_top}
+use Rattle.qc_event.specs.Seats.{client_seat}
 use Rattle.qc_interp.proofs.session.Session.commit.Goals as goal
 
 pub append-requires : goal.append-requires
 append-requires c =
     let runs = c.requires.running in
-    may_end_above c.args.name.now c.args.name.now [] runs.0 18 (Commit Nothing) c.args.self.now runs.1 (sym (append-nil c.args.name.now)) runs.1.nonroot
+    may_end_above c.args.name.now c.args.name.now [] runs.0 client_seat (Commit Nothing) c.args.self.now runs.1 (sym (append-nil c.args.name.now)) runs.1.nonroot
     (may_commit c.args.name.now runs.0 c.args.self.now runs.1 c.requires.alive (omega (arith, runs.1.nonroot)))
 
 pub append-requires-2 : goal.append-requires-2

@@ -10,6 +10,7 @@ use Rattle.qc_interp.proofs.Plans.{tries_of}
 use Rattle.qc_interp.proofs.Rest.{not_full}
 use Rattle.qc_interp.proofs.RunTops.{rest_begun, top_rests}
 use Rattle.qc_interp.proofs.TriesDone.{tried_last, tried_again, tried_all, told}
+use Rattle.qc_event.specs.Seats.{client_seat}
 use Rattle.qc_interp.proofs.session.Session.top_tries.Goals as goal
 
 pub body-requires-clause-running : goal.body-requires-clause-running
@@ -51,7 +52,7 @@ loop-preserved c =
           (subst (λ n. c.loop.counter < n) (sym (tries_of c.args.body.now)) c.loop-test.true) ran c.in_ok-body.ensures.setting c.in_ok-body.ensures.net again;
       resting = top_rests c.loop.next body.number body.plan c.loop.self mid c.loop.invariant.resting few
           (subst (λ (s : Setting). PlanWithin (length s.base) (length s.firsts) 1 body.plan) (sym c.loop.invariant.tried.setting) c.requires.within) ran;
-      met = subst (λ (n : trace.Now). IsTrue (meets_fates 18 n.net n.past)) c.self-in-loop.view_is c.entries.ensures.met;
+      met = subst (λ (n : trace.Now). IsTrue (meets_fates client_seat n.net n.past)) c.self-in-loop.view_is c.entries.ensures.met;
     }
 
 pub returns-clause-ok : goal.returns-clause-ok
