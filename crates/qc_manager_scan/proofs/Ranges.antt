@@ -1,5 +1,6 @@
 -- Tests of the numbers of a range.
-use Rattle.std.proofs.Common.{◌≡◌, ℕ, zero, suc, ◌+◌, ◌<◌, Bool, true, false, refl, ap, ◌∙◌, arith, subst}
+use Rattle.std.proofs.Common.{◌≡◌, ℕ, zero, suc, ◌+◌, ◌<◌, Bool, true, false, ap, ◌∙◌, arith, subst}
+use Rattle.std.proofs.Math.Bool.{and-false}
 use Rattle.std.specs.Prelude.{Some, find, cond, ◌&&◌}
 use Rattle.std.specs.List.{list_all, range_with_len}
 
@@ -10,15 +11,11 @@ module _ (test : ℕ → Bool) where
   from_next : (a j : ℕ) (b : Bool) → test (a + suc j) ≡ b → test ((a + 1) + j) ≡ b
   from_next a j b is = subst (λ k. test k ≡ b) (omega arith) is
 
-  and_false : (b : Bool) → (b && false) ≡ false
-  and_false true = refl
-  and_false false = refl
-
   pub not_all_in_range : (a n k : ℕ) → k < n → test (a + k) ≡ false → list_all test (range_with_len a n) ≡ false
   not_all_in_range a zero k lt here = absurd (omega arith)
   not_all_in_range a (suc n) zero lt here = ap (λ b. b && list_all test (range_with_len (a + 1) n)) (from_zero a false here)
   not_all_in_range a (suc n) (suc k) lt here =
-      ap (λ b. test a && b) (not_all_in_range (a + 1) n k (omega arith) (from_next a k false here)) ∙ and_false (test a)
+      ap (λ b. test a && b) (not_all_in_range (a + 1) n k (omega arith) (from_next a k false here)) ∙ and-false (test a)
 
   pub first_in_range : (a n k : ℕ) → k < n → ((j : ℕ) → j < k → test (a + j) ≡ false) → test (a + k) ≡ true → find test (range_with_len a n) ≡ Some (a + k)
   first_in_range a zero k lt before here = absurd (omega arith)

@@ -66,8 +66,13 @@ fn is_served_or_dead(setting: &Setting, h: &[Entry], copy: u8, grant: &Grant) ->
 
 /// Whether a copy was asked for what it grants.
 pub fn was_asked(h: &[Entry], copy: u8, grant: &Grant) -> bool
-    ensures { IsTrue result ↔ MatchOption (history.asked (reverse h.now) grant.now.access) ⊥ (λ a. a.ask
-        ≡ record { access = grant.now.access; copy = copy; rec = grant.now.rec; op = grant.now.op }) }
+    ensures { IsTrue result ↔ MatchOption (history.asked (reverse h.now) grant.now.access) ⊥
+        (λ a. a.ask ≡ record {
+          access = grant.now.access;
+          copy = copy;
+          rec = grant.now.rec;
+          op = grant.now.op;
+        }) }
 {
     match asked(h, &grant.access) {
         Some(asked) => {
