@@ -1,8 +1,1 @@
-pub mod Found
-pub mod Everyone
-pub mod Stands
-pub mod Ranges
-pub mod Raised
-pub mod Truth
-pub mod Stages
 pub mod Fronts

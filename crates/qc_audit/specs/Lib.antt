@@ -1,4 +1,2 @@
-pub mod Parts
-pub mod Raised
 pub mod Breaks
 pub mod Refused

@@ -4,16 +4,14 @@ ghost use Rattle.qc_audit.specs.Refused as refused;
 ghost use Rattle.qc_event.specs.Legal as words;
 ghost use Rattle.qc_event.specs.Standing as standing;
 
-use crate::aborts::may_abort;
-use crate::commits::may_commit;
-use crate::grants::{may_grant, may_refuse};
-use crate::requests::{may_ask, may_be_unable, may_give_up};
 use crate::rule::{Rule, breaks};
-use crate::scan::{Begun, start};
-use crate::setting::Setting;
-use crate::starts::may_start;
-use crate::users::{may_be_ready, may_mark};
 use qc_event::{Base, Config, Entry, Event, How, Name};
+use qc_manager_scan::Setting;
+use qc_rules::{
+    may_abort, may_ask, may_be_ready, may_be_unable, may_commit, may_give_up, may_grant, may_mark,
+    may_refuse, may_start,
+};
+use qc_scan::{Begun, start};
 use thiserror::Error;
 
 /// Why a history is not legal: the entry at this place, counted from 0, is the first that those before it
@@ -26,7 +24,8 @@ pub struct Illegal {
 }
 
 fn may_end_so(setting: &Setting, h: &[Entry], seat: u32, n: &Name, how: &How, begun: &Begun) -> bool
-    ensures { IsTrue result ↔ words.MayEnd setting.now (reverse h.now) seat n.now how.now begun.now }
+    ensures { IsTrue result
+        ↔ words.MayEnd setting.now (reverse h.now) seat n.now how.now begun.now }
 {
     match how {
         How::Commit(given) => may_commit(setting, h, seat, n, begun, given),
@@ -35,7 +34,8 @@ fn may_end_so(setting: &Setting, h: &[Entry], seat: u32, n: &Name, how: &How, be
 }
 
 fn may_end(setting: &Setting, h: &[Entry], seat: u32, n: &Name, how: &How) -> bool
-    ensures { IsTrue result ↔ standing.Started (reverse h.now) n.now (words.MayEnd setting.now (reverse h.now) seat n.now how.now) }
+    ensures { IsTrue result ↔ standing.Started (reverse h.now) n.now
+        (words.MayEnd setting.now (reverse h.now) seat n.now how.now) }
 {
     match start(h, n) {
         Some(begun) => may_end_so(setting, h, seat, n, how, &begun),
@@ -68,9 +68,12 @@ fn is_allowed(setting: &Setting, h: &[Entry], e: &Entry) -> bool
 /// configuration. An error tells the first entry that those before it do not allow. It takes no memory, and
 /// time that grows with the fourth power of the history's length at worst.
 pub fn audit(base: &Base, firsts: &[Config], h: &[Entry]) -> Result<(), Illegal>
-    ensures legal { OnOk result (words.Legal (record { firsts = firsts.now; base = base.now }) (reverse h.now)) }
-    ensures refused { IfErr result (refused.IsRefused (record { firsts = firsts.now; base = base.now }) h.now) }
-    ensures illegal { OnErr result (words.Legal (record { firsts = firsts.now; base = base.now }) (reverse h.now) → ⊥) }
+    ensures legal { OnOk result
+        (words.Legal (record { firsts = firsts.now; base = base.now }) (reverse h.now)) }
+    ensures refused { IfErr result
+        (refused.IsRefused (record { firsts = firsts.now; base = base.now }) h.now) }
+    ensures illegal { OnErr result
+        (words.Legal (record { firsts = firsts.now; base = base.now }) (reverse h.now) → ⊥) }
 {
     let setting = Setting::new(base, firsts);
     for (place, e) in h.iter().enumerate() {

@@ -2,14 +2,10 @@
 ghost use Rattle.std.specs.Prelude.{◌≡◌, ◌↔◌, IsTrue, reverse};
 ghost use Rattle.qc_audit.specs.Breaks as words;
 
-use crate::aborts::is_licensed;
-use crate::asks::waiting;
-use crate::commits::is_done;
-use crate::grants::{is_seat_of, was_asked};
-use crate::scan::{granted, start};
-use crate::setting::Setting;
-use crate::standing::{front, is_client, is_manager, open_child};
 use qc_event::{Ask, Cause, Entry, Event, Grant, How, Kind, Name, dead, holder};
+use qc_manager_scan::{Setting, is_done, waiting};
+use qc_rules::{is_licensed, is_seat_of, was_asked};
+use qc_scan::{front, granted, is_client, is_manager, open_child, start};
 
 /// The rules of a legal history. Where an entry is not allowed, the first of its event's rules that it
 /// breaks is told; the rules that are named for a kind of event stand for all that is left of that kind.

@@ -3,7 +3,7 @@ use Rattle.std.specs.Prelude.{IsTrue, ◌↔◌}
 use Rattle.qc_event.specs.declared.event.Kind.{Kind}
 use Rattle.qc_event.specs.History.{Begun, start}
 use Rattle.qc_audit.specs.Breaks.{FallsShort}
-use Rattle.qc_audit.proofs.Truth.{decides_found}
+use Rattle.qc_rules.proofs.Decides.{decides_found}
 use Rattle.qc_audit.proofs.rule.is_incomplete.Goals as goal
 
 pub returns-in-Some : goal.returns-in-Some

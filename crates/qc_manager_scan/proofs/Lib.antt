@@ -1,0 +1,4 @@
+pub mod Ranges
+pub mod Raised
+pub mod Truth
+pub mod Stages

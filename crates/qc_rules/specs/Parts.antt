@@ -1,0 +1,25 @@
+-- Parts of the rules of a legal history, for the functions that check one part each.
+use Rattle.std.specs.Prelude.{ℕ, ◌≡◌, IsTrue, None}
+use Rattle.qc_names.specs.Name as name
+use Rattle.qc_event.specs.declared.event.Ask.{Ask}
+use Rattle.qc_event.specs.declared.event.Kind.TheVariants as kind
+use Rattle.qc_event.specs.History.{Past, Name, Begun, asked}
+use Rattle.qc_event.specs.Manager.{waiting}
+use Rattle.qc_event.specs.Standing.{is_client, open_child, Started, IsGoing}
+
+-- An access may ask something: once, under the seat at which it and its manager started, and only where
+-- the manager waits for no other access.
+pub record IsFreeToAsk (past : Past) (seat : ℕ) (ask : Ask) : Type 0 where
+  pub by_client : IsTrue (is_client seat)
+  pub started : Started past ask.access (λ a. (a.seat ≡ seat) × (a.kind ≡ kind.Access))
+  pub manager_started : Started past (name.front ask.access) (λ m. m.seat ≡ seat)
+  pub going : IsGoing past ask.access
+  pub not_asked : asked past ask.access ≡ None
+  pub nothing_open : waiting past (name.front ask.access) ≡ None
+
+-- A manager may commit under its own seat where it goes on and its children have ended, if it is complete.
+pub record IsFreeToCommit (past : Past) (seat : ℕ) (n : Name) (m : Begun) : Type 0 where
+  pub by_client : IsTrue (is_client seat)
+  pub own_seat : seat ≡ m.seat
+  pub going : IsGoing past n
+  pub children_ended : open_child past n ≡ None
