@@ -10,7 +10,8 @@ use Rattle.qc_event.specs.Dead.{dead}
 use Rattle.qc_event.specs.History.{Past, Name, asked, granted}
 use Rattle.qc_event.specs.Manager.{first_for, is_complete, waiting}
 use Rattle.qc_event.specs.Seen.{holder}
-use Rattle.qc_event.specs.Standing.{is_client, open_child, IsManager, Started}
+use Rattle.qc_event.specs.Seats.{ledger_seat, is_client}
+use Rattle.qc_event.specs.Standing.{open_child, IsManager, Started}
 use Rattle.qc_event.specs.declared.event.Ask.{Ask}
 use Rattle.qc_event.specs.declared.event.Cause.{Cause}
 use Rattle.qc_event.specs.declared.event.Entry.{Entry}
@@ -26,7 +27,7 @@ abbrev pub SeatFits : ℕ → Event → Type 0
 SeatFits seat (event.Granted copy grant) = seat ≡ copy + 2
 SeatFits seat (event.Refused access copy refusal) = seat ≡ copy + 2
 SeatFits seat (event.Unable n why) = Unit {0}
-SeatFits seat (event.End n (Commit given)) = (seat ≡ 1) ⊎ IsTrue (is_client seat)
+SeatFits seat (event.End n (Commit given)) = (seat ≡ ledger_seat) ⊎ IsTrue (is_client seat)
 SeatFits seat _ = IsTrue (is_client seat)
 
 -- what a request breaks

@@ -2,10 +2,12 @@
 ghost use Rattle.std.specs.Prelude.{◌≡◌, ◌↔◌, IsTrue, reverse};
 ghost use Rattle.qc_audit.specs.Breaks as words;
 
-use qc_event::{Ask, Cause, Entry, Event, Grant, How, Kind, Name, dead, holder};
+use qc_event::{
+    Ask, Cause, Entry, Event, Grant, How, Kind, LEDGER_SEAT, Name, dead, holder, is_client,
+};
 use qc_manager_scan::{Setting, is_done, waiting};
 use qc_rules::{is_licensed, is_seat_of, was_asked};
-use qc_scan::{front, granted, is_client, is_manager, open_child, start};
+use qc_scan::{front, granted, is_manager, open_child, start};
 
 /// The rules of a legal history. Where an entry is not allowed, the first of its event's rules that it
 /// breaks is told; the rules that are named for a kind of event stand for all that is left of that kind.
@@ -63,7 +65,7 @@ fn seat_fits(seat: u32, event: &Event) -> bool
         Event::End {
             name: _,
             how: How::Commit(_),
-        } => seat == 1 || is_client(seat),
+        } => seat == LEDGER_SEAT || is_client(seat),
         _ => is_client(seat),
     }
 }

@@ -5,7 +5,8 @@ use Rattle.qc_event.specs.declared.event.Ask.{Ask}
 use Rattle.qc_event.specs.declared.event.Kind.TheVariants as kind
 use Rattle.qc_event.specs.History.{Past, Name, Begun, asked}
 use Rattle.qc_event.specs.Manager.{waiting}
-use Rattle.qc_event.specs.Standing.{is_client, open_child, Started, IsGoing}
+use Rattle.qc_event.specs.Seats.{is_client}
+use Rattle.qc_event.specs.Standing.{open_child, Started, IsGoing}
 
 -- An access may ask something: once, under the seat at which it and its manager started, and only where
 -- the manager waits for no other access.

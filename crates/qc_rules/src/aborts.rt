@@ -6,14 +6,14 @@ ghost use Rattle.qc_event.specs.Manager as manager;
 ghost use Rattle.qc_event.specs.Users as users;
 
 use crate::users::is_user_cause;
-use qc_event::{Ask, Cause, Entry, Kind, Lack, Name, Phase, Why};
+use qc_event::{Ask, Cause, Entry, Kind, Lack, Name, Phase, Why, is_client};
 use qc_manager_scan::{
     Setting, Stage, blocked_by, first_blocked, has_failed, has_replied, is_at_last_number,
     missing_at, replied, stage_for,
 };
 use qc_scan::{
-    Begun, front, gone, is_client, is_open, is_orphan_of, is_ready, is_started_under, is_this,
-    refused, same_copies,
+    Begun, front, gone, is_open, is_orphan_of, is_ready, is_started_under, is_this, refused,
+    same_copies,
 };
 
 fn is_blocked_there(h: &[Entry], copy: u8, holder: &Name, ask: &Ask) -> bool

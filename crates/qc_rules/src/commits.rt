@@ -7,9 +7,9 @@ ghost use Rattle.qc_event.specs.Manager as manager;
 ghost use Rattle.qc_rules.specs.Parts as parts;
 
 use crate::users::may_commit_user_or_top;
-use qc_event::{Answer, Config, Entry, Kind, Name};
+use qc_event::{Answer, Config, Entry, Kind, Name, is_client};
 use qc_manager_scan::{Setting, greatest, is_done, newest, record_of};
-use qc_scan::{Begun, granted, is_asked_under, is_client, is_going, open_child, same_answer};
+use qc_scan::{Begun, granted, is_asked_under, is_going, open_child, same_answer};
 
 fn is_granted(h: &[Entry], n: &Name, given: &Answer) -> bool
     ensures { IsTrue result ↔ MatchOption (history.granted (reverse h.now) n.now) ⊥

@@ -1,19 +1,20 @@
 //! What a copy may grant, and how it may refuse. None of these calls takes memory.
-ghost use Rattle.std.specs.Prelude.{◌≡◌, ◌+◌, ◌↔◌, IsTrue, reverse, MatchOption, IfNone};
+ghost use Rattle.std.specs.Prelude.{◌≡◌, ◌↔◌, IsTrue, reverse, MatchOption, IfNone};
 ghost use Rattle.qc_event.specs.Dead as dead_words;
 ghost use Rattle.qc_event.specs.Grants as words;
 ghost use Rattle.qc_event.specs.History as history;
+ghost use Rattle.qc_event.specs.Seats as seats;
 ghost use Rattle.qc_event.specs.Seen as seen_words;
 
-use qc_event::{Ask, Entry, Event, Grant, Name, Op, Refusal, Tuple, dead, holder};
+use qc_event::{Ask, Entry, Event, Grant, Name, Op, Refusal, Tuple, copy_seat, dead, holder};
 use qc_manager_scan::Setting;
 use qc_scan::{asked, granted, is_this, same_ask, same_config, same_tuple};
 
 /// Whether a seat is a copy's.
 pub fn is_seat_of(seat: u32, copy: u8) -> bool
-    ensures { IsTrue result ↔ (seat ≡ copy + 2) }
+    ensures { IsTrue result ↔ (seat ≡ seats.copy_seat copy) }
 {
-    seat == u32::from(copy) + 2
+    seat == copy_seat(copy)
 }
 
 fn sets(op: &Op, tuple: &Tuple) -> bool

@@ -7,11 +7,11 @@ ghost use Rattle.qc_event.specs.Requests as words;
 ghost use Rattle.qc_event.specs.Standing as standing;
 ghost use Rattle.qc_rules.specs.Parts as parts;
 
-use qc_event::{Ask, Entry, Kind, Name, Why};
+use qc_event::{Ask, Entry, Kind, LEDGER_SEAT, Name, Why, copy_seat, is_client};
 use qc_manager_scan::{Setting, Stage, next_copy, record_of, stage_for, waiting};
 use qc_scan::{
-    asked, front, gone, is_asked_under, is_client, is_going, is_open, is_ready, is_started_under,
-    same_op, start, was_unable,
+    asked, front, gone, is_asked_under, is_going, is_open, is_ready, is_started_under, same_op,
+    start, was_unable,
 };
 
 // REQUESTS
@@ -100,7 +100,7 @@ fn is_unable_copy(h: &[Entry], seat: u32, n: &Name, why: Why) -> bool
     ensures { IsTrue result ↔ words.IsUnableCopy (reverse h.now) seat n.now why }
 {
     match asked(h, n) {
-        Some(asked) => seat == u32::from(asked.ask().copy) + 2 && is_fault(why),
+        Some(asked) => seat == copy_seat(asked.ask().copy) && is_fault(why),
         None => false,
     }
 }
@@ -108,7 +108,7 @@ fn is_unable_copy(h: &[Entry], seat: u32, n: &Name, why: Why) -> bool
 fn is_unable_ledger(h: &[Entry], seat: u32, n: &Name, why: Why) -> bool
     ensures { IsTrue result ↔ words.IsUnableLedger (reverse h.now) seat n.now why }
 {
-    seat == 1 && n.len() == 1 && is_ready(h, n) && is_ledger_fault(why)
+    seat == LEDGER_SEAT && n.len() == 1 && is_ready(h, n) && is_ledger_fault(why)
 }
 
 /// Whether a copy may be unable to serve an access that asked it, or the ledger to log a top that is ready.

@@ -7,9 +7,9 @@ ghost use Rattle.qc_event.specs.Users as users;
 ghost use Rattle.qc_names.specs.Name as name;
 
 use crate::users::{may_start_top, stands_under};
-use qc_event::{Entry, Kind, Name};
+use qc_event::{Entry, Kind, Name, is_client};
 use qc_manager_scan::Setting;
-use qc_scan::{Begun, children, front, is_client, is_going, is_manager, is_ready, start};
+use qc_scan::{Begun, children, front, is_going, is_manager, is_ready, start};
 
 /// Where a child of a kind may stand, started under a seat: an access stands under a manager, and under
 /// the seat of the manager's start.

@@ -2,11 +2,11 @@
 ghost use Rattle.std.specs.Prelude.{◌↔◌, IsTrue, reverse};
 ghost use Rattle.qc_event.specs.Users as words;
 
-use qc_event::{Answer, Cause, Entry, Kind, Name};
+use qc_event::{Answer, Cause, Entry, Kind, LEDGER_SEAT, Name, is_client};
 use qc_manager_scan::Setting;
 use qc_scan::{
-    Begun, is_child, is_child_aborted, is_client, is_going, is_marked, is_open, is_orphan_of,
-    is_ready, is_started_user, is_user, open_child, start, top_number, was_aborted,
+    Begun, is_child, is_child_aborted, is_going, is_marked, is_open, is_orphan_of, is_ready,
+    is_started_user, is_user, open_child, start, top_number, was_aborted,
 };
 
 const HALF: u64 = 0x1_0000_0000;
@@ -72,7 +72,7 @@ fn may_commit_user(h: &[Entry], seat: u32, n: &Name, given: &Answer) -> bool
 fn may_commit_top(h: &[Entry], seat: u32, n: &Name, given: &Answer) -> bool
     ensures { IsTrue result ↔ words.MayCommitTop (reverse h.now) seat n.now given.now }
 {
-    seat == 1 && is_open(h, n) && is_ready(h, n) && matches!(given, Answer::Nothing)
+    seat == LEDGER_SEAT && is_open(h, n) && is_ready(h, n) && matches!(given, Answer::Nothing)
 }
 
 /// Whether a user transaction may commit: below a top once its children have ended, and a top under the

@@ -9,13 +9,6 @@ use crate::same::same_cause;
 use crate::scan::{asked, end, start};
 use qc_event::{Cause, Entry, Event, How, Kind, Name, dead};
 
-/// Whether a seat is a session's: 0, or above 17.
-pub fn is_client(seat: u32) -> bool
-    ensures { result ≡ standing.is_client seat }
-{
-    seat == 0 || seat > 17
-}
-
 /// Whether a kind is a user transaction.
 pub fn is_user(kind: &Kind) -> bool
     ensures { IsTrue result ↔ standing.IsUser kind.now }
