@@ -75,5 +75,4 @@ sound_from s start proper is = subst (λ base. IsSound (setting_of s.table base)
 -- who stopped has not run to the end
 pub halted_not_ended : (e : Short) (answer : Status) → IsHalted e answer → RanToEnd answer → ⊥
 halted_not_ended short.Memory answer is ended = subst RanToEnd is ended
-halted_not_ended short.Room answer (inl is) ended = subst RanToEnd is ended
-halted_not_ended short.Room answer (inr is) ended = subst RanToEnd is ended
+halted_not_ended short.Room answer is ended = subst RanToEnd is ended
