@@ -23,7 +23,7 @@ use Rattle.qc_event.specs.Grants.{IsRefusal, MayRefuse}
 use Rattle.qc_event.specs.History.{Past, Name, same, earliest, every, start, start_in, end, end_in, gone, gone_in, asked, ask_in, refused, refusal_in, children, child_in, asks, ask_below}
 use Rattle.qc_event.specs.Legal.{Legal, Allowed, MayHappen}
 use Rattle.qc_event.specs.Manager.{result, result_by}
-use Rattle.qc_event.specs.Seats.{is_client, client_seat}
+use Rattle.qc_event.specs.Seats.{is_client}
 use Rattle.qc_event.proofs.Absent.{same_is}
 use Rattle.qc_event.proofs.Lawful.{some_how}
 use Rattle.qc_event.proofs.Lineage.{alive_not_aborted}
@@ -114,10 +114,10 @@ module _ (newer past : Past) (all : AreAnswers newer) where
       none : (e : Entry) → is_answer e ≡ true → ask_under seat e ≡ None
       none e h = ap (λ o. if e.seat == seat then o else None) (no_request e.event (reply_of_answer e h)) ∙ either (e.seat == seat)
 
--- no answer is the client's own entry
-pub own_stay : (newer past : Past) → AreAnswers newer → made_by client_seat (newer ++ past) ≡ made_by client_seat past
-own_stay [] past all = refl
-own_stay (e ∷ newer) past all = ap (λ b. cond b (e ∷ made_by client_seat (newer ++ past)) (made_by client_seat (newer ++ past))) (not_by_client client_seat e refl all.0) ∙ own_stay newer past all.1
+-- no answer is a client's own entry
+pub own_stay : (seat : ℕ) → is_client seat ≡ true → (newer past : Past) → AreAnswers newer → made_by seat (newer ++ past) ≡ made_by seat past
+own_stay seat client [] past all = refl
+own_stay seat client (e ∷ newer) past all = ap (λ b. cond b (e ∷ made_by seat (newer ++ past)) (made_by seat (newer ++ past))) (not_by_client seat e client all.0) ∙ own_stay seat client newer past all.1
 
 -- WHAT A LATE REFUSAL CHANGES
 

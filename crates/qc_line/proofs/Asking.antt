@@ -23,7 +23,6 @@ use Rattle.qc_event.proofs.LastNumber.{front_last, is_child-last, last_longer}
 use Rattle.qc_event.proofs.Lawful.{Lawful, lawful}
 use Rattle.qc_event.proofs.LegalOrderly.{legal_orderly}
 use Rattle.qc_event.proofs.Lineage.{IsFresh, fresh_child, dead_child}
-use Rattle.qc_event.specs.Seats.{client_seat}
 use Rattle.qc_gather.specs.Carrying.{entry, next_ask}
 use Rattle.qc_line.specs.Access.{MayAccess}
 use Rattle.qc_store.proofs.Begun.{IsManagerName, manager_name, ready_top}
@@ -43,7 +42,7 @@ below_top setting past seat (x ∷ y ∷ r) j k pos may = may
 not_aborted : (o : Option How) (n : Name) → o ≡ None → (if is_aborted (outcome_of o) then Some n else None) ≡ None
 not_aborted o n none = ap (λ x. if is_aborted (outcome_of x) then Some n else None) none
 
-module _ (setting : Setting) (past : Past) (m : Name) (ask : Ask) (legal : Legal setting past) (may : MayAccess setting past m ask) where
+module _ (setting : Setting) {seat : ℕ} (past : Past) (m : Name) (ask : Ask) (legal : Legal setting past) (may : MayAccess setting seat past m ask) where
   -- BEFORE
 
   abbrev j : ℕ
@@ -100,32 +99,32 @@ module _ (setting : Setting) (past : Past) (m : Name) (ask : Ask) (legal : Legal
   -- THE START
 
   abbrev begun : Past
-  begun = entry client_seat (event.Start ask.access kind.Access) ∷ past
+  begun = entry seat (event.Start ask.access kind.Access) ∷ past
 
-  starts : MayStartNext (λ p. Stands setting client_seat p (length ask.access) kind.Access) past client_seat ask.access
+  starts : MayStartNext (λ p. Stands setting seat p (length ask.access) kind.Access) past seat ask.access
   starts = record {
-    by_client = refl;
+    by_client = may.client;
     parent_going = subst (IsGoing past) (sym front) (record {
       is_open = record { started = ap is_some may.carries.running.started; not_ended = may.carries.running.not_ended };
       alive = may.alive;
     });
     parent_not_ready = ap (λ x. not (is_ready past x)) front ∙ ap not not_ready;
     next_child = may.next ∙ ap (λ x. x ++ (length (children past x) + 1) ∷ []) (sym front);
-    stands = subst (λ x. Started past x (λ p. IsManager p.kind × (client_seat ≡ p.seat))) (sym front)
-        (some_matches (start past m) (λ p. IsManager p.kind × (client_seat ≡ p.seat)) _ may.carries.running.started (may.carries.manages, refl));
+    stands = subst (λ x. Started past x (λ p. IsManager p.kind × (seat ≡ p.seat))) (sym front)
+        (some_matches (start past m) (λ p. IsManager p.kind × (seat ≡ p.seat)) _ may.carries.running.started (may.carries.manages, refl));
   }
 
-  pub start_allowed : Allowed setting past (entry client_seat (event.Start ask.access kind.Access))
+  pub start_allowed : Allowed setting past (entry seat (event.Start ask.access kind.Access))
   start_allowed =
-      subst (λ x. Starts setting past client_seat x kind.Access) (sym may.next)
-      (below_top setting past client_seat m j kind.Access pos (subst (λ x. MayStartNext (λ p. Stands setting client_seat p (length x) kind.Access) past client_seat x) may.next starts))
+      subst (λ x. Starts setting past seat x kind.Access) (sym may.next)
+      (below_top setting past seat m j kind.Access pos (subst (λ x. MayStartNext (λ p. Stands setting seat p (length x) kind.Access) past seat x) may.next starts))
 
-  pub start_begun : start begun ask.access ≡ Some (record { seat = client_seat; kind = kind.Access })
-  start_begun = ap (λ o. option_or o (if same ask.access ask.access then Some (record { seat = client_seat; kind = kind.Access }) else None)) not_started
-      ∙ ap (λ (b : Bool). if b then Some (record { seat = client_seat; kind = kind.Access }) else None) (same_itself ask.access)
+  pub start_begun : start begun ask.access ≡ Some (record { seat = seat; kind = kind.Access })
+  start_begun = ap (λ o. option_or o (if same ask.access ask.access then Some (record { seat = seat; kind = kind.Access }) else None)) not_started
+      ∙ ap (λ (b : Bool). if b then Some (record { seat = seat; kind = kind.Access }) else None) (same_itself ask.access)
 
-  pub manager_begun : start begun m ≡ Some (record { seat = client_seat; kind = may.carries.kind })
-  manager_begun = ap (λ o. option_or o (if same ask.access m then Some (record { seat = client_seat; kind = kind.Access }) else None)) may.carries.running.started
+  pub manager_begun : start begun m ≡ Some (record { seat = seat; kind = may.carries.kind })
+  manager_begun = ap (λ o. option_or o (if same ask.access m then Some (record { seat = seat; kind = kind.Access }) else None)) may.carries.running.started
 
   -- THE REQUEST
 
@@ -142,11 +141,11 @@ module _ (setting : Setting) (past : Past) (m : Name) (ask : Ask) (legal : Legal
   results_begun : (x : Name) → result begun x ≡ result past x
   results_begun x = result_same past begun x (still (end past x)) (still (gone past x)) (still (refused past x))
 
-  asks_allowed : MayAsk setting begun client_seat ask
+  asks_allowed : MayAsk setting begun seat ask
   asks_allowed = record {
-    by_client = refl;
+    by_client = may.client;
     started = some_matches (start begun ask.access) _ _ start_begun (refl, refl);
-    manager_started = subst (λ x. Started begun x (λ p. p.seat ≡ client_seat)) (sym front) (some_matches (start begun m) (λ p. p.seat ≡ client_seat) _ manager_begun refl);
+    manager_started = subst (λ x. Started begun x (λ p. p.seat ≡ seat)) (sym front) (some_matches (start begun m) (λ p. p.seat ≡ seat) _ manager_begun refl);
     going = record {
       is_open = record { started = ap is_some start_begun; not_ended = still (end past ask.access) ∙ not_ended };
       alive = dead_same past begun (λ x. still (end past x)) ask.access ∙ access_alive;
@@ -158,5 +157,5 @@ module _ (setting : Setting) (past : Past) (m : Name) (ask : Ask) (legal : Legal
         (at_stage_same setting past begun m may.carries.kind ask asks_begun results_begun of_stage));
   }
 
-  pub ask_allowed : Allowed setting begun (entry client_seat (event.Ask ask))
+  pub ask_allowed : Allowed setting begun (entry seat (event.Ask ask))
   ask_allowed = asks_allowed

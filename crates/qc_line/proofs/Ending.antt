@@ -1,5 +1,5 @@
 -- An access that waits may be given up and may end, and its manager knows the result then.
-use Rattle.std.proofs.Common.{◌≡◌, ◌+◌, Bool, true, false, List, [], ◌∷◌, length, refl, sym, ap, ◌∙◌, subst, arith, append-nil}
+use Rattle.std.proofs.Common.{ℕ, ◌≡◌, ◌+◌, Bool, true, false, List, [], ◌∷◌, length, refl, sym, ap, ◌∙◌, subst, arith, append-nil}
 use mathlib.Core.Bool.{true≢false}
 use Rattle.std.specs.Prelude.{Option, None, Some, MatchOption, IsTrue, ◌||◌, not, cond, if◌then◌else◌, is_some, is_none, find}
 use Rattle.std.specs.List.{AllByRecursion}
@@ -28,7 +28,6 @@ use Rattle.qc_event.specs.Users.{MayAbort}
 use Rattle.qc_event.proofs.Absent.{same_itself, same_is}
 use Rattle.qc_event.proofs.LastNumber.{length_last}
 use Rattle.qc_event.proofs.OneEntry.{no_child_passes, some_or_none}
-use Rattle.qc_event.specs.Seats.{client_seat}
 use Rattle.qc_gather.specs.Carrying.{entry, IsTold}
 use Rattle.qc_line.specs.Access.{MayAccess}
 use Rattle.qc_line.proofs.Asking as asking
@@ -55,7 +54,7 @@ not_none : (o : Option How) → is_none o ≡ false → is_some o ≡ true
 not_none None h = absurd (true≢false h)
 not_none (Some how) h = refl
 
-module _ (setting : Setting) (past now : Past) (m : Name) (ask : Ask) (legal : Legal setting past) (may : MayAccess setting past m ask) (now_legal : Legal setting now) (heard : IsHeard past now m may.carries.kind ask) where
+module _ (setting : Setting) {seat : ℕ} (past now : Past) (m : Name) (ask : Ask) (legal : Legal setting past) (may : MayAccess setting seat past m ask) (now_legal : Legal setting now) (heard : IsHeard seat past now m may.carries.kind ask) where
   pub waiting_still : end now ask.access ≡ None
   waiting_still = heard.ends ask.access ∙ asking.not_ended setting past m ask legal may
 
@@ -68,25 +67,25 @@ module _ (setting : Setting) (past now : Past) (m : Name) (ask : Ask) (legal : L
   matches : {X : Type 0} (o : Option X) (P : X → Type 0) (x : X) → o ≡ Some x → P x → MatchOption o ⊥ P
   matches o P x is h = subst (λ y. MatchOption y ⊥ P) (sym is) h
 
-  pub give_up_allowed : (why : Why) → gone now ask.access ≡ None → IsTrue (not (is_fault why) || was_unable now ask.access why) → Allowed setting now (entry client_seat (event.Gone ask.access why))
+  pub give_up_allowed : (why : Why) → gone now ask.access ≡ None → IsTrue (not (is_fault why) || was_unable now ask.access why) → Allowed setting now (entry seat (event.Gone ask.access why))
   give_up_allowed why none told = gives_up
     where
-      gives_up : MayGiveUp now client_seat ask.access why
+      gives_up : MayGiveUp now seat ask.access why
       gives_up = record {
-        by_client = refl;
-        asked_here = matches (asked now ask.access) (λ a. a.seat ≡ client_seat) _ heard.asks_it refl;
+        by_client = may.client;
+        asked_here = matches (asked now ask.access) (λ a. a.seat ≡ seat) _ heard.asks_it refl;
         is_open = going.is_open;
         first_time = none;
         told = told;
       }
 
-  pub commit_allowed : (g : Given) → granted now ask.access ≡ Some g → Allowed setting now (entry client_seat (event.End ask.access (Commit (Reply g.grant.tuple))))
-  commit_allowed g is = matches (start now ask.access) (MayEnd setting now client_seat ask.access (Commit (Reply g.grant.tuple))) _ heard.started may_commit
+  pub commit_allowed : (g : Given) → granted now ask.access ≡ Some g → Allowed setting now (entry seat (event.End ask.access (Commit (Reply g.grant.tuple))))
+  commit_allowed g is = matches (start now ask.access) (MayEnd setting now seat ask.access (Commit (Reply g.grant.tuple))) _ heard.started may_commit
     where
-      may_commit : MayCommitAccess now client_seat ask.access (Reply g.grant.tuple)
+      may_commit : MayCommitAccess now seat ask.access (Reply g.grant.tuple)
       may_commit = record {
-        by_client = refl;
-        asked_here = matches (asked now ask.access) (λ a. a.seat ≡ client_seat) _ heard.asks_it refl;
+        by_client = may.client;
+        asked_here = matches (asked now ask.access) (λ a. a.seat ≡ seat) _ heard.asks_it refl;
         going = going;
         reply = matches (granted now ask.access) (λ x. Reply g.grant.tuple ≡ Reply x.grant.tuple) g is refl;
       }
@@ -97,14 +96,14 @@ module _ (setting : Setting) (past now : Past) (m : Name) (ask : Ask) (legal : L
       let named = asking.managers_name setting past m ask legal may in
       omega (arith, named.below_a_top, ap length may.next, length_last m (length (children past m) + 1)))
 
-  pub abort_allowed : IsTrue (is_some (gone now ask.access) || is_some (refused now ask.access)) → Allowed setting now (entry client_seat (event.End ask.access (Abort Missed)))
-  abort_allowed missed = matches (start now ask.access) (MayEnd setting now client_seat ask.access (Abort Missed)) _ heard.started may_abort
+  pub abort_allowed : IsTrue (is_some (gone now ask.access) || is_some (refused now ask.access)) → Allowed setting now (entry seat (event.End ask.access (Abort Missed)))
+  abort_allowed missed = matches (start now ask.access) (MayEnd setting now seat ask.access (Abort Missed)) _ heard.started may_abort
     where
-      licence : IsTrue (is_some (gone now ask.access) || is_some (refused now ask.access)) × Started now (name.front ask.access) (λ p. client_seat ≡ p.seat)
-      licence = (missed, subst (λ x. Started now x (λ p. client_seat ≡ p.seat)) (sym (asking.front setting past m ask legal may)) (matches (start now m) (λ p. client_seat ≡ p.seat) _ heard.manager refl))
+      licence : IsTrue (is_some (gone now ask.access) || is_some (refused now ask.access)) × Started now (name.front ask.access) (λ p. seat ≡ p.seat)
+      licence = (missed, subst (λ x. Started now x (λ p. seat ≡ p.seat)) (sym (asking.front setting past m ask legal may)) (matches (start now m) (λ p. seat ≡ p.seat) _ heard.manager refl))
 
-      may_abort : MayAbort (Licensed setting now client_seat ask.access (record { seat = client_seat; kind = kind.Access }) kind.Access Missed) now client_seat ask.access
-      may_abort = record { by_client = refl; is_open = going.is_open; not_ready = ap not not_ready; licensed = licence }
+      may_abort : MayAbort (Licensed setting now seat ask.access (record { seat = seat; kind = kind.Access }) kind.Access Missed) now seat ask.access
+      may_abort = record { by_client = may.client; is_open = going.is_open; not_ready = ap not not_ready; licensed = licence }
 
   -- GIVEN UP
 
@@ -112,14 +111,14 @@ module _ (setting : Setting) (past now : Past) (m : Name) (ask : Ask) (legal : L
   not_its x ended same = some_or_none (end past x) ended (ap (end past) (sym same) ∙ asking.not_ended setting past m ask legal may)
 
   abbrev given_up : Why → Past
-  given_up why = entry client_seat (event.Gone ask.access why) ∷ now
+  given_up why = entry seat (event.Gone ask.access why) ∷ now
 
   other_gone : (why : Why) (x : Name) → (ask.access ≡ x → ⊥) → gone (given_up why) x ≡ gone now x
   other_gone why x other =
       ap (λ (b : Bool). option_or (gone now x) (if b then Some why else None)) (false_from_ne_true (same ask.access x) (λ h. other (same_is ask.access x h))) ∙ still (gone now x)
 
   -- one that is given up still waits for its end
-  pub given_up_heard : (why : Why) → IsHeard past (given_up why) m may.carries.kind ask
+  pub given_up_heard : (why : Why) → IsHeard seat past (given_up why) m may.carries.kind ask
   given_up_heard why = record {
     started = ap (λ o. option_or o None) heard.started;
     manager = ap (λ o. option_or o None) heard.manager;
@@ -138,7 +137,7 @@ module _ (setting : Setting) (past now : Past) (m : Name) (ask : Ask) (legal : L
 
   module _ (how : How) where
     abbrev ended : Past
-    ended = entry client_seat (event.End ask.access how) ∷ now
+    ended = entry seat (event.End ask.access how) ∷ now
 
     pub end_is : end ended ask.access ≡ Some how
     end_is = none_or _ _ waiting_still ∙ ap (λ (b : Bool). if b then Some how else None) (same_itself ask.access)

@@ -1,5 +1,5 @@
 -- What stands of a manager and its access once it has asked and copies have answered since.
-use Rattle.std.proofs.Common.{◌≡◌, Bool, true, [], ◌∷◌, ◌++◌, ap, ◌∙◌, append-nil}
+use Rattle.std.proofs.Common.{ℕ, ◌≡◌, Bool, true, [], ◌∷◌, ◌++◌, ap, ◌∙◌, append-nil}
 use Rattle.std.specs.Prelude.{Option, None, Some, if◌then◌else◌, is_some, option_to_list}
 use Rattle.std.specs.Option.{option_or}
 use Rattle.qc_event.specs.declared.event.Ask.{Ask}
@@ -11,7 +11,6 @@ use Rattle.qc_event.specs.History.{Past, Name, start, end, asked, gone, refused,
 use Rattle.qc_event.specs.Legal.{Legal}
 use Rattle.qc_event.specs.Manager.{result}
 use Rattle.qc_event.proofs.Absent.{same_itself}
-use Rattle.qc_event.specs.Seats.{client_seat}
 use Rattle.qc_gather.specs.Carrying.{began}
 use Rattle.qc_line.specs.Access.{MayAccess}
 use Rattle.qc_line.proofs.AnswersLeave.{AreAnswers, starts_stay, ends_stay, reasons_stay, requests_stay, children_stay, asks_stay, results_stay}
@@ -19,10 +18,10 @@ use Rattle.qc_line.proofs.Asking as asking
 use Rattle.qc_line.proofs.Stays.{still, dead_same, result_same}
 
 -- What stands of a manager and its access once it has asked, by what stood before it started.
-pub record IsHeard (past now : Past) (m : Name) (k : Kind) (ask : Ask) : Type 0 where
-  pub started : start now ask.access ≡ Some (record { seat = client_seat; kind = kind.Access })
-  pub manager : start now m ≡ Some (record { seat = client_seat; kind = k })
-  pub asks_it : asked now ask.access ≡ Some (record { seat = client_seat; ask = ask })
+pub record IsHeard (seat : ℕ) (past now : Past) (m : Name) (k : Kind) (ask : Ask) : Type 0 where
+  pub started : start now ask.access ≡ Some (record { seat = seat; kind = kind.Access })
+  pub manager : start now m ≡ Some (record { seat = seat; kind = k })
+  pub asks_it : asked now ask.access ≡ Some (record { seat = seat; ask = ask })
   pub ends : (x : Name) → end now x ≡ end past x
   pub goes : (x : Name) → (ask.access ≡ x → ⊥) → gone now x ≡ gone past x
   pub results : (x : Name) → is_some (end past x) ≡ true → result now x ≡ result past x
@@ -35,9 +34,9 @@ none_or o new none = ap (λ x. option_or x new) none
 one_more : {X : Type 0} (b : Bool) (x : X) → b ≡ true → option_to_list (if b then Some x else None) ≡ x ∷ []
 one_more b x h = ap (λ c. option_to_list (if c then Some x else None)) h
 
-module _ (setting : Setting) (past : Past) (m : Name) (ask : Ask) (legal : Legal setting past) (may : MayAccess setting past m ask) where
+module _ (setting : Setting) {seat : ℕ} (past : Past) (m : Name) (ask : Ask) (legal : Legal setting past) (may : MayAccess setting seat past m ask) where
   abbrev told : Past
-  told = began client_seat ask ++ past
+  told = began seat ask ++ past
 
   told_ends : (x : Name) → end told x ≡ end past x
   told_ends x = still _ ∙ still (end past x)
@@ -46,12 +45,12 @@ module _ (setting : Setting) (past : Past) (m : Name) (ask : Ask) (legal : Legal
   told_goes x = still _ ∙ still (gone past x)
 
   -- once it has asked
-  told_heard : IsHeard past told m may.carries.kind ask
+  told_heard : IsHeard seat past told m may.carries.kind ask
   told_heard = record {
     started = ap (λ o. option_or o None) (asking.start_begun setting past m ask legal may);
     manager = ap (λ o. option_or o None) (asking.manager_begun setting past m ask legal may);
     asks_it = none_or _ _ (still (asked past ask.access) ∙ asking.not_asked setting past m ask legal may)
-        ∙ ap (λ (b : Bool). if b then Some (record { seat = client_seat; ask = ask }) else None) (same_itself ask.access);
+        ∙ ap (λ (b : Bool). if b then Some (record { seat = seat; ask = ask }) else None) (same_itself ask.access);
     ends = told_ends;
     goes = λ x other. told_goes x;
     results = λ x ended. result_same past told x (told_ends x) (told_goes x) (still _ ∙ still (refused past x));
@@ -59,7 +58,7 @@ module _ (setting : Setting) (past : Past) (m : Name) (ask : Ask) (legal : Legal
     begun = append-nil _ ∙ ap (λ xs. children past m ++ xs) (one_more (is_child m ask.access) ask.access (asking.child setting past m ask legal may));
   }
 
-  pub told_asks : asked told ask.access ≡ Some (record { seat = client_seat; ask = ask })
+  pub told_asks : asked told ask.access ≡ Some (record { seat = seat; ask = ask })
   told_asks = told_heard.asks_it
 
   pub told_alive : dead told ask.access ≡ None
@@ -70,7 +69,7 @@ module _ (setting : Setting) (past : Past) (m : Name) (ask : Ask) (legal : Legal
 
   -- and copies have answered
   module _ (newer : Past) (all : AreAnswers newer) (now_legal : Legal setting (newer ++ told)) where
-    pub heard : IsHeard past (newer ++ told) m may.carries.kind ask
+    pub heard : IsHeard seat past (newer ++ told) m may.carries.kind ask
     heard = record {
       started = starts_stay newer told all ask.access ∙ told_heard.started;
       manager = starts_stay newer told all m ∙ told_heard.manager;

@@ -15,7 +15,6 @@ use Rattle.qc_event.specs.Base.{Setting}
 use Rattle.qc_event.specs.History.{Past, Name, Begun, start, end, gone}
 use Rattle.qc_event.specs.Legal.{Legal}
 use Rattle.qc_event.specs.Requests.{is_why}
-use Rattle.qc_event.specs.Seats.{client_seat}
 use Rattle.qc_gather.specs.Carrying.{entry, began}
 use Rattle.qc_gather.specs.declared.carrier.Carried.{Carried}
 use Rattle.qc_gather.specs.declared.carrier.Carried.TheVariants.{Reply, Blocked, Gone}
@@ -28,6 +27,7 @@ use Rattle.qc_line.proofs.Asking as asking
 use Rattle.qc_line.proofs.Carried as carry
 use Rattle.qc_line.proofs.Ending as endings
 use Rattle.qc_line.proofs.Meeting.{IsLeft, met_unended, met_told, are_met_still, are_met_more, sendings_more}
+use Rattle.qc_line.proofs.OwnEntries.{own_request}
 use Rattle.qc_line.proofs.Pushing.{met_still}
 use Rattle.qc_line.proofs.Stays.{still}
 use Rattle.qc_net.specs.Given.{Given}
@@ -78,32 +78,35 @@ outcome_told net.late made s c is tells = ap (λ y. told_by (reason_of y) net.la
 pub same_net : (plan plan' : Plan) (patience : ℕ) → anew plan' ≡ anew plan → net_of plan' patience ≡ net_of plan patience
 same_net plan plan' patience same = ap (λ p. net_of p patience) same
 
-pub met_at_start : (net : Net) (past : Past) (ask : Ask) (now : Past) → IsCutOffAtStart past ask now → IsTrue (meets_fates client_seat net past) → IsTrue (meets_fates client_seat net now)
-met_at_start net past ask now cut met = elim cut [
-  | inl same ↦ subst (λ p. IsTrue (meets_fates client_seat net p)) (sym same) met
-  | inr started ↦ subst (λ p. IsTrue (meets_fates client_seat net p)) (sym started) (met_still net (entry client_seat (event.Start ask.access kind.Access) ∷ []) past (append-nil (asked_under client_seat past)) (each (asked_under client_seat past)) met)
+pub met_at_start : (seat : ℕ) (net : Net) (past : Past) (ask : Ask) (now : Past) → IsCutOffAtStart seat past ask now → IsTrue (meets_fates seat net past) → IsTrue (meets_fates seat net now)
+met_at_start seat net past ask now cut met = elim cut [
+  | inl same ↦ subst (λ p. IsTrue (meets_fates seat net p)) (sym same) met
+  | inr started ↦ subst (λ p. IsTrue (meets_fates seat net p)) (sym started) (met_still seat net (entry seat (event.Start ask.access kind.Access) ∷ []) past (own_request seat (event.Start ask.access kind.Access) past ∙ append-nil (asked_under seat past)) (each (asked_under seat past)) met)
 ]
   where
-    each : (requests : List Ask) → AllByRecursion (λ (a : Ask). IsLeft past (entry client_seat (event.Start ask.access kind.Access) ∷ past) a.access) requests
+    each : (requests : List Ask) → AllByRecursion (λ (a : Ask). IsLeft past (entry seat (event.Start ask.access kind.Access) ∷ past) a.access) requests
     each [] = tt
     each (a ∷ rest) = (record { ends = still (end past a.access); goes = inr (still (gone past a.access)) }, each rest)
 
 -- ONCE IT HAS ASKED
 
-module _ (setting : Setting) (past : Past) (m : Name) (ask : Ask) (legal : Legal setting past) (may : MayAccess setting past m ask) (newer : Past) (all : AreAnswers newer) (mid_legal : Legal setting (newer ++ (began client_seat ask ++ past))) where
+module _ (setting : Setting) {seat : ℕ} (past : Past) (m : Name) (ask : Ask) (legal : Legal setting past) (may : MayAccess setting seat past m ask) (newer : Past) (all : AreAnswers newer) (mid_legal : Legal setting (newer ++ (began seat ask ++ past))) where
   abbrev mid : Past
-  mid = newer ++ (began client_seat ask ++ past)
+  mid = newer ++ (began seat ask ++ past)
 
-  mid_asks : asked_under client_seat mid ≡ asked_under client_seat past ++ ask ∷ []
-  mid_asks = asked_under_stays newer (began client_seat ask ++ past) all client_seat ∙ ap (λ xs. xs ++ ask ∷ []) (append-nil (asked_under client_seat past))
+  mid_asks : asked_under seat mid ≡ asked_under seat past ++ ask ∷ []
+  mid_asks =
+      asked_under_stays newer (began seat ask ++ past) all seat
+      ∙ own_request seat (event.Ask ask) (entry seat (event.Start ask.access kind.Access) ∷ past)
+      ∙ ap (λ xs. xs ++ ask ∷ []) (own_request seat (event.Start ask.access kind.Access) past ∙ append-nil (asked_under seat past))
 
-  given_up_asks : (c : Carried) → asked_under client_seat (given_up ask c ++ mid) ≡ asked_under client_seat past ++ ask ∷ []
+  given_up_asks : (c : Carried) → asked_under seat (given_up seat ask c ++ mid) ≡ asked_under seat past ++ ask ∷ []
   given_up_asks (Reply t) = mid_asks
   given_up_asks (Blocked h) = mid_asks
-  given_up_asks (Gone why) = append-nil (asked_under client_seat mid) ∙ mid_asks
+  given_up_asks (Gone why) = own_request seat (event.Gone ask.access why) mid ∙ append-nil (asked_under seat mid) ∙ mid_asks
 
-  ended_asks : (c : Carried) → asked_under client_seat (ending ask c ++ mid) ≡ asked_under client_seat past ++ ask ∷ []
-  ended_asks c = append-nil (asked_under client_seat (given_up ask c ++ mid)) ∙ given_up_asks c
+  ended_asks : (c : Carried) → asked_under seat (ending seat ask c ++ mid) ≡ asked_under seat past ++ ask ∷ []
+  ended_asks c = own_request seat (event.End ask.access (how_of c)) (given_up seat ask c ++ mid) ∙ append-nil (asked_under seat (given_up seat ask c ++ mid)) ∙ given_up_asks c
 
   -- no request before is of this access
   not_this : (a : Ask) → IsAccess past a → ask.access ≡ a.access → ⊥
@@ -121,80 +124,80 @@ module _ (setting : Setting) (past : Past) (m : Name) (ask : Ask) (legal : Legal
   )
 
   -- where this request is met, all are
-  module _ (net : Net) (met : IsTrue (meets_fates client_seat net past)) where
+  module _ (net : Net) (met : IsTrue (meets_fates seat net past)) where
     abbrev first : Way
     first = record { plan = starting net.fates net.hold; held = []; delivered = [] }
 
     met_with : (front : Past) → ((x : Name) → (ask.access ≡ x → ⊥) → end (front ++ past) x ≡ end past x) → ((x : Name) → (ask.access ≡ x → ⊥) → gone (front ++ past) x ≡ gone past x)
-        → asked_under client_seat (front ++ past) ≡ asked_under client_seat past ++ ask ∷ [] → is_met (front ++ past) ask (sending (way_of net past).plan (way_of net past).held ask net.patience) ≡ true → IsTrue (meets_fates client_seat net (front ++ past))
+        → asked_under seat (front ++ past) ≡ asked_under seat past ++ ask ∷ [] → is_met (front ++ past) ask (sending (way_of seat net past).plan (way_of seat net past).held ask net.patience) ≡ true → IsTrue (meets_fates seat net (front ++ past))
     met_with front ends goes asks here =
         ap (are_met net.patience (front ++ past) first.plan first.held) asks
-        ∙ are_met_more net.patience (front ++ past) first (asked_under client_seat past) ask
-        (are_met_still net.patience front past first.plan first.held (asked_under client_seat past) (each_left (front ++ past) ends goes (asked_under client_seat past) (asks_of_accesses setting past client_seat legal)) met) here
+        ∙ are_met_more net.patience (front ++ past) first (asked_under seat past) ask
+        (are_met_still net.patience front past first.plan first.held (asked_under seat past) (each_left (front ++ past) ends goes (asked_under seat past) (asks_of_accesses setting past seat legal)) met) here
 
     -- the same, of entries before the access's
     met_before : (front : Past) → ((x : Name) → (ask.access ≡ x → ⊥) → end (front ++ mid) x ≡ end past x) → ((x : Name) → (ask.access ≡ x → ⊥) → gone (front ++ mid) x ≡ gone past x)
-        → asked_under client_seat (front ++ mid) ≡ asked_under client_seat past ++ ask ∷ [] → is_met (front ++ mid) ask (sending (way_of net past).plan (way_of net past).held ask net.patience) ≡ true → IsTrue (meets_fates client_seat net (front ++ mid))
+        → asked_under seat (front ++ mid) ≡ asked_under seat past ++ ask ∷ [] → is_met (front ++ mid) ask (sending (way_of seat net past).plan (way_of seat net past).held ask net.patience) ≡ true → IsTrue (meets_fates seat net (front ++ mid))
     met_before front =
         subst (λ p. ((x : Name) → (ask.access ≡ x → ⊥) → end p x ≡ end past x) → ((x : Name) → (ask.access ≡ x → ⊥) → gone p x ≡ gone past x)
-        → asked_under client_seat p ≡ asked_under client_seat past ++ ask ∷ [] → is_met p ask (sending (way_of net past).plan (way_of net past).held ask net.patience) ≡ true → IsTrue (meets_fates client_seat net p))
-        (append_assoc front (newer ++ began client_seat ask) past ∙ ap (λ p. front ++ p) (append_assoc newer (began client_seat ask) past))
-        (met_with (front ++ (newer ++ began client_seat ask)))
+        → asked_under seat p ≡ asked_under seat past ++ ask ∷ [] → is_met p ask (sending (way_of seat net past).plan (way_of seat net past).held ask net.patience) ≡ true → IsTrue (meets_fates seat net p))
+        (append_assoc front (newer ++ began seat ask) past ∙ ap (λ p. front ++ p) (append_assoc newer (began seat ask) past))
+        (met_with (front ++ (newer ++ began seat ask)))
 
     -- CUT OFF
 
-    met_unfinished : (c : Carried) → IsTrue (meets_fates client_seat net (given_up ask c ++ mid))
+    met_unfinished : (c : Carried) → IsTrue (meets_fates seat net (given_up seat ask c ++ mid))
     met_unfinished c =
-        let heard = carry.given_up_heard past m ask newer all setting legal may mid_legal c in
-        met_before (given_up ask c) (λ x other. heard.ends x) heard.goes (given_up_asks c)
-        (met_unended (given_up ask c ++ mid) ask (sending (way_of net past).plan (way_of net past).held ask net.patience) (heard.ends ask.access ∙ asking.not_ended setting past m ask legal may))
+        let heard = carry.given_up_heard seat past m ask may.client newer all setting legal may mid_legal c in
+        met_before (given_up seat ask c) (λ x other. heard.ends x) heard.goes (given_up_asks c)
+        (met_unended (given_up seat ask c ++ mid) ask (sending (way_of seat net past).plan (way_of seat net past).held ask net.patience) (heard.ends ask.access ∙ asking.not_ended setting past m ask legal may))
 
-    pub met_waiting : IsTrue (meets_fates client_seat net mid)
+    pub met_waiting : IsTrue (meets_fates seat net mid)
     met_waiting = met_unfinished (Blocked [])
 
-    pub met_at_end : (c : Carried) (now : Past) → IsCutOffAtEnd mid ask c now → IsTrue (meets_fates client_seat net now)
+    pub met_at_end : (c : Carried) (now : Past) → IsCutOffAtEnd seat mid ask c now → IsTrue (meets_fates seat net now)
     met_at_end c now cut = elim cut [
-      | inl same ↦ subst (λ p. IsTrue (meets_fates client_seat net p)) (sym same) met_waiting
-      | inr given ↦ subst (λ p. IsTrue (meets_fates client_seat net p)) (sym given) (met_unfinished c)
+      | inl same ↦ subst (λ p. IsTrue (meets_fates seat net p)) (sym same) met_waiting
+      | inr given ↦ subst (λ p. IsTrue (meets_fates seat net p)) (sym given) (met_unfinished c)
     ]
 
     -- ENDED
 
     module _ (c : Carried) (stands : Stands mid ask c) where
-      ended_reason : gone (ending ask c ++ mid) ask.access ≡ reason_of c
-      ended_reason = still (gone (given_up ask c ++ mid) ask.access) ∙ by_told c stands
+      ended_reason : gone (ending seat ask c ++ mid) ask.access ≡ reason_of c
+      ended_reason = still (gone (given_up seat ask c ++ mid) ask.access) ∙ by_told c stands
         where
           ungone : gone mid ask.access ≡ None
-          ungone = carry.ungone past m ask newer all setting legal may mid_legal
+          ungone = carry.ungone seat past m ask may.client newer all setting legal may mid_legal
 
-          by_told : (x : Carried) → Stands mid ask x → gone (given_up ask x ++ mid) ask.access ≡ reason_of x
+          by_told : (x : Carried) → Stands mid ask x → gone (given_up seat ask x ++ mid) ask.access ≡ reason_of x
           by_told (Reply t) h = ungone
           by_told (Blocked n) h = ungone
-          by_told (Gone why) h = endings.gone_so setting past mid m ask legal may mid_legal (carry.mid_heard past m ask newer all setting legal may mid_legal) why ungone
+          by_told (Gone why) h = endings.gone_so setting past mid m ask legal may mid_legal (carry.mid_heard seat past m ask may.client newer all setting legal may mid_legal) why ungone
 
-      pub met_ended : (plan' : Plan) (held' : List Ask) (Trouble : Type 0) → WasSent (sending (way_of net past).plan (way_of net past).held ask net.patience) plan' held' mid Trouble ask c → IsTrue (meets_fates client_seat net (ending ask c ++ mid))
+      pub met_ended : (plan' : Plan) (held' : List Ask) (Trouble : Type 0) → WasSent (sending (way_of seat net past).plan (way_of seat net past).held ask net.patience) plan' held' mid Trouble ask c → IsTrue (meets_fates seat net (ending seat ask c ++ mid))
       met_ended plan' held' Trouble was =
-          let s : Sending = sending (way_of net past).plan (way_of net past).held ask net.patience in
-          let heard = carry.given_up_heard past m ask newer all setting legal may mid_legal c in
-          let legal_there = carry.given_up_legal past m ask newer all setting legal may mid_legal c stands in
+          let s : Sending = sending (way_of seat net past).plan (way_of seat net past).held ask net.patience in
+          let heard = carry.given_up_heard seat past m ask may.client newer all setting legal may mid_legal c in
+          let legal_there = carry.given_up_legal seat past m ask may.client newer all setting legal may mid_legal c stands in
           let made = recursion_from_All (λ (g : Given). HasAnswered mid g.ask g.answer) was.is_sending.made was.is_sending.is_made.gave in
-          met_before (ending ask c)
-          (endings.other_end setting past (given_up ask c ++ mid) m ask legal may legal_there heard (how_of c))
-          (λ x other. still (gone (given_up ask c ++ mid) x) ∙ heard.goes x other)
+          met_before (ending seat ask c)
+          (endings.other_end setting past (given_up seat ask c ++ mid) m ask legal may legal_there heard (how_of c))
+          (λ x other. still (gone (given_up seat ask c ++ mid) x) ∙ heard.goes x other)
           (ended_asks c)
-          (met_told (ending ask c ++ mid) ask s
-          (told_is (ending ask c ++ mid) ask.access s.outcome ∙ ap (λ r. told_by r s.outcome) ended_reason ∙ outcome_told s.outcome was.is_sending.made was.sent c was.is_sending.tells was.tells)
-          (all_answered_still (ending ask c) mid s.way.delivered
+          (met_told (ending seat ask c ++ mid) ask s
+          (told_is (ending seat ask c ++ mid) ask.access s.outcome ∙ ap (λ r. told_by r s.outcome) ended_reason ∙ outcome_told s.outcome was.is_sending.made was.sent c was.is_sending.tells was.tells)
+          (all_answered_still (ending seat ask c) mid s.way.delivered
           (ap (list_all (λ (a : Ask). was_answered mid a.access)) (sym was.is_sending.delivered) ∙ delivered_answered mid was.is_sending.made made)))
 
-      pub in_step_ended : (plan' : Plan) (held' : List Ask) (Trouble : Type 0) → WasSent (sending (way_of net past).plan (way_of net past).held ask net.patience) plan' held' mid Trouble ask c
-          → All (MayServe mid) held' → IsInStep net (ending ask c ++ mid) plan' held'
+      pub in_step_ended : (plan' : Plan) (held' : List Ask) (Trouble : Type 0) → WasSent (sending (way_of seat net past).plan (way_of seat net past).held ask net.patience) plan' held' mid Trouble ask c
+          → All (MayServe mid) held' → IsInStep seat net (ending seat ask c ++ mid) plan' held'
       in_step_ended plan' held' Trouble was serves =
-          let ways : way_of net (ending ask c ++ mid) ≡ (sending (way_of net past).plan (way_of net past).held ask net.patience).way = ap (sendings net.patience first) (ended_asks c) ∙ sendings_more net.patience first (asked_under client_seat past) ask in
+          let ways : way_of seat net (ending seat ask c ++ mid) ≡ (sending (way_of seat net past).plan (way_of seat net past).held ask net.patience).way = ap (sendings net.patience first) (ended_asks c) ∙ sendings_more net.patience first (asked_under seat past) ask in
           record {
             same_plan = some_same _ _ was.is_sending.plan_after ∙ ap (λ w. w.plan) (sym ways);
             same_held = was.is_sending.held_after ∙ ap (λ w. w.held) (sym ways);
-            may_serve = All-weaker (MayServe mid) (MayServe (ending ask c ++ mid)) (λ a h. serves_still (ending ask c) mid a h) held' serves;
+            may_serve = All-weaker (MayServe mid) (MayServe (ending seat ask c ++ mid)) (λ a h. serves_still (ending seat ask c) mid a h) held' serves;
           }
         where
           some_same : (a b : Plan) → Some a ≡ Some b → a ≡ b

@@ -4,6 +4,7 @@ pub mod Asking
 pub mod Orphans
 pub mod Children
 pub mod AnswersLeave
+pub mod OwnEntries
 pub mod Refusals
 pub mod Heard
 pub mod Ending

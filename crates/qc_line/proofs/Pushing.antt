@@ -15,7 +15,6 @@ use Rattle.qc_event.specs.Base.{Setting}
 use Rattle.qc_event.specs.History.{Past, Name, same, end, end_in, gone, gone_in, kind_of}
 use Rattle.qc_event.specs.Legal.{Legal}
 use Rattle.qc_event.proofs.Absent.{same_is}
-use Rattle.qc_event.specs.Seats.{client_seat}
 use Rattle.qc_line.specs.Kept.{IsInStep, IsKept, net_of, sendings}
 use Rattle.qc_line.specs.Lined.{IsNoAccess, IsOfTransaction}
 use Rattle.qc_line.specs.Messages.{Net, ask_of, asked_under, are_met, meets_fates}
@@ -34,8 +33,8 @@ no_grant past _ h = refl
 -- WHERE NO REQUEST COMES
 
 -- a line's courier that is in step stays so where its requests are the same
-pub in_step_still : (net : Net) (newer past : Past) (plan : Plan) (held : List Ask) → asked_under client_seat (newer ++ past) ≡ asked_under client_seat past → IsInStep net past plan held → IsInStep net (newer ++ past) plan held
-in_step_still net newer past plan held same step =
+pub in_step_still : (seat : ℕ) (net : Net) (newer past : Past) (plan : Plan) (held : List Ask) → asked_under seat (newer ++ past) ≡ asked_under seat past → IsInStep seat net past plan held → IsInStep seat net (newer ++ past) plan held
+in_step_still seat net newer past plan held same step =
     let ways = ap (sendings net.patience (record { plan = starting net.fates net.hold; held = []; delivered = [] })) (sym same) in
     record {
       same_plan = step.same_plan ∙ ap (λ w. w.plan) ways;
@@ -43,10 +42,10 @@ in_step_still net newer past plan held same step =
       may_serve = All-weaker (MayServe past) (MayServe (newer ++ past)) (λ a h. serves_still newer past a h) held step.may_serve;
     }
 
-pub met_still : (net : Net) (newer past : Past) → asked_under client_seat (newer ++ past) ≡ asked_under client_seat past → AllByRecursion (λ (a : Ask). IsLeft past (newer ++ past) a.access) (asked_under client_seat past)
-    → IsTrue (meets_fates client_seat net past) → IsTrue (meets_fates client_seat net (newer ++ past))
-met_still net newer past same left met =
-    ap (are_met net.patience (newer ++ past) (starting net.fates net.hold) []) same ∙ are_met_still net.patience newer past (starting net.fates net.hold) [] (asked_under client_seat past) left met
+pub met_still : (seat : ℕ) (net : Net) (newer past : Past) → asked_under seat (newer ++ past) ≡ asked_under seat past → AllByRecursion (λ (a : Ask). IsLeft past (newer ++ past) a.access) (asked_under seat past)
+    → IsTrue (meets_fates seat net past) → IsTrue (meets_fates seat net (newer ++ past))
+met_still seat net newer past same left met =
+    ap (are_met net.patience (newer ++ past) (starting net.fates net.hold) []) same ∙ are_met_still net.patience newer past (starting net.fates net.hold) [] (asked_under seat past) left met
 
 -- A TRANSACTION'S ENTRY
 
@@ -54,8 +53,8 @@ nothing_asked : (past : Past) (ev : Event) → IsOfTransaction past ev → ask_o
 nothing_asked past (event.Ask ask) h = absurd h
 nothing_asked past _ h = refl
 
-asked_same : (past : Past) (e : Entry) → IsOfTransaction past e.event → asked_under client_seat (e ∷ past) ≡ asked_under client_seat past
-asked_same past e of = ap (λ o. asked_under client_seat past ++ option_to_list (if e.seat == client_seat then o else None)) (nothing_asked past e.event of) ∙ ap (λ o. asked_under client_seat past ++ option_to_list o) (either (e.seat == client_seat)) ∙ append-nil (asked_under client_seat past)
+asked_same : (seat : ℕ) (past : Past) (e : Entry) → IsOfTransaction past e.event → asked_under seat (e ∷ past) ≡ asked_under seat past
+asked_same seat past e of = ap (λ o. asked_under seat past ++ option_to_list (if e.seat == seat then o else None)) (nothing_asked past e.event of) ∙ ap (λ o. asked_under seat past ++ option_to_list o) (either (e.seat == seat)) ∙ append-nil (asked_under seat past)
   where
     either : (b : Bool) → ◌≡◌ {A = Option Ask} (if b then None else None) None
     either true = refl
@@ -89,13 +88,14 @@ each_left past e (a ∷ rest) of all = (
   each_left past e rest of all.1,
 )
 
-pub pushed : (setting : Setting) (past : Past) (e : Entry) (plan : Plan) (held : List Ask) (patience : ℕ) (torn : Bool) → Legal setting past → IsOfTransaction past e.event → IsKept plan held patience past torn → IsKept plan held patience (e ∷ past) torn
-pushed setting past e plan held patience torn legal of kept = record {
-  met = met_still (net_of plan patience) (e ∷ []) past (asked_same past e of) (each_left past e (asked_under client_seat past) of (asks_of_accesses setting past client_seat legal)) kept.met;
-  in_step = λ whole. in_step_still (net_of plan patience) (e ∷ []) past plan held (asked_same past e of) (kept.in_step whole);
+pub pushed : (setting : Setting) (seat : ℕ) (past : Past) (e : Entry) (plan : Plan) (held : List Ask) (patience : ℕ) (torn : Bool) → Legal setting past → IsOfTransaction past e.event → IsKept seat plan held patience past torn → IsKept seat plan held patience (e ∷ past) torn
+pushed setting seat past e plan held patience torn legal of kept = record {
+  client = kept.client;
+  met = met_still seat (net_of plan patience) (e ∷ []) past (asked_same seat past e of) (each_left past e (asked_under seat past) of (asks_of_accesses setting past seat legal)) kept.met;
+  in_step = λ whole. in_step_still seat (net_of plan patience) (e ∷ []) past plan held (asked_same seat past e of) (kept.in_step whole);
 }
 
-pub pushed_or_not : {T E : Type 0} (setting : Setting) (past now : Past) (e : Entry) (r : Result T E) (plan : Plan) (held : List Ask) (patience : ℕ) (torn : Bool) → Legal setting past → IsOfTransaction past e.event
-    → OnOk r (now ≡ e ∷ past) → OnErr r (now ≡ past) → IsKept plan held patience past torn → IsKept plan held patience now torn
-pushed_or_not setting past now e (Ok t) plan held patience torn legal of is none kept = subst (λ p. IsKept plan held patience p torn) (sym is) (pushed setting past e plan held patience torn legal of kept)
-pushed_or_not setting past now e (Err x) plan held patience torn legal of none is kept = subst (λ p. IsKept plan held patience p torn) (sym is) kept
+pub pushed_or_not : {T E : Type 0} (setting : Setting) (seat : ℕ) (past now : Past) (e : Entry) (r : Result T E) (plan : Plan) (held : List Ask) (patience : ℕ) (torn : Bool) → Legal setting past → IsOfTransaction past e.event
+    → OnOk r (now ≡ e ∷ past) → OnErr r (now ≡ past) → IsKept seat plan held patience past torn → IsKept seat plan held patience now torn
+pushed_or_not setting seat past now e (Ok t) plan held patience torn legal of is none kept = subst (λ p. IsKept seat plan held patience p torn) (sym is) (pushed setting seat past e plan held patience torn legal of kept)
+pushed_or_not setting seat past now e (Err x) plan held patience torn legal of none is kept = subst (λ p. IsKept seat plan held patience p torn) (sym is) kept

@@ -9,10 +9,11 @@ use Rattle.qc_event.specs.History.{Past, kind_of}
 use Rattle.qc_event.specs.Legal.{Legal}
 use Rattle.qc_line.specs.Messages.{Net}
 
--- what a line keeps: its setting, the history, the latest entry first, which is legal, what its link is, and how
--- often that gave trouble
+-- what a line keeps: its setting, its client's seat, the history, the latest entry first, which is legal, what its
+-- link is, and how often that gave trouble
 pub record Lined : Type 0 where
   pub setting : Setting
+  pub seat : ℕ
   pub past : Past
   pub net : Net
   pub troubles : ℕ

@@ -1,9 +1,9 @@
 //! One access of a manager: started, sent, and ended by what comes back.
-ghost use Rattle.std.specs.Prelude.{◌≡◌, ◌≤◌, ◌++◌, ◌∷◌, false, not, IsTrue, All, IfOk, IfErr, OnOk, OnErr, reverse, length};
+ghost use Rattle.std.specs.Prelude.{◌≡◌, ◌≤◌, ◌++◌, ◌∷◌, false, not, IsTrue, IsErrOf, All, IfOk, IfErr, OnOk, OnErr, reverse, length};
 ghost use Rattle.qc_event.specs.History.{limit, children};
 ghost use Rattle.qc_event.specs.Legal.{Allowed};
-ghost use Rattle.qc_event.specs.Seats.{client_seat};
-ghost use Rattle.qc_gather.specs.Carrying.{MayCarry, HasGrown, WasCarried, WasNotCarried, HasReason, Rose, entry, began, made_by, carriage, became, next_ask};
+ghost use Rattle.qc_event.specs.Seats.{is_client};
+ghost use Rattle.qc_gather.specs.Carrying.{HasGrown, WasCarried, WasNotCarried, HasReason, Rose, entry, began, became};
 ghost use Rattle.qc_line.specs.Access as words;
 ghost use Rattle.qc_line.specs.Kept.{IsInStep, net_of};
 ghost use Rattle.qc_line.specs.Messages.{meets_fates};
@@ -16,13 +16,21 @@ ghost use Rattle.qc_store.specs.Served.{MayServe, HasServed, is_answer};
 ghost use Rattle.qc_store.specs.Sites.{is_grant};
 
 use qc_config::Op;
-use qc_event::{
-    Answer, Answered, Ask, CLIENT_SEAT, Cause, Entry, Event, How, Kind, Name, Short, Why, dead,
-};
+use qc_event::{Answer, Answered, Ask, Cause, Entry, Event, How, Kind, Name, Short, Why, dead};
 use qc_gather::{Carried, CarryNo};
 use qc_net::{Courier, PlanLink, Sent};
 use qc_store::Store;
 use std::alloc::AllocError;
+
+/// What a manager's next access is to be, under its client's seat.
+#[derive(Clone, Copy)]
+pub(crate) struct NextAccess {
+    pub seat: u32,
+    pub manager: Name,
+    pub copy: u8,
+    pub rec: u8,
+    pub op: Op,
+}
 
 // How many children of a name have started.
 fn count_children(h: &[Entry], n: &Name) -> usize
@@ -40,17 +48,17 @@ fn count_children(h: &[Entry], n: &Name) -> usize
 }
 
 // The request of a manager's next access.
-fn next_ask(store: &Store, manager: &Name, copy: u8, rec: u8, op: &Op) -> Ask
-    requires may { MayCarry store.now.setting client_seat store.now.past manager.now copy rec op.now }
+fn request(store: &Store, next: &NextAccess) -> Ask
+    requires may { words.MayMake store.now.setting store.now.past next.now }
     requires bounded { length store.now.past ≤ limit }
-    ensures { result ≡ next_ask store.now.past manager.now copy rec op.now }
+    ensures { result ≡ words.request store.now.past next.now }
 {
-    let number = count_children(store.entries(), manager) + 1;
+    let number = count_children(store.entries(), &next.manager) + 1;
     Ask {
-        access: manager.child(number as u32),
-        copy,
-        rec,
-        op: *op,
+        access: next.manager.child(number as u32),
+        copy: next.copy,
+        rec: next.rec,
+        op: next.op,
     }
 }
 
@@ -64,40 +72,37 @@ fn no_of(short: Short) -> CarryNo
 }
 
 // Appends an entry under the client's seat.
-fn enter(store: &mut Store, event: Event) -> Result<(), CarryNo>
-    requires allowed { Allowed store.old.setting store.old.past (entry client_seat event) }
+fn enter(store: &mut Store, seat: u32, event: Event) -> Result<(), CarryNo>
+    requires allowed { Allowed store.old.setting store.old.past (entry seat event) }
     requires no_grant { IsTrue (not (is_grant event)) }
     ensures setting { store.new.setting ≡ store.old.setting }
-    ensures ok { OnOk result (store.new.past ≡ entry client_seat event ∷ store.old.past) }
+    ensures ok { OnOk result (store.new.past ≡ entry seat event ∷ store.old.past) }
     ensures err { OnErr result (store.new.past ≡ store.old.past) }
     ensures short { IfErr result (words.IsShort store.new.past) }
 {
-    let entry = Entry {
-        seat: CLIENT_SEAT,
-        event,
-    };
-    match store.push(entry) {
+    match store.push(Entry { seat, event }) {
         Ok(()) => Ok(()),
         Err(short) => Err(no_of(short)),
     }
 }
 
 // Starts an access, which asks.
-fn begin(store: &mut Store, ask: &Ask) -> Result<(), CarryNo>
-    requires may { words.MayBegin store.old.setting store.old.past ask.now }
+fn begin(store: &mut Store, seat: u32, ask: &Ask) -> Result<(), CarryNo>
+    requires may { words.MayBegin store.old.setting seat store.old.past ask.now }
     ensures setting { store.new.setting ≡ store.old.setting }
-    ensures ok { OnOk result (store.new.past ≡ began client_seat ask.now ++ store.old.past) }
-    ensures err { OnErr result (words.IsCutOffAtStart store.old.past ask.now store.new.past) }
+    ensures ok { OnOk result (store.new.past ≡ began seat ask.now ++ store.old.past) }
+    ensures err { OnErr result (words.IsCutOffAtStart seat store.old.past ask.now store.new.past) }
     ensures short { IfErr result (words.IsShort store.new.past) }
 {
     enter(
         store,
+        seat,
         Event::Start {
             name: ask.access,
             kind: Kind::Access,
         },
     )?;
-    enter(store, Event::Ask(*ask))
+    enter(store, seat, Event::Ask(*ask))
 }
 
 // What a manager is told of a copy's answer. No ancestor of it was aborted while it waited.
@@ -122,10 +127,13 @@ fn send(
     ask: &Ask,
     patience: u32,
 ) -> Result<Carried, CarryNo>
-    requires waits { words.Waits store.old.setting store.old.past ask.now }
+    requires waits { words.IsAwaited store.old.setting store.old.past ask.now }
     requires held { All (MayServe store.old.past) (held_of courier.old) }
     ensures served { HasServed store.old store.new }
-    ensures sent { IfOk result (words.WasSent (sending (plan_of (link_of courier.old)) (held_of courier.old) ask.now patience) (plan_of (link_of courier.new)) (held_of courier.new) store.new.past (Rose (troubles_of (link_of courier.old)) (troubles_of (link_of courier.new))) ask.now) }
+    ensures sent { IfOk result (words.WasSent
+        (sending (plan_of (link_of courier.old)) (held_of courier.old) ask.now patience)
+        (plan_of (link_of courier.new)) (held_of courier.new) store.new.past
+        (Rose (troubles_of (link_of courier.old)) (troubles_of (link_of courier.new))) ask.now) }
     ensures allowed { All (MayServe store.new.past) (held_of courier.new) }
     ensures later { troubles_of (link_of courier.old) ≤ troubles_of (link_of courier.new) }
     ensures plan { anew (plan_of (link_of courier.new)) ≡ anew (plan_of (link_of courier.old)) }
@@ -151,17 +159,19 @@ fn end_of(told: &Carried) -> How
 }
 
 // Gives an access up where no answer came.
-fn give_up(store: &mut Store, ask: &Ask, told: &Carried) -> Result<(), CarryNo>
-    requires waits { words.Waits store.old.setting store.old.past ask.now }
+fn give_up(store: &mut Store, seat: u32, ask: &Ask, told: &Carried) -> Result<(), CarryNo>
+    requires waits { words.Waits store.old.setting seat store.old.past ask.now }
     requires stands { words.Stands store.old.past ask.now told.now }
     ensures setting { store.new.setting ≡ store.old.setting }
-    ensures ok { OnOk result (store.new.past ≡ words.given_up ask.now told.now ++ store.old.past) }
+    ensures ok { OnOk result
+        (store.new.past ≡ words.given_up seat ask.now told.now ++ store.old.past) }
     ensures err { OnErr result (store.new.past ≡ store.old.past) }
     ensures short { IfErr result (words.IsShort store.new.past) }
 {
     match told {
         Carried::Gone(why) => enter(
             store,
+            seat,
             Event::Gone {
                 access: ask.access,
                 why: *why,
@@ -172,17 +182,20 @@ fn give_up(store: &mut Store, ask: &Ask, told: &Carried) -> Result<(), CarryNo>
 }
 
 // Ends an access by what its manager is told.
-fn finish(store: &mut Store, ask: &Ask, told: &Carried) -> Result<(), CarryNo>
-    requires waits { words.Waits store.old.setting store.old.past ask.now }
+fn finish(store: &mut Store, seat: u32, ask: &Ask, told: &Carried) -> Result<(), CarryNo>
+    requires waits { words.Waits store.old.setting seat store.old.past ask.now }
     requires stands { words.Stands store.old.past ask.now told.now }
     ensures setting { store.new.setting ≡ store.old.setting }
-    ensures ok { OnOk result (store.new.past ≡ words.ending ask.now told.now ++ store.old.past) }
-    ensures err { OnErr result (words.IsCutOffAtEnd store.old.past ask.now told.now store.new.past) }
+    ensures ok { OnOk result
+        (store.new.past ≡ words.ending seat ask.now told.now ++ store.old.past) }
+    ensures err { OnErr result
+        (words.IsCutOffAtEnd seat store.old.past ask.now told.now store.new.past) }
     ensures short { IfErr result (words.IsShort store.new.past) }
 {
-    give_up(store, ask, told)?;
+    give_up(store, seat, ask, told)?;
     enter(
         store,
+        seat,
         Event::End {
             name: ask.access,
             how: end_of(told),
@@ -205,33 +218,41 @@ pub(crate) fn access(
     store: &mut Store,
     courier: &mut Courier<PlanLink>,
     patience: u32,
-    manager: &Name,
-    copy: u8,
-    rec: u8,
-    op: &Op,
+    next: &NextAccess,
 ) -> Result<Carried, CarryNo>
-    requires may { MayCarry store.old.setting client_seat store.old.past manager.now copy rec op.now }
-    requires in_step { IsInStep (net_of (plan_of (link_of courier.old)) patience) store.old.past (plan_of (link_of courier.old)) (held_of courier.old) }
-    requires met { IsTrue (meets_fates client_seat (net_of (plan_of (link_of courier.old)) patience) store.old.past) }
+    requires may { words.MayMake store.old.setting store.old.past next.now }
+    requires client { IsTrue (is_client next.now.seat) }
+    requires in_step { IsInStep next.now.seat (net_of (plan_of (link_of courier.old)) patience)
+        store.old.past (plan_of (link_of courier.old)) (held_of courier.old) }
+    requires met { IsTrue (meets_fates next.now.seat
+        (net_of (plan_of (link_of courier.old)) patience) store.old.past) }
     ensures setting { store.new.setting ≡ store.old.setting }
-    ensures grown { HasGrown is_answer (λ n. n ≡ (next_ask store.old.past manager.now copy rec op.now).access) store.old.past store.new.past }
-    ensures carried { IfOk result (λ c. WasCarried (carriage client_seat store.old.past store.new.past (made_by client_seat store.old.past) (made_by client_seat store.new.past) manager.now copy rec op.now) (became c)) }
-    ensures refused { IfErr result (WasNotCarried (carriage client_seat store.old.past store.new.past (made_by client_seat store.old.past) (made_by client_seat store.new.past) manager.now copy rec op.now)) }
-    ensures reason { IfOk result (HasReason (carriage client_seat store.old.past store.new.past (made_by client_seat store.old.past) (made_by client_seat store.new.past) manager.now copy rec op.now) (Rose (troubles_of (link_of courier.old)) (troubles_of (link_of courier.new)))) }
+    ensures grown { HasGrown is_answer
+        (λ n. n ≡ (words.request store.old.past next.now).access) store.old.past store.new.past }
+    ensures carried { IfOk result (λ c.
+        WasCarried (words.way store.old.past store.new.past next.now) (became c)) }
+    ensures refused { IfErr result
+        (WasNotCarried (words.way store.old.past store.new.past next.now)) }
+    ensures reason { IfOk result (HasReason (words.way store.old.past store.new.past next.now)
+        (Rose (troubles_of (link_of courier.old)) (troubles_of (link_of courier.new)))) }
+    ensures not_full { IsErrOf result CarryNo.Memory → length store.new.past ≡ limit → ⊥ }
     ensures later { troubles_of (link_of courier.old) ≤ troubles_of (link_of courier.new) }
     ensures plan { anew (plan_of (link_of courier.new)) ≡ anew (plan_of (link_of courier.old)) }
-    ensures in_step { words.is_cut_off result ≡ false → IsInStep (net_of (plan_of (link_of courier.new)) patience) store.new.past (plan_of (link_of courier.new)) (held_of courier.new) }
-    ensures met { IsTrue (meets_fates client_seat (net_of (plan_of (link_of courier.new)) patience) store.new.past) }
+    ensures in_step { words.is_cut_off result ≡ false →
+        IsInStep next.now.seat (net_of (plan_of (link_of courier.new)) patience)
+        store.new.past (plan_of (link_of courier.new)) (held_of courier.new) }
+    ensures met { IsTrue (meets_fates next.now.seat
+        (net_of (plan_of (link_of courier.new)) patience) store.new.past) }
 {
-    if let Some(ancestor) = dead(store.entries(), manager) {
+    if let Some(ancestor) = dead(store.entries(), &next.manager) {
         return Err(CarryNo::Orphan(ancestor));
     }
     if store.is_full() {
         return Err(CarryNo::Room);
     }
-    let ask = next_ask(store, manager, copy, rec, op);
-    begin(store, &ask)?;
+    let ask = request(store, next);
+    begin(store, next.seat, &ask)?;
     let carried = send(store, courier, &ask, patience)?;
-    finish(store, &ask, &carried)?;
+    finish(store, next.seat, &ask, &carried)?;
     Ok(carried)
 }

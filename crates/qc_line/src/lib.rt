@@ -5,4 +5,3 @@ mod access;
 mod line;
 
 pub use line::Line;
-

@@ -2,11 +2,11 @@ ghost use Rattle.std.specs.Prelude.{◌≡◌, ◌≤◌, ◌↔◌, ◌∷◌, 
 ghost use Rattle.qc_event.specs.Base.{first_of, IsProper};
 ghost use Rattle.qc_event.specs.History.{limit};
 ghost use Rattle.qc_event.specs.Legal.{Allowed, Legal};
-ghost use Rattle.qc_event.specs.Seats.{client_seat};
+ghost use Rattle.qc_event.specs.Seats.{is_client};
 ghost use Rattle.qc_line.specs.Lined.{IsOfTransaction};
 ghost use Rattle.qc_line.specs.Messages.{meets_fates};
 
-use crate::access::{access, is_cut_off};
+use crate::access::{NextAccess, access, is_cut_off};
 use qc_config::{Config, Op};
 use qc_event::{Base, Entry, Name, Short};
 use qc_gather::{Carried, Carrier, CarryNo};
@@ -15,10 +15,11 @@ use qc_store::Store;
 use std::alloc::{AllocError, Global};
 use std::marker::Model;
 
-/// The copies of a run behind a link that loses, delays and repeats requests. Contracts see it as its setting,
-/// the history, which is legal, and what the link is.
+/// The copies of a run behind a client's link, which loses, delays and repeats requests. Contracts see it as its
+/// setting, the client's seat, the history, which is legal, and what the link is.
 #[derive(Drop)]
 pub struct Line {
+    seat: u32,
     store: Store,
     courier: Courier<PlanLink>,
     patience: u32,
@@ -35,22 +36,26 @@ impl Model for Line {
     ghost Value = { Lined };
 
     ghost view = { λ s. record {
-        setting = s.store.setting;
-        past = s.store.past;
-        net = net_of (plan_of (link_of s.courier)) s.patience;
-        troubles = troubles_of (link_of s.courier);
-        is_legal = s.store.is_legal;
+      setting = s.store.setting;
+      seat = s.seat;
+      past = s.store.past;
+      net = net_of (plan_of (link_of s.courier)) s.patience;
+      troubles = troubles_of (link_of s.courier);
+      is_legal = s.store.is_legal;
     } };
 
-    ghost invariant = { λ s. IsKept (plan_of (link_of s.courier)) (held_of s.courier) s.patience s.store.past s.torn };
+    ghost invariant = { λ s. IsKept s.seat (plan_of (link_of s.courier)) (held_of s.courier)
+        s.patience s.store.past s.torn };
 }
 
 impl Line {
-    /// A line to copies of these start tuples, over these first configurations, whose history is empty. Its requests meet these fates, over and
-    /// over; after every so many due steps the request held first is delivered, and the sender of a held one
-    /// waits for so many due steps. The only error is want of memory.
+    /// A client's line, under its seat, to copies of these start tuples, over these first configurations, whose
+    /// history is empty. Its requests meet these fates, over and over; after every so many due steps the request
+    /// held first is delivered, and the sender of a held one waits for so many due steps. The only error is want
+    /// of memory.
     pub fn new(
         alloc: Global,
+        seat: u32,
         firsts: Vec<Config>,
         base: Base,
         fates: Vec<Fate>,
@@ -59,13 +64,16 @@ impl Line {
     ) -> Result<Self, AllocError>
         requires proper { IsProper (record { firsts = firsts.items; base = base }) }
         requires hold { 1 ≤ hold }
+        requires client { IsTrue (is_client seat) }
         ensures setting { IfOk result
             (λ line. line.setting ≡ record { firsts = firsts.items; base = base }) }
+        ensures seat { IfOk result (λ line. line.seat ≡ seat) }
         ensures past { IfOk result (λ line. line.past ≡ []) }
         ensures net { IfOk result
             (λ line. line.net ≡ record { fates = fates.items; hold = hold; patience = patience }) }
     {
         Ok(Line {
+            seat,
             store: Store::new(alloc, firsts, base)?,
             courier: Courier::new(alloc, PlanLink::new(fates, hold)),
             patience,
@@ -73,11 +81,19 @@ impl Line {
         })
     }
 
+    /// The client's seat.
+    pub fn seat(&self) -> u32
+        ensures seat { result ≡ self.now.seat }
+        ensures client { IsTrue (is_client self.now.seat) }
+    {
+        self.seat
+    }
+
     /// The entries, the oldest first.
     pub fn entries(&self) -> &[Entry]
         ensures entries { reverse result.now ≡ self.now.past }
         ensures legal { Legal self.now.setting self.now.past }
-        ensures met { IsTrue (meets_fates client_seat self.now.net self.now.past) }
+        ensures met { IsTrue (meets_fates self.now.seat self.now.net self.now.past) }
     {
         self.store.entries()
     }
@@ -117,6 +133,7 @@ impl Line {
         requires allowed { Allowed self.old.setting self.old.past entry }
         requires of_transaction { IsOfTransaction self.old.past entry.event }
         ensures setting { self.new.setting ≡ self.old.setting }
+        ensures seat { self.new.seat ≡ self.old.seat }
         ensures net { self.new.net ≡ self.old.net }
         ensures ok { OnOk result (self.new.past ≡ entry ∷ self.old.past) }
         ensures err { OnErr result (self.new.past ≡ self.old.past) }
@@ -133,7 +150,7 @@ impl Line {
         ensures bounded { length result.1.items ≤ limit }
         ensures legal { Legal self.setting self.past }
         ensures proper { IsProper self.setting }
-        ensures met { IsTrue (meets_fates client_seat self.net self.past) }
+        ensures met { IsTrue (meets_fates self.seat self.net self.past) }
     {
         let Line { store, .. } = self;
         store.into_parts()
@@ -149,9 +166,9 @@ impl Carrier for Line {
 
     ghost setting = { λ line. line.setting };
 
-    ghost seat = { λ _. client_seat };
+    ghost seat = { λ line. line.seat };
 
-    ghost own = { λ line. made_by client_seat line.past };
+    ghost own = { λ line. made_by line.seat line.past };
 
     ghost seen = { λ line. line.past };
 
@@ -173,15 +190,14 @@ impl Carrier for Line {
         if self.torn {
             return Err(CarryNo::Memory);
         }
-        let carried = access(
-            &mut self.store,
-            &mut self.courier,
-            self.patience,
-            manager,
+        let next = NextAccess {
+            seat: self.seat,
+            manager: *manager,
             copy,
             rec,
-            &op,
-        );
+            op,
+        };
+        let carried = access(&mut self.store, &mut self.courier, self.patience, &next);
         self.torn = is_cut_off(&carried);
         carried
     }

@@ -5,9 +5,8 @@ use Rattle.std.proofs.lemmas.List.Elements.{All-weaker}
 use Rattle.std.proofs.lemmas.Result.{err_from_is_err_and}
 use Rattle.qc_event.specs.Dead.{dead}
 use Rattle.qc_event.proofs.LegalAgain.{legal_again}
-use Rattle.qc_event.specs.Seats.{client_seat}
-use Rattle.qc_gather.specs.Carrying.{next_ask, began, became, HasGrown, WasCarried, WasCutOff}
-use Rattle.qc_line.specs.Access.{MayAccess, Waits, Stands}
+use Rattle.qc_gather.specs.Carrying.{began, became, HasGrown, WasCarried, WasCutOff}
+use Rattle.qc_line.specs.Access.{MayAccess, Waits, Stands, request}
 use Rattle.qc_line.specs.Kept.{IsInStep, net_of}
 use Rattle.qc_line.specs.Messages.{meets_fates}
 use Rattle.qc_line.proofs.Answered.{serves_still}
@@ -17,141 +16,143 @@ use Rattle.qc_line.proofs.Course.{IsSent}
 use Rattle.qc_line.proofs.Keeping.{same_net, met_at_start}
 use Rattle.qc_line.proofs.Waiting.{waits_now, what_came_stands}
 use Rattle.qc_line.proofs.access.access.Goals as goal
-use Rattle.qc_line.proofs.access.access.Goals.{After-next_ask-ask, After-send, In_ok-carried}
+use Rattle.qc_line.proofs.access.access.Goals.{After-request-ask, After-send, In_ok-carried}
 use Rattle.qc_net.specs.Courier.{link_of, held_of}
 use Rattle.qc_net.specs.PlanLink.{plan_of}
 use Rattle.qc_store.specs.Served.{is_answer, MayServe}
 
-may : (c : After-next_ask-ask) → MayAccess c.args.store.now.setting c.args.store.now.past c.args.manager.now c.next_ask-ask.result
+may : (c : After-request-ask) → MayAccess c.args.store.now.setting c.args.next.now.seat c.args.store.now.past c.args.next.now.manager c.request-ask.result
 may c =
     let s = c.args.store.now in
-    course.may_access s.setting s.past c.args.manager.now c.args.copy c.args.rec c.args.op.now c.next_ask-ask.result c.next_ask-ask.ensures c.requires.may
-    (ap (λ p. dead p c.args.manager.now) (sym c.entries.ensures.entries) ∙ sym c.dead.ensures ∙ c.in_default.is)
+    course.may_access s.setting c.args.next.now.seat s.past c.args.next.now.manager c.args.next.now.copy c.args.next.now.rec c.args.next.now.op c.request-ask.result c.requires.client c.request-ask.ensures c.requires.may
+    (ap (λ p. dead p c.args.next.now.manager) (sym c.entries.ensures.entries) ∙ sym c.dead.ensures ∙ c.in_default.is)
 
-is_sent : (c : After-send) → IsSent c.args.store.now c.send.new.store c.args.manager.now c.next_ask-ask.result
+is_sent : (c : After-send) → IsSent c.args.next.now.seat c.args.store.now c.send.new.store c.args.next.now.manager c.request-ask.result
 is_sent c =
     let s = c.args.store.now in
-    course.sent s c.begin.new.store c.send.new.store c.args.manager.now c.next_ask-ask.result
-    (course.may_access s.setting s.past c.args.manager.now c.args.copy c.args.rec c.args.op.now c.next_ask-ask.result c.next_ask-ask.ensures c.requires.may
-    (ap (λ p. dead p c.args.manager.now) (sym c.entries.ensures.entries) ∙ sym c.dead.ensures ∙ c.in_default.is))
+    course.sent c.args.next.now.seat s c.begin.new.store c.send.new.store c.args.next.now.manager c.request-ask.result
+    (course.may_access s.setting c.args.next.now.seat s.past c.args.next.now.manager c.args.next.now.copy c.args.next.now.rec c.args.next.now.op c.request-ask.result c.requires.client c.request-ask.ensures c.requires.may
+    (ap (λ p. dead p c.args.next.now.manager) (sym c.entries.ensures.entries) ∙ sym c.dead.ensures ∙ c.in_default.is))
     c.in_ok-begin.ensures.setting c.in_ok-begin.ensures.ok c.send.ensures.served
 
 pub returns-in-Some-clause-refused : goal.returns-in-Some-clause-refused
 returns-in-Some-clause-refused c =
     let s = c.args.store.now in
-    course.not_started s.setting s.past c.args.manager.now c.args.copy c.args.rec c.args.op.now c.in-Some.ancestor c.requires.may
-    (ap (λ p. dead p c.args.manager.now) (sym c.entries.ensures.entries) ∙ sym c.dead.ensures ∙ c.in-Some.is)
+    course.not_started s.setting c.args.next.now.seat s.past c.args.next.now.manager c.args.next.now.copy c.args.next.now.rec c.args.next.now.op c.in-Some.ancestor c.requires.may
+    (ap (λ p. dead p c.args.next.now.manager) (sym c.entries.ensures.entries) ∙ sym c.dead.ensures ∙ c.in-Some.is)
 
 pub returns-then-is_full-clause-refused : goal.returns-then-is_full-clause-refused
 returns-then-is_full-clause-refused c =
     let s = c.args.store.now in (
-      cut_none s.past c.args.manager.now (next_ask s.past c.args.manager.now c.args.copy c.args.rec c.args.op.now) (next_ask s.past c.args.manager.now c.args.copy c.args.rec c.args.op.now) s.past refl,
+      cut_none c.args.next.now.seat s.past c.args.next.now.manager (request s.past c.args.next.now) (request s.past c.args.next.now) s.past refl,
       c.is_full.ensures.full.0 c.if-is_full.true,
     )
 
 pub returns-in_err-begin-clause-grown : goal.returns-in_err-begin-clause-grown
 returns-in_err-begin-clause-grown c =
     let s = c.args.store.now in
-    subst (λ a. HasGrown is_answer (Of a.access) s.past c.begin.new.store.past) c.next_ask-ask.ensures (grown_at_start s.past c.next_ask-ask.result c.begin.new.store.past c.in_err-begin.ensures.err)
+    subst (λ a. HasGrown is_answer (Of a.access) s.past c.begin.new.store.past) c.request-ask.ensures (grown_at_start c.args.next.now.seat s.past c.request-ask.result c.begin.new.store.past c.in_err-begin.ensures.err)
 
 pub returns-in_err-begin-clause-refused : goal.returns-in_err-begin-clause-refused
 returns-in_err-begin-clause-refused c =
     let s = c.args.store.now in
-    let m = c.args.manager.now in
+    let m = c.args.next.now.manager in
     let now = c.begin.new.store.past in
     let p = err_from_is_err_and c.from_residual.result c.from_residual.ensures.1 in
-    rw (p.1, p.2) (course.not_carried (way s.past m (next_ask s.past m c.args.copy c.args.rec c.args.op.now) now) c.in_err-begin.field-0.0
-    (subst (λ a. WasCutOff (way s.past m a now)) c.next_ask-ask.ensures (cut_at_start s.past m c.next_ask-ask.result now c.in_err-begin.ensures.err))
+    rw (p.1, p.2) (course.not_carried (way c.args.next.now.seat s.past m (request s.past c.args.next.now) now) c.in_err-begin.field-0.0
+    (subst (λ a. WasCutOff (way c.args.next.now.seat s.past m a now)) c.request-ask.ensures (cut_at_start c.args.next.now.seat s.past m c.request-ask.result now c.in_err-begin.ensures.err))
     c.in_err-begin.ensures.short)
 
 pub returns-in_err-begin-clause-met : goal.returns-in_err-begin-clause-met
-returns-in_err-begin-clause-met c = met_at_start (net_of (plan_of (link_of c.args.courier.now)) c.args.patience) c.args.store.now.past c.next_ask-ask.result c.begin.new.store.past c.in_err-begin.ensures.err c.requires.met
+returns-in_err-begin-clause-met c = met_at_start c.args.next.now.seat (net_of (plan_of (link_of c.args.courier.now)) c.args.patience) c.args.store.now.past c.request-ask.result c.begin.new.store.past c.in_err-begin.ensures.err c.requires.met
 
 pub send-requires-clause-waits : goal.send-requires-clause-waits
 send-requires-clause-waits c =
-    let s = c.args.store.now in
-    subst (λ p. Waits c.begin.new.store.setting p c.next_ask-ask.result) (sym c.in_ok-begin.ensures.ok)
-    (waits_now c.begin.new.store.setting s.past c.args.manager.now c.next_ask-ask.result
-    (subst (λ b. MayAccess b s.past c.args.manager.now c.next_ask-ask.result) (sym c.in_ok-begin.ensures.setting) (may (goal.at.send-requires-clause-waits c).After-next_ask-ask)))
+    let s = c.args.store.now in (
+      c.args.next.now.seat,
+      subst (λ p. Waits c.begin.new.store.setting c.args.next.now.seat p c.request-ask.result) (sym c.in_ok-begin.ensures.ok)
+          (waits_now c.begin.new.store.setting c.args.next.now.seat s.past c.args.next.now.manager c.request-ask.result
+          (subst (λ b. MayAccess b c.args.next.now.seat s.past c.args.next.now.manager c.request-ask.result) (sym c.in_ok-begin.ensures.setting) (may (goal.at.send-requires-clause-waits c).After-request-ask))),
+    )
 
 pub send-requires-clause-held : goal.send-requires-clause-held
 send-requires-clause-held c =
     let s = c.args.store.now in
     subst (λ p. All (MayServe p) (held_of c.args.courier.now)) (sym c.in_ok-begin.ensures.ok)
-    (All-weaker (MayServe s.past) (MayServe (began client_seat c.next_ask-ask.result ++ s.past)) (λ a h. serves_still (began client_seat c.next_ask-ask.result) s.past a h) (held_of c.args.courier.now) c.requires.in_step.may_serve)
+    (All-weaker (MayServe s.past) (MayServe (began c.args.next.now.seat c.request-ask.result ++ s.past)) (λ a h. serves_still (began c.args.next.now.seat c.request-ask.result) s.past a h) (held_of c.args.courier.now) c.requires.in_step.may_serve)
 
 pub returns-in_err-carried-clause-grown : goal.returns-in_err-carried-clause-grown
 returns-in_err-carried-clause-grown c =
     let s = c.args.store.now in
-    subst (λ a. HasGrown is_answer (Of a.access) s.past c.send.new.store.past) c.next_ask-ask.ensures
-    (course.grown_waiting s c.send.new.store c.args.manager.now c.next_ask-ask.result (is_sent (goal.at.returns-in_err-carried-clause-grown c).After-send))
+    subst (λ a. HasGrown is_answer (Of a.access) s.past c.send.new.store.past) c.request-ask.ensures
+    (course.grown_waiting s c.send.new.store c.args.next.now.manager c.request-ask.result (is_sent (goal.at.returns-in_err-carried-clause-grown c).After-send))
 
 pub returns-in_err-carried-clause-refused : goal.returns-in_err-carried-clause-refused
 returns-in_err-carried-clause-refused c =
     let s = c.args.store.now in
-    let m = c.args.manager.now in
+    let m = c.args.next.now.manager in
     let now = c.send.new.store.past in
     let p = err_from_is_err_and c.from_residual-in_err-carried.result c.from_residual-in_err-carried.ensures.1 in
-    rw (p.1, p.2) (course.not_carried (way s.past m (next_ask s.past m c.args.copy c.args.rec c.args.op.now) now) c.in_err-carried.field-0.0
-    (subst (λ a. WasCutOff (way s.past m a now)) c.next_ask-ask.ensures (course.cut_waiting s c.send.new.store m c.next_ask-ask.result (is_sent (goal.at.returns-in_err-carried-clause-refused c).After-send)))
+    rw (p.1, p.2) (course.not_carried (way c.args.next.now.seat s.past m (request s.past c.args.next.now) now) c.in_err-carried.field-0.0
+    (subst (λ a. WasCutOff (way c.args.next.now.seat s.past m a now)) c.request-ask.ensures (course.cut_waiting s c.send.new.store m c.request-ask.result (is_sent (goal.at.returns-in_err-carried-clause-refused c).After-send)))
     c.in_err-carried.ensures.short)
 
 pub returns-in_err-carried-clause-met : goal.returns-in_err-carried-clause-met
 returns-in_err-carried-clause-met c =
     let plan = plan_of (link_of c.args.courier.now) in
-    subst (λ n. IsTrue (meets_fates client_seat n c.send.new.store.past)) (sym (same_net plan (plan_of (link_of c.send.new.courier)) c.args.patience c.send.ensures.plan))
-    (course.met_waiting c.args.store.now c.send.new.store c.args.manager.now c.next_ask-ask.result (is_sent (goal.at.returns-in_err-carried-clause-met c).After-send) plan (held_of c.args.courier.now) c.args.patience c.requires.met)
+    subst (λ n. IsTrue (meets_fates c.args.next.now.seat n c.send.new.store.past)) (sym (same_net plan (plan_of (link_of c.send.new.courier)) c.args.patience c.send.ensures.plan))
+    (course.met_waiting c.args.store.now c.send.new.store c.args.next.now.manager c.request-ask.result (is_sent (goal.at.returns-in_err-carried-clause-met c).After-send) plan (held_of c.args.courier.now) c.args.patience c.requires.met)
 
-stands : (c : In_ok-carried) → IsSent c.args.store.now c.send.new.store c.args.manager.now c.next_ask-ask.result → Stands c.send.new.store.past c.next_ask-ask.result c.in_ok-carried.carried
+stands : (c : In_ok-carried) → IsSent c.args.next.now.seat c.args.store.now c.send.new.store c.args.next.now.manager c.request-ask.result → Stands c.send.new.store.past c.request-ask.result c.in_ok-carried.carried
 stands c sent =
     let now = c.send.new.store in
     let was = c.in_ok-carried.ensures.sent in
-    what_came_stands now.setting now.past c.next_ask-ask.result (legal_again now.setting now.past now.is_legal)
-    (course.waits c.args.store.now now c.args.manager.now c.next_ask-ask.result sent) was.sent c.in_ok-carried.carried was.answered was.tells
+    what_came_stands now.setting now.past c.request-ask.result (legal_again now.setting now.past now.is_legal)
+    (course.waits c.args.store.now now c.args.next.now.manager c.request-ask.result sent) was.sent c.in_ok-carried.carried was.answered was.tells
 
 pub finish-requires-clause-stands : goal.finish-requires-clause-stands
 finish-requires-clause-stands c = stands (goal.at.finish-requires-clause-stands c).In_ok-carried (is_sent (goal.at.finish-requires-clause-stands c).After-send)
 
 pub finish-requires-clause-waits : goal.finish-requires-clause-waits
 finish-requires-clause-waits c =
-    course.waits c.args.store.now c.send.new.store c.args.manager.now c.next_ask-ask.result (is_sent (goal.at.finish-requires-clause-waits c).After-send)
+    course.waits c.args.store.now c.send.new.store c.args.next.now.manager c.request-ask.result (is_sent (goal.at.finish-requires-clause-waits c).After-send)
 
 pub returns-in_err-finish-clause-grown : goal.returns-in_err-finish-clause-grown
 returns-in_err-finish-clause-grown c =
     let s = c.args.store.now in
-    subst (λ a. HasGrown is_answer (Of a.access) s.past c.finish.new.store.past) c.next_ask-ask.ensures
-    (course.grown_at_end s c.send.new.store c.args.manager.now c.next_ask-ask.result (is_sent (goal.at.returns-in_err-finish-clause-grown c).After-send) c.in_ok-carried.carried c.finish.new.store.past c.in_err-finish.ensures.err)
+    subst (λ a. HasGrown is_answer (Of a.access) s.past c.finish.new.store.past) c.request-ask.ensures
+    (course.grown_at_end s c.send.new.store c.args.next.now.manager c.request-ask.result (is_sent (goal.at.returns-in_err-finish-clause-grown c).After-send) c.in_ok-carried.carried c.finish.new.store.past c.in_err-finish.ensures.err)
 
 pub returns-in_err-finish-clause-refused : goal.returns-in_err-finish-clause-refused
 returns-in_err-finish-clause-refused c =
     let s = c.args.store.now in
-    let m = c.args.manager.now in
+    let m = c.args.next.now.manager in
     let now = c.finish.new.store.past in
     let p = err_from_is_err_and c.from_residual-in_err-finish.result c.from_residual-in_err-finish.ensures.1 in
-    rw (p.1, p.2) (course.not_carried (way s.past m (next_ask s.past m c.args.copy c.args.rec c.args.op.now) now) c.in_err-finish.field-0.0
-    (subst (λ a. WasCutOff (way s.past m a now)) c.next_ask-ask.ensures
-    (course.cut_at_end s c.send.new.store m c.next_ask-ask.result (is_sent (goal.at.returns-in_err-finish-clause-refused c).After-send) c.in_ok-carried.carried now c.in_err-finish.ensures.err))
+    rw (p.1, p.2) (course.not_carried (way c.args.next.now.seat s.past m (request s.past c.args.next.now) now) c.in_err-finish.field-0.0
+    (subst (λ a. WasCutOff (way c.args.next.now.seat s.past m a now)) c.request-ask.ensures
+    (course.cut_at_end s c.send.new.store m c.request-ask.result (is_sent (goal.at.returns-in_err-finish-clause-refused c).After-send) c.in_ok-carried.carried now c.in_err-finish.ensures.err))
     c.in_err-finish.ensures.short)
 
 pub returns-in_err-finish-clause-met : goal.returns-in_err-finish-clause-met
 returns-in_err-finish-clause-met c =
     let plan = plan_of (link_of c.args.courier.now) in
-    subst (λ n. IsTrue (meets_fates client_seat n c.finish.new.store.past)) (sym (same_net plan (plan_of (link_of c.send.new.courier)) c.args.patience c.send.ensures.plan))
-    (course.met_at_end c.args.store.now c.send.new.store c.args.manager.now c.next_ask-ask.result (is_sent (goal.at.returns-in_err-finish-clause-met c).After-send) plan (held_of c.args.courier.now) c.args.patience c.requires.met
+    subst (λ n. IsTrue (meets_fates c.args.next.now.seat n c.finish.new.store.past)) (sym (same_net plan (plan_of (link_of c.send.new.courier)) c.args.patience c.send.ensures.plan))
+    (course.met_at_end c.args.store.now c.send.new.store c.args.next.now.manager c.request-ask.result (is_sent (goal.at.returns-in_err-finish-clause-met c).After-send) plan (held_of c.args.courier.now) c.args.patience c.requires.met
     c.in_ok-carried.carried c.finish.new.store.past c.in_err-finish.ensures.err)
 
 pub returns-clause-grown : goal.returns-clause-grown
 returns-clause-grown c =
     let s = c.args.store.now in
-    subst (λ a. HasGrown is_answer (Of a.access) s.past c.finish.new.store.past) c.next_ask-ask.ensures
-    (course.grown_ended s c.send.new.store c.args.manager.now c.next_ask-ask.result (is_sent (goal.at.returns-clause-grown c).After-send) c.in_ok-carried.carried c.finish.new.store.past c.in_ok-finish.ensures.ok)
+    subst (λ a. HasGrown is_answer (Of a.access) s.past c.finish.new.store.past) c.request-ask.ensures
+    (course.grown_ended s c.send.new.store c.args.next.now.manager c.request-ask.result (is_sent (goal.at.returns-clause-grown c).After-send) c.in_ok-carried.carried c.finish.new.store.past c.in_ok-finish.ensures.ok)
 
 pub returns-clause-carried : goal.returns-clause-carried
 returns-clause-carried c =
     let s = c.args.store.now in
     let sent = is_sent (goal.at.returns-clause-carried c).After-send in
-    subst (λ a. WasCarried (way s.past c.args.manager.now a c.finish.new.store.past) (became c.in_ok-carried.carried)) c.next_ask-ask.ensures
-    (course.carried s c.send.new.store c.args.manager.now c.next_ask-ask.result sent c.in_ok-carried.carried c.finish.new.store.past c.in_ok-finish.ensures.ok (stands (goal.at.returns-clause-carried c).In_ok-carried sent))
+    subst (λ a. WasCarried (way c.args.next.now.seat s.past c.args.next.now.manager a c.finish.new.store.past) (became c.in_ok-carried.carried)) c.request-ask.ensures
+    (course.carried s c.send.new.store c.args.next.now.manager c.request-ask.result sent c.in_ok-carried.carried c.finish.new.store.past c.in_ok-finish.ensures.ok (stands (goal.at.returns-clause-carried c).In_ok-carried sent))
 
 pub returns-clause-in_step : goal.returns-clause-in_step
 returns-clause-in_step c whole =
@@ -159,8 +160,8 @@ returns-clause-in_step c whole =
     let plan' = plan_of (link_of c.send.new.courier) in
     let held' = held_of c.send.new.courier in
     let sent = is_sent (goal.at.returns-clause-in_step c).After-send in
-    subst (λ n. IsInStep n c.finish.new.store.past plan' held') (sym (same_net plan plan' c.args.patience c.send.ensures.plan))
-    (course.in_step_ended c.args.store.now c.send.new.store c.args.manager.now c.next_ask-ask.result sent plan (held_of c.args.courier.now) c.args.patience c.requires.met c.requires.in_step c.in_ok-carried.carried c.finish.new.store.past
+    subst (λ n. IsInStep c.args.next.now.seat n c.finish.new.store.past plan' held') (sym (same_net plan plan' c.args.patience c.send.ensures.plan))
+    (course.in_step_ended c.args.store.now c.send.new.store c.args.next.now.manager c.request-ask.result sent plan (held_of c.args.courier.now) c.args.patience c.requires.met c.requires.in_step c.in_ok-carried.carried c.finish.new.store.past
     c.in_ok-finish.ensures.ok (stands (goal.at.returns-clause-in_step c).In_ok-carried sent) plan' held' _ c.in_ok-carried.ensures.sent c.send.ensures.allowed)
 
 pub returns-clause-met : goal.returns-clause-met
@@ -168,6 +169,6 @@ returns-clause-met c =
     let plan = plan_of (link_of c.args.courier.now) in
     let plan' = plan_of (link_of c.send.new.courier) in
     let sent = is_sent (goal.at.returns-clause-met c).After-send in
-    subst (λ n. IsTrue (meets_fates client_seat n c.finish.new.store.past)) (sym (same_net plan plan' c.args.patience c.send.ensures.plan))
-    (course.met_ended c.args.store.now c.send.new.store c.args.manager.now c.next_ask-ask.result sent plan (held_of c.args.courier.now) c.args.patience c.requires.met c.requires.in_step c.in_ok-carried.carried c.finish.new.store.past
+    subst (λ n. IsTrue (meets_fates c.args.next.now.seat n c.finish.new.store.past)) (sym (same_net plan plan' c.args.patience c.send.ensures.plan))
+    (course.met_ended c.args.store.now c.send.new.store c.args.next.now.manager c.request-ask.result sent plan (held_of c.args.courier.now) c.args.patience c.requires.met c.requires.in_step c.in_ok-carried.carried c.finish.new.store.past
     c.in_ok-finish.ensures.ok (stands (goal.at.returns-clause-met c).In_ok-carried sent) plan' (held_of c.send.new.courier) _ c.in_ok-carried.ensures.sent)

@@ -10,5 +10,5 @@ use Rattle.qc_net.specs.PlanLink.{plan_of}
 pub invariant_of-self : goal.invariant_of-self
 invariant_of-self c =
     let s = c.self.inside.store in
-    pushed_or_not s.setting s.past c.push.new.self.past c.args.entry c.push.result (plan_of (link_of c.self.inside.courier)) (held_of c.self.inside.courier) c.self.inside.patience c.self.inside.torn
+    pushed_or_not s.setting c.self.inside.seat s.past c.push.new.self.past c.args.entry c.push.result (plan_of (link_of c.self.inside.courier)) (held_of c.self.inside.courier) c.self.inside.patience c.self.inside.torn
     (legal_again s.setting s.past s.is_legal) (subst (λ (v : Lined). IsOfTransaction v.past c.args.entry.event) (sym c.self.view_is) c.requires.of_transaction) c.push.ensures.ok c.push.ensures.err c.self.invariant
