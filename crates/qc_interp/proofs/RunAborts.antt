@@ -106,7 +106,7 @@ may_ask_orphan of k levels now h low some going =
 above_asked : (of : Name) (k levels : ℕ) (now : Now) → Running of k now → levels < length of → 0 < levels → Ran of now (aborted of (Orphan (above of levels)) (aborted (above of levels) (Asked of) now))
 above_asked of k levels now h low some =
     let on = runs_asked of k levels now h low some in
-    ran_longer of now (aborted (above of levels) (Asked of) now) _ on.more on.same_setting on.same_net on.is on.inside
+    ran_longer of now (aborted (above of levels) (Asked of) now) _ on.more on.same_setting on.same_client on.is on.inside
     (ran_aborted of k (Orphan (above of levels)) (aborted (above of levels) (Asked of) now) on.running (λ again. absurd (true≢false (sym again)))
     (λ going session. orphaned of (above of levels) k (aborted (above of levels) (Asked of) now) on.running (above_below of levels low some) on.has_ended))
 

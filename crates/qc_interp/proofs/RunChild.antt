@@ -74,14 +74,14 @@ pub record Over (past : Past) (p : Name) : Type 0 where
   pub untried : is_tried_again (end past p) ≡ false
 
 -- a user transaction runs once it is started
-pub runs_begun : (n : Name) (number : ℕ) (now : Now) → 0 < length n → now.dead ≡ None → JustBegun now.setting n (kind.User 0 number) (begun n number now).past → ((p r : Name) → n ≡ p ++ r → (p ≡ n) ⊎ Over now.past p) → Running n 1 (begun n number now)
+pub runs_begun : (n : Name) (number : ℕ) (now : Now) → 0 < length n → now.dead ≡ None → JustBegun now.setting n (kind.User now.client.session number) (begun n number now).past → ((p r : Name) → n ≡ p ++ r → (p ≡ n) ⊎ Over now.past p) → Running n 1 (begun n number now)
 runs_begun n number now pos living b over = record {
   legal = b.legal;
   fallen = living ∙ sym b.alive;
   nonroot = pos;
   user = λ p r is some. elim (over p r is) [
     | inl itself ↦ subst (λ m. Started (begun n number now).past m (λ b. IsUser b.kind)) (sym itself) user
-    | inr above ↦ started_stays (by_client (Start n (kind.User 0 number))) now.past p _ (above.user some)
+    | inr above ↦ started_stays (by_client (Start n (kind.User now.client.session number))) now.past p _ (above.user some)
   ];
   uncommitted = λ p r is. elim (over p r is) [
     | inl itself ↦ ap (λ m. is_committed (outcome (begun n number now).past m)) itself ∙ ap (λ o. is_committed (outcome_of o)) b.not_ended
@@ -124,8 +124,8 @@ next_fresh of r k now h = fresh_child now.past of k r (lawful now.past (legal_or
 abbrev pub MayStandAt : Setting → ℕ → Kind → Type 0
 MayStandAt setting depth k = (b : Begun) → IsUser b.kind → Stands setting client_seat b depth k
 
-pub user_stands : (setting : Setting) (of : Name) (k number : ℕ) → length of < 16 → MayStandAt setting (length (of ++ k ∷ [])) (kind.User 0 number)
-user_stands setting of k number shallow b is = (is, le-leb (length (of ++ k ∷ [])) 16 (omega (arith, length_last of k)))
+pub user_stands : (setting : Setting) (of : Name) (k session number : ℕ) → length of < 16 → MayStandAt setting (length (of ++ k ∷ [])) (kind.User session number)
+user_stands setting of k session number shallow b is = (is, le-leb (length (of ++ k ∷ [])) 16 (omega (arith, length_last of k)))
 
 below_is : (a b : ℕ) → a < b → nat_lt a b ≡ true
 below_is a b h = grind (arith, nat_tests)
@@ -165,7 +165,7 @@ child_begun of k of_kind now h alive stands = begun_so of k of_kind now h alive 
 pub run_begun : (of : Name) (k number : ℕ) (now : Now) → Running of k now → now.dead ≡ None → length of < 16 → Running (of ++ k ∷ []) 1 (begun (of ++ k ∷ []) number now)
 run_begun of k number now h alive shallow =
     runs_begun (of ++ k ∷ []) number now (omega (arith, length_last of k)) alive
-    (child_begun of k (kind.User 0 number) now h alive (user_stands now.setting of k number shallow))
+    (child_begun of k (kind.User now.client.session number) now h alive (user_stands now.setting of k now.client.session number shallow))
     (λ p r is. elim (begins_last of p r k is) [
       | inl itself ↦ inl itself
       | inr (s, over) ↦ inr (record { user = h.user p s over; uncommitted = h.uncommitted p s over; unready = h.unready p s over; untried = h.untried p s over })
@@ -174,11 +174,11 @@ run_begun of k number now h alive shallow =
 -- THE WAY BACK
 
 -- what runs depends on the parts of a moment
-running_at : (of : Name) (k : ℕ) (set : Setting) (past : Past) (fallen : Option Name) (new : Now) → new.setting ≡ set → new.past ≡ past → new.dead ≡ fallen → Running of k (record { setting = set; past = past; dead = fallen; net = new.net }) → Running of k new
+running_at : (of : Name) (k : ℕ) (set : Setting) (past : Past) (fallen : Option Name) (new : Now) → new.setting ≡ set → new.past ≡ past → new.dead ≡ fallen → Running of k (record { setting = set; past = past; dead = fallen; client = new.client }) → Running of k new
 running_at of k set past fallen new same is falls h =
-    subst (λ x. Running of k (record { setting = x; past = new.past; dead = new.dead; net = new.net })) (sym same)
-    (subst (λ p. Running of k (record { setting = set; past = p; dead = new.dead; net = new.net })) (sym is)
-    (subst (λ o. Running of k (record { setting = set; past = past; dead = o; net = new.net })) (sym falls) h))
+    subst (λ x. Running of k (record { setting = x; past = new.past; dead = new.dead; client = new.client })) (sym same)
+    (subst (λ p. Running of k (record { setting = set; past = p; dead = new.dead; client = new.client })) (sym is)
+    (subst (λ o. Running of k (record { setting = set; past = past; dead = o; client = new.client })) (sym falls) h))
 
 -- once a child has ended, its parent goes on, dead where the history says so
 pub child_left : (of : Name) (k : ℕ) (of_kind : Kind) (now inner new : Now) → Running of k now → Ran (of ++ k ∷ []) (record now { past = by_client (Start (of ++ k ∷ []) of_kind) ∷ now.past }) inner → new.setting ≡ inner.setting → new.past ≡ inner.past → new.dead ≡ dead inner.past of → Running of (k + 1) new
@@ -233,17 +233,17 @@ returned_dead depth now = by_dead now.dead refl
     by_dead None is = is
     by_dead (Some a) is = refl
 
-pub returned_net : (depth : ℕ) (now : Now) → (returned depth now).net ≡ now.net
-returned_net depth now = by_dead now.dead
+pub returned_client : (depth : ℕ) (now : Now) → (returned depth now).client ≡ now.client
+returned_client depth now = by_dead now.dead
   where
-    by_dead : (o : Option Name) → (returned_by depth now o).net ≡ now.net
+    by_dead : (o : Option Name) → (returned_by depth now o).client ≡ now.client
     by_dead None = refl
     by_dead (Some a) = refl
 
 -- a transaction goes on after a child that is a user transaction
 pub run_back : (of : Name) (k number : ℕ) (now left : Now) → Running of k now → Ran (of ++ k ∷ []) (begun (of ++ k ∷ []) number now) left → Running of (k + 1) (returned (length of) left)
 run_back of k number now left h r =
-    child_left of k (kind.User 0 number) now left (returned (length of) left) h r (returned_setting (length of) left) (returned_past (length of) left)
+    child_left of k (kind.User now.client.session number) now left (returned (length of) left) h r (returned_setting (length of) left) (returned_past (length of) left)
     (returned_dead (length of) left ∙ ap (left_dead (length of)) r.fallen ∙ left_dead_parent left.past of k)
 
 -- and where the child is tried again, nothing above it is aborted

@@ -44,7 +44,7 @@ module _ (of : Name) (k : ℕ) (now : Now) (h : Running of k now) (alive : now.d
   may_below : MayCommitUser now.past client_seat of Nothing
   may_below = record { by_client = refl; going = going; children_ended = none_open of k now h; nothing = refl }
 
-  commits_below : Allowed now.setting now.past (by_client (End of (Commit Nothing))) → Ran of now (record { setting = now.setting; past = by_client (End of (Commit Nothing)) ∷ now.past; dead = now.dead; net = now.net })
+  commits_below : Allowed now.setting now.past (by_client (End of (Commit Nothing))) → Ran of now (record { setting = now.setting; past = by_client (End of (Commit Nothing)) ∷ now.past; dead = now.dead; client = now.client })
   commits_below allowed =
       ran_ended of client_seat (Commit Nothing) now.dead now h.legal allowed h.open_above
       (h.fallen ∙ sym (dead_calm (by_client (End of (Commit Nothing))) now.past of tt)) going.is_open.not_ended (λ again. absurd (true≢false (sym again)))
@@ -72,7 +72,7 @@ module _ (of : Name) (k : ℕ) (now : Now) (h : Running of k now) (alive : now.d
   top_allowed : MayCommitUserOrTop readied.past 1 of Nothing → Allowed now.setting readied.past (by_ledger (End of (Commit Nothing)))
   top_allowed may = may_commit_user now.setting readied.past 1 of (started_stays (by_client (Ready of)) now.past of _ user) may
 
-  commits_top : length of ≡ 1 → Allowed now.setting readied.past (by_ledger (End of (Commit Nothing))) → Ran of now (record { setting = now.setting; past = by_ledger (End of (Commit Nothing)) ∷ by_client (Ready of) ∷ now.past; dead = now.dead; net = now.net })
+  commits_top : length of ≡ 1 → Allowed now.setting readied.past (by_ledger (End of (Commit Nothing))) → Ran of now (record { setting = now.setting; past = by_ledger (End of (Commit Nothing)) ∷ by_client (Ready of) ∷ now.past; dead = now.dead; client = now.client })
   commits_top top allowed = ran_longer of now readied _ (by_client (Ready of) ∷ []) refl refl refl ((refl, top), tt)
       (ran_ended of 1 (Commit Nothing) now.dead readied (h.legal, may_be_ready top) allowed
       (λ m began unended. h.open_above m (ap is_some (or_none (start now.past m)) ∙ began) (was_none (end now.past m) None unended))

@@ -27,14 +27,14 @@ use Rattle.qc_event.specs.Seats.{client_seat}
 use Rattle.qc_interp.specs.Tries.{is_tried_again}
 
 -- what a transaction leaves that ran from later on
-pub ran_longer : (of : Name) (old mid new : Now) (more : Past) → mid.setting ≡ old.setting → mid.net ≡ old.net → mid.past ≡ more ++ old.past → AllInside of more → Ran of mid new → Ran of old new
-ran_longer of old mid new more set net is inside r = record {
+pub ran_longer : (of : Name) (old mid new : Now) (more : Past) → mid.setting ≡ old.setting → mid.client ≡ old.client → mid.past ≡ more ++ old.past → AllInside of more → Ran of mid new → Ran of old new
+ran_longer of old mid new more set client is inside r = record {
   legal = r.legal;
   fallen = r.fallen;
   later = r.later ++ more;
   is = r.is ∙ ap (λ p. r.later ++ p) is ∙ sym (append_assoc r.later more old.past);
   same_setting = r.same_setting ∙ set;
-  same_net = r.same_net ∙ net;
+  same_client = r.same_client ∙ client;
   inside = all_inside-append of r.later more r.inside inside;
   has_ended = r.has_ended;
   to_try = r.to_try;
@@ -61,14 +61,14 @@ above_ended past of m ended going over = elim (begins_below of m over.0 over.1) 
 ]
 
 -- a transaction ends, none below which is open
-pub ran_ended : (of : Name) (seat : ℕ) (how : How) (fallen : Option Name) (now : Now) → Legal now.setting now.past → Allowed now.setting now.past (record { seat = seat; event = End of how }) → ((n : Name) → is_some (start now.past n) ≡ true → end now.past n ≡ None → (r : Name) × (of ≡ n ++ r)) → fallen ≡ dead (record { seat = seat; event = End of how } ∷ now.past) of → end now.past of ≡ None → (is_tried_again (Some how) ≡ true → fallen ≡ Some of) → Ran of now (record { setting = now.setting; past = record { seat = seat; event = End of how } ∷ now.past; dead = fallen; net = now.net })
+pub ran_ended : (of : Name) (seat : ℕ) (how : How) (fallen : Option Name) (now : Now) → Legal now.setting now.past → Allowed now.setting now.past (record { seat = seat; event = End of how }) → ((n : Name) → is_some (start now.past n) ≡ true → end now.past n ≡ None → (r : Name) × (of ≡ n ++ r)) → fallen ≡ dead (record { seat = seat; event = End of how } ∷ now.past) of → end now.past of ≡ None → (is_tried_again (Some how) ≡ true → fallen ≡ Some of) → Ran of now (record { setting = now.setting; past = record { seat = seat; event = End of how } ∷ now.past; dead = fallen; client = now.client })
 ran_ended of seat how fallen now legal allowed open_above falls going again = record {
   legal = (legal, allowed);
   fallen = falls;
   later = e ∷ [];
   is = refl;
   same_setting = refl;
-  same_net = refl;
+  same_client = refl;
   inside = (end_inside of how, tt);
   has_ended = ended;
   to_try = λ t. again (ap is_tried_again (sym ends_so) ∙ t);
@@ -108,7 +108,7 @@ ran_aborted of k cause now h alive license = by_end (end now.past of) refl
       later = [];
       is = refl;
       same_setting = refl;
-      same_net = refl;
+      same_client = refl;
       inside = tt;
       has_ended = ap is_some is;
       to_try = λ t. absurd (true≢false (sym t ∙ h.untried of [] (sym (append-nil of))));
@@ -121,7 +121,7 @@ pub record RunsOn (of m : Name) (k : ℕ) (old new : Now) : Type 0 where
   pub more : Past
   pub is : new.past ≡ more ++ old.past
   pub same_setting : new.setting ≡ old.setting
-  pub same_net : new.net ≡ old.net
+  pub same_client : new.client ≡ old.client
   pub inside : AllInside of more
   pub has_ended : is_some (end new.past m) ≡ true
 
@@ -145,7 +145,7 @@ above_aborted of m k cause now h below pos never license = by_end (end now.past 
     not_tried None true t = never
     not_tried None false t = refl
 
-    running : end now.past m ≡ None → Running of k (record { setting = now.setting; past = by_client (End m (Abort cause)) ∷ now.past; dead = Some (shorter now.dead m); net = now.net })
+    running : end now.past m ≡ None → Running of k (record { setting = now.setting; past = by_client (End m (Abort cause)) ∷ now.past; dead = Some (shorter now.dead m); client = now.client })
     running going = record {
       legal = (h.legal, may_abort of m rest k cause now h below.2 pos going license);
       fallen = ap (λ o. Some (shorter o m)) h.fallen ∙ sym (dead_abort client_seat now.past of m rest cause below.2 going);
@@ -164,8 +164,8 @@ above_aborted of m k cause now h below pos never license = by_end (end now.past 
       more = e ∷ [];
       is = refl;
       same_setting = refl;
-      same_net = refl;
+      same_client = refl;
       inside = (inr (inr (below, pos, never)), tt);
       has_ended = some_now (end now.past m) (same m m) (Abort cause) (same_itself m);
     }
-    by_end (Some how) is = record { running = h; more = []; is = refl; same_setting = refl; same_net = refl; inside = tt; has_ended = ap is_some is }
+    by_end (Some how) is = record { running = h; more = []; is = refl; same_setting = refl; same_client = refl; inside = tt; has_ended = ap is_some is }

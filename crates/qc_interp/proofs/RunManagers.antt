@@ -106,7 +106,7 @@ module _ (of : Name) (k : ℕ) (kd : Kind) (how : How) (now mid : Now) (h : Runn
   ]
 
   abbrev left : Now
-  left = record { setting = now.setting; past = e ∷ before; dead = dead (e ∷ before) n; net = now.net }
+  left = record { setting = now.setting; past = e ∷ before; dead = dead (e ∷ before) n; client = now.client }
 
   manager_ran : Ran n (record now { past = first }) left
   manager_ran = record {
@@ -115,7 +115,7 @@ module _ (of : Name) (k : ℕ) (kd : Kind) (how : How) (now mid : Now) (h : Runn
     later = e ∷ m.inner;
     is = refl;
     same_setting = refl;
-    same_net = refl;
+    same_client = refl;
     inside = inside;
     has_ended = has_ended;
     to_try = λ again. dead_child (e ∷ before) of k parent_lives ∙ ap (λ b. if b then Some n else None) (tried_aborted (end (e ∷ before) n) again);
@@ -132,7 +132,7 @@ module _ (of : Name) (k : ℕ) (kd : Kind) (how : How) (now mid : Now) (h : Runn
   -- what a transaction leaves that ran on after a manager, it leaves from before the manager on
   pub managed_longer : (new : Now) → Ran of mid new → Ran of now new
   managed_longer new r =
-      ran_longer of now mid new ((e ∷ m.inner) ++ by_client (Start n kd) ∷ []) m.same_setting m.same_net
+      ran_longer of now mid new ((e ∷ m.inner) ++ by_client (Start n kd) ∷ []) m.same_setting m.same_client
       (m.is ∙ sym (append_assoc (e ∷ m.inner) (by_client (Start n kd) ∷ []) now.past))
       (all_inside-append of (e ∷ m.inner) (by_client (Start n kd) ∷ []) (all_inside_parent of k (e ∷ m.inner) h.nonroot inside) ((k, [], refl), tt)) r
 

@@ -151,5 +151,5 @@ module _ (of : Name) (k : ℕ) (kd : Kind) (now : Now) (h : Running of k now) (a
     legal = (legal, allowed);
     same_setting = refl;
     same_dead = refl;
-    same_net = refl;
+    same_client = refl;
   }

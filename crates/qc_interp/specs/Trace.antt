@@ -16,19 +16,19 @@ use Rattle.qc_event.specs.History.{Past, Name, end, is_child}
 use Rattle.qc_event.specs.Legal.{Legal}
 use Rattle.qc_event.specs.Standing.{open_child}
 use Rattle.qc_gather.specs.Carrying.{name_of}
-use Rattle.qc_line.specs.Messages.{Net}
 use Rattle.qc_script.specs.Plan.{Plan, Numbered}
 use Rattle.qc_store.specs.Served.{is_answer}
-use Rattle.qc_event.specs.Seats.{client_seat}
+use Rattle.qc_event.specs.Seats.{client_seat, top_name}
+use Rattle.qc_interp.specs.Client.{Client}
 use Rattle.qc_interp.specs.Tries.{is_tried_again}
 
 -- What a session starts from, its history, the shortest aborted ancestor of the transaction that runs, itself among
--- them, and what its link is.
+-- them, and its client.
 pub record Now : Type 0 where
   pub setting : Setting
   pub past : Past
   pub dead : Option Name
-  pub net : Net
+  pub client : Client
 
 -- an entry under the seat of the session
 abbrev pub by_client : Event → Entry
@@ -42,7 +42,7 @@ by_ledger event = record { seat = 1; event = event }
 
 -- a user transaction of a body has started
 abbrev pub begun : Name → ℕ → Now → Now
-begun n number now = record now { past = by_client (Start n (kind.User 0 number)) ∷ now.past }
+begun n number now = record now { past = by_client (Start n (kind.User now.client.session number)) ∷ now.past }
 
 -- the shorter of an aborted ancestor and a name
 abbrev pub shorter : Option Name → Name → Name
@@ -88,7 +88,7 @@ pub record Managed (n : Name) (k : Kind) (how : How) (old new : Now) : Type 0 wh
   pub legal : Legal new.setting new.past
   pub same_setting : new.setting ≡ old.setting
   pub same_dead : new.dead ≡ old.dead
-  pub same_net : new.net ≡ old.net
+  pub same_client : new.client ≡ old.client
 
 -- A transaction goes on to the rest where its manager committed. Where that was aborted, it is aborted with
 -- the same cause.
@@ -145,14 +145,15 @@ Runs of k (Plan.abort_then levels rest) now new = new ≡ asked of levels now
 abbrev pub BodyRuns : ℕ → Name → Numbered → Now → Now → Type 0
 BodyRuns depth n body now new = TryRuns depth n body.number (Runs n 1 body.plan) now new
 
--- the name of top i, in the first epoch
-abbrev pub top_of : ℕ → Name
-top_of i = (4294967297 + i) ∷ []
+-- the name of top i of an epoch, the first of which is top 0
+abbrev pub top_of : ℕ → ℕ → Name
+top_of epoch i = top_name epoch (i + 1)
 
--- what the tops of bodies leave, the first of them as top i, and the next that would come as this one
-abbrev pub TopsRun : ℕ → List Numbered → ℕ → Now → Now → Type 0
-TopsRun i [] next now new = (i ≡ next) × (new ≡ now)
-TopsRun i (b ∷ bodies) next now new = TriesRun top_of (λ t. BodyRuns 0 t b) (λ j mid. TopsRun j bodies next mid new) b.tries i now
+-- what the tops of bodies leave in an epoch, the first of them as top i, and the next that would come as this one
+abbrev pub TopsRun : ℕ → ℕ → List Numbered → ℕ → Now → Now → Type 0
+TopsRun epoch i [] next now new = (i ≡ next) × (new ≡ now)
+TopsRun epoch i (b ∷ bodies) next now new =
+    TriesRun (top_of epoch) (λ t. BodyRuns 0 t b) (λ j mid. TopsRun epoch j bodies next mid new) b.tries i now
 
 -- the tries of a body have run, by these names, the first of them with number k; the next number is this
 abbrev pub TriesRan : ℕ → (ℕ → Name) → Numbered → ℕ → ℕ → Now → Now → Type 0
