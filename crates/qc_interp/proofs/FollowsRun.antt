@@ -53,11 +53,11 @@ pub record BodyLeft (session : ℕ) (n : Name) (number : ℕ) (plan : Plan) (old
 
 pub body_left : (session : ℕ) (n : Name) (number : ℕ) (plan : Plan) (now left : Now) (new : Past) → now.client.session ≡ session → start now.past n ≡ None → Running n 1 (begun n number now) → Grown (begun n number now).past left.past → Grown left.past new → Left session n plan (begun n number now).past left.past → BodyLeft session n number plan now.past left.past new
 body_left session n number plan now left new tied fresh runs grown further l = record {
-  kind = further.kinds n (kind.User now.client.session number) (grown.kinds n (kind.User now.client.session number) (kind_now now.past n (kind.User now.client.session number) fresh))
+  kind = further.kinds n (kind.User now.client.session number) (grown.kinds n (kind.User now.client.session number) (kind_now now.client.seat now.past n (kind.User now.client.session number) fresh))
       ∙ ap (λ s. Some (kind.User s number)) tied;
   steps = whole_stays left.past new further session n plan follows;
   as_asked = λ m by is. elim (l.as_asked m by is) [
-    | inl old ↦ inl (sym (end_started now.past n m (kind.User now.client.session number)) ∙ old)
+    | inl old ↦ inl (sym (end_started now.client.seat now.past n m (kind.User now.client.session number)) ∙ old)
     | inr asks ↦ inr (subst (Asks new by m n plan) (sym same_children) (asks_stay left.past new further session by m n plan (children left.past n) (end left.past n) follows (subst (Asks left.past by m n plan) (sym all) asks)))
   ];
 }
@@ -157,7 +157,7 @@ module _ (session : ℕ) (of : Name) (k : ℕ) (now : Now) (h : Running of k now
   module _ (number : ℕ) (inner : Plan) (left back : Now) (r : Ran child (begun child number now) left) (l : Left session child inner (begun child number now).past left.past) (is_back : back.past ≡ left.past) where
     back_news : (n : Name) (how : How) → Below n child → end back.past n ≡ Some how → (end now.past n ≡ Some how) ⊎ AskedFrom child how
     back_news n how above is = elim (l.upward n how above (ap (λ p. end p n) (sym is_back) ∙ is)) [
-      | inl old ↦ inl (sym (end_started now.past child n (kind.User now.client.session number)) ∙ old)
+      | inl old ↦ inl (sym (end_started now.client.seat now.past child n (kind.User now.client.session number)) ∙ old)
       | inr asked ↦ inr asked
     ]
 
@@ -176,7 +176,7 @@ module _ (session : ℕ) (of : Name) (k : ℕ) (now : Now) (h : Running of k now
     children_back =
         ap (λ p. children p of) (is_back ∙ r.is)
         ∙ children_left child of r.later (begun child number now).past r.inside (not_within_child of of [] k (sym (append-nil of)))
-        ∙ child_added (by_client (Start child (kind.User now.client.session number))) now.past of child (kind.User now.client.session number) refl (is_child-last of k)
+        ∙ child_added (by_client now.client.seat (Start child (kind.User now.client.session number))) now.past of child (kind.User now.client.session number) refl (is_child-last of k)
 
     child_left : (new : Past) (Follows Follows' : List Name → Type 0) (AsksFor AsksFor' : Name → Name → List Name → Type 0) → BodyLeft session child number inner now.past left.past new → LeftBy of Follows AsksFor back.past new
         → ((more : List Name) → (kind_of new child ≡ Some (kind.User session number)) × FollowsPlan session new child inner (children new child) (end new child) → Follows more → Follows' (child ∷ more))
@@ -223,9 +223,9 @@ manager_step session of k kd rest plan now new tied h alive manages within one_s
     (further m.mid (ap (λ (c : Client). c.session) m.managed.same_client ∙ tied) on rest_within (manager_early session of k now h alive kd manages m.how m.mid m.managed) runs) one_step asks)
     (λ cause aborts is.
     let one : OneEnd of (Abort cause) m.mid.past new.past = subst (λ (n : Now). OneEnd of (Abort cause) m.mid.past n.past) (sym is) (aborted_end of cause m.mid) in
-    let last : new.past ≡ by_client (End of (Abort cause)) ∷ m.mid.past = ap (λ (n : Now). n.past) is ∙ aborted_last of cause m.mid (still_open session of k now h alive kd manages m.how m.mid m.managed) in
+    let last : new.past ≡ by_client m.mid.client.seat (End of (Abort cause)) ∷ m.mid.past = ap (λ (n : Now). n.past) is ∙ aborted_last of cause m.mid (still_open session of k now h alive kd manages m.how m.mid m.managed) in
     manager_fails session of k now h alive kd manages m.how m.mid m.managed cause aborts rest plan new.past
-    (subst (Grown m.mid.past) (sym last) (grown new.setting (by_client (End of (Abort cause)) ∷ []) m.mid.past (subst (Legal new.setting) last r.legal)))
+    (subst (Grown m.mid.past) (sym last) (grown new.setting (by_client m.mid.client.seat (End of (Abort cause)) ∷ []) m.mid.past (subst (Legal new.setting) last r.legal)))
     one one_step)
     m.goes_on
 
@@ -281,7 +281,7 @@ module _ (session : ℕ) (of : Name) (number : ℕ) (inner rest : Plan) (set : S
 
     l : Left session c inner first.past left.past
     l = inside c left first tied begins (inner_fits c first same (length_last of k))
-        (λ how is. absurd (some_or_none (end now.past c) (ap is_some (sym (end_started now.past c c (kind.User now.client.session number)) ∙ is)) (fresh session of k now h alive).no_end)) runs
+        (λ how is. absurd (some_or_none (end now.past c) (ap is_some (sym (end_started now.client.seat now.past c c (kind.User now.client.session number)) ∙ is)) (fresh session of k now h alive).no_end)) runs
 
     early : Early mid.past of
     early = child_early session of k now h alive number inner left mid tried.ran l tried.is_back

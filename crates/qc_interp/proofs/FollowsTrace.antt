@@ -140,7 +140,7 @@ module _ (client : Client) (i : ℕ) (b : Numbered) (now left : Now) (tied : now
       | inr asks ↦ inr (asks_for by n m.more (inr asks))
     ];
     turn = λ turn. m.turn (subst InTurn (sym is_back) (in_turn turn));
-    grows = grown_on now.past from_start new (grown now.setting (by_client (event.Start top (kind.User now.client.session b.number)) ∷ []) now.past begins.legal)
+    grows = grown_on now.past from_start new (grown now.setting (by_client now.client.seat (event.Start top (kind.User now.client.session b.number)) ∷ []) now.past begins.legal)
         (grown_on from_start back.past new (subst (Grown from_start) (sym is_back) (ran_grown top (begun top b.number now) left r)) m.grows);
     all_ended = m.all_ended;
   }
@@ -198,7 +198,7 @@ module _ (b : Numbered) (bodies : List Numbered) (set : Setting) (client : Clien
 
     l : Left client.session (top_of client.epoch i) b.plan first.past left.past
     l = run_left client.session (top_of client.epoch i) 1 b.plan first left (ap (λ (c : Client). c.session) tied) begins within
-        (λ how is. absurd (some_or_none (end now.past (top_of client.epoch i)) (ap is_some (sym (end_started now.past (top_of client.epoch i) (top_of client.epoch i) (kind.User now.client.session b.number)) ∙ is)) (no_end client i b now left tied rest begins r))) runs
+        (λ how is. absurd (some_or_none (end now.past (top_of client.epoch i)) (ap is_some (sym (end_started now.client.seat now.past (top_of client.epoch i) (top_of client.epoch i) (kind.User now.client.session b.number)) ∙ is)) (no_end client i b now left tied rest begins r))) runs
 
     body : Grown mid.past new.past → BodyLeft client.session (top_of client.epoch i) b.number b.plan now.past left.past new.past
     body grows = body_left client.session (top_of client.epoch i) b.number b.plan now left new.past (ap (λ (c : Client). c.session) tied) (no_start client i b now left tied rest begins r) begins

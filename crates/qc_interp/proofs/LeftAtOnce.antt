@@ -22,7 +22,6 @@ use Rattle.qc_interp.proofs.BelowNames.{below_longer}
 use Rattle.qc_interp.proofs.OneEnd.{OneEnd, committed_end, aborted_end, aborted_last}
 use Rattle.qc_interp.proofs.Running.{Below, Running, Ran}
 use Rattle.qc_interp.proofs.RunAborts.{ran_orphan, ran_asked}
-use Rattle.qc_event.specs.Seats.{client_seat}
 use Rattle.qc_interp.proofs.Stays.{Grown, grown, stops_stay}
 
 -- aborted as a name asked, or one below it
@@ -100,7 +99,7 @@ stopped of a k now h fallen early = by_end (end now.past of) refl
     by_end : (o : Option How) → end now.past of ≡ o → StopsEarly new of (end new of)
     by_end (Some how) is = subst (StopsEarly new of) (sym (g.ends of how is)) (stops_stay now.past new g of (Some how) (early how is))
     by_end None is = subst (StopsEarly new of) (sym ((aborted_end of (Orphan a) now).now is)) (stops_stay now.past new g of (Some (Abort (Orphan a)))
-        (legal_orphan (aborted of (Orphan a) now).setting now.past client_seat of a (start now.past of) (subst (Legal (aborted of (Orphan a) now).setting) (aborted_last of (Orphan a) now is) r.legal).1))
+        (legal_orphan (aborted of (Orphan a) now).setting now.past now.client.seat of a (start now.past of) (subst (Legal (aborted of (Orphan a) now).setting) (aborted_last of (Orphan a) now is) r.legal).1))
 
 pub orphan_left : (session : ℕ) (of a : Name) (k : ℕ) (plan : Plan) (now : Now) → (StopsEarly (aborted of (Orphan a) now).past of (end (aborted of (Orphan a) now).past of) → FollowsPlan session (aborted of (Orphan a) now).past of plan [] (end (aborted of (Orphan a) now).past of)) → Running of k now → now.dead ≡ Some a → Early now.past of → Left session of plan now.past (aborted of (Orphan a) now).past
 orphan_left session of a k plan now stops h fallen early =

@@ -23,7 +23,6 @@ use Rattle.qc_interp.proofs.BelowNames.{begins_below}
 use Rattle.qc_interp.proofs.LeftAsItIs.{all_inside-append}
 use Rattle.qc_interp.proofs.Fallen.{dead_abort}
 use Rattle.qc_interp.proofs.NextAllowed.{may_abort_user}
-use Rattle.qc_event.specs.Seats.{client_seat}
 use Rattle.qc_interp.specs.Tries.{is_tried_again}
 
 -- what a transaction leaves that ran from later on
@@ -85,22 +84,22 @@ ran_ended of seat how fallen now legal allowed open_above falls going again = re
     ends_so = ap (λ o. option_or o (if same of of then Some how else None)) going ∙ ap (λ b. if b then Some how else None) (same_itself of)
 
 -- what runs, and each one above it but the root, may be aborted for a cause that holds, where it has not ended
-pub may_abort : (of m r : Name) (k : ℕ) (cause : Cause) (now : Now) → Running of k now → of ≡ m ++ r → 0 < length m → end now.past m ≡ None → ((session : ℕ) → UserCause now.past m session cause) → Allowed now.setting now.past (by_client (End m (Abort cause)))
+pub may_abort : (of m r : Name) (k : ℕ) (cause : Cause) (now : Now) → Running of k now → of ≡ m ++ r → 0 < length m → end now.past m ≡ None → ((session : ℕ) → UserCause now.past m session cause) → Allowed now.setting now.past (by_client now.client.seat (End m (Abort cause)))
 may_abort of m r k cause now h is pos going license =
     let user : Started now.past m (λ b. IsUser b.kind) = h.user m r is pos in
-    may_abort_user now.setting now.past m cause user (record { started = started_some _ (start now.past m) user; not_ended = going }) (h.unready m r is) license
+    may_abort_user now.setting now.client.seat now.past m cause h.seated user (record { started = started_some _ (start now.past m) user; not_ended = going }) (h.unready m r is) license
 
 -- a transaction that runs is aborted, for a cause that holds unless it has ended; it is tried again only where it was
 -- not dead
 pub ran_aborted : (of : Name) (k : ℕ) (cause : Cause) (now : Now) → Running of k now → (is_tried_again (Some (Abort cause)) ≡ true → now.dead ≡ None) → (end now.past of ≡ None → (session : ℕ) → UserCause now.past of session cause) → Ran of now (aborted of cause now)
 ran_aborted of k cause now h alive license = by_end (end now.past of) refl
   where
-    by_end : (o : Option How) → end now.past of ≡ o → Ran of now (if is_some o then now else record now { past = by_client (End of (Abort cause)) ∷ now.past; dead = Some (shorter now.dead of) })
+    by_end : (o : Option How) → end now.past of ≡ o → Ran of now (if is_some o then now else record now { past = by_client now.client.seat (End of (Abort cause)) ∷ now.past; dead = Some (shorter now.dead of) })
     by_end None going =
-        ran_ended of client_seat (Abort cause) (Some (shorter now.dead of)) now h.legal
+        ran_ended of now.client.seat (Abort cause) (Some (shorter now.dead of)) now h.legal
         (may_abort of of [] k cause now h (sym (append-nil of)) h.nonroot going (license going))
         h.open_above
-        (ap (λ o. Some (shorter o of)) h.fallen ∙ sym (dead_abort client_seat now.past of of [] cause (sym (append-nil of)) going))
+        (ap (λ o. Some (shorter o of)) h.fallen ∙ sym (dead_abort now.client.seat now.past of of [] cause (sym (append-nil of)) going))
         going (λ t. ap (λ o. Some (shorter o of)) (alive t))
     by_end (Some how) is = record {
       legal = h.legal;
@@ -133,7 +132,7 @@ above_aborted of m k cause now h below pos never license = by_end (end now.past 
     rest = below.0 ∷ below.1
 
     e : Entry
-    e = by_client (End m (Abort cause))
+    e = by_client now.client.seat (End m (Abort cause))
 
     not_committed : (o : Option How) (b : Bool) → is_committed (outcome_of o) ≡ false → is_committed (outcome_of (option_or o (if b then Some (Abort cause) else None))) ≡ false
     not_committed (Some how) b t = t
@@ -145,10 +144,11 @@ above_aborted of m k cause now h below pos never license = by_end (end now.past 
     not_tried None true t = never
     not_tried None false t = refl
 
-    running : end now.past m ≡ None → Running of k (record { setting = now.setting; past = by_client (End m (Abort cause)) ∷ now.past; dead = Some (shorter now.dead m); client = now.client })
+    running : end now.past m ≡ None → Running of k (record { setting = now.setting; past = by_client now.client.seat (End m (Abort cause)) ∷ now.past; dead = Some (shorter now.dead m); client = now.client })
     running going = record {
       legal = (h.legal, may_abort of m rest k cause now h below.2 pos going license);
-      fallen = ap (λ o. Some (shorter o m)) h.fallen ∙ sym (dead_abort client_seat now.past of m rest cause below.2 going);
+      fallen = ap (λ o. Some (shorter o m)) h.fallen ∙ sym (dead_abort now.client.seat now.past of m rest cause below.2 going);
+      seated = h.seated;
       nonroot = h.nonroot;
       user = λ p r is some. started_stays e now.past p _ (h.user p r is some);
       uncommitted = λ p r is. not_committed (end now.past p) (same m p) (h.uncommitted p r is);
@@ -158,7 +158,7 @@ above_aborted of m k cause now h below pos never license = by_end (end now.past 
       open_above = λ n began unended. h.open_above n (ap is_some (or_none (start now.past n)) ∙ began) (was_none (end now.past n) (end_in n (End m (Abort cause))) unended);
     }
 
-    by_end : (o : Option How) → end now.past m ≡ o → RunsOn of m k now (if is_some o then now else record now { past = by_client (End m (Abort cause)) ∷ now.past; dead = Some (shorter now.dead m) })
+    by_end : (o : Option How) → end now.past m ≡ o → RunsOn of m k now (if is_some o then now else record now { past = by_client now.client.seat (End m (Abort cause)) ∷ now.past; dead = Some (shorter now.dead m) })
     by_end None going = record {
       running = running going;
       more = e ∷ [];

@@ -70,9 +70,9 @@ top_unstarted epoch i now tied h = unstarted_in epoch i now tied h (number_in ep
 top_fresh : (epoch i : ℕ) (now : Now) → now.client.epoch ≡ epoch → Resting i now → IsFresh now.past (top_of epoch i)
 top_fresh epoch i now tied h = fresh_below now.past (top_of epoch i) [] (law_of now h.legal) (omega arith) (top_unstarted epoch i now tied h)
 
-pub may_start_top : (epoch i number : ℕ) (now : Now) → now.client.epoch ≡ epoch → Resting i now → i < 4294967295 → Allowed now.setting now.past (by_client (Start (top_of epoch i) (kind.User now.client.session number)))
+pub may_start_top : (epoch i number : ℕ) (now : Now) → now.client.epoch ≡ epoch → Resting i now → i < 4294967295 → Allowed now.setting now.past (by_client now.client.seat (Start (top_of epoch i) (kind.User now.client.session number)))
 may_start_top epoch i number now tied h few = record {
-  by_client = refl;
+  by_client = h.may_act.seated;
   user = tt;
   epoch = epoch_some epoch i (subst (λ e. 1 ≤ e) tied h.may_act.counted) few;
   place = place_some epoch i few;
@@ -81,8 +81,8 @@ may_start_top epoch i number now tied h few = record {
 
 pub rest_begun : (epoch i number : ℕ) (now : Now) → now.client.epoch ≡ epoch → Resting i now → i < 4294967295 → Running (top_of epoch i) 1 (begun (top_of epoch i) number now)
 rest_begun epoch i number now tied h few =
-    runs_begun (top_of epoch i) number now (omega arith) h.fallen
-    (just_begun now.setting (top_of epoch i) (kind.User now.client.session number) now.past h.legal (may_start_top epoch i number now tied h few) fresh living
+    runs_begun (top_of epoch i) number now h.may_act.seated (omega arith) h.fallen
+    (just_begun now.setting now.client.seat (top_of epoch i) (kind.User now.client.session number) now.past h.legal (may_start_top epoch i number now tied h few) fresh living
     (λ m began going. absurd (some_or_none (end now.past m) (h.all_ended m began) going)))
     (λ p r is. elim (begins_last [] p r (number_in epoch (i + 1)) is) [
       | inl itself ↦ inl itself
@@ -127,7 +127,7 @@ rest_back epoch i number now left tied h few r = record {
     same_client = returned_client 0 left ∙ r.same_client
 
     with_top : Past
-    with_top = by_client (Start (top_of epoch i) (kind.User now.client.session number)) ∷ now.past
+    with_top = by_client now.client.seat (Start (top_of epoch i) (kind.User now.client.session number)) ∷ now.past
 
     is_whole : (returned 0 left).past ≡ r.later ++ with_top
     is_whole = returned_past 0 left ∙ r.is

@@ -65,7 +65,7 @@ ran_after_child of k number now left mid new nonroot t r =
     (all_inside-append of t.ran.later (start_entry ∷ []) (all_inside_parent of k t.ran.later nonroot t.ran.inside) ((k, [], refl), tt)) r
   where
     start_entry : Entry
-    start_entry = by_client (Start (child_of of k) (kind.User now.client.session number))
+    start_entry = by_client now.client.seat (Start (child_of of k) (kind.User now.client.session number))
 
 -- what tries of a child leave, and the rest
 pub tries_ran : (of : Name) (number : ℕ) (inner : Plan) (Rest : ℕ → Now → Type 0) (set : Setting) (new : Now) → length of < 16

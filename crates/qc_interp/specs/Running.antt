@@ -1,5 +1,5 @@
 -- What holds of a session between two steps of a transaction, and between two tops.
-use Rattle.std.specs.Prelude.{ℕ, ◌≡◌, ◌+◌, ◌<◌, ◌≤◌, Bool, false, true, [], ◌∷◌, ◌++◌, length, Option, Some, None, is_some, option_map, Result, Ok, Err}
+use Rattle.std.specs.Prelude.{ℕ, ◌≡◌, ◌+◌, ◌<◌, ◌≤◌, Bool, false, true, IsTrue, [], ◌∷◌, ◌++◌, length, Option, Some, None, is_some, option_map, Result, Ok, Err}
 use Rattle.qc_event.specs.declared.event.Answer.{Answer}
 use Rattle.qc_event.specs.declared.event.Cause.{Cause}
 use Rattle.qc_event.specs.declared.event.Entry.{Entry}
@@ -11,7 +11,7 @@ use Rattle.qc_event.specs.Base.{Setting, IsConfigFor}
 use Rattle.qc_event.specs.Dead as state
 use Rattle.qc_event.specs.History.{Name, limit, start, end, is_ready, children}
 use Rattle.qc_event.specs.Legal.{Legal, Allowed}
-use Rattle.qc_event.specs.Seats.{number_in}
+use Rattle.qc_event.specs.Seats.{is_client, number_in}
 use Rattle.qc_event.specs.Standing.{Started, IsUser}
 use Rattle.qc_line.specs.Lined.{IsOfTransaction}
 use Rattle.qc_interp.specs.Client.{MayAct}
@@ -25,11 +25,12 @@ pub record MayMake (now : Now) (e : Entry) : Type 0 where
   pub allowed : Allowed now.setting now.past e
   pub of_transaction : IsOfTransaction now.past e.event
 
--- Transaction `of` has started and is the one that runs; its next child has number k. Neither it nor one above it is to
+-- Transaction `of` of a client has started and is the one that runs; its next child has number k. Neither it nor one above it is to
 -- be tried again.
 pub record Running (of : Name) (k : ℕ) (now : Now) : Type 0 where
   pub legal : Legal now.setting now.past
   pub fallen : now.dead ≡ state.dead now.past of
+  pub seated : IsTrue (is_client now.client.seat)
   pub nonroot : 0 < length of
   pub user : (p r : Name) → of ≡ p ++ r → 0 < length p → Started now.past p (λ b. IsUser b.kind)
   pub uncommitted : (p r : Name) → of ≡ p ++ r → state.is_committed (state.outcome now.past p) ≡ false

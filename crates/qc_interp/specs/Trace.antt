@@ -18,7 +18,7 @@ use Rattle.qc_event.specs.Standing.{open_child}
 use Rattle.qc_gather.specs.Carrying.{name_of}
 use Rattle.qc_script.specs.Plan.{Plan, Numbered}
 use Rattle.qc_store.specs.Served.{is_answer}
-use Rattle.qc_event.specs.Seats.{client_seat, top_name}
+use Rattle.qc_event.specs.Seats.{ledger_seat, top_name}
 use Rattle.qc_interp.specs.Client.{Client}
 use Rattle.qc_interp.specs.Tries.{is_tried_again}
 
@@ -30,19 +30,19 @@ pub record Now : Type 0 where
   pub dead : Option Name
   pub client : Client
 
--- an entry under the seat of the session
-abbrev pub by_client : Event → Entry
-by_client event = record { seat = client_seat; event = event }
+-- an entry under a client's seat
+abbrev pub by_client : ℕ → Event → Entry
+by_client seat event = record { seat = seat; event = event }
 
 -- an entry under the seat of the ledger
 abbrev pub by_ledger : Event → Entry
-by_ledger event = record { seat = 1; event = event }
+by_ledger event = record { seat = ledger_seat; event = event }
 
 -- USER TRANSACTIONS
 
 -- a user transaction of a body has started
 abbrev pub begun : Name → ℕ → Now → Now
-begun n number now = record now { past = by_client (Start n (kind.User now.client.session number)) ∷ now.past }
+begun n number now = record now { past = by_client now.client.seat (Start n (kind.User now.client.session number)) ∷ now.past }
 
 -- the shorter of an aborted ancestor and a name
 abbrev pub shorter : Option Name → Name → Name
@@ -52,7 +52,8 @@ shorter (Some a) n = if nat_le (length a) (length n) then a else n
 -- a transaction is aborted, unless it has ended
 abbrev pub aborted : Name → Cause → Now → Now
 aborted n cause now =
-    if is_some (end now.past n) then now else record now { past = by_client (End n (Abort cause)) ∷ now.past; dead = Some (shorter now.dead n) }
+    if is_some (end now.past n) then now
+    else record now { past = by_client now.client.seat (End n (Abort cause)) ∷ now.past; dead = Some (shorter now.dead n) }
 
 -- the ancestor so many levels up
 abbrev pub above : Name → ℕ → Name
@@ -65,8 +66,8 @@ asked of (suc below) now = aborted of (Orphan (above of (suc below))) (aborted (
 
 -- a transaction commits, a top under the ledger's seat once it is ready
 abbrev pub committed : Name → Now → Now
-committed (number ∷ []) now = record now { past = by_ledger (End (number ∷ []) (Commit Nothing)) ∷ by_client (Ready (number ∷ [])) ∷ now.past }
-committed n now = record now { past = by_client (End n (Commit Nothing)) ∷ now.past }
+committed (number ∷ []) now = record now { past = by_ledger (End (number ∷ []) (Commit Nothing)) ∷ by_client now.client.seat (Ready (number ∷ [])) ∷ now.past }
+committed n now = record now { past = by_client now.client.seat (End n (Commit Nothing)) ∷ now.past }
 
 -- whether a name of this length is at or below an aborted one
 abbrev pub still_dead : ℕ → Name → Option Name
@@ -82,7 +83,7 @@ returned depth now = elim now.dead [ None ↦ now | Some a ↦ record now { dead
 -- has ended, and copies' answers, which may be late ones to accesses of other managers.
 pub record Managed (n : Name) (k : Kind) (how : How) (old new : Now) : Type 0 where
   pub inner : Past
-  pub is : new.past ≡ by_client (End n how) ∷ inner ++ by_client (Start n k) ∷ old.past
+  pub is : new.past ≡ by_client old.client.seat (End n how) ∷ inner ++ by_client old.client.seat (Start n k) ∷ old.past
   pub of_accesses : All (λ e. IsTrue (is_child n (name_of e.event)) ⊎ IsTrue (is_answer e)) inner
   pub all_ended : open_child new.past n ≡ None
   pub legal : Legal new.setting new.past

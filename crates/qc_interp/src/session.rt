@@ -51,7 +51,12 @@ impl Model for Session {
       setting = s.line.setting;
       past = s.line.past;
       dead = s.dead;
-      client = record { seat = client_seat; session = s.session; epoch = s.epoch; net = s.line.net };
+      client = record {
+        seat = client_seat;
+        session = s.session;
+        epoch = s.epoch;
+        net = s.line.net;
+      };
     } };
 
     ghost invariant = { λ s. MayAct client_seat s.epoch };
@@ -119,28 +124,40 @@ impl Session {
         self.line.push(Entry { seat, event })
     }
 
-    // Ends a transaction under the session's own seat.
-    fn end(&mut self, name: &Name, how: &How) -> Result<(), Short>
-        requires { MayMake self.old (trace.by_client (End name.now how.now)) }
+    // Appends an entry under the client's seat.
+    fn act(&mut self, event: Event) -> Result<(), Short>
+        requires { MayMake self.old (trace.by_client self.old.client.seat event) }
         ensures ok { OnOk result (self.new ≡ record self.old {
-          past = trace.by_client (End name.now how.now) ∷ self.old.past;
+          past = trace.by_client self.old.client.seat event ∷ self.old.past;
         }) }
         ensures err { OnErr result (self.new ≡ self.old) }
         ensures room { IfErr result (λ e. e ≡ Short.Room → length self.old.past ≡ limit) }
     {
-        self.append(
-            CLIENT_SEAT,
-            Event::End {
-                name: *name,
-                how: *how,
-            },
-        )
+        self.line.push(Entry {
+            seat: CLIENT_SEAT,
+            event,
+        })
+    }
+
+    // Ends a transaction under the client's seat.
+    fn end(&mut self, name: &Name, how: &How) -> Result<(), Short>
+        requires { MayMake self.old (trace.by_client self.old.client.seat (End name.now how.now)) }
+        ensures ok { OnOk result (self.new ≡ record self.old {
+          past = trace.by_client self.old.client.seat (End name.now how.now) ∷ self.old.past;
+        }) }
+        ensures err { OnErr result (self.new ≡ self.old) }
+        ensures room { IfErr result (λ e. e ≡ Short.Room → length self.old.past ≡ limit) }
+    {
+        self.act(Event::End {
+            name: *name,
+            how: *how,
+        })
     }
 
     // Aborts a transaction, unless it has ended.
     fn abort(&mut self, name: &Name, cause: Cause) -> Result<(), Short>
-        requires { end self.old.past name.now ≡ None
-            → MayMake self.old (trace.by_client (End name.now (Abort cause))) }
+        requires { end self.old.past name.now ≡ None → MayMake self.old
+            (trace.by_client self.old.client.seat (End name.now (Abort cause))) }
         ensures ok { OnOk result (self.new ≡ trace.aborted name.now cause self.old) }
         ensures err { OnErr result (self.new ≡ self.old) }
         ensures setting { self.new.setting ≡ self.old.setting }
@@ -159,7 +176,7 @@ impl Session {
 
     // Starts a user transaction of a body.
     fn begin(&mut self, name: &Name, body: u32) -> Result<(), Short>
-        requires { MayMake self.old (trace.by_client
+        requires { MayMake self.old (trace.by_client self.old.client.seat
             (Start name.now (kind.User self.old.client.session body))) }
         ensures ok { OnOk result (self.new ≡ trace.begun name.now body self.old) }
         ensures err { OnErr result (self.new ≡ self.old) }
@@ -169,7 +186,7 @@ impl Session {
             session: self.session,
             body,
         };
-        self.append(CLIENT_SEAT, Event::Start { name: *name, kind })
+        self.act(Event::Start { name: *name, kind })
     }
 
     // Stops a transaction below an aborted ancestor.
@@ -216,9 +233,9 @@ impl Session {
             how: How::Commit(Answer::Nothing),
         };
         if name.len() != 1 {
-            return self.append(CLIENT_SEAT, end);
+            return self.act(end);
         }
-        self.append(CLIENT_SEAT, Event::Ready { top: *name })?;
+        self.act(Event::Ready { top: *name })?;
         self.append(LEDGER_SEAT, end)
     }
 
