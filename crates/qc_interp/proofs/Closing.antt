@@ -24,7 +24,6 @@ use Rattle.qc_interp.proofs.Making.{manager_no_access, fits_manager, ends_so, ma
 use Rattle.qc_interp.proofs.OfAccesses.{OfManager}
 use Rattle.qc_interp.proofs.RunChild.{JustBegun, MayStandAt, manager_stands, may_start, child_begun, begun_runs}
 use Rattle.qc_interp.proofs.RunManagers as after
-use Rattle.qc_event.specs.Seats.{client_seat}
 use Rattle.qc_interp.proofs.WithinManager as manager
 
 module _ (of : Name) (k : ℕ) (kd : Kind) (now : Now) (h : Running of k now) (alive : now.dead ≡ None) (manages : IsManager kd) where
@@ -32,16 +31,16 @@ module _ (of : Name) (k : ℕ) (kd : Kind) (now : Now) (h : Running of k now) (a
   n = of ++ k ∷ []
 
   abbrev pub first : Past
-  first = by_client (Start n kd) ∷ now.past
+  first = by_client now.client.seat (Start n kd) ∷ now.past
 
   -- what a manager came to
   abbrev pub CameTo : Past → Result Answer MgrNo → Type 0
-  CameTo past came_to = MatchResult came_to (IsAnswered now.setting client_seat past n kd) (IsRefused now.setting client_seat past n kd)
+  CameTo past came_to = MatchResult came_to (IsAnswered now.setting now.client.seat past n kd) (IsRefused now.setting now.client.seat past n kd)
 
   -- A manager runs, and may end so.
   pub record Ends (past : Past) (how : How) : Type 0 where
-    pub running : IsRunning client_seat past n kd
-    pub allowed : Allowed now.setting past (by_client (End n how))
+    pub running : IsRunning now.client.seat past n kd
+    pub allowed : Allowed now.setting past (by_client now.client.seat (End n how))
 
   within_ends : (inner : Past) → Legal now.setting (inner ++ first) → All (OfManager n) inner → (came_to : Result Answer MgrNo) (how : How) → CameTo (inner ++ first) came_to → ending_of came_to ≡ Some how → Ends (inner ++ first) how
   within_ends inner legal each (Ok given) how came is =
@@ -52,7 +51,7 @@ module _ (of : Name) (k : ℕ) (kd : Kind) (now : Now) (h : Running of k now) (a
       })
   within_ends inner legal each (Err why) how came is = by_cause (cause_of why) came is
     where
-      by_cause : (o : Option Cause) → MatchOption o (IsShort (inner ++ first) why) (MayEndFor now.setting client_seat (inner ++ first) n kd) → option_map (λ (cause : Cause). Abort cause) o ≡ Some how → Ends (inner ++ first) how
+      by_cause : (o : Option Cause) → MatchOption o (IsShort (inner ++ first) why) (MayEndFor now.setting now.client.seat (inner ++ first) n kd) → option_map (λ (cause : Cause). Abort cause) o ≡ Some how → Ends (inner ++ first) how
       by_cause None came is = absurd cc
       by_cause (Some cause) came is =
           let same : Abort cause ≡ how = cc in
@@ -72,32 +71,32 @@ module _ (of : Name) (k : ℕ) (kd : Kind) (now : Now) (h : Running of k now) (a
       (within_ends g.newer (subst (Legal now.setting) g.grown legal) g.each came_to how (subst (λ p. CameTo p came_to) g.grown came) is)
 
   -- and is a manager that ran then
-  pub has_managed : (past : Past) → Legal now.setting past → Grew past → (how : How) → Ends past how → Managed n kd how now (record now { past = by_client (End n how) ∷ past })
+  pub has_managed : (past : Past) → Legal now.setting past → Grew past → (how : How) → Ends past how → Managed n kd how now (record now { past = by_client now.client.seat (End n how) ∷ past })
   has_managed past legal g how ends =
-      subst (λ p. Managed n kd how now (record now { past = by_client (End n how) ∷ p })) (sym g.grown)
+      subst (λ p. Managed n kd how now (record now { past = by_client now.client.seat (End n how) ∷ p })) (sym g.grown)
       (manager.was_managed of k kd now h alive manages g.newer (subst (Legal now.setting) g.grown legal) g.each how
-      (subst (λ p. IsRunning client_seat p n kd) g.grown ends.running)
-      (subst (λ p. Allowed now.setting p (by_client (End n how))) g.grown ends.allowed))
+      (subst (λ p. IsRunning now.client.seat p n kd) g.grown ends.running)
+      (subst (λ p. Allowed now.setting p (by_client now.client.seat (End n how))) g.grown ends.allowed))
 
 -- WHAT A SESSION KNOWS OF IT
 
 module _ (of : Name) (k : ℕ) (kd : Kind) (now : Now) (h : Running of k now) (alive : now.dead ≡ None) (fits : ManagerFits now.setting kd) (m : Name) (named : m ≡ of ++ k ∷ []) where
-  stands : MayStandAt now.setting (length (of ++ k ∷ [])) kd
-  stands = manager_stands now.setting (length (of ++ k ∷ [])) kd fits
+  stands : MayStandAt now.setting now.client.seat (length (of ++ k ∷ [])) kd
+  stands = manager_stands now.setting now.client.seat (length (of ++ k ∷ [])) kd fits
 
-  pub may_start_so : MayMake now (by_client (Start m kd))
+  pub may_start_so : MayMake now (by_client now.client.seat (Start m kd))
   may_start_so = record {
-    allowed = subst (λ x. Allowed now.setting now.past (by_client (Start x kd))) (sym named) (may_start of k kd now h alive stands);
+    allowed = subst (λ x. Allowed now.setting now.past (by_client now.client.seat (Start x kd))) (sym named) (may_start of k kd now h alive stands);
     of_transaction = manager_no_access kd (fits_manager now.setting kd fits);
   }
 
-  begun : JustBegun now.setting m kd (by_client (Start m kd) ∷ now.past)
-  begun = subst (λ x. JustBegun now.setting x kd (by_client (Start x kd) ∷ now.past)) (sym named) (child_begun of k kd now h alive stands)
+  begun : JustBegun now.setting now.client.seat m kd (by_client now.client.seat (Start m kd) ∷ now.past)
+  begun = subst (λ x. JustBegun now.setting now.client.seat x kd (by_client now.client.seat (Start x kd) ∷ now.past)) (sym named) (child_begun of k kd now h alive stands)
 
-  pub begun_runs_so : (past : Past) → past ≡ by_client (Start m kd) ∷ now.past → IsRunning client_seat past m kd
-  begun_runs_so past is = subst (λ p. IsRunning client_seat p m kd) (sym is) (begun_runs now.setting m kd (by_client (Start m kd) ∷ now.past) begun)
+  pub begun_runs_so : (past : Past) → past ≡ by_client now.client.seat (Start m kd) ∷ now.past → IsRunning now.client.seat past m kd
+  begun_runs_so past is = subst (λ p. IsRunning now.client.seat p m kd) (sym is) (begun_runs now.setting now.client.seat m kd (by_client now.client.seat (Start m kd) ∷ now.past) begun)
 
-  pub begun_childless : (past : Past) → past ≡ by_client (Start m kd) ∷ now.past → children past m ≡ []
+  pub begun_childless : (past : Past) → past ≡ by_client now.client.seat (Start m kd) ∷ now.past → children past m ≡ []
   begun_childless past is = ap (λ p. children p m) is ∙ begun.childless
 
 -- the history has grown by entries of a manager's accesses and copies' answers
@@ -109,22 +108,22 @@ pub record Came (of : Name) (k : ℕ) (kd : Kind) (now : Now) (m : Name) (at : N
   pub named : m ≡ of ++ k ∷ []
   pub same : at ≡ record now { past = at.past }
   pub legal : Legal at.setting at.past
-  pub grown : GrewBelow m (by_client (Start m kd) ∷ now.past) at.past
-  pub came : MatchResult came_to (IsAnswered now.setting client_seat at.past m kd) (IsRefused now.setting client_seat at.past m kd)
+  pub grown : GrewBelow m (by_client now.client.seat (Start m kd) ∷ now.past) at.past
+  pub came : MatchResult came_to (IsAnswered now.setting now.client.seat at.past m kd) (IsRefused now.setting now.client.seat at.past m kd)
 
 -- what a manager came to, from its answer or its reason for none
 either_so : (P : Answer → Type 0) (Q : MgrNo → Type 0) (came_to : Result Answer MgrNo) → IfOk came_to P → IfErr came_to Q → MatchResult came_to P Q
 either_so P Q (Ok given) answered refused = answered
 either_so P Q (Err why) answered refused = refused
 
-pub came_so : (of : Name) (k : ℕ) (kd : Kind) (now : Now) (m : Name) (before at : Now) (came_to : Result Answer MgrNo) → m ≡ of ++ k ∷ [] → before ≡ record now { past = by_client (Start m kd) ∷ now.past } → at ≡ record before { past = at.past } → Legal at.setting at.past → GrewBelow m before.past at.past → IfOk came_to (IsAnswered before.setting client_seat at.past m kd) → IfErr came_to (IsRefused before.setting client_seat at.past m kd) → Came of k kd now m at came_to
+pub came_so : (of : Name) (k : ℕ) (kd : Kind) (now : Now) (m : Name) (before at : Now) (came_to : Result Answer MgrNo) → m ≡ of ++ k ∷ [] → before ≡ record now { past = by_client now.client.seat (Start m kd) ∷ now.past } → at ≡ record before { past = at.past } → Legal at.setting at.past → GrewBelow m before.past at.past → IfOk came_to (IsAnswered before.setting before.client.seat at.past m kd) → IfErr came_to (IsRefused before.setting before.client.seat at.past m kd) → Came of k kd now m at came_to
 came_so of k kd now m before at came_to named begun same legal grown answered refused = record {
   named = named;
   same = same ∙ ap (λ (n : Now). let left : Now = record n { past = at.past } in left) begun;
   legal = legal;
   grown = subst (λ (n : Now). GrewBelow m n.past at.past) begun grown;
-  came = subst (λ (n : Now). MatchResult came_to (IsAnswered n.setting client_seat at.past m kd) (IsRefused n.setting client_seat at.past m kd)) begun
-      (either_so (IsAnswered before.setting client_seat at.past m kd) (IsRefused before.setting client_seat at.past m kd) came_to answered refused);
+  came = subst (λ (n : Now). MatchResult came_to (IsAnswered n.setting n.client.seat at.past m kd) (IsRefused n.setting n.client.seat at.past m kd)) begun
+      (either_so (IsAnswered before.setting before.client.seat at.past m kd) (IsRefused before.setting before.client.seat at.past m kd) came_to answered refused);
 }
 
 module _ (of : Name) (k : ℕ) (kd : Kind) (now : Now) (h : Running of k now) (alive : now.dead ≡ None) (fits : ManagerFits now.setting kd) (m : Name) (at : Now) (came_to : Result Answer MgrNo) (c : Came of k kd now m at came_to) where
@@ -140,31 +139,31 @@ module _ (of : Name) (k : ℕ) (kd : Kind) (now : Now) (h : Running of k now) (a
   ends : (how : How) → ending_of came_to ≡ Some how → Ends of k kd now h alive manages at.past how
   ends how is = may_end of k kd now h alive manages at.past legal_now plain.grown came_to how plain.came is
 
-  managed : (how : How) → ending_of came_to ≡ Some how → Managed (of ++ k ∷ []) kd how now (record now { past = by_client (End (of ++ k ∷ []) how) ∷ at.past })
+  managed : (how : How) → ending_of came_to ≡ Some how → Managed (of ++ k ∷ []) kd how now (record now { past = by_client now.client.seat (End (of ++ k ∷ []) how) ∷ at.past })
   managed how is = has_managed of k kd now h alive manages at.past legal_now plain.grown how (ends how is)
 
-  pub came_ends : (how : How) → ending_of came_to ≡ Some how → MayMake at (by_client (End m how))
+  pub came_ends : (how : How) → ending_of came_to ≡ Some how → MayMake at (by_client at.client.seat (End m how))
   came_ends how is = record {
-    allowed = subst (λ (n : Now). Allowed n.setting at.past (by_client (End m how))) (sym c.same) (subst (λ x. Allowed now.setting at.past (by_client (End x how))) (sym c.named) (ends how is).allowed);
+    allowed = subst (λ (n : Now). Allowed n.setting at.past (by_client n.client.seat (End m how))) (sym c.same) (subst (λ x. Allowed now.setting at.past (by_client now.client.seat (End x how))) (sym c.named) (ends how is).allowed);
     of_transaction = subst (λ x. IsOfTransaction at.past (End x how)) (sym c.named)
         (ends_so IsManager manager_no_access at.past (of ++ k ∷ []) how (subst (λ o. MatchOption o ⊥ (λ (b : Begun). IsManager b.kind)) (sym (ends how is).running.started) manages));
   }
 
   -- the session once the manager has ended
   abbrev Closed : How → Now → Type 0
-  Closed how mid = mid ≡ record at { past = by_client (End m how) ∷ at.past }
+  Closed how mid = mid ≡ record at { past = by_client at.client.seat (End m how) ∷ at.past }
 
-  closed_so : (how : How) (mid : Now) → Closed how mid → mid ≡ record now { past = by_client (End (of ++ k ∷ []) how) ∷ at.past }
+  closed_so : (how : How) (mid : Now) → Closed how mid → mid ≡ record now { past = by_client now.client.seat (End (of ++ k ∷ []) how) ∷ at.past }
   closed_so how mid is =
       is
-      ∙ ap (λ (n : Now). let left : Now = record n { past = by_client (End m how) ∷ at.past } in left) c.same
-      ∙ ap (λ x. let left : Now = record now { past = by_client (End x how) ∷ at.past } in left) c.named
+      ∙ ap (λ (n : Now). let left : Now = record n { past = by_client n.client.seat (End m how) ∷ at.past } in left) c.same
+      ∙ ap (λ x. let left : Now = record now { past = by_client now.client.seat (End x how) ∷ at.past } in left) c.named
 
-  pub came_aborts : (closed : Result How Short) (mid : Now) → IfOk closed (λ how. ending_of came_to ≡ Some how) → IfOk closed (λ how. Closed how mid) → (cause : Cause) → closed ≡ Ok (Abort cause) → MayMake mid (by_client (End of (Abort cause)))
+  pub came_aborts : (closed : Result How Short) (mid : Now) → IfOk closed (λ how. ending_of came_to ≡ Some how) → IfOk closed (λ how. Closed how mid) → (cause : Cause) → closed ≡ Ok (Abort cause) → MayMake mid (by_client mid.client.seat (End of (Abort cause)))
   came_aborts closed mid ending is cause aborted =
       let so = IfOk-at_ok (λ how. ending_of came_to ≡ Some how) aborted ending in
-      subst (λ (l : Now). MayMake l (by_client (End of (Abort cause)))) (sym (closed_so (Abort cause) mid (IfOk-at_ok (λ how. Closed how mid) aborted is)))
-      (may_end_above of of [] (k + 1) client_seat (Abort cause) _ (after.managed_running of k kd (Abort cause) now _ h alive manages (managed (Abort cause) so)) (sym (append-nil of)) h.nonroot
+      subst (λ (l : Now). MayMake l (by_client l.client.seat (End of (Abort cause)))) (sym (closed_so (Abort cause) mid (IfOk-at_ok (λ how. Closed how mid) aborted is)))
+      (may_end_above of of [] (k + 1) now.client.seat (Abort cause) _ (after.managed_running of k kd (Abort cause) now _ h alive manages (managed (Abort cause) so)) (sym (append-nil of)) h.nonroot
       (after.may_abort_after of k kd (Abort cause) now _ h alive manages (managed (Abort cause) so) cause refl))
 
   pub came_ran : (closed : Result How Short) (mid new : Now) → IfOk closed (λ how. ending_of came_to ≡ Some how) → IfOk closed (λ how. Closed how mid) → (goes_on : Bool) → IsOkAnd closed (λ how. WentOn how of goes_on mid new) → RanManager of k kd goes_on now new

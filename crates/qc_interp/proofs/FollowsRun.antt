@@ -23,6 +23,7 @@ use Rattle.qc_event.proofs.LastNumber.{length_last, is_child-last}
 use Rattle.qc_event.proofs.Lineage.{IsFresh, fresh_child}
 use Rattle.qc_event.proofs.OneEntry.{some_or_none, unless_some, child_added}
 use Rattle.qc_script.specs.Plan.{Plan, PlanWithin}
+use Rattle.qc_interp.specs.Client.{Client}
 use Rattle.qc_interp.specs.Trace.{Now, by_client, begun, aborted, committed, returned, Managed, RunsManager, child_of, TryRuns, TriesRun, Runs}
 use Rattle.qc_interp.specs.Follows.{StopsEarly, GoesOn, FollowsPlan, Asks}
 use Rattle.qc_interp.specs.Tries.{is_tried_again, Tries, TriesDo}
@@ -45,33 +46,34 @@ no_more (y ∷ ys) h = absurd (omega arith)
 -- A BODY
 
 -- What the transaction of a body leaves, as it stands in a later history.
-pub record BodyLeft (n : Name) (number : ℕ) (plan : Plan) (old left new : Past) : Type 0 where
-  pub kind : kind_of new n ≡ Some (kind.User 0 number)
-  pub steps : FollowsPlan new n plan (children new n) (end new n)
+pub record BodyLeft (session : ℕ) (n : Name) (number : ℕ) (plan : Plan) (old left new : Past) : Type 0 where
+  pub kind : kind_of new n ≡ Some (kind.User session number)
+  pub steps : FollowsPlan session new n plan (children new n) (end new n)
   pub as_asked : (m by : Name) → end left m ≡ Some (Abort (Asked by)) → (end old m ≡ Some (Abort (Asked by))) ⊎ Asks new by m n plan (children new n)
 
-pub body_left : (n : Name) (number : ℕ) (plan : Plan) (now left : Now) (new : Past) → start now.past n ≡ None → Running n 1 (begun n number now) → Grown (begun n number now).past left.past → Grown left.past new → Left n plan (begun n number now).past left.past → BodyLeft n number plan now.past left.past new
-body_left n number plan now left new fresh runs grown further l = record {
-  kind = further.kinds n (kind.User 0 number) (grown.kinds n (kind.User 0 number) (kind_now now.past n (kind.User 0 number) fresh));
-  steps = whole_stays left.past new further n plan follows;
+pub body_left : (session : ℕ) (n : Name) (number : ℕ) (plan : Plan) (now left : Now) (new : Past) → now.client.session ≡ session → start now.past n ≡ None → Running n 1 (begun n number now) → Grown (begun n number now).past left.past → Grown left.past new → Left session n plan (begun n number now).past left.past → BodyLeft session n number plan now.past left.past new
+body_left session n number plan now left new tied fresh runs grown further l = record {
+  kind = further.kinds n (kind.User now.client.session number) (grown.kinds n (kind.User now.client.session number) (kind_now now.client.seat now.past n (kind.User now.client.session number) fresh))
+      ∙ ap (λ s. Some (kind.User s number)) tied;
+  steps = whole_stays left.past new further session n plan follows;
   as_asked = λ m by is. elim (l.as_asked m by is) [
-    | inl old ↦ inl (sym (end_started now.past n m (kind.User 0 number)) ∙ old)
-    | inr asks ↦ inr (subst (Asks new by m n plan) (sym same_children) (asks_stay left.past new further by m n plan (children left.past n) (end left.past n) follows (subst (Asks left.past by m n plan) (sym all) asks)))
+    | inl old ↦ inl (sym (end_started now.client.seat now.past n m (kind.User now.client.session number)) ∙ old)
+    | inr asks ↦ inr (subst (Asks new by m n plan) (sym same_children) (asks_stay left.past new further session by m n plan (children left.past n) (end left.past n) follows (subst (Asks left.past by m n plan) (sym all) asks)))
   ];
 }
   where
     all : children left.past n ≡ l.more
     all = l.children_are ∙ ap (λ cs. cs ++ l.more) (no_more (children (begun n number now).past n) runs.next)
 
-    follows : FollowsPlan left.past n plan (children left.past n) (end left.past n)
-    follows = subst (λ cs. FollowsPlan left.past n plan cs (end left.past n)) (sym all) l.follows
+    follows : FollowsPlan session left.past n plan (children left.past n) (end left.past n)
+    follows = subst (λ cs. FollowsPlan session left.past n plan cs (end left.past n)) (sym all) l.follows
 
     same_children : children new n ≡ children left.past n
-    same_children = further.same_children n (follows_ended left.past n plan (children left.past n) (end left.past n) follows)
+    same_children = further.same_children n (follows_ended session left.past n plan (children left.past n) (end left.past n) follows)
 
 -- A MANAGER
 
-module _ (of : Name) (k : ℕ) (now : Now) (h : Running of k now) (alive : now.dead ≡ None) where
+module _ (session : ℕ) (of : Name) (k : ℕ) (now : Now) (h : Running of k now) (alive : now.dead ≡ None) where
   abbrev child : Name
   child = of ++ k ∷ []
 
@@ -107,14 +109,14 @@ module _ (of : Name) (k : ℕ) (now : Now) (h : Running of k now) (alive : now.d
     kind_after new grown = grown.kinds child kd (managed_kind child kd how now mid managed fresh.no_start)
 
     -- what a manager's commit and the rest leave
-    manager_left : (given : Answer) → how ≡ Commit given → (rest plan : Plan) (new : Past) → Grown mid.past new → Left of rest mid.past new
-        → ((more : List Name) (end_of : Option How) → kind_of new child ≡ Some kd → GoesOn (end new child) (FollowsPlan new of rest more end_of) more end_of → FollowsPlan new of plan (child ∷ more) end_of)
-        → ((n by : Name) (more : List Name) → IsTrue (is_committed (outcome new child)) × Asks new by n of rest more → Asks new by n of plan (child ∷ more)) → Left of plan now.past new
+    manager_left : (given : Answer) → how ≡ Commit given → (rest plan : Plan) (new : Past) → Grown mid.past new → Left session of rest mid.past new
+        → ((more : List Name) (end_of : Option How) → kind_of new child ≡ Some kd → GoesOn (end new child) (FollowsPlan session new of rest more end_of) more end_of → FollowsPlan session new of plan (child ∷ more) end_of)
+        → ((n by : Name) (more : List Name) → IsTrue (is_committed (outcome new child)) × Asks new by n of rest more → Asks new by n of plan (child ∷ more)) → Left session of plan now.past new
     manager_left given commits rest plan new grown l one_step asks = record {
       more = child ∷ l.more;
       children_are = l.children_are ∙ further child (children now.past of) (children mid.past of) l.more one_child;
       follows = one_step l.more (end new of) (kind_after new grown)
-          (subst (λ o. GoesOn o (FollowsPlan new of rest l.more (end new of)) l.more (end new of)) (sym child_end) l.follows);
+          (subst (λ o. GoesOn o (FollowsPlan session new of rest l.more (end new of)) l.more (end new of)) (sym child_end) l.follows);
       as_asked = λ n by is. elim (l.as_asked n by is) [
         | inl old ↦ inl (asked_before n by old)
         | inr asked ↦ inr (asks n by l.more (ap (λ o. is_committed (outcome_of o)) child_end, asked))
@@ -130,13 +132,13 @@ module _ (of : Name) (k : ℕ) (now : Now) (h : Running of k now) (alive : now.d
 
     -- what a manager leaves that is aborted, upon which its transaction is
     manager_fails : (cause : Cause) → how ≡ Abort cause → (rest plan : Plan) (new : Past) → Grown mid.past new → OneEnd of (Abort cause) mid.past new
-        → ((more : List Name) (end_of : Option How) → kind_of new child ≡ Some kd → GoesOn (end new child) (FollowsPlan new of rest more end_of) more end_of → FollowsPlan new of plan (child ∷ more) end_of)
-        → Left of plan now.past new
+        → ((more : List Name) (end_of : Option How) → kind_of new child ≡ Some kd → GoesOn (end new child) (FollowsPlan session new of rest more end_of) more end_of → FollowsPlan session new of plan (child ∷ more) end_of)
+        → Left session of plan now.past new
     manager_fails cause aborts rest plan new grown one one_step = record {
       more = child ∷ [];
       children_are = one.same_children of ∙ one_child;
       follows = one_step [] (end new of) (kind_after new grown)
-          (subst (λ o. GoesOn o (FollowsPlan new of rest [] (end new of)) [] (end new of)) (sym (grown.ends child (Abort cause) child_end)) (refl, one.now still_open));
+          (subst (λ o. GoesOn o (FollowsPlan session new of rest [] (end new of)) [] (end new of)) (sym (grown.ends child (Abort cause) child_end)) (refl, one.now still_open));
       as_asked = λ n by is. elim (one.news n (Abort (Asked by)) is) [
         | inl old ↦ inl (asked_before n by old)
         | inr new ↦ absurd (some_or_none (end now.past child) (ap is_some (asked_before child by (child_end ∙ ap Some (sym new.1)))) fresh.no_end)
@@ -152,10 +154,10 @@ module _ (of : Name) (k : ℕ) (now : Now) (h : Running of k now) (alive : now.d
 
   -- A CHILD
 
-  module _ (number : ℕ) (inner : Plan) (left back : Now) (r : Ran child (begun child number now) left) (l : Left child inner (begun child number now).past left.past) (is_back : back.past ≡ left.past) where
+  module _ (number : ℕ) (inner : Plan) (left back : Now) (r : Ran child (begun child number now) left) (l : Left session child inner (begun child number now).past left.past) (is_back : back.past ≡ left.past) where
     back_news : (n : Name) (how : How) → Below n child → end back.past n ≡ Some how → (end now.past n ≡ Some how) ⊎ AskedFrom child how
     back_news n how above is = elim (l.upward n how above (ap (λ p. end p n) (sym is_back) ∙ is)) [
-      | inl old ↦ inl (sym (end_started now.past child n (kind.User 0 number)) ∙ old)
+      | inl old ↦ inl (sym (end_started now.client.seat now.past child n (kind.User now.client.session number)) ∙ old)
       | inr asked ↦ inr asked
     ]
 
@@ -174,10 +176,10 @@ module _ (of : Name) (k : ℕ) (now : Now) (h : Running of k now) (alive : now.d
     children_back =
         ap (λ p. children p of) (is_back ∙ r.is)
         ∙ children_left child of r.later (begun child number now).past r.inside (not_within_child of of [] k (sym (append-nil of)))
-        ∙ child_added (by_client (Start child (kind.User 0 number))) now.past of child (kind.User 0 number) refl (is_child-last of k)
+        ∙ child_added (by_client now.client.seat (Start child (kind.User now.client.session number))) now.past of child (kind.User now.client.session number) refl (is_child-last of k)
 
-    child_left : (new : Past) (Follows Follows' : List Name → Type 0) (AsksFor AsksFor' : Name → Name → List Name → Type 0) → BodyLeft child number inner now.past left.past new → LeftBy of Follows AsksFor back.past new
-        → ((more : List Name) → (kind_of new child ≡ Some (kind.User 0 number)) × FollowsPlan new child inner (children new child) (end new child) → Follows more → Follows' (child ∷ more))
+    child_left : (new : Past) (Follows Follows' : List Name → Type 0) (AsksFor AsksFor' : Name → Name → List Name → Type 0) → BodyLeft session child number inner now.past left.past new → LeftBy of Follows AsksFor back.past new
+        → ((more : List Name) → (kind_of new child ≡ Some (kind.User session number)) × FollowsPlan session new child inner (children new child) (end new child) → Follows more → Follows' (child ∷ more))
         → ((by n : Name) (more : List Name) → Asks new by n child inner (children new child) ⊎ AsksFor by n more → AsksFor' by n (child ∷ more)) → LeftBy of Follows' AsksFor' now.past new
     child_left new Follows Follows' AsksFor AsksFor' body m follows asks_for = record {
       more = child ∷ m.more;
@@ -203,33 +205,33 @@ pub at_setting : (P : ℕ → ℕ → Type 0) (old new : Now) → new.setting �
 at_setting P old new is h = subst (λ (s : Setting). P (length s.base) (length s.firsts)) (sym is) h
 
 -- what the rest leaves that a transaction goes on to, whatever it is
-abbrev RestLeft : Name → ℕ → Plan → Now → Type 0
-RestLeft of k rest new = (mid : Now) → Running of k mid → PlanWithin (length mid.setting.base) (length mid.setting.firsts) (length of) rest → Early mid.past of → Runs of k rest mid new → Left of rest mid.past new.past
+abbrev RestLeft : ℕ → Name → ℕ → Plan → Now → Type 0
+RestLeft session of k rest new = (mid : Now) → mid.client.session ≡ session → Running of k mid → PlanWithin (length mid.setting.base) (length mid.setting.firsts) (length of) rest → Early mid.past of → Runs of k rest mid new → Left session of rest mid.past new.past
 
 -- what a manager leaves, and the rest
-manager_step : (of : Name) (k : ℕ) (kd : Kind) (rest plan : Plan) (now new : Now) → Running of k now → now.dead ≡ None → IsManager kd → PlanWithin (length now.setting.base) (length now.setting.firsts) (length of) rest
-    → ((more : List Name) (end_of : Option How) → kind_of new.past (of ++ k ∷ []) ≡ Some kd → GoesOn (end new.past (of ++ k ∷ [])) (FollowsPlan new.past of rest more end_of) more end_of → FollowsPlan new.past of plan ((of ++ k ∷ []) ∷ more) end_of)
+manager_step : (session : ℕ) (of : Name) (k : ℕ) (kd : Kind) (rest plan : Plan) (now new : Now) → now.client.session ≡ session → Running of k now → now.dead ≡ None → IsManager kd → PlanWithin (length now.setting.base) (length now.setting.firsts) (length of) rest
+    → ((more : List Name) (end_of : Option How) → kind_of new.past (of ++ k ∷ []) ≡ Some kd → GoesOn (end new.past (of ++ k ∷ [])) (FollowsPlan session new.past of rest more end_of) more end_of → FollowsPlan session new.past of plan ((of ++ k ∷ []) ∷ more) end_of)
     → ((n by : Name) (more : List Name) → IsTrue (is_committed (outcome new.past (of ++ k ∷ []))) × Asks new.past by n of rest more → Asks new.past by n of plan ((of ++ k ∷ []) ∷ more))
-    → Ran of now new → RestLeft of (k + 1) rest new → RunsManager of k kd (λ mid. Runs of (k + 1) rest mid new) now new → Left of plan now.past new.past
-manager_step of k kd rest plan now new h alive manages within one_step asks r further m =
+    → Ran of now new → RestLeft session of (k + 1) rest new → RunsManager of k kd (λ mid. Runs of (k + 1) rest mid new) now new → Left session of plan now.past new.past
+manager_step session of k kd rest plan now new tied h alive manages within one_step asks r further m =
     goes_on m.how of (Runs of (k + 1) rest m.mid new) m.mid new
     (λ given commits runs.
     let on : Running of (k + 1) m.mid = managed_running of k kd m.how now m.mid h alive manages m.managed in
     let rest_within = at_setting (λ copies records. PlanWithin copies records (length of) rest) now m.mid m.managed.same_setting within in
-    manager_left of k now h alive kd manages m.how m.mid m.managed given commits rest plan new.past
+    manager_left session of k now h alive kd manages m.how m.mid m.managed given commits rest plan new.past
     (ran_grown of m.mid new (runs_ran of (k + 1) rest m.mid new on rest_within runs))
-    (further m.mid on rest_within (manager_early of k now h alive kd manages m.how m.mid m.managed) runs) one_step asks)
+    (further m.mid (ap (λ (c : Client). c.session) m.managed.same_client ∙ tied) on rest_within (manager_early session of k now h alive kd manages m.how m.mid m.managed) runs) one_step asks)
     (λ cause aborts is.
     let one : OneEnd of (Abort cause) m.mid.past new.past = subst (λ (n : Now). OneEnd of (Abort cause) m.mid.past n.past) (sym is) (aborted_end of cause m.mid) in
-    let last : new.past ≡ by_client (End of (Abort cause)) ∷ m.mid.past = ap (λ (n : Now). n.past) is ∙ aborted_last of cause m.mid (still_open of k now h alive kd manages m.how m.mid m.managed) in
-    manager_fails of k now h alive kd manages m.how m.mid m.managed cause aborts rest plan new.past
-    (subst (Grown m.mid.past) (sym last) (grown new.setting (by_client (End of (Abort cause)) ∷ []) m.mid.past (subst (Legal new.setting) last r.legal)))
+    let last : new.past ≡ by_client m.mid.client.seat (End of (Abort cause)) ∷ m.mid.past = ap (λ (n : Now). n.past) is ∙ aborted_last of cause m.mid (still_open session of k now h alive kd manages m.how m.mid m.managed) in
+    manager_fails session of k now h alive kd manages m.how m.mid m.managed cause aborts rest plan new.past
+    (subst (Grown m.mid.past) (sym last) (grown new.setting (by_client m.mid.client.seat (End of (Abort cause)) ∷ []) m.mid.past (subst (Legal new.setting) last r.legal)))
     one one_step)
     m.goes_on
 
 -- what tries of a body within a body leave, and the rest
-module _ (of : Name) (number : ℕ) (inner rest : Plan) (set : Setting) (new : Now) (shallow : length of < 16) (fits : PlanWithin (length set.base) (length set.firsts) (length of + 1) inner) (rest_fits : PlanWithin (length set.base) (length set.firsts) (length of) rest)
-    (inside : (c : Name) (left : Now) → RestLeft c 1 inner left) (further : (j : ℕ) → RestLeft of j rest new) where
+module _ (session : ℕ) (of : Name) (number : ℕ) (inner rest : Plan) (set : Setting) (new : Now) (shallow : length of < 16) (fits : PlanWithin (length set.base) (length set.firsts) (length of + 1) inner) (rest_fits : PlanWithin (length set.base) (length set.firsts) (length of) rest)
+    (inside : (c : Name) (left : Now) → RestLeft session c 1 inner left) (further : (j : ℕ) → RestLeft session of j rest new) where
   abbrev RestRuns : ℕ → Now → Type 0
   RestRuns j mid = Runs of j rest mid new
 
@@ -237,10 +239,10 @@ module _ (of : Name) (number : ℕ) (inner rest : Plan) (set : Setting) (new : N
   AllRun tries k now = TriesRun (child_of of) (λ c. TryRuns (length of) c number (λ first left. Runs c 1 inner first left)) RestRuns tries k now
 
   abbrev IsTry : Name → Type 0
-  IsTry c = (kind_of new.past c ≡ Some (kind.User 0 number)) × FollowsPlan new.past c inner (children new.past c) (end new.past c)
+  IsTry c = (kind_of new.past c ≡ Some (kind.User session number)) × FollowsPlan session new.past c inner (children new.past c) (end new.past c)
 
   abbrev RestFollows : List Name → Type 0
-  RestFollows cs = FollowsPlan new.past of rest cs (end new.past of)
+  RestFollows cs = FollowsPlan session new.past of rest cs (end new.past of)
 
   abbrev AllFollow : ℕ → List Name → Type 0
   AllFollow tries cs = Tries (end new.past) IsTry (StopsEarly new.past of (end new.past of)) RestFollows tries cs
@@ -264,7 +266,7 @@ module _ (of : Name) (number : ℕ) (inner rest : Plan) (set : Setting) (new : N
       (λ j mid same on runs. runs_ran of j rest mid new on (rest_within mid same) runs)
 
   -- one try, and what comes behind it
-  module _ (tries k : ℕ) (now left mid : Now) (same : now.setting ≡ set) (h : Running of k now) (alive : now.dead ≡ None) (back : mid ≡ returned (length of) left) (runs : Runs (child_of of k) 1 inner (begun (child_of of k) number now) left) where
+  module _ (tries k : ℕ) (now left mid : Now) (same : now.setting ≡ set) (tied : now.client.session ≡ session) (h : Running of k now) (alive : now.dead ≡ None) (back : mid ≡ returned (length of) left) (runs : Runs (child_of of k) 1 inner (begun (child_of of k) number now) left) where
     abbrev c : Name
     c = child_of of k
 
@@ -277,15 +279,15 @@ module _ (of : Name) (number : ℕ) (inner rest : Plan) (set : Setting) (new : N
     tried : Tried of k number now left mid
     tried = try_ran of k number now left mid h back (runs_ran c 1 inner first left begins (inner_fits c first same (length_last of k)) runs)
 
-    l : Left c inner first.past left.past
-    l = inside c left first begins (inner_fits c first same (length_last of k))
-        (λ how is. absurd (some_or_none (end now.past c) (ap is_some (sym (end_started now.past c c (kind.User 0 number)) ∙ is)) (fresh of k now h alive).no_end)) runs
+    l : Left session c inner first.past left.past
+    l = inside c left first tied begins (inner_fits c first same (length_last of k))
+        (λ how is. absurd (some_or_none (end now.past c) (ap is_some (sym (end_started now.client.seat now.past c c (kind.User now.client.session number)) ∙ is)) (fresh session of k now h alive).no_end)) runs
 
     early : Early mid.past of
-    early = child_early of k now h alive number inner left mid tried.ran l tried.is_back
+    early = child_early session of k now h alive number inner left mid tried.ran l tried.is_back
 
-    body : Ran of mid new → BodyLeft c number inner now.past left.past new.past
-    body r = body_left c number inner now left new.past (fresh of k now h alive).no_start begins (ran_grown c first left tried.ran)
+    body : Ran of mid new → BodyLeft session c number inner now.past left.past new.past
+    body r = body_left session c number inner now left new.past tied (fresh session of k now h alive).no_start begins (ran_grown c first left tried.ran)
         (subst (λ p. Grown p new.past) tried.is_back (ran_grown of mid new r)) l
 
     -- how the try ended, as it stands in the end
@@ -297,56 +299,57 @@ module _ (of : Name) (number : ℕ) (inner rest : Plan) (set : Setting) (new : N
         by_end (Some how) is = (ran_grown of mid new r).ends c how is ∙ sym is
 
     again : is_tried_again (end mid.past c) ≡ true → Ran of mid new → LeftBy of (AllFollow tries) (AllAsk tries) mid.past new.past → LeftBy of (AllFollow (suc tries)) (AllAsk (suc tries)) now.past new.past
-    again t r m = child_left of k now h alive number inner left mid tried.ran l tried.is_back new.past (AllFollow tries) (AllFollow (suc tries)) (AllAsk tries) (AllAsk (suc tries)) (body r) m
+    again t r m = child_left session of k now h alive number inner left mid tried.ran l tried.is_back new.past (AllFollow tries) (AllFollow (suc tries)) (AllAsk tries) (AllAsk (suc tries)) (body r) m
         (λ more is follows. (is, subst (λ b. MatchBool b (AllFollow tries more) (RestFollows more)) (sym (same_end r ∙ t)) follows))
         (λ by n more asks. elim asks [ inl here ↦ inl here | inr behind ↦ inr (subst (λ b. MatchBool b (AllAsk tries by n more) (RestAsks by n more)) (sym (same_end r ∙ t)) behind) ])
 
-    last : is_tried_again (end mid.past c) ≡ false → Ran of mid new → Left of rest mid.past new.past → LeftBy of (AllFollow (suc tries)) (AllAsk (suc tries)) now.past new.past
-    last t r m = child_left of k now h alive number inner left mid tried.ran l tried.is_back new.past RestFollows (AllFollow (suc tries)) RestAsks (AllAsk (suc tries)) (body r) m
+    last : is_tried_again (end mid.past c) ≡ false → Ran of mid new → Left session of rest mid.past new.past → LeftBy of (AllFollow (suc tries)) (AllAsk (suc tries)) now.past new.past
+    last t r m = child_left session of k now h alive number inner left mid tried.ran l tried.is_back new.past RestFollows (AllFollow (suc tries)) RestAsks (AllAsk (suc tries)) (body r) m
         (λ more is follows. (is, subst (λ b. MatchBool b (AllFollow tries more) (RestFollows more)) (sym (same_end r ∙ t)) follows))
         (λ by n more asks. elim asks [ inl here ↦ inl here | inr behind ↦ inr (subst (λ b. MatchBool b (AllAsk tries by n more) (RestAsks by n more)) (sym (same_end r ∙ t)) behind) ])
 
-  tries_left : (tries k : ℕ) (now : Now) → now.setting ≡ set → Running of k now → now.dead ≡ None → Early now.past of → AllRun tries k now → LeftBy of (AllFollow tries) (AllAsk tries) now.past new.past
-  tries_left zero k now same h alive soon runs = further k now h (rest_within now same) soon runs
-  tries_left (suc tries) k now same h alive soon (mid, ran, after) =
-      let t : Tried of k number now ran.left mid = tried tries k now ran.left mid same h alive ran.back ran.runs in
+  tries_left : (tries k : ℕ) (now : Now) → now.setting ≡ set → now.client.session ≡ session → Running of k now → now.dead ≡ None → Early now.past of → AllRun tries k now → LeftBy of (AllFollow tries) (AllAsk tries) now.past new.past
+  tries_left zero k now same tied h alive soon runs = further k now tied h (rest_within now same) soon runs
+  tries_left (suc tries) k now same tied h alive soon (mid, ran, after) =
+      let t : Tried of k number now ran.left mid = tried tries k now ran.left mid same tied h alive ran.back ran.runs in
       let on : mid.setting ≡ set = t.same_setting ∙ same in
-      let soon : Early mid.past of = early tries k now ran.left mid same h alive ran.back ran.runs in
+      let still : mid.client.session ≡ session = ap (λ (c : Client). c.session) t.same_client ∙ tied in
+      let soon : Early mid.past of = early tries k now ran.left mid same tied h alive ran.back ran.runs in
       by_try (is_tried_again (end mid.past (child_of of k))) _ _
-      (λ is more. again tries k now ran.left mid same h alive ran.back ran.runs is (all_ran tries (k + 1) mid on t.running (t.alive is) more) (tries_left tries (k + 1) mid on t.running (t.alive is) soon more))
-      (λ is rest_runs. last tries k now ran.left mid same h alive ran.back ran.runs is (runs_ran of (k + 1) rest mid new t.running (rest_within mid on) rest_runs) (further (k + 1) mid t.running (rest_within mid on) soon rest_runs))
+      (λ is more. again tries k now ran.left mid same tied h alive ran.back ran.runs is (all_ran tries (k + 1) mid on t.running (t.alive is) more) (tries_left tries (k + 1) mid on still t.running (t.alive is) soon more))
+      (λ is rest_runs. last tries k now ran.left mid same tied h alive ran.back ran.runs is (runs_ran of (k + 1) rest mid new t.running (rest_within mid on) rest_runs) (further (k + 1) mid still t.running (rest_within mid on) soon rest_runs))
       after
 
 -- what is left by one that is dead
-stops_left : (of a : Name) (k : ℕ) (plan : Plan) (now new : Now) → Running of k now → Early now.past of → now.dead ≡ Some a → new ≡ aborted of (Orphan a) now → Left of plan now.past new.past
-stops_left of a k plan now new h early fallen is =
-    subst (λ (n : Now). Left of plan now.past n.past) (sym is)
-    (orphan_left of a k plan now (stops_follow (aborted of (Orphan a) now).past of plan (end (aborted of (Orphan a) now).past of)) h fallen early)
+stops_left : (session : ℕ) (of a : Name) (k : ℕ) (plan : Plan) (now new : Now) → Running of k now → Early now.past of → now.dead ≡ Some a → new ≡ aborted of (Orphan a) now → Left session of plan now.past new.past
+stops_left session of a k plan now new h early fallen is =
+    subst (λ (n : Now). Left session of plan now.past n.past) (sym is)
+    (orphan_left session of a k plan now (stops_follow session (aborted of (Orphan a) now).past of plan (end (aborted of (Orphan a) now).past of)) h fallen early)
 
-pub run_left : (of : Name) (k : ℕ) (plan : Plan) (now new : Now) → Running of k now → PlanWithin (length now.setting.base) (length now.setting.firsts) (length of) plan → Early now.past of → Runs of k plan now new → Left of plan now.past new.past
-run_left of k Plan.done now new h within early runs = unless_dead of now new (new ≡ committed of now)
-    (λ alive is. subst (λ (n : Now). Left of Plan.done now.past n.past) (sym is) (committed_left of now (alive_open of k now h alive)))
-    (λ a fallen is. stops_left of a k Plan.done now new h early fallen is)
+pub run_left : (session : ℕ) (of : Name) (k : ℕ) (plan : Plan) (now new : Now) → now.client.session ≡ session → Running of k now → PlanWithin (length now.setting.base) (length now.setting.firsts) (length of) plan → Early now.past of → Runs of k plan now new → Left session of plan now.past new.past
+run_left session of k Plan.done now new tied h within early runs = unless_dead of now new (new ≡ committed of now)
+    (λ alive is. subst (λ (n : Now). Left session of Plan.done now.past n.past) (sym is) (committed_left session of now (alive_open of k now h alive)))
+    (λ a fallen is. stops_left session of a k Plan.done now new h early fallen is)
     runs
-run_left of k (Plan.read_then rec rest) now new h within early runs = unless_dead of now new (RunsManager of k (kind.Read rec) (λ mid. Runs of (k + 1) rest mid new) now new)
-    (λ alive m. manager_step of k (kind.Read rec) rest (Plan.read_then rec rest) now new h alive tt within.1 (λ more end_of is goes. (is, goes)) (λ n by more asks. asks)
-    (runs_ran of k (Plan.read_then rec rest) now new h within runs) (λ mid on fits soon r. run_left of (k + 1) rest mid new on fits soon r) m)
-    (λ a fallen is. stops_left of a k (Plan.read_then rec rest) now new h early fallen is)
+run_left session of k (Plan.read_then rec rest) now new tied h within early runs = unless_dead of now new (RunsManager of k (kind.Read rec) (λ mid. Runs of (k + 1) rest mid new) now new)
+    (λ alive m. manager_step session of k (kind.Read rec) rest (Plan.read_then rec rest) now new tied h alive tt within.1 (λ more end_of is goes. (is, goes)) (λ n by more asks. asks)
+    (runs_ran of k (Plan.read_then rec rest) now new h within runs) (λ mid still on fits soon r. run_left session of (k + 1) rest mid new still on fits soon r) m)
+    (λ a fallen is. stops_left session of a k (Plan.read_then rec rest) now new h early fallen is)
     runs
-run_left of k (Plan.set_then rec value rest) now new h within early runs = unless_dead of now new (RunsManager of k (kind.Write rec value) (λ mid. Runs of (k + 1) rest mid new) now new)
-    (λ alive m. manager_step of k (kind.Write rec value) rest (Plan.set_then rec value rest) now new h alive tt within.1 (λ more end_of is goes. (is, goes)) (λ n by more asks. asks)
-    (runs_ran of k (Plan.set_then rec value rest) now new h within runs) (λ mid on fits soon r. run_left of (k + 1) rest mid new on fits soon r) m)
-    (λ a fallen is. stops_left of a k (Plan.set_then rec value rest) now new h early fallen is)
+run_left session of k (Plan.set_then rec value rest) now new tied h within early runs = unless_dead of now new (RunsManager of k (kind.Write rec value) (λ mid. Runs of (k + 1) rest mid new) now new)
+    (λ alive m. manager_step session of k (kind.Write rec value) rest (Plan.set_then rec value rest) now new tied h alive tt within.1 (λ more end_of is goes. (is, goes)) (λ n by more asks. asks)
+    (runs_ran of k (Plan.set_then rec value rest) now new h within runs) (λ mid still on fits soon r. run_left session of (k + 1) rest mid new still on fits soon r) m)
+    (λ a fallen is. stops_left session of a k (Plan.set_then rec value rest) now new h early fallen is)
     runs
-run_left of k (Plan.reconf_then rec config rest) now new h within early runs = unless_dead of now new (RunsManager of k (kind.Reconf rec config) (λ mid. Runs of (k + 1) rest mid new) now new)
-    (λ alive m. manager_step of k (kind.Reconf rec config) rest (Plan.reconf_then rec config rest) now new h alive tt within.2 (λ more end_of is goes. (is, goes)) (λ n by more asks. asks)
-    (runs_ran of k (Plan.reconf_then rec config rest) now new h within runs) (λ mid on fits soon r. run_left of (k + 1) rest mid new on fits soon r) m)
-    (λ a fallen is. stops_left of a k (Plan.reconf_then rec config rest) now new h early fallen is)
+run_left session of k (Plan.reconf_then rec config rest) now new tied h within early runs = unless_dead of now new (RunsManager of k (kind.Reconf rec config) (λ mid. Runs of (k + 1) rest mid new) now new)
+    (λ alive m. manager_step session of k (kind.Reconf rec config) rest (Plan.reconf_then rec config rest) now new tied h alive tt within.2 (λ more end_of is goes. (is, goes)) (λ n by more asks. asks)
+    (runs_ran of k (Plan.reconf_then rec config rest) now new h within runs) (λ mid still on fits soon r. run_left session of (k + 1) rest mid new still on fits soon r) m)
+    (λ a fallen is. stops_left session of a k (Plan.reconf_then rec config rest) now new h early fallen is)
     runs
-run_left of k (Plan.child_then number tries inner rest) now new h within early runs = unless_dead of now new (TriesRun (child_of of) (λ c. TryRuns (length of) c number (λ first left. Runs c 1 inner first left)) (λ j mid. Runs of j rest mid new) tries k now)
-    (λ alive r. tries_left of number inner rest now.setting new within.0 within.2 within.3
-    (λ c left mid on fits soon s. run_left c 1 inner mid left on fits soon s)
-    (λ j mid on fits soon s. run_left of j rest mid new on fits soon s) tries k now refl h alive early r)
-    (λ a fallen is. stops_left of a k (Plan.child_then number tries inner rest) now new h early fallen is)
+run_left session of k (Plan.child_then number tries inner rest) now new tied h within early runs = unless_dead of now new (TriesRun (child_of of) (λ c. TryRuns (length of) c number (λ first left. Runs c 1 inner first left)) (λ j mid. Runs of j rest mid new) tries k now)
+    (λ alive r. tries_left session of number inner rest now.setting new within.0 within.2 within.3
+    (λ c left mid still on fits soon s. run_left session c 1 inner mid left still on fits soon s)
+    (λ j mid still on fits soon s. run_left session of j rest mid new still on fits soon s) tries k now refl tied h alive early r)
+    (λ a fallen is. stops_left session of a k (Plan.child_then number tries inner rest) now new h early fallen is)
     runs
-run_left of k (Plan.abort_then levels rest) now new h within early is = subst (λ (n : Now). Left of (Plan.abort_then levels rest) now.past n.past) (sym is) (asked_left of k levels rest now h within.0 early)
+run_left session of k (Plan.abort_then levels rest) now new tied h within early is = subst (λ (n : Now). Left session of (Plan.abort_then levels rest) now.past n.past) (sym is) (asked_left session of k levels rest now h within.0 early)

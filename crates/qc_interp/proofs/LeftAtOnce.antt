@@ -22,7 +22,6 @@ use Rattle.qc_interp.proofs.BelowNames.{below_longer}
 use Rattle.qc_interp.proofs.OneEnd.{OneEnd, committed_end, aborted_end, aborted_last}
 use Rattle.qc_interp.proofs.Running.{Below, Running, Ran}
 use Rattle.qc_interp.proofs.RunAborts.{ran_orphan, ran_asked}
-use Rattle.qc_event.specs.Seats.{client_seat}
 use Rattle.qc_interp.proofs.Stays.{Grown, grown, stops_stay}
 
 -- aborted as a name asked, or one below it
@@ -43,14 +42,14 @@ pub record LeftBy (of : Name) (Follows : List Name → Type 0) (AsksFor : Name �
   pub upward : (n : Name) (how : How) → Below n of → end new n ≡ Some how → (end old n ≡ Some how) ⊎ AskedFrom of how
 
 -- what a transaction leaves that follows a plan
-abbrev pub Left : Name → Plan → Past → Past → Type 0
-Left of plan old new = LeftBy of (λ more. FollowsPlan new of plan more (end new of)) (λ by n more. Asks new by n of plan more) old new
+abbrev pub Left : ℕ → Name → Plan → Past → Past → Type 0
+Left session of plan old new = LeftBy of (λ more. FollowsPlan session new of plan more (end new of)) (λ by n more. Asks new by n of plan more) old new
 
 -- ONE END
 
 -- what only ends follows its plan where the plan lets it end so
-pub left_one : (of : Name) (plan : Plan) (how : How) (old new : Past) → OneEnd of how old new → FollowsPlan new of plan [] (end new of) → ((by : Name) → how ≡ Abort (Asked by) → Asks new by of of plan []) → Left of plan old new
-left_one of plan how old new one follows asks = record {
+pub left_one : (session : ℕ) (of : Name) (plan : Plan) (how : How) (old new : Past) → OneEnd of how old new → FollowsPlan session new of plan [] (end new of) → ((by : Name) → how ≡ Abort (Asked by) → Asks new by of of plan []) → Left session of plan old new
+left_one session of plan how old new one follows asks = record {
   more = [];
   children_are = one.same_children of ∙ sym (append-nil (children old of));
   follows = follows;
@@ -100,11 +99,11 @@ stopped of a k now h fallen early = by_end (end now.past of) refl
     by_end : (o : Option How) → end now.past of ≡ o → StopsEarly new of (end new of)
     by_end (Some how) is = subst (StopsEarly new of) (sym (g.ends of how is)) (stops_stay now.past new g of (Some how) (early how is))
     by_end None is = subst (StopsEarly new of) (sym ((aborted_end of (Orphan a) now).now is)) (stops_stay now.past new g of (Some (Abort (Orphan a)))
-        (legal_orphan (aborted of (Orphan a) now).setting now.past client_seat of a (start now.past of) (subst (Legal (aborted of (Orphan a) now).setting) (aborted_last of (Orphan a) now is) r.legal).1))
+        (legal_orphan (aborted of (Orphan a) now).setting now.past now.client.seat of a (start now.past of) (subst (Legal (aborted of (Orphan a) now).setting) (aborted_last of (Orphan a) now is) r.legal).1))
 
-pub orphan_left : (of a : Name) (k : ℕ) (plan : Plan) (now : Now) → (StopsEarly (aborted of (Orphan a) now).past of (end (aborted of (Orphan a) now).past of) → FollowsPlan (aborted of (Orphan a) now).past of plan [] (end (aborted of (Orphan a) now).past of)) → Running of k now → now.dead ≡ Some a → Early now.past of → Left of plan now.past (aborted of (Orphan a) now).past
-orphan_left of a k plan now stops h fallen early =
-    left_one of plan (Abort (Orphan a)) now.past _ (aborted_end of (Orphan a) now) (stops (stopped of a k now h fallen early)) (λ by is. absurd (differ by is))
+pub orphan_left : (session : ℕ) (of a : Name) (k : ℕ) (plan : Plan) (now : Now) → (StopsEarly (aborted of (Orphan a) now).past of (end (aborted of (Orphan a) now).past of) → FollowsPlan session (aborted of (Orphan a) now).past of plan [] (end (aborted of (Orphan a) now).past of)) → Running of k now → now.dead ≡ Some a → Early now.past of → Left session of plan now.past (aborted of (Orphan a) now).past
+orphan_left session of a k plan now stops h fallen early =
+    left_one session of plan (Abort (Orphan a)) now.past _ (aborted_end of (Orphan a) now) (stops (stopped of a k now h fallen early)) (λ by is. absurd (differ by is))
   where
     differ : (by : Name) → Abort (Orphan a) ≡ Abort (Asked by) → ⊥
     differ by is = cc
@@ -114,10 +113,10 @@ pub alive_open : (of : Name) (k : ℕ) (now : Now) → Running of k now → now.
 alive_open of k now h alive =
     neither (end now.past of) (h.uncommitted of [] (sym (append-nil of))) (alive_not_aborted now.past of (sym h.fallen ∙ alive))
 
-pub committed_left : (of : Name) (now : Now) → end now.past of ≡ None → Left of Plan.done now.past (committed of now).past
-committed_left of now none =
+pub committed_left : (session : ℕ) (of : Name) (now : Now) → end now.past of ≡ None → Left session of Plan.done now.past (committed of now).past
+committed_left session of now none =
     let one = committed_end of now in
-    left_one of Plan.done (Commit Nothing) now.past _ one (inl (one.now none)) (λ by is. absurd (differ by is))
+    left_one session of Plan.done (Commit Nothing) now.past _ one (inl (one.now none)) (λ by is. absurd (differ by is))
   where
     differ : (by : Name) → Commit Nothing ≡ Abort (Asked by) → ⊥
     differ by is = cc
@@ -130,13 +129,13 @@ above_itself of = take_all (length of - 0) of (omega arith)
 asks_itself : (by of : Name) → Abort (Asked of) ≡ Abort (Asked by) → by ≡ of
 asks_itself by of is = cc
 
-itself_left : (of : Name) (rest : Plan) (now : Now) → Ran of now (asked of 0 now) → Early now.past of → Left of (Plan.abort_then 0 rest) now.past (asked of 0 now).past
-itself_left of rest now r early =
-    left_one of (Plan.abort_then 0 rest) (Abort (Asked of)) now.past _ (aborted_end of (Asked of) now)
+itself_left : (session : ℕ) (of : Name) (rest : Plan) (now : Now) → Ran of now (asked of 0 now) → Early now.past of → Left session of (Plan.abort_then 0 rest) now.past (asked of 0 now).past
+itself_left session of rest now r early =
+    left_one session of (Plan.abort_then 0 rest) (Abort (Asked of)) now.past _ (aborted_end of (Asked of) now)
     (ends_so of (Abort (Asked of)) now.past _ (ran_grown of now (asked of 0 now) r) early (aborted_end of (Asked of) now).now)
     (λ by is. (asks_itself by of is, sym (above_itself of)))
 
-module _ (of : Name) (below : ℕ) (rest : Plan) (now : Now) (r : Ran of now (asked of (suc below) now)) (early : Early now.past of) (low : suc below < length of) where
+module _ (session : ℕ) (of : Name) (below : ℕ) (rest : Plan) (now : Now) (r : Ran of now (asked of (suc below) now)) (early : Early now.past of) (low : suc below < length of) where
   abbrev ancestor : Name
   ancestor = above of (suc below)
 
@@ -179,7 +178,7 @@ module _ (of : Name) (below : ℕ) (rest : Plan) (now : Now) (r : Ran of now (as
     | inr new ↦ absurd (let longer = below_longer n of above in omega (arith, ap length new.0))
   ]
 
-  above_left : Left of (Plan.abort_then (suc below) rest) now.past (asked of (suc below) now).past
+  above_left : Left session of (Plan.abort_then (suc below) rest) now.past (asked of (suc below) now).past
   above_left = record {
     more = [];
     children_are = last.same_children of ∙ first.same_children of ∙ sym (append-nil (children now.past of));
@@ -189,6 +188,6 @@ module _ (of : Name) (below : ℕ) (rest : Plan) (now : Now) (r : Ran of now (as
   }
 
 -- what a step `abort` leaves
-pub asked_left : (of : Name) (k levels : ℕ) (rest : Plan) (now : Now) → Running of k now → levels < length of → Early now.past of → Left of (Plan.abort_then levels rest) now.past (asked of levels now).past
-asked_left of k zero rest now h low early = itself_left of rest now (ran_asked of k 0 now h low) early
-asked_left of k (suc below) rest now h low early = above_left of below rest now (ran_asked of k (suc below) now h low) early low
+pub asked_left : (session : ℕ) (of : Name) (k levels : ℕ) (rest : Plan) (now : Now) → Running of k now → levels < length of → Early now.past of → Left session of (Plan.abort_then levels rest) now.past (asked of levels now).past
+asked_left session of k zero rest now h low early = itself_left session of rest now (ran_asked of k 0 now h low) early
+asked_left session of k (suc below) rest now h low early = above_left session of below rest now (ran_asked of k (suc below) now h low) early low

@@ -30,18 +30,17 @@ use Rattle.qc_store.specs.Served.{is_reply}
 use Rattle.qc_interp.specs.Trace.{Now, by_client, Managed}
 use Rattle.qc_interp.proofs.OfAccesses.{OfManager, answer_replies, end_apart, not_both}
 use Rattle.qc_interp.proofs.OneEnd.{OneEnd, one_end}
-use Rattle.qc_event.specs.Seats.{client_seat}
 use Rattle.qc_interp.proofs.Stays.{Grown, grown}
 
 -- a start ends nothing
-pub end_started : (past : Past) (n m : Name) (k : Kind) → end (by_client (event.Start n k) ∷ past) m ≡ end past m
-end_started past n m k = sym (or_none (end past m))
+pub end_started : (seat : ℕ) (past : Past) (n m : Name) (k : Kind) → end (by_client seat (event.Start n k) ∷ past) m ≡ end past m
+end_started seat past n m k = sym (or_none (end past m))
 
 -- a name that starts has this kind from then on
-pub kind_now : (past : Past) (n : Name) (k : Kind) → start past n ≡ None → kind_of (by_client (event.Start n k) ∷ past) n ≡ Some k
-kind_now past n k none =
-    ap (λ o. option_map (λ (b : Begun). b.kind) (option_or o (start_in n client_seat (event.Start n k)))) none
-    ∙ ap (λ (b : Bool). option_map (λ (b : Begun). b.kind) (if b then Some (record { seat = client_seat; kind = k }) else None)) (same_itself n)
+pub kind_now : (seat : ℕ) (past : Past) (n : Name) (k : Kind) → start past n ≡ None → kind_of (by_client seat (event.Start n k) ∷ past) n ≡ Some k
+kind_now seat past n k none =
+    ap (λ o. option_map (λ (b : Begun). b.kind) (option_or o (start_in n seat (event.Start n k)))) none
+    ∙ ap (λ (b : Bool). option_map (λ (b : Begun). b.kind) (if b then Some (record { seat = seat; kind = k }) else None)) (same_itself n)
 
 -- ENTRIES OF ACCESSES
 
@@ -103,19 +102,19 @@ of_kind past n k P is h = by_start (start past n) is
 
 module _ (n : Name) (k : Kind) (how : How) (old new : Now) (m : Managed n k how old new) where
   abbrev begun : Past
-  begun = by_client (event.Start n k) ∷ old.past
+  begun = by_client old.client.seat (event.Start n k) ∷ old.past
 
   abbrev still : Past
   still = m.inner ++ begun
 
-  legal : Legal new.setting (by_client (event.End n how) ∷ still)
+  legal : Legal new.setting (by_client old.client.seat (event.End n how) ∷ still)
   legal = subst (Legal new.setting) m.is m.legal
 
-  last : OneEnd n how still (by_client (event.End n how) ∷ still)
-  last = one_end client_seat n how still
+  last : OneEnd n how still (by_client old.client.seat (event.End n how) ∷ still)
+  last = one_end old.client.seat n how still
 
   was : (c : Name) → is_child n c ≡ false → end still c ≡ end old.past c
-  was c out = end_apart n c m.inner begun m.of_accesses out ∙ end_started old.past n c k
+  was c out = end_apart n c m.inner begun m.of_accesses out ∙ end_started old.client.seat old.past n c k
 
   -- who has ended had done so before, or is the manager or one of its accesses
   pub managed_news : (c : Name) (h : How) → end new.past c ≡ Some h → (end old.past c ≡ Some h) ⊎ ((c ≡ n) ⊎ (is_child n c ≡ true))
@@ -137,10 +136,10 @@ module _ (n : Name) (k : Kind) (how : How) (old new : Now) (m : Managed n k how 
   ]
 
   after_start : Grown begun new.past
-  after_start = subst (Grown begun) (sym m.is) (grown new.setting (by_client (event.End n how) ∷ m.inner) begun legal)
+  after_start = subst (Grown begun) (sym m.is) (grown new.setting (by_client old.client.seat (event.End n how) ∷ m.inner) begun legal)
 
   pub managed_kind : start old.past n ≡ None → kind_of new.past n ≡ Some k
-  managed_kind fresh = after_start.kinds n k (kind_now old.past n k fresh)
+  managed_kind fresh = after_start.kinds n k (kind_now old.client.seat old.past n k fresh)
 
   pub managed_end : end old.past n ≡ None → end new.past n ≡ Some how
   managed_end none = ap (λ p. end p n) m.is ∙ last.now (was n (no_own_child n) ∙ none)
@@ -149,7 +148,7 @@ module _ (n : Name) (k : Kind) (how : How) (old new : Now) (m : Managed n k how 
   managed_children of j is =
       ap (λ p. children p of) m.is ∙ last.same_children of
       ∙ children_apart n of m.inner begun m.of_accesses (λ c access. no_grandchild of j c (subst (λ p. is_child p c ≡ true) is access))
-      ∙ child_added (by_client (event.Start n k)) old.past of n k refl (ap (is_child of) is ∙ is_child-last of j)
+      ∙ child_added (by_client old.client.seat (event.Start n k)) old.past of n k refl (ap (is_child of) is ∙ is_child-last of j)
 
   -- none of them was aborted as another asked
   pub managed_asks : (c by : Name) → IsManager k → 0 < length n → start old.past n ≡ None → end new.past c ≡ Some (Abort (Asked by)) → end old.past c ≡ Some (Abort (Asked by))

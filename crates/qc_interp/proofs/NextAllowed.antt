@@ -12,6 +12,7 @@ use Rattle.qc_event.specs.declared.event.Kind.{Kind}
 use Rattle.qc_event.specs.declared.event.Kind.TheVariants as kind
 use Rattle.qc_event.specs.History.{Past, Name, Begun, IsOpen, start, is_ready, is_child, child_in, children}
 use Rattle.qc_event.specs.Base.{Setting}
+use Rattle.qc_event.specs.Seats.{is_client}
 use Rattle.qc_event.specs.Standing.{IsGoing, IsUser, Started}
 use Rattle.qc_event.specs.Users.{MayStartNext, MayCommitUserOrTop, UserCause}
 use Rattle.qc_event.specs.Starts.{Stands, Starts}
@@ -21,7 +22,6 @@ use Rattle.qc_event.specs.Legal.{Allowed, MayEnd}
 use Rattle.qc_event.proofs.LastNumber.{front_last, length_last}
 use Rattle.qc_event.proofs.OneEntry.{start_stays, start_now}
 use Rattle.qc_event.proofs.Lawful.{started_wider}
-use Rattle.qc_event.specs.Seats.{client_seat}
 use Rattle.qc_interp.specs.Trace.{by_client}
 
 -- STARTS
@@ -31,13 +31,13 @@ below_top_starts setting past seat [] k long may = absurd (omega arith)
 below_top_starts setting past seat (x ∷ []) k long may = absurd (omega arith)
 below_top_starts setting past seat (x ∷ y ∷ r) k long may = may
 
-pub may_start_child : (setting : Setting) (past : Past) (of : Name) (k : ℕ) (of_kind : Kind) → 0 < length of → IsGoing past of → is_ready past of ≡ false → length (children past of) + 1 ≡ k → Started past of (λ b. Stands setting client_seat b (length (of ++ k ∷ [])) of_kind) → Allowed setting past (by_client (event.Start (of ++ k ∷ []) of_kind))
-may_start_child setting past of k of_kind nonroot going unready next stands = below_top_starts setting past client_seat (of ++ k ∷ []) of_kind (omega (arith, length_last of k)) (record {
-  by_client = refl;
+pub may_start_child : (setting : Setting) (seat : ℕ) (past : Past) (of : Name) (k : ℕ) (of_kind : Kind) → IsTrue (is_client seat) → 0 < length of → IsGoing past of → is_ready past of ≡ false → length (children past of) + 1 ≡ k → Started past of (λ b. Stands setting seat b (length (of ++ k ∷ [])) of_kind) → Allowed setting past (by_client seat (event.Start (of ++ k ∷ []) of_kind))
+may_start_child setting seat past of k of_kind client nonroot going unready next stands = below_top_starts setting past seat (of ++ k ∷ []) of_kind (omega (arith, length_last of k)) (record {
+  by_client = client;
   parent_going = subst (IsGoing past) (sym (front_last of k)) going;
   parent_not_ready = subst (λ q. IsTrue (not (is_ready past q))) (sym (front_last of k)) (ap not unready);
   next_child = sym (ap (λ q. q ++ (length (children past q) + 1) ∷ []) (front_last of k) ∙ ap (λ j. of ++ j ∷ []) next);
-  stands = subst (λ q. Started past q (λ b. Stands setting client_seat b (length (of ++ k ∷ [])) of_kind)) (sym (front_last of k)) stands;
+  stands = subst (λ q. Started past q (λ b. Stands setting seat b (length (of ++ k ∷ [])) of_kind)) (sym (front_last of k)) stands;
 })
 
 -- COMMITS
@@ -77,10 +77,10 @@ user_licensed setting past seat n b (kind.Write rec value) cause is license = ab
 user_licensed setting past seat n b (kind.Reconf rec config) cause is license = absurd is
 user_licensed setting past seat n b kind.Access cause is license = absurd is
 
-pub may_abort_user : (setting : Setting) (past : Past) (n : Name) (cause : Cause) → Started past n (λ b. IsUser b.kind) → IsOpen past n → is_ready past n ≡ false → ((session : ℕ) → UserCause past n session cause) → Allowed setting past (by_client (event.End n (Abort cause)))
-may_abort_user setting past n cause user is_open unready license = started_wider (λ b. IsUser b.kind) (MayEnd setting past client_seat n (Abort cause)) (start past n) (λ b is. record {
-  by_client = refl;
+pub may_abort_user : (setting : Setting) (seat : ℕ) (past : Past) (n : Name) (cause : Cause) → IsTrue (is_client seat) → Started past n (λ b. IsUser b.kind) → IsOpen past n → is_ready past n ≡ false → ((session : ℕ) → UserCause past n session cause) → Allowed setting past (by_client seat (event.End n (Abort cause)))
+may_abort_user setting seat past n cause client user is_open unready license = started_wider (λ b. IsUser b.kind) (MayEnd setting past seat n (Abort cause)) (start past n) (λ b is. record {
+  by_client = client;
   is_open = is_open;
   not_ready = ap not unready;
-  licensed = user_licensed setting past client_seat n b b.kind cause is license;
+  licensed = user_licensed setting past seat n b b.kind cause is license;
 }) user

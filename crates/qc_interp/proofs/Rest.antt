@@ -15,9 +15,10 @@ use Rattle.qc_event.specs.Standing.{IsManager}
 use Rattle.qc_script.specs.declared.script.Body.{Body}
 use Rattle.qc_script.specs.declared.script.Step.{Step, Step-F, out-Step, roll-Step, roll-out-Step}
 use Rattle.qc_script.specs.declared.script.Step.TheVariants as step
-use Rattle.qc_line.specs.Messages.{Net, meets_fates}
+use Rattle.qc_line.specs.Messages.{meets_fates}
 use Rattle.qc_script.specs.Plan.{Plan, IsTried, PlanWithin, TopsWithin}
 use Rattle.qc_script.specs.Steps.{numbered, plan_of}
+use Rattle.qc_interp.specs.Client.{Client, MayAct}
 use Rattle.qc_interp.specs.Running.{Running, Resting, ManagerFits, RanManager}
 use Rattle.qc_interp.specs.Trace.{Now, aborted, asked, committed, UnlessDead, RunsManager, child_of, Runs, BodyRuns, top_of, TopsRun, TriesRan}
 use Rattle.qc_interp.proofs.Cases.{NextBy}
@@ -28,7 +29,6 @@ use Rattle.qc_interp.proofs.Plans.{plan_of_read, plan_of_set, plan_of_reconf, pl
 use Rattle.qc_interp.proofs.RunManagers.{managed_running}
 use Rattle.qc_interp.proofs.RunTops.{nothing_rests}
 use Rattle.qc_interp.proofs.TriesDone.{Stands}
-use Rattle.qc_event.specs.Seats.{client_seat}
 use Rattle.qc_interp.proofs.TriesInRow.{tries_wider}
 
 -- the first of what is left of a list
@@ -55,13 +55,13 @@ while_dead of a now new Next fallen stops = subst (NextBy of now new Next) (sym 
 pub record StepsDone (of : Name) (steps : List Step) (old : Now) (j k : ℕ) (now : Now) : Type 0 where
   pub running : Running of k now
   pub setting : now.setting ≡ old.setting
-  pub net : now.net ≡ old.net
+  pub client : now.client ≡ old.client
   pub leads : (new : Now) → Runs of k (plan_of (drop j steps)) now new → Runs of 1 (plan_of steps) old new
   pub within : PlanWithin (length now.setting.base) (length now.setting.firsts) (length of) (plan_of (drop j steps))
 
 -- before the first of them
 pub none_done : (of : Name) (steps : List Step) (old : Now) → Running of 1 old → PlanWithin (length old.setting.base) (length old.setting.firsts) (length of) (plan_of steps) → StepsDone of steps old 0 1 old
-none_done of steps old h within = record { running = h; setting = refl; net = refl; leads = λ new runs. runs; within = within }
+none_done of steps old h within = record { running = h; setting = refl; client = refl; leads = λ new runs. runs; within = within }
 
 module _ {of : Name} {steps : List Step} {old now : Now} {j k : ℕ} (left : StepsDone of steps old j k now) where
   abbrev rest : Plan
@@ -75,11 +75,11 @@ module _ {of : Name} {steps : List Step} {old now : Now} {j k : ℕ} (left : Ste
   leads_at plan new is runs = left.leads new (subst (λ p. Runs of k p now new) (sym is) runs)
 
   -- one step more
-  one_done : (plan : Plan) (next : ℕ) (mid : Now) → plan_of (drop j steps) ≡ plan → Running of next mid → mid.setting ≡ now.setting → mid.net ≡ now.net → ((new : Now) → Runs of next rest mid new → Runs of k plan now new) → PlanWithin (length now.setting.base) (length now.setting.firsts) (length of) rest → StepsDone of steps old (j + 1) next mid
-  one_done plan next mid is running same same_net leads within = record {
+  one_done : (plan : Plan) (next : ℕ) (mid : Now) → plan_of (drop j steps) ≡ plan → Running of next mid → mid.setting ≡ now.setting → mid.client ≡ now.client → ((new : Now) → Runs of next rest mid new → Runs of k plan now new) → PlanWithin (length now.setting.base) (length now.setting.firsts) (length of) rest → StepsDone of steps old (j + 1) next mid
+  one_done plan next mid is running same same_client leads within = record {
     running = running;
     setting = same ∙ left.setting;
-    net = same_net ∙ left.net;
+    client = same_client ∙ left.client;
     leads = λ new runs. leads_at plan new is (leads new runs);
     within = subst (λ (s : Setting). PlanWithin (length s.base) (length s.firsts) (length of) rest) (sym same) within;
   }
@@ -90,7 +90,7 @@ module _ {of : Name} {steps : List Step} {old now : Now} {j k : ℕ} (left : Ste
   managed_so kd plan mid is alive manages ran leads within =
       let m = goes_on_so of k kd now mid ran in
       one_done plan (k + 1) mid is
-      (managed_running of k kd (Commit m.0) now mid left.running alive manages m.1) m.1.same_setting m.1.same_net
+      (managed_running of k kd (Commit m.0) now mid left.running alive manages m.1) m.1.same_setting m.1.same_client
       (λ new runs. leads new (record { how = Commit m.0; mid = mid; managed = m.1; goes_on = runs })) within
 
   module _ {s : Step} (lt : j < length steps) (here : s ≡ get_or steps j s) where
@@ -155,9 +155,9 @@ module _ {of : Name} {steps : List Step} {old now : Now} {j k : ℕ} (left : Ste
       pub child_fits : (length of < 16) × IsTried (numbered b).tries × PlanWithin (length now.setting.base) (length now.setting.firsts) (length of + 1) (numbered b).plan × PlanWithin (length now.setting.base) (length now.setting.firsts) (length of) rest
       child_fits = within_at (Plan.child_then (numbered b).number (numbered b).tries (numbered b).plan rest) child_plan
 
-      pub child_done : (next : ℕ) (new : Now) → TriesRan (length of) (child_of of) (numbered b) k next now new → Running of next new → new.setting ≡ now.setting → new.net ≡ now.net → StepsDone of steps old (j + 1) next new
-      child_done next new ran on same same_net =
-          one_done (Plan.child_then (numbered b).number (numbered b).tries (numbered b).plan rest) next new child_plan on same same_net
+      pub child_done : (next : ℕ) (new : Now) → TriesRan (length of) (child_of of) (numbered b) k next now new → Running of next new → new.setting ≡ now.setting → new.client ≡ now.client → StepsDone of steps old (j + 1) next new
+      child_done next new ran on same same_client =
+          one_done (Plan.child_then (numbered b).number (numbered b).tries (numbered b).plan rest) next new child_plan on same same_client
           (λ last runs. while_alive of now last _ alive
           (tries_wider (child_of of) (λ n. BodyRuns (length of) n (numbered b)) (Stands next new) (λ i mid. Runs of i rest mid last)
           (λ i mid so. subst (λ n. Runs of n rest mid last) (sym so.0) (subst (λ m. Runs of next rest m last) (sym so.1) runs))
@@ -218,25 +218,25 @@ not_full full n is takes_more small =
 pub record TopsDone (bodies : List Body) (old : Now) (done i : ℕ) (now : Now) : Type 0 where
   pub resting : Resting i now
   pub setting : now.setting ≡ old.setting
-  pub net : now.net ≡ old.net
-  pub leads : (last : ℕ) (new : Now) → TopsRun i (map numbered (drop done bodies)) last now new → TopsRun 0 (map numbered bodies) last old new
+  pub client : now.client ≡ old.client
+  pub leads : (last : ℕ) (new : Now) → TopsRun old.client.epoch i (map numbered (drop done bodies)) last now new → TopsRun old.client.epoch 0 (map numbered bodies) last old new
   pub within : TopsWithin (length now.setting.base) (length now.setting.firsts) (map numbered (drop done bodies))
-  pub met : IsTrue (meets_fates client_seat now.net now.past)
+  pub met : IsTrue (meets_fates now.client.seat now.client.net now.past)
 
-has_done_nothing : (old : Now) → old.past ≡ [] → old.dead ≡ None → old ≡ record { setting = old.setting; past = []; dead = None; net = old.net }
+has_done_nothing : (old : Now) → old.past ≡ [] → old.dead ≡ None → old ≡ record { setting = old.setting; past = []; dead = None; client = old.client }
 has_done_nothing old fresh alive =
-    ap (λ p. let first : Now = record { setting = old.setting; past = p; dead = old.dead; net = old.net } in first) fresh
-    ∙ ap (λ o. let first : Now = record { setting = old.setting; past = []; dead = o; net = old.net } in first) alive
+    ap (λ p. let first : Now = record { setting = old.setting; past = p; dead = old.dead; client = old.client } in first) fresh
+    ∙ ap (λ o. let first : Now = record { setting = old.setting; past = []; dead = o; client = old.client } in first) alive
 
 -- before the first of them
-pub no_top_done : (bodies : List Body) (old : Now) → old.past ≡ [] → old.dead ≡ None → TopsWithin (length old.setting.base) (length old.setting.firsts) (map numbered bodies) → TopsDone bodies old 0 0 old
-no_top_done bodies old fresh alive within = record {
-  resting = subst (Resting 0) (sym (has_done_nothing old fresh alive)) (nothing_rests old.setting old.net);
+pub no_top_done : (bodies : List Body) (old : Now) → MayAct old.client.seat old.client.epoch → old.past ≡ [] → old.dead ≡ None → TopsWithin (length old.setting.base) (length old.setting.firsts) (map numbered bodies) → TopsDone bodies old 0 0 old
+no_top_done bodies old may fresh alive within = record {
+  resting = subst (Resting 0) (sym (has_done_nothing old fresh alive)) (nothing_rests old.setting old.client may);
   setting = refl;
-  net = refl;
+  client = refl;
   leads = λ last new runs. runs;
   within = within;
-  met = subst (λ p. IsTrue (meets_fates client_seat old.net p)) (sym fresh) refl;
+  met = subst (λ p. IsTrue (meets_fates old.client.seat old.client.net p)) (sym fresh) refl;
 }
 
 module _ {bodies : List Body} {old now : Now} {done i : ℕ} {b : Body} (left : TopsDone bodies old done i now) (lt : done < length bodies) (here : b ≡ get_or bodies done b) where
@@ -246,26 +246,27 @@ module _ {bodies : List Body} {old now : Now} {done i : ℕ} {b : Body} (left : 
   pub top_within : IsTried (numbered b).tries × PlanWithin (length now.setting.base) (length now.setting.firsts) 1 (numbered b).plan × TopsWithin (length now.setting.base) (length now.setting.firsts) (map numbered others)
   top_within = subst (λ l. TopsWithin (length now.setting.base) (length now.setting.firsts) (map numbered l)) (next_is bodies done b lt here) left.within
 
-  pub top_done : (next : ℕ) (new : Now) → TriesRan 0 top_of (numbered b) i next now new → Resting next new → new.setting ≡ now.setting → new.net ≡ now.net → IsTrue (meets_fates client_seat new.net new.past) → TopsDone bodies old (done + 1) next new
-  top_done next new ran rests same same_net met = record {
+  pub top_done : (next : ℕ) (new : Now) → TriesRan 0 (top_of now.client.epoch) (numbered b) i next now new → Resting next new → new.setting ≡ now.setting → new.client ≡ now.client → IsTrue (meets_fates new.client.seat new.client.net new.past) → TopsDone bodies old (done + 1) next new
+  top_done next new ran rests same same_client met = record {
     resting = rests;
     setting = same ∙ left.setting;
-    net = same_net ∙ left.net;
-    leads = λ last end runs. left.leads last end (subst (λ l. TopsRun i (map numbered l) last now end) (sym (next_is bodies done b lt here))
-        (tries_wider top_of (λ n. BodyRuns 0 n (numbered b)) (Stands next new) (λ j mid. TopsRun j (map numbered others) last mid end)
-        (λ j mid so. subst (λ n. TopsRun n (map numbered others) last mid end) (sym so.0) (subst (λ m. TopsRun next (map numbered others) last m end) (sym so.1) runs))
-        (numbered b).tries i now ran));
+    client = same_client ∙ left.client;
+    leads = λ last end runs. left.leads last end (subst (λ l. TopsRun old.client.epoch i (map numbered l) last now end) (sym (next_is bodies done b lt here))
+        (tries_wider (top_of old.client.epoch) (λ n. BodyRuns 0 n (numbered b)) (Stands next new) (λ j mid. TopsRun old.client.epoch j (map numbered others) last mid end)
+        (λ j mid so. subst (λ n. TopsRun old.client.epoch n (map numbered others) last mid end) (sym so.0) (subst (λ m. TopsRun old.client.epoch next (map numbered others) last m end) (sym so.1) runs))
+        (numbered b).tries i now (subst (λ (c : Client). TriesRan 0 (top_of c.epoch) (numbered b) i next now new) left.client ran)));
     within = subst (λ (s : Setting). TopsWithin (length s.base) (length s.firsts) (map numbered others)) (sym same) top_within.2;
     met = met;
   }
 
 -- after the last of them the history follows them all
-pub tops_followed : (bodies : List Body) (old : Now) (done i : ℕ) (now : Now) → TopsDone bodies old done i now → length bodies ≤ done → old.past ≡ [] → old.dead ≡ None → TopsWithin (length old.setting.base) (length old.setting.firsts) (map numbered bodies) → FollowsTops now.net (map numbered bodies) now.past
+pub tops_followed : (bodies : List Body) (old : Now) (done i : ℕ) (now : Now) → TopsDone bodies old done i now → length bodies ≤ done → old.past ≡ [] → old.dead ≡ None → TopsWithin (length old.setting.base) (length old.setting.firsts) (map numbered bodies) → FollowsTops now.client (map numbered bodies) now.past
 tops_followed bodies old done i now left over fresh alive within =
-    subst (λ (n : Net). FollowsTops n (map numbered bodies) now.past) (sym left.net)
-    (tops_follow old.setting old.net (map numbered bodies) i now within
-    (subst (λ n. TopsRun 0 (map numbered bodies) i n now) (has_done_nothing old fresh alive) all_ran)
-    left.resting.few (subst (λ (n : Net). IsTrue (meets_fates client_seat n now.past)) left.net left.met))
+    subst (λ (c : Client). FollowsTops c (map numbered bodies) now.past) (sym left.client)
+    (tops_follow old.setting old.client (map numbered bodies) i now
+    (subst (λ (c : Client). MayAct c.seat c.epoch) left.client left.resting.may_act) within
+    (subst (λ (n : Now). TopsRun old.client.epoch 0 (map numbered bodies) i n now) (has_done_nothing old fresh alive) all_ran)
+    left.resting.few (subst (λ (c : Client). IsTrue (meets_fates c.seat c.net now.past)) left.client left.met))
   where
-    all_ran : TopsRun 0 (map numbered bodies) i old now
-    all_ran = left.leads i now (subst (λ l. TopsRun i (map numbered l) i now now) (sym (drop_all done bodies over)) (refl, refl))
+    all_ran : TopsRun old.client.epoch 0 (map numbered bodies) i old now
+    all_ran = left.leads i now (subst (λ l. TopsRun old.client.epoch i (map numbered l) i now now) (sym (drop_all done bodies over)) (refl, refl))

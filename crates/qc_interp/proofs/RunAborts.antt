@@ -19,7 +19,6 @@ use Rattle.qc_interp.proofs.Running.{Below, Running, Ran}
 use Rattle.qc_interp.proofs.BelowNames.{below_longer, begins_below, begins_ancestor}
 use Rattle.qc_interp.proofs.Fallen.{dead_is}
 use Rattle.qc_interp.proofs.RunEnds.{may_abort, ran_longer, ran_aborted, RunsOn, above_aborted}
-use Rattle.qc_event.specs.Seats.{client_seat}
 use Rattle.qc_interp.proofs.Making.{may_end_above}
 
 -- ORPHANS
@@ -39,9 +38,9 @@ orphan_of of a k now h fallen going =
       aborted = aborted_is (end now.past a) found.0;
     }
 
-pub may_orphan : (of a : Name) (k : ℕ) (now : Now) → Running of k now → now.dead ≡ Some a → end now.past of ≡ None → MayMake now (by_client (End of (Abort (Orphan a))))
+pub may_orphan : (of a : Name) (k : ℕ) (now : Now) → Running of k now → now.dead ≡ Some a → end now.past of ≡ None → MayMake now (by_client now.client.seat (End of (Abort (Orphan a))))
 may_orphan of a k now h fallen going =
-    may_end_above of of [] k client_seat (Abort (Orphan a)) now h (sym (append-nil of)) h.nonroot
+    may_end_above of of [] k now.client.seat (Abort (Orphan a)) now h (sym (append-nil of)) h.nonroot
     (may_abort of of [] k (Orphan a) now h (sym (append-nil of)) h.nonroot going (λ session. orphan_of of a k now h fallen going))
 
 pub ran_orphan : (of a : Name) (k : ℕ) (now : Now) → Running of k now → now.dead ≡ Some a → Ran of now (aborted of (Orphan a) now)
@@ -83,9 +82,9 @@ module _ (of : Name) (levels : ℕ) (low : levels < length of) where
   ]
 
 -- the transaction asked for may be aborted, unless it has ended
-pub may_ask : (of : Name) (k levels : ℕ) (now : Now) → Running of k now → levels < length of → end now.past (above of levels) ≡ None → MayMake now (by_client (End (above of levels) (Abort (Asked of))))
+pub may_ask : (of : Name) (k levels : ℕ) (now : Now) → Running of k now → levels < length of → end now.past (above of levels) ≡ None → MayMake now (by_client now.client.seat (End (above of levels) (Abort (Asked of))))
 may_ask of k levels now h low going =
-    may_end_above of (above of levels) (drop (length of - levels) of) k client_seat (Abort (Asked of)) now h (above_begins of levels low) (above_nonroot of levels low)
+    may_end_above of (above of levels) (drop (length of - levels) of) k now.client.seat (Abort (Asked of)) now h (above_begins of levels low) (above_nonroot of levels low)
     (may_abort of (above of levels) (drop (length of - levels) of) k (Asked of) now h (above_begins of levels low) (above_nonroot of levels low) going
     (asks_for of (above of levels) (drop (length of - levels) of) k now h (above_begins of levels low)))
 
@@ -96,17 +95,17 @@ runs_asked of k levels now h low some =
     (asks_for of (above of levels) (drop (length of - levels) of) k now h (above_begins of levels low))
 
 -- to be aborted as its orphan, unless it has ended
-pub may_ask_orphan : (of : Name) (k levels : ℕ) (now : Now) → Running of k now → levels < length of → 0 < levels → end (aborted (above of levels) (Asked of) now).past of ≡ None → MayMake (aborted (above of levels) (Asked of) now) (by_client (End of (Abort (Orphan (above of levels)))))
+pub may_ask_orphan : (of : Name) (k levels : ℕ) (now : Now) → Running of k now → levels < length of → 0 < levels → end (aborted (above of levels) (Asked of) now).past of ≡ None → MayMake (aborted (above of levels) (Asked of) now) (by_client (aborted (above of levels) (Asked of) now).client.seat (End of (Abort (Orphan (above of levels)))))
 may_ask_orphan of k levels now h low some going =
     let on = runs_asked of k levels now h low some in
-    may_end_above of of [] k client_seat (Abort (Orphan (above of levels))) (aborted (above of levels) (Asked of) now) on.running (sym (append-nil of)) h.nonroot
+    may_end_above of of [] k (aborted (above of levels) (Asked of) now).client.seat (Abort (Orphan (above of levels))) (aborted (above of levels) (Asked of) now) on.running (sym (append-nil of)) h.nonroot
     (may_abort of of [] k (Orphan (above of levels)) (aborted (above of levels) (Asked of) now) on.running (sym (append-nil of)) h.nonroot going
     (λ session. orphaned of (above of levels) k (aborted (above of levels) (Asked of) now) on.running (above_below of levels low some) on.has_ended))
 
 above_asked : (of : Name) (k levels : ℕ) (now : Now) → Running of k now → levels < length of → 0 < levels → Ran of now (aborted of (Orphan (above of levels)) (aborted (above of levels) (Asked of) now))
 above_asked of k levels now h low some =
     let on = runs_asked of k levels now h low some in
-    ran_longer of now (aborted (above of levels) (Asked of) now) _ on.more on.same_setting on.same_net on.is on.inside
+    ran_longer of now (aborted (above of levels) (Asked of) now) _ on.more on.same_setting on.same_client on.is on.inside
     (ran_aborted of k (Orphan (above of levels)) (aborted (above of levels) (Asked of) now) on.running (λ again. absurd (true≢false (sym again)))
     (λ going session. orphaned of (above of levels) k (aborted (above of levels) (Asked of) now) on.running (above_below of levels low some) on.has_ended))
 

@@ -1,7 +1,7 @@
 -- A child of a transaction that runs: what it begins with, and what its parent goes on with once it has ended.
 use Rattle.std.proofs.Common.{◌≡◌, ℕ, ◌+◌, ◌<◌, ◌≤◌, ◌⊎◌, inl, inr, true, false, [], ◌∷◌, ◌++◌, length, refl, sym, ap, ◌∙◌, subst, arith, append-nil}
 use mathlib.Core.Bool.{true≢false}
-use Rattle.std.specs.Prelude.{Option, None, Some, is_some, is_none, if◌then◌else◌, find, MatchOption, option_to_list, nat_lt}
+use Rattle.std.specs.Prelude.{Option, None, Some, is_some, is_none, IsTrue, if◌then◌else◌, find, MatchOption, option_to_list, nat_lt}
 use Rattle.std.specs.Option.{option_or}
 use Rattle.std.proofs.lemmas.Bool.{le-leb, lt-leb}
 use Rattle.std.proofs.lemmas.Bool.Decides.{nat_tests}
@@ -13,6 +13,7 @@ use Rattle.qc_event.specs.declared.event.Kind.TheVariants as kind
 use Rattle.qc_event.specs.History.{Past, Name, Begun, start, start_in, end, is_ready, is_child, child_in, children}
 use Rattle.qc_event.specs.Dead.{outcome, outcome_of, is_committed, is_aborted, dead}
 use Rattle.qc_event.specs.Base.{Setting}
+use Rattle.qc_event.specs.Seats.{is_client}
 use Rattle.qc_event.specs.Standing.{IsGoing, IsUser, Started}
 use Rattle.qc_event.specs.Starts.{Stands}
 use Rattle.qc_event.specs.Legal.{Legal, Allowed}
@@ -25,6 +26,7 @@ use Rattle.qc_event.proofs.Lineage.{neither, IsFresh, fresh_child, dead_child, a
 use Rattle.qc_event.proofs.Histories.{or_none}
 use Rattle.qc_gather.specs.Carrying.{IsRunning}
 use Rattle.qc_interp.specs.Running.{ManagerFits}
+use Rattle.qc_interp.specs.Client.{Client}
 use Rattle.qc_interp.specs.Trace.{Now, by_client, begun, returned, still_dead}
 use Rattle.qc_interp.proofs.Running.{Running, Ran}
 use Rattle.qc_interp.proofs.BelowNames.{above_child, begins_child, begins_last, not_within_child, no_child_length}
@@ -33,38 +35,37 @@ use Rattle.qc_interp.proofs.ReadyTops.{unstarted_unready}
 use Rattle.qc_interp.proofs.Fallen.{dead_calm, left_dead, left_dead_parent}
 use Rattle.qc_interp.proofs.NextAllowed.{may_start_child}
 use Rattle.qc_interp.proofs.RunEnds.{was_none}
-use Rattle.qc_event.specs.Seats.{client_seat}
 use Rattle.qc_interp.specs.Tries.{is_tried_again}
 
 -- THE START
 
 -- what is known of a name that has just been started
-pub record JustBegun (setting : Setting) (n : Name) (k : Kind) (past : Past) : Type 0 where
+pub record JustBegun (setting : Setting) (seat : ℕ) (n : Name) (k : Kind) (past : Past) : Type 0 where
   pub legal : Legal setting past
-  pub begun : start past n ≡ Some (record { seat = client_seat; kind = k })
+  pub begun : start past n ≡ Some (record { seat = seat; kind = k })
   pub not_ended : end past n ≡ None
   pub alive : dead past n ≡ None
   pub unready : is_ready past n ≡ false
   pub childless : children past n ≡ []
   pub open_above : (m : Name) → is_some (start past m) ≡ true → end past m ≡ None → (r : Name) × (n ≡ m ++ r)
 
-pub just_begun : (setting : Setting) (n : Name) (k : Kind) (past : Past) → Legal setting past → Allowed setting past (by_client (Start n k)) → IsFresh past n → dead past n ≡ None → ((m : Name) → is_some (start past m) ≡ true → end past m ≡ None → (r : Name) × (n ≡ m ++ r)) → JustBegun setting n k (by_client (Start n k) ∷ past)
-just_begun setting n k past legal allowed fresh alive open_above = record {
+pub just_begun : (setting : Setting) (seat : ℕ) (n : Name) (k : Kind) (past : Past) → Legal setting past → Allowed setting past (by_client seat (Start n k)) → IsFresh past n → dead past n ≡ None → ((m : Name) → is_some (start past m) ≡ true → end past m ≡ None → (r : Name) × (n ≡ m ++ r)) → JustBegun setting seat n k (by_client seat (Start n k) ∷ past)
+just_begun setting seat n k past legal allowed fresh alive open_above = record {
   legal = (legal, allowed);
-  begun = ap (λ o. option_or o (start_in n client_seat (Start n k))) fresh.no_start ∙ ap (λ b. if b then Some (record { seat = client_seat; kind = k }) else None) (same_itself n);
+  begun = ap (λ o. option_or o (start_in n seat (Start n k))) fresh.no_start ∙ ap (λ b. if b then Some (record { seat = seat; kind = k }) else None) (same_itself n);
   not_ended = ap (λ o. option_or o None) fresh.no_end;
-  alive = dead_calm (by_client (Start n k)) past n tt ∙ alive;
+  alive = dead_calm (by_client seat (Start n k)) past n tt ∙ alive;
   unready = ap is_some (sym (or_none _)) ∙ unstarted_unready setting past n legal fresh.no_start;
   childless = ap (λ cs. cs ++ option_to_list (if is_child n n then Some n else None)) fresh.no_children ∙ ap (λ b. option_to_list (if b then Some n else None)) (no_child_length n n (λ e. omega (arith, e)));
-  open_above = λ m began going. elim (start_step (by_client (Start n k)) past m began) [
+  open_above = λ m began going. elim (start_step (by_client seat (Start n k)) past m began) [
     | inl old ↦ open_above m old (was_none (end past m) None going)
     | inr new ↦ let is : n ≡ m = let e = new.1.1 in cc in ([], is ∙ sym (append-nil m))
   ];
 }
 
 -- what has just begun runs, as a manager does
-pub begun_runs : (setting : Setting) (n : Name) (k : Kind) (past : Past) → JustBegun setting n k past → IsRunning client_seat past n k
-begun_runs setting n k past b = record { started = b.begun; not_ended = b.not_ended; children_ended = ap (find (λ c. is_none (end past c))) b.childless }
+pub begun_runs : (setting : Setting) (seat : ℕ) (n : Name) (k : Kind) (past : Past) → JustBegun setting seat n k past → IsRunning seat past n k
+begun_runs setting seat n k past b = record { started = b.begun; not_ended = b.not_ended; children_ended = ap (find (λ c. is_none (end past c))) b.childless }
 
 -- what is known of a name above one that runs
 pub record Over (past : Past) (p : Name) : Type 0 where
@@ -74,14 +75,15 @@ pub record Over (past : Past) (p : Name) : Type 0 where
   pub untried : is_tried_again (end past p) ≡ false
 
 -- a user transaction runs once it is started
-pub runs_begun : (n : Name) (number : ℕ) (now : Now) → 0 < length n → now.dead ≡ None → JustBegun now.setting n (kind.User 0 number) (begun n number now).past → ((p r : Name) → n ≡ p ++ r → (p ≡ n) ⊎ Over now.past p) → Running n 1 (begun n number now)
-runs_begun n number now pos living b over = record {
+pub runs_begun : (n : Name) (number : ℕ) (now : Now) → IsTrue (is_client now.client.seat) → 0 < length n → now.dead ≡ None → JustBegun now.setting now.client.seat n (kind.User now.client.session number) (begun n number now).past → ((p r : Name) → n ≡ p ++ r → (p ≡ n) ⊎ Over now.past p) → Running n 1 (begun n number now)
+runs_begun n number now client pos living b over = record {
   legal = b.legal;
   fallen = living ∙ sym b.alive;
+  seated = client;
   nonroot = pos;
   user = λ p r is some. elim (over p r is) [
     | inl itself ↦ subst (λ m. Started (begun n number now).past m (λ b. IsUser b.kind)) (sym itself) user
-    | inr above ↦ started_stays (by_client (Start n (kind.User 0 number))) now.past p _ (above.user some)
+    | inr above ↦ started_stays (by_client now.client.seat (Start n (kind.User now.client.session number))) now.past p _ (above.user some)
   ];
   uncommitted = λ p r is. elim (over p r is) [
     | inl itself ↦ ap (λ m. is_committed (outcome (begun n number now).past m)) itself ∙ ap (λ o. is_committed (outcome_of o)) b.not_ended
@@ -120,34 +122,34 @@ is_going of k now h alive =
 pub next_fresh : (of r : Name) (k : ℕ) (now : Now) → Running of k now → IsFresh now.past (of ++ k ∷ r)
 next_fresh of r k now h = fresh_child now.past of k r (lawful now.past (legal_orderly now.setting now.past h.legal)) h.nonroot (omega (arith, h.next))
 
--- The kind may stand under a user transaction, at this depth.
-abbrev pub MayStandAt : Setting → ℕ → Kind → Type 0
-MayStandAt setting depth k = (b : Begun) → IsUser b.kind → Stands setting client_seat b depth k
+-- The kind may stand under a user transaction, started under a seat, at this depth.
+abbrev pub MayStandAt : Setting → ℕ → ℕ → Kind → Type 0
+MayStandAt setting seat depth k = (b : Begun) → IsUser b.kind → Stands setting seat b depth k
 
-pub user_stands : (setting : Setting) (of : Name) (k number : ℕ) → length of < 16 → MayStandAt setting (length (of ++ k ∷ [])) (kind.User 0 number)
-user_stands setting of k number shallow b is = (is, le-leb (length (of ++ k ∷ [])) 16 (omega (arith, length_last of k)))
+pub user_stands : (setting : Setting) (seat : ℕ) (of : Name) (k session number : ℕ) → length of < 16 → MayStandAt setting seat (length (of ++ k ∷ [])) (kind.User session number)
+user_stands setting seat of k session number shallow b is = (is, le-leb (length (of ++ k ∷ [])) 16 (omega (arith, length_last of k)))
 
 below_is : (a b : ℕ) → a < b → nat_lt a b ≡ true
 below_is a b h = grind (arith, nat_tests)
 
 -- a manager that can run may stand there
-pub manager_stands : (setting : Setting) (depth : ℕ) (k : Kind) → ManagerFits setting k → MayStandAt setting depth k
-manager_stands setting depth (kind.User session body) fits b is = absurd fits
-manager_stands setting depth (kind.Read rec) fits b is = (is, below_is rec (length setting.firsts) fits)
-manager_stands setting depth (kind.Write rec value) fits b is = (is, below_is rec (length setting.firsts) fits)
-manager_stands setting depth (kind.Reconf rec config) fits b is = (is, below_is rec (length setting.firsts) fits.0, fits.1.for_copies, fits.1.legal)
-manager_stands setting depth kind.Access fits b is = absurd fits
+pub manager_stands : (setting : Setting) (seat depth : ℕ) (k : Kind) → ManagerFits setting k → MayStandAt setting seat depth k
+manager_stands setting seat depth (kind.User session body) fits b is = absurd fits
+manager_stands setting seat depth (kind.Read rec) fits b is = (is, below_is rec (length setting.firsts) fits)
+manager_stands setting seat depth (kind.Write rec value) fits b is = (is, below_is rec (length setting.firsts) fits)
+manager_stands setting seat depth (kind.Reconf rec config) fits b is = (is, below_is rec (length setting.firsts) fits.0, fits.1.for_copies, fits.1.legal)
+manager_stands setting seat depth kind.Access fits b is = absurd fits
 
 -- the next child may start
-pub may_start : (of : Name) (k : ℕ) (of_kind : Kind) (now : Now) → Running of k now → now.dead ≡ None → MayStandAt now.setting (length (of ++ k ∷ [])) of_kind → Allowed now.setting now.past (by_client (Start (of ++ k ∷ []) of_kind))
+pub may_start : (of : Name) (k : ℕ) (of_kind : Kind) (now : Now) → Running of k now → now.dead ≡ None → MayStandAt now.setting now.client.seat (length (of ++ k ∷ [])) of_kind → Allowed now.setting now.past (by_client now.client.seat (Start (of ++ k ∷ []) of_kind))
 may_start of k of_kind now h alive stands =
-    may_start_child now.setting now.past of k of_kind h.nonroot (is_going of k now h alive) (h.unready of [] (sym (append-nil of))) h.next
-    (started_wider (λ b. IsUser b.kind) (λ b. Stands now.setting client_seat b (length (of ++ k ∷ [])) of_kind) (start now.past of) stands (h.user of [] (sym (append-nil of)) h.nonroot))
+    may_start_child now.setting now.client.seat now.past of k of_kind h.seated h.nonroot (is_going of k now h alive) (h.unready of [] (sym (append-nil of))) h.next
+    (started_wider (λ b. IsUser b.kind) (λ b. Stands now.setting now.client.seat b (length (of ++ k ∷ [])) of_kind) (start now.past of) stands (h.user of [] (sym (append-nil of)) h.nonroot))
 
 -- what is known of it then
-pub begun_so : (of : Name) (k : ℕ) (of_kind : Kind) (now : Now) → Running of k now → now.dead ≡ None → Allowed now.setting now.past (by_client (Start (of ++ k ∷ []) of_kind)) → JustBegun now.setting (of ++ k ∷ []) of_kind (by_client (Start (of ++ k ∷ []) of_kind) ∷ now.past)
+pub begun_so : (of : Name) (k : ℕ) (of_kind : Kind) (now : Now) → Running of k now → now.dead ≡ None → Allowed now.setting now.past (by_client now.client.seat (Start (of ++ k ∷ []) of_kind)) → JustBegun now.setting now.client.seat (of ++ k ∷ []) of_kind (by_client now.client.seat (Start (of ++ k ∷ []) of_kind) ∷ now.past)
 begun_so of k of_kind now h alive allowed =
-    just_begun now.setting (of ++ k ∷ []) of_kind now.past h.legal allowed fresh living
+    just_begun now.setting now.client.seat (of ++ k ∷ []) of_kind now.past h.legal allowed fresh living
     (λ m began going. let over = h.open_above m began going in (over.0 ++ k ∷ [], begins_child of m over.0 k over.1))
   where
     going : IsGoing now.past of
@@ -159,13 +161,13 @@ begun_so of k of_kind now h alive allowed =
     living : dead now.past (of ++ k ∷ []) ≡ None
     living = dead_child now.past of k going.alive ∙ ap (λ o. if is_aborted (outcome_of o) then Some (of ++ k ∷ []) else None) fresh.no_end
 
-pub child_begun : (of : Name) (k : ℕ) (of_kind : Kind) (now : Now) → Running of k now → now.dead ≡ None → MayStandAt now.setting (length (of ++ k ∷ [])) of_kind → JustBegun now.setting (of ++ k ∷ []) of_kind (by_client (Start (of ++ k ∷ []) of_kind) ∷ now.past)
+pub child_begun : (of : Name) (k : ℕ) (of_kind : Kind) (now : Now) → Running of k now → now.dead ≡ None → MayStandAt now.setting now.client.seat (length (of ++ k ∷ [])) of_kind → JustBegun now.setting now.client.seat (of ++ k ∷ []) of_kind (by_client now.client.seat (Start (of ++ k ∷ []) of_kind) ∷ now.past)
 child_begun of k of_kind now h alive stands = begun_so of k of_kind now h alive (may_start of k of_kind now h alive stands)
 
 pub run_begun : (of : Name) (k number : ℕ) (now : Now) → Running of k now → now.dead ≡ None → length of < 16 → Running (of ++ k ∷ []) 1 (begun (of ++ k ∷ []) number now)
 run_begun of k number now h alive shallow =
-    runs_begun (of ++ k ∷ []) number now (omega (arith, length_last of k)) alive
-    (child_begun of k (kind.User 0 number) now h alive (user_stands now.setting of k number shallow))
+    runs_begun (of ++ k ∷ []) number now h.seated (omega (arith, length_last of k)) alive
+    (child_begun of k (kind.User now.client.session number) now h alive (user_stands now.setting now.client.seat of k now.client.session number shallow))
     (λ p r is. elim (begins_last of p r k is) [
       | inl itself ↦ inl itself
       | inr (s, over) ↦ inr (record { user = h.user p s over; uncommitted = h.uncommitted p s over; unready = h.unready p s over; untried = h.untried p s over })
@@ -174,18 +176,19 @@ run_begun of k number now h alive shallow =
 -- THE WAY BACK
 
 -- what runs depends on the parts of a moment
-running_at : (of : Name) (k : ℕ) (set : Setting) (past : Past) (fallen : Option Name) (new : Now) → new.setting ≡ set → new.past ≡ past → new.dead ≡ fallen → Running of k (record { setting = set; past = past; dead = fallen; net = new.net }) → Running of k new
+running_at : (of : Name) (k : ℕ) (set : Setting) (past : Past) (fallen : Option Name) (new : Now) → new.setting ≡ set → new.past ≡ past → new.dead ≡ fallen → Running of k (record { setting = set; past = past; dead = fallen; client = new.client }) → Running of k new
 running_at of k set past fallen new same is falls h =
-    subst (λ x. Running of k (record { setting = x; past = new.past; dead = new.dead; net = new.net })) (sym same)
-    (subst (λ p. Running of k (record { setting = set; past = p; dead = new.dead; net = new.net })) (sym is)
-    (subst (λ o. Running of k (record { setting = set; past = past; dead = o; net = new.net })) (sym falls) h))
+    subst (λ x. Running of k (record { setting = x; past = new.past; dead = new.dead; client = new.client })) (sym same)
+    (subst (λ p. Running of k (record { setting = set; past = p; dead = new.dead; client = new.client })) (sym is)
+    (subst (λ o. Running of k (record { setting = set; past = past; dead = o; client = new.client })) (sym falls) h))
 
 -- once a child has ended, its parent goes on, dead where the history says so
-pub child_left : (of : Name) (k : ℕ) (of_kind : Kind) (now inner new : Now) → Running of k now → Ran (of ++ k ∷ []) (record now { past = by_client (Start (of ++ k ∷ []) of_kind) ∷ now.past }) inner → new.setting ≡ inner.setting → new.past ≡ inner.past → new.dead ≡ dead inner.past of → Running of (k + 1) new
-child_left of k of_kind now inner new h r same is falls =
+pub child_left : (of : Name) (k : ℕ) (of_kind : Kind) (now inner new : Now) → Running of k now → Ran (of ++ k ∷ []) (record now { past = by_client now.client.seat (Start (of ++ k ∷ []) of_kind) ∷ now.past }) inner → new.setting ≡ inner.setting → new.client ≡ inner.client → new.past ≡ inner.past → new.dead ≡ dead inner.past of → Running of (k + 1) new
+child_left of k of_kind now inner new h r same tied is falls =
     running_at of (k + 1) now.setting whole (dead whole of) new (same ∙ r.same_setting) (is ∙ r.is) (falls ∙ ap (λ p. dead p of) r.is) (record {
       legal = subst (λ s. Legal s whole) r.same_setting (subst (Legal inner.setting) r.is r.legal);
       fallen = refl;
+      seated = subst (λ (c : Client). IsTrue (is_client c.seat)) (sym (tied ∙ r.same_client)) h.seated;
       nonroot = h.nonroot;
       user = λ p s is some. started_left p r.later with_child _ (started_stays e now.past p _ (h.user p s is some));
       uncommitted = λ p s is. uncommitted_left (of ++ k ∷ []) p r.later with_child r.inside (not_within_child of p s k is) (ap (λ o. is_committed (outcome_of o)) (sym (or_none (end now.past p))) ∙ h.uncommitted p s is);
@@ -196,7 +199,7 @@ child_left of k of_kind now inner new h r same is falls =
     })
   where
     e : Entry
-    e = by_client (Start (of ++ k ∷ []) of_kind)
+    e = by_client now.client.seat (Start (of ++ k ∷ []) of_kind)
 
     with_child : Past
     with_child = e ∷ now.past
@@ -233,17 +236,17 @@ returned_dead depth now = by_dead now.dead refl
     by_dead None is = is
     by_dead (Some a) is = refl
 
-pub returned_net : (depth : ℕ) (now : Now) → (returned depth now).net ≡ now.net
-returned_net depth now = by_dead now.dead
+pub returned_client : (depth : ℕ) (now : Now) → (returned depth now).client ≡ now.client
+returned_client depth now = by_dead now.dead
   where
-    by_dead : (o : Option Name) → (returned_by depth now o).net ≡ now.net
+    by_dead : (o : Option Name) → (returned_by depth now o).client ≡ now.client
     by_dead None = refl
     by_dead (Some a) = refl
 
 -- a transaction goes on after a child that is a user transaction
 pub run_back : (of : Name) (k number : ℕ) (now left : Now) → Running of k now → Ran (of ++ k ∷ []) (begun (of ++ k ∷ []) number now) left → Running of (k + 1) (returned (length of) left)
 run_back of k number now left h r =
-    child_left of k (kind.User 0 number) now left (returned (length of) left) h r (returned_setting (length of) left) (returned_past (length of) left)
+    child_left of k (kind.User now.client.session number) now left (returned (length of) left) h r (returned_setting (length of) left) (returned_client (length of) left) (returned_past (length of) left)
     (returned_dead (length of) left ∙ ap (left_dead (length of)) r.fallen ∙ left_dead_parent left.past of k)
 
 -- and where the child is tried again, nothing above it is aborted

@@ -21,7 +21,6 @@ use Rattle.qc_interp.proofs.NextAllowed.{no_child_found, may_commit_user}
 use Rattle.qc_interp.proofs.RunEnds.{was_none, some_now, ran_ended, ran_longer}
 use Rattle.qc_interp.proofs.RunChild.{is_going}
 use Rattle.qc_interp.specs.Running.{MayMake}
-use Rattle.qc_event.specs.Seats.{client_seat}
 use Rattle.qc_interp.proofs.Making.{user_no_access, ends_so}
 
 -- no child of a transaction that runs is open
@@ -41,51 +40,51 @@ module _ (of : Name) (k : ℕ) (now : Now) (h : Running of k now) (alive : now.d
 
   -- BELOW A TOP
 
-  may_below : MayCommitUser now.past client_seat of Nothing
-  may_below = record { by_client = refl; going = going; children_ended = none_open of k now h; nothing = refl }
+  may_below : MayCommitUser now.past now.client.seat of Nothing
+  may_below = record { by_client = h.seated; going = going; children_ended = none_open of k now h; nothing = refl }
 
-  commits_below : Allowed now.setting now.past (by_client (End of (Commit Nothing))) → Ran of now (record { setting = now.setting; past = by_client (End of (Commit Nothing)) ∷ now.past; dead = now.dead; net = now.net })
+  commits_below : Allowed now.setting now.past (by_client now.client.seat (End of (Commit Nothing))) → Ran of now (record { setting = now.setting; past = by_client now.client.seat (End of (Commit Nothing)) ∷ now.past; dead = now.dead; client = now.client })
   commits_below allowed =
-      ran_ended of client_seat (Commit Nothing) now.dead now h.legal allowed h.open_above
-      (h.fallen ∙ sym (dead_calm (by_client (End of (Commit Nothing))) now.past of tt)) going.is_open.not_ended (λ again. absurd (true≢false (sym again)))
+      ran_ended of now.client.seat (Commit Nothing) now.dead now h.legal allowed h.open_above
+      (h.fallen ∙ sym (dead_calm (by_client now.client.seat (End of (Commit Nothing))) now.past of tt)) going.is_open.not_ended (λ again. absurd (true≢false (sym again)))
 
   -- A TOP
 
   abbrev pub readied : Now
-  readied = record now { past = by_client (Ready of) ∷ now.past }
+  readied = record now { past = by_client now.client.seat (Ready of) ∷ now.past }
 
-  pub may_be_ready : length of ≡ 1 → Allowed now.setting now.past (by_client (Ready of))
+  pub may_be_ready : length of ≡ 1 → Allowed now.setting now.past (by_client now.client.seat (Ready of))
   may_be_ready top = record {
-    by_client = refl;
+    by_client = h.seated;
     is_top = top;
     is_open = going.is_open;
     not_ready = ap not (h.unready of [] (sym (append-nil of)));
     children_ended = none_open of k now h;
   }
 
-  still_open : IsOpen (by_client (Ready of) ∷ now.past) of
-  still_open = record { started = start_stays (by_client (Ready of)) now.past of going.is_open.started; not_ended = sym (or_none (end now.past of)) ∙ going.is_open.not_ended }
+  still_open : IsOpen (by_client now.client.seat (Ready of) ∷ now.past) of
+  still_open = record { started = start_stays (by_client now.client.seat (Ready of)) now.past of going.is_open.started; not_ended = sym (or_none (end now.past of)) ∙ going.is_open.not_ended }
 
   top_commits : MayCommitTop readied.past 1 of Nothing
   top_commits = record { ledger = refl; is_open = still_open; ready = some_now _ (same of of) tt (same_itself of); nothing = refl }
 
   top_allowed : MayCommitUserOrTop readied.past 1 of Nothing → Allowed now.setting readied.past (by_ledger (End of (Commit Nothing)))
-  top_allowed may = may_commit_user now.setting readied.past 1 of (started_stays (by_client (Ready of)) now.past of _ user) may
+  top_allowed may = may_commit_user now.setting readied.past 1 of (started_stays (by_client now.client.seat (Ready of)) now.past of _ user) may
 
-  commits_top : length of ≡ 1 → Allowed now.setting readied.past (by_ledger (End of (Commit Nothing))) → Ran of now (record { setting = now.setting; past = by_ledger (End of (Commit Nothing)) ∷ by_client (Ready of) ∷ now.past; dead = now.dead; net = now.net })
-  commits_top top allowed = ran_longer of now readied _ (by_client (Ready of) ∷ []) refl refl refl ((refl, top), tt)
+  commits_top : length of ≡ 1 → Allowed now.setting readied.past (by_ledger (End of (Commit Nothing))) → Ran of now (record { setting = now.setting; past = by_ledger (End of (Commit Nothing)) ∷ by_client now.client.seat (Ready of) ∷ now.past; dead = now.dead; client = now.client })
+  commits_top top allowed = ran_longer of now readied _ (by_client now.client.seat (Ready of) ∷ []) refl refl refl ((refl, top), tt)
       (ran_ended of 1 (Commit Nothing) now.dead readied (h.legal, may_be_ready top) allowed
       (λ m began unended. h.open_above m (ap is_some (or_none (start now.past m)) ∙ began) (was_none (end now.past m) None unended))
-      (h.fallen ∙ sym (dead_calm (by_ledger (End of (Commit Nothing))) readied.past of tt ∙ dead_calm (by_client (Ready of)) now.past of tt)) still_open.not_ended (λ again. absurd (true≢false (sym again))))
+      (h.fallen ∙ sym (dead_calm (by_ledger (End of (Commit Nothing))) readied.past of tt ∙ dead_calm (by_client now.client.seat (Ready of)) now.past of tt)) still_open.not_ended (λ again. absurd (true≢false (sym again))))
 
 -- below a top a transaction that runs may commit
-pub may_commit : (of : Name) (k : ℕ) (now : Now) → Running of k now → now.dead ≡ None → 1 < length of → Allowed now.setting now.past (by_client (End of (Commit Nothing)))
+pub may_commit : (of : Name) (k : ℕ) (now : Now) → Running of k now → now.dead ≡ None → 1 < length of → Allowed now.setting now.past (by_client now.client.seat (End of (Commit Nothing)))
 may_commit [] k now h alive long = absurd (omega (arith, long))
 may_commit (x ∷ []) k now h alive long = absurd (omega (arith, long))
-may_commit (x ∷ y ∷ r) k now h alive long = may_commit_user now.setting now.past client_seat (x ∷ y ∷ r) (user (x ∷ y ∷ r) k now h alive) (may_below (x ∷ y ∷ r) k now h alive)
+may_commit (x ∷ y ∷ r) k now h alive long = may_commit_user now.setting now.past now.client.seat (x ∷ y ∷ r) (user (x ∷ y ∷ r) k now h alive) (may_below (x ∷ y ∷ r) k now h alive)
 
 -- a top that runs may commit, once it is ready
-pub may_commit_top : (of : Name) (k : ℕ) (now : Now) → Running of k now → now.dead ≡ None → length of ≡ 1 → Allowed now.setting (by_client (Ready of) ∷ now.past) (by_ledger (End of (Commit Nothing)))
+pub may_commit_top : (of : Name) (k : ℕ) (now : Now) → Running of k now → now.dead ≡ None → length of ≡ 1 → Allowed now.setting (by_client now.client.seat (Ready of) ∷ now.past) (by_ledger (End of (Commit Nothing)))
 may_commit_top [] k now h alive top = absurd (omega (arith, top))
 may_commit_top (x ∷ []) k now h alive top = top_allowed (x ∷ []) k now h alive (top_commits (x ∷ []) k now h alive)
 may_commit_top (x ∷ y ∷ r) k now h alive top = absurd (omega (arith, top))
@@ -95,8 +94,8 @@ ran_commit [] k now h alive = absurd (omega (arith, h.nonroot))
 ran_commit (x ∷ []) k now h alive = commits_top (x ∷ []) k now h alive refl (may_commit_top (x ∷ []) k now h alive refl)
 ran_commit (x ∷ y ∷ r) k now h alive = commits_below (x ∷ y ∷ r) k now h alive (may_commit (x ∷ y ∷ r) k now h alive (omega arith))
 
-pub may_end_top : (of : Name) (k : ℕ) (now : Now) → Running of k now → now.dead ≡ None → length of ≡ 1 → MayMake (record now { past = by_client (Ready of) ∷ now.past }) (by_ledger (End of (Commit Nothing)))
+pub may_end_top : (of : Name) (k : ℕ) (now : Now) → Running of k now → now.dead ≡ None → length of ≡ 1 → MayMake (record now { past = by_client now.client.seat (Ready of) ∷ now.past }) (by_ledger (End of (Commit Nothing)))
 may_end_top of k now h alive top = record {
   allowed = may_commit_top of k now h alive top;
-  of_transaction = ends_so IsUser user_no_access (by_client (Ready of) ∷ now.past) of (Commit Nothing) (started_stays (by_client (Ready of)) now.past of _ (user of k now h alive));
+  of_transaction = ends_so IsUser user_no_access (by_client now.client.seat (Ready of) ∷ now.past) of (Commit Nothing) (started_stays (by_client now.client.seat (Ready of)) now.past of _ (user of k now h alive));
 }

@@ -23,18 +23,17 @@ use Rattle.qc_interp.proofs.BelowNames.{begins_below}
 use Rattle.qc_interp.proofs.LeftAsItIs.{all_inside-append}
 use Rattle.qc_interp.proofs.Fallen.{dead_abort}
 use Rattle.qc_interp.proofs.NextAllowed.{may_abort_user}
-use Rattle.qc_event.specs.Seats.{client_seat}
 use Rattle.qc_interp.specs.Tries.{is_tried_again}
 
 -- what a transaction leaves that ran from later on
-pub ran_longer : (of : Name) (old mid new : Now) (more : Past) → mid.setting ≡ old.setting → mid.net ≡ old.net → mid.past ≡ more ++ old.past → AllInside of more → Ran of mid new → Ran of old new
-ran_longer of old mid new more set net is inside r = record {
+pub ran_longer : (of : Name) (old mid new : Now) (more : Past) → mid.setting ≡ old.setting → mid.client ≡ old.client → mid.past ≡ more ++ old.past → AllInside of more → Ran of mid new → Ran of old new
+ran_longer of old mid new more set client is inside r = record {
   legal = r.legal;
   fallen = r.fallen;
   later = r.later ++ more;
   is = r.is ∙ ap (λ p. r.later ++ p) is ∙ sym (append_assoc r.later more old.past);
   same_setting = r.same_setting ∙ set;
-  same_net = r.same_net ∙ net;
+  same_client = r.same_client ∙ client;
   inside = all_inside-append of r.later more r.inside inside;
   has_ended = r.has_ended;
   to_try = r.to_try;
@@ -61,14 +60,14 @@ above_ended past of m ended going over = elim (begins_below of m over.0 over.1) 
 ]
 
 -- a transaction ends, none below which is open
-pub ran_ended : (of : Name) (seat : ℕ) (how : How) (fallen : Option Name) (now : Now) → Legal now.setting now.past → Allowed now.setting now.past (record { seat = seat; event = End of how }) → ((n : Name) → is_some (start now.past n) ≡ true → end now.past n ≡ None → (r : Name) × (of ≡ n ++ r)) → fallen ≡ dead (record { seat = seat; event = End of how } ∷ now.past) of → end now.past of ≡ None → (is_tried_again (Some how) ≡ true → fallen ≡ Some of) → Ran of now (record { setting = now.setting; past = record { seat = seat; event = End of how } ∷ now.past; dead = fallen; net = now.net })
+pub ran_ended : (of : Name) (seat : ℕ) (how : How) (fallen : Option Name) (now : Now) → Legal now.setting now.past → Allowed now.setting now.past (record { seat = seat; event = End of how }) → ((n : Name) → is_some (start now.past n) ≡ true → end now.past n ≡ None → (r : Name) × (of ≡ n ++ r)) → fallen ≡ dead (record { seat = seat; event = End of how } ∷ now.past) of → end now.past of ≡ None → (is_tried_again (Some how) ≡ true → fallen ≡ Some of) → Ran of now (record { setting = now.setting; past = record { seat = seat; event = End of how } ∷ now.past; dead = fallen; client = now.client })
 ran_ended of seat how fallen now legal allowed open_above falls going again = record {
   legal = (legal, allowed);
   fallen = falls;
   later = e ∷ [];
   is = refl;
   same_setting = refl;
-  same_net = refl;
+  same_client = refl;
   inside = (end_inside of how, tt);
   has_ended = ended;
   to_try = λ t. again (ap is_tried_again (sym ends_so) ∙ t);
@@ -85,22 +84,22 @@ ran_ended of seat how fallen now legal allowed open_above falls going again = re
     ends_so = ap (λ o. option_or o (if same of of then Some how else None)) going ∙ ap (λ b. if b then Some how else None) (same_itself of)
 
 -- what runs, and each one above it but the root, may be aborted for a cause that holds, where it has not ended
-pub may_abort : (of m r : Name) (k : ℕ) (cause : Cause) (now : Now) → Running of k now → of ≡ m ++ r → 0 < length m → end now.past m ≡ None → ((session : ℕ) → UserCause now.past m session cause) → Allowed now.setting now.past (by_client (End m (Abort cause)))
+pub may_abort : (of m r : Name) (k : ℕ) (cause : Cause) (now : Now) → Running of k now → of ≡ m ++ r → 0 < length m → end now.past m ≡ None → ((session : ℕ) → UserCause now.past m session cause) → Allowed now.setting now.past (by_client now.client.seat (End m (Abort cause)))
 may_abort of m r k cause now h is pos going license =
     let user : Started now.past m (λ b. IsUser b.kind) = h.user m r is pos in
-    may_abort_user now.setting now.past m cause user (record { started = started_some _ (start now.past m) user; not_ended = going }) (h.unready m r is) license
+    may_abort_user now.setting now.client.seat now.past m cause h.seated user (record { started = started_some _ (start now.past m) user; not_ended = going }) (h.unready m r is) license
 
 -- a transaction that runs is aborted, for a cause that holds unless it has ended; it is tried again only where it was
 -- not dead
 pub ran_aborted : (of : Name) (k : ℕ) (cause : Cause) (now : Now) → Running of k now → (is_tried_again (Some (Abort cause)) ≡ true → now.dead ≡ None) → (end now.past of ≡ None → (session : ℕ) → UserCause now.past of session cause) → Ran of now (aborted of cause now)
 ran_aborted of k cause now h alive license = by_end (end now.past of) refl
   where
-    by_end : (o : Option How) → end now.past of ≡ o → Ran of now (if is_some o then now else record now { past = by_client (End of (Abort cause)) ∷ now.past; dead = Some (shorter now.dead of) })
+    by_end : (o : Option How) → end now.past of ≡ o → Ran of now (if is_some o then now else record now { past = by_client now.client.seat (End of (Abort cause)) ∷ now.past; dead = Some (shorter now.dead of) })
     by_end None going =
-        ran_ended of client_seat (Abort cause) (Some (shorter now.dead of)) now h.legal
+        ran_ended of now.client.seat (Abort cause) (Some (shorter now.dead of)) now h.legal
         (may_abort of of [] k cause now h (sym (append-nil of)) h.nonroot going (license going))
         h.open_above
-        (ap (λ o. Some (shorter o of)) h.fallen ∙ sym (dead_abort client_seat now.past of of [] cause (sym (append-nil of)) going))
+        (ap (λ o. Some (shorter o of)) h.fallen ∙ sym (dead_abort now.client.seat now.past of of [] cause (sym (append-nil of)) going))
         going (λ t. ap (λ o. Some (shorter o of)) (alive t))
     by_end (Some how) is = record {
       legal = h.legal;
@@ -108,7 +107,7 @@ ran_aborted of k cause now h alive license = by_end (end now.past of) refl
       later = [];
       is = refl;
       same_setting = refl;
-      same_net = refl;
+      same_client = refl;
       inside = tt;
       has_ended = ap is_some is;
       to_try = λ t. absurd (true≢false (sym t ∙ h.untried of [] (sym (append-nil of))));
@@ -121,7 +120,7 @@ pub record RunsOn (of m : Name) (k : ℕ) (old new : Now) : Type 0 where
   pub more : Past
   pub is : new.past ≡ more ++ old.past
   pub same_setting : new.setting ≡ old.setting
-  pub same_net : new.net ≡ old.net
+  pub same_client : new.client ≡ old.client
   pub inside : AllInside of more
   pub has_ended : is_some (end new.past m) ≡ true
 
@@ -133,7 +132,7 @@ above_aborted of m k cause now h below pos never license = by_end (end now.past 
     rest = below.0 ∷ below.1
 
     e : Entry
-    e = by_client (End m (Abort cause))
+    e = by_client now.client.seat (End m (Abort cause))
 
     not_committed : (o : Option How) (b : Bool) → is_committed (outcome_of o) ≡ false → is_committed (outcome_of (option_or o (if b then Some (Abort cause) else None))) ≡ false
     not_committed (Some how) b t = t
@@ -145,10 +144,11 @@ above_aborted of m k cause now h below pos never license = by_end (end now.past 
     not_tried None true t = never
     not_tried None false t = refl
 
-    running : end now.past m ≡ None → Running of k (record { setting = now.setting; past = by_client (End m (Abort cause)) ∷ now.past; dead = Some (shorter now.dead m); net = now.net })
+    running : end now.past m ≡ None → Running of k (record { setting = now.setting; past = by_client now.client.seat (End m (Abort cause)) ∷ now.past; dead = Some (shorter now.dead m); client = now.client })
     running going = record {
       legal = (h.legal, may_abort of m rest k cause now h below.2 pos going license);
-      fallen = ap (λ o. Some (shorter o m)) h.fallen ∙ sym (dead_abort client_seat now.past of m rest cause below.2 going);
+      fallen = ap (λ o. Some (shorter o m)) h.fallen ∙ sym (dead_abort now.client.seat now.past of m rest cause below.2 going);
+      seated = h.seated;
       nonroot = h.nonroot;
       user = λ p r is some. started_stays e now.past p _ (h.user p r is some);
       uncommitted = λ p r is. not_committed (end now.past p) (same m p) (h.uncommitted p r is);
@@ -158,14 +158,14 @@ above_aborted of m k cause now h below pos never license = by_end (end now.past 
       open_above = λ n began unended. h.open_above n (ap is_some (or_none (start now.past n)) ∙ began) (was_none (end now.past n) (end_in n (End m (Abort cause))) unended);
     }
 
-    by_end : (o : Option How) → end now.past m ≡ o → RunsOn of m k now (if is_some o then now else record now { past = by_client (End m (Abort cause)) ∷ now.past; dead = Some (shorter now.dead m) })
+    by_end : (o : Option How) → end now.past m ≡ o → RunsOn of m k now (if is_some o then now else record now { past = by_client now.client.seat (End m (Abort cause)) ∷ now.past; dead = Some (shorter now.dead m) })
     by_end None going = record {
       running = running going;
       more = e ∷ [];
       is = refl;
       same_setting = refl;
-      same_net = refl;
+      same_client = refl;
       inside = (inr (inr (below, pos, never)), tt);
       has_ended = some_now (end now.past m) (same m m) (Abort cause) (same_itself m);
     }
-    by_end (Some how) is = record { running = h; more = []; is = refl; same_setting = refl; same_net = refl; inside = tt; has_ended = ap is_some is }
+    by_end (Some how) is = record { running = h; more = []; is = refl; same_setting = refl; same_client = refl; inside = tt; has_ended = ap is_some is }

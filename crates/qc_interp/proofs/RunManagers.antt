@@ -34,7 +34,6 @@ use Rattle.qc_interp.proofs.OfAccesses.{open_earlier, dead_same, start_apart}
 use Rattle.qc_interp.proofs.RunChild.{is_going, child_left}
 use Rattle.qc_interp.proofs.RunEnds.{end_inside, some_now, above_ended, may_abort, ran_longer, ran_aborted}
 use Rattle.qc_interp.proofs.WithinManager.{just, within, started_within, ends_above, no_orphan_within}
-use Rattle.qc_event.specs.Seats.{client_seat}
 use Rattle.qc_interp.specs.Tries.{is_tried_again}
 
 -- BY KIND AND CAUSE
@@ -65,13 +64,13 @@ module _ (of : Name) (k : ℕ) (kd : Kind) (how : How) (now mid : Now) (h : Runn
   n = of ++ k ∷ []
 
   abbrev first : Past
-  first = by_client (Start n kd) ∷ now.past
+  first = by_client now.client.seat (Start n kd) ∷ now.past
 
   abbrev before : Past
   before = m.inner ++ first
 
   abbrev e : Entry
-  e = by_client (End n how)
+  e = by_client now.client.seat (End n how)
 
   legal : Legal now.setting (e ∷ before)
   legal = subst (λ s. Legal s (e ∷ before)) m.same_setting (subst (Legal mid.setting) m.is m.legal)
@@ -106,7 +105,7 @@ module _ (of : Name) (k : ℕ) (kd : Kind) (how : How) (now mid : Now) (h : Runn
   ]
 
   abbrev left : Now
-  left = record { setting = now.setting; past = e ∷ before; dead = dead (e ∷ before) n; net = now.net }
+  left = record { setting = now.setting; past = e ∷ before; dead = dead (e ∷ before) n; client = now.client }
 
   manager_ran : Ran n (record now { past = first }) left
   manager_ran = record {
@@ -115,7 +114,7 @@ module _ (of : Name) (k : ℕ) (kd : Kind) (how : How) (now mid : Now) (h : Runn
     later = e ∷ m.inner;
     is = refl;
     same_setting = refl;
-    same_net = refl;
+    same_client = refl;
     inside = inside;
     has_ended = has_ended;
     to_try = λ again. dead_child (e ∷ before) of k parent_lives ∙ ap (λ b. if b then Some n else None) (tried_aborted (end (e ∷ before) n) again);
@@ -124,7 +123,7 @@ module _ (of : Name) (k : ℕ) (kd : Kind) (how : How) (now mid : Now) (h : Runn
 
   -- after a manager its parent goes on
   pub managed_running : Running of (k + 1) mid
-  managed_running = child_left of k kd now left mid h manager_ran m.same_setting m.is (m.same_dead ∙ alive ∙ sym parent_lives)
+  managed_running = child_left of k kd now left mid h manager_ran m.same_setting m.same_client m.is (m.same_dead ∙ alive ∙ sym parent_lives)
 
   pub managed_alive : mid.dead ≡ None
   managed_alive = m.same_dead ∙ alive
@@ -132,14 +131,14 @@ module _ (of : Name) (k : ℕ) (kd : Kind) (how : How) (now mid : Now) (h : Runn
   -- what a transaction leaves that ran on after a manager, it leaves from before the manager on
   pub managed_longer : (new : Now) → Ran of mid new → Ran of now new
   managed_longer new r =
-      ran_longer of now mid new ((e ∷ m.inner) ++ by_client (Start n kd) ∷ []) m.same_setting m.same_net
-      (m.is ∙ sym (append_assoc (e ∷ m.inner) (by_client (Start n kd) ∷ []) now.past))
-      (all_inside-append of (e ∷ m.inner) (by_client (Start n kd) ∷ []) (all_inside_parent of k (e ∷ m.inner) h.nonroot inside) ((k, [], refl), tt)) r
+      ran_longer of now mid new ((e ∷ m.inner) ++ by_client now.client.seat (Start n kd) ∷ []) m.same_setting m.same_client
+      (m.is ∙ sym (append_assoc (e ∷ m.inner) (by_client now.client.seat (Start n kd) ∷ []) now.past))
+      (all_inside-append of (e ∷ m.inner) (by_client now.client.seat (Start n kd) ∷ []) (all_inside_parent of k (e ∷ m.inner) h.nonroot inside) ((k, [], refl), tt)) r
 
   ended_so : end (e ∷ before) n ≡ Some how
   ended_so = ap (λ o. option_or o (if same n n then Some how else None)) going ∙ ap (λ b. if b then Some how else None) (same_itself n)
 
-  started_so : start (e ∷ before) n ≡ Some (record { seat = client_seat; kind = kd })
+  started_so : start (e ∷ before) n ≡ Some (record { seat = now.client.seat; kind = kd })
   started_so = sym (or_none (start before n)) ∙ started_within of k kd now h alive manages m.inner legal.0 m.of_accesses
 
   child_aborted : (why : Cause) → how ≡ Abort why → ChildAborted mid.past of why
@@ -152,10 +151,10 @@ module _ (of : Name) (k : ℕ) (kd : Kind) (how : How) (now mid : Now) (h : Runn
 
   license : (why : Cause) → how ≡ Abort why → ManagerCause now.setting before n kd why
   license why is =
-      let ends : Started before n (MayEnd now.setting before client_seat n (Abort why)) = subst (λ x. Started before n (MayEnd now.setting before client_seat n x)) is legal.1 in
-      let may : MayAbort (Licensed now.setting before client_seat n (record { seat = client_seat; kind = kd }) kd why) before client_seat n =
-      subst (λ o. MatchOption o ⊥ (MayEnd now.setting before client_seat n (Abort why))) (started_within of k kd now h alive manages m.inner legal.0 m.of_accesses) ends in
-      licensed_manager now.setting before client_seat n (record { seat = client_seat; kind = kd }) kd why manages may.licensed
+      let ends : Started before n (MayEnd now.setting before now.client.seat n (Abort why)) = subst (λ x. Started before n (MayEnd now.setting before now.client.seat n x)) is legal.1 in
+      let may : MayAbort (Licensed now.setting before now.client.seat n (record { seat = now.client.seat; kind = kd }) kd why) before now.client.seat n =
+      subst (λ o. MatchOption o ⊥ (MayEnd now.setting before now.client.seat n (Abort why))) (started_within of k kd now h alive manages m.inner legal.0 m.of_accesses) ends in
+      licensed_manager now.setting before now.client.seat n (record { seat = now.client.seat; kind = kd }) kd why manages may.licensed
 
   -- WHERE IT WAS ABORTED
 
@@ -171,7 +170,7 @@ module _ (of : Name) (k : ℕ) (kd : Kind) (how : How) (now mid : Now) (h : Runn
   managed_going = (is_going of (k + 1) mid managed_running managed_alive).is_open.not_ended
 
   -- and may be aborted with the same cause
-  pub may_abort_after : (why : Cause) → how ≡ Abort why → Allowed mid.setting mid.past (by_client (End of (Abort why)))
+  pub may_abort_after : (why : Cause) → how ≡ Abort why → Allowed mid.setting mid.past (by_client mid.client.seat (End of (Abort why)))
   may_abort_after why is = may_abort of of [] (k + 1) why mid managed_running (sym (append-nil of)) h.nonroot managed_going (managed_cause why is)
 
   pub ran_after_abort : (why : Cause) → how ≡ Abort why → Ran of now (aborted of why mid)

@@ -41,7 +41,7 @@ pub record Ran (of : Name) (old new : Now) : Type 0 where
   pub later : Past
   pub is : new.past ≡ later ++ old.past
   pub same_setting : new.setting ≡ old.setting
-  pub same_net : new.net ≡ old.net
+  pub same_client : new.client ≡ old.client
   pub inside : AllInside of later
   pub has_ended : is_some (end new.past of) ≡ true
   pub to_try : is_tried_again (end new.past of) ≡ true → new.dead ≡ Some of

@@ -17,7 +17,7 @@ use Rattle.qc_interp.proofs.Running.{Running, Ran}
 use Rattle.qc_interp.proofs.Cases.{unless_dead, goes_on, by_try}
 use Rattle.qc_interp.proofs.LeftAsItIs.{all_inside-append, all_inside_parent}
 use Rattle.qc_interp.proofs.RunEnds.{ran_longer}
-use Rattle.qc_interp.proofs.RunChild.{run_begun, run_back, alive_back, returned_past, returned_setting, returned_net}
+use Rattle.qc_interp.proofs.RunChild.{run_begun, run_back, alive_back, returned_past, returned_setting, returned_client}
 use Rattle.qc_interp.proofs.RunCommits.{ran_commit}
 use Rattle.qc_interp.proofs.RunAborts.{ran_orphan, ran_asked}
 use Rattle.qc_interp.proofs.RunManagers.{managed_running, managed_longer, ran_after_abort}
@@ -40,7 +40,7 @@ pub record Tried (of : Name) (k number : ℕ) (now left mid : Now) : Type 0 wher
   pub ran : Ran (child_of of k) (begun (child_of of k) number now) left
   pub is_back : mid.past ≡ left.past
   pub same_setting : mid.setting ≡ now.setting
-  pub same_net : mid.net ≡ now.net
+  pub same_client : mid.client ≡ now.client
   pub running : Running of (k + 1) mid
   pub alive : is_tried_again (end mid.past (child_of of k)) ≡ true → mid.dead ≡ None
 
@@ -49,7 +49,7 @@ try_ran of k number now left mid h back r = record {
   ran = r;
   is_back = past_back;
   same_setting = ap (λ (m : Now). m.setting) back ∙ returned_setting (length of) left ∙ r.same_setting;
-  same_net = ap (λ (m : Now). m.net) back ∙ returned_net (length of) left ∙ r.same_net;
+  same_client = ap (λ (m : Now). m.client) back ∙ returned_client (length of) left ∙ r.same_client;
   running = subst (Running of (k + 1)) (sym back) (run_back of k number now left h r);
   alive = λ again. ap (λ (m : Now). m.dead) back ∙ alive_back of (child_of of k) (begun (child_of of k) number now) left (omega (arith, length_last of k)) r (ap (λ p. is_tried_again (end p (child_of of k))) (sym past_back) ∙ again);
 }
@@ -60,12 +60,12 @@ try_ran of k number now left mid h back r = record {
 -- what a transaction leaves after a child, it leaves from before the child on
 pub ran_after_child : (of : Name) (k number : ℕ) (now left mid new : Now) → 0 < length of → Tried of k number now left mid → Ran of mid new → Ran of now new
 ran_after_child of k number now left mid new nonroot t r =
-    ran_longer of now mid new (t.ran.later ++ start_entry ∷ []) t.same_setting t.same_net
+    ran_longer of now mid new (t.ran.later ++ start_entry ∷ []) t.same_setting t.same_client
     (t.is_back ∙ t.ran.is ∙ sym (append_assoc t.ran.later (start_entry ∷ []) now.past))
     (all_inside-append of t.ran.later (start_entry ∷ []) (all_inside_parent of k t.ran.later nonroot t.ran.inside) ((k, [], refl), tt)) r
   where
     start_entry : Entry
-    start_entry = by_client (Start (child_of of k) (kind.User 0 number))
+    start_entry = by_client now.client.seat (Start (child_of of k) (kind.User now.client.session number))
 
 -- what tries of a child leave, and the rest
 pub tries_ran : (of : Name) (number : ℕ) (inner : Plan) (Rest : ℕ → Now → Type 0) (set : Setting) (new : Now) → length of < 16

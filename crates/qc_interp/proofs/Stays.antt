@@ -89,14 +89,14 @@ goes_ended (Some (Abort cause)) rest further how more h = ap is_some h.1
 goes_ended None rest further how more h = absurd h
 
 -- who stops early follows every plan
-pub stops_follow : (past : Past) (n : Name) (plan : Plan) (how : Option How) → StopsEarly past n how → FollowsPlan past n plan [] how
-stops_follow past n Plan.done how h = inr h
-stops_follow past n (Plan.read_then rec rest) how h = h
-stops_follow past n (Plan.set_then rec value rest) how h = h
-stops_follow past n (Plan.reconf_then rec config rest) how h = h
-stops_follow past n (Plan.child_then number zero inner rest) how h = stops_follow past n rest how h
-stops_follow past n (Plan.child_then number (suc tries) inner rest) how h = h
-stops_follow past n (Plan.abort_then levels rest) how h = inr h
+pub stops_follow : (session : ℕ) (past : Past) (n : Name) (plan : Plan) (how : Option How) → StopsEarly past n how → FollowsPlan session past n plan [] how
+stops_follow session past n Plan.done how h = inr h
+stops_follow session past n (Plan.read_then rec rest) how h = h
+stops_follow session past n (Plan.set_then rec value rest) how h = h
+stops_follow session past n (Plan.reconf_then rec config rest) how h = h
+stops_follow session past n (Plan.child_then number zero inner rest) how h = stops_follow session past n rest how h
+stops_follow session past n (Plan.child_then number (suc tries) inner rest) how h = h
+stops_follow session past n (Plan.abort_then levels rest) how h = inr h
 
 -- who stopped among tries of a body, or did the rest, has ended
 tries_ended : (ended : Name → Option How) (IsTry : Name → Type 0) (Stopped : Type 0) (Rest : List Name → Type 0) (has_ended : Bool) → (Stopped → has_ended ≡ true) → ((cs : List Name) → Rest cs → has_ended ≡ true) → (tries : ℕ) (cs : List Name) → Tries ended IsTry Stopped Rest tries cs → has_ended ≡ true
@@ -106,25 +106,25 @@ tries_ended ended IsTry Stopped Rest has_ended stopped rest (suc tries) (c ∷ c
     by_try (is_tried_again (ended c)) _ _ (λ again more. tries_ended ended IsTry Stopped Rest has_ended stopped rest tries cs more) (λ none more. rest cs more) h.1
 
 -- who follows a plan has ended
-pub follows_ended : (past : Past) (n : Name) (plan : Plan) (cs : List Name) (how : Option How) → FollowsPlan past n plan cs how → is_some how ≡ true
-follows_ended past n Plan.done [] how (inl is) = ap is_some is
-follows_ended past n Plan.done [] how (inr early) = stops_ended past n how early
-follows_ended past n Plan.done (c ∷ cs) how h = absurd h
-follows_ended past n (Plan.read_then rec rest) [] how h = stops_ended past n how h
-follows_ended past n (Plan.read_then rec rest) (c ∷ cs) how h = goes_ended (end past c) _ cs how (follows_ended past n rest cs how) h.1
-follows_ended past n (Plan.set_then rec value rest) [] how h = stops_ended past n how h
-follows_ended past n (Plan.set_then rec value rest) (c ∷ cs) how h = goes_ended (end past c) _ cs how (follows_ended past n rest cs how) h.1
-follows_ended past n (Plan.reconf_then rec config rest) [] how h = stops_ended past n how h
-follows_ended past n (Plan.reconf_then rec config rest) (c ∷ cs) how h = goes_ended (end past c) _ cs how (follows_ended past n rest cs how) h.1
-follows_ended past n (Plan.child_then number tries inner rest) cs how h =
-    tries_ended (end past) _ (StopsEarly past n how) _ (is_some how) (stops_ended past n how) (λ further more. follows_ended past n rest further how more) tries cs h
-follows_ended past n (Plan.abort_then levels rest) [] how (inl is) = ap is_some is ∙ asked_ended n levels
+pub follows_ended : (session : ℕ) (past : Past) (n : Name) (plan : Plan) (cs : List Name) (how : Option How) → FollowsPlan session past n plan cs how → is_some how ≡ true
+follows_ended session past n Plan.done [] how (inl is) = ap is_some is
+follows_ended session past n Plan.done [] how (inr early) = stops_ended past n how early
+follows_ended session past n Plan.done (c ∷ cs) how h = absurd h
+follows_ended session past n (Plan.read_then rec rest) [] how h = stops_ended past n how h
+follows_ended session past n (Plan.read_then rec rest) (c ∷ cs) how h = goes_ended (end past c) _ cs how (follows_ended session past n rest cs how) h.1
+follows_ended session past n (Plan.set_then rec value rest) [] how h = stops_ended past n how h
+follows_ended session past n (Plan.set_then rec value rest) (c ∷ cs) how h = goes_ended (end past c) _ cs how (follows_ended session past n rest cs how) h.1
+follows_ended session past n (Plan.reconf_then rec config rest) [] how h = stops_ended past n how h
+follows_ended session past n (Plan.reconf_then rec config rest) (c ∷ cs) how h = goes_ended (end past c) _ cs how (follows_ended session past n rest cs how) h.1
+follows_ended session past n (Plan.child_then number tries inner rest) cs how h =
+    tries_ended (end past) _ (StopsEarly past n how) _ (is_some how) (stops_ended past n how) (λ further more. follows_ended session past n rest further how more) tries cs h
+follows_ended session past n (Plan.abort_then levels rest) [] how (inl is) = ap is_some is ∙ asked_ended n levels
   where
     asked_ended : (n : Name) (levels : ℕ) → is_some (asked_end n levels) ≡ true
     asked_ended n zero = refl
     asked_ended n (suc below) = refl
-follows_ended past n (Plan.abort_then levels rest) [] how (inr early) = stops_ended past n how early
-follows_ended past n (Plan.abort_then levels rest) (c ∷ cs) how h = absurd h
+follows_ended session past n (Plan.abort_then levels rest) [] how (inr early) = stops_ended past n how early
+follows_ended session past n (Plan.abort_then levels rest) (c ∷ cs) how h = absurd h
 
 module _ (old new : Past) (g : Grown old new) where
   aborted_stays : (a : Name) (o : Option How) → end old a ≡ o → MatchOption o ⊥ IsAbort → MatchOption (end new a) ⊥ IsAbort
@@ -169,27 +169,27 @@ module _ (old new : Past) (g : Grown old new) where
       inr (subst (λ o. MatchBool (is_tried_again o) (TriesDo (end new) TryDoes' RestDoes' tries cs) (RestDoes' cs)) (sym (end_stays c (ended c follows.0)))
       (both_try (is_tried_again (end old c)) _ _ _ _ _ _ (tries_do_stay IsTry Stopped Rest TryDoes TryDoes' RestDoes RestDoes' ended try rest tries cs) (rest cs) follows.1 h))
 
-  pub follows_stay : (n : Name) (plan : Plan) (cs : List Name) (how : Option How) → FollowsPlan old n plan cs how → FollowsPlan new n plan cs how
-  follows_stay n Plan.done [] how (inl is) = inl is
-  follows_stay n Plan.done [] how (inr early) = inr (stops_stay n how early)
-  follows_stay n Plan.done (c ∷ cs) how h = absurd h
-  follows_stay n (Plan.read_then rec rest) [] how h = stops_stay n how h
-  follows_stay n (Plan.read_then rec rest) (c ∷ cs) how h = (g.kinds c _ h.0, goes_stay c (end old c) _ _ cs how refl (follows_stay n rest cs how) h.1)
-  follows_stay n (Plan.set_then rec value rest) [] how h = stops_stay n how h
-  follows_stay n (Plan.set_then rec value rest) (c ∷ cs) how h = (g.kinds c _ h.0, goes_stay c (end old c) _ _ cs how refl (follows_stay n rest cs how) h.1)
-  follows_stay n (Plan.reconf_then rec config rest) [] how h = stops_stay n how h
-  follows_stay n (Plan.reconf_then rec config rest) (c ∷ cs) how h = (g.kinds c _ h.0, goes_stay c (end old c) _ _ cs how refl (follows_stay n rest cs how) h.1)
-  follows_stay n (Plan.child_then number tries inner rest) cs how h = tries_stay _ _ (StopsEarly old n how) (StopsEarly new n how) _ _
-      (λ c is. follows_ended old c inner (children old c) (end old c) is.1)
-      (λ c is. (g.kinds c _ is.0, moved c (FollowsPlan new c inner) (follows_ended old c inner (children old c) (end old c) is.1) (follows_stay c inner (children old c) (end old c) is.1)))
-      (stops_stay n how) (λ further more. follows_stay n rest further how more) tries cs h
-  follows_stay n (Plan.abort_then levels rest) [] how (inl is) = inl is
-  follows_stay n (Plan.abort_then levels rest) [] how (inr early) = inr (stops_stay n how early)
-  follows_stay n (Plan.abort_then levels rest) (c ∷ cs) how h = absurd h
+  pub follows_stay : (session : ℕ) (n : Name) (plan : Plan) (cs : List Name) (how : Option How) → FollowsPlan session old n plan cs how → FollowsPlan session new n plan cs how
+  follows_stay session n Plan.done [] how (inl is) = inl is
+  follows_stay session n Plan.done [] how (inr early) = inr (stops_stay n how early)
+  follows_stay session n Plan.done (c ∷ cs) how h = absurd h
+  follows_stay session n (Plan.read_then rec rest) [] how h = stops_stay n how h
+  follows_stay session n (Plan.read_then rec rest) (c ∷ cs) how h = (g.kinds c _ h.0, goes_stay c (end old c) _ _ cs how refl (follows_stay session n rest cs how) h.1)
+  follows_stay session n (Plan.set_then rec value rest) [] how h = stops_stay n how h
+  follows_stay session n (Plan.set_then rec value rest) (c ∷ cs) how h = (g.kinds c _ h.0, goes_stay c (end old c) _ _ cs how refl (follows_stay session n rest cs how) h.1)
+  follows_stay session n (Plan.reconf_then rec config rest) [] how h = stops_stay n how h
+  follows_stay session n (Plan.reconf_then rec config rest) (c ∷ cs) how h = (g.kinds c _ h.0, goes_stay c (end old c) _ _ cs how refl (follows_stay session n rest cs how) h.1)
+  follows_stay session n (Plan.child_then number tries inner rest) cs how h = tries_stay _ _ (StopsEarly old n how) (StopsEarly new n how) _ _
+      (λ c is. follows_ended session old c inner (children old c) (end old c) is.1)
+      (λ c is. (g.kinds c _ is.0, moved c (FollowsPlan session new c inner) (follows_ended session old c inner (children old c) (end old c) is.1) (follows_stay session c inner (children old c) (end old c) is.1)))
+      (stops_stay n how) (λ further more. follows_stay session n rest further how more) tries cs h
+  follows_stay session n (Plan.abort_then levels rest) [] how (inl is) = inl is
+  follows_stay session n (Plan.abort_then levels rest) [] how (inr early) = inr (stops_stay n how early)
+  follows_stay session n (Plan.abort_then levels rest) (c ∷ cs) how h = absurd h
 
   -- so the whole of what a name did that has ended
-  pub whole_stays : (c : Name) (plan : Plan) → FollowsPlan old c plan (children old c) (end old c) → FollowsPlan new c plan (children new c) (end new c)
-  whole_stays c plan h = moved c (FollowsPlan new c plan) (follows_ended old c plan (children old c) (end old c) h) (follows_stay c plan (children old c) (end old c) h)
+  pub whole_stays : (session : ℕ) (c : Name) (plan : Plan) → FollowsPlan session old c plan (children old c) (end old c) → FollowsPlan session new c plan (children new c) (end new c)
+  whole_stays session c plan h = moved c (FollowsPlan session new c plan) (follows_ended session old c plan (children old c) (end old c) h) (follows_stay session c plan (children old c) (end old c) h)
 
   asks_at_once : (by target n : Name) (plan : Plan) → Asks old by target n plan [] → Asks new by target n plan []
   asks_at_once by target n Plan.done h = absurd h
@@ -208,17 +208,17 @@ module _ (old new : Past) (g : Grown old new) where
   committed_stays : (c : Name) → IsTrue (is_committed (outcome old c)) → IsTrue (is_committed (outcome new c))
   committed_stays c h = subst (λ o. IsTrue (is_committed (outcome_of o))) (sym (end_stays c (ap is_some (committed_is (end old c) h).1))) h
 
-  pub asks_stay : (by target n : Name) (plan : Plan) (cs : List Name) (how : Option How) → FollowsPlan old n plan cs how → Asks old by target n plan cs → Asks new by target n plan cs
-  asks_stay by target n plan [] how follows h = asks_at_once by target n plan h
-  asks_stay by target n Plan.done (c ∷ cs) how follows h = absurd h
-  asks_stay by target n (Plan.read_then rec rest) (c ∷ cs) how follows h =
-      (committed_stays c h.0, goes_asks (end old c) _ cs how (Asks old by target n rest) (Asks new by target n rest) (asks_stay by target n rest cs how) (asks_at_once by target n rest) follows.1 h.1)
-  asks_stay by target n (Plan.set_then rec value rest) (c ∷ cs) how follows h =
-      (committed_stays c h.0, goes_asks (end old c) _ cs how (Asks old by target n rest) (Asks new by target n rest) (asks_stay by target n rest cs how) (asks_at_once by target n rest) follows.1 h.1)
-  asks_stay by target n (Plan.reconf_then rec config rest) (c ∷ cs) how follows h =
-      (committed_stays c h.0, goes_asks (end old c) _ cs how (Asks old by target n rest) (Asks new by target n rest) (asks_stay by target n rest cs how) (asks_at_once by target n rest) follows.1 h.1)
-  asks_stay by target n (Plan.child_then number tries inner rest) (c ∷ cs) how follows h = tries_do_stay _ (StopsEarly old n how) _ _ _ _ _
-      (λ d is. follows_ended old d inner (children old d) (end old d) is.1)
-      (λ d is asks. moved d (λ ds o. Asks new by target d inner ds) (follows_ended old d inner (children old d) (end old d) is.1) (asks_stay by target d inner (children old d) (end old d) is.1 asks))
-      (λ further more asks. asks_stay by target n rest further how more asks) tries (c ∷ cs) follows h
-  asks_stay by target n (Plan.abort_then levels rest) (c ∷ cs) how follows h = absurd h
+  pub asks_stay : (session : ℕ) (by target n : Name) (plan : Plan) (cs : List Name) (how : Option How) → FollowsPlan session old n plan cs how → Asks old by target n plan cs → Asks new by target n plan cs
+  asks_stay session by target n plan [] how follows h = asks_at_once by target n plan h
+  asks_stay session by target n Plan.done (c ∷ cs) how follows h = absurd h
+  asks_stay session by target n (Plan.read_then rec rest) (c ∷ cs) how follows h =
+      (committed_stays c h.0, goes_asks (end old c) _ cs how (Asks old by target n rest) (Asks new by target n rest) (asks_stay session by target n rest cs how) (asks_at_once by target n rest) follows.1 h.1)
+  asks_stay session by target n (Plan.set_then rec value rest) (c ∷ cs) how follows h =
+      (committed_stays c h.0, goes_asks (end old c) _ cs how (Asks old by target n rest) (Asks new by target n rest) (asks_stay session by target n rest cs how) (asks_at_once by target n rest) follows.1 h.1)
+  asks_stay session by target n (Plan.reconf_then rec config rest) (c ∷ cs) how follows h =
+      (committed_stays c h.0, goes_asks (end old c) _ cs how (Asks old by target n rest) (Asks new by target n rest) (asks_stay session by target n rest cs how) (asks_at_once by target n rest) follows.1 h.1)
+  asks_stay session by target n (Plan.child_then number tries inner rest) (c ∷ cs) how follows h = tries_do_stay _ (StopsEarly old n how) _ _ _ _ _
+      (λ d is. follows_ended session old d inner (children old d) (end old d) is.1)
+      (λ d is asks. moved d (λ ds o. Asks new by target d inner ds) (follows_ended session old d inner (children old d) (end old d) is.1) (asks_stay session by target d inner (children old d) (end old d) is.1 asks))
+      (λ further more asks. asks_stay session by target n rest further how more asks) tries (c ∷ cs) follows h
+  asks_stay session by target n (Plan.abort_then levels rest) (c ∷ cs) how follows h = absurd h

@@ -14,7 +14,7 @@ Stands last new j mid = (j ≡ last) × (mid ≡ new)
 -- them leave.
 pub record TriesDone (depth : ℕ) (named : ℕ → Name) (body : Numbered) (k : ℕ) (old : Now) (done next : ℕ) (now : Now) : Type 0 where
   pub setting : now.setting ≡ old.setting
-  pub net : now.net ≡ old.net
+  pub client : now.client ≡ old.client
   pub leads : (last : ℕ) (new : Now) → TriesRun named (λ n. BodyRuns depth n body) (Stands last new) (body.tries - done) next now → TriesRan depth named body k last old new
 
 module _ (depth : ℕ) (named : ℕ → Name) (body : Numbered) where
@@ -22,7 +22,7 @@ module _ (depth : ℕ) (named : ℕ → Name) (body : Numbered) where
   pub none_tried : (k : ℕ) (old : Now) → TriesDone depth named body k old 0 k old
   none_tried k old = record {
     setting = refl;
-    net = refl;
+    client = refl;
     leads = λ last new runs. subst (λ tries. TriesRun named (λ n. BodyRuns depth n body) (Stands last new) tries k old) (let e : body.tries - 0 ≡ body.tries = omega arith in e) runs;
   }
 
@@ -36,10 +36,10 @@ module _ (depth : ℕ) (named : ℕ → Name) (body : Numbered) where
         (mid, ran, after))
 
     -- which is tried again
-    pub tried_again : (mid : Now) → done < body.tries → BodyRuns depth (named next) body now mid → mid.setting ≡ now.setting → mid.net ≡ now.net → is_tried_again (end mid.past (named next)) ≡ true → TriesDone depth named body k old (done + 1) (next + 1) mid
-    tried_again mid few ran same same_net again = record {
+    pub tried_again : (mid : Now) → done < body.tries → BodyRuns depth (named next) body now mid → mid.setting ≡ now.setting → mid.client ≡ now.client → is_tried_again (end mid.past (named next)) ≡ true → TriesDone depth named body k old (done + 1) (next + 1) mid
+    tried_again mid few ran same same_client again = record {
       setting = same ∙ left.setting;
-      net = same_net ∙ left.net;
+      client = same_client ∙ left.client;
       leads = λ last new runs. one_more mid few ran last new (subst (λ b. MatchBool b (TriesRun named (λ n. BodyRuns depth n body) (Stands last new) (body.tries - (done + 1)) (next + 1) mid) (Stands last new (next + 1) mid)) (sym again) runs);
     }
 

@@ -32,24 +32,23 @@ use Rattle.qc_interp.proofs.LeftAsItIs.{start_left}
 use Rattle.qc_interp.proofs.NextAllowed.{no_child_found}
 use Rattle.qc_interp.proofs.OfAccesses.{OfManager, older_legal, end_apart, dead_same, accesses_inside}
 use Rattle.qc_interp.proofs.ReadyTops.{ready_is_top}
-use Rattle.qc_event.specs.Seats.{client_seat}
 use Rattle.qc_interp.proofs.RunChild.{JustBegun, begun_so}
 
 -- BY KIND
 
-manager_commits : (setting : Setting) (past : Past) (n : Name) (b : Begun) (given : Answer) (k : Kind) → IsManager k → MayCommitManager setting past client_seat n b given → MayCommit setting past client_seat n b given k
-manager_commits setting past n b given (kind.User session body) is may = absurd is
-manager_commits setting past n b given (kind.Read rec) is may = may
-manager_commits setting past n b given (kind.Write rec value) is may = may
-manager_commits setting past n b given (kind.Reconf rec config) is may = may
-manager_commits setting past n b given kind.Access is may = absurd is
+manager_commits : (setting : Setting) (seat : ℕ) (past : Past) (n : Name) (b : Begun) (given : Answer) (k : Kind) → IsManager k → MayCommitManager setting past seat n b given → MayCommit setting past seat n b given k
+manager_commits setting seat past n b given (kind.User session body) is may = absurd is
+manager_commits setting seat past n b given (kind.Read rec) is may = may
+manager_commits setting seat past n b given (kind.Write rec value) is may = may
+manager_commits setting seat past n b given (kind.Reconf rec config) is may = may
+manager_commits setting seat past n b given kind.Access is may = absurd is
 
-manager_licensed : (setting : Setting) (past : Past) (n : Name) (b : Begun) (k : Kind) (cause : Cause) → IsManager k → ManagerCause setting past n k cause → client_seat ≡ b.seat → Licensed setting past client_seat n b k cause
-manager_licensed setting past n b (kind.User session body) cause is why own = absurd is
-manager_licensed setting past n b (kind.Read rec) cause is why own = (why, own)
-manager_licensed setting past n b (kind.Write rec value) cause is why own = (why, own)
-manager_licensed setting past n b (kind.Reconf rec config) cause is why own = (why, own)
-manager_licensed setting past n b kind.Access cause is why own = absurd is
+manager_licensed : (setting : Setting) (seat : ℕ) (past : Past) (n : Name) (b : Begun) (k : Kind) (cause : Cause) → IsManager k → ManagerCause setting past n k cause → seat ≡ b.seat → Licensed setting past seat n b k cause
+manager_licensed setting seat past n b (kind.User session body) cause is why own = absurd is
+manager_licensed setting seat past n b (kind.Read rec) cause is why own = (why, own)
+manager_licensed setting seat past n b (kind.Write rec value) cause is why own = (why, own)
+manager_licensed setting seat past n b (kind.Reconf rec config) cause is why own = (why, own)
+manager_licensed setting seat past n b kind.Access cause is why own = absurd is
 
 -- nothing above one that lives is aborted
 pub no_orphan : (past : Past) (n a : Name) → dead past n ≡ None → IsOrphanOf past n a → ⊥
@@ -79,24 +78,24 @@ still_closed seat past n how none = no_child_found (λ c. is_none (end (e ∷ pa
         let before : is_some (start past (n ++ last.0 ∷ [])) ≡ true = ap (λ m. is_some (start past m)) (sym last.1) ∙ ap is_some (or_none (start past c)) ∙ began in
         not_none (end (e ∷ past) c) (end_stays e past c (ap (λ m. is_some (end past m)) last.1 ∙ no_open_child past n last.0 none before))
 
-module _ (of : Name) (k : ℕ) (kd : Kind) (now : Now) (h : Running of k now) (alive : now.dead ≡ None) (manages : IsManager kd) (inner : Past) (legal : Legal now.setting (inner ++ by_client (Start (of ++ k ∷ []) kd) ∷ now.past)) (each : All (OfManager (of ++ k ∷ [])) inner) where
+module _ (of : Name) (k : ℕ) (kd : Kind) (now : Now) (h : Running of k now) (alive : now.dead ≡ None) (manages : IsManager kd) (inner : Past) (legal : Legal now.setting (inner ++ by_client now.client.seat (Start (of ++ k ∷ []) kd) ∷ now.past)) (each : All (OfManager (of ++ k ∷ [])) inner) where
   abbrev n : Name
   n = of ++ k ∷ []
 
   abbrev first : Past
-  first = by_client (Start n kd) ∷ now.past
+  first = by_client now.client.seat (Start n kd) ∷ now.past
 
   abbrev past : Past
   past = inner ++ first
 
-  pub just : JustBegun now.setting n kd first
+  pub just : JustBegun now.setting now.client.seat n kd first
   just = begun_so of k kd now h alive (older_legal now.setting inner first legal).1
 
   -- the entries since then are inside the manager
   pub within : AllInside n inner
   within = accesses_inside now.setting n inner first legal (omega (arith, length_last of k)) (subst (λ o. MatchOption o ⊥ (λ (b : Begun). IsManager b.kind)) (sym just.begun) manages) each
 
-  pub started_within : start past n ≡ Some (record { seat = client_seat; kind = kd })
+  pub started_within : start past n ≡ Some (record { seat = now.client.seat; kind = kd })
   started_within = start_left n n inner first within (λ below. omega (arith, below_longer n n below)) ∙ just.begun
 
   -- and end nothing above it
@@ -117,11 +116,11 @@ module _ (of : Name) (k : ℕ) (kd : Kind) (now : Now) (h : Running of k now) (a
   pub no_orphan_within : (a : Name) → end past n ≡ None → IsOrphanOf past n a → ⊥
   no_orphan_within a going orphan = no_orphan past n a (alive_within going) orphan
 
-  pub may_commit_manager : (given : Answer) → IsRunning client_seat past n kd → IsTrue (is_complete past (first_for now.setting kd) n kd) → given ≡ manager_answer past (first_for now.setting kd) n kd → Allowed now.setting past (by_client (End n (Commit given)))
+  pub may_commit_manager : (given : Answer) → IsRunning now.client.seat past n kd → IsTrue (is_complete past (first_for now.setting kd) n kd) → given ≡ manager_answer past (first_for now.setting kd) n kd → Allowed now.setting past (by_client now.client.seat (End n (Commit given)))
   may_commit_manager given running complete answers =
-      subst (λ o. MatchOption o ⊥ (MayEnd now.setting past client_seat n (Commit given))) (sym started_within)
-      (manager_commits now.setting past n (record { seat = client_seat; kind = kd }) given kd manages (record {
-        by_client = refl;
+      subst (λ o. MatchOption o ⊥ (MayEnd now.setting past now.client.seat n (Commit given))) (sym started_within)
+      (manager_commits now.setting now.client.seat past n (record { seat = now.client.seat; kind = kd }) given kd manages (record {
+        by_client = h.seated;
         own_seat = refl;
         going = going_within running.not_ended;
         complete = complete;
@@ -132,24 +131,24 @@ module _ (of : Name) (k : ℕ) (kd : Kind) (now : Now) (h : Running of k now) (a
   unready : is_ready past n ≡ false
   unready = false_from_ne_true (is_ready past n) (λ t. omega (arith, (ready_is_top now.setting past n legal t).0, length_last of k, h.nonroot))
 
-  pub may_abort_manager : (cause : Cause) → IsRunning client_seat past n kd → ManagerCause now.setting past n kd cause → Allowed now.setting past (by_client (End n (Abort cause)))
+  pub may_abort_manager : (cause : Cause) → IsRunning now.client.seat past n kd → ManagerCause now.setting past n kd cause → Allowed now.setting past (by_client now.client.seat (End n (Abort cause)))
   may_abort_manager cause running why =
-      subst (λ o. MatchOption o ⊥ (MayEnd now.setting past client_seat n (Abort cause))) (sym started_within) (record {
-        by_client = refl;
+      subst (λ o. MatchOption o ⊥ (MayEnd now.setting past now.client.seat n (Abort cause))) (sym started_within) (record {
+        by_client = h.seated;
         is_open = (going_within running.not_ended).is_open;
         not_ready = ap not unready;
-        licensed = manager_licensed now.setting past n (record { seat = client_seat; kind = kd }) kd cause manages why refl;
+        licensed = manager_licensed now.setting now.client.seat past n (record { seat = now.client.seat; kind = kd }) kd cause manages why refl;
       })
 
   -- once it has ended it ran from its start to its end
-  pub was_managed : (how : How) → IsRunning client_seat past n kd → Allowed now.setting past (by_client (End n how)) → Managed n kd how now (record now { past = by_client (End n how) ∷ past })
+  pub was_managed : (how : How) → IsRunning now.client.seat past n kd → Allowed now.setting past (by_client now.client.seat (End n how)) → Managed n kd how now (record now { past = by_client now.client.seat (End n how) ∷ past })
   was_managed how running allowed = record {
     inner = inner;
     is = refl;
     of_accesses = each;
-    all_ended = still_closed client_seat past n how running.children_ended;
+    all_ended = still_closed now.client.seat past n how running.children_ended;
     legal = (legal, allowed);
     same_setting = refl;
     same_dead = refl;
-    same_net = refl;
+    same_client = refl;
   }

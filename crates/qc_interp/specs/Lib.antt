@@ -1,3 +1,4 @@
+pub mod Client
 pub mod Tries
 pub mod Trace
 pub mod Follows

@@ -1,5 +1,5 @@
 -- What holds of a session between two steps of a transaction, and between two tops.
-use Rattle.std.specs.Prelude.{ℕ, ◌≡◌, ◌+◌, ◌<◌, ◌≤◌, Bool, false, true, [], ◌∷◌, ◌++◌, length, Option, Some, None, is_some, option_map, Result, Ok, Err}
+use Rattle.std.specs.Prelude.{ℕ, ◌≡◌, ◌+◌, ◌<◌, ◌≤◌, Bool, false, true, IsTrue, [], ◌∷◌, ◌++◌, length, Option, Some, None, is_some, option_map, Result, Ok, Err}
 use Rattle.qc_event.specs.declared.event.Answer.{Answer}
 use Rattle.qc_event.specs.declared.event.Cause.{Cause}
 use Rattle.qc_event.specs.declared.event.Entry.{Entry}
@@ -11,8 +11,10 @@ use Rattle.qc_event.specs.Base.{Setting, IsConfigFor}
 use Rattle.qc_event.specs.Dead as state
 use Rattle.qc_event.specs.History.{Name, limit, start, end, is_ready, children}
 use Rattle.qc_event.specs.Legal.{Legal, Allowed}
+use Rattle.qc_event.specs.Seats.{is_client, number_in}
 use Rattle.qc_event.specs.Standing.{Started, IsUser}
 use Rattle.qc_line.specs.Lined.{IsOfTransaction}
+use Rattle.qc_interp.specs.Client.{MayAct}
 use Rattle.qc_interp.specs.Trace.{Now, aborted, Managed}
 use Rattle.qc_interp.specs.Tries.{is_tried_again}
 use Rattle.qc_rw.specs.declared.no.MgrNo.{MgrNo}
@@ -23,11 +25,12 @@ pub record MayMake (now : Now) (e : Entry) : Type 0 where
   pub allowed : Allowed now.setting now.past e
   pub of_transaction : IsOfTransaction now.past e.event
 
--- Transaction `of` has started and is the one that runs; its next child has number k. Neither it nor one above it is to
+-- Transaction `of` of a client has started and is the one that runs; its next child has number k. Neither it nor one above it is to
 -- be tried again.
 pub record Running (of : Name) (k : ℕ) (now : Now) : Type 0 where
   pub legal : Legal now.setting now.past
   pub fallen : now.dead ≡ state.dead now.past of
+  pub seated : IsTrue (is_client now.client.seat)
   pub nonroot : 0 < length of
   pub user : (p r : Name) → of ≡ p ++ r → 0 < length p → Started now.past p (λ b. IsUser b.kind)
   pub uncommitted : (p r : Name) → of ≡ p ++ r → state.is_committed (state.outcome now.past p) ≡ false
@@ -36,12 +39,13 @@ pub record Running (of : Name) (k : ℕ) (now : Now) : Type 0 where
   pub next : length (children now.past of) + 1 ≡ k
   pub open_above : (n : Name) → is_some (start now.past n) ≡ true → end now.past n ≡ None → (r : Name) × (of ≡ n ++ r)
 
--- Between two tops, the next of which is top i: every transaction has ended.
+-- Between two tops, the next of which is top i of the epoch: every transaction has ended.
 pub record Resting (i : ℕ) (now : Now) : Type 0 where
   pub legal : Legal now.setting now.past
   pub fallen : now.dead ≡ None
   pub all_ended : (n : Name) → is_some (start now.past n) ≡ true → is_some (end now.past n) ≡ true
-  pub unstarted : (x : ℕ) → 4294967297 + i ≤ x → start now.past (x ∷ []) ≡ None
+  pub may_act : MayAct now.client.seat now.client.epoch
+  pub unstarted : (x : ℕ) → number_in now.client.epoch (i + 1) ≤ x → start now.past (x ∷ []) ≡ None
   pub long : i ≤ length now.past
   pub few : i ≤ limit
 

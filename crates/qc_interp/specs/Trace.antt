@@ -16,33 +16,33 @@ use Rattle.qc_event.specs.History.{Past, Name, end, is_child}
 use Rattle.qc_event.specs.Legal.{Legal}
 use Rattle.qc_event.specs.Standing.{open_child}
 use Rattle.qc_gather.specs.Carrying.{name_of}
-use Rattle.qc_line.specs.Messages.{Net}
 use Rattle.qc_script.specs.Plan.{Plan, Numbered}
 use Rattle.qc_store.specs.Served.{is_answer}
-use Rattle.qc_event.specs.Seats.{client_seat}
+use Rattle.qc_event.specs.Seats.{ledger_seat, top_name}
+use Rattle.qc_interp.specs.Client.{Client}
 use Rattle.qc_interp.specs.Tries.{is_tried_again}
 
 -- What a session starts from, its history, the shortest aborted ancestor of the transaction that runs, itself among
--- them, and what its link is.
+-- them, and its client.
 pub record Now : Type 0 where
   pub setting : Setting
   pub past : Past
   pub dead : Option Name
-  pub net : Net
+  pub client : Client
 
--- an entry under the seat of the session
-abbrev pub by_client : Event → Entry
-by_client event = record { seat = client_seat; event = event }
+-- an entry under a client's seat
+abbrev pub by_client : ℕ → Event → Entry
+by_client seat event = record { seat = seat; event = event }
 
 -- an entry under the seat of the ledger
 abbrev pub by_ledger : Event → Entry
-by_ledger event = record { seat = 1; event = event }
+by_ledger event = record { seat = ledger_seat; event = event }
 
 -- USER TRANSACTIONS
 
 -- a user transaction of a body has started
 abbrev pub begun : Name → ℕ → Now → Now
-begun n number now = record now { past = by_client (Start n (kind.User 0 number)) ∷ now.past }
+begun n number now = record now { past = by_client now.client.seat (Start n (kind.User now.client.session number)) ∷ now.past }
 
 -- the shorter of an aborted ancestor and a name
 abbrev pub shorter : Option Name → Name → Name
@@ -52,7 +52,8 @@ shorter (Some a) n = if nat_le (length a) (length n) then a else n
 -- a transaction is aborted, unless it has ended
 abbrev pub aborted : Name → Cause → Now → Now
 aborted n cause now =
-    if is_some (end now.past n) then now else record now { past = by_client (End n (Abort cause)) ∷ now.past; dead = Some (shorter now.dead n) }
+    if is_some (end now.past n) then now
+    else record now { past = by_client now.client.seat (End n (Abort cause)) ∷ now.past; dead = Some (shorter now.dead n) }
 
 -- the ancestor so many levels up
 abbrev pub above : Name → ℕ → Name
@@ -65,8 +66,8 @@ asked of (suc below) now = aborted of (Orphan (above of (suc below))) (aborted (
 
 -- a transaction commits, a top under the ledger's seat once it is ready
 abbrev pub committed : Name → Now → Now
-committed (number ∷ []) now = record now { past = by_ledger (End (number ∷ []) (Commit Nothing)) ∷ by_client (Ready (number ∷ [])) ∷ now.past }
-committed n now = record now { past = by_client (End n (Commit Nothing)) ∷ now.past }
+committed (number ∷ []) now = record now { past = by_ledger (End (number ∷ []) (Commit Nothing)) ∷ by_client now.client.seat (Ready (number ∷ [])) ∷ now.past }
+committed n now = record now { past = by_client now.client.seat (End n (Commit Nothing)) ∷ now.past }
 
 -- whether a name of this length is at or below an aborted one
 abbrev pub still_dead : ℕ → Name → Option Name
@@ -82,13 +83,13 @@ returned depth now = elim now.dead [ None ↦ now | Some a ↦ record now { dead
 -- has ended, and copies' answers, which may be late ones to accesses of other managers.
 pub record Managed (n : Name) (k : Kind) (how : How) (old new : Now) : Type 0 where
   pub inner : Past
-  pub is : new.past ≡ by_client (End n how) ∷ inner ++ by_client (Start n k) ∷ old.past
+  pub is : new.past ≡ by_client old.client.seat (End n how) ∷ inner ++ by_client old.client.seat (Start n k) ∷ old.past
   pub of_accesses : All (λ e. IsTrue (is_child n (name_of e.event)) ⊎ IsTrue (is_answer e)) inner
   pub all_ended : open_child new.past n ≡ None
   pub legal : Legal new.setting new.past
   pub same_setting : new.setting ≡ old.setting
   pub same_dead : new.dead ≡ old.dead
-  pub same_net : new.net ≡ old.net
+  pub same_client : new.client ≡ old.client
 
 -- A transaction goes on to the rest where its manager committed. Where that was aborted, it is aborted with
 -- the same cause.
@@ -145,14 +146,15 @@ Runs of k (Plan.abort_then levels rest) now new = new ≡ asked of levels now
 abbrev pub BodyRuns : ℕ → Name → Numbered → Now → Now → Type 0
 BodyRuns depth n body now new = TryRuns depth n body.number (Runs n 1 body.plan) now new
 
--- the name of top i, in the first epoch
-abbrev pub top_of : ℕ → Name
-top_of i = (4294967297 + i) ∷ []
+-- the name of top i of an epoch, the first of which is top 0
+abbrev pub top_of : ℕ → ℕ → Name
+top_of epoch i = top_name epoch (i + 1)
 
--- what the tops of bodies leave, the first of them as top i, and the next that would come as this one
-abbrev pub TopsRun : ℕ → List Numbered → ℕ → Now → Now → Type 0
-TopsRun i [] next now new = (i ≡ next) × (new ≡ now)
-TopsRun i (b ∷ bodies) next now new = TriesRun top_of (λ t. BodyRuns 0 t b) (λ j mid. TopsRun j bodies next mid new) b.tries i now
+-- what the tops of bodies leave in an epoch, the first of them as top i, and the next that would come as this one
+abbrev pub TopsRun : ℕ → ℕ → List Numbered → ℕ → Now → Now → Type 0
+TopsRun epoch i [] next now new = (i ≡ next) × (new ≡ now)
+TopsRun epoch i (b ∷ bodies) next now new =
+    TriesRun (top_of epoch) (λ t. BodyRuns 0 t b) (λ j mid. TopsRun epoch j bodies next mid new) b.tries i now
 
 -- the tries of a body have run, by these names, the first of them with number k; the next number is this
 abbrev pub TriesRan : ℕ → (ℕ → Name) → Numbered → ℕ → ℕ → Now → Now → Type 0

@@ -14,9 +14,11 @@ ghost use Rattle.qc_script.specs.Steps.{plan_of, numbered};
 mod managers;
 mod tops;
 
+use crate::client::Client;
 use crate::tries::is_tried_again;
 use qc_event::{
-    Answer, Base, CLIENT_SEAT, Cause, Config, Entry, Event, How, Kind, LEDGER_SEAT, Name, Short, outcome,
+    Answer, Base, CLIENT_SEAT, Cause, Config, Entry, Event, How, Kind, LEDGER_SEAT, Name, Short,
+    outcome,
 };
 use qc_line::Line;
 use qc_net::Fate;
@@ -24,8 +26,8 @@ use qc_script::{Body, Step};
 use std::alloc::{AllocError, Global};
 use std::marker::Model;
 
-/// A session as it runs: the line to the copies, with the history so far, and the shortest aborted ancestor of the
-/// transaction that runs.
+/// A client's session as it runs: the line to the copies, with the history so far, the session's number, the epoch of
+/// its tops, and the shortest aborted ancestor of the transaction that runs.
 ///
 /// A body that was aborted by a conflict, for want of a quorum or by a child is tried again, as its next sibling, as
 /// long as tries are left. Requests meet the fates of the line's link, over and over: some are lost, late or
@@ -33,15 +35,31 @@ use std::marker::Model;
 #[derive(Drop)]
 pub struct Session {
     line: Line,
+    session: u8,
+    epoch: u32,
     dead: Option<Name>,
 }
 
 impl Model for Session {
+    ghost use Rattle.qc_event.specs.Seats.{client_seat};
+    ghost use Rattle.qc_interp.specs.Client.{MayAct};
     ghost use Rattle.qc_interp.specs.Trace.{Now};
 
     ghost Value = { Now };
 
-    ghost view = { λ s. record { setting = s.line.setting; past = s.line.past; dead = s.dead; net = s.line.net } };
+    ghost view = { λ s. record {
+      setting = s.line.setting;
+      past = s.line.past;
+      dead = s.dead;
+      client = record {
+        seat = client_seat;
+        session = s.session;
+        epoch = s.epoch;
+        net = s.line.net;
+      };
+    } };
+
+    ghost invariant = { λ s. MayAct client_seat s.epoch };
 }
 
 // The shorter of an aborted ancestor and a name.
@@ -59,11 +77,12 @@ impl Session {
     ghost use Rattle.qc_event.specs.declared.event.How.TheVariants.{Commit, Abort};
     ghost use Rattle.qc_event.specs.declared.event.Cause.TheVariants.{Orphan};
 
-    /// A session that has done nothing, over these first configurations and copies with these tuples. Its requests meet these fates, over and
-    /// over; after every so many due steps the request held first is delivered, and the sender of a held one waits
-    /// for so many due steps.
+    /// A client's session that has done nothing, over these first configurations and copies with these tuples. Its
+    /// requests meet these fates, over and over; after every so many due steps the request held first is delivered,
+    /// and the sender of a held one waits for so many due steps.
     pub fn new(
         alloc: Global,
+        client: Client,
         firsts: Vec<Config>,
         start: Base,
         fates: Vec<Fate>,
@@ -71,52 +90,78 @@ impl Session {
         patience: u32,
     ) -> Result<Self, AllocError>
         requires proper { IsProper (record { firsts = firsts.items; base = start }) }
+        requires seat { client.seat ≡ client_seat }
+        requires epoch { 1 ≤ client.epoch }
         requires hold { 1 ≤ hold }
         ensures { IfOk result (λ s. s ≡ record {
-            setting = record { firsts = firsts.items; base = start };
-            past = [];
-            dead = None;
+          setting = record { firsts = firsts.items; base = start };
+          past = [];
+          dead = None;
+          client = record {
+            seat = client.seat;
+            session = client.session;
+            epoch = client.epoch;
             net = record { fates = fates.items; hold = hold; patience = patience };
+          };
         }) }
     {
         Ok(Session {
             line: Line::new(alloc, firsts, start, fates, hold, patience)?,
+            session: client.session,
+            epoch: client.epoch,
             dead: None,
         })
     }
 
     fn append(&mut self, seat: u32, event: Event) -> Result<(), Short>
         requires { MayMake self.old (record { seat = seat; event = event }) }
-        ensures ok { OnOk result (self.new ≡ record self.old { past = record { seat = seat; event = event } ∷ self.old.past }) }
+        ensures ok { OnOk result (self.new ≡ record self.old {
+          past = record { seat = seat; event = event } ∷ self.old.past;
+        }) }
         ensures err { OnErr result (self.new ≡ self.old) }
         ensures room { IfErr result (λ e. e ≡ Short.Room → length self.old.past ≡ limit) }
     {
         self.line.push(Entry { seat, event })
     }
 
-    // Ends a transaction under the session's own seat.
-    fn end(&mut self, name: &Name, how: &How) -> Result<(), Short>
-        requires { MayMake self.old (trace.by_client (End name.now how.now)) }
-        ensures ok { OnOk result (self.new ≡ record self.old { past = trace.by_client (End name.now how.now) ∷ self.old.past }) }
+    // Appends an entry under the client's seat.
+    fn act(&mut self, event: Event) -> Result<(), Short>
+        requires { MayMake self.old (trace.by_client self.old.client.seat event) }
+        ensures ok { OnOk result (self.new ≡ record self.old {
+          past = trace.by_client self.old.client.seat event ∷ self.old.past;
+        }) }
         ensures err { OnErr result (self.new ≡ self.old) }
         ensures room { IfErr result (λ e. e ≡ Short.Room → length self.old.past ≡ limit) }
     {
-        self.append(
-            CLIENT_SEAT,
-            Event::End {
-                name: *name,
-                how: *how,
-            },
-        )
+        self.line.push(Entry {
+            seat: CLIENT_SEAT,
+            event,
+        })
+    }
+
+    // Ends a transaction under the client's seat.
+    fn end(&mut self, name: &Name, how: &How) -> Result<(), Short>
+        requires { MayMake self.old (trace.by_client self.old.client.seat (End name.now how.now)) }
+        ensures ok { OnOk result (self.new ≡ record self.old {
+          past = trace.by_client self.old.client.seat (End name.now how.now) ∷ self.old.past;
+        }) }
+        ensures err { OnErr result (self.new ≡ self.old) }
+        ensures room { IfErr result (λ e. e ≡ Short.Room → length self.old.past ≡ limit) }
+    {
+        self.act(Event::End {
+            name: *name,
+            how: *how,
+        })
     }
 
     // Aborts a transaction, unless it has ended.
     fn abort(&mut self, name: &Name, cause: Cause) -> Result<(), Short>
-        requires { end self.old.past name.now ≡ None → MayMake self.old (trace.by_client (End name.now (Abort cause))) }
+        requires { end self.old.past name.now ≡ None → MayMake self.old
+            (trace.by_client self.old.client.seat (End name.now (Abort cause))) }
         ensures ok { OnOk result (self.new ≡ trace.aborted name.now cause self.old) }
         ensures err { OnErr result (self.new ≡ self.old) }
         ensures setting { self.new.setting ≡ self.old.setting }
-        ensures net { self.new.net ≡ self.old.net }
+        ensures client { self.new.client ≡ self.old.client }
         ensures room { IfErr result (λ e. e ≡ Short.Room → length self.old.past ≡ limit) }
     {
         if !outcome(self.line.entries(), name).is_live() {
@@ -131,22 +176,27 @@ impl Session {
 
     // Starts a user transaction of a body.
     fn begin(&mut self, name: &Name, body: u32) -> Result<(), Short>
-        requires { MayMake self.old (trace.by_client (Start name.now (kind.User 0 body))) }
+        requires { MayMake self.old (trace.by_client self.old.client.seat
+            (Start name.now (kind.User self.old.client.session body))) }
         ensures ok { OnOk result (self.new ≡ trace.begun name.now body self.old) }
         ensures err { OnErr result (self.new ≡ self.old) }
         ensures room { IfErr result (λ e. e ≡ Short.Room → length self.old.past ≡ limit) }
     {
-        let kind = Kind::User { session: 0, body };
-        self.append(CLIENT_SEAT, Event::Start { name: *name, kind })
+        let kind = Kind::User {
+            session: self.session,
+            body,
+        };
+        self.act(Event::Start { name: *name, kind })
     }
 
     // Stops a transaction below an aborted ancestor.
     fn orphan(&mut self, of: &Name, ancestor: &Name) -> Result<(), Short>
         requires running { (k : ℕ) × Running of.now k self.old }
         requires fallen { self.old.dead ≡ Some ancestor.now }
-        ensures ok { OnOk result (self.new ≡ trace.aborted of.now (Orphan ancestor.now) self.old) }
+        ensures ok { OnOk result
+            (self.new ≡ trace.aborted of.now (Orphan ancestor.now) self.old) }
         ensures setting { self.new.setting ≡ self.old.setting }
-        ensures net { self.new.net ≡ self.old.net }
+        ensures client { self.new.client ≡ self.old.client }
         ensures room { IfErr result (λ e. e ≡ Short.Room → length self.new.past ≡ limit) }
     {
         self.abort(of, Cause::Orphan(*ancestor))
@@ -158,7 +208,7 @@ impl Session {
         requires within { levels < length of.now }
         ensures ok { OnOk result (self.new ≡ trace.asked of.now levels self.old) }
         ensures setting { self.new.setting ≡ self.old.setting }
-        ensures net { self.new.net ≡ self.old.net }
+        ensures client { self.new.client ≡ self.old.client }
         ensures room { IfErr result (λ e. e ≡ Short.Room → length self.new.past ≡ limit) }
     {
         let ancestor = of.ancestor(of.len() - levels as usize);
@@ -175,7 +225,7 @@ impl Session {
         requires alive { self.old.dead ≡ None }
         ensures ok { OnOk result (self.new ≡ trace.committed name.now self.old) }
         ensures setting { self.new.setting ≡ self.old.setting }
-        ensures net { self.new.net ≡ self.old.net }
+        ensures client { self.new.client ≡ self.old.client }
         ensures room { IfErr result (λ e. e ≡ Short.Room → length self.new.past ≡ limit) }
     {
         let end = Event::End {
@@ -183,9 +233,9 @@ impl Session {
             how: How::Commit(Answer::Nothing),
         };
         if name.len() != 1 {
-            return self.append(CLIENT_SEAT, end);
+            return self.act(end);
         }
-        self.append(CLIENT_SEAT, Event::Ready { top: *name })?;
+        self.act(Event::Ready { top: *name })?;
         self.append(LEDGER_SEAT, end)
     }
 
@@ -205,12 +255,16 @@ impl Session {
     // Runs a user transaction of a body, below a parent of this depth.
     #[cycle(run)]
     fn body(&mut self, depth: usize, name: &Name, body: &Body) -> Result<(), Short>
-        requires running { Running name.now 1 (trace.begun name.now (numbered body.now).number self.old) }
+        requires running { Running name.now 1
+            (trace.begun name.now (numbered body.now).number self.old) }
         requires depth { length name.now < longest }
-        requires within { PlanWithin (length self.old.setting.base) (length self.old.setting.firsts) (length name.now) (numbered body.now).plan }
-        ensures ok { OnOk result (trace.BodyRuns depth name.now (numbered body.now) self.old self.new) }
+        requires within { PlanWithin
+            (length self.old.setting.base) (length self.old.setting.firsts)
+            (length name.now) (numbered body.now).plan }
+        ensures ok { OnOk result
+            (trace.BodyRuns depth name.now (numbered body.now) self.old self.new) }
         ensures setting { self.new.setting ≡ self.old.setting }
-        ensures net { self.new.net ≡ self.old.net }
+        ensures client { self.new.client ≡ self.old.client }
         ensures room { IfErr result (λ e. e ≡ Short.Room → length self.new.past ≡ limit) }
     {
         self.begin(name, body.number)?;
@@ -226,11 +280,15 @@ impl Session {
         requires running { Running of.now k self.old }
         requires alive { self.old.dead ≡ None }
         requires depth { length of.now < 16 }
-        requires within { PlanWithin (length self.old.setting.base) (length self.old.setting.firsts) (length of.now + 1) (numbered body.now).plan }
-        ensures ok { IfOk result (λ next. trace.TriesRan (length of.now) (trace.child_of of.now) (numbered body.now) k next self.old self.new) }
+        requires within { PlanWithin
+            (length self.old.setting.base) (length self.old.setting.firsts)
+            (length of.now + 1) (numbered body.now).plan }
+        ensures ok { IfOk result (λ next. trace.TriesRan
+            (length of.now) (trace.child_of of.now) (numbered body.now) k next
+            self.old self.new) }
         ensures running { IfOk result (λ next. Running of.now next self.new) }
         ensures setting { self.new.setting ≡ self.old.setting }
-        ensures net { self.new.net ≡ self.old.net }
+        ensures client { self.new.client ≡ self.old.client }
         ensures room { IfErr result (λ e. e ≡ Short.Room → length self.new.past ≡ limit) }
     {
         let mut next = k;
@@ -253,10 +311,12 @@ impl Session {
     fn steps(&mut self, of: &Name, steps: &[Step]) -> Result<(), Short>
         requires running { Running of.now 1 self.old }
         requires depth { length of.now < longest }
-        requires within { PlanWithin (length self.old.setting.base) (length self.old.setting.firsts) (length of.now) (plan_of steps.now) }
+        requires within { PlanWithin
+            (length self.old.setting.base) (length self.old.setting.firsts)
+            (length of.now) (plan_of steps.now) }
         ensures ok { OnOk result (trace.Runs of.now 1 (plan_of steps.now) self.old self.new) }
         ensures setting { self.new.setting ≡ self.old.setting }
-        ensures net { self.new.net ≡ self.old.net }
+        ensures client { self.new.client ≡ self.old.client }
         ensures room { IfErr result (λ e. e ≡ Short.Room → length self.new.past ≡ limit) }
     {
         let mut k = 1;
@@ -311,7 +371,7 @@ impl Session {
     pub fn entries(&self) -> &[Entry]
         ensures entries { reverse result.now ≡ self.now.past }
         ensures legal { Legal self.now.setting self.now.past }
-        ensures met { IsTrue (meets_fates client_seat self.now.net self.now.past) }
+        ensures met { IsTrue (meets_fates self.now.client.seat self.now.client.net self.now.past) }
     {
         self.line.entries()
     }
@@ -329,7 +389,7 @@ impl Session {
         ensures entries { reverse result.1.items ≡ self.past }
         ensures bounded { length result.1.items ≤ limit }
         ensures legal { Legal self.setting self.past }
-        ensures met { IsTrue (meets_fates client_seat self.net self.past) }
+        ensures met { IsTrue (meets_fates self.client.seat self.client.net self.past) }
     {
         self.line.into_parts()
     }

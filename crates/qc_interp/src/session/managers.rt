@@ -5,7 +5,6 @@ ghost use Rattle.qc_event.specs.declared.event.How.{How};
 ghost use Rattle.qc_event.specs.History.{limit, is_child, children};
 ghost use Rattle.qc_event.specs.Legal.{Legal};
 ghost use Rattle.qc_gather.specs.Carrying.{IsRunning, HasGrown};
-ghost use Rattle.qc_event.specs.Seats.{client_seat};
 ghost use Rattle.qc_names.specs.Name.{longest};
 ghost use Rattle.qc_interp.specs.Running.{MayMake, Running, ManagerFits, ending_of, WentOn, RanManager};
 ghost use Rattle.qc_interp.specs.Trace as trace;
@@ -13,7 +12,7 @@ ghost use Rattle.qc_rw.specs.Managed.{IsAnswered, IsRefused};
 ghost use Rattle.qc_store.specs.Served.{is_answer};
 
 use crate::session::Session;
-use qc_event::{Answer, CLIENT_SEAT, Cause, Event, How, Kind, Name, Short};
+use qc_event::{Answer, Cause, Event, How, Kind, Name, Short};
 use qc_rw::MgrNo;
 
 // How a manager ends by what it came to. Where memory or room was wanting it does not end, and the session
@@ -39,10 +38,13 @@ impl Session {
 
     // Ends a manager by what it came to, and answers how it ended.
     fn close(&mut self, name: &Name, came_to: &Result<Answer, MgrNo>) -> Result<How, Short>
-        requires may_end { (how : How) → ending_of came_to.now ≡ Some how → MayMake self.old (trace.by_client (End name.now how)) }
+        requires may_end { (how : How) → ending_of came_to.now ≡ Some how
+            → MayMake self.old (trace.by_client self.old.client.seat (End name.now how)) }
         requires full { came_to.now ≡ Err MgrNo.Room → length self.old.past ≡ limit }
         ensures ending { IfOk result (λ how. ending_of came_to.now ≡ Some how) }
-        ensures ok { IfOk result (λ how. self.new ≡ record self.old { past = trace.by_client (End name.now how) ∷ self.old.past }) }
+        ensures ok { IfOk result (λ how. self.new ≡ record self.old {
+          past = trace.by_client self.old.client.seat (End name.now how) ∷ self.old.past;
+        }) }
         ensures err { OnErr result (self.new ≡ self.old) }
         ensures room { IfErr result (λ e. e ≡ Short.Room → length self.old.past ≡ limit) }
     {
@@ -54,11 +56,13 @@ impl Session {
     // Goes on with a transaction whose manager has ended, or aborts it with the manager's cause. It answers
     // whether the transaction goes on.
     fn go_on(&mut self, of: &Name, closed: &Result<How, Short>) -> Result<bool, Short>
-        requires may_abort { (cause : Cause) → closed.now ≡ Ok (Abort cause) → MayMake self.old (trace.by_client (End of.now (Abort cause))) }
+        requires may_abort { (cause : Cause) → closed.now ≡ Ok (Abort cause)
+            → MayMake self.old (trace.by_client self.old.client.seat (End of.now (Abort cause))) }
         requires full { closed.now ≡ Err Short.Room → length self.old.past ≡ limit }
-        ensures ok { IfOk result (λ goes_on. IsOkAnd closed.now (λ how. WentOn how of.now goes_on self.old self.new)) }
+        ensures ok { IfOk result (λ goes_on. IsOkAnd closed.now
+            (λ how. WentOn how of.now goes_on self.old self.new)) }
         ensures setting { self.new.setting ≡ self.old.setting }
-        ensures net { self.new.net ≡ self.old.net }
+        ensures client { self.new.client ≡ self.old.client }
         ensures room { IfErr result (λ e. e ≡ Short.Room → length self.new.past ≡ limit) }
     {
         match closed {
@@ -77,13 +81,16 @@ impl Session {
     // ended yet.
     fn come_to(&mut self, name: &Name, kind: &Kind) -> Result<Answer, MgrNo>
         requires fits { ManagerFits self.old.setting kind.now }
-        requires manager { IsRunning client_seat self.old.past name.now kind.now }
+        requires manager { IsRunning self.old.client.seat self.old.past name.now kind.now }
         requires no_child { children self.old.past name.now ≡ [] }
         ensures same { self.new ≡ record self.old { past = self.new.past } }
         ensures legal { Legal self.new.setting self.new.past }
-        ensures grown { HasGrown (λ e. is_answer e) (λ n. IsTrue (is_child name.now n)) self.old.past self.new.past }
-        ensures answered { IfOk result (IsAnswered self.old.setting client_seat self.new.past name.now kind.now) }
-        ensures refused { IfErr result (IsRefused self.old.setting client_seat self.new.past name.now kind.now) }
+        ensures grown { HasGrown
+            (λ e. is_answer e) (λ n. IsTrue (is_child name.now n)) self.old.past self.new.past }
+        ensures answered { IfOk result (IsAnswered
+            self.old.setting self.old.client.seat self.new.past name.now kind.now) }
+        ensures refused { IfErr result (IsRefused
+            self.old.setting self.old.client.seat self.new.past name.now kind.now) }
     {
         match kind {
             Kind::Read { rec } => {
@@ -111,13 +118,14 @@ impl Session {
         requires alive { self.old.dead ≡ None }
         requires depth { length of.now < longest }
         requires fits { ManagerFits self.old.setting kind.now }
-        ensures ok { IfOk result (λ goes_on. RanManager of.now k kind.now goes_on self.old self.new) }
+        ensures ok { IfOk result
+            (λ goes_on. RanManager of.now k kind.now goes_on self.old self.new) }
         ensures setting { self.new.setting ≡ self.old.setting }
-        ensures net { self.new.net ≡ self.old.net }
+        ensures client { self.new.client ≡ self.old.client }
         ensures room { IfErr result (λ e. e ≡ Short.Room → length self.new.past ≡ limit) }
     {
         let name = of.child(k);
-        self.append(CLIENT_SEAT, Event::Start { name, kind: *kind })?;
+        self.act(Event::Start { name, kind: *kind })?;
         let came_to = self.come_to(&name, kind);
         let closed = self.close(&name, &came_to);
         self.go_on(of, &closed)

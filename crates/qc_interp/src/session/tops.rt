@@ -1,7 +1,6 @@
 //! The tops of a session.
 ghost use Rattle.std.specs.Prelude.{◌≡◌, [], length, map, None, IfOk, IfErr, IsTrue, OnOk};
 ghost use Rattle.qc_event.specs.History.{limit};
-ghost use Rattle.qc_event.specs.Seats.{client_seat};
 ghost use Rattle.qc_interp.specs.Follows.{FollowsTops};
 ghost use Rattle.qc_interp.specs.Running.{Resting};
 ghost use Rattle.qc_interp.specs.Trace as trace;
@@ -11,23 +10,26 @@ ghost use Rattle.qc_script.specs.Steps.{numbered};
 
 use crate::session::Session;
 use crate::tries::is_tried_again;
-use qc_event::{Name, Short};
+use qc_event::{Short, top_name};
 use qc_script::Body;
-
-/// The number of the first epoch's first top.
-const FIRST_TOP: u64 = 4_294_967_297;
 
 impl Session {
     // Runs the tries of a body as tops, the first of them as top i. It answers the number of the next top.
-    fn top_tries(&mut self, i: u64, body: &Body) -> Result<u64, Short>
+    fn top_tries(&mut self, i: u32, body: &Body) -> Result<u32, Short>
         requires resting { Resting i self.old }
-        requires within { PlanWithin (length self.old.setting.base) (length self.old.setting.firsts) 1 (numbered body.now).plan }
-        requires met { IsTrue (meets_fates client_seat self.old.net self.old.past) }
-        ensures ok { IfOk result (λ next. trace.TriesRan 0 trace.top_of (numbered body.now) i next self.old self.new) }
+        requires within { PlanWithin
+            (length self.old.setting.base) (length self.old.setting.firsts)
+            1 (numbered body.now).plan }
+        requires met { IsTrue
+            (meets_fates self.old.client.seat self.old.client.net self.old.past) }
+        ensures ok { IfOk result (λ next. trace.TriesRan
+            0 (trace.top_of self.old.client.epoch) (numbered body.now) i next
+            self.old self.new) }
         ensures resting { IfOk result (λ next. Resting next self.new) }
-        ensures met { OnOk result (IsTrue (meets_fates client_seat self.new.net self.new.past)) }
+        ensures met { OnOk result (IsTrue
+            (meets_fates self.new.client.seat self.new.client.net self.new.past)) }
         ensures setting { self.new.setting ≡ self.old.setting }
-        ensures net { self.new.net ≡ self.old.net }
+        ensures client { self.new.client ≡ self.old.client }
         ensures room { IfErr result (λ e. e ≡ Short.Room → length self.new.past ≡ limit) }
     {
         let mut next = i;
@@ -35,9 +37,10 @@ impl Session {
             if self.line.is_full() {
                 return Err(Short::Room);
             }
-            let name = Name::top(FIRST_TOP + next);
+            let place = next + 1;
+            let name = top_name(self.epoch, place);
             self.body(0, &name, body)?;
-            next += 1;
+            next = place;
             if !is_tried_again(self.line.entries(), &name) {
                 return Ok(next);
             }
@@ -49,14 +52,19 @@ impl Session {
     /// was aborted by a conflict or for want of a quorum is tried again as the next top, as long as tries are left.
     /// An error leaves the entries that were made before it.
     pub fn tops(&mut self, bodies: &[Body]) -> Result<(), Short>
-        requires within { TopsWithin (length self.old.setting.base) (length self.old.setting.firsts) (map numbered bodies.now) }
+        requires within { TopsWithin
+            (length self.old.setting.base) (length self.old.setting.firsts)
+            (map numbered bodies.now) }
         requires fresh { self.old.past ≡ [] }
         requires alive { self.old.dead ≡ None }
         ensures setting { self.new.setting ≡ self.old.setting }
-        ensures net { self.new.net ≡ self.old.net }
-        ensures follows { OnOk result (FollowsTops self.new.net (map numbered bodies.now) self.new.past) }
+        ensures client { self.new.client ≡ self.old.client }
+        ensures follows { OnOk result
+            (FollowsTops self.new.client (map numbered bodies.now) self.new.past) }
         ensures room { IfErr result (λ e. e ≡ Short.Room → length self.new.past ≡ limit) }
     {
+        // A session's epoch is at least 1, which is seen where it is read.
+        let _ = &self.epoch;
         let mut next = 0;
         for body in bodies {
             next = self.top_tries(next, body)?;

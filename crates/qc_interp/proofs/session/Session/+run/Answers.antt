@@ -107,7 +107,7 @@ child_tries-loop-preserved t c =
     (ap (λ (n : trace.Now). n.past) c.self-in-loop.view_is) c.entries.ensures.entries c.is_tried_again.ensures c.if-not-is_tried_again.false in
     record {
       tried = tried_again (length of) (child_of of) body c.args.k c.args.self.now c.loop.counter c.loop.next c.loop.self inv.tried mid
-          (subst (λ n. c.loop.counter < n) (sym (tries_of c.args.body.now)) c.loop-test.true) ran c.in_ok-body.ensures.setting c.in_ok-body.ensures.net again;
+          (subst (λ n. c.loop.counter < n) (sym (tries_of c.args.body.now)) c.loop-test.true) ran c.in_ok-body.ensures.setting c.in_ok-body.ensures.client again;
       running = left.running;
       alive = left.alive again;
     }
@@ -141,7 +141,7 @@ steps-returns-in_default-step t c =
     record {
       ok = on_ok_weaker c.orphan.result (stops c.loop-step.invariant c.loop-step-test.true c.step-item.is c.in-Some.ancestor c.orphan.new.self c.in_default-step.not-Abort fallen) c.orphan.ensures.ok;
       setting = c.orphan.ensures.setting ∙ c.loop-step.invariant.setting;
-      net = c.orphan.ensures.net ∙ c.loop-step.invariant.net;
+      client = c.orphan.ensures.client ∙ c.loop-step.invariant.client;
       room = c.orphan.ensures.room;
     }
 
@@ -234,7 +234,7 @@ steps-loop-step-preserved t c =
           (subst (λ b. RanManager c.args.of.now c.loop-step.k (kind.Reconf w.in-Reconf.rec w.in-Reconf.config) b c.loop-step.self w.manage-in-Reconf.new.self) w.if-not-branch-3.false w.in_ok-manage-in-Reconf.ensures.ok))
       | steps-in-Child+in_ok-k-in-Child w ↦
           subst₂ Next (sym w.k-is) (sym w.self-is)
-          (child_done left c.loop-step-test.true c.step-item.is w.in-Child.body w.in-Child.is alive w.in_ok-k-in-Child.k w.child_tries.new.self w.in_ok-k-in-Child.ensures.ok w.in_ok-k-in-Child.ensures.running w.in_ok-k-in-Child.ensures.setting w.in_ok-k-in-Child.ensures.net)
+          (child_done left c.loop-step-test.true c.step-item.is w.in-Child.body w.in-Child.is alive w.in_ok-k-in-Child.k w.child_tries.new.self w.in_ok-k-in-Child.ensures.ok w.in_ok-k-in-Child.ensures.running w.in_ok-k-in-Child.ensures.setting w.in_ok-k-in-Child.ensures.client)
     ]
 
 pub steps-orphan-requires-in-Some-dead-clause-running : goal.steps-orphan-requires-in-Some-dead-clause-running

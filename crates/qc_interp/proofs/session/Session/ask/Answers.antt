@@ -12,7 +12,7 @@ use Rattle.qc_interp.proofs.session.Session.ask.Goals as goal
 
 -- a name may be aborted for a cause where it has not ended
 abbrev MayAbort : trace.Now → Name → Cause → Type 0
-MayAbort now m cause = end now.past m ≡ None → MayMake now (trace.by_client (End m (Abort cause)))
+MayAbort now m cause = end now.past m ≡ None → MayMake now (trace.by_client now.client.seat (End m (Abort cause)))
 
 pub abort-requires : goal.abort-requires
 abort-requires c =

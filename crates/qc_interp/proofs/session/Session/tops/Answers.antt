@@ -4,7 +4,7 @@ use Rattle.qc_interp.proofs.session.Session.tops.Goals as goal
 
 pub loop-body-preserved : goal.loop-body-preserved
 loop-body-preserved c =
-    top_done c.loop-body.invariant c.loop-body-test.true c.body-item.is c.in_ok-next.next c.top_tries.new.self c.in_ok-next.ensures.ok c.in_ok-next.ensures.resting c.in_ok-next.ensures.setting c.in_ok-next.ensures.net c.in_ok-next.ensures.met
+    top_done c.loop-body.invariant c.loop-body-test.true c.body-item.is c.in_ok-next.next c.top_tries.new.self c.in_ok-next.ensures.ok c.in_ok-next.ensures.resting c.in_ok-next.ensures.setting c.in_ok-next.ensures.client c.in_ok-next.ensures.met
 
 pub returns-clause-follows : goal.returns-clause-follows
 returns-clause-follows c =
