@@ -3,7 +3,7 @@ ghost use Rattle.qc_event.specs.Base.{IsProper};
 ghost use Rattle.qc_event.specs.declared.event.Kind.TheVariants as kind;
 ghost use Rattle.qc_event.specs.History.{limit, end};
 ghost use Rattle.qc_event.specs.Legal.{Legal};
-ghost use Rattle.qc_event.specs.Seats.{client_seat};
+ghost use Rattle.qc_event.specs.Seats.{is_client};
 ghost use Rattle.qc_names.specs.Name.{longest};
 ghost use Rattle.qc_interp.specs.Running.{MayMake, Running};
 ghost use Rattle.qc_interp.specs.Trace as trace;
@@ -17,8 +17,7 @@ mod tops;
 use crate::client::Client;
 use crate::tries::is_tried_again;
 use qc_event::{
-    Answer, Base, CLIENT_SEAT, Cause, Config, Entry, Event, How, Kind, LEDGER_SEAT, Name, Short,
-    outcome,
+    Answer, Base, Cause, Config, Entry, Event, How, Kind, LEDGER_SEAT, Name, Short, outcome,
 };
 use qc_line::Line;
 use qc_net::Fate;
@@ -41,7 +40,6 @@ pub struct Session {
 }
 
 impl Model for Session {
-    ghost use Rattle.qc_event.specs.Seats.{client_seat};
     ghost use Rattle.qc_interp.specs.Client.{MayAct};
     ghost use Rattle.qc_interp.specs.Trace.{Now};
 
@@ -52,14 +50,14 @@ impl Model for Session {
       past = s.line.past;
       dead = s.dead;
       client = record {
-        seat = client_seat;
+        seat = s.line.seat;
         session = s.session;
         epoch = s.epoch;
         net = s.line.net;
       };
     } };
 
-    ghost invariant = { λ s. MayAct client_seat s.epoch };
+    ghost invariant = { λ s. MayAct s.line.seat s.epoch };
 }
 
 // The shorter of an aborted ancestor and a name.
@@ -90,7 +88,7 @@ impl Session {
         patience: u32,
     ) -> Result<Self, AllocError>
         requires proper { IsProper (record { firsts = firsts.items; base = start }) }
-        requires seat { client.seat ≡ client_seat }
+        requires seat { IsTrue (is_client client.seat) }
         requires epoch { 1 ≤ client.epoch }
         requires hold { 1 ≤ hold }
         ensures { IfOk result (λ s. s ≡ record {
@@ -106,7 +104,7 @@ impl Session {
         }) }
     {
         Ok(Session {
-            line: Line::new(alloc, firsts, start, fates, hold, patience)?,
+            line: Line::new(alloc, client.seat, firsts, start, fates, hold, patience)?,
             session: client.session,
             epoch: client.epoch,
             dead: None,
@@ -134,7 +132,7 @@ impl Session {
         ensures room { IfErr result (λ e. e ≡ Short.Room → length self.old.past ≡ limit) }
     {
         self.line.push(Entry {
-            seat: CLIENT_SEAT,
+            seat: self.line.seat(),
             event,
         })
     }

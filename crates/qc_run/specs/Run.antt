@@ -1,6 +1,7 @@
 -- What a run answers: words for the clauses of the top call.
 use Rattle.std.specs.Prelude.{ℕ, ◌≡◌, ◌≢◌, ◌⊎◌, List, [], length, map, reverse, Option, None, IfSome}
 use Rattle.std.specs.List.{range_with_len}
+use Rattle.qc_event.specs.Seats.{client_seat}
 use Rattle.qc_event.specs.Sound.{IsSound}
 use Rattle.qc_event.specs.Tables.{base_of, setting_of}
 use Rattle.qc_event.specs.History.{Past}
@@ -14,21 +15,30 @@ use Rattle.qc_script.specs.Reading.{IsScript, IsRefused}
 use Rattle.qc_refine.specs.Final.{final_value}
 use Rattle.qc_run.specs.Report.{Text, report}
 use Rattle.qc_simlock.specs.Serial.{IsSerialThroughout, final_values}
+use Rattle.qc_interp.specs.Client.{Client}
 use Rattle.qc_interp.specs.Trace.{Now}
-use Rattle.qc_line.specs.Messages.{Net}
 use Rattle.qc_run.specs.FaultLine.{fault_line}
 use Rattle.qc_script.specs.declared.bad_script.BadScript.TheVariants.{Memory}
 use Rattle.qc_script.specs.Plan.{ScriptPlan}
 use Rattle.qc_run.specs.declared.status.Status.{Status}
 use Rattle.qc_run.specs.declared.status.Status.TheVariants as status
 
--- the network of a script's session
-abbrev pub net_of : ScriptPlan → Net
-net_of s = record { fates = s.fates; hold = s.hold; patience = s.patience }
+-- the first epoch, which is every run's for now
+abbrev pub first_epoch : ℕ
+first_epoch = 1
+
+-- the client that runs a script's session: the first one, in the first epoch, over the script's network
+abbrev pub client_of : ScriptPlan → Client
+client_of s = record {
+  seat = client_seat;
+  session = 0;
+  epoch = first_epoch;
+  net = record { fates = s.fates; hold = s.hold; patience = s.patience };
+}
 
 -- a session of a script that has done nothing
 abbrev pub fresh : ScriptPlan → Now
-fresh s = record { setting = setting_of s.table (base_of s.table); past = []; dead = None; net = net_of s }
+fresh s = record { setting = setting_of s.table (base_of s.table); past = []; dead = None; client = client_of s }
 
 -- The source was read to its end, and its bytes are this script.
 pub record ReadsScript (before now : Option (List ℕ)) (s : ScriptPlan) : Type 0 where

@@ -19,8 +19,8 @@ use crate::report::finals::finals;
 use crate::report::report;
 use crate::status::{ROOM_LINE, Status, fault_line};
 use crate::words::is_command;
-use qc_event::{Base, Config, Entry, Row, Short, Table, Tuple};
-use qc_interp::Session;
+use qc_event::{Base, CLIENT_SEAT, Config, Entry, Row, Short, Table, Tuple};
+use qc_interp::{Client, Session};
 use qc_script::{BadScript, MOST_BYTES, Script};
 use std::alloc::{AllocError, Global};
 
@@ -46,6 +46,13 @@ fn base_of(alloc: Global, table: &Table) -> Result<Base, AllocError>
     }
     Ok(Base::new(copies))
 }
+
+/// The client of the one session of a run, in the first epoch.
+const FIRST_CLIENT: Client = Client {
+    seat: CLIENT_SEAT,
+    session: 0,
+    epoch: 1,
+};
 
 // The first configuration of each record.
 fn configs_of(alloc: Global, table: &Table) -> Result<Vec<Config>, AllocError>
@@ -140,7 +147,8 @@ fn open(alloc: Global, script: &Script) -> Result<Session, AllocError>
     let firsts = configs_of(alloc, &script.table)?;
     let start = base_of(alloc, &script.table)?;
     let fates = script.session.fates.clone()?;
-    Session::new(alloc, firsts, start, fates, script.session.hold, script.patience)
+    let (hold, patience) = (script.session.hold, script.patience);
+    Session::new(alloc, FIRST_CLIENT, firsts, start, fates, hold, patience)
 }
 
 // Ends a run that stopped for want of memory or of room. To tell of room takes no memory.
@@ -167,7 +175,7 @@ fn proceed<K: Sink>(alloc: Global, script: &Script, mut session: Session, sink: 
     ensures legal_history { Legal (setting_of script.now.table result.start) (reverse result.trail.items) }
     ensures start { result.start ≡ base_of script.now.table }
     ensures follows { terms.RanToEnd result.status
-        → FollowsTops (terms.net_of (plan_of_script script.now)) (plan_of_script script.now).tops (reverse result.trail.items) }
+        → FollowsTops (terms.client_of (plan_of_script script.now)) (plan_of_script script.now).tops (reverse result.trail.items) }
     ensures answer { terms.IsPerformed result.status }
     ensures done { result.status ≡ Status.Done → Appends (K.taken sink.old) (K.taken sink.new)
         (terms.report_of (plan_of_script script.now) result.start result.trail.items) }
@@ -200,7 +208,7 @@ fn perform<K: Sink>(alloc: Global, script: &Script, sink: &mut K) -> Ran
         × Legal (setting_of script.now.table result.start) (reverse result.trail.items)) }
     ensures start { terms.ReadIt result.status → result.start ≡ base_of script.now.table }
     ensures follows { terms.RanToEnd result.status
-        → FollowsTops (terms.net_of (plan_of_script script.now)) (plan_of_script script.now).tops (reverse result.trail.items) }
+        → FollowsTops (terms.client_of (plan_of_script script.now)) (plan_of_script script.now).tops (reverse result.trail.items) }
     ensures answer { terms.IsPerformed result.status }
     ensures done { result.status ≡ Status.Done → Appends (K.taken sink.old) (K.taken sink.new)
         (terms.report_of (plan_of_script script.now) result.start result.trail.items) }
@@ -242,7 +250,7 @@ fn over<K: Sink>(alloc: Global, bytes: &[u8], sink: &mut K) -> Ran
         → (result.trail.items ≡ []) × (result.start ≡ []) }
     ensures started { terms.ReadIt result.status → terms.OfBytes bytes.now result.start (λ _. ⊤) }
     ensures follows { terms.RanToEnd result.status → terms.OfBytes bytes.now result.start
-        (λ s. FollowsTops (terms.net_of s) s.tops (reverse result.trail.items)) }
+        (λ s. FollowsTops (terms.client_of s) s.tops (reverse result.trail.items)) }
     ensures answer { terms.IsOver result.status }
     ensures refused { terms.IsScriptFault (Some bytes.now) result.status }
     ensures done { result.status ≡ Status.Done → terms.OfBytes bytes.now result.start
@@ -273,7 +281,7 @@ fn answer<S: Source, K: Sink>(alloc: Global, words: &[String], source: &mut S, s
         → terms.OfScript (S.left source.old) (S.left source.new) result.start (λ _. ⊤) }
     ensures follows_script { terms.RanToEnd result.status
         → terms.OfScript (S.left source.old) (S.left source.new) result.start
-        (λ s. FollowsTops (terms.net_of s) s.tops (reverse result.trail.items)) }
+        (λ s. FollowsTops (terms.client_of s) s.tops (reverse result.trail.items)) }
     ensures output { result.status ≡ Status.Done
         → terms.OfScript (S.left source.old) (S.left source.new) result.start
         (λ s. Appends (K.taken sink.old) (K.taken sink.new) (terms.report_of s result.start result.trail.items)) }
@@ -337,7 +345,7 @@ pub fn run<S: Source, K: Sink>(alloc: Global, words: &[String], source: &mut S, 
     // that meet the fates of its network.
     ensures follows_script { terms.RanToEnd result.status
         → terms.OfScript (S.left source.old) (S.left source.new) result.start
-        (λ s. FollowsTops (terms.net_of s) s.tops (reverse result.trail.items)) }
+        (λ s. FollowsTops (terms.client_of s) s.tops (reverse result.trail.items)) }
     ensures started { terms.ReadIt result.status
         → terms.OfScript (S.left source.old) (S.left source.new) result.start (λ _. ⊤) }
 
