@@ -73,14 +73,15 @@ find_rt() {
 }
 
 # What the checker's output tells so far: the place of the crate at hand, how many there are, its name,
-# and how many functions are proved.
+# and how many functions are proved: those of the crates that are done, and of this one so far.
 read_log() {
     crates | awk '
         NR == FNR { place[$1] = count = NR; next }
         $1 == "rt:" && $NF in place { name = $NF }
         $2 ~ /^qc_[a-z_]*::/ { name = $2; sub(/::.*/, "", name) }
-        $1 == "fn" && $NF == "proved" { proved++ }
-        END { if (name in place) print place[name], count, name, proved + 0 }' - "$log"
+        $1 " " $2 == "so far:" { far = $3 }
+        $1 == "fn" && $NF == "proved" { done++; far = 0 }
+        END { if (name in place) print place[name], count, name, done + far }' - "$log"
 }
 
 # Tells how far the build is, until it is ended: on a terminal in one line that moves, else in a line for
@@ -91,8 +92,9 @@ tell_progress() {
     while sleep 1 && kill -0 $$ 2>/dev/null; do
         read_log >"$log.read"
         read -r place count name proved <"$log.read" || continue
-        minutes=$((($(date +%s) - began) / 60))
-        line="qc: crate $place of $count, $name: $proved functions checked, $minutes minutes"
+        seconds=$(($(date +%s) - began))
+        minutes=$((seconds / 60))
+        line="qc: crate $place of $count, $name: $proved functions checked, $minutes min $((seconds % 60)) s"
         if [ -t 2 ]; then
             printf '\r%-78s' "$line" >&2
         elif [ "$name $minutes" != "$last" ]; then
