@@ -17,8 +17,9 @@ use Rattle.qc_refine.proofs.LastValues.{last_values}
 use Rattle.qc_script.specs.Plan.{ScriptPlan}
 use Rattle.qc_script.specs.Reading.{IsProper}
 use Rattle.qc_simlock.specs.Serial.{final_values}
-use Rattle.qc_run.specs.Report.{report}
-use Rattle.qc_run.specs.Run.{base_of, fresh, page, report_of, values_by_version, IsHalted, RanToEnd}
+use Rattle.qc_report.specs.LastValues.{values_by_version}
+use Rattle.qc_report.specs.Report.{report}
+use Rattle.qc_run.specs.Run.{base_of, fresh, page, report_of, IsHalted, RanToEnd}
 use Rattle.qc_run.specs.declared.status.Status.{Status}
 use Rattle.qc_run.proofs.Starts.{start_is_sound, firsts_length, values_length}
 

@@ -1,6 +1,6 @@
 use Rattle.std.proofs.Common.{◌∙◌, sym, subst}
 use Rattle.qc_event.specs.Base.{start_values}
-use Rattle.qc_run.specs.Io.{Appends, AppendsFront}
+use Rattle.qc_io.specs.Io.{Appends, AppendsFront}
 use Rattle.qc_run.specs.Run as terms
 use Rattle.qc_simlock.specs.Serial.{IsSerialThroughout}
 use Rattle.qc_script.specs.Steps.{plan_of_script}
