@@ -18,8 +18,9 @@ use Rattle.qc_refine.specs.Final.{final_value}
 use Rattle.qc_refine.proofs.LastValues.{last_values}
 use Rattle.qc_script.specs.Plan.{ScriptPlan}
 use Rattle.qc_script.specs.Reading.{IsProper}
-use Rattle.qc_run.specs.Report.{report}
-use Rattle.qc_run.specs.Run.{fresh, page, report_of, values_by_version, HasSerialValues, IsHalted, OfRun, RanToEnd, ReadsScript}
+use Rattle.qc_report.specs.LastValues.{values_by_version}
+use Rattle.qc_report.specs.Report.{report}
+use Rattle.qc_run.specs.Run.{fresh, page, report_of, HasSerialValues, IsHalted, OfRun, RanToEnd, ReadsScript}
 use Rattle.qc_run.specs.declared.status.Status.{Status}
 use Rattle.qc_run.proofs.Starts.{start_is_sound, firsts_length}
 

@@ -7,7 +7,7 @@ use Rattle.qc_script.specs.declared.bad_script.BadScript.TheVariants.{NotJson, S
 use Rattle.qc_script.specs.Plan.{ScriptPlan}
 use Rattle.qc_run.specs.declared.status.Status.{Status}
 use Rattle.qc_run.specs.declared.status.Status.TheVariants as status
-use Rattle.qc_run.specs.Io.{Drops, IsAtEnd}
+use Rattle.qc_io.specs.Io.{Drops, IsAtEnd}
 use Rattle.qc_script.specs.Reading.{IsScript, IsRefused}
 use Rattle.qc_run.specs.Run.{ReadsScript, ReadIt, IsScriptFault, IsNoRun, IsDoneOrShort}
 use Rattle.qc_script.proofs.OneScript.{script_not_refused}

@@ -9,7 +9,7 @@ use Rattle.qc_script.specs.declared.bad_script.Member.{Member}
 use Rattle.qc_script.specs.declared.bad_script.Member.TheVariants as member
 use Rattle.qc_run.specs.declared.status.Status.{Status}
 use Rattle.qc_run.specs.declared.status.Status.TheVariants as status
-use Rattle.qc_run.specs.Report.{Text}
+use Rattle.qc_report.specs.Report.{Text}
 
 -- the number with which the process ends
 abbrev pub exit_code : Status → ℕ

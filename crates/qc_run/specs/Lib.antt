@@ -1,5 +1,3 @@
-pub mod Io
 pub mod Words
-pub mod Report
 pub mod FaultLine
 pub mod Run

@@ -1,19 +1,17 @@
 -- What a run answers: words for the clauses of the top call.
 use Rattle.std.specs.Prelude.{ℕ, ◌≡◌, ◌≢◌, ◌⊎◌, List, [], length, map, reverse, Option, None, IfSome}
-use Rattle.std.specs.List.{range_with_len}
 use Rattle.qc_event.specs.Seats.{client_seat}
 use Rattle.qc_event.specs.Sound.{IsSound}
 use Rattle.qc_event.specs.Tables.{base_of, setting_of}
-use Rattle.qc_event.specs.History.{Past}
 use Rattle.qc_event.specs.declared.event.Entry.{Entry}
 use Rattle.qc_event.specs.declared.log.Short.{Short}
 use Rattle.qc_event.specs.declared.log.Short.TheVariants as short
 use Rattle.qc_event.specs.declared.table.Table.{Table}
 use Rattle.qc_config.specs.declared.tuple.Tuple.{Tuple}
-use Rattle.qc_run.specs.Io.{IsAtEnd, Rose, Appends, AppendsFront}
+use Rattle.qc_io.specs.Io.{IsAtEnd, Rose, Appends, AppendsFront}
 use Rattle.qc_script.specs.Reading.{IsScript, IsRefused}
-use Rattle.qc_refine.specs.Final.{final_value}
-use Rattle.qc_run.specs.Report.{Text, report}
+use Rattle.qc_report.specs.LastValues.{values_by_version}
+use Rattle.qc_report.specs.Report.{Text, report}
 use Rattle.qc_simlock.specs.Serial.{IsSerialThroughout, final_values}
 use Rattle.qc_interp.specs.Client.{Client}
 use Rattle.qc_interp.specs.Trace.{Now}
@@ -134,10 +132,6 @@ IsConcluded status.Done = Unit {0}
 IsConcluded status.WriteFault = Unit {0}
 IsConcluded status.Memory = Unit {0}
 IsConcluded _ = ⊥
-
--- the values of so many records by the versions of their tuples
-abbrev pub values_by_version : List (List Tuple) → Past → ℕ → List ℕ
-values_by_version base past records = map (final_value base past) (range_with_len 0 records)
 
 -- the report of a history, in which the last values go by versions
 abbrev pub report_of : ScriptPlan → List (List Tuple) → List Entry → Text

@@ -1,13 +1,12 @@
 //! Runs a script of sessions over a replicated record store, and reports what happened.
 #![tactic(auto)]
 
-pub mod io;
 mod program;
-mod report;
 mod status;
 mod words;
 
 pub use program::{Ran, run};
+pub use qc_io as io;
 pub use qc_script::{BadScript, Member};
 pub use status::Status;
 

@@ -1,8 +1,8 @@
 ghost use Rattle.std.specs.Prelude.{◌≡◌, ◌++◌, IfOk, OnOk};
 ghost use Rattle.qc_run.specs.FaultLine as spec;
 
-use crate::report::Page;
 use qc_event::BadConfig;
+use qc_report::Page;
 use qc_script::{BadScript, Member};
 use std::alloc::{AllocError, Global};
 

@@ -1,8 +1,8 @@
 use Rattle.std.proofs.Common.{◌∙◌, ap, length, reverse, List}
 use Rattle.std.proofs.lemmas.Result.{IfOk-weaker}
 use Rattle.qc_event.specs.declared.table.Row.{Row}
-use Rattle.qc_run.specs.Report.{report}
-use Rattle.qc_run.specs.Run.{values_by_version}
+use Rattle.qc_report.specs.Report.{report}
+use Rattle.qc_report.specs.LastValues.{values_by_version}
 use Rattle.qc_run.proofs.RunFacts.{text_is_page}
 use Rattle.qc_run.proofs.program.page_of.Goals as goal
 

@@ -1,5 +1,5 @@
 use Rattle.std.proofs.Common.{◌∙◌, sym, subst}
-use Rattle.qc_run.specs.Io.{Appends, AppendsFront}
+use Rattle.qc_io.specs.Io.{Appends, AppendsFront}
 use Rattle.qc_run.specs.Run as terms
 use Rattle.qc_script.specs.Steps.{plan_of_script}
 use Rattle.qc_run.proofs.RunFacts.{gave_back, trail_legal, page_is_report, halted_not_ended}

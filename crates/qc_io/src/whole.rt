@@ -1,0 +1,88 @@
+//! Whole texts over streams.
+ghost use Rattle.std.specs.Prelude.{◌≡◌, ◌<◌, ◌≤◌, ◌+◌, ◌^◌, ℕ, List, [], ◌++◌, length, take, IfOk, OnOk, OnErr, IfSome, IsOk, IsErr, IsErrOf};
+ghost use Rattle.qc_io.specs.Io.{HasCause, Takes, Drops, LosesWithin, Appends, AppendsFront};
+ghost use Rattle.qc_io.specs.declared.whole.Untaken.TheVariants.{Failed, Memory};
+
+use super::{Failed, Sink, Source};
+use std::alloc::{AllocError, Global};
+
+/// The most bytes that one read is asked for.
+const PIECE: usize = 4096;
+
+/// Why bytes were not taken.
+#[derive(Clone, Copy, PartialEq, Eq, Debug)]
+pub enum Untaken {
+    /// The source failed.
+    Failed,
+    /// There was no memory.
+    Memory,
+}
+
+impl From<Failed> for Untaken {
+    ghost from_gives = { λ _ e. e ≡ Failed };
+
+    fn from(_: Failed) -> Self {
+        Untaken::Failed
+    }
+}
+
+impl From<AllocError> for Untaken {
+    ghost from_gives = { λ _ e. e ≡ Memory };
+
+    fn from(_: AllocError) -> Self {
+        Untaken::Memory
+    }
+}
+
+// Reads at most so many bytes behind the others, and says how many. It reads none only at the end.
+fn take_piece<S: Source>(source: &mut S, bytes: &mut Vec<u8>, most: usize) -> Result<usize, Untaken>
+    requires { 0 < most }
+    ensures taken { IfOk result
+        (Takes (S.left source.old) (S.left source.new) bytes.old.items bytes.new.items most) }
+    ensures lost { OnErr result (LosesWithin (S.left source.old) (S.left source.new) most) }
+    ensures cause { HasCause (S.faults source.old) (S.faults source.new)
+        (IsErrOf result Untaken.Failed) }
+{
+    let mut buffer = [0; PIECE];
+    let piece = &mut buffer[..most.min(PIECE)];
+    let count = source.read(piece)?;
+    bytes.extend_from_slice(&piece[..count])?;
+    Ok(count)
+}
+
+/// Reads to the end, or one byte past the limit.
+pub fn take_all<S: Source>(alloc: Global, source: &mut S, limit: usize) -> Result<Vec<u8>, Untaken>
+    requires { limit < 2 ^ 32 }
+    ensures bytes { IfOk result
+        (λ all. IfSome (S.left source.old) (λ left. all.items ≡ take (limit + 1) left)) }
+    ensures left { OnOk result (Drops (S.left source.old) (S.left source.new) (limit + 1)) }
+    ensures ended { OnOk result (IfSome (S.left source.old)
+        (λ left. length left ≤ limit → S.left source.new ≡ Some [])) }
+    ensures within { IfOk result (λ all. length all.items ≤ limit + 1) }
+    ensures lost { OnErr result (LosesWithin (S.left source.old) (S.left source.new) (limit + 1)) }
+    ensures cause { HasCause (S.faults source.old) (S.faults source.new)
+        (IsErrOf result Untaken.Failed) }
+{
+    let mut bytes = Vec::new(alloc);
+    while bytes.len() <= limit {
+        let most = limit + 1 - bytes.len();
+        if take_piece(source, &mut bytes, most)? == 0 {
+            return Ok(bytes);
+        }
+    }
+    Ok(bytes)
+}
+
+/// Writes all of the bytes. It makes no call where there are none.
+pub fn write_all<K: Sink>(sink: &mut K, bytes: &[u8]) -> Result<(), Failed>
+    ensures ok { OnOk result (Appends (K.taken sink.old) (K.taken sink.new) bytes.now) }
+    ensures failed { OnErr result (AppendsFront (K.taken sink.old) (K.taken sink.new) bytes.now) }
+    ensures cause { HasCause (K.faults sink.old) (K.faults sink.new) (IsErr result) }
+    ensures none { bytes.now ≡ [] → IsOk result × (sink.new ≡ sink.old) }
+{
+    let mut done = 0;
+    while done < bytes.len() {
+        done += sink.write(&bytes[done..])?;
+    }
+    Ok(())
+}

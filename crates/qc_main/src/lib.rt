@@ -1,0 +1,41 @@
+//! The program's body: its words and the standard streams, handed to the top call.
+#![tactic(auto)]
+
+ghost use Rattle.std.specs.Prelude.{◌≡◌};
+ghost use Rattle.std.specs.Process.{exit_status};
+ghost use Rattle.qc_run.specs.FaultLine.{exit_code};
+
+use qc_run::io::{StdSink, StdSource};
+use qc_run::{Status, run};
+use std::alloc::{AllocError, Global};
+use std::env;
+use std::process::ExitCode;
+
+// The words after the program's name. Words that cannot be told as text are no command, as none are.
+fn words(rt: &HostRuntime, alloc: Global) -> Result<Vec<String>, AllocError> {
+    let mut words = Vec::new(alloc);
+    if let Ok(args) = env::args(rt) {
+        for word in args.skip(1) {
+            words.push(word)?;
+        }
+    }
+    Ok(words)
+}
+
+fn ended(status: &Status) -> ExitCode
+    ensures { exit_status result ≡ exit_code status.now }
+{
+    ExitCode::from(status.code())
+}
+
+/// Does what the program's words say over the standard streams, and tells how it ended.
+pub fn start(rt: HostRuntime) -> ExitCode {
+    let alloc = rt.alloc();
+    let Ok(words) = words(&rt, alloc) else {
+        return ended(&Status::Memory);
+    };
+    let mut source = StdSource::new(rt.stdin());
+    let mut sink = StdSink::new(rt.stdout());
+    let ran = run(alloc, words.as_slice(), &mut source, &mut sink);
+    ended(&ran.status)
+}

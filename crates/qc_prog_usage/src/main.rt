@@ -1,0 +1,8 @@
+//! The program `qc`, run with words that are no command.
+#![tactic(auto)]
+
+use std::process::ExitCode;
+
+fn main(rt: HostRuntime) -> ExitCode {
+    qc_main::start(rt)
+}

@@ -1,0 +1,69 @@
+//! The report of a run: its text, and the last values that stand in it.
+#![tactic(auto)]
+
+ghost use Rattle.std.specs.Prelude.{◌≡◌, ◌++◌, IfOk, OnOk};
+ghost use Rattle.std.specs.List.{zip};
+ghost use Rattle.qc_report.specs.Report as spec;
+
+mod lack;
+mod last_values;
+mod lines;
+mod managers;
+mod page;
+mod tally;
+
+pub use last_values::finals;
+use lines::{push_doubt, push_event, push_final};
+pub use page::Page;
+use qc_event::{Entry, Table};
+use std::alloc::{AllocError, Global};
+use tally::push_tally;
+
+/// The report of a run: a line for each end in its history, a line for each top in doubt, the value of
+/// each record, and how many tops there were. The history has its oldest entry first.
+pub fn report(
+    alloc: Global,
+    table: &Table,
+    finals: &[u64],
+    trail: &[Entry],
+) -> Result<Vec<u8>, AllocError>
+    ensures { IfOk result (λ text. text.items ≡ spec.report table.now finals.now trail.now) }
+{
+    let mut page = Page::new(alloc);
+    push_events(&mut page, table, trail)?;
+    push_doubts(&mut page, trail)?;
+    push_finals(&mut page, table, finals)?;
+    push_tally(&mut page, trail)?;
+    Ok(page.into_bytes())
+}
+
+fn push_events(page: &mut Page, table: &Table, trail: &[Entry]) -> Result<(), AllocError>
+    ensures { OnOk result (page.new ≡ page.old ++ spec.event_lines table.now trail.now trail.now) }
+{
+    for entry in trail {
+        push_event(page, table, trail, &entry.event)?;
+    }
+    Ok(())
+}
+
+fn push_doubts(page: &mut Page, trail: &[Entry]) -> Result<(), AllocError>
+    ensures { OnOk result (page.new ≡ page.old ++ spec.doubt_lines trail.now trail.now) }
+{
+    for entry in trail {
+        push_doubt(page, trail, &entry.event)?;
+    }
+    Ok(())
+}
+
+fn push_finals(page: &mut Page, table: &Table, finals: &[u64]) -> Result<(), AllocError>
+    ensures { OnOk result
+        (page.new ≡ page.old ++ spec.final_lines (zip table.now.records finals.now)) }
+{
+    for (row, value) in table.records.as_slice().iter().zip(finals) {
+        push_final(page, row, *value)?;
+    }
+    Ok(())
+}
+
+#[cfg(test)]
+mod tests;

@@ -1,0 +1,115 @@
+ghost use Rattle.std.specs.Prelude.{◌≡◌, ◌++◌, OnOk};
+ghost use Rattle.qc_report.specs.Report as spec;
+
+use crate::managers::{push_failed, push_read, push_reconf, push_set};
+use crate::page::Page;
+use crate::tally::in_doubt;
+use qc_event::{Answer, Cause, Entry, Event, How, Kind, Name, Row, Table, kind};
+use std::alloc::AllocError;
+
+fn push_commit(page: &mut Page, name: &Name) -> Result<(), AllocError>
+    ensures { OnOk result (page.new ≡ page.old ++ spec.commit_line name.now) }
+{
+    write!(page, "commit {name}\n")
+}
+
+fn push_cause(page: &mut Page, cause: &Cause) -> Result<(), AllocError>
+    ensures { OnOk result (page.new ≡ page.old ++ spec.cause_text cause.now) }
+{
+    match cause {
+        Cause::Asked { by } => write!(page, "asked {by}"),
+        Cause::Conflict { .. } => write!(page, "conflict"),
+        Cause::NoQuorum(_) => write!(page, "noquorum"),
+        Cause::Last => write!(page, "last"),
+        Cause::Orphan(ancestor) => write!(page, "orphan {ancestor}"),
+        Cause::Killed => write!(page, "killed"),
+        Cause::Child(child) => write!(page, "child {child}"),
+        Cause::Missed => write!(page, "missed"),
+    }
+}
+
+fn push_abort(page: &mut Page, name: &Name, cause: &Cause) -> Result<(), AllocError>
+    ensures { OnOk result (page.new ≡ page.old ++ spec.abort_line name.now cause.now) }
+{
+    write!(page, "abort {name} ")?;
+    push_cause(page, cause)?;
+    write!(page, "\n")
+}
+
+fn push_committed(
+    page: &mut Page,
+    table: &Table,
+    name: &Name,
+    kind: &Kind,
+    answer: &Answer,
+) -> Result<(), AllocError>
+    ensures { OnOk result
+        (page.new ≡ page.old ++ spec.committed_line table.now name.now answer.now kind.now) }
+{
+    match kind {
+        Kind::User { .. } => push_commit(page, name),
+        Kind::Read { rec } => push_read(page, table, name, *rec, answer),
+        Kind::Write { rec, value } => push_set(page, table, name, *rec, *value),
+        Kind::Reconf { rec, .. } => push_reconf(page, table, name, *rec, answer),
+        Kind::Access => Ok(()),
+    }
+}
+
+fn push_aborted(
+    page: &mut Page,
+    table: &Table,
+    name: &Name,
+    kind: &Kind,
+    cause: &Cause,
+) -> Result<(), AllocError>
+    ensures { OnOk result
+        (page.new ≡ page.old ++ spec.aborted_line table.now name.now cause.now kind.now) }
+{
+    match kind {
+        Kind::User { .. } => push_abort(page, name, cause),
+        Kind::Read { rec } | Kind::Write { rec, .. } | Kind::Reconf { rec, .. } => {
+            push_failed(page, table, name, *rec, cause)
+        }
+        Kind::Access => Ok(()),
+    }
+}
+
+/// Appends the line of an entry of a history.
+pub(crate) fn push_event(
+    page: &mut Page,
+    table: &Table,
+    trail: &[Entry],
+    event: &Event,
+) -> Result<(), AllocError>
+    ensures { OnOk result (page.new ≡ page.old ++ spec.event_line table.now trail.now event.now) }
+{
+    let Event::End { name, how } = event else {
+        return Ok(());
+    };
+    let Some(kind) = kind(trail, name) else {
+        return Ok(());
+    };
+    match how {
+        How::Commit(answer) => push_committed(page, table, name, &kind, answer),
+        How::Abort(cause) => push_aborted(page, table, name, &kind, cause),
+    }
+}
+
+/// Appends a line for a top that was ready and has not ended.
+pub(crate) fn push_doubt(page: &mut Page, trail: &[Entry], event: &Event) -> Result<(), AllocError>
+    ensures { OnOk result (page.new ≡ page.old ++ spec.doubt_line trail.now event.now) }
+{
+    match event {
+        Event::Ready { top } if in_doubt(trail, event) => write!(page, "doubt {top}\n"),
+        _ => Ok(()),
+    }
+}
+
+/// Appends a record with its value at the end.
+pub(crate) fn push_final(page: &mut Page, row: &Row, value: u64) -> Result<(), AllocError>
+    ensures { OnOk result (page.new ≡ page.old ++ spec.final_line row.now value) }
+{
+    write!(page, "final ")?;
+    page.push(row.name.as_bytes())?;
+    write!(page, " {value}\n")
+}

@@ -1,7 +1,0 @@
--- The page has the lines of the entries so far.
-use Rattle.std.proofs.Common.{◌≡◌, ◌++◌, take}
-use Rattle.qc_run.specs.Report as spec
-use Rattle.qc_run.proofs.report.push_doubts.Given as goal
-
-abbrev pub invariant-loop-entry : goal.invariant-loop-entry
-invariant-loop-entry l = l.page ≡ l.initial.page ++ spec.doubt_lines l.trail (take l.entry-index l.trail)
