@@ -5,6 +5,3 @@ mod session;
 mod tries;
 
 pub use session::Session;
-
-#[cfg(test)]
-mod tests;

@@ -5,6 +5,3 @@ mod access;
 mod line;
 
 pub use line::Line;
-
-#[cfg(test)]
-mod tests;
