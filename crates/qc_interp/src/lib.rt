@@ -7,6 +7,3 @@ mod tries;
 
 pub use client::Client;
 pub use session::Session;
-
-#[cfg(test)]
-mod tests;

@@ -8,7 +8,4 @@ mod words;
 pub use program::{Ran, run};
 pub use qc_io as io;
 pub use qc_script::{BadScript, Member};
-pub use status::Status;
-
-#[cfg(test)]
-mod tests;
+pub use status::{Status, fault_line};

@@ -49,7 +49,7 @@ pub(crate) const ROOM_LINE: &[u8] = b"qc: room\n";
 
 /// The line that tells a fault, with its newline. A run that is done has none, nor has one that could
 /// not write or had no memory.
-pub(crate) fn fault_line(alloc: Global, status: &Status) -> Result<Vec<u8>, AllocError>
+pub fn fault_line(alloc: Global, status: &Status) -> Result<Vec<u8>, AllocError>
     ensures { IfOk result (λ text. text.items ≡ spec.fault_line status.now) }
 {
     let mut page = Page::new(alloc);
@@ -138,64 +138,5 @@ fn member_word(member: Member) -> &'static str
         Member::Levels => "levels",
         Member::Copy => "copy",
         Member::Branches => "branches",
-    }
-}
-
-#[cfg(test)]
-mod tests {
-    use super::*;
-    use qc_event::Label;
-    use std::test::Fail;
-
-    #[test]
-    fn the_line_of_each_fault(rt: HostRuntime) -> Result<(), Fail> {
-        let alloc = rt.alloc();
-        let unknown = BadScript::Unknown(Label::new(alloc, b"y")?);
-        let twice = BadScript::Twice(Label::new(alloc, b"x")?);
-        let told = [
-            (Status::Done, ""),
-            (
-                Status::Usage,
-                "usage: qc run [--dir PATH] [--serial] | qc gen N\n",
-            ),
-            (Status::Script(BadScript::NotJson), "qc: script: not json\n"),
-            (
-                Status::Script(BadScript::Shape(Member::RecordRow)),
-                "qc: script: shape record\n",
-            ),
-            (
-                Status::Script(BadScript::Limit(Member::Steps, 65)),
-                "qc: script: limit steps 65\n",
-            ),
-            (
-                Status::Script(BadScript::Config(BadConfig::NoOverlap)),
-                "qc: script: config 5\n",
-            ),
-            (Status::Script(unknown), "qc: script: unknown y\n"),
-            (Status::Script(BadScript::TooLong), "qc: script: too long\n"),
-            (Status::Script(twice), "qc: script: twice x\n"),
-            (Status::ReadFault, "qc: read fault\n"),
-            (Status::WriteFault, ""),
-            (Status::Memory, ""),
-            (Status::Room, "qc: room\n"),
-        ];
-        for (status, line) in &told {
-            let text = fault_line(alloc, status)?;
-            assert_eq!(rt; text.as_slice(), line.as_bytes());
-        }
-        Ok(())
-    }
-
-    #[test]
-    fn codes(rt: HostRuntime) {
-        let script = Status::Script(BadScript::NotJson);
-        for (status, code) in [
-            (Status::Done, 0),
-            (Status::Usage, 2),
-            (script, 3),
-            (Status::Room, 14),
-        ] {
-            assert_eq!(rt; status.code(), code);
-        }
     }
 }

@@ -12,8 +12,6 @@ mod object;
 mod rows;
 mod session;
 mod steps;
-#[cfg(test)]
-mod tests;
 
 use crate::bad_script::{BadScript, Member};
 use crate::script::{Script, Session};

@@ -7,9 +7,6 @@ ghost use Rattle.qc_script.specs.ScriptText as script;
 ghost use Rattle.qc_script.specs.Steps.{plan_of_session};
 ghost use Rattle.qc_script.specs.Reading.{Gives};
 
-#[cfg(test)]
-mod tests;
-
 use crate::bad_script::{BadScript, Member};
 use crate::reader::object::{check_object, check_within, list_at, number_or};
 use crate::reader::rows::Records;

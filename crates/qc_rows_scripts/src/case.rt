@@ -1,0 +1,83 @@
+//! Cases, and how they are run.
+use qc_run::io::{MemSink, MemSource};
+use qc_run::{Ran, run};
+use std::alloc::{AllocError, Global};
+
+/// What a line asks for.
+#[derive(Drop)]
+pub(crate) struct Case<'l> {
+    words: &'l str,
+    source_fails: u64,
+    sink_fails: u64,
+    script: &'l str,
+    length: usize,
+}
+
+/// What came of it.
+#[derive(Drop)]
+pub(crate) struct Outcome {
+    pub(crate) ran: Ran,
+    pub(crate) sink: MemSink,
+}
+
+impl<'l> Case<'l> {
+    /// The case that a line tells.
+    pub(crate) fn of(line: &'l str) -> Option<Self> {
+        let mut fields = line.split('|');
+        Some(Case {
+            words: fields.next()?,
+            source_fails: fields.next()?.parse::<u64>().ok()?,
+            sink_fails: fields.next()?.parse::<u64>().ok()?,
+            script: fields.next()?,
+            length: fields.next().unwrap_or("0").parse::<usize>().ok()?,
+        })
+    }
+
+    pub(crate) fn run(&self, alloc: Global) -> Result<Outcome, AllocError> {
+        let script = bytes_of(alloc, self.script, self.length)?;
+        Outcome::of(
+            alloc,
+            self.words,
+            script,
+            self.source_fails,
+            self.sink_fails,
+        )
+    }
+}
+
+impl Outcome {
+    /// Runs a script by a line of words, where the source and the sink fail at one call each.
+    pub(crate) fn of(
+        alloc: Global,
+        line: &str,
+        script: Vec<u8>,
+        source_fails: u64,
+        sink_fails: u64,
+    ) -> Result<Self, AllocError> {
+        let words = words_of(alloc, line)?;
+        let mut source = MemSource::new(script, vec![in alloc; source_fails]?);
+        let mut sink = MemSink::new(alloc, vec![in alloc; sink_fails]?);
+        let ran = run(alloc, &words, &mut source, &mut sink);
+        Ok(Outcome { ran, sink })
+    }
+}
+
+fn words_of(alloc: Global, line: &str) -> Result<Vec<String>, AllocError> {
+    let mut words = Vec::new(alloc);
+    for word in line.split_whitespace() {
+        words.push(String::from_str(alloc, word)?)?;
+    }
+    Ok(words)
+}
+
+// The bytes of a script, one for each character, so that a line can tell bytes that are no text.
+fn bytes_of(alloc: Global, script: &str, length: usize) -> Result<Vec<u8>, AllocError> {
+    let mut bytes = Vec::new(alloc);
+    for letter in script.chars() {
+        bytes.push(u8::try_from(letter).unwrap_or(b'?'))?;
+    }
+    for _ in bytes.len()..length {
+        bytes.push(b' ')?;
+    }
+    Ok(bytes)
+}

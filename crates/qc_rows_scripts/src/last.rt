@@ -1,0 +1,103 @@
+//! Sessions whose record starts at the last version and generation, as no script can have it.
+ghost use Rattle.std.specs.Prelude.{◌≡◌, [], None, length, map, IfOk};
+ghost use Rattle.qc_event.specs.Base.{IsConfigFor};
+ghost use Rattle.qc_script.specs.Plan.{TopsWithin};
+ghost use Rattle.qc_script.specs.Steps.{numbered};
+
+use crate::told::print_order;
+use qc_event::{Base, CLIENT_SEAT, Cause, Config, Entry, Event, How, Tuple};
+use qc_interp::{Client, Session};
+use qc_script::{Body, Step};
+use std::alloc::{AllocError, Global};
+use std::io;
+
+const CLIENT: Client = Client {
+    seat: CLIENT_SEAT,
+    session: 0,
+    epoch: 1,
+};
+
+// A session over one copy of one record.
+fn at_the_last(alloc: Global, config: Config) -> Result<Session, AllocError>
+    requires { IsConfigFor 1 config }
+    ensures copies { IfOk result (λ session. length session.setting.base ≡ 1) }
+    ensures one_record { IfOk result (λ session. length session.setting.firsts ≡ 1) }
+    ensures past { IfOk result (λ session. session.past ≡ []) }
+    ensures dead { IfOk result (λ session. session.dead ≡ None) }
+{
+    let last = Tuple {
+        version: u64::MAX,
+        value: 0,
+        generation: u64::MAX,
+        config,
+    };
+    let only = vec![in alloc; last]?;
+    let base = Base::new(vec![in alloc; only]?);
+    let firsts = vec![in alloc; config]?;
+    Session::new(alloc, CLIENT, firsts, base, Vec::new(alloc), 1, 4)
+}
+
+// Runs one top of one step, and prints what the copy was asked and what ended since there is no next number.
+fn print_run(rt: &HostRuntime, mut session: Session, bodies: &[Body]) -> io::Result<()>
+    requires within { TopsWithin (length session.setting.base) (length session.setting.firsts) (map numbered bodies.now) }
+    requires past { session.past ≡ [] }
+    requires dead { session.dead ≡ None }
+{
+    if session.tops(bodies).is_err() {
+        println!(rt; "no memory")?;
+    }
+    print_order(rt, session.entries())?;
+    for entry in session.entries() {
+        print_last(rt, entry)?;
+    }
+    Ok(())
+}
+
+fn print_last(rt: &HostRuntime, entry: &Entry) -> io::Result<()> {
+    match &entry.event {
+        Event::End {
+            name,
+            how: How::Abort(Cause::Last),
+        } => println!(rt; "last {name}"),
+        _ => Ok(()),
+    }
+}
+
+fn print_set(rt: &HostRuntime, alloc: Global, config: Config) -> io::Result<()>
+    requires { IsConfigFor 1 config }
+{
+    let steps = vec![in alloc; Step::Set { rec: 0, value: 5 }, Step::Read { rec: 0 }]?;
+    let bodies = vec![in alloc;
+        Body {
+            number: 0,
+            tries: 1,
+            steps
+        },
+    ]?;
+    print_run(rt, at_the_last(alloc, config)?, &bodies)
+}
+
+fn print_reconf(rt: &HostRuntime, alloc: Global, config: Config) -> io::Result<()>
+    requires { IsConfigFor 1 config }
+{
+    let steps = vec![in alloc; Step::Reconf { rec: 0, config }]?;
+    let bodies = vec![in alloc;
+        Body {
+            number: 0,
+            tries: 1,
+            steps
+        },
+    ]?;
+    print_run(rt, at_the_last(alloc, config)?, &bodies)
+}
+
+/// Prints a write and a reconfiguration that find no next number.
+pub(crate) fn print_at_the_last(rt: &HostRuntime, alloc: Global) -> io::Result<()> {
+    if let Ok(config) = Config::new(&[1], 1, 1) {
+        println!(rt; "# A write where the version is the last")?;
+        print_set(rt, alloc, config)?;
+        println!(rt; "# A reconfiguration where the generation is the last")?;
+        print_reconf(rt, alloc, config)?;
+    }
+    Ok(())
+}

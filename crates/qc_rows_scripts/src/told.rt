@@ -1,0 +1,71 @@
+//! What is printed of a run.
+use crate::case::Outcome;
+use qc_event::{Entry, Event, Kind, Op};
+use qc_run::Ran;
+use std::io;
+
+/// Prints the status, the number of entries, what the copies did, and the text that was written.
+pub(crate) fn print_outcome(rt: &HostRuntime, outcome: &Outcome) -> io::Result<()> {
+    let ran = &outcome.ran;
+    println!(rt; "status {}, entries {}", ran.status.code(), ran.trail.len())?;
+    if !ran.trail.is_empty() {
+        print_grants(rt, ran)?;
+        print_order(rt, &ran.trail)?;
+    }
+    print_text(rt, outcome.sink.bytes())
+}
+
+/// Prints a text as it is.
+pub(crate) fn print_text(rt: &HostRuntime, bytes: &[u8]) -> io::Result<()> {
+    match std::str::from_utf8(bytes) {
+        Ok(text) => print!(rt; "{text}"),
+        Err(_) => println!(rt; "no text"),
+    }
+}
+
+// Prints the number of grants at each copy.
+fn print_grants(rt: &HostRuntime, ran: &Ran) -> io::Result<()> {
+    print!(rt; "grants")?;
+    for copy in 0..ran.start.copies() {
+        let granted = ran.trail.iter().filter(|e| is_granted_at(e, copy));
+        print!(rt; " {}", granted.count())?;
+    }
+    println!(rt;)
+}
+
+fn is_granted_at(entry: &Entry, at: usize) -> bool {
+    match &entry.event {
+        Event::Granted { copy, .. } => usize::from(*copy) == at,
+        _ => false,
+    }
+}
+
+/// Prints what began and what the copies answered, in order: a body by its number, `[0]`; a grant by its
+/// operation and copy, `g0` for a read, `v0` for a value, `c0` for a configuration; a refusal by its copy, `!0`.
+pub(crate) fn print_order(rt: &HostRuntime, trail: &[Entry]) -> io::Result<()> {
+    print!(rt; "order")?;
+    for entry in trail {
+        print_step(rt, &entry.event)?;
+    }
+    println!(rt;)
+}
+
+fn print_step(rt: &HostRuntime, event: &Event) -> io::Result<()> {
+    match event {
+        Event::Start {
+            kind: Kind::User { body, .. },
+            ..
+        } => print!(rt; " [{body}]"),
+        Event::Granted { copy, grant } => print!(rt; " {}{copy}", letter(&grant.op)),
+        Event::Refused { copy, .. } => print!(rt; " !{copy}"),
+        _ => Ok(()),
+    }
+}
+
+fn letter(op: &Op) -> char {
+    match op {
+        Op::Get => 'g',
+        Op::PutData { .. } => 'v',
+        Op::PutConfig { .. } => 'c',
+    }
+}
