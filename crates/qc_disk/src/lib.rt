@@ -16,6 +16,3 @@ pub use law::left_between;
 pub use memory::MemDisk;
 pub use record::FailAt;
 pub use shop::{MemShop, Shop};
-
-#[cfg(test)]
-mod tests;

@@ -12,6 +12,3 @@ pub use fault::Fault;
 pub use image::Body;
 pub use journal::Journal;
 pub use law::one_reading;
-
-#[cfg(test)]
-mod tests;
