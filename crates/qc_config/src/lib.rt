@@ -11,5 +11,3 @@ pub use copies::Copies;
 pub use law::marks_are_sets;
 pub use tuple::{Op, Tuple, Val};
 
-#[cfg(test)]
-mod tests;

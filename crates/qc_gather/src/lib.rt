@@ -14,5 +14,3 @@ pub use next::Next;
 pub use puts::Puts;
 pub use shortage::Shortage;
 
-#[cfg(test)]
-mod tests;

@@ -11,5 +11,3 @@ pub use link::{Fate, Link};
 pub use plan::PlanLink;
 pub use port::Port;
 
-#[cfg(test)]
-mod tests;

@@ -13,5 +13,3 @@ pub use manager::{read, write};
 pub use no::MgrNo;
 pub use puts::put;
 
-#[cfg(test)]
-mod tests;
