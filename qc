@@ -104,8 +104,8 @@ tell_progress() {
     done
 }
 
-stop_telling() {
-    [ -n "$teller" ] && kill "$teller" 2>/dev/null && wait "$teller" 2>/dev/null
+end_build() {
+    kill "$teller" 2>/dev/null && wait "$teller" 2>/dev/null
     [ -t 2 ] && printf '\r%-78s\r' '' >&2
     rm -f "$lock" "$log.read"
 }
@@ -113,22 +113,24 @@ stop_telling() {
 build() {
     say "proving and building the program; ./qc --unproved answers meanwhile"
     rm -f "$program" "$stamp"
-    trap stop_telling EXIT
-    trap 'exit 130' INT
-    trap 'exit 143' HUP TERM
     : >"$log"
+    # Started before the traps are set: a signal that met the traps of a new process would be lost.
     tell_progress &
     teller=$!
+    trap end_build EXIT
+    trap 'exit 130' INT
+    trap 'exit 143' HUP TERM
     # These words are no command, so the new program ends at once with its usage line.
     (cd "$crate" && "$rt" run -- build) </dev/null >>"$log" 2>&1
-    stop_telling
+    # The stamp is there before the lock is gone, so who waits finds the program built.
+    [ -x "$program" ] && printf '%s\n' "$now" >"$stamp"
     trap - EXIT INT HUP TERM
+    end_build
     if [ ! -x "$program" ]; then
         tail -n 5 "$log" >&2
         say "the program was not built; the checker's whole output is in $log"
         exit 1
     fi
-    printf '%s\n' "$now" >"$stamp"
     say "proved and built"
 }
 
