@@ -1,6 +1,6 @@
 //! Sessions whose record starts at the last version and generation, as no script can have it.
 ghost use Rattle.std.specs.Prelude.{◌≡◌, [], None, length, map, IfOk};
-ghost use Rattle.qc_script.specs.Plan.{TopsWithin};
+ghost use Rattle.qc_script.specs.Plan.{IsConfigFor, TopsWithin};
 ghost use Rattle.qc_script.specs.Steps.{numbered};
 
 use crate::told::print_order;
@@ -12,6 +12,7 @@ use std::io;
 
 // A session over one copy of one record.
 fn at_the_last(alloc: Global, config: Config) -> Result<Session, AllocError>
+    requires { IsConfigFor 1 config }
     ensures copies { IfOk result (λ session. length session.setting.base ≡ 1) }
     ensures one_record { IfOk result (λ session. length session.setting.firsts ≡ 1) }
     ensures past { IfOk result (λ session. session.past ≡ []) }
@@ -54,7 +55,9 @@ fn print_last(rt: &HostRuntime, entry: &Entry) -> io::Result<()> {
     }
 }
 
-fn print_set(rt: &HostRuntime, alloc: Global, config: Config) -> io::Result<()> {
+fn print_set(rt: &HostRuntime, alloc: Global, config: Config) -> io::Result<()>
+    requires { IsConfigFor 1 config }
+{
     let steps = vec![in alloc; Step::Set { rec: 0, value: 5 }, Step::Read { rec: 0 }]?;
     let bodies = vec![in alloc;
         Body {
@@ -66,7 +69,9 @@ fn print_set(rt: &HostRuntime, alloc: Global, config: Config) -> io::Result<()> 
     print_run(rt, at_the_last(alloc, config)?, &bodies)
 }
 
-fn print_reconf(rt: &HostRuntime, alloc: Global, config: Config) -> io::Result<()> {
+fn print_reconf(rt: &HostRuntime, alloc: Global, config: Config) -> io::Result<()>
+    requires { IsConfigFor 1 config }
+{
     let steps = vec![in alloc; Step::Reconf { rec: 0, config }]?;
     let bodies = vec![in alloc;
         Body {
