@@ -37,7 +37,7 @@ pub(crate) fn synced_len<D: Disk>(disk: &mut D) -> Result<u64, DiskNo>
     disk.len()
 }
 
-/// Reads the first bytes, so many.
+/// Reads this number of bytes, the first ones.
 pub(crate) fn read_front<D: Disk>(alloc: Global, disk: &mut D, size: u64) -> Result<Vec<u8>, DiskNo>
     requires { size ≤ D.size disk.old }
     ensures size { IfOk result (λ bytes. length bytes.items ≡ size) }

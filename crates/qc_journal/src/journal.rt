@@ -17,7 +17,7 @@ use std::alloc::Global;
 /// What a journal is ready for.
 #[derive(Drop)]
 pub(crate) enum State {
-    /// The gate stands closed, with so many bytes missing up to it. Only a disk that lost bytes misses any.
+    /// The gate stands closed, with a number of bytes missing up to it. Only a disk that lost bytes misses any.
     Up { missing: u64 },
     /// It is not known what stands; the body of a record that may is in hand.
     Down(Option<Body>),

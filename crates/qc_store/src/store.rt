@@ -200,8 +200,8 @@ impl Port for Store {
 
     ghost became_by_both = { served_by_both };
 
-    // An error is want of memory, or of room in the history. Where the answer is not entered, the copy and the
-    // history may part: the store is torn, and serves no one more.
+    // An error says that memory ran out, or that the history is full. Where the answer is not entered, the copy and
+    // the history may part: the store is torn, and serves no one more.
     fn deliver(&mut self, ask: &Ask) -> Result<Answered, AllocError> {
         if self.torn {
             return Err(AllocError);
