@@ -7,5 +7,3 @@ mod rule;
 pub use checker::{Illegal, audit};
 pub use rule::Rule;
 
-#[cfg(test)]
-mod tests;

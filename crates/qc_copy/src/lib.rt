@@ -6,5 +6,3 @@ mod state;
 
 pub use state::CopyState;
 
-#[cfg(test)]
-mod tests;

@@ -20,5 +20,3 @@ pub use scan::{clear, dead, holder, kind, outcome, seen};
 pub use seat::{CLIENT_SEAT, LEDGER_SEAT, copy_seat, is_client, top_name};
 pub use table::{Label, Row, Rows, Table};
 
-#[cfg(test)]
-mod tests;

@@ -9,5 +9,3 @@ pub use holder::Holder;
 pub use law::locks_follow_histories;
 pub use locks::{Locks, Test};
 
-#[cfg(test)]
-mod tests;
