@@ -5,4 +5,3 @@ mod settling;
 mod state;
 
 pub use state::CopyState;
-

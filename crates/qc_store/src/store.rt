@@ -32,9 +32,9 @@ impl Model for Store {
     ghost Value = { Stored };
 
     ghost view = { λ s. record {
-        setting = record { firsts = s.firsts.items; base = s.base };
-        past = s.log;
-        is_legal = s.is_legal;
+      setting = record { firsts = s.firsts.items; base = s.base };
+      past = s.log;
+      is_legal = s.is_legal;
     } };
 
     ghost invariant = { λ s. IsKept (record { firsts = s.firsts.items; base = s.base }) s.log s.sites.items s.torn };
