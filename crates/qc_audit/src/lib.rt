@@ -18,6 +18,3 @@ mod users;
 
 pub use checker::{Illegal, audit};
 pub use rule::Rule;
-
-#[cfg(test)]
-mod tests;

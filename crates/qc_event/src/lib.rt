@@ -17,6 +17,3 @@ pub use qc_config::{BadConfig, Config, Copies, Op, Tuple, Val};
 pub use qc_names::Name;
 pub use scan::{clear, dead, holder, kind, outcome, seen};
 pub use table::{Label, Row, Rows, Table};
-
-#[cfg(test)]
-mod tests;
