@@ -1,6 +1,6 @@
 //! Entries of a history in words.
 use crate::words::{BadLine, Words};
-use qc_event::{Answer, Ask, Entry, Event, Grant, How, Kind, Name};
+use qc_event::{Answer, Ask, Entry, Event, Grant, How, Kind, Log, Name};
 
 impl Words<'_> {
     // What a transaction is for: `user SESSION BODY`, `read RECORD`, `write RECORD VALUE`,
@@ -124,19 +124,42 @@ impl Words<'_> {
     /// An entry: its seat, what happened, whose name it is, and what belongs to such an event, as
     /// `18 start 1/1.1 write 0 5`, `18 ask 1/1.1.2 copy 0 record 0 put 1 5`,
     /// `2 granted 1/1.1.2 copy 0 record 0 put 1 5 leaves 1 5 0 1,1,1 r2 w2` or `18 abort 1/1 killed`.
-    pub fn entry(&mut self) -> Result<Entry, BadLine> {
+    fn entry(&mut self) -> Result<Entry, BadLine> {
         let seat = self.number()?;
         let word = self.word()?;
         let name = self.name()?;
         let event = self.event(word, name)?;
         Ok(Entry { seat, event })
     }
+
+    /// Reads an entry and appends it to a history. An error leaves the history as it was.
+    pub fn append_entry(&mut self, log: &mut Log) -> Result<(), BadLine> {
+        // A `?` in place of the match gets no proof today.
+        match self.entry() {
+            Ok(entry) => push(log, &entry),
+            Err(bad) => Err(bad),
+        }
+    }
 }
 
-/// The entry that a line is.
-pub fn entry_of(line: &str) -> Result<Entry, BadLine> {
+fn push(log: &mut Log, entry: &Entry) -> Result<(), BadLine> {
+    match log.push(*entry) {
+        Ok(()) => Ok(()),
+        Err(_) => Err(BadLine::Memory),
+    }
+}
+
+fn entry_of(line: &str) -> Result<Entry, BadLine> {
     let mut words = Words::new(line);
     let entry = words.entry()?;
     words.end()?;
     Ok(entry)
+}
+
+/// Appends the entry that a line is to a history. An error leaves the history as it was.
+pub fn append_line(log: &mut Log, line: &str) -> Result<(), BadLine> {
+    match entry_of(line) {
+        Ok(entry) => push(log, &entry),
+        Err(bad) => Err(bad),
+    }
 }

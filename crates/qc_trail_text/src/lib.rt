@@ -7,6 +7,6 @@ mod shown;
 mod value;
 mod words;
 
-pub use entry::entry_of;
+pub use entry::append_line;
 pub use shown::{ConfigText, KindText, TupleText};
 pub use words::{BadLine, Words};

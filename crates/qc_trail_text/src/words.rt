@@ -23,6 +23,9 @@ pub enum BadLine {
     /// Votes and thresholds are no configuration.
     #[error("no configuration: {0}")]
     Config(BadConfig),
+    /// There was no memory, or no room, for an entry. It says nothing of the words.
+    #[error("no memory")]
+    Memory,
     /// Words are left where the line is to end.
     #[error("words after the end")]
     More,
