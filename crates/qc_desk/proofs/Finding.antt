@@ -4,13 +4,13 @@ use Rattle.std.proofs.lemmas.List.{length-take-le}
 use Rattle.qc_event.specs.declared.event.Outcome.TheVariants.{Live}
 use Rattle.qc_event.specs.Dead.{outcome, outcome_of, is_aborted, dead}
 use Rattle.qc_event.proofs.Ancestors.{find_ancestor, find_no_ancestor}
-use Rattle.std.specs.Prelude.{Option, None, Some, slice_get}
+use Rattle.std.specs.Prelude.{None, Some, slice_get}
 use Rattle.qc_event.specs.Base.{Setting}
 use Rattle.qc_event.specs.History.{Past, Name}
 use Rattle.qc_event.specs.Legal.{Legal}
 use Rattle.qc_event.proofs.LegalOrderly.{legal_orderly}
 use Rattle.std.proofs.lemmas.Option.{same_Some}
-use Rattle.qc_desk.specs.Spots.{Spot, child_at, IsWhole}
+use Rattle.qc_desk.specs.Spots.{Spot, child_at, AreWithin}
 use Rattle.qc_desk.specs.Places.{place, spot_of}
 use Rattle.qc_desk.specs.Index.{Shape, IsIndexOf}
 use Rattle.qc_event.specs.History.{start, end}
@@ -47,9 +47,9 @@ no_place_below setting past n r legal pos none =
     (not_some (start past n) (λ h. some_or_none (place past n) (placed past n ∙ h) none))).no_start
 
 -- a child's node is a node
-pub child_within : (all : List Spot) (i j c : ℕ) (s : Spot) → IsWhole all → slice_get all i ≡ Some s → child_at s.children j ≡ Some c → c < length all
-child_within all i zero c s whole here h = absurd cc
-child_within all i (suc j) c s whole here h = whole i s j c here h
+pub child_within : (all : List Spot) (i j c : ℕ) (s : Spot) → AreWithin all → slice_get all i ≡ Some s → child_at s.children j ≡ Some c → c < length all
+child_within all i zero c s within here h = absurd cc
+child_within all i (suc j) c s within here h = within i s j c here h
 
 -- HOW NAMES STAND
 

@@ -1,15 +1,15 @@
 -- The answers to a list of looks, one after another.
-use Rattle.std.proofs.Common.{Bool, true, false, suc, arith, drop-cons, append_assoc, append-nil, ◌≡◌, ℕ, ◌+◌, ◌<◌, List, [], ◌∷◌, ◌++◌, length, take, drop, get_or, refl, sym, ap, ◌∙◌, subst}
+use Rattle.std.proofs.Common.{suc, arith, drop-cons, append_assoc, append-nil, ◌≡◌, ℕ, ◌+◌, ◌<◌, List, [], ◌∷◌, ◌++◌, length, drop, get_or, sym, ap, ◌∙◌, subst}
 use Rattle.qc_event.specs.Base.{Setting}
 use Rattle.std.specs.Prelude.{None}
-use Rattle.qc_event.specs.History.{Past, Name, start, is_ready, children}
+use Rattle.qc_event.specs.History.{Past, Name, earliest, start, end, ready_in}
 use Rattle.qc_event.proofs.LegalOrderly.{legal_orderly}
 use Rattle.qc_event.proofs.Lawful.{lawful}
-use Rattle.qc_event.proofs.Lineage.{fresh_below}
+use Rattle.qc_event.proofs.Lineage.{IsFresh, fresh_below}
 use Rattle.qc_event.proofs.OneEntry.{not_some, some_or_none}
-use Rattle.qc_desk.specs.Places.{place, end_place}
+use Rattle.qc_desk.specs.Places.{place}
 use Rattle.qc_desk.proofs.Placing.{placed}
-use Rattle.qc_desk.proofs.Pushing.{end_placed, ready_started}
+use Rattle.qc_desk.proofs.Changing.{never_ready, none_ready}
 use Rattle.qc_event.specs.Legal.{Legal}
 use Rattle.qc_desk.specs.declared.looks.Look.{Look}
 use Rattle.qc_desk.specs.declared.looks.Told.{Told}
@@ -53,17 +53,14 @@ look_more stands_for setting past looks i o next told look t less item says stan
 pub unstarted : (past : Past) (n : Name) → place past n ≡ None → start past n ≡ None
 unstarted past n none = not_some (start past n) (λ h. some_or_none (place past n) (placed past n ∙ h) none)
 
-pub no_children : (setting : Setting) (past : Past) (n : Name) → Legal setting past → 0 < length n → place past n ≡ None → children past n ≡ []
-no_children setting past n legal pos none =
-    ap (children past) (sym (append-nil n)) ∙ (fresh_below past n [] (lawful past (legal_orderly setting past legal)) pos (unstarted past n none)).no_children
+-- nothing is known of it
+pub unknown : (setting : Setting) (past : Past) (n : Name) → Legal setting past → 0 < length n → place past n ≡ None → IsFresh past n
+unknown setting past n legal pos none =
+    subst (IsFresh past) (append-nil n) (fresh_below past n [] (lawful past (legal_orderly setting past legal)) pos (unstarted past n none))
 
-pub no_end : (setting : Setting) (past : Past) (n : Name) → Legal setting past → place past n ≡ None → end_place past n ≡ None
+pub no_end : (setting : Setting) (past : Past) (n : Name) → Legal setting past → place past n ≡ None → end past n ≡ None
 no_end setting past n legal none =
-    not_some (end_place past n) (λ h. some_or_none (start past n) ((lawful past (legal_orderly setting past legal)).end_has_start n (sym (end_placed past n) ∙ h)) (unstarted past n none))
+    not_some (end past n) (λ h. some_or_none (start past n) ((lawful past (legal_orderly setting past legal)).end_has_start n h) (unstarted past n none))
 
-pub not_ready : (setting : Setting) (past : Past) (n : Name) → Legal setting past → place past n ≡ None → is_ready past n ≡ false
-not_ready setting past n legal none = by_test (is_ready past n) refl
-  where
-    by_test : (b : Bool) → is_ready past n ≡ b → b ≡ false
-    by_test true ready = absurd (some_or_none (start past n) (ready_started past n (legal_orderly setting past legal) ready) (unstarted past n none))
-    by_test false ready = refl
+pub not_ready : (setting : Setting) (past : Past) (n : Name) → Legal setting past → place past n ≡ None → earliest (λ e. ready_in n e.event) past ≡ None
+not_ready setting past n legal none = none_ready (earliest (λ e. ready_in n e.event) past) (never_ready past n (legal_orderly setting past legal) (unstarted past n none))

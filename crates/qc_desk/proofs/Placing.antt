@@ -1,23 +1,23 @@
 -- The places of names: each started name has one, and no two have the same.
-use Rattle.std.proofs.Common.{◌≡◌, ℕ, zero, suc, ◌+◌, ◌<◌, ◌≤◌, ◌⊎◌, inl, inr, Bool, true, false, List, [], ◌∷◌, ◌++◌, length, refl, sym, ap, ◌∙◌, subst, arith, append-nil}
+use Rattle.std.proofs.Common.{◌≡◌, ℕ, zero, suc, ◌+◌, ◌<◌, ◌⊎◌, inl, inr, Bool, true, false, List, [], ◌∷◌, ◌++◌, length, reverse, refl, sym, ap, ◌∙◌, subst, arith, append-nil}
 use mathlib.Core.Bool.{true≢false}
 use Rattle.std.specs.Prelude.{Option, None, Some, is_some, slice_get, ◌==◌, option_to_list, if◌then◌else◌}
 use Rattle.std.specs.Option.{option_or, option_map}
 use Rattle.std.proofs.lemmas.Bool.{cases_Bool, eqb-true, eq-eqb}
-use Rattle.std.proofs.lemmas.List.{length-append}
-use Rattle.std.proofs.lemmas.Option.{slice_get_within}
+use Rattle.std.proofs.lemmas.List.{length-append, length-reverse, reverse-append}
+use Rattle.std.proofs.lemmas.Option.{same_Some}
 use Rattle.qc_event.specs.declared.event.Entry.{Entry}
 use Rattle.qc_event.specs.declared.event.Event.{Event}
 use Rattle.qc_event.specs.declared.event.Event.TheVariants as event
 use Rattle.qc_event.specs.declared.event.Kind.{Kind}
-use Rattle.qc_event.specs.History.{Past, Name, Begun, same, start, start_in, is_child, child_in, children}
+use Rattle.qc_event.specs.History.{Past, Name, earliest, same, start, start_in, is_child, child_in, children}
 use Rattle.qc_event.proofs.Absent.{same_is, same_itself}
 use Rattle.qc_event.proofs.LastNumber.{child_last, is_child-last, same_last}
 use Rattle.qc_event.proofs.OneEntry.{Starting, starting, first_is, not_some, some_or_none}
 use Rattle.qc_event.proofs.Orderly.{KeepsOrder, Orderly}
 use Rattle.qc_event.proofs.Lawful.{Lawful, lawful, child_starts}
 use Rattle.qc_desk.specs.Spots.{child_at}
-use Rattle.qc_desk.specs.Places.{starts_in, started, place, child_places}
+use Rattle.qc_desk.specs.Places.{IsWhere, starts_in, started, before_first, place, child_places}
 
 -- LISTS
 
@@ -46,22 +46,78 @@ pub map_some : {X Y : Type 0} (x y : X) (new : Option Y) → option_map (λ _. x
 map_some x y None h = absurd cc
 map_some x y (Some b) h = (refl, cc)
 
+-- THE FIRST ANSWER
+
+-- there was a first answer just where there is one
+pub counted : {Y : Type 0} (count : Past → ℕ) (f : Entry → Option Y) (past : Past) → is_some (before_first count f past) ≡ is_some (earliest f past)
+counted count f [] = refl
+counted {Y} count f (e ∷ past) = either (count past) (before_first count f past) (earliest f past) (f e) (counted count f past)
+  where
+    either : (k : ℕ) (p : Option ℕ) (old new : Option Y) → is_some p ≡ is_some old → is_some (option_or p (option_map (λ _. k) new)) ≡ is_some (option_or old new)
+    either k None None None h = refl
+    either k None None (Some y) h = refl
+    either k None (Some x) new h = absurd (true≢false (sym h))
+    either k (Some p) None new h = absurd (true≢false h)
+    either k (Some p) (Some y) new h = refl
+
+pub uncounted : {Y : Type 0} (count : Past → ℕ) (f : Entry → Option Y) (past : Past) → earliest f past ≡ None → before_first count f past ≡ None
+uncounted count f past none = not_some (before_first count f past) (λ h. some_or_none (earliest f past) (sym (counted count f past) ∙ h) none)
+
+-- an entry that does not answer changes nothing, and the first that answers is counted
+pub count_stays : {Y : Type 0} (count : Past → ℕ) (f : Entry → Option Y) (e : Entry) (past : Past) → f e ≡ None → before_first count f past ≡ before_first count f (e ∷ past)
+count_stays count f e past none = sym (or_nothing (before_first count f past) (λ _. count past) (f e) none)
+
+pub count_now : {Y : Type 0} (count : Past → ℕ) (f : Entry → Option Y) (e : Entry) (past : Past) (y : Y) → earliest f past ≡ None → f e ≡ Some y → Some (count past) ≡ before_first count f (e ∷ past)
+count_now count f e past y none now =
+    ap (option_map (λ _. count past)) (sym now) ∙ ap (λ o. option_or o (option_map (λ _. count past) (f e))) (sym (uncounted count f past none))
+
+pub count_step : {Y : Type 0} (count : Past → ℕ) (f : Entry → Option Y) (e : Entry) (past : Past) (i : ℕ) → before_first count f (e ∷ past) ≡ Some i
+    → (before_first count f past ≡ Some i) ⊎ ((before_first count f past ≡ None) × (is_some (f e) ≡ true) × (count past ≡ i))
+count_step count f e past i is = elim (first_is (before_first count f past) (option_map (λ _. count past) (f e)) i is) [
+  | inl old ↦ inl old
+  | inr new ↦ let now = map_some (count past) i (f e) new.1 in inr (new.0, now.0, now.1)
+]
+
+-- no answer is nowhere
+pub nowhere : {Y : Type 0} (f : Entry → Option Y) (past : Past) → earliest f past ≡ None → IsWhere f past None
+nowhere f past none = record { same = ap is_some (sym none); within = λ i is. absurd cc; there = λ i e is. absurd cc }
+
+-- the first answer stands where as many entries were before it
+pub answered_there : {Y : Type 0} (f : Entry → Option Y) (past : Past) → IsWhere f past (before_first length f past)
+answered_there f [] = nowhere f [] refl
+answered_there {Y} f (e ∷ past) =
+    let before : IsWhere f past (before_first length f past) = answered_there f past in
+    record {
+      same = counted length f (e ∷ past);
+      within = λ i is. elim (count_step length f e past i is) [
+        | inl old ↦ let h = before.within i old in omega arith
+        | inr new ↦ let here = new.2 in omega arith
+      ];
+      there = λ i x is at. elim (count_step length f e past i is) [
+        | inl old ↦
+            let h = before.within i old in
+            before.there i x old (sym (get_other (reverse past) e i (λ last. omega (arith, last, h, length-reverse past))) ∙ ap (λ xs. slice_get xs i) (sym (reverse-append (e ∷ []) past)) ∙ at)
+            ∙ stays (earliest f past) (f e) (sym (counted length f past) ∙ ap is_some old)
+        | inr new ↦
+            let here = new.2 in
+            let none : earliest f past ≡ None = not_some (earliest f past) (λ h. some_or_none (before_first length f past) (counted length f past ∙ h) new.0) in
+            let same_entry : e ≡ x = same_Some e x (sym (get_last (reverse past) e i (omega (arith, here, length-reverse past))) ∙ ap (λ xs. slice_get xs i) (sym (reverse-append (e ∷ []) past)) ∙ at) in
+            ap f (sym same_entry) ∙ ap (λ o. option_or o (f e)) (sym none)
+      ];
+    }
+  where
+    stays : (old new : Option Y) → is_some old ≡ true → old ≡ option_or old new
+    stays None new h = absurd (true≢false (sym h))
+    stays (Some y) new h = refl
+
 -- PLACES
 
 pub placed : (past : Past) (n : Name) → is_some (place past n) ≡ is_some (start past n)
-placed [] n = refl
-placed (e ∷ past) n = either (place past n) (start past n) (start_in n e.seat e.event) (placed past n)
-  where
-    either : (p : Option ℕ) (s new : Option Begun) → is_some p ≡ is_some s → is_some (option_or p (option_map (λ _. started past) new)) ≡ is_some (option_or s new)
-    either None None None h = refl
-    either None None (Some b) h = refl
-    either None (Some x) new h = absurd (true≢false (sym h))
-    either (Some p) None new h = absurd (true≢false h)
-    either (Some p) (Some s) new h = refl
+placed past n = counted started (λ e. start_in n e.seat e.event) past
 
 -- what was not started has no place
 pub no_place : (past : Past) (n : Name) → start past n ≡ None → place past n ≡ None
-no_place past n none = not_some (place past n) (λ h. some_or_none (start past n) (sym (placed past n) ∙ h) none)
+no_place past n none = uncounted started (λ e. start_in n e.seat e.event) past none
 
 -- what has a place was started
 pub has_start : (past : Past) (n : Name) (i : ℕ) → place past n ≡ Some i → is_some (start past n) ≡ true
@@ -69,9 +125,9 @@ has_start past n i is = sym (placed past n) ∙ ap is_some is
 
 -- a place is an old one, or that of the name that the entry starts
 pub place_step : (e : Entry) (past : Past) (n : Name) (i : ℕ) → place (e ∷ past) n ≡ Some i → (place past n ≡ Some i) ⊎ ((place past n ≡ None) × Starting n e.event × (i ≡ started past))
-place_step e past n i is = elim (first_is (place past n) (option_map (λ _. started past) (start_in n e.seat e.event)) i is) [
+place_step e past n i is = elim (count_step started (λ e. start_in n e.seat e.event) e past i is) [
   | inl old ↦ inl old
-  | inr new ↦ let now = map_some (started past) i (start_in n e.seat e.event) new.1 in inr (new.0, starting n e.seat e.event now.0, sym now.1)
+  | inr new ↦ inr (new.0, starting n e.seat e.event new.1, sym new.2)
 ]
 
 one_start : (n : Name) (ev : Event) → Starting n ev → starts_in ev ≡ 1

@@ -1,7 +1,7 @@
 -- An entry more: what becomes of an index.
-use Rattle.std.proofs.Common.{◌≡◌, ℕ, zero, suc, ◌+◌, ◌-◌, ◌<◌, ◌≤◌, ◌⊎◌, inl, inr, Bool, true, false, cond, List, [], ◌∷◌, ◌++◌, length, refl, sym, ap, ◌∙◌, subst, arith, append-nil}
+use Rattle.std.proofs.Common.{◌≡◌, ℕ, ◌+◌, ◌-◌, ◌<◌, ◌⊎◌, inl, inr, Bool, true, false, cond, List, [], ◌∷◌, ◌++◌, length, refl, sym, ap, ◌∙◌, subst, arith, append-nil}
 use mathlib.Core.Bool.{true≢false}
-use Rattle.std.specs.Prelude.{Option, None, Some, is_some, slice_get, slice_set, option_to_list, if◌then◌else◌, IsTrue, not}
+use Rattle.std.specs.Prelude.{None, Some, is_some, slice_get, option_to_list, if◌then◌else◌, IsTrue, not}
 use Rattle.std.specs.Option.{option_or, option_map}
 use Rattle.std.specs.Ordering.{nat_cmp, is_eq}
 use Rattle.std.specs.Cmp.{nat_cmp_is}
@@ -9,7 +9,6 @@ use Rattle.std.specs.declared.cmp.Ordering.{Ordering}
 use Rattle.std.specs.declared.cmp.Ordering.TheVariants.{Less, Equal, Greater}
 use Rattle.std.proofs.lemmas.Map.Lookups.{exact_unsigned}
 use Rattle.std.specs.BTreeMap.{is_at}
-use Rattle.std.proofs.lemmas.Bool.{cases_Bool, eqb-true, eq-eqb}
 use Rattle.std.proofs.lemmas.List.{length-append, length-take-le}
 use Rattle.std.proofs.lemmas.Option.{slice_get_within, get_or_from_slice_get, same_Some}
 use Rattle.qc_names.specs.Name as name
@@ -18,117 +17,26 @@ use Rattle.qc_event.specs.declared.event.Event.{Event}
 use Rattle.qc_event.specs.declared.event.Event.TheVariants as event
 use Rattle.qc_event.specs.declared.event.How.{How}
 use Rattle.qc_event.specs.declared.event.Kind.{Kind}
-use Rattle.qc_event.specs.declared.event.Outcome.{Outcome}
-use Rattle.qc_event.specs.History.{Past, Name, Begun, same, start, start_in, end, end_in, ready_in, is_ready, is_child, child_in, children, IsOpen}
-use Rattle.qc_event.specs.Dead.{outcome, outcome_of}
+use Rattle.qc_event.specs.History.{Past, Name, Begun, same, start, start_in, end_in, ready_in, is_ready, is_child, child_in, children}
+use Rattle.qc_event.specs.Dead.{outcome_of}
 use Rattle.qc_event.proofs.Absent.{same_is, same_itself}
-use Rattle.qc_event.proofs.LastNumber.{child_last, is_child-last, same_last, length_last, front_last, EndsIn, ends_in}
+use Rattle.qc_event.proofs.LastNumber.{child_last, same_last, length_last, front_last, EndsIn, ends_in}
 use Rattle.qc_event.proofs.Lineage.{IsFresh, fresh_below, fresh_child}
-use Rattle.qc_event.proofs.OneEntry.{Starting, not_some, some_or_none, ready_step, start_stays}
+use Rattle.qc_event.proofs.OneEntry.{some_or_none, child_added}
 use Rattle.qc_event.proofs.Orderly.{KeepsOrder, Orderly, BecomesReady, IsNewTop}
 use Rattle.qc_event.proofs.Lawful.{Lawful, lawful, child_starts, ends_open}
 use Rattle.qc_desk.specs.Spots.{Spot, new_spot, at, changed, with_child, with_end, with_ready}
-use Rattle.qc_desk.specs.Places.{starts_in, started, place, child_places, end_place, ready_place, spot_of}
+use Rattle.qc_desk.specs.Places.{starts_in, started, place, spot_of}
 use Rattle.qc_desk.specs.Index.{Shape, IsIndexOf, top_at}
-use Rattle.qc_desk.proofs.Placing.{get_first, get_last, get_other, or_nothing, placed, no_place, has_start, place_step, place_once, place_within, as_many_children}
+use Rattle.qc_desk.proofs.Changing.{if_not, spot_stays, other_stays, new_is_new, only_new, not_new, child_spot, end_spot, ready_spot}
+use Rattle.qc_desk.proofs.Placing.{get_first, get_last, or_nothing, count_stays, placed, no_place, has_start, place_step, place_once}
 use Rattle.qc_desk.proofs.Spots.{length_changed, get_changed, get_unchanged, length_last_spot, one_of}
 
--- WHAT AN ENTRY CHANGES OF A SPOT
+-- CHILDREN OF THE ROOT
 
--- the spot of a name with which the event has nothing to do
-pub spot_stays : (e : Entry) (past : Past) (n : Name) → end_in n e.event ≡ None → ready_in n e.event ≡ None → child_in n e.event ≡ None → spot_of past n ≡ spot_of (e ∷ past) n
-spot_stays e past n no_end no_ready no_child =
-    made (outcome past n) _ (end_place past n) _ (ready_place past n) _ (child_places past n) _
-    (ap outcome_of (or_none (end past n) (end_in n e.event) no_end))
-    (sym (or_nothing (end_place past n) (λ _. length past) (end_in n e.event) no_end))
-    (sym (or_nothing (ready_place past n) (λ _. length past) (ready_in n e.event) no_ready))
-    (sym (append-nil (child_places past n)) ∙ ap (λ o. child_places past n ++ option_to_list (option_map (λ _. started past) o)) (sym no_child))
-  where
-    or_none : {Y : Type 0} (a b : Option Y) → b ≡ None → a ≡ option_or a b
-    or_none None b is = sym is
-    or_none (Some y) b is = refl
-
-    made : (o o' : Outcome) (d d' r r' : Option ℕ) (c c' : List ℕ) → o ≡ o' → d ≡ d' → r ≡ r' → c ≡ c' → (let s : Spot = record { outcome = o; end = d; ready = r; children = c } in s) ≡ record { outcome = o'; end = d'; ready = r'; children = c' }
-    made o o' d d' r r' c c' a b e f = cc
-
--- what has not started has an empty spot
-pub record IsUntouched (past : Past) (n : Name) : Type 0 where
-  pub no_end : end past n ≡ None
-  pub no_end_place : end_place past n ≡ None
-  pub no_ready_place : ready_place past n ≡ None
-  pub no_child_places : child_places past n ≡ []
-
-pub end_placed : (past : Past) (n : Name) → is_some (end_place past n) ≡ is_some (end past n)
-end_placed [] n = refl
-end_placed (e ∷ past) n = either (length past) (end_place past n) (end past n) (end_in n e.event) (end_placed past n)
-  where
-    either : (l : ℕ) (p : Option ℕ) (s new : Option How) → is_some p ≡ is_some s → is_some (option_or p (option_map (λ _. l) new)) ≡ is_some (option_or s new)
-    either l None None None h = refl
-    either l None None (Some b) h = refl
-    either l None (Some x) new h = absurd (true≢false (sym h))
-    either l (Some p) None new h = absurd (true≢false h)
-    either l (Some p) (Some s) new h = refl
-
-pub ready_placed : (past : Past) (n : Name) → is_some (ready_place past n) ≡ is_ready past n
-ready_placed [] n = refl
-ready_placed (e ∷ past) n = either (length past) (ready_place past n) _ (ready_in n e.event) (ready_placed past n)
-  where
-    either : (l : ℕ) (p : Option ℕ) (s new : Option (Unit {0})) → is_some p ≡ is_some s → is_some (option_or p (option_map (λ _. l) new)) ≡ is_some (option_or s new)
-    either l None None None h = refl
-    either l None None (Some b) h = refl
-    either l None (Some x) new h = absurd (true≢false (sym h))
-    either l (Some p) None new h = absurd (true≢false h)
-    either l (Some p) (Some s) new h = refl
-
--- who is ready was started
-pub ready_started : (past : Past) (n : Name) → Orderly past → is_ready past n ≡ true → is_some (start past n) ≡ true
-ready_started [] n orderly h = absurd (true≢false (sym h))
-ready_started (e ∷ past) n orderly h = elim (ready_step e past n h) [
-  | inl old ↦ start_stays e past n (ready_started past n orderly.0 old)
-  | inr now ↦ let ready : BecomesReady past n = subst (KeepsOrder past) now orderly.1 in start_stays e past n ready.is_open.started
-]
-
-no_ready : (past : Past) (n : Name) → Orderly past → start past n ≡ None → ready_place past n ≡ None
-no_ready past n orderly none = not_some (ready_place past n) (λ h. some_or_none (start past n) (ready_started past n orderly (sym (ready_placed past n) ∙ h)) none)
-
-empty : (xs : List ℕ) → length xs ≡ 0 → xs ≡ []
-empty [] h = refl
-empty (x ∷ xs) h = absurd (omega arith)
-
-pub untouched : (past : Past) (n : Name) → Orderly past → IsFresh past n → IsUntouched past n
-untouched past n orderly fresh = record {
-  no_end = fresh.no_end;
-  no_end_place = not_some (end_place past n) (λ h. some_or_none (end past n) (sym (end_placed past n) ∙ h) fresh.no_end);
-  no_ready_place = no_ready past n orderly fresh.no_start;
-  no_child_places = empty (child_places past n) (as_many_children past n ∙ ap length fresh.no_children);
-}
-
-untouched_spot : (past : Past) (n : Name) → IsUntouched past n → spot_of past n ≡ new_spot
-untouched_spot past n u = made (end past n) (end_place past n) (ready_place past n) (child_places past n) u.no_end u.no_end_place u.no_ready_place u.no_child_places
-  where
-    made : (o : Option How) (d r : Option ℕ) (c : List ℕ) → o ≡ None → d ≡ None → r ≡ None → c ≡ [] → (let s : Spot = record { outcome = outcome_of o; end = d; ready = r; children = c } in s) ≡ new_spot
-    made o d r c a b e f = cc
-
--- A START
-
-if_not : {Y : Type 0} (b : Bool) (y : Y) → (b ≡ true → ⊥) → (if b then Some y else None) ≡ None
-if_not true y h = absurd (h refl)
-if_not false y h = refl
-
--- no name is its own child
-not_own_child : (n : Name) → is_child n n ≡ true → ⊥
-not_own_child n h = let last = child_last n n h in omega (arith, ap length last.1, length_last n last.0)
-
--- a started name, and one that starts now
-module _ (e : Entry) (past : Past) (m : Name) (k : Kind) (is : e.event ≡ event.Start m k) (fresh : IsFresh past m) (orderly : Orderly past) where
-  other_stays : (n : Name) → (is_child n m ≡ true → ⊥) → spot_of past n ≡ spot_of (e ∷ past) n
-  other_stays n not_child = spot_stays e past n (ap (end_in n) is) (ap (ready_in n) is) (ap (child_in n) is ∙ if_not (is_child n m) m not_child)
-
-  new_is_new : new_spot ≡ spot_of (e ∷ past) m
-  new_is_new = sym (untouched_spot past m (untouched past m orderly fresh)) ∙ other_stays m (not_own_child m)
-
-  only_new : (n : Name) → Starting n e.event → n ≡ m
-  only_new n starting = let h : event.Start n starting.0 ≡ event.Start m k = sym starting.1 ∙ is in cc
+-- an entry that starts no top leaves as many
+tops_stay : (e : Entry) (past : Past) → child_in [] e.event ≡ None → length (children past []) ≡ length (children (e ∷ past) [])
+tops_stay e past none = ap length (sym (append-nil (children past []))) ∙ ap (λ o. length (children past [] ++ option_to_list o)) (sym none)
 
 -- A NEW TOP
 
@@ -153,22 +61,28 @@ started_pos past (x ∷ n) law h = omega arith
 top_other : (t q : ℕ) → same (t ∷ []) (q ∷ []) ≡ true → t ≡ q
 top_other t q h = let is = same_is (t ∷ []) (q ∷ []) h in cc
 
--- the tops with one more
-pub AddsTop : List (ℕ × ℕ) → List (ℕ × ℕ) → ℕ → ℕ → Type 0
-AddsTop old new number i = (q : ℕ) → top_at new q ≡ cond (is_at (nat_cmp number) q) (Some i) (top_at old q)
+-- a number of a top that starts now is not among the tops
+pub top_is_new : (e : Entry) (past : Past) (t : ℕ) (k : Kind) (index : Shape) → e.event ≡ event.Start (t ∷ []) k → KeepsOrder past e.event → IsIndexOf past index → top_at index.tops t ≡ None
+top_is_new e past t k index is keeps was =
+    let may : IsNewTop past t k = subst (KeepsOrder past) is keeps in
+    was.by_number t ∙ no_place past (t ∷ []) may.fresh
 
 pub top_started : (e : Entry) (past : Past) (t : ℕ) (k : Kind) (index : Shape) (tops : List (ℕ × ℕ)) → e.event ≡ event.Start (t ∷ []) k → Orderly past → KeepsOrder past e.event → IsIndexOf past index
     → ((q : ℕ) → top_at tops q ≡ cond (is_at (nat_cmp t) q) (Some (length index.spots)) (top_at index.tops q))
-    → IsIndexOf (e ∷ past) (record { tops = tops; spots = index.spots ++ new_spot ∷ []; count = index.count + 1 })
-top_started e past t k index tops is orderly keeps was adds = record {
+    → length tops ≡ length index.tops + 1
+    → IsIndexOf (e ∷ past) (record { tops = tops; spots = index.spots ++ new_spot (Some index.count) ∷ []; count = index.count + 1 })
+top_started e past t k index tops is orderly keeps was adds longer = record {
   counted = omega (arith, was.counted);
-  as_many = length_last_spot index.spots new_spot ∙ ap (λ n. n + 1) was.as_many ∙ ap (λ n. started past + n) (sym (ap starts_in is));
+  as_many = length_last_spot index.spots (new_spot (Some index.count)) ∙ ap (λ n. n + 1) was.as_many ∙ ap (λ n. started past + n) (sym (ap starts_in is));
+  all_tops = longer ∙ ap (λ n. n + 1) was.all_tops ∙ sym (length-append (children past []) ((t ∷ []) ∷ [])) ∙ ap length (sym (child_added e past [] (t ∷ []) k is refl));
   at_place = λ n i here. elim (place_step e past n i here) [
-    | inl old ↦ get_first index.spots (new_spot ∷ []) i _ (was.at_place n i old)
-        ∙ ap Some (other_stays e past (t ∷ []) k is fresh orderly n (top_no_child n t (started_pos past n (lawful past orderly) (has_start past n i old))))
+    | inl old ↦ get_first index.spots (new_spot (Some index.count) ∷ []) i _ (was.at_place n i old)
+        ∙ ap Some (let h = has_start past n i old in
+        other_stays e past (t ∷ []) k is fresh orderly n (not_new e past (t ∷ []) k is fresh orderly n h) (top_no_child n t (started_pos past n (lawful past orderly) h)))
     | inr new ↦
         let same_name = only_new e past (t ∷ []) k is fresh orderly n new.1 in
-        get_last index.spots new_spot i (new.2 ∙ sym was.as_many)
+        get_last index.spots (new_spot (Some index.count)) i (new.2 ∙ sym was.as_many)
+        ∙ ap (λ c. Some (new_spot (Some c))) was.counted
         ∙ ap Some (new_is_new e past (t ∷ []) k is fresh orderly ∙ ap (spot_of (e ∷ past)) (sym same_name))
   ];
   by_number = λ q. adds q ∙ by_test q (is_at (nat_cmp t) q) refl;
@@ -198,22 +112,6 @@ top_started e past t k index tops is orderly keeps was adds = record {
 
 -- A NEXT CHILD
 
-child_spot : (e : Entry) (past : Past) (p : Name) (j : ℕ) (k : Kind) → e.event ≡ event.Start (p ++ j ∷ []) k → with_child (started past) (spot_of past p) ≡ spot_of (e ∷ past) p
-child_spot e past p j k is =
-    made (outcome past p) _ (end_place past p) _ (ready_place past p) _ (child_places past p ++ started past ∷ []) _
-    (ap outcome_of (or_none (end past p) (end_in p e.event) (ap (end_in p) is)))
-    (sym (or_nothing (end_place past p) (λ _. length past) (end_in p e.event) (ap (end_in p) is)))
-    (sym (or_nothing (ready_place past p) (λ _. length past) (ready_in p e.event) (ap (ready_in p) is)))
-    (ap (λ (b : Bool). child_places past p ++ option_to_list (option_map (λ _. started past) (if b then Some (p ++ j ∷ []) else None))) (sym (is_child-last p j))
-    ∙ ap (λ ev. child_places past p ++ option_to_list (option_map (λ _. started past) (child_in p ev))) (sym is))
-  where
-    or_none : {Y : Type 0} (a b : Option Y) → b ≡ None → a ≡ option_or a b
-    or_none None b is = sym is
-    or_none (Some y) b is = refl
-
-    made : (o o' : Outcome) (d d' r r' : Option ℕ) (c c' : List ℕ) → o ≡ o' → d ≡ d' → r ≡ r' → c ≡ c' → (let s : Spot = record { outcome = o; end = d; ready = r; children = c } in s) ≡ record { outcome = o'; end = d'; ready = r'; children = c' }
-    made o o' d d' r r' c c' a b e f = cc
-
 -- the spot that is changed, and those that are not
 pub spot_changed : (past : Past) (index : Shape) (m : Name) (i : ℕ) (f : Spot → Spot) → IsIndexOf past index → place past m ≡ Some i
     → (n : Name) (j : ℕ) → place past n ≡ Some j → ((n ≡ m) × (slice_get (changed index.spots i f) j ≡ Some (f (spot_of past m)))) ⊎ ((n ≡ m → ⊥) × (slice_get (changed index.spots i f) j ≡ Some (spot_of past n)))
@@ -221,7 +119,7 @@ spot_changed past index m i f was here n j there = elim (one_of i j) [
   | inl equal ↦ inl (
     place_once past n m i (there ∙ ap Some (sym equal)) here,
     get_changed index.spots i j (f (at index.spots i)) equal (slice_get_within index.spots i _ (was.at_place m i here))
-        ∙ ap (λ s. Some (f s)) (get_or_from_slice_get index.spots i _ new_spot (was.at_place m i here)),
+        ∙ ap (λ s. Some (f s)) (get_or_from_slice_get index.spots i _ (new_spot None) (was.at_place m i here)),
   )
   | inr other ↦ inr (
     (λ h. other (same_Some i j (sym here ∙ ap (place past) (sym h) ∙ there))),
@@ -230,18 +128,21 @@ spot_changed past index m i f was here n j there = elim (one_of i j) [
 ]
 
 pub child_started : (e : Entry) (past : Past) (p : Name) (j : ℕ) (k : Kind) (index : Shape) (i : ℕ) → e.event ≡ event.Start (p ++ j ∷ []) k → 0 < length p → Orderly past → KeepsOrder past e.event → IsIndexOf past index → place past p ≡ Some i
-    → IsIndexOf (e ∷ past) (record { tops = index.tops; spots = changed index.spots i (with_child (length index.spots)) ++ new_spot ∷ []; count = index.count + 1 })
+    → IsIndexOf (e ∷ past) (record { tops = index.tops; spots = changed index.spots i (with_child (length index.spots)) ++ new_spot (Some index.count) ∷ []; count = index.count + 1 })
 child_started e past p j k index i is pos orderly keeps was here = record {
   counted = omega (arith, was.counted);
-  as_many = length_last_spot mid new_spot ∙ ap (λ n. n + 1) long ∙ ap (λ n. started past + n) (sym (ap starts_in is));
+  as_many = length_last_spot mid (new_spot (Some index.count)) ∙ ap (λ n. n + 1) long ∙ ap (λ n. started past + n) (sym (ap starts_in is));
+  all_tops = was.all_tops ∙ tops_stay e past (ap (child_in []) is ∙ if_not (is_child [] (p ++ j ∷ [])) _ (λ h. let last = child_last [] (p ++ j ∷ []) h in omega (arith, pos, ap length last.1, length_last p j)));
   at_place = λ n l there. elim (place_step e past n l there) [
-    | inl old ↦ get_first mid (new_spot ∷ []) l _ (elim (spot_changed past index p i (with_child (length index.spots)) was here n l old) [
+    | inl old ↦ get_first mid (new_spot (Some index.count) ∷ []) l _ (elim (spot_changed past index p i (with_child (length index.spots)) was here n l old) [
       | inl changes ↦ changes.1 ∙ ap (λ c. Some (with_child c (spot_of past p))) was.as_many ∙ ap Some (child_spot e past p j k is ∙ ap (spot_of (e ∷ past)) (sym changes.0))
-      | inr stays ↦ stays.1 ∙ ap Some (other_stays e past (p ++ j ∷ []) k is fresh orderly n (λ h. stays.0 (sym (same_last p n j (child_last n (p ++ j ∷ []) h).0 (child_last n (p ++ j ∷ []) h).1).0)))
+      | inr stays ↦ stays.1 ∙ ap Some (other_stays e past (p ++ j ∷ []) k is fresh orderly n (not_new e past (p ++ j ∷ []) k is fresh orderly n (has_start past n l old))
+          (λ h. stays.0 (sym (same_last p n j (child_last n (p ++ j ∷ []) h).0 (child_last n (p ++ j ∷ []) h).1).0)))
     ])
     | inr new ↦
         let same_name = only_new e past (p ++ j ∷ []) k is fresh orderly n new.1 in
-        get_last mid new_spot l (new.2 ∙ sym long)
+        get_last mid (new_spot (Some index.count)) l (new.2 ∙ sym long)
+        ∙ ap (λ c. Some (new_spot (Some c))) was.counted
         ∙ ap Some (new_is_new e past (p ++ j ∷ []) k is fresh orderly ∙ ap (spot_of (e ∷ past)) (sym same_name))
   ];
   by_number = λ q. was.by_number q ∙ sym (or_nothing (place past (q ∷ [])) (λ _. started past) (start_in (q ∷ []) e.seat e.event)
@@ -259,65 +160,24 @@ child_started e past p j k index i is pos orderly keeps was here = record {
 
 -- NO START
 
-no_start_place : (e : Entry) (past : Past) (n : Name) → ((m : Name) → start_in m e.seat e.event ≡ None) → place (e ∷ past) n ≡ place past n
-no_start_place e past n none = or_nothing (place past n) (λ _. started past) (start_in n e.seat e.event) (none n)
-
--- AN END
-
-end_spot : (e : Entry) (past : Past) (m : Name) (how : How) → e.event ≡ event.End m how → end past m ≡ None → with_end (outcome_of (Some how)) (length past) (spot_of past m) ≡ spot_of (e ∷ past) m
-end_spot e past m how is none =
-    made (outcome_of (Some how)) _ (Some (length past)) _ (ready_place past m) _ (child_places past m) _
-    (ap outcome_of (sym (ap (λ o. option_or o (end_in m e.event)) none ∙ ended)))
-    (sym (ap (λ o. option_or o (option_map (λ _. length past) (end_in m e.event))) no_place_yet ∙ ap (option_map (λ _. length past)) ended))
-    (sym (or_nothing (ready_place past m) (λ _. length past) (ready_in m e.event) (ap (ready_in m) is)))
-    (sym (append-nil (child_places past m)) ∙ ap (λ ev. child_places past m ++ option_to_list (option_map (λ _. started past) (child_in m ev))) (sym is))
-  where
-    ended : end_in m e.event ≡ Some how
-    ended = ap (end_in m) is ∙ ap (λ (b : Bool). if b then Some how else None) (same_itself m)
-
-    no_place_yet : end_place past m ≡ None
-    no_place_yet = not_some (end_place past m) (λ h. some_or_none (end past m) (sym (end_placed past m) ∙ h) none)
-
-    made : (o o' : Outcome) (d d' r r' : Option ℕ) (c c' : List ℕ) → o ≡ o' → d ≡ d' → r ≡ r' → c ≡ c' → (let s : Spot = record { outcome = o; end = d; ready = r; children = c } in s) ≡ record { outcome = o'; end = d'; ready = r'; children = c' }
-    made o o' d d' r r' c c' a b e f = cc
+no_start_place : (e : Entry) (past : Past) (n : Name) → ((m : Name) → start_in m e.seat e.event ≡ None) → place past n ≡ place (e ∷ past) n
+no_start_place e past n none = count_stays started (λ e. start_in n e.seat e.event) e past (none n)
 
 pub ended_now : (e : Entry) (past : Past) (m : Name) (how : How) (index : Shape) (i : ℕ) → e.event ≡ event.End m how → KeepsOrder past e.event → IsIndexOf past index → place past m ≡ Some i
     → IsIndexOf (e ∷ past) (record { tops = index.tops; spots = changed index.spots i (with_end (outcome_of (Some how)) index.count); count = index.count + 1 })
 ended_now e past m how index i is keeps was here = record {
   counted = omega (arith, was.counted);
   as_many = length_changed index.spots i _ ∙ was.as_many ∙ (let none_more : starts_in e.event ≡ 0 = ap starts_in is in omega (arith, none_more));
-  at_place = λ n l there. elim (spot_changed past index m i (with_end (outcome_of (Some how)) index.count) was here n l (sym (no_start_place e past n none) ∙ there)) [
+  all_tops = was.all_tops ∙ tops_stay e past (ap (child_in []) is);
+  at_place = λ n l there. elim (spot_changed past index m i (with_end (outcome_of (Some how)) index.count) was here n l (no_start_place e past n none ∙ there)) [
     | inl changes ↦ changes.1 ∙ ap (λ c. Some (with_end (outcome_of (Some how)) c (spot_of past m))) was.counted ∙ ap Some (end_spot e past m how is (ends_open past e m how is keeps).not_ended ∙ ap (spot_of (e ∷ past)) (sym changes.0))
-    | inr stays ↦ stays.1 ∙ ap Some (spot_stays e past n (ap (end_in n) is ∙ if_not (same m n) how (λ h. stays.0 (sym (same_is m n h)))) (ap (ready_in n) is) (ap (child_in n) is))
+    | inr stays ↦ stays.1 ∙ ap Some (spot_stays e past n (none n) (ap (end_in n) is ∙ if_not (same m n) how (λ h. stays.0 (sym (same_is m n h)))) (ap (ready_in n) is) (ap (child_in n) is))
   ];
-  by_number = λ q. was.by_number q ∙ sym (no_start_place e past (q ∷ []) none);
+  by_number = λ q. was.by_number q ∙ no_start_place e past (q ∷ []) none;
 }
   where
     none : (n : Name) → start_in n e.seat e.event ≡ None
     none n = ap (start_in n e.seat) is
-
--- A READY TOP
-
-ready_spot : (e : Entry) (past : Past) (m : Name) → e.event ≡ event.Ready m → is_ready past m ≡ false → with_ready (length past) (spot_of past m) ≡ spot_of (e ∷ past) m
-ready_spot e past m is none =
-    made (outcome past m) _ (end_place past m) _ (Some (length past)) _ (child_places past m) _
-    (ap outcome_of (or_none (end past m) (end_in m e.event) (ap (end_in m) is)))
-    (sym (or_nothing (end_place past m) (λ _. length past) (end_in m e.event) (ap (end_in m) is)))
-    (sym (ap (λ o. option_or o (option_map (λ _. length past) (ready_in m e.event))) no_place_yet ∙ ap (option_map (λ _. length past)) now))
-    (sym (append-nil (child_places past m)) ∙ ap (λ ev. child_places past m ++ option_to_list (option_map (λ _. started past) (child_in m ev))) (sym is))
-  where
-    now : ready_in m e.event ≡ Some tt
-    now = ap (ready_in m) is ∙ ap (λ (b : Bool). if b then Some tt else None) (same_itself m)
-
-    no_place_yet : ready_place past m ≡ None
-    no_place_yet = not_some (ready_place past m) (λ h. true≢false (sym h ∙ ready_placed past m ∙ none))
-
-    or_none : {Y : Type 0} (a b : Option Y) → b ≡ None → a ≡ option_or a b
-    or_none None b is = sym is
-    or_none (Some y) b is = refl
-
-    made : (o o' : Outcome) (d d' r r' : Option ℕ) (c c' : List ℕ) → o ≡ o' → d ≡ d' → r ≡ r' → c ≡ c' → (let s : Spot = record { outcome = o; end = d; ready = r; children = c } in s) ≡ record { outcome = o'; end = d'; ready = r'; children = c' }
-    made o o' d d' r r' c c' a b e f = cc
 
 is_not : (b : Bool) → IsTrue (not b) → b ≡ false
 is_not true h = absurd (true≢false (sym h))
@@ -328,11 +188,12 @@ pub ready_now : (e : Entry) (past : Past) (m : Name) (index : Shape) (i : ℕ) �
 ready_now e past m index i is keeps was here = record {
   counted = omega (arith, was.counted);
   as_many = length_changed index.spots i _ ∙ was.as_many ∙ (let none_more : starts_in e.event ≡ 0 = ap starts_in is in omega (arith, none_more));
-  at_place = λ n l there. elim (spot_changed past index m i (with_ready index.count) was here n l (sym (no_start_place e past n none) ∙ there)) [
+  all_tops = was.all_tops ∙ tops_stay e past (ap (child_in []) is);
+  at_place = λ n l there. elim (spot_changed past index m i (with_ready index.count) was here n l (no_start_place e past n none ∙ there)) [
     | inl changes ↦ changes.1 ∙ ap (λ c. Some (with_ready c (spot_of past m))) was.counted ∙ ap Some (ready_spot e past m is not_yet ∙ ap (spot_of (e ∷ past)) (sym changes.0))
-    | inr stays ↦ stays.1 ∙ ap Some (spot_stays e past n (ap (end_in n) is) (ap (ready_in n) is ∙ if_not (same m n) tt (λ h. stays.0 (sym (same_is m n h)))) (ap (child_in n) is))
+    | inr stays ↦ stays.1 ∙ ap Some (spot_stays e past n (none n) (ap (end_in n) is) (ap (ready_in n) is ∙ if_not (same m n) tt (λ h. stays.0 (sym (same_is m n h)))) (ap (child_in n) is))
   ];
-  by_number = λ q. was.by_number q ∙ sym (no_start_place e past (q ∷ []) none);
+  by_number = λ q. was.by_number q ∙ no_start_place e past (q ∷ []) none;
 }
   where
     none : (n : Name) → start_in n e.seat e.event ≡ None
@@ -341,8 +202,7 @@ ready_now e past m index i is keeps was here = record {
     not_yet : is_ready past m ≡ false
     not_yet = let may : BecomesReady past m = subst (KeepsOrder past) is keeps in is_not (is_ready past m) may.not_ready
 
--- ALL ELSE
-
+-- an event that neither starts nor ends a name, nor makes one ready
 pub record IsQuiet (ev : Event) : Type 0 where
   pub no_start : (n : Name) (seat : ℕ) → start_in n seat ev ≡ None
   pub no_end : (n : Name) → end_in n ev ≡ None
@@ -354,8 +214,9 @@ pub quiet_now : (e : Entry) (past : Past) (index : Shape) → IsQuiet e.event �
 quiet_now e past index quiet was = record {
   counted = omega (arith, was.counted);
   as_many = was.as_many ∙ omega (arith, quiet.no_more);
-  at_place = λ n l there. was.at_place n l (sym (no_start_place e past n none) ∙ there) ∙ ap Some (spot_stays e past n (quiet.no_end n) (quiet.no_ready n) (quiet.no_child n));
-  by_number = λ q. was.by_number q ∙ sym (no_start_place e past (q ∷ []) none);
+  all_tops = was.all_tops ∙ tops_stay e past (quiet.no_child []);
+  at_place = λ n l there. was.at_place n l (no_start_place e past n none ∙ there) ∙ ap Some (spot_stays e past n (none n) (quiet.no_end n) (quiet.no_ready n) (quiet.no_child n));
+  by_number = λ q. was.by_number q ∙ no_start_place e past (q ∷ []) none;
 }
   where
     none : (n : Name) → start_in n e.seat e.event ≡ None

@@ -1,13 +1,13 @@
 -- Nodes as spots: what a changed node changes, and that each child's place stays one.
-use Rattle.std.proofs.Common.{◌≡◌, ℕ, zero, suc, ◌+◌, ◌<◌, ◌≤◌, ◌⊎◌, inl, inr, List, [], ◌∷◌, ◌++◌, map, length, get_or, refl, sym, ap, ◌∙◌, subst, arith}
+use Rattle.std.proofs.Common.{◌≡◌, ℕ, zero, suc, ◌+◌, ◌<◌, ◌⊎◌, inl, inr, List, [], ◌∷◌, ◌++◌, length, get_or, refl, sym, ap, ◌∙◌, subst, arith}
 use mathlib.Core.Bool.{true≢false}
 use Rattle.std.specs.Prelude.{Option, None, Some, slice_get, slice_set, ◌==◌, Result, Ok, Err, OnErr}
 use Rattle.std.proofs.lemmas.Bool.{cases_Bool, eqb-true, eq-eqb}
 use Rattle.std.proofs.lemmas.List.{length-append, set-get_or}
 use Rattle.std.proofs.lemmas.Option.{slice_get-get_or, same_Some, none-some}
 use Rattle.qc_desk.specs.declared.nodes.Node.{Node}
-use Rattle.qc_desk.specs.Spots.{Spot, spot, spots, new_spot, at, changed, with_child, IsWhole}
-use Rattle.qc_desk.proofs.Placing.{get_first, get_last, get_other}
+use Rattle.qc_desk.specs.Spots.{Spot, spot, spots, new_spot, at, changed, with_child, AreWithin, AreFewer}
+use Rattle.qc_desk.proofs.Placing.{get_last, get_other}
 
 pub spots_set : (nodes : List Node) (i : ℕ) (n : Node) → spots (slice_set nodes i n) ≡ slice_set (spots nodes) i (spot n)
 spots_set [] i n = refl
@@ -29,7 +29,7 @@ node_changed nodes i n d f h is = spots_set nodes i n ∙ ap (slice_set (spots n
 
 -- a node that stays as it was
 pub node_kept : (nodes : List Node) (i : ℕ) (n d : Node) → i < length nodes → spot n ≡ spot (get_or nodes i d) → spots (slice_set nodes i n) ≡ spots nodes
-node_kept nodes i n d h is = spots_set nodes i n ∙ ap (slice_set (spots nodes) i) (is ∙ sym (spot_at nodes i d h)) ∙ set-get_or (spots nodes) i new_spot
+node_kept nodes i n d h is = spots_set nodes i n ∙ ap (slice_set (spots nodes) i) (is ∙ sym (spot_at nodes i d h)) ∙ set-get_or (spots nodes) i (new_spot None)
 
 pub on_err : {X Y : Type 0} (r : Result X Y) (P : Type 0) → P → OnErr r P
 on_err (Ok x) P p = tt
@@ -61,60 +61,99 @@ KeepsChildren f = (s : Spot) → (f s).children ≡ s.children
 pub one_of : (i j : ℕ) → (i ≡ j) ⊎ (i ≡ j → ⊥)
 one_of i j = elim (cases_Bool (i == j)) [ inl equal ↦ inl (eqb-true i j equal) | inr un ↦ inr (λ h. true≢false (sym (eq-eqb i j h) ∙ un)) ]
 
-at_is : (all : List Spot) (i : ℕ) → i < length all → slice_get all i ≡ Some (at all i)
-at_is all i h = slice_get-get_or all i new_spot h
+pub at_is : (all : List Spot) (i : ℕ) → i < length all → slice_get all i ≡ Some (at all i)
+at_is all i h = slice_get-get_or all i (new_spot None) h
 
-pub whole_changed : (all : List Spot) (i : ℕ) (f : Spot → Spot) → KeepsChildren f → i < length all → IsWhole all → IsWhole (changed all i f)
-whole_changed all i f keeps h whole = λ k s j c here child. elim (one_of i k) [
+pub within_changed : (all : List Spot) (i : ℕ) (f : Spot → Spot) → KeepsChildren f → i < length all → AreWithin all → AreWithin (changed all i f)
+within_changed all i f keeps h within = λ k s j c here child. subst (λ m. c < m) (sym (length_changed all i (f (at all i)))) (elim (one_of i k) [
   | inl same ↦
       let is : f (at all i) ≡ s = same_Some (f (at all i)) s (sym (get_changed all i k (f (at all i)) same h) ∙ here) in
-      let n = whole i (at all i) j c (at_is all i h) (ap (λ xs. slice_get xs j) (sym (keeps (at all i)) ∙ ap (λ (x : Spot). x.children) is) ∙ child) in
-      subst (λ m. c < m) (sym (length_changed all i (f (at all i)))) n
-  | inr other ↦
-      let n = whole k s j c (sym (get_unchanged all i k (f (at all i)) other) ∙ here) child in
-      subst (λ m. c < m) (sym (length_changed all i (f (at all i)))) n
-]
+      within i (at all i) j c (at_is all i h) (ap (λ xs. slice_get xs j) (sym (keeps (at all i)) ∙ ap (λ (x : Spot). x.children) is) ∙ child)
+  | inr other ↦ within k s j c (sym (get_unchanged all i k (f (at all i)) other) ∙ here) child
+])
+
+pub fewer_changed : (all : List Spot) (i : ℕ) (f : Spot → Spot) → KeepsChildren f → i < length all → AreFewer all → AreFewer (changed all i f)
+fewer_changed all i f keeps h fewer = λ k s here. subst (λ m. length s.children < m) (sym (length_changed all i (f (at all i)))) (elim (one_of i k) [
+  | inl same ↦
+      let is : f (at all i) ≡ s = same_Some (f (at all i)) s (sym (get_changed all i k (f (at all i)) same h) ∙ here) in
+      subst (λ xs. length xs < length all) (sym (keeps (at all i)) ∙ ap (λ (x : Spot). x.children) is) (fewer i (at all i) (at_is all i h))
+  | inr other ↦ fewer k s (sym (get_unchanged all i k (f (at all i)) other) ∙ here)
+])
 
 pub length_last_spot : (all : List Spot) (s : Spot) → length (all ++ s ∷ []) ≡ length all + 1
 length_last_spot all s = length-append all (s ∷ [])
 
 -- one spot more that has no children yet
-pub whole_more : (all : List Spot) → IsWhole all → IsWhole (all ++ new_spot ∷ [])
-whole_more all whole = λ k s j c here child. elim (one_of k (length all)) [
+pub within_more : (all : List Spot) (start : Option ℕ) → AreWithin all → AreWithin (all ++ new_spot start ∷ [])
+within_more all start within = λ k s j c here child. elim (one_of k (length all)) [
   | inl last ↦
-      let is : new_spot ≡ s = same_Some new_spot s (sym (get_last all new_spot k last) ∙ here) in
+      let is : new_spot start ≡ s = same_Some (new_spot start) s (sym (get_last all (new_spot start) k last) ∙ here) in
       absurd (none-some c (ap (λ (x : Spot). slice_get x.children j) is ∙ child))
   | inr other ↦
-      let n = whole k s j c (sym (get_other all new_spot k other) ∙ here) child in
-      let l = length_last_spot all new_spot in
+      let n = within k s j c (sym (get_other all (new_spot start) k other) ∙ here) child in
+      let l = length_last_spot all (new_spot start) in
+      omega (arith, l, n)
+]
+
+pub fewer_more : (all : List Spot) (start : Option ℕ) → AreFewer all → AreFewer (all ++ new_spot start ∷ [])
+fewer_more all start fewer = λ k s here. elim (one_of k (length all)) [
+  | inl last ↦
+      let is : new_spot start ≡ s = same_Some (new_spot start) s (sym (get_last all (new_spot start) k last) ∙ here) in
+      subst (λ xs. length xs < length (all ++ new_spot start ∷ [])) (ap (λ (x : Spot). x.children) is) (let l = length_last_spot all (new_spot start) in omega (arith, l))
+  | inr other ↦
+      let n = fewer k s (sym (get_other all (new_spot start) k other) ∙ here) in
+      let l = length_last_spot all (new_spot start) in
       omega (arith, l, n)
 ]
 
 -- one spot more, which is a child's
-pub whole_child : (all : List Spot) (i : ℕ) → i < length all → IsWhole all → IsWhole (changed all i (with_child (length all)) ++ new_spot ∷ [])
-whole_child all i h whole = λ k s j c here child. elim (one_of k (length mid)) [
-  | inl last ↦
-      let is : new_spot ≡ s = same_Some new_spot s (sym (get_last mid new_spot k last) ∙ here) in
-      absurd (none-some c (ap (λ (x : Spot). slice_get x.children j) is ∙ child))
-  | inr other ↦ before k s j c (sym (get_other mid new_spot k other) ∙ here) child (one_of i k)
-]
-  where
-    mid : List Spot
-    mid = changed all i (with_child (length all))
+module _ (all : List Spot) (i : ℕ) (start : Option ℕ) (h : i < length all) where
+  abbrev mid : List Spot
+  mid = changed all i (with_child (length all))
 
-    long : length (mid ++ new_spot ∷ []) ≡ length all + 1
-    long = length_last_spot mid new_spot ∙ ap (λ n. n + 1) (length_changed all i (with_child (length all) (at all i)))
+  abbrev parent : Spot
+  parent = with_child (length all) (at all i)
 
-    below : (c : ℕ) → c < length all + 1 → c < length (mid ++ new_spot ∷ [])
-    below c n = subst (λ m. c < m) (sym long) n
+  long : length (mid ++ new_spot start ∷ []) ≡ length all + 1
+  long = length_last_spot mid (new_spot start) ∙ ap (λ n. n + 1) (length_changed all i parent)
 
-    before : (k : ℕ) (s : Spot) (j c : ℕ) → slice_get mid k ≡ Some s → slice_get s.children j ≡ Some c → (i ≡ k) ⊎ (i ≡ k → ⊥) → c < length (mid ++ new_spot ∷ [])
-    before k s j c here child (inr other) =
-        let n = whole k s j c (sym (get_unchanged all i k (with_child (length all) (at all i)) other) ∙ here) child in below c (omega (arith, n))
-    before k s j c here child (inl same) =
-        let is : with_child (length all) (at all i) ≡ s = same_Some (with_child (length all) (at all i)) s (sym (get_changed all i k (with_child (length all) (at all i)) same h) ∙ here) in
-        let found : slice_get ((at all i).children ++ length all ∷ []) j ≡ Some c = ap (λ (x : Spot). slice_get x.children j) is ∙ child in
-        elim (one_of j (length (at all i).children)) [
-          | inl last ↦ let c_is : length all ≡ c = same_Some (length all) c (sym (get_last (at all i).children (length all) j last) ∙ found) in below c (omega (arith, c_is))
-          | inr other ↦ let n = whole i (at all i) j c (at_is all i h) (sym (get_other (at all i).children (length all) j other) ∙ found) in below c (omega (arith, n))
-        ]
+  parent_is : (k : ℕ) (s : Spot) → i ≡ k → slice_get mid k ≡ Some s → parent ≡ s
+  parent_is k s same here = same_Some parent s (sym (get_changed all i k parent same h) ∙ here)
+
+  last_is : (k : ℕ) (s : Spot) → k ≡ length mid → slice_get (mid ++ new_spot start ∷ []) k ≡ Some s → new_spot start ≡ s
+  last_is k s last here = same_Some (new_spot start) s (sym (get_last mid (new_spot start) k last) ∙ here)
+
+  before : (k : ℕ) (s : Spot) → (k ≡ length mid → ⊥) → slice_get (mid ++ new_spot start ∷ []) k ≡ Some s → slice_get mid k ≡ Some s
+  before k s other here = sym (get_other mid (new_spot start) k other) ∙ here
+
+  elsewhere : (k : ℕ) (s : Spot) → (i ≡ k → ⊥) → slice_get mid k ≡ Some s → slice_get all k ≡ Some s
+  elsewhere k s other here = sym (get_unchanged all i k parent other) ∙ here
+
+  below : (c : ℕ) → c < length all + 1 → c < length (mid ++ new_spot start ∷ [])
+  below c n = subst (λ m. c < m) (sym long) n
+
+  pub within_child : AreWithin all → AreWithin (mid ++ new_spot start ∷ [])
+  within_child within = λ k s j c here child. below c (elim (one_of k (length mid)) [
+    | inl last ↦ absurd (none-some c (ap (λ (x : Spot). slice_get x.children j) (last_is k s last here) ∙ child))
+    | inr more ↦ elim (one_of i k) [
+      | inl same ↦
+          let found : slice_get ((at all i).children ++ length all ∷ []) j ≡ Some c = ap (λ (x : Spot). slice_get x.children j) (parent_is k s same (before k s more here)) ∙ child in
+          elim (one_of j (length (at all i).children)) [
+            | inl last ↦ let is : length all ≡ c = same_Some (length all) c (sym (get_last (at all i).children (length all) j last) ∙ found) in omega (arith, is)
+            | inr other ↦ let n = within i (at all i) j c (at_is all i h) (sym (get_other (at all i).children (length all) j other) ∙ found) in omega (arith, n)
+          ]
+      | inr other ↦ let n = within k s j c (elsewhere k s other (before k s more here)) child in omega (arith, n)
+    ]
+  ])
+
+  pub fewer_child : AreFewer all → AreFewer (mid ++ new_spot start ∷ [])
+  fewer_child fewer = λ k s here. below (length s.children) (elim (one_of k (length mid)) [
+    | inl last ↦ let none : 0 ≡ length s.children = ap (λ (x : Spot). length x.children) (last_is k s last here) in omega (arith, none)
+    | inr more ↦ elim (one_of i k) [
+      | inl same ↦
+          let longer : length ((at all i).children ++ length all ∷ []) ≡ length s.children = ap (λ (x : Spot). length x.children) (parent_is k s same (before k s more here)) in
+          let n = fewer i (at all i) (at_is all i h) in
+          omega (arith, longer, n, length-append (at all i).children (length all ∷ []))
+      | inr other ↦ let n = fewer k s (elsewhere k s other (before k s more here)) in omega (arith, n)
+    ]
+  ])

@@ -1,7 +1,4 @@
-use Rattle.std.proofs.Common.{◌≡◌, ◌+◌, ◌∷◌, refl, sym, ap, ◌∙◌, subst}
-use Rattle.std.specs.Prelude.{None, Some}
-use Rattle.qc_event.specs.declared.event.Event.TheVariants as event
-use Rattle.qc_event.proofs.Orderly.{KeepsOrder, BecomesReady}
+use Rattle.std.proofs.Common.{◌+◌, ◌∷◌, sym, ap, ◌∙◌, subst}
 use Rattle.qc_event.proofs.Lawful.{ends_open}
 use Rattle.qc_event.proofs.LegalOrderly.{legal_orderly}
 use Rattle.qc_desk.specs.declared.index.Index.TheInside.{Inside}
@@ -12,7 +9,7 @@ use Rattle.qc_desk.proofs.index.Index.close.Goals as goal
 use Rattle.qc_desk.proofs.index.Index.close.Goals.{in-Some, in_default}
 
 pub returns-clause-index : goal.returns-clause-index
-returns-clause-index c = λ setting past e how was legal is same.
+returns-clause-index c = λ e how is same setting past was legal.
     let orderly = legal_orderly setting (e ∷ past) legal in
     let inside = c.self.inside in
     let view : Shape = record { tops = inside.tops.entries; spots = inside.nodes; count = inside.count } in

@@ -1,4 +1,4 @@
-use Rattle.std.proofs.Common.{◌≡◌, ℕ, ◌+◌, ◌<◌, true, false, [], ◌∷◌, ◌++◌, length, take, drop, get_or, refl, sym, ap, ◌∙◌, subst, arith, take-append-drop, take_all}
+use Rattle.std.proofs.Common.{◌≡◌, ◌+◌, ◌<◌, true, false, [], ◌∷◌, length, take, get_or, sym, ap, ◌∙◌, subst, arith, take_all}
 use Rattle.std.specs.Prelude.{Some, None, slice_get}
 use Rattle.std.specs.Option.{option_copied}
 use Rattle.std.proofs.lemmas.List.{take_more, length-take-le}
@@ -6,8 +6,8 @@ use Rattle.qc_event.specs.Dead.{outcome, is_aborted, dead}
 use Rattle.qc_event.proofs.Ancestors.{find_no_ancestor}
 use Rattle.qc_desk.specs.Spots.{spot, child_at}
 use Rattle.qc_desk.specs.Places.{place}
-use Rattle.qc_desk.specs.Index.{Shape, IsIndexOf, top_at}
-use Rattle.qc_desk.proofs.Finding.{only_root, first_and_rest, next_place, child_within, root_not_aborted, root_dead, one_root, stands_so, no_dead, dead_here, alive_more, take_first, has_number}
+use Rattle.qc_desk.specs.Index.{Shape, top_at}
+use Rattle.qc_desk.proofs.Finding.{only_root, next_place, child_within, root_dead, one_root, stands_so, no_dead, dead_here, alive_more, take_first, has_number}
 use Rattle.qc_desk.proofs.index.Index.dead_in.Goals as goal
 
 pub returns-in_default-clause-dead : goal.returns-in_default-clause-dead
@@ -31,7 +31,7 @@ loop-k-init g c =
     record {
       place = λ setting past is legal. ap (place past) (take_first n top found) ∙ sym (is.by_number top) ∙ first;
       alive = λ setting past is legal. one_root setting past n legal;
-      within = subst (λ (x : Shape). c.in-Some-get.first.now < length x.spots) c.self.view_is (c.self.invariant.within top c.in-Some-get.first.now (ap (λ (x : Shape). top_at x.tops top) c.self.view_is ∙ first));
+      within = subst (λ (x : Shape). c.in-Some-get.first.now < length x.spots) c.self.view_is (c.self.invariant.inside top c.in-Some-get.first.now (ap (λ (x : Shape). top_at x.tops top) c.self.view_is ∙ first));
       cost = omega arith;
     }
 
@@ -74,7 +74,7 @@ loop-k-preserved g c =
       alive = λ setting past is legal.
           let here : is_aborted (outcome past (take k n)) ≡ false = ap is_aborted (sym (stands_so past c.args.self.now (take k n) c.loop-k.at s is (c.loop-k.invariant.place setting past is legal) found) ∙ sym c.outcome.ensures) ∙ sym c.is_aborted.ensures ∙ c.if-is_aborted.false in
           alive_more past n k (c.loop-k.invariant.alive setting past is legal) here;
-      within = subst (λ (x : Shape). c.in-Some-child.next < length x.spots) c.self.view_is (child_within c.self.inside.nodes c.loop-k.at number c.in-Some-child.next s c.node-node.ensures.whole c.node-node.ensures.node below);
+      within = subst (λ (x : Shape). c.in-Some-child.next < length x.spots) c.self.view_is (child_within c.self.inside.nodes c.loop-k.at number c.in-Some-child.next s c.node-node.ensures.within c.node-node.ensures.node below);
       cost = omega arith;
     }
 

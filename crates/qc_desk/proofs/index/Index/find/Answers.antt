@@ -1,4 +1,4 @@
-use Rattle.std.proofs.Common.{◌≡◌, ℕ, ◌+◌, ◌<◌, [], ◌∷◌, ◌++◌, length, take, drop, get_or, refl, sym, ap, ◌∙◌, subst, arith, take-append-drop}
+use Rattle.std.proofs.Common.{◌≡◌, ◌+◌, ◌<◌, [], ◌∷◌, length, take, drop, get_or, sym, ap, ◌∙◌, subst, arith, take-append-drop}
 use Rattle.std.specs.Prelude.{Some, None, slice_get}
 use Rattle.std.specs.Option.{option_copied}
 use Rattle.std.proofs.lemmas.List.{take_more, length-take-le}
@@ -46,6 +46,6 @@ loop-k-preserved g c =
           let next = next_place setting past c.args.self.now (take k n) number c.loop-k.at s is legal pos (c.loop-k.invariant.place setting past is legal)
           (ap (λ (x : Shape). slice_get x.spots c.loop-k.at) (sym c.self.view_is) ∙ c.node.ensures.node) in
           ap (place past) (take_more n k 0 (omega arith)) ∙ sym next ∙ here;
-      within = subst (λ (x : Shape). c.in-Some-child.next < length x.spots) c.self.view_is (child_within c.self.inside.nodes c.loop-k.at number c.in-Some-child.next s c.node.ensures.whole c.node.ensures.node here);
+      within = subst (λ (x : Shape). c.in-Some-child.next < length x.spots) c.self.view_is (child_within c.self.inside.nodes c.loop-k.at number c.in-Some-child.next s c.node.ensures.within c.node.ensures.node here);
       cost = omega arith;
     }

@@ -1,18 +1,14 @@
-use Rattle.std.proofs.Common.{◌≡◌, ◌+◌, ◌∷◌, refl, sym, ap, ◌∙◌, subst}
-use Rattle.std.specs.Prelude.{None, Some}
-use Rattle.qc_event.specs.declared.event.Event.TheVariants as event
+use Rattle.std.proofs.Common.{◌+◌, ◌∷◌, sym, ◌∙◌, subst}
 use Rattle.qc_event.proofs.Orderly.{KeepsOrder, BecomesReady}
-use Rattle.qc_event.proofs.Lawful.{ends_open}
 use Rattle.qc_event.proofs.LegalOrderly.{legal_orderly}
 use Rattle.qc_desk.specs.declared.index.Index.TheInside.{Inside}
-use Rattle.qc_desk.specs.Spots.{changed, with_end}
 use Rattle.qc_desk.specs.Index.{Shape, IsIndexOf}
 use Rattle.qc_desk.proofs.Pushing.{ready_now, has_place}
 use Rattle.qc_desk.proofs.index.Index.make_ready.Goals as goal
 use Rattle.qc_desk.proofs.index.Index.make_ready.Goals.{in-Some, in_default}
 
 pub returns-clause-index : goal.returns-clause-index
-returns-clause-index c = λ setting past e was legal is.
+returns-clause-index c = λ e is setting past was legal.
     let orderly = legal_orderly setting (e ∷ past) legal in
     let inside = c.self.inside in
     let view : Shape = record { tops = inside.tops.entries; spots = inside.nodes; count = inside.count } in
