@@ -6,6 +6,3 @@ mod rule;
 
 pub use checker::{Illegal, audit};
 pub use rule::Rule;
-
-#[cfg(test)]
-mod tests;

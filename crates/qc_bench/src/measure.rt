@@ -52,7 +52,7 @@ fn with_gate<D: Disk + Drop>(disk: D) -> Result<D, Trouble>
     Ok(disk)
 }
 
-// The writes and syncs of an append behind so many others.
+// The writes and syncs of an append behind a number of others.
 fn write_both<D: Disk>(disk: &mut D, turn: u32) -> Result<(), DiskNo>
     requires { 37 * turn + 1 ≤ D.size disk.old }
     ensures { OnOk result (D.size disk.new ≡ max (D.size disk.old) (37 * turn + 38)) }
@@ -64,7 +64,7 @@ fn write_both<D: Disk>(disk: &mut D, turn: u32) -> Result<(), DiskNo>
     disk.sync()
 }
 
-// The time of so many appends.
+// The time of a number of appends.
 fn journal_time<D: Disk>(
     clock: &impl Clock,
     journal: &mut Journal<D>,
@@ -80,7 +80,7 @@ fn journal_time<D: Disk>(
     Ok(start.elapsed(clock)?)
 }
 
-// The time of the writes and syncs of so many appends.
+// The time of the writes and syncs of a number of appends.
 fn bare_time<D: Disk>(clock: &impl Clock, disk: &mut D, count: u32) -> Result<Duration, Trouble>
     requires { D.size disk.old ≡ 1 }
     ensures { OnOk result (D.size disk.new ≡ 1 + 37 * count) }
@@ -92,7 +92,7 @@ fn bare_time<D: Disk>(clock: &impl Clock, disk: &mut D, count: u32) -> Result<Du
     Ok(start.elapsed(clock)?)
 }
 
-/// The times of so many appends and of their writes alone, each on an empty disk. What makes a disk ready for
+/// The times of a number of appends and of their writes alone, each on an empty disk. What makes a disk ready for
 /// the first is in neither.
 pub(crate) fn both_times<D: Disk + Drop>(
     clock: &impl Clock,

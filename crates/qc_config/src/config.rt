@@ -13,7 +13,7 @@ pub enum BadConfig {
     #[error("no copy has a number of votes")]
     Empty,
     /// The total of the votes is 0.
-    #[error("the votes come to 0")]
+    #[error("the total of the votes is 0")]
     Votes,
     /// The read threshold is 0 or above the total.
     #[error("the read threshold is 0 or above the total")]

@@ -10,4 +10,3 @@ pub use config::{BadConfig, Config};
 pub use copies::Copies;
 pub use law::marks_are_sets;
 pub use tuple::{Op, Tuple, Val};
-

@@ -5,6 +5,3 @@ mod settling;
 mod state;
 
 pub use state::CopyState;
-
-#[cfg(test)]
-mod tests;

@@ -1,11 +1,11 @@
 -- One more act joins a record: what a crash may leave then, and what it might have left since.
-use Rattle.std.proofs.Common.{◌≡◌, inl, inr, ℕ, ◌+◌, ◌≤◌, List, [], ◌∷◌, ◌++◌, length, refl, sym, ◌∙◌, ap, subst, arith, length-append}
+use Rattle.std.proofs.Common.{◌≡◌, ◌<◌, inl, inr, ℕ, ◌+◌, List, [], ◌∷◌, ◌++◌, length, refl, sym, ◌∙◌, ap, subst, arith, length-append}
 use Rattle.std.proofs.lemmas.List.{take-append-le, take_all}
 use Rattle.std.proofs.lemmas.Bool.{cases_lt}
 use Rattle.qc_disk.specs.Disk.{Elapses}
 use Rattle.qc_disk.specs.Tape.{tape_first, tape_acts, tape_bytes, Applied}
 use Rattle.qc_disk.specs.declared.record.Tape.{Tape}
-use Rattle.qc_disk.specs.Replay.{Act, does, leaves, replayed, left_after, images, since}
+use Rattle.qc_disk.specs.Replay.{Act, does, leaves, replayed, left_after, images, images_at}
 
 -- the content after one more act
 pub replayed-push : (now : List ℕ) (acts : List Act) (act : Act) → replayed now (acts ++ act ∷ []) ≡ does act (replayed now acts)
@@ -18,34 +18,42 @@ left-push now was [] act c left = left
 left-push now was (a ∷ acts) act c left = left-push (does a now) (leaves a now was) acts act c left
 
 -- time goes on by one act
-elapses-push : (first : List ℕ) (acts : List Act) (act : Act) → Elapses (length acts) (length (acts ++ act ∷ [])) (since first acts) (since first (acts ++ act ∷ [])) (images first (acts ++ act ∷ []))
+elapses-push : (first : List ℕ) (acts : List Act) (act : Act) → Elapses (length acts) (length (acts ++ act ∷ [])) (images_at first acts) (images_at first (acts ++ act ∷ [])) (images first acts) (images first (acts ++ act ∷ []))
 elapses-push first acts act =
     let more = acts ++ act ∷ [] in
     let size : length more ≡ length acts + 1 = length-append acts (act ∷ []) in
     record {
       later = omega (arith, size);
-      nothing_else = λ t c le left.
-          elim (cases_lt left.0 (length more)) [
-            | inl below ↦ let short : left.0 ≤ length acts = omega (arith, size) in inl (left.0, left.1, short, subst (λ (l : List Act). images first l c) (take-append-le left.0 acts (act ∷ []) short) left.3)
-            | inr long ↦ inr (subst (λ (l : List Act). images first l c) (take_all left.0 more long) left.3)
+      earlier = λ t c early.
+          let same = take-append-le t acts (act ∷ []) (omega (arith, early)) in
+          (λ left. subst (λ (l : List Act). images first l c) same left, λ left. subst (λ (l : List Act). images first l c) (sym same) left);
+      inside = λ t c from last left.
+          elim (cases_lt t (length more)) [
+            | inl below ↦ inl (subst (λ (l : List Act). images first l c) (take-append-le t acts (act ∷ []) (omega (arith, below, size)) ∙ take_all t acts from) left)
+            | inr long ↦ inr (subst (λ (l : List Act). images first l c) (take_all t more long) left)
           ];
-      keeps = λ t c le left. (left.0, left.1, omega (arith, size), subst (λ (l : List Act). images first l c) (sym (take-append-le left.0 acts (act ∷ []) left.2)) left.3);
+      until = λ t c from early left. subst (λ (l : List Act). images first l c) (sym (take-append-le t acts (act ∷ []) (omega (arith, early, size)) ∙ take_all t acts from)) left;
     }
 
 -- the same, where the record is known to be one act longer
 pub elapses-applied : (first first' : List ℕ) (acts acts' : List Act) (act : Act) → first' ≡ first → acts' ≡ acts ++ act ∷ []
-    → Elapses (length acts) (length acts') (since first acts) (since first' acts') (images first' acts')
+    → Elapses (length acts) (length acts') (images_at first acts) (images_at first' acts') (images first acts) (images first' acts')
 elapses-applied first first' acts acts' act same more =
-    subst (λ (f : List ℕ). Elapses (length acts) (length acts') (since first acts) (since f acts') (images f acts')) (sym same)
-    (subst (λ (l : List Act). Elapses (length acts) (length l) (since first acts) (since first l) (images first l)) (sym more) (elapses-push first acts act))
+    subst (λ (f : List ℕ). Elapses (length acts) (length acts') (images_at first acts) (images_at f acts') (images first acts) (images f acts')) (sym same)
+    (subst (λ (l : List Act). Elapses (length acts) (length l) (images_at first acts) (images_at first l) (images first acts) (images first l)) (sym more) (elapses-push first acts act))
 
 -- no time goes by where the record stays
 pub elapses-same : (first first' : List ℕ) (acts acts' : List Act) → first' ≡ first → acts' ≡ acts
-    → Elapses (length acts) (length acts') (since first acts) (since first' acts') (images first' acts')
+    → Elapses (length acts) (length acts') (images_at first acts) (images_at first' acts') (images first acts) (images first' acts')
 elapses-same first first' acts acts' same stays =
-    subst (λ (f : List ℕ). Elapses (length acts) (length acts') (since first acts) (since f acts') (images f acts')) (sym same)
-    (subst (λ (l : List Act). Elapses (length acts) (length l) (since first acts) (since first l) (images first l)) (sym stays)
-    (record { later = omega arith; nothing_else = λ t c le left. inl left; keeps = λ t c le left. left }))
+    subst (λ (f : List ℕ). Elapses (length acts) (length acts') (images_at first acts) (images_at f acts') (images first acts) (images f acts')) (sym same)
+    (subst (λ (l : List Act). Elapses (length acts) (length l) (images_at first acts) (images_at first l) (images first acts) (images first l)) (sym stays)
+    (record {
+      later = omega arith;
+      earlier = λ t c early. (λ left. left, λ left. left);
+      inside = λ t c from last left. inl (subst (λ (l : List Act). images first l c) (take_all t acts from) left);
+      until = λ t c from early left. absurd (omega (arith, from, early));
+    }))
 
 -- the images where the record is known to be one act longer
 pub leaves-applied : (first first' : List ℕ) (acts acts' : List Act) (act : Act) → first' ≡ first → acts' ≡ acts ++ act ∷ []

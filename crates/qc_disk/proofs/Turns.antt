@@ -1,15 +1,15 @@
 -- What a call of a disk in memory does, seen as a disk.
-use Rattle.std.proofs.Common.{◌≡◌, ◌<◌, ◌^◌, ℕ, List, length, Bool, true, false, if◌then◌else◌, Some, Result, Ok, Err, refl, sym, ◌∙◌, ap, subst, arith}
+use Rattle.std.proofs.Common.{◌≡◌, ◌<◌, ◌^◌, ℕ, ◌+◌, List, [], ◌∷◌, ◌++◌, length, Bool, true, false, if◌then◌else◌, Some, Result, Ok, Err, refl, sym, ◌∙◌, ap, subst, arith}
 use Rattle.std.specs.Result.{IsErrOf, OnOk}
-use Rattle.qc_disk.specs.Disk.{next, HasCause, Torn, Cut, Follows, Within, Only, Steps, Elapses, Stays}
-use Rattle.qc_disk.specs.Replay.{Act, nothing, wrote, cut_to, synced, does, leaves, replayed, images, since}
+use Rattle.qc_disk.specs.Disk.{next, Rose, HasCause, Torn, Cut, Follows, Within, Only, Steps, Elapses, Stays}
+use Rattle.qc_disk.specs.Replay.{Act, nothing, wrote, cut_to, synced, does, leaves, replayed, images, images_at, syncs_in}
 use Rattle.qc_disk.specs.Laws.{torn_same, torn-written, cut_same, cut-taken, image_now}
 use Rattle.qc_disk.specs.Tape.{tape_first, tape_acts, tape_bytes, Applied, Untouched}
 use Rattle.qc_disk.specs.declared.record.Tape.{Tape}
 use Rattle.qc_disk.specs.declared.disk.DiskNo.{DiskNo}
 use Rattle.qc_disk.specs.declared.disk.DiskNo.TheVariants.{Failed, Memory}
 use Rattle.qc_disk.specs.declared.memory.MemDisk.{MemDisk}
-use Rattle.qc_disk.specs.MemDisk.{mem_first, mem_acts, mem_bytes, mem_faults, Turned, Failing, Unmade}
+use Rattle.qc_disk.specs.MemDisk.{mem_first, mem_acts, mem_bytes, mem_faults, mem_syncs, Turned, Failing, Unmade}
 use Rattle.qc_disk.proofs.Moments.{elapses-applied, elapses-same, leaves-applied}
 
 abbrev images_of : MemDisk → List ℕ → Type 0
@@ -39,7 +39,7 @@ turned-err T U old new act Failed turned = turned
 turned-err T U old new act Memory turned = turned
 
 pub turn-time : {T : Type 0} (old new : MemDisk) (act : Act) (result : Result T DiskNo) → Turned old new act result
-    → Elapses (length (mem_acts old)) (length (mem_acts new)) (since (mem_first old) (mem_acts old)) (since (mem_first new) (mem_acts new)) (images_of new)
+    → Elapses (length (mem_acts old)) (length (mem_acts new)) (images_at (mem_first old) (mem_acts old)) (images_at (mem_first new) (mem_acts new)) (images_of old) (images_of new)
 turn-time old new act (Ok answer) turned = elapses-applied _ _ _ _ _ turned.tape.first turned.tape.acts
 turn-time old new act (Err Failed) turned = elapses-applied _ _ _ _ _ turned.tape.first turned.tape.acts
 turn-time old new act (Err Memory) turned = elapses-same _ _ _ _ turned.tape.first turned.tape.acts
@@ -139,3 +139,17 @@ pub turn-bytes : {T : Type 0} (old new : MemDisk) (act : Act) (result : Result T
 turn-bytes old new act (Ok answer) same turned = turned.tape.bytes ∙ same
 turn-bytes old new act (Err Failed) same turned = failing-bytes old new act same turned
 turn-bytes old new act (Err Memory) same turned = turned.tape.bytes
+
+-- one more sync in a record
+syncs-push : (acts : List Act) → syncs_in (acts ++ synced ∷ []) ≡ syncs_in acts + 1
+syncs-push [] = refl
+syncs-push (nothing ∷ acts) = syncs-push acts
+syncs-push (wrote at bytes ∷ acts) = syncs-push acts
+syncs-push (cut_to to ∷ acts) = syncs-push acts
+syncs-push (synced ∷ acts) = ap (λ n. n + 1) (syncs-push acts)
+
+pub turn-counted : {T : Type 0} (old new : MemDisk) (result : Result T DiskNo) → Turned old new synced result → OnOk result (Rose (mem_syncs old) (mem_syncs new))
+turn-counted old new (Ok answer) turned =
+    let rose : mem_syncs new ≡ mem_syncs old + 1 = ap syncs_in turned.tape.acts ∙ syncs-push (mem_acts old) in
+    omega (arith, rose)
+turn-counted old new (Err e) turned = tt

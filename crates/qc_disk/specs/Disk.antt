@@ -64,11 +64,12 @@ abbrev pub Holds : Option (List ℕ) → ℕ → List ℕ → Type 0
 Holds None at bytes = Unit {0}
 Holds (Some content) at bytes = bytes ≡ take (length bytes) (drop at content)
 
--- Time goes on: a crash since t might have left what it might have left before, or what it may leave now.
-pub record Elapses (before now : ℕ) (past since : ℕ → List ℕ → Type 0) (may_leave : List ℕ → Type 0) : Type 0 where
+-- Time goes on: what a crash left at earlier moments stays, at a moment of the call it leaves what it left before or what it leaves now, and until the call has ended all that it left before.
+pub record Elapses (before now : ℕ) (past at : ℕ → List ℕ → Type 0) (left leaves : List ℕ → Type 0) : Type 0 where
   pub later : before ≤ now
-  pub nothing_else : (t : ℕ) (c : List ℕ) → t ≤ before → since t c → past t c ⊎ may_leave c
-  pub keeps : (t : ℕ) (c : List ℕ) → t ≤ before → past t c → since t c
+  pub earlier : (t : ℕ) (c : List ℕ) → t < before → at t c ↔ past t c
+  pub inside : (t : ℕ) (c : List ℕ) → before ≤ t → t ≤ now → at t c → left c ⊎ leaves c
+  pub until : (t : ℕ) (c : List ℕ) → before ≤ t → t < now → left c → at t c
 
 -- the clock rose, unless there was no memory for the call
 abbrev pub Advances : ℕ → ℕ → Type 0 → Type 0
@@ -81,9 +82,27 @@ pub record Stays (told tells : Option (List ℕ)) (had has : ℕ) (left leaves :
   pub images : (c : List ℕ) → leaves c ↔ left c
   pub faults : now ≡ before
 
--- A crash at any moment since old leaves what has P.
-pub record LeavesOnly {D : Type 0} (moment : D → ℕ) (left_since : D → ℕ → List ℕ → Type 0) (old new : D) (P : List ℕ → Type 0) : Type 0 where
+-- A crash at any moment since old leaves what has P; earlier moments are as they were.
+pub record LeavesOnly {D : Type 0} (moment : D → ℕ) (left_at : D → ℕ → List ℕ → Type 0) (old new : D) (P : List ℕ → Type 0) : Type 0 where
   pub later : moment old ≤ moment new
-  pub each : (c : List ℕ) → left_since new (moment old) c → P c
-  -- for a run that began earlier
-  pub before : (t : ℕ) (c : List ℕ) → t ≤ moment old → left_since new t c → left_since old t c ⊎ P c
+  pub each : (t : ℕ) (c : List ℕ) → moment old ≤ t → t ≤ moment new → left_at new t c → P c
+  pub earlier : (t : ℕ) (c : List ℕ) → t < moment old → left_at new t c ↔ left_at old t c
+
+-- All that a crash leaves at a moment has P.
+abbrev pub AllAt : {D : Type 0} → (D → ℕ → List ℕ → Type 0) → D → ℕ → (List ℕ → Type 0) → Type 0
+AllAt left_at disk t P = (c : List ℕ) → left_at disk t c → P c
+
+-- Since old, what all images at a moment have, all have later; and all have what all had when the run began.
+pub record Grows {D : Type 0} (moment : D → ℕ) (left_at : D → ℕ → List ℕ → Type 0) (old new : D) (P : List ℕ → Type 0) : Type 0 where
+  pub from_before : (t : ℕ) → moment old ≤ t → t ≤ moment new → AllAt left_at old (moment old) P → AllAt left_at new t P
+  pub within : (t u : ℕ) → moment old ≤ t → t ≤ u → u ≤ moment new → AllAt left_at new t P → AllAt left_at new u P
+
+-- Since old images only fall away: each at a later moment is one at an earlier.
+pub record FallsAway {D : Type 0} (moment : D → ℕ) (left_at : D → ℕ → List ℕ → Type 0) (old new : D) : Type 0 where
+  pub from_before : (t : ℕ) (c : List ℕ) → moment old ≤ t → t ≤ moment new → left_at new t c → left_at old (moment old) c
+  pub within : (t u : ℕ) (c : List ℕ) → moment old ≤ t → t ≤ u → u ≤ moment new → left_at new u c → left_at new t c
+
+-- Since old there was one change: from each moment on images only fall away, or at it all are still left that were when the run began.
+abbrev pub ChangesOnce : {D : Type 0} → (D → ℕ) → (D → ℕ → List ℕ → Type 0) → D → D → Type 0
+ChangesOnce moment left_at old new = (t u : ℕ) → moment old ≤ t → t ≤ u → u ≤ moment new
+    → ((c : List ℕ) → left_at new u c → left_at new t c) ⊎ ((c : List ℕ) → left_at old (moment old) c → left_at new t c)

@@ -1,9 +1,9 @@
 -- A record of calls has the laws of a disk: what is done is among what a crash may leave of it.
-use Rattle.std.specs.Prelude.{◌<◌, ◌≡◌, ◌≤◌, ℕ, ◌+◌, ◌-◌, min, List, [], ◌∷◌, ◌++◌, length, take, drop, refl, get_or, Bool, true, false}
+use Rattle.std.specs.Prelude.{◌<◌, ◌≡◌, ◌≤◌, ◌↔◌, ℕ, ◌+◌, ◌-◌, min, List, [], ◌∷◌, ◌++◌, length, take, drop, refl, get_or, Bool, true, false}
 use Rattle.std.proofs.Common.{sym, ◌∙◌, ap, subst, arith, length-append, length-take, length-drop}
 use Rattle.std.proofs.lemmas.List.{take_all, get_or_append_left, get_or-append_right, get_or-take, get_or-drop}
 use Rattle.qc_disk.specs.Disk.{written, Torn, Cut}
-use Rattle.qc_disk.specs.Replay.{Act, nothing, wrote, cut_to, synced, does, leaves, replayed, left_after, images, since, syncs, last_synced, image_after}
+use Rattle.qc_disk.specs.Replay.{Act, nothing, wrote, cut_to, synced, does, leaves, replayed, left_after, images, images_at, syncs, last_synced, image_after}
 
 pub torn_same : (at n : ℕ) (old : List ℕ) → Torn at n old old
 torn_same at n old = record { before = λ i _ _. refl; after = λ i _ _. refl; no_shorter = omega arith; no_longer = omega arith }
@@ -88,11 +88,9 @@ pub image_left : (first : List ℕ) (acts : List Act) (done : Bool) → images f
 image_left first acts true = image-acts first (λ d. d ≡ first) acts refl
 image_left first acts false = synced-acts first first (λ d. d ≡ first) acts refl
 
--- this moment is one of those since an earlier one
-pub since_now : (first : List ℕ) (acts : List Act) (t : ℕ) (c : List ℕ) → t ≤ length acts → images first acts c → since first acts t c
-since_now first acts t c le left =
-    (length acts, le, omega arith, subst (λ (l : List Act). images first l c) (sym (take_all (length acts) acts (omega arith))) left)
-
--- since this moment there is no other
-pub since_only : (first : List ℕ) (acts : List Act) (c : List ℕ) → since first acts (length acts) c → images first acts c
-since_only first acts c left = subst (λ (l : List Act). images first l c) (take_all left.0 acts left.1) left.3
+-- after all acts it is what a crash may leave
+pub at_end : (first : List ℕ) (acts : List Act) (c : List ℕ) → images_at first acts (length acts) c ↔ images first acts c
+at_end first acts c = by_all (take_all (length acts) acts (omega arith))
+  where
+    by_all : take (length acts) acts ≡ acts → images_at first acts (length acts) c ↔ images first acts c
+    by_all is = (λ left. subst (λ (l : List Act). images first l c) is left, λ left. subst (λ (l : List Act). images first l c) (sym is) left)

@@ -1,7 +1,7 @@
 -- The parts of a disk in memory, and what a call may do to it.
 use Rattle.std.specs.Prelude.{◌≡◌, ℕ, ◌+◌, List, [], length, Option, Some, None, Bool, if◌then◌else◌, Result, Ok, Err}
 use Rattle.qc_disk.specs.Disk.{next}
-use Rattle.qc_disk.specs.Replay.{Act, nothing, fault_at, images, since}
+use Rattle.qc_disk.specs.Replay.{Act, nothing, fault_at, syncs_in, images, images_at}
 use Rattle.qc_disk.specs.Tape.{tape_first, tape_acts, tape_bytes, Applied, Untouched}
 use Rattle.qc_disk.specs.declared.disk.DiskNo.{DiskNo}
 use Rattle.qc_disk.specs.declared.disk.DiskNo.TheVariants.{Failed, Memory}
@@ -24,9 +24,9 @@ mem_bytes disk = tape_bytes disk.tape
 abbrev pub mem_images : MemDisk → List ℕ → Type 0
 mem_images disk c = images (mem_first disk) (mem_acts disk) c
 
--- what a crash might have left since the t-th call
-abbrev pub mem_since : MemDisk → ℕ → List ℕ → Type 0
-mem_since disk t c = since (mem_first disk) (mem_acts disk) t c
+-- what a crash might have left after the t-th call
+abbrev pub mem_at : MemDisk → ℕ → List ℕ → Type 0
+mem_at disk t c = images_at (mem_first disk) (mem_acts disk) t c
 
 -- which calls fail
 abbrev pub mem_fails : MemDisk → List FailAt
@@ -35,6 +35,10 @@ mem_fails disk = disk.fails.items
 -- how often it failed
 abbrev pub mem_faults : MemDisk → ℕ
 mem_faults disk = disk.faults
+
+-- how often it was synced
+abbrev pub mem_syncs : MemDisk → ℕ
+mem_syncs disk = syncs_in (mem_acts disk)
 
 -- whether the next call is listed, and whether it does its work then
 abbrev pub next_fault : MemDisk → Option Bool

@@ -1,5 +1,5 @@
 -- What a record of calls says of a disk: its content, and what a crash may leave of it.
-use Rattle.std.specs.Prelude.{◌≡◌, ◌≤◌, ℕ, List, [], ◌∷◌, length, take, Option, Some, None, Bool, if◌then◌else◌, ◌==◌, Vec}
+use Rattle.std.specs.Prelude.{◌≡◌, ℕ, ◌+◌, List, [], ◌∷◌, length, take, Option, Some, None, Bool, if◌then◌else◌, ◌==◌, Vec}
 use Rattle.std.specs.declared.alloc.Global.{Global}
 use Rattle.qc_disk.specs.Disk.{written, Torn, Cut}
 use Rattle.qc_disk.specs.declared.record.FailAt.{FailAt}
@@ -69,9 +69,17 @@ left_after now images (act ∷ acts) c = left_after (does act now) (leaves act n
 abbrev pub images : List ℕ → List Act → List ℕ → Type 0
 images first acts c = left_after first (λ d. d ≡ first) acts c
 
--- what a crash might have left after the first t acts or later
-abbrev pub since : List ℕ → List Act → ℕ → List ℕ → Type 0
-since first acts t c = (k : ℕ) × (t ≤ k) × (k ≤ length acts) × images first (take k acts) c
+-- what a crash might have left after the first t acts
+abbrev pub images_at : List ℕ → List Act → ℕ → List ℕ → Type 0
+images_at first acts t c = images first (take t acts) c
+
+-- how many of these acts are syncs
+abbrev pub syncs_in : List Act → ℕ
+syncs_in [] = 0
+syncs_in (nothing ∷ acts) = syncs_in acts
+syncs_in (wrote at bytes ∷ acts) = syncs_in acts
+syncs_in (cut_to to ∷ acts) = syncs_in acts
+syncs_in (synced ∷ acts) = syncs_in acts + 1
 
 -- the bytes of a vector that is there, or else these
 abbrev pub latest_or : Option (Vec ℕ Global) → List ℕ → List ℕ

@@ -1,7 +1,7 @@
 //! A disk as its users see it: what a read returns, and what a crash may leave.
-ghost use Rattle.std.specs.Prelude.{◌≡◌, ◌≤◌, ◌+◌, ℕ, max, List, Option, length, take, option_map, IfOk, OnOk, OnErr, IsErrOf};
+ghost use Rattle.std.specs.Prelude.{◌≡◌, ◌≤◌, ◌↔◌, ◌+◌, ℕ, max, List, Option, length, take, option_map, IfOk, OnOk, OnErr, IsErrOf};
 ghost use Rattle.qc_disk.specs.declared.disk.DiskNo.TheVariants.{Memory};
-ghost use Rattle.qc_disk.specs.Disk.{HasCause, written, Torn, Cut, Follows, Within, Only, IsImage, HasLength, Steps, Holds, Elapses, Advances, Stays};
+ghost use Rattle.qc_disk.specs.Disk.{HasCause, Rose, written, Torn, Cut, Follows, Within, Only, IsImage, HasLength, Steps, Holds, Elapses, Advances, Stays};
 
 use std::alloc::{AllocError, AllocFailed};
 use thiserror::Error;
@@ -48,11 +48,14 @@ pub trait Disk {
     /// want of memory may leave it.
     ghost moment: { Self → ℕ };
 
-    /// What a crash at some moment from that one on might have left, during a call or between two.
-    ghost left_since: { Self → ℕ → List ℕ → Type 0 };
+    /// What a crash at a moment up to this one might have left, during a call or between two.
+    ghost left_at: { Self → ℕ → List ℕ → Type 0 };
 
     /// How often the disk has failed, up to `2^64 - 1`.
     ghost faults: { Self → ℕ };
+
+    /// How often it was synced, up to `2^64 - 1`.
+    ghost syncs: { Self → ℕ };
 
     /// How many bytes there are.
     fn len(&mut self) -> Result<u64, DiskNo>
@@ -60,7 +63,7 @@ pub trait Disk {
         ensures content { content self.new ≡ content self.old }
         ensures size { OnErr result (size self.new ≡ size self.old) }
         ensures crash { Within (may_leave self.old) (may_leave self.new) }
-        ensures time { Elapses (moment self.old) (moment self.new) (left_since self.old) (left_since self.new) (may_leave self.new) }
+        ensures time { Elapses (moment self.old) (moment self.new) (left_at self.old) (left_at self.new) (may_leave self.old) (may_leave self.new) }
         ensures advances { Advances (moment self.old) (moment self.new) (IsErrOf result DiskNo.Memory) }
         ensures cause { HasCause (faults self.old) (faults self.new) (IsErrOf result DiskNo.Failed) }
         ensures memory { IsErrOf result DiskNo.Memory → Stays (content self.old) (content self.new) (size self.old) (size self.new) (may_leave self.old) (may_leave self.new) (faults self.old) (faults self.new) };
@@ -72,7 +75,7 @@ pub trait Disk {
         ensures content { content self.new ≡ content self.old }
         ensures size { size self.new ≡ size self.old }
         ensures crash { Within (may_leave self.old) (may_leave self.new) }
-        ensures time { Elapses (moment self.old) (moment self.new) (left_since self.old) (left_since self.new) (may_leave self.new) }
+        ensures time { Elapses (moment self.old) (moment self.new) (left_at self.old) (left_at self.new) (may_leave self.old) (may_leave self.new) }
         ensures advances { Advances (moment self.old) (moment self.new) (IsErrOf result DiskNo.Memory) }
         ensures cause { HasCause (faults self.old) (faults self.new) (IsErrOf result DiskNo.Failed) }
         ensures memory { IsErrOf result DiskNo.Memory → Stays (content self.old) (content self.new) (size self.old) (size self.new) (may_leave self.old) (may_leave self.new) (faults self.old) (faults self.new) };
@@ -84,7 +87,7 @@ pub trait Disk {
         ensures size { OnOk result (size self.new ≡ max (size self.old) (at + length bytes.now)) }
         ensures failed { IsErrOf result DiskNo.Failed → Steps (Torn at (length bytes.now)) (content self.old) (content self.new) }
         ensures crash { Follows (Torn at (length bytes.now)) (may_leave self.old) (may_leave self.new) }
-        ensures time { Elapses (moment self.old) (moment self.new) (left_since self.old) (left_since self.new) (may_leave self.new) }
+        ensures time { Elapses (moment self.old) (moment self.new) (left_at self.old) (left_at self.new) (may_leave self.old) (may_leave self.new) }
         ensures advances { Advances (moment self.old) (moment self.new) (IsErrOf result DiskNo.Memory) }
         ensures cause { HasCause (faults self.old) (faults self.new) (IsErrOf result DiskNo.Failed) }
         ensures memory { IsErrOf result DiskNo.Memory → Stays (content self.old) (content self.new) (size self.old) (size self.new) (may_leave self.old) (may_leave self.new) (faults self.old) (faults self.new) };
@@ -96,7 +99,7 @@ pub trait Disk {
         ensures size { OnOk result (size self.new ≡ to) }
         ensures failed { IsErrOf result DiskNo.Failed → Steps (Cut to) (content self.old) (content self.new) }
         ensures crash { Follows (Cut to) (may_leave self.old) (may_leave self.new) }
-        ensures time { Elapses (moment self.old) (moment self.new) (left_since self.old) (left_since self.new) (may_leave self.new) }
+        ensures time { Elapses (moment self.old) (moment self.new) (left_at self.old) (left_at self.new) (may_leave self.old) (may_leave self.new) }
         ensures advances { Advances (moment self.old) (moment self.new) (IsErrOf result DiskNo.Memory) }
         ensures cause { HasCause (faults self.old) (faults self.new) (IsErrOf result DiskNo.Failed) }
         ensures memory { IsErrOf result DiskNo.Memory → Stays (content self.old) (content self.new) (size self.old) (size self.new) (may_leave self.old) (may_leave self.new) (faults self.old) (faults self.new) };
@@ -104,10 +107,11 @@ pub trait Disk {
     /// After it, a crash leaves what a read returns.
     fn sync(&mut self) -> Result<(), DiskNo>
         ensures durable { OnOk result (Only (content self.old) (may_leave self.new)) }
+        ensures counted { OnOk result (Rose (syncs self.old) (syncs self.new)) }
         ensures content { content self.new ≡ content self.old }
         ensures size { size self.new ≡ size self.old }
         ensures crash { Within (may_leave self.old) (may_leave self.new) }
-        ensures time { Elapses (moment self.old) (moment self.new) (left_since self.old) (left_since self.new) (may_leave self.new) }
+        ensures time { Elapses (moment self.old) (moment self.new) (left_at self.old) (left_at self.new) (may_leave self.old) (may_leave self.new) }
         ensures advances { Advances (moment self.old) (moment self.new) (IsErrOf result DiskNo.Memory) }
         ensures cause { HasCause (faults self.old) (faults self.new) (IsErrOf result DiskNo.Failed) }
         ensures memory { IsErrOf result DiskNo.Memory → Stays (content self.old) (content self.new) (size self.old) (size self.new) (may_leave self.old) (may_leave self.new) (faults self.old) (faults self.new) };
@@ -118,9 +122,6 @@ pub trait Disk {
     /// The number of bytes is that of the content.
     ghost has_size: { (disk : Self) → HasLength (content disk) (size disk) };
 
-    /// This moment is one of those since an earlier one.
-    ghost counts_now: { (disk : Self) (t : ℕ) (c : List ℕ) → t ≤ moment disk → may_leave disk c → left_since disk t c };
-
-    /// Since this moment there is no other.
-    ghost only_now: { (disk : Self) (c : List ℕ) → left_since disk (moment disk) c → may_leave disk c };
+    /// At this moment it is what a crash may leave.
+    ghost leaves_now: { (disk : Self) (c : List ℕ) → left_at disk (moment disk) c ↔ may_leave disk c };
 }

@@ -3,6 +3,7 @@ ghost use Rattle.std.specs.Prelude.{◌≡◌, ◌≤◌, IfOk, None};
 ghost use Rattle.qc_disk.specs.Disk.{HasCause, next};
 
 use crate::disk::{Disk, DiskNo};
+use crate::syncs::Syncs;
 use std::fs::{File, OpenOptions};
 use std::io;
 use std::os::unix::fs::FileExt;
@@ -16,6 +17,7 @@ pub struct FileDisk {
     /// Those that failed too, up to `2^64 - 1`.
     calls: u64,
     faults: u64,
+    syncs: Syncs,
 }
 
 impl FileDisk {
@@ -23,17 +25,19 @@ impl FileDisk {
     pub fn open(rt: &HostRuntime, folder: &str, path: &str) -> io::Result<FileDisk>
         ensures calls { IfOk result (λ disk. disk.calls ≡ 0) }
         ensures faults { IfOk result (λ disk. disk.faults ≡ 0) }
+        ensures syncs { IfOk result (λ disk. disk.syncs.count ≡ 1) }
     {
         let mut options = OpenOptions::new();
         options.read(true).write(true).create(true);
         let file = options.open(rt, path)?;
-        File::open(rt, folder)?.sync_all()?;
+        let syncs = Syncs::begin(rt, folder, &file)?;
         let size = file.metadata()?.len();
         Ok(FileDisk {
             file,
             size,
             calls: 0,
             faults: 0,
+            syncs,
         })
     }
 
@@ -43,6 +47,7 @@ impl FileDisk {
         ensures calls { self.new.calls ≡ next self.old.calls }
         ensures later { self.old.calls ≤ self.new.calls }
         ensures faults { self.new.faults ≡ self.old.faults }
+        ensures syncs { self.new.syncs ≡ self.old.syncs }
     {
         self.calls = self.calls.saturating_add(1);
     }
@@ -53,6 +58,7 @@ impl FileDisk {
         ensures size { self.new.size ≡ self.old.size }
         ensures calls { self.new.calls ≡ self.old.calls }
         ensures faults { self.new.faults ≡ next self.old.faults }
+        ensures syncs { self.new.syncs ≡ self.old.syncs }
         ensures cause { HasCause self.old.faults self.new.faults (Unit {0}) }
     {
         self.faults = self.faults.saturating_add(1);
@@ -69,17 +75,17 @@ impl Disk for FileDisk {
 
     ghost moment = { λ disk. disk.calls };
 
-    ghost left_since = { λ _ _ _. Unit {0} };
+    ghost left_at = { λ _ _ _. Unit {0} };
 
     ghost faults = { λ disk. disk.faults };
+
+    ghost syncs = { λ disk. disk.syncs.count };
 
     ghost reads_as_image = { λ _. tt };
 
     ghost has_size = { λ _. tt };
 
-    ghost counts_now = { λ _ _ _ _ _. tt };
-
-    ghost only_now = { λ _ _ _. tt };
+    ghost leaves_now = { λ _ _. (λ left. left, λ left. left) };
 
     fn len(&mut self) -> Result<u64, DiskNo> {
         self.count();
@@ -122,7 +128,7 @@ impl Disk for FileDisk {
 
     fn sync(&mut self) -> Result<(), DiskNo> {
         self.count();
-        if self.file.sync_all().is_err() {
+        if self.syncs.sync(&self.file).is_err() {
             return Err(self.fail());
         }
         Ok(())

@@ -15,7 +15,7 @@ pub enum HomeDisk {
 }
 
 impl Disk for HomeDisk {
-    ghost use Rattle.qc_disk.specs.Home.{home_content, home_size, home_images, home_moment, home_since, home_faults, home_image, home_length, home_now, home_only};
+    ghost use Rattle.qc_disk.specs.Home.{home_content, home_size, home_images, home_moment, home_at, home_faults, home_syncs, home_image, home_length, home_now};
 
     ghost content = { home_content };
 
@@ -25,17 +25,17 @@ impl Disk for HomeDisk {
 
     ghost moment = { home_moment };
 
-    ghost left_since = { home_since };
+    ghost left_at = { home_at };
 
     ghost faults = { home_faults };
+
+    ghost syncs = { home_syncs };
 
     ghost reads_as_image = { home_image };
 
     ghost has_size = { home_length };
 
-    ghost counts_now = { home_now };
-
-    ghost only_now = { home_only };
+    ghost leaves_now = { home_now };
 
     fn len(&mut self) -> Result<u64, DiskNo> {
         match self {

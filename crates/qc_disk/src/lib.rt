@@ -8,6 +8,7 @@ mod law;
 mod memory;
 mod record;
 mod shop;
+mod syncs;
 
 pub use disk::{Disk, DiskNo};
 pub use file::FileDisk;

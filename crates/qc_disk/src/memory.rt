@@ -20,7 +20,7 @@ impl MemDisk {
     ghost use Rattle.std.specs.Prelude.{◌≤◌, ◌+◌, ◌-◌, take, Some, IfOk, IsErrOf};
     ghost use Rattle.qc_disk.specs.Disk.{HasCause, Elapses, Advances, Stays};
     ghost use Rattle.qc_disk.specs.Replay.{act_of, image_after};
-    ghost use Rattle.qc_disk.specs.MemDisk.{mem_first, mem_acts, mem_bytes, mem_fails, mem_faults, mem_images, mem_since, next_fault, Turned};
+    ghost use Rattle.qc_disk.specs.MemDisk.{mem_first, mem_acts, mem_bytes, mem_fails, mem_faults, mem_images, mem_at, next_fault, Turned};
 
     /// A disk of these bytes, all of them synced, which fails at the listed calls.
     pub fn new(bytes: Vec<u8>, fails: Vec<FailAt>) -> Self
@@ -56,7 +56,7 @@ impl MemDisk {
     pub fn image_at(&self, alloc: Global, call: u64, done: bool) -> Result<Vec<u8>, AllocError>
         requires { call ≤ length (mem_acts self.now) + 1 }
         ensures image { IfOk result (λ bytes. bytes.items ≡ image_after (mem_first self.now) (take (call - 1) (mem_acts self.now)) done) }
-        ensures left { IfOk result (λ bytes. mem_since self.now (call - 1) bytes.items) }
+        ensures left { IfOk result (λ bytes. mem_at self.now (call - 1) bytes.items) }
     {
         self.tape
             .image_at(alloc, call.saturating_sub(1) as usize, done)
@@ -71,7 +71,7 @@ impl MemDisk {
 
     // Makes a call whose work is a deed.
     fn turn(&mut self, deed: Deed) -> Result<(), DiskNo>
-        ensures time { Elapses (length (mem_acts self.old)) (length (mem_acts self.new)) (mem_since self.old) (mem_since self.new) (mem_images self.new) }
+        ensures time { Elapses (length (mem_acts self.old)) (length (mem_acts self.new)) (mem_at self.old) (mem_at self.new) (mem_images self.old) (mem_images self.new) }
         ensures advances { Advances (length (mem_acts self.old)) (length (mem_acts self.new)) (IsErrOf result DiskNo.Memory) }
         ensures cause { HasCause (mem_faults self.old) (mem_faults self.new) (IsErrOf result DiskNo.Failed) }
         ensures memory { IsErrOf result DiskNo.Memory → Stays (Some (mem_bytes self.old)) (Some (mem_bytes self.new)) (length (mem_bytes self.old)) (length (mem_bytes self.new)) (mem_images self.old) (mem_images self.new) (mem_faults self.old) (mem_faults self.new) }
@@ -94,10 +94,10 @@ impl MemDisk {
 
 impl Disk for MemDisk {
     ghost use Rattle.std.specs.Prelude.{◌≤◌, ◌+◌, max, take, option_map, Some, IfOk, OnOk, OnErr, IsErrOf};
-    ghost use Rattle.qc_disk.specs.Disk.{HasCause, written, Torn, Cut, Follows, Within, Only, Steps, Holds, Elapses, Advances, Stays};
+    ghost use Rattle.qc_disk.specs.Disk.{HasCause, Rose, written, Torn, Cut, Follows, Within, Only, Steps, Holds, Elapses, Advances, Stays};
     ghost use Rattle.qc_disk.specs.Replay.{nothing, wrote, cut_to, synced};
-    ghost use Rattle.qc_disk.specs.Laws.{image_now, since_now, since_only};
-    ghost use Rattle.qc_disk.specs.MemDisk.{mem_first, mem_acts, mem_bytes, mem_faults, mem_images, mem_since, Turned};
+    ghost use Rattle.qc_disk.specs.Laws.{image_now, at_end};
+    ghost use Rattle.qc_disk.specs.MemDisk.{mem_first, mem_acts, mem_bytes, mem_faults, mem_syncs, mem_images, mem_at, Turned};
 
     ghost content = { λ disk. Some (mem_bytes disk) };
 
@@ -107,24 +107,24 @@ impl Disk for MemDisk {
 
     ghost moment = { λ disk. length (mem_acts disk) };
 
-    ghost left_since = { mem_since };
+    ghost left_at = { mem_at };
 
     ghost faults = { mem_faults };
+
+    ghost syncs = { mem_syncs };
 
     ghost reads_as_image = { λ disk. image_now (mem_first disk) (mem_acts disk) (mem_bytes disk) disk.replays };
 
     ghost has_size = { λ disk. refl };
 
-    ghost counts_now = { λ disk t c le left. since_now (mem_first disk) (mem_acts disk) t c le left };
-
-    ghost only_now = { λ disk c left. since_only (mem_first disk) (mem_acts disk) c left };
+    ghost leaves_now = { λ disk c. at_end (mem_first disk) (mem_acts disk) c };
 
     fn len(&mut self) -> Result<u64, DiskNo>
         ensures answer { IfOk result (λ n. n ≡ length (mem_bytes self.new)) }
         ensures content { Some (mem_bytes self.new) ≡ Some (mem_bytes self.old) }
         ensures size { OnErr result (length (mem_bytes self.new) ≡ length (mem_bytes self.old)) }
         ensures crash { Within (mem_images self.old) (mem_images self.new) }
-        ensures time { Elapses (length (mem_acts self.old)) (length (mem_acts self.new)) (mem_since self.old) (mem_since self.new) (mem_images self.new) }
+        ensures time { Elapses (length (mem_acts self.old)) (length (mem_acts self.new)) (mem_at self.old) (mem_at self.new) (mem_images self.old) (mem_images self.new) }
         ensures advances { Advances (length (mem_acts self.old)) (length (mem_acts self.new)) (IsErrOf result DiskNo.Memory) }
         ensures cause { HasCause (mem_faults self.old) (mem_faults self.new) (IsErrOf result DiskNo.Failed) }
         ensures memory { IsErrOf result DiskNo.Memory → Stays (Some (mem_bytes self.old)) (Some (mem_bytes self.new)) (length (mem_bytes self.old)) (length (mem_bytes self.new)) (mem_images self.old) (mem_images self.new) (mem_faults self.old) (mem_faults self.new) }
@@ -140,7 +140,7 @@ impl Disk for MemDisk {
         ensures content { Some (mem_bytes self.new) ≡ Some (mem_bytes self.old) }
         ensures size { length (mem_bytes self.new) ≡ length (mem_bytes self.old) }
         ensures crash { Within (mem_images self.old) (mem_images self.new) }
-        ensures time { Elapses (length (mem_acts self.old)) (length (mem_acts self.new)) (mem_since self.old) (mem_since self.new) (mem_images self.new) }
+        ensures time { Elapses (length (mem_acts self.old)) (length (mem_acts self.new)) (mem_at self.old) (mem_at self.new) (mem_images self.old) (mem_images self.new) }
         ensures advances { Advances (length (mem_acts self.old)) (length (mem_acts self.new)) (IsErrOf result DiskNo.Memory) }
         ensures cause { HasCause (mem_faults self.old) (mem_faults self.new) (IsErrOf result DiskNo.Failed) }
         ensures memory { IsErrOf result DiskNo.Memory → Stays (Some (mem_bytes self.old)) (Some (mem_bytes self.new)) (length (mem_bytes self.old)) (length (mem_bytes self.new)) (mem_images self.old) (mem_images self.new) (mem_faults self.old) (mem_faults self.new) }
@@ -158,7 +158,7 @@ impl Disk for MemDisk {
         ensures size { OnOk result (length (mem_bytes self.new) ≡ max (length (mem_bytes self.old)) (at + length bytes.now)) }
         ensures failed { IsErrOf result DiskNo.Failed → Steps (Torn at (length bytes.now)) (Some (mem_bytes self.old)) (Some (mem_bytes self.new)) }
         ensures crash { Follows (Torn at (length bytes.now)) (mem_images self.old) (mem_images self.new) }
-        ensures time { Elapses (length (mem_acts self.old)) (length (mem_acts self.new)) (mem_since self.old) (mem_since self.new) (mem_images self.new) }
+        ensures time { Elapses (length (mem_acts self.old)) (length (mem_acts self.new)) (mem_at self.old) (mem_at self.new) (mem_images self.old) (mem_images self.new) }
         ensures advances { Advances (length (mem_acts self.old)) (length (mem_acts self.new)) (IsErrOf result DiskNo.Memory) }
         ensures cause { HasCause (mem_faults self.old) (mem_faults self.new) (IsErrOf result DiskNo.Failed) }
         ensures memory { IsErrOf result DiskNo.Memory → Stays (Some (mem_bytes self.old)) (Some (mem_bytes self.new)) (length (mem_bytes self.old)) (length (mem_bytes self.new)) (mem_images self.old) (mem_images self.new) (mem_faults self.old) (mem_faults self.new) }
@@ -177,7 +177,7 @@ impl Disk for MemDisk {
         ensures size { OnOk result (length (mem_bytes self.new) ≡ to) }
         ensures failed { IsErrOf result DiskNo.Failed → Steps (Cut to) (Some (mem_bytes self.old)) (Some (mem_bytes self.new)) }
         ensures crash { Follows (Cut to) (mem_images self.old) (mem_images self.new) }
-        ensures time { Elapses (length (mem_acts self.old)) (length (mem_acts self.new)) (mem_since self.old) (mem_since self.new) (mem_images self.new) }
+        ensures time { Elapses (length (mem_acts self.old)) (length (mem_acts self.new)) (mem_at self.old) (mem_at self.new) (mem_images self.old) (mem_images self.new) }
         ensures advances { Advances (length (mem_acts self.old)) (length (mem_acts self.new)) (IsErrOf result DiskNo.Memory) }
         ensures cause { HasCause (mem_faults self.old) (mem_faults self.new) (IsErrOf result DiskNo.Failed) }
         ensures memory { IsErrOf result DiskNo.Memory → Stays (Some (mem_bytes self.old)) (Some (mem_bytes self.new)) (length (mem_bytes self.old)) (length (mem_bytes self.new)) (mem_images self.old) (mem_images self.new) (mem_faults self.old) (mem_faults self.new) }
@@ -188,10 +188,11 @@ impl Disk for MemDisk {
 
     fn sync(&mut self) -> Result<(), DiskNo>
         ensures durable { OnOk result (Only (Some (mem_bytes self.old)) (mem_images self.new)) }
+        ensures counted { OnOk result (Rose (mem_syncs self.old) (mem_syncs self.new)) }
         ensures content { Some (mem_bytes self.new) ≡ Some (mem_bytes self.old) }
         ensures size { length (mem_bytes self.new) ≡ length (mem_bytes self.old) }
         ensures crash { Within (mem_images self.old) (mem_images self.new) }
-        ensures time { Elapses (length (mem_acts self.old)) (length (mem_acts self.new)) (mem_since self.old) (mem_since self.new) (mem_images self.new) }
+        ensures time { Elapses (length (mem_acts self.old)) (length (mem_acts self.new)) (mem_at self.old) (mem_at self.new) (mem_images self.old) (mem_images self.new) }
         ensures advances { Advances (length (mem_acts self.old)) (length (mem_acts self.new)) (IsErrOf result DiskNo.Memory) }
         ensures cause { HasCause (mem_faults self.old) (mem_faults self.new) (IsErrOf result DiskNo.Failed) }
         ensures memory { IsErrOf result DiskNo.Memory → Stays (Some (mem_bytes self.old)) (Some (mem_bytes self.new)) (length (mem_bytes self.old)) (length (mem_bytes self.new)) (mem_images self.old) (mem_images self.new) (mem_faults self.old) (mem_faults self.new) }

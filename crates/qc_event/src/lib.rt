@@ -19,6 +19,3 @@ pub use qc_names::Name;
 pub use scan::{clear, dead, holder, kind, outcome, seen};
 pub use seat::{CLIENT_SEAT, LEDGER_SEAT, copy_seat, is_client, top_name};
 pub use table::{Label, Row, Rows, Table};
-
-#[cfg(test)]
-mod tests;

@@ -13,4 +13,3 @@ pub use gather::Gather;
 pub use next::Next;
 pub use puts::Puts;
 pub use shortage::Shortage;
-

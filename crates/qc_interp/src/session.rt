@@ -76,8 +76,8 @@ impl Session {
     ghost use Rattle.qc_event.specs.declared.event.Cause.TheVariants.{Orphan};
 
     /// A client's session that has done nothing, over these first configurations and copies with these tuples. Its
-    /// requests meet these fates, over and over; after every so many due steps the request held first is delivered,
-    /// and the sender of a held one waits for so many due steps.
+    /// requests meet these fates, over and over; after every `hold` due steps the request held first is delivered,
+    /// and the sender of a held one waits for `patience` due steps.
     pub fn new(
         alloc: Global,
         client: Client,
@@ -200,7 +200,7 @@ impl Session {
         self.abort(of, Cause::Orphan(*ancestor))
     }
 
-    // Aborts the ancestor so many levels up.
+    // Aborts the ancestor this number of levels up.
     fn ask(&mut self, of: &Name, levels: u8) -> Result<(), Short>
         requires running { (k : ℕ) × Running of.now k self.old }
         requires within { levels < length of.now }

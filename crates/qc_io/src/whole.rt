@@ -34,7 +34,7 @@ impl From<AllocError> for Untaken {
     }
 }
 
-// Reads at most so many bytes behind the others, and says how many. It reads none only at the end.
+// Reads at most this number of bytes behind the others, and says how many. It reads none only at the end.
 fn take_piece<S: Source>(source: &mut S, bytes: &mut Vec<u8>, most: usize) -> Result<usize, Untaken>
     requires { 0 < most }
     ensures taken { IfOk result

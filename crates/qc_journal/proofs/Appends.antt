@@ -1,16 +1,17 @@
 -- What each of the two writes of an append leaves, in the terms of a journal.
 use Rattle.std.proofs.Common.{◌≡◌, ◌⊎◌, ⊎_elim, inl, inr, ℕ, ◌+◌, ◌-◌, List, [], ◌∷◌, ◌++◌, length, replicate, Option, Some, sym, ◌∙◌, ap, subst, arith}
-use Rattle.std.specs.Prelude.{option_map}
-use Rattle.qc_disk.specs.Disk.{written, Torn, Only, Steps, IsImage, LeavesOnly}
+use Rattle.std.specs.Prelude.{option_map, ◌↔◌}
+use Rattle.qc_disk.specs.Disk.{written, Torn, Only, Steps, IsImage, LeavesOnly, Grows, ChangesOnce}
 use Rattle.qc_disk.specs.declared.disk.Disk.{Ghosts}
 use Rattle.qc_journal.specs.Device.{Touched}
-use Rattle.qc_journal.specs.Image.{IsShort, EndsAt, HasRecords, behind_gate}
+use Rattle.qc_journal.specs.Image.{IsShort, EndsAt, HasRecords, HasAt, behind_gate}
 use Rattle.qc_journal.specs.State.{IsUpState, hand_of, missing_at}
 use Rattle.qc_journal.specs.Journal.{Stands, IsUp, Keeps}
 use Rattle.qc_journal.specs.declared.journal.Journal.{Journal}
 use Rattle.qc_journal.specs.declared.journal.State.{State}
 use Rattle.qc_journal.specs.declared.journal.State.TheVariants.{Up, Down}
-use Rattle.qc_journal.proofs.Moments.{weakened, continues}
+use Rattle.qc_journal.proofs.Moments.{continues, grows_once, grows_on}
+use Rattle.qc_journal.proofs.Growing.{has_still}
 use Rattle.qc_journal.proofs.Images.{Staged, torn_behind, written_behind, torn_gate, written_gate}
 
 -- with nothing in hand
@@ -44,6 +45,14 @@ module _ {D : Type 0} {g : Ghosts D} (old : Journal D g) (bodies : List (List �
   pub behind : (n : ℕ) (image : List ℕ) → Touched (Torn (old.place + 1 - missing) n) (g.may_leave old.disk) image → EndsAt old.place bodies image
   behind n image from = torn_behind old.place bodies n from.0 image (ends from.0 from.1) (subst (λ at. Torn at n from.0 image) start from.2)
 
+  -- nor loses any
+  pub behind_lost : (mid : D) (n : ℕ) → IsImage (g.content old.disk) (g.may_leave old.disk) → LeavesOnly g.moment g.left_at old.disk mid (Touched (Torn (old.place + 1 - missing) n) (g.may_leave old.disk)) → ChangesOnce g.moment g.left_at old.disk mid
+      → ((c : List ℕ) → g.left_at old.disk (g.moment old.disk) c ↔ g.may_leave old.disk c) → (index : ℕ) (had : List ℕ) → Grows g.moment g.left_at old.disk mid (HasAt index had)
+  behind_lost mid n here first one now index had =
+      let left = told_image (g.may_leave old.disk) _ k.bytes k.told here in
+      grows_once g.moment g.left_at old.disk mid (HasAt index had) _ first one
+      (λ all c from. has_still index had k.bytes c bodies body (inr (old.place, ends k.bytes left)) (all k.bytes ((now k.bytes).1 left)) (inl (inr (old.place, behind n c from))))
+
   module _ (mid : D) (block : List ℕ) (fits : IsShort body) (here : IsImage (g.content old.disk) (g.may_leave old.disk)) (block_is : block ≡ replicate missing 0 ++ behind_gate body)
       (wrote : g.content mid ≡ option_map (written (old.place + 1 - missing) block) (g.content old.disk)) (only : Only (g.content mid) (g.may_leave mid)) where
     -- what the disk then tells
@@ -72,9 +81,21 @@ module _ {D : Type 0} {g : Ghosts D} (old : Journal D g) (bodies : List (List �
         subst (EndsAt (old.place + 5 + length body) (bodies ++ body ∷ [])) (sym now_is) (written_gate old.place bodies body _ staged_bytes)
 
     -- at every moment of both the records stand, with the new one or without
-    pub any_moment : (new : D) (n : ℕ) → LeavesOnly g.moment g.left_since old.disk mid (Touched (Torn (old.place + 1 - missing) n) (g.may_leave old.disk)) → LeavesOnly g.moment g.left_since mid new (Touched (Torn old.place 1) (g.may_leave mid))
-        → LeavesOnly g.moment g.left_since old.disk new (λ image. HasRecords bodies image ⊎ HasRecords (bodies ++ body ∷ []) image)
+    pub any_moment : (new : D) (n : ℕ) → LeavesOnly g.moment g.left_at old.disk mid (Touched (Torn (old.place + 1 - missing) n) (g.may_leave old.disk)) → LeavesOnly g.moment g.left_at mid new (Touched (Torn old.place 1) (g.may_leave mid))
+        → LeavesOnly g.moment g.left_at old.disk new (λ image. HasRecords bodies image ⊎ HasRecords (bodies ++ body ∷ []) image)
     any_moment new n first then =
-        let P : List ℕ → Type 0 = λ image. HasRecords bodies image ⊎ HasRecords (bodies ++ body ∷ []) image in
-        let before = weakened g.moment g.left_since old.disk mid _ P first (λ image from. inl (inr (old.place, behind n image from))) in
-        continues g.moment g.left_since old.disk mid new P _ before then (λ image from. as_records _ _ bodies _ image (gate image from))
+        continues g.moment g.left_at old.disk mid new _ _ (λ image. HasRecords bodies image ⊎ HasRecords (bodies ++ body ∷ []) image) first then
+        (λ image from. inl (inr (old.place, behind n image from))) (λ image from. as_records _ _ bodies _ image (gate image from))
+
+    -- and no record is lost
+    pub nothing_lost : (new : D) (n : ℕ) → LeavesOnly g.moment g.left_at old.disk mid (Touched (Torn (old.place + 1 - missing) n) (g.may_leave old.disk)) → ChangesOnce g.moment g.left_at old.disk mid
+        → LeavesOnly g.moment g.left_at mid new (Touched (Torn old.place 1) (g.may_leave mid)) → ChangesOnce g.moment g.left_at mid new
+        → ((c : List ℕ) → g.left_at old.disk (g.moment old.disk) c ↔ g.may_leave old.disk c) → ((c : List ℕ) → g.left_at mid (g.moment mid) c ↔ g.may_leave mid c)
+        → IsImage (g.content mid) (g.may_leave mid) → ((c : List ℕ) → g.may_leave mid c → Touched (Torn (old.place + 1 - missing) n) (g.may_leave old.disk) c)
+        → (index : ℕ) (had : List ℕ) → Grows g.moment g.left_at old.disk new (HasAt index had)
+    nothing_lost new n first one then two now now_mid here_mid crash index had =
+        let w = written (old.place + 1) (behind_gate body) k.bytes in
+        let left : g.may_leave mid w = told_image (g.may_leave mid) _ w told_mid here_mid in
+        let has : HasRecords bodies w = inr (old.place, behind n w (crash w left)) in
+        grows_on g.moment g.left_at old.disk mid new (HasAt index had) _ first.later (behind_lost mid n here first one now index had) then
+        (grows_once g.moment g.left_at mid new (HasAt index had) _ then two (λ all c from. has_still index had w c bodies body has (all w ((now_mid w).1 left)) (as_records _ _ bodies _ c (gate c from))))

@@ -1,5 +1,6 @@
-mod Moments
+pub mod Moments
 pub mod Images
 mod Appends
 mod Reopens
-mod Readings
+pub mod Readings
+mod Growing

@@ -1,5 +1,5 @@
 -- What an image says: the records that it has, or where it is broken.
-use Rattle.std.specs.Prelude.{◌≡◌, ◌≢◌, ◌<◌, ◌≤◌, ◌⊎◌, ℕ, ◌+◌, ◌^◌, List, [], ◌∷◌, ◌++◌, length, take, All, map, Vec}
+use Rattle.std.specs.Prelude.{◌≡◌, ◌≢◌, ◌<◌, ◌≤◌, ◌⊎◌, ℕ, ◌+◌, ◌^◌, List, [], ◌∷◌, ◌++◌, length, take, get_or, All, map, Vec}
 use Rattle.std.specs.Int.{w32, to_be_bytes, from_be_bytes}
 use Rattle.std.specs.declared.alloc.Global.{Global}
 
@@ -28,6 +28,10 @@ pub record EndsAt (place : ℕ) (bodies : List (List ℕ)) (image : List ℕ) : 
 -- an image has the records of these bodies, and no others
 abbrev pub HasRecords : List (List ℕ) → List ℕ → Type 0
 HasRecords bodies image = ((bodies ≡ []) × (length image ≤ 1)) ⊎ ((place : ℕ) × EndsAt place bodies image)
+
+-- an image has this record at this index
+abbrev pub HasAt : ℕ → List ℕ → List ℕ → Type 0
+HasAt index body image = (bodies : List (List ℕ)) × HasRecords bodies image × (index < length bodies) × (get_or bodies index [] ≡ body)
 
 -- what stands behind an open gate is too short for a record and the next gate
 abbrev pub IsCutOff : List ℕ → Type 0

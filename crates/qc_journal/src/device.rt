@@ -1,6 +1,6 @@
 //! Runs of calls of a disk.
 ghost use Rattle.std.specs.Prelude.{◌≡◌, ◌≤◌, ◌<◌, ◌+◌, ℕ, List, max, length, option_map, IfOk, IfSome, OnOk, OnErr, IsErrOf, IsTrue, ◌↔◌, slice_index};
-ghost use Rattle.qc_disk.specs.Disk.{HasCause, written, Torn, Follows, Within, Only, Steps, Holds, LeavesOnly};
+ghost use Rattle.qc_disk.specs.Disk.{HasCause, written, Torn, Follows, Within, Only, Steps, Holds, LeavesOnly, FallsAway, ChangesOnce};
 ghost use Rattle.qc_journal.specs.Device.{Touched};
 
 use qc_disk::{Disk, DiskNo};
@@ -15,7 +15,8 @@ pub(crate) fn write_synced<D: Disk>(disk: &mut D, at: u64, bytes: &[u8]) -> Resu
     ensures size { OnOk result (D.size disk.new ≡ max (D.size disk.old) (at + length bytes.now)) }
     ensures torn { Steps (Torn at (length bytes.now)) (D.content disk.old) (D.content disk.new) }
     ensures crash { Follows (Torn at (length bytes.now)) (D.may_leave disk.old) (D.may_leave disk.new) }
-    ensures any_moment { LeavesOnly D.moment D.left_since disk.old disk.new (Touched (Torn at (length bytes.now)) (D.may_leave disk.old)) }
+    ensures any_moment { LeavesOnly D.moment D.left_at disk.old disk.new (Touched (Torn at (length bytes.now)) (D.may_leave disk.old)) }
+    ensures once { ChangesOnce D.moment D.left_at disk.old disk.new }
     ensures cause { HasCause (D.faults disk.old) (D.faults disk.new) (IsErrOf result DiskNo.Failed) }
 {
     disk.write_at(at, bytes)?;
@@ -28,14 +29,15 @@ pub(crate) fn synced_len<D: Disk>(disk: &mut D) -> Result<u64, DiskNo>
     ensures durable { OnOk result (Only (D.content disk.new) (D.may_leave disk.new)) }
     ensures content { D.content disk.new ≡ D.content disk.old }
     ensures crash { Within (D.may_leave disk.old) (D.may_leave disk.new) }
-    ensures any_moment { LeavesOnly D.moment D.left_since disk.old disk.new (D.may_leave disk.old) }
+    ensures any_moment { LeavesOnly D.moment D.left_at disk.old disk.new (D.may_leave disk.old) }
+    ensures falls { FallsAway D.moment D.left_at disk.old disk.new }
     ensures cause { HasCause (D.faults disk.old) (D.faults disk.new) (IsErrOf result DiskNo.Failed) }
 {
     disk.sync()?;
     disk.len()
 }
 
-/// Reads the first bytes, so many.
+/// Reads this number of bytes, the first ones.
 pub(crate) fn read_front<D: Disk>(alloc: Global, disk: &mut D, size: u64) -> Result<Vec<u8>, DiskNo>
     requires { size ≤ D.size disk.old }
     ensures size { IfOk result (λ bytes. length bytes.items ≡ size) }
@@ -43,7 +45,8 @@ pub(crate) fn read_front<D: Disk>(alloc: Global, disk: &mut D, size: u64) -> Res
     ensures content { D.content disk.new ≡ D.content disk.old }
     ensures same_size { D.size disk.new ≡ D.size disk.old }
     ensures crash { Within (D.may_leave disk.old) (D.may_leave disk.new) }
-    ensures any_moment { LeavesOnly D.moment D.left_since disk.old disk.new (D.may_leave disk.old) }
+    ensures any_moment { LeavesOnly D.moment D.left_at disk.old disk.new (D.may_leave disk.old) }
+    ensures falls { FallsAway D.moment D.left_at disk.old disk.new }
     ensures cause { HasCause (D.faults disk.old) (D.faults disk.new) (IsErrOf result DiskNo.Failed) }
 {
     let mut bytes: Vec<u8> = iter::repeat_n(0, size as usize).collect(alloc)?;
@@ -59,7 +62,8 @@ pub(crate) fn gate_is_open<D: Disk>(disk: &mut D, place: u64, size: u64) -> Resu
     ensures content { D.content disk.new ≡ D.content disk.old }
     ensures size { D.size disk.new ≡ D.size disk.old }
     ensures crash { Within (D.may_leave disk.old) (D.may_leave disk.new) }
-    ensures any_moment { LeavesOnly D.moment D.left_since disk.old disk.new (D.may_leave disk.old) }
+    ensures any_moment { LeavesOnly D.moment D.left_at disk.old disk.new (D.may_leave disk.old) }
+    ensures falls { FallsAway D.moment D.left_at disk.old disk.new }
     ensures cause { HasCause (D.faults disk.old) (D.faults disk.new) (IsErrOf result DiskNo.Failed) }
 {
     if place >= size {

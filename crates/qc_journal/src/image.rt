@@ -75,7 +75,7 @@ pub(crate) fn scan(alloc: Global, bytes: &[u8]) -> Result<Found, Fault>
     })
 }
 
-/// What is written behind a gate, after so many bytes that are missing.
+/// What is written behind a gate, after a number of bytes that are missing.
 pub(crate) fn block_of(alloc: Global, missing: u64, body: &[u8]) -> Result<Vec<u8>, AllocError>
     requires { IsShort body.now }
     ensures { IfOk result (λ block. block.items ≡ replicate missing 0 ++ behind_gate body.now) }

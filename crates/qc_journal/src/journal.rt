@@ -1,7 +1,7 @@
 //! A journal over any disk.
 ghost use Rattle.std.specs.Prelude.{◌≡◌, ◌+◌, ◌≤◌, ◌<◌, ◌^◌, ◌⊎◌, ℕ, List, [], ◌∷◌, ◌++◌, length, IsTrue, ◌↔◌, IfOk, IfErr, OnOk, OnErr, IfSome, IsSome, IsErrOf, IsErrAnd, Err, if◌then◌else◌, option_map};
-ghost use Rattle.qc_disk.specs.Disk.{HasCause, Steps, LeavesOnly, written};
-ghost use Rattle.qc_journal.specs.Image.{HasRecords, IsBroken, behind_gate, bodies_of};
+ghost use Rattle.qc_disk.specs.Disk.{HasCause, Steps, LeavesOnly, FallsAway, Grows, written};
+ghost use Rattle.qc_journal.specs.Image.{HasRecords, HasAt, IsBroken, behind_gate, bodies_of};
 ghost use Rattle.qc_journal.specs.State.{IsUpState, missing_at, hand_of, hand_end, hand_size};
 ghost use Rattle.qc_journal.specs.Device.{IsAlike, LeftOrAlike, made_ready};
 ghost use Rattle.qc_journal.specs.Fault.{IsOfDevice, IsOfReading};
@@ -17,7 +17,7 @@ use std::alloc::Global;
 /// What a journal is ready for.
 #[derive(Drop)]
 pub(crate) enum State {
-    /// The gate stands closed, with so many bytes missing up to it. Only a disk that lost bytes misses any.
+    /// The gate stands closed, with a number of bytes missing up to it. Only a disk that lost bytes misses any.
     Up { missing: u64 },
     /// It is not known what stands; the body of a record that may is in hand.
     Down(Option<Body>),
@@ -58,7 +58,8 @@ impl<D: Disk> Journal<D> {
         ensures fault { IfErr result (λ refused. IsOfReading refused.1) }
         ensures left { IfErr result (λ refused. Steps IsAlike (D.content disk) (D.content refused.0)) }
 
-        ensures any_moment { LeavesOnly D.moment D.left_since disk (disk_after result) (LeftOrAlike (D.may_leave disk) (D.content disk)) }
+        ensures any_moment { LeavesOnly D.moment D.left_at disk (disk_after result) (LeftOrAlike (D.may_leave disk) (D.content disk)) }
+        ensures grows { IsSome (D.content disk) → (index : ℕ) (body : List ℕ) → Grows D.moment D.left_at disk (disk_after result) (HasAt index body) }
         ensures cause { HasCause (D.faults disk) (D.faults (disk_after result)) (IsErrAnd result (λ refused. refused.1 ≡ Fault.Disk)) }
     {
         let mut disk = disk;
@@ -116,7 +117,10 @@ impl<D: Disk> Journal<D> {
         ensures kept { OnErr result ((bodies : List (List ℕ)) → Keeps self.old bodies → Keeps self.new bodies) }
 
         // A crash at any moment of the call leaves the records from before it, with the new one or without.
-        ensures any_moment { (bodies : List (List ℕ)) → Keeps self.old bodies → LeavesOnly D.moment D.left_since (disk_of self.old) (disk_of self.new) (λ image. HasRecords bodies image ⊎ HasRecords (bodies ++ body.now ∷ []) image) }
+        ensures any_moment { (bodies : List (List ℕ)) → Keeps self.old bodies → LeavesOnly D.moment D.left_at (disk_of self.old) (disk_of self.new) (λ image. HasRecords bodies image ⊎ HasRecords (bodies ++ body.now ∷ []) image) }
+
+        // Of two moments of the call each image of the later has every record that all images of the earlier have.
+        ensures grows { (bodies : List (List ℕ)) → Keeps self.old bodies → (index : ℕ) (had : List ℕ) → Grows D.moment D.left_at (disk_of self.old) (disk_of self.new) (HasAt index had) }
         ensures cause { HasCause (D.faults (disk_of self.old)) (D.faults (disk_of self.new)) (IsErrOf result Fault.Disk) }
     {
         if !self.has_room(body) {
@@ -161,7 +165,8 @@ impl<D: Disk> Journal<D> {
         ensures kept { OnErr result ((bodies : List (List ℕ)) → Keeps self.old bodies → Keeps self.new bodies) }
         ensures content { D.content (disk_of self.new) ≡ D.content (disk_of self.old) }
 
-        ensures any_moment { LeavesOnly D.moment D.left_since (disk_of self.old) (disk_of self.new) (D.may_leave (disk_of self.old)) }
+        ensures any_moment { LeavesOnly D.moment D.left_at (disk_of self.old) (disk_of self.new) (D.may_leave (disk_of self.old)) }
+        ensures falls { FallsAway D.moment D.left_at (disk_of self.old) (disk_of self.new) }
         ensures cause { HasCause (D.faults (disk_of self.old)) (D.faults (disk_of self.new)) (IsErrOf result Fault.Disk) }
     {
         let behind = self.behind_hand();
@@ -174,13 +179,14 @@ impl<D: Disk> Journal<D> {
         Ok(stands)
     }
 
-    // Where it is up, takes it down with nothing in hand.
-    fn go_down(&mut self)
+    /// Takes it down without a call of the disk, as a crash of its owner does. What was in hand stays in hand.
+    pub fn close(&mut self)
         ensures down { IsDown self.new }
         ensures hand { in_hand self.new ≡ in_hand self.old }
-        ensures disk { self.new.disk ≡ self.old.disk }
-        ensures place { self.new.place ≡ self.old.place }
-        ensures limit { self.new.limit ≡ self.old.limit }
+        ensures disk { disk_of self.new ≡ disk_of self.old }
+        ensures place { place_of self.new ≡ place_of self.old }
+        ensures limit { limit_of self.new ≡ limit_of self.old }
+        ensures kept { (bodies : List (List ℕ)) → Keeps self.old bodies → Keeps self.new bodies }
     {
         if let State::Up { .. } = self.state {
             self.state = State::Down(None);
@@ -205,10 +211,11 @@ impl<D: Disk> Journal<D> {
         ensures broken { (place : ℕ) → result ≡ Err (Broken place) → IfSome (D.content (disk_of self.old)) (IsBroken place) }
         ensures fault { IfErr result IsOfReading }
 
-        ensures any_moment { LeavesOnly D.moment D.left_since (disk_of self.old) (disk_of self.new) (D.may_leave (disk_of self.old)) }
+        ensures any_moment { LeavesOnly D.moment D.left_at (disk_of self.old) (disk_of self.new) (D.may_leave (disk_of self.old)) }
+        ensures falls { FallsAway D.moment D.left_at (disk_of self.old) (disk_of self.new) }
         ensures cause { HasCause (D.faults (disk_of self.old)) (D.faults (disk_of self.new)) (IsErrOf result Fault.Disk) }
     {
-        self.go_down();
+        self.close();
         let found = read_records(self.alloc, &mut self.disk)?;
         self.place = found.place;
         let missing = (found.place + 1).saturating_sub(found.size);

@@ -1,7 +1,7 @@
 //! The records on a disk.
-ghost use Rattle.std.specs.Prelude.{◌≡◌, ◌≤◌, ◌<◌, ◌+◌, ◌⊎◌, ℕ, List, IfOk, IfErr, IfSome, OnOk, IsErrOf, Err, option_map};
-ghost use Rattle.qc_disk.specs.Disk.{HasCause, Within, Only, Steps, LeavesOnly};
-ghost use Rattle.qc_journal.specs.Image.{EndsAt, HasRecords, IsBroken};
+ghost use Rattle.std.specs.Prelude.{◌≡◌, ◌≤◌, ◌<◌, ◌+◌, ◌⊎◌, ℕ, List, IfOk, IfErr, IfSome, IsSome, OnOk, IsErrOf, Err, option_map};
+ghost use Rattle.qc_disk.specs.Disk.{HasCause, Within, Only, Steps, LeavesOnly, FallsAway, Grows};
+ghost use Rattle.qc_journal.specs.Image.{EndsAt, HasRecords, HasAt, IsBroken};
 ghost use Rattle.qc_journal.specs.Device.{IsAlike, LeftOrAlike, made_ready};
 ghost use Rattle.qc_journal.specs.Fault.{IsOfReading};
 ghost use Rattle.qc_journal.specs.Found.{Finds, found_bodies};
@@ -21,7 +21,8 @@ pub(crate) fn read_records<D: Disk>(alloc: Global, disk: &mut D) -> Result<Found
     ensures fault { IfErr result IsOfReading }
     ensures content { D.content disk.new ≡ D.content disk.old }
     ensures crash { Within (D.may_leave disk.old) (D.may_leave disk.new) }
-    ensures any_moment { LeavesOnly D.moment D.left_since disk.old disk.new (D.may_leave disk.old) }
+    ensures any_moment { LeavesOnly D.moment D.left_at disk.old disk.new (D.may_leave disk.old) }
+    ensures falls { FallsAway D.moment D.left_at disk.old disk.new }
     ensures cause { HasCause (D.faults disk.old) (D.faults disk.new) (IsErrOf result Fault.Disk) }
 {
     let size = synced_len(disk)?;
@@ -47,7 +48,8 @@ pub(crate) fn prepare<D: Disk>(alloc: Global, disk: &mut D) -> Result<Found, Fau
     ensures fault { IfErr result IsOfReading }
     ensures made { OnOk result (D.content disk.new ≡ option_map made_ready (D.content disk.old)) }
     ensures content { Steps IsAlike (D.content disk.old) (D.content disk.new) }
-    ensures any_moment { LeavesOnly D.moment D.left_since disk.old disk.new (LeftOrAlike (D.may_leave disk.old) (D.content disk.old)) }
+    ensures any_moment { LeavesOnly D.moment D.left_at disk.old disk.new (LeftOrAlike (D.may_leave disk.old) (D.content disk.old)) }
+    ensures grows { IsSome (D.content disk.old) → (index : ℕ) (body : List ℕ) → Grows D.moment D.left_at disk.old disk.new (HasAt index body) }
     ensures cause { HasCause (D.faults disk.old) (D.faults disk.new) (IsErrOf result Fault.Disk) }
 {
     let found = read_records(alloc, disk)?;

@@ -50,8 +50,8 @@ impl Model for Line {
 
 impl Line {
     /// A client's line, under its seat, to copies of these start tuples, over these first configurations, whose
-    /// history is empty. Its requests meet these fates, over and over; after every so many due steps the request
-    /// held first is delivered, and the sender of a held one waits for so many due steps. The only error is want
+    /// history is empty. Its requests meet these fates, over and over; after every `hold` due steps the request
+    /// held first is delivered, and the sender of a held one waits for `patience` due steps. The only error is want
     /// of memory.
     pub fn new(
         alloc: Global,

@@ -8,6 +8,3 @@ mod locks;
 pub use holder::Holder;
 pub use law::locks_follow_histories;
 pub use locks::{Locks, Test};
-
-#[cfg(test)]
-mod tests;

@@ -10,4 +10,3 @@ pub use courier::{Courier, Sent};
 pub use link::{Fate, Link};
 pub use plan::PlanLink;
 pub use port::Port;
-

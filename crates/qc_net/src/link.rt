@@ -46,7 +46,7 @@ pub trait Link: Sized {
         ensures plan { plan self.new ≡ option_map asked (plan self.old) }
         ensures counts { Counts result (troubles self.old) (troubles self.new) };
 
-    /// The place of the held request that is delivered now, of so many, if one is.
+    /// The place of the held request that is delivered now, of `held`, if one is.
     fn due(&mut self, held: usize) -> Option<usize>
         ensures within { IfSome result (λ place. place < held) }
         ensures told { IfSome (plan self.old) (λ p. result ≡ due_in p held) }

@@ -25,8 +25,8 @@ use qc_rw::{MgrNo, collect, put};
 ///
 /// It answers the new generation, and the manager may then commit with it. Where the newest generation is
 /// `2^64 - 1` it answers `Last`, and has put nothing. After an error the manager may end for the error's
-/// cause, where it has one; what it asked stands. Where nothing disturbed the manager, only memory or room was
-/// wanting.
+/// cause, where it has one; what it asked stands. Where nothing disturbed the manager, only memory or room in the
+/// history can be short.
 pub fn reconfigure<C: Carrier>(
     carrier: &mut C,
     manager: &Name,

@@ -9,8 +9,8 @@ ghost use Rattle.qc_simlock.specs.Serial.{final_values};
 ghost use Rattle.qc_refine.specs.Final.{final_value};
 
 /// In a legal history over sound start tuples a record's last value at the serial machine is that of the greatest
-/// version among its start tuples and what the puts that are committed for good left at any copy: no version falls,
-/// and the tuples of the greatest one have one value (Gifford).
+/// version among its start tuples and what the puts whose every ancestor but the root is committed left at any
+/// copy: no version falls, and the tuples of the greatest one have one value (Gifford).
 pub fn last_values_are_serial()
     ensures one { (setting : Setting) (values : List ℕ) (past : Past) (rec : ℕ) → Legal setting past → IsSound setting values
         → rec < length setting.firsts → slice_get (final_values values past) rec ≡ Some (final_value setting.base past rec) }

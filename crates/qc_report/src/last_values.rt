@@ -21,7 +21,7 @@ fn is_for_good(trail: &[Entry], access: &Name) -> bool
     true
 }
 
-/// What a put of a record left at its copy, where it is committed for good.
+/// What a put of a record left at its copy, where it and each of its ancestors but the root is committed.
 fn put_for_good(trail: &[Entry], rec: u8, event: &Event) -> Option<Tuple>
     ensures { result ≡ spec.put_for_good (reverse trail.now) rec event.now }
 {
@@ -47,7 +47,8 @@ fn start_tuples(alloc: Global, base: &Base, rec: u8) -> Result<Vec<Tuple>, Alloc
         .collect(alloc)
 }
 
-/// The tuples with which the copies of a record start, and those that puts left for good.
+/// The tuples with which the copies of a record start, and those that puts left whose every ancestor but the root
+/// is committed.
 fn last_tuples(
     alloc: Global,
     base: &Base,
@@ -91,7 +92,7 @@ fn final_value(alloc: Global, base: &Base, trail: &[Entry], rec: u8) -> Result<V
     Ok(greatest_value(tuples.as_slice()))
 }
 
-/// The last value of each of so many records: that of the greatest version among the start tuples and
+/// The last value of each record: that of the greatest version among the start tuples and
 /// the granted puts whose every ancestor but the root is committed. Of equals it is the first, start
 /// tuples by copy before puts in their order. The history has its oldest entry first.
 pub fn finals(

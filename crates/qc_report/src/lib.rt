@@ -64,6 +64,3 @@ fn push_finals(page: &mut Page, table: &Table, finals: &[u64]) -> Result<(), All
     }
     Ok(())
 }
-
-#[cfg(test)]
-mod tests;

@@ -61,7 +61,7 @@ impl Case {
             "shop" => self.stock(step),
             "obtain" => Ok(self.obtain(step)),
             "home" => Ok(self.home(step)),
-            "mount" | "append" | "reopen" | "reread" | "up" => Ok(self.on_journal(step)),
+            "mount" | "append" | "close" | "reopen" | "reread" | "up" => Ok(self.on_journal(step)),
             _ => self.on_disk(step),
         }
     }

@@ -57,8 +57,23 @@ fn reopen(held: Held) -> (State, Answer) {
     }
 }
 
+// Takes a journal down.
+fn close(journal: Journal<HomeDisk>) -> (State, Answer) {
+    let mut journal = journal;
+    journal.close();
+    (State::Journal(journal), Answer::Done)
+}
+
+// The same with a body in hand, which stays there.
+fn close_held(held: Held) -> (State, Answer) {
+    let Held { mut journal } = held;
+    journal.close();
+    (State::Held(Held { journal }), Answer::Done)
+}
+
 fn on_journal(journal: Journal<HomeDisk>, step: &Step<'_>) -> (State, Answer) {
     match step.name {
+        "close" => close(journal),
         "append" => append(journal, &step.bytes),
         "reread" => reread(journal),
         "up" => {
@@ -71,6 +86,7 @@ fn on_journal(journal: Journal<HomeDisk>, step: &Step<'_>) -> (State, Answer) {
 
 fn on_held(held: Held, step: &Step<'_>) -> (State, Answer) {
     match step.name {
+        "close" => close_held(held),
         "reopen" => reopen(held),
         "reread" => reread_held(held),
         "up" => {

@@ -8,7 +8,7 @@ use qc_trail_text::{BadLine, ConfigText, Words};
 use std::io;
 
 /// What a manager does now: `gather C` begins a collection over a first configuration, `puts PHASE C` begins
-/// puts; `reply`, `miss` and `blocked` are what a copy came to.
+/// puts; `reply`, `miss` and `blocked` tell what became of the request to a copy.
 #[derive(Drop)]
 pub(crate) enum Collecting {
     Nothing,
@@ -83,7 +83,7 @@ fn print_gathered(rt: &HostRuntime, gather: &Gather) -> io::Result<()> {
     print_next(rt, gather.next(), &gather.lack())
 }
 
-// What a copy came to in a collection.
+// What became of a request in a collection.
 fn hear(gather: &mut Gather, word: &str, mut words: Words<'_>) -> Result<(), BadLine> {
     let copy = copy_of(&mut words)?;
     match word {
@@ -104,7 +104,7 @@ fn hear(gather: &mut Gather, word: &str, mut words: Words<'_>) -> Result<(), Bad
     Ok(())
 }
 
-// What a copy came to in puts.
+// What became of a put.
 fn hear_put(puts: &mut Puts, word: &str, mut words: Words<'_>) -> Result<(), BadLine> {
     let copy = copy_of(&mut words)?;
     match word {

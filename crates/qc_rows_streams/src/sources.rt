@@ -19,7 +19,7 @@ fn print_taken(rt: &HostRuntime, taken: Result<Vec<u8>, Untaken>) -> io::Result<
     }
 }
 
-/// Takes a letter so many times from memory, where one call fails.
+/// Takes a letter a number of times from memory, where one call fails.
 pub(crate) fn memory(
     rt: &HostRuntime,
     alloc: Global,
@@ -49,7 +49,7 @@ impl<R: Read> Read for FailsAt<R> {
     }
 }
 
-/// Takes a text from a reader that fails after so many calls.
+/// Takes a text from a reader that fails after a number of calls.
 pub(crate) fn reader(
     rt: &HostRuntime,
     alloc: Global,

@@ -87,7 +87,7 @@ fn nothing(alloc: Global, status: Status) -> Ran
     }
 }
 
-// Writes the line of a fault, and answers it; or want of memory for the line.
+// Writes the line of a fault, and answers it; or that there was no memory for the line.
 fn tell<K: Sink>(alloc: Global, status: Status, sink: &mut K) -> Status
     requires { terms.IsTold status }
     ensures answer { terms.IsOrMemory status result }
@@ -150,7 +150,7 @@ fn open(alloc: Global, script: &Script) -> Result<Session, AllocError>
     Session::new(alloc, FIRST_CLIENT, firsts, start, fates, hold, patience)
 }
 
-// Ends a run that stopped for want of memory or of room. To tell of room takes no memory.
+// Ends a run that stopped since memory ran out or the history is full. To tell of the latter takes no memory.
 fn halt<K: Sink>(short: Short, sink: &mut K) -> Status
     ensures answer { terms.IsHalted short result }
     ensures told { terms.IsTold result → terms.TellsFault (K.taken sink.old) (K.taken sink.new)

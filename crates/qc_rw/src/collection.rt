@@ -30,7 +30,7 @@ fn hear(gather: &mut Gather, copy: u8, carried: &Carried)
 /// configuration, which may change with each reply (Gifford). It answers what was gathered. The manager is one
 /// that has asked for nothing yet, and `first` is its record's first configuration. After an error the manager
 /// may end for the error's cause, where it has one; what it asked stands. Where nothing disturbed it, only
-/// memory or room was wanting.
+/// memory or room in the history can be short.
 pub fn collect<C: Carrier>(
     carrier: &mut C,
     manager: &Name,

@@ -12,4 +12,3 @@ pub use collection::collect;
 pub use manager::{read, write};
 pub use no::MgrNo;
 pub use puts::put;
-

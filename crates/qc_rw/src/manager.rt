@@ -19,7 +19,7 @@ use qc_gather::Carrier;
 /// Reads a record, for a manager that was started to read it and has asked nothing: the value of the
 /// greatest version at a read quorum of the newest configuration (Gifford). The manager may then commit with
 /// it. After an error the manager may end for the error's cause, where it has one; what it asked stands.
-/// Where nothing disturbed the manager, only memory or room was wanting.
+/// Where nothing disturbed the manager, only memory or room in the history can be short.
 pub fn read<C: Carrier>(
     carrier: &mut C,
     manager: &Name,
@@ -49,7 +49,7 @@ pub fn read<C: Carrier>(
 /// the value, with the version after the greatest at a read quorum, to a write quorum of the newest
 /// configuration (Gifford). It answers that version, and the manager may then commit. After an error the
 /// manager may end for the error's cause, where it has one; what it asked stands. Where nothing disturbed the
-/// manager, only memory or room was wanting.
+/// manager, only memory or room in the history can be short.
 pub fn write<C: Carrier>(
     carrier: &mut C,
     manager: &Name,

@@ -4,7 +4,7 @@ ghost use Rattle.qc_rw.specs.Managed.{cause_of};
 use qc_event::{Cause, Lack, Name};
 use qc_gather::{CarryNo, Shortage};
 
-/// Why a manager came to no answer.
+/// Why a manager has no answer.
 #[derive(Clone, Copy)]
 pub enum MgrNo {
     /// An ancestor of the manager is aborted.
@@ -22,7 +22,7 @@ pub enum MgrNo {
 }
 
 impl MgrNo {
-    /// The cause with which the manager ends that came to no answer for this reason; none where memory or
+    /// The cause with which a manager ends that has no answer for this reason; none where memory or
     /// room was wanting.
     pub fn cause(&self) -> Option<Cause>
         ensures { result ≡ cause_of self.now }

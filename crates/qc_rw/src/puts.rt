@@ -30,7 +30,7 @@ fn hear(puts: &mut Puts, copy: u8, carried: &Carried)
 /// Puts to copies for a manager, the least first, until those that replied hold a write quorum of a
 /// configuration (Gifford). The manager has collected, and has come to the stage at which it asks for this, in
 /// this phase. After an error the manager may end for the error's cause, where it has one; what it asked
-/// stands. Where nothing disturbed it, only memory or room was wanting.
+/// stands. Where nothing disturbed it, only memory or room in the history can be short.
 pub fn put<C: Carrier>(
     carrier: &mut C,
     manager: &Name,

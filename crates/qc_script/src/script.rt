@@ -13,7 +13,7 @@ pub enum Step {
     Reconf { rec: u8, config: Config },
     /// Runs a child.
     Child(Body),
-    /// Aborts the ancestor so many levels up; 0 is the transaction itself.
+    /// Aborts the ancestor this number of levels up; 0 is the transaction itself.
     Abort { levels: u8 },
 }
 

@@ -32,9 +32,9 @@ impl Model for Store {
     ghost Value = { Stored };
 
     ghost view = { λ s. record {
-        setting = record { firsts = s.firsts.items; base = s.base };
-        past = s.log;
-        is_legal = s.is_legal;
+      setting = record { firsts = s.firsts.items; base = s.base };
+      past = s.log;
+      is_legal = s.is_legal;
     } };
 
     ghost invariant = { λ s. IsKept (record { firsts = s.firsts.items; base = s.base }) s.log s.sites.items s.torn };
@@ -200,8 +200,8 @@ impl Port for Store {
 
     ghost became_by_both = { served_by_both };
 
-    // An error is want of memory, or of room in the history. Where the answer is not entered, the copy and the
-    // history may part: the store is torn, and serves no one more.
+    // An error says that memory ran out, or that the history is full. Where the answer is not entered, the copy and
+    // the history may part: the store is torn, and serves no one more.
     fn deliver(&mut self, ask: &Ask) -> Result<Answered, AllocError> {
         if self.torn {
             return Err(AllocError);

@@ -15,8 +15,8 @@ use crate::session::Session;
 use qc_event::{Answer, Cause, Event, How, Kind, Name, Short};
 use qc_rw::MgrNo;
 
-// How a manager ends by what it came to. Where memory or room was wanting it does not end, and the session
-// stops.
+// How a manager ends by its answer or refusal. Where memory ran out or the history is full it does not end, and
+// the session stops.
 fn ending(came_to: &Result<Answer, MgrNo>) -> Result<How, Short>
     ensures ok { IfOk result (λ how. ending_of came_to.now ≡ Some how) }
     ensures room { IfErr result (λ e. e ≡ Short.Room → came_to.now ≡ Err MgrNo.Room) }
@@ -36,7 +36,7 @@ impl Session {
     ghost use Rattle.qc_event.specs.declared.event.Event.TheVariants.{End};
     ghost use Rattle.qc_event.specs.declared.event.How.TheVariants.{Abort};
 
-    // Ends a manager by what it came to, and answers how it ended.
+    // Ends a manager by its answer or refusal, and answers how it ended.
     fn close(&mut self, name: &Name, came_to: &Result<Answer, MgrNo>) -> Result<How, Short>
         requires may_end { (how : How) → ending_of came_to.now ≡ Some how
             → MayMake self.old (trace.by_client self.old.client.seat (End name.now how)) }
@@ -77,8 +77,8 @@ impl Session {
         }
     }
 
-    // What a manager comes to that has just started as one of a kind, over the line to the copies. It has not
-    // ended yet.
+    // The answer or refusal of a manager that has just started as one of a kind, over the line to the copies. It has
+    // not ended yet.
     fn come_to(&mut self, name: &Name, kind: &Kind) -> Result<Answer, MgrNo>
         requires fits { ManagerFits self.old.setting kind.now }
         requires manager { IsRunning self.old.client.seat self.old.past name.now kind.now }

@@ -94,7 +94,7 @@ fn votes_of(alloc: Global, list: &[Value]) -> Result<Vec<u8>, BadScript>
     Ok(votes)
 }
 
-/// A configuration of records at so many copies.
+/// A configuration of records, for this number of copies.
 pub(crate) fn config_of(alloc: Global, copies: u8, value: &Value) -> Result<Config, BadScript>
     requires { copies ≤ 16 }
     ensures { Gives (λ c. c) result (script.config_of copies (view value.now)) }

@@ -179,7 +179,7 @@ fn step_in(
     }
 }
 
-// A step of a body that has so many levels of bodies below it.
+// A step of a body that may have this number of levels of bodies below it.
 #[cycle(bodies)]
 fn step_of(
     alloc: Global,
@@ -236,7 +236,7 @@ fn tries_of(around: u32, value: &Value) -> Result<u32, BadScript>
     Ok(tries)
 }
 
-// A body that may have so many levels of bodies, itself among them, where the tries of the bodies around it
+// A body that may have this number of levels of bodies, itself among them, where the tries of the bodies around it
 // have this product.
 #[cycle(bodies)]
 fn body_of(

@@ -7,7 +7,7 @@ use Rattle.qc_disk.specs.Disk.{written}
 use Rattle.qc_journal.specs.Image.{IsShort, EndsAt, behind_gate}
 use Rattle.qc_journal.specs.Journal.{disk_of, Stands}
 use Rattle.qc_journal.proofs.Images.{length-behind_gate}
-use Rattle.qc_journal.proofs.Appends.{tells_on, behind, told_mid, gate, opened, any_moment}
+use Rattle.qc_journal.proofs.Appends.{tells_on, behind, behind_lost, told_mid, gate, opened, any_moment, nothing_lost}
 use Rattle.qc_journal.proofs.Moments.{weakened}
 use Rattle.qc_journal.proofs.journal.Journal.append.Goals as goal
 
@@ -26,8 +26,14 @@ returns-in_err-write_synced-clause-kept g c =
 pub returns-in_err-write_synced-clause-any_moment : goal.returns-in_err-write_synced-clause-any_moment
 returns-in_err-write_synced-clause-any_moment g c = λ bodies k.
     let old = c.args.self.now in
-    weakened g.D.Disk.moment g.D.Disk.left_since (disk_of old) c.write_synced.new.disk _ _ c.write_synced.ensures.any_moment
+    weakened g.D.Disk.moment g.D.Disk.left_at (disk_of old) c.write_synced.new.disk _ _ c.write_synced.ensures.any_moment
     (λ image from. inl (inr (old.place, behind old bodies c.args.body.now _ c.requires k c.missing-missing.ensures _ image from)))
+
+pub returns-in_err-write_synced-clause-grows : goal.returns-in_err-write_synced-clause-grows
+returns-in_err-write_synced-clause-grows g c = λ bodies k index had.
+    let old = c.args.self.now in
+    behind_lost old bodies c.args.body.now _ c.requires k c.missing-missing.ensures c.write_synced.new.disk _ (g.met.D.Disk.reads_as_image old.disk) c.write_synced.ensures.any_moment c.write_synced.ensures.once
+    (g.met.D.Disk.leaves_now old.disk) index had
 
 pub returns-in_err-write_synced-2-clause-kept : goal.returns-in_err-write_synced-2-clause-kept
 returns-in_err-write_synced-2-clause-kept g c =
@@ -96,3 +102,25 @@ returns-clause-any_moment g c = λ bodies k.
     let wrote = c.in_ok-write_synced.ensures in
     let fits : IsShort body = omega (arith, c.has_room.ensures) in
     any_moment old bodies body _ c.requires k c.missing-missing.ensures c.write_synced.new.disk _ fits (g.met.D.Disk.reads_as_image old.disk) (c.deref.ensures.value ∙ c.in_ok-block.ensures) wrote.written wrote.durable c.write_synced-2.new.disk _ c.write_synced.ensures.any_moment c.write_synced-2.ensures.any_moment
+
+pub returns-in_err-write_synced-2-clause-grows : goal.returns-in_err-write_synced-2-clause-grows
+returns-in_err-write_synced-2-clause-grows g c = λ bodies k index had.
+    let old = c.args.self.now in
+    let body = c.args.body.now in
+    let wrote = c.in_ok-write_synced.ensures in
+    let fits : IsShort body = omega (arith, c.has_room.ensures) in
+    let mid = c.write_synced.new.disk in
+    nothing_lost old bodies body _ c.requires k c.missing-missing.ensures mid _ fits (g.met.D.Disk.reads_as_image old.disk) (c.deref.ensures.value ∙ c.in_ok-block.ensures) wrote.written wrote.durable c.write_synced-2.new.disk _
+    c.write_synced.ensures.any_moment c.write_synced.ensures.once c.write_synced-2.ensures.any_moment c.write_synced-2.ensures.once (g.met.D.Disk.leaves_now old.disk) (g.met.D.Disk.leaves_now mid) (g.met.D.Disk.reads_as_image mid)
+    c.write_synced.ensures.crash index had
+
+pub returns-clause-grows : goal.returns-clause-grows
+returns-clause-grows g c = λ bodies k index had.
+    let old = c.args.self.now in
+    let body = c.args.body.now in
+    let wrote = c.in_ok-write_synced.ensures in
+    let fits : IsShort body = omega (arith, c.has_room.ensures) in
+    let mid = c.write_synced.new.disk in
+    nothing_lost old bodies body _ c.requires k c.missing-missing.ensures mid _ fits (g.met.D.Disk.reads_as_image old.disk) (c.deref.ensures.value ∙ c.in_ok-block.ensures) wrote.written wrote.durable c.write_synced-2.new.disk _
+    c.write_synced.ensures.any_moment c.write_synced.ensures.once c.write_synced-2.ensures.any_moment c.write_synced-2.ensures.once (g.met.D.Disk.leaves_now old.disk) (g.met.D.Disk.leaves_now mid) (g.met.D.Disk.reads_as_image mid)
+    c.write_synced.ensures.crash index had

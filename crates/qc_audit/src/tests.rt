@@ -1,5 +1,0 @@
-mod aborted;
-mod blocked;
-mod first_run;
-mod short;
-mod trail;
