@@ -15,6 +15,7 @@ mod case;
 mod copies;
 mod edit;
 mod histories;
+mod indexed;
 mod locks;
 mod orders;
 mod question;

@@ -2,7 +2,7 @@ use crate::case::Case;
 use crate::edit::{copied, edited};
 use crate::told::Told;
 use crate::wrong::Wrong;
-use crate::{copies, histories, locks, orders};
+use crate::{copies, histories, indexed, locks, orders};
 use qc_event::Entry;
 use qc_trail_text::{BadLine, Words};
 
@@ -21,6 +21,11 @@ fn told(case: &Case, h: &[Entry], word: &str, words: &mut Words<'_>) -> Result<T
         "base" => histories::copies(case),
         "row" => histories::records(case, words),
         "audit" => histories::verdict(case, h),
+        "looks" => indexed::looks(case.alloc, h),
+        "tops" => indexed::tops(case.alloc, h),
+        "indexed_kind" | "start" | "end" | "ready" | "is_ready" | "children" | "open_child" => {
+            indexed::told(case.alloc, h, word, words)
+        }
         "serialise" => orders::order(case, h, words),
         "accepts" => orders::accepted(case, h, words),
         "machine" => orders::machine(case, case.events.as_slice()),

@@ -14,6 +14,10 @@ pub enum Told {
     Outcome(Outcome),
     Kind(Option<Kind>),
     Tuple(Option<Tuple>),
+    /// The place of an entry.
+    Place(Option<u32>),
+    /// How many looks were answered, and whether two answer them alike.
+    Looks(usize, bool),
     Verdict(Option<Illegal>),
     Order(Vec<SerialEvent>),
     Values(Vec<Val>),
@@ -139,6 +143,13 @@ fn write_tuple<W: fmt::Write>(f: &mut fmt::Formatter<W>, tuple: &Option<Tuple>) 
     }
 }
 
+fn write_place<W: fmt::Write>(f: &mut fmt::Formatter<W>, place: Option<u32>) -> fmt::Result {
+    match place {
+        Some(place) => write!(f, "entry {place}"),
+        None => write!(f, "none"),
+    }
+}
+
 impl fmt::Display for Told {
     fn fmt<W: fmt::Write>(&self, f: &mut fmt::Formatter<W>) -> fmt::Result {
         match self {
@@ -149,6 +160,9 @@ impl fmt::Display for Told {
             Told::Outcome(outcome) => write!(f, "{outcome:?}"),
             Told::Kind(kind) => write_kind(f, kind),
             Told::Tuple(tuple) => write_tuple(f, tuple),
+            Told::Place(place) => write_place(f, *place),
+            Told::Looks(looks, true) => write!(f, "{looks}, alike"),
+            Told::Looks(looks, false) => write!(f, "{looks}, not alike"),
             Told::Verdict(verdict) => write_verdict(f, verdict),
             Told::Order(events) => write_order(f, events.as_slice()),
             Told::Values(values) => write_values(f, values.as_slice()),
