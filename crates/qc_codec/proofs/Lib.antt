@@ -1,0 +1,5 @@
+pub mod Exact
+pub mod Bodies
+mod Loops
+mod Steps
+mod Whole
