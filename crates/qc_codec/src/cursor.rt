@@ -22,7 +22,7 @@ pub(crate) struct Cursor<'a> {
 
 impl<'a> Cursor<'a> {
     pub(crate) fn byte(&mut self) -> Result<u8, CodecNo>
-        ensures { Reads byte result self.old.rest.now self.new.rest.now }
+        ensures { Reads byte result self.old self.new }
     {
         match self.rest {
             [] => Err(CodecNo::Bad),
@@ -35,7 +35,7 @@ impl<'a> Cursor<'a> {
 
     #[tactic(auto, unfolding(crate::specs::Fields::half))]
     pub(crate) fn half(&mut self) -> Result<u16, CodecNo>
-        ensures { Reads field.half result self.old.rest.now self.new.rest.now }
+        ensures { Reads field.half result self.old self.new }
     {
         if self.rest.len() < 2 {
             return Err(CodecNo::Bad);
@@ -47,7 +47,7 @@ impl<'a> Cursor<'a> {
 
     #[tactic(auto, unfolding(crate::specs::Fields::word))]
     pub(crate) fn word(&mut self) -> Result<u32, CodecNo>
-        ensures { Reads field.word result self.old.rest.now self.new.rest.now }
+        ensures { Reads field.word result self.old self.new }
     {
         if self.rest.len() < 4 {
             return Err(CodecNo::Bad);
@@ -59,7 +59,7 @@ impl<'a> Cursor<'a> {
 
     #[tactic(auto, unfolding(crate::specs::Fields::long))]
     pub(crate) fn long(&mut self) -> Result<u64, CodecNo>
-        ensures { Reads field.long result self.old.rest.now self.new.rest.now }
+        ensures { Reads field.long result self.old self.new }
     {
         if self.rest.len() < 8 {
             return Err(CodecNo::Bad);
@@ -73,7 +73,7 @@ impl<'a> Cursor<'a> {
 
     /// A number that is not 0.
     pub(crate) fn some_number(&mut self) -> Result<u32, CodecNo>
-        ensures { Reads field.some_number result self.old.rest.now self.new.rest.now }
+        ensures { Reads field.some_number result self.old self.new }
     {
         let number = self.word()?;
         if number == 0 {
@@ -84,7 +84,7 @@ impl<'a> Cursor<'a> {
 
     /// The number of a top.
     pub(crate) fn top_number(&mut self) -> Result<u64, CodecNo>
-        ensures { Reads field.top_number result self.old.rest.now self.new.rest.now }
+        ensures { Reads field.top_number result self.old self.new }
     {
         let top = self.long()?;
         if top / EPOCH == 0 || top % EPOCH == 0 {
@@ -111,7 +111,7 @@ impl<'a> Cursor<'a> {
     /// A name of at least so many numbers.
     #[tactic(auto, unfolding(crate::specs::Fields::name))]
     pub(crate) fn name(&mut self, least: u8) -> Result<Name, CodecNo>
-        ensures { Reads (field.name least) result self.old.rest.now self.new.rest.now }
+        ensures { Reads (field.name least) result self.old self.new }
     {
         let count = self.byte()?;
         if count == 0 || count < least || usize::from(count) > LONGEST {
@@ -125,7 +125,7 @@ impl<'a> Cursor<'a> {
     #[tactic(auto, unfolding(crate::specs::Fields::config))]
     pub(crate) fn config(&mut self, copies: u8) -> Result<Config, CodecNo>
         requires { copies ≤ 16 }
-        ensures { Reads (field.config (format_1 copies)) result self.old.rest.now self.new.rest.now }
+        ensures { Reads (field.config (format_1 copies)) result self.old self.new }
     {
         let count = self.byte()?;
         if count != copies || self.rest.len() < copies as usize {
@@ -144,7 +144,7 @@ impl<'a> Cursor<'a> {
     #[tactic(auto, unfolding(crate::specs::Fields::tuple))]
     pub(crate) fn tuple(&mut self, copies: u8) -> Result<Tuple, CodecNo>
         requires { copies ≤ 16 }
-        ensures { Reads (field.tuple (format_1 copies)) result self.old.rest.now self.new.rest.now }
+        ensures { Reads (field.tuple (format_1 copies)) result self.old self.new }
     {
         let version = self.long()?;
         let value = self.long()?;

@@ -4,8 +4,9 @@ ghost use Rattle.std.specs.List.{All};
 ghost use Rattle.qc_codec.specs.Fields as field;
 ghost use Rattle.qc_codec.specs.Bodies as body;
 ghost use Rattle.qc_codec.specs.Form.{times_taken};
-ghost use Rattle.qc_codec.specs.Gives.{Takes, Reads, ReadsAll, Spells};
 ghost use Rattle.qc_codec.specs.declared.record.LedgerRecord.{LedgerRecord};
+ghost use Rattle.qc_codec.specs.Gives.{Reads, ReadsEach, ReadsAll, Spells, SpellsNone, Puts, PutsEach};
+ghost use Rattle.qc_codec.specs.declared.fault.CodecNo.TheVariants.{Bad};
 
 use crate::cursor::Cursor;
 use crate::fault::CodecNo;
@@ -29,7 +30,7 @@ impl Cursor<'_> {
     // A name below a top.
     #[tactic(auto, unfolding(crate::specs::Bodies::below))]
     fn below(&mut self, top: u64) -> Result<Name, CodecNo>
-        ensures { Reads (body.below top) result self.old.rest.now self.new.rest.now }
+        ensures { Reads (body.below top) result self.old self.new }
     {
         let name = self.name(2)?;
         if !is_below(top, &name) {
@@ -40,7 +41,7 @@ impl Cursor<'_> {
 
     // So many names below a top.
     fn names(&mut self, alloc: Global, top: u64, count: u32) -> Result<Names, CodecNo>
-        ensures { Takes result self.new.rest.now (times_taken count (body.below top) self.old.rest.now) }
+        ensures { ReadsEach (body.below top) count result self.old self.new }
     {
         let mut names = Vec::new(alloc);
         for _ in 0..count {
@@ -53,7 +54,7 @@ impl Cursor<'_> {
     // A record of the ledger.
     #[tactic(auto, unfolding(crate::specs::Bodies::ledger, crate::specs::Bodies::top))]
     fn ledger(&mut self, alloc: Global) -> Result<LedgerRecord, CodecNo>
-        ensures { Reads body.ledger result self.old.rest.now self.new.rest.now }
+        ensures { Reads body.ledger result self.old self.new }
     {
         match self.byte()? {
             1 => Ok(LedgerRecord::Made(self.making(alloc)?)),
@@ -87,7 +88,7 @@ fn all(alloc: Global, bytes: &[u8]) -> Result<LedgerRecord, CodecNo>
 pub fn read_ledger(alloc: Global, bytes: &[u8]) -> Result<LedgerRecord, CodecNo>
     ensures exact { ReadsAll body.ledger result bytes.now }
     ensures found { IfOk result (Spells body.ledger bytes.now) }
-    ensures bad { IsErrOf result CodecNo.Bad → (r : LedgerRecord) → Spells body.ledger bytes.now r → ⊥ }
+    ensures bad { IsErrOf result Bad → SpellsNone body.ledger bytes.now }
 {
     all(alloc, bytes)
 }
@@ -95,7 +96,7 @@ pub fn read_ledger(alloc: Global, bytes: &[u8]) -> Result<LedgerRecord, CodecNo>
 // Names, each of at least one number.
 fn put_names(out: &mut Vec<u8>, names: &[Name]) -> Result<(), AllocError>
     requires { All (λ n. 0 < length n) names.now }
-    ensures { OnOk result (out.new.items ≡ out.old.items ++ flat_map (field.name 1).spell names.now) }
+    ensures { PutsEach (field.name 1) names.now result out.old.items out.new.items }
 {
     for name in names {
         put_name(out, name)?;
@@ -105,21 +106,20 @@ fn put_names(out: &mut Vec<u8>, names: &[Name]) -> Result<(), AllocError>
 
 // A top, and the names that were aborted below it.
 #[tactic(auto, unfolding(crate::specs::Bodies::top))]
-fn put_top(out: &mut Vec<u8>, top: &Name, aborted: &[Name]) -> Result<(), AllocError>
-    requires fits { body.top.fits (slice_index top.now 0, aborted.now) }
+fn put_top(out: &mut Vec<u8>, top: &Name, names: &[Name]) -> Result<(), AllocError>
+    requires fits { body.top.fits (slice_index top.now 0, names.now) }
     requires some { 0 < length top.now }
-    ensures { OnOk result
-        (out.new.items ≡ out.old.items ++ body.top.spell (slice_index top.now 0, aborted.now)) }
+    ensures { Puts body.top (slice_index top.now 0, names.now) result out.old.items out.new.items }
 {
     put_long(out, top.as_slice()[0])?;
-    put_word(out, aborted.len() as u32)?;
-    put_names(out, aborted)
+    put_word(out, names.len() as u32)?;
+    put_names(out, names)
 }
 
 #[tactic(auto, unfolding(crate::specs::Bodies::ledger))]
 fn put_ledger(out: &mut Vec<u8>, logged: &LedgerRecord) -> Result<(), AllocError>
     requires { body.ledger.fits logged.now }
-    ensures { OnOk result (out.new.items ≡ out.old.items ++ body.ledger.spell logged.now) }
+    ensures { Puts body.ledger logged.now result out.old.items out.new.items }
 {
     match logged {
         LedgerRecord::Made(made) => {
@@ -140,7 +140,7 @@ fn put_ledger(out: &mut Vec<u8>, logged: &LedgerRecord) -> Result<(), AllocError
 /// The bytes of a record of the ledger.
 pub fn write_ledger(alloc: Global, logged: &LedgerRecord) -> Result<Vec<u8>, AllocError>
     requires proper { body.ledger.fits logged.now }
-    ensures { IfOk result (λ bytes. bytes.items ≡ body.ledger.spell logged.now) }
+    ensures { IfOk result (λ bytes. Spells body.ledger bytes.items logged.now) }
 {
     let mut out = Vec::new(alloc);
     put_ledger(&mut out, logged)?;

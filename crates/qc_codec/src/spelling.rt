@@ -2,6 +2,7 @@
 ghost use Rattle.std.specs.Prelude.{◌≡◌, ◌++◌, ◌<◌, ◌≤◌, length, OnOk};
 ghost use Rattle.qc_codec.specs.Fields as field;
 ghost use Rattle.qc_codec.specs.Fields.{format_1};
+ghost use Rattle.qc_codec.specs.Gives.{Puts};
 
 use qc_config::{Config, Tuple};
 use qc_event::Name;
@@ -9,21 +10,21 @@ use std::alloc::AllocError;
 
 #[tactic(auto, unfolding(crate::specs::Fields::half))]
 pub(crate) fn put_half(out: &mut Vec<u8>, number: u16) -> Result<(), AllocError>
-    ensures { OnOk result (out.new.items ≡ out.old.items ++ field.half.spell number) }
+    ensures { Puts field.half number result out.old.items out.new.items }
 {
     out.extend_from_slice(&number.to_be_bytes())
 }
 
 #[tactic(auto, unfolding(crate::specs::Fields::word))]
 pub(crate) fn put_word(out: &mut Vec<u8>, number: u32) -> Result<(), AllocError>
-    ensures { OnOk result (out.new.items ≡ out.old.items ++ field.word.spell number) }
+    ensures { Puts field.word number result out.old.items out.new.items }
 {
     out.extend_from_slice(&number.to_be_bytes())
 }
 
 #[tactic(auto, unfolding(crate::specs::Fields::long))]
 pub(crate) fn put_long(out: &mut Vec<u8>, number: u64) -> Result<(), AllocError>
-    ensures { OnOk result (out.new.items ≡ out.old.items ++ field.long.spell number) }
+    ensures { Puts field.long number result out.old.items out.new.items }
 {
     out.extend_from_slice(&number.to_be_bytes())
 }
@@ -32,8 +33,7 @@ pub(crate) fn put_long(out: &mut Vec<u8>, number: u64) -> Result<(), AllocError>
 pub(crate) fn put_config(out: &mut Vec<u8>, copies: u8, config: &Config) -> Result<(), AllocError>
     requires copies { copies ≤ 16 }
     requires same { length config.now.votes ≡ copies }
-    ensures { OnOk result
-        (out.new.items ≡ out.old.items ++ (field.config (format_1 copies)).spell config.now) }
+    ensures { Puts (field.config (format_1 copies)) config.now result out.old.items out.new.items }
 {
     out.push(copies)?;
     for copy in 0..copies {
@@ -47,8 +47,7 @@ pub(crate) fn put_config(out: &mut Vec<u8>, copies: u8, config: &Config) -> Resu
 pub(crate) fn put_tuple(out: &mut Vec<u8>, copies: u8, tuple: &Tuple) -> Result<(), AllocError>
     requires copies { copies ≤ 16 }
     requires same { length tuple.now.config.votes ≡ copies }
-    ensures { OnOk result
-        (out.new.items ≡ out.old.items ++ (field.tuple (format_1 copies)).spell tuple.now) }
+    ensures { Puts (field.tuple (format_1 copies)) tuple.now result out.old.items out.new.items }
 {
     put_long(out, tuple.version)?;
     put_long(out, tuple.value)?;
@@ -60,7 +59,7 @@ pub(crate) fn put_tuple(out: &mut Vec<u8>, copies: u8, tuple: &Tuple) -> Result<
 #[tactic(auto, unfolding(crate::specs::Fields::name))]
 pub(crate) fn put_name(out: &mut Vec<u8>, name: &Name) -> Result<(), AllocError>
     requires { 0 < length name.now }
-    ensures { OnOk result (out.new.items ≡ out.old.items ++ (field.name 1).spell name.now) }
+    ensures { Puts (field.name 1) name.now result out.old.items out.new.items }
 {
     let numbers = name.as_slice();
     out.push(numbers.len() as u8)?;

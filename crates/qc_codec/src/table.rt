@@ -6,7 +6,8 @@ ghost use Rattle.std.specs.Str.{bytes_eq};
 ghost use Rattle.qc_codec.specs.Bodies as body;
 ghost use Rattle.qc_codec.specs.Fields.{format_1};
 ghost use Rattle.qc_codec.specs.Form.{times_taken};
-ghost use Rattle.qc_codec.specs.Gives.{Takes, Reads, ReadsAll, Spells};
+ghost use Rattle.qc_codec.specs.Gives.{Reads, ReadsEach, ReadsAll, Spells, SpellsNone, Puts, PutsEach};
+ghost use Rattle.qc_codec.specs.declared.fault.CodecNo.TheVariants.{Bad};
 
 use crate::cursor::Cursor;
 use crate::fault::CodecNo;
@@ -66,7 +67,7 @@ impl Cursor<'_> {
     // The name of a record.
     #[tactic(auto, unfolding(crate::specs::Bodies::label))]
     fn label(&mut self, alloc: Global) -> Result<Label, CodecNo>
-        ensures { Reads body.label result self.old.rest.now self.new.rest.now }
+        ensures { Reads body.label result self.old self.new }
     {
         let count = self.byte()?;
         if count == 0 || count > LETTERS || self.rest.len() < count as usize {
@@ -83,7 +84,7 @@ impl Cursor<'_> {
     #[tactic(auto, unfolding(crate::specs::Bodies::row))]
     fn row(&mut self, alloc: Global, copies: u8) -> Result<Row, CodecNo>
         requires { copies ≤ 16 }
-        ensures { Reads (body.row (format_1 copies)) result self.old.rest.now self.new.rest.now }
+        ensures { Reads (body.row (format_1 copies)) result self.old self.new }
     {
         let name = self.label(alloc)?;
         let start = self.long()?;
@@ -98,8 +99,7 @@ impl Cursor<'_> {
     // So many rows.
     fn rows(&mut self, alloc: Global, copies: u8, count: u8) -> Result<Rows, CodecNo>
         requires { copies ≤ 16 }
-        ensures { Takes result self.new.rest.now
-            (times_taken count (body.row (format_1 copies)) self.old.rest.now) }
+        ensures { ReadsEach (body.row (format_1 copies)) count result self.old self.new }
     {
         let mut rows = Vec::new(alloc);
         for _ in 0..count {
@@ -111,7 +111,7 @@ impl Cursor<'_> {
 
     #[tactic(auto, unfolding(crate::specs::Bodies::table))]
     fn table(&mut self, alloc: Global) -> Result<Table, CodecNo>
-        ensures { Reads (body.table 1) result self.old.rest.now self.new.rest.now }
+        ensures { Reads (body.table 1) result self.old self.new }
     {
         let copies = self.byte()?;
         if copies == 0 || copies > COPIES {
@@ -131,7 +131,7 @@ impl Cursor<'_> {
     /// What stands behind the first byte of a made record.
     #[tactic(auto, unfolding(crate::specs::Bodies::making))]
     pub(crate) fn making(&mut self, alloc: Global) -> Result<Made, CodecNo>
-        ensures { Reads body.making result self.old.rest.now self.new.rest.now }
+        ensures { Reads body.making result self.old self.new }
     {
         if self.byte()? != 1 {
             return Err(CodecNo::Bad);
@@ -161,7 +161,7 @@ fn all(alloc: Global, bytes: &[u8]) -> Result<Made, CodecNo>
 pub fn read_made(alloc: Global, bytes: &[u8]) -> Result<Made, CodecNo>
     ensures exact { ReadsAll body.made result bytes.now }
     ensures found { IfOk result (Spells body.made bytes.now) }
-    ensures bad { IsErrOf result CodecNo.Bad → (m : Made) → Spells body.made bytes.now m → ⊥ }
+    ensures bad { IsErrOf result Bad → SpellsNone body.made bytes.now }
 {
     all(alloc, bytes)
 }
@@ -169,7 +169,7 @@ pub fn read_made(alloc: Global, bytes: &[u8]) -> Result<Made, CodecNo>
 #[tactic(auto, unfolding(crate::specs::Bodies::label))]
 fn put_label(out: &mut Vec<u8>, label: &Label) -> Result<(), AllocError>
     requires { length label.now < 256 }
-    ensures { OnOk result (out.new.items ≡ out.old.items ++ body.label.spell label.now) }
+    ensures { Puts body.label label.now result out.old.items out.new.items }
 {
     let text = label.as_bytes();
     out.push(text.len() as u8)?;
@@ -180,7 +180,7 @@ fn put_label(out: &mut Vec<u8>, label: &Label) -> Result<(), AllocError>
 fn put_row(out: &mut Vec<u8>, copies: u8, row: &Row) -> Result<(), AllocError>
     requires copies { copies ≤ 16 }
     requires lengths { body.HasLengths copies row.now }
-    ensures { OnOk result (out.new.items ≡ out.old.items ++ (body.row (format_1 copies)).spell row.now) }
+    ensures { Puts (body.row (format_1 copies)) row.now result out.old.items out.new.items }
 {
     put_label(out, &row.name)?;
     put_long(out, row.start)?;
@@ -190,8 +190,7 @@ fn put_row(out: &mut Vec<u8>, copies: u8, row: &Row) -> Result<(), AllocError>
 fn put_rows(out: &mut Vec<u8>, copies: u8, rows: &[Row]) -> Result<(), AllocError>
     requires copies { copies ≤ 16 }
     requires lengths { All (body.HasLengths copies) rows.now }
-    ensures { OnOk result
-        (out.new.items ≡ out.old.items ++ flat_map (body.row (format_1 copies)).spell rows.now) }
+    ensures { PutsEach (body.row (format_1 copies)) rows.now result out.old.items out.new.items }
 {
     for row in rows {
         put_row(out, copies, row)?;
@@ -203,7 +202,7 @@ fn put_rows(out: &mut Vec<u8>, copies: u8, rows: &[Row]) -> Result<(), AllocErro
 #[tactic(auto, unfolding(crate::specs::Bodies::making, crate::specs::Bodies::table))]
 pub(crate) fn put_making(out: &mut Vec<u8>, made: &Made) -> Result<(), AllocError>
     requires { body.making.fits made.now }
-    ensures { OnOk result (out.new.items ≡ out.old.items ++ body.making.spell made.now) }
+    ensures { Puts body.making made.now result out.old.items out.new.items }
 {
     let rows = made.table.records.as_slice();
     out.push(1)?;
@@ -217,7 +216,7 @@ pub(crate) fn put_making(out: &mut Vec<u8>, made: &Made) -> Result<(), AllocErro
 #[tactic(auto, unfolding(crate::specs::Bodies::made))]
 pub fn write_made(alloc: Global, made: &Made) -> Result<Vec<u8>, AllocError>
     requires proper { body.made.fits made.now }
-    ensures { IfOk result (λ bytes. bytes.items ≡ body.made.spell made.now) }
+    ensures { IfOk result (λ bytes. Spells body.made bytes.items made.now) }
 {
     let mut out = vec![in alloc; 1]?;
     put_making(&mut out, made)?;
