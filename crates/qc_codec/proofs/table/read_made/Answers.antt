@@ -1,0 +1,11 @@
+use Rattle.std.proofs.Common.{arith}
+use Rattle.qc_codec.specs.Bodies as body
+use Rattle.qc_codec.proofs.Bodies.{exact_made}
+use Rattle.qc_codec.proofs.Whole.{found, bad}
+use Rattle.qc_codec.proofs.table.read_made.Goals as goal
+
+pub returns-clause-found : goal.returns-clause-found
+returns-clause-found c = found body.made exact_made c.args.bytes.now c.all.result (λ i. omega (arith, c.type_inv.bytes i)) c.all.ensures
+
+pub returns-clause-bad : goal.returns-clause-bad
+returns-clause-bad c = bad body.made exact_made c.args.bytes.now c.all.result c.all.ensures

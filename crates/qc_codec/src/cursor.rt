@@ -1,0 +1,160 @@
+//! Fields at the front of bytes.
+ghost use Rattle.std.specs.Prelude.{◌≡◌, ◌+◌, ◌<◌, ◌≤◌, length};
+ghost use Rattle.qc_names.specs.Name.{longest};
+ghost use Rattle.qc_codec.specs.Form.{byte, times_taken};
+ghost use Rattle.qc_codec.specs.Lists.{continued};
+ghost use Rattle.qc_codec.specs.Fields as field;
+ghost use Rattle.qc_codec.specs.Fields.{format_1};
+ghost use Rattle.qc_codec.specs.Gives.{Takes, Reads};
+
+use crate::fault::CodecNo;
+use qc_config::{Config, Tuple};
+use qc_names::{LONGEST, Name};
+
+/// The first number past the half of a top's number that counts tops.
+const EPOCH: u64 = 0x1_0000_0000;
+
+/// Bytes that are taken from the front. Behind a refusal nothing is known of them.
+#[derive(Drop)]
+pub(crate) struct Cursor<'a> {
+    pub(crate) rest: &'a [u8],
+}
+
+impl<'a> Cursor<'a> {
+    pub(crate) fn byte(&mut self) -> Result<u8, CodecNo>
+        ensures { Reads byte result self.old self.new }
+    {
+        match self.rest {
+            [] => Err(CodecNo::Bad),
+            [first, rest @ ..] => {
+                self.rest = rest;
+                Ok(*first)
+            }
+        }
+    }
+
+    #[tactic(auto, unfolding(crate::specs::Fields::half))]
+    pub(crate) fn half(&mut self) -> Result<u16, CodecNo>
+        ensures { Reads field.half result self.old self.new }
+    {
+        if self.rest.len() < 2 {
+            return Err(CodecNo::Bad);
+        }
+        let (front, rest) = self.rest.split_at(2);
+        self.rest = rest;
+        Ok(u16::from_be_bytes([front[0], front[1]]))
+    }
+
+    #[tactic(auto, unfolding(crate::specs::Fields::word))]
+    pub(crate) fn word(&mut self) -> Result<u32, CodecNo>
+        ensures { Reads field.word result self.old self.new }
+    {
+        if self.rest.len() < 4 {
+            return Err(CodecNo::Bad);
+        }
+        let (front, rest) = self.rest.split_at(4);
+        self.rest = rest;
+        Ok(u32::from_be_bytes([front[0], front[1], front[2], front[3]]))
+    }
+
+    #[tactic(auto, unfolding(crate::specs::Fields::long))]
+    pub(crate) fn long(&mut self) -> Result<u64, CodecNo>
+        ensures { Reads field.long result self.old self.new }
+    {
+        if self.rest.len() < 8 {
+            return Err(CodecNo::Bad);
+        }
+        let (front, rest) = self.rest.split_at(8);
+        self.rest = rest;
+        Ok(u64::from_be_bytes([
+            front[0], front[1], front[2], front[3], front[4], front[5], front[6], front[7],
+        ]))
+    }
+
+    /// A number that is not 0.
+    pub(crate) fn some_number(&mut self) -> Result<u32, CodecNo>
+        ensures { Reads field.some_number result self.old self.new }
+    {
+        let number = self.word()?;
+        if number == 0 {
+            return Err(CodecNo::Bad);
+        }
+        Ok(number)
+    }
+
+    /// The number of a top.
+    pub(crate) fn top_number(&mut self) -> Result<u64, CodecNo>
+        ensures { Reads field.top_number result self.old self.new }
+    {
+        let top = self.long()?;
+        if top / EPOCH == 0 || top % EPOCH == 0 {
+            return Err(CodecNo::Bad);
+        }
+        Ok(top)
+    }
+
+    // The further numbers of a name, so many.
+    fn steps(&mut self, first: &Name, more: u8) -> Result<Name, CodecNo>
+        requires some { 0 < length first.now }
+        requires room { length first.now + more ≤ longest }
+        ensures { Takes result self.new.rest.now
+            (continued first.now (times_taken more field.some_number self.old.rest.now)) }
+    {
+        let mut name = *first;
+        for _ in 0..more {
+            let number = self.some_number()?;
+            name = name.child(number);
+        }
+        Ok(name)
+    }
+
+    /// A name of at least so many numbers.
+    #[tactic(auto, unfolding(crate::specs::Fields::name))]
+    pub(crate) fn name(&mut self, least: u8) -> Result<Name, CodecNo>
+        ensures { Reads (field.name least) result self.old self.new }
+    {
+        let count = self.byte()?;
+        if count == 0 || count < least || usize::from(count) > LONGEST {
+            return Err(CodecNo::Bad);
+        }
+        let top = self.top_number()?;
+        self.steps(&Name::top(top), count - 1)
+    }
+
+    /// A legal configuration for so many copies.
+    #[tactic(auto, unfolding(crate::specs::Fields::config))]
+    pub(crate) fn config(&mut self, copies: u8) -> Result<Config, CodecNo>
+        requires { copies ≤ 16 }
+        ensures { Reads (field.config (format_1 copies)) result self.old self.new }
+    {
+        let count = self.byte()?;
+        if count != copies || self.rest.len() < copies as usize {
+            return Err(CodecNo::Bad);
+        }
+        let (votes, rest) = self.rest.split_at(copies as usize);
+        self.rest = rest;
+        let read = self.half()?;
+        let write = self.half()?;
+        match Config::new(votes, u64::from(read), u64::from(write)) {
+            Ok(config) => Ok(config),
+            Err(_) => Err(CodecNo::Bad),
+        }
+    }
+
+    #[tactic(auto, unfolding(crate::specs::Fields::tuple))]
+    pub(crate) fn tuple(&mut self, copies: u8) -> Result<Tuple, CodecNo>
+        requires { copies ≤ 16 }
+        ensures { Reads (field.tuple (format_1 copies)) result self.old self.new }
+    {
+        let version = self.long()?;
+        let value = self.long()?;
+        let generation = self.long()?;
+        let config = self.config(copies)?;
+        Ok(Tuple {
+            version,
+            value,
+            generation,
+            config,
+        })
+    }
+}

@@ -1,0 +1,71 @@
+//! Fields behind bytes.
+ghost use Rattle.std.specs.Prelude.{◌≡◌, ◌++◌, ◌<◌, ◌≤◌, length, OnOk};
+ghost use Rattle.qc_codec.specs.Fields as field;
+ghost use Rattle.qc_codec.specs.Fields.{format_1};
+ghost use Rattle.qc_codec.specs.Gives.{Puts};
+
+use qc_config::{Config, Tuple};
+use qc_event::Name;
+use std::alloc::AllocError;
+
+#[tactic(auto, unfolding(crate::specs::Fields::half))]
+pub(crate) fn put_half(out: &mut Vec<u8>, number: u16) -> Result<(), AllocError>
+    ensures { Puts field.half number result out.old.items out.new.items }
+{
+    out.extend_from_slice(&number.to_be_bytes())
+}
+
+#[tactic(auto, unfolding(crate::specs::Fields::word))]
+pub(crate) fn put_word(out: &mut Vec<u8>, number: u32) -> Result<(), AllocError>
+    ensures { Puts field.word number result out.old.items out.new.items }
+{
+    out.extend_from_slice(&number.to_be_bytes())
+}
+
+#[tactic(auto, unfolding(crate::specs::Fields::long))]
+pub(crate) fn put_long(out: &mut Vec<u8>, number: u64) -> Result<(), AllocError>
+    ensures { Puts field.long number result out.old.items out.new.items }
+{
+    out.extend_from_slice(&number.to_be_bytes())
+}
+
+#[tactic(auto, unfolding(crate::specs::Fields::config))]
+pub(crate) fn put_config(out: &mut Vec<u8>, copies: u8, config: &Config) -> Result<(), AllocError>
+    requires copies { copies ≤ 16 }
+    requires same { length config.now.votes ≡ copies }
+    ensures { Puts (field.config (format_1 copies)) config.now result out.old.items out.new.items }
+{
+    out.push(copies)?;
+    for copy in 0..copies {
+        out.push(config.votes(copy))?;
+    }
+    put_half(out, config.read())?;
+    put_half(out, config.write())
+}
+
+#[tactic(auto, unfolding(crate::specs::Fields::tuple))]
+pub(crate) fn put_tuple(out: &mut Vec<u8>, copies: u8, tuple: &Tuple) -> Result<(), AllocError>
+    requires copies { copies ≤ 16 }
+    requires same { length tuple.now.config.votes ≡ copies }
+    ensures { Puts (field.tuple (format_1 copies)) tuple.now result out.old.items out.new.items }
+{
+    put_long(out, tuple.version)?;
+    put_long(out, tuple.value)?;
+    put_long(out, tuple.generation)?;
+    put_config(out, copies, &tuple.config)
+}
+
+/// A name, of at least one number. Its spelling is the same whatever least length a reader wants.
+#[tactic(auto, unfolding(crate::specs::Fields::name))]
+pub(crate) fn put_name(out: &mut Vec<u8>, name: &Name) -> Result<(), AllocError>
+    requires { 0 < length name.now }
+    ensures { Puts (field.name 1) name.now result out.old.items out.new.items }
+{
+    let numbers = name.as_slice();
+    out.push(numbers.len() as u8)?;
+    put_long(out, numbers[0])?;
+    for number in &numbers[1..] {
+        put_word(out, *number as u32)?;
+    }
+    Ok(())
+}
