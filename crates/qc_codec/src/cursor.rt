@@ -1,5 +1,5 @@
 //! Fields at the front of bytes.
-ghost use Rattle.std.specs.Prelude.{◌≡◌, ◌+◌, ◌<◌, ◌≤◌, length};
+ghost use Rattle.std.specs.Prelude.{◌+◌, ◌<◌, ◌≤◌, length};
 ghost use Rattle.qc_names.specs.Name.{longest};
 ghost use Rattle.qc_codec.specs.Form.{byte, times_taken};
 ghost use Rattle.qc_codec.specs.Lists.{continued};
