@@ -40,3 +40,8 @@ pub mod Grown
 pub mod ForGood
 pub mod NoneAbove
 pub mod LastValues
+pub mod BelowReady
+pub mod LoggedTops
+pub mod KeptForGood
+pub mod RestoredTuples
+pub mod RestoredSound

@@ -4,3 +4,6 @@ pub mod Given
 pub mod Complete
 pub mod Turns
 pub mod Final
+pub mod Restored
+pub mod Listed
+pub mod Standing

@@ -3,6 +3,7 @@
 
 mod complete;
 mod last_values;
+mod restored;
 
 ghost use Rattle.std.specs.Prelude.{ℕ, ◌≡◌, ◌∷◌, ◌++◌, All, List, [], length, None};
 ghost use Rattle.qc_config.specs.Config.{Voting};
@@ -20,6 +21,7 @@ ghost use Rattle.qc_refine.specs.Turns.{dones_order};
 
 pub use complete::committed_managers_are_complete;
 pub use last_values::last_values_are_serial;
+pub use restored::restored_values_are_serial;
 
 /// Where the copies carry a value of a record and a complete manager finds what is there, a read answers the
 /// value and changes nothing, a write leaves copies that carry what it wrote, and a reconfiguration copies that
