@@ -45,3 +45,5 @@ pub mod LoggedTops
 pub mod KeptForGood
 pub mod RestoredTuples
 pub mod RestoredSound
+pub mod ImageReadings
+pub mod RestoredImages

@@ -2,6 +2,7 @@
 use Rattle.std.proofs.Common.{◌≡◌, ℕ, ◌⊎◌, inl, inr, Bool, true, false, List, [], ◌∷◌, ◌++◌, ◌&&◌, ◌||◌, refl, sym, ap, ap₂, ◌∙◌, subst, arith, append-nil}
 use mathlib.Core.Bool.{true≢false}
 use Rattle.std.specs.Prelude.{◌==◌, ◌/◌, ◌^◌, All, Option, None, Some, is_some, filter, option_to_list, if◌then◌else◌}
+use Rattle.std.proofs.Math.Bool.{or-false}
 use Rattle.std.proofs.lemmas.Bool.{and_parts, and_right, eqb-true, false_from_ne_true}
 use Rattle.std.proofs.lemmas.List.Elements.{All-nil, All-cons, All-append, All-weaker, All-head, All-tail, filter-append}
 use Rattle.std.proofs.lemmas.List.Folds.{list_any-append}
@@ -127,11 +128,7 @@ module _ (epoch : ℕ) (setting : Setting) (values : List ℕ) (past : Past) (le
 
   module _ (before : List Logged) (old_tops : All (λ (l : Logged). IsOld epoch l.top) before) where
     kept_old : (a : Name) → IsOld epoch a → is_kept (before ++ logged past) a ≡ is_kept before a
-    kept_old a old = list_any-append (keeps a) before (logged past) ∙ ap (λ b. is_kept before a || b) (new_apart (logged past) a (logged_are setting past legal) old) ∙ or_false (is_kept before a)
-      where
-        or_false : (b : Bool) → (b || false) ≡ b
-        or_false true = refl
-        or_false false = refl
+    kept_old a old = list_any-append (keeps a) before (logged past) ∙ ap (λ b. is_kept before a || b) (new_apart (logged past) a (logged_are setting past legal) old) ∙ or-false (is_kept before a)
 
     kept_new : (a : Name) → is_some (asked past a) ≡ true → is_kept (before ++ logged past) a ≡ is_for_good past a
     kept_new a asks =

@@ -7,3 +7,4 @@ pub mod Final
 pub mod Restored
 pub mod Listed
 pub mod Standing
+pub mod Images

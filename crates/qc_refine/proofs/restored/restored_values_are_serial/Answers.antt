@@ -1,4 +1,5 @@
 -- Each clause is a lemma on what disks restore.
+use Rattle.qc_refine.proofs.RestoredImages.{images_sound, images_values, restore_one, restore_some}
 use Rattle.qc_refine.proofs.RestoredSound.{legal_too, restored_sound}
 use Rattle.qc_refine.proofs.restored.restored_values_are_serial.Goals as goal
 
@@ -7,3 +8,15 @@ returns-clause-legal c = legal_too
 
 pub returns-clause-records : goal.returns-clause-records
 returns-clause-records c = restored_sound
+
+pub returns-clause-some : goal.returns-clause-some
+returns-clause-some c = restore_some
+
+pub returns-clause-one : goal.returns-clause-one
+returns-clause-one c = restore_one
+
+pub returns-clause-images : goal.returns-clause-images
+returns-clause-images c = images_sound
+
+pub returns-clause-values : goal.returns-clause-values
+returns-clause-values c = images_values

@@ -1,0 +1,84 @@
+-- When images of disks stand beside a history, and what they restore: image 0 is the ledger's, image c + 1 copy c's.
+use Rattle.std.specs.Prelude.{ℕ, ◌≡◌, ◌+◌, ◌<◌, List, [], ◌∷◌, ◌++◌, length, map, slice_index_or, All, Option, None, Some}
+use Rattle.std.specs.List.{filter_map, range_with_len}
+use Rattle.qc_codec.specs.Bodies as body
+use Rattle.qc_codec.specs.Fields.{format_1}
+use Rattle.qc_codec.specs.Form.{Form, all_of}
+use Rattle.qc_codec.specs.declared.record.LedgerRecord.{LedgerRecord}
+use Rattle.qc_codec.specs.declared.record.LedgerRecord.TheVariants as ledger_record
+use Rattle.qc_codec.specs.declared.record.Made.{Made}
+use Rattle.qc_config.specs.declared.tuple.Tuple.{Tuple}
+use Rattle.qc_event.specs.declared.event.Grant.{Grant}
+use Rattle.qc_event.specs.declared.table.Table.{Table}
+use Rattle.qc_event.specs.History.{Past}
+use Rattle.qc_event.specs.Tables.{base_of, setting_of}
+use Rattle.qc_journal.specs.Image.{HasRecords}
+use Rattle.qc_refine.specs.Listed.{logged}
+use Rattle.qc_refine.specs.Restored.{Logged, Kept, granted_at, restored}
+use Rattle.qc_refine.specs.Standing.{StandBeside}
+
+-- WHAT STANDS IN BODIES
+
+-- how the disk of a number was made, for a store of this table
+abbrev pub made_for : ℕ → Table → Made
+made_for number table = record { who = number; table = table }
+
+-- the form of what a table's copies granted
+abbrev pub grant_form : Table → Form Grant
+grant_form table = body.grant (format_1 table.copies)
+
+-- the ledger's record of a top
+abbrev pub record_of : Logged → LedgerRecord
+record_of l = ledger_record.Top l.top l.aborted
+
+-- the top that a record of the ledger tells
+abbrev pub logged_in : LedgerRecord → Option Logged
+logged_in (ledger_record.Top top aborted) = Some (record { top = top; aborted = aborted })
+logged_in _ = None
+
+-- the values that bodies are in a form, in order
+abbrev pub readings : {A : Type 0} → Form A → List (List ℕ) → List A
+readings form bodies = filter_map (all_of form) bodies
+
+-- STANDING
+
+-- The ledger's image tells how its disk was made, what it told before, an epoch, and the tops since. Epochs count up
+-- from 1.
+pub record IsLedgerImage (table : Table) (epoch : ℕ) (before since : List Logged) (image : List ℕ) : Type 0 where
+  pub old : List LedgerRecord
+  pub made_once : filter_map body.made_of old ≡ []
+  pub old_tops : filter_map logged_in old ≡ before
+  pub epochs : filter_map body.epoch_of old ++ epoch ∷ [] ≡ range_with_len 1 epoch
+  pub fit : All body.ledger.fits (ledger_record.Made (made_for 0 table) ∷ (old ++ ledger_record.Epoch epoch ∷ map record_of since))
+  pub has : HasRecords (map body.ledger.spell (ledger_record.Made (made_for 0 table) ∷ (old ++ ledger_record.Epoch epoch ∷ map record_of since))) image
+
+-- A copy's image tells how its disk was made, and what the copy granted.
+pub record IsCopyImage (table : Table) (copy : ℕ) (granted : List Grant) (image : List ℕ) : Type 0 where
+  pub made_fits : body.made.fits (made_for (copy + 1) table)
+  pub grants_fit : All (grant_form table).fits granted
+  pub has : HasRecords (body.made.spell (made_for (copy + 1) table) ∷ map (grant_form table).spell granted) image
+
+-- Images stand beside a history of an epoch over these start tuples: what they tell does.
+pub record IsStanding (table : Table) (base : List (List Tuple)) (epoch : ℕ) (past : Past) (images : List (List ℕ)) : Type 0 where
+  pub before : Kept
+  pub now : Kept
+  pub beside : StandBeside (base_of table) epoch (setting_of table base) before now past
+  pub as_many : length images ≡ table.copies + 1
+  pub ledger : IsLedgerImage table epoch before.tops (logged past ++ beside.more) (slice_index_or images 0 [])
+  pub copies : (copy : ℕ) → copy < table.copies → IsCopyImage table copy (granted_at now copy) (slice_index_or images (copy + 1) [])
+
+-- WHAT IMAGES RESTORE
+
+-- what bodies tell, by the number of their image
+abbrev pub kept_in : Table → (ℕ → List (List ℕ)) → Kept
+kept_in table bodies = record {
+  tops = filter_map logged_in (readings body.ledger (bodies 0));
+  granted = map (λ copy. readings (grant_form table) (bodies (copy + 1))) (range_with_len 0 table.copies);
+}
+
+-- Images of a table's disks restore these tuples: their records do, as they are read. Where there is no image there
+-- are no records.
+pub record Restores (table : Table) (images : List (List ℕ)) (tuples : List (List Tuple)) : Type 0 where
+  pub bodies : ℕ → List (List ℕ)
+  pub has : (number : ℕ) → HasRecords (bodies number) (slice_index_or images number [])
+  pub same : tuples ≡ restored (base_of table) (length table.records) (kept_in table bodies)
