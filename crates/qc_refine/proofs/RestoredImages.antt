@@ -1,13 +1,16 @@
 -- What images restore that stand beside a legal history is one base, and sound for the values after it.
 use Rattle.std.proofs.Common.{◌≡◌, ℕ, zero, suc, ◌+◌, ◌<◌, ◌⊎◌, inl, inr, List, [], ◌∷◌, ◌++◌, length, get_or, refl, sym, ap, ◌∙◌, subst, arith, append-nil}
-use Rattle.std.specs.Prelude.{map, Some, slice_get}
+use mathlib.Core.Bool.{true≢false}
+use Rattle.std.specs.Prelude.{map, Some}
 use Rattle.std.specs.List.{range_with_len}
 use Rattle.std.proofs.lemmas.Bool.{cases_lt}
-use Rattle.std.proofs.lemmas.List.{get_or_past, length-map, length-replicate}
-use Rattle.std.proofs.lemmas.List.FromFn.{get_or-map-range_with_len}
+use Rattle.std.proofs.lemmas.List.{get_or_past, get_or-replicate, length-map, length-replicate}
+use Rattle.std.proofs.lemmas.List.Elements.{All-nil}
+use Rattle.std.proofs.lemmas.List.FromFn.{fill_by_all, get_or-map-range_with_len}
 use Rattle.qc_config.specs.declared.tuple.Tuple.{Tuple}
 use Rattle.qc_event.specs.declared.table.Row.{Row}
 use Rattle.qc_event.specs.declared.table.Table.{Table}
+use Rattle.qc_event.specs.Base.{no_tuple, start_tuple}
 use Rattle.qc_event.specs.History.{Past}
 use Rattle.qc_event.specs.Legal.{Legal}
 use Rattle.qc_event.specs.Manager.{greatest_among}
@@ -16,8 +19,8 @@ use Rattle.qc_event.specs.Tables.{base_of, first_tuple, setting_of}
 use Rattle.qc_journal.proofs.Readings.{records-same}
 use Rattle.qc_journal.specs.Image.{HasRecords}
 use Rattle.qc_simlock.specs.Serial.{final_values}
-use Rattle.qc_refine.specs.Images.{IsStanding, Restores, grant_form, kept_in, readings}
-use Rattle.qc_refine.specs.Restored.{Kept, granted_at, restored, restored_setting, restored_value}
+use Rattle.qc_refine.specs.Images.{AreFresh, CarryFinal, IsStanding, Restores, grant_form, kept_in, readings}
+use Rattle.qc_refine.specs.Restored.{granted_at, restored, restored_setting, restored_tuple}
 use Rattle.qc_refine.specs.Standing.{StandBeside, committed_too}
 use Rattle.qc_refine.proofs.ImageReadings.{copy_told, ledger_told}
 use Rattle.qc_refine.proofs.LastValues.{last_value}
@@ -77,15 +80,61 @@ module _ (table : Table) (images : List (List ℕ)) where
           ∙ ap (setting_of table) (sym r.same)
 
       module _ (values : List ℕ) (legal : Legal (setting_of table base) past) (sound : IsSound (setting_of table base) values) where
-        pub images_sound : IsSound (setting_of table tuples) (final_values values (committed_too past standing.beside.more))
+        images_sound : IsSound (setting_of table tuples) (final_values values (committed_too past standing.beside.more))
         unfolding beside
         images_sound =
             subst (λ s. IsSound s (final_values values (committed_too past standing.beside.more))) same_setting
             (restored_sound (base_of table) epoch (setting_of table base) values standing.before (kept_in table r.bodies) past legal sound beside)
 
-        -- what a record restores is its value
-        pub images_values : (rec : ℕ) → rec < length table.records → slice_get (final_values values (committed_too past standing.beside.more)) rec ≡ Some (restored_value tuples rec)
-        images_values rec there =
-            last_value (setting_of table tuples) (final_values values (committed_too past standing.beside.more)) [] rec tt images_sound
-            (let many = length-map table.records (λ (row : Row). row.config) in omega (arith, many, there))
-            ∙ ap (λ (ts : List Tuple). Some (greatest_among ts).value) (append-nil (column tuples rec))
+        pub carry_final : CarryFinal table values (committed_too past standing.beside.more) tuples
+        carry_final = record {
+          sound = images_sound;
+          greatest = λ rec there.
+              last_value (setting_of table tuples) (final_values values (committed_too past standing.beside.more)) [] rec tt images_sound
+              (let many = length-map table.records (λ (row : Row). row.config) in omega (arith, many, there))
+              ∙ ap (λ (ts : List Tuple). Some (greatest_among ts).value) (append-nil (column tuples rec));
+        }
+
+-- FRESH IMAGES
+
+module _ (table : Table) where
+  abbrev first : List (List Tuple)
+  first = base_of table
+
+  abbrev row : List Tuple
+  row = map first_tuple table.records
+
+  -- where nothing was logged, the start is restored
+  first_row : (copy : ℕ) → copy < table.copies → map (λ rec. restored_tuple [] rec (start_tuple first copy rec) []) (range_with_len 0 (length (setting_of table first).firsts)) ≡ row
+  first_row copy there = sym (
+      fill_by_all (λ rec. start_tuple first copy rec) row (length (setting_of table first).firsts) no_tuple
+      (length-map table.records first_tuple ∙ sym (length-map table.records (λ (r : Row). r.config)))
+      (λ rec here. ap (λ (ts : List Tuple). get_or ts rec no_tuple) (sym (get_or-replicate table.copies copy row [] there))))
+
+  pub nothing_restored : restored first (length (setting_of table first).firsts) (record { tops = []; granted = [] }) ≡ first
+  nothing_restored = sym (
+      fill_by_all (λ copy. map (λ rec. restored_tuple [] rec (start_tuple first copy rec) []) (range_with_len 0 (length (setting_of table first).firsts))) first (length first) []
+      refl
+      (λ copy there. let inside : copy < table.copies = subst (λ n. copy < n) (length-replicate table.copies row) there in get_or-replicate table.copies copy row [] inside ∙ sym (first_row copy inside)))
+
+  -- fresh images stand beside the empty history
+  pub fresh_stand : (images : List (List ℕ)) → AreFresh table images → IsStanding table first 1 [] images
+  fresh_stand images fresh = record {
+    before = record { tops = []; granted = [] };
+    now = record { tops = []; granted = [] };
+    beside = record {
+      starts = sym nothing_restored;
+      old_tops = All-nil _;
+      old_grants = λ copy there. All-nil _;
+      of_epoch = λ number began. absurd (true≢false (sym began));
+      more = [];
+      next = tt;
+      tops = refl;
+      untold = λ copy. [];
+      are_untold = λ copy there. All-nil _;
+      granted = λ copy there. refl;
+    };
+    as_many = fresh.as_many;
+    ledger = fresh.ledger;
+    copies = fresh.copies;
+  }

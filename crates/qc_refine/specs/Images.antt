@@ -1,5 +1,5 @@
 -- When images of disks stand beside a history, and what they restore: image 0 is the ledger's, image c + 1 copy c's.
-use Rattle.std.specs.Prelude.{ℕ, ◌≡◌, ◌+◌, ◌<◌, List, [], ◌∷◌, ◌++◌, length, map, slice_index_or, All, Option, None, Some}
+use Rattle.std.specs.Prelude.{ℕ, ◌≡◌, ◌+◌, ◌<◌, List, [], ◌∷◌, ◌++◌, length, map, slice_get, slice_index_or, All, Option, None, Some}
 use Rattle.std.specs.List.{filter_map, range_with_len}
 use Rattle.qc_codec.specs.Bodies as body
 use Rattle.qc_codec.specs.Fields.{format_1}
@@ -11,10 +11,12 @@ use Rattle.qc_config.specs.declared.tuple.Tuple.{Tuple}
 use Rattle.qc_event.specs.declared.event.Grant.{Grant}
 use Rattle.qc_event.specs.declared.table.Table.{Table}
 use Rattle.qc_event.specs.History.{Past}
+use Rattle.qc_event.specs.Sound.{IsSound}
 use Rattle.qc_event.specs.Tables.{base_of, setting_of}
 use Rattle.qc_journal.specs.Image.{HasRecords}
+use Rattle.qc_simlock.specs.Serial.{final_values}
 use Rattle.qc_refine.specs.Listed.{logged}
-use Rattle.qc_refine.specs.Restored.{Logged, Kept, granted_at, restored}
+use Rattle.qc_refine.specs.Restored.{Logged, Kept, granted_at, restored, restored_value}
 use Rattle.qc_refine.specs.Standing.{StandBeside}
 
 -- WHAT STANDS IN BODIES
@@ -67,6 +69,12 @@ pub record IsStanding (table : Table) (base : List (List Tuple)) (epoch : ℕ) (
   pub ledger : IsLedgerImage table epoch before.tops (logged past ++ beside.more) (slice_index_or images 0 [])
   pub copies : (copy : ℕ) → copy < table.copies → IsCopyImage table copy (granted_at now copy) (slice_index_or images (copy + 1) [])
 
+-- Images of a store that was just made, in its first epoch: nothing was logged, and nothing granted.
+pub record AreFresh (table : Table) (images : List (List ℕ)) : Type 0 where
+  pub as_many : length images ≡ table.copies + 1
+  pub ledger : IsLedgerImage table 1 [] [] (slice_index_or images 0 [])
+  pub copies : (copy : ℕ) → copy < table.copies → IsCopyImage table copy [] (slice_index_or images (copy + 1) [])
+
 -- WHAT IMAGES RESTORE
 
 -- what bodies tell, by the number of their image
@@ -82,3 +90,8 @@ pub record Restores (table : Table) (images : List (List ℕ)) (tuples : List (L
   pub bodies : ℕ → List (List ℕ)
   pub has : (number : ℕ) → HasRecords (bodies number) (slice_index_or images number [])
   pub same : tuples ≡ restored (base_of table) (length table.records) (kept_in table bodies)
+
+-- Tuples carry the serial machine's values after a history, and each is that of the greatest version of its record.
+pub record CarryFinal (table : Table) (values : List ℕ) (past : Past) (tuples : List (List Tuple)) : Type 0 where
+  pub sound : IsSound (setting_of table tuples) (final_values values past)
+  pub greatest : (rec : ℕ) → rec < length table.records → slice_get (final_values values past) rec ≡ Some (restored_value tuples rec)

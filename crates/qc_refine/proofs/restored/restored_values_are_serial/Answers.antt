@@ -1,5 +1,5 @@
 -- Each clause is a lemma on what disks restore.
-use Rattle.qc_refine.proofs.RestoredImages.{images_sound, images_values, restore_one, restore_some}
+use Rattle.qc_refine.proofs.RestoredImages.{carry_final, fresh_stand, restore_one, restore_some}
 use Rattle.qc_refine.proofs.RestoredSound.{legal_too, restored_sound}
 use Rattle.qc_refine.proofs.restored.restored_values_are_serial.Goals as goal
 
@@ -16,7 +16,7 @@ pub returns-clause-one : goal.returns-clause-one
 returns-clause-one c = restore_one
 
 pub returns-clause-images : goal.returns-clause-images
-returns-clause-images c = images_sound
+returns-clause-images c = carry_final
 
-pub returns-clause-values : goal.returns-clause-values
-returns-clause-values c = images_values
+pub returns-clause-fresh : goal.returns-clause-fresh
+returns-clause-fresh c = fresh_stand
