@@ -5,7 +5,7 @@ use Rattle.std.specs.List.{cons_option, filter_map}
 use Rattle.std.proofs.lemmas.List.Elements.{All-head, All-tail, filter_map-append}
 use Rattle.qc_codec.specs.Bodies as body
 use Rattle.qc_codec.specs.Fields.{format_1}
-use Rattle.qc_codec.specs.Form.{Form, all_of}
+use Rattle.qc_codec.specs.Form.{Form}
 use Rattle.qc_codec.specs.declared.record.LedgerRecord.{LedgerRecord}
 use Rattle.qc_codec.specs.declared.record.LedgerRecord.TheVariants as ledger_record
 use Rattle.qc_codec.specs.declared.record.Made.{Made}
@@ -15,7 +15,7 @@ use Rattle.qc_event.specs.declared.event.Grant.{Grant}
 use Rattle.qc_event.specs.declared.table.Table.{Table}
 use Rattle.qc_journal.proofs.Readings.{records-same}
 use Rattle.qc_journal.specs.Image.{HasRecords}
-use Rattle.qc_refine.specs.Images.{IsCopyImage, IsLedgerImage, grant_form, logged_in, made_for, readings, record_of}
+use Rattle.qc_refine.specs.Images.{IsCopyImage, IsLedgerImage, grant_form, ledger_records, logged_in, made_for, readings, record_of_top}
 use Rattle.qc_refine.specs.Restored.{Logged}
 
 -- WHAT IS READ
@@ -27,7 +27,7 @@ read_again {A} f exact (x ∷ xs) fit =
     ap₂ (λ (o : Option A) (rest : List A). cons_option o rest) (all_again f exact x (All-head f.fits x xs fit)) (read_again f exact xs (All-tail f.fits x xs fit))
 
 -- tops that were written are told
-tops_told : (ls : List Logged) → filter_map logged_in (map record_of ls) ≡ ls
+tops_told : (ls : List Logged) → filter_map logged_in (map record_of_top ls) ≡ ls
 tops_told [] = refl
 tops_told (l ∷ ls) = ap (λ (rest : List Logged). l ∷ rest) (tops_told ls)
 
@@ -39,10 +39,10 @@ made_told table made bodies = refl
 module _ (table : Table) (image : List ℕ) (bodies : List (List ℕ)) (has : HasRecords bodies image) where
   pub ledger_told : (epoch : ℕ) (before since : List Logged) → IsLedgerImage table epoch before since image → filter_map logged_in (readings body.ledger bodies) ≡ before ++ since
   ledger_told epoch before since is =
-      let records : List LedgerRecord = ledger_record.Made (made_for 0 table) ∷ (is.old ++ ledger_record.Epoch epoch ∷ map record_of since) in
+      let records : List LedgerRecord = ledger_records table is.old epoch since in
       ap (λ (bs : List (List ℕ)). filter_map logged_in (readings body.ledger bs)) (records-same image (map body.ledger.spell records) bodies is.has has)
       ∙ ap (filter_map logged_in) (read_again body.ledger exact_ledger records is.fit)
-      ∙ filter_map-append logged_in is.old (ledger_record.Epoch epoch ∷ map record_of since)
+      ∙ filter_map-append logged_in is.old (ledger_record.Epoch epoch ∷ map record_of_top since)
       ∙ ap₂ (λ (xs ys : List Logged). xs ++ ys) is.old_tops (tops_told since)
 
   pub copy_told : (copy : ℕ) (given : List Grant) → IsCopyImage table copy given image → readings (grant_form table) bodies ≡ given

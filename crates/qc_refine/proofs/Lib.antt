@@ -47,3 +47,4 @@ pub mod RestoredTuples
 pub mod RestoredSound
 pub mod ImageReadings
 pub mod RestoredImages
+mod WorkedRestored

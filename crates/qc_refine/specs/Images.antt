@@ -30,8 +30,12 @@ abbrev pub grant_form : Table → Form Grant
 grant_form table = body.grant (format_1 table.copies)
 
 -- the ledger's record of a top
-abbrev pub record_of : Logged → LedgerRecord
-record_of l = ledger_record.Top l.top l.aborted
+abbrev pub record_of_top : Logged → LedgerRecord
+record_of_top l = ledger_record.Top l.top l.aborted
+
+-- the ledger's records: how its disk was made, older ones, an epoch, and the tops since
+abbrev pub ledger_records : Table → List LedgerRecord → ℕ → List Logged → List LedgerRecord
+ledger_records table old epoch since = ledger_record.Made (made_for 0 table) ∷ (old ++ ledger_record.Epoch epoch ∷ map record_of_top since)
 
 -- the top that a record of the ledger tells
 abbrev pub logged_in : LedgerRecord → Option Logged
@@ -44,15 +48,14 @@ readings form bodies = filter_map (all_of form) bodies
 
 -- STANDING
 
--- The ledger's image tells how its disk was made, what it told before, an epoch, and the tops since. Epochs count up
--- from 1.
+-- The ledger's image tells the tops that it told before an epoch, and those since. Its epochs count up from 1 to this.
 pub record IsLedgerImage (table : Table) (epoch : ℕ) (before since : List Logged) (image : List ℕ) : Type 0 where
   pub old : List LedgerRecord
   pub made_once : filter_map body.made_of old ≡ []
   pub old_tops : filter_map logged_in old ≡ before
   pub epochs : filter_map body.epoch_of old ++ epoch ∷ [] ≡ range_with_len 1 epoch
-  pub fit : All body.ledger.fits (ledger_record.Made (made_for 0 table) ∷ (old ++ ledger_record.Epoch epoch ∷ map record_of since))
-  pub has : HasRecords (map body.ledger.spell (ledger_record.Made (made_for 0 table) ∷ (old ++ ledger_record.Epoch epoch ∷ map record_of since))) image
+  pub fit : All body.ledger.fits (ledger_records table old epoch since)
+  pub has : HasRecords (map body.ledger.spell (ledger_records table old epoch since)) image
 
 -- A copy's image tells how its disk was made, and what the copy granted.
 pub record IsCopyImage (table : Table) (copy : ℕ) (granted : List Grant) (image : List ℕ) : Type 0 where
@@ -91,7 +94,7 @@ pub record Restores (table : Table) (images : List (List ℕ)) (tuples : List (L
   pub has : (number : ℕ) → HasRecords (bodies number) (slice_index_or images number [])
   pub same : tuples ≡ restored (base_of table) (length table.records) (kept_in table bodies)
 
--- Tuples carry the serial machine's values after a history, and each is that of the greatest version of its record.
+-- Tuples carry the serial machine's values after a history, and each value is that of the greatest version of its record.
 pub record CarryFinal (table : Table) (values : List ℕ) (past : Past) (tuples : List (List Tuple)) : Type 0 where
   pub sound : IsSound (setting_of table tuples) (final_values values past)
   pub greatest : (rec : ℕ) → rec < length table.records → slice_get (final_values values past) rec ≡ Some (restored_value tuples rec)
