@@ -44,6 +44,7 @@ pub mod BelowReady
 pub mod LoggedTops
 pub mod KeptForGood
 pub mod RestoredTuples
+pub mod Grids
 pub mod RestoredSound
 pub mod ImageReadings
 pub mod RestoredImages

@@ -2,15 +2,14 @@
 use Rattle.std.proofs.Common.{◌≡◌, ℕ, zero, suc, ◌+◌, ◌<◌, inl, inr, List, [], length, get_or, refl, sym, ap, ◌∙◌, subst, arith, append-nil}
 use mathlib.Core.Bool.{true≢false}
 use Rattle.std.specs.Prelude.{map, Some}
-use Rattle.std.specs.List.{range_with_len}
 use Rattle.std.proofs.lemmas.Bool.{cases_lt}
 use Rattle.std.proofs.lemmas.List.{get_or_past, get_or-replicate, length-map, length-replicate}
 use Rattle.std.proofs.lemmas.List.Elements.{All-nil}
-use Rattle.std.proofs.lemmas.List.FromFn.{fill_by_all, get_or-map-range_with_len}
+use Rattle.std.proofs.lemmas.List.FromFn.{get_or-map-range_with_len}
 use Rattle.qc_config.specs.declared.tuple.Tuple.{Tuple}
 use Rattle.qc_event.specs.declared.table.Row.{Row}
 use Rattle.qc_event.specs.declared.table.Table.{Table}
-use Rattle.qc_event.specs.Base.{no_tuple, start_tuple}
+use Rattle.qc_event.specs.Base.{start_tuple}
 use Rattle.qc_event.specs.History.{Past}
 use Rattle.qc_event.specs.Legal.{Legal}
 use Rattle.qc_event.specs.Manager.{greatest_among}
@@ -20,8 +19,9 @@ use Rattle.qc_journal.proofs.Readings.{records-same}
 use Rattle.qc_journal.specs.Image.{HasRecords}
 use Rattle.qc_simlock.specs.Serial.{final_values}
 use Rattle.qc_refine.specs.Images.{AreFresh, CarryFinal, IsStanding, Restores, grant_form, kept_in, readings}
-use Rattle.qc_refine.specs.Restored.{granted_at, restored, restored_setting, restored_tuple}
+use Rattle.qc_refine.specs.Restored.{granted_at, restored, restored_setting}
 use Rattle.qc_refine.specs.Standing.{StandBeside, committed_too}
+use Rattle.qc_refine.proofs.Grids.{grid_is}
 use Rattle.qc_refine.proofs.ImageReadings.{copy_told, ledger_told}
 use Rattle.qc_refine.proofs.LastValues.{last_value}
 use Rattle.qc_refine.proofs.RestoredSound.{restored_sound}
@@ -105,17 +105,14 @@ module _ (table : Table) where
   row = map first_tuple table.records
 
   -- where nothing was logged, the start is restored
-  first_row : (copy : ℕ) → copy < table.copies → map (λ rec. restored_tuple [] rec (start_tuple first copy rec) []) (range_with_len 0 (length (setting_of table first).firsts)) ≡ row
-  first_row copy there = sym (
-      fill_by_all (λ rec. start_tuple first copy rec) row (length (setting_of table first).firsts) no_tuple
-      (length-map table.records first_tuple ∙ sym (length-map table.records (λ (r : Row). r.config)))
-      (λ rec here. ap (λ (ts : List Tuple). get_or ts rec no_tuple) (sym (get_or-replicate table.copies copy row [] there))))
-
   pub nothing_restored : restored first (length (setting_of table first).firsts) (record { tops = []; granted = [] }) ≡ first
   nothing_restored = sym (
-      fill_by_all (λ copy. map (λ rec. restored_tuple [] rec (start_tuple first copy rec) []) (range_with_len 0 (length (setting_of table first).firsts))) first (length first) []
-      refl
-      (λ copy there. let inside : copy < table.copies = subst (λ n. copy < n) (length-replicate table.copies row) there in get_or-replicate table.copies copy row [] inside ∙ sym (first_row copy inside)))
+      grid_is (length first) (length (setting_of table first).firsts) (start_tuple first) first refl
+      (λ copy there.
+      ap length (get_or-replicate table.copies copy row [] (subst (λ n. copy < n) (length-replicate table.copies row) there))
+      ∙ length-map table.records first_tuple
+      ∙ sym (length-map table.records (λ (r : Row). r.config)))
+      (λ copy rec here there. refl))
 
   -- fresh images stand beside the empty history
   pub fresh_stand : (images : List (List ℕ)) → AreFresh table images → IsStanding table first 1 [] images

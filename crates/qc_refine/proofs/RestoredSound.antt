@@ -1,16 +1,14 @@
 -- What disks restore that stand beside a legal history is sound for the values of a serial machine after it.
-use Rattle.std.proofs.Common.{◌≡◌, ℕ, ◌<◌, List, [], ◌∷◌, ◌++◌, length, refl, sym, ap, ap₂, ◌∙◌, subst, arith, append-nil, append_assoc, get_or}
-use Rattle.std.specs.Prelude.{Option, None, Some, is_some, map, MatchOption}
-use Rattle.std.specs.List.{range_with_len}
+use Rattle.std.proofs.Common.{◌≡◌, ℕ, ◌<◌, List, [], ◌∷◌, ◌++◌, length, refl, sym, ap, ap₂, ◌∙◌, subst, append-nil, append_assoc}
+use Rattle.std.specs.Prelude.{Option, None, Some, is_some, MatchOption}
 use Rattle.std.proofs.lemmas.List.Elements.{All-weaker}
-use Rattle.std.proofs.lemmas.List.FromFn.{length-map-range_with_len, get_or-map-range_with_len, fill_by_all}
 use Rattle.qc_config.specs.declared.tuple.Tuple.{Tuple}
 use Rattle.qc_event.specs.declared.event.Answer.TheVariants.{Nothing}
 use Rattle.qc_event.specs.declared.event.Grant.{Grant}
 use Rattle.qc_event.specs.declared.event.How.TheVariants.{Commit}
 use Rattle.qc_event.specs.declared.event.Kind.{Kind}
 use Rattle.qc_event.specs.declared.event.Kind.TheVariants as kind
-use Rattle.qc_event.specs.Base.{Setting, no_tuple, start_tuple}
+use Rattle.qc_event.specs.Base.{Setting, start_tuple}
 use Rattle.qc_event.specs.Commits.{MayCommit}
 use Rattle.qc_event.specs.History.{Past, Name, Begun, start, end, is_ready, asked, granted, grants}
 use Rattle.qc_event.specs.Legal.{Legal, Allowed, MayEnd}
@@ -22,6 +20,7 @@ use Rattle.qc_simlock.specs.Serial.{final_values}
 use Rattle.qc_simlock.specs.Visible.{served_order, left_at}
 use Rattle.qc_refine.specs.InTurn.{left_base}
 use Rattle.qc_refine.proofs.CopiesSerial.{left_copies}
+use Rattle.qc_refine.proofs.Grids.{grid, grid_at, grid_copies, grids_agree}
 use Rattle.qc_refine.specs.Restored.{Logged, Kept, granted_at, restored_tuple, restored, restored_setting}
 use Rattle.qc_refine.specs.Listed.{listed, logged, logged_as}
 use Rattle.qc_refine.specs.Standing.{commit_of, IsNext, AreNext, committed_too, IsUntold, StandBeside}
@@ -88,41 +87,35 @@ untold_too past more g untold = record {
 -- WHAT IS RESTORED
 
 module _ (first : List (List Tuple)) (epoch : ℕ) (setting : Setting) (values : List ℕ) (before now : Kept) (past : Past) (legal : Legal setting past) (sound : IsSound setting values) (s : StandBeside first epoch setting before now past) where
+  abbrev was : ℕ → ℕ → Tuple
+  was copy rec = restored_tuple before.tops rec (start_tuple first copy rec) (granted_at before copy)
+
+  abbrev is : ℕ → ℕ → Tuple
+  is copy rec = restored_tuple now.tops rec (start_tuple first copy rec) (granted_at now copy)
+
+  abbrev left : ℕ → ℕ → Tuple
+  left = left_at setting.base (served_order (committed_too past s.more) [])
+
   copies : length setting.base ≡ length first
-  copies = ap length s.starts ∙ length-map-range_with_len (λ copy. map (λ rec. restored_tuple before.tops rec (start_tuple first copy rec) (granted_at before copy)) (range_with_len 0 (length setting.firsts))) 0 (length first)
+  copies = ap length s.starts ∙ grid_copies (length first) (length setting.firsts) was
 
-  started : (copy rec : ℕ) → copy < length first → rec < length setting.firsts → restored_tuple before.tops rec (start_tuple first copy rec) (granted_at before copy) ≡ start_tuple setting.base copy rec
-  started copy rec here there = sym (
-      ap (λ base. start_tuple base copy rec) s.starts
-      ∙ ap (λ (tuples : List Tuple). get_or tuples rec no_tuple) (get_or-map-range_with_len (λ c. map (λ r. restored_tuple before.tops r (start_tuple first c r) (granted_at before c)) (range_with_len 0 (length setting.firsts))) 0 (length first) copy copy [] here (omega arith))
-      ∙ get_or-map-range_with_len (λ r. restored_tuple before.tops r (start_tuple first copy r) (granted_at before copy)) 0 (length setting.firsts) rec rec no_tuple there (omega arith))
+  started : (copy rec : ℕ) → copy < length first → rec < length setting.firsts → was copy rec ≡ start_tuple setting.base copy rec
+  started copy rec here there = sym (ap (λ base. start_tuple base copy rec) s.starts ∙ grid_at (length first) (length setting.firsts) was copy rec here there)
 
-  each : (copy rec : ℕ) → copy < length first → rec < length setting.firsts → restored_tuple now.tops rec (start_tuple first copy rec) (granted_at now copy) ≡ left_at setting.base (served_order (committed_too past s.more) []) copy rec
+  each : (copy rec : ℕ) → copy < length first → rec < length setting.firsts → is copy rec ≡ left copy rec
   each copy rec here there =
       ap₂ (λ tops given. restored_tuple tops rec (start_tuple first copy rec) given)
       (s.tops ∙ ap (λ ls. before.tops ++ ls) (sym (logged_too past s.more s.next)))
       (s.granted copy here ∙ ap (λ gs. granted_at before copy ++ (gs ++ s.untold copy)) (sym (grants_too past s.more copy)))
-      ∙ restores epoch setting values (committed_too past s.more) (legal_too setting past s.more legal s.next) sound (λ x h. s.of_epoch x (ap is_some (sym (start_too past s.more (x ∷ []))) ∙ h))
+      ∙ restores epoch setting (committed_too past s.more) (legal_too setting past s.more legal s.next) (λ x h. s.of_epoch x (ap is_some (sym (start_too past s.more (x ∷ []))) ∙ h))
       before.tops s.old_tops copy rec (start_tuple first copy rec) (granted_at before copy) (s.untold copy) (s.old_grants copy here)
       (All-weaker (IsUntold past) (IsUntold (committed_too past s.more)) (untold_too past s.more) (s.untold copy) (s.are_untold copy here))
       (started copy rec here there)
 
-  rows : (copy : ℕ) → copy < length first → map (λ rec. restored_tuple now.tops rec (start_tuple first copy rec) (granted_at now copy)) (range_with_len 0 (length setting.firsts))
-      ≡ map (λ rec. left_at setting.base (served_order (committed_too past s.more) []) copy rec) (range_with_len 0 (length setting.firsts))
-  rows copy here =
-      fill_by_all (λ rec. left_at setting.base (served_order (committed_too past s.more) []) copy rec) _ (length setting.firsts) no_tuple
-      (length-map-range_with_len (λ rec. restored_tuple now.tops rec (start_tuple first copy rec) (granted_at now copy)) 0 (length setting.firsts))
-      (λ rec there.
-      get_or-map-range_with_len (λ r. restored_tuple now.tops r (start_tuple first copy r) (granted_at now copy)) 0 (length setting.firsts) rec rec no_tuple there (omega arith)
-      ∙ each copy rec here there)
-
   same_base : restored first (length setting.firsts) now ≡ left_base setting (served_order (committed_too past s.more) [])
   same_base =
-      fill_by_all (λ copy. map (λ rec. left_at setting.base (served_order (committed_too past s.more) []) copy rec) (range_with_len 0 (length setting.firsts))) _ (length setting.base) []
-      (length-map-range_with_len (λ copy. map (λ rec. restored_tuple now.tops rec (start_tuple first copy rec) (granted_at now copy)) (range_with_len 0 (length setting.firsts))) 0 (length first) ∙ sym copies)
-      (λ copy lt.
-      get_or-map-range_with_len (λ c. map (λ rec. restored_tuple now.tops rec (start_tuple first c rec) (granted_at now c)) (range_with_len 0 (length setting.firsts))) 0 (length first) copy copy [] (let c = copies in omega (arith, c, lt)) (omega arith)
-      ∙ rows copy (let c = copies in omega (arith, c, lt)))
+      grids_agree (length first) (length setting.firsts) left is each
+      ∙ ap (λ n. grid n (length setting.firsts) left) (sym copies)
 
   pub restored_sound : IsSound (restored_setting first setting now) (final_values values (committed_too past s.more))
   restored_sound =

@@ -1,7 +1,7 @@
 -- What disks restore is what the root was served.
 use Rattle.std.proofs.Common.{◌≡◌, ℕ, ◌⊎◌, inl, inr, Bool, true, false, List, [], ◌∷◌, ◌++◌, ◌&&◌, ◌||◌, refl, sym, ap, ap₂, ◌∙◌, subst, arith, append-nil}
 use mathlib.Core.Bool.{true≢false}
-use Rattle.std.specs.Prelude.{◌==◌, ◌/◌, ◌^◌, All, Option, None, Some, is_some, filter, option_to_list, if◌then◌else◌}
+use Rattle.std.specs.Prelude.{◌==◌, All, Option, None, Some, is_some, filter, option_to_list, if◌then◌else◌}
 use Rattle.std.proofs.Math.Bool.{or-false}
 use Rattle.std.proofs.lemmas.Bool.{and_parts, and_right, eqb-true, false_from_ne_true}
 use Rattle.std.proofs.lemmas.List.Elements.{All-nil, All-cons, All-append, All-weaker, All-head, All-tail, filter-append}
@@ -20,7 +20,6 @@ use Rattle.qc_event.specs.Grants.{MayGrant}
 use Rattle.qc_event.specs.History.{Past, Name, start, end, asked, granted, grants, grant_at}
 use Rattle.qc_event.specs.Legal.{Legal, MayHappen}
 use Rattle.qc_event.specs.Seen.{changed_by}
-use Rattle.qc_event.specs.Sound.{IsSound}
 use Rattle.qc_event.proofs.OneEntry.{some_or_none}
 use Rattle.qc_event.proofs.LastNumber.{ends_in, EndsIn}
 use Rattle.qc_event.proofs.Lawful.{lawful, started_some}
@@ -34,7 +33,7 @@ use Rattle.qc_refine.proofs.CopiesSerial.{root_alive}
 use Rattle.qc_refine.proofs.ForGood.{root_sees}
 use Rattle.qc_refine.specs.Restored.{Logged, keeps, is_kept, is_kept_at, restored_tuple}
 use Rattle.qc_refine.specs.Listed.{logged}
-use Rattle.qc_refine.specs.Standing.{IsOld, IsOfEpoch, IsUntold}
+use Rattle.qc_refine.specs.Standing.{IsOld, IsOfEpoch, IsUntold, epoch_in}
 use Rattle.qc_refine.proofs.KeptForGood.{good_committed, kept_is_good}
 use Rattle.qc_refine.proofs.LoggedTops.{IsLogged, logged_are}
 
@@ -90,7 +89,7 @@ below_top setting past a legal asks = by_shape a (started_some _ (start past a) 
     by_shape [] h = absurd (some_or_none (start past []) h (lawful past (legal_orderly setting past legal)).no_root_start)
     by_shape (x ∷ r) h = record { number = x; rest = r; is = refl; started = h; top_started = above_started past (x ∷ []) r (lawful past (legal_orderly setting past legal)) (omega arith) h }
 
-module _ (epoch : ℕ) (setting : Setting) (values : List ℕ) (past : Past) (legal : Legal setting past) (sound : IsSound setting values) (of_epoch : IsOfEpoch epoch past) where
+module _ (epoch : ℕ) (setting : Setting) (past : Past) (legal : Legal setting past) (of_epoch : IsOfEpoch epoch past) where
   -- OLD AND NEW
 
   -- the record of an old top is above no access of this history
@@ -104,7 +103,7 @@ module _ (epoch : ℕ) (setting : Setting) (values : List ℕ) (past : Past) (le
       apart (y ∷ n) l old is = false_from_ne_true (keeps (x ∷ r) l) (λ kept.
           let above : name.is_ancestor (y ∷ n) (x ∷ r) ≡ true = ap (λ t. name.is_ancestor t (x ∷ r)) (sym is) ∙ (and_parts (name.is_ancestor l.top (x ∷ r)) _ kept).0 in
           let same : y ≡ x = eqb-true y x (and_parts (y == x) _ above).0 in
-          let here : y / 2 ^ 32 ≡ epoch = ap (λ z. z / 2 ^ 32) same ∙ of_epoch x began in
+          let here : epoch_in y ≡ epoch = ap epoch_in same ∙ of_epoch x began in
           omega (arith, here, old))
 
   -- and that of a top of this history is above no old access
@@ -119,7 +118,7 @@ module _ (epoch : ℕ) (setting : Setting) (values : List ℕ) (past : Past) (le
           let above : name.is_ancestor (is.number ∷ []) (y ∷ n) ≡ true = ap (λ t. name.is_ancestor t (y ∷ n)) (sym is.is_top) ∙ (and_parts (name.is_ancestor l.top (y ∷ n)) _ kept).0 in
           let same : is.number ≡ y = eqb-true is.number y (and_parts (is.number == y) _ above).0 in
           let began : is_some (start past (is.number ∷ [])) ≡ true = (lawful past (legal_orderly setting past legal)).end_has_start (is.number ∷ []) (ended (end past (is.number ∷ [])) is.committed) in
-          let here : y / 2 ^ 32 ≡ epoch = ap (λ z. z / 2 ^ 32) (sym same) ∙ of_epoch is.number began in
+          let here : epoch_in y ≡ epoch = ap epoch_in (sym same) ∙ of_epoch is.number began in
           omega (arith, here, old))
         where
           ended : (o : Option How) → is_committed (outcome_of o) ≡ true → is_some o ≡ true
