@@ -22,8 +22,8 @@ use std::alloc::{AllocError, Global};
 use tally::push_tally;
 
 /// The report of a run: a line for each end in its history, a line for each top in doubt, the value of
-/// each record, and how many tops there were. Each line asks the history once or twice, so the time grows with the
-/// lines that there are where the history has an index, and else with their number times the history's length.
+/// each record, and how many tops there were. Its time grows with the history's length where the history has an
+/// index, and else with the square of it.
 pub fn report(
     alloc: Global,
     table: &Table,
