@@ -100,7 +100,8 @@ fn final_value(
 
 /// The last value of each record: that of the greatest version among the start tuples and
 /// the granted puts whose every ancestor but the root is committed. Of equals it is the first, start
-/// tuples by copy before puts in their order.
+/// tuples by copy before puts in their order. It goes over the entries once for each record, and asks the
+/// history for each ancestor of a put.
 pub fn finals(
     alloc: Global,
     base: &Base,
