@@ -1,2 +1,3 @@
 pub mod Report
 pub mod LastValues
+pub mod Indexed

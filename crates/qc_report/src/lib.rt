@@ -5,6 +5,7 @@ ghost use Rattle.std.specs.Prelude.{◌≡◌, ◌++◌, IfOk, OnOk};
 ghost use Rattle.std.specs.List.{zip};
 ghost use Rattle.qc_report.specs.Report as spec;
 
+mod history;
 mod lack;
 mod last_values;
 mod lines;
@@ -12,45 +13,48 @@ mod managers;
 mod page;
 mod tally;
 
+pub use history::{History, index_of};
 pub use last_values::finals;
 use lines::{push_doubt, push_event, push_final};
 pub use page::Page;
-use qc_event::{Entry, Table};
+use qc_event::Table;
 use std::alloc::{AllocError, Global};
 use tally::push_tally;
 
 /// The report of a run: a line for each end in its history, a line for each top in doubt, the value of
-/// each record, and how many tops there were. The history has its oldest entry first.
+/// each record, and how many tops there were. Its time grows with the history's length where the history has an
+/// index, and else with the square of it.
 pub fn report(
     alloc: Global,
     table: &Table,
     finals: &[u64],
-    trail: &[Entry],
+    history: &History<'_>,
 ) -> Result<Vec<u8>, AllocError>
-    ensures { IfOk result (λ text. text.items ≡ spec.report table.now finals.now trail.now) }
+    ensures { IfOk result (λ text. text.items ≡ spec.report table.now finals.now history.now) }
 {
     let mut page = Page::new(alloc);
-    push_events(&mut page, table, trail)?;
-    push_doubts(&mut page, trail)?;
+    push_events(&mut page, table, history)?;
+    push_doubts(&mut page, history)?;
     push_finals(&mut page, table, finals)?;
-    push_tally(&mut page, trail)?;
+    push_tally(&mut page, history)?;
     Ok(page.into_bytes())
 }
 
-fn push_events(page: &mut Page, table: &Table, trail: &[Entry]) -> Result<(), AllocError>
-    ensures { OnOk result (page.new ≡ page.old ++ spec.event_lines table.now trail.now trail.now) }
+fn push_events(page: &mut Page, table: &Table, history: &History<'_>) -> Result<(), AllocError>
+    ensures { OnOk result
+        (page.new ≡ page.old ++ spec.event_lines table.now history.now history.now) }
 {
-    for entry in trail {
-        push_event(page, table, trail, &entry.event)?;
+    for entry in history.entries() {
+        push_event(page, table, history, &entry.event)?;
     }
     Ok(())
 }
 
-fn push_doubts(page: &mut Page, trail: &[Entry]) -> Result<(), AllocError>
-    ensures { OnOk result (page.new ≡ page.old ++ spec.doubt_lines trail.now trail.now) }
+fn push_doubts(page: &mut Page, history: &History<'_>) -> Result<(), AllocError>
+    ensures { OnOk result (page.new ≡ page.old ++ spec.doubt_lines history.now history.now) }
 {
-    for entry in trail {
-        push_doubt(page, trail, &entry.event)?;
+    for entry in history.entries() {
+        push_doubt(page, history, &entry.event)?;
     }
     Ok(())
 }

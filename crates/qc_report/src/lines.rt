@@ -1,10 +1,11 @@
 ghost use Rattle.std.specs.Prelude.{◌≡◌, ◌++◌, OnOk};
 ghost use Rattle.qc_report.specs.Report as spec;
 
+use crate::history::History;
 use crate::managers::{push_failed, push_read, push_reconf, push_set};
 use crate::page::Page;
 use crate::tally::in_doubt;
-use qc_event::{Answer, Cause, Entry, Event, How, Kind, Name, Row, Table, kind};
+use qc_event::{Answer, Cause, Event, How, Kind, Name, Row, Table};
 use std::alloc::AllocError;
 
 fn push_commit(page: &mut Page, name: &Name) -> Result<(), AllocError>
@@ -78,15 +79,16 @@ fn push_aborted(
 pub(crate) fn push_event(
     page: &mut Page,
     table: &Table,
-    trail: &[Entry],
+    history: &History<'_>,
     event: &Event,
 ) -> Result<(), AllocError>
-    ensures { OnOk result (page.new ≡ page.old ++ spec.event_line table.now trail.now event.now) }
+    ensures { OnOk result
+        (page.new ≡ page.old ++ spec.event_line table.now history.now event.now) }
 {
     let Event::End { name, how } = event else {
         return Ok(());
     };
-    let Some(kind) = kind(trail, name) else {
+    let Some(kind) = history.kind(name) else {
         return Ok(());
     };
     match how {
@@ -96,11 +98,15 @@ pub(crate) fn push_event(
 }
 
 /// Appends a line for a top that was ready and has not ended.
-pub(crate) fn push_doubt(page: &mut Page, trail: &[Entry], event: &Event) -> Result<(), AllocError>
-    ensures { OnOk result (page.new ≡ page.old ++ spec.doubt_line trail.now event.now) }
+pub(crate) fn push_doubt(
+    page: &mut Page,
+    history: &History<'_>,
+    event: &Event,
+) -> Result<(), AllocError>
+    ensures { OnOk result (page.new ≡ page.old ++ spec.doubt_line history.now event.now) }
 {
     match event {
-        Event::Ready { top } if in_doubt(trail, event) => write!(page, "doubt {top}\n"),
+        Event::Ready { top } if in_doubt(history, event) => write!(page, "doubt {top}\n"),
         _ => Ok(()),
     }
 }

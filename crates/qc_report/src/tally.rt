@@ -1,8 +1,9 @@
 ghost use Rattle.std.specs.Prelude.{◌≡◌, ◌++◌, OnOk};
 ghost use Rattle.qc_report.specs.Report as spec;
 
+use crate::history::History;
 use crate::page::Page;
-use qc_event::{Entry, Event, How, Name, Outcome, outcome};
+use qc_event::{Entry, Event, How, Name, Outcome};
 use std::alloc::AllocError;
 
 /// Whether a transaction has not ended.
@@ -16,11 +17,11 @@ fn is_live(outcome: Outcome) -> bool
 }
 
 /// Whether an entry is a top that was ready and has not ended.
-pub(crate) fn in_doubt(trail: &[Entry], event: &Event) -> bool
-    ensures { result ≡ spec.in_doubt trail.now event.now }
+pub(crate) fn in_doubt(history: &History<'_>, event: &Event) -> bool
+    ensures { result ≡ spec.in_doubt history.now event.now }
 {
     match event {
-        Event::Ready { top } => is_live(outcome(trail, top)),
+        Event::Ready { top } => is_live(history.outcome(top)),
         _ => false,
     }
 }
@@ -82,10 +83,14 @@ fn tops_aborted(trail: &[Entry]) -> usize
     trail.iter().filter(|e| aborts_top(&e.event)).count()
 }
 
-fn tops_in_doubt(trail: &[Entry]) -> usize
-    ensures { result ≡ spec.entries_of (spec.in_doubt trail.now) trail.now }
+fn tops_in_doubt(history: &History<'_>) -> usize
+    ensures { result ≡ spec.entries_of (spec.in_doubt history.now) history.now }
 {
-    trail.iter().filter(|e| in_doubt(trail, &e.event)).count()
+    history
+        .entries()
+        .iter()
+        .filter(|e| in_doubt(history, &e.event))
+        .count()
 }
 
 /// How many tops were started, committed and aborted, and how many are in doubt.
@@ -115,14 +120,15 @@ fn push_counts(page: &mut Page, tally: Tally) -> Result<(), AllocError>
 }
 
 /// Appends how many tops were started, committed and aborted, and how many are in doubt.
-pub(crate) fn push_tally(page: &mut Page, trail: &[Entry]) -> Result<(), AllocError>
-    ensures { OnOk result (page.new ≡ page.old ++ spec.tally trail.now) }
+pub(crate) fn push_tally(page: &mut Page, history: &History<'_>) -> Result<(), AllocError>
+    ensures { OnOk result (page.new ≡ page.old ++ spec.tally history.now) }
 {
+    let trail = history.entries();
     let tally = Tally {
         started: tops_started(trail),
         committed: tops_committed(trail),
         aborted: tops_aborted(trail),
-        doubt: tops_in_doubt(trail),
+        doubt: tops_in_doubt(history),
     };
     push_counts(page, tally)
 }

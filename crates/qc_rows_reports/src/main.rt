@@ -6,7 +6,7 @@
 ghost use Rattle.std.specs.Prelude.{◌≡◌, length, IfOk};
 
 use qc_event::{Base, Config, Entry, Label, Log, Row, Rows, Table, Tuple};
-use qc_report::{finals, report};
+use qc_report::{History, finals, report};
 use qc_trail_text::append_line;
 use std::alloc::{AllocError, Global};
 use std::io;
@@ -42,8 +42,9 @@ fn base_of(alloc: Global, config: Config) -> Result<Base, AllocError>
 fn text_of(alloc: Global, config: Config, trail: &[Entry]) -> Result<Vec<u8>, AllocError> {
     let table = table_of(alloc, config)?;
     let base = base_of(alloc, config)?;
-    let values = finals(alloc, &base, trail, 1)?;
-    report(alloc, &table, values.as_slice(), trail)
+    let history = History::plain(trail);
+    let values = finals(alloc, &base, &history, 1)?;
+    report(alloc, &table, values.as_slice(), &history)
 }
 
 fn print_report(

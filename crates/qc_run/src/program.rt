@@ -19,7 +19,7 @@ use crate::status::{ROOM_LINE, Status, fault_line};
 use crate::words::is_command;
 use qc_event::{Base, CLIENT_SEAT, Config, Entry, Row, Short, Table, Tuple};
 use qc_interp::{Client, Session};
-use qc_report::{finals, report};
+use qc_report::{History, finals, index_of, report};
 use qc_script::{BadScript, MOST_BYTES, Script};
 use std::alloc::{AllocError, Global};
 
@@ -112,9 +112,11 @@ fn page_of(alloc: Global, table: &Table, session: &Session) -> Result<Vec<u8>, A
     ensures { IfOk result (λ text. text.items ≡ terms.page table.now session.now) }
 {
     let trail = session.entries();
+    let index = index_of(alloc, trail)?;
+    let history = History::indexed(trail, &index);
     let records = table.records.as_slice().len();
-    let values = finals(alloc, session.base(), trail, records)?;
-    report(alloc, table, values.as_slice(), trail)
+    let values = finals(alloc, session.base(), &history, records)?;
+    report(alloc, table, values.as_slice(), &history)
 }
 
 // Reports a session that has run to its end.

@@ -5,12 +5,12 @@ use Rattle.qc_report.proofs.last_values.is_for_good.Goals as goal
 
 pub returns-then-not-is_committed : goal.returns-then-not-is_committed
 returns-then-not-is_committed c =
-    let past = reverse c.args.trail.now in
+    let past = reverse c.args.history.now in
     let here : is_committed (outcome past (take c.loop-len.len c.args.access.now)) ≡ false =
     ap (λ a. is_committed (outcome past a)) (sym c.ancestor.ensures) ∙ ap is_committed (sym c.outcome.ensures) ∙ sym c.is_committed.ensures ∙ c.if-not-is_committed.true in
     sym (not_all_but_root (λ a. is_committed (outcome past a)) c.args.access.now c.loop-len.len (omega arith) (omega arith) here)
 
 pub returns : goal.returns
 returns c =
-    let past = reverse c.args.trail.now in
+    let past = reverse c.args.history.now in
     sym (all_but_root (λ a. is_committed (outcome past a)) c.args.access.now (λ j some h. c.loop-len.invariant j some (omega arith)))

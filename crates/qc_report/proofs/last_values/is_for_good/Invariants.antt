@@ -4,4 +4,4 @@ use Rattle.qc_report.proofs.last_values.is_for_good.Given as goal
 
 -- each shorter ancestor but the root is committed
 abbrev pub invariant-loop-len : goal.invariant-loop-len
-invariant-loop-len l = (j : ℕ) → 0 < j → j < l.len → is_committed (outcome (reverse l.trail) (take j l.access)) ≡ true
+invariant-loop-len l = (j : ℕ) → 0 < j → j < l.len → is_committed (outcome (reverse l.history) (take j l.access)) ≡ true

@@ -1,0 +1,6 @@
+use Rattle.qc_bench_steps.proofs.Legal.{run_is_legal}
+use Rattle.qc_bench_steps.proofs.measure.both_times.Goals as goal
+
+pub report_of-requires : goal.report_of-requires
+report_of-requires g c =
+    run_is_legal _ _ c.run-ran.result.start c.run-ran.result.trail.items c.run-ran.ensures.legal_history

@@ -1,0 +1,12 @@
+-- The index is that of the entries so far, where they may come one after another.
+use Rattle.std.proofs.Common.{◌≡◌, reverse, take}
+use Rattle.qc_event.specs.Base.{Setting}
+use Rattle.qc_event.specs.Legal.{Legal}
+use Rattle.qc_desk.specs.Index.{IsOf}
+use Rattle.qc_report.proofs.history.index_of.Given as goal
+
+abbrev pub invariant-loop-entry : goal.invariant-loop-entry
+invariant-loop-entry l = record {
+  index : (setting : Setting) → Legal setting (reverse (take l.entry-index l.entries)) → IsOf l.index (reverse (take l.entry-index l.entries));
+  count : l.index.count ≡ l.entry-index;
+}

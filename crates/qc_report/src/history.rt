@@ -1,0 +1,104 @@
+//! The history that a report is of.
+ghost use Rattle.std.specs.Prelude.{◌≡◌, reverse, IfOk};
+ghost use Rattle.qc_event.specs.Base.{Setting};
+ghost use Rattle.qc_event.specs.Dead as dead_words;
+ghost use Rattle.qc_event.specs.History.{kind_of};
+ghost use Rattle.qc_event.specs.Legal.{Legal};
+ghost use Rattle.qc_desk.specs.Index.{IsOf};
+ghost use Rattle.qc_report.specs.Indexed.{IsLegal};
+
+use qc_desk::{Index, Outcomes};
+use qc_event::{Entry, Kind, Name, Outcome, kind, outcome};
+use std::alloc::{AllocError, Global};
+use std::marker::Model;
+
+/// The entries of a history, the oldest first. A legal one may have an index beside it: then a name is found in a
+/// step for each of its numbers. Without one, each look-up goes over all entries.
+#[derive(Drop)]
+pub struct History<'a> {
+    entries: &'a [Entry],
+    index: Option<&'a Index>,
+}
+
+impl<'a> Model for History<'a> {
+    ghost use Rattle.std.specs.Prelude.{List};
+    ghost use Rattle.std.specs.Option.{option_map};
+    ghost use Rattle.qc_event.specs.declared.event.Entry.{Entry};
+    ghost use Rattle.qc_report.specs.Indexed.{IsIndexed};
+
+    ghost Value = { List Entry };
+
+    ghost view = { λ h. h.entries.now };
+
+    ghost invariant = { λ h. IsIndexed h.entries.now (option_map (λ i. i.now) h.index) };
+}
+
+impl<'a> History<'a> {
+    /// Any entries, without an index.
+    pub fn plain(entries: &'a [Entry]) -> Self
+        ensures { result ≡ entries.now }
+    {
+        History {
+            entries,
+            index: None,
+        }
+    }
+
+    /// The entries of a legal history, and its index.
+    pub fn indexed(entries: &'a [Entry], index: &'a Index) -> Self
+        requires legal { IsLegal entries.now }
+        requires index { IsOf index.now (reverse entries.now) }
+        ensures { result ≡ entries.now }
+    {
+        History {
+            entries,
+            index: Some(index),
+        }
+    }
+
+    /// The entries, the oldest first.
+    pub(crate) fn entries(&self) -> &[Entry]
+        ensures { result.now ≡ self.now }
+    {
+        self.entries
+    }
+
+    /// What a name was started for.
+    pub(crate) fn kind(&self, name: &Name) -> Option<Kind>
+        ensures { result ≡ kind_of (reverse self.now) name.now }
+    {
+        match self.index {
+            Some(index) => index.kind(self.entries, name),
+            None => kind(self.entries, name),
+        }
+    }
+
+    /// How a name stands.
+    pub(crate) fn outcome(&self, name: &Name) -> Outcome
+        ensures { result ≡ dead_words.outcome (reverse self.now) name.now }
+    {
+        match self.index {
+            Some(index) => index.outcome(name),
+            None => outcome(self.entries, name),
+        }
+    }
+}
+
+/// The most entries that an index takes in.
+const LIMIT: usize = 4_294_967_295;
+
+/// The index of a legal history, its oldest entry first: for each entry a step for each number of its name. More
+/// entries than a history takes are answered as want of memory.
+pub fn index_of(alloc: Global, entries: &[Entry]) -> Result<Index, AllocError>
+    ensures { IfOk result (λ index. (setting : Setting) → Legal setting (reverse entries.now)
+        → IsOf index (reverse entries.now)) }
+{
+    if entries.len() > LIMIT {
+        return Err(AllocError);
+    }
+    let mut index = Index::new(alloc);
+    for entry in entries {
+        index.push(entry)?;
+    }
+    Ok(index)
+}
