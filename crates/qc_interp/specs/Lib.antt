@@ -1,5 +1,8 @@
-pub mod Client
+pub mod Adding
+pub mod Asking
+pub mod Plan
 pub mod Tries
-pub mod Trace
 pub mod Follows
+pub mod Turns
 pub mod Running
+pub mod Session

@@ -13,7 +13,7 @@ use Rattle.qc_event.specs.declared.event.Entry.{Entry}
 use Rattle.qc_event.specs.declared.log.Short.{Short}
 use Rattle.qc_event.specs.declared.log.Short.TheVariants as short
 use Rattle.qc_event.specs.declared.table.Table.{Table}
-use Rattle.qc_interp.specs.Trace.{Now}
+use Rattle.qc_session.specs.Trace.{Now}
 use Rattle.qc_refine.specs.Final.{final_value}
 use Rattle.qc_refine.proofs.LastValues.{last_values}
 use Rattle.qc_script.specs.Plan.{ScriptPlan}

@@ -13,8 +13,8 @@ use Rattle.qc_script.specs.Reading.{IsScript, IsRefused}
 use Rattle.qc_report.specs.LastValues.{values_by_version}
 use Rattle.qc_report.specs.Report.{Text, report}
 use Rattle.qc_simlock.specs.Serial.{IsSerialThroughout, final_values}
-use Rattle.qc_interp.specs.Client.{Client}
-use Rattle.qc_interp.specs.Trace.{Now}
+use Rattle.qc_session.specs.Client.{Client}
+use Rattle.qc_session.specs.Trace.{Now}
 use Rattle.qc_run.specs.FaultLine.{fault_line}
 use Rattle.qc_script.specs.declared.bad_script.BadScript.TheVariants.{Memory}
 use Rattle.qc_script.specs.Plan.{ScriptPlan}

@@ -8,7 +8,7 @@ ghost use Rattle.qc_event.specs.Tables.{base_of, first_configs, first_tuple, fir
 ghost use Rattle.qc_script.specs.Plan.{ScriptPlan};
 ghost use Rattle.qc_script.specs.Steps.{plan_of_script};
 ghost use Rattle.qc_run.specs.FaultLine.{fault_line};
-ghost use Rattle.qc_interp.specs.Follows.{FollowsTops};
+ghost use Rattle.qc_session.specs.Follows.{FollowsTops};
 ghost use Rattle.qc_io.specs.Io.{Rose, Keeps, Appends, AppendsFront};
 ghost use Rattle.qc_script.specs.Reading.{IsScript, IsProper};
 ghost use Rattle.qc_run.specs.Run as terms;
@@ -18,7 +18,7 @@ use crate::io::{Sink, Source, Untaken, take_all, write_all};
 use crate::status::{ROOM_LINE, Status, fault_line};
 use crate::words::is_command;
 use qc_event::{Base, CLIENT_SEAT, Config, Entry, Row, Short, Table, Tuple};
-use qc_interp::{Client, Session};
+use qc_session::{Client, Session};
 use qc_report::{finals, report};
 use qc_script::{BadScript, MOST_BYTES, Script};
 use std::alloc::{AllocError, Global};

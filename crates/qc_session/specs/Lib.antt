@@ -1,0 +1,5 @@
+pub mod Client
+pub mod Tries
+pub mod Trace
+pub mod Follows
+pub mod Running
