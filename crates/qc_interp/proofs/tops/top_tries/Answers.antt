@@ -30,11 +30,6 @@ start_of c d n number other before now same is m = subst (λ k. Made c (by_clien
 one_less : (c : Client) (body : Numbered) (before now : Past) (counter : ℕ) → counter < body.tries → TopTriesLeft c body before now (body.tries - counter) → TopTriesLeft c body before now (suc (body.tries - (counter + 1)))
 one_less c body before now counter few left = subst (TopTriesLeft c body before now) (let e : body.tries - counter ≡ suc (body.tries - (counter + 1)) = omega (arith, few) in e) left
 
-pub begin-requires-clause-uncommitted : goal.begin-requires-clause-uncommitted
-begin-requires-clause-uncommitted g c =
-    let w = g.T.Tx.view c.loop.tx in
-    root_uncommitted w.client w.seen c.root.result (subst (λ (d : Client). Legal d.setting w.seen) (sym c.loop.invariant.client) c.loop.invariant.left.later.legal) c.root.ensures
-
 pub steps-requires-clause-runs : goal.steps-requires-clause-runs
 steps-requires-clause-runs g c =
     let inv = c.loop.invariant in
