@@ -19,7 +19,7 @@ use Rattle.qc_event.proofs.OneEntry.{starting, ending, marking, some_or_none, no
 use Rattle.qc_names.specs.Name as name
 use Rattle.qc_script.specs.Client.{Client, mine, is_own, concerns, is_commit, AreOurs, all_ours}
 use Rattle.qc_interp.specs.Follows.{StopsEarly, GoesOn, Commits, FollowsPlan}
-use Rattle.qc_interp.specs.Plan.{Plan}
+use Rattle.qc_script.specs.Plan.{Plan}
 use Rattle.qc_interp.specs.Asking.{DoesOn, Asks}
 use Rattle.qc_interp.specs.Tries.{Tries, TriesDo, is_tried_again}
 use Rattle.qc_interp.proofs.Mine.{kept_some, some_is}

@@ -23,8 +23,8 @@ use Rattle.qc_names.specs.Name as name
 use Rattle.qc_script.specs.Calls.{HasRun, Refuses, GaveNone}
 use Rattle.qc_script.specs.Client.{Client, mine, is_own, concerns, Made, IsLater, AreOurs}
 use Rattle.qc_interp.specs.Follows.{StopsEarly, WasAsked, IsUnended, FollowsPlan, GoesOn, is_handed_on}
-use Rattle.qc_interp.specs.Plan.{Plan}
-use Rattle.qc_script.specs.Calls.{KindFits}
+use Rattle.qc_script.specs.Plan.{Plan}
+use Rattle.qc_script.specs.Plan.{KindFits}
 use Rattle.qc_interp.specs.Running.{Runs, Leaves, WhyStop, StopsBy, Stopped, Ended, WentOn}
 use Rattle.qc_script.specs.declared.tx.TxNo.{TxNo}
 use Rattle.qc_script.specs.declared.tx.TxNo.TheVariants as tx_no

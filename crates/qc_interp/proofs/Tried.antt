@@ -16,7 +16,7 @@ use Rattle.qc_event.proofs.OneEntry.{child_added, start_is}
 use Rattle.qc_script.specs.Calls.{by_client, WasRefused}
 use Rattle.qc_script.specs.Client.{Client, mine, is_own, Made, IsLater, AreOurs}
 use Rattle.qc_interp.specs.Follows.{StopsEarly, IsUnended, FollowsPlan}
-use Rattle.qc_interp.specs.Plan.{Plan, Numbered}
+use Rattle.qc_script.specs.Plan.{Plan, Numbered}
 use Rattle.qc_interp.specs.Running.{Runs, LeavesIt, Leaves, WhyStop, StopsBy, Stopped, Ends, Ended, WentOn, EndsTries, FrontTries}
 use Rattle.qc_interp.specs.Tries.{Tries, is_tried_again, TriesDo}
 use Rattle.qc_script.specs.declared.tx.TxNo.{TxNo}

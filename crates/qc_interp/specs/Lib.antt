@@ -1,6 +1,5 @@
 pub mod Adding
 pub mod Asking
-pub mod Plan
 pub mod Tries
 pub mod Follows
 pub mod Turns

@@ -9,8 +9,9 @@ ghost use Rattle.qc_event.specs.Standing.{Started, IsUser};
 ghost use Rattle.qc_interp.specs.Asking.{ByItself};
 ghost use Rattle.qc_script.specs.Calls.{GaveNone, HasRun, IsGrounded};
 ghost use Rattle.qc_script.specs.Client.{View, Client, mine};
-ghost use Rattle.qc_interp.specs.Plan.{Plan, PlanFits, put, plan_of, numbered};
-ghost use Rattle.qc_script.specs.Calls.{KindFits};
+ghost use Rattle.qc_script.specs.Plan.{Plan, PlanFits};
+ghost use Rattle.qc_script.specs.Steps.{put, plan_of, numbered};
+ghost use Rattle.qc_script.specs.Plan.{KindFits};
 ghost use Rattle.qc_interp.specs.Running.{Runs, Quit, WhyStop, Stopped, Ended, Stepped};
 ghost use Rattle.qc_interp.specs.Tries as tries;
 

@@ -2,8 +2,10 @@
 ghost use Rattle.std.specs.Prelude.{◌≡◌, ◌∷◌, ◌++◌, List, [], length, map, OnOk, IfOk, IfErr};
 ghost use Rattle.qc_event.specs.History.{limit};
 ghost use Rattle.qc_event.specs.Legal.{Legal};
-ghost use Rattle.qc_interp.specs.Plan.{Numbered, PlanFits, numbered};
-ghost use Rattle.qc_interp.specs.Session.{EndsTops, RanTops, RanInTurn, BodiesFit};
+ghost use Rattle.qc_script.specs.Plan.{Numbered, PlanFits};
+ghost use Rattle.qc_script.specs.Steps.{numbered};
+ghost use Rattle.qc_interp.specs.Session.{EndsTops, RanTops, RanInTurn};
+ghost use Rattle.qc_script.specs.Plan.{BodiesFit};
 
 use crate::body::steps;
 use qc_event::{Name, Short};

@@ -4,7 +4,8 @@ use Rattle.qc_event.specs.declared.event.Kind.TheVariants as kind
 use Rattle.qc_event.specs.History.{Past, Name}
 use Rattle.qc_script.specs.Calls.{by_client, WasRefused}
 use Rattle.qc_script.specs.Client.{Client, Made}
-use Rattle.qc_interp.specs.Plan.{Plan, PlanFits, put, plan_of, numbered}
+use Rattle.qc_script.specs.Plan.{Plan, PlanFits}
+use Rattle.qc_script.specs.Steps.{put, plan_of, numbered}
 use Rattle.qc_interp.specs.Running.{Runs, WhyStop, Stopped, Ended, Stepped}
 use Rattle.qc_interp.proofs.Results.{if_ok}
 use Rattle.qc_interp.proofs.Growth.{child_length}
@@ -20,7 +21,7 @@ use Rattle.qc_interp.proofs.body.+run.Goals as goal
 start_of : (c d : Client) (n : Name) (number other : ℕ) (before now : Past) → d ≡ c → number ≡ other → Made d (by_client d (event.Start n (kind.User d.session number)) ∷ []) before now → Made c (by_client c (event.Start n (kind.User c.session other)) ∷ []) before now
 start_of c d n number other before now same is m = subst (λ k. Made c (by_client c (event.Start n (kind.User c.session k)) ∷ []) before now) is (subst (λ x. Made x (by_client x (event.Start n (kind.User x.session number)) ∷ []) before now) same m)
 
-one_less : (c : Client) (of : Name) (body : Rattle.qc_interp.specs.Plan.Numbered) (before now : Past) (counter : ℕ) → counter < body.tries → TriesLeft c of body before now (body.tries - counter) → TriesLeft c of body before now (suc (body.tries - (counter + 1)))
+one_less : (c : Client) (of : Name) (body : Rattle.qc_script.specs.Plan.Numbered) (before now : Past) (counter : ℕ) → counter < body.tries → TriesLeft c of body before now (body.tries - counter) → TriesLeft c of body before now (suc (body.tries - (counter + 1)))
 one_less c of body before now counter few left = subst (TriesLeft c of body before now) (let e : body.tries - counter ≡ suc (body.tries - (counter + 1)) = omega (arith, few) in e) left
 
 pub child_tries-steps-requires : goal.child_tries-steps-requires

@@ -4,7 +4,7 @@ use Rattle.qc_event.specs.declared.event.Cause.TheVariants as cause
 use Rattle.qc_event.specs.declared.event.How.TheVariants.{Abort}
 use Rattle.qc_event.proofs.LastNumber.{is_ancestor-append}
 use Rattle.qc_names.specs.Name as name
-use Rattle.qc_interp.specs.Plan.{Plan}
+use Rattle.qc_script.specs.Plan.{Plan}
 use Rattle.qc_interp.specs.Running.{Runs, Quit, Ended}
 use Rattle.qc_interp.proofs.Results.{if_ok}
 use Rattle.qc_interp.proofs.Ending.{runs_still, leaves_still, still}

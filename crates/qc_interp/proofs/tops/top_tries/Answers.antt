@@ -11,7 +11,8 @@ use Rattle.qc_event.proofs.OneEntry.{not_some, some_or_none}
 use Rattle.qc_script.specs.Numbers.{Numbers}
 use Rattle.qc_script.specs.Calls.{by_client}
 use Rattle.qc_script.specs.Client.{Client, Made, mine, is_own}
-use Rattle.qc_interp.specs.Plan.{PlanFits, plan_of, numbered, Numbered}
+use Rattle.qc_script.specs.Plan.{PlanFits, Numbered}
+use Rattle.qc_script.specs.Steps.{plan_of, numbered}
 use Rattle.qc_interp.specs.Running.{Runs, Ended}
 use Rattle.qc_interp.proofs.Growth.{child_length}
 use Rattle.qc_interp.proofs.Mine.{kept_some}
