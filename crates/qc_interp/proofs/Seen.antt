@@ -76,7 +76,7 @@ module _ (c : Client) (of : Name) (past : Past) (ours : AreOurs c of past) where
     same_start : start (mine c past) n ≡ start past n
     same_start = same_found _ (λ e y h. let s = starting n e.seat e.event (ap is_some h) in subst (λ ev. concerns (take 1 of) ev ≡ true) (sym s.1) low)
 
-    same_kind : kind_of (mine c past) n ≡ kind_of past n
+    pub same_kind : kind_of (mine c past) n ≡ kind_of past n
     same_kind = ap (option_map (λ (b : Begun). b.kind)) same_start
 
     same_ready : is_ready (mine c past) n ≡ is_ready past n

@@ -5,21 +5,25 @@ use Rattle.qc_event.specs.declared.event.Entry.{Entry}
 use Rattle.qc_event.specs.declared.event.Event.TheVariants as event
 use Rattle.qc_event.specs.declared.event.Event.{Event}
 use Rattle.qc_event.specs.History.{Past}
-use Rattle.qc_script.specs.Client.{is_commit}
+use Rattle.qc_event.specs.Seats.{ledger_seat}
+use Rattle.qc_script.specs.Client.{Client, is_own, is_commit}
 
--- Whether an event under a seat may stand where the client of another seat, or of this one, is alone: its own are starts,
--- ends, requests and what became of them; the copies answer; the ledger commits tops. None marks, and none is unable.
-abbrev pub is_lone : ℕ → ℕ → Event → Bool
-is_lone client seat (event.Start n k) = seat == client
-is_lone client seat (event.Ready n) = seat == client
-is_lone client seat (event.Ask ask) = seat == client
-is_lone client seat (event.Gone n why) = seat == client
-is_lone client seat (event.End n how) = (seat == client) || ((length n == 1) && is_commit how)
-is_lone client seat (event.Granted copy grant) = true
-is_lone client seat (event.Refused n copy refusal) = true
-is_lone client seat (event.Unable n why) = false
-is_lone client seat (event.Mark n session) = false
+-- Whether an event under a seat may stand where a client is alone. Its own are starts, ends, requests and what became of
+-- them; the copies answer; the ledger commits tops. None marks, and none is unable.
+abbrev pub is_lone : Client → ℕ → Event → Bool
+is_lone c seat (event.Start n k) = is_own c seat
+is_lone c seat (event.Ready n) = is_own c seat
+is_lone c seat (event.Ask ask) = is_own c seat
+is_lone c seat (event.Gone n why) = is_own c seat
+is_lone c seat (event.End n how) = is_own c seat || ((seat == ledger_seat) && ((length n == 1) && is_commit how))
+is_lone c seat (event.Granted copy grant) = true
+is_lone c seat (event.Refused n copy refusal) = true
+is_lone c seat (event.Unable n why) = false
+is_lone c seat (event.Mark n session) = false
 
--- the client of a seat is alone
-abbrev pub AreLone : ℕ → Past → Type 0
-AreLone client past = IsTrue (list_all (λ (e : Entry). is_lone client e.seat e.event) past)
+abbrev pub all_lone : Client → Past → Bool
+all_lone c past = list_all (λ (e : Entry). is_lone c e.seat e.event) past
+
+-- the client is alone
+abbrev pub AreLone : Client → Past → Type 0
+AreLone c past = IsTrue (all_lone c past)
