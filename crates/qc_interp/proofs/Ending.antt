@@ -89,7 +89,7 @@ top_above of (x ∷ xs) r is far = ap (λ n. name.is_ancestor (take 1 n) (x ∷ 
 
 -- A TOP THAT COMMITS IS A READY USER TRANSACTION
 
-top_user : (setting : Setting) (past : Past) (x : ℕ) (b : Begun) → Legal setting past → start past (x ∷ []) ≡ Some b → IsUser b.kind
+pub top_user : (setting : Setting) (past : Past) (x : ℕ) (b : Begun) → Legal setting past → start past (x ∷ []) ≡ Some b → IsUser b.kind
 top_user setting [] x b legal is = absurd cc
 top_user setting (e ∷ past) x b legal is = elim (first_is (start past (x ∷ [])) _ b is) [
   | inl old ↦ top_user setting past x b legal.0 old

@@ -1,7 +1,7 @@
 -- A history in which one client alone acts follows the script whose bodies it ran.
 use Rattle.std.proofs.Common.{◌≡◌, ◌⊎◌, inl, inr, ◌<◌, arith, ℕ, Bool, true, false, List, [], ◌∷◌, ◌++◌, length, refl, sym, ap, ◌∙◌, subst, filter, append-nil}
 use mathlib.Core.Bool.{true≢false}
-use Rattle.std.specs.Prelude.{Option, None, Some, is_some, option_to_list, option_map, ◌==◌, not, ◌&&◌, ◌||◌, if◌then◌else◌}
+use Rattle.std.specs.Prelude.{Option, None, Some, MatchOption, is_some, option_to_list, option_map, ◌==◌, not, ◌&&◌, ◌||◌, if◌then◌else◌}
 use Rattle.std.specs.List.{AllByRecursion, list_all, list_any}
 use Rattle.std.specs.Option.{option_or}
 use Rattle.std.proofs.lemmas.List.Folds.{list_all-append}
@@ -19,6 +19,9 @@ use Rattle.qc_event.specs.History.{Past, Name, Begun, every, start, start_in, en
 use Rattle.qc_event.specs.Legal.{Legal}
 use Rattle.qc_event.proofs.Absent.{if_not}
 use Rattle.qc_event.proofs.Lawful.{lawful}
+use Rattle.qc_event.proofs.Orderly.{Belongs}
+use Rattle.qc_event.proofs.LastNumber.{ends_in, front_last}
+use Rattle.qc_event.specs.Standing.{Started, IsUser, IsManager}
 use Rattle.qc_event.proofs.LegalOrderly.{legal_orderly}
 use Rattle.qc_event.proofs.OneEntry.{ending, first_is, first_some, starting, some_or_none}
 use Rattle.qc_names.specs.Name as name
@@ -27,12 +30,13 @@ use Rattle.qc_script.specs.Calls.{is_access, is_over, unable_in}
 use Rattle.qc_script.specs.Client.{Client, mine, is_own, is_commit}
 use Rattle.qc_script.specs.Plan.{Numbered}
 use Rattle.qc_interp.specs.Adding.{is_of_one, all_over}
-use Rattle.qc_interp.specs.Alone.{is_lone, all_lone, AreLone}
+use Rattle.qc_interp.specs.Alone.{is_lone, all_lone, AreLone, AccessesEnd}
 use Rattle.qc_interp.specs.Asking.{BodiesAsk, IsAskedBy}
 use Rattle.qc_interp.specs.FollowsScript.{FollowsScript, started, started_in}
 use Rattle.qc_interp.specs.Session.{tops, FollowsBodies, EndsTops, RanInTurn}
 use Rattle.qc_interp.specs.Sessions.{tops_of, is_plain, all_plain}
 use Rattle.qc_interp.specs.Turns.{begun_in, is_done, is_alone}
+use Rattle.qc_interp.proofs.Ending.{top_user}
 use Rattle.qc_interp.proofs.Growth.{and_both, and_by}
 use Rattle.qc_interp.proofs.LoneBodies.{IsOurTop, IsOfSession, bodies_seen, bodies_ask_seen, each_of_session}
 use Rattle.qc_interp.proofs.LoneEntries.{ours_alone, all_ours_alone}
@@ -231,11 +235,7 @@ begun_ended c past n k legal lone alone over is none =
 
 -- ALL OF IT
 
--- each access has ended
-abbrev pub AccessesEnded : Past → Type 0
-AccessesEnded past = (n : Name) → kind_of past n ≡ Some kind.Access → is_some (end past n) ≡ true
-
-pub lone_follows : (c : Client) (net : Net) (bodies : List Numbered) (past : Past) → Legal c.setting past → IsSingle c → AreLone c past → EndsTops c [] past bodies → RanInTurn c [] past → meets_fates c.number net past ≡ true → AccessesEnded past → FollowsScript c.session c.epoch net bodies past
+pub lone_follows : (c : Client) (net : Net) (bodies : List Numbered) (past : Past) → Legal c.setting past → IsSingle c → AreLone c past → EndsTops c [] past bodies → RanInTurn c [] past → meets_fates c.number net past ≡ true → AccessesEnd past → FollowsScript c.session c.epoch net bodies past
 lone_follows c net bodies past legal single lone ends ran met accesses = record {
   only = only;
   bodies_run = subst (FollowsBodies c.session past bodies) further_is follows;
@@ -297,8 +297,40 @@ lone_follows c net bodies past legal single lone ends ran met accesses = record 
     asked : AllByRecursion (λ (e : Entry). IsAskedBy Q e.event) (mine c past)
     asked = let a = (ends all_ours).3 in subst (AllByRecursion (λ (e : Entry). IsAskedBy Q e.event)) (sym (a.1 ∙ append-nil a.0)) a.2
 
+    manager_ended : (p : Name) (b : Begun) → start past p ≡ Some b → IsManager b.kind → is_some (end past p) ≡ true
+    manager_ended p b at manages = begun_ended c past p b.kind legal lone turns.1 order.1 (ap (option_map (λ (x : Begun). x.kind)) at) (no_access b.kind manages)
+      where
+        no_access : (k : Kind) → IsManager k → is_access k ≡ false
+        no_access (kind.User s b) h = refl
+        no_access (kind.Read rec) h = refl
+        no_access (kind.Write rec value) h = refl
+        no_access (kind.Reconf rec config) h = refl
+        no_access kind.Access h = absurd h
+
+    access_ended : (n : Name) → kind_of past n ≡ Some kind.Access → is_some (end past n) ≡ true
+    access_ended n is =
+        let b = some_kind (start past n) kind.Access is in
+        let law = lawful past (legal_orderly c.setting past legal) in
+        elim (ends_in n) [
+          | inl root ↦ absurd (some_or_none (start past []) (ap is_some (sym (ap (start past) root) ∙ b.1)) law.no_root_start)
+          | inr last ↦ by_parent last.0 last.1 last.2 b
+        ]
+      where
+        by_manager : (p : Name) (j : ℕ) → n ≡ p ++ j ∷ [] → (o : Option Begun) → start past p ≡ o → MatchOption o ⊥ (λ m. Belongs m kind.Access) → (b : Begun) → start past n ≡ Some b → b.kind ≡ kind.Access → is_some (end past n) ≡ true
+        by_manager p j at None is manages b begun kind = absurd manages
+        by_manager p j at (Some m) is manages b begun kind =
+            accesses n (subst (λ o. MatchOption o ⊥ (λ (x : Begun). is_access x.kind ≡ true)) (sym begun) (ap is_access kind)) (subst (λ q. is_some (end past q) ≡ true) (sym (ap name.front at ∙ front_last p j)) (manager_ended p m is manages))
+
+        by_parent : (p : Name) (j : ℕ) → n ≡ p ++ j ∷ [] → (b : Begun) × (start past n ≡ Some b) × (b.kind ≡ kind.Access) → is_some (end past n) ≡ true
+        by_parent [] j at b = absurd (subst IsUser b.2 (top_user c.setting past j b.0 legal (sym (ap (start past) at) ∙ b.1)))
+        by_parent (x ∷ p) j at b =
+            let begun : start past ((x ∷ p) ++ j ∷ []) ≡ Some b.0 = sym (ap (start past) at) ∙ b.1 in
+            let under : Started past (x ∷ p) (λ m. Belongs m b.0.kind) =
+                subst (λ o. MatchOption o ⊥ (λ (y : Begun). Started past (x ∷ p) (λ m. Belongs m y.kind))) begun ((lawful past (legal_orderly c.setting past legal)).under (x ∷ p) j (omega arith) (ap is_some begun)) in
+            by_manager (x ∷ p) j at (start past (x ∷ p)) refl (subst (λ k. Started past (x ∷ p) (λ m. Belongs m k)) b.2 under) b.0 b.1 b.2
+
     by_kind : (n : Name) (k : Kind) → kind_of past n ≡ Some k → is_some (end past n) ≡ true
-    by_kind n kind.Access is = accesses n is
+    by_kind n kind.Access is = access_ended n is
     by_kind n (kind.User s b) is = begun_ended c past n (kind.User s b) legal lone turns.1 order.1 is refl
     by_kind n (kind.Read rec) is = begun_ended c past n (kind.Read rec) legal lone turns.1 order.1 is refl
     by_kind n (kind.Write rec value) is = begun_ended c past n (kind.Write rec value) legal lone turns.1 order.1 is refl

@@ -1,11 +1,14 @@
 -- A history in which one client alone acts.
-use Rattle.std.specs.Prelude.{ℕ, ◌==◌, Bool, true, false, ◌&&◌, ◌||◌, IsTrue, length}
+use Rattle.std.specs.Prelude.{ℕ, ◌≡◌, ◌==◌, Bool, true, false, ◌&&◌, ◌||◌, IsTrue, length, is_some}
 use Rattle.std.specs.List.{list_all}
 use Rattle.qc_event.specs.declared.event.Entry.{Entry}
 use Rattle.qc_event.specs.declared.event.Event.TheVariants as event
 use Rattle.qc_event.specs.declared.event.Event.{Event}
-use Rattle.qc_event.specs.History.{Past}
+use Rattle.qc_event.specs.History.{Past, Name, end}
 use Rattle.qc_event.specs.Seats.{ledger_seat}
+use Rattle.qc_event.specs.Standing.{Started}
+use Rattle.qc_names.specs.Name as name
+use Rattle.qc_script.specs.Calls.{is_access}
 use Rattle.qc_script.specs.Client.{Client, is_own, is_commit}
 
 -- Whether an event under a seat may stand where a client is alone. Its own are starts, ends, requests and what became of
@@ -27,3 +30,7 @@ all_lone c past = list_all (λ (e : Entry). is_lone c e.seat e.event) past
 -- the client is alone
 abbrev pub AreLone : Client → Past → Type 0
 AreLone c past = IsTrue (all_lone c past)
+
+-- each access whose manager has ended has ended
+abbrev pub AccessesEnd : Past → Type 0
+AccessesEnd past = (n : Name) → Started past n (λ b. IsTrue (is_access b.kind)) → is_some (end past (name.front n)) ≡ true → is_some (end past n) ≡ true
