@@ -1,18 +1,17 @@
 -- The plans of bodies and of steps, one step at a time.
-use Rattle.std.proofs.Common.{◌≡◌, ℕ, zero, suc, ◌+◌, ◌≤◌, arith, drop, List, [], ◌∷◌, map, refl, sym, ap, ◌∙◌}
+use Rattle.std.proofs.Common.{◌≡◌, ℕ, zero, suc, ◌+◌, ◌<◌, ◌≤◌, arith, drop, List, [], ◌∷◌, map, length, get_or, refl, sym, ap, ◌∙◌, subst, add-one, drop-cons}
 use Rattle.qc_config.specs.Config.{Voting}
+use Rattle.qc_event.specs.declared.event.Kind.TheVariants as kind
+use Rattle.qc_event.specs.Base.{Setting}
 use Rattle.qc_script.specs.declared.script.Body.{Body, out-Body, fold_out-Body}
-use Rattle.qc_script.specs.declared.script.Step.{Step, fold-Step, Step-F, map-Step, out-Step, fold-roll-Step, fold_out-Step}
+use Rattle.qc_script.specs.declared.script.Step.{Step, Step-F, map-Step, out-Step, fold-roll-Step, fold_out-Step}
 use Rattle.qc_script.specs.declared.script.Step.TheVariants as step
-use Rattle.qc_script.specs.Plan.{Plan, Numbered}
-use Rattle.qc_script.specs.Steps.{before, layer, all_before, numbered, plan_of}
+use Rattle.qc_script.specs.Plan.{Plan, Numbered, PlanFits}
+use Rattle.qc_script.specs.Steps.{before, layer, all_before, numbered, put, plan_of}
 
-abbrev one_step : Step → Plan → Plan
-one_step = fold-Step (Plan → Plan) Numbered before layer
-
-plan_of_all : (steps : List Step) → all_before (map one_step steps) ≡ plan_of steps
+plan_of_all : (steps : List Step) → all_before (map put steps) ≡ plan_of steps
 plan_of_all [] = refl
-plan_of_all (s ∷ steps) = ap (one_step s) (plan_of_all steps)
+plan_of_all (s ∷ steps) = ap (put s) (plan_of_all steps)
 
 -- a body's plan is the plan of its steps
 pub numbered_is : (b : Body) → numbered b ≡ record { number = (out-Body b).number; tries = (out-Body b).tries; plan = plan_of (out-Body b).steps.items }
@@ -20,35 +19,41 @@ numbered_is b =
     fold_out-Body (Plan → Plan) Numbered before layer b ∙
     ap (λ p. let n : Numbered = record { number = (out-Body b).number; tries = (out-Body b).tries; plan = p } in n) (plan_of_all (out-Body b).steps.items)
 
-pub plan_of_read : (rec : ℕ) (rest : List Step) → plan_of (step.Read rec ∷ rest) ≡ Plan.read_then rec (plan_of rest)
-plan_of_read rec rest =
-    ap (λ s. plan_of (s ∷ rest)) (sym (step.rolls-Read rec)) ∙ ap (λ f. f (plan_of rest)) (fold-roll-Step (Plan → Plan) Numbered before layer (Step-F.Read rec))
+pub plan_is : (b : Body) (steps : List Step) → steps ≡ (out-Body b).steps.items → plan_of steps ≡ (numbered b).plan
+plan_is b steps taken = ap plan_of taken ∙ sym (ap (λ (n : Numbered). n.plan) (numbered_is b))
 
-pub plan_of_set : (rec value : ℕ) (rest : List Step) → plan_of (step.Set rec value ∷ rest) ≡ Plan.set_then rec value (plan_of rest)
-plan_of_set rec value rest =
-    ap (λ s. plan_of (s ∷ rest)) (sym (step.rolls-Set rec value)) ∙ ap (λ f. f (plan_of rest)) (fold-roll-Step (Plan → Plan) Numbered before layer (Step-F.Set rec value))
+pub tries_of : (b : Body) → (numbered b).tries ≡ (out-Body b).tries
+tries_of b = ap (λ (n : Numbered). n.tries) (numbered_is b)
 
-pub plan_of_reconf : (rec : ℕ) (config : Voting) (rest : List Step) → plan_of (step.Reconf rec config ∷ rest) ≡ Plan.reconf_then rec config (plan_of rest)
-plan_of_reconf rec config rest =
-    ap (λ s. plan_of (s ∷ rest)) (sym (step.rolls-Reconf rec config)) ∙ ap (λ f. f (plan_of rest)) (fold-roll-Step (Plan → Plan) Numbered before layer (Step-F.Reconf rec config))
+pub number_of : (b : Body) → (numbered b).number ≡ (out-Body b).number
+number_of b = ap (λ (n : Numbered). n.number) (numbered_is b)
 
-pub plan_of_child : (b : Body) (rest : List Step) → plan_of (step.Child b ∷ rest) ≡ Plan.child_then (numbered b).number (numbered b).tries (numbered b).plan (plan_of rest)
-plan_of_child b rest =
-    ap (λ s. plan_of (s ∷ rest)) (sym (step.rolls-Child b)) ∙ ap (λ f. f (plan_of rest)) (fold-roll-Step (Plan → Plan) Numbered before layer (Step-F.Child b))
+-- what each step is
+pub put_read : (rec : ℕ) → put (step.Read rec) ≡ Plan.manage_then (kind.Read rec)
+put_read rec = ap put (sym (step.rolls-Read rec)) ∙ fold-roll-Step (Plan → Plan) Numbered before layer (Step-F.Read rec)
 
-pub plan_of_abort : (levels : ℕ) (rest : List Step) → plan_of (step.Abort levels ∷ rest) ≡ Plan.abort_then levels (plan_of rest)
-plan_of_abort levels rest =
-    ap (λ s. plan_of (s ∷ rest)) (sym (step.rolls-Abort levels)) ∙ ap (λ f. f (plan_of rest)) (fold-roll-Step (Plan → Plan) Numbered before layer (Step-F.Abort levels))
+pub put_set : (rec value : ℕ) → put (step.Set rec value) ≡ Plan.manage_then (kind.Write rec value)
+put_set rec value = ap put (sym (step.rolls-Set rec value)) ∙ fold-roll-Step (Plan → Plan) Numbered before layer (Step-F.Set rec value)
 
--- a number that falls from the tries of a child to each of them, from a body to its steps, and from steps to the tries
--- of a child among them
+pub put_reconf : (rec : ℕ) (config : Voting) → put (step.Reconf rec config) ≡ Plan.manage_then (kind.Reconf rec config)
+put_reconf rec config = ap put (sym (step.rolls-Reconf rec config)) ∙ fold-roll-Step (Plan → Plan) Numbered before layer (Step-F.Reconf rec config)
+
+pub put_child : (b : Body) → put (step.Child b) ≡ Plan.child_then (numbered b).number (numbered b).tries (numbered b).plan
+put_child b = ap put (sym (step.rolls-Child b)) ∙ fold-roll-Step (Plan → Plan) Numbered before layer (Step-F.Child b)
+
+pub put_abort : (levels : ℕ) → put (step.Abort levels) ≡ Plan.abort_then levels
+put_abort levels = ap put (sym (step.rolls-Abort levels)) ∙ fold-roll-Step (Plan → Plan) Numbered before layer (Step-F.Abort levels)
+
+-- a number that falls from the tries of a child to each of them, from a body to its steps, and from steps to each
 abbrev pub weight : Plan → ℕ
 weight Plan.done = 0
-weight (Plan.read_then rec rest) = weight rest
-weight (Plan.set_then rec value rest) = weight rest
-weight (Plan.reconf_then rec config rest) = weight rest
-weight (Plan.child_then number tries inner rest) = weight inner + weight rest + 3
+weight (Plan.manage_then k rest) = weight rest
+weight (Plan.child_then number tries inner rest) = weight inner + weight rest + 4
 weight (Plan.abort_then levels rest) = weight rest
+
+-- one step as it is open
+layered : (s : Step) → put s ≡ before (map-Step Step Body (Plan → Plan) Numbered put numbered (out-Step s))
+layered s = fold_out-Step (Plan → Plan) Numbered before layer s
 
 lighter : (s : Step-F (Plan → Plan) Numbered) (rest : Plan) → weight rest ≤ weight (before s rest)
 lighter (Step-F.Read rec) rest = omega arith
@@ -57,18 +62,42 @@ lighter (Step-F.Reconf rec config) rest = omega arith
 lighter (Step-F.Child body) rest = omega arith
 lighter (Step-F.Abort levels) rest = omega arith
 
--- what is left of steps is no heavier than all of them
+alone : (s : Step-F (Plan → Plan) Numbered) (rest : Plan) → weight (before s Plan.done) ≤ weight (before s rest)
+alone (Step-F.Read rec) rest = omega arith
+alone (Step-F.Set rec value) rest = omega arith
+alone (Step-F.Reconf rec config) rest = omega arith
+alone (Step-F.Child body) rest = omega arith
+alone (Step-F.Abort levels) rest = omega arith
+
 pub rest_lighter : (j : ℕ) (steps : List Step) → weight (plan_of (drop j steps)) ≤ weight (plan_of steps)
 rest_lighter zero steps = omega arith
 rest_lighter (suc j) [] = omega arith
 rest_lighter (suc j) (s ∷ steps) =
-    let layers : weight (plan_of (s ∷ steps)) ≡ weight (before (map-Step Step Body (Plan → Plan) Numbered one_step numbered (out-Step s)) (plan_of steps)) =
-    ap (λ f. weight (f (plan_of steps))) (fold_out-Step (Plan → Plan) Numbered before layer s) in
-    omega (arith, rest_lighter j steps, layers, lighter (map-Step Step Body (Plan → Plan) Numbered one_step numbered (out-Step s)) (plan_of steps))
+    let l = map-Step Step Body (Plan → Plan) Numbered put numbered (out-Step s) in
+    omega (arith, rest_lighter j steps, ap (λ f. weight (f (plan_of steps))) (layered s), lighter l (plan_of steps))
 
-pub plan_is : (b : Body) (steps : List Step) → steps ≡ (out-Body b).steps.items → plan_of steps ≡ (numbered b).plan
-plan_is b steps taken = ap plan_of taken ∙ sym (ap (λ (n : Numbered). n.plan) (numbered_is b))
+split : (steps : List Step) (i : ℕ) (s : Step) → i < length steps → s ≡ get_or steps i s → drop i steps ≡ s ∷ drop (i + 1) steps
+split steps i s below is = rw add-one (drop-cons steps i s below ∙ ap (λ y. y ∷ drop (suc i) steps) (sym is))
 
--- the number of tries that a body says
-pub tries_of : (b : Body) → (numbered b).tries ≡ (out-Body b).tries
-tries_of b = ap (λ (n : Numbered). n.tries) (numbered_is b)
+pub plan_at : (steps : List Step) (i : ℕ) (s : Step) → i < length steps → s ≡ get_or steps i s → plan_of (drop i steps) ≡ put s (plan_of (drop (i + 1) steps))
+plan_at steps i s below is = ap plan_of (split steps i s below is)
+
+pub step_lighter : (steps : List Step) (i : ℕ) (s : Step) → i < length steps → s ≡ get_or steps i s → weight (put s Plan.done) ≤ weight (plan_of steps)
+step_lighter steps i s below is =
+    let l = map-Step Step Body (Plan → Plan) Numbered put numbered (out-Step s) in
+    let rest = plan_of (drop (i + 1) steps) in
+    omega (arith, rest_lighter i steps, ap weight (plan_at steps i s below is), ap (λ f. weight (f rest)) (layered s), ap (λ f. weight (f Plan.done)) (layered s), alone l rest)
+
+fits_layer : (setting : Setting) (depth : ℕ) (s : Step-F (Plan → Plan) Numbered) (rest : Plan) → PlanFits setting depth (before s rest) → PlanFits setting depth (before s Plan.done) × PlanFits setting depth rest
+fits_layer setting depth (Step-F.Read rec) rest h = ((h.0, tt), h.1)
+fits_layer setting depth (Step-F.Set rec value) rest h = ((h.0, tt), h.1)
+fits_layer setting depth (Step-F.Reconf rec config) rest h = ((h.0, tt), h.1)
+fits_layer setting depth (Step-F.Child body) rest h = ((h.0, h.1, h.2, tt), h.3)
+fits_layer setting depth (Step-F.Abort levels) rest h = ((h.0, tt), h.1)
+
+pub fits_at : (setting : Setting) (depth : ℕ) (steps : List Step) (i : ℕ) (s : Step) → i < length steps → s ≡ get_or steps i s → PlanFits setting depth (plan_of (drop i steps)) → PlanFits setting depth (put s Plan.done) × PlanFits setting depth (plan_of (drop (i + 1) steps))
+fits_at setting depth steps i s below is h =
+    let l = map-Step Step Body (Plan → Plan) Numbered put numbered (out-Step s) in
+    let rest = plan_of (drop (i + 1) steps) in
+    let f = fits_layer setting depth l rest (subst (λ p. PlanFits setting depth p) (plan_at steps i s below is ∙ ap (λ f. f rest) (layered s)) h) in
+    (subst (λ p. PlanFits setting depth p) (sym (ap (λ f. f Plan.done) (layered s))) f.0, f.1)

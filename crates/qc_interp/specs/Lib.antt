@@ -1,5 +1,10 @@
-pub mod Client
+pub mod Adding
+pub mod Alone
+pub mod Asking
 pub mod Tries
-pub mod Trace
 pub mod Follows
+pub mod FollowsScript
+pub mod Turns
 pub mod Running
+pub mod Session
+pub mod Sessions

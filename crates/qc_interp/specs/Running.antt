@@ -1,75 +1,119 @@
--- What holds of a session between two steps of a transaction, and between two tops.
-use Rattle.std.specs.Prelude.{ℕ, ◌≡◌, ◌+◌, ◌<◌, ◌≤◌, Bool, false, true, IsTrue, [], ◌∷◌, ◌++◌, length, Option, Some, None, is_some, option_map, Result, Ok, Err}
-use Rattle.qc_event.specs.declared.event.Answer.{Answer}
-use Rattle.qc_event.specs.declared.event.Cause.{Cause}
-use Rattle.qc_event.specs.declared.event.Entry.{Entry}
+-- What holds of a transaction between two of its steps, and what a step leaves.
+use Rattle.std.specs.Prelude.{ℕ, ◌≡◌, ◌<◌, ◌⊎◌, Bool, true, false, List, ◌++◌, length, take, Option, None, Some}
+use Rattle.qc_event.specs.declared.event.Cause.TheVariants as cause
+use Rattle.qc_event.specs.Users.{UserCause}
+use Rattle.qc_script.specs.declared.tx.TxNo.{TxNo}
+use Rattle.qc_script.specs.declared.tx.TxNo.TheVariants as tx_no
+use Rattle.qc_script.specs.Calls.{Refuses}
 use Rattle.qc_event.specs.declared.event.How.{How}
-use Rattle.qc_event.specs.declared.event.How.TheVariants.{Commit, Abort}
-use Rattle.qc_event.specs.declared.event.Kind.{Kind}
+use Rattle.qc_event.specs.declared.event.How.TheVariants.{Abort}
 use Rattle.qc_event.specs.declared.event.Kind.TheVariants as kind
-use Rattle.qc_event.specs.Base.{Setting, IsConfigFor}
-use Rattle.qc_event.specs.Dead as state
-use Rattle.qc_event.specs.History.{Name, limit, start, end, is_ready, children}
-use Rattle.qc_event.specs.Legal.{Legal, Allowed}
-use Rattle.qc_event.specs.Seats.{is_client, number_in}
-use Rattle.qc_event.specs.Standing.{Started, IsUser}
-use Rattle.qc_line.specs.Lined.{IsOfTransaction}
-use Rattle.qc_interp.specs.Client.{MayAct}
-use Rattle.qc_interp.specs.Trace.{Now, aborted, Managed}
-use Rattle.qc_interp.specs.Tries.{is_tried_again}
-use Rattle.qc_rw.specs.declared.no.MgrNo.{MgrNo}
-use Rattle.qc_rw.specs.Managed.{cause_of}
+use Rattle.qc_event.specs.History.{Past, Name, end, is_ready, children, kind_of}
+use Rattle.qc_event.specs.Legal.{Legal}
+use Rattle.qc_event.specs.Standing.{Started, IsUser, open_child}
+use Rattle.qc_interp.specs.Adding.{AllStayIn}
+use Rattle.qc_script.specs.Calls.{is_over}
+use Rattle.qc_script.specs.Client.{Client, mine, IsLater, AreOurs}
+use Rattle.qc_interp.specs.Follows.{StopsEarly, WasAsked, IsUnended, FollowsPlan}
+use Rattle.qc_script.specs.Plan.{Plan, Numbered}
+use Rattle.qc_script.specs.Numbers.{each}
+use Rattle.qc_interp.specs.Turns.{takes_turn, is_alone}
+use Rattle.qc_interp.specs.Tries.{Tries, is_tried_again, TriesDo}
+use Rattle.qc_interp.specs.Asking.{Asks, AllAsked}
 
--- An entry of a transaction may be made next.
-pub record MayMake (now : Now) (e : Entry) : Type 0 where
-  pub allowed : Allowed now.setting now.past e
-  pub of_transaction : IsOfTransaction now.past e.event
-
--- Transaction `of` of a client has started and is the one that runs; its next child has number k. Neither it nor one above it is to
--- be tried again.
-pub record Running (of : Name) (k : ℕ) (now : Now) : Type 0 where
-  pub legal : Legal now.setting now.past
-  pub fallen : now.dead ≡ state.dead now.past of
-  pub seated : IsTrue (is_client now.client.seat)
+-- A transaction that runs: by what the client made neither it nor one above it has ended itself or is ready, and no child is open.
+pub record Runs (c : Client) (of : Name) (now : Past) : Type 0 where
+  pub legal : Legal c.setting now
+  pub user : Started now of (λ b. IsUser b.kind)
   pub nonroot : 0 < length of
-  pub user : (p r : Name) → of ≡ p ++ r → 0 < length p → Started now.past p (λ b. IsUser b.kind)
-  pub uncommitted : (p r : Name) → of ≡ p ++ r → state.is_committed (state.outcome now.past p) ≡ false
-  pub unready : (p r : Name) → of ≡ p ++ r → is_ready now.past p ≡ false
-  pub untried : (p r : Name) → of ≡ p ++ r → is_tried_again (end now.past p) ≡ false
-  pub next : length (children now.past of) + 1 ≡ k
-  pub open_above : (n : Name) → is_some (start now.past n) ≡ true → end now.past n ≡ None → (r : Name) × (of ≡ n ++ r)
+  pub above : (p r : Name) → of ≡ p ++ r → 0 < length p → IsUnended p (end (mine c now) p) × (is_ready (mine c now) p ≡ false)
+  pub closed : AreOurs c of now → open_child (mine c now) of ≡ None
 
--- Between two tops, the next of which is top i of the epoch: every transaction has ended.
-pub record Resting (i : ℕ) (now : Now) : Type 0 where
-  pub legal : Legal now.setting now.past
-  pub fallen : now.dead ≡ None
-  pub all_ended : (n : Name) → is_some (start now.past n) ≡ true → is_some (end now.past n) ≡ true
-  pub may_act : MayAct now.client.seat now.client.epoch
-  pub unstarted : (x : ℕ) → number_in now.client.epoch (i + 1) ≤ x → start now.past (x ∷ []) ≡ None
-  pub long : i ≤ length now.past
-  pub few : i ≤ limit
+-- what is left as it was of a transaction above
+pub record LeavesIt (c : Client) (p : Name) (before now : Past) : Type 0 where
+  pub children : children (mine c now) p ≡ children (mine c before) p
+  pub ready : is_ready (mine c now) p ≡ is_ready (mine c before) p
+  pub unended : IsUnended p (end (mine c before) p) → IsUnended p (end (mine c now) p)
 
--- A manager of this kind can run: its record is there, and a configuration that it brings is one for the copies.
-abbrev pub ManagerFits : Setting → Kind → Type 0
-ManagerFits setting (kind.Read rec) = rec < length setting.firsts
-ManagerFits setting (kind.Write rec value) = rec < length setting.firsts
-ManagerFits setting (kind.Reconf rec config) = (rec < length setting.firsts) × IsConfigFor (length setting.base) config
-ManagerFits setting _ = ⊥
+-- What a transaction did left those above it as they were, but that it may have aborted them as it asked. All that was
+-- added is about its top or names below it.
+pub record Leaves (c : Client) (of : Name) (before now : Past) : Type 0 where
+  pub later : IsLater c before now
+  pub above : (p r : Name) → of ≡ p ++ r → 0 < length r → LeavesIt c p before now
+  pub inside : AllStayIn c (take 1 of) later.newer
+  pub over : (is_ready (mine c before) of ≡ true → is_over before of ≡ true) → is_ready (mine c now) of ≡ true → is_over now of ≡ true
+  pub turns : AreOurs c of now → each takes_turn (mine c before) ≡ true → is_alone (mine c before) of ≡ true → (each takes_turn (mine c now) ≡ true) × (is_alone (mine c now) of ≡ true)
 
--- How a manager ends by what it came to: it commits with its answer, or is aborted for the cause of none.
--- Where there is no cause, memory or room was wanting.
-abbrev pub ending_of : Result Answer MgrNo → Option How
-ending_of (Ok given) = Some (Commit given)
-ending_of (Err why) = option_map (λ (cause : Cause). Abort cause) (cause_of why)
+-- From `before` on, a transaction did what this plan asks for, and ended. Whoever was aborted meanwhile as another asked,
+-- that one came to a step `abort` that names it.
+abbrev pub Ends : Client → Name → Past → Past → Plan → Type 0
+Ends c of before now plan =
+    AreOurs c of now → (further : List Name) × (children (mine c now) of ≡ children (mine c before) of ++ further) × FollowsPlan c.session (mine c now) of plan further (end (mine c now) of)
+    × AllAsked c before now (λ by t. Asks (mine c now) of plan further by t)
 
--- What is left of a transaction after a manager that ended so: it goes on, or is aborted with the same cause.
-abbrev pub WentOn : How → Name → Bool → Now → Now → Type 0
-WentOn (Commit given) of goes_on now new = (goes_on ≡ true) × (new ≡ now)
-WentOn (Abort cause) of goes_on now new = (goes_on ≡ false) × (new ≡ aborted of cause now)
+-- the same, and whether its body is to be tried again
+pub record Ended (c : Client) (of : Name) (before now : Past) (plan : Plan) (again : Bool) : Type 0 where
+  pub leaves : Leaves c of before now
+  pub tried : again ≡ is_tried_again (end (mine c now) of)
+  pub ends : Ends c of before now plan
 
--- a transaction has run a manager as child k, and goes on or was aborted by that
-pub record RanManager (of : Name) (k : ℕ) (of_kind : Kind) (goes_on : Bool) (now new : Now) : Type 0 where
-  pub how : How
-  pub mid : Now
-  pub managed : Managed (of ++ k ∷ []) of_kind how now mid
-  pub went_on : WentOn how of goes_on mid new
+-- A transaction was aborted, or was aborted before that as another asked. No other was aborted as it asked.
+pub record Quit (c : Client) (of : Name) (how : How) (before now : Past) (again : Bool) : Type 0 where
+  pub leaves : Leaves c of before now
+  pub tried : again ≡ is_tried_again (end (mine c now) of)
+  pub children : children (mine c now) of ≡ children (mine c before) of
+  pub asked : AllAsked c before now (λ by t. ⊥)
+  pub ended : AreOurs c of now → (end (mine c now) of ≡ Some how) ⊎ WasAsked of (end (mine c now) of)
+
+-- why a transaction stops that a call refused
+abbrev pub WhyStop : Client → Past → Name → TxNo → Type 0
+WhyStop c seen of tx_no.Memory = ⊥
+WhyStop c seen of tx_no.Room = ⊥
+WhyStop c seen of (tx_no.Conflict copy holder) = UserCause seen of c.session (cause.Conflict copy holder)
+WhyStop c seen of (tx_no.NoQuorum lack) = UserCause seen of c.session (cause.NoQuorum lack)
+WhyStop c seen of tx_no.Last = UserCause seen of c.session cause.Last
+WhyStop c seen of why = Refuses seen of why
+
+-- how it ends then
+abbrev pub StopsBy : Name → TxNo → Option How → Type 0
+StopsBy of (tx_no.Conflict copy holder) how = (how ≡ Some (Abort (cause.Conflict copy holder))) ⊎ WasAsked of how
+StopsBy of (tx_no.NoQuorum lack) how = (how ≡ Some (Abort (cause.NoQuorum lack))) ⊎ WasAsked of how
+StopsBy of tx_no.Last how = (how ≡ Some (Abort cause.Last)) ⊎ WasAsked of how
+StopsBy of (tx_no.Orphan a) how = (how ≡ Some (Abort (cause.Orphan a))) ⊎ WasAsked of how
+StopsBy of why how = WasAsked of how
+
+pub record Stopped (c : Client) (of : Name) (why : TxNo) (before now : Past) (again : Bool) : Type 0 where
+  pub leaves : Leaves c of before now
+  pub tried : again ≡ is_tried_again (end (mine c now) of)
+  pub children : children (mine c now) of ≡ children (mine c before) of
+  pub asked : AllAsked c before now (λ by t. ⊥)
+  pub ended : AreOurs c of now → StopsBy of why (end (mine c now) of)
+
+-- The front of a plan was done: however the transaction goes on from `now` and ends, whatever is entered until then, from
+-- `before` on it did the whole plan.
+abbrev pub FrontFollows : Client → Name → Past → Past → (Plan → Plan) → Type 0
+FrontFollows c of before now front = (x : Past) → IsLater c now x → (rest : Plan) → Ends c of now x rest → Ends c of before x (front rest)
+
+-- A transaction goes on after a step.
+pub record WentOn (c : Client) (of : Name) (before now : Past) (front : Plan → Plan) : Type 0 where
+  pub leaves : Leaves c of before now
+  pub runs : Runs c of now
+  pub follows : FrontFollows c of before now front
+
+-- A step was done, and the transaction goes on, or has ended so that its body is tried again, or not.
+abbrev pub Stepped : Client → Name → Past → Past → (Plan → Plan) → Option Bool → Type 0
+Stepped c of before now front None = WentOn c of before now front
+Stepped c of before now front (Some again) = (rest : Plan) → Ended c of before now (front rest) again
+
+-- From `before` on, a transaction did so many tries of a body and then the rest, and ended.
+abbrev pub EndsTries : Client → Name → Past → Past → Numbered → ℕ → Plan → Type 0
+EndsTries c of before now body left rest =
+    AreOurs c of now → (further : List Name) × (children (mine c now) of ≡ children (mine c before) of ++ further)
+    × Tries (end (mine c now)) (λ n. (kind_of (mine c now) n ≡ Some (kind.User c.session body.number)) × FollowsPlan c.session (mine c now) n body.plan (children (mine c now) n) (end (mine c now) n))
+    (StopsEarly of (end (mine c now) of)) (λ more. FollowsPlan c.session (mine c now) of rest more (end (mine c now) of)) left further
+    × AllAsked c before now (λ by t. TriesDo (end (mine c now)) (λ n. Asks (mine c now) n body.plan (children (mine c now) n) by t) (λ more. Asks (mine c now) of rest more by t) left further)
+
+-- Some tries were done: what is left of them leads to all of them.
+abbrev pub FrontTries : Client → Name → Past → Past → Numbered → ℕ → Type 0
+FrontTries c of before now body left =
+    (x : Past) → IsLater c now x → (rest : Plan) → EndsTries c of now x body left rest → Ends c of before x (Plan.child_then body.number body.tries body.plan rest)

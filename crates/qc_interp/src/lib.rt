@@ -1,9 +1,8 @@
-//! Runs the tops of a session one after another, over copies that are asked by managers over a line.
+//! Runs the steps of a script's sessions, over whoever carries them out.
 #![tactic(auto)]
 
-mod client;
-mod session;
-mod tries;
+mod body;
+mod tops;
 
-pub use client::Client;
-pub use session::Session;
+pub use body::steps;
+pub use tops::run_tops;

@@ -6,7 +6,7 @@ ghost use Rattle.qc_script.specs.Steps.{numbered};
 
 use crate::told::print_order;
 use qc_event::{Base, CLIENT_SEAT, Cause, Config, Entry, Event, How, Tuple};
-use qc_interp::{Client, Session};
+use qc_session::{Client, Session};
 use qc_script::{Body, Step};
 use std::alloc::{AllocError, Global};
 use std::io;

@@ -2,3 +2,6 @@ pub mod Plan
 pub mod Steps
 pub mod ScriptText
 pub mod Reading
+pub mod Client
+pub mod Numbers
+pub mod Calls

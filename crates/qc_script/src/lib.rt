@@ -1,10 +1,12 @@
-//! Scripts of sessions, and how they are read from JSON texts.
+//! Scripts of sessions, how they are read from JSON texts, and what a session asks of whoever carries it out.
 #![tactic(auto)]
 
 mod bad_script;
 mod reader;
 mod script;
+mod tx;
 
 pub use bad_script::{BadScript, Member};
 pub use reader::MOST_BYTES;
 pub use script::{Body, Script, Session, Step};
+pub use tx::{Tx, TxNo};

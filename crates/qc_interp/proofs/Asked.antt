@@ -1,0 +1,156 @@
+-- Who is aborted as another asked, over several calls, and for ever.
+use Rattle.std.proofs.Common.{◌≡◌, inl, inr, ℕ, zero, suc, Bool, true, false, List, [], ◌∷◌, ◌++◌, refl, sym, ap, ◌∙◌, subst, append_assoc, filter}
+use mathlib.Core.Bool.{true≢false}
+use Rattle.std.specs.Prelude.{Option, None, Some, MatchBool, IsTrue, not}
+use Rattle.std.specs.List.{AllByRecursion}
+use Rattle.qc_event.specs.declared.event.Cause.{Cause}
+use Rattle.qc_event.specs.declared.event.Cause.TheVariants as cause
+use Rattle.qc_event.specs.declared.event.Entry.{Entry}
+use Rattle.qc_event.specs.declared.event.Event.{Event}
+use Rattle.qc_event.specs.declared.event.Event.TheVariants as event
+use Rattle.qc_event.specs.declared.event.How.{How}
+use Rattle.qc_event.specs.declared.event.How.TheVariants.{Commit, Abort}
+use Rattle.qc_event.specs.Base.{Setting}
+use Rattle.qc_event.specs.History.{Past, Name, end, children}
+use Rattle.qc_event.specs.Legal.{Legal}
+use Rattle.qc_interp.specs.Asking.{DoesOn, Asks, IsAskedBy, AllAsked, ByItself}
+use Rattle.qc_script.specs.Calls.{IsOfAccess}
+use Rattle.qc_script.specs.Client.{Client, mine, Made}
+use Rattle.qc_interp.specs.Follows.{GoesOn, FollowsPlan, StopsEarly}
+use Rattle.qc_script.specs.Plan.{Plan}
+use Rattle.qc_interp.specs.Tries.{Tries, TriesDo, is_tried_again}
+use Rattle.qc_script.specs.Calls.{is_asked}
+use Rattle.qc_interp.proofs.Growth.{made_is}
+use Rattle.qc_interp.proofs.Mine.{Closed, children_still, end_some}
+use Rattle.qc_interp.proofs.Still.{again_still, child_still, plan_still}
+
+abbrev pub NoOne : Name → Name → Type 0
+NoOne by target = ⊥
+
+all_append : (P : Entry → Type 0) (xs ys : Past) → AllByRecursion P xs → AllByRecursion P ys → AllByRecursion P (xs ++ ys)
+all_append P [] ys a b = b
+all_append P (x ∷ xs) ys a b = (a.0, all_append P xs ys a.1 b)
+
+module _ (Q R : Name → Name → Type 0) (step : (by target : Name) → Q by target → R by target) where
+  wider_one : (ev : Event) → IsAskedBy Q ev → IsAskedBy R ev
+  wider_one (event.End target (Abort (cause.Asked by))) (inl h) = inl h
+  wider_one (event.End target (Abort (cause.Asked by))) (inr h) = inr (step by target h)
+  wider_one (event.End target (Commit given)) h = tt
+  wider_one (event.End target (Abort (cause.Orphan a))) h = tt
+  wider_one (event.End target (Abort (cause.Conflict copy holder))) h = tt
+  wider_one (event.End target (Abort (cause.NoQuorum lack))) h = tt
+  wider_one (event.End target (Abort cause.Last)) h = tt
+  wider_one (event.End target (Abort cause.Killed)) h = tt
+  wider_one (event.End target (Abort (cause.Child x))) h = tt
+  wider_one (event.End target (Abort cause.Missed)) h = tt
+  wider_one (event.Start n k) h = tt
+  wider_one (event.Ask ask) h = tt
+  wider_one (event.Gone n why) h = tt
+  wider_one (event.Granted copy grant) h = tt
+  wider_one (event.Refused n copy refusal) h = tt
+  wider_one (event.Unable n why) h = tt
+  wider_one (event.Mark n session) h = tt
+  wider_one (event.Ready n) h = tt
+
+  wider_all : (es : Past) → AllByRecursion (λ (e : Entry). IsAskedBy Q e.event) es → AllByRecursion (λ (e : Entry). IsAskedBy R e.event) es
+  wider_all [] h = tt
+  wider_all (e ∷ es) h = (wider_one e.event h.0, wider_all es h.1)
+
+  pub asked_wider : (c : Client) (before now : Past) → AllAsked c before now Q → AllAsked c before now R
+  asked_wider c before now h = (h.0, h.1, wider_all h.0 h.2)
+
+pub asked_none : (c : Client) (before now : Past) (Q : Name → Name → Type 0) → AllAsked c before now NoOne → AllAsked c before now Q
+asked_none c before now Q h = asked_wider NoOne Q (λ by target x. absurd x) c before now h
+
+pub asked_trans : (c : Client) (a b d : Past) (Q : Name → Name → Type 0) → AllAsked c a b Q → AllAsked c b d Q → AllAsked c a d Q
+asked_trans c a b d Q f g = (g.0 ++ f.0, g.1 ∙ ap (λ x. g.0 ++ x) f.1 ∙ sym (append_assoc g.0 f.0 (mine c a)), all_append (λ (e : Entry). IsAskedBy Q e.event) g.0 f.0 g.2 f.2)
+
+pub asked_made : (c : Client) (es before now : Past) (Q : Name → Name → Type 0) → Made c es before now → AllByRecursion (λ (e : Entry). IsAskedBy Q e.event) es → AllAsked c before now Q
+asked_made c es before now Q m all = (es, made_is c es before now m, all)
+
+-- BY THE CALLS
+
+pub itself_end : (n : Name) (x : Cause) → ByItself n x → IsAskedBy NoOne (event.End n (Abort x))
+itself_end n (cause.Asked by) h = inl (sym h)
+itself_end n (cause.Orphan a) h = tt
+itself_end n (cause.Conflict copy holder) h = tt
+itself_end n (cause.NoQuorum lack) h = tt
+itself_end n cause.Last h = tt
+itself_end n cause.Killed h = tt
+itself_end n (cause.Child x) h = tt
+itself_end n cause.Missed h = tt
+
+pub unasked_end : (n : Name) (how : How) → IsTrue (not (is_asked how)) → IsAskedBy NoOne (event.End n how)
+unasked_end n (Commit given) h = tt
+unasked_end n (Abort (cause.Asked by)) h = absurd (true≢false (sym h))
+unasked_end n (Abort (cause.Orphan a)) h = tt
+unasked_end n (Abort (cause.Conflict copy holder)) h = tt
+unasked_end n (Abort (cause.NoQuorum lack)) h = tt
+unasked_end n (Abort cause.Last) h = tt
+unasked_end n (Abort cause.Killed) h = tt
+unasked_end n (Abort (cause.Child x)) h = tt
+unasked_end n (Abort cause.Missed) h = tt
+
+access_unasked : (m : Name) (ev : Event) → IsOfAccess m ev → IsAskedBy NoOne ev
+access_unasked m (event.End n how) h = unasked_end n how h.1
+access_unasked m (event.Start n k) h = tt
+access_unasked m (event.Ask ask) h = tt
+access_unasked m (event.Gone n why) h = tt
+access_unasked m (event.Granted copy grant) h = tt
+access_unasked m (event.Refused n copy refusal) h = tt
+access_unasked m (event.Unable n why) h = tt
+access_unasked m (event.Mark n session) h = tt
+access_unasked m (event.Ready n) h = tt
+
+pub accesses_unasked : (m : Name) (inner rest : Past) → AllByRecursion (λ (e : Entry). IsOfAccess m e.event) inner → AllByRecursion (λ (e : Entry). IsAskedBy NoOne e.event) rest → AllByRecursion (λ (e : Entry). IsAskedBy NoOne e.event) (inner ++ rest)
+accesses_unasked m [] rest all more = more
+accesses_unasked m (e ∷ inner) rest all more = (access_unasked m e.event all.0, accesses_unasked m inner rest all.1 more)
+
+-- FOR EVER
+
+module _ (s : ℕ) (p : Entry → Bool) (setting : Setting) (newer past : Past) (legal : Legal setting (newer ++ past)) (by target : Name) where
+  abbrev old : Past
+  old = filter p past
+
+  abbrev now : Past
+  now = filter p (newer ++ past)
+
+  does_still : (n c : Name) (Follows Does DoesNow : Type 0) (further : List Name) (how : Option How) → (Follows → Does → DoesNow) → (o : Option How) → end old c ≡ o → GoesOn n o Follows further how → DoesOn o Does → DoesOn (end now c) DoesNow
+  does_still n c Follows Does DoesNow further how step None is follows h = absurd h
+  does_still n c Follows Does DoesNow further how step (Some (Abort x)) is follows h = absurd h
+  does_still n c Follows Does DoesNow further how step (Some (Commit given)) is follows h = subst (λ o. DoesOn o DoesNow) (sym (end_some p setting newer past c (Commit given) is)) (step follows h)
+
+  tries_do_still : (IsTry Does DoesNow : Name → Type 0) (Stopped : Type 0) (Rest RestDoes RestDoesNow : List Name → Type 0)
+      → ((c : Name) → IsTry c → Closed old c × (Does c → DoesNow c)) → ((cs : List Name) → Rest cs → RestDoes cs → RestDoesNow cs)
+      → (left : ℕ) (cs : List Name) → Tries (end old) IsTry Stopped Rest left cs → TriesDo (end old) Does RestDoes left cs → TriesDo (end now) DoesNow RestDoesNow left cs
+  tries_do_still IsTry Does DoesNow Stopped Rest RestDoes RestDoesNow try rest zero cs h d = rest cs h d
+  tries_do_still IsTry Does DoesNow Stopped Rest RestDoes RestDoesNow try rest (suc left) [] h d = absurd d
+  tries_do_still IsTry Does DoesNow Stopped Rest RestDoes RestDoesNow try rest (suc left) (c ∷ cs) h (inl d) = inl ((try c h.0).1 d)
+  tries_do_still IsTry Does DoesNow Stopped Rest RestDoes RestDoesNow try rest (suc left) (c ∷ cs) h (inr d) =
+      inr (subst (λ b. MatchBool b (TriesDo (end now) DoesNow RestDoesNow left cs) (RestDoesNow cs)) (sym (again_still s p setting newer past legal c (try c h.0).0))
+      (by_test (is_tried_again (end old c)) h.1 d (tries_do_still IsTry Does DoesNow Stopped Rest RestDoes RestDoesNow try rest left cs)))
+    where
+      by_test : (b : Bool) → MatchBool b (Tries (end old) IsTry Stopped Rest left cs) (Rest cs) → MatchBool b (TriesDo (end old) Does RestDoes left cs) (RestDoes cs)
+          → (Tries (end old) IsTry Stopped Rest left cs → TriesDo (end old) Does RestDoes left cs → TriesDo (end now) DoesNow RestDoesNow left cs)
+          → MatchBool b (TriesDo (end now) DoesNow RestDoesNow left cs) (RestDoesNow cs)
+      by_test true h d more = more h d
+      by_test false h d more = rest cs h d
+
+  plan_asks_still : (n : Name) (plan : Plan) (cs : List Name) (how : Option How) → FollowsPlan s old n plan cs how → Asks old n plan cs by target → Asks now n plan cs by target
+  plan_asks_still n Plan.done cs how h d = absurd d
+  plan_asks_still n (Plan.manage_then k rest) [] how h d = absurd d
+  plan_asks_still n (Plan.manage_then k rest) (c ∷ cs) how h d = does_still n c _ _ _ cs how (plan_asks_still n rest cs how) (end old c) refl h.1 d
+  plan_asks_still n (Plan.child_then number tries inner rest) cs how h d =
+      tries_do_still _ (λ c. Asks old c inner (children old c) by target) (λ c. Asks now c inner (children now c) by target) (StopsEarly n how) _ (λ further. Asks old n rest further by target) (λ further. Asks now n rest further by target)
+      (λ c t.
+      let closed = (child_still s p setting newer past legal c inner (plan_still s p setting newer past legal c inner) t.1).1 in
+      (closed, λ a. subst (λ xs. Asks now c inner xs by target) (sym (children_still p setting newer past c legal closed)) (plan_asks_still c inner (children old c) (end old c) t.1 a)))
+      (λ further f a. plan_asks_still n rest further how f a) tries cs h d
+  plan_asks_still n (Plan.abort_then levels rest) [] how h d = d
+  plan_asks_still n (Plan.abort_then levels rest) (c ∷ cs) how h d = absurd d
+
+  -- what was asked for by a transaction that has ended was asked for ever
+  pub asks_still : (n : Name) (plan : Plan) → FollowsPlan s old n plan (children old n) (end old n) → Asks old n plan (children old n) by target → Asks now n plan (children now n) by target
+  asks_still n plan h d =
+      let closed = (child_still s p setting newer past legal n plan (plan_still s p setting newer past legal n plan) h).1 in
+      subst (λ xs. Asks now n plan xs by target) (sym (children_still p setting newer past n legal closed)) (plan_asks_still n plan (children old n) (end old n) h d)

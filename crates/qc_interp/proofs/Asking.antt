@@ -1,0 +1,259 @@
+-- What a transaction leaves that aborts an ancestor, or commits.
+use Rattle.std.proofs.Common.{◌≡◌, ◌⊎◌, inl, inr, ℕ, zero, suc, ◌<◌, ◌+◌, ◌-◌, Bool, true, false, [], ◌∷◌, ◌++◌, length, take, drop, refl, sym, ap, ◌∙◌, subst, append-nil, arith, length-append, take-append-drop}
+use Rattle.std.specs.Prelude.{Option, None, Some, is_some, is_none, not, find, if◌then◌else◌, ◌&&◌}
+use Rattle.std.specs.Option.{option_or}
+use Rattle.qc_event.specs.declared.event.Answer.TheVariants as answer
+use Rattle.qc_event.specs.declared.event.Cause.TheVariants as cause
+use Rattle.qc_event.specs.declared.event.Entry.{Entry}
+use Rattle.qc_event.specs.declared.event.Event.TheVariants as event
+use Rattle.qc_event.specs.declared.event.How.{How}
+use Rattle.qc_event.specs.declared.event.How.TheVariants.{Commit, Abort}
+use Rattle.qc_event.specs.History.{Past, Name, end, end_in, ready_in, is_ready, children, same}
+use Rattle.qc_event.specs.Standing.{Started, IsUser}
+use Rattle.qc_event.proofs.Absent.{if_not, same_is, same_itself}
+use Rattle.qc_event.proofs.LastNumber.{is_ancestor-append}
+use Rattle.qc_event.proofs.LegalOrderly.{legal_orderly}
+use Rattle.qc_event.proofs.Lawful.{lawful}
+use Rattle.qc_event.proofs.Lineage.{above_user}
+use Rattle.qc_event.proofs.OneEntry.{end_now}
+use Rattle.qc_names.specs.Name as name
+use Rattle.qc_script.specs.Calls.{by_client, NotAborted, Committed, NotCommitted}
+use Rattle.qc_script.specs.Client.{Client, mine, is_own, Made}
+use Rattle.qc_interp.specs.Follows.{StopsEarly, WasAsked, IsUnended, FollowsPlan, asked_end, above}
+use Rattle.qc_script.specs.Plan.{Plan}
+use Rattle.qc_interp.specs.Running.{Runs, Leaves, Quit, WhyStop, Stopped, Ended}
+use Rattle.qc_script.specs.declared.tx.TxNo.{TxNo}
+use Rattle.qc_script.specs.declared.tx.TxNo.TheVariants as tx_no
+use Rattle.qc_interp.proofs.Mine.{kept_some}
+use Rattle.qc_interp.proofs.Adding.{at_top, over_later, over_ended}
+use Rattle.qc_interp.proofs.Turning.{InTurn, Alone, act_turns, itself}
+use Rattle.qc_interp.proofs.Growth.{made_is, made_later, ours_before, differ, started_still}
+use Rattle.qc_interp.proofs.Managers.{children_quiet, found_quiet}
+use Rattle.qc_interp.proofs.Ending.{asked_early, unended_again, top_above, not_ready, leaves_trans, leaves_still, runs_still, leaves_end, children_end, ends_so}
+use Rattle.qc_interp.proofs.StepsLeave.{orphan_early, stopped_still, some_later, none_open, is_none_by, is_some_by}
+use Rattle.std.specs.List.{list_all}
+use Rattle.qc_interp.specs.Adding.{stays_in}
+use Rattle.qc_script.specs.Calls.{is_over}
+use Rattle.qc_interp.specs.Asking.{AllAsked}
+use Rattle.qc_interp.proofs.Asked.{asked_made, asked_none, asked_wider, asked_trans}
+
+orphaned : (of t : Name) (levels : ℕ) (how : Option How) → t ≡ above of levels → (levels ≡ 0 → ⊥) → (how ≡ Some (Abort (cause.Orphan t))) ⊎ WasAsked of how → (how ≡ asked_end of levels) ⊎ WasAsked of how
+orphaned of t zero how named some h = absurd (some refl)
+orphaned of t (suc levels) how named some (inl e) = inl (e ∙ ap (λ a. Some (Abort (cause.Orphan a))) named)
+orphaned of t (suc levels) how named some (inr s) = inr s
+
+module _ (c : Client) (of : Name) where
+  -- an orphan after a step `abort`
+  pub asked_orphan : (t : Name) (levels : ℕ) → t ≡ above of levels → (levels ≡ 0 → ⊥) → (before mid now : Past) (again : Bool) (rest : Plan) → Leaves c of before mid → AllAsked c before mid (λ by x. (by ≡ of) × (x ≡ t)) → children (mine c mid) of ≡ children (mine c before) of → Quit c of (Abort (cause.Orphan t)) mid now again → Ended c of before now (Plan.abort_then levels rest) again
+  asked_orphan t levels named some before mid now again rest leaves asked same_children quit = record {
+    leaves = leaves_trans c of before mid now leaves quit.leaves;
+    tried = quit.tried;
+    ends = λ ours. ([], quit.children ∙ same_children ∙ sym (append-nil _), orphaned of t levels _ named some (quit.ended ours), asked_trans c before mid now _ (asked_wider _ _ (λ by x a. (a.0, a.1 ∙ named)) c before mid asked) (asked_none c mid now _ quit.asked));
+  }
+
+  pub asked_itself : (levels : ℕ) (before now : Past) (again : Bool) (rest : Plan) → levels ≡ 0 → Quit c of (Abort (cause.Asked of)) before now again → Ended c of before now (Plan.abort_then levels rest) again
+  asked_itself zero before now again rest none quit = record {
+    leaves = quit.leaves;
+    tried = quit.tried;
+    ends = λ ours. ([], quit.children ∙ sym (append-nil _), quit.ended ours, asked_none c before now _ quit.asked);
+  }
+  asked_itself (suc levels) before now again rest none quit = let z : ⊥ = omega (arith, none) in absurd z
+
+  -- a step `abort` of an ancestor that had not ended
+  module _ (t s : Name) (is : of ≡ t ++ s) (far : 0 < length s) (nonroot : 0 < length t) (before mid : Past) (m : Made c (by_client c (event.End t (Abort (cause.Asked of))) ∷ []) before mid) where
+    now_is : mine c mid ≡ by_client c (event.End t (Abort (cause.Asked of))) ∷ mine c before
+    now_is = made_is c _ before mid m
+
+    shorter : length t < length of
+    shorter = omega (arith, ap length is, length-append t s, far)
+
+    children_asked : (p : Name) → children (mine c mid) p ≡ children (mine c before) p
+    children_asked p = ap (λ h. children h p) now_is ∙ children_quiet p (by_client c (event.End t (Abort (cause.Asked of))) ∷ []) (mine c before) (refl, tt)
+
+    ready_asked : (p : Name) → is_ready (mine c mid) p ≡ is_ready (mine c before) p
+    ready_asked p = ap (λ h. is_ready h p) now_is ∙ ap is_some (found_quiet _ (by_client c (event.End t (Abort (cause.Asked of))) ∷ []) (mine c before) (refl, tt))
+
+    unended_asked : (p : Name) → IsUnended p (end (mine c before) p) → IsUnended p (end (mine c mid) p)
+    unended_asked p h = subst (λ x. IsUnended p (end x p)) (sym now_is) (by_test (same t p) refl (end (mine c before) p) h)
+      where
+        by_test : (b : Bool) → same t p ≡ b → (o : Option How) → IsUnended p o → IsUnended p (option_or o (if b then Some (Abort (cause.Asked of)) else None))
+        by_test b so (Some how) x = x
+        by_test false so None x = inl refl
+        by_test true so None x = inr (ap not (differ of p (λ l. omega (arith, l, ap length (same_is t p so), shorter))))
+
+    pub leaves_asked : Leaves c of before mid
+    leaves_asked = record { turns = λ ours turns alone. subst (λ h. InTurn h × Alone h of) (sym now_is) (act_turns (by_client c (event.End t (Abort (cause.Asked of)))) (mine c before) of of refl refl turns alone alone); later = made_later c _ before mid m; inside = ap (list_all (stays_in (take 1 of))) m.made ∙ ap (λ b. b && true) (top_above of t s is nonroot); over = λ was r. over_later c before mid (made_later c _ before mid m) of (was (sym (ready_asked of) ∙ r)); above = λ p r so more. record { children = children_asked p; ready = ready_asked p; unended = unended_asked p } }
+
+    pub asked_one : AllAsked c before mid (λ by x. (by ≡ of) × (x ≡ t))
+    asked_one = asked_made c _ before mid _ m (inr (refl, refl), tt)
+
+    pub runs_asked : Runs c of before → Runs c of mid
+    runs_asked runs = record {
+      legal = m.legal;
+      user = subst (λ h. Started h of (λ b. IsUser b.kind)) (sym m.grown) (started_still m.newer before of _ runs.user);
+      nonroot = runs.nonroot;
+      above = λ p r so more. (unended_asked p (runs.above p r so more).0, ready_asked p ∙ (runs.above p r so more).1);
+      closed = λ ours.
+          ap (find (λ x. is_none (end (mine c mid) x))) (children_asked of)
+          ∙ none_open _ _ (children (mine c before) of) (λ x h. is_none_by _ (some_later c of before mid (made_later c _ before mid m) x (is_some_by _ h))) (runs.closed (ours_before c of before mid (made_later c _ before mid m) ours));
+    }
+
+    pub same_asked : children (mine c mid) of ≡ children (mine c before) of
+    same_asked = children_asked of
+
+    pub ended_asked : is_some (end mid t) ≡ true
+    ended_asked = kept_some (λ (e : Entry). is_own c e.seat) _ mid (subst (λ h. is_some (end h t) ≡ true) (sym now_is) (by_old (end (mine c before) t) (end_in t (event.End t (Abort (cause.Asked of)))) (end_now t (event.End t (Abort (cause.Asked of))) (Abort (cause.Asked of)) refl)))
+      where
+        by_old : (o fresh : Option How) → fresh ≡ Some (Abort (cause.Asked of)) → is_some (option_or o fresh) ≡ true
+        by_old None fresh so = ap is_some so
+        by_old (Some how) fresh so = refl
+
+  -- the ancestor so many levels up
+  pub record Above (t : Name) (levels : ℕ) : Type 0 where
+    pub named : t ≡ take (length of - levels) of
+    pub rest : Name
+    pub is : of ≡ t ++ rest
+    pub far : 0 < length rest
+    pub nonroot : 0 < length t
+    pub is_ancestor : name.is_ancestor t of ≡ true
+    pub apart : same t of ≡ false
+
+  pub above_is : (t : Name) (levels len : ℕ) → len ≡ length of → t ≡ take (len - levels) of → (levels ≡ 0 → ⊥) → levels < length of → Above t levels
+  above_is t levels len long named some within =
+      let is : of ≡ t ++ drop (length of - levels) of = sym (take-append-drop (length of - levels) of) ∙ ap (λ x. x ++ drop (length of - levels) of) (sym at) in
+      let l : length t + length (drop (length of - levels) of) ≡ length of = sym (ap length is ∙ length-append t (drop (length of - levels) of)) in
+      let lt : length t ≡ length of - levels = ap length at ∙ Rattle.std.proofs.lemmas.List.length-take-le (length of - levels) of (omega arith) in
+      record {
+        named = at;
+        rest = drop (length of - levels) of;
+        is = is;
+        far = omega (arith, l, lt, within, positive levels some);
+        nonroot = omega (arith, lt, within);
+        is_ancestor = ap (name.is_ancestor t) is ∙ is_ancestor-append t _;
+        apart = differ t of (λ same_length. omega (arith, same_length, lt, within, positive levels some));
+      }
+    where
+      at : t ≡ take (length of - levels) of
+      at = named ∙ ap (λ k. take (k - levels) of) long
+
+      positive : (k : ℕ) → (k ≡ 0 → ⊥) → 0 < k
+      positive zero h = absurd (h refl)
+      positive (suc k) h = omega arith
+
+  pub user_above : (now : Past) (t : Name) (levels : ℕ) → Runs c of now → Above t levels → Started now t (λ b. IsUser b.kind)
+  user_above now t levels runs a = above_user now t a.rest (lawful now (legal_orderly c.setting now runs.legal)) a.nonroot (subst (λ n. Started now n (λ b. IsUser b.kind)) a.is runs.user)
+
+  -- an ancestor that could not be aborted, as it was ready
+  pub ask_no : (t : Name) (levels : ℕ) (before now : Past) (why : TxNo) (rest : Plan) → Above t levels → Runs c of before → NotAborted c t (cause.Asked of) before now why → (why ≡ tx_no.Memory → ⊥) → (why ≡ tx_no.Room → ⊥) → (why ≡ tx_no.Ended → ⊥) → Ended c of before now (Plan.abort_then levels rest) false
+  ask_no t levels before now tx_no.Memory rest a runs none n1 n0 n2 = absurd (n1 refl)
+  ask_no t levels before now tx_no.Room rest a runs none n1 n0 n2 = absurd (n0 refl)
+  ask_no t levels before now tx_no.Ended rest a runs none n1 n0 n2 = absurd (n2 refl)
+  ask_no t levels before now tx_no.Ready rest a runs none n1 n0 n2 =
+      let after = runs_still c of before now none.0 runs in
+      record {
+        leaves = leaves_still c of before now none.0;
+        tried = sym (unended_again of _ (after.above of [] (sym (append-nil of)) after.nonroot).0);
+        ends = λ ours. absurd (not_ready c of now after ours t a.rest a.is a.nonroot none.1);
+      }
+  ask_no t levels before now (tx_no.Orphan x) rest a runs none n1 n0 n2 = absurd none
+  ask_no t levels before now (tx_no.Conflict copy holder) rest a runs none n1 n0 n2 = absurd none
+  ask_no t levels before now (tx_no.NoQuorum lack) rest a runs none n1 n0 n2 = absurd none
+  ask_no t levels before now tx_no.Last rest a runs none n1 n0 n2 = absurd none
+  ask_no t levels before now (tx_no.ChildrenOpen x) rest a runs none n1 n0 n2 = absurd none
+  ask_no t levels before now tx_no.Ledger rest a runs none n1 n0 n2 = absurd none
+
+  -- what it found of an ancestor that had ended
+  pub ask_ended : (t : Name) (before now : Past) (why : TxNo) → why ≡ tx_no.Ended → NotAborted c t (cause.Asked of) before now why → Made c [] before now × (is_some (end now t) ≡ true)
+  ask_ended t before now why is none = by_no (subst (NotAborted c t (cause.Asked of) before now) is none)
+    where
+      by_no : NotAborted c t (cause.Asked of) before now tx_no.Ended → Made c [] before now × (is_some (end now t) ≡ true)
+      by_no none = (
+        none.0,
+        elim none.1 [
+          | inl some ↦ some
+          | inr x ↦ absurd x
+        ],
+      )
+
+  -- COMMITS
+
+  ready_made : (before now : Past) → Runs c of before → length of ≡ 1 → Made c (by_client c (event.Ready of) ∷ []) before now → is_over now of ≡ true → Ended c of before now Plan.done false
+  ready_made before now runs top m over = record {
+    leaves = record {
+      turns = λ ours turns alone. subst (λ h. InTurn h × Alone h of) (sym now_is) (act_turns (by_client c (event.Ready of)) (mine c before) of of refl refl turns alone alone);
+      later = made_later c _ before now m;
+      inside = ap (list_all (stays_in (take 1 of))) m.made ∙ ap (λ b. b && true) (at_top of);
+      over = λ was r. over;
+      above = λ p r is far.
+          record {
+            children = children_is p;
+            ready = ap (λ h. is_ready h p) now_is ∙ ap is_some (found_quiet _ (by_client c (event.Ready of) ∷ []) (mine c before) (if_not (same of p) (Some tt) (differ of p (λ l. omega (arith, l, far, ap length is, length-append p r))), tt));
+            unended = subst (λ o. IsUnended p o) (sym (end_is p));
+          };
+    };
+    tried = sym (unended_again of _ was);
+    ends = λ ours. ([], children_is of ∙ sym (append-nil _), by_end (end (mine c now) of) was, asked_made c _ before now _ m (tt, tt));
+  }
+    where
+      now_is : mine c now ≡ by_client c (event.Ready of) ∷ mine c before
+      now_is = made_is c _ before now m
+
+      children_is : (p : Name) → children (mine c now) p ≡ children (mine c before) p
+      children_is p = ap (λ h. children h p) now_is ∙ children_quiet p (by_client c (event.Ready of) ∷ []) (mine c before) (refl, tt)
+
+      end_is : (p : Name) → end (mine c now) p ≡ end (mine c before) p
+      end_is p = ap (λ h. end h p) now_is ∙ found_quiet _ (by_client c (event.Ready of) ∷ []) (mine c before) (refl, tt)
+
+      was : IsUnended of (end (mine c now) of)
+      was = subst (λ o. IsUnended of o) (sym (end_is of)) (runs.above of [] (sym (append-nil of)) runs.nonroot).0
+
+      ready : is_ready (mine c now) of ≡ true
+      ready = ap (λ h. is_ready h of) now_is ∙ by_old (Rattle.qc_event.specs.History.earliest (λ (e : Entry). ready_in of e.event) (mine c before)) (same of of) (same_itself of)
+        where
+          by_old : (o : Option (Unit {0})) (b : Bool) → b ≡ true → is_some (option_or o (if b then Some tt else None)) ≡ true
+          by_old None b so = ap (λ x. is_some (if x then Some tt else None)) so
+          by_old (Some y) b so = refl
+
+      by_end : (o : Option How) → IsUnended of o → FollowsPlan c.session (mine c now) of Plan.done [] o
+      by_end o (inl none) = inl (subst (λ x. Rattle.qc_interp.specs.Follows.Commits (mine c now) of x) (sym none) ready)
+      by_end o (inr s) = inr (asked_early of o s)
+
+  end_made : (before now : Past) → Runs c of before → Made c (by_client c (event.End of (Commit answer.Nothing)) ∷ []) before now → Ended c of before now Plan.done false
+  end_made before now runs m = record {
+    leaves = leaves_end c of (Commit answer.Nothing) before now m (of, refl, itself of);
+    tried = sym (ap Rattle.qc_interp.specs.Tries.is_tried_again (ends_so c of (Commit answer.Nothing) before now m));
+    ends = λ ours. ([], children_end c of (Commit answer.Nothing) before now m ∙ sym (append-nil _), inl (subst (λ x. Rattle.qc_interp.specs.Follows.Commits (mine c now) of x) (sym (ends_so c of (Commit answer.Nothing) before now m)) tt), asked_made c _ before now _ m (tt, tt));
+  }
+
+  pub commit_ledger : (before now : Past) (why : TxNo) → why ≡ tx_no.Ledger → Runs c of before → NotCommitted c of before now why → Ended c of before now Plan.done false
+  commit_ledger before now why is runs none = let x = subst (NotCommitted c of before now) is none in ready_made before now runs x.0 x.1 x.2
+
+  pub commit_stops : (before now : Past) (why : TxNo) → Runs c of before → NotCommitted c of before now why → (why ≡ tx_no.Memory → ⊥) → (why ≡ tx_no.Room → ⊥) → (why ≡ tx_no.Ledger → ⊥) → Runs c of now × WhyStop c now of why × Made c [] before now
+  commit_stops before now tx_no.Memory runs none n1 n0 n2 = absurd (n1 refl)
+  commit_stops before now tx_no.Room runs none n1 n0 n2 = absurd (n0 refl)
+  commit_stops before now tx_no.Ledger runs none n1 n0 n2 = absurd (n2 refl)
+  commit_stops before now tx_no.Ended runs none n1 n0 n2 = (runs_still c of before now none.0 runs, none.1, none.0)
+  commit_stops before now tx_no.Ready runs none n1 n0 n2 = (runs_still c of before now none.0 runs, none.1, none.0)
+  commit_stops before now (tx_no.Orphan a) runs none n1 n0 n2 = (runs_still c of before now none.0 runs, none.1, none.0)
+  commit_stops before now (tx_no.ChildrenOpen a) runs none n1 n0 n2 = (runs_still c of before now none.0 runs, none.1, none.0)
+  commit_stops before now (tx_no.Conflict copy holder) runs none n1 n0 n2 = absurd none.1
+  commit_stops before now (tx_no.NoQuorum lack) runs none n1 n0 n2 = absurd none.1
+  commit_stops before now tx_no.Last runs none n1 n0 n2 = absurd none.1
+
+-- a commit that was refused, so that the transaction stops
+pub commit_over : (c : Client) (of : Name) (before mid now : Past) (why : TxNo) (again : Bool) → Runs c of before → NotCommitted c of before mid why → (why ≡ tx_no.Memory → ⊥) → (why ≡ tx_no.Room → ⊥) → (why ≡ tx_no.Ledger → ⊥) → Stopped c of why mid now again → Ended c of before now Plan.done again
+commit_over c of before mid now tx_no.Memory again runs none n1 n0 n2 stopped = absurd (n1 refl)
+commit_over c of before mid now tx_no.Room again runs none n1 n0 n2 stopped = absurd (n0 refl)
+commit_over c of before mid now tx_no.Ledger again runs none n1 n0 n2 stopped = absurd (n2 refl)
+commit_over c of before mid now tx_no.Ended again runs none n1 n0 n2 stopped = stopped_still c of before mid now tx_no.Ended again Plan.done none.0 stopped (λ s. inr (asked_early of _ s))
+commit_over c of before mid now tx_no.Ready again runs none n1 n0 n2 stopped = stopped_still c of before mid now tx_no.Ready again Plan.done none.0 stopped (λ s. inr (asked_early of _ s))
+commit_over c of before mid now (tx_no.Orphan a) again runs none n1 n0 n2 stopped = stopped_still c of before mid now (tx_no.Orphan a) again Plan.done none.0 stopped (λ s. inr (orphan_early c of a _ s))
+commit_over c of before mid now (tx_no.ChildrenOpen a) again runs none n1 n0 n2 stopped = stopped_still c of before mid now (tx_no.ChildrenOpen a) again Plan.done none.0 stopped (λ s. inr (asked_early of _ s))
+commit_over c of before mid now (tx_no.Conflict copy holder) again runs none n1 n0 n2 stopped = absurd none.1
+commit_over c of before mid now (tx_no.NoQuorum lack) again runs none n1 n0 n2 stopped = absurd none.1
+commit_over c of before mid now tx_no.Last again runs none n1 n0 n2 stopped = absurd none.1
+
+pub commit_ok : (c : Client) (of : Name) (before now : Past) → Runs c of before → Committed c of before now → Ended c of before now Plan.done false
+commit_ok c [] before now runs m = end_made c [] before now runs m
+commit_ok c (x ∷ []) before now runs m = ready_made c (x ∷ []) before now runs refl m.0 (over_ended now (x ∷ []) (ap is_some m.1))
+commit_ok c (x ∷ y ∷ of) before now runs m = end_made c (x ∷ y ∷ of) before now runs m

@@ -1,0 +1,51 @@
+-- What is left of the steps of a transaction after some of them.
+use Rattle.std.proofs.Common.{◌≡◌, ℕ, ◌+◌, ◌<◌, ◌≤◌, Bool, List, drop, length, get_or, sym, ap, subst}
+use Rattle.std.proofs.lemmas.List.{drop_all}
+use Rattle.qc_event.specs.History.{Past, Name}
+use Rattle.qc_script.specs.declared.script.Step.{Step}
+use Rattle.qc_script.specs.Client.{Client, IsLater}
+use Rattle.qc_script.specs.Plan.{Plan, PlanFits}
+use Rattle.qc_script.specs.Steps.{put, plan_of}
+use Rattle.qc_interp.specs.Running.{Runs, Leaves, Ends, Ended, WentOn}
+use Rattle.qc_interp.proofs.Ending.{leaves_itself, leaves_trans}
+use Rattle.qc_interp.proofs.Growth.{later_trans}
+use Rattle.qc_interp.proofs.Plans.{plan_at, fits_at}
+
+pub record StepsLeft (c : Client) (of : Name) (steps : List Step) (before now : Past) (i : ℕ) : Type 0 where
+  pub leaves : Leaves c of before now
+  pub runs : Runs c of now
+  pub fits : PlanFits c.setting (length of) (plan_of (drop i steps))
+  pub front : (x : Past) → IsLater c now x → Ends c of now x (plan_of (drop i steps)) → Ends c of before x (plan_of steps)
+
+module _ (c : Client) (of : Name) (steps : List Step) where
+  pub none_done : (now : Past) → Runs c of now → PlanFits c.setting (length of) (plan_of steps) → StepsLeft c of steps now now 0
+  none_done now runs fits = record { leaves = leaves_itself c of now runs.legal; runs = runs; fits = fits; front = λ x later ends. ends }
+
+  module _ (before now next : Past) (i : ℕ) (s : Step) (left : StepsLeft c of steps before now i) (below : i < length steps) (is : s ≡ get_or steps i s) where
+    pub fits_step : PlanFits c.setting (length of) (put s Plan.done)
+    fits_step = (fits_at c.setting (length of) steps i s below is left.fits).0
+
+    pub one_done : WentOn c of now next (put s) → StepsLeft c of steps before next (i + 1)
+    one_done on = record {
+      leaves = leaves_trans c of before now next left.leaves on.leaves;
+      runs = on.runs;
+      fits = (fits_at c.setting (length of) steps i s below is left.fits).1;
+      front = λ x later ends.
+          left.front x (later_trans c now next x on.leaves.later later) (subst (Ends c of now x) (sym (plan_at steps i s below is)) (on.follows x later (plan_of (drop (i + 1) steps)) ends));
+    }
+
+    pub stopped_there : (again : Bool) → ((rest : Plan) → Ended c of now next (put s rest) again) → Ended c of before next (plan_of steps) again
+    stopped_there again ended =
+        let e = ended (plan_of (drop (i + 1) steps)) in
+        record {
+          leaves = leaves_trans c of before now next left.leaves e.leaves;
+          tried = e.tried;
+          ends = left.front next e.leaves.later (subst (Ends c of now next) (sym (plan_at steps i s below is)) e.ends);
+        }
+
+  pub all_done : (before now next : Past) (i : ℕ) (again : Bool) → StepsLeft c of steps before now i → length steps ≤ i → Ended c of now next Plan.done again → Ended c of before next (plan_of steps) again
+  all_done before now next i again left past e = record {
+    leaves = leaves_trans c of before now next left.leaves e.leaves;
+    tried = e.tried;
+    ends = left.front next e.leaves.later (subst (Ends c of now next) (sym (ap plan_of (drop_all i steps past))) e.ends);
+  }

@@ -1,0 +1,268 @@
+-- What a manager leaves that a client made: its transaction has one child more, and all else is as it was.
+use Rattle.std.proofs.Common.{◌≡◌, ◌<◌, ◌+◌, Bool, true, false, List, [], ◌∷◌, ◌++◌, length, take, refl, sym, ap, ◌∙◌, subst, append-nil, append_assoc, arith, length-append}
+use Rattle.std.specs.Prelude.{Option, None, Some, is_some, option_to_list, option_map, if◌then◌else◌, ◌&&◌}
+use Rattle.std.specs.List.{AllByRecursion, list_all}
+use Rattle.std.specs.Option.{option_or}
+use Rattle.qc_event.specs.declared.event.Entry.{Entry}
+use Rattle.qc_event.specs.declared.event.Event.{Event}
+use Rattle.qc_event.specs.declared.event.Event.TheVariants as event
+use Rattle.qc_event.specs.declared.event.How.{How}
+use Rattle.qc_event.specs.declared.event.Kind.{Kind}
+use Rattle.qc_event.specs.History.{Past, Name, Begun, earliest, start, end, end_in, ready_in, child_in, is_ready, children, is_child, kind_of, same}
+use Rattle.qc_event.specs.Legal.{Legal}
+use Rattle.qc_event.proofs.Absent.{if_not}
+use Rattle.qc_event.proofs.Histories.{earliest-append}
+use Rattle.qc_event.proofs.LastNumber.{child_last}
+use Rattle.qc_event.proofs.Lawful.{lawful, child_starts, ends_open}
+use Rattle.qc_event.proofs.LegalOrderly.{legal_orderly}
+use Rattle.qc_event.proofs.Lineage.{fresh_child, IsFresh}
+use Rattle.qc_event.proofs.OneEntry.{start_is, end_now, stays_some, some_or_none, not_some, child_added}
+use Rattle.qc_event.proofs.Orderly.{KeepsOrder}
+use Rattle.qc_script.specs.Calls.{Ran, IsOfAccess, by_client}
+use Rattle.qc_script.specs.Client.{Client, mine, is_own, Made, IsLater}
+use Rattle.qc_interp.proofs.Growth.{FirstMade, first_made, made_is, made_later, differ, no_child_by, child_length, legal_rest, start_still}
+use Rattle.qc_interp.proofs.Mine.{kept_some}
+use Rattle.qc_interp.proofs.Adding.{all_both, start_stays_in, accesses_stay, child_top}
+use Rattle.qc_interp.proofs.Turning.{InTurn, Alone, start_turns, access_turns, end_turns, own_actor, alone_up, some_done}
+use Rattle.qc_interp.specs.Adding.{stays_in, AllStayIn}
+use Rattle.qc_interp.specs.Asking.{AllAsked}
+use Rattle.qc_interp.proofs.Asked.{NoOne, asked_made, unasked_end, accesses_unasked}
+
+-- ENTRIES THAT ARE QUIET ABOUT A NAME
+
+pub children_quiet : (p : Name) (es h : Past) → AllByRecursion (λ (e : Entry). child_in p e.event ≡ None) es → children (es ++ h) p ≡ children h p
+children_quiet p [] h quiet = refl
+children_quiet p (e ∷ es) h quiet = ap (λ o. children (es ++ h) p ++ option_to_list o) quiet.0 ∙ append-nil _ ∙ children_quiet p es h quiet.1
+
+pub found_quiet : {Y : Type 0} (f : Entry → Option Y) (es h : Past) → AllByRecursion (λ (e : Entry). f e ≡ None) es → earliest f (es ++ h) ≡ earliest f h
+found_quiet f [] h quiet = refl
+found_quiet {Y = Y} f (e ∷ es) h quiet = by_old (earliest f (es ++ h)) (f e) quiet.0 ∙ found_quiet f es h quiet.1
+  where
+    by_old : (o fresh : Option Y) → fresh ≡ None → option_or o fresh ≡ o
+    by_old None fresh is = is
+    by_old (Some y) fresh is = refl
+
+pub all_wider : (P Q : Entry → Type 0) (es : Past) → ((e : Entry) → P e → Q e) → AllByRecursion P es → AllByRecursion Q es
+all_wider P Q [] step h = h
+all_wider P Q (e ∷ es) step h = (step e h.0, all_wider P Q es step h.1)
+
+module _ (m p : Name) (shorter : length p < length m) where
+  access_child : (ev : Event) → IsOfAccess m ev → child_in p ev ≡ None
+  access_child (event.Start n k) h = if_not (is_child p n) (Some n) (no_child_by p n (λ l. omega (arith, l, child_length m n h.0, shorter)))
+  access_child (event.Ask ask) h = refl
+  access_child (event.Gone n why) h = refl
+  access_child (event.Granted copy grant) h = refl
+  access_child (event.Refused n copy refusal) h = refl
+  access_child (event.Unable n why) h = refl
+  access_child (event.Mark n session) h = refl
+  access_child (event.Ready n) h = refl
+  access_child (event.End n how) h = refl
+
+access_end : (m p : Name) → length p < length m + 1 → (ev : Event) → IsOfAccess m ev → end_in p ev ≡ None
+access_end m p shorter (event.End n how) h = if_not (same n p) (Some how) (differ n p (λ l. omega (arith, l, child_length m n h.0, shorter)))
+access_end m p shorter (event.Ask ask) h = refl
+access_end m p shorter (event.Gone n why) h = refl
+access_end m p shorter (event.Granted copy grant) h = refl
+access_end m p shorter (event.Refused n copy refusal) h = refl
+access_end m p shorter (event.Unable n why) h = refl
+access_end m p shorter (event.Mark n session) h = refl
+access_end m p shorter (event.Ready n) h = refl
+access_end m p shorter (event.Start n k) h = refl
+
+access_ready : (m p : Name) (ev : Event) → IsOfAccess m ev → ready_in p ev ≡ None
+access_ready m p (event.Ready n) h = absurd h
+access_ready m p (event.End n how) h = refl
+access_ready m p (event.Ask ask) h = refl
+access_ready m p (event.Gone n why) h = refl
+access_ready m p (event.Granted copy grant) h = refl
+access_ready m p (event.Refused n copy refusal) h = refl
+access_ready m p (event.Unable n why) h = refl
+access_ready m p (event.Mark n session) h = refl
+access_ready m p (event.Start n k) h = refl
+
+-- A CHILD THAT STARTS IS NEW
+
+grouped : (a mid b : Past) (e : Entry) → (a ++ e ∷ mid) ++ b ≡ a ++ (e ∷ (mid ++ b))
+grouped [] mid b e = refl
+grouped (x ∷ a) mid b e = ap (λ l. x ∷ l) (grouped a mid b e)
+
+rest_none : {X : Type 0} (xs ys : List X) → xs ++ ys ≡ [] → xs ≡ []
+rest_none [] ys h = refl
+rest_none (x ∷ xs) ys h = absurd cc
+
+end_none : {X : Type 0} (xs ys : List X) → xs ++ ys ≡ [] → ys ≡ []
+end_none [] ys h = h
+end_none (x ∷ xs) ys h = absurd cc
+
+pub children_rest : (newer past : Past) (n : Name) → children (newer ++ past) n ≡ [] → children past n ≡ []
+children_rest [] past n h = h
+children_rest (e ∷ newer) past n h = children_rest newer past n (rest_none _ _ h)
+
+module _ (c : Client) where
+  pub absent : {Y : Type 0} (f : Entry → Option Y) (mid before : Past) → earliest f (mid ++ before) ≡ None → earliest f (mine c before) ≡ None
+  absent f mid before none = not_some (earliest f (mine c before)) (λ h. some_or_none (earliest f (mid ++ before)) (ap is_some (earliest-append f mid before) ∙ stays_some _ _ (kept_some (λ (x : Entry). is_own c x.seat) f before h)) none)
+
+  pub none_kept : (past : Past) (n : Name) → children past n ≡ [] → children (mine c past) n ≡ []
+  none_kept [] n h = refl
+  none_kept (e ∷ past) n h = by_test (is_own c e.seat) (none_kept past n (rest_none _ _ h))
+    where
+      none : option_to_list (child_in n e.event) ≡ []
+      none = end_none (children past n) _ h
+
+      by_test : (b : Bool) → children (mine c past) n ≡ [] → children (if b then e ∷ mine c past else mine c past) n ≡ []
+      by_test false was = was
+      by_test true was = ap (λ l. l ++ option_to_list (child_in n e.event)) was ∙ none
+
+  -- an entry among those that were made meanwhile
+  pub some_made : (es : Past) (e : Entry) (fs newer : Past) → mine c newer ≡ es ++ e ∷ fs → FirstMade c e fs newer
+  some_made [] e fs newer h = first_made c e fs newer h
+  some_made (x ∷ es) e fs newer h =
+      let f = first_made c x (es ++ e ∷ fs) newer h in
+      let g = some_made es e fs f.mid f.made in
+      record { after = f.after ++ (x ∷ g.after); mid = g.mid; is = f.is ∙ ap (λ l. f.after ++ (x ∷ l)) g.is ∙ sym (append_assoc f.after (x ∷ g.after) (e ∷ g.mid)); made = g.made }
+
+  -- the history that an entry among them came after
+  pub record CameAfter (e : Entry) (before now : Past) : Type 0 where
+    pub after : Past
+    pub mid : Past
+    pub is : now ≡ after ++ (e ∷ (mid ++ before))
+    pub legal : Legal c.setting (e ∷ (mid ++ before))
+
+  pub came_after : (es : Past) (e : Entry) (fs before now : Past) → Made c (es ++ e ∷ fs) before now → CameAfter e before now
+  came_after es e fs before now m =
+      let f = some_made es e fs m.newer m.made in
+      by_parts f.after f.mid (m.grown ∙ ap (λ x. x ++ before) f.is ∙ grouped f.after f.mid before e)
+    where
+      by_parts : (after mid : Past) → now ≡ after ++ (e ∷ (mid ++ before)) → CameAfter e before now
+      by_parts after mid is = record { after = after; mid = mid; is = is; legal = legal_rest c.setting after (e ∷ (mid ++ before)) (subst (Legal c.setting) is m.legal) }
+
+  -- a child that started meanwhile was new, and is there
+  pub record NewChild (of n : Name) (k : Kind) (before now : Past) : Type 0 where
+    pub fresh : IsFresh (mine c before) n
+    pub started : start now n ≡ Some (record { seat = c.number; kind = k })
+
+  pub new_child : (es fs : Past) (of n : Name) (k : Kind) (before now : Past) → 0 < length of → is_child of n ≡ true → Made c (es ++ by_client c (event.Start n k) ∷ fs) before now → NewChild of n k before now
+  new_child es fs of n k before now nonroot child m =
+      let at = came_after es (by_client c (event.Start n k)) fs before now m in
+      let l = child_last of n child in
+      let keeps : KeepsOrder (at.mid ++ before) (event.Start n k) = (legal_orderly c.setting (by_client c (event.Start n k) ∷ (at.mid ++ before)) at.legal).1 in
+      let begun = child_starts (at.mid ++ before) (by_client c (event.Start n k)) of l.0 nonroot (k, ap (λ x. event.Start x k) l.1) keeps in
+      let low = lawful (at.mid ++ before) (legal_orderly c.setting _ at.legal.0) in
+      let was : IsFresh (at.mid ++ before) n = subst (IsFresh (at.mid ++ before)) (sym l.1) (fresh_child (at.mid ++ before) of l.0 [] low nonroot (omega (arith, begun.next))) in
+      record {
+        fresh = record { no_start = absent _ at.mid before was.no_start; no_end = absent _ at.mid before was.no_end; no_children = none_kept before n (children_rest at.mid before n was.no_children) };
+        started = ap (λ h. start h n) at.is ∙ start_still at.after _ n _ (start_is (by_client c (event.Start n k)) (at.mid ++ before) n k was.no_start refl);
+      }
+
+  -- WHAT A MANAGER LEAVES
+
+  pub record Managed (of : Name) (k : Kind) (how : How) (m : Name) (before now : Past) : Type 0 where
+    pub turns : InTurn (mine c before) → Alone (mine c before) of → InTurn (mine c now) × Alone (mine c now) of
+    pub later : IsLater c before now
+    pub inside : AllStayIn c (take 1 of) later.newer
+    pub asked : AllAsked c before now NoOne
+    pub is_one : is_child of m ≡ true
+    pub kind : kind_of (mine c now) m ≡ Some k
+    pub end : end (mine c now) m ≡ Some how
+    pub started : start now m ≡ Some (record { seat = c.number; kind = k })
+    pub ended : Rattle.qc_event.specs.History.end now m ≡ Some how
+    pub children : children (mine c now) of ≡ children (mine c before) of ++ m ∷ []
+    pub same_children : (p r : Name) → of ≡ p ++ r → 0 < length r → Rattle.qc_event.specs.History.children (mine c now) p ≡ Rattle.qc_event.specs.History.children (mine c before) p
+    pub same_end : (p r : Name) → of ≡ p ++ r → Rattle.qc_event.specs.History.end (mine c now) p ≡ Rattle.qc_event.specs.History.end (mine c before) p
+    pub same_ready : (p r : Name) → of ≡ p ++ r → is_ready (mine c now) p ≡ is_ready (mine c before) p
+
+  module _ (of : Name) (k : Kind) (how : How) (before now : Past) (nonroot : 0 < length of) (ran : Ran c of k how before now) where
+    abbrev m : Name
+    m = ran.manager
+
+    abbrev begins : Entry
+    begins = by_client c (event.Start m k)
+
+    abbrev ends : Entry
+    ends = by_client c (event.End m how)
+
+    abbrev h0 : Past
+    h0 = mine c before
+
+    longer : length m ≡ length of + 1
+    longer = child_length of m ran.is_one
+
+    now_is : mine c now ≡ ends ∷ ran.inner ++ begins ∷ h0
+    now_is = made_is c _ before now ran.made ∙ ap (λ l. ends ∷ l) (append_assoc ran.inner (begins ∷ []) h0)
+
+    new : NewChild of m k before now
+    new = new_child (ends ∷ ran.inner) [] of m k before now nonroot ran.is_one ran.made
+
+    begun : start (begins ∷ h0) m ≡ Some (record { seat = c.number; kind = k })
+    begun = start_is begins h0 m k new.fresh.no_start refl
+
+    kind_is : kind_of (mine c now) m ≡ Some k
+    kind_is = ap (λ h. kind_of h m) now_is ∙ ap (option_map (λ (b : Begun). b.kind)) (start_still (ends ∷ ran.inner) (begins ∷ h0) m _ begun)
+
+    end_is : end (mine c now) m ≡ Some how
+    end_is =
+        ap (λ h. end h m) now_is
+        ∙ ap (λ o. option_or o (end_in m ends.event)) (found_quiet _ ran.inner (begins ∷ h0) (all_wider _ _ ran.inner (λ e. access_end m m (omega arith) e.event) ran.of_accesses) ∙ ap (λ o. option_or o None) new.fresh.no_end)
+        ∙ end_now m ends.event how refl
+
+    ended_is : Rattle.qc_event.specs.History.end now m ≡ Some how
+    ended_is =
+        let at = came_after [] ends (ran.inner ++ begins ∷ []) before now ran.made in
+        let keeps : KeepsOrder (at.mid ++ before) (event.End m how) = (legal_orderly c.setting (ends ∷ (at.mid ++ before)) at.legal).1 in
+        let open_ = ends_open (at.mid ++ before) ends m how refl keeps in
+        ap (λ h. end h m) at.is ∙ earliest-append _ at.after _
+        ∙ ap (λ o. option_or o (end at.after m)) (ap (λ o. option_or o (end_in m ends.event)) open_.not_ended ∙ end_now m ends.event how refl)
+
+    module _ (p r : Name) (above : of ≡ p ++ r) where
+      short : length p + length r ≡ length of
+      short = sym (ap length above ∙ length-append p r)
+
+      same_end_at : end (mine c now) p ≡ end h0 p
+      same_end_at =
+          ap (λ h. end h p) now_is
+          ∙ found_quiet _ (ends ∷ ran.inner) (begins ∷ h0) (if_not (same m p) (Some how) (differ m p (λ l. omega (arith, l, longer, short))), all_wider _ _ ran.inner (λ e. access_end m p (omega (arith, longer, short)) e.event) ran.of_accesses)
+          ∙ found_quiet _ (begins ∷ []) h0 (refl, tt)
+
+      same_ready_at : is_ready (mine c now) p ≡ is_ready h0 p
+      same_ready_at =
+          ap (λ h. is_ready h p) now_is
+          ∙ ap is_some (found_quiet _ (ends ∷ ran.inner) (begins ∷ h0) (refl, all_wider _ _ ran.inner (λ e. access_ready m p e.event) ran.of_accesses) ∙ found_quiet _ (begins ∷ []) h0 (refl, tt))
+
+      inner_quiet : children (mine c now) p ≡ children (begins ∷ h0) p
+      inner_quiet =
+          ap (λ h. children h p) now_is
+          ∙ children_quiet p (ends ∷ ran.inner) (begins ∷ h0) (refl, all_wider _ _ ran.inner (λ e. access_child m p (omega (arith, longer, short)) e.event) ran.of_accesses)
+
+      same_children_at : 0 < length r → children (mine c now) p ≡ children h0 p
+      same_children_at far = inner_quiet ∙ children_quiet p (begins ∷ []) h0 (if_not (is_child p m) (Some m) (no_child_by p m (λ l. omega (arith, l, longer, short, far))), tt)
+
+    turns_is : InTurn (mine c before) → Alone (mine c before) of → InTurn (mine c now) × Alone (mine c now) of
+    turns_is turns alone =
+        let a = start_turns begins h0 of m k refl ran.is_one turns alone in
+        let b = access_turns m ran.inner (begins ∷ h0) ran.of_accesses a.0 a.1 in
+        let d = end_turns ends (ran.inner ++ begins ∷ h0) m m how refl (own_actor m how ran.not_asked) b.0 b.1 b.1 in
+        subst (λ h. InTurn h × Alone h of) (sym now_is) (d.0, alone_up (ends ∷ ran.inner ++ begins ∷ h0) of m ran.is_one (some_done (ends ∷ ran.inner ++ begins ∷ h0) m (ap is_some (ap (λ h. end h m) (sym now_is) ∙ end_is))) d.1)
+
+    inside_is : list_all (stays_in (take 1 of)) (ends ∷ ran.inner ++ begins ∷ []) ≡ true
+    inside_is =
+        let low = child_top of m ran.is_one in
+        ap (λ b. b && list_all (stays_in (take 1 of)) (ran.inner ++ begins ∷ [])) low
+        ∙ all_both (stays_in (take 1 of)) ran.inner (begins ∷ []) (accesses_stay (take 1 of) m ran.inner (omega (arith, longer)) low ran.of_accesses)
+        (ap (λ b. b && true) (start_stays_in (take 1 of) m k begins refl (omega (arith, longer, nonroot)) low))
+
+    pub managed : Managed of k how m before now
+    managed = record {
+      turns = turns_is;
+      later = made_later c _ before now ran.made;
+      inside = ap (list_all (stays_in (take 1 of))) ran.made.made ∙ inside_is;
+      asked = asked_made c _ before now NoOne ran.made (unasked_end m how ran.not_asked, accesses_unasked m ran.inner (begins ∷ []) ran.of_accesses (tt, tt));
+      is_one = ran.is_one;
+      kind = kind_is;
+      end = end_is;
+      started = new.started;
+      ended = ended_is;
+      children = inner_quiet of [] (sym (append-nil of)) ∙ child_added begins h0 of m k refl ran.is_one;
+      same_children = same_children_at;
+      same_end = same_end_at;
+      same_ready = same_ready_at;
+    }

@@ -1,0 +1,259 @@
+-- Who follows a plan by what a client made follows it by what was seen, where all about its top is the client's.
+use Rattle.std.proofs.Common.{◌≡◌, inl, inr, ℕ, zero, suc, ◌<◌, Bool, true, false, List, [], ◌∷◌, ◌++◌, length, take, refl, sym, ap, ◌∙◌, subst, append-nil, append_assoc, arith}
+use mathlib.Core.Bool.{true≢false}
+use Rattle.std.specs.Prelude.{Option, None, Some, MatchBool, is_some, not, ◌&&◌, ◌||◌, if◌then◌else◌, option_map, option_to_list}
+use Rattle.std.specs.List.{AllByRecursion}
+use Rattle.std.specs.Option.{option_or}
+use Rattle.qc_event.specs.declared.event.Entry.{Entry}
+use Rattle.qc_event.specs.declared.event.Event.{Event}
+use Rattle.qc_event.specs.declared.event.Event.TheVariants as event
+use Rattle.qc_event.specs.declared.event.How.{How}
+use Rattle.qc_event.specs.declared.event.How.TheVariants.{Commit, Abort}
+use Rattle.qc_event.specs.History.{Past, Name, Begun, earliest, start, end, end_in, is_ready, children, child_in, is_child, kind_of, same}
+use Rattle.qc_event.specs.Legal.{Legal}
+use Rattle.qc_event.proofs.Lawful.{ends_open}
+use Rattle.qc_event.proofs.LegalOrderly.{legal_orderly}
+use Rattle.qc_event.proofs.Orderly.{KeepsOrder}
+use Rattle.qc_event.proofs.LastNumber.{child_last, is_ancestor-append, rest_of}
+use Rattle.qc_event.proofs.OneEntry.{starting, ending, marking, some_or_none, not_some}
+use Rattle.qc_names.specs.Name as name
+use Rattle.qc_script.specs.Client.{Client, mine, is_own, concerns, is_commit, AreOurs, all_ours}
+use Rattle.qc_interp.specs.Follows.{StopsEarly, GoesOn, Commits, FollowsPlan}
+use Rattle.qc_script.specs.Plan.{Plan}
+use Rattle.qc_interp.specs.Asking.{DoesOn, Asks}
+use Rattle.qc_interp.specs.Tries.{Tries, TriesDo, is_tried_again}
+use Rattle.qc_interp.proofs.Mine.{kept_some, some_is}
+use Rattle.qc_interp.proofs.Growth.{and_both, implied, own_found, differ, child_length}
+use Rattle.qc_interp.proofs.Still.{plan_committed}
+
+below_more : (a n r : Name) → name.is_ancestor a n ≡ true → name.is_ancestor a (n ++ r) ≡ true
+below_more a n r h = let s = rest_of a n h in ap (λ x. name.is_ancestor a (x ++ r)) s.1 ∙ ap (name.is_ancestor a) (append_assoc a s.0 r) ∙ is_ancestor-append a (s.0 ++ r)
+
+below_child : (a n c : Name) → name.is_ancestor a n ≡ true → is_child n c ≡ true → name.is_ancestor a c ≡ true
+below_child a n c h child = let l = child_last n c child in ap (name.is_ancestor a) l.1 ∙ below_more a n (l.0 ∷ []) h
+
+pub all_children : (h : Past) (n : Name) → AllByRecursion (λ c. is_child n c ≡ true) (children h n)
+all_children [] n = tt
+all_children (e ∷ h) n = by_event e.event (children h n) (all_children h n)
+  where
+    by_child : (c : Name) (b : Bool) → is_child n c ≡ b → (cs : List Name) → AllByRecursion (λ x. is_child n x ≡ true) cs → AllByRecursion (λ x. is_child n x ≡ true) (cs ++ option_to_list (if b then Some c else None))
+    by_child c true is [] all = (is, tt)
+    by_child c true is (x ∷ cs) all = (all.0, by_child c true is cs all.1)
+    by_child c false is [] all = tt
+    by_child c false is (x ∷ cs) all = (all.0, by_child c false is cs all.1)
+
+    none : (cs : List Name) → AllByRecursion (λ x. is_child n x ≡ true) cs → AllByRecursion (λ x. is_child n x ≡ true) (cs ++ [])
+    none [] all = tt
+    none (x ∷ cs) all = (all.0, none cs all.1)
+
+    by_event : (ev : Event) (cs : List Name) → AllByRecursion (λ x. is_child n x ≡ true) cs → AllByRecursion (λ x. is_child n x ≡ true) (cs ++ option_to_list (child_in n ev))
+    by_event (event.Start c k) cs all = by_child c (is_child n c) refl cs all
+    by_event (event.Ask ask) cs all = none cs all
+    by_event (event.Gone m why) cs all = none cs all
+    by_event (event.Granted copy grant) cs all = none cs all
+    by_event (event.Refused m copy refusal) cs all = none cs all
+    by_event (event.Unable m why) cs all = none cs all
+    by_event (event.Mark m session) cs all = none cs all
+    by_event (event.Ready m) cs all = none cs all
+    by_event (event.End m how) cs all = none cs all
+
+module _ (c : Client) (of : Name) (past : Past) (ours : AreOurs c of past) where
+  abbrev top : Name
+  top = take 1 of
+
+  abbrev made : Past
+  made = mine c past
+
+  same_found : {Y : Type 0} (f : Entry → Option Y) → ((e : Entry) (y : Y) → f e ≡ Some y → concerns (take 1 of) e.event ≡ true) → earliest f (mine c past) ≡ earliest f past
+  same_found {Y = Y} f about = by_past (earliest f past) refl
+    where
+      by_past : (o : Option Y) → earliest f past ≡ o → earliest f (mine c past) ≡ o
+      by_past (Some y) is = own_found c f y of past (λ e h. about e y h) ours is
+      by_past None is = not_some (earliest f (mine c past)) (λ h. some_or_none (earliest f past) (kept_some (λ (e : Entry). is_own c e.seat) f past h) is)
+
+  -- a name at or below the top
+  module _ (n : Name) (low : name.is_ancestor (take 1 of) n ≡ true) where
+    same_start : start (mine c past) n ≡ start past n
+    same_start = same_found _ (λ e y h. let s = starting n e.seat e.event (ap is_some h) in subst (λ ev. concerns (take 1 of) ev ≡ true) (sym s.1) low)
+
+    pub same_kind : kind_of (mine c past) n ≡ kind_of past n
+    same_kind = ap (option_map (λ (b : Begun). b.kind)) same_start
+
+    same_ready : is_ready (mine c past) n ≡ is_ready past n
+    same_ready = ap is_some (same_found _ (λ e y h. subst (λ ev. concerns (take 1 of) ev ≡ true) (sym (marking n e.event (ap is_some h))) low))
+
+    same_end : same n (take 1 of) ≡ false → end (mine c past) n ≡ end past n
+    same_end apart = same_found _ (λ e how h. subst (λ ev. concerns (take 1 of) ev ≡ true) (sym (ending n e.event how h)) (ap (λ b. name.is_ancestor (take 1 of) n && not (b && is_commit how)) apart ∙ ap (λ b. b && true) low))
+
+  same_children : (n : Name) → name.is_ancestor (take 1 of) n ≡ true → children (mine c past) n ≡ children past n
+  same_children n low = by_past past ours
+    where
+      by_event : (ev : Event) (own : Bool) → (not (concerns (take 1 of) ev) || own) ≡ true → own ≡ false → child_in n ev ≡ None
+      by_event (event.Start m k) own h other = by_test (is_child n m) refl
+        where
+          by_test : (b : Bool) → is_child n m ≡ b → (if b then Some m else None) ≡ None
+          by_test false is = refl
+          by_test true is = absurd (true≢false (sym (implied (concerns (take 1 of) (event.Start m k)) own h (below_child (take 1 of) n m low is)) ∙ other))
+      by_event (event.Ask ask) own h other = refl
+      by_event (event.Gone m why) own h other = refl
+      by_event (event.Granted copy grant) own h other = refl
+      by_event (event.Refused m copy refusal) own h other = refl
+      by_event (event.Unable m why) own h other = refl
+      by_event (event.Mark m session) own h other = refl
+      by_event (event.Ready m) own h other = refl
+      by_event (event.End m how) own h other = refl
+
+      by_past : (h : Past) → AreOurs c of h → children (mine c h) n ≡ children h n
+      by_past [] all = refl
+      by_past (e ∷ h) all =
+          let both = and_both (not (concerns (take 1 of) e.event) || is_own c e.seat) (all_ours c of h) all in
+          by_test (is_own c e.seat) refl both.0 (by_past h both.1)
+        where
+          by_test : (b : Bool) → is_own c e.seat ≡ b → (not (concerns (take 1 of) e.event) || is_own c e.seat) ≡ true → children (mine c h) n ≡ children h n → children (if b then e ∷ mine c h else mine c h) n ≡ children h n ++ option_to_list (child_in n e.event)
+          by_test true is passes before = ap (λ l. l ++ option_to_list (child_in n e.event)) before
+          by_test false is passes before = before ∙ sym (ap (λ o. children h n ++ option_to_list o) (by_event e.event (is_own c e.seat) passes is) ∙ append-nil _)
+
+  -- below the top, and not the top
+  abbrev Low : Name → Type 0
+  Low n = (name.is_ancestor (take 1 of) n ≡ true) × (same n (take 1 of) ≡ false)
+
+  low_children : (n : Name) → name.is_ancestor (take 1 of) n ≡ true → 0 < length n → (cs : List Name) → AllByRecursion (λ x. is_child n x ≡ true) cs → AllByRecursion Low cs
+  low_children n low far [] all = tt
+  low_children n low far (x ∷ cs) all = ((below_child (take 1 of) n x low all.0, differ x (take 1 of) (λ l. omega (arith, l, child_length n x all.0, far, short of))), low_children n low far cs all.1)
+    where
+      short : (n : Name) → length (take 1 n) < 2
+      short [] = omega arith
+      short (x ∷ n) = omega arith
+
+  longer : (n : Name) → Low n → 0 < length n
+  longer [] low = absurd (by_top of low.1 low.0)
+    where
+      by_top : (n : Name) → same [] (take 1 n) ≡ false → name.is_ancestor (take 1 n) [] ≡ true → ⊥
+      by_top [] apart is = true≢false apart
+      by_top (x ∷ n) apart is = true≢false (sym is)
+  longer (x ∷ n) low = omega arith
+
+  tries_seen : (IsTry IsTrySeen : Name → Type 0) (Stopped : Type 0) (Rest RestSeen : List Name → Type 0) → ((x : Name) → Low x → IsTry x → IsTrySeen x) → ((cs : List Name) → AllByRecursion Low cs → Rest cs → RestSeen cs)
+      → (left : ℕ) (cs : List Name) → AllByRecursion Low cs → Tries (end made) IsTry Stopped Rest left cs → Tries (end past) IsTrySeen Stopped RestSeen left cs
+  tries_seen IsTry IsTrySeen Stopped Rest RestSeen try rest zero cs low h = rest cs low h
+  tries_seen IsTry IsTrySeen Stopped Rest RestSeen try rest (suc left) [] low h = h
+  tries_seen IsTry IsTrySeen Stopped Rest RestSeen try rest (suc left) (x ∷ cs) low h = (
+    try x low.0 h.0,
+    subst (λ o. MatchBool (is_tried_again o) (Tries (end past) IsTrySeen Stopped RestSeen left cs) (RestSeen cs)) (same_end x low.0.0 low.0.1)
+        (by_test (is_tried_again (end made x)) h.1 (tries_seen IsTry IsTrySeen Stopped Rest RestSeen try rest left cs low.1)),
+  )
+    where
+      by_test : (b : Bool) → MatchBool b (Tries (end made) IsTry Stopped Rest left cs) (Rest cs) → (Tries (end made) IsTry Stopped Rest left cs → Tries (end past) IsTrySeen Stopped RestSeen left cs) → MatchBool b (Tries (end past) IsTrySeen Stopped RestSeen left cs) (RestSeen cs)
+      by_test true h more = more h
+      by_test false h more = rest cs low.1 h
+
+  plan_seen : (s : ℕ) (n : Name) (plan : Plan) (cs : List Name) (how : Option How) → name.is_ancestor (take 1 of) n ≡ true → AllByRecursion Low cs → FollowsPlan s made n plan cs how → FollowsPlan s past n plan cs how
+  plan_seen s n Plan.done [] how low all (inl is) = inl (by_how how is)
+    where
+      by_how : (o : Option How) → Commits made n o → Commits past n o
+      by_how None h = sym (same_ready n low) ∙ h
+      by_how (Some (Commit given)) h = tt
+      by_how (Some (Abort x)) h = h
+  plan_seen s n Plan.done [] how low all (inr x) = inr x
+  plan_seen s n Plan.done (x ∷ cs) how low all h = absurd h
+  plan_seen s n (Plan.manage_then k rest) [] how low all h = h
+  plan_seen s n (Plan.manage_then k rest) (x ∷ cs) how low all h = (
+    sym (same_kind x all.0.0) ∙ h.0,
+    subst (λ o. GoesOn n o (FollowsPlan s past n rest cs how) cs how) (same_end x all.0.0 all.0.1) (by_end (end made x) (plan_seen s n rest cs how low all.1) h.1),
+  )
+    where
+      by_end : (o : Option How) → (FollowsPlan s made n rest cs how → FollowsPlan s past n rest cs how) → GoesOn n o (FollowsPlan s made n rest cs how) cs how → GoesOn n o (FollowsPlan s past n rest cs how) cs how
+      by_end None step g = g
+      by_end (Some (Commit given)) step g = step g
+      by_end (Some (Abort y)) step g = g
+  plan_seen s n (Plan.child_then number tries inner rest) cs how low all h =
+      tries_seen _ _ (StopsEarly n how) (λ further. FollowsPlan s made n rest further how) (λ further. FollowsPlan s past n rest further how)
+      (λ x lx t. (
+        sym (same_kind x lx.0) ∙ t.0,
+        subst (λ o. FollowsPlan s past x inner (children past x) o) (same_end x lx.0 lx.1)
+            (subst (λ xs. FollowsPlan s past x inner xs (end made x)) (same_children x lx.0)
+            (plan_seen s x inner (children made x) (end made x) lx.0 (low_children x lx.0 (longer x lx) (children made x) (all_children made x)) t.1)),
+      ))
+      (λ further lf f. plan_seen s n rest further how low lf f) tries cs all h
+  plan_seen s n (Plan.abort_then levels rest) [] how low all h = h
+  plan_seen s n (Plan.abort_then levels rest) (x ∷ cs) how low all h = absurd h
+
+  tries_do_seen : (Does DoesSeen : Name → Type 0) (Rest RestSeen : List Name → Type 0) → ((x : Name) → Low x → Does x → DoesSeen x) → ((cs : List Name) → AllByRecursion Low cs → Rest cs → RestSeen cs)
+      → (left : ℕ) (cs : List Name) → AllByRecursion Low cs → TriesDo (end made) Does Rest left cs → TriesDo (end past) DoesSeen RestSeen left cs
+  tries_do_seen Does DoesSeen Rest RestSeen try rest zero cs low h = rest cs low h
+  tries_do_seen Does DoesSeen Rest RestSeen try rest (suc left) [] low h = absurd h
+  tries_do_seen Does DoesSeen Rest RestSeen try rest (suc left) (x ∷ cs) low (inl h) = inl (try x low.0 h)
+  tries_do_seen Does DoesSeen Rest RestSeen try rest (suc left) (x ∷ cs) low (inr h) =
+      inr (subst (λ o. MatchBool (is_tried_again o) (TriesDo (end past) DoesSeen RestSeen left cs) (RestSeen cs)) (same_end x low.0.0 low.0.1)
+      (by_test (is_tried_again (end made x)) h (tries_do_seen Does DoesSeen Rest RestSeen try rest left cs low.1)))
+    where
+      by_test : (b : Bool) → MatchBool b (TriesDo (end made) Does Rest left cs) (Rest cs) → (TriesDo (end made) Does Rest left cs → TriesDo (end past) DoesSeen RestSeen left cs) → MatchBool b (TriesDo (end past) DoesSeen RestSeen left cs) (RestSeen cs)
+      by_test true h more = more h
+      by_test false h more = rest cs low.1 h
+
+  plan_asks_seen : (by target n : Name) (plan : Plan) (cs : List Name) → AllByRecursion Low cs → Asks made n plan cs by target → Asks past n plan cs by target
+  plan_asks_seen by target n Plan.done cs all h = absurd h
+  plan_asks_seen by target n (Plan.manage_then k rest) [] all h = absurd h
+  plan_asks_seen by target n (Plan.manage_then k rest) (x ∷ cs) all h =
+      subst (λ o. DoesOn o (Asks past n rest cs by target)) (same_end x all.0.0 all.0.1) (by_end (end made x) (plan_asks_seen by target n rest cs all.1) h)
+    where
+      by_end : (o : Option How) → (Asks made n rest cs by target → Asks past n rest cs by target) → DoesOn o (Asks made n rest cs by target) → DoesOn o (Asks past n rest cs by target)
+      by_end None step g = g
+      by_end (Some (Commit given)) step g = step g
+      by_end (Some (Abort y)) step g = g
+  plan_asks_seen by target n (Plan.child_then number tries inner rest) cs all h =
+      tries_do_seen (λ x. Asks made x inner (children made x) by target) (λ x. Asks past x inner (children past x) by target) (λ further. Asks made n rest further by target) (λ further. Asks past n rest further by target)
+      (λ x lx t. subst (λ xs. Asks past x inner xs by target) (same_children x lx.0) (plan_asks_seen by target x inner (children made x) (low_children x lx.0 (longer x lx) (children made x) (all_children made x)) t))
+      (λ further lf f. plan_asks_seen by target n rest further lf f) tries cs all h
+  plan_asks_seen by target n (Plan.abort_then levels rest) [] all h = h
+  plan_asks_seen by target n (Plan.abort_then levels rest) (x ∷ cs) all h = absurd h
+
+  -- what a step asked for by what the client made, it asked for by what was seen
+  pub asks_seen : (by target : Name) (plan : Plan) → 0 < length of → name.is_ancestor (take 1 of) of ≡ true → Asks made of plan (children made of) by target → Asks past of plan (children past of) by target
+  asks_seen by target plan far low h =
+      subst (λ xs. Asks past of plan xs by target) (same_children of low) (plan_asks_seen by target of plan (children made of) (low_children of low far (children made of) (all_children made of)) h)
+
+-- an end is entered once, so one that the client made is the end
+pub own_once : (c : Client) (past : Past) (n : Name) (how : How) → Legal c.setting past → end (mine c past) n ≡ Some how → end past n ≡ Some how
+own_once c [] n how legal is = absurd cc
+own_once c (e ∷ past) n how legal is = by_test (is_own c e.seat) (own_once c past n how legal.0) is
+  where
+    keeps : KeepsOrder past e.event
+    keeps = (legal_orderly c.setting (e ∷ past) legal).1
+
+    by_old : (o : Option How) → end (mine c past) n ≡ o → (end (mine c past) n ≡ Some how → end past n ≡ Some how) → option_or o (end_in n e.event) ≡ Some how → end (e ∷ past) n ≡ Some how
+    by_old (Some x) at before h = ap (λ o. option_or o (end_in n e.event)) (before (at ∙ h))
+    by_old None at before h = ap (λ o. option_or o (end_in n e.event)) (ends_open past e n how (ending n e.event how h) keeps).not_ended ∙ h
+
+    by_test : (b : Bool) → (end (mine c past) n ≡ Some how → end past n ≡ Some how) → end (if b then e ∷ mine c past else mine c past) n ≡ Some how → end (e ∷ past) n ≡ Some how
+    by_test false before h = ap (λ o. option_or o (end_in n e.event)) (before h)
+    by_test true before h = by_old (end (mine c past) n) refl before h
+
+-- a transaction that follows its plan by what a client made does so by what was seen
+pub follows_seen : (c : Client) (s : ℕ) (of : Name) (past : Past) (plan : Plan) → Legal c.setting past → 0 < length of → AreOurs c of past → FollowsPlan s (mine c past) of plan (children (mine c past) of) (end (mine c past) of) → FollowsPlan s past of plan (children past of) (end past of)
+follows_seen c s of past plan legal far ours h =
+    let low : name.is_ancestor (take 1 of) of ≡ true = itself of in
+    let f = plan_seen c of past ours s of plan (children (mine c past) of) (end (mine c past) of) low (low_children c of past ours of low far (children (mine c past) of) (all_children (mine c past) of)) h in
+    subst (λ cs. FollowsPlan s past of plan cs (end past of)) (same_children c of past ours of low) (by_end (end past of) refl f)
+  where
+    itself : (n : Name) → name.is_ancestor (take 1 n) n ≡ true
+    itself [] = refl
+    itself (x ∷ n) = is_ancestor-append (x ∷ []) n
+
+    with_how : (given : Rattle.qc_event.specs.declared.event.Answer.Answer) (o : Option How) → (is_some o ≡ true → o ≡ Some (Commit given)) → FollowsPlan s past of plan (children (mine c past) of) o → FollowsPlan s past of plan (children (mine c past) of) (Some (Commit given))
+    with_how given None agrees f = plan_committed s past of plan (children (mine c past) of) given f
+    with_how given (Some how) agrees f = subst (λ o. FollowsPlan s past of plan (children (mine c past) of) o) (agrees refl) f
+
+    by_end : (o : Option How) → end past of ≡ o → FollowsPlan s past of plan (children (mine c past) of) (end (mine c past) of) → FollowsPlan s past of plan (children (mine c past) of) o
+    by_end None is f = subst (λ o. FollowsPlan s past of plan (children (mine c past) of) o) (not_some (end (mine c past) of) (λ h. some_or_none (end past of) (kept_some (λ (e : Entry). is_own c e.seat) _ past h) is)) f
+    by_end (Some (Abort x)) is f =
+        subst (λ o. FollowsPlan s past of plan (children (mine c past) of) o)
+        (own_found c (λ e. end_in of e.event) (Abort x) of past (λ e g. subst (λ ev. concerns (take 1 of) ev ≡ true) (sym (ending of e.event (Abort x) g)) (ap (λ b. name.is_ancestor (take 1 of) of && not b) (and_false (same of (take 1 of))) ∙ ap (λ b. b && true) (itself of))) ours is) f
+      where
+        and_false : (b : Bool) → (b && false) ≡ false
+        and_false true = refl
+        and_false false = refl
+    by_end (Some (Commit given)) is f = with_how given (end (mine c past) of) (λ some. once some) f
+      where
+        once : is_some (end (mine c past) of) ≡ true → end (mine c past) of ≡ Some (Commit given)
+        once some = let how = some_is (end (mine c past) of) some in how.1 ∙ sym (own_once c past of how.0 legal how.1) ∙ is

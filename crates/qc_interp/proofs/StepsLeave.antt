@@ -1,0 +1,274 @@
+-- What each step of a transaction leaves.
+use Rattle.std.proofs.Common.{◌≡◌, ◌⊎◌, inl, inr, ℕ, Bool, true, false, List, [], ◌∷◌, ◌++◌, length, take, refl, sym, ap, ◌∙◌, subst, append-nil, append_assoc}
+use mathlib.Core.Bool.{true≢false}
+use Rattle.std.specs.Prelude.{Option, None, Some, MatchOption, is_some, is_none, find, if◌then◌else◌}
+use Rattle.qc_event.specs.declared.event.Cause.{Cause}
+use Rattle.qc_event.specs.declared.event.Cause.TheVariants as cause
+use Rattle.qc_event.specs.declared.event.Entry.{Entry}
+use Rattle.qc_event.specs.declared.event.How.{How}
+use Rattle.qc_event.specs.declared.event.How.TheVariants.{Commit, Abort}
+use Rattle.qc_event.specs.declared.event.Kind.{Kind}
+use Rattle.qc_event.specs.declared.event.Kind.TheVariants as kind
+use Rattle.qc_event.specs.Base.{Setting}
+use Rattle.qc_event.specs.History.{Past, Name, Begun, start, end, end_in, ready_in, child_in, is_ready, children, is_child, same, kind_of}
+use Rattle.qc_event.specs.Legal.{Legal}
+use Rattle.qc_event.specs.Standing.{Started, IsUser, IsManager, IsAbort, open_child}
+use Rattle.qc_event.specs.Users.{UserCause}
+use Rattle.qc_event.proofs.LastNumber.{child_last, length_last, is_ancestor-append}
+use Rattle.qc_event.proofs.Lawful.{no_open_child}
+use Rattle.qc_event.proofs.LegalOrderly.{legal_orderly}
+use Rattle.qc_event.proofs.OneEntry.{ready_step, some_or_none, starting}
+use Rattle.qc_event.proofs.Orderly.{KeepsOrder}
+use Rattle.qc_names.specs.Name as name
+use Rattle.qc_script.specs.Calls.{HasRun, Refuses, GaveNone}
+use Rattle.qc_script.specs.Client.{Client, mine, is_own, concerns, Made, IsLater, AreOurs}
+use Rattle.qc_interp.specs.Follows.{StopsEarly, WasAsked, IsUnended, FollowsPlan, GoesOn, is_handed_on}
+use Rattle.qc_script.specs.Plan.{Plan}
+use Rattle.qc_script.specs.Plan.{KindFits}
+use Rattle.qc_interp.specs.Running.{Runs, Leaves, WhyStop, StopsBy, Stopped, Ended, WentOn}
+use Rattle.qc_script.specs.declared.tx.TxNo.{TxNo}
+use Rattle.qc_script.specs.declared.tx.TxNo.TheVariants as tx_no
+use Rattle.qc_interp.proofs.Mine.{end_some, kind_still, kept_some, some_is}
+use Rattle.qc_interp.proofs.Growth.{ours_before, own_found, started_still}
+use Rattle.qc_interp.proofs.Managers.{Managed, managed}
+use Rattle.qc_interp.proofs.Ending.{asked_early, unended_again, top_above, not_ready, ended_early, leaves_itself, leaves_trans, still, leaves_still, runs_still}
+use Rattle.qc_interp.specs.Asking.{DoesOn, Asks, AllAsked}
+use Rattle.qc_interp.proofs.Asked.{NoOne, asked_made, asked_none, asked_wider, asked_trans}
+use Rattle.qc_interp.proofs.Adding.{over_later}
+
+-- ALL CHILDREN HAVE ENDED
+
+pub none_open : (f g : Name → Bool) (xs : List Name) → ((x : Name) → f x ≡ false → g x ≡ false) → find f xs ≡ None → find g xs ≡ None
+none_open f g [] step h = refl
+none_open f g (x ∷ xs) step h = by_test (f x) refl h (none_open f g xs step)
+  where
+    by_test : (b : Bool) → f x ≡ b → (if b then Some x else find f xs) ≡ None → (find f xs ≡ None → find g xs ≡ None) → find g (x ∷ xs) ≡ None
+    by_test true is h more = absurd cc
+    by_test false is h more = ap (λ b. if b then Some x else find g xs) (step x is) ∙ more h
+
+none_more : (g : Name → Bool) (xs : List Name) (m : Name) → find g xs ≡ None → g m ≡ false → find g (xs ++ m ∷ []) ≡ None
+none_more g [] m h last = ap (λ b. if b then Some m else None) last
+none_more g (x ∷ xs) m h last = by_test (g x) h (none_more g xs m)
+  where
+    by_test : (b : Bool) → (if b then Some x else find g xs) ≡ None → (find g xs ≡ None → g m ≡ false → find g (xs ++ m ∷ []) ≡ None) → (if b then Some x else find g (xs ++ m ∷ [])) ≡ None
+    by_test true h more = absurd cc
+    by_test false h more = more h last
+
+pub is_none_by : (o : Option How) → is_some o ≡ true → is_none o ≡ false
+is_none_by None h = absurd (true≢false (sym h))
+is_none_by (Some x) h = refl
+
+pub is_some_by : (o : Option How) → is_none o ≡ false → is_some o ≡ true
+is_some_by None h = absurd (true≢false h)
+is_some_by (Some x) h = refl
+
+pub ready_short : (setting : Setting) (past : Past) (n : Name) → Legal setting past → is_ready past n ≡ true → length n ≡ 1
+ready_short setting [] n legal h = absurd (true≢false (sym h))
+ready_short setting (e ∷ past) n legal h = elim (ready_step e past n h) [
+  | inl old ↦ ready_short setting past n legal.0 old
+  | inr is ↦ (subst (KeepsOrder past) is (legal_orderly setting (e ∷ past) legal).1).is_top
+]
+
+manages : (setting : Setting) (k : Kind) → KindFits setting k → IsManager k
+manages setting (kind.Read rec) h = tt
+manages setting (kind.Write rec value) h = tt
+manages setting (kind.Reconf rec config) h = tt
+manages setting (kind.User s body) h = h
+manages setting kind.Access h = h
+
+module _ (c : Client) (of : Name) where
+  own_mine : (a b : Past) (p : IsLater c a b) → mine c b ≡ mine c (p.newer ++ a)
+  own_mine a b p = ap (mine c) p.grown
+
+  pub end_later : (a b : Past) → IsLater c a b → (n : Name) (how : How) → end (mine c a) n ≡ Some how → end (mine c b) n ≡ Some how
+  end_later a b p n how is = ap (λ h. end (mine c h) n) p.grown ∙ end_some (λ (e : Entry). is_own c e.seat) c.setting p.newer a n how is
+
+  pub kind_later : (a b : Past) → IsLater c a b → (n : Name) (k : Kind) → kind_of (mine c a) n ≡ Some k → kind_of (mine c b) n ≡ Some k
+  kind_later a b p n k is = ap (λ h. kind_of (mine c h) n) p.grown ∙ kind_still (λ (e : Entry). is_own c e.seat) c.setting p.newer a n k is
+
+  pub some_later : (a b : Past) → IsLater c a b → (n : Name) → is_some (end (mine c a) n) ≡ true → is_some (end (mine c b) n) ≡ true
+  some_later a b p n h = let how = some_is (end (mine c a) n) h in ap is_some (end_later a b p n how.0 how.1)
+
+  -- one child more, which has ended, as the others have
+  pub closed_more : (before now : Past) (m : Name) → IsLater c before now → children (mine c now) of ≡ children (mine c before) of ++ m ∷ [] → open_child (mine c before) of ≡ None → is_some (end (mine c now) m) ≡ true → open_child (mine c now) of ≡ None
+  closed_more before now m later more none last =
+      ap (find (λ x. is_none (end (mine c now) x))) more
+      ∙ none_more _ (children (mine c before) of) m
+      (none_open _ _ (children (mine c before) of) (λ x h. is_none_by _ (some_later before now later x (is_some_by _ h))) none)
+      (is_none_by _ last)
+
+  -- MANAGERS
+
+  module _ (k : Kind) (how : How) (m : Name) (before now : Past) (ran : Managed c of k how m before now) where
+    pub leaves_managed : Leaves c of before now
+    leaves_managed = record {
+      turns = λ ours turns alone. ran.turns turns alone;
+      later = ran.later;
+      inside = ran.inside;
+      over = λ was r. over_later c before now ran.later of (was (sym (ran.same_ready of [] (sym (append-nil of))) ∙ r));
+      above = λ p r is far. record {
+        children = ran.same_children p r is far;
+        ready = ran.same_ready p r is;
+        unended = subst (λ o. IsUnended p o) (sym (ran.same_end p r is));
+      };
+    }
+
+    pub runs_managed : Runs c of before → Runs c of now
+    runs_managed runs = record {
+      legal = ran.later.legal;
+      user = subst (λ h. Started h of (λ b. IsUser b.kind)) (sym ran.later.grown) (started_still ran.later.newer before of _ runs.user);
+      nonroot = runs.nonroot;
+      above = λ p r is far. (subst (λ o. IsUnended p o) (sym (ran.same_end p r is)) (runs.above p r is far).0, ran.same_ready p r is ∙ (runs.above p r is far).1);
+      closed = λ ours. closed_more before now m ran.later ran.children (runs.closed (ours_before c of before now ran.later ours)) (ap is_some ran.end);
+    }
+
+    -- whatever follows it follows the step
+    pub more_follows : (x : Past) (Rest Asked : List Name → Type 0) → IsLater c now x
+        → (further : List Name) × (children (mine c x) of ≡ children (mine c now) of ++ further) × Rest further × Asked further
+        → (further : List Name) × (children (mine c x) of ≡ children (mine c before) of ++ m ∷ further) × Rest further × Asked further
+    more_follows x Rest Asked later h = (h.0, h.1 ∙ ap (λ l. l ++ h.0) ran.children ∙ append_assoc (children (mine c before) of) (m ∷ []) h.0, h.2, h.3)
+
+  user_cause : (k : Kind) (x : Cause) (m : Name) (before now : Past) → IsManager k → Managed c of k (Abort x) m before now → Rattle.qc_event.specs.Users.ChildAborted now of x
+  user_cause k x m before now may ran = record {
+    child = m;
+    is_one = ran.is_one;
+    manages = subst (λ o. MatchOption o ⊥ (λ (b : Begun). IsManager b.kind)) (sym ran.started) may;
+    ended = ran.ended;
+  }
+
+  pub manage_on : (k : Kind) (before now : Past) → Runs c of before → HasRun c of k before now → WentOn c of before now (Plan.manage_then k)
+  manage_on k before now runs has =
+      let ran = managed c of k (Commit has.given) before now runs.nonroot has.ran in
+      record {
+        leaves = leaves_managed k _ _ before now ran;
+        runs = runs_managed k _ _ before now ran runs;
+        follows = λ x later rest ends ours.
+            let h = more_follows k _ _ before now ran x (λ further. FollowsPlan c.session (mine c x) of rest further (end (mine c x) of)) (λ further. AllAsked c now x (λ by t. Asks (mine c x) of rest further by t)) later (ends ours) in (
+              has.ran.manager ∷ h.0,
+              h.1,
+              (
+                kind_later now x later _ k ran.kind,
+                subst (λ o. GoesOn of o (FollowsPlan c.session (mine c x) of rest h.0 (end (mine c x) of)) h.0 (end (mine c x) of)) (sym (end_later now x later _ _ ran.end)) h.2,
+              ),
+              asked_trans c before now x _ (asked_none c before now _ ran.asked) (asked_wider _ _ (λ by t a. subst (λ o. DoesOn o (Asks (mine c x) of rest h.0 by t)) (sym (end_later now x later _ _ ran.end)) a) c now x h.3),
+            );
+      }
+
+  -- why a transaction stops whose manager gave no answer
+  pub manage_stops : (k : Kind) (before mid : Past) (why : TxNo) → KindFits c.setting k → Runs c of before → GaveNone c of k before mid why → (why ≡ tx_no.Memory → ⊥) → (why ≡ tx_no.Room → ⊥) → Runs c of mid × WhyStop c mid of why
+  manage_stops k before mid tx_no.Memory fits runs none other full = absurd (other refl)
+  manage_stops k before mid tx_no.Room fits runs none other full = absurd (full refl)
+  manage_stops k before mid (tx_no.Orphan a) fits runs none other full = elim none.1 [
+    | inl m ↦ (runs_still c of before mid m runs, none.0)
+    | inr ran ↦ (runs_managed k _ _ before mid (managed c of k _ before mid runs.nonroot ran) runs, none.0)
+  ]
+  manage_stops k before mid (tx_no.Conflict copy holder) fits runs ran other full =
+      let m = managed c of k _ before mid runs.nonroot ran in
+      (runs_managed k _ _ before mid m runs, user_cause k _ _ before mid (manages c.setting k fits) m)
+  manage_stops k before mid (tx_no.NoQuorum lack) fits runs ran other full =
+      let m = managed c of k _ before mid runs.nonroot ran in
+      (runs_managed k _ _ before mid m runs, user_cause k _ _ before mid (manages c.setting k fits) m)
+  manage_stops k before mid tx_no.Last fits runs ran other full =
+      let m = managed c of k _ before mid runs.nonroot ran in
+      (runs_managed k _ _ before mid m runs, user_cause k _ _ before mid (manages c.setting k fits) m)
+  manage_stops k before mid tx_no.Ended fits runs none other full = (runs_still c of before mid none.0 runs, none.1)
+  manage_stops k before mid tx_no.Ready fits runs none other full = (runs_still c of before mid none.0 runs, none.1)
+  manage_stops k before mid (tx_no.ChildrenOpen child) fits runs none other full = absurd none
+  manage_stops k before mid tx_no.Ledger fits runs none other full = absurd none.1
+
+  -- it stops without a child
+  pub stopped_still : (before mid now : Past) (why : TxNo) (again : Bool) (plan : Plan) → Made c [] before mid → Stopped c of why mid now again
+      → (StopsBy of why (end (mine c now) of) → FollowsPlan c.session (mine c now) of plan [] (end (mine c now) of)) → Ended c of before now plan again
+  stopped_still before mid now why again plan m stopped follows = record {
+    leaves = leaves_trans c of before mid now (leaves_still c of before mid m) stopped.leaves;
+    tried = stopped.tried;
+    ends = λ ours. ([], stopped.children ∙ ap (λ h. children h of) (still c of before mid m) ∙ sym (append-nil _), follows (stopped.ended ours), asked_none c before now _ (asked_trans c before mid now NoOne (asked_made c [] before mid NoOne m tt) stopped.asked));
+  }
+
+  -- it stops with the manager as its last child
+  stopped_managed : (k : Kind) (x : Cause) (m : Name) (before mid now : Past) (why : TxNo) (again : Bool) (rest : Plan) → Managed c of k (Abort x) m before mid → Stopped c of why mid now again
+      → (StopsBy of why (end (mine c now) of) → ((is_handed_on x ≡ true) × (end (mine c now) of ≡ Some (Abort x))) ⊎ StopsEarly of (end (mine c now) of)) → Ended c of before now (Plan.manage_then k rest) again
+  stopped_managed k x m before mid now why again rest ran stopped handed = record {
+    leaves = leaves_trans c of before mid now (leaves_managed k _ m before mid ran) stopped.leaves;
+    tried = stopped.tried;
+    ends = λ ours. (
+      m ∷ [],
+      stopped.children ∙ ran.children,
+      (
+        kind_later mid now stopped.leaves.later m k ran.kind,
+        subst (λ o. GoesOn of o (FollowsPlan c.session (mine c now) of rest [] (end (mine c now) of)) [] (end (mine c now) of)) (sym (end_later mid now stopped.leaves.later m _ ran.end)) (refl, handed (stopped.ended ours)),
+      ),
+      asked_none c before now _ (asked_trans c before mid now NoOne ran.asked stopped.asked),
+    );
+  }
+
+  handed_on : (x : Cause) (how : Option How) → is_handed_on x ≡ true → (how ≡ Some (Abort x)) ⊎ WasAsked of how → ((is_handed_on x ≡ true) × (how ≡ Some (Abort x))) ⊎ StopsEarly of how
+  handed_on x how is (inl e) = inl (is, e)
+  handed_on x how is (inr s) = inr (asked_early of how s)
+
+  -- who stops as an orphan stops early
+  pub orphan_early : (a : Name) (how : Option How) → (how ≡ Some (Abort (cause.Orphan a))) ⊎ WasAsked of how → StopsEarly of how
+  orphan_early a how (inl e) = subst (StopsEarly of) (sym e) tt
+  orphan_early a how (inr s) = asked_early of how s
+
+  pub manage_over : (k : Kind) (before mid now : Past) (why : TxNo) (again : Bool) (rest : Plan) → Runs c of before → GaveNone c of k before mid why → (why ≡ tx_no.Memory → ⊥) → (why ≡ tx_no.Room → ⊥) → Stopped c of why mid now again → Ended c of before now (Plan.manage_then k rest) again
+  manage_over k before mid now tx_no.Memory again rest runs none other full stopped = absurd (other refl)
+  manage_over k before mid now tx_no.Room again rest runs none other full stopped = absurd (full refl)
+  manage_over k before mid now (tx_no.Orphan a) again rest runs none other full stopped = elim none.1 [
+    | inl m ↦ stopped_still before mid now _ again _ m stopped (λ s. orphan_early a _ s)
+    | inr ran ↦ stopped_managed k _ _ before mid now _ again rest (managed c of k _ before mid runs.nonroot ran) stopped (λ s. inr (orphan_early a _ s))
+  ]
+  manage_over k before mid now (tx_no.Conflict copy holder) again rest runs ran other full stopped =
+      stopped_managed k _ _ before mid now _ again rest (managed c of k _ before mid runs.nonroot ran) stopped (λ s. handed_on (cause.Conflict copy holder) _ refl s)
+  manage_over k before mid now (tx_no.NoQuorum lack) again rest runs ran other full stopped =
+      stopped_managed k _ _ before mid now _ again rest (managed c of k _ before mid runs.nonroot ran) stopped (λ s. handed_on (cause.NoQuorum lack) _ refl s)
+  manage_over k before mid now tx_no.Last again rest runs ran other full stopped =
+      stopped_managed k _ _ before mid now _ again rest (managed c of k _ before mid runs.nonroot ran) stopped (λ s. handed_on cause.Last _ refl s)
+  manage_over k before mid now tx_no.Ended again rest runs none other full stopped = stopped_still before mid now _ again _ none.0 stopped (λ s. asked_early of _ s)
+  manage_over k before mid now tx_no.Ready again rest runs none other full stopped = stopped_still before mid now _ again _ none.0 stopped (λ s. asked_early of _ s)
+  manage_over k before mid now (tx_no.ChildrenOpen child) again rest runs none other full stopped = absurd none
+  manage_over k before mid now tx_no.Ledger again rest runs none other full stopped = absurd none.1
+
+  -- STOPPING AT ONCE
+
+  pub stop_here : (now : Past) (why : TxNo) → Runs c of now → (AreOurs c of now → StopsBy of why (end (mine c now) of)) → Stopped c of why now now false
+  stop_here now why runs early = record {
+    leaves = leaves_itself c of now runs.legal;
+    asked = ([], refl, tt);
+    tried = sym (unended_again of _ (runs.above of [] (sym (append-nil of)) runs.nonroot).0);
+    children = refl;
+    ended = early;
+  }
+
+  aborted_some : (o : Option How) → MatchOption o ⊥ IsAbort → is_some o ≡ true
+  aborted_some None h = absurd h
+  aborted_some (Some how) h = refl
+
+  pub stop_itself : (now : Past) (a : Name) → Runs c of now → Refuses now of (tx_no.Orphan a) → a ≡ of → Stopped c of (tx_no.Orphan a) now now false
+  stop_itself now a runs why is = stop_here now (tx_no.Orphan a) runs (λ ours. inr (ended_early c of now runs ours (subst (λ n. is_some (end now n) ≡ true) is (aborted_some _ why.1))))
+
+  open_not : (now : Past) (child : Name) → Runs c of now → AreOurs c of now → Refuses now of (tx_no.ChildrenOpen child) → ⊥
+  open_not now child runs ours why =
+      let l = child_last of child why.0 in
+      let b = some_is (start now child) why.1 in
+      let top : name.is_ancestor (take 1 of) child ≡ true = ap (name.is_ancestor (take 1 of)) l.1 ∙ below (take 1 of) of (l.0 ∷ []) (top_above of of [] (sym (append-nil of)) runs.nonroot) in
+      let found = own_found c (λ e. Rattle.qc_event.specs.History.start_in child e.seat e.event) b.0 of now
+      (λ e f. let s = starting child e.seat e.event (ap is_some f) in subst (λ ev. concerns (take 1 of) ev ≡ true) (sym s.1) top) ours b.1 in
+      let ended = no_open_child (mine c now) of l.0 (runs.closed ours) (subst (λ n. is_some (start (mine c now) n) ≡ true) l.1 (ap is_some found)) in
+      some_or_none (end now child) (kept_some (λ (e : Entry). is_own c e.seat) _ now (subst (λ n. is_some (end (mine c now) n) ≡ true) (sym l.1) ended)) why.2
+    where
+      below : (a n r : Name) → name.is_ancestor a n ≡ true → name.is_ancestor a (n ++ r) ≡ true
+      below a n r h = let s = Rattle.qc_event.proofs.LastNumber.rest_of a n h in ap (λ x. name.is_ancestor a (x ++ r)) s.1 ∙ ap (name.is_ancestor a) (append_assoc a s.0 r) ∙ is_ancestor-append a (s.0 ++ r)
+
+  -- a refusal of any other kind
+  pub stop_other : (now : Past) (why : TxNo) → Runs c of now → WhyStop c now of why → ((copy : ℕ) (h : Name) → why ≡ tx_no.Conflict copy h → ⊥) → ((a : Name) → why ≡ tx_no.Orphan a → ⊥) → ((l : Rattle.qc_event.specs.declared.event.Lack.Lack) → why ≡ tx_no.NoQuorum l → ⊥) → (why ≡ tx_no.Last → ⊥) → Stopped c of why now now false
+  stop_other now tx_no.Memory runs why n1 n2 n3 n4 = absurd why
+  stop_other now tx_no.Room runs why n1 n2 n3 n4 = absurd why
+  stop_other now (tx_no.Orphan a) runs why n1 n2 n3 n4 = absurd (n2 a refl)
+  stop_other now (tx_no.Conflict copy h) runs why n1 n2 n3 n4 = absurd (n1 copy h refl)
+  stop_other now (tx_no.NoQuorum l) runs why n1 n2 n3 n4 = absurd (n3 l refl)
+  stop_other now tx_no.Last runs why n1 n2 n3 n4 = absurd (n4 refl)
+  stop_other now tx_no.Ended runs why n1 n2 n3 n4 = stop_here now tx_no.Ended runs (λ ours. ended_early c of now runs ours why)
+  stop_other now tx_no.Ready runs why n1 n2 n3 n4 = stop_here now tx_no.Ready runs (λ ours. absurd (not_ready c of now runs ours of [] (sym (append-nil of)) runs.nonroot why))
+  stop_other now (tx_no.ChildrenOpen child) runs why n1 n2 n3 n4 = stop_here now (tx_no.ChildrenOpen child) runs (λ ours. absurd (open_not now child runs ours why))
+  stop_other now tx_no.Ledger runs why n1 n2 n3 n4 = absurd why

@@ -1,0 +1,188 @@
+-- Who follows a plan, by some entries of a legal history, follows it by those of each later one.
+use Rattle.std.proofs.Common.{◌≡◌, ◌⊎◌, inl, inr, ℕ, zero, suc, Bool, true, false, List, [], ◌∷◌, ◌++◌, refl, sym, ap, ◌∙◌, subst, filter}
+use Rattle.std.specs.Prelude.{Option, None, Some, MatchBool, is_some}
+use Rattle.qc_event.specs.declared.event.Entry.{Entry}
+use Rattle.qc_event.specs.declared.event.How.{How}
+use Rattle.qc_event.specs.declared.event.How.TheVariants.{Commit, Abort}
+use Rattle.qc_event.specs.Base.{Setting}
+use Rattle.qc_event.specs.History.{Past, Name, end, children, is_ready}
+use Rattle.qc_event.specs.Legal.{Legal}
+use Rattle.qc_event.proofs.Histories.{earliest-append}
+use Rattle.qc_event.proofs.OneEntry.{stays_some}
+use Rattle.qc_script.specs.Plan.{Plan}
+use Rattle.qc_interp.specs.Tries.{Tries, is_tried_again}
+use Rattle.qc_interp.specs.Follows.{StopsEarly, WasAsked, GoesOn, Commits, FollowsPlan, asked_end}
+use Rattle.qc_interp.proofs.Mine.{Closed, CommittedSince, children_still, how_still, end_some, kind_still, kept_append}
+
+-- WHO FOLLOWS A PLAN HAS ENDED, OR IS READY
+
+stopped_some : (n : Name) (how : Option How) → StopsEarly n how → is_some how ≡ true
+stopped_some n None h = absurd h
+stopped_some n (Some how) h = refl
+
+asked_some : (n : Name) (how : Option How) → WasAsked n how → is_some how ≡ true
+asked_some n None h = absurd h
+asked_some n (Some how) h = refl
+
+-- how it ended, or that it is ready
+abbrev Done : Past → Name → Option How → Type 0
+Done past n how = (is_some how ≡ true) ⊎ ((how ≡ None) × (is_ready past n ≡ true))
+
+committed_done : (past : Past) (n : Name) (how : Option How) → Commits past n how → Done past n how
+committed_done past n None h = inr (refl, h)
+committed_done past n (Some (Abort c)) h = absurd h
+committed_done past n (Some (Commit given)) h = inl refl
+
+goes_done : (past : Past) (n : Name) (o : Option How) (Rest : Type 0) (further : List Name) (how : Option How) → (Rest → Done past n how) → GoesOn n o Rest further how → Done past n how
+goes_done past n None Rest further how rest h = absurd h
+goes_done past n (Some (Commit given)) Rest further how rest h = rest h
+goes_done past n (Some (Abort c)) Rest further how rest h = elim h.1 [
+  | inl is ↦ inl (ap is_some is.1)
+  | inr s ↦ inl (stopped_some n how s)
+]
+
+tries_done : (ended : Name → Option How) (IsTry : Name → Type 0) (Stopped : Type 0) (Rest : List Name → Type 0) (Goal : Type 0) → (Stopped → Goal) → ((cs : List Name) → Rest cs → Goal) → (left : ℕ) (cs : List Name) → Tries ended IsTry Stopped Rest left cs → Goal
+tries_done ended IsTry Stopped Rest Goal stop rest zero cs h = rest cs h
+tries_done ended IsTry Stopped Rest Goal stop rest (suc left) [] h = stop h
+tries_done ended IsTry Stopped Rest Goal stop rest (suc left) (c ∷ cs) h = by_test (is_tried_again (ended c)) h.1 (tries_done ended IsTry Stopped Rest Goal stop rest left cs)
+  where
+    by_test : (b : Bool) → MatchBool b (Tries ended IsTry Stopped Rest left cs) (Rest cs) → (Tries ended IsTry Stopped Rest left cs → Goal) → Goal
+    by_test true h more = more h
+    by_test false h more = rest cs h
+
+pub followed_done : (s : ℕ) (past : Past) (n : Name) (plan : Plan) (cs : List Name) (how : Option How) → FollowsPlan s past n plan cs how → Done past n how
+followed_done s past n Plan.done [] how (inl is) = committed_done past n how is
+followed_done s past n Plan.done [] how (inr x) = inl (stopped_some n how x)
+followed_done s past n Plan.done (c ∷ cs) how h = absurd h
+followed_done s past n (Plan.manage_then k rest) [] how h = inl (stopped_some n how h)
+followed_done s past n (Plan.manage_then k rest) (c ∷ cs) how h = goes_done past n (end past c) _ cs how (followed_done s past n rest cs how) h.1
+followed_done s past n (Plan.child_then number tries inner rest) cs how h =
+    tries_done (end past) _ (StopsEarly n how) (λ further. FollowsPlan s past n rest further how) (Done past n how) (λ x. inl (stopped_some n how x)) (λ further f. followed_done s past n rest further how f) tries cs h
+followed_done s past n (Plan.abort_then levels rest) [] how (inl is) = inl (by_levels levels is)
+  where
+    by_levels : (l : ℕ) → how ≡ asked_end n l → is_some how ≡ true
+    by_levels zero is = ap is_some is
+    by_levels (suc l) is = ap is_some is
+followed_done s past n (Plan.abort_then levels rest) [] how (inr x) = inl (asked_some n how x)
+followed_done s past n (Plan.abort_then levels rest) (c ∷ cs) how h = absurd h
+
+pub done_closed : (past : Past) (n : Name) → Done past n (end past n) → Closed past n
+done_closed past n (inl ended) = inl ended
+done_closed past n (inr ready) = inr ready.1
+
+-- A READY TOP THAT COMMITS
+
+goes_committed : (n : Name) (o : Option How) (Rest Rest2 : Type 0) (further : List Name) (how : How) → (Rest → Rest2) → GoesOn n o Rest further None → GoesOn n o Rest2 further (Some how)
+goes_committed n None Rest Rest2 further how step h = absurd h
+goes_committed n (Some (Commit given)) Rest Rest2 further how step h = step h
+goes_committed n (Some (Abort c)) Rest Rest2 further how step h = elim h.1 [
+  | inl is ↦ absurd cc
+  | inr x ↦ absurd x
+]
+
+tries_committed : (ended : Name → Option How) (IsTry : Name → Type 0) (Stopped Stopped2 : Type 0) (Rest Rest2 : List Name → Type 0) → (Stopped → Stopped2) → ((cs : List Name) → Rest cs → Rest2 cs) → (left : ℕ) (cs : List Name) → Tries ended IsTry Stopped Rest left cs → Tries ended IsTry Stopped2 Rest2 left cs
+tries_committed ended IsTry Stopped Stopped2 Rest Rest2 stop rest zero cs h = rest cs h
+tries_committed ended IsTry Stopped Stopped2 Rest Rest2 stop rest (suc left) [] h = stop h
+tries_committed ended IsTry Stopped Stopped2 Rest Rest2 stop rest (suc left) (c ∷ cs) h = (h.0, by_test (is_tried_again (ended c)) (tries_committed ended IsTry Stopped Stopped2 Rest Rest2 stop rest left cs) h.1)
+  where
+    by_test : (b : Bool) → (Tries ended IsTry Stopped Rest left cs → Tries ended IsTry Stopped2 Rest2 left cs) → MatchBool b (Tries ended IsTry Stopped Rest left cs) (Rest cs) → MatchBool b (Tries ended IsTry Stopped2 Rest2 left cs) (Rest2 cs)
+    by_test true more x = more x
+    by_test false more x = rest cs x
+
+pub plan_committed : (s : ℕ) (past : Past) (n : Name) (plan : Plan) (cs : List Name) (given : Rattle.qc_event.specs.declared.event.Answer.Answer) → FollowsPlan s past n plan cs None → FollowsPlan s past n plan cs (Some (Commit given))
+plan_committed s past n Plan.done [] given (inl is) = inl tt
+plan_committed s past n Plan.done [] given (inr x) = absurd x
+plan_committed s past n Plan.done (c ∷ cs) given h = absurd h
+plan_committed s past n (Plan.manage_then k rest) [] given h = absurd h
+plan_committed s past n (Plan.manage_then k rest) (c ∷ cs) given h = (h.0, goes_committed n (end past c) _ _ cs (Commit given) (plan_committed s past n rest cs given) h.1)
+plan_committed s past n (Plan.child_then number tries inner rest) cs given h =
+    tries_committed (end past) _ (StopsEarly n None) (StopsEarly n (Some (Commit given))) (λ further. FollowsPlan s past n rest further None) (λ further. FollowsPlan s past n rest further (Some (Commit given)))
+    (λ x. absurd x) (λ further f. plan_committed s past n rest further given f) tries cs h
+plan_committed s past n (Plan.abort_then levels rest) [] given (inl is) = absurd (by_levels levels is)
+  where
+    by_levels : (l : ℕ) → None ≡ asked_end n l → ⊥
+    by_levels zero is = cc
+    by_levels (suc l) is = cc
+plan_committed s past n (Plan.abort_then levels rest) [] given (inr x) = absurd x
+plan_committed s past n (Plan.abort_then levels rest) (c ∷ cs) given h = absurd h
+
+-- AND FOLLOWS IT FOR EVER
+
+module _ (s : ℕ) (p : Entry → Bool) (setting : Setting) (newer past : Past) (legal : Legal setting (newer ++ past)) where
+  abbrev old : Past
+  old = filter p past
+
+  abbrev now : Past
+  now = filter p (newer ++ past)
+
+  commits_still : (n : Name) (how : Option How) → Commits old n how → Commits now n how
+  commits_still n None h = ap (λ x. is_ready x n) (kept_append p newer past) ∙ ap is_some (earliest-append _ (filter p newer) old) ∙ stays_some _ _ h
+  commits_still n (Some (Commit given)) h = tt
+  commits_still n (Some (Abort c)) h = absurd h
+
+  goes_still : (n c : Name) (Rest RestNow : Type 0) (further : List Name) (how : Option How) → (Rest → RestNow) → (o : Option How) → end old c ≡ o → GoesOn n o Rest further how → GoesOn n (end now c) RestNow further how
+  goes_still n c Rest RestNow further how step None is h = absurd h
+  goes_still n c Rest RestNow further how step (Some (Commit given)) is h = subst (λ o. GoesOn n o RestNow further how) (sym (end_some p setting newer past c (Commit given) is)) (step h)
+  goes_still n c Rest RestNow further how step (Some (Abort x)) is h = subst (λ o. GoesOn n o RestNow further how) (sym (end_some p setting newer past c (Abort x) is)) h
+
+  pub again_still : (c : Name) → Closed old c → is_tried_again (end now c) ≡ is_tried_again (end old c)
+  again_still c closed = elim (how_still p setting newer past c legal closed) [
+    | inl is ↦ ap is_tried_again is
+    | inr since ↦ by_end (end old c) (end now c) since
+  ]
+    where
+      by_end : (a b : Option How) → CommittedSince a b → is_tried_again b ≡ is_tried_again a
+      by_end a None h = absurd h
+      by_end a (Some (Abort c)) h = absurd h
+      by_end a (Some (Commit given)) h = sym (ap is_tried_again h)
+
+  pub tries_still : (IsTry IsTryNow : Name → Type 0) (Stopped StoppedNow : Type 0) (Rest RestNow : List Name → Type 0)
+      → ((c : Name) → IsTry c → IsTryNow c × Closed old c) → (Stopped → StoppedNow) → ((cs : List Name) → Rest cs → RestNow cs)
+      → (left : ℕ) (cs : List Name) → Tries (end old) IsTry Stopped Rest left cs → Tries (end now) IsTryNow StoppedNow RestNow left cs
+  tries_still IsTry IsTryNow Stopped StoppedNow Rest RestNow try stop rest zero cs h = rest cs h
+  tries_still IsTry IsTryNow Stopped StoppedNow Rest RestNow try stop rest (suc left) [] h = stop h
+  tries_still IsTry IsTryNow Stopped StoppedNow Rest RestNow try stop rest (suc left) (c ∷ cs) h =
+      let one = try c h.0 in (
+        one.0,
+        subst (λ b. MatchBool b (Tries (end now) IsTryNow StoppedNow RestNow left cs) (RestNow cs)) (sym (again_still c one.1))
+            (by_test (is_tried_again (end old c)) h.1 (tries_still IsTry IsTryNow Stopped StoppedNow Rest RestNow try stop rest left cs)),
+      )
+    where
+      by_test : (b : Bool) → MatchBool b (Tries (end old) IsTry Stopped Rest left cs) (Rest cs) → (Tries (end old) IsTry Stopped Rest left cs → Tries (end now) IsTryNow StoppedNow RestNow left cs)
+          → MatchBool b (Tries (end now) IsTryNow StoppedNow RestNow left cs) (RestNow cs)
+      by_test true h more = more h
+      by_test false h more = rest cs h
+
+  -- a child that follows its plan is closed, so its children stand, and its end but for a top's commit
+  pub child_still : (c : Name) (inner : Plan) → ((cs : List Name) (how : Option How) → FollowsPlan s old c inner cs how → FollowsPlan s now c inner cs how)
+      → FollowsPlan s old c inner (children old c) (end old c) → FollowsPlan s now c inner (children now c) (end now c) × Closed old c
+  child_still c inner step h =
+      let closed = done_closed old c (followed_done s old c inner (children old c) (end old c) h) in
+      let with_end : FollowsPlan s now c inner (children old c) (end now c) = elim (how_still p setting newer past c legal closed) [
+        | inl is ↦ subst (λ o. FollowsPlan s now c inner (children old c) o) (sym is) (step (children old c) (end old c) h)
+        | inr since ↦ by_end (end old c) (end now c) since (step (children old c) (end old c) h)
+      ] in (
+        subst (λ cs. FollowsPlan s now c inner cs (end now c)) (sym (children_still p setting newer past c legal closed)) with_end,
+        closed,
+      )
+    where
+      by_end : (a b : Option How) → CommittedSince a b → FollowsPlan s now c inner (children old c) a → FollowsPlan s now c inner (children old c) b
+      by_end a None h f = absurd h
+      by_end a (Some (Abort x)) h f = absurd h
+      by_end a (Some (Commit given)) h f = plan_committed s now c inner (children old c) given (subst (λ o. FollowsPlan s now c inner (children old c) o) h f)
+
+  pub plan_still : (n : Name) (plan : Plan) (cs : List Name) (how : Option How) → FollowsPlan s old n plan cs how → FollowsPlan s now n plan cs how
+  plan_still n Plan.done [] how (inl is) = inl (commits_still n how is)
+  plan_still n Plan.done [] how (inr x) = inr x
+  plan_still n Plan.done (c ∷ cs) how h = absurd h
+  plan_still n (Plan.manage_then k rest) [] how h = h
+  plan_still n (Plan.manage_then k rest) (c ∷ cs) how h = (kind_still p setting newer past c k h.0, goes_still n c _ _ cs how (plan_still n rest cs how) (end old c) refl h.1)
+  plan_still n (Plan.child_then number tries inner rest) cs how h =
+      tries_still _ _ (StopsEarly n how) (StopsEarly n how) (λ further. FollowsPlan s old n rest further how) (λ further. FollowsPlan s now n rest further how)
+      (λ c t. let one = child_still c inner (plan_still c inner) t.1 in ((kind_still p setting newer past c _ t.0, one.0), one.1)) (λ x. x) (λ further f. plan_still n rest further how f) tries cs h
+  plan_still n (Plan.abort_then levels rest) [] how h = h
+  plan_still n (Plan.abort_then levels rest) (c ∷ cs) how h = absurd h
+
+  -- a transaction that follows its plan follows it for ever
+  pub follows_still : (n : Name) (plan : Plan) → FollowsPlan s old n plan (children old n) (end old n) → FollowsPlan s now n plan (children now n) (end now n) × Closed old n
+  follows_still n plan h = child_still n plan (plan_still n plan) h

@@ -1,0 +1,349 @@
+-- What the tries of a body leave that run as tops, and what the tops of all bodies leave.
+use Rattle.std.proofs.Common.{◌≡◌, inl, inr, ℕ, suc, ◌<◌, ◌+◌, ◌≤◌, Bool, true, false, List, [], ◌∷◌, ◌++◌, length, drop, map, get_or, refl, sym, ap, ◌∙◌, subst, append-nil, append_assoc, arith, length-append, add-one, drop-cons, take}
+use mathlib.Core.Bool.{true≢false}
+use Rattle.std.specs.Prelude.{Option, None, Some, MatchOption, MatchBool, is_some, is_none, IsTrue, find, option_map, if◌then◌else◌, ◌&&◌, ◌||◌}
+use Rattle.std.specs.List.{AllByRecursion, list_all}
+use Rattle.std.proofs.lemmas.Bool.{false_from_ne_true}
+use Rattle.std.proofs.lemmas.List.{drop_all}
+use Rattle.qc_event.specs.declared.event.Entry.{Entry}
+use Rattle.qc_event.specs.declared.event.Event.TheVariants as event
+use Rattle.qc_event.specs.declared.event.Kind.TheVariants as kind
+use Rattle.qc_event.specs.Base.{Setting}
+use Rattle.qc_event.specs.History.{Past, Name, Begun, start, end, is_ready, children, is_child, kind_of}
+use Rattle.qc_event.specs.Legal.{Legal}
+use Rattle.qc_event.specs.Standing.{IsUser}
+use Rattle.qc_event.proofs.LastNumber.{child_last}
+use Rattle.qc_event.proofs.Lawful.{lawful}
+use Rattle.qc_event.proofs.LegalOrderly.{legal_orderly}
+use Rattle.qc_event.proofs.Lineage.{IsFresh, fresh_below}
+use Rattle.qc_event.proofs.OneEntry.{child_added, start_is, start_stays, ready_step, stays_some, some_or_none}
+use Rattle.qc_event.proofs.Orderly.{KeepsOrder, Begins}
+use Rattle.qc_script.specs.declared.script.Body.{Body}
+use Rattle.qc_script.specs.Calls.{by_client}
+use Rattle.qc_script.specs.Client.{Client, mine, is_own, Made, IsLater, AreOurs}
+use Rattle.qc_interp.specs.Follows.{FollowsPlan, FollowsBody, IsUnended}
+use Rattle.qc_script.specs.Plan.{Numbered, PlanFits}
+use Rattle.qc_script.specs.Steps.{numbered}
+use Rattle.qc_interp.specs.Running.{Runs, Ended}
+use Rattle.qc_interp.specs.Session.{tops, FollowsBodies, AreAllOurs, EndsTops, RanTops, RanInTurn}
+use Rattle.qc_script.specs.Plan.{BodiesFit}
+use Rattle.qc_interp.specs.Turns.{is_done}
+use Rattle.qc_script.specs.Numbers.{each}
+use Rattle.qc_interp.proofs.Adding.{numbers_stay, one_both, all_one, all_later, after_stay, begun_after, all_over_more, over_ended}
+use Rattle.qc_interp.proofs.Turning.{InTurn, Alone, start_turns, alone_up, some_done, itself}
+use Rattle.qc_interp.specs.Tries.{Tries, is_tried_again, TriesDo}
+use Rattle.qc_interp.proofs.Mine.{kept_some}
+use Rattle.qc_interp.proofs.Still.{follows_still, followed_done, done_closed, again_still}
+use Rattle.qc_interp.proofs.Growth.{made_is, made_later, later_itself, later_trans, ours_before, no_child_by, child_length, start_still}
+use Rattle.qc_interp.proofs.Managers.{children_quiet, found_quiet, absent, came_after, none_kept, children_rest}
+use Rattle.qc_interp.proofs.StepsLeave.{kind_later}
+use Rattle.qc_interp.specs.Adding.{AllStayIn, is_of_one, AllOfOne, own_after, all_over}
+use Rattle.qc_script.specs.Numbers.{Numbers, own_next}
+use Rattle.qc_script.specs.Calls.{is_over}
+use Rattle.qc_interp.specs.Asking.{Asks, BodiesAsk, AllAsked}
+use Rattle.qc_interp.proofs.Asked.{asked_made, asked_wider, asked_trans, asks_still}
+
+ready_started : (setting : Setting) (past : Past) (n : Name) → Legal setting past → is_ready past n ≡ true → is_some (start past n) ≡ true
+ready_started setting [] n legal h = absurd (true≢false (sym h))
+ready_started setting (e ∷ past) n legal h = elim (ready_step e past n h) [
+  | inl old ↦ start_stays e past n (ready_started setting past n legal.0 old)
+  | inr is ↦ start_stays e past n (subst (KeepsOrder past) is (legal_orderly setting (e ∷ past) legal).1).is_open.started
+]
+
+-- A TOP THAT BEGINS
+
+module _ (c : Client) (t : Name) (number : ℕ) (before now : Past) (top : is_child [] t ≡ true) (m : Made c (by_client c (event.Start t (kind.User c.session number)) ∷ []) before now) where
+  abbrev begins : Entry
+  begins = by_client c (event.Start t (kind.User c.session number))
+
+  now_is : mine c now ≡ begins ∷ mine c before
+  now_is = made_is c _ before now m
+
+  long : length t ≡ 1
+  long = child_length [] t top
+
+  -- it was new
+  pub record NewTop : Type 0 where
+    pub fresh : IsFresh (mine c before) t
+    pub unready : is_ready (mine c before) t ≡ false
+    pub started : start now t ≡ Some (record { seat = c.number; kind = kind.User c.session number })
+
+  new : NewTop
+  new =
+      let at = came_after c [] begins [] before now m in
+      let old = at.mid ++ before in
+      let l = child_last [] t top in
+      let keeps : Begins old t (kind.User c.session number) = (legal_orderly c.setting (begins ∷ (at.mid ++ before)) at.legal).1 in
+      let first : Begins old (l.0 ∷ []) (kind.User c.session number) = subst (λ n. Begins old n (kind.User c.session number)) l.1 keeps in
+      let none : start old t ≡ None = ap (start old) l.1 ∙ first.fresh in
+      let was : IsFresh old t = subst (IsFresh old) (append-nil t) (fresh_below old t [] (lawful old (legal_orderly c.setting old at.legal.0)) (omega (arith, long)) none) in
+      record {
+        fresh = record { no_start = absent c _ at.mid before was.no_start; no_end = absent c _ at.mid before was.no_end; no_children = none_kept c before t (children_rest at.mid before t was.no_children) };
+        unready = false_from_ne_true _ (λ h. some_or_none (start old t) (ready_started c.setting old t at.legal.0 (later_ready at.mid (kept_some (λ (e : Entry). is_own c e.seat) _ before h))) none);
+        started = ap (λ h. start h t) at.is ∙ start_still at.after _ t _ (start_is begins old t (kind.User c.session number) none refl);
+      }
+    where
+      later_ready : (mid : Past) → is_ready before t ≡ true → is_ready (mid ++ before) t ≡ true
+      later_ready mid h = ap is_some (Rattle.qc_event.proofs.Histories.earliest-append _ mid before) ∙ stays_some _ _ h
+
+  pub tops_begun : tops c now ≡ tops c before ++ t ∷ []
+  tops_begun = ap (λ h. children h []) now_is ∙ child_added begins (mine c before) [] t (kind.User c.session number) refl top
+
+  pub kind_top : kind_of (mine c now) t ≡ Some (kind.User c.session number)
+  kind_top = ap (λ h. kind_of h t) now_is ∙ ap (option_map (λ (b : Begun). b.kind)) (start_is begins (mine c before) t (kind.User c.session number) new.fresh.no_start refl)
+
+  pub turns_top : InTurn (mine c before) → Alone (mine c before) [] → InTurn (mine c now) × Alone (mine c now) t
+  turns_top turns alone = subst (λ h. InTurn h × Alone h t) (sym now_is) (start_turns begins (mine c before) [] t (kind.User c.session number) refl top turns alone)
+
+  pub none_top : children (mine c now) t ≡ []
+  none_top = ap (λ h. children h t) now_is ∙ children_quiet t (begins ∷ []) (mine c before) (Rattle.qc_event.proofs.Absent.if_not (is_child t t) (Some t) (no_child_by t t (λ l. omega (arith, l))), tt) ∙ new.fresh.no_children
+
+  pub runs_top : Runs c t now
+  runs_top = record {
+    legal = m.legal;
+    user = subst (λ o. MatchOption o ⊥ (λ (b : Begun). IsUser b.kind)) (sym new.started) tt;
+    nonroot = omega (arith, long);
+    above = λ p r is far. subst (λ n. IsUnended n (end (mine c now) n) × (is_ready (mine c now) n ≡ false)) (itself p r is far) (
+      inl (ap (λ h. end h t) now_is ∙ found_quiet _ (begins ∷ []) (mine c before) (refl, tt) ∙ new.fresh.no_end),
+      ap (λ h. is_ready h t) now_is ∙ ap is_some (found_quiet _ (begins ∷ []) (mine c before) (refl, tt)) ∙ new.unready,
+    );
+    closed = λ ours. ap (find (λ x. is_none (end (mine c now) x))) none_top;
+  }
+    where
+      itself : (p r : Name) → t ≡ p ++ r → 0 < length p → t ≡ p
+      itself p [] is far = is ∙ append-nil p
+      itself p (x ∷ r) is far = let z : ⊥ = omega (arith, long, ap length is, length-append p (x ∷ r), far) in absurd z
+
+all_last : (P : Name → Type 0) (xs : List Name) (t : Name) (ys : List Name) → AllByRecursion P (xs ++ t ∷ ys) → P t
+all_last P [] t ys h = h.0
+all_last P (x ∷ xs) t ys h = all_last P xs t ys h.1
+
+all_front : (P Q : Name → Type 0) (xs ys : List Name) → ((n : Name) → P n → Q n) → AllByRecursion P (xs ++ ys) → AllByRecursion Q xs
+all_front P Q [] ys step h = tt
+all_front P Q (x ∷ xs) ys step h = (step x h.0, all_front P Q xs ys step h.1)
+
+pub turn_itself : (c : Client) (now : Past) → Legal c.setting now → RanInTurn c now now
+turn_itself c now legal = record { later = later_itself c now legal; inside = refl; numbers = λ was. was; order = λ ours after over. (after, over); made = []; more = sym (append-nil _); turns = λ ours turns alone. (turns, alone) }
+
+pub turn_trans : (c : Client) (a b d : Past) → IsLater c b d → RanInTurn c a b → RanInTurn c b d → RanInTurn c a d
+turn_trans c a b d later f g = record {
+  made = f.made ++ g.made;
+  later = later_trans c a b d f.later g.later;
+  inside = one_both c f.made g.made f.later.newer g.later.newer f.inside g.inside;
+  numbers = λ was. g.numbers (f.numbers was);
+  order = λ ours after over.
+      let mid = f.order (all_front (λ n. AreOurs c n d) (λ n. AreOurs c n b) (tops c b) g.made (λ n o. ours_before c n b d later o) (subst (AllByRecursion (λ n. AreOurs c n d)) g.more ours)) after over in
+      g.order ours mid.0 mid.1;
+  more = g.more ∙ ap (λ l. l ++ g.made) f.more ∙ append_assoc (tops c a) f.made g.made;
+  turns = λ ours turns alone.
+      let mid = f.turns (all_front (λ n. AreOurs c n d) (λ n. AreOurs c n b) (tops c b) g.made (λ n o. ours_before c n b d later o) (subst (AllByRecursion (λ n. AreOurs c n d)) g.more ours)) turns alone in
+      g.turns ours mid.0 mid.1;
+}
+
+-- A TRY OF A TOP
+
+pub record TriedTop (c : Client) (body : Numbered) (before now : Past) (again : Bool) : Type 0 where
+  pub later : IsLater c before now
+  pub in_turn : RanInTurn c before now
+  pub top : Name
+  pub more : tops c now ≡ tops c before ++ top ∷ []
+  pub kind : kind_of (mine c now) top ≡ Some (kind.User c.session body.number)
+  pub follows : AreOurs c top now → FollowsPlan c.session (mine c now) top body.plan (children (mine c now) top) (end (mine c now) top)
+  pub asked : AreOurs c top now → AllAsked c before now (λ by t. Asks (mine c now) top body.plan (children (mine c now) top) by t)
+  pub tried : again ≡ is_tried_again (end (mine c now) top)
+
+pub top_once : (c : Client) (t : Name) (body : Numbered) (before mid now : Past) (again : Bool) → is_child [] t ≡ true → Made c (by_client c (event.Start t (kind.User c.session body.number)) ∷ []) before mid → Numbers c before mid → Ended c t mid now body.plan again → TriedTop c body before now again
+top_once c t body before mid now again top m numbers ended = record {
+  later = later_trans c before mid now (made_later c _ before mid m) ended.leaves.later;
+  top = t;
+  more = more_is;
+  kind = kind_later c [] mid now ended.leaves.later t _ (kind_top c t body.number before mid top m);
+  in_turn = record {
+    made = t ∷ [];
+    more = more_is;
+    later = later_trans c before mid now (made_later c _ before mid m) ended.leaves.later;
+    inside = one_one (made_later c _ before mid m).newer ended.leaves.later.newer begun_one (all_one c t ended.leaves.later.newer (subst (λ x. AllStayIn c x ended.leaves.later.newer) whole ended.leaves.inside));
+    numbers = λ was. subst (λ h. each (own_next c) h ≡ true) (sym ended.leaves.later.grown) (numbers_stay c (take 1 t) ended.leaves.later.newer mid ended.leaves.inside (numbers was));
+    order = λ ours after over. (
+      subst (λ h. each (own_after c) h ≡ true) (sym ended.leaves.later.grown) (after_stay c (take 1 t) ended.leaves.later.newer mid ended.leaves.inside (subst (λ h. each (own_after c) h ≡ true) (sym m.grown) (begun_after c _ m.newer before m.made after over))),
+      all_later_over (all_last (λ n. AreOurs c n now) (tops c before) t [] (subst (AllByRecursion (λ n. AreOurs c n now)) more_is ours)) (later_trans c before mid now (made_later c _ before mid m) ended.leaves.later) over,
+    );
+    turns = λ ours turns alone.
+        let one = all_last (λ n. AreOurs c n now) (tops c before) t [] (subst (AllByRecursion (λ n. AreOurs c n now)) more_is ours) in
+        let a = turns_top c t body.number before mid top m turns alone in
+        let b = ended.leaves.turns one a.0 a.1 in
+        (b.0, alone_up (mine c now) [] t top (done_is (follows_is one)) b.1);
+  };
+  follows = follows_is;
+  asked = λ ours.
+      let e = ended.ends ours in
+      asked_trans c before mid now _ (asked_made c _ before mid _ m (tt, tt)) (asked_wider _ _ (λ by n a. subst (λ cs. Asks (mine c now) t body.plan cs by n) (sym (all_are e.0 e.1)) a) c mid now e.3);
+  tried = ended.tried;
+}
+  where
+    long_top : length t ≡ 1
+    long_top = child_length [] t top
+
+    whole : take 1 t ≡ t
+    whole = by_name t long_top
+      where
+        by_name : (n : Name) → length n ≡ 1 → take 1 n ≡ n
+        by_name [] l = let z : ⊥ = omega (arith, l) in absurd z
+        by_name (x ∷ []) l = refl
+        by_name (x ∷ y ∷ n) l = let z : ⊥ = omega (arith, l) in absurd z
+
+    begun_one : AllOfOne c (t ∷ []) m.newer
+    begun_one = ap (list_all (is_of_one (t ∷ []))) m.made ∙ ap (λ b. (b || false) && true) (itself t)
+
+    one_one : (older newer : Past) → AllOfOne c (t ∷ []) older → AllOfOne c (t ∷ []) newer → AllOfOne c (t ∷ []) (newer ++ older)
+    one_one older newer a b = all_later (is_of_one (t ∷ [])) c older newer a b
+
+    more_is : tops c now ≡ tops c before ++ t ∷ []
+    more_is = (ended.leaves.above [] t refl (let l : length t ≡ 1 = child_length [] t top in omega (arith, l))).children ∙ tops_begun c t body.number before mid top m
+
+    all_are : (further : List Name) → children (mine c now) t ≡ children (mine c mid) t ++ further → children (mine c now) t ≡ further
+    all_are further is = is ∙ ap (λ l. l ++ further) (none_top c t body.number before mid top m)
+
+    follows_is : AreOurs c t now → FollowsPlan c.session (mine c now) t body.plan (children (mine c now) t) (end (mine c now) t)
+    follows_is ours =
+        let e = ended.ends ours in
+        subst (λ cs. FollowsPlan c.session (mine c now) t body.plan cs (end (mine c now) t)) (sym (all_are e.0 e.1)) e.2
+
+    over_is : AreOurs c t now → is_over now t ≡ true
+    over_is ours = elim (done_closed (mine c now) t (followed_done c.session (mine c now) t body.plan (children (mine c now) t) (end (mine c now) t) (follows_is ours))) [
+      | inl some ↦ over_ended now t (kept_some (λ (e : Entry). is_own c e.seat) _ now some)
+      | inr ready ↦ ended.leaves.over (λ was. absurd (true≢false (sym was ∙ ((runs_top c t body.number before mid top m).above t [] (sym (append-nil t)) (omega (arith, long_top))).1))) ready
+    ]
+
+    all_later_over : AreOurs c t now → IsLater c before now → all_over c before ≡ true → all_over c now ≡ true
+    all_later_over ours later was =
+        subst (λ h. all_over c h ≡ true) (sym later.grown)
+        (all_over_more c later.newer before (t ∷ []) (ap (tops c) (sym later.grown) ∙ more_is) was (subst (λ h. list_all (is_over h) (t ∷ []) ≡ true) later.grown (ap (λ b. b && true) (over_is ours))))
+
+    done_is : FollowsPlan c.session (mine c now) t body.plan (children (mine c now) t) (end (mine c now) t) → is_done (mine c now) t ≡ true
+    done_is f = elim (done_closed (mine c now) t (followed_done c.session (mine c now) t body.plan (children (mine c now) t) (end (mine c now) t) f)) [
+      | inl some ↦ some_done (mine c now) t some
+      | inr ready ↦ ready_done (is_some (end (mine c now) t)) (is_ready (mine c now) t) ready
+    ]
+      where
+        ready_done : (a b : Bool) → b ≡ true → Rattle.std.specs.Prelude.◌||◌ a b ≡ true
+        ready_done true b h = refl
+        ready_done false b h = h
+
+-- from `before` on, so many tries of a body and then of other bodies
+abbrev pub EndsTopTries : Client → Past → Past → Numbered → ℕ → List Numbered → Type 0
+EndsTopTries c before now body left rest =
+    AreAllOurs c now → (further : List Name) × (tops c now ≡ tops c before ++ further)
+    × Tries (end (mine c now)) (FollowsBody c.session (mine c now) body) ⊥ (λ more. FollowsBodies c.session (mine c now) rest more) left further
+    × AllAsked c before now (λ by t. TriesDo (end (mine c now)) (λ n. Asks (mine c now) n body.plan (children (mine c now) n) by t) (λ more. BodiesAsk (mine c now) rest more by t) left further)
+
+match_true : (P Q : Type 0) (b : Bool) → b ≡ true → P → MatchBool b P Q
+match_true P Q true is h = h
+match_true P Q false is h = absurd (true≢false (sym is))
+
+match_false : (P Q : Type 0) (b : Bool) → b ≡ false → Q → MatchBool b P Q
+match_false P Q false is h = h
+match_false P Q true is h = absurd (true≢false is)
+
+module _ (c : Client) (body : Numbered) (before now : Past) (again : Bool) (t : TriedTop c body before now again) where
+  module _ (x : Past) (later : IsLater c now x) (further : List Name) (more : tops c x ≡ tops c now ++ further) (ours : AreAllOurs c x) where
+    more_later : tops c x ≡ tops c before ++ t.top ∷ further
+    more_later = more ∙ ap (λ l. l ++ further) t.more ∙ append_assoc (tops c before) (t.top ∷ []) further
+
+    ours_top : AreOurs c t.top x
+    ours_top = all_last (λ n. AreOurs c n x) (tops c before) t.top further (subst (AllByRecursion (λ n. AreOurs c n x)) more_later ours)
+
+    follows_now : FollowsPlan c.session (mine c now) t.top body.plan (children (mine c now) t.top) (end (mine c now) t.top)
+    follows_now = t.follows (ours_before c t.top now x later ours_top)
+
+    one_top : FollowsBody c.session (mine c x) body t.top
+    one_top = record {
+      kind = kind_later c [] now x later t.top _ t.kind;
+      steps = subst (λ h. FollowsPlan c.session (mine c h) t.top body.plan (children (mine c h) t.top) (end (mine c h) t.top)) (sym later.grown)
+          (follows_still c.session (λ (e : Entry). is_own c e.seat) c.setting later.newer now (subst (Legal c.setting) later.grown later.legal) t.top body.plan follows_now).0;
+    }
+
+    again_later : is_tried_again (end (mine c x) t.top) ≡ again
+    again_later =
+        ap (λ h. is_tried_again (end (mine c h) t.top)) later.grown
+        ∙ again_still c.session (λ (e : Entry). is_own c e.seat) c.setting later.newer now (subst (Legal c.setting) later.grown later.legal) t.top (done_closed (mine c now) t.top (followed_done c.session (mine c now) t.top body.plan (children (mine c now) t.top) (end (mine c now) t.top) follows_now))
+        ∙ sym t.tried
+
+    asked_later : AllAsked c before now (λ by n. Asks (mine c x) t.top body.plan (children (mine c x) t.top) by n)
+    asked_later = asked_wider _ _ (λ by n a.
+        subst (λ h. Asks (mine c h) t.top body.plan (children (mine c h) t.top) by n) (sym later.grown)
+        (asks_still c.session (λ (e : Entry). is_own c e.seat) c.setting later.newer now (subst (Legal c.setting) later.grown later.legal) by n t.top body.plan follows_now a)) c before now (t.asked (ours_before c t.top now x later ours_top))
+
+    abbrev DoTries : ℕ → List Numbered → Name → Name → Type 0
+    DoTries left rest by n = TriesDo (end (mine c x)) (λ y. Asks (mine c x) y body.plan (children (mine c x) y) by n) (λ more. BodiesAsk (mine c x) rest more by n) left further
+
+    abbrev MoreDo : ℕ → List Numbered → Name → Name → Bool → Type 0
+    MoreDo left rest by n b = MatchBool b (DoTries left rest by n) (BodiesAsk (mine c x) rest further by n)
+
+    with_asked : (left : ℕ) (rest : List Numbered) → AllAsked c now x (λ by n. MoreDo left rest by n again) → AllAsked c before x (λ by n. TriesDo (end (mine c x)) (λ y. Asks (mine c x) y body.plan (children (mine c x) y) by n) (λ more. BodiesAsk (mine c x) rest more by n) (suc left) (t.top ∷ further))
+    with_asked left rest h = asked_trans c before now x _ (asked_wider _ _ (λ by n a. inl a) c before now asked_later) (asked_wider _ _ (λ by n a. inr (subst (MoreDo left rest by n) (sym again_later) a)) c now x h)
+
+  pub top_again : again ≡ true → (x : Past) → IsLater c now x → (left : ℕ) (rest : List Numbered) → EndsTopTries c now x body left rest → EndsTopTries c before x body (suc left) rest
+  top_again is x later left rest ends ours =
+      let e = ends ours in
+      (t.top ∷ e.0, more_later x later e.0 e.1 ours, (one_top x later e.0 e.1 ours, match_true _ (FollowsBodies c.session (mine c x) rest e.0) _ (again_later x later e.0 e.1 ours ∙ is) e.2), with_asked x later e.0 e.1 ours left rest (asked_wider _ _ (λ by n a. match_true _ (BodiesAsk (mine c x) rest e.0 by n) again is a) c now x e.3))
+
+  pub top_last : again ≡ false → (x : Past) → IsLater c now x → (left : ℕ) (rest : List Numbered) → EndsTops c now x rest → EndsTopTries c before x body (suc left) rest
+  top_last is x later left rest ends ours =
+      let e = ends ours in
+      (t.top ∷ e.0, more_later x later e.0 e.1 ours, (one_top x later e.0 e.1 ours, match_false (Tries (end (mine c x)) (FollowsBody c.session (mine c x) body) ⊥ (λ more. FollowsBodies c.session (mine c x) rest more) left e.0) _ _ (again_later x later e.0 e.1 ours ∙ is) e.2), with_asked x later e.0 e.1 ours left rest (asked_wider _ _ (λ by n a. match_false (DoTries x later e.0 e.1 ours left rest by n) _ again is a) c now x e.3))
+
+-- THE LOOPS
+
+pub record TopTriesLeft (c : Client) (body : Numbered) (before now : Past) (left : ℕ) : Type 0 where
+  pub later : IsLater c before now
+  pub in_turn : RanInTurn c before now
+  pub front : (x : Past) → IsLater c now x → (rest : List Numbered) → EndsTopTries c now x body left rest → EndsTops c before x (body ∷ rest)
+
+module _ (c : Client) (body : Numbered) where
+  pub no_top : (now : Past) → Legal c.setting now → TopTriesLeft c body now now body.tries
+  no_top now legal = record { in_turn = turn_itself c now legal; later = later_itself c now legal; front = λ x later rest ends. ends }
+
+  pub top_more : (before now next : Past) (left : ℕ) → TopTriesLeft c body before now (suc left) → TriedTop c body now next true → TopTriesLeft c body before next left
+  top_more before now next left l t = record {
+    in_turn = turn_trans c before now next t.later l.in_turn t.in_turn;
+    later = later_trans c before now next l.later t.later;
+    front = λ x later rest ends. l.front x (later_trans c now next x t.later later) rest (top_again c body now next true t refl x later left rest ends);
+  }
+
+  pub top_out : (before now next : Past) (left : ℕ) → TopTriesLeft c body before now (suc left) → TriedTop c body now next false → RanTops c before next (λ rest. body ∷ rest)
+  top_out before now next left l t = record {
+    in_turn = turn_trans c before now next t.later l.in_turn t.in_turn;
+    later = later_trans c before now next l.later t.later;
+    follows = λ x later rest ends. l.front x (later_trans c now next x t.later later) rest (top_last c body now next false t refl x later left rest ends);
+  }
+
+  pub tops_out : (before now : Past) → TopTriesLeft c body before now 0 → RanTops c before now (λ rest. body ∷ rest)
+  tops_out before now l = record { in_turn = l.in_turn; later = l.later; follows = λ x later rest ends. l.front x later rest ends }
+
+pub record BodiesLeft (c : Client) (bodies : List Body) (before now : Past) (i : ℕ) : Type 0 where
+  pub later : IsLater c before now
+  pub in_turn : RanInTurn c before now
+  pub fits : BodiesFit c.setting (map numbered (drop i bodies))
+  pub front : (x : Past) → IsLater c now x → EndsTops c now x (map numbered (drop i bodies)) → EndsTops c before x (map numbered bodies)
+
+module _ (c : Client) (bodies : List Body) where
+  pub no_body : (now : Past) → Legal c.setting now → BodiesFit c.setting (map numbered bodies) → BodiesLeft c bodies now now 0
+  no_body now legal fits = record { in_turn = turn_itself c now legal; later = later_itself c now legal; fits = fits; front = λ x later ends. ends }
+
+  split : (i : ℕ) (b : Body) → i < length bodies → b ≡ get_or bodies i b → map numbered (drop i bodies) ≡ numbered b ∷ map numbered (drop (i + 1) bodies)
+  split i b below is = ap (map numbered) (let s : drop i bodies ≡ b ∷ drop (i + 1) bodies = rw add-one (drop-cons bodies i b below ∙ ap (λ y. y ∷ drop (suc i) bodies) (sym is)) in s)
+
+  pub fits_body : (before now : Past) (i : ℕ) (b : Body) → BodiesLeft c bodies before now i → i < length bodies → b ≡ get_or bodies i b → PlanFits c.setting 1 (numbered b).plan
+  fits_body before now i b l below is = (subst (BodiesFit c.setting) (split i b below is) l.fits).1
+
+  pub one_body : (before now next : Past) (i : ℕ) (b : Body) → BodiesLeft c bodies before now i → i < length bodies → b ≡ get_or bodies i b → RanTops c now next (λ rest. numbered b ∷ rest) → BodiesLeft c bodies before next (i + 1)
+  one_body before now next i b l below is ran = record {
+    in_turn = turn_trans c before now next ran.later l.in_turn ran.in_turn;
+    later = later_trans c before now next l.later ran.later;
+    fits = (subst (BodiesFit c.setting) (split i b below is) l.fits).2;
+    front = λ x later ends. l.front x (later_trans c now next x ran.later later) (subst (EndsTops c now x) (sym (split i b below is)) (ran.follows x later (map numbered (drop (i + 1) bodies)) ends));
+  }
+
+  pub all_bodies : (before now : Past) (i : ℕ) → BodiesLeft c bodies before now i → length bodies ≤ i → EndsTops c before now (map numbered bodies)
+  all_bodies before now i l past = l.front now (later_itself c now l.later.legal) (subst (EndsTops c now now) (sym (ap (map numbered) (drop_all i bodies past))) (λ ours. ([], sym (append-nil _), tt, ([], refl, tt))))

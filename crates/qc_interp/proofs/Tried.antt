@@ -1,0 +1,346 @@
+-- What the tries of a child leave, what `abort` leaves, and how a transaction commits.
+use Rattle.std.proofs.Common.{◌≡◌, inl, inr, ℕ, suc, ◌<◌, ◌+◌, Bool, true, false, List, [], ◌∷◌, ◌++◌, length, take, refl, sym, ap, ◌∙◌, subst, append-nil, append_assoc, arith, length-append}
+use mathlib.Core.Bool.{true≢false}
+use Rattle.std.specs.Prelude.{Option, None, Some, MatchOption, MatchBool, is_some, is_none, IsTrue, not, find, option_map, option_to_list, if◌then◌else◌, ◌&&◌}
+use Rattle.std.specs.Option.{option_or}
+use Rattle.std.proofs.lemmas.Bool.{false_from_ne_true}
+use Rattle.qc_event.specs.declared.event.Entry.{Entry}
+use Rattle.qc_event.specs.declared.event.Event.TheVariants as event
+use Rattle.qc_event.specs.declared.event.Kind.TheVariants as kind
+use Rattle.qc_event.specs.History.{Past, Name, Begun, end, is_ready, children, is_child, kind_of}
+use Rattle.qc_event.specs.Legal.{Legal}
+use Rattle.qc_event.specs.Standing.{Started, IsUser}
+use Rattle.qc_event.proofs.Absent.{if_not}
+use Rattle.qc_event.proofs.LastNumber.{child_last, length_last, is_ancestor-append}
+use Rattle.qc_event.proofs.OneEntry.{child_added, start_is}
+use Rattle.qc_script.specs.Calls.{by_client, WasRefused}
+use Rattle.qc_script.specs.Client.{Client, mine, is_own, Made, IsLater, AreOurs}
+use Rattle.qc_interp.specs.Follows.{StopsEarly, IsUnended, FollowsPlan}
+use Rattle.qc_script.specs.Plan.{Plan, Numbered}
+use Rattle.qc_interp.specs.Running.{Runs, LeavesIt, Leaves, WhyStop, StopsBy, Stopped, Ends, Ended, WentOn, EndsTries, FrontTries}
+use Rattle.qc_interp.specs.Tries.{Tries, is_tried_again, TriesDo}
+use Rattle.qc_script.specs.declared.tx.TxNo.{TxNo}
+use Rattle.qc_script.specs.declared.tx.TxNo.TheVariants as tx_no
+use Rattle.qc_interp.proofs.Adding.{all_later, start_stays_in, child_top, over_later}
+use Rattle.qc_interp.proofs.Turning.{InTurn, Alone, start_turns, alone_up, some_done}
+use Rattle.qc_interp.proofs.Mine.{kept_some}
+use Rattle.qc_interp.proofs.Still.{follows_still, followed_done, done_closed, again_still}
+use Rattle.qc_interp.proofs.Growth.{made_is, made_later, later_trans, ours_before, started_still, child_length, no_child_by}
+use Rattle.qc_interp.proofs.Managers.{children_quiet, found_quiet, NewChild, new_child}
+use Rattle.qc_interp.proofs.Ending.{unended_again, not_ready, leaves_trans, still, leaves_still, runs_still, leaves_end, children_end, ends_so}
+use Rattle.qc_interp.proofs.StepsLeave.{kind_later, closed_more, ready_short, stop_here}
+use Rattle.std.specs.List.{list_all}
+use Rattle.qc_interp.specs.Adding.{stays_in, AllStayIn}
+use Rattle.qc_interp.specs.Asking.{Asks, AllAsked}
+use Rattle.qc_interp.proofs.Asked.{NoOne, asked_made, asked_none, asked_wider, asked_trans, asks_still}
+
+-- A CHILD THAT BEGINS
+
+module _ (c : Client) (of n : Name) (number : ℕ) (before now : Past) (runs : Runs c of before) (child : is_child of n ≡ true)
+    (m : Made c (by_client c (event.Start n (kind.User c.session number)) ∷ []) before now) where
+  abbrev begins : Entry
+  begins = by_client c (event.Start n (kind.User c.session number))
+
+  now_is : mine c now ≡ begins ∷ mine c before
+  now_is = made_is c _ before now m
+
+  new : NewChild c of n (kind.User c.session number) before now
+  new = new_child c [] [] of n (kind.User c.session number) before now runs.nonroot child m
+
+  longer : length n ≡ length of + 1
+  longer = child_length of n child
+
+  abbrev pub later_begun : IsLater c before now
+  later_begun = made_later c _ before now m
+
+  -- at the transactions from the parent up
+  module _ (p r : Name) (is : of ≡ p ++ r) where
+    short : length p + length r ≡ length of
+    short = sym (ap length is ∙ length-append p r)
+
+    pub end_begun : end (mine c now) p ≡ end (mine c before) p
+    end_begun = ap (λ h. end h p) now_is ∙ found_quiet _ (begins ∷ []) (mine c before) (refl, tt)
+
+    pub ready_begun : is_ready (mine c now) p ≡ is_ready (mine c before) p
+    ready_begun = ap (λ h. is_ready h p) now_is ∙ ap is_some (found_quiet _ (begins ∷ []) (mine c before) (refl, tt))
+
+    pub children_above : 0 < length r → children (mine c now) p ≡ children (mine c before) p
+    children_above far = ap (λ h. children h p) now_is ∙ children_quiet p (begins ∷ []) (mine c before) (if_not (is_child p n) (Some n) (no_child_by p n (λ l. omega (arith, l, longer, short, far))), tt)
+
+  pub children_begun : children (mine c now) of ≡ children (mine c before) of ++ n ∷ []
+  children_begun = ap (λ h. children h of) now_is ∙ child_added begins (mine c before) of n (kind.User c.session number) refl child
+
+  pub kind_begun : kind_of (mine c now) n ≡ Some (kind.User c.session number)
+  kind_begun = ap (λ h. kind_of h n) now_is ∙ ap (option_map (λ (b : Begun). b.kind)) (start_is begins (mine c before) n (kind.User c.session number) new.fresh.no_start refl)
+
+  pub above_begun : (p r : Name) → of ≡ p ++ r → 0 < length r → LeavesIt c p before now
+  above_begun p r is far = record { children = children_above p r is far; ready = ready_begun p r is; unended = subst (λ o. IsUnended p o) (sym (end_begun p r is)) }
+
+  pub inside_begun : AllStayIn c (take 1 of) later_begun.newer
+  inside_begun = ap (list_all (stays_in (take 1 of))) m.made ∙ ap (λ b. b && true) (start_stays_in (take 1 of) n (kind.User c.session number) begins refl (omega (arith, longer, runs.nonroot)) (child_top of n child))
+
+  pub turns_begun : InTurn (mine c before) → Alone (mine c before) of → InTurn (mine c now) × Alone (mine c now) n
+  turns_begun turns alone = subst (λ h. InTurn h × Alone h n) (sym now_is) (start_turns begins (mine c before) of n (kind.User c.session number) refl child turns alone)
+
+  pub none_begun : children (mine c now) n ≡ []
+  none_begun = ap (λ h. children h n) now_is ∙ children_quiet n (begins ∷ []) (mine c before) (if_not (is_child n n) (Some n) (no_child_by n n (λ l. omega (arith, l))), tt) ∙ new.fresh.no_children
+
+  unready_begun : is_ready (mine c now) n ≡ false
+  unready_begun = false_from_ne_true _ (λ h. ready_child h)
+    where
+      ready_child : is_ready (mine c now) n ≡ true → ⊥
+      ready_child h =
+          let short = ready_short c.setting now n m.legal (kept_some (λ (e : Entry). is_own c e.seat) _ now h) in
+          omega (arith, short, longer, runs.nonroot)
+
+  -- the child runs, below its parent
+  pub runs_begun : Runs c n now
+  runs_begun = record {
+    legal = m.legal;
+    user = subst (λ o. MatchOption o ⊥ (λ (b : Begun). IsUser b.kind)) (sym new.started) tt;
+    nonroot = omega (arith, longer);
+    above = above_child;
+    closed = λ ours. ap (find (λ x. is_none (end (mine c now) x))) none_begun;
+  }
+    where
+      l : (j : ℕ) × (n ≡ of ++ j ∷ [])
+      l = child_last of n child
+
+      above_child : (p r : Name) → n ≡ p ++ r → 0 < length p → IsUnended p (end (mine c now) p) × (is_ready (mine c now) p ≡ false)
+      above_child p r is far = elim (Rattle.qc_event.proofs.LastNumber.ends_in r) [
+        | inl none ↦
+            let at : n ≡ p = is ∙ ap (λ x. p ++ x) none ∙ append-nil p in
+            subst (λ x. IsUnended x (end (mine c now) x) × (is_ready (mine c now) x ≡ false)) at (inl (ap (λ h. end h n) now_is ∙ found_quiet _ (begins ∷ []) (mine c before) (refl, tt) ∙ new.fresh.no_end), unready_begun)
+        | inr e ↦
+            let up : of ≡ p ++ e.0 = (Rattle.qc_event.proofs.LastNumber.same_last of (p ++ e.0) l.0 e.1 (sym l.1 ∙ is ∙ ap (λ x. p ++ x) e.2 ∙ sym (append_assoc p e.0 (e.1 ∷ [])))).0 in
+            (subst (λ o. IsUnended p o) (sym (end_begun p e.0 up)) (runs.above p e.0 up far).0, ready_begun p e.0 up ∙ (runs.above p e.0 up far).1)
+      ]
+
+-- A TRY OF A CHILD
+
+-- of a body, that ended, below its parent
+pub record Tried (c : Client) (of : Name) (body : Numbered) (before now : Past) (again : Bool) : Type 0 where
+  pub leaves : Leaves c of before now
+  pub runs : Runs c of now
+  pub child : Name
+  pub more : children (mine c now) of ≡ children (mine c before) of ++ child ∷ []
+  pub kind : kind_of (mine c now) child ≡ Some (kind.User c.session body.number)
+  pub follows : AreOurs c of now → FollowsPlan c.session (mine c now) child body.plan (children (mine c now) child) (end (mine c now) child)
+  pub asked : AreOurs c of now → AllAsked c before now (λ by t. Asks (mine c now) child body.plan (children (mine c now) child) by t)
+  pub tried : again ≡ is_tried_again (end (mine c now) child)
+
+module _ (c : Client) (of n : Name) (body : Numbered) (before mid now : Past) (again : Bool) (runs : Runs c of before) (child : is_child of n ≡ true)
+    (m : Made c (by_client c (event.Start n (kind.User c.session body.number)) ∷ []) before mid) (ended : Ended c n mid now body.plan again) where
+  last : (j : ℕ) × (n ≡ of ++ j ∷ [])
+  last = child_last of n child
+
+  same_top : take 1 n ≡ take 1 of
+  same_top = ap (take 1) last.1 ∙ by_parent of runs.nonroot
+    where
+      by_parent : (p : Name) → 0 < length p → take 1 (p ++ last.0 ∷ []) ≡ take 1 p
+      by_parent [] far = let z : ⊥ = omega (arith, far) in absurd z
+      by_parent (x ∷ p) far = refl
+
+  ours_child : AreOurs c of now → AreOurs c n now
+  ours_child ours = subst (λ t. IsTrue (Rattle.std.specs.List.list_all (λ (e : Entry). Rattle.std.specs.Prelude.◌||◌ (not (Rattle.qc_script.specs.Client.concerns t e.event)) (is_own c e.seat)) now)) (sym same_top) ours
+
+  left : (p r : Name) → of ≡ p ++ r → LeavesIt c p mid now
+  left p r is = ended.leaves.above p (r ++ last.0 ∷ []) (last.1 ∙ ap (λ x. x ++ last.0 ∷ []) is ∙ append_assoc p r (last.0 ∷ [])) (let l : length (r ++ last.0 ∷ []) ≡ length r + 1 = length_last r last.0 in omega (arith, l))
+
+  more_is : children (mine c now) of ≡ children (mine c before) of ++ n ∷ []
+  more_is = (left of [] (sym (append-nil of))).children ∙ children_begun c of n body.number before mid runs child m
+
+  abbrev later_is : IsLater c before now
+  later_is = later_trans c before mid now (later_begun c of n body.number before mid runs child m) ended.leaves.later
+
+  all_are : (further : List Name) → children (mine c now) n ≡ children (mine c mid) n ++ further → children (mine c now) n ≡ further
+  all_are further is = is ∙ ap (λ l. l ++ further) (none_begun c of n body.number before mid runs child m)
+
+  follows_is : AreOurs c of now → FollowsPlan c.session (mine c now) n body.plan (children (mine c now) n) (end (mine c now) n)
+  follows_is ours =
+      let e = ended.ends (ours_child ours) in
+      subst (λ cs. FollowsPlan c.session (mine c now) n body.plan cs (end (mine c now) n)) (sym (all_are e.0 e.1)) e.2
+
+  asked_is : AreOurs c of now → AllAsked c before now (λ by t. Asks (mine c now) n body.plan (children (mine c now) n) by t)
+  asked_is ours =
+      let e = ended.ends (ours_child ours) in
+      asked_trans c before mid now _ (asked_made c _ before mid _ m (tt, tt)) (asked_wider _ _ (λ by t a. subst (λ cs. Asks (mine c now) n body.plan cs by t) (sym (all_are e.0 e.1)) a) c mid now e.3)
+
+  ended_is : AreOurs c of now → is_some (end (mine c now) n) ≡ true
+  ended_is ours = elim (done_closed (mine c now) n (followed_done c.session (mine c now) n body.plan (children (mine c now) n) (end (mine c now) n) (follows_is ours))) [
+    | inl some ↦ some
+    | inr ready ↦
+        let short = ready_short c.setting now n ended.leaves.later.legal (kept_some (λ (e : Entry). is_own c e.seat) _ now ready) in
+        let z : ⊥ = omega (arith, short, child_length of n child, runs.nonroot) in absurd z
+  ]
+
+  leaves_is : Leaves c of before now
+  leaves_is = record {
+    turns = λ ours turns alone.
+        let a = turns_begun c of n body.number before mid runs child m turns alone in
+        let b = ended.leaves.turns (ours_child ours) a.0 a.1 in
+        (b.0, alone_up (mine c now) of n child (some_done (mine c now) n (ended_is ours)) b.1);
+    later = later_is;
+    inside = all_later _ c _ ended.leaves.later.newer (inside_begun c of n body.number before mid runs child m) (subst (λ t. AllStayIn c t ended.leaves.later.newer) same_top ended.leaves.inside);
+    over = λ was r. over_later c before now later_is of (was (sym ((left of [] (sym (append-nil of))).ready ∙ ready_begun c of n body.number before mid runs child m of [] (sym (append-nil of))) ∙ r));
+    above = λ p r is far.
+        let a = above_begun c of n body.number before mid runs child m p r is far in
+        let b = left p r is in
+        record { children = b.children ∙ a.children; ready = b.ready ∙ a.ready; unended = λ h. b.unended (a.unended h) };
+  }
+
+  pub tried_once : Tried c of body before now again
+  tried_once = record {
+    leaves = leaves_is;
+    runs = record {
+      legal = ended.leaves.later.legal;
+      user = subst (λ h. Started h of (λ b. IsUser b.kind)) (sym later_is.grown) (started_still later_is.newer before of _ runs.user);
+      nonroot = runs.nonroot;
+      above = λ p r is far.
+          let b = left p r is in (
+            b.unended (subst (λ o. IsUnended p o) (sym (end_begun c of n body.number before mid runs child m p r is)) (runs.above p r is far).0),
+            b.ready ∙ ready_begun c of n body.number before mid runs child m p r is ∙ (runs.above p r is far).1,
+          );
+      closed = λ ours. closed_more c of before now n later_is more_is (runs.closed (ours_before c of before now later_is ours)) (ended_is ours);
+    };
+    child = n;
+    more = more_is;
+    kind = kind_later c of mid now ended.leaves.later n _ (kind_begun c of n body.number before mid runs child m);
+    follows = follows_is;
+    asked = asked_is;
+    tried = ended.tried;
+  }
+
+-- WHAT TRIES LEAD TO
+
+match_true : (P Q : Type 0) (b : Bool) → b ≡ true → P → MatchBool b P Q
+match_true P Q true is h = h
+match_true P Q false is h = absurd (true≢false (sym is))
+
+match_false : (P Q : Type 0) (b : Bool) → b ≡ false → Q → MatchBool b P Q
+match_false P Q false is h = h
+match_false P Q true is h = absurd (true≢false is)
+
+module _ (c : Client) (of : Name) (body : Numbered) (before now : Past) (again : Bool) (t : Tried c of body before now again) where
+  -- the try by what was seen later
+  module _ (x : Past) (later : IsLater c now x) (ours : AreOurs c of x) where
+    follows_now : FollowsPlan c.session (mine c now) t.child body.plan (children (mine c now) t.child) (end (mine c now) t.child)
+    follows_now = t.follows (ours_before c of now x later ours)
+
+    one_try : (kind_of (mine c x) t.child ≡ Some (kind.User c.session body.number)) × FollowsPlan c.session (mine c x) t.child body.plan (children (mine c x) t.child) (end (mine c x) t.child)
+    one_try = (
+      kind_later c of now x later t.child _ t.kind,
+      subst (λ h. FollowsPlan c.session (mine c h) t.child body.plan (children (mine c h) t.child) (end (mine c h) t.child)) (sym later.grown)
+          (follows_still c.session (λ (e : Entry). is_own c e.seat) c.setting later.newer now (subst (Legal c.setting) later.grown later.legal) t.child body.plan follows_now).0,
+    )
+
+    again_later : is_tried_again (end (mine c x) t.child) ≡ again
+    again_later =
+        ap (λ h. is_tried_again (end (mine c h) t.child)) later.grown
+        ∙ again_still c.session (λ (e : Entry). is_own c e.seat) c.setting later.newer now (subst (Legal c.setting) later.grown later.legal) t.child (done_closed (mine c now) t.child (followed_done c.session (mine c now) t.child body.plan (children (mine c now) t.child) (end (mine c now) t.child) follows_now))
+        ∙ sym t.tried
+
+    asked_later : AllAsked c before now (λ by n. Asks (mine c x) t.child body.plan (children (mine c x) t.child) by n)
+    asked_later = asked_wider _ _ (λ by n a.
+        subst (λ h. Asks (mine c h) t.child body.plan (children (mine c h) t.child) by n) (sym later.grown)
+        (asks_still c.session (λ (e : Entry). is_own c e.seat) c.setting later.newer now (subst (Legal c.setting) later.grown later.legal) by n t.child body.plan follows_now a)) c before now (t.asked (ours_before c of now x later ours))
+
+    abbrev DoTries : ℕ → Plan → List Name → Name → Name → Type 0
+    DoTries left rest further by n = TriesDo (end (mine c x)) (λ y. Asks (mine c x) y body.plan (children (mine c x) y) by n) (λ more. Asks (mine c x) of rest more by n) left further
+
+    abbrev MoreDo : ℕ → Plan → List Name → Name → Name → Bool → Type 0
+    MoreDo left rest further by n b = MatchBool b (DoTries left rest further by n) (Asks (mine c x) of rest further by n)
+
+    with_asked : (left : ℕ) (rest : Plan) (further : List Name) → AllAsked c now x (λ by n. MoreDo left rest further by n again) → AllAsked c before x (λ by n. DoTries (suc left) rest (t.child ∷ further) by n)
+    with_asked left rest further h = asked_trans c before now x _ (asked_wider _ _ (λ by n a. inl a) c before now asked_later) (asked_wider _ _ (λ by n a. inr (subst (MoreDo left rest further by n) (sym again_later) a)) c now x h)
+
+    abbrev Rest : Plan → List Name → Type 0
+    Rest rest further = FollowsPlan c.session (mine c x) of rest further (end (mine c x) of)
+
+    abbrev Try : Name → Type 0
+    Try n = (kind_of (mine c x) n ≡ Some (kind.User c.session body.number)) × FollowsPlan c.session (mine c x) n body.plan (children (mine c x) n) (end (mine c x) n)
+
+    with_try : (left : ℕ) (rest : Plan) (further : List Name) → MatchBool again (Tries (end (mine c x)) Try (StopsEarly of (end (mine c x) of)) (Rest rest) left further) (Rest rest further)
+        → Tries (end (mine c x)) Try (StopsEarly of (end (mine c x) of)) (Rest rest) (suc left) (t.child ∷ further)
+    with_try left rest further h = (one_try, subst (λ b. MatchBool b (Tries (end (mine c x)) Try (StopsEarly of (end (mine c x) of)) (Rest rest) left further) (Rest rest further)) (sym again_later) h)
+
+    more_later : (further : List Name) → children (mine c x) of ≡ children (mine c now) of ++ further → children (mine c x) of ≡ children (mine c before) of ++ t.child ∷ further
+    more_later further is = is ∙ ap (λ l. l ++ further) t.more ∙ append_assoc (children (mine c before) of) (t.child ∷ []) further
+
+  -- one try more, after which there is another
+  pub try_again : again ≡ true → (x : Past) → IsLater c now x → (left : ℕ) (rest : Plan) → EndsTries c of now x body left rest → EndsTries c of before x body (suc left) rest
+  try_again is x later left rest ends ours =
+      let e = ends ours in
+      (t.child ∷ e.0, more_later x later ours e.0 e.1, with_try x later ours left rest e.0 (match_true _ (Rest x later ours rest e.0) again is e.2), with_asked x later ours left rest e.0 (asked_wider _ _ (λ by n a. match_true _ (Asks (mine c x) of rest e.0 by n) again is a) c now x e.3))
+
+  -- one try more, which is the last
+  pub try_last : again ≡ false → (x : Past) → IsLater c now x → (left : ℕ) (rest : Plan) → Ends c of now x rest → EndsTries c of before x body (suc left) rest
+  try_last is x later left rest ends ours =
+      let e = ends ours in
+      (t.child ∷ e.0, more_later x later ours e.0 e.1, with_try x later ours left rest e.0 (match_false (Tries (end (mine c x)) (Try x later ours) (StopsEarly of (end (mine c x) of)) (Rest x later ours rest) left e.0) _ again is e.2), with_asked x later ours left rest e.0 (asked_wider _ _ (λ by n a. match_false (DoTries x later ours left rest e.0 by n) _ again is a) c now x e.3))
+
+-- THE LOOP OVER TRIES
+
+-- so many tries are left
+pub record TriesLeft (c : Client) (of : Name) (body : Numbered) (before now : Past) (left : ℕ) : Type 0 where
+  pub leaves : Leaves c of before now
+  pub runs : Runs c of now
+  pub front : FrontTries c of before now body left
+
+module _ (c : Client) (of : Name) (body : Numbered) where
+  pub none_tried : (now : Past) → Runs c of now → TriesLeft c of body now now body.tries
+  none_tried now runs = record { leaves = Rattle.qc_interp.proofs.Ending.leaves_itself c of now runs.legal; runs = runs; front = λ x later rest ends. ends }
+
+  pub tried_more : (before now next : Past) (left : ℕ) → TriesLeft c of body before now (suc left) → Tried c of body now next true → TriesLeft c of body before next left
+  tried_more before now next left l t = record {
+    leaves = leaves_trans c of before now next l.leaves t.leaves;
+    runs = t.runs;
+    front = λ x later rest ends. l.front x (later_trans c now next x t.leaves.later later) rest (try_again c of body now next true t refl x later left rest ends);
+  }
+
+  pub tried_out : (before now next : Past) (left : ℕ) → TriesLeft c of body before now (suc left) → Tried c of body now next false → WentOn c of before next (Plan.child_then body.number body.tries body.plan)
+  tried_out before now next left l t = record {
+    leaves = leaves_trans c of before now next l.leaves t.leaves;
+    runs = t.runs;
+    follows = λ x later rest ends. l.front x (later_trans c now next x t.leaves.later later) rest (try_last c of body now next false t refl x later left rest ends);
+  }
+
+  pub tried_all : (before now : Past) → TriesLeft c of body before now 0 → WentOn c of before now (Plan.child_then body.number body.tries body.plan)
+  tried_all before now l = record { leaves = l.leaves; runs = l.runs; follows = λ x later rest ends. l.front x later rest ends }
+
+  -- a try was not begun, and the parent has stopped
+  pub not_begun : (before now mid next : Past) (left : ℕ) (why : TxNo) (again : Bool) (rest : Plan) → TriesLeft c of body before now (suc left) → WasRefused c of now mid why → (why ≡ tx_no.Memory → ⊥) → (why ≡ tx_no.Room → ⊥) → Stopped c of why mid next again
+      → Ended c of before next (Plan.child_then body.number body.tries body.plan rest) again
+  not_begun before now mid next left why again rest l refused other full stopped = by_why why refused other full stopped
+    where
+      stops : (why : TxNo) → Made c [] now mid → Stopped c of why mid next again → (StopsBy of why (end (mine c next) of) → StopsEarly of (end (mine c next) of)) → Ended c of before next (Plan.child_then body.number body.tries body.plan rest) again
+      stops why m stopped early = record {
+        leaves = leaves_trans c of before mid next (leaves_trans c of before now mid l.leaves (leaves_still c of now mid m)) stopped.leaves;
+        tried = stopped.tried;
+        ends = l.front next (later_trans c now mid next (made_later c [] now mid m) stopped.leaves.later) rest (λ ours.
+            ([], stopped.children ∙ ap (λ h. children h of) (still c of now mid m) ∙ sym (append-nil _), early (stopped.ended ours), asked_none c now next _ (asked_trans c now mid next NoOne (asked_made c [] now mid NoOne m tt) stopped.asked)));
+      }
+
+      by_why : (why : TxNo) → WasRefused c of now mid why → (why ≡ tx_no.Memory → ⊥) → (why ≡ tx_no.Room → ⊥) → Stopped c of why mid next again → Ended c of before next (Plan.child_then body.number body.tries body.plan rest) again
+      by_why tx_no.Memory refused other full stopped = absurd (other refl)
+      by_why tx_no.Room refused other full stopped = absurd (full refl)
+      by_why (tx_no.Orphan a) refused other full stopped = stops (tx_no.Orphan a) refused.0 stopped (λ s. Rattle.qc_interp.proofs.StepsLeave.orphan_early c of a _ s)
+      by_why tx_no.Ended refused other full stopped = stops tx_no.Ended refused.0 stopped (λ s. Rattle.qc_interp.proofs.Ending.asked_early of _ s)
+      by_why tx_no.Ready refused other full stopped = stops tx_no.Ready refused.0 stopped (λ s. Rattle.qc_interp.proofs.Ending.asked_early of _ s)
+      by_why (tx_no.ChildrenOpen child) refused other full stopped = absurd refused
+      by_why (tx_no.Conflict copy holder) refused other full stopped = absurd refused.1
+      by_why (tx_no.NoQuorum lack) refused other full stopped = absurd refused.1
+      by_why tx_no.Last refused other full stopped = absurd refused.1
+      by_why tx_no.Ledger refused other full stopped = absurd refused.1
+
+  pub begin_stops : (now mid : Past) (why : TxNo) → Runs c of now → WasRefused c of now mid why → (why ≡ tx_no.Memory → ⊥) → (why ≡ tx_no.Room → ⊥) → Runs c of mid × WhyStop c mid of why
+  begin_stops now mid tx_no.Memory runs refused other full = absurd (other refl)
+  begin_stops now mid tx_no.Room runs refused other full = absurd (full refl)
+  begin_stops now mid (tx_no.Orphan a) runs refused other full = (runs_still c of now mid refused.0 runs, refused.1)
+  begin_stops now mid tx_no.Ended runs refused other full = (runs_still c of now mid refused.0 runs, refused.1)
+  begin_stops now mid tx_no.Ready runs refused other full = (runs_still c of now mid refused.0 runs, refused.1)
+  begin_stops now mid (tx_no.ChildrenOpen child) runs refused other full = absurd refused
+  begin_stops now mid (tx_no.Conflict copy holder) runs refused other full = absurd refused.1
+  begin_stops now mid (tx_no.NoQuorum lack) runs refused other full = absurd refused.1
+  begin_stops now mid tx_no.Last runs refused other full = absurd refused.1
+  begin_stops now mid tx_no.Ledger runs refused other full = absurd refused.1

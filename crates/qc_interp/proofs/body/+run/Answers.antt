@@ -1,0 +1,223 @@
+use Rattle.std.proofs.Common.{◌≡◌, ◌<◌, ◌≤◌, ◌+◌, ◌-◌, ℕ, suc, [], ◌∷◌, length, sym, ap, ◌∙◌, subst, arith, append-nil, refl}
+use Rattle.qc_event.specs.declared.event.Event.TheVariants as event
+use Rattle.qc_event.specs.declared.event.Kind.TheVariants as kind
+use Rattle.qc_event.specs.History.{Past, Name}
+use Rattle.qc_script.specs.Calls.{by_client, WasRefused}
+use Rattle.qc_script.specs.Client.{Client, Made}
+use Rattle.qc_script.specs.Plan.{Plan, PlanFits}
+use Rattle.qc_script.specs.Steps.{put, plan_of, numbered}
+use Rattle.qc_interp.specs.Running.{Runs, WhyStop, Stopped, Ended, Stepped}
+use Rattle.qc_interp.proofs.Results.{if_ok}
+use Rattle.qc_interp.proofs.Growth.{child_length}
+use Rattle.qc_interp.proofs.Ending.{unended_commit}
+use Rattle.qc_interp.proofs.Plans.{weight, plan_is, tries_of, number_of, put_read, put_set, put_reconf, put_child, put_abort, step_lighter}
+use Rattle.qc_interp.proofs.Loops.{fits_step, one_done, stopped_there, all_done, none_done}
+use Rattle.qc_interp.proofs.Tried.{TriesLeft, Tried, runs_begun, tried_once, tried_more, tried_out, tried_all, not_begun, begin_stops, none_tried}
+use Rattle.qc_interp.proofs.body.+run.Goals as goal
+
+-- CHILDREN
+
+-- a start told of one client is told of the same
+start_of : (c d : Client) (n : Name) (number other : ℕ) (before now : Past) → d ≡ c → number ≡ other → Made d (by_client d (event.Start n (kind.User d.session number)) ∷ []) before now → Made c (by_client c (event.Start n (kind.User c.session other)) ∷ []) before now
+start_of c d n number other before now same is m = subst (λ k. Made c (by_client c (event.Start n (kind.User c.session k)) ∷ []) before now) is (subst (λ x. Made x (by_client x (event.Start n (kind.User x.session number)) ∷ []) before now) same m)
+
+one_less : (c : Client) (of : Name) (body : Rattle.qc_script.specs.Plan.Numbered) (before now : Past) (counter : ℕ) → counter < body.tries → TriesLeft c of body before now (body.tries - counter) → TriesLeft c of body before now (suc (body.tries - (counter + 1)))
+one_less c of body before now counter few left = subst (TriesLeft c of body before now) (let e : body.tries - counter ≡ suc (body.tries - (counter + 1)) = omega (arith, few) in e) left
+
+pub child_tries-steps-requires : goal.child_tries-steps-requires
+child_tries-steps-requires g t c κs within =
+    let inv = c.loop.invariant in
+    let v = g.T.Tx.view c.args.tx.now in
+    let w = g.T.Tx.view c.loop.tx in
+    let x = g.T.Tx.view c.begin.new.self in
+    let of = c.args.of.now in
+    let body = c.args.body.now in
+    let same = plan_is body c.as_slice.result.now c.as_slice.ensures.value in
+    let made = start_of v.client w.client c.in-Ok.name _ (numbered body).number w.seen x.seen inv.client (sym (number_of body)) c.in-Ok.ensures.ok in
+    let client = c.begin.ensures.client ∙ inv.client in (
+      omega (arith, ap weight same),
+      (
+        within,
+        (
+          subst (λ d. Runs d c.in-Ok.name x.seen) (sym client) (runs_begun v.client of c.in-Ok.name (numbered body).number w.seen x.seen inv.left.runs c.in-Ok.ensures.child made),
+          subst (λ d. PlanFits d.setting (length c.in-Ok.name) (plan_of c.as_slice.result.now)) (sym client)
+              (subst (λ k. PlanFits v.client.setting k (plan_of c.as_slice.result.now)) (sym (child_length of c.in-Ok.name c.in-Ok.ensures.child)) (subst (PlanFits v.client.setting (length of + 1)) (sym same) c.requires.fits)),
+        ),
+      ),
+    )
+
+pub child_tries-returns-then-not-branch-clause-ok : goal.child_tries-returns-then-not-branch-clause-ok
+child_tries-returns-then-not-branch-clause-ok g t c =
+    let inv = c.loop.invariant in
+    let v = g.T.Tx.view c.args.tx.now in
+    let w = g.T.Tx.view c.loop.tx in
+    let x = g.T.Tx.view c.begin.new.self in
+    let y = g.T.Tx.view c.steps.new.tx in
+    let of = c.args.of.now in
+    let body = c.args.body.now in
+    let made = start_of v.client w.client c.in-Ok.name _ (numbered body).number w.seen x.seen inv.client (sym (number_of body)) c.in-Ok.ensures.ok in
+    let ended = subst (λ d. Ended d c.in-Ok.name x.seen y.seen (numbered body).plan c.in_ok-steps-in-Ok.field-0) (c.begin.ensures.client ∙ inv.client)
+    (subst (λ p. Ended x.client c.in-Ok.name x.seen y.seen p c.in_ok-steps-in-Ok.field-0) (plan_is body c.as_slice.result.now c.as_slice.ensures.value) c.in_ok-steps-in-Ok.ensures.ok) in
+    let tried = tried_once v.client of c.in-Ok.name (numbered body) w.seen x.seen y.seen c.in_ok-steps-in-Ok.field-0 inv.left.runs c.in-Ok.ensures.child made ended in
+    tried_out v.client of (numbered body) v.seen w.seen y.seen _ (one_less v.client of (numbered body) v.seen w.seen c.loop.counter (subst (λ n. c.loop.counter < n) (sym (tries_of body)) c.loop-test.true) inv.left)
+    (subst (Tried v.client of (numbered body) w.seen y.seen) c.if-not-branch.true tried)
+
+pub child_tries-stop-requires : goal.child_tries-stop-requires
+child_tries-stop-requires g t c =
+    let inv = c.loop.invariant in
+    let v = g.T.Tx.view c.args.tx.now in
+    let w = g.T.Tx.view c.loop.tx in
+    let x = g.T.Tx.view c.begin.new.self in
+    let of = c.args.of.now in
+    let h = begin_stops v.client of (numbered c.args.body.now) w.seen x.seen c.in-Err.why inv.left.runs (subst (λ d. WasRefused d of w.seen x.seen c.in-Err.why) inv.client c.in-Err.ensures.err) c.in_default.not-Memory c.in_default.not-Room in
+    let client = c.begin.ensures.client ∙ inv.client in
+    record { runs = subst (λ d. Runs d of x.seen) (sym client) h.0; why = subst (λ d. WhyStop d x.seen of c.in-Err.why) (sym client) h.1 }
+
+pub child_tries-returns-in_ok-stop-in_default : goal.child_tries-returns-in_ok-stop-in_default
+child_tries-returns-in_ok-stop-in_default g t c =
+    let inv = c.loop.invariant in
+    let v = g.T.Tx.view c.args.tx.now in
+    let w = g.T.Tx.view c.loop.tx in
+    let x = g.T.Tx.view c.begin.new.self in
+    let y = g.T.Tx.view c.stop.new.tx in
+    let of = c.args.of.now in
+    let body = numbered c.args.body.now in
+    let client = c.begin.ensures.client ∙ inv.client in
+    record {
+      client = c.stop.ensures.client ∙ client;
+      ok = λ rest.
+          not_begun v.client of body v.seen w.seen x.seen y.seen _ c.in-Err.why c.in_ok-stop-in_default.field-0 rest
+          (one_less v.client of body v.seen w.seen c.loop.counter (subst (λ n. c.loop.counter < n) (sym (tries_of c.args.body.now)) c.loop-test.true) inv.left)
+          (subst (λ d. WasRefused d of w.seen x.seen c.in-Err.why) inv.client c.in-Err.ensures.err) c.in_default.not-Memory c.in_default.not-Room
+          (subst (λ d. Stopped d of c.in-Err.why x.seen y.seen c.in_ok-stop-in_default.field-0) client c.in_ok-stop-in_default.ensures.ok);
+      room = tt;
+    }
+
+pub child_tries-loop-preserved : goal.child_tries-loop-preserved
+child_tries-loop-preserved g t c =
+    let inv = c.loop.invariant in
+    let v = g.T.Tx.view c.args.tx.now in
+    let w = g.T.Tx.view c.loop.tx in
+    let x = g.T.Tx.view c.begin.new.self in
+    let y = g.T.Tx.view c.steps.new.tx in
+    let of = c.args.of.now in
+    let body = c.args.body.now in
+    let made = start_of v.client w.client c.in-Ok.name _ (numbered body).number w.seen x.seen inv.client (sym (number_of body)) c.in-Ok.ensures.ok in
+    let ended = subst (λ d. Ended d c.in-Ok.name x.seen y.seen (numbered body).plan c.in_ok-steps-in-Ok.field-0) (c.begin.ensures.client ∙ inv.client)
+    (subst (λ p. Ended x.client c.in-Ok.name x.seen y.seen p c.in_ok-steps-in-Ok.field-0) (plan_is body c.as_slice.result.now c.as_slice.ensures.value) c.in_ok-steps-in-Ok.ensures.ok) in
+    let tried = tried_once v.client of c.in-Ok.name (numbered body) w.seen x.seen y.seen c.in_ok-steps-in-Ok.field-0 inv.left.runs c.in-Ok.ensures.child made ended in
+    record {
+      client = c.steps.ensures.client ∙ c.begin.ensures.client ∙ inv.client;
+      left = tried_more v.client of (numbered body) v.seen w.seen y.seen _ (one_less v.client of (numbered body) v.seen w.seen c.loop.counter (subst (λ n. c.loop.counter < n) (sym (tries_of body)) c.loop-test.true) inv.left)
+          (subst (Tried v.client of (numbered body) w.seen y.seen) c.if-not-branch.false tried);
+    }
+
+pub child_tries-returns-clause-ok : goal.child_tries-returns-clause-ok
+child_tries-returns-clause-ok g t c =
+    let inv = c.loop.invariant in
+    let v = g.T.Tx.view c.args.tx.now in
+    let w = g.T.Tx.view c.loop.tx in
+    let body = numbered c.args.body.now in
+    let over : body.tries ≤ c.loop.counter = subst (λ n. n ≤ c.loop.counter) (sym (tries_of c.args.body.now)) c.loop-test.false in
+    tried_all v.client c.args.of.now body v.seen w.seen (subst (TriesLeft v.client c.args.of.now body v.seen w.seen) (let e : body.tries - c.loop.counter ≡ 0 = omega (arith, over) in e) inv.left)
+
+-- ONE STEP
+
+pub step-returns-in-Read-clause-ok : goal.step-returns-in-Read-clause-ok
+step-returns-in-Read-clause-ok g t c =
+    let v = g.T.Tx.view c.args.tx.now in
+    let w = g.T.Tx.view c.manage.new.tx in
+    if_ok (Stepped v.client c.args.of.now v.seen w.seen (Plan.manage_then (kind.Read c.in-Read.rec))) (Stepped v.client c.args.of.now v.seen w.seen (put c.args.step.now)) c.manage.result
+    (λ r h. subst (λ f. Stepped v.client c.args.of.now v.seen w.seen f r) (sym (ap put c.in-Read.is ∙ put_read c.in-Read.rec)) h) c.manage.ensures.ok
+
+pub step-returns-in-Set-clause-ok : goal.step-returns-in-Set-clause-ok
+step-returns-in-Set-clause-ok g t c =
+    let v = g.T.Tx.view c.args.tx.now in
+    let w = g.T.Tx.view c.manage-in-Set.new.tx in
+    if_ok (Stepped v.client c.args.of.now v.seen w.seen (Plan.manage_then (kind.Write c.in-Set.rec c.in-Set.value))) (Stepped v.client c.args.of.now v.seen w.seen (put c.args.step.now)) c.manage-in-Set.result
+    (λ r h. subst (λ f. Stepped v.client c.args.of.now v.seen w.seen f r) (sym (ap put c.in-Set.is ∙ put_set c.in-Set.rec c.in-Set.value)) h) c.manage-in-Set.ensures.ok
+
+pub step-returns-in-Reconf-clause-ok : goal.step-returns-in-Reconf-clause-ok
+step-returns-in-Reconf-clause-ok g t c =
+    let v = g.T.Tx.view c.args.tx.now in
+    let w = g.T.Tx.view c.manage-in-Reconf.new.tx in
+    if_ok (Stepped v.client c.args.of.now v.seen w.seen (Plan.manage_then (kind.Reconf c.in-Reconf.rec c.in-Reconf.config))) (Stepped v.client c.args.of.now v.seen w.seen (put c.args.step.now)) c.manage-in-Reconf.result
+    (λ r h. subst (λ f. Stepped v.client c.args.of.now v.seen w.seen f r) (sym (ap put c.in-Reconf.is ∙ put_reconf c.in-Reconf.rec c.in-Reconf.config)) h) c.manage-in-Reconf.ensures.ok
+
+pub step-returns-in-Child-clause-ok : goal.step-returns-in-Child-clause-ok
+step-returns-in-Child-clause-ok g t c =
+    let v = g.T.Tx.view c.args.tx.now in
+    let w = g.T.Tx.view c.child_tries.new.tx in
+    let body = numbered c.in-Child.body in
+    if_ok (Stepped v.client c.args.of.now v.seen w.seen (Plan.child_then body.number body.tries body.plan)) (Stepped v.client c.args.of.now v.seen w.seen (put c.args.step.now)) c.child_tries.result
+    (λ r h. subst (λ f. Stepped v.client c.args.of.now v.seen w.seen f r) (sym (ap put c.in-Child.is ∙ put_child c.in-Child.body)) h) c.child_tries.ensures.ok
+
+pub step-returns-in_ok-again-in-Abort-clause-ok : goal.step-returns-in_ok-again-in-Abort-clause-ok
+step-returns-in_ok-again-in-Abort-clause-ok g t c = λ rest.
+    let v = g.T.Tx.view c.args.tx.now in
+    let w = g.T.Tx.view c.ask.new.tx in
+    subst (λ f. Ended v.client c.args.of.now v.seen w.seen (f rest) c.in_ok-again-in-Abort.again) (sym (ap put c.in-Abort.is ∙ put_abort c.in-Abort.levels)) (c.in_ok-again-in-Abort.ensures.ok rest)
+
+-- STEPS
+
+pub steps-step-requires : goal.steps-step-requires
+steps-step-requires g t c κs within =
+    let inv = c.loop-s.invariant in
+    let v = g.T.Tx.view c.args.tx.now in
+    let w = g.T.Tx.view c.loop-s.tx in
+    let of = c.args.of.now in (
+      omega (arith, step_lighter c.args.steps.now c.loop-s.s-index c.s-item.result c.loop-s-test.true c.s-item.is),
+      (
+        within,
+        (
+          subst (λ d. Runs d of w.seen) (sym inv.client) inv.left.runs,
+          subst (λ d. PlanFits d.setting (length of) (put c.s-item.result Plan.done)) (sym inv.client) (fits_step v.client of c.args.steps.now v.seen w.seen w.seen c.loop-s.s-index c.s-item.result inv.left c.loop-s-test.true c.s-item.is),
+        ),
+      ),
+    )
+
+pub steps-returns-in-Some-clause-ok : goal.steps-returns-in-Some-clause-ok
+steps-returns-in-Some-clause-ok g t c =
+    let inv = c.loop-s.invariant in
+    let v = g.T.Tx.view c.args.tx.now in
+    let w = g.T.Tx.view c.loop-s.tx in
+    let x = g.T.Tx.view c.step.new.tx in
+    let of = c.args.of.now in
+    let stepped = subst (λ d. Stepped d of w.seen x.seen (put c.s-item.result) c.in_ok-again.field-0) inv.client c.in_ok-again.ensures.ok in
+    stopped_there v.client of c.args.steps.now v.seen w.seen x.seen c.loop-s.s-index c.s-item.result inv.left c.loop-s-test.true c.s-item.is c.in-Some.again
+    (subst (Stepped v.client of w.seen x.seen (put c.s-item.result)) c.in-Some.is stepped)
+
+pub steps-loop-s-preserved : goal.steps-loop-s-preserved
+steps-loop-s-preserved g t c =
+    let inv = c.loop-s.invariant in
+    let v = g.T.Tx.view c.args.tx.now in
+    let w = g.T.Tx.view c.loop-s.tx in
+    let x = g.T.Tx.view c.step.new.tx in
+    let of = c.args.of.now in
+    let stepped = subst (λ d. Stepped d of w.seen x.seen (put c.s-item.result) c.in_ok-again.field-0) inv.client c.in_ok-again.ensures.ok in
+    record {
+      client = c.step.ensures.client ∙ inv.client;
+      left = one_done v.client of c.args.steps.now v.seen w.seen x.seen c.loop-s.s-index c.s-item.result inv.left c.loop-s-test.true c.s-item.is
+          (subst (Stepped v.client of w.seen x.seen (put c.s-item.result)) c.in_default.is stepped);
+    }
+
+pub steps-returns-clause-ok : goal.steps-returns-clause-ok
+steps-returns-clause-ok g t c =
+    let inv = c.loop-s.invariant in
+    let v = g.T.Tx.view c.args.tx.now in
+    let w = g.T.Tx.view c.loop-s.tx in
+    let x = g.T.Tx.view c.commit.new.tx in
+    let of = c.args.of.now in
+    if_ok (Ended w.client of w.seen x.seen Plan.done) (Ended v.client of v.seen x.seen (plan_of c.args.steps.now)) c.commit.result
+    (λ again e. all_done v.client of c.args.steps.now v.seen w.seen x.seen c.loop-s.s-index again inv.left c.loop-s-test.false (subst (λ d. Ended d of w.seen x.seen Plan.done again) inv.client e)) c.commit.ensures.ok
+
+pub child_tries-loop-init : goal.child_tries-loop-init
+child_tries-loop-init g t c =
+    let v = g.T.Tx.view c.args.tx.now in
+    let b = numbered c.args.body.now in
+    record { client = refl; left = subst (TriesLeft v.client c.args.of.now b v.seen v.seen) (let e : b.tries ≡ b.tries - 0 = omega arith in e) (none_tried v.client c.args.of.now b v.seen c.requires.runs) }
+
+pub steps-loop-s-init : goal.steps-loop-s-init
+steps-loop-s-init g t c =
+    let v = g.T.Tx.view c.args.tx.now in
+    record { client = refl; left = none_done v.client c.args.of.now c.args.steps.now v.seen c.requires.runs c.requires.fits }

@@ -1,0 +1,32 @@
+use Rattle.std.proofs.Common.{◌≡◌, ◌+◌, ◌-◌}
+use Rattle.qc_script.specs.Plan.{Plan}
+use Rattle.qc_script.specs.Steps.{put, plan_of, numbered}
+use Rattle.qc_interp.proofs.Loops.{StepsLeft}
+use Rattle.qc_interp.proofs.Plans.{weight}
+use Rattle.qc_interp.proofs.Tried.{TriesLeft}
+use Rattle.qc_interp.proofs.body.+run.Given as goal
+
+abbrev pub invariant-child_tries-loop : goal.invariant-child_tries-loop
+invariant-child_tries-loop g l =
+    let view = g.T.Tx.view in
+    record {
+      client : (view l.tx).client ≡ (view l.initial.tx).client;
+      left : TriesLeft (view l.initial.tx).client l.of (numbered l.body) (view l.initial.tx).seen (view l.tx).seen ((numbered l.body).tries - l.counter);
+    }
+
+abbrev pub invariant-steps-loop-s : goal.invariant-steps-loop-s
+invariant-steps-loop-s g l =
+    let view = g.T.Tx.view in
+    record {
+      client : (view l.tx).client ≡ (view l.initial.tx).client;
+      left : StepsLeft (view l.initial.tx).client l.of l.steps (view l.initial.tx).seen (view l.tx).seen l.s-index;
+    }
+
+abbrev pub decreases-steps : goal.decreases-steps
+decreases-steps g l = weight (plan_of l.steps.now) + 1
+
+abbrev pub decreases-step : goal.decreases-step
+decreases-step g l = weight (put l.step.now Plan.done)
+
+abbrev pub decreases-child_tries : goal.decreases-child_tries
+decreases-child_tries g l = weight (numbered l.body.now).plan + 3

@@ -1,0 +1,28 @@
+use Rattle.std.proofs.Common.{◌∙◌, subst, ◌∷◌, refl, arith}
+use Rattle.qc_script.specs.Steps.{numbered}
+use Rattle.qc_interp.specs.Session.{RanTops}
+use Rattle.qc_interp.proofs.TopsRun.{one_body, no_body, all_bodies}
+use Rattle.qc_interp.proofs.tops.run_tops.Goals as goal
+
+pub loop-body-preserved : goal.loop-body-preserved
+loop-body-preserved g c =
+    let inv = c.loop-body.invariant in
+    let v = g.T.Tx.view c.args.tx.now in
+    let w = g.T.Tx.view c.loop-body.tx in
+    let x = g.T.Tx.view c.top_tries.new.tx in
+    record {
+      client = c.top_tries.ensures.client ∙ inv.client;
+      left = one_body v.client c.args.bodies.now v.seen w.seen x.seen c.loop-body.body-index c.body-item.result inv.left c.loop-body-test.true c.body-item.is
+          (subst (λ d. RanTops d w.seen x.seen (λ rest. numbered c.body-item.result ∷ rest)) inv.client c.in_ok-top_tries.ensures.ok);
+    }
+
+pub loop-body-init : goal.loop-body-init
+loop-body-init g c =
+    let v = g.T.Tx.view c.args.tx.now in
+    record { client = refl; left = no_body v.client c.args.bodies.now v.seen c.requires.legal c.requires.fits }
+
+pub returns-clause-ok : goal.returns-clause-ok
+returns-clause-ok g c =
+    let v = g.T.Tx.view c.args.tx.now in
+    let w = g.T.Tx.view c.loop-body.tx in
+    all_bodies v.client c.args.bodies.now v.seen w.seen c.loop-body.body-index c.loop-body.invariant.left (omega (arith, c.loop-body-test.false))

@@ -1,0 +1,97 @@
+use Rattle.std.proofs.Common.{◌≡◌, ◌<◌, ◌+◌, ◌-◌, ℕ, suc, [], ◌∷◌, length, false, true, sym, ap, ◌∙◌, subst, arith, refl}
+use Rattle.qc_event.specs.Dead.{outcome_of, is_committed}
+use Rattle.qc_event.specs.declared.event.Entry.{Entry}
+use Rattle.qc_event.specs.declared.event.Event.TheVariants as event
+use Rattle.qc_event.specs.declared.event.Kind.TheVariants as kind
+use Rattle.qc_event.specs.History.{Past, Name, end, is_child}
+use Rattle.qc_event.specs.Legal.{Legal}
+use Rattle.qc_event.proofs.Lawful.{lawful}
+use Rattle.qc_event.proofs.LegalOrderly.{legal_orderly}
+use Rattle.qc_event.proofs.OneEntry.{not_some, some_or_none}
+use Rattle.qc_script.specs.Numbers.{Numbers}
+use Rattle.qc_script.specs.Calls.{by_client}
+use Rattle.qc_script.specs.Client.{Client, Made, mine, is_own}
+use Rattle.qc_script.specs.Plan.{PlanFits, Numbered}
+use Rattle.qc_script.specs.Steps.{plan_of, numbered}
+use Rattle.qc_interp.specs.Running.{Runs, Ended}
+use Rattle.qc_interp.proofs.Growth.{child_length}
+use Rattle.qc_interp.proofs.Mine.{kept_some}
+use Rattle.qc_interp.proofs.Plans.{plan_is, tries_of, number_of}
+use Rattle.qc_interp.proofs.TopsRun.{TopTriesLeft, TriedTop, runs_top, top_once, top_more, top_out, no_top, tops_out}
+use Rattle.qc_interp.proofs.tops.top_tries.Goals as goal
+
+root_uncommitted : (c : Client) (past : Past) (n : Name) → Legal c.setting past → n ≡ [] → is_committed (outcome_of (end (mine c past) n)) ≡ false
+root_uncommitted c past n legal is =
+    let none = not_some (end (mine c past) []) (λ h. some_or_none (end past []) (kept_some (λ (e : Entry). is_own c e.seat) _ past h) (lawful past (legal_orderly c.setting past legal)).no_root_end) in
+    ap (λ m. is_committed (outcome_of (end (mine c past) m))) is ∙ ap (λ o. is_committed (outcome_of o)) none
+
+start_of : (c d : Client) (n : Name) (number other : ℕ) (before now : Past) → d ≡ c → number ≡ other → Made d (by_client d (event.Start n (kind.User d.session number)) ∷ []) before now → Made c (by_client c (event.Start n (kind.User c.session other)) ∷ []) before now
+start_of c d n number other before now same is m = subst (λ k. Made c (by_client c (event.Start n (kind.User c.session k)) ∷ []) before now) is (subst (λ x. Made x (by_client x (event.Start n (kind.User x.session number)) ∷ []) before now) same m)
+
+one_less : (c : Client) (body : Numbered) (before now : Past) (counter : ℕ) → counter < body.tries → TopTriesLeft c body before now (body.tries - counter) → TopTriesLeft c body before now (suc (body.tries - (counter + 1)))
+one_less c body before now counter few left = subst (TopTriesLeft c body before now) (let e : body.tries - counter ≡ suc (body.tries - (counter + 1)) = omega (arith, few) in e) left
+
+pub steps-requires-clause-runs : goal.steps-requires-clause-runs
+steps-requires-clause-runs g c =
+    let inv = c.loop.invariant in
+    let v = g.T.Tx.view c.args.tx.now in
+    let w = g.T.Tx.view c.loop.tx in
+    let x = g.T.Tx.view c.begin.new.self in
+    let body = c.args.body.now in
+    let made = start_of v.client w.client c.in-Ok.name _ (numbered body).number w.seen x.seen inv.client (sym (number_of body)) c.in-Ok.ensures.ok in
+    subst (λ d. Runs d c.in-Ok.name x.seen) (sym (c.begin.ensures.client ∙ inv.client)) (runs_top v.client c.in-Ok.name (numbered body).number w.seen x.seen (subst (λ r. is_child r c.in-Ok.name ≡ true) c.root.ensures c.in-Ok.ensures.child) made)
+
+pub steps-requires-clause-fits : goal.steps-requires-clause-fits
+steps-requires-clause-fits g c =
+    let inv = c.loop.invariant in
+    let v = g.T.Tx.view c.args.tx.now in
+    let body = c.args.body.now in
+    subst (λ (d : Client). PlanFits d.setting (length c.in-Ok.name) (plan_of c.as_slice.result.now)) (sym (c.begin.ensures.client ∙ inv.client))
+    (subst (λ k. PlanFits v.client.setting k (plan_of c.as_slice.result.now)) (sym (child_length [] c.in-Ok.name (subst (λ r. is_child r c.in-Ok.name ≡ true) c.root.ensures c.in-Ok.ensures.child)))
+    (subst (PlanFits v.client.setting 1) (sym (plan_is body c.as_slice.result.now c.as_slice.ensures.value)) c.requires.fits))
+
+pub returns-then-not-branch-clause-ok : goal.returns-then-not-branch-clause-ok
+returns-then-not-branch-clause-ok g c =
+    let inv = c.loop.invariant in
+    let v = g.T.Tx.view c.args.tx.now in
+    let w = g.T.Tx.view c.loop.tx in
+    let x = g.T.Tx.view c.begin.new.self in
+    let y = g.T.Tx.view c.steps.new.tx in
+    let body = c.args.body.now in
+    let made = start_of v.client w.client c.in-Ok.name _ (numbered body).number w.seen x.seen inv.client (sym (number_of body)) c.in-Ok.ensures.ok in
+    let ended = subst (λ d. Ended d c.in-Ok.name x.seen y.seen (numbered body).plan c.in_ok-steps-in-Ok.field-0) (c.begin.ensures.client ∙ inv.client)
+    (subst (λ p. Ended x.client c.in-Ok.name x.seen y.seen p c.in_ok-steps-in-Ok.field-0) (plan_is body c.as_slice.result.now c.as_slice.ensures.value) c.in_ok-steps-in-Ok.ensures.ok) in
+    let tried = top_once v.client c.in-Ok.name (numbered body) w.seen x.seen y.seen c.in_ok-steps-in-Ok.field-0 (subst (λ r. is_child r c.in-Ok.name ≡ true) c.root.ensures c.in-Ok.ensures.child) made (subst (λ d. Numbers d w.seen x.seen) inv.client c.in-Ok.ensures.number) ended in
+    top_out v.client (numbered body) v.seen w.seen y.seen _ (one_less v.client (numbered body) v.seen w.seen c.loop.counter (subst (λ n. c.loop.counter < n) (sym (tries_of body)) c.loop-test.true) inv.left)
+    (subst (TriedTop v.client (numbered body) w.seen y.seen) c.if-not-branch.true tried)
+
+pub loop-preserved : goal.loop-preserved
+loop-preserved g c =
+    let inv = c.loop.invariant in
+    let v = g.T.Tx.view c.args.tx.now in
+    let w = g.T.Tx.view c.loop.tx in
+    let x = g.T.Tx.view c.begin.new.self in
+    let y = g.T.Tx.view c.steps.new.tx in
+    let body = c.args.body.now in
+    let made = start_of v.client w.client c.in-Ok.name _ (numbered body).number w.seen x.seen inv.client (sym (number_of body)) c.in-Ok.ensures.ok in
+    let ended = subst (λ d. Ended d c.in-Ok.name x.seen y.seen (numbered body).plan c.in_ok-steps-in-Ok.field-0) (c.begin.ensures.client ∙ inv.client)
+    (subst (λ p. Ended x.client c.in-Ok.name x.seen y.seen p c.in_ok-steps-in-Ok.field-0) (plan_is body c.as_slice.result.now c.as_slice.ensures.value) c.in_ok-steps-in-Ok.ensures.ok) in
+    let tried = top_once v.client c.in-Ok.name (numbered body) w.seen x.seen y.seen c.in_ok-steps-in-Ok.field-0 (subst (λ r. is_child r c.in-Ok.name ≡ true) c.root.ensures c.in-Ok.ensures.child) made (subst (λ d. Numbers d w.seen x.seen) inv.client c.in-Ok.ensures.number) ended in
+    record {
+      client = c.steps.ensures.client ∙ c.begin.ensures.client ∙ inv.client;
+      left = top_more v.client (numbered body) v.seen w.seen y.seen _ (one_less v.client (numbered body) v.seen w.seen c.loop.counter (subst (λ n. c.loop.counter < n) (sym (tries_of body)) c.loop-test.true) inv.left)
+          (subst (TriedTop v.client (numbered body) w.seen y.seen) c.if-not-branch.false tried);
+    }
+
+pub loop-init : goal.loop-init
+loop-init g c =
+    let v = g.T.Tx.view c.args.tx.now in
+    let b = numbered c.args.body.now in
+    record { client = refl; left = subst (TopTriesLeft v.client b v.seen v.seen) (let e : b.tries ≡ b.tries - 0 = omega arith in e) (no_top v.client b v.seen c.requires.legal) }
+
+pub returns-clause-ok : goal.returns-clause-ok
+returns-clause-ok g c =
+    let v = g.T.Tx.view c.args.tx.now in
+    let w = g.T.Tx.view c.loop.tx in
+    let b = numbered c.args.body.now in
+    tops_out v.client b v.seen w.seen (subst (TopTriesLeft v.client b v.seen w.seen) (let e : b.tries - c.loop.counter ≡ 0 = omega (arith, tries_of c.args.body.now, c.loop-test.false) in e) c.loop.invariant.left)

@@ -1,0 +1,12 @@
+use Rattle.std.proofs.Common.{◌≡◌, ◌-◌}
+use Rattle.qc_script.specs.Steps.{numbered}
+use Rattle.qc_interp.proofs.TopsRun.{TopTriesLeft}
+use Rattle.qc_interp.proofs.tops.top_tries.Given as goal
+
+abbrev pub invariant-loop : goal.invariant-loop
+invariant-loop g l =
+    let view = g.T.Tx.view in
+    record {
+      client : (view l.tx).client ≡ (view l.initial.tx).client;
+      left : TopTriesLeft (view l.initial.tx).client (numbered l.body) (view l.initial.tx).seen (view l.tx).seen ((numbered l.body).tries - l.counter);
+    }

@@ -1,0 +1,50 @@
+-- What the tops of a session leave.
+use Rattle.std.specs.Prelude.{ℕ, ◌≡◌, true, List, [], ◌∷◌, ◌++◌}
+use Rattle.std.specs.List.{AllByRecursion}
+use Rattle.qc_event.specs.Base.{Setting}
+use Rattle.qc_event.specs.History.{Past, Name, end, children}
+use Rattle.qc_interp.specs.Adding.{AllOfOne, own_after, all_over}
+use Rattle.qc_script.specs.Numbers.{Numbers}
+use Rattle.qc_script.specs.Client.{Client, mine, IsLater, AreOurs}
+use Rattle.qc_interp.specs.Follows.{FollowsBody}
+use Rattle.qc_script.specs.Plan.{Numbered, PlanFits}
+use Rattle.qc_script.specs.Numbers.{each}
+use Rattle.qc_interp.specs.Turns.{takes_turn, is_alone}
+use Rattle.qc_interp.specs.Tries.{Tries}
+use Rattle.qc_interp.specs.Asking.{BodiesAsk, AllAsked}
+
+-- the tops that a client made
+abbrev pub tops : Client → Past → List Name
+tops c past = children (mine c past) []
+
+-- the tops are the tries of each body, in order
+abbrev pub FollowsBodies : ℕ → Past → List Numbered → List Name → Type 0
+FollowsBodies s past [] [] = Unit {0}
+FollowsBodies s past [] (t ∷ ts) = ⊥
+FollowsBodies s past (b ∷ bodies) ts = Tries (end past) (FollowsBody s past b) ⊥ (λ further. FollowsBodies s past bodies further) b.tries ts
+
+-- all about each top that a client made, but its commit, is the client's
+abbrev pub AreAllOurs : Client → Past → Type 0
+AreAllOurs c past = AllByRecursion (λ t. AreOurs c t past) (tops c past)
+
+-- From `before` on the tops that a client made are tries of these bodies, and whoever was aborted as another asked was
+-- named by a step `abort` to which that one came.
+abbrev pub EndsTops : Client → Past → Past → List Numbered → Type 0
+EndsTops c before now bodies = AreAllOurs c now → (further : List Name) × (tops c now ≡ tops c before ++ further) × FollowsBodies c.session (mine c now) bodies further
+    × AllAsked c before now (λ by t. BodiesAsk (mine c now) bodies further by t)
+
+-- What was made meanwhile is about these tops alone, which had the next numbers and started once those before were over; it was made in turn, and all of it is done.
+pub record RanInTurn (c : Client) (before now : Past) : Type 0 where
+  pub made : List Name
+  pub more : tops c now ≡ tops c before ++ made
+  pub later : IsLater c before now
+  pub inside : AllOfOne c made later.newer
+  pub numbers : Numbers c before now
+  pub order : AreAllOurs c now → each (own_after c) before ≡ true → all_over c before ≡ true → (each (own_after c) now ≡ true) × (all_over c now ≡ true)
+  pub turns : AreAllOurs c now → each takes_turn (mine c before) ≡ true → is_alone (mine c before) [] ≡ true → (each takes_turn (mine c now) ≡ true) × (is_alone (mine c now) [] ≡ true)
+
+-- the tops of some bodies were run: whatever bodies follow, they follow these
+pub record RanTops (c : Client) (before now : Past) (front : List Numbered → List Numbered) : Type 0 where
+  pub later : IsLater c before now
+  pub in_turn : RanInTurn c before now
+  pub follows : (x : Past) → IsLater c now x → (rest : List Numbered) → EndsTops c now x rest → EndsTops c before x (front rest)

@@ -1,0 +1,55 @@
+//! The tops of a session.
+ghost use Rattle.std.specs.Prelude.{◌≡◌, ◌∷◌, ◌++◌, List, [], length, map, OnOk, IfOk, IfErr};
+ghost use Rattle.qc_event.specs.History.{limit};
+ghost use Rattle.qc_event.specs.Legal.{Legal};
+ghost use Rattle.qc_script.specs.Plan.{Numbered, PlanFits};
+ghost use Rattle.qc_script.specs.Steps.{numbered};
+ghost use Rattle.qc_interp.specs.Session.{EndsTops, RanTops, RanInTurn};
+ghost use Rattle.qc_script.specs.Plan.{BodiesFit};
+
+use crate::body::steps;
+use qc_event::{Name, Short};
+use qc_script::{Body, Tx, TxNo};
+
+// Runs the tries of a body as tops.
+fn top_tries<T: Tx>(tx: &mut T, body: &Body) -> Result<(), Short>
+    requires legal { Legal (T.view tx.old).client.setting (T.view tx.old).seen }
+    requires fits { PlanFits (T.view tx.old).client.setting 1 (numbered body.now).plan }
+    ensures client { (T.view tx.new).client ≡ (T.view tx.old).client }
+    ensures ok { OnOk result (RanTops (T.view tx.old).client (T.view tx.old).seen
+        (T.view tx.new).seen (λ rest. numbered body.now ∷ rest)) }
+    ensures room { IfErr result (λ e. e ≡ Short.Room → length (T.view tx.new).seen ≡ limit) }
+{
+    for _ in 0..body.tries {
+        match tx.begin(&Name::root(), body.number) {
+            Ok(name) => {
+                if !steps(tx, &name, body.steps.as_slice())? {
+                    return Ok(());
+                }
+            }
+            Err(TxNo::Room) => return Err(Short::Room),
+            Err(_) => return Err(Short::Memory),
+        }
+    }
+    Ok(())
+}
+
+/// Runs the tops of these bodies one after another. They get the next numbers, and nothing is made but of them. Where all
+/// about them is its own, but for their commits, they are tries of the bodies in order, each follows its body and starts
+/// once those before it are over, whoever acts does so in turn, and whoever is aborted as another asked is named by a step
+/// `abort` to which that one came.
+pub fn run_tops<T: Tx>(tx: &mut T, bodies: &[Body]) -> Result<(), Short>
+    requires legal { Legal (T.view tx.old).client.setting (T.view tx.old).seen }
+    requires fits { BodiesFit (T.view tx.old).client.setting (map numbered bodies.now) }
+    ensures client { (T.view tx.new).client ≡ (T.view tx.old).client }
+    ensures turns { OnOk result (RanInTurn (T.view tx.old).client (T.view tx.old).seen
+        (T.view tx.new).seen) }
+    ensures ok { OnOk result (EndsTops (T.view tx.old).client (T.view tx.old).seen
+        (T.view tx.new).seen (map numbered bodies.now)) }
+    ensures room { IfErr result (λ e. e ≡ Short.Room → length (T.view tx.new).seen ≡ limit) }
+{
+    for body in bodies {
+        top_tries(tx, body)?;
+    }
+    Ok(())
+}

@@ -1,0 +1,171 @@
+-- What each call of a client makes, or why it makes nothing.
+use Rattle.std.specs.Prelude.{ℕ, ◌≡◌, ◌⊎◌, Bool, true, false, not, ◌||◌, IsTrue, [], ◌∷◌, ◌++◌, length, None, Some, MatchOption, is_some}
+use Rattle.std.specs.List.{AllByRecursion, list_any}
+use Rattle.qc_event.specs.declared.event.Answer.{Answer}
+use Rattle.qc_event.specs.declared.event.Answer.TheVariants as answer
+use Rattle.qc_event.specs.declared.event.Cause.{Cause}
+use Rattle.qc_event.specs.declared.event.Cause.TheVariants as cause
+use Rattle.qc_event.specs.declared.event.Entry.{Entry}
+use Rattle.qc_event.specs.declared.event.Event.{Event}
+use Rattle.qc_event.specs.declared.event.Event.TheVariants as event
+use Rattle.qc_event.specs.declared.event.How.{How}
+use Rattle.qc_event.specs.declared.event.How.TheVariants.{Commit, Abort}
+use Rattle.qc_event.specs.declared.event.Kind.{Kind}
+use Rattle.qc_event.specs.declared.event.Kind.TheVariants as kind
+use Rattle.qc_event.specs.Dead.{outcome, is_committed}
+use Rattle.qc_event.specs.History.{Past, Name, limit, same, start, end, is_ready, is_child}
+use Rattle.qc_event.specs.Standing.{Started, IsAbort}
+use Rattle.qc_event.specs.Users.{UserCause}
+use Rattle.qc_names.specs.Name as name
+use Rattle.qc_script.specs.declared.tx.TxNo.{TxNo}
+use Rattle.qc_script.specs.declared.tx.TxNo.TheVariants as tx_no
+use Rattle.qc_script.specs.Client.{Client, View, Made}
+
+abbrev pub by_client : Client → Event → Entry
+by_client c event = record { seat = c.number; event = event }
+
+abbrev pub is_access : Kind → Bool
+is_access kind.Access = true
+is_access _ = false
+
+-- whether it was aborted as it or another asked
+abbrev pub is_asked : How → Bool
+is_asked (Abort (cause.Asked by)) = true
+is_asked _ = false
+
+-- whether an event tells that a name was unable
+abbrev pub unable_in : Name → Event → Bool
+unable_in n (event.Unable m why) = same m n
+unable_in n _ = false
+
+-- a top has ended, or was unable to be logged
+abbrev pub is_over : Past → Name → Bool
+is_over past t = is_some (end past t) || list_any (λ (e : Entry). unable_in t e.event) past
+
+-- MANAGERS
+
+-- an access of a manager does this
+abbrev pub IsOfAccess : Name → Event → Type 0
+IsOfAccess m (event.Start n k) = IsTrue (is_child m n) × IsTrue (is_access k)
+IsOfAccess m (event.End n how) = IsTrue (is_child m n) × IsTrue (not (is_asked how))
+IsOfAccess m (event.Ready n) = ⊥
+IsOfAccess m (event.Mark n session) = ⊥
+IsOfAccess m _ = Unit {0}
+
+abbrev pub AreOfAccesses : Name → Past → Type 0
+AreOfAccesses m entries = AllByRecursion (λ (e : Entry). IsOfAccess m e.event) entries
+
+-- The client made a manager of a kind, the next child of a transaction, which ended so; between its start and its end
+-- stand entries of its accesses alone.
+pub record Ran (c : Client) (of : Name) (k : Kind) (how : How) (before now : Past) : Type 0 where
+  pub manager : Name
+  pub is_one : IsTrue (is_child of manager)
+  pub not_asked : IsTrue (not (is_asked how))
+  pub inner : Past
+  pub of_accesses : AreOfAccesses manager inner
+  pub made : Made c (by_client c (event.End manager how) ∷ inner ++ by_client c (event.Start manager k) ∷ []) before now
+
+-- a manager ran and committed
+pub record HasRun (c : Client) (of : Name) (k : Kind) (before now : Past) : Type 0 where
+  pub given : Answer
+  pub ran : Ran c of k (Commit given) before now
+
+-- The client started a manager, and want of memory or room cut it off.
+pub record WasCut (c : Client) (of : Name) (k : Kind) (before now : Past) : Type 0 where
+  pub manager : Name
+  pub is_one : IsTrue (is_child of manager)
+  pub inner : Past
+  pub of_accesses : AreOfAccesses manager inner
+  pub made : Made c (inner ++ by_client c (event.Start manager k) ∷ []) before now
+
+-- REFUSALS
+
+-- Why a call about a transaction was refused, by what was then seen: an ancestor, itself among them, is aborted; it has
+-- ended; a child is open; it is ready; the history is full.
+abbrev pub Refuses : Past → Name → TxNo → Type 0
+Refuses seen of (tx_no.Orphan a) = IsTrue (name.is_ancestor a of) × MatchOption (end seen a) ⊥ IsAbort
+Refuses seen of tx_no.Ended = is_some (end seen of) ≡ true
+Refuses seen of (tx_no.ChildrenOpen child) = IsTrue (is_child of child) × (is_some (start seen child) ≡ true) × (end seen child ≡ None)
+Refuses seen of tx_no.Ready = is_ready seen of ≡ true
+Refuses seen of tx_no.Memory = Unit {0}
+Refuses seen of tx_no.Room = length seen ≡ limit
+Refuses seen of _ = ⊥
+
+-- A call to begin a child, or a manager, was refused: nothing was made.
+abbrev pub WasRefused : Client → Name → Past → Past → TxNo → Type 0
+WasRefused c of before now (tx_no.ChildrenOpen child) = ⊥
+WasRefused c of before now why = Made c [] before now × Refuses now of why
+
+-- a mark of the session to which a transaction belongs licenses its abort
+abbrev pub IsMarkedFor : Past → Name → Kind → Type 0
+IsMarkedFor seen n (kind.User session body) = UserCause seen n session cause.Killed
+IsMarkedFor seen n _ = ⊥
+
+-- What a cause to abort a user transaction for stands on, in what was seen: its licence, and for an orphan that the
+-- ancestor has ended. Only marks go by sessions.
+abbrev pub IsGrounded : Past → Name → Cause → Type 0
+IsGrounded seen n (cause.Orphan a) = IsTrue (name.is_ancestor a n) × IsTrue (not (same a n)) × (is_some (end seen a) ≡ true)
+IsGrounded seen n cause.Killed = Started seen n (λ b. IsMarkedFor seen n b.kind)
+IsGrounded seen n c = (session : ℕ) → UserCause seen n session c
+
+-- the ancestor of which it would be an orphan has committed
+abbrev pub IsNone : Past → Cause → Type 0
+IsNone seen (cause.Orphan a) = is_committed (outcome seen a) ≡ true
+IsNone seen c = ⊥
+
+-- An abort was refused: nothing was made, and it had ended or was ready, or would have been no orphan, or it was want of
+-- memory or room.
+abbrev pub NotAborted : Client → Name → Cause → Past → Past → TxNo → Type 0
+NotAborted c of why before now tx_no.Memory = Made c [] before now
+NotAborted c of why before now tx_no.Room = Made c [] before now × (length now ≡ limit)
+NotAborted c of why before now tx_no.Ended = Made c [] before now × ((is_some (end now of) ≡ true) ⊎ IsNone now why)
+NotAborted c of why before now tx_no.Ready = Made c [] before now × (is_ready now of ≡ true)
+NotAborted c of why before now _ = ⊥
+
+-- A manager gave no answer: it did not start, ended for the cause that the call tells, or was cut off.
+abbrev pub GaveNone : Client → Name → Kind → Past → Past → TxNo → Type 0
+GaveNone c of k before now (tx_no.Orphan a) = Refuses now of (tx_no.Orphan a) × (Made c [] before now ⊎ Ran c of k (Abort (cause.Orphan a)) before now)
+GaveNone c of k before now (tx_no.Conflict copy holder) = Ran c of k (Abort (cause.Conflict copy holder)) before now
+GaveNone c of k before now (tx_no.NoQuorum lack) = Ran c of k (Abort (cause.NoQuorum lack)) before now
+GaveNone c of k before now tx_no.Last = Ran c of k (Abort cause.Last) before now
+GaveNone c of k before now tx_no.Memory = Made c [] before now ⊎ WasCut c of k before now
+GaveNone c of k before now tx_no.Room = (Made c [] before now ⊎ WasCut c of k before now) × (length now ≡ limit)
+GaveNone c of k before now why = WasRefused c of before now why
+
+-- COMMITS
+
+-- a top was made ready
+abbrev pub MadeReady : Client → Name → Past → Past → Type 0
+MadeReady c of before now = (length of ≡ 1) × Made c (by_client c (event.Ready of) ∷ []) before now
+
+-- A commit: of a top it makes it ready, and the ledger has then committed it.
+abbrev pub Committed : Client → Name → Past → Past → Type 0
+Committed c (number ∷ []) before now =
+    Made c (by_client c (event.Ready (number ∷ [])) ∷ []) before now × (end now (number ∷ []) ≡ Some (Commit answer.Nothing))
+Committed c of before now = Made c (by_client c (event.End of (Commit answer.Nothing)) ∷ []) before now
+
+-- A commit was refused. Where the ledger failed, the top stays ready, and was told unable. Want of memory or room may
+-- come before a top is ready or after.
+abbrev pub NotCommitted : Client → Name → Past → Past → TxNo → Type 0
+NotCommitted c of before now tx_no.Ledger = (length of ≡ 1) × Made c (by_client c (event.Ready of) ∷ []) before now × (is_over now of ≡ true)
+NotCommitted c of before now tx_no.Memory = Made c [] before now ⊎ MadeReady c of before now
+NotCommitted c of before now tx_no.Room = (Made c [] before now ⊎ MadeReady c of before now) × (length now ≡ limit)
+NotCommitted c of before now why = Made c [] before now × Refuses now of why
+
+-- WHAT A CALL DOES TO A VIEW
+
+-- a user transaction of the client's session and of a body was started
+abbrev pub Began : View → View → ℕ → Name → Type 0
+Began old new body n = Made old.client (by_client old.client (event.Start n (kind.User old.client.session body)) ∷ []) old.seen new.seen
+
+-- a manager ran for a transaction and committed with this answer
+abbrev pub Answers : View → View → Name → Kind → Answer → Type 0
+Answers old new of k given = Ran old.client of k (Commit given) old.seen new.seen
+
+-- a manager gave no answer
+abbrev pub Fails : View → View → Name → Kind → TxNo → Type 0
+Fails old new of k why = GaveNone old.client of k old.seen new.seen why
+
+-- a transaction was aborted for a cause
+abbrev pub Aborts : View → View → Name → Cause → Type 0
+Aborts old new n why = Made old.client (by_client old.client (event.End n (Abort why)) ∷ []) old.seen new.seen

@@ -1,0 +1,108 @@
+//! What a session asks of whoever carries it out.
+ghost use Rattle.std.specs.Prelude.{◌≡◌};
+ghost use Rattle.qc_script.specs.Client.{View};
+
+use qc_event::{Cause, Config, Lack, Name};
+
+/// Why a call was refused.
+///
+/// After `Orphan`, `Conflict`, `NoQuorum` and `Last` a manager that the call started has ended, aborted for that cause,
+/// and the transaction has not ended by the call. After `Ledger` the top stays ready.
+#[derive(Clone, Copy)]
+pub enum TxNo {
+    /// This ancestor, or the transaction itself, is aborted.
+    Orphan(Name),
+    /// Another transaction holds the record at a copy.
+    Conflict { copy: u8, holder: Name },
+    /// No quorum of copies answered.
+    NoQuorum(Lack),
+    /// The record has its last version or generation.
+    Last,
+    /// The transaction has ended.
+    Ended,
+    /// This child of it has not ended.
+    ChildrenOpen(Name),
+    /// It is a top that is ready.
+    Ready,
+    /// The ledger could not log the top.
+    Ledger,
+    /// Memory ran out.
+    Memory,
+    /// The history is full.
+    Room,
+}
+
+/// Carries out what a session asks, in one transaction after another. No call changes what stays of its client, and the
+/// history that it has seen only grows. Each answer is the one that the history then seen gives.
+pub trait Tx: Sized {
+    ghost use Rattle.std.specs.Prelude.{◌≡◌, ◌<◌, ◌⊎◌, [], length, IfOk, IfErr, OnOk, IsTrue};
+    ghost use Rattle.qc_event.specs.declared.event.Answer.TheVariants as answer;
+    ghost use Rattle.qc_event.specs.declared.event.Kind.TheVariants as kind;
+    ghost use Rattle.qc_event.specs.History.{is_child};
+    ghost use Rattle.qc_event.specs.Standing.{Started, IsUser};
+    ghost use Rattle.qc_script.specs.Numbers.{Numbers};
+    ghost use Rattle.qc_script.specs.Calls.{Began, Answers, Fails, Aborts, IsGrounded, WasRefused, NotAborted, Committed, NotCommitted};
+    ghost use Rattle.qc_script.specs.Client.{View};
+    ghost use Rattle.qc_script.specs.Plan.{KindFits};
+
+    /// Its number and branches, its session, table and link, and what it has seen.
+    ghost view: { Self → View };
+
+    /// Starts a child of a body, under the root a top with the next number.
+    fn begin(&mut self, parent: &Name, body: u32) -> Result<Name, TxNo>
+        requires depth { length parent.now < 16 }
+        requires parent { (parent.now ≡ []) ⊎ Started (view self.old).seen parent.now (λ b. IsUser b.kind) }
+        ensures client { (view self.new).client ≡ (view self.old).client }
+        ensures child { IfOk result (λ n. IsTrue (is_child parent.now n)) }
+        ensures ok { IfOk result (Began (view self.old) (view self.new) body) }
+        ensures number { IfOk result (λ _. Numbers
+            (view self.old).client (view self.old).seen (view self.new).seen) }
+        ensures err { IfErr result (WasRefused
+            (view self.old).client parent.now (view self.old).seen (view self.new).seen) };
+
+    /// Reads a record.
+    fn read(&mut self, of: &Name, rec: u8) -> Result<u64, TxNo>
+        requires fits { KindFits (view self.old).client.setting (kind.Read rec) }
+        requires user { Started (view self.old).seen of.now (λ b. IsUser b.kind) }
+        ensures client { (view self.new).client ≡ (view self.old).client }
+        ensures ok { IfOk result (λ value. Answers
+            (view self.old) (view self.new) of.now (kind.Read rec) (answer.Value value)) }
+        ensures err { IfErr result (Fails (view self.old) (view self.new) of.now (kind.Read rec)) };
+
+    /// Writes a value to a record.
+    fn write(&mut self, of: &Name, rec: u8, value: u64) -> Result<(), TxNo>
+        requires fits { KindFits (view self.old).client.setting (kind.Write rec value) }
+        requires user { Started (view self.old).seen of.now (λ b. IsUser b.kind) }
+        ensures client { (view self.new).client ≡ (view self.old).client }
+        ensures ok { OnOk result (Answers
+            (view self.old) (view self.new) of.now (kind.Write rec value) answer.Nothing) }
+        ensures err { IfErr result (Fails (view self.old) (view self.new) of.now (kind.Write rec value)) };
+
+    /// Gives a record another configuration, and answers its generation.
+    fn reconfigure(&mut self, of: &Name, rec: u8, config: &Config) -> Result<u64, TxNo>
+        requires fits { KindFits (view self.old).client.setting (kind.Reconf rec config.now) }
+        requires user { Started (view self.old).seen of.now (λ b. IsUser b.kind) }
+        ensures client { (view self.new).client ≡ (view self.old).client }
+        ensures ok { IfOk result (λ generation. Answers
+            (view self.old) (view self.new) of.now (kind.Reconf rec config.now) (answer.Generation generation)) }
+        ensures err { IfErr result (Fails
+            (view self.old) (view self.new) of.now (kind.Reconf rec config.now)) };
+
+    /// Aborts a transaction for a cause that what was seen licenses.
+    fn abort(&mut self, target: &Name, cause: Cause) -> Result<(), TxNo>
+        requires user { Started (view self.old).seen target.now (λ b. IsUser b.kind) }
+        requires grounded { IsGrounded (view self.old).seen target.now cause }
+        ensures client { (view self.new).client ≡ (view self.old).client }
+        ensures ok { OnOk result (Aborts (view self.old) (view self.new) target.now cause) }
+        ensures err { IfErr result (NotAborted
+            (view self.old).client target.now cause (view self.old).seen (view self.new).seen) };
+
+    /// Commits a transaction. A top becomes ready, and is committed by the ledger.
+    fn commit(&mut self, of: &Name) -> Result<(), TxNo>
+        requires user { Started (view self.old).seen of.now (λ b. IsUser b.kind) }
+        ensures client { (view self.new).client ≡ (view self.old).client }
+        ensures ok { OnOk result (Committed
+            (view self.old).client of.now (view self.old).seen (view self.new).seen) }
+        ensures err { IfErr result (NotCommitted
+            (view self.old).client of.now (view self.old).seen (view self.new).seen) };
+}
