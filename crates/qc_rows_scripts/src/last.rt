@@ -1,12 +1,12 @@
-//! Sessions whose record starts at the last version and generation, as no script can have it.
-ghost use Rattle.std.specs.Prelude.{◌≡◌, [], None, length, map, IfOk};
+//! Clients whose record starts at the last version and generation, as no script can have it.
+ghost use Rattle.std.specs.Prelude.{◌≡◌, [], length, map, IfOk};
 ghost use Rattle.qc_event.specs.Base.{IsConfigFor};
-ghost use Rattle.qc_script.specs.Plan.{TopsWithin};
+ghost use Rattle.qc_script.specs.Plan.{BodiesFit};
 ghost use Rattle.qc_script.specs.Steps.{numbered};
 
 use crate::told::print_order;
+use qc_client::{Client, LoneClient};
 use qc_event::{Base, CLIENT_SEAT, Cause, Config, Entry, Event, How, Tuple};
-use qc_session::{Client, Session};
 use qc_script::{Body, Step};
 use std::alloc::{AllocError, Global};
 use std::io;
@@ -17,13 +17,12 @@ const CLIENT: Client = Client {
     epoch: 1,
 };
 
-// A session over one copy of one record.
-fn at_the_last(alloc: Global, config: Config) -> Result<Session, AllocError>
+// A client over one copy of one record.
+fn at_the_last(alloc: Global, config: Config) -> Result<LoneClient, AllocError>
     requires { IsConfigFor 1 config }
-    ensures copies { IfOk result (λ session. length session.setting.base ≡ 1) }
-    ensures one_record { IfOk result (λ session. length session.setting.firsts ≡ 1) }
-    ensures past { IfOk result (λ session. session.past ≡ []) }
-    ensures dead { IfOk result (λ session. session.dead ≡ None) }
+    ensures copies { IfOk result (λ lone. length lone.client.setting.base ≡ 1) }
+    ensures one_record { IfOk result (λ lone. length lone.client.setting.firsts ≡ 1) }
+    ensures fresh { IfOk result (λ lone. lone.seen ≡ []) }
 {
     let last = Tuple {
         version: u64::MAX,
@@ -34,20 +33,19 @@ fn at_the_last(alloc: Global, config: Config) -> Result<Session, AllocError>
     let only = vec![in alloc; last]?;
     let base = Base::new(vec![in alloc; only]?);
     let firsts = vec![in alloc; config]?;
-    Session::new(alloc, CLIENT, firsts, base, Vec::new(alloc), 1, 4)
+    LoneClient::new(alloc, CLIENT, firsts, base, Vec::new(alloc), 1, 4)
 }
 
 // Runs one top of one step, and prints what the copy was asked and what ended since there is no next number.
-fn print_run(rt: &HostRuntime, mut session: Session, bodies: &[Body]) -> io::Result<()>
-    requires within { TopsWithin (length session.setting.base) (length session.setting.firsts) (map numbered bodies.now) }
-    requires past { session.past ≡ [] }
-    requires dead { session.dead ≡ None }
+fn print_run(rt: &HostRuntime, mut lone: LoneClient, bodies: &[Body]) -> io::Result<()>
+    requires fits { BodiesFit lone.client.setting (map numbered bodies.now) }
+    requires fresh { lone.seen ≡ [] }
 {
-    if session.tops(bodies).is_err() {
+    if lone.run(bodies).is_err() {
         println!(rt; "no memory")?;
     }
-    print_order(rt, session.entries())?;
-    for entry in session.entries() {
+    print_order(rt, lone.entries())?;
+    for entry in lone.entries() {
         print_last(rt, entry)?;
     }
     Ok(())
