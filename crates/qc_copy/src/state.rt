@@ -1,9 +1,11 @@
-ghost use Rattle.std.specs.Prelude.{◌≡◌, ◌<◌, true, IsTrue, not, IfOk, OnOk, OnErr, is_some, Ok, Some, All, length, reverse};
+ghost use Rattle.std.specs.Prelude.{ℕ, List, ◌≡◌, ◌<◌, true, IsTrue, not, IfOk, OnOk, OnErr, is_some, Ok, Some, All, length, reverse};
 ghost use Rattle.qc_event.specs.Clear.{is_get};
 ghost use Rattle.qc_event.specs.History.{Past};
 ghost use Rattle.qc_event.specs.declared.event.Answered.TheVariants.{Granted};
 ghost use Rattle.qc_config.specs.declared.tuple.Tuple.{Tuple};
-ghost use Rattle.qc_moss.specs.Follows.{Follows};
+ghost use Rattle.qc_event.specs.declared.event.Grant.{Grant};
+ghost use Rattle.qc_moss.specs.Follows.{Follows, IsSettled};
+ghost use Rattle.qc_moss.specs.Locks.{StaysAt};
 ghost use Rattle.qc_copy.specs.State as words;
 ghost use Rattle.qc_copy.specs.declared.state.Verdict.TheVariants.{Free};
 
@@ -146,6 +148,24 @@ impl CopyState {
         self.grants.push_reserved(grant_of(ask, &tuple));
         enter(&mut self.firsts, &ask.access, &tuple);
         grant_of(ask, &tuple)
+    }
+
+    /// Settles the locks of one record by what a source tells, and folds what the root holds first (Moss). It
+    /// takes no memory.
+    pub fn settle_by<S: Source>(&mut self, rec: u8, source: &S)
+        requires { rec < length self.old.table.start }
+        ensures copy { self.new.copy ≡ self.old.copy }
+        ensures start { self.new.table.start ≡ self.old.table.start }
+        ensures grants { self.new.grants ≡ self.old.grants }
+        ensures reserved { self.new.table.reserved ≡ self.old.table.reserved }
+        ensures others { (other : ℕ) → (other ≡ rec → ⊥)
+            → StaysAt self.old.table self.new.table other }
+        ensures follows { (past : Past) (given : List Grant) → S.tells source.now past
+            → Follows past given self.old.table → Follows past given self.new.table }
+        ensures settled { (past : Past) → S.tells source.now past
+            → IsSettled past self.new.table rec }
+    {
+        self.locks.settle_by(rec, source);
     }
 
     /// Says whether a request may be granted by a history that a source tells, and grants nothing. Of a request
