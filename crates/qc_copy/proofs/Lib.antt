@@ -1,4 +1,3 @@
-pub mod Moving
+pub mod Halving
 pub mod Replaying
 pub mod Serving
-pub mod Weighing

@@ -6,6 +6,8 @@ use Rattle.qc_config.specs.Tuple.{after}
 use Rattle.qc_event.specs.declared.event.Answered.{Answered}
 use Rattle.qc_event.specs.declared.event.Answered.TheVariants.{Granted, Blocked, Dead}
 use Rattle.qc_event.specs.declared.event.Ask.{Ask}
+use Rattle.qc_copy.specs.declared.state.Verdict.{Verdict}
+use Rattle.qc_copy.specs.declared.state.Verdict.TheVariants as verdicts
 use Rattle.qc_event.specs.declared.event.Grant.{Grant}
 use Rattle.qc_event.specs.History.{Past, Name, same}
 use Rattle.qc_event.specs.Dead.{dead}
@@ -67,3 +69,10 @@ abbrev pub grants_after : Past → State → Ask → List Grant
 grants_after past s ask =
     if is_some (again s.grants ask.access) || is_some (dead past ask.access) || is_some (blocker past s ask) then s.grants else
     s.grants ++ grant_with ask (tuple_after past s ask) ∷ []
+
+-- whether a request may be granted, and with which tuple after it
+abbrev pub verdict : Past → State → Ask → Verdict
+verdict past s ask =
+    option_map_or verdicts.Dead (dead past ask.access)
+    (option_map_or verdicts.Blocked (blocker past s ask)
+    (verdicts.Free (tuple_after past s ask)))

@@ -1,7 +1,9 @@
 //! A copy: it grants what it is asked, by its locks and by the history that it is told.
 #![tactic(auto)]
 
-mod settling;
+mod firsts;
+mod sources;
 mod state;
 
-pub use state::CopyState;
+pub use sources::{Entries, Indexed};
+pub use state::{CopyState, Verdict};

@@ -1,36 +1,56 @@
-ghost use Rattle.std.specs.Prelude.{◌≡◌, ◌<◌, true, IsTrue, not, IfOk, OnOk, OnErr, is_some, Ok, Some, All, length, reverse};
+ghost use Rattle.std.specs.Prelude.{ℕ, List, ◌≡◌, ◌<◌, true, IsTrue, not, IfOk, OnOk, OnErr, is_some, Ok, Some, All, length, reverse};
 ghost use Rattle.qc_event.specs.Clear.{is_get};
 ghost use Rattle.qc_event.specs.History.{Past};
 ghost use Rattle.qc_event.specs.declared.event.Answered.TheVariants.{Granted};
 ghost use Rattle.qc_config.specs.declared.tuple.Tuple.{Tuple};
-ghost use Rattle.qc_moss.specs.Follows.{Follows};
-ghost use Rattle.qc_moss.specs.Locks.{settled_by};
+ghost use Rattle.qc_event.specs.declared.event.Grant.{Grant};
+ghost use Rattle.qc_moss.specs.Follows.{Follows, IsSettled};
+ghost use Rattle.qc_moss.specs.Locks.{StaysAt};
 ghost use Rattle.qc_copy.specs.State as words;
+ghost use Rattle.qc_copy.specs.declared.state.Verdict.TheVariants.{Free};
 
-use crate::settling::settle;
+use crate::firsts::{First, enter, first_of, firsts_of};
+use crate::sources::Entries;
 use qc_config::{Op, Tuple};
-use qc_event::{Answered, Ask, Entry, Grant, Name, Outcome, dead};
-use qc_moss::{Locks, Test};
+use qc_event::{Answered, Ask, Entry, Grant, Name};
+use qc_moss::{Locks, Source, Test};
 use std::alloc::{AllocError, Global};
 use std::marker::Model;
 
-/// A copy: its number, its locks, and what it granted, in order.
+/// Whether a request may be granted: with this tuple after its operation; or whose lock is in its way, or the
+/// shortest aborted ancestor of its access.
+#[derive(Clone, Copy)]
+pub enum Verdict {
+    Free(Tuple),
+    Blocked(Name),
+    Dead(Name),
+}
+
+/// A copy: its number, its locks, what it granted, in order, and what each access was granted first.
 #[derive(Drop)]
 pub struct CopyState {
     copy: u8,
     locks: Locks,
     grants: Vec<Grant>,
+    firsts: Vec<First>,
 }
 
 impl Model for CopyState {
     ghost use Rattle.std.specs.Prelude.{◌≡◌, ◌<◌, true, vec_len, vec_capacity};
-    ghost use Rattle.qc_copy.specs.State.{State};
+    ghost use Rattle.qc_event.specs.History.{Name};
+    ghost use Rattle.qc_copy.specs.Rising.{IsRising, first_of};
+    ghost use Rattle.qc_copy.specs.State.{State, again};
 
     ghost Value = { State };
 
     ghost view = { λ s. record { copy = s.copy; table = s.locks; grants = s.grants.items } };
 
-    ghost invariant = { λ s. s.locks.reserved ≡ true → vec_len s.grants < vec_capacity s.grants };
+    ghost invariant = { λ s. record {
+      room : s.locks.reserved ≡ true → vec_len s.grants < vec_capacity s.grants;
+      room_first : s.locks.reserved ≡ true → vec_len s.firsts < vec_capacity s.firsts;
+      rising : IsRising s.firsts.items;
+      tells : (access : Name) → first_of s.firsts.items access ≡ again s.grants.items access;
+    } };
 }
 
 fn is_write(op: &Op) -> bool
@@ -73,6 +93,7 @@ impl CopyState {
             copy,
             locks,
             grants: grants.to_vec(alloc)?,
+            firsts: firsts_of(alloc, grants)?,
         })
     }
 
@@ -97,21 +118,12 @@ impl CopyState {
         &self.locks
     }
 
-    /// The tuple that an access was granted first, where it was granted one.
+    /// The tuple that an access was granted first, where it was granted one. It takes time in the logarithm of the
+    /// number of grants.
     pub fn again(&self, access: &Name) -> Option<Tuple>
         ensures { result ≡ words.again self.now.grants access.now }
     {
-        self.grants
-            .iter()
-            .find(|grant| grant.access == *access)
-            .map(|grant| grant.tuple)
-    }
-
-    /// Does to the locks what the outcome of a transaction says (Moss). It takes no memory.
-    pub fn settle(&mut self, name: &Name, outcome: Outcome)
-        ensures { self.new ≡ record self.old { table = settled_by self.old.table name.now outcome } }
-    {
-        self.locks.settle(name, outcome);
+        first_of(self.firsts.as_slice(), access)
     }
 
     /// Makes room for one more grant. An error leaves all as it was.
@@ -120,6 +132,7 @@ impl CopyState {
         ensures err { OnErr result (self.new ≡ self.old) }
     {
         self.grants.reserve(1)?;
+        self.firsts.reserve(1)?;
         self.locks.reserve()
     }
 
@@ -133,7 +146,89 @@ impl CopyState {
     {
         let tuple = self.locks.grant(&ask.access, ask.rec, &ask.op);
         self.grants.push_reserved(grant_of(ask, &tuple));
+        enter(&mut self.firsts, &ask.access, &tuple);
         grant_of(ask, &tuple)
+    }
+
+    /// Settles the locks of one record by what a source tells, and folds what the root holds first (Moss). It
+    /// takes no memory.
+    pub fn settle_by<S: Source>(&mut self, rec: u8, source: &S)
+        requires { rec < length self.old.table.start }
+        ensures copy { self.new.copy ≡ self.old.copy }
+        ensures start { self.new.table.start ≡ self.old.table.start }
+        ensures grants { self.new.grants ≡ self.old.grants }
+        ensures reserved { self.new.table.reserved ≡ self.old.table.reserved }
+        ensures others { (other : ℕ) → (other ≡ rec → ⊥)
+            → StaysAt self.old.table self.new.table other }
+        ensures follows { (past : Past) (given : List Grant) → S.tells source.now past
+            → Follows past given self.old.table → Follows past given self.new.table }
+        ensures settled { (past : Past) → S.tells source.now past
+            → IsSettled past self.new.table rec }
+    {
+        self.locks.settle_by(rec, source);
+    }
+
+    /// Says whether a request may be granted by a history that a source tells, and grants nothing. Of a request
+    /// that may, `admit` then grants just that. It settles the locks of the record asked for, and takes no memory.
+    pub fn consult<S: Source>(&mut self, ask: &Ask, source: &S) -> Verdict
+        requires { ask.now.rec < length self.old.table.start }
+        ensures copy { self.new.copy ≡ self.old.copy }
+        ensures start { self.new.table.start ≡ self.old.table.start }
+        ensures grants { self.new.grants ≡ self.old.grants }
+        ensures reserved { self.new.table.reserved ≡ self.old.table.reserved }
+        ensures follows { (past : Past) → S.tells source.now past
+            → Follows past self.old.grants self.old.table
+            → Follows past self.new.grants self.new.table }
+        ensures verdict { (past : Past) → S.tells source.now past
+            → Follows past self.old.grants self.old.table
+            → result ≡ words.verdict past self.old ask.now }
+        ensures admits { (tuple : Tuple) → result ≡ Free tuple
+            → words.grant_of self.new.table ask.now ≡ words.grant_with ask.now tuple }
+    {
+        if let Some(ancestor) = source.dead(&ask.access) {
+            return Verdict::Dead(ancestor);
+        }
+        self.locks.settle_by(ask.rec, source);
+        match self.locks.test(&ask.access, ask.rec, is_write(&ask.op)) {
+            Test::Held(first) => Verdict::Blocked(first),
+            Test::Free => Verdict::Free(self.locks.seen_by(ask.rec).after(&ask.op)),
+        }
+    }
+
+    /// Answers a request by a history that a source tells: what it was granted before, the shortest aborted
+    /// ancestor of a dead access, the access of the first grant in its way, or the tuple after its operation,
+    /// granted now (Moss). The copy's grants need not be those that the history tells. An error leaves all as it
+    /// was.
+    pub fn serve_by<S: Source>(&mut self, ask: &Ask, source: &S) -> Result<Answered, AllocError>
+        requires { ask.now.rec < length self.old.table.start }
+        ensures copy { self.new.copy ≡ self.old.copy }
+        ensures start { self.new.table.start ≡ self.old.table.start }
+        ensures follows { (past : Past) → S.tells source.now past
+            → Follows past self.old.grants self.old.table
+            → Follows past self.new.grants self.new.table }
+
+        // A repeat gets what the first request got.
+        ensures repeat { (tuple : Tuple) → words.again self.old.grants ask.now.access ≡ Some tuple
+            → result ≡ Ok (Granted tuple) }
+        ensures repeated { IsTrue (is_some (words.again self.old.grants ask.now.access))
+            → self.new ≡ self.old }
+        ensures answer { (past : Past) → S.tells source.now past
+            → Follows past self.old.grants self.old.table
+            → IfOk result (λ a. a ≡ words.answer past self.old ask.now) }
+        ensures grants { (past : Past) → S.tells source.now past
+            → Follows past self.old.grants self.old.table
+            → OnOk result (self.new.grants ≡ words.grants_after past self.old ask.now) }
+        ensures err { OnErr result (self.new ≡ self.old) }
+    {
+        if let Some(tuple) = self.again(&ask.access) {
+            return Ok(Answered::Granted(tuple));
+        }
+        self.reserve()?;
+        match self.consult(ask, source) {
+            Verdict::Dead(ancestor) => Ok(Answered::Dead(ancestor)),
+            Verdict::Blocked(first) => Ok(Answered::Blocked(first)),
+            Verdict::Free(_) => Ok(Answered::Granted(self.admit(ask).tuple)),
+        }
     }
 
     /// Answers a request by a history, the oldest entry first: what it was granted before, the shortest
@@ -154,17 +249,6 @@ impl CopyState {
         ensures grants { OnOk result (self.new.grants ≡ words.grants_after (reverse h.now) self.old ask.now) }
         ensures err { OnErr result (self.new ≡ self.old) }
     {
-        if let Some(tuple) = self.again(&ask.access) {
-            return Ok(Answered::Granted(tuple));
-        }
-        self.reserve()?;
-        if let Some(ancestor) = dead(h, &ask.access) {
-            return Ok(Answered::Dead(ancestor));
-        }
-        settle(&mut self.locks, h, ask.rec);
-        match self.locks.test(&ask.access, ask.rec, is_write(&ask.op)) {
-            Test::Held(first) => Ok(Answered::Blocked(first)),
-            Test::Free => Ok(Answered::Granted(self.admit(ask).tuple)),
-        }
+        self.serve_by(ask, &Entries { entries: h })
     }
 }

@@ -1,6 +1,6 @@
 //! One access of a manager: started, sent, and ended by what comes back.
-ghost use Rattle.std.specs.Prelude.{◌≡◌, ◌≤◌, ◌++◌, ◌∷◌, false, not, IsTrue, IsErrOf, All, IfOk, IfErr, OnOk, OnErr, reverse, length};
-ghost use Rattle.qc_event.specs.History.{limit, children};
+ghost use Rattle.std.specs.Prelude.{◌≡◌, ◌≤◌, ◌++◌, ◌∷◌, false, not, IsTrue, IsErrOf, All, IfOk, IfErr, OnOk, OnErr, length};
+ghost use Rattle.qc_event.specs.History.{limit};
 ghost use Rattle.qc_event.specs.Legal.{Allowed};
 ghost use Rattle.qc_event.specs.Seats.{is_client};
 ghost use Rattle.qc_gather.specs.Carrying.{HasGrown, WasCarried, WasNotCarried, HasReason, Rose, entry, began, became};
@@ -16,7 +16,7 @@ ghost use Rattle.qc_store.specs.Served.{MayServe, HasServed, is_answer};
 ghost use Rattle.qc_store.specs.Sites.{is_grant};
 
 use qc_config::Op;
-use qc_event::{Answer, Answered, Ask, Cause, Entry, Event, How, Kind, Name, Short, Why, dead};
+use qc_event::{Answer, Answered, Ask, Cause, Entry, Event, How, Kind, Name, Short, Why};
 use qc_gather::{Carried, CarryNo};
 use qc_net::{Courier, PlanLink, Sent};
 use qc_store::Store;
@@ -32,28 +32,13 @@ pub(crate) struct NextAccess {
     pub op: Op,
 }
 
-// How many children of a name have started.
-fn count_children(h: &[Entry], n: &Name) -> usize
-    ensures { result ≡ length (children (reverse h.now) n.now) }
-{
-    let mut count = 0;
-    for e in h {
-        if let Event::Start { name, .. } = &e.event {
-            if name.len() == n.len() + 1 && n.is_ancestor(name) {
-                count += 1;
-            }
-        }
-    }
-    count
-}
-
 // The request of a manager's next access.
 fn request(store: &Store, next: &NextAccess) -> Ask
     requires may { words.MayMake store.now.setting store.now.past next.now }
     requires bounded { length store.now.past ≤ limit }
     ensures { result ≡ words.request store.now.past next.now }
 {
-    let number = count_children(store.entries(), &next.manager) + 1;
+    let number = store.children(&next.manager) + 1;
     Ask {
         access: next.manager.child(number as u32),
         copy: next.copy,
@@ -244,7 +229,7 @@ pub(crate) fn access(
     ensures met { IsTrue (meets_fates next.now.seat
         (net_of (plan_of (link_of courier.new)) patience) store.new.past) }
 {
-    if let Some(ancestor) = dead(store.entries(), &next.manager) {
+    if let Some(ancestor) = store.dead(&next.manager) {
         return Err(CarryNo::Orphan(ancestor));
     }
     if store.is_full() {

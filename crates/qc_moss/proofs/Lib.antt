@@ -1,5 +1,8 @@
 pub mod Ancestry
-pub mod Answering
+pub mod Inheriting
 pub mod Following
-pub mod Inherits
+pub mod Answering
+pub mod Tables
 pub mod Lists
+pub mod Placing
+pub mod Shortness

@@ -1,11 +1,16 @@
-ghost use Rattle.std.specs.Prelude.{◌≡◌, ◌<◌, true, IsTrue, IfOk, OnOk, OnErr, length, map, filter, All};
+ghost use Rattle.std.specs.Prelude.{ℕ, false, List, ◌∷◌, ◌++◌, [], ◌≡◌, ◌<◌, true, IsTrue, IfOk, OnOk, OnErr, length, fold, vec_len, vec_capacity, All};
 ghost use Rattle.qc_names.specs.Name.{front};
 ghost use Rattle.qc_config.specs.Tuple.{after};
+ghost use Rattle.qc_event.specs.History.{Past};
+ghost use Rattle.qc_event.specs.declared.event.Grant.{Grant};
+ghost use Rattle.qc_moss.specs.Follows.{Follows, IsSettled};
 ghost use Rattle.qc_moss.specs.Locks as locks;
+ghost use Rattle.qc_moss.specs.Locks.{StaysAt};
 
 use crate::holder::Holder;
+use crate::settling::{fold_first, settle_list};
+use crate::source::Source;
 use qc_config::{Op, Tuple};
-use qc_event::Outcome;
 use qc_names::Name;
 use std::alloc::{AllocError, Global};
 use std::marker::Model;
@@ -19,12 +24,14 @@ pub enum Test {
     Held(Name),
 }
 
-/// The locks of one copy, in order of grants for each record. When a transaction commits its parent
-/// inherits its locks and what was done under them; when it aborts they go, and what was there before
-/// stands (Moss).
+/// The locks of one copy, for each record in order of their first grants. When a transaction commits its parent
+/// inherits its locks and what was done under them; when it aborts they go, and what was there before stands
+/// (Moss). All this is done to a record's locks when they are asked for, by `settle_by`. What has come to the root
+/// first is folded into the record's tuple.
 #[derive(Drop)]
 pub struct Locks {
     start: Vec<Tuple>,
+    base: Vec<Tuple>,
     held: Vec<Vec<Holder>>,
     reserved: bool,
 }
@@ -35,50 +42,42 @@ impl Model for Locks {
 
     ghost Value = { Table };
 
-    ghost view = { λ l. record { start = l.start.items; held = lists l.held.items; reserved = l.reserved } };
+    ghost view = { λ l. record { start = l.start.items; base = l.base.items; held = lists l.held.items; reserved = l.reserved } };
 
     ghost invariant = { λ l. record {
       same_length : vec_len l.held ≡ vec_len l.start;
+      same_base : vec_len l.base ≡ vec_len l.start;
       has_room : l.reserved ≡ true → All HasRoom l.held.items;
     } };
 }
 
-fn inherit(held: &mut Vec<Holder>, name: &Name, parent: &Name)
-    requires { parent.now ≡ front name.now }
-    ensures holders { held.new.items ≡ map (locks.inherited name.now) held.old.items }
-    ensures room { locks.HasRoom held.old → locks.HasRoom held.new }
+// A generic push: one at the type of locks gets no proof today.
+fn add<T: Copy>(items: &mut Vec<T>, item: T)
+    requires { vec_len items.old < vec_capacity items.old }
+    ensures { items.new.items ≡ items.old.items ++ item ∷ [] }
 {
-    for i in 0..held.len() {
-        if held[i].at == *name {
-            held[i].at = *parent;
+    items.push_reserved(item);
+}
+
+fn first_barred(held: &[Holder], access: &Name, write: bool) -> Test
+    ensures { result ≡ locks.test_by (locks.first_in_way access.now write held.now) }
+{
+    for holder in held {
+        if let Some(first) = holder.in_way(access, write) {
+            return Test::Held(first);
         }
     }
+    Test::Free
 }
 
-fn let_go(held: &mut Vec<Holder>, name: &Name)
-    ensures holders { held.new.items ≡ filter (locks.is_apart name.now) held.old.items }
-    ensures room { locks.HasRoom held.old → locks.HasRoom held.new }
+fn all_effects(base: &Tuple, held: &[Holder]) -> Tuple
+    ensures { result ≡ fold locks.effect base.now held.now }
 {
-    held.retain(|holder| !name.is_ancestor(&holder.at));
-}
-
-fn inherit_all(held: &mut [Vec<Holder>], name: &Name, parent: &Name)
-    requires { parent.now ≡ front name.now }
-    ensures holders { locks.lists held.new ≡ map (map (locks.inherited name.now)) (locks.lists held.old) }
-    ensures room { All locks.HasRoom held.old → All locks.HasRoom held.new }
-{
-    for list in held.iter_mut() {
-        inherit(list, name, parent);
+    let mut tuple = *base;
+    for holder in held {
+        tuple = holder.effect(&tuple);
     }
-}
-
-fn let_all_go(held: &mut [Vec<Holder>], name: &Name)
-    ensures holders { locks.lists held.new ≡ map (filter (locks.is_apart name.now)) (locks.lists held.old) }
-    ensures room { All locks.HasRoom held.old → All locks.HasRoom held.new }
-{
-    for list in held.iter_mut() {
-        let_go(list, name);
-    }
+    tuple
 }
 
 fn make_room(held: &mut [Vec<Holder>]) -> Result<(), AllocError>
@@ -101,6 +100,7 @@ impl Locks {
             held.push(Vec::new(alloc))?;
         }
         Ok(Locks {
+            base: start.to_vec(alloc)?,
             start,
             held,
             reserved: false,
@@ -115,7 +115,7 @@ impl Locks {
         self.held.len()
     }
 
-    /// The locks of a record, in order of grants.
+    /// The locks of a record, in order of their first grants, without what was folded into its tuple.
     pub fn holders(&self, rec: u8) -> &[Holder]
         requires { rec < length self.now.start }
         ensures { result.now ≡ locks.holders_of self.now rec }
@@ -129,21 +129,16 @@ impl Locks {
         requires { rec < length self.now.start }
         ensures { result ≡ locks.test_of self.now access.now rec write }
     {
-        match self.holders(rec).iter().find(|h| h.bars(access, write)) {
-            Some(holder) => Test::Held(holder.first),
-            None => Test::Free,
-        }
+        first_barred(self.holders(rec), access, write)
     }
 
-    /// What the copy has of a record: its start tuple, changed by what was done under each lock, in order.
+    /// What the copy has of a record: its start tuple, changed by what was folded and then by what was done under
+    /// each lock, in order.
     pub fn seen_by(&self, rec: u8) -> Tuple
         requires { rec < length self.now.start }
         ensures { result ≡ locks.tuple_of self.now rec }
     {
-        let start = self.start[rec as usize];
-        self.holders(rec)
-            .iter()
-            .fold(start, |tuple, holder| tuple.after(&holder.op))
+        all_effects(&self.base[rec as usize], self.holders(rec))
     }
 
     /// Makes room for one more lock of any record. An error leaves all as it was.
@@ -169,28 +164,29 @@ impl Locks {
         ensures lists { length self.old.held ≡ length self.old.start }
     {
         let tuple = self.seen_by(rec).after(op);
-        self.held[rec as usize].push_reserved(Holder {
-            first: *access,
-            at: *access,
-            op: *op,
-        });
+        add(&mut self.held[rec as usize], Holder::alone(access, op));
         self.reserved = false;
         tuple
     }
 
-    /// Does what the outcome of a transaction says: where it committed, its parent inherits the locks that
-    /// it holds; where it aborted, those that it or a descendant holds go. What was reserved stays.
-    pub fn settle(&mut self, name: &Name, outcome: Outcome)
-        ensures { self.new ≡ locks.settled_by self.old name.now outcome }
+    /// Settles the locks of one record by what a source tells: each goes up as far as it was inherited, those of
+    /// the dead go, and what has come to one transaction is one lock, unless something was put under another in
+    /// between. What the root holds first is folded into the record's tuple. It takes no memory, and asks once for
+    /// each lock of the record who made its holder dead, and for each transaction on the way up how it stands.
+    pub fn settle_by<S: Source>(&mut self, rec: u8, source: &S)
+        requires { rec < length self.old.start }
+        ensures start { self.new.start ≡ self.old.start }
+        ensures reserved { self.new.reserved ≡ self.old.reserved }
+        ensures lists { length self.new.held ≡ length self.old.held }
+        ensures others { (other : ℕ) → (other ≡ rec → ⊥) → StaysAt self.old self.new other }
+        ensures follows { (past : Past) (given : List Grant) → S.tells source.now past
+            → Follows past given self.old → Follows past given self.new }
+        ensures settled { (past : Past) → S.tells source.now past → IsSettled past self.new rec }
+        ensures short { locks.is_short (locks.holders_of self.new rec) ≡ true }
+        ensures folded { locks.is_first_root (locks.holders_of self.new rec) ≡ false }
     {
-        match outcome {
-            Outcome::Live => {}
-            Outcome::Committed => {
-                if let Some(parent) = name.parent() {
-                    inherit_all(&mut self.held, name, &parent);
-                }
-            }
-            Outcome::Aborted => let_all_go(&mut self.held, name),
-        }
+        let list = &mut self.held[rec as usize];
+        settle_list(list, source);
+        fold_first(list, &mut self.base[rec as usize]);
     }
 }

@@ -9,3 +9,4 @@ pub mod Pushed
 pub mod Lasting
 pub mod Answering
 pub mod Serving
+pub mod Indexing

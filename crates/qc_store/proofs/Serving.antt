@@ -3,7 +3,7 @@
 use Rattle.std.proofs.Common.{◌≡◌, ℕ, ◌+◌, ◌<◌, Bool, true, false, List, [], ◌∷◌, ◌++◌, length, refl, sym, ap, ap₂, ◌∙◌, subst, arith}
 use mathlib.Core.Bool.{true≢false}
 use Rattle.std.proofs.lemmas.Bool.{le-ltb, ne_eqb}
-use Rattle.std.specs.Prelude.{Result, Ok, Err, OnOk, is_err, IsTrue, nat_lt, Option, None, Some, ◌||◌, if◌then◌else◌, is_some, not, find, filter, slice_index_or, slice_set}
+use Rattle.std.specs.Prelude.{Result, Ok, Err, OnOk, is_err, IsTrue, Option, None, Some, ◌||◌, if◌then◌else◌, is_some, not, find, filter, slice_index_or, slice_set}
 use Rattle.std.specs.Option.{option_map, option_map_or}
 use Rattle.qc_config.specs.declared.tuple.Tuple.{Tuple}
 use Rattle.qc_config.specs.Tuple.{after}

@@ -1,10 +1,11 @@
 -- The copies of a store go on to have what its history tells: while it grows by entries that grant nothing, where
 -- a copy settles its locks, and where it grants.
-use Rattle.std.proofs.Common.{◌≡◌, ℕ, ◌<◌, Bool, List, [], ◌∷◌, ◌++◌, length, refl, sym, ap, ◌∙◌, subst, inl, inr, append-nil, get_or-set_same, get_or-set_other}
+use Rattle.std.proofs.Common.{◌≡◌, ℕ, ◌<◌, Bool, List, [], ◌∷◌, ◌++◌, length, refl, sym, ap, ◌∙◌, subst, inl, inr, append-nil, get_or-set_same, get_or-set_other, arith}
 use mathlib.Core.Bool.{true≢false}
 use Rattle.std.specs.Prelude.{None, Some, option_to_list, if◌then◌else◌, ◌==◌, slice_index_or, slice_set, not, IsTrue}
 use Rattle.std.proofs.lemmas.Bool.{cases_Bool, false_from_ne_true, eqb-true, eq-eqb}
 use Rattle.std.proofs.Math.ListN.{length-set}
+use Rattle.std.proofs.lemmas.List.{get_or_push, get_or_append_left, length_push}
 use Rattle.qc_config.specs.declared.tuple.Tuple.{Tuple}
 use Rattle.qc_event.specs.declared.event.Entry.{Entry}
 use Rattle.qc_event.specs.declared.event.Event.{Event}
@@ -12,7 +13,7 @@ use Rattle.qc_event.specs.declared.event.Event.TheVariants as event
 use Rattle.qc_event.specs.declared.event.Grant.{Grant}
 use Rattle.qc_event.specs.History.{Past, grant_at, grants}
 use Rattle.qc_moss.specs.Follows.{Follows}
-use Rattle.qc_moss.proofs.Following.{grows}
+use Rattle.qc_moss.proofs.Tables.{grows}
 use Rattle.qc_copy.specs.State.{State}
 use Rattle.qc_store.specs.Sites.{is_grant, IsSite, AreSites}
 
@@ -56,6 +57,19 @@ module _ (base : List (List Tuple)) (past now : Past) (sites : List State) (copy
             let apart : copy ≡ c → ⊥ = λ same. true≢false (sym (eq-eqb copy c same) ∙ other) in
             subst (IsSite base now c) (sym (get_or-set_other sites copy c s d (λ same. apart (sym same)))) (others c (slice_index_or sites c d) apart (are.each c d lt))
       ]
+
+-- one copy more
+pub sites_more : (base : List (List Tuple)) (past : Past) (sites : List State) (s : State) → ((c : ℕ) (d : State) → c < length sites → IsSite base past c (slice_index_or sites c d)) → IsSite base past (length sites) s
+    → (c : ℕ) (d : State) → c < length (sites ++ s ∷ []) → IsSite base past c (slice_index_or (sites ++ s ∷ []) c d)
+sites_more base past sites s each last = λ c d lt. elim (cases_Bool (c == length sites)) [
+  | inl is ↦
+      let same : length sites ≡ c = sym (eqb-true c (length sites) is) in
+      subst (λ x. IsSite base past c x) (sym (get_or_push sites s d c same)) (subst (λ n. IsSite base past n s) same last)
+  | inr other ↦
+      let apart : c ≡ length sites → ⊥ = λ is. true≢false (sym (eq-eqb c (length sites) is) ∙ other) in
+      let less : c < length sites = omega (arith, lt, apart, length_push sites s) in
+      subst (λ x. IsSite base past c x) (sym (get_or_append_left sites (s ∷ []) d c less)) (each c d less)
+]
 
 -- a copy did nothing but settle its locks
 pub sites_settled : (base : List (List Tuple)) (past : Past) (sites : List State) (copy : ℕ) (s : State) → AreSites base past sites → IsSite base past copy s → AreSites base past (slice_set sites copy s)

@@ -1,13 +1,16 @@
-ghost use Rattle.std.specs.Prelude.{◌≡◌, ◌≤◌, ◌↔◌, ◌∷◌, [], not, IsTrue, IsErrOf, IfOk, OnOk, OnErr, reverse, length};
+ghost use Rattle.std.specs.Prelude.{◌≡◌, ◌≤◌, ◌<◌, ◌↔◌, ◌∷◌, [], not, IsTrue, IsErrOf, IfOk, OnOk, OnErr, reverse, length};
 ghost use Rattle.qc_event.specs.Base.{first_of, IsProper};
-ghost use Rattle.qc_event.specs.History.{limit};
+ghost use Rattle.qc_event.specs.Dead.{dead as dead_in};
+ghost use Rattle.qc_event.specs.History.{limit, children};
 ghost use Rattle.qc_event.specs.Legal.{Allowed, Legal};
 ghost use Rattle.qc_store.specs.Served as served;
 ghost use Rattle.qc_store.specs.Sites.{is_grant, AreSites};
 
+use crate::history::History;
 use qc_config::Config;
-use qc_copy::CopyState;
-use qc_event::{Answered, Ask, Base, Entry, Event, Grant, Log, Refusal, Short, Tuple, copy_seat};
+use qc_copy::{CopyState, Indexed};
+use qc_desk::Outcomes;
+use qc_event::{Answered, Ask, Base, Entry, Event, Grant, Name, Refusal, Short, Tuple, copy_seat};
 use qc_net::Port;
 use std::alloc::{AllocError, Global};
 use std::marker::Model;
@@ -17,7 +20,7 @@ use std::marker::Model;
 /// which is legal.
 #[derive(Drop)]
 pub struct Store {
-    log: Log,
+    log: History,
     firsts: Vec<Config>,
     base: Base,
     sites: Vec<CopyState>,
@@ -87,7 +90,7 @@ fn refused(ask: &Ask, refusal: Refusal) -> Entry
 }
 
 // Enters what a copy answered to a request that it had not granted before. No copy in one process is down.
-fn enter_answer(log: &mut Log, ask: &Ask, answered: &Answered) -> Result<(), Short>
+fn enter_answer(log: &mut History, ask: &Ask, answered: &Answered) -> Result<(), Short>
     requires { served.IsOfCopy answered.now }
     ensures ok { OnOk result (log.new ≡ served.answer_entry ask.now answered.now ∷ log.old) }
     ensures err { OnErr result (log.new ≡ log.old) }
@@ -110,7 +113,7 @@ impl Store {
     {
         let sites = sites_of(alloc, &base)?;
         Ok(Store {
-            log: Log::new(alloc),
+            log: History::new(alloc),
             firsts,
             base,
             sites,
@@ -157,6 +160,21 @@ impl Store {
         ensures bounded { length self.now.past ≤ limit }
     {
         self.log.is_full()
+    }
+
+    /// The shortest aborted ancestor of a name, in a step for each number of the name.
+    pub fn dead(&self, name: &Name) -> Option<Name>
+        ensures { result ≡ dead_in self.now.past name.now }
+    {
+        self.log.index().dead(name)
+    }
+
+    /// How many children of a name have started, in a step for each number of the name.
+    pub fn children(&self, name: &Name) -> usize
+        requires { 0 < length name.now }
+        ensures { result ≡ length (children self.now.past name.now) }
+    {
+        self.log.index().children(name)
     }
 
     /// Appends an entry that may come next and is no grant, since a copy alone grants; `Room` comes exactly
@@ -208,7 +226,10 @@ impl Port for Store {
         }
         let site = &mut self.sites[ask.copy as usize];
         let repeated = site.again(&ask.access).is_some();
-        let answered = site.serve_with(ask, self.log.as_slice())?;
+        let source = Indexed {
+            index: self.log.index(),
+        };
+        let answered = site.serve_by(ask, &source)?;
         if repeated {
             return Ok(answered);
         }

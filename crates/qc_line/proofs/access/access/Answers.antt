@@ -1,9 +1,8 @@
 -- An access is carried to its end, or told to be cut off where it was, and its line's courier stays in step.
-use Rattle.std.proofs.Common.{◌++◌, refl, sym, ap, ◌∙◌, subst}
+use Rattle.std.proofs.Common.{◌++◌, refl, sym, ◌∙◌, subst}
 use Rattle.std.specs.Prelude.{IsTrue, All}
 use Rattle.std.proofs.lemmas.List.Elements.{All-weaker}
 use Rattle.std.proofs.lemmas.Result.{err_from_is_err_and}
-use Rattle.qc_event.specs.Dead.{dead}
 use Rattle.qc_event.proofs.LegalAgain.{legal_again}
 use Rattle.qc_gather.specs.Carrying.{began, became, HasGrown, WasCarried, WasCutOff}
 use Rattle.qc_line.specs.Access.{MayAccess, Waits, Stands, request}
@@ -25,21 +24,21 @@ may : (c : After-request-ask) → MayAccess c.args.store.now.setting c.args.next
 may c =
     let s = c.args.store.now in
     course.may_access s.setting c.args.next.now.seat s.past c.args.next.now.manager c.args.next.now.copy c.args.next.now.rec c.args.next.now.op c.request-ask.result c.requires.client c.request-ask.ensures c.requires.may
-    (ap (λ p. dead p c.args.next.now.manager) (sym c.entries.ensures.entries) ∙ sym c.dead.ensures ∙ c.in_default.is)
+    (sym c.dead.ensures ∙ c.in_default.is)
 
 is_sent : (c : After-send) → IsSent c.args.next.now.seat c.args.store.now c.send.new.store c.args.next.now.manager c.request-ask.result
 is_sent c =
     let s = c.args.store.now in
     course.sent c.args.next.now.seat s c.begin.new.store c.send.new.store c.args.next.now.manager c.request-ask.result
     (course.may_access s.setting c.args.next.now.seat s.past c.args.next.now.manager c.args.next.now.copy c.args.next.now.rec c.args.next.now.op c.request-ask.result c.requires.client c.request-ask.ensures c.requires.may
-    (ap (λ p. dead p c.args.next.now.manager) (sym c.entries.ensures.entries) ∙ sym c.dead.ensures ∙ c.in_default.is))
+    (sym c.dead.ensures ∙ c.in_default.is))
     c.in_ok-begin.ensures.setting c.in_ok-begin.ensures.ok c.send.ensures.served
 
 pub returns-in-Some-clause-refused : goal.returns-in-Some-clause-refused
 returns-in-Some-clause-refused c =
     let s = c.args.store.now in
     course.not_started s.setting c.args.next.now.seat s.past c.args.next.now.manager c.args.next.now.copy c.args.next.now.rec c.args.next.now.op c.in-Some.ancestor c.requires.may
-    (ap (λ p. dead p c.args.next.now.manager) (sym c.entries.ensures.entries) ∙ sym c.dead.ensures ∙ c.in-Some.is)
+    (sym c.dead.ensures ∙ c.in-Some.is)
 
 pub returns-then-is_full-clause-refused : goal.returns-then-is_full-clause-refused
 returns-then-is_full-clause-refused c =

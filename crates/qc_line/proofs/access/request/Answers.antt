@@ -1,7 +1,6 @@
 -- The next number of a child fits its type, since a manager has fewer children than the history has entries.
-use Rattle.std.proofs.Common.{length, ap, ◌∙◌, arith}
+use Rattle.std.proofs.Common.{ap, arith}
 use Rattle.std.specs.Prelude.{is_some}
-use Rattle.qc_event.specs.History.{children}
 use Rattle.qc_event.proofs.LegalAgain.{legal_again}
 use Rattle.qc_line.proofs.Children.{children_fewer}
 use Rattle.qc_line.proofs.access.request.Goals as goal
@@ -10,14 +9,14 @@ use Rattle.qc_store.proofs.Begun.{IsManagerName, manager_name}
 pub overflow_add-number : goal.overflow_add-number
 overflow_add-number c =
     let fewer = children_fewer c.args.store.now.past c.args.next.now.manager (ap is_some c.requires.may.running.started) in
-    let counted = c.count_children-number.ensures ∙ ap (λ p. length (children p c.args.next.now.manager)) c.entries.ensures.entries in
+    let counted = c.children-number.ensures in
     let bounded = c.requires.bounded in
     omega arith
 
 pub overflow_cast-number : goal.overflow_cast-number
 overflow_cast-number c =
     let fewer = children_fewer c.args.store.now.past c.args.next.now.manager (ap is_some c.requires.may.running.started) in
-    let counted = c.count_children-number.ensures ∙ ap (λ p. length (children p c.args.next.now.manager)) c.entries.ensures.entries in
+    let counted = c.children-number.ensures in
     let bounded = c.requires.bounded in
     omega arith
 
@@ -28,5 +27,10 @@ child-requires-clause-below_a_top c =
 
 pub child-requires-clause-room : goal.child-requires-clause-room
 child-requires-clause-room c =
+    let named : IsManagerName c.args.next.now.manager = manager_name c.args.store.now.setting c.args.store.now.past c.args.next.now.manager _ (legal_again c.args.store.now.setting c.args.store.now.past c.args.store.now.is_legal) c.requires.may.running.started c.requires.may.manages in
+    omega arith
+
+pub children-number-requires : goal.children-number-requires
+children-number-requires c =
     let named : IsManagerName c.args.next.now.manager = manager_name c.args.store.now.setting c.args.store.now.past c.args.next.now.manager _ (legal_again c.args.store.now.setting c.args.store.now.past c.args.store.now.is_legal) c.requires.may.running.started c.requires.may.manages in
     omega arith
