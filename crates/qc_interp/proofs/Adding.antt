@@ -23,7 +23,7 @@ use Rattle.qc_script.specs.Calls.{is_over, unable_in}
 use Rattle.qc_script.specs.Numbers.{each}
 use Rattle.qc_interp.proofs.Growth.{and_both, and_by, child_length}
 
-all_wider : (f g : Entry → Bool) (es : Past) → ((e : Entry) → f e ≡ true → g e ≡ true) → list_all f es ≡ true → list_all g es ≡ true
+pub all_wider : (f g : Entry → Bool) (es : Past) → ((e : Entry) → f e ≡ true → g e ≡ true) → list_all f es ≡ true → list_all g es ≡ true
 all_wider f g [] step h = refl
 all_wider f g (e ∷ es) step h = let p = and_both (f e) (list_all f es) h in and_by (g e) (list_all g es) (step e p.0) (all_wider f g es step p.1)
 
@@ -126,7 +126,7 @@ over_later c a b p n h = subst (λ x. is_over x n ≡ true) (sym p.grown) (over_
 pub over_ended : (past : Past) (n : Name) → is_some (end past n) ≡ true → is_over past n ≡ true
 over_ended past n h = ap (λ b. b || list_any (λ (e : Entry). unable_in n e.event) past) h
 
-names_wider : (f g : Name → Bool) (ns : List Name) → ((n : Name) → f n ≡ true → g n ≡ true) → list_all f ns ≡ true → list_all g ns ≡ true
+pub names_wider : (f g : Name → Bool) (ns : List Name) → ((n : Name) → f n ≡ true → g n ≡ true) → list_all f ns ≡ true → list_all g ns ≡ true
 names_wider f g [] step h = refl
 names_wider f g (n ∷ ns) step h = let p = and_both (f n) (list_all f ns) h in and_by (g n) (list_all g ns) (step n p.0) (names_wider f g ns step p.1)
 

@@ -17,7 +17,7 @@ use Rattle.qc_interp.specs.Asking.{DoesOn, Asks, IsAskedBy, AllAsked, ByItself}
 use Rattle.qc_script.specs.Calls.{IsOfAccess}
 use Rattle.qc_script.specs.Client.{Client, mine, Made}
 use Rattle.qc_interp.specs.Follows.{GoesOn, FollowsPlan, StopsEarly}
-use Rattle.qc_interp.specs.Plan.{Plan}
+use Rattle.qc_script.specs.Plan.{Plan}
 use Rattle.qc_interp.specs.Tries.{Tries, TriesDo, is_tried_again}
 use Rattle.qc_script.specs.Calls.{is_asked}
 use Rattle.qc_interp.proofs.Growth.{made_is}

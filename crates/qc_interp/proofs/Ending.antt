@@ -89,7 +89,7 @@ top_above of (x ∷ xs) r is far = ap (λ n. name.is_ancestor (take 1 n) (x ∷ 
 
 -- A TOP THAT COMMITS IS A READY USER TRANSACTION
 
-top_user : (setting : Setting) (past : Past) (x : ℕ) (b : Begun) → Legal setting past → start past (x ∷ []) ≡ Some b → IsUser b.kind
+pub top_user : (setting : Setting) (past : Past) (x : ℕ) (b : Begun) → Legal setting past → start past (x ∷ []) ≡ Some b → IsUser b.kind
 top_user setting [] x b legal is = absurd cc
 top_user setting (e ∷ past) x b legal is = elim (first_is (start past (x ∷ [])) _ b is) [
   | inl old ↦ top_user setting past x b legal.0 old
@@ -133,21 +133,21 @@ committed_ready setting (e ∷ past) x given legal is = elim (end_step e past (x
 abbrev pub HasActor : Name → How → Type 0
 HasActor n how = (a : Name) × (acts (event.End n how) ≡ Some a) × (name.is_ancestor n a ≡ true)
 
-pub cause_actor : (seen : Past) (n : Name) (s : ℕ) (x : Cause) → IsGrounded seen n s x → HasActor n (Abort x)
-cause_actor seen n s (cause.Asked by) h = (by, refl, h.1)
-cause_actor seen n s (cause.Orphan a) h = (n, refl, itself n)
-cause_actor seen n s (cause.Conflict copy holder) h = (n, refl, itself n)
-cause_actor seen n s (cause.NoQuorum lack) h = (n, refl, itself n)
-cause_actor seen n s cause.Last h = (n, refl, itself n)
-cause_actor seen n s cause.Killed h = (n, refl, itself n)
-cause_actor seen n s (cause.Child x) h = (n, refl, itself n)
-cause_actor seen n s cause.Missed h = (n, refl, itself n)
+pub cause_actor : (seen : Past) (n : Name) (x : Cause) → IsGrounded seen n x → HasActor n (Abort x)
+cause_actor seen n (cause.Asked by) h = (by, refl, (h 0).1)
+cause_actor seen n (cause.Orphan a) h = (n, refl, itself n)
+cause_actor seen n (cause.Conflict copy holder) h = (n, refl, itself n)
+cause_actor seen n (cause.NoQuorum lack) h = (n, refl, itself n)
+cause_actor seen n cause.Last h = (n, refl, itself n)
+cause_actor seen n cause.Killed h = (n, refl, itself n)
+cause_actor seen n (cause.Child x) h = (n, refl, itself n)
+cause_actor seen n cause.Missed h = (n, refl, itself n)
 
 module _ (c : Client) (of : Name) where
   -- WHERE ALL IS ONE'S OWN
 
   module _ (now : Past) (runs : Runs c of now) (ours : AreOurs c of now) where
-    own_end : (p r : Name) (how : How) → of ≡ p ++ r → 0 < length p → (same p (take 1 of) && Rattle.qc_interp.specs.Client.is_commit how) ≡ false → end now p ≡ Some how → end (mine c now) p ≡ Some how
+    own_end : (p r : Name) (how : How) → of ≡ p ++ r → 0 < length p → (same p (take 1 of) && Rattle.qc_script.specs.Client.is_commit how) ≡ false → end now p ≡ Some how → end (mine c now) p ≡ Some how
     own_end p r how is far other h =
         own_found c (λ e. end_in p e.event) how of now (λ e f. subst (λ ev. concerns (take 1 of) ev ≡ true) (sym (ending p e.event how f))
         (ap (λ b. name.is_ancestor (take 1 of) p && not b) other ∙ ap (λ b. b && true) (top_above of p r is far))) ours h
@@ -264,10 +264,10 @@ module _ (c : Client) (of : Name) where
 
   -- QUITTING
 
-  pub quit_ok : (cause : Cause) (before now : Past) → IsGrounded before of c.session cause → ByItself of cause → Made c (by_client c (event.End of (Abort cause)) ∷ []) before now → Quit c of (Abort cause) before now (is_tried_again (Some (Abort cause)))
+  pub quit_ok : (cause : Cause) (before now : Past) → IsGrounded before of cause → ByItself of cause → Made c (by_client c (event.End of (Abort cause)) ∷ []) before now → Quit c of (Abort cause) before now (is_tried_again (Some (Abort cause)))
   quit_ok cause before now grounded itself m = record {
     asked = asked_made c _ before now NoOne m (itself_end of cause itself, tt);
-    leaves = leaves_end (Abort cause) before now m (cause_actor before of c.session cause grounded);
+    leaves = leaves_end (Abort cause) before now m (cause_actor before of cause grounded);
     tried = sym (ap is_tried_again (ends_so (Abort cause) before now m));
     children = children_end (Abort cause) before now m;
     ended = λ ours. inl (ends_so (Abort cause) before now m);
@@ -284,14 +284,15 @@ module _ (c : Client) (of : Name) where
         ended = λ ours. inr (early after ours);
       }
 
-  pub quit_no : (cause : Cause) (before now : Past) (why : TxNo) → Runs c of before → IsGrounded before of c.session cause → NotAborted c of cause before now why → (why ≡ tx_no.Memory → ⊥) → Quit c of (Abort cause) before now false
-  quit_no x before now tx_no.Memory runs grounded none_made other = absurd (other refl)
-  quit_no x before now tx_no.Ended runs grounded none_made other = quit_still (Abort x) before now runs none_made.0 (λ after ours. elim none_made.1 [
+  pub quit_no : (cause : Cause) (before now : Past) (why : TxNo) → Runs c of before → IsGrounded before of cause → NotAborted c of cause before now why → (why ≡ tx_no.Memory → ⊥) → (why ≡ tx_no.Room → ⊥) → Quit c of (Abort cause) before now false
+  quit_no x before now tx_no.Memory runs grounded none_made other full = absurd (other refl)
+  quit_no x before now tx_no.Room runs grounded none_made other full = absurd (full refl)
+  quit_no x before now tx_no.Ended runs grounded none_made other full = quit_still (Abort x) before now runs none_made.0 (λ after ours. elim none_made.1 [
     | inl some ↦ ended_early now after ours some
     | inr none ↦ absurd (by_cause now x after ours grounded none)
   ])
     where
-      by_cause : (now : Past) (x : Cause) → Runs c of now → AreOurs c of now → IsGrounded before of c.session x → IsNone now x → ⊥
+      by_cause : (now : Past) (x : Cause) → Runs c of now → AreOurs c of now → IsGrounded before of x → IsNone now x → ⊥
       by_cause now (cause.Orphan a) after ours grounded none =
           let r = Rattle.qc_event.proofs.LastNumber.rest_of a of grounded.0 in
           not_committed now after ours a r.0 r.1 none
@@ -302,10 +303,10 @@ module _ (c : Client) (of : Name) where
       by_cause now cause.Killed after ours grounded none = none
       by_cause now (cause.Child y) after ours grounded none = none
       by_cause now cause.Missed after ours grounded none = none
-  quit_no x before now tx_no.Ready runs grounded none_made other = quit_still (Abort x) before now runs none_made.0 (λ after ours. absurd (not_ready now after ours of [] (sym (append-nil of)) after.nonroot none_made.1))
-  quit_no x before now (tx_no.Orphan a) runs grounded none_made other = absurd none_made
-  quit_no x before now (tx_no.Conflict copy holder) runs grounded none_made other = absurd none_made
-  quit_no x before now (tx_no.NoQuorum lack) runs grounded none_made other = absurd none_made
-  quit_no x before now tx_no.Last runs grounded none_made other = absurd none_made
-  quit_no x before now (tx_no.ChildrenOpen y) runs grounded none_made other = absurd none_made
-  quit_no x before now tx_no.Ledger runs grounded none_made other = absurd none_made
+  quit_no x before now tx_no.Ready runs grounded none_made other full = quit_still (Abort x) before now runs none_made.0 (λ after ours. absurd (not_ready now after ours of [] (sym (append-nil of)) after.nonroot none_made.1))
+  quit_no x before now (tx_no.Orphan a) runs grounded none_made other full = absurd none_made
+  quit_no x before now (tx_no.Conflict copy holder) runs grounded none_made other full = absurd none_made
+  quit_no x before now (tx_no.NoQuorum lack) runs grounded none_made other full = absurd none_made
+  quit_no x before now tx_no.Last runs grounded none_made other full = absurd none_made
+  quit_no x before now (tx_no.ChildrenOpen y) runs grounded none_made other full = absurd none_made
+  quit_no x before now tx_no.Ledger runs grounded none_made other full = absurd none_made

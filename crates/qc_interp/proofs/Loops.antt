@@ -4,7 +4,8 @@ use Rattle.std.proofs.lemmas.List.{drop_all}
 use Rattle.qc_event.specs.History.{Past, Name}
 use Rattle.qc_script.specs.declared.script.Step.{Step}
 use Rattle.qc_script.specs.Client.{Client, IsLater}
-use Rattle.qc_interp.specs.Plan.{Plan, PlanFits, put, plan_of}
+use Rattle.qc_script.specs.Plan.{Plan, PlanFits}
+use Rattle.qc_script.specs.Steps.{put, plan_of}
 use Rattle.qc_interp.specs.Running.{Runs, Leaves, Ends, Ended, WentOn}
 use Rattle.qc_interp.proofs.Ending.{leaves_itself, leaves_trans}
 use Rattle.qc_interp.proofs.Growth.{later_trans}

@@ -6,7 +6,8 @@ use Rattle.qc_event.specs.Base.{Setting}
 use Rattle.qc_script.specs.declared.script.Body.{Body, out-Body, fold_out-Body}
 use Rattle.qc_script.specs.declared.script.Step.{Step, Step-F, map-Step, out-Step, fold-roll-Step, fold_out-Step}
 use Rattle.qc_script.specs.declared.script.Step.TheVariants as step
-use Rattle.qc_interp.specs.Plan.{Plan, Numbered, before, layer, all_before, numbered, put, plan_of, PlanFits}
+use Rattle.qc_script.specs.Plan.{Plan, Numbered, PlanFits}
+use Rattle.qc_script.specs.Steps.{before, layer, all_before, numbered, put, plan_of}
 
 plan_of_all : (steps : List Step) → all_before (map put steps) ≡ plan_of steps
 plan_of_all [] = refl
@@ -91,7 +92,7 @@ fits_layer : (setting : Setting) (depth : ℕ) (s : Step-F (Plan → Plan) Numbe
 fits_layer setting depth (Step-F.Read rec) rest h = ((h.0, tt), h.1)
 fits_layer setting depth (Step-F.Set rec value) rest h = ((h.0, tt), h.1)
 fits_layer setting depth (Step-F.Reconf rec config) rest h = ((h.0, tt), h.1)
-fits_layer setting depth (Step-F.Child body) rest h = ((h.0, h.1, tt), h.2)
+fits_layer setting depth (Step-F.Child body) rest h = ((h.0, h.1, h.2, tt), h.3)
 fits_layer setting depth (Step-F.Abort levels) rest h = ((h.0, tt), h.1)
 
 pub fits_at : (setting : Setting) (depth : ℕ) (steps : List Step) (i : ℕ) (s : Step) → i < length steps → s ≡ get_or steps i s → PlanFits setting depth (plan_of (drop i steps)) → PlanFits setting depth (put s Plan.done) × PlanFits setting depth (plan_of (drop (i + 1) steps))

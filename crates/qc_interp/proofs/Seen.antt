@@ -19,7 +19,7 @@ use Rattle.qc_event.proofs.OneEntry.{starting, ending, marking, some_or_none, no
 use Rattle.qc_names.specs.Name as name
 use Rattle.qc_script.specs.Client.{Client, mine, is_own, concerns, is_commit, AreOurs, all_ours}
 use Rattle.qc_interp.specs.Follows.{StopsEarly, GoesOn, Commits, FollowsPlan}
-use Rattle.qc_interp.specs.Plan.{Plan}
+use Rattle.qc_script.specs.Plan.{Plan}
 use Rattle.qc_interp.specs.Asking.{DoesOn, Asks}
 use Rattle.qc_interp.specs.Tries.{Tries, TriesDo, is_tried_again}
 use Rattle.qc_interp.proofs.Mine.{kept_some, some_is}
@@ -76,7 +76,7 @@ module _ (c : Client) (of : Name) (past : Past) (ours : AreOurs c of past) where
     same_start : start (mine c past) n ≡ start past n
     same_start = same_found _ (λ e y h. let s = starting n e.seat e.event (ap is_some h) in subst (λ ev. concerns (take 1 of) ev ≡ true) (sym s.1) low)
 
-    same_kind : kind_of (mine c past) n ≡ kind_of past n
+    pub same_kind : kind_of (mine c past) n ≡ kind_of past n
     same_kind = ap (option_map (λ (b : Begun). b.kind)) same_start
 
     same_ready : is_ready (mine c past) n ≡ is_ready past n

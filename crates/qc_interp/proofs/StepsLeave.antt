@@ -23,8 +23,8 @@ use Rattle.qc_names.specs.Name as name
 use Rattle.qc_script.specs.Calls.{HasRun, Refuses, GaveNone}
 use Rattle.qc_script.specs.Client.{Client, mine, is_own, concerns, Made, IsLater, AreOurs}
 use Rattle.qc_interp.specs.Follows.{StopsEarly, WasAsked, IsUnended, FollowsPlan, GoesOn, is_handed_on}
-use Rattle.qc_interp.specs.Plan.{Plan}
-use Rattle.qc_script.specs.Calls.{KindFits}
+use Rattle.qc_script.specs.Plan.{Plan}
+use Rattle.qc_script.specs.Plan.{KindFits}
 use Rattle.qc_interp.specs.Running.{Runs, Leaves, WhyStop, StopsBy, Stopped, Ended, WentOn}
 use Rattle.qc_script.specs.declared.tx.TxNo.{TxNo}
 use Rattle.qc_script.specs.declared.tx.TxNo.TheVariants as tx_no
@@ -155,25 +155,26 @@ module _ (c : Client) (of : Name) where
       }
 
   -- why a transaction stops whose manager gave no answer
-  pub manage_stops : (k : Kind) (before mid : Past) (why : TxNo) → KindFits c.setting k → Runs c of before → GaveNone c of k before mid why → (why ≡ tx_no.Memory → ⊥) → Runs c of mid × WhyStop c mid of why
-  manage_stops k before mid tx_no.Memory fits runs none other = absurd (other refl)
-  manage_stops k before mid (tx_no.Orphan a) fits runs none other = elim none.1 [
+  pub manage_stops : (k : Kind) (before mid : Past) (why : TxNo) → KindFits c.setting k → Runs c of before → GaveNone c of k before mid why → (why ≡ tx_no.Memory → ⊥) → (why ≡ tx_no.Room → ⊥) → Runs c of mid × WhyStop c mid of why
+  manage_stops k before mid tx_no.Memory fits runs none other full = absurd (other refl)
+  manage_stops k before mid tx_no.Room fits runs none other full = absurd (full refl)
+  manage_stops k before mid (tx_no.Orphan a) fits runs none other full = elim none.1 [
     | inl m ↦ (runs_still c of before mid m runs, none.0)
     | inr ran ↦ (runs_managed k _ _ before mid (managed c of k _ before mid runs.nonroot ran) runs, none.0)
   ]
-  manage_stops k before mid (tx_no.Conflict copy holder) fits runs ran other =
+  manage_stops k before mid (tx_no.Conflict copy holder) fits runs ran other full =
       let m = managed c of k _ before mid runs.nonroot ran in
       (runs_managed k _ _ before mid m runs, user_cause k _ _ before mid (manages c.setting k fits) m)
-  manage_stops k before mid (tx_no.NoQuorum lack) fits runs ran other =
+  manage_stops k before mid (tx_no.NoQuorum lack) fits runs ran other full =
       let m = managed c of k _ before mid runs.nonroot ran in
       (runs_managed k _ _ before mid m runs, user_cause k _ _ before mid (manages c.setting k fits) m)
-  manage_stops k before mid tx_no.Last fits runs ran other =
+  manage_stops k before mid tx_no.Last fits runs ran other full =
       let m = managed c of k _ before mid runs.nonroot ran in
       (runs_managed k _ _ before mid m runs, user_cause k _ _ before mid (manages c.setting k fits) m)
-  manage_stops k before mid tx_no.Ended fits runs none other = (runs_still c of before mid none.0 runs, none.1)
-  manage_stops k before mid tx_no.Ready fits runs none other = (runs_still c of before mid none.0 runs, none.1)
-  manage_stops k before mid (tx_no.ChildrenOpen child) fits runs none other = absurd none
-  manage_stops k before mid tx_no.Ledger fits runs none other = absurd none.1
+  manage_stops k before mid tx_no.Ended fits runs none other full = (runs_still c of before mid none.0 runs, none.1)
+  manage_stops k before mid tx_no.Ready fits runs none other full = (runs_still c of before mid none.0 runs, none.1)
+  manage_stops k before mid (tx_no.ChildrenOpen child) fits runs none other full = absurd none
+  manage_stops k before mid tx_no.Ledger fits runs none other full = absurd none.1
 
   -- it stops without a child
   pub stopped_still : (before mid now : Past) (why : TxNo) (again : Bool) (plan : Plan) → Made c [] before mid → Stopped c of why mid now again
@@ -210,22 +211,23 @@ module _ (c : Client) (of : Name) where
   orphan_early a how (inl e) = subst (StopsEarly of) (sym e) tt
   orphan_early a how (inr s) = asked_early of how s
 
-  pub manage_over : (k : Kind) (before mid now : Past) (why : TxNo) (again : Bool) (rest : Plan) → Runs c of before → GaveNone c of k before mid why → (why ≡ tx_no.Memory → ⊥) → Stopped c of why mid now again → Ended c of before now (Plan.manage_then k rest) again
-  manage_over k before mid now tx_no.Memory again rest runs none other stopped = absurd (other refl)
-  manage_over k before mid now (tx_no.Orphan a) again rest runs none other stopped = elim none.1 [
+  pub manage_over : (k : Kind) (before mid now : Past) (why : TxNo) (again : Bool) (rest : Plan) → Runs c of before → GaveNone c of k before mid why → (why ≡ tx_no.Memory → ⊥) → (why ≡ tx_no.Room → ⊥) → Stopped c of why mid now again → Ended c of before now (Plan.manage_then k rest) again
+  manage_over k before mid now tx_no.Memory again rest runs none other full stopped = absurd (other refl)
+  manage_over k before mid now tx_no.Room again rest runs none other full stopped = absurd (full refl)
+  manage_over k before mid now (tx_no.Orphan a) again rest runs none other full stopped = elim none.1 [
     | inl m ↦ stopped_still before mid now _ again _ m stopped (λ s. orphan_early a _ s)
     | inr ran ↦ stopped_managed k _ _ before mid now _ again rest (managed c of k _ before mid runs.nonroot ran) stopped (λ s. inr (orphan_early a _ s))
   ]
-  manage_over k before mid now (tx_no.Conflict copy holder) again rest runs ran other stopped =
+  manage_over k before mid now (tx_no.Conflict copy holder) again rest runs ran other full stopped =
       stopped_managed k _ _ before mid now _ again rest (managed c of k _ before mid runs.nonroot ran) stopped (λ s. handed_on (cause.Conflict copy holder) _ refl s)
-  manage_over k before mid now (tx_no.NoQuorum lack) again rest runs ran other stopped =
+  manage_over k before mid now (tx_no.NoQuorum lack) again rest runs ran other full stopped =
       stopped_managed k _ _ before mid now _ again rest (managed c of k _ before mid runs.nonroot ran) stopped (λ s. handed_on (cause.NoQuorum lack) _ refl s)
-  manage_over k before mid now tx_no.Last again rest runs ran other stopped =
+  manage_over k before mid now tx_no.Last again rest runs ran other full stopped =
       stopped_managed k _ _ before mid now _ again rest (managed c of k _ before mid runs.nonroot ran) stopped (λ s. handed_on cause.Last _ refl s)
-  manage_over k before mid now tx_no.Ended again rest runs none other stopped = stopped_still before mid now _ again _ none.0 stopped (λ s. asked_early of _ s)
-  manage_over k before mid now tx_no.Ready again rest runs none other stopped = stopped_still before mid now _ again _ none.0 stopped (λ s. asked_early of _ s)
-  manage_over k before mid now (tx_no.ChildrenOpen child) again rest runs none other stopped = absurd none
-  manage_over k before mid now tx_no.Ledger again rest runs none other stopped = absurd none.1
+  manage_over k before mid now tx_no.Ended again rest runs none other full stopped = stopped_still before mid now _ again _ none.0 stopped (λ s. asked_early of _ s)
+  manage_over k before mid now tx_no.Ready again rest runs none other full stopped = stopped_still before mid now _ again _ none.0 stopped (λ s. asked_early of _ s)
+  manage_over k before mid now (tx_no.ChildrenOpen child) again rest runs none other full stopped = absurd none
+  manage_over k before mid now tx_no.Ledger again rest runs none other full stopped = absurd none.1
 
   -- STOPPING AT ONCE
 
@@ -261,6 +263,7 @@ module _ (c : Client) (of : Name) where
   -- a refusal of any other kind
   pub stop_other : (now : Past) (why : TxNo) → Runs c of now → WhyStop c now of why → ((copy : ℕ) (h : Name) → why ≡ tx_no.Conflict copy h → ⊥) → ((a : Name) → why ≡ tx_no.Orphan a → ⊥) → ((l : Rattle.qc_event.specs.declared.event.Lack.Lack) → why ≡ tx_no.NoQuorum l → ⊥) → (why ≡ tx_no.Last → ⊥) → Stopped c of why now now false
   stop_other now tx_no.Memory runs why n1 n2 n3 n4 = absurd why
+  stop_other now tx_no.Room runs why n1 n2 n3 n4 = absurd why
   stop_other now (tx_no.Orphan a) runs why n1 n2 n3 n4 = absurd (n2 a refl)
   stop_other now (tx_no.Conflict copy h) runs why n1 n2 n3 n4 = absurd (n1 copy h refl)
   stop_other now (tx_no.NoQuorum l) runs why n1 n2 n3 n4 = absurd (n3 l refl)

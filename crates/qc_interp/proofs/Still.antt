@@ -9,7 +9,7 @@ use Rattle.qc_event.specs.History.{Past, Name, end, children, is_ready}
 use Rattle.qc_event.specs.Legal.{Legal}
 use Rattle.qc_event.proofs.Histories.{earliest-append}
 use Rattle.qc_event.proofs.OneEntry.{stays_some}
-use Rattle.qc_interp.specs.Plan.{Plan}
+use Rattle.qc_script.specs.Plan.{Plan}
 use Rattle.qc_interp.specs.Tries.{Tries, is_tried_again}
 use Rattle.qc_interp.specs.Follows.{StopsEarly, WasAsked, GoesOn, Commits, FollowsPlan, asked_end}
 use Rattle.qc_interp.proofs.Mine.{Closed, CommittedSince, children_still, how_still, end_some, kind_still, kept_append}

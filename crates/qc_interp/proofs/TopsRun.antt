@@ -22,9 +22,11 @@ use Rattle.qc_script.specs.declared.script.Body.{Body}
 use Rattle.qc_script.specs.Calls.{by_client}
 use Rattle.qc_script.specs.Client.{Client, mine, is_own, Made, IsLater, AreOurs}
 use Rattle.qc_interp.specs.Follows.{FollowsPlan, FollowsBody, IsUnended}
-use Rattle.qc_interp.specs.Plan.{Numbered, PlanFits, numbered}
+use Rattle.qc_script.specs.Plan.{Numbered, PlanFits}
+use Rattle.qc_script.specs.Steps.{numbered}
 use Rattle.qc_interp.specs.Running.{Runs, Ended}
-use Rattle.qc_interp.specs.Session.{tops, FollowsBodies, AreAllOurs, EndsTops, RanTops, RanInTurn, BodiesFit}
+use Rattle.qc_interp.specs.Session.{tops, FollowsBodies, AreAllOurs, EndsTops, RanTops, RanInTurn}
+use Rattle.qc_script.specs.Plan.{BodiesFit}
 use Rattle.qc_interp.specs.Turns.{is_done}
 use Rattle.qc_script.specs.Numbers.{each}
 use Rattle.qc_interp.proofs.Adding.{numbers_stay, one_both, all_one, all_later, after_stay, begun_after, all_over_more, over_ended}
@@ -333,13 +335,13 @@ module _ (c : Client) (bodies : List Body) where
   split i b below is = ap (map numbered) (let s : drop i bodies ≡ b ∷ drop (i + 1) bodies = rw add-one (drop-cons bodies i b below ∙ ap (λ y. y ∷ drop (suc i) bodies) (sym is)) in s)
 
   pub fits_body : (before now : Past) (i : ℕ) (b : Body) → BodiesLeft c bodies before now i → i < length bodies → b ≡ get_or bodies i b → PlanFits c.setting 1 (numbered b).plan
-  fits_body before now i b l below is = (subst (BodiesFit c.setting) (split i b below is) l.fits).0
+  fits_body before now i b l below is = (subst (BodiesFit c.setting) (split i b below is) l.fits).1
 
   pub one_body : (before now next : Past) (i : ℕ) (b : Body) → BodiesLeft c bodies before now i → i < length bodies → b ≡ get_or bodies i b → RanTops c now next (λ rest. numbered b ∷ rest) → BodiesLeft c bodies before next (i + 1)
   one_body before now next i b l below is ran = record {
     in_turn = turn_trans c before now next ran.later l.in_turn ran.in_turn;
     later = later_trans c before now next l.later ran.later;
-    fits = (subst (BodiesFit c.setting) (split i b below is) l.fits).1;
+    fits = (subst (BodiesFit c.setting) (split i b below is) l.fits).2;
     front = λ x later ends. l.front x (later_trans c now next x ran.later later) (subst (EndsTops c now x) (sym (split i b below is)) (ran.follows x later (map numbered (drop (i + 1) bodies)) ends));
   }
 

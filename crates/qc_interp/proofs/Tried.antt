@@ -16,7 +16,7 @@ use Rattle.qc_event.proofs.OneEntry.{child_added, start_is}
 use Rattle.qc_script.specs.Calls.{by_client, WasRefused}
 use Rattle.qc_script.specs.Client.{Client, mine, is_own, Made, IsLater, AreOurs}
 use Rattle.qc_interp.specs.Follows.{StopsEarly, IsUnended, FollowsPlan}
-use Rattle.qc_interp.specs.Plan.{Plan, Numbered}
+use Rattle.qc_script.specs.Plan.{Plan, Numbered}
 use Rattle.qc_interp.specs.Running.{Runs, LeavesIt, Leaves, WhyStop, StopsBy, Stopped, Ends, Ended, WentOn, EndsTries, FrontTries}
 use Rattle.qc_interp.specs.Tries.{Tries, is_tried_again, TriesDo}
 use Rattle.qc_script.specs.declared.tx.TxNo.{TxNo}
@@ -142,7 +142,7 @@ module _ (c : Client) (of n : Name) (body : Numbered) (before mid now : Past) (a
       by_parent (x ∷ p) far = refl
 
   ours_child : AreOurs c of now → AreOurs c n now
-  ours_child ours = subst (λ t. IsTrue (Rattle.std.specs.List.list_all (λ (e : Entry). Rattle.std.specs.Prelude.◌||◌ (not (Rattle.qc_interp.specs.Client.concerns t e.event)) (is_own c e.seat)) now)) (sym same_top) ours
+  ours_child ours = subst (λ t. IsTrue (Rattle.std.specs.List.list_all (λ (e : Entry). Rattle.std.specs.Prelude.◌||◌ (not (Rattle.qc_script.specs.Client.concerns t e.event)) (is_own c e.seat)) now)) (sym same_top) ours
 
   left : (p r : Name) → of ≡ p ++ r → LeavesIt c p mid now
   left p r is = ended.leaves.above p (r ++ last.0 ∷ []) (last.1 ∙ ap (λ x. x ++ last.0 ∷ []) is ∙ append_assoc p r (last.0 ∷ [])) (let l : length (r ++ last.0 ∷ []) ≡ length r + 1 = length_last r last.0 in omega (arith, l))
@@ -309,9 +309,9 @@ module _ (c : Client) (of : Name) (body : Numbered) where
   tried_all before now l = record { leaves = l.leaves; runs = l.runs; follows = λ x later rest ends. l.front x later rest ends }
 
   -- a try was not begun, and the parent has stopped
-  pub not_begun : (before now mid next : Past) (left : ℕ) (why : TxNo) (again : Bool) (rest : Plan) → TriesLeft c of body before now (suc left) → WasRefused c of now mid why → (why ≡ tx_no.Memory → ⊥) → Stopped c of why mid next again
+  pub not_begun : (before now mid next : Past) (left : ℕ) (why : TxNo) (again : Bool) (rest : Plan) → TriesLeft c of body before now (suc left) → WasRefused c of now mid why → (why ≡ tx_no.Memory → ⊥) → (why ≡ tx_no.Room → ⊥) → Stopped c of why mid next again
       → Ended c of before next (Plan.child_then body.number body.tries body.plan rest) again
-  not_begun before now mid next left why again rest l refused other stopped = by_why why refused other stopped
+  not_begun before now mid next left why again rest l refused other full stopped = by_why why refused other full stopped
     where
       stops : (why : TxNo) → Made c [] now mid → Stopped c of why mid next again → (StopsBy of why (end (mine c next) of) → StopsEarly of (end (mine c next) of)) → Ended c of before next (Plan.child_then body.number body.tries body.plan rest) again
       stops why m stopped early = record {
@@ -321,24 +321,26 @@ module _ (c : Client) (of : Name) (body : Numbered) where
             ([], stopped.children ∙ ap (λ h. children h of) (still c of now mid m) ∙ sym (append-nil _), early (stopped.ended ours), asked_none c now next _ (asked_trans c now mid next NoOne (asked_made c [] now mid NoOne m tt) stopped.asked)));
       }
 
-      by_why : (why : TxNo) → WasRefused c of now mid why → (why ≡ tx_no.Memory → ⊥) → Stopped c of why mid next again → Ended c of before next (Plan.child_then body.number body.tries body.plan rest) again
-      by_why tx_no.Memory refused other stopped = absurd (other refl)
-      by_why (tx_no.Orphan a) refused other stopped = stops (tx_no.Orphan a) refused.0 stopped (λ s. Rattle.qc_interp.proofs.StepsLeave.orphan_early c of a _ s)
-      by_why tx_no.Ended refused other stopped = stops tx_no.Ended refused.0 stopped (λ s. Rattle.qc_interp.proofs.Ending.asked_early of _ s)
-      by_why tx_no.Ready refused other stopped = stops tx_no.Ready refused.0 stopped (λ s. Rattle.qc_interp.proofs.Ending.asked_early of _ s)
-      by_why (tx_no.ChildrenOpen child) refused other stopped = absurd refused
-      by_why (tx_no.Conflict copy holder) refused other stopped = absurd refused.1
-      by_why (tx_no.NoQuorum lack) refused other stopped = absurd refused.1
-      by_why tx_no.Last refused other stopped = absurd refused.1
-      by_why tx_no.Ledger refused other stopped = absurd refused.1
+      by_why : (why : TxNo) → WasRefused c of now mid why → (why ≡ tx_no.Memory → ⊥) → (why ≡ tx_no.Room → ⊥) → Stopped c of why mid next again → Ended c of before next (Plan.child_then body.number body.tries body.plan rest) again
+      by_why tx_no.Memory refused other full stopped = absurd (other refl)
+      by_why tx_no.Room refused other full stopped = absurd (full refl)
+      by_why (tx_no.Orphan a) refused other full stopped = stops (tx_no.Orphan a) refused.0 stopped (λ s. Rattle.qc_interp.proofs.StepsLeave.orphan_early c of a _ s)
+      by_why tx_no.Ended refused other full stopped = stops tx_no.Ended refused.0 stopped (λ s. Rattle.qc_interp.proofs.Ending.asked_early of _ s)
+      by_why tx_no.Ready refused other full stopped = stops tx_no.Ready refused.0 stopped (λ s. Rattle.qc_interp.proofs.Ending.asked_early of _ s)
+      by_why (tx_no.ChildrenOpen child) refused other full stopped = absurd refused
+      by_why (tx_no.Conflict copy holder) refused other full stopped = absurd refused.1
+      by_why (tx_no.NoQuorum lack) refused other full stopped = absurd refused.1
+      by_why tx_no.Last refused other full stopped = absurd refused.1
+      by_why tx_no.Ledger refused other full stopped = absurd refused.1
 
-  pub begin_stops : (now mid : Past) (why : TxNo) → Runs c of now → WasRefused c of now mid why → (why ≡ tx_no.Memory → ⊥) → Runs c of mid × WhyStop c mid of why
-  begin_stops now mid tx_no.Memory runs refused other = absurd (other refl)
-  begin_stops now mid (tx_no.Orphan a) runs refused other = (runs_still c of now mid refused.0 runs, refused.1)
-  begin_stops now mid tx_no.Ended runs refused other = (runs_still c of now mid refused.0 runs, refused.1)
-  begin_stops now mid tx_no.Ready runs refused other = (runs_still c of now mid refused.0 runs, refused.1)
-  begin_stops now mid (tx_no.ChildrenOpen child) runs refused other = absurd refused
-  begin_stops now mid (tx_no.Conflict copy holder) runs refused other = absurd refused.1
-  begin_stops now mid (tx_no.NoQuorum lack) runs refused other = absurd refused.1
-  begin_stops now mid tx_no.Last runs refused other = absurd refused.1
-  begin_stops now mid tx_no.Ledger runs refused other = absurd refused.1
+  pub begin_stops : (now mid : Past) (why : TxNo) → Runs c of now → WasRefused c of now mid why → (why ≡ tx_no.Memory → ⊥) → (why ≡ tx_no.Room → ⊥) → Runs c of mid × WhyStop c mid of why
+  begin_stops now mid tx_no.Memory runs refused other full = absurd (other refl)
+  begin_stops now mid tx_no.Room runs refused other full = absurd (full refl)
+  begin_stops now mid (tx_no.Orphan a) runs refused other full = (runs_still c of now mid refused.0 runs, refused.1)
+  begin_stops now mid tx_no.Ended runs refused other full = (runs_still c of now mid refused.0 runs, refused.1)
+  begin_stops now mid tx_no.Ready runs refused other full = (runs_still c of now mid refused.0 runs, refused.1)
+  begin_stops now mid (tx_no.ChildrenOpen child) runs refused other full = absurd refused
+  begin_stops now mid (tx_no.Conflict copy holder) runs refused other full = absurd refused.1
+  begin_stops now mid (tx_no.NoQuorum lack) runs refused other full = absurd refused.1
+  begin_stops now mid tx_no.Last runs refused other full = absurd refused.1
+  begin_stops now mid tx_no.Ledger runs refused other full = absurd refused.1

@@ -11,7 +11,7 @@ use Rattle.qc_event.specs.declared.event.How.TheVariants.{Commit, Abort}
 use Rattle.qc_event.specs.History.{Past, Name, end, children}
 use Rattle.qc_script.specs.Client.{Client, mine}
 use Rattle.qc_interp.specs.Follows.{above}
-use Rattle.qc_interp.specs.Plan.{Plan, Numbered}
+use Rattle.qc_script.specs.Plan.{Plan, Numbered}
 use Rattle.qc_interp.specs.Tries.{TriesDo}
 
 -- a step is done after one whose manager committed

@@ -1,8 +1,10 @@
 pub mod Adding
+pub mod Alone
 pub mod Asking
-pub mod Plan
 pub mod Tries
 pub mod Follows
+pub mod FollowsScript
 pub mod Turns
 pub mod Running
 pub mod Session
+pub mod Sessions

@@ -7,7 +7,7 @@ use Rattle.qc_interp.specs.Adding.{AllOfOne, own_after, all_over}
 use Rattle.qc_script.specs.Numbers.{Numbers}
 use Rattle.qc_script.specs.Client.{Client, mine, IsLater, AreOurs}
 use Rattle.qc_interp.specs.Follows.{FollowsBody}
-use Rattle.qc_interp.specs.Plan.{Numbered, PlanFits}
+use Rattle.qc_script.specs.Plan.{Numbered, PlanFits}
 use Rattle.qc_script.specs.Numbers.{each}
 use Rattle.qc_interp.specs.Turns.{takes_turn, is_alone}
 use Rattle.qc_interp.specs.Tries.{Tries}
@@ -48,7 +48,3 @@ pub record RanTops (c : Client) (before now : Past) (front : List Numbered → L
   pub later : IsLater c before now
   pub in_turn : RanInTurn c before now
   pub follows : (x : Past) → IsLater c now x → (rest : List Numbered) → EndsTops c now x rest → EndsTops c before x (front rest)
-
-abbrev pub BodiesFit : Setting → List Numbered → Type 0
-BodiesFit setting [] = Unit {0}
-BodiesFit setting (b ∷ bodies) = PlanFits setting 1 b.plan × BodiesFit setting bodies

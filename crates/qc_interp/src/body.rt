@@ -9,8 +9,9 @@ ghost use Rattle.qc_event.specs.Standing.{Started, IsUser};
 ghost use Rattle.qc_interp.specs.Asking.{ByItself};
 ghost use Rattle.qc_script.specs.Calls.{GaveNone, HasRun, IsGrounded};
 ghost use Rattle.qc_script.specs.Client.{View, Client, mine};
-ghost use Rattle.qc_interp.specs.Plan.{Plan, PlanFits, put, plan_of, numbered};
-ghost use Rattle.qc_script.specs.Calls.{KindFits};
+ghost use Rattle.qc_script.specs.Plan.{Plan, PlanFits};
+ghost use Rattle.qc_script.specs.Steps.{put, plan_of, numbered};
+ghost use Rattle.qc_script.specs.Plan.{KindFits};
 ghost use Rattle.qc_interp.specs.Running.{Runs, Quit, WhyStop, Stopped, Ended, Stepped};
 ghost use Rattle.qc_interp.specs.Tries as tries;
 
@@ -33,7 +34,8 @@ fn quit<T: Tx>(tx: &mut T, of: &Name, cause: Cause) -> Result<bool, Short>
     requires grounded { IsGrounded (T.view tx.old).seen of.now cause }
     requires itself { ByItself of.now cause }
     ensures client { (T.view tx.new).client ≡ (T.view tx.old).client }
-    ensures ok { IfOk result (Quit (T.view tx.old).client of.now (Abort cause) (T.view tx.old).seen (T.view tx.new).seen) }
+    ensures ok { IfOk result (Quit (T.view tx.old).client of.now (Abort cause)
+        (T.view tx.old).seen (T.view tx.new).seen) }
     ensures room { IfErr result (λ e. e ≡ Short.Room → length (T.view tx.new).seen ≡ limit) }
 {
     match tx.abort(of, cause) {
@@ -51,7 +53,8 @@ fn stop<T: Tx>(tx: &mut T, of: &Name, why: &TxNo) -> Result<bool, Short>
     requires runs { Runs (T.view tx.old).client of.now (T.view tx.old).seen }
     requires why { WhyStop (T.view tx.old).client (T.view tx.old).seen of.now why.now }
     ensures client { (T.view tx.new).client ≡ (T.view tx.old).client }
-    ensures ok { IfOk result (Stopped (T.view tx.old).client of.now why.now (T.view tx.old).seen (T.view tx.new).seen) }
+    ensures ok { IfOk result (Stopped (T.view tx.old).client of.now why.now (T.view tx.old).seen
+        (T.view tx.new).seen) }
     ensures room { IfErr result (λ e. e ≡ Short.Room → length (T.view tx.new).seen ≡ limit) }
 {
     match why {
@@ -80,8 +83,10 @@ fn call<T: Tx>(tx: &mut T, of: &Name, kind: &Kind) -> Result<(), TxNo>
     requires fits { KindFits (T.view tx.old).client.setting kind.now }
     requires user { Started (T.view tx.old).seen of.now (λ b. IsUser b.kind) }
     ensures client { (T.view tx.new).client ≡ (T.view tx.old).client }
-    ensures ok { OnOk result (HasRun (T.view tx.old).client of.now kind.now (T.view tx.old).seen (T.view tx.new).seen) }
-    ensures err { IfErr result (GaveNone (T.view tx.old).client of.now kind.now (T.view tx.old).seen (T.view tx.new).seen) }
+    ensures ok { OnOk result (HasRun (T.view tx.old).client of.now kind.now (T.view tx.old).seen
+        (T.view tx.new).seen) }
+    ensures err { IfErr result (GaveNone (T.view tx.old).client of.now kind.now
+        (T.view tx.old).seen (T.view tx.new).seen) }
 {
     match kind {
         Kind::Read { rec } => {
@@ -102,7 +107,8 @@ fn manage<T: Tx>(tx: &mut T, of: &Name, kind: &Kind) -> Result<Option<bool>, Sho
     requires runs { Runs (T.view tx.old).client of.now (T.view tx.old).seen }
     requires fits { KindFits (T.view tx.old).client.setting kind.now }
     ensures client { (T.view tx.new).client ≡ (T.view tx.old).client }
-    ensures ok { IfOk result (Stepped (T.view tx.old).client of.now (T.view tx.old).seen (T.view tx.new).seen (Plan.manage_then kind.now)) }
+    ensures ok { IfOk result (Stepped (T.view tx.old).client of.now (T.view tx.old).seen
+        (T.view tx.new).seen (Plan.manage_then kind.now)) }
     ensures room { IfErr result (λ e. e ≡ Short.Room → length (T.view tx.new).seen ≡ limit) }
 {
     match call(tx, of, kind) {
@@ -123,7 +129,9 @@ fn ask<T: Tx>(tx: &mut T, of: &Name, levels: u8) -> Result<bool, Short>
     requires runs { Runs (T.view tx.old).client of.now (T.view tx.old).seen }
     requires within { levels < length of.now }
     ensures client { (T.view tx.new).client ≡ (T.view tx.old).client }
-    ensures ok { IfOk result (λ again. (rest : Plan) → Ended (T.view tx.old).client of.now (T.view tx.old).seen (T.view tx.new).seen (Plan.abort_then levels rest) again) }
+    ensures ok { IfOk result (λ again. (rest : Plan)
+        → Ended (T.view tx.old).client of.now (T.view tx.old).seen (T.view tx.new).seen
+        (Plan.abort_then levels rest) again) }
     ensures room { IfErr result (λ e. e ≡ Short.Room → length (T.view tx.new).seen ≡ limit) }
 {
     if levels == 0 {
@@ -145,7 +153,8 @@ fn ask<T: Tx>(tx: &mut T, of: &Name, levels: u8) -> Result<bool, Short>
 fn commit<T: Tx>(tx: &mut T, of: &Name) -> Result<bool, Short>
     requires runs { Runs (T.view tx.old).client of.now (T.view tx.old).seen }
     ensures client { (T.view tx.new).client ≡ (T.view tx.old).client }
-    ensures ok { IfOk result (Ended (T.view tx.old).client of.now (T.view tx.old).seen (T.view tx.new).seen Plan.done) }
+    ensures ok { IfOk result (Ended (T.view tx.old).client of.now (T.view tx.old).seen
+        (T.view tx.new).seen Plan.done) }
     ensures room { IfErr result (λ e. e ≡ Short.Room → length (T.view tx.new).seen ≡ limit) }
 {
     match tx.commit(of) {
@@ -164,9 +173,12 @@ fn commit<T: Tx>(tx: &mut T, of: &Name) -> Result<bool, Short>
 fn child_tries<T: Tx>(tx: &mut T, of: &Name, body: &Body) -> Result<Option<bool>, Short>
     requires runs { Runs (T.view tx.old).client of.now (T.view tx.old).seen }
     requires depth { length of.now < 16 }
-    requires fits { PlanFits (T.view tx.old).client.setting (length of.now + 1) (numbered body.now).plan }
+    requires fits { PlanFits (T.view tx.old).client.setting (length of.now + 1)
+        (numbered body.now).plan }
     ensures client { (T.view tx.new).client ≡ (T.view tx.old).client }
-    ensures ok { IfOk result (Stepped (T.view tx.old).client of.now (T.view tx.old).seen (T.view tx.new).seen (Plan.child_then (numbered body.now).number (numbered body.now).tries (numbered body.now).plan)) }
+    ensures ok { IfOk result (Stepped (T.view tx.old).client of.now (T.view tx.old).seen
+        (T.view tx.new).seen (Plan.child_then (numbered body.now).number (numbered body.now).tries
+        (numbered body.now).plan)) }
     ensures room { IfErr result (λ e. e ≡ Short.Room → length (T.view tx.new).seen ≡ limit) }
 {
     for _ in 0..body.tries {
@@ -192,9 +204,11 @@ fn child_tries<T: Tx>(tx: &mut T, of: &Name, body: &Body) -> Result<Option<bool>
 #[cycle(run)]
 fn step<T: Tx>(tx: &mut T, of: &Name, step: &Step) -> Result<Option<bool>, Short>
     requires runs { Runs (T.view tx.old).client of.now (T.view tx.old).seen }
-    requires fits { PlanFits (T.view tx.old).client.setting (length of.now) (put step.now Plan.done) }
+    requires fits { PlanFits (T.view tx.old).client.setting (length of.now)
+        (put step.now Plan.done) }
     ensures client { (T.view tx.new).client ≡ (T.view tx.old).client }
-    ensures ok { IfOk result (Stepped (T.view tx.old).client of.now (T.view tx.old).seen (T.view tx.new).seen (put step.now)) }
+    ensures ok { IfOk result (Stepped (T.view tx.old).client of.now (T.view tx.old).seen
+        (T.view tx.new).seen (put step.now)) }
     ensures room { IfErr result (λ e. e ≡ Short.Room → length (T.view tx.new).seen ≡ limit) }
 {
     match step {
@@ -228,7 +242,8 @@ pub fn steps<T: Tx>(tx: &mut T, of: &Name, steps: &[Step]) -> Result<bool, Short
     requires runs { Runs (T.view tx.old).client of.now (T.view tx.old).seen }
     requires fits { PlanFits (T.view tx.old).client.setting (length of.now) (plan_of steps.now) }
     ensures client { (T.view tx.new).client ≡ (T.view tx.old).client }
-    ensures ok { IfOk result (Ended (T.view tx.old).client of.now (T.view tx.old).seen (T.view tx.new).seen (plan_of steps.now)) }
+    ensures ok { IfOk result (Ended (T.view tx.old).client of.now (T.view tx.old).seen
+        (T.view tx.new).seen (plan_of steps.now)) }
     ensures room { IfErr result (λ e. e ≡ Short.Room → length (T.view tx.new).seen ≡ limit) }
 {
     for s in steps {

@@ -2,8 +2,10 @@
 ghost use Rattle.std.specs.Prelude.{◌≡◌, ◌∷◌, ◌++◌, List, [], length, map, OnOk, IfOk, IfErr};
 ghost use Rattle.qc_event.specs.History.{limit};
 ghost use Rattle.qc_event.specs.Legal.{Legal};
-ghost use Rattle.qc_interp.specs.Plan.{Numbered, PlanFits, numbered};
-ghost use Rattle.qc_interp.specs.Session.{EndsTops, RanTops, RanInTurn, BodiesFit};
+ghost use Rattle.qc_script.specs.Plan.{Numbered, PlanFits};
+ghost use Rattle.qc_script.specs.Steps.{numbered};
+ghost use Rattle.qc_interp.specs.Session.{EndsTops, RanTops, RanInTurn};
+ghost use Rattle.qc_script.specs.Plan.{BodiesFit};
 
 use crate::body::steps;
 use qc_event::{Name, Short};
@@ -14,7 +16,8 @@ fn top_tries<T: Tx>(tx: &mut T, body: &Body) -> Result<(), Short>
     requires legal { Legal (T.view tx.old).client.setting (T.view tx.old).seen }
     requires fits { PlanFits (T.view tx.old).client.setting 1 (numbered body.now).plan }
     ensures client { (T.view tx.new).client ≡ (T.view tx.old).client }
-    ensures ok { OnOk result (RanTops (T.view tx.old).client (T.view tx.old).seen (T.view tx.new).seen (λ rest. numbered body.now ∷ rest)) }
+    ensures ok { OnOk result (RanTops (T.view tx.old).client (T.view tx.old).seen
+        (T.view tx.new).seen (λ rest. numbered body.now ∷ rest)) }
     ensures room { IfErr result (λ e. e ≡ Short.Room → length (T.view tx.new).seen ≡ limit) }
 {
     for _ in 0..body.tries {
@@ -39,8 +42,10 @@ pub fn run_tops<T: Tx>(tx: &mut T, bodies: &[Body]) -> Result<(), Short>
     requires legal { Legal (T.view tx.old).client.setting (T.view tx.old).seen }
     requires fits { BodiesFit (T.view tx.old).client.setting (map numbered bodies.now) }
     ensures client { (T.view tx.new).client ≡ (T.view tx.old).client }
-    ensures turns { OnOk result (RanInTurn (T.view tx.old).client (T.view tx.old).seen (T.view tx.new).seen) }
-    ensures ok { OnOk result (EndsTops (T.view tx.old).client (T.view tx.old).seen (T.view tx.new).seen (map numbered bodies.now)) }
+    ensures turns { OnOk result (RanInTurn (T.view tx.old).client (T.view tx.old).seen
+        (T.view tx.new).seen) }
+    ensures ok { OnOk result (EndsTops (T.view tx.old).client (T.view tx.old).seen
+        (T.view tx.new).seen (map numbered bodies.now)) }
     ensures room { IfErr result (λ e. e ≡ Short.Room → length (T.view tx.new).seen ≡ limit) }
 {
     for body in bodies {

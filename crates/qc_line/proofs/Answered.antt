@@ -23,7 +23,7 @@ use Rattle.qc_event.specs.Legal.{Legal, MayHappen}
 use Rattle.qc_event.specs.Requests.{is_why, unable_in, was_unable}
 use Rattle.qc_event.proofs.Histories.{earliest-append}
 use Rattle.qc_event.proofs.OneEntry.{stays_some}
-use Rattle.qc_line.specs.Messages.{was_answered, ask_of, ask_under, asked_under}
+use Rattle.qc_net.specs.Messages.{was_answered, ask_of, ask_under, asked_under}
 use Rattle.qc_line.proofs.AnswersLeave.{some_there}
 use Rattle.qc_line.proofs.Refusals.{contained_tells, refusal_told}
 use Rattle.qc_net.specs.Given.{Given}

@@ -28,7 +28,7 @@ use Rattle.qc_event.proofs.Absent.{same_is}
 use Rattle.qc_event.proofs.Lawful.{some_how}
 use Rattle.qc_event.proofs.Lineage.{alive_not_aborted}
 use Rattle.qc_gather.specs.Carrying.{made_by}
-use Rattle.qc_line.specs.Messages.{ask_of, ask_under, asked_under}
+use Rattle.qc_net.specs.Messages.{ask_of, ask_under, asked_under}
 use Rattle.qc_line.proofs.Stays.{still}
 use Rattle.qc_store.specs.Served.{is_reply, is_answer}
 use Rattle.qc_store.proofs.Asked.{asked_access}

@@ -17,7 +17,7 @@ use Rattle.qc_gather.specs.declared.carrier.CarryNo.{CarryNo}
 use Rattle.qc_gather.specs.declared.carrier.CarryNo.TheVariants as no
 use Rattle.qc_line.specs.Access.{MayAccess, Waits, Stands, WasSent, IsCutOffAtEnd, IsShort, ending}
 use Rattle.qc_line.specs.Kept.{IsInStep, net_of, way_of}
-use Rattle.qc_line.specs.Messages.{meets_fates}
+use Rattle.qc_net.specs.Messages.{meets_fates}
 use Rattle.qc_line.proofs.AnswersLeave.{AreAnswers}
 use Rattle.qc_line.proofs.Carried as carry
 use Rattle.qc_line.proofs.Carried.{way, Of}

@@ -20,7 +20,7 @@ use Rattle.qc_gather.specs.declared.carrier.Carried.{Carried}
 use Rattle.qc_gather.specs.declared.carrier.Carried.TheVariants.{Reply, Blocked, Gone}
 use Rattle.qc_line.specs.Access.{MayAccess, Stands, Tells, WasSent, IsCutOffAtStart, IsCutOffAtEnd, how_of, given_up, ending}
 use Rattle.qc_line.specs.Kept.{IsInStep, net_of, sendings, way_of}
-use Rattle.qc_line.specs.Messages.{Net, was_answered, is_told, is_met, are_met, asked_under, meets_fates}
+use Rattle.qc_net.specs.Messages.{Net, was_answered, is_told, is_met, are_met, asked_under, meets_fates}
 use Rattle.qc_line.proofs.Answered.{IsAccess, asks_of_accesses, delivered_answered, all_answered_still, serves_still}
 use Rattle.qc_line.proofs.AnswersLeave.{AreAnswers, asked_under_stays}
 use Rattle.qc_line.proofs.Asking as asking

@@ -10,7 +10,7 @@ use Rattle.qc_event.specs.declared.event.Why.TheVariants.{Lost, Late}
 use Rattle.qc_event.specs.History.{Past, Name, end, gone}
 use Rattle.qc_event.specs.Requests.{is_why}
 use Rattle.qc_line.specs.Kept.{sendings}
-use Rattle.qc_line.specs.Messages.{was_answered, was_given_up, is_told, is_met, are_met}
+use Rattle.qc_net.specs.Messages.{was_answered, was_given_up, is_told, is_met, are_met}
 use Rattle.qc_line.proofs.Answered.{all_answered_still}
 use Rattle.qc_net.specs.Plan.{Plan}
 use Rattle.qc_net.specs.Sending.{Outcome, answered, lost, late, Sending, sending, Way}

@@ -8,7 +8,7 @@ use Rattle.qc_event.specs.declared.event.Event.TheVariants as event
 use Rattle.qc_event.specs.declared.event.Kind.TheVariants as kind
 use Rattle.qc_event.specs.History.{Past}
 use Rattle.qc_gather.specs.Carrying.{entry, began, made_by}
-use Rattle.qc_line.specs.Messages.{ask_of, asked_under}
+use Rattle.qc_net.specs.Messages.{ask_of, asked_under}
 
 pub own_entry : (seat : ℕ) (ev : Event) (past : Past) → made_by seat (entry seat ev ∷ past) ≡ entry seat ev ∷ made_by seat past
 own_entry seat ev past = ap (λ b. cond b (entry seat ev ∷ made_by seat past) (made_by seat past)) (eq-eqb seat seat refl)

@@ -17,7 +17,7 @@ use Rattle.qc_event.specs.Legal.{Legal}
 use Rattle.qc_event.proofs.Absent.{same_is}
 use Rattle.qc_line.specs.Kept.{IsInStep, IsKept, net_of, sendings}
 use Rattle.qc_line.specs.Lined.{IsNoAccess, IsOfTransaction}
-use Rattle.qc_line.specs.Messages.{Net, ask_of, asked_under, are_met, meets_fates}
+use Rattle.qc_net.specs.Messages.{Net, ask_of, asked_under, are_met, meets_fates}
 use Rattle.qc_line.proofs.Answered.{IsAccess, asks_of_accesses, serves_still}
 use Rattle.qc_line.proofs.Meeting.{IsLeft, are_met_still}
 use Rattle.qc_line.proofs.Stays.{still}

@@ -6,7 +6,7 @@ use Rattle.qc_event.specs.Seats.{is_client}
 use Rattle.qc_net.specs.Plan.{Plan, starting}
 use Rattle.qc_net.specs.Sending.{Way, sending}
 use Rattle.qc_store.specs.Served.{MayServe}
-use Rattle.qc_line.specs.Messages.{Net, asked_under, meets_fates}
+use Rattle.qc_net.specs.Messages.{Net, asked_under, meets_fates}
 
 -- what the link of a plan is, with this patience
 abbrev pub net_of : Plan → ℕ → Net

@@ -1,4 +1,3 @@
-pub mod Messages
 pub mod Lined
 pub mod Kept
 pub mod Access

@@ -7,7 +7,7 @@ use Rattle.qc_event.specs.declared.event.Kind.{Kind}
 use Rattle.qc_event.specs.declared.event.Kind.TheVariants as kind
 use Rattle.qc_event.specs.History.{Past, kind_of}
 use Rattle.qc_event.specs.Legal.{Legal}
-use Rattle.qc_line.specs.Messages.{Net}
+use Rattle.qc_net.specs.Messages.{Net}
 
 -- what a line keeps: its setting, its client's seat, the history, the latest entry first, which is legal, what its
 -- link is, and how often that gave trouble

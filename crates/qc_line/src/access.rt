@@ -6,7 +6,7 @@ ghost use Rattle.qc_event.specs.Seats.{is_client};
 ghost use Rattle.qc_gather.specs.Carrying.{HasGrown, WasCarried, WasNotCarried, HasReason, Rose, entry, began, became};
 ghost use Rattle.qc_line.specs.Access as words;
 ghost use Rattle.qc_line.specs.Kept.{IsInStep, net_of};
-ghost use Rattle.qc_line.specs.Messages.{meets_fates};
+ghost use Rattle.qc_net.specs.Messages.{meets_fates};
 ghost use Rattle.qc_net.specs.Courier.{link_of, held_of};
 ghost use Rattle.qc_net.specs.declared.courier.Sent.TheVariants as sent;
 ghost use Rattle.qc_net.specs.Plan.{anew};

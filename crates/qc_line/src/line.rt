@@ -4,7 +4,7 @@ ghost use Rattle.qc_event.specs.History.{limit};
 ghost use Rattle.qc_event.specs.Legal.{Allowed, Legal};
 ghost use Rattle.qc_event.specs.Seats.{is_client};
 ghost use Rattle.qc_line.specs.Lined.{IsOfTransaction};
-ghost use Rattle.qc_line.specs.Messages.{meets_fates};
+ghost use Rattle.qc_net.specs.Messages.{meets_fates};
 
 use crate::access::{NextAccess, access, is_cut_off};
 use qc_config::{Config, Op};

@@ -3,3 +3,4 @@ pub mod PlanLink
 pub mod Given
 pub mod Sending
 pub mod Courier
+pub mod Messages

@@ -13,48 +13,50 @@ use Rattle.qc_event.specs.declared.event.Entry.{Entry}
 use Rattle.qc_event.specs.declared.log.Short.{Short}
 use Rattle.qc_event.specs.declared.log.Short.TheVariants as short
 use Rattle.qc_event.specs.declared.table.Table.{Table}
-use Rattle.qc_session.specs.Trace.{Now}
+use Rattle.qc_script.specs.Client.{Client, View}
 use Rattle.qc_refine.specs.Final.{final_value}
 use Rattle.qc_refine.proofs.LastValues.{last_values}
 use Rattle.qc_script.specs.Plan.{ScriptPlan}
 use Rattle.qc_script.specs.Reading.{IsProper}
 use Rattle.qc_report.specs.LastValues.{values_by_version}
 use Rattle.qc_report.specs.Report.{report}
-use Rattle.qc_run.specs.Run.{fresh, page, report_of, HasSerialValues, IsHalted, OfRun, RanToEnd, ReadsScript}
+use Rattle.qc_client.specs.Alone.{FollowsAlone}
+use Rattle.qc_interp.specs.FollowsScript.{FollowsScript}
+use Rattle.qc_run.specs.Run.{Follows, first_epoch, net_of, fresh, page, report_of, HasSerialValues, IsHalted, OfRun, RanToEnd, ReadsScript}
 use Rattle.qc_run.specs.declared.status.Status.{Status}
 use Rattle.qc_run.proofs.Starts.{start_is_sound, firsts_length}
 
 -- What a session gives back that ran a script from its first tuples: these, and its history.
-pub record GaveBack (s : ScriptPlan) (start : List (List Tuple)) (trail : List Entry) (now : Now) : Type 0 where
-  pub setting : now.setting ≡ setting_of s.table (base_of s.table)
+pub record GaveBack (s : ScriptPlan) (start : List (List Tuple)) (trail : List Entry) (now : View) : Type 0 where
+  pub setting : now.client.setting ≡ setting_of s.table (base_of s.table)
   pub base : start ≡ base_of s.table
-  pub entries : reverse trail ≡ now.past
-  pub legal : Legal (setting_of s.table (base_of s.table)) now.past
+  pub entries : reverse trail ≡ now.seen
+  pub legal : Legal (setting_of s.table (base_of s.table)) now.seen
 
-pub gave_back : (s : ScriptPlan) (start : List (List Tuple)) (trail : List Entry) (old now : Now) → old ≡ fresh s → now.setting ≡ old.setting → start ≡ now.setting.base → reverse trail ≡ now.past → Legal now.setting now.past → GaveBack s start trail now
+pub gave_back : (s : ScriptPlan) (start : List (List Tuple)) (trail : List Entry) (old now : View) → old ≡ fresh s → now.client ≡ old.client → start ≡ now.client.setting.base → reverse trail ≡ now.seen → Legal now.client.setting now.seen → GaveBack s start trail now
 gave_back s start trail old now begun kept base entries legal =
-    let setting : now.setting ≡ setting_of s.table (base_of s.table) = kept ∙ ap (λ (n : Now). n.setting) begun in
+    let setting : now.client.setting ≡ setting_of s.table (base_of s.table) = ap (λ (c : Client). c.setting) kept ∙ ap (λ (n : View). n.client.setting) begun in
     record {
       setting = setting;
       base = base ∙ ap (λ (x : Setting). x.base) setting;
       entries = entries;
-      legal = subst (λ x. Legal x now.past) setting legal;
+      legal = subst (λ x. Legal x now.seen) setting legal;
     }
 
-pub trail_legal : (s : ScriptPlan) (start : List (List Tuple)) (trail : List Entry) (now : Now) → GaveBack s start trail now → Legal (setting_of s.table start) (reverse trail)
+pub trail_legal : (s : ScriptPlan) (start : List (List Tuple)) (trail : List Entry) (now : View) → GaveBack s start trail now → Legal (setting_of s.table start) (reverse trail)
 trail_legal s start trail now back =
     subst (λ base. Legal (setting_of s.table base) (reverse trail)) (sym back.base)
     (subst (Legal (setting_of s.table (base_of s.table))) (sym back.entries) back.legal)
 
 -- a session's text is its page
-pub text_is_page : (table : Table) (now : Now) (base : List (List Tuple)) (trail : List Entry) → base ≡ now.setting.base → reverse trail ≡ now.past → report table (values_by_version base (reverse trail) (length table.records)) trail ≡ page table now
+pub text_is_page : (table : Table) (now : View) (base : List (List Tuple)) (trail : List Entry) → base ≡ now.client.setting.base → reverse trail ≡ now.seen → report table (values_by_version base (reverse trail) (length table.records)) trail ≡ page table now
 text_is_page table now base trail base_is past_is =
     ap (λ b. report table (values_by_version b (reverse trail) (length table.records)) trail) base_is
-    ∙ ap (λ p. report table (values_by_version now.setting.base p (length table.records)) trail) past_is
-    ∙ ap (report table (values_by_version now.setting.base now.past (length table.records))) (sym (reverse-reverse trail) ∙ ap reverse past_is)
+    ∙ ap (λ p. report table (values_by_version now.client.setting.base p (length table.records)) trail) past_is
+    ∙ ap (report table (values_by_version now.client.setting.base now.seen (length table.records))) (sym (reverse-reverse trail) ∙ ap reverse past_is)
 
 -- so the report of what a session gives back is its page
-pub page_is_report : (s : ScriptPlan) (start : List (List Tuple)) (trail : List Entry) (now : Now) → GaveBack s start trail now → page s.table now ≡ report_of s start trail
+pub page_is_report : (s : ScriptPlan) (start : List (List Tuple)) (trail : List Entry) (now : View) → GaveBack s start trail now → page s.table now ≡ report_of s start trail
 page_is_report s start trail now back =
     sym (text_is_page s.table now start trail (back.base ∙ sym (ap (λ (x : Setting). x.base) back.setting)) back.entries)
 
@@ -77,3 +79,8 @@ sound_from s start proper is = subst (λ base. IsSound (setting_of s.table base)
 pub halted_not_ended : (e : Short) (answer : Status) → IsHalted e answer → RanToEnd answer → ⊥
 halted_not_ended short.Memory answer is ended = subst RanToEnd is ended
 halted_not_ended short.Room answer is ended = subst RanToEnd is ended
+
+-- a client that began as a script's and ran its bodies has followed the script
+pub script_followed : (s : ScriptPlan) (trail : List Entry) (old now : View) → old ≡ fresh s → reverse trail ≡ now.seen → FollowsAlone old.client s.tops now.seen → Follows s trail
+script_followed s trail old now begun entries follows =
+    subst (λ past. FollowsScript 0 first_epoch (net_of s) s.tops past) (sym entries) (subst (λ (v : View). FollowsAlone v.client s.tops now.seen) begun follows)

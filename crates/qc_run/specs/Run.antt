@@ -1,5 +1,5 @@
 -- What a run answers: words for the clauses of the top call.
-use Rattle.std.specs.Prelude.{ℕ, ◌≡◌, ◌≢◌, ◌⊎◌, List, [], length, map, reverse, Option, None, IfSome}
+use Rattle.std.specs.Prelude.{ℕ, ◌+◌, ◌^◌, ◌≡◌, ◌≢◌, ◌⊎◌, List, [], length, map, reverse, Option, None, Some, IfSome}
 use Rattle.qc_event.specs.Seats.{client_seat}
 use Rattle.qc_event.specs.Sound.{IsSound}
 use Rattle.qc_event.specs.Tables.{base_of, setting_of}
@@ -9,12 +9,13 @@ use Rattle.qc_event.specs.declared.log.Short.TheVariants as short
 use Rattle.qc_event.specs.declared.table.Table.{Table}
 use Rattle.qc_config.specs.declared.tuple.Tuple.{Tuple}
 use Rattle.qc_io.specs.Io.{IsAtEnd, Rose, Appends, AppendsFront}
+use Rattle.qc_net.specs.Messages.{Net}
+use Rattle.qc_script.specs.Client.{Client, View}
 use Rattle.qc_script.specs.Reading.{IsScript, IsRefused}
 use Rattle.qc_report.specs.LastValues.{values_by_version}
 use Rattle.qc_report.specs.Report.{Text, report}
 use Rattle.qc_simlock.specs.Serial.{IsSerialThroughout, final_values}
-use Rattle.qc_session.specs.Client.{Client}
-use Rattle.qc_session.specs.Trace.{Now}
+use Rattle.qc_interp.specs.FollowsScript.{FollowsScript}
 use Rattle.qc_run.specs.FaultLine.{fault_line}
 use Rattle.qc_script.specs.declared.bad_script.BadScript.TheVariants.{Memory}
 use Rattle.qc_script.specs.Plan.{ScriptPlan}
@@ -25,18 +26,30 @@ use Rattle.qc_run.specs.declared.status.Status.TheVariants as status
 abbrev pub first_epoch : ℕ
 first_epoch = 1
 
--- the client that runs a script's session: the first one, in the first epoch, over the script's network
+-- the link of a script's session
+abbrev pub net_of : ScriptPlan → Net
+net_of s = record { fates = s.fates; hold = s.hold; patience = s.patience }
+
+-- the client that runs a script's session: the first one, in the first epoch, over the script's table and network
 abbrev pub client_of : ScriptPlan → Client
 client_of s = record {
-  seat = client_seat;
+  number = client_seat;
+  kin = [];
+  out = [];
   session = 0;
   epoch = first_epoch;
-  net = record { fates = s.fates; hold = s.hold; patience = s.patience };
+  setting = setting_of s.table (base_of s.table);
+  may = [];
+  net = Some (net_of s);
 }
 
--- a session of a script that has done nothing
-abbrev pub fresh : ScriptPlan → Now
-fresh s = record { setting = setting_of s.table (base_of s.table); past = []; dead = None; client = client_of s }
+-- that client, as it has done nothing
+abbrev pub fresh : ScriptPlan → View
+fresh s = record { client = client_of s; seen = [] }
+
+-- a trail follows a script, whose one session runs in the first epoch
+abbrev pub Follows : ScriptPlan → List Entry → Type 0
+Follows s trail = FollowsScript 0 first_epoch (net_of s) s.tops (reverse trail)
 
 -- The source was read to its end, and its bytes are this script.
 pub record ReadsScript (before now : Option (List ℕ)) (s : ScriptPlan) : Type 0 where
@@ -82,6 +95,18 @@ ReadIt status.Done = Unit {0}
 ReadIt status.WriteFault = Unit {0}
 ReadIt status.Room = Unit {0}
 ReadIt _ = ⊥
+
+-- the source was read as far as a script may go
+abbrev pub ReadWhole : Status → Type 0
+ReadWhole status.Done = Unit {0}
+ReadWhole status.WriteFault = Unit {0}
+ReadWhole status.Room = Unit {0}
+ReadWhole (status.Script e) = Unit {0}
+ReadWhole _ = ⊥
+
+-- one byte more than the longest script
+abbrev pub most_taken : ℕ
+most_taken = 2 ^ 20 + 1
 
 -- nothing was begun
 abbrev pub BeganNothing : Status → Type 0
@@ -144,9 +169,9 @@ HasSerialValues table start trail =
     (values : List ℕ) → IsSound (setting_of table start) values → length values ≡ length table.records
     → values_by_version start (reverse trail) (length table.records) ≡ final_values values (reverse trail)
 
--- the report of a session, with the values by the versions of its tuples
-abbrev pub page : Table → Now → Text
-page table now = report table (values_by_version now.setting.base now.past (length table.records)) (reverse now.past)
+-- the report of what a client has seen, with the values by the versions of its tuples
+abbrev pub page : Table → View → Text
+page table view = report table (values_by_version view.client.setting.base view.seen (length table.records)) (reverse view.seen)
 
 -- what a run that stopped may answer
 abbrev pub IsHalted : Short → Status → Type 0

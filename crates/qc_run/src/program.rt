@@ -8,8 +8,7 @@ ghost use Rattle.qc_event.specs.Tables.{base_of, first_configs, first_tuple, fir
 ghost use Rattle.qc_script.specs.Plan.{ScriptPlan};
 ghost use Rattle.qc_script.specs.Steps.{plan_of_script};
 ghost use Rattle.qc_run.specs.FaultLine.{fault_line};
-ghost use Rattle.qc_session.specs.Follows.{FollowsTops};
-ghost use Rattle.qc_io.specs.Io.{Rose, Keeps, Appends, AppendsFront};
+ghost use Rattle.qc_io.specs.Io.{Rose, Keeps, Appends, AppendsFront, Drops, LosesWithin};
 ghost use Rattle.qc_script.specs.Reading.{IsScript, IsProper};
 ghost use Rattle.qc_run.specs.Run as terms;
 ghost use Rattle.qc_run.specs.Words as line;
@@ -18,7 +17,7 @@ use crate::io::{Sink, Source, Untaken, take_all, write_all};
 use crate::status::{ROOM_LINE, Status, fault_line};
 use crate::words::is_command;
 use qc_event::{Base, CLIENT_SEAT, Config, Entry, Row, Short, Table, Tuple};
-use qc_session::{Client, Session};
+use qc_client::{Client, LoneClient};
 use qc_report::{finals, report};
 use qc_script::{BadScript, MOST_BYTES, Script};
 use std::alloc::{AllocError, Global};
@@ -105,30 +104,30 @@ fn tell<K: Sink>(alloc: Global, status: Status, sink: &mut K) -> Status
     }
 }
 
-// The report of a session.
-fn page_of(alloc: Global, table: &Table, session: &Session) -> Result<Vec<u8>, AllocError>
-    requires copies { length session.now.setting.base ≤ 16 }
+// The report of what a client has done.
+fn page_of(alloc: Global, table: &Table, client: &LoneClient) -> Result<Vec<u8>, AllocError>
+    requires copies { length client.now.client.setting.base ≤ 16 }
     requires records { length table.now.records ≤ 64 }
-    ensures { IfOk result (λ text. text.items ≡ terms.page table.now session.now) }
+    ensures { IfOk result (λ text. text.items ≡ terms.page table.now client.now) }
 {
-    let trail = session.entries();
+    let trail = client.entries();
     let records = table.records.as_slice().len();
-    let values = finals(alloc, session.base(), trail, records)?;
+    let values = finals(alloc, client.base(), trail, records)?;
     report(alloc, table, values.as_slice(), trail)
 }
 
-// Reports a session that has run to its end.
-fn conclude<K: Sink>(alloc: Global, table: &Table, session: &Session, sink: &mut K) -> Status
-    requires copies { length session.now.setting.base ≤ 16 }
+// Reports a client whose session has run to its end.
+fn conclude<K: Sink>(alloc: Global, table: &Table, client: &LoneClient, sink: &mut K) -> Status
+    requires copies { length client.now.client.setting.base ≤ 16 }
     requires records { length table.now.records ≤ 64 }
     ensures answer { terms.IsConcluded result }
-    ensures done { result ≡ Status.Done → Appends (K.taken sink.old) (K.taken sink.new) (terms.page table.now session.now) }
-    ensures front { result ≡ Status.WriteFault → AppendsFront (K.taken sink.old) (K.taken sink.new) (terms.page table.now session.now) }
+    ensures done { result ≡ Status.Done → Appends (K.taken sink.old) (K.taken sink.new) (terms.page table.now client.now) }
+    ensures front { result ≡ Status.WriteFault → AppendsFront (K.taken sink.old) (K.taken sink.new) (terms.page table.now client.now) }
     ensures short { result ≡ Status.Memory → Keeps (K.taken sink.old) (K.taken sink.new) }
     ensures fault { result ≡ Status.WriteFault → Rose (K.faults sink.old) (K.faults sink.new) }
     ensures faults { K.faults sink.old ≤ K.faults sink.new }
 {
-    match page_of(alloc, table, session) {
+    match page_of(alloc, table, client) {
         Ok(text) => match write_all(sink, text.as_slice()) {
             Ok(()) => Status::Done,
             Err(_) => Status::WriteFault,
@@ -137,17 +136,17 @@ fn conclude<K: Sink>(alloc: Global, table: &Table, session: &Session, sink: &mut
     }
 }
 
-// A session that has done nothing, over the first tuples of a script's table and its session's network.
-fn open(alloc: Global, script: &Script) -> Result<Session, AllocError>
+// The client of a script's session, over the first tuples of the script's table and the session's network.
+fn open(alloc: Global, script: &Script) -> Result<LoneClient, AllocError>
     requires proper { IsProperSetting (setting_of script.now.table (base_of script.now.table)) }
     requires hold { 1 ≤ script.now.session.hold }
-    ensures { IfOk result (λ session. session ≡ terms.fresh (plan_of_script script.now)) }
+    ensures { IfOk result (λ client. client ≡ terms.fresh (plan_of_script script.now)) }
 {
     let firsts = configs_of(alloc, &script.table)?;
     let start = base_of(alloc, &script.table)?;
     let fates = script.session.fates.clone()?;
     let (hold, patience) = (script.session.hold, script.patience);
-    Session::new(alloc, FIRST_CLIENT, firsts, start, fates, hold, patience)
+    LoneClient::new(alloc, FIRST_CLIENT, firsts, start, fates, hold, patience)
 }
 
 // Ends a run that stopped since memory ran out or the history is full. To tell of the latter takes no memory.
@@ -168,13 +167,13 @@ fn halt<K: Sink>(short: Short, sink: &mut K) -> Status
 }
 
 // Runs a script from its start, and reports it.
-fn proceed<K: Sink>(alloc: Global, script: &Script, mut session: Session, sink: &mut K) -> Ran
+fn proceed<K: Sink>(alloc: Global, script: &Script, mut client: LoneClient, sink: &mut K) -> Ran
     requires proper { IsProper (plan_of_script script.now) }
-    requires session { session ≡ terms.fresh (plan_of_script script.now) }
+    requires client { client ≡ terms.fresh (plan_of_script script.now) }
     ensures legal_history { Legal (setting_of script.now.table result.start) (reverse result.trail.items) }
     ensures start { result.start ≡ base_of script.now.table }
     ensures follows { terms.RanToEnd result.status
-        → FollowsTops (terms.client_of (plan_of_script script.now)) (plan_of_script script.now).tops (reverse result.trail.items) }
+        → terms.Follows (plan_of_script script.now) result.trail.items }
     ensures answer { terms.IsPerformed result.status }
     ensures done { result.status ≡ Status.Done → Appends (K.taken sink.old) (K.taken sink.new)
         (terms.report_of (plan_of_script script.now) result.start result.trail.items) }
@@ -187,11 +186,11 @@ fn proceed<K: Sink>(alloc: Global, script: &Script, mut session: Session, sink: 
     ensures room { result.status ≡ Status.Room → length result.trail.items ≡ limit }
     ensures faults { K.faults sink.old ≤ K.faults sink.new }
 {
-    let status = match session.tops(script.session.tops.as_slice()) {
-        Ok(()) => conclude(alloc, &script.table, &session, sink),
+    let status = match client.run(script.session.tops.as_slice()) {
+        Ok(()) => conclude(alloc, &script.table, &client, sink),
         Err(short) => halt(short, sink),
     };
-    let (start, trail) = session.into_parts();
+    let (start, trail) = client.into_parts();
     Ran {
         status,
         start,
@@ -207,7 +206,7 @@ fn perform<K: Sink>(alloc: Global, script: &Script, sink: &mut K) -> Ran
         × Legal (setting_of script.now.table result.start) (reverse result.trail.items)) }
     ensures start { terms.ReadIt result.status → result.start ≡ base_of script.now.table }
     ensures follows { terms.RanToEnd result.status
-        → FollowsTops (terms.client_of (plan_of_script script.now)) (plan_of_script script.now).tops (reverse result.trail.items) }
+        → terms.Follows (plan_of_script script.now) result.trail.items }
     ensures answer { terms.IsPerformed result.status }
     ensures done { result.status ≡ Status.Done → Appends (K.taken sink.old) (K.taken sink.new)
         (terms.report_of (plan_of_script script.now) result.start result.trail.items) }
@@ -221,7 +220,7 @@ fn perform<K: Sink>(alloc: Global, script: &Script, sink: &mut K) -> Ran
     ensures faults { K.faults sink.old ≤ K.faults sink.new }
 {
     match open(alloc, script) {
-        Ok(session) => proceed(alloc, script, session, sink),
+        Ok(client) => proceed(alloc, script, client, sink),
         Err(AllocError) => nothing(alloc, Status::Memory),
     }
 }
@@ -249,7 +248,7 @@ fn over<K: Sink>(alloc: Global, bytes: &[u8], sink: &mut K) -> Ran
         → (result.trail.items ≡ []) × (result.start ≡ []) }
     ensures started { terms.ReadIt result.status → terms.OfBytes bytes.now result.start (λ _. ⊤) }
     ensures follows { terms.RanToEnd result.status → terms.OfBytes bytes.now result.start
-        (λ s. FollowsTops (terms.client_of s) s.tops (reverse result.trail.items)) }
+        (λ s. terms.Follows s result.trail.items) }
     ensures answer { terms.IsOver result.status }
     ensures refused { terms.IsScriptFault (Some bytes.now) result.status }
     ensures done { result.status ≡ Status.Done → terms.OfBytes bytes.now result.start
@@ -280,7 +279,7 @@ fn answer<S: Source, K: Sink>(alloc: Global, words: &[String], source: &mut S, s
         → terms.OfScript (S.left source.old) (S.left source.new) result.start (λ _. ⊤) }
     ensures follows_script { terms.RanToEnd result.status
         → terms.OfScript (S.left source.old) (S.left source.new) result.start
-        (λ s. FollowsTops (terms.client_of s) s.tops (reverse result.trail.items)) }
+        (λ s. terms.Follows s result.trail.items) }
     ensures output { result.status ≡ Status.Done
         → terms.OfScript (S.left source.old) (S.left source.new) result.start
         (λ s. Appends (K.taken sink.old) (K.taken sink.new) (terms.report_of s result.start result.trail.items)) }
@@ -299,6 +298,9 @@ fn answer<S: Source, K: Sink>(alloc: Global, words: &[String], source: &mut S, s
     ensures room { result.status ≡ Status.Room → length result.trail.items ≡ limit }
     ensures source_faults { S.faults source.old ≤ S.faults source.new }
     ensures sink_faults { K.faults sink.old ≤ K.faults sink.new }
+    ensures source_taken { terms.ReadWhole result.status
+        → Drops (S.left source.old) (S.left source.new) terms.most_taken }
+    ensures source_within { LosesWithin (S.left source.old) (S.left source.new) terms.most_taken }
 {
     if !is_command(words) {
         return refuse(alloc, Status::Usage, sink);
@@ -344,7 +346,7 @@ pub fn run<S: Source, K: Sink>(alloc: Global, words: &[String], source: &mut S, 
     // that meet the fates of its network.
     ensures follows_script { terms.RanToEnd result.status
         → terms.OfScript (S.left source.old) (S.left source.new) result.start
-        (λ s. FollowsTops (terms.client_of s) s.tops (reverse result.trail.items)) }
+        (λ s. terms.Follows s result.trail.items) }
     ensures started { terms.ReadIt result.status
         → terms.OfScript (S.left source.old) (S.left source.new) result.start (λ _. ⊤) }
 
@@ -371,6 +373,11 @@ pub fn run<S: Source, K: Sink>(alloc: Global, words: &[String], source: &mut S, 
     ensures room { result.status ≡ Status.Room → length result.trail.items ≡ limit }
     ensures source_faults { S.faults source.old ≤ S.faults source.new }
     ensures sink_faults { K.faults sink.old ≤ K.faults sink.new }
+
+    // The source is taken to its end, or one byte past the longest script; never further.
+    ensures source_taken { terms.ReadWhole result.status
+        → Drops (S.left source.old) (S.left source.new) terms.most_taken }
+    ensures source_within { LosesWithin (S.left source.old) (S.left source.new) terms.most_taken }
 
     // A script is run, where neither stream fails, as far as there is memory and room.
     ensures completes { (bytes : List ℕ) (s : ScriptPlan) → line.is_command (map string_bytes words.now) ≡ true

@@ -166,8 +166,7 @@ set_within table depth next rec value =
 reconf_within : (table : Table) (depth next : ℕ) (rec config : Data) → IfOk (reconf_of table next rec config) (KeepsWithin table depth)
 reconf_within table depth next rec config =
     then_ok _ _ _ λ name _. then_ok _ _ _ λ _ _. then_ok _ _ _ λ i h. then_ok _ _ _ λ c hc rest within. (
-      IfOk-at_ok (λ k. k < length table.records) h (number_within table name),
-      IfOk-at_ok (IsConfigFor table.copies) hc (config_proper table.copies config),
+      (IfOk-at_ok (λ k. k < length table.records) h (number_within table name), IfOk-at_ok (IsConfigFor table.copies) hc (config_proper table.copies config)),
       within,
     )
 

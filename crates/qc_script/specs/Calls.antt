@@ -1,7 +1,6 @@
 -- What each call of a client makes, or why it makes nothing.
-use Rattle.std.specs.Prelude.{ℕ, ◌≡◌, ◌<◌, ◌⊎◌, Bool, true, false, not, ◌||◌, IsTrue, [], ◌∷◌, ◌++◌, length, None, Some, MatchOption, is_some}
+use Rattle.std.specs.Prelude.{ℕ, ◌≡◌, ◌⊎◌, Bool, true, false, not, ◌||◌, IsTrue, [], ◌∷◌, ◌++◌, length, None, Some, MatchOption, is_some}
 use Rattle.std.specs.List.{AllByRecursion, list_any}
-use Rattle.qc_config.specs.Config.{IsLegal}
 use Rattle.qc_event.specs.declared.event.Answer.{Answer}
 use Rattle.qc_event.specs.declared.event.Answer.TheVariants as answer
 use Rattle.qc_event.specs.declared.event.Cause.{Cause}
@@ -13,7 +12,6 @@ use Rattle.qc_event.specs.declared.event.How.{How}
 use Rattle.qc_event.specs.declared.event.How.TheVariants.{Commit, Abort}
 use Rattle.qc_event.specs.declared.event.Kind.{Kind}
 use Rattle.qc_event.specs.declared.event.Kind.TheVariants as kind
-use Rattle.qc_event.specs.Base.{Setting}
 use Rattle.qc_event.specs.Dead.{outcome, is_committed}
 use Rattle.qc_event.specs.History.{Past, Name, limit, same, start, end, is_ready, is_child}
 use Rattle.qc_event.specs.Standing.{Started, IsAbort}
@@ -22,13 +20,6 @@ use Rattle.qc_names.specs.Name as name
 use Rattle.qc_script.specs.declared.tx.TxNo.{TxNo}
 use Rattle.qc_script.specs.declared.tx.TxNo.TheVariants as tx_no
 use Rattle.qc_script.specs.Client.{Client, View, Made}
-
--- a manager of a kind can run: its record is there, and a configuration that it brings is one for the copies
-abbrev pub KindFits : Setting → Kind → Type 0
-KindFits setting (kind.Read rec) = rec < length setting.firsts
-KindFits setting (kind.Write rec value) = rec < length setting.firsts
-KindFits setting (kind.Reconf rec config) = (rec < length setting.firsts) × IsLegal config × (length config.votes ≡ length setting.base)
-KindFits setting _ = ⊥
 
 abbrev pub by_client : Client → Event → Entry
 by_client c event = record { seat = c.number; event = event }

@@ -7,6 +7,7 @@ use Rattle.std.specs.Result.{is_ok}
 use Rattle.std.specs.Str.{bytes_eq}
 use Rattle.serde_json.specs.Data.{Data, Items, no_items, item, Members, no_members, member}
 use Rattle.serde_json.specs.Find.{get, as_number, as_str, as_array, as_object, as_u64}
+use Rattle.qc_event.specs.declared.event.Kind.TheVariants as kind
 use Rattle.qc_config.specs.Config.{Voting, fault}
 use Rattle.qc_event.specs.declared.table.Row.{Row}
 use Rattle.qc_event.specs.declared.table.Table.{Table}
@@ -228,7 +229,7 @@ abbrev pub read_of : Table → ℕ → Data → Counted Front
 read_of table next rec = do
   name ← step_name rec
   i ← number_of table name
-  Ok (Plan.read_then i, next)
+  Ok (Plan.manage_then (kind.Read i), next)
 
 -- ["set", R, n]
 abbrev pub set_of : Table → ℕ → Data → Data → Counted Front
@@ -236,7 +237,7 @@ set_of table next rec value = do
   name ← step_name rec
   n ← ok_or (digits_of value) (Shape part.Step)
   i ← number_of table name
-  Ok (Plan.set_then i n, next)
+  Ok (Plan.manage_then (kind.Write i n), next)
 
 -- ["reconf", R, config]
 abbrev pub reconf_of : Table → ℕ → Data → Data → Counted Front
@@ -245,7 +246,7 @@ reconf_of table next rec config = do
   _ ← must (is_some (as_object config)) (Shape part.Step)
   i ← number_of table name
   c ← config_of table.copies config
-  Ok (Plan.reconf_then i c, next)
+  Ok (Plan.manage_then (kind.Reconf i c), next)
 
 -- ["child", body], where the body is read so
 abbrev pub child_of : (ℕ → Data → Counted Numbered) → ℕ → Data → Counted Front

@@ -1,5 +1,6 @@
 -- The plan that a body is.
 use Rattle.std.specs.Prelude.{List, [], ◌∷◌, map}
+use Rattle.qc_event.specs.declared.event.Kind.TheVariants as kind
 use Rattle.qc_script.specs.declared.script.Body.{Body, fold-Body}
 use Rattle.qc_script.specs.declared.script.Script.{Script}
 use Rattle.qc_script.specs.declared.script.Session.{Session}
@@ -9,9 +10,9 @@ use Rattle.qc_script.specs.Plan.{Plan, Numbered, SessionPlan, ScriptPlan}
 
 -- a step, before the plan of the steps after it
 abbrev pub before : Step-F (Plan → Plan) Numbered → Plan → Plan
-before (Step-F.Read rec) rest = Plan.read_then rec rest
-before (Step-F.Set rec value) rest = Plan.set_then rec value rest
-before (Step-F.Reconf rec config) rest = Plan.reconf_then rec config rest
+before (Step-F.Read rec) rest = Plan.manage_then (kind.Read rec) rest
+before (Step-F.Set rec value) rest = Plan.manage_then (kind.Write rec value) rest
+before (Step-F.Reconf rec config) rest = Plan.manage_then (kind.Reconf rec config) rest
 before (Step-F.Child body) rest = Plan.child_then body.number body.tries body.plan rest
 before (Step-F.Abort levels) rest = Plan.abort_then levels rest
 

@@ -41,8 +41,9 @@ pub trait Tx: Sized {
     ghost use Rattle.qc_event.specs.History.{is_child};
     ghost use Rattle.qc_event.specs.Standing.{Started, IsUser};
     ghost use Rattle.qc_script.specs.Numbers.{Numbers};
-    ghost use Rattle.qc_script.specs.Calls.{KindFits, Began, Answers, Fails, Aborts, IsGrounded, WasRefused, NotAborted, Committed, NotCommitted};
+    ghost use Rattle.qc_script.specs.Calls.{Began, Answers, Fails, Aborts, IsGrounded, WasRefused, NotAborted, Committed, NotCommitted};
     ghost use Rattle.qc_script.specs.Client.{View};
+    ghost use Rattle.qc_script.specs.Plan.{KindFits};
 
     /// Its number and branches, its session, table and link, and what it has seen.
     ghost view: { Self → View };

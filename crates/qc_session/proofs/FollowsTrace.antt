@@ -16,7 +16,7 @@ use Rattle.qc_event.specs.History.{Past, Name, every, start, end, is_ready, chil
 use Rattle.qc_event.specs.Base.{Setting}
 use Rattle.qc_event.proofs.Absent.{if_not}
 use Rattle.qc_event.proofs.OneEntry.{Starting, not_some, some_or_none, start_now, start_stays}
-use Rattle.qc_line.specs.Messages.{meets_fates}
+use Rattle.qc_net.specs.Messages.{meets_fates}
 use Rattle.qc_script.specs.Plan.{Numbered, PlanWithin, TopsWithin}
 use Rattle.qc_session.specs.Client.{Client, MayAct}
 use Rattle.qc_session.specs.Trace.{Now, by_client, begun, returned, TriesRun, Runs, BodyRuns, top_of, TopsRun}

@@ -15,7 +15,7 @@ use Rattle.qc_event.specs.Standing.{IsManager}
 use Rattle.qc_script.specs.declared.script.Body.{Body}
 use Rattle.qc_script.specs.declared.script.Step.{Step, Step-F, out-Step, roll-Step, roll-out-Step}
 use Rattle.qc_script.specs.declared.script.Step.TheVariants as step
-use Rattle.qc_line.specs.Messages.{meets_fates}
+use Rattle.qc_net.specs.Messages.{meets_fates}
 use Rattle.qc_script.specs.Plan.{Plan, IsTried, PlanWithin, TopsWithin}
 use Rattle.qc_script.specs.Steps.{numbered, plan_of}
 use Rattle.qc_session.specs.Client.{Client, MayAct}

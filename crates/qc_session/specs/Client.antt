@@ -1,7 +1,7 @@
 -- Who runs a session, and how it is reached.
 use Rattle.std.specs.Prelude.{ℕ, ◌≤◌, IsTrue}
 use Rattle.qc_event.specs.Seats.{is_client}
-use Rattle.qc_line.specs.Messages.{Net}
+use Rattle.qc_net.specs.Messages.{Net}
 
 -- A client: the seat under which it acts, the number of its session, the epoch of its run, and what its link is.
 pub record Client : Type 0 where

@@ -13,7 +13,7 @@ use Rattle.qc_event.specs.declared.event.Kind.TheVariants as kind
 use Rattle.qc_event.specs.History.{Past, Name, same, every, end, is_ready, children, kind_of}
 use Rattle.qc_event.specs.Dead.{outcome, is_committed}
 use Rattle.qc_event.specs.Standing.{IsOrphanOf}
-use Rattle.qc_line.specs.Messages.{meets_fates}
+use Rattle.qc_net.specs.Messages.{meets_fates}
 use Rattle.qc_script.specs.Plan.{Plan, Numbered}
 use Rattle.qc_session.specs.Tries.{Tries, TriesDo}
 use Rattle.qc_session.specs.Client.{Client}

@@ -7,7 +7,7 @@ ghost use Rattle.qc_event.specs.Seats.{is_client};
 ghost use Rattle.qc_names.specs.Name.{longest};
 ghost use Rattle.qc_session.specs.Running.{MayMake, Running};
 ghost use Rattle.qc_session.specs.Trace as trace;
-ghost use Rattle.qc_line.specs.Messages.{meets_fates};
+ghost use Rattle.qc_net.specs.Messages.{meets_fates};
 ghost use Rattle.qc_script.specs.Plan.{PlanWithin};
 ghost use Rattle.qc_script.specs.Steps.{plan_of, numbered};
 

@@ -4,7 +4,7 @@ ghost use Rattle.qc_event.specs.History.{limit};
 ghost use Rattle.qc_session.specs.Follows.{FollowsTops};
 ghost use Rattle.qc_session.specs.Running.{Resting};
 ghost use Rattle.qc_session.specs.Trace as trace;
-ghost use Rattle.qc_line.specs.Messages.{meets_fates};
+ghost use Rattle.qc_net.specs.Messages.{meets_fates};
 ghost use Rattle.qc_script.specs.Plan.{PlanWithin, TopsWithin};
 ghost use Rattle.qc_script.specs.Steps.{numbered};
 

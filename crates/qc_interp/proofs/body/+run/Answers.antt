@@ -4,7 +4,8 @@ use Rattle.qc_event.specs.declared.event.Kind.TheVariants as kind
 use Rattle.qc_event.specs.History.{Past, Name}
 use Rattle.qc_script.specs.Calls.{by_client, WasRefused}
 use Rattle.qc_script.specs.Client.{Client, Made}
-use Rattle.qc_interp.specs.Plan.{Plan, PlanFits, put, plan_of, numbered}
+use Rattle.qc_script.specs.Plan.{Plan, PlanFits}
+use Rattle.qc_script.specs.Steps.{put, plan_of, numbered}
 use Rattle.qc_interp.specs.Running.{Runs, WhyStop, Stopped, Ended, Stepped}
 use Rattle.qc_interp.proofs.Results.{if_ok}
 use Rattle.qc_interp.proofs.Growth.{child_length}
@@ -20,15 +21,8 @@ use Rattle.qc_interp.proofs.body.+run.Goals as goal
 start_of : (c d : Client) (n : Name) (number other : ℕ) (before now : Past) → d ≡ c → number ≡ other → Made d (by_client d (event.Start n (kind.User d.session number)) ∷ []) before now → Made c (by_client c (event.Start n (kind.User c.session other)) ∷ []) before now
 start_of c d n number other before now same is m = subst (λ k. Made c (by_client c (event.Start n (kind.User c.session k)) ∷ []) before now) is (subst (λ x. Made x (by_client x (event.Start n (kind.User x.session number)) ∷ []) before now) same m)
 
-one_less : (c : Client) (of : Name) (body : Rattle.qc_interp.specs.Plan.Numbered) (before now : Past) (counter : ℕ) → counter < body.tries → TriesLeft c of body before now (body.tries - counter) → TriesLeft c of body before now (suc (body.tries - (counter + 1)))
+one_less : (c : Client) (of : Name) (body : Rattle.qc_script.specs.Plan.Numbered) (before now : Past) (counter : ℕ) → counter < body.tries → TriesLeft c of body before now (body.tries - counter) → TriesLeft c of body before now (suc (body.tries - (counter + 1)))
 one_less c of body before now counter few left = subst (TriesLeft c of body before now) (let e : body.tries - counter ≡ suc (body.tries - (counter + 1)) = omega (arith, few) in e) left
-
-pub child_tries-begin-requires-clause-uncommitted : goal.child_tries-begin-requires-clause-uncommitted
-child_tries-begin-requires-clause-uncommitted g t c =
-    let inv = c.loop.invariant in
-    let w = g.T.Tx.view c.loop.tx in
-    let runs : Runs w.client c.args.of.now w.seen = subst (λ d. Runs d c.args.of.now w.seen) (sym inv.client) inv.left.runs in
-    unended_commit c.args.of.now _ (runs.above c.args.of.now [] (sym (append-nil c.args.of.now)) runs.nonroot).0
 
 pub child_tries-steps-requires : goal.child_tries-steps-requires
 child_tries-steps-requires g t c κs within =
@@ -75,7 +69,7 @@ child_tries-stop-requires g t c =
     let w = g.T.Tx.view c.loop.tx in
     let x = g.T.Tx.view c.begin.new.self in
     let of = c.args.of.now in
-    let h = begin_stops v.client of (numbered c.args.body.now) w.seen x.seen c.in-Err.why inv.left.runs (subst (λ d. WasRefused d of w.seen x.seen c.in-Err.why) inv.client c.in-Err.ensures.err) c.in_default.not-Memory in
+    let h = begin_stops v.client of (numbered c.args.body.now) w.seen x.seen c.in-Err.why inv.left.runs (subst (λ d. WasRefused d of w.seen x.seen c.in-Err.why) inv.client c.in-Err.ensures.err) c.in_default.not-Memory c.in_default.not-Room in
     let client = c.begin.ensures.client ∙ inv.client in
     record { runs = subst (λ d. Runs d of x.seen) (sym client) h.0; why = subst (λ d. WhyStop d x.seen of c.in-Err.why) (sym client) h.1 }
 
@@ -94,8 +88,9 @@ child_tries-returns-in_ok-stop-in_default g t c =
       ok = λ rest.
           not_begun v.client of body v.seen w.seen x.seen y.seen _ c.in-Err.why c.in_ok-stop-in_default.field-0 rest
           (one_less v.client of body v.seen w.seen c.loop.counter (subst (λ n. c.loop.counter < n) (sym (tries_of c.args.body.now)) c.loop-test.true) inv.left)
-          (subst (λ d. WasRefused d of w.seen x.seen c.in-Err.why) inv.client c.in-Err.ensures.err) c.in_default.not-Memory
+          (subst (λ d. WasRefused d of w.seen x.seen c.in-Err.why) inv.client c.in-Err.ensures.err) c.in_default.not-Memory c.in_default.not-Room
           (subst (λ d. Stopped d of c.in-Err.why x.seen y.seen c.in_ok-stop-in_default.field-0) client c.in_ok-stop-in_default.ensures.ok);
+      room = tt;
     }
 
 pub child_tries-loop-preserved : goal.child_tries-loop-preserved

@@ -1,5 +1,6 @@
 use Rattle.std.proofs.Common.{◌≡◌, ◌+◌, ◌-◌}
-use Rattle.qc_interp.specs.Plan.{Plan, put, plan_of, numbered}
+use Rattle.qc_script.specs.Plan.{Plan}
+use Rattle.qc_script.specs.Steps.{put, plan_of, numbered}
 use Rattle.qc_interp.proofs.Loops.{StepsLeft}
 use Rattle.qc_interp.proofs.Plans.{weight}
 use Rattle.qc_interp.proofs.Tried.{TriesLeft}

@@ -4,7 +4,7 @@ use Rattle.qc_event.specs.declared.event.Cause.TheVariants as cause
 use Rattle.qc_event.specs.declared.event.How.TheVariants.{Abort}
 use Rattle.qc_event.proofs.LastNumber.{is_ancestor-append}
 use Rattle.qc_names.specs.Name as name
-use Rattle.qc_interp.specs.Plan.{Plan}
+use Rattle.qc_script.specs.Plan.{Plan}
 use Rattle.qc_interp.specs.Running.{Runs, Quit, Ended}
 use Rattle.qc_interp.proofs.Results.{if_ok}
 use Rattle.qc_interp.proofs.Ending.{runs_still, leaves_still, still}
@@ -14,7 +14,7 @@ use Rattle.qc_event.specs.History.{children}
 use Rattle.qc_interp.proofs.body.ask.Goals as goal
 
 pub quit-requires-clause-grounded : goal.quit-requires-clause-grounded
-quit-requires-clause-grounded g c = (c.requires.runs.user, ap (name.is_ancestor c.args.of.now) (sym (append-nil c.args.of.now)) ∙ is_ancestor-append c.args.of.now [])
+quit-requires-clause-grounded g c session = (c.requires.runs.user, ap (name.is_ancestor c.args.of.now) (sym (append-nil c.args.of.now)) ∙ is_ancestor-append c.args.of.now [])
 
 pub abort-requires-clause-user : goal.abort-requires-clause-user
 abort-requires-clause-user g c =
@@ -23,7 +23,7 @@ abort-requires-clause-user g c =
     user_above v.client c.args.of.now v.seen c.ancestor-ancestor.result c.args.levels c.requires.runs up
 
 pub abort-requires-clause-grounded : goal.abort-requires-clause-grounded
-abort-requires-clause-grounded g c =
+abort-requires-clause-grounded g c session =
     let v = g.T.Tx.view c.args.tx.now in
     let up = above_is v.client c.args.of.now c.ancestor-ancestor.result c.args.levels c.len.result c.len.ensures.length c.ancestor-ancestor.ensures c.if-levels-eq0.false c.requires.within in
     (c.requires.runs.user, up.is_ancestor)
@@ -93,7 +93,7 @@ returns-in_default g c =
     let of = c.args.of.now in
     let t = c.ancestor-ancestor.result in
     let up = above_is v.client of t c.args.levels c.len.result c.len.ensures.length c.ancestor-ancestor.ensures c.if-levels-eq0.false c.requires.within in
-    record { client = c.abort.ensures.client; ok = λ rest. ask_no v.client of t c.args.levels v.seen w.seen c.in-Err.why rest up c.requires.runs c.in-Err.ensures.err c.in_default.not-Memory c.in_default.not-Ended }
+    record { client = c.abort.ensures.client; ok = λ rest. ask_no v.client of t c.args.levels v.seen w.seen c.in-Err.why rest up c.requires.runs c.in-Err.ensures.err c.in_default.not-Memory c.in_default.not-Room c.in_default.not-Ended; room = tt }
 
 pub returns-then-levels-eq0-clause-ok : goal.returns-then-levels-eq0-clause-ok
 returns-then-levels-eq0-clause-ok g c =

@@ -1,19 +1,16 @@
 use Rattle.std.proofs.Common.{sym, subst, ◌∙◌, [], append-nil}
-use Rattle.qc_interp.specs.Plan.{Plan}
+use Rattle.qc_script.specs.Plan.{Plan}
 use Rattle.qc_interp.specs.Running.{Runs, WhyStop, Stopped, Ended}
 use Rattle.qc_interp.proofs.Results.{if_ok}
 use Rattle.qc_interp.proofs.Ending.{unended_commit}
 use Rattle.qc_interp.proofs.Asking.{commit_ok, commit_ledger, commit_stops, commit_over}
 use Rattle.qc_interp.proofs.body.commit.Goals as goal
 
-pub commit-requires-clause-uncommitted : goal.commit-requires-clause-uncommitted
-commit-requires-clause-uncommitted g c = unended_commit c.args.of.now _ (c.requires.runs.above c.args.of.now [] (sym (append-nil c.args.of.now)) c.requires.runs.nonroot).0
-
 pub stop-requires : goal.stop-requires
 stop-requires g c =
     let v = g.T.Tx.view c.args.tx.now in
     let w = g.T.Tx.view c.commit.new.self in
-    let h = commit_stops v.client c.args.of.now v.seen w.seen c.in-Err.why c.requires.runs c.in-Err.ensures.err c.in_default.not-Memory c.in_default.not-Ledger in
+    let h = commit_stops v.client c.args.of.now v.seen w.seen c.in-Err.why c.requires.runs c.in-Err.ensures.err c.in_default.not-Memory c.in_default.not-Room c.in_default.not-Ledger in
     record {
       runs = subst (λ d. Runs d c.args.of.now w.seen) (sym c.commit.ensures.client) h.0;
       why = subst (λ d. WhyStop d w.seen c.args.of.now c.in-Err.why) (sym c.commit.ensures.client) h.1;
@@ -38,6 +35,7 @@ returns-in_default g c =
     record {
       client = c.stop.ensures.client ∙ c.commit.ensures.client;
       ok = if_ok (Stopped w.client of c.in-Err.why w.seen x.seen) (Ended v.client of v.seen x.seen Plan.done) c.stop.result
-          (λ again stopped. commit_over v.client of v.seen w.seen x.seen c.in-Err.why again c.requires.runs c.in-Err.ensures.err c.in_default.not-Memory c.in_default.not-Ledger
+          (λ again stopped. commit_over v.client of v.seen w.seen x.seen c.in-Err.why again c.requires.runs c.in-Err.ensures.err c.in_default.not-Memory c.in_default.not-Room c.in_default.not-Ledger
           (subst (λ d. Stopped d of c.in-Err.why w.seen x.seen again) c.commit.ensures.client stopped)) c.stop.ensures.ok;
+      room = c.stop.ensures.room;
     }

@@ -7,7 +7,7 @@ pub stop-requires : goal.stop-requires
 stop-requires g c =
     let v = g.T.Tx.view c.args.tx.now in
     let w = g.T.Tx.view c.call.new.tx in
-    let h = manage_stops v.client c.args.of.now c.args.kind.now v.seen w.seen c.in-Err.why c.requires.fits c.requires.runs c.in-Err.ensures.err c.in_default.not-Memory in
+    let h = manage_stops v.client c.args.of.now c.args.kind.now v.seen w.seen c.in-Err.why c.requires.fits c.requires.runs c.in-Err.ensures.err c.in_default.not-Memory c.in_default.not-Room in
     record {
       runs = subst (λ d. Runs d c.args.of.now w.seen) (sym c.call.ensures.client) h.0;
       why = subst (λ d. WhyStop d w.seen c.args.of.now c.in-Err.why) (sym c.call.ensures.client) h.1;
@@ -25,6 +25,7 @@ returns-in_ok-again-in_default g c =
     record {
       client = c.stop.ensures.client ∙ c.call.ensures.client;
       ok = λ rest.
-          manage_over v.client c.args.of.now c.args.kind.now v.seen w.seen (g.T.Tx.view c.stop.new.tx).seen c.in-Err.why c.in_ok-again-in_default.again rest c.requires.runs c.in-Err.ensures.err c.in_default.not-Memory
+          manage_over v.client c.args.of.now c.args.kind.now v.seen w.seen (g.T.Tx.view c.stop.new.tx).seen c.in-Err.why c.in_ok-again-in_default.again rest c.requires.runs c.in-Err.ensures.err c.in_default.not-Memory c.in_default.not-Room
           (subst (λ d. Stopped d c.args.of.now c.in-Err.why w.seen (g.T.Tx.view c.stop.new.tx).seen c.in_ok-again-in_default.again) c.call.ensures.client c.in_ok-again-in_default.ensures.ok);
+      room = tt;
     }

@@ -1,5 +1,5 @@
 use Rattle.std.proofs.Common.{◌∙◌, subst, ◌∷◌, refl, arith}
-use Rattle.qc_interp.specs.Plan.{numbered}
+use Rattle.qc_script.specs.Steps.{numbered}
 use Rattle.qc_interp.specs.Session.{RanTops}
 use Rattle.qc_interp.proofs.TopsRun.{one_body, no_body, all_bodies}
 use Rattle.qc_interp.proofs.tops.run_tops.Goals as goal

@@ -11,7 +11,8 @@ use Rattle.qc_event.proofs.OneEntry.{not_some, some_or_none}
 use Rattle.qc_script.specs.Numbers.{Numbers}
 use Rattle.qc_script.specs.Calls.{by_client}
 use Rattle.qc_script.specs.Client.{Client, Made, mine, is_own}
-use Rattle.qc_interp.specs.Plan.{PlanFits, plan_of, numbered, Numbered}
+use Rattle.qc_script.specs.Plan.{PlanFits, Numbered}
+use Rattle.qc_script.specs.Steps.{plan_of, numbered}
 use Rattle.qc_interp.specs.Running.{Runs, Ended}
 use Rattle.qc_interp.proofs.Growth.{child_length}
 use Rattle.qc_interp.proofs.Mine.{kept_some}
@@ -29,11 +30,6 @@ start_of c d n number other before now same is m = subst (λ k. Made c (by_clien
 
 one_less : (c : Client) (body : Numbered) (before now : Past) (counter : ℕ) → counter < body.tries → TopTriesLeft c body before now (body.tries - counter) → TopTriesLeft c body before now (suc (body.tries - (counter + 1)))
 one_less c body before now counter few left = subst (TopTriesLeft c body before now) (let e : body.tries - counter ≡ suc (body.tries - (counter + 1)) = omega (arith, few) in e) left
-
-pub begin-requires-clause-uncommitted : goal.begin-requires-clause-uncommitted
-begin-requires-clause-uncommitted g c =
-    let w = g.T.Tx.view c.loop.tx in
-    root_uncommitted w.client w.seen c.root.result (subst (λ (d : Client). Legal d.setting w.seen) (sym c.loop.invariant.client) c.loop.invariant.left.later.legal) c.root.ensures
 
 pub steps-requires-clause-runs : goal.steps-requires-clause-runs
 steps-requires-clause-runs g c =

@@ -1,5 +1,5 @@
 use Rattle.std.proofs.Common.{◌≡◌, ◌-◌}
-use Rattle.qc_interp.specs.Plan.{numbered}
+use Rattle.qc_script.specs.Steps.{numbered}
 use Rattle.qc_interp.proofs.TopsRun.{TopTriesLeft}
 use Rattle.qc_interp.proofs.tops.top_tries.Given as goal
 

@@ -8,7 +8,7 @@ use Rattle.qc_event.proofs.LegalAgain.{legal_again}
 use Rattle.qc_gather.specs.Carrying.{began, became, HasGrown, WasCarried, WasCutOff}
 use Rattle.qc_line.specs.Access.{MayAccess, Waits, Stands, request}
 use Rattle.qc_line.specs.Kept.{IsInStep, net_of}
-use Rattle.qc_line.specs.Messages.{meets_fates}
+use Rattle.qc_net.specs.Messages.{meets_fates}
 use Rattle.qc_line.proofs.Answered.{serves_still}
 use Rattle.qc_line.proofs.Carried.{way, Of, cut_none, cut_at_start, grown_at_start}
 use Rattle.qc_line.proofs.Course as course

@@ -11,5 +11,5 @@ returns c =
     let table = c.args.table.now in
     let trail = c.entries-trail.result.now in
     let values = c.as_slice.ensures.value ∙ c.in_ok-values.ensures ∙ ap (λ (rows : List Row). values_by_version c.base.result.now (reverse trail) (length rows)) c.as_slice-records.ensures in
-    let text = ap (λ vs. report table vs trail) values ∙ text_is_page table c.args.session.now c.base.result.now trail c.base.ensures c.entries-trail.ensures.entries in
+    let text = ap (λ vs. report table vs trail) values ∙ text_is_page table c.args.client.now c.base.result.now trail c.base.ensures c.entries-trail.ensures.entries in
     IfOk-weaker c.report.result _ _ (λ page is. is ∙ text) c.report.ensures

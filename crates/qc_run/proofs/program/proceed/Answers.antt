@@ -12,8 +12,8 @@ returns-clause-legal_history g c =
     let start = c.into_parts-start.result.0 in
     let trail = c.into_parts-start.result.1.items in
     let parts = c.into_parts-start.ensures in
-    let back = gave_back s start trail c.args.session c.tops.new.self c.requires.session c.tops.ensures.setting parts.base parts.entries parts.legal in
-    trail_legal s start trail c.tops.new.self back
+    let back = gave_back s start trail c.args.client c.run.new.self c.requires.client c.run.ensures.client parts.base parts.entries parts.legal in
+    trail_legal s start trail c.run.new.self back
 
 pub returns-clause-done : goal.returns-clause-done
 returns-clause-done g c = λ done.
@@ -21,10 +21,10 @@ returns-clause-done g c = λ done.
     let start = c.into_parts-start.result.0 in
     let trail = c.into_parts-start.result.1.items in
     let parts = c.into_parts-start.ensures in
-    elim c.match-tops.branch [
+    elim c.match-run.branch [
       | in-Ok w ↦
-          let back = gave_back s start trail c.args.session c.tops.new.self c.requires.session c.tops.ensures.setting parts.base parts.entries parts.legal in
-          let text = page_is_report s start trail c.tops.new.self back in
+          let back = gave_back s start trail c.args.client c.run.new.self c.requires.client c.run.ensures.client parts.base parts.entries parts.legal in
+          let text = page_is_report s start trail c.run.new.self back in
           subst (λ k. Appends (g.K.Sink.taken c.args.sink.now) (g.K.Sink.taken k) (terms.report_of s start trail)) (sym w.sink-is)
           (subst (λ t. Appends (g.K.Sink.taken c.args.sink.now) (g.K.Sink.taken w.conclude-status.new.sink) t) text (w.conclude-status.ensures.done (sym w.status-is ∙ done)))
       | in-Err w ↦ absurd (halted_not_ended w.in-Err.short w.halt-status.result w.halt-status.ensures.answer (subst terms.RanToEnd (sym done ∙ w.status-is) tt))
@@ -36,10 +36,10 @@ returns-clause-front g c = λ failed.
     let start = c.into_parts-start.result.0 in
     let trail = c.into_parts-start.result.1.items in
     let parts = c.into_parts-start.ensures in
-    elim c.match-tops.branch [
+    elim c.match-run.branch [
       | in-Ok w ↦
-          let back = gave_back s start trail c.args.session c.tops.new.self c.requires.session c.tops.ensures.setting parts.base parts.entries parts.legal in
-          let text = page_is_report s start trail c.tops.new.self back in
+          let back = gave_back s start trail c.args.client c.run.new.self c.requires.client c.run.ensures.client parts.base parts.entries parts.legal in
+          let text = page_is_report s start trail c.run.new.self back in
           subst (λ k. AppendsFront (g.K.Sink.taken c.args.sink.now) (g.K.Sink.taken k) (terms.report_of s start trail)) (sym w.sink-is)
           (subst (λ t. AppendsFront (g.K.Sink.taken c.args.sink.now) (g.K.Sink.taken w.conclude-status.new.sink) t) text (w.conclude-status.ensures.front (sym w.status-is ∙ failed)))
       | in-Err w ↦ absurd (halted_not_ended w.in-Err.short w.halt-status.result w.halt-status.ensures.answer (subst terms.RanToEnd (sym failed ∙ w.status-is) tt))

@@ -1,7 +1,7 @@
 use Rattle.std.proofs.Common.{◌≡◌, ◌<◌, ◌≤◌, false, true, length, reverse, sym, ap, ◌∙◌, subst, arith}
 use Rattle.std.specs.Prelude.{IsTrue}
 use Rattle.qc_event.specs.Base.{Setting}
-use Rattle.qc_line.specs.Messages.{meets_fates}
+use Rattle.qc_net.specs.Messages.{meets_fates}
 use Rattle.qc_script.specs.Plan.{PlanWithin}
 use Rattle.qc_script.specs.Steps.{numbered}
 use Rattle.qc_session.specs.Client.{Client}

@@ -1,5 +1,5 @@
 use Rattle.std.specs.Prelude.{IsTrue}
-use Rattle.qc_line.specs.Messages.{meets_fates}
+use Rattle.qc_net.specs.Messages.{meets_fates}
 use Rattle.qc_script.specs.Steps.{numbered}
 use Rattle.qc_session.specs.Running.{Resting}
 use Rattle.qc_session.specs.Trace.{top_of}

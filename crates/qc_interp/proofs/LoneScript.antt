@@ -1,0 +1,337 @@
+-- A history in which one client alone acts follows the script whose bodies it ran.
+use Rattle.std.proofs.Common.{◌≡◌, ◌⊎◌, inl, inr, ◌<◌, arith, ℕ, Bool, true, false, List, [], ◌∷◌, ◌++◌, length, refl, sym, ap, ◌∙◌, subst, filter, append-nil}
+use mathlib.Core.Bool.{true≢false}
+use Rattle.std.specs.Prelude.{Option, None, Some, MatchOption, is_some, option_to_list, option_map, ◌==◌, not, ◌&&◌, ◌||◌, if◌then◌else◌}
+use Rattle.std.specs.List.{AllByRecursion, list_all, list_any}
+use Rattle.std.specs.Option.{option_or}
+use Rattle.std.proofs.lemmas.List.Folds.{list_all-append}
+use Rattle.qc_event.specs.declared.event.Cause.{Cause}
+use Rattle.qc_event.specs.declared.event.Cause.TheVariants.{Asked}
+use Rattle.qc_event.specs.declared.event.Entry.{Entry}
+use Rattle.qc_event.specs.declared.event.Event.{Event}
+use Rattle.qc_event.specs.declared.event.Event.TheVariants as event
+use Rattle.qc_event.specs.declared.event.How.{How}
+use Rattle.qc_event.specs.declared.event.How.TheVariants.{Commit, Abort}
+use Rattle.qc_event.specs.declared.event.Kind.{Kind}
+use Rattle.qc_event.specs.declared.event.Kind.TheVariants as kind
+use Rattle.qc_event.specs.Base.{Setting}
+use Rattle.qc_event.specs.History.{Past, Name, Begun, every, start, start_in, end, end_in, is_ready, children, child_in, is_child, kind_of, same}
+use Rattle.qc_event.specs.Legal.{Legal}
+use Rattle.qc_event.proofs.Absent.{if_not}
+use Rattle.qc_event.proofs.Lawful.{lawful}
+use Rattle.qc_event.proofs.Orderly.{Belongs}
+use Rattle.qc_event.proofs.LastNumber.{ends_in, front_last}
+use Rattle.qc_event.specs.Standing.{Started, IsUser, IsManager}
+use Rattle.qc_event.proofs.LegalOrderly.{legal_orderly}
+use Rattle.qc_event.proofs.OneEntry.{ending, first_is, first_some, starting, some_or_none}
+use Rattle.qc_names.specs.Name as name
+use Rattle.qc_net.specs.Messages.{Net, meets_fates}
+use Rattle.qc_script.specs.Calls.{is_access, is_over, unable_in}
+use Rattle.qc_script.specs.Client.{Client, mine, is_own, is_commit}
+use Rattle.qc_script.specs.Plan.{Numbered}
+use Rattle.qc_interp.specs.Adding.{is_of_one, all_over}
+use Rattle.qc_interp.specs.Alone.{is_lone, all_lone, AreLone, AccessesEnd}
+use Rattle.qc_interp.specs.Asking.{BodiesAsk, IsAskedBy}
+use Rattle.qc_interp.specs.FollowsScript.{FollowsScript, started, started_in}
+use Rattle.qc_interp.specs.Session.{tops, FollowsBodies, EndsTops, RanInTurn}
+use Rattle.qc_interp.specs.Sessions.{tops_of, is_plain, all_plain}
+use Rattle.qc_interp.specs.Turns.{begun_in, is_done, is_alone}
+use Rattle.qc_interp.proofs.Ending.{top_user}
+use Rattle.qc_interp.proofs.Growth.{and_both, and_by}
+use Rattle.qc_interp.proofs.LoneBodies.{IsOurTop, IsOfSession, bodies_seen, bodies_ask_seen, each_of_session}
+use Rattle.qc_interp.proofs.LoneEntries.{ours_alone, all_ours_alone}
+use Rattle.qc_interp.proofs.LoneSessions.{IsSingle, kind_at, one_more, only_of, turns_lone, seats_lone, messages_lone, order_lone, numbers_lone, plain_lone}
+use Rattle.qc_interp.proofs.LoneTurns.{Answers, earliest_kept, every_kept}
+use Rattle.qc_interp.proofs.Mine.{kept_some}
+use Rattle.qc_interp.proofs.ReadyTops.{ready_is_top}
+use Rattle.qc_interp.proofs.Seen.{all_children}
+
+-- ALL STARTS ARE THE CLIENT'S
+
+module _ (c : Client) where
+  start_own : {Y : Type 0} (f : ℕ → Event → Option Y) → ((seat : ℕ) (ev : Event) → ((n : Name) (k : Kind) → ev ≡ event.Start n k → ⊥) → f seat ev ≡ None) → (past : Past) → AreLone c past → Answers (λ (e : Entry). is_own c e.seat) (λ e. f e.seat e.event) past
+  start_own f none [] lone = tt
+  start_own f none (e ∷ past) lone =
+      let both = and_both (is_lone c e.seat e.event) (all_lone c past) lone in
+      ((λ other. none e.seat e.event (λ n k is. true≢false (sym (sym (ap (is_lone c e.seat) is) ∙ both.0) ∙ other))), start_own f none past both.1)
+
+  child_none : (p : Name) (seat : ℕ) (ev : Event) → ((n : Name) (k : Kind) → ev ≡ event.Start n k → ⊥) → child_in p ev ≡ None
+  child_none p seat (event.Start n k) none = absurd (none n k refl)
+  child_none p seat (event.Ask ask) none = refl
+  child_none p seat (event.Gone m why) none = refl
+  child_none p seat (event.Granted copy grant) none = refl
+  child_none p seat (event.Refused m copy refusal) none = refl
+  child_none p seat (event.Unable m why) none = refl
+  child_none p seat (event.Mark m session) none = refl
+  child_none p seat (event.Ready m) none = refl
+  child_none p seat (event.End m how) none = refl
+
+  start_none : (p : Name) (seat : ℕ) (ev : Event) → ((n : Name) (k : Kind) → ev ≡ event.Start n k → ⊥) → start_in p seat ev ≡ None
+  start_none p seat (event.Start n k) none = absurd (none n k refl)
+  start_none p seat (event.Ask ask) none = refl
+  start_none p seat (event.Gone m why) none = refl
+  start_none p seat (event.Granted copy grant) none = refl
+  start_none p seat (event.Refused m copy refusal) none = refl
+  start_none p seat (event.Unable m why) none = refl
+  start_none p seat (event.Mark m session) none = refl
+  start_none p seat (event.Ready m) none = refl
+  start_none p seat (event.End m how) none = refl
+
+  same_tops : (past : Past) → AreLone c past → tops c past ≡ children past []
+  same_tops past lone = every_kept (λ (e : Entry). is_own c e.seat) (λ e. child_in [] e.event) past (start_own (λ seat ev. child_in [] ev) (child_none []) past lone)
+
+  same_start : (past : Past) (n : Name) → AreLone c past → start (mine c past) n ≡ start past n
+  same_start past n lone = earliest_kept (λ (e : Entry). is_own c e.seat) (λ e. start_in n e.seat e.event) past (start_own (start_in n) (start_none n) past lone)
+
+  -- WHO IS ABORTED AS ANOTHER ASKED
+
+  asked_in : (Q : Name → Name → Type 0) (past : Past) (n by : Name) → AreLone c past → AllByRecursion (λ (e : Entry). IsAskedBy Q e.event) (mine c past) → end past n ≡ Some (Abort (Asked by)) → (n ≡ by) ⊎ Q by n
+  asked_in Q [] n by lone all is = absurd cc
+  asked_in Q (e ∷ past) n by lone all is =
+      let both = and_both (is_lone c e.seat e.event) (all_lone c past) lone in
+      by_own (is_own c e.seat) refl all both.0 (λ rest old. asked_in Q past n by both.1 rest old)
+    where
+      by_own : (b : Bool) → is_own c e.seat ≡ b → AllByRecursion (λ (e : Entry). IsAskedBy Q e.event) (if b then e ∷ mine c past else mine c past) → is_lone c e.seat e.event ≡ true
+          → (AllByRecursion (λ (e : Entry). IsAskedBy Q e.event) (mine c past) → end past n ≡ Some (Abort (Asked by)) → (n ≡ by) ⊎ Q by n) → (n ≡ by) ⊎ Q by n
+      by_own true own all lone before = elim (first_is (end past n) (end_in n e.event) (Abort (Asked by)) is) [
+        | inl old ↦ before all.1 old
+        | inr new ↦ subst (IsAskedBy Q) (ending n e.event (Abort (Asked by)) new.1) all.0
+      ]
+      by_own false own all lone before = elim (first_is (end past n) (end_in n e.event) (Abort (Asked by)) is) [
+        | inl old ↦ before all old
+        | inr new ↦ absurd (true≢false (sym (sym (ap (λ ev. is_lone c e.seat ev) (ending n e.event (Abort (Asked by)) new.1)) ∙ lone) ∙ foreign))
+      ]
+        where
+          no_commit : (a b : Bool) → (a && (b && false)) ≡ false
+          no_commit true true = refl
+          no_commit true false = refl
+          no_commit false b = refl
+
+          foreign : is_lone c e.seat (event.End n (Abort (Asked by))) ≡ false
+          foreign = ap (λ b. b || ((e.seat == 1) && ((length n == 1) && false))) own ∙ no_commit (e.seat == 1) (length n == 1)
+
+-- WHO HAS STARTED HAS ENDED
+
+-- what passes wherever a name is started for a kind passes of all that have started
+all_started : (setting : Setting) (passes : Name → Bool) (newer past : Past) → Legal setting (newer ++ past) → ((n : Name) (k : Kind) → kind_of (newer ++ past) n ≡ Some k → passes n ≡ true) → list_all passes (started past) ≡ true
+all_started setting passes newer [] legal pass = refl
+all_started setting passes newer (e ∷ past) legal pass =
+    let shift = one_more newer past e in
+    list_all-append passes (started past) (option_to_list (started_in e.event))
+    ∙ and_by _ _ (all_started setting passes (newer ++ e ∷ []) past (subst (Legal setting) (sym shift) legal) (λ n k is. pass n k (subst (λ h. kind_of h n ≡ Some k) shift is))) (by_event e.event refl)
+  where
+    by_event : (ev : Event) → e.event ≡ ev → list_all passes (option_to_list (started_in ev)) ≡ true
+    by_event (event.Start n k) is = ap (λ b. b && true) (pass n k (kind_at setting newer past e n k legal is))
+    by_event (event.Ask ask) is = refl
+    by_event (event.Gone m why) is = refl
+    by_event (event.Granted copy grant) is = refl
+    by_event (event.Refused m copy refusal) is = refl
+    by_event (event.Unable m why) is = refl
+    by_event (event.Mark m session) is = refl
+    by_event (event.Ready m) is = refl
+    by_event (event.End m how) is = refl
+
+some_kind : (o : Option Begun) (k : Kind) → option_map (λ (b : Begun). b.kind) o ≡ Some k → (b : Begun) × (o ≡ Some b) × (b.kind ≡ k)
+some_kind None k is = absurd cc
+some_kind (Some b) k is = (b, refl, let same : b.kind ≡ k = cc in same)
+
+pass_append : (passes : Name → Bool) (xs ys : List Name) → list_all passes (xs ++ ys) ≡ true → (list_all passes xs ≡ true) × (list_all passes ys ≡ true)
+pass_append passes xs ys h = and_both _ _ (sym (list_all-append passes xs ys) ∙ h)
+
+-- what passes of all user transactions and managers that have begun passes of each
+begun_passes : (passes : Name → Bool) (h : Past) (n : Name) (b : Begun) → start h n ≡ Some b → is_access b.kind ≡ false → list_all passes (every (λ e. begun_in e.event) h) ≡ true → passes n ≡ true
+begun_passes passes [] n b is none all = absurd cc
+begun_passes passes (e ∷ h) n b is none all =
+    let parts = pass_append passes (every (λ e. begun_in e.event) h) (option_to_list (begun_in e.event)) all in
+    elim (first_is (start h n) (start_in n e.seat e.event) b is) [
+      | inl old ↦ begun_passes passes h n b old none parts.0
+      | inr new ↦ by_event e.event new.1 parts.1
+    ]
+  where
+    by_kind : (m : Name) (k : Kind) (x : Bool) → is_access k ≡ x → x ≡ false → list_all passes (option_to_list (if x then None else Some m)) ≡ true → passes m ≡ true
+    by_kind m k true at none all = absurd (true≢false none)
+    by_kind m k false at none all = (and_both (passes m) true all).0
+
+    by_event : (ev : Event) → start_in n e.seat ev ≡ Some b → list_all passes (option_to_list (begun_in ev)) ≡ true → passes n ≡ true
+    by_event (event.Start m k) at all =
+        let one = Rattle.qc_event.proofs.OneEntry.if_is (same m n) _ b at in
+        subst (λ x. passes x ≡ true) (Rattle.qc_event.proofs.Absent.same_is m n one.0) (by_kind m k (is_access k) refl (ap is_access (ap (λ (x : Begun). x.kind) one.1) ∙ none) all)
+    by_event (event.Ask ask) at all = absurd cc
+    by_event (event.Gone m why) at all = absurd cc
+    by_event (event.Granted copy grant) at all = absurd cc
+    by_event (event.Refused m copy refusal) at all = absurd cc
+    by_event (event.Unable m why) at all = absurd cc
+    by_event (event.Mark m session) at all = absurd cc
+    by_event (event.Ready m) at all = absurd cc
+    by_event (event.End m how) at all = absurd cc
+
+-- what passes of all children passes of each
+child_passes : (passes : Name → Bool) (h : Past) (p n : Name) → is_child p n ≡ true → is_some (start h n) ≡ true → list_all passes (children h p) ≡ true → passes n ≡ true
+child_passes passes [] p n child some all = absurd (true≢false (sym some))
+child_passes passes (e ∷ h) p n child some all =
+    let parts = pass_append passes (children h p) (option_to_list (child_in p e.event)) all in
+    elim (first_some (start h n) (start_in n e.seat e.event) some) [
+      | inl old ↦ child_passes passes h p n child old parts.0
+      | inr new ↦ let s = starting n e.seat e.event new.1 in by_child s.0 s.1 parts.1
+    ]
+  where
+    by_child : (k : Kind) → e.event ≡ event.Start n k → list_all passes (option_to_list (child_in p e.event)) ≡ true → passes n ≡ true
+    by_child k is all =
+        let at : child_in p e.event ≡ Some n = ap (child_in p) is ∙ ap (λ b. if b then Some n else None) child in
+        (and_both (passes n) true (sym (ap (λ o. list_all passes (option_to_list o)) at) ∙ all)).0
+
+none_unable : (n : Name) (past : Past) → all_plain past ≡ true → list_any (λ (e : Entry). unable_in n e.event) past ≡ false
+none_unable n [] plain = refl
+none_unable n (e ∷ past) plain =
+    let both = and_both (is_plain e.event) (all_plain past) plain in
+    ap (λ b. b || list_any (λ (e : Entry). unable_in n e.event) past) (by_event e.event both.0) ∙ none_unable n past both.1
+  where
+    by_event : (ev : Event) → is_plain ev ≡ true → unable_in n ev ≡ false
+    by_event (event.Unable m why) plain = absurd (true≢false (sym plain))
+    by_event (event.Mark m session) plain = refl
+    by_event (event.Start m k) plain = refl
+    by_event (event.Ask ask) plain = refl
+    by_event (event.Gone m why) plain = refl
+    by_event (event.Granted copy grant) plain = refl
+    by_event (event.Refused m copy refusal) plain = refl
+    by_event (event.Ready m) plain = refl
+    by_event (event.End m how) plain = refl
+
+-- who is over where none is unable has ended
+over_ends : (n : Name) (past : Past) → all_plain past ≡ true → is_over past n ≡ true → is_some (end past n) ≡ true
+over_ends n past plain over = by_test (is_some (end past n)) (sym (ap (λ b. is_some (end past n) || b) (none_unable n past plain)) ∙ over)
+  where
+    by_test : (b : Bool) → (b || false) ≡ true → b ≡ true
+    by_test true h = refl
+    by_test false h = h
+
+-- a user transaction or manager of a lone client that is alone at the root has ended
+begun_ended : (c : Client) (past : Past) (n : Name) (k : Kind) → Legal c.setting past → AreLone c past → is_alone (mine c past) [] ≡ true → all_over c past ≡ true → kind_of past n ≡ Some k → is_access k ≡ false → is_some (end past n) ≡ true
+begun_ended c past n k legal lone alone over is none =
+    let b = some_kind (start past n) k is in
+    let at : start (mine c past) n ≡ Some b.0 = same_start c past n lone ∙ b.1 in
+    by_name n at b.1 (begun_passes (λ m. is_done (mine c past) m || name.is_ancestor m []) (mine c past) n b.0 at (ap is_access b.2 ∙ none) alone)
+  where
+    by_done : (n : Name) (b : Begun) → start (mine c past) n ≡ Some b → (ended ready : Bool) → is_some (end (mine c past) n) ≡ ended → is_ready (mine c past) n ≡ ready → (ended || ready) ≡ true → is_some (end past n) ≡ true
+    by_done n b at true ready ends readies done = kept_some (λ (e : Entry). is_own c e.seat) (λ e. end_in n e.event) past ends
+    by_done n b at false true ends readies done =
+        let ready = kept_some (λ (e : Entry). is_own c e.seat) (λ e. Rattle.qc_event.specs.History.ready_in n e.event) past readies in
+        let top : length n ≡ 1 = (ready_is_top c.setting past n legal ready).0 in
+        over_ends n past (plain_lone c past lone) (child_passes (is_over past) (mine c past) [] n (one_number n top) (ap is_some at) over)
+      where
+        one_number : (n : Name) → length n ≡ 1 → is_child [] n ≡ true
+        one_number [] h = absurd (let z : ⊥ = omega (arith, h) in z)
+        one_number (x ∷ []) h = refl
+        one_number (x ∷ y ∷ n) h = absurd (let z : ⊥ = omega (arith, h) in z)
+    by_done n b at false false ends readies done = absurd (true≢false (sym done))
+
+    by_name : (n : Name) {b : Begun} → start (mine c past) n ≡ Some b → start past n ≡ Some b → (is_done (mine c past) n || name.is_ancestor n []) ≡ true → is_some (end past n) ≡ true
+    by_name [] at was done = absurd (some_or_none (start past []) (ap is_some was) (lawful past (legal_orderly c.setting past legal)).no_root_start)
+    by_name (x ∷ n) {b = b} at was done = by_done (x ∷ n) b at (is_some (end (mine c past) (x ∷ n))) (is_ready (mine c past) (x ∷ n)) refl refl (or_false (is_done (mine c past) (x ∷ n)) done)
+      where
+        or_false : (b : Bool) → (b || false) ≡ true → b ≡ true
+        or_false true h = refl
+        or_false false h = h
+
+-- ALL OF IT
+
+pub lone_follows : (c : Client) (net : Net) (bodies : List Numbered) (past : Past) → Legal c.setting past → IsSingle c → AreLone c past → EndsTops c [] past bodies → RanInTurn c [] past → meets_fates c.number net past ≡ true → AccessesEnd past → FollowsScript c.session c.epoch net bodies past
+lone_follows c net bodies past legal single lone ends ran met accesses = record {
+  only = only;
+  bodies_run = subst (FollowsBodies c.session past bodies) further_is follows;
+  in_turn = record {
+    turns = turns_lone c c.session past single lone inside turns.0;
+    seats = seats_lone c c.session past legal single lone (subst (AllByRecursion (λ t. is_child [] t ≡ true)) (sym only) (all_children past []));
+    in_order = order_lone c c.session past lone order.0;
+  };
+  numbers = numbers_lone c past lone (ran.numbers refl);
+  as_asked = λ n by is. elim (asked_in c Q past n by lone asked is) [
+    | inl same ↦ inl same
+    | inr asks ↦ inr (subst (λ ts. BodiesAsk past bodies ts by n) further_is (bodies_ask_seen c past legal by n bodies further ours asks))
+  ];
+  each_ended = all_started c.setting (λ n. is_some (end past n)) [] past legal by_kind;
+  plain = plain_lone c past lone;
+  messages = messages_lone c c.session net past single lone met;
+}
+  where
+    all_ours : Rattle.qc_interp.specs.Session.AreAllOurs c past
+    all_ours = all_ours_alone c past lone
+
+    further : List Name
+    further = (ends all_ours).0
+
+    tops_are : tops c past ≡ further
+    tops_are = (ends all_ours).1
+
+    Q : Name → Name → Type 0
+    Q by t = BodiesAsk (mine c past) bodies further by t
+
+    ours : AllByRecursion (IsOurTop c past) further
+    ours = subst (AllByRecursion (IsOurTop c past)) tops_are (by_tops (tops c past) (all_children (mine c past) []))
+      where
+        by_tops : (ts : List Name) → AllByRecursion (λ t. is_child [] t ≡ true) ts → AllByRecursion (IsOurTop c past) ts
+        by_tops [] all = tt
+        by_tops (t ∷ ts) all = ((all.0, ours_alone c t past all.0 lone), by_tops ts all.1)
+
+    follows : FollowsBodies c.session past bodies further
+    follows = bodies_seen c past legal c.session bodies further ours (ends all_ours).2
+
+    only : tops_of c.session past ≡ children past []
+    only = only_of c.setting c.session [] past legal (subst (AllByRecursion (IsOfSession c.session past)) (sym tops_are ∙ same_tops c past lone) (each_of_session c.session past bodies further follows))
+
+    further_is : further ≡ tops_of c.session past
+    further_is = sym tops_are ∙ same_tops c past lone ∙ sym only
+
+    newer_is : ran.later.newer ≡ past
+    newer_is = sym (append-nil ran.later.newer) ∙ sym ran.later.grown
+
+    inside : list_all (is_of_one (tops_of c.session past)) (mine c past) ≡ true
+    inside = subst (λ h. list_all (is_of_one (tops_of c.session past)) (mine c h) ≡ true) newer_is (subst (λ ts. list_all (is_of_one ts) (mine c ran.later.newer) ≡ true) (sym ran.more ∙ same_tops c past lone ∙ sym only) ran.inside)
+
+    turns : (Rattle.qc_script.specs.Numbers.each Rattle.qc_interp.specs.Turns.takes_turn (mine c past) ≡ true) × (is_alone (mine c past) [] ≡ true)
+    turns = ran.turns all_ours refl refl
+
+    order : (Rattle.qc_script.specs.Numbers.each (Rattle.qc_interp.specs.Adding.own_after c) past ≡ true) × (all_over c past ≡ true)
+    order = ran.order all_ours refl refl
+
+    asked : AllByRecursion (λ (e : Entry). IsAskedBy Q e.event) (mine c past)
+    asked = let a = (ends all_ours).3 in subst (AllByRecursion (λ (e : Entry). IsAskedBy Q e.event)) (sym (a.1 ∙ append-nil a.0)) a.2
+
+    manager_ended : (p : Name) (b : Begun) → start past p ≡ Some b → IsManager b.kind → is_some (end past p) ≡ true
+    manager_ended p b at manages = begun_ended c past p b.kind legal lone turns.1 order.1 (ap (option_map (λ (x : Begun). x.kind)) at) (no_access b.kind manages)
+      where
+        no_access : (k : Kind) → IsManager k → is_access k ≡ false
+        no_access (kind.User s b) h = refl
+        no_access (kind.Read rec) h = refl
+        no_access (kind.Write rec value) h = refl
+        no_access (kind.Reconf rec config) h = refl
+        no_access kind.Access h = absurd h
+
+    access_ended : (n : Name) → kind_of past n ≡ Some kind.Access → is_some (end past n) ≡ true
+    access_ended n is =
+        let b = some_kind (start past n) kind.Access is in
+        let law = lawful past (legal_orderly c.setting past legal) in
+        elim (ends_in n) [
+          | inl root ↦ absurd (some_or_none (start past []) (ap is_some (sym (ap (start past) root) ∙ b.1)) law.no_root_start)
+          | inr last ↦ by_parent last.0 last.1 last.2 b
+        ]
+      where
+        by_manager : (p : Name) (j : ℕ) → n ≡ p ++ j ∷ [] → (o : Option Begun) → start past p ≡ o → MatchOption o ⊥ (λ m. Belongs m kind.Access) → (b : Begun) → start past n ≡ Some b → b.kind ≡ kind.Access → is_some (end past n) ≡ true
+        by_manager p j at None is manages b begun kind = absurd manages
+        by_manager p j at (Some m) is manages b begun kind =
+            accesses n (subst (λ o. MatchOption o ⊥ (λ (x : Begun). is_access x.kind ≡ true)) (sym begun) (ap is_access kind)) (subst (λ q. is_some (end past q) ≡ true) (sym (ap name.front at ∙ front_last p j)) (manager_ended p m is manages))
+
+        by_parent : (p : Name) (j : ℕ) → n ≡ p ++ j ∷ [] → (b : Begun) × (start past n ≡ Some b) × (b.kind ≡ kind.Access) → is_some (end past n) ≡ true
+        by_parent [] j at b = absurd (subst IsUser b.2 (top_user c.setting past j b.0 legal (sym (ap (start past) at) ∙ b.1)))
+        by_parent (x ∷ p) j at b =
+            let begun : start past ((x ∷ p) ++ j ∷ []) ≡ Some b.0 = sym (ap (start past) at) ∙ b.1 in
+            let under : Started past (x ∷ p) (λ m. Belongs m b.0.kind) =
+                subst (λ o. MatchOption o ⊥ (λ (y : Begun). Started past (x ∷ p) (λ m. Belongs m y.kind))) begun ((lawful past (legal_orderly c.setting past legal)).under (x ∷ p) j (omega arith) (ap is_some begun)) in
+            by_manager (x ∷ p) j at (start past (x ∷ p)) refl (subst (λ k. Started past (x ∷ p) (λ m. Belongs m k)) b.2 under) b.0 b.1 b.2
+
+    by_kind : (n : Name) (k : Kind) → kind_of past n ≡ Some k → is_some (end past n) ≡ true
+    by_kind n kind.Access is = access_ended n is
+    by_kind n (kind.User s b) is = begun_ended c past n (kind.User s b) legal lone turns.1 order.1 is refl
+    by_kind n (kind.Read rec) is = begun_ended c past n (kind.Read rec) legal lone turns.1 order.1 is refl
+    by_kind n (kind.Write rec value) is = begun_ended c past n (kind.Write rec value) legal lone turns.1 order.1 is refl
+    by_kind n (kind.Reconf rec config) is = begun_ended c past n (kind.Reconf rec config) legal lone turns.1 order.1 is refl

@@ -1,0 +1,116 @@
+-- A lone client's session runs in turn, keeps its seat, and has all tops.
+use Rattle.std.proofs.Common.{◌≡◌, ◌⊎◌, inl, inr, ◌<◌, ◌+◌, arith, ℕ, suc, Bool, true, false, List, [], ◌∷◌, ◌++◌, length, refl, sym, ap, ◌∙◌, subst, filter, append-nil, append_assoc}
+use mathlib.Core.Bool.{true≢false}
+use Rattle.std.specs.Prelude.{Option, None, Some, is_some, option_to_list, ◌==◌, not, ◌&&◌, ◌||◌, if◌then◌else◌}
+use Rattle.std.specs.List.{AllByRecursion, list_all, list_any}
+use Rattle.std.specs.Option.{option_or, option_map_or}
+use Rattle.std.proofs.lemmas.Bool.{eqb-true, eq-eqb}
+use Rattle.qc_event.specs.declared.event.Entry.{Entry}
+use Rattle.qc_event.specs.declared.event.Event.{Event}
+use Rattle.qc_event.specs.declared.event.Event.TheVariants as event
+use Rattle.qc_event.specs.declared.event.How.{How}
+use Rattle.qc_event.specs.declared.event.How.TheVariants.{Commit, Abort}
+use Rattle.qc_event.specs.declared.event.Kind.{Kind}
+use Rattle.qc_event.specs.declared.event.Kind.TheVariants as kind
+use Rattle.qc_event.specs.History.{Past, Name, Begun, earliest, every, start, start_in, end, end_in, is_ready, ready_in, children, child_in, is_child, kind_of}
+use Rattle.qc_names.specs.Name as name
+use Rattle.qc_script.specs.Client.{Client, about}
+use Rattle.qc_script.specs.Numbers.{each}
+use Rattle.qc_interp.specs.Turns.{acts, begun_in, is_done, is_alone, takes_turn}
+use Rattle.qc_interp.proofs.Growth.{and_both, and_by}
+
+-- SOME ENTRIES OF SOME, AS FAR AS A LOOK GOES
+
+-- what is not kept does not answer
+abbrev pub Answers : {Y : Type 0} → (Entry → Bool) → (Entry → Option Y) → Past → Type 0
+Answers keep f h = AllByRecursion (λ (e : Entry). keep e ≡ false → f e ≡ None) h
+
+pub earliest_kept : {Y : Type 0} (keep : Entry → Bool) (f : Entry → Option Y) (h : Past) → Answers keep f h → earliest f (filter keep h) ≡ earliest f h
+earliest_kept keep f [] all = refl
+earliest_kept {Y = Y} keep f (e ∷ h) all = by_test (keep e) refl (earliest_kept keep f h all.1)
+  where
+    by_test : (b : Bool) → keep e ≡ b → earliest f (filter keep h) ≡ earliest f h → earliest f (if b then e ∷ filter keep h else filter keep h) ≡ option_or (earliest f h) (f e)
+    by_test true is rest = ap (λ o. option_or o (f e)) rest
+    by_test false is rest = rest ∙ none (earliest f h) ∙ sym (ap (λ o. option_or (earliest f h) o) (all.0 is))
+      where
+        none : (o : Option Y) → o ≡ option_or o None
+        none None = refl
+        none (Some y) = refl
+
+pub every_kept : {Y : Type 0} (keep : Entry → Bool) (f : Entry → Option Y) (h : Past) → Answers keep f h → every f (filter keep h) ≡ every f h
+every_kept keep f [] all = refl
+every_kept {Y = Y} keep f (e ∷ h) all = by_test (keep e) refl (every_kept keep f h all.1)
+  where
+    by_test : (b : Bool) → keep e ≡ b → every f (filter keep h) ≡ every f h → every f (if b then e ∷ filter keep h else filter keep h) ≡ every f h ++ option_to_list (f e)
+    by_test true is rest = ap (λ l. l ++ option_to_list (f e)) rest
+    by_test false is rest = rest ∙ sym (append-nil _) ∙ sym (ap (λ o. every f h ++ option_to_list o) (all.0 is))
+
+-- WHO IS ABOUT NO ONE
+
+-- what is not kept is about no one
+abbrev pub DropsNone : (Entry → Bool) → Past → Type 0
+DropsNone keep h = AllByRecursion (λ (e : Entry). keep e ≡ false → about e.event ≡ None) h
+
+drops_wider : {Y : Type 0} (keep : Entry → Bool) (f : Entry → Option Y) (h : Past) → ((e : Entry) → about e.event ≡ None → f e ≡ None) → DropsNone keep h → Answers keep f h
+drops_wider keep f [] step all = tt
+drops_wider keep f (e ∷ h) step all = ((λ is. step e (all.0 is)), drops_wider keep f h step all.1)
+
+none_ends : (n : Name) (ev : Event) → about ev ≡ None → end_in n ev ≡ None
+none_ends n (event.End m how) is = absurd cc
+none_ends n (event.Start m k) is = refl
+none_ends n (event.Ready m) is = refl
+none_ends n (event.Ask ask) is = refl
+none_ends n (event.Gone m why) is = refl
+none_ends n (event.Granted copy grant) is = refl
+none_ends n (event.Refused m copy refusal) is = refl
+none_ends n (event.Unable m why) is = refl
+none_ends n (event.Mark m session) is = refl
+
+none_ready : (n : Name) (ev : Event) → about ev ≡ None → ready_in n ev ≡ None
+none_ready n (event.Ready m) is = absurd cc
+none_ready n (event.Start m k) is = refl
+none_ready n (event.End m how) is = refl
+none_ready n (event.Ask ask) is = refl
+none_ready n (event.Gone m why) is = refl
+none_ready n (event.Granted copy grant) is = refl
+none_ready n (event.Refused m copy refusal) is = refl
+none_ready n (event.Unable m why) is = refl
+none_ready n (event.Mark m session) is = refl
+
+none_begun : (ev : Event) → about ev ≡ None → begun_in ev ≡ None
+none_begun (event.Start m k) is = absurd cc
+none_begun (event.End m how) is = refl
+none_begun (event.Ready m) is = refl
+none_begun (event.Ask ask) is = refl
+none_begun (event.Gone m why) is = refl
+none_begun (event.Granted copy grant) is = refl
+none_begun (event.Refused m copy refusal) is = refl
+none_begun (event.Unable m why) is = refl
+none_begun (event.Mark m session) is = refl
+
+alike : (f g : Name → Bool) (ns : List Name) → ((n : Name) → f n ≡ g n) → list_all f ns ≡ list_all g ns
+alike f g [] same = refl
+alike f g (n ∷ ns) same = ap (λ b. b && list_all f ns) (same n) ∙ ap (λ b. g n && b) (alike f g ns same)
+
+done_kept : (keep : Entry → Bool) (h : Past) → DropsNone keep h → (n : Name) → is_done (filter keep h) n ≡ is_done h n
+done_kept keep h drops n =
+    ap (λ o. is_some o || is_ready (filter keep h) n) (earliest_kept keep (λ e. end_in n e.event) h (drops_wider keep _ h (λ e is. none_ends n e.event is) drops))
+    ∙ ap (λ o. is_some (end h n) || is_some o) (earliest_kept keep (λ e. ready_in n e.event) h (drops_wider keep _ h (λ e is. none_ready n e.event is) drops))
+
+alone_kept : (keep : Entry → Bool) (h : Past) → DropsNone keep h → (n : Name) → is_alone (filter keep h) n ≡ is_alone h n
+alone_kept keep h drops n =
+    ap (list_all (λ m. is_done (filter keep h) m || name.is_ancestor m n)) (every_kept keep (λ e. begun_in e.event) h (drops_wider keep _ h (λ e is. none_begun e.event is) drops))
+    ∙ alike _ _ (every (λ e. begun_in e.event) h) (λ m. ap (λ b. b || name.is_ancestor m n) (done_kept keep h drops m))
+
+turn_kept : (keep : Entry → Bool) (h : Past) → DropsNone keep h → (o : Option Name) → option_map_or (is_alone (filter keep h)) o true ≡ option_map_or (is_alone h) o true
+turn_kept keep h drops None = refl
+turn_kept keep h drops (Some n) = alone_kept keep h drops n
+
+-- whoever takes turns does so without the entries about no one
+pub turns_kept : (keep : Entry → Bool) (h : Past) → DropsNone keep h → each takes_turn h ≡ true → each takes_turn (filter keep h) ≡ true
+turns_kept keep [] drops turns = refl
+turns_kept keep (e ∷ h) drops turns = let both = and_both (each takes_turn h) (takes_turn e h) turns in by_test (keep e) (turns_kept keep h drops.1 both.0) both.1
+  where
+    by_test : (b : Bool) → each takes_turn (filter keep h) ≡ true → takes_turn e h ≡ true → each takes_turn (if b then e ∷ filter keep h else filter keep h) ≡ true
+    by_test true rest turn = and_by _ _ rest (turn_kept keep h drops.1 (acts e.event) ∙ turn)
+    by_test false rest turn = rest

@@ -1,0 +1,36 @@
+-- What it is for a history to follow a script of one session.
+use Rattle.std.specs.Prelude.{ℕ, ◌≡◌, ◌⊎◌, IsTrue, List, [], Option, None, Some, is_some}
+use Rattle.std.specs.List.{list_all}
+use Rattle.qc_event.specs.declared.event.Cause.TheVariants.{Asked}
+use Rattle.qc_event.specs.declared.event.Event.{Event}
+use Rattle.qc_event.specs.declared.event.Event.TheVariants.{Start}
+use Rattle.qc_event.specs.declared.event.How.TheVariants.{Abort}
+use Rattle.qc_event.specs.History.{Past, Name, every, end, children}
+use Rattle.qc_net.specs.Messages.{Net}
+use Rattle.qc_script.specs.Numbers.{each, is_next_top}
+use Rattle.qc_script.specs.Plan.{Numbered}
+use Rattle.qc_interp.specs.Asking.{BodiesAsk}
+use Rattle.qc_interp.specs.Session.{FollowsBodies}
+use Rattle.qc_interp.specs.Sessions.{tops_of, RunsInTurn, meets, all_plain}
+
+abbrev pub started_in : Event → Option Name
+started_in (Start n k) = Some n
+started_in _ = None
+
+-- every name that was started, in order
+abbrev pub started : Past → List Name
+started past = every (λ e. started_in e.event) past
+
+-- A history follows a script of one session, over a link, in an epoch. Its tops are the session's, and are tries of the
+-- bodies in order, each with the children that its plan asks for. The session runs in turn; tops are numbered in order;
+-- whoever was aborted as another asked is named by a step `abort` to which that one came; what has started has ended;
+-- nothing was marked or unable; and the requests meet the fates of the link.
+pub record FollowsScript (session epoch : ℕ) (net : Net) (bodies : List Numbered) (past : Past) : Type 0 where
+  pub only : tops_of session past ≡ children past []
+  pub bodies_run : FollowsBodies session past bodies (tops_of session past)
+  pub in_turn : RunsInTurn session past
+  pub numbers : IsTrue (each (is_next_top epoch) past)
+  pub as_asked : (n by : Name) → end past n ≡ Some (Abort (Asked by)) → (n ≡ by) ⊎ BodiesAsk past bodies (tops_of session past) by n
+  pub each_ended : IsTrue (list_all (λ n. is_some (end past n)) (started past))
+  pub plain : IsTrue (all_plain past)
+  pub messages : IsTrue (meets session net past)

@@ -1,0 +1,89 @@
+-- What is of a session in a history: its tops, its part, its seats, and its messages.
+use Rattle.std.specs.Prelude.{ℕ, ◌==◌, Bool, true, false, ◌&&◌, if◌then◌else◌, IsTrue, List, [], ◌∷◌, filter, Option, None, Some}
+use Rattle.std.specs.List.{list_all, list_any}
+use Rattle.std.specs.Option.{option_map_or}
+use Rattle.qc_names.specs.Name as name
+use Rattle.qc_event.specs.declared.event.Entry.{Entry}
+use Rattle.qc_event.specs.declared.event.Event.{Event}
+use Rattle.qc_event.specs.declared.event.Event.TheVariants as event
+use Rattle.qc_event.specs.declared.event.Kind.{Kind}
+use Rattle.qc_event.specs.declared.event.Kind.TheVariants as kind
+use Rattle.qc_event.specs.History.{Past, Name, Begun, every, start}
+use Rattle.qc_event.specs.Seats.{is_client}
+use Rattle.qc_net.specs.Messages.{Net, meets_fates}
+use Rattle.qc_script.specs.Calls.{is_over}
+use Rattle.qc_script.specs.Client.{about}
+use Rattle.qc_script.specs.Numbers.{each}
+use Rattle.qc_interp.specs.Turns.{begun_in, takes_turn}
+
+-- WHAT IS OF A SESSION
+
+abbrev pub top_by : ℕ → Name → Kind → Option Name
+top_by s (number ∷ []) (kind.User of body) = if of == s then Some (number ∷ []) else None
+top_by s _ k = None
+
+-- the top of a session, where the event starts one
+abbrev pub top_in : ℕ → Event → Option Name
+top_in s (event.Start n k) = top_by s n k
+top_in s _ = None
+
+-- the tops of a session, in order of Start
+abbrev pub tops_of : ℕ → Past → List Name
+tops_of s past = every (λ e. top_in s e.event) past
+
+-- whether a client's entry is about a name at or below one of these tops
+abbrev pub is_of : List Name → Entry → Bool
+is_of tops e = is_client e.seat && option_map_or (λ n. list_any (λ t. name.is_ancestor t n) tops) (about e.event) false
+
+-- What clients entered of the transactions, managers and accesses of a session: their starts, ends and marks, and which
+-- are ready. The commits of tops are not among it.
+abbrev pub part_of : ℕ → Past → Past
+part_of s past = filter (is_of (tops_of s past)) past
+
+-- SEATS, WITHIN A SESSION'S PART
+
+-- whether a name was started under a seat
+abbrev pub is_under : Past → ℕ → Name → Bool
+is_under past seat n = option_map_or (λ (b : Begun). b.seat == seat) (start past n) false
+
+abbrev pub seat_for : ℕ → Past → ℕ → Event → Bool
+seat_for s past seat (event.Start (number ∷ []) k) = list_all (is_under past seat) (tops_of s past)
+seat_for s past seat (event.Start n k) = is_under past seat (name.front n)
+seat_for s past seat _ = true
+
+-- A top starts under the seat of the session's earlier tops, and a child under its parent's.
+abbrev pub keeps_seat : ℕ → Entry → Past → Bool
+keeps_seat s e past = seat_for s past e.seat e.event
+
+-- TOPS, IN THE WHOLE HISTORY
+
+-- A top of a session starts once each earlier one has ended, or was unable to be logged.
+abbrev pub after_others : ℕ → Entry → Past → Bool
+after_others s e past = option_map_or (λ t. list_all (is_over past) (tops_of s past)) (top_in s e.event) true
+
+-- A session runs in turn: whoever starts, is ready or ends does so while each user transaction and manager of the
+-- session that is not done is an ancestor of who acts; it keeps its seat; and its tops start one after another.
+pub record RunsInTurn (s : ℕ) (past : Past) : Type 0 where
+  pub turns : IsTrue (each takes_turn (part_of s past))
+  pub seats : IsTrue (each (keeps_seat s) (part_of s past))
+  pub in_order : IsTrue (each (after_others s) past)
+
+-- MESSAGES
+
+-- the seat under which a user transaction or manager starts
+abbrev pub seat_in : Entry → Option ℕ
+seat_in e = option_map_or (λ n. Some e.seat) (begun_in e.event) None
+
+-- the messages of each seat of a session meet the fates of its link
+abbrev pub meets : ℕ → Net → Past → Bool
+meets s net past = list_all (λ seat. meets_fates seat net past) (every seat_in (part_of s past))
+
+-- WHERE THERE ARE NO DISKS AND NO STEPS THAT MARK
+
+abbrev pub is_plain : Event → Bool
+is_plain (event.Unable n why) = false
+is_plain (event.Mark n session) = false
+is_plain _ = true
+
+abbrev pub all_plain : Past → Bool
+all_plain past = list_all (λ (e : Entry). is_plain e.event) past

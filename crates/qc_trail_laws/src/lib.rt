@@ -1,0 +1,60 @@
+//! Laws that tell by example what it is to follow a script: trails that do, and trails that only seem to.
+#![tactic(auto)]
+
+ghost use Rattle.std.specs.Prelude.{◌≡◌, false, [], ◌∷◌, IsTrue, map, reverse};
+ghost use Rattle.qc_event.specs.History.{children};
+ghost use Rattle.qc_interp.specs.Asking.{Asks};
+ghost use Rattle.qc_interp.specs.Follows.{FollowsBody};
+ghost use Rattle.qc_interp.specs.FollowsScript.{FollowsScript};
+ghost use Rattle.qc_interp.specs.Session.{FollowsBodies};
+ghost use Rattle.qc_interp.specs.Sessions.{RunsInTurn, tops_of, meets, all_plain};
+ghost use Rattle.qc_script.specs.Numbers.{each, is_next_top};
+ghost use Rattle.qc_trail_laws.specs.Trails as trails;
+
+/// The first run follows its script, in turn, with its numbers and its messages; a try after a lost request, another
+/// configuration, and an abort from two levels below follow theirs.
+pub fn accepts()
+    ensures first_run { FollowsBodies 0 (reverse trails.first_run) trails.set_then_read (trails.top ∷ []) }
+    ensures first_turns { RunsInTurn 0 (reverse trails.first_run) }
+    ensures first_numbers { IsTrue (each (is_next_top 1) (reverse trails.first_run)) }
+    ensures first_messages { IsTrue (meets 0 trails.net (reverse trails.first_run)) }
+    ensures first_plain { IsTrue (all_plain (reverse trails.first_run)) }
+    ensures tried_again { FollowsBodies 0 (reverse trails.tried_again) trails.read_twice
+        (trails.top ∷ trails.top2 ∷ []) }
+    ensures tried_turns { RunsInTurn 0 (reverse trails.tried_again) }
+    ensures tried_messages { IsTrue (meets 0 trails.first_lost (reverse trails.tried_again)) }
+    ensures reconfigured { FollowsBodies 0 (reverse trails.reconfigured) trails.reconfigure (trails.top ∷ []) }
+    ensures reconfigured_turns { RunsInTurn 0 (reverse trails.reconfigured) }
+    ensures far_abort { FollowsBody 0 (reverse trails.far_abort) (trails.abort_body 2) trails.top }
+    ensures far_turns { RunsInTurn 0 (reverse trails.far_abort) }
+    ensures far_named { Asks (reverse trails.far_abort) trails.top (trails.abort_body 2).plan
+        (children (reverse trails.far_abort) trails.top) trails.grandchild trails.top }
+{}
+
+/// None of these follows its script: a read before the set that stands before it, or beside it; steps that no one runs;
+/// a top before the one before it has ended; a request that is lost as no fate says, or is not lost as one says; a copy
+/// that is unable where there is no disk; another number and a mark; and a session under two seats.
+pub fn refuses()
+    ensures read_before_set { FollowsScript 0 1 trails.net trails.set_then_read
+        (reverse trails.read_before_set) → ⊥ }
+    ensures own_conflict { FollowsScript 0 1 trails.net trails.set_then_read (reverse trails.own_conflict) → ⊥ }
+    ensures dropped_steps { FollowsScript 0 1 trails.net trails.child_and_abort
+        (reverse trails.dropped_steps) → ⊥ }
+    ensures late_commit { FollowsScript 0 1 trails.net trails.set_and_read (reverse trails.late_commit) → ⊥ }
+    ensures lost_elsewhere { FollowsScript 0 1 trails.net trails.read_alone
+        (reverse trails.lost_elsewhere) → ⊥ }
+    ensures elsewhere_lossy { FollowsScript 0 1 trails.lossy trails.set_then_read
+        (reverse (map trails.moved trails.first_run)) → ⊥ }
+    ensures down_at_once { FollowsScript 0 1 trails.net trails.read_alone (reverse trails.down_at_once) → ⊥ }
+    ensures marked_elsewhere { FollowsScript 0 1 trails.net trails.no_step
+        (reverse trails.marked_elsewhere) → ⊥ }
+    ensures two_seats { FollowsScript 0 1 trails.net trails.two_steps (reverse trails.two_seats) → ⊥ }
+{}
+
+/// A grandchild that is to abort its parent does not name the top, so a trail in which it aborts both follows no script
+/// of that body.
+pub fn names_no_other()
+    ensures parent_named { Asks (reverse trails.aborts_two) trails.top (trails.abort_body 1).plan
+        (children (reverse trails.aborts_two) trails.top) trails.grandchild trails.first_child }
+    ensures top_not_named { FollowsScript 0 1 trails.net (trails.abort_body 1 ∷ []) (reverse trails.aborts_two) → ⊥ }
+{}
