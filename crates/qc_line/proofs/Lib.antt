@@ -15,3 +15,4 @@ pub mod Meeting
 pub mod Pushing
 pub mod Keeping
 pub mod Course
+pub mod Able

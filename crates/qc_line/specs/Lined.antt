@@ -1,5 +1,7 @@
 -- What a line keeps.
-use Rattle.std.specs.Prelude.{ℕ, ◌≡◌, Some}
+use Rattle.std.specs.Prelude.{ℕ, ◌≡◌, Bool, true, false, IsTrue, Some}
+use Rattle.std.specs.List.{list_all}
+use Rattle.qc_event.specs.declared.event.Entry.{Entry}
 use Rattle.qc_event.specs.Base.{Setting}
 use Rattle.qc_event.specs.declared.event.Event.{Event}
 use Rattle.qc_event.specs.declared.event.Event.TheVariants as event
@@ -30,3 +32,17 @@ IsOfTransaction past (event.Start n k) = IsNoAccess k
 IsOfTransaction past (event.Ready top) = Unit {0}
 IsOfTransaction past (event.End n how) = (k : Kind) × (kind_of past n ≡ Some k) × IsNoAccess k
 IsOfTransaction past _ = ⊥
+
+-- whether an event does not say that someone was unable
+abbrev pub is_able : Event → Bool
+is_able (event.Unable n why) = false
+is_able _ = true
+
+-- whether none was unable
+abbrev pub all_able : Past → Bool
+all_able past = list_all (λ (e : Entry). is_able e.event) past
+
+-- A line has carried: its link is the same, and where none was unable, none is.
+pub record HasCarried (before now : Lined) : Type 0 where
+  pub net : now.net ≡ before.net
+  pub able : IsTrue (all_able before.past) → IsTrue (all_able now.past)

@@ -6,6 +6,7 @@ ghost use Rattle.qc_event.specs.Seats.{is_client};
 ghost use Rattle.qc_gather.specs.Carrying.{HasGrown, WasCarried, WasNotCarried, HasReason, Rose, entry, began, became};
 ghost use Rattle.qc_line.specs.Access as words;
 ghost use Rattle.qc_line.specs.Kept.{IsInStep, net_of};
+ghost use Rattle.qc_line.specs.Lined.{all_able};
 ghost use Rattle.qc_net.specs.Messages.{meets_fates};
 ghost use Rattle.qc_net.specs.Courier.{link_of, held_of};
 ghost use Rattle.qc_net.specs.declared.courier.Sent.TheVariants as sent;
@@ -221,6 +222,7 @@ pub(crate) fn access(
     ensures reason { IfOk result (HasReason (words.way store.old.past store.new.past next.now)
         (Rose (troubles_of (link_of courier.old)) (troubles_of (link_of courier.new)))) }
     ensures not_full { IsErrOf result CarryNo.Memory → length store.new.past ≡ limit → ⊥ }
+    ensures able { IsTrue (all_able store.old.past) → IsTrue (all_able store.new.past) }
     ensures later { troubles_of (link_of courier.old) ≤ troubles_of (link_of courier.new) }
     ensures plan { anew (plan_of (link_of courier.new)) ≡ anew (plan_of (link_of courier.old)) }
     ensures in_step { words.is_cut_off result ≡ false →

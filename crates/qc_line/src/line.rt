@@ -162,6 +162,7 @@ impl Carrier for Line {
     ghost use Rattle.std.proofs.Common.{◌∙◌};
     ghost use Rattle.qc_event.proofs.LegalAgain.{legal_again};
     ghost use Rattle.qc_gather.specs.Carrying.{made_by};
+    ghost use Rattle.qc_line.specs.Lined.{HasCarried};
     ghost use Rattle.qc_store.specs.Served.{is_answer};
 
     ghost setting = { λ line. line.setting };
@@ -176,11 +177,14 @@ impl Carrier for Line {
 
     ghost troubles = { λ line. line.troubles };
 
-    ghost became = { λ before now. now.net ≡ before.net };
+    ghost became = { HasCarried };
 
-    ghost became_itself = { λ line. refl };
+    ghost became_itself = { λ line. record { net = refl; able = λ was. was } };
 
-    ghost became_by_both = { λ a b c first next. next ∙ first };
+    ghost became_by_both = { λ a b c first next. record {
+      net = next.net ∙ first.net;
+      able = λ was. next.able (first.able was);
+    } };
 
     ghost is_legal = { λ line. legal_again line.setting line.past line.is_legal };
 

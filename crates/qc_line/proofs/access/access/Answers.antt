@@ -8,6 +8,7 @@ use Rattle.qc_gather.specs.Carrying.{began, became, HasGrown, WasCarried, WasCut
 use Rattle.qc_line.specs.Access.{MayAccess, Waits, Stands, request}
 use Rattle.qc_line.specs.Kept.{IsInStep, net_of}
 use Rattle.qc_net.specs.Messages.{meets_fates}
+use Rattle.qc_line.proofs.Able.{able_at_start, able_waiting, able_at_end, able_ended}
 use Rattle.qc_line.proofs.Answered.{serves_still}
 use Rattle.qc_line.proofs.Carried.{way, Of, cut_none, cut_at_start, grown_at_start}
 use Rattle.qc_line.proofs.Course as course
@@ -171,3 +172,20 @@ returns-clause-met c =
     subst (λ n. IsTrue (meets_fates c.args.next.now.seat n c.finish.new.store.past)) (sym (same_net plan plan' c.args.patience c.send.ensures.plan))
     (course.met_ended c.args.store.now c.send.new.store c.args.next.now.manager c.request-ask.result sent plan (held_of c.args.courier.now) c.args.patience c.requires.met c.requires.in_step c.in_ok-carried.carried c.finish.new.store.past
     c.in_ok-finish.ensures.ok (stands (goal.at.returns-clause-met c).In_ok-carried sent) plan' (held_of c.send.new.courier) _ c.in_ok-carried.ensures.sent)
+
+pub returns-in_err-begin-clause-able : goal.returns-in_err-begin-clause-able
+returns-in_err-begin-clause-able c = able_at_start c.args.next.now.seat c.args.store.now.past c.request-ask.result c.begin.new.store.past c.in_err-begin.ensures.err
+
+pub returns-in_err-carried-clause-able : goal.returns-in_err-carried-clause-able
+returns-in_err-carried-clause-able c =
+    able_waiting c.args.next.now.seat c.args.store.now.past c.begin.new.store.past c.send.new.store.past c.send.ensures.served.newer c.request-ask.result c.in_ok-begin.ensures.ok c.send.ensures.served.grown c.send.ensures.served.answers
+
+pub returns-in_err-finish-clause-able : goal.returns-in_err-finish-clause-able
+returns-in_err-finish-clause-able c = λ was.
+    able_at_end c.args.next.now.seat c.send.new.store.past c.request-ask.result c.in_ok-carried.carried c.finish.new.store.past c.in_err-finish.ensures.err
+    (able_waiting c.args.next.now.seat c.args.store.now.past c.begin.new.store.past c.send.new.store.past c.send.ensures.served.newer c.request-ask.result c.in_ok-begin.ensures.ok c.send.ensures.served.grown c.send.ensures.served.answers was)
+
+pub returns-clause-able : goal.returns-clause-able
+returns-clause-able c = λ was.
+    able_ended c.args.next.now.seat c.send.new.store.past c.request-ask.result c.in_ok-carried.carried c.finish.new.store.past c.in_ok-finish.ensures.ok
+    (able_waiting c.args.next.now.seat c.args.store.now.past c.begin.new.store.past c.send.new.store.past c.send.ensures.served.newer c.request-ask.result c.in_ok-begin.ensures.ok c.send.ensures.served.grown c.send.ensures.served.answers was)

@@ -1,0 +1,60 @@
+-- Which ancestor of a name is the shortest aborted one.
+use Rattle.std.proofs.Common.{◌≡◌, Bool, true, false, [], ◌∷◌, ◌++◌, refl, sym, ap, ◌∙◌}
+use mathlib.Core.Bool.{true≢false}
+use Rattle.std.specs.Prelude.{Option, None, Some, MatchOption, find, map, cond}
+use Rattle.std.specs.Option.{option_map}
+use Rattle.qc_event.specs.declared.event.How.{How}
+use Rattle.qc_event.specs.declared.event.How.TheVariants.{Commit, Abort}
+use Rattle.qc_event.specs.Dead.{outcome, outcome_of, is_aborted, ancestors, dead}
+use Rattle.qc_event.specs.History.{Past, Name, end}
+use Rattle.qc_event.specs.Standing.{IsAbort, IsOrphanOf}
+use Rattle.qc_event.proofs.Ancestors.{find-map}
+use Rattle.qc_event.proofs.LastNumber.{rest_of}
+use Rattle.qc_event.proofs.Lineage.{alive_above, alive_not_aborted}
+
+find_same : (p q : Name → Bool) (n : Name) → ((a r : Name) → n ≡ a ++ r → p a ≡ q a) → find p (ancestors n) ≡ find q (ancestors n)
+find_same p q [] h = ap (λ b. cond b (Some []) None) (h [] [] refl)
+find_same p q (x ∷ xs) h =
+    ap (λ b. cond b (Some []) (find p (map (λ a. x ∷ a) (ancestors xs)))) (h [] (x ∷ xs) refl)
+    ∙ ap (λ o. cond (q []) (Some []) o) (find-map p (λ a. x ∷ a) (ancestors xs)
+    ∙ ap (option_map (λ a. x ∷ a)) (find_same (λ a. p (x ∷ a)) (λ a. q (x ∷ a)) xs (λ a r is. h (x ∷ a) r (ap (λ ys. x ∷ ys) is)))
+    ∙ sym (find-map q (λ a. x ∷ a) (ancestors xs)))
+
+-- what is found passes, and begins the name
+find_is : (p : Name → Bool) (n a : Name) → find p (ancestors n) ≡ Some a → (p a ≡ true) × ((r : Name) × (n ≡ a ++ r))
+find_is p [] a is = by_root (p []) refl is
+  where
+    by_root : (b : Bool) → p [] ≡ b → cond b (Some []) None ≡ Some a → (p a ≡ true) × ((r : Name) × ([] ≡ a ++ r))
+    by_root true e found = let here : [] ≡ a = cc in (ap p (sym here) ∙ e, ([], ap (λ c. c ++ []) here))
+    by_root false e found = absurd cc
+find_is p (x ∷ xs) a is = by_root (p []) refl (sym (ap (λ o. cond (p []) (Some []) o) (find-map p (λ c. x ∷ c) (ancestors xs))) ∙ is) (find_is (λ c. p (x ∷ c)) xs)
+  where
+    by_rest : (o : Option Name) → option_map (λ c. x ∷ c) o ≡ Some a → ((c : Name) → o ≡ Some c → (p (x ∷ c) ≡ true) × ((r : Name) × (xs ≡ c ++ r))) → (p a ≡ true) × ((r : Name) × (x ∷ xs ≡ a ++ r))
+    by_rest None found more = absurd cc
+    by_rest (Some c) found more =
+        let here : x ∷ c ≡ a = cc in
+        let rest = more c refl in
+        (ap p (sym here) ∙ rest.0, (rest.1.0, ap (λ ys. x ∷ ys) rest.1.1 ∙ ap (λ d. d ++ rest.1.0) here))
+
+    by_root : (b : Bool) → p [] ≡ b → cond b (Some []) (option_map (λ c. x ∷ c) (find (λ c. p (x ∷ c)) (ancestors xs))) ≡ Some a → ((c : Name) → find (λ c. p (x ∷ c)) (ancestors xs) ≡ Some c → (p (x ∷ c) ≡ true) × ((r : Name) × (xs ≡ c ++ r))) → (p a ≡ true) × ((r : Name) × (x ∷ xs ≡ a ++ r))
+    by_root true e found more = let here : [] ≡ a = cc in (ap p (sym here) ∙ e, (x ∷ xs, ap (λ c. c ++ x ∷ xs) here))
+    by_root false e found more = by_rest (find (λ c. p (x ∷ c)) (ancestors xs)) found more
+
+-- who is dead is so by an aborted ancestor
+pub dead_is : (past : Past) (n a : Name) → dead past n ≡ Some a → (is_aborted (outcome past a) ≡ true) × ((r : Name) × (n ≡ a ++ r))
+dead_is past n a is = find_is (λ b. is_aborted (outcome past b)) n a is
+
+-- who is dead depends on the ends of the ancestors alone
+pub dead_same : (older newer : Past) (n : Name) → ((a r : Name) → n ≡ a ++ r → end newer a ≡ end older a) → dead newer n ≡ dead older n
+dead_same older newer n same = find_same _ _ n (λ a r is. ap (λ o. is_aborted (outcome_of o)) (same a r is))
+
+-- nothing above one that lives is aborted
+pub no_orphan : (past : Past) (n a : Name) → dead past n ≡ None → IsOrphanOf past n a → ⊥
+no_orphan past n a alive orphan =
+    let rest = rest_of a n orphan.above in
+    by_end (end past a) orphan.aborted (alive_not_aborted past a (alive_above past a rest.0 (ap (dead past) (sym rest.1) ∙ alive)))
+  where
+    by_end : (o : Option How) → MatchOption o ⊥ IsAbort → is_aborted (outcome_of o) ≡ false → ⊥
+    by_end None is not_aborted = is
+    by_end (Some (Commit given)) is not_aborted = is
+    by_end (Some (Abort cause)) is not_aborted = true≢false not_aborted

@@ -1,0 +1,12 @@
+pub mod Scans
+pub mod Names
+pub mod Fallen
+pub mod Standing
+pub mod OfAccesses
+pub mod Alone
+pub mod Starting
+pub mod Refusals
+pub mod Made
+pub mod Managing
+pub mod Ending
+pub mod Beginning

@@ -1,0 +1,148 @@
+-- What the entries of a manager's accesses and copies' answers are, and what they leave as it is.
+use Rattle.std.proofs.Common.{◌≡◌, ℕ, ◌+◌, ◌<◌, ◌⊎◌, inl, inr, Bool, true, false, [], ◌∷◌, ◌++◌, length, refl, sym, ap, ◌∙◌, subst, arith}
+use mathlib.Core.Bool.{true≢false}
+use Rattle.std.specs.Prelude.{Option, None, Some, MatchOption, is_some, filter, not, IsTrue, All, cond}
+use Rattle.std.specs.List.{AllByRecursion}
+use Rattle.std.specs.Option.{option_or}
+use Rattle.std.proofs.lemmas.Bool.{and_parts}
+use Rattle.std.proofs.lemmas.List.Elements.{All-head, All-tail}
+use Rattle.qc_names.specs.Name as name
+use Rattle.qc_event.specs.Aborts.{Licensed}
+use Rattle.qc_event.specs.Base.{Setting}
+use Rattle.qc_event.specs.declared.event.Cause.{Cause}
+use Rattle.qc_event.specs.declared.event.Cause.TheVariants as cause
+use Rattle.qc_event.specs.declared.event.Entry.{Entry}
+use Rattle.qc_event.specs.declared.event.Event.{Event}
+use Rattle.qc_event.specs.declared.event.Event.TheVariants as event
+use Rattle.qc_event.specs.declared.event.How.TheVariants.{Commit, Abort}
+use Rattle.qc_event.specs.declared.event.Kind.{Kind}
+use Rattle.qc_event.specs.declared.event.Kind.TheVariants as kind
+use Rattle.qc_event.specs.History.{Past, Name, Begun, start, end, end_in, is_child}
+use Rattle.qc_event.specs.Legal.{Legal, MayEnd, MayHappen}
+use Rattle.qc_event.specs.Standing.{IsUser, IsManager, Started}
+use Rattle.qc_event.specs.Starts.{Stands, Starts}
+use Rattle.qc_event.specs.Users.{MayStartNext}
+use Rattle.qc_event.proofs.Absent.{if_not, told_apart}
+use Rattle.qc_event.proofs.Histories.{or_none}
+use Rattle.qc_event.proofs.LastNumber.{child_last, front_last}
+use Rattle.qc_event.proofs.Lawful.{started_wider}
+use Rattle.qc_event.proofs.OneEntry.{start_step}
+use Rattle.qc_client.proofs.Names.{child_longer}
+use Rattle.qc_client.proofs.Standing.{not_both, no_user_below, started_same}
+use Rattle.qc_gather.specs.Carrying.{name_of}
+use Rattle.qc_script.specs.Calls.{IsOfAccess, is_access, is_asked}
+use Rattle.qc_store.specs.Served.{is_reply, is_answer}
+
+-- the entry is of a child of the name, or a copy's answer
+abbrev pub OfManager : Name → Entry → Type 0
+OfManager n e = IsTrue (is_child n (name_of e.event)) ⊎ IsTrue (is_answer e)
+
+-- a copy's answer is a grant or a refusal
+pub answer_replies : (e : Entry) → is_answer e ≡ true → is_reply e.event ≡ true
+answer_replies e h = (and_parts (is_reply e.event) _ h).0
+
+pub older_legal : (setting : Setting) (later past : Past) → Legal setting (later ++ past) → Legal setting past
+older_legal setting [] past legal = legal
+older_legal setting (e ∷ later) past legal = older_legal setting later past legal.0
+
+-- ENDS
+
+end_in_access : (n m : Name) (ev : Event) → is_child n (name_of ev) ≡ true → is_child n m ≡ false → end_in m ev ≡ None
+end_in_access n m (event.End c how) is out = if_not _ _ (told_apart (is_child n) c m is out)
+end_in_access n m _ is out = refl
+
+end_in_reply : (m : Name) (ev : Event) → is_reply ev ≡ true → end_in m ev ≡ None
+end_in_reply m (event.End c how) is = absurd (true≢false (sym is))
+end_in_reply m _ is = refl
+
+end_in_apart : (n m : Name) (e : Entry) → OfManager n e → is_child n m ≡ false → end_in m e.event ≡ None
+end_in_apart n m e (inl access) out = end_in_access n m e.event access out
+end_in_apart n m e (inr answer) out = end_in_reply m e.event (answer_replies e answer)
+
+-- they end no other name
+pub end_apart : (n m : Name) (inner past : Past) → All (OfManager n) inner → is_child n m ≡ false → end (inner ++ past) m ≡ end past m
+end_apart n m [] past each out = refl
+end_apart n m (e ∷ inner) past each out =
+    ap (λ o. option_or o (end_in m e.event)) (end_apart n m inner past (All-tail (OfManager n) e inner each) out)
+    ∙ ap (λ o. option_or (end past m) o) (end_in_apart n m e (All-head (OfManager n) e inner each) out)
+    ∙ sym (or_none (end past m))
+
+-- STARTS
+
+-- what they start are accesses
+pub start_apart : (n m : Name) (inner past : Past) → All (OfManager n) inner → is_some (start (inner ++ past) m) ≡ true → (is_some (start past m) ≡ true) ⊎ (is_child n m ≡ true)
+start_apart n m [] past each began = inl began
+start_apart n m (e ∷ inner) past each began = elim (start_step e (inner ++ past) m began) [
+  | inl old ↦ start_apart n m inner past (All-tail (OfManager n) e inner each) old
+  | inr new ↦ elim (All-head (OfManager n) e inner each) [
+    | inl access ↦ inr (ap (λ ev. is_child n (name_of ev)) (sym new.1.1) ∙ access)
+    | inr answer ↦ absurd (true≢false (sym (answer_replies e answer) ∙ ap is_reply new.1.1))
+  ]
+]
+
+-- WHAT AN ACCESS DOES
+
+below_top : (setting : Setting) (past : Past) (seat : ℕ) (m : Name) (k : Kind) → 1 < length m → Starts setting past seat m k → MayStartNext (λ p. Stands setting seat p (length m) k) past seat m
+below_top setting past seat [] k long may = absurd may
+below_top setting past seat (x ∷ []) k long may = absurd (omega (arith, long))
+below_top setting past seat (x ∷ y ∷ r) k long may = may
+
+-- where a manager's child stands
+pub stands_there : (setting : Setting) (past : Past) (n m : Name) (seat : ℕ) (k : Kind) → 0 < length n → is_child n m ≡ true → Starts setting past seat m k → Started past n (λ b. Stands setting seat b (length m) k)
+stands_there setting past n m seat k pos is may =
+    let last = child_last n m is in
+    let next = below_top setting past seat m k (omega (arith, pos, child_longer n m is)) may in
+    subst (λ q. Started past q (λ b. Stands setting seat b (length m) k)) (ap name.front last.1 ∙ front_last n last.0) next.stands
+
+under_manager : (setting : Setting) (past : Past) (n : Name) (seat depth : ℕ) (k : Kind) → Started past n (λ b. IsManager b.kind) → Started past n (λ b. Stands setting seat b depth k) → is_access k ≡ true
+under_manager setting past n seat depth (kind.User session body) manager stands = absurd (not_both past n (started_wider _ _ (start past n) (λ b h. h.0) stands) manager)
+under_manager setting past n seat depth (kind.Read rec) manager stands = absurd (not_both past n (started_wider _ _ (start past n) (λ b h. h.0) stands) manager)
+under_manager setting past n seat depth (kind.Write rec value) manager stands = absurd (not_both past n (started_wider _ _ (start past n) (λ b h. h.0) stands) manager)
+under_manager setting past n seat depth (kind.Reconf rec config) manager stands = absurd (not_both past n (started_wider _ _ (start past n) (λ b h. h.0) stands) manager)
+under_manager setting past n seat depth kind.Access manager stands = refl
+
+asked_by_user : (setting : Setting) (past : Past) (seat : ℕ) (n by : Name) (b : Begun) (k : Kind) → Licensed setting past seat n b k (cause.Asked by) → IsUser k
+asked_by_user setting past seat n by b (kind.User session body) h = tt
+asked_by_user setting past seat n by b (kind.Read rec) h = absurd h.0
+asked_by_user setting past seat n by b (kind.Write rec value) h = absurd h.0
+asked_by_user setting past seat n by b (kind.Reconf rec config) h = absurd h.0
+asked_by_user setting past seat n by b kind.Access h = absurd h.0
+
+not_asked : (setting : Setting) (past : Past) (seat : ℕ) (m : Name) (c : Cause) → (Started past m (λ b. IsUser b.kind) → ⊥) → Started past m (MayEnd setting past seat m (Abort c)) → is_asked (Abort c) ≡ false
+not_asked setting past seat m (cause.Asked by) other may = absurd (other (started_wider _ _ (start past m) (λ b h. asked_by_user setting past seat m by b b.kind h.licensed) may))
+not_asked setting past seat m _ other may = refl
+
+access_does : (setting : Setting) (past : Past) (n : Name) (seat : ℕ) (ev : Event) → Legal setting past → 0 < length n → Started past n (λ b. IsManager b.kind) → is_child n (name_of ev) ≡ true → MayHappen setting past seat ev → IsOfAccess n ev
+access_does setting past n seat (event.Start m k) legal pos manager is may = (is, under_manager setting past n seat (length m) k manager (stands_there setting past n m seat k pos is may))
+access_does setting past n seat (event.End m (Commit given)) legal pos manager is may = (is, refl)
+access_does setting past n seat (event.End m (Abort c)) legal pos manager is may = (is, ap not (not_asked setting past seat m c (no_user_below setting past n m legal pos manager is) may))
+access_does setting past n seat (event.Ready m) legal pos manager is may = absurd (omega (arith, pos, child_longer n m is, may.is_top))
+access_does setting past n seat (event.Mark by session) legal pos manager is may = absurd (no_user_below setting past n by legal pos manager is may.by_user)
+access_does setting past n seat (event.Ask ask) legal pos manager is may = tt
+access_does setting past n seat (event.Gone m why) legal pos manager is may = tt
+access_does setting past n seat (event.Granted copy grant) legal pos manager is may = tt
+access_does setting past n seat (event.Refused m copy refusal) legal pos manager is may = tt
+access_does setting past n seat (event.Unable m why) legal pos manager is may = tt
+
+reply_does : (n : Name) (ev : Event) → is_reply ev ≡ true → IsOfAccess n ev
+reply_does n (event.Granted copy grant) is = tt
+reply_does n (event.Refused m copy refusal) is = tt
+reply_does n _ is = absurd (true≢false (sym is))
+
+pub accesses_do : (setting : Setting) (n : Name) (inner past : Past) → Legal setting (inner ++ past) → 0 < length n → Started past n (λ b. IsManager b.kind) → All (OfManager n) inner → AllByRecursion (λ (e : Entry). IsOfAccess n e.event) inner
+accesses_do setting n [] past legal pos manager each = tt
+accesses_do setting n (e ∷ inner) past legal pos manager each = (
+  elim (All-head (OfManager n) e inner each) [
+    | inl access ↦ access_does setting (inner ++ past) n e.seat e.event legal.0 pos (started_same inner past n _ manager) access legal.1
+    | inr answer ↦ reply_does n e.event (answer_replies e answer)
+  ],
+  accesses_do setting n inner past legal.0 pos manager (All-tail (OfManager n) e inner each),
+)
+
+pub all_filtered : (P : Entry → Type 0) (p : Entry → Bool) (es : Past) → AllByRecursion P es → AllByRecursion P (filter p es)
+all_filtered P p [] all = tt
+all_filtered P p (e ∷ es) all = by_test (p e) (all_filtered P p es all.1)
+  where
+    by_test : (b : Bool) → AllByRecursion P (filter p es) → AllByRecursion P (cond b (e ∷ filter p es) (filter p es))
+    by_test true rest = (all.0, rest)
+    by_test false rest = rest

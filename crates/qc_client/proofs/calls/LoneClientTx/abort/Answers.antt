@@ -1,0 +1,14 @@
+use Rattle.std.proofs.Common.{◌≡◌, refl, sym, ap, ◌∙◌, ◌∷◌, subst}
+use Rattle.std.specs.Prelude.{Result, Ok, Err, OnOk, IfErr}
+use Rattle.qc_event.specs.declared.event.Event.TheVariants as event
+use Rattle.qc_event.specs.declared.event.How.TheVariants.{Abort}
+use Rattle.qc_event.specs.History.{Past, Name}
+use Rattle.qc_script.specs.Client.{Client, View}
+use Rattle.qc_client.proofs.Ending.{all_aborts, all_not_aborted}
+use Rattle.qc_client.proofs.calls.LoneClientTx.abort.Goals as goal
+
+pub returns-clause-ok : goal.returns-clause-ok
+returns-clause-ok c = all_aborts c.args.self.now c.act.new.self c.args.target.now c.args.cause c.act.result c.act.ensures.legal c.act.ensures.ok
+
+pub returns-clause-err : goal.returns-clause-err
+returns-clause-err c = all_not_aborted c.args.self.now c.act.new.self c.args.target.now c.args.cause c.act.result c.act.ensures.legal c.act.ensures.err c.act.ensures.short

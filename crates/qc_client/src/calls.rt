@@ -1,0 +1,129 @@
+//! What a session asks, one call after another.
+ghost use Rattle.std.specs.Prelude.{◌≡◌, length, None, IfErr, OnOk};
+ghost use Rattle.qc_event.specs.declared.event.Event.TheVariants as event;
+ghost use Rattle.qc_event.specs.declared.event.How.TheVariants.{Abort};
+ghost use Rattle.qc_event.specs.Legal.{Legal};
+ghost use Rattle.qc_event.specs.Standing.{Started, IsUser, open_child};
+ghost use Rattle.qc_client.specs.Entering.{IsClear, MayEnter};
+ghost use Rattle.qc_client.specs.Alone.{IsAlone};
+ghost use Rattle.qc_script.specs.Calls.{IsGrounded, NotAborted, Committed, NotCommitted, by_client};
+
+use crate::lone::LoneClient;
+use crate::lookups::{is_ready, look, open_child, outcome};
+use qc_event::{Answer, Cause, Config, Entry, Event, How, Kind, LEDGER_SEAT, Name};
+use qc_script::{Tx, TxNo};
+
+impl LoneClient {
+    // Whether a user transaction may be aborted for a cause.
+    fn look_abort(&self, target: &Name, cause: &Cause) -> Result<(), TxNo>
+        requires user { Started self.now.seen target.now (λ b. IsUser b.kind) }
+        requires grounded { IsGrounded self.now.seen target.now cause.now }
+        ensures ok { OnOk result (MayEnter self.now.client self.now.seen
+            (by_client self.now.client (event.End target.now (Abort cause.now)))) }
+        ensures err { IfErr result (NotAborted
+            self.now.client target.now cause.now self.now.seen self.now.seen) }
+        ensures legal { Legal self.now.client.setting self.now.seen }
+    {
+        let h = self.entries();
+        if !outcome(h, target).is_live() {
+            return Err(TxNo::Ended);
+        }
+        if is_ready(h, target) {
+            return Err(TxNo::Ready);
+        }
+        if let Cause::Orphan(ancestor) = cause {
+            if outcome(h, ancestor).is_committed() {
+                return Err(TxNo::Ended);
+            }
+            return Ok(());
+        }
+        Ok(())
+    }
+
+    // Makes a top ready in whose way nothing is, and commits it under the ledger's seat.
+    fn commit_top(&mut self, of: &Name) -> Result<(), TxNo>
+        requires legal { Legal self.old.client.setting self.old.seen }
+        requires alone { IsAlone self.old.client self.old.seen }
+        requires top { length of.now ≡ 1 }
+        requires user { Started self.old.seen of.now (λ b. IsUser b.kind) }
+        requires clear { IsClear self.old.seen of.now }
+        requires closed { open_child self.old.seen of.now ≡ None }
+        ensures client { self.new.client ≡ self.old.client }
+        ensures ok { OnOk result (Committed self.old.client of.now self.old.seen self.new.seen) }
+        ensures err { IfErr result (NotCommitted self.old.client of.now self.old.seen self.new.seen) }
+    {
+        match self.act(Event::Ready { top: *of }) {
+            Ok(()) => {}
+            Err(short) => return Err(short),
+        }
+        let how = How::Commit(Answer::Nothing);
+        self.enter(Entry {
+            seat: LEDGER_SEAT,
+            event: Event::End { name: *of, how },
+        })
+    }
+}
+
+impl Tx for LoneClient {
+    ghost view = { λ c. c };
+
+    fn begin(&mut self, parent: &Name, body: u32) -> Result<Name, TxNo> {
+        if parent.is_empty() {
+            return self.begin_top(body);
+        }
+        let session = self.session();
+        self.start(parent, &Kind::User { session, body })
+    }
+
+    fn read(&mut self, of: &Name, rec: u8) -> Result<u64, TxNo> {
+        match self.manage(of, &Kind::Read { rec }) {
+            Ok(Answer::Value(value)) => Ok(value),
+            Ok(_) => unreachable!(),
+            Err(why) => Err(why),
+        }
+    }
+
+    fn write(&mut self, of: &Name, rec: u8, value: u64) -> Result<(), TxNo> {
+        match self.manage(of, &Kind::Write { rec, value }) {
+            Ok(_) => Ok(()),
+            Err(why) => Err(why),
+        }
+    }
+
+    fn reconfigure(&mut self, of: &Name, rec: u8, config: &Config) -> Result<u64, TxNo> {
+        let kind = Kind::Reconf {
+            rec,
+            config: *config,
+        };
+        match self.manage(of, &kind) {
+            Ok(Answer::Generation(generation)) => Ok(generation),
+            Ok(_) => unreachable!(),
+            Err(why) => Err(why),
+        }
+    }
+
+    fn abort(&mut self, target: &Name, cause: Cause) -> Result<(), TxNo> {
+        match self.look_abort(target, &cause) {
+            Ok(()) => {}
+            Err(why) => return Err(why),
+        }
+        let how = How::Abort(cause);
+        self.act(Event::End { name: *target, how })
+    }
+
+    fn commit(&mut self, of: &Name) -> Result<(), TxNo> {
+        let h = self.entries();
+        match look(h, of) {
+            Ok(()) => {}
+            Err(why) => return Err(why),
+        }
+        if let Some(child) = open_child(h, of) {
+            return Err(TxNo::ChildrenOpen(child));
+        }
+        if of.len() == 1 {
+            return self.commit_top(of);
+        }
+        let how = How::Commit(Answer::Nothing);
+        self.act(Event::End { name: *of, how })
+    }
+}

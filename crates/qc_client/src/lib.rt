@@ -1,0 +1,11 @@
+//! A client alone over a line to the copies: the first that carries out what a session asks.
+#![tactic(auto)]
+
+mod calls;
+mod client;
+mod lone;
+mod lookups;
+mod managers;
+
+pub use client::Client;
+pub use lone::LoneClient;
