@@ -32,15 +32,18 @@ use Rattle.qc_event.proofs.LegalAgain.{legal_again}
 use Rattle.qc_event.proofs.LegalOrderly.{legal_orderly}
 use Rattle.qc_event.proofs.OneEntry.{Starting, Ending, start_step, start_is, end_step, end_stays, some_or_none, unless_some}
 use Rattle.qc_event.proofs.Lawful.{some_how}
-use Rattle.qc_client.specs.Alone.{view_of, is_lone, AccessesEnd, IsLoneClient, IsAlone, IsKept}
-use Rattle.qc_client.specs.Entering.{MayEndNow, MayEnter, SameLine}
+use Rattle.qc_client.specs.Alone.{view_of, IsLoneClient, IsAlone, IsKept}
+use Rattle.qc_client.specs.Entering.{MayEndNow, MayEnter, SameLine, HasAsked}
+use Rattle.qc_client.proofs.Made.{own_is}
+use Rattle.qc_interp.specs.Alone.{is_lone, AreLone, AccessesEnd}
 use Rattle.qc_client.proofs.Names.{child_longer, child_front, no_child_length}
 use Rattle.qc_client.proofs.Standing.{not_both, not_access_too, start_same, started_same, no_user_below, access_of, manager_above, SaysSeat, asked_seat}
 use Rattle.qc_client.proofs.OfAccesses.{OfManager, answer_replies, end_apart, start_apart, stands_there, accesses_do}
 use Rattle.qc_gather.specs.Carrying.{IsRunning, HasGrown, name_of}
-use Rattle.qc_line.specs.Lined.{Lined, IsOfTransaction, IsNoAccess}
-use Rattle.qc_script.specs.Calls.{KindFits, IsOfAccess, is_access, by_client}
-use Rattle.qc_script.specs.Client.{Client, View, is_commit}
+use Rattle.qc_line.specs.Lined.{Lined, IsOfTransaction, IsNoAccess, is_able, all_able}
+use Rattle.qc_script.specs.Calls.{IsOfAccess, is_access, by_client}
+use Rattle.qc_script.specs.Plan.{KindFits}
+use Rattle.qc_script.specs.Client.{Client, View, is_own, is_commit}
 use Rattle.qc_script.specs.Numbers.{each, any_top, is_next_top, next_top}
 use Rattle.qc_store.specs.Served.{is_reply, is_answer}
 
@@ -49,6 +52,22 @@ and_by a b x y = ap (λ t. t && b) x ∙ y
 
 or_left : (a b : Bool) → a ≡ true → (a || b) ≡ true
 or_left a b x = ap (λ t. t || b) x
+
+-- an end under its own seat
+pub own_lone : (c : Client) (n : Name) (how : How) → is_lone c c.number (event.End n how) ≡ true
+own_lone c n how = or_left _ _ (own_is c)
+
+own_by : (c : Client) (s : ℕ) → (s == c.number) ≡ true → is_own c s ≡ true
+own_by c s is = subst (λ x. is_own c x ≡ true) (sym (eqb-true s c.number is)) (own_is c)
+
+able_by : (c : Client) (s : ℕ) (ev : Event) → is_lone c s ev ≡ true → is_able ev ≡ true
+able_by c s (event.Unable n why) lone = lone
+able_by c s _ lone = refl
+
+-- where a client is alone none is unable
+pub lone_able : (c : Client) (past : Past) → AreLone c past → all_able past ≡ true
+lone_able c [] lone = refl
+lone_able c (e ∷ past) lone = let parts = and_parts _ _ lone in and_by _ _ (able_by c e.seat e.event parts.0) (lone_able c past parts.1)
 
 -- THE LINE
 
@@ -181,7 +200,7 @@ pub kept_top : (tops session body : ℕ) (c : Client) (past : Past) → Legal c.
 kept_top tops session body c past legal kept = record {
   alone = record {
     client = kept.alone.client;
-    entries = and_by _ _ (eq-eqb c.number c.number refl) kept.alone.entries;
+    entries = and_by _ _ (own_is c) kept.alone.entries;
     numbered = and_by _ _ kept.alone.numbered (eq-eqb _ _ (next_named tops (record { client = c; seen = past }) kept));
     accesses = accesses_end c.setting past (by_client c (event.Start ((c.epoch * 2 ^ 32 + (tops + 1)) ∷ []) (kind.User session body))) legal tt tt kept.alone.accesses;
   };
@@ -232,25 +251,25 @@ module _ (c : Client) (n : Name) (kd : Kind) (past : Past) (legal_before : Legal
       by_start (Some b) at h access = by_kind b b.kind how (subst (λ o. MatchOption o ⊥ (λ (x : Begun). IsTrue (is_access x.kind))) at access) refl h
 
   -- each of these entries may stand
-  access_lone : (now : Past) (s : ℕ) (ev : Event) → Legal c.setting now → start now n ≡ start past n → is_child n (name_of ev) ≡ true → IsOfAccess n ev → MayHappen c.setting now s ev → is_lone c.number s ev ≡ true
-  access_lone now s (event.Start m k) legal same is does may = stands_seat now s (length m) k same does.1 (stands_there c.setting now n m s k pos is may)
-  access_lone now s (event.Ask ask) legal same is does may = seat_of now s same (subst (λ x. Started now x (λ b. b.seat ≡ s)) (child_front n ask.access is) may.manager_started)
-  access_lone now s (event.Gone m why) legal same is does may = ask_seat now m s legal same is may.asked_here
-  access_lone now s (event.Granted copy grant) legal same is does may = eq-eqb s (copy_seat copy) may.by_copy
-  access_lone now s (event.Refused m copy refusal) legal same is does may = eq-eqb s (copy_seat copy) may.by_copy
-  access_lone now s (event.Unable m why) legal same is does may = ap not (false_from_ne_true (length m == 1) (λ one. omega (arith, pos, child_longer n m is, eqb-true (length m) 1 one)))
-  access_lone now s (event.Mark by session) legal same is does may = absurd does
-  access_lone now s (event.Ready m) legal same is does may = absurd does
-  access_lone now s (event.End m how) legal same is does may = or_left _ _ (end_seat now m s how legal same is may)
+  access_lone : (now : Past) (s : ℕ) (ev : Event) → Legal c.setting now → start now n ≡ start past n → is_child n (name_of ev) ≡ true → IsOfAccess n ev → is_able ev ≡ true → MayHappen c.setting now s ev → is_lone c s ev ≡ true
+  access_lone now s (event.Start m k) legal same is does able may = own_by c s (stands_seat now s (length m) k same does.1 (stands_there c.setting now n m s k pos is may))
+  access_lone now s (event.Ask ask) legal same is does able may = own_by c s (seat_of now s same (subst (λ x. Started now x (λ b. b.seat ≡ s)) (child_front n ask.access is) may.manager_started))
+  access_lone now s (event.Gone m why) legal same is does able may = own_by c s (ask_seat now m s legal same is may.asked_here)
+  access_lone now s (event.Granted copy grant) legal same is does able may = refl
+  access_lone now s (event.Refused m copy refusal) legal same is does able may = refl
+  access_lone now s (event.Unable m why) legal same is does able may = able
+  access_lone now s (event.Mark by session) legal same is does able may = absurd does
+  access_lone now s (event.Ready m) legal same is does able may = absurd does
+  access_lone now s (event.End m how) legal same is does able may = or_left _ _ (own_by c s (end_seat now m s how legal same is may))
 
-  reply_lone : (now : Past) (s : ℕ) (ev : Event) → is_reply ev ≡ true → MayHappen c.setting now s ev → is_lone c.number s ev ≡ true
-  reply_lone now s (event.Granted copy grant) is may = eq-eqb s (copy_seat copy) may.by_copy
-  reply_lone now s (event.Refused m copy refusal) is may = eq-eqb s (copy_seat copy) may.by_copy
-  reply_lone now s _ is may = absurd (true≢false (sym is))
+  reply_lone : (s : ℕ) (ev : Event) → is_reply ev ≡ true → is_lone c s ev ≡ true
+  reply_lone s (event.Granted copy grant) is = refl
+  reply_lone s (event.Refused m copy refusal) is = refl
+  reply_lone s _ is = absurd (true≢false (sym is))
 
-  of_manager_lone : (now : Past) (e : Entry) → Legal c.setting now → start now n ≡ start past n → IsOfAccess n e.event → OfManager n e → MayHappen c.setting now e.seat e.event → is_lone c.number e.seat e.event ≡ true
-  of_manager_lone now e legal same does (inl access) may = access_lone now e.seat e.event legal same access does may
-  of_manager_lone now e legal same does (inr answer) may = reply_lone now e.seat e.event (answer_replies e answer) may
+  of_manager_lone : (now : Past) (e : Entry) → Legal c.setting now → start now n ≡ start past n → IsOfAccess n e.event → is_able e.event ≡ true → OfManager n e → MayHappen c.setting now e.seat e.event → is_lone c e.seat e.event ≡ true
+  of_manager_lone now e legal same does able (inl access) may = access_lone now e.seat e.event legal same access does able may
+  of_manager_lone now e legal same does able (inr answer) may = reply_lone e.seat e.event (answer_replies e answer)
 
   no_top_of : (e : Entry) → IsOfAccess n e.event → any_top e.event ≡ None
   no_top_of e does = by_event e.event does
@@ -274,11 +293,13 @@ module _ (c : Client) (n : Name) (kd : Kind) (past : Past) (legal_before : Legal
   began_some : is_some (start past n) ≡ true
   began_some = ap is_some begun
 
-  entries_lone : (inner : Past) → Legal c.setting (inner ++ past) → All (OfManager n) inner → AllByRecursion (λ (e : Entry). IsOfAccess n e.event) inner → list_all (λ (e : Entry). is_lone c.number e.seat e.event) past ≡ true → list_all (λ (e : Entry). is_lone c.number e.seat e.event) (inner ++ past) ≡ true
-  entries_lone [] legal each does was = was
-  entries_lone (e ∷ inner) legal each does was = and_by _ _
-      (of_manager_lone (inner ++ past) e legal.0 (start_same inner past n began_some) does.0 (All-head (OfManager n) e inner each) legal.1)
-      (entries_lone inner legal.0 (All-tail (OfManager n) e inner each) does.1 was)
+  entries_lone : (inner : Past) → Legal c.setting (inner ++ past) → All (OfManager n) inner → AllByRecursion (λ (e : Entry). IsOfAccess n e.event) inner → all_able (inner ++ past) ≡ true → AreLone c past → AreLone c (inner ++ past)
+  entries_lone [] legal each does able was = was
+  entries_lone (e ∷ inner) legal each does able was =
+      let parts = and_parts _ _ able in
+      and_by _ _
+      (of_manager_lone (inner ++ past) e legal.0 (start_same inner past n began_some) does.0 parts.0 (All-head (OfManager n) e inner each) legal.1)
+      (entries_lone inner legal.0 (All-tail (OfManager n) e inner each) does.1 parts.1 was)
 
   numbered_still : (inner : Past) → AllByRecursion (λ (e : Entry). IsOfAccess n e.event) inner → each (is_next_top c.epoch) past ≡ true → each (is_next_top c.epoch) (inner ++ past) ≡ true
   numbered_still [] does was = was
@@ -307,13 +328,13 @@ module _ (c : Client) (n : Name) (kd : Kind) (past : Past) (legal_before : Legal
           let out : is_child n (name.front m) ≡ false = false_from_ne_true (is_child n (name.front m)) (λ child. not_access_too past (name.front m) (access_of c.setting past n (name.front m) legal_before pos manager child (started_some (λ b. IsManager b.kind) (start past (name.front m)) above)) above) in
           was m began (sym (ap is_some (same_end (name.front m) out)) ∙ over)
 
-  pub kept_grown : (tops : ℕ) (inner : Past) → Legal c.setting (inner ++ past) → All (OfManager n) inner → IsKept tops (record { client = c; seen = past }) → IsKept tops (record { client = c; seen = inner ++ past })
-  kept_grown tops inner legal each was =
+  pub kept_grown : (tops : ℕ) (inner : Past) → Legal c.setting (inner ++ past) → All (OfManager n) inner → all_able (inner ++ past) ≡ true → IsKept tops (record { client = c; seen = past }) → IsKept tops (record { client = c; seen = inner ++ past })
+  kept_grown tops inner legal each able was =
       let does = accesses_do c.setting n inner past legal pos manager each in
       record {
         alone = record {
           client = was.alone.client;
-          entries = entries_lone inner legal each does was.alone.entries;
+          entries = entries_lone inner legal each does able was.alone.entries;
           numbered = numbered_still inner does was.alone.numbered;
           accesses = accesses_still inner each was.alone.accesses;
         };
@@ -327,9 +348,10 @@ manager_fits setting (kind.Write rec value) fits = tt
 manager_fits setting (kind.Reconf rec config) fits = tt
 manager_fits setting kind.Access fits = absurd fits
 
-pub kept_carried : (tops session epoch : ℕ) (old new : Lined) (n : Name) (kd : Kind) → IsKept tops (view_of old session epoch) → SameLine old new → KindFits old.setting kd → IsRunning old.seat old.past n kd → 0 < length n → HasGrown (λ e. is_answer e) (λ m. IsTrue (is_child n m)) old.past new.past → IsKept tops (view_of new session epoch)
-kept_carried tops session epoch old new n kd kept same fits running pos g =
+pub kept_carried : (tops session epoch : ℕ) (old new : Lined) (n : Name) (kd : Kind) → IsKept tops (view_of old session epoch) → HasAsked old new → KindFits old.setting kd → IsRunning old.seat old.past n kd → 0 < length n → HasGrown (λ e. is_answer e) (λ m. IsTrue (is_child n m)) old.past new.past → IsKept tops (view_of new session epoch)
+kept_carried tops session epoch old new n kd kept asked fits running pos g =
     let c = (view_of old session epoch).client in
-    let legal : Legal old.setting (g.newer ++ old.past) = subst (λ s. Legal s (g.newer ++ old.past)) same.setting (subst (λ p. Legal new.setting p) g.grown (legal_again new.setting new.past new.is_legal)) in
-    subst (IsKept tops) (sym (same_view old new session epoch (g.newer ++ old.past) same g.grown))
-    (kept_grown c n kd old.past (legal_again old.setting old.past old.is_legal) pos (manager_fits old.setting kd fits) running.started running.not_ended tops g.newer legal g.each kept)
+    let legal : Legal old.setting (g.newer ++ old.past) = subst (λ s. Legal s (g.newer ++ old.past)) asked.same.setting (subst (λ p. Legal new.setting p) g.grown (legal_again new.setting new.past new.is_legal)) in
+    let able : all_able (g.newer ++ old.past) ≡ true = ap all_able (sym g.grown) ∙ asked.able (lone_able c old.past kept.alone.entries) in
+    subst (IsKept tops) (sym (same_view old new session epoch (g.newer ++ old.past) asked.same g.grown))
+    (kept_grown c n kd old.past (legal_again old.setting old.past old.is_legal) pos (manager_fits old.setting kd fits) running.started running.not_ended tops g.newer legal g.each able kept)

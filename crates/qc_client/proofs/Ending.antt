@@ -26,15 +26,13 @@ use Rattle.qc_event.proofs.Lawful.{started_wider, started_some}
 use Rattle.qc_event.proofs.OneEntry.{started_stays}
 use Rattle.qc_client.specs.Alone.{IsAlone, IsLoneClient}
 use Rattle.qc_client.specs.Entering.{MayEnter, IsClear, IsShort}
-use Rattle.qc_client.proofs.Made.{made_none, made_one, made_ready}
+use Rattle.qc_client.proofs.Alone.{own_lone}
+use Rattle.qc_client.proofs.Made.{own_is, made_none, made_one, made_ready}
 use Rattle.qc_client.proofs.Managing.{user_ends}
 use Rattle.qc_script.specs.Calls.{IsGrounded, IsMarkedFor, Committed, NotCommitted, NotAborted, by_client}
-use Rattle.qc_script.specs.Client.{Client, View, Made, is_commit}
+use Rattle.qc_script.specs.Client.{Client, View, Made, is_own}
 use Rattle.qc_script.specs.declared.tx.TxNo.{TxNo}
 use Rattle.qc_script.specs.declared.tx.TxNo.TheVariants as tx_no
-
-own_end : (c : Client) (n : Name) (how : How) → ((c.number == c.number) || (((c.number == ledger_seat) && (length n == 1)) && is_commit how)) ≡ true
-own_end c n how = ap (λ b. b || (((c.number == ledger_seat) && (length n == 1)) && is_commit how)) (eq-eqb c.number c.number refl)
 
 -- ABORTS
 
@@ -72,7 +70,7 @@ pub may_abort_user : (c : Client) (past : Past) (n : Name) (why : Cause) → IsA
 may_abort_user c past n why alone user going unready license = record {
   allowed = by_start (start past n) refl user;
   of_transaction = user_ends past n (Abort why) user;
-  lone = own_end c n (Abort why);
+  lone = own_lone c n (Abort why);
   no_top = refl;
   ends = inl user;
 }
@@ -124,7 +122,7 @@ pub may_commit_below : (c : Client) (past : Past) (n : Name) → (length n ≡ 1
 may_commit_below c past n below nonroot alone user clear closed = record {
   allowed = may_commit_user c.setting past c.number n user (below_top c past n below nonroot alone user clear closed);
   of_transaction = user_ends past n (Commit Nothing) user;
-  lone = own_end c n (Commit Nothing);
+  lone = own_lone c n (Commit Nothing);
   no_top = refl;
   ends = inl user;
 }
@@ -139,7 +137,7 @@ may_be_ready c past n top alone user clear closed = record {
     children_ended = closed;
   };
   of_transaction = tt;
-  lone = eq-eqb c.number c.number refl;
+  lone = own_is c;
   no_top = refl;
   ends = tt;
 }
@@ -165,14 +163,14 @@ may_log c past n top user clear =
       allowed = may_commit_user c.setting (e ∷ past) ledger_seat n began
           (top_commits (e ∷ past) n ledger_seat top refl (started_some (λ b. IsUser b.kind) (start (e ∷ past) n) began) (ap (λ o. option_or o None) clear.not_ended) (ready_now past n c.number clear.unready));
       of_transaction = user_ends (e ∷ past) n (Commit Nothing) began;
-      lone = by_own (1 == c.number) (eq-eqb (length n) 1 top);
+      lone = by_own (is_own c ledger_seat) (eq-eqb (length n) 1 top);
       no_top = refl;
       ends = inl began;
     }
   where
-    by_own : (b : Bool) → (length n == 1) ≡ true → (b || ((true && (length n == 1)) && true)) ≡ true
+    by_own : (b : Bool) → (length n == 1) ≡ true → (b || (true && ((length n == 1) && true))) ≡ true
     by_own true top = refl
-    by_own false top = ap (λ t. (true && t) && true) top
+    by_own false top = ap (λ t. t && true) top
 
 pub committed_below : (c : Client) (before now : Past) (n : Name) → (length n ≡ 1 → ⊥) → Made c (by_client c (event.End n (Commit Nothing)) ∷ []) before now → Committed c n before now
 committed_below c before now [] below made = made

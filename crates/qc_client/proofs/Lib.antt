@@ -10,3 +10,4 @@ pub mod Made
 pub mod Managing
 pub mod Ending
 pub mod Beginning
+pub mod Following

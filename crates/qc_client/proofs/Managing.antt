@@ -35,7 +35,8 @@ use Rattle.qc_line.specs.Lined.{IsOfTransaction, IsNoAccess}
 use Rattle.qc_rw.specs.Managed.{IsAnswered, IsRefused, MayEndFor, IsShort, cause_of}
 use Rattle.qc_rw.specs.declared.no.MgrNo.{MgrNo}
 use Rattle.qc_rw.specs.declared.no.MgrNo.TheVariants as no
-use Rattle.qc_script.specs.Calls.{Ran, WasCut, GaveNone, IsOfAccess, KindFits, is_asked, by_client}
+use Rattle.qc_script.specs.Calls.{Ran, WasCut, GaveNone, IsOfAccess, is_asked, by_client}
+use Rattle.qc_script.specs.Plan.{KindFits}
 use Rattle.qc_script.specs.Client.{Client, View, Made, mine, is_own}
 use Rattle.qc_script.specs.declared.tx.TxNo.{TxNo}
 use Rattle.qc_script.specs.declared.tx.TxNo.TheVariants as tx_no
@@ -43,7 +44,7 @@ use Rattle.qc_store.specs.Served.{is_answer}
 use Rattle.qc_client.specs.Alone.{IsAlone}
 use Rattle.qc_client.specs.Entering.{MayEnter, IsClear, HasStarted, ending_of, aborting, told, ended, Closed, NotClosed, WasAborted}
 use Rattle.qc_client.specs.Entering as entering
-use Rattle.qc_client.proofs.Alone.{manager_fits}
+use Rattle.qc_client.proofs.Alone.{manager_fits, own_lone}
 use Rattle.qc_client.proofs.Fallen.{dead_same, no_orphan}
 use Rattle.qc_client.proofs.Made.{mine_one, mine_own, own_is}
 use Rattle.qc_client.proofs.Names.{no_child_length, begins_short}
@@ -138,7 +139,7 @@ module _ (c : Client) (seated : IsTrue (is_client c.number)) (old : Past) (of : 
     enters how runs allowed = record {
       allowed = allowed;
       of_transaction = ends_so IsManager kind_no_access past n how (started_same inner first n _ manager);
-      lone = ap (λ b. Rattle.std.specs.Prelude.◌||◌ b (Rattle.std.specs.Prelude.◌&&◌ (Rattle.std.specs.Prelude.◌&&◌ (Rattle.std.specs.Prelude.◌==◌ c.number 1) (Rattle.std.specs.Prelude.◌==◌ (length n) 1)) (Rattle.qc_script.specs.Client.is_commit how))) (eq-eqb c.number c.number refl);
+      lone = own_lone c n how;
       no_top = refl;
       ends = inr runs.children_ended;
     }

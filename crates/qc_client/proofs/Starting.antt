@@ -18,8 +18,10 @@ use Rattle.qc_event.proofs.LegalOrderly.{legal_orderly}
 use Rattle.qc_event.proofs.OneEntry.{some_or_none}
 use Rattle.qc_client.specs.Alone.{IsAlone}
 use Rattle.qc_client.specs.Entering.{MayEnter, IsClear, StandsBelow}
+use Rattle.qc_client.proofs.Made.{own_is}
 use Rattle.qc_line.specs.Lined.{IsNoAccess}
-use Rattle.qc_script.specs.Calls.{KindFits, by_client}
+use Rattle.qc_script.specs.Calls.{by_client}
+use Rattle.qc_script.specs.Plan.{KindFits}
 use Rattle.qc_script.specs.Client.{Client}
 use Rattle.qc_script.specs.Numbers.{any_top}
 use Rattle.qc_store.proofs.Begun.{user_short}
@@ -46,7 +48,7 @@ stands : (setting : Setting) (seat depth : ℕ) (b : Begun) (k : Kind) → IsUse
 stands setting seat depth b (kind.User session body) user below = (user, le-leb depth 16 below)
 stands setting seat depth b (kind.Read rec) user below = (user, lt-ltb rec (length setting.firsts) below)
 stands setting seat depth b (kind.Write rec value) user below = (user, lt-ltb rec (length setting.firsts) below)
-stands setting seat depth b (kind.Reconf rec config) user below = (user, lt-ltb rec (length setting.firsts) below.0, below.2, below.1)
+stands setting seat depth b (kind.Reconf rec config) user below = (user, lt-ltb rec (length setting.firsts) below.0, below.1.for_copies, below.1.legal)
 stands setting seat depth b kind.Access user below = absurd below
 
 no_access : (setting : Setting) (depth : ℕ) (k : Kind) → StandsBelow setting depth k → IsNoAccess k
@@ -93,7 +95,7 @@ may_enter_child c past of k kd legal alone user clear next below =
           clear.unready next
           (started_wider (λ b. IsUser b.kind) (λ b. Stands c.setting c.number b (length (of ++ k ∷ [])) kd) (start past of) (λ b is. subst (λ d. Stands c.setting c.number b d kd) (sym (length_last of k)) (stands c.setting c.number (length of + 1) b kd is below)) user);
       of_transaction = no_access c.setting (length of + 1) kd below;
-      lone = eq-eqb c.number c.number refl;
+      lone = own_is c;
       no_top = no_top (of ++ k ∷ []) kd (omega (arith, nonroot, length_last of k));
       ends = tt;
     }

@@ -1,18 +1,15 @@
 -- A client alone: who it is, and which entries stand in its history.
-use Rattle.std.specs.Prelude.{ℕ, ◌≡◌, ◌≤◌, ◌==◌, Bool, true, false, ◌&&◌, ◌||◌, not, IsTrue, [], length, Some, is_some, MatchOption}
-use Rattle.std.specs.List.{list_all}
+use Rattle.std.specs.Prelude.{ℕ, ◌≡◌, ◌≤◌, IsTrue, List, [], length, Some, MatchOption}
 use Rattle.qc_event.specs.declared.event.Entry.{Entry}
-use Rattle.qc_event.specs.declared.event.Event.{Event}
-use Rattle.qc_event.specs.declared.event.Event.TheVariants as event
-use Rattle.qc_event.specs.History.{Past, Name, every, end}
-use Rattle.qc_event.specs.Seats.{ledger_seat, copy_seat, is_client}
-use Rattle.qc_event.specs.Standing.{Started}
+use Rattle.qc_event.specs.History.{Past, every}
+use Rattle.qc_event.specs.Seats.{is_client}
+use Rattle.qc_interp.specs.Alone.{AreLone, AccessesEnd}
+use Rattle.qc_interp.specs.FollowsScript.{FollowsScript}
 use Rattle.qc_line.specs.Lined.{Lined}
-use Rattle.qc_line.specs.Messages.{meets_fates}
-use Rattle.qc_names.specs.Name as name
-use Rattle.qc_script.specs.Calls.{is_access}
-use Rattle.qc_script.specs.Client.{Client, View, Net, is_commit}
+use Rattle.qc_net.specs.Messages.{Net, meets_fates}
+use Rattle.qc_script.specs.Client.{Client, View}
 use Rattle.qc_script.specs.Numbers.{each, any_top, is_next_top}
+use Rattle.qc_script.specs.Plan.{Numbered}
 
 -- what a client over a line is: it has no branches, may mark no session, and its link is told
 abbrev pub view_of : Lined → ℕ → ℕ → View
@@ -25,28 +22,10 @@ view_of line session epoch = record {
     epoch = epoch;
     setting = line.setting;
     may = [];
-    net = Some (record { fates = line.net.fates; hold = line.net.hold; patience = line.net.patience });
+    net = Some line.net;
   };
   seen = line.past;
 }
-
--- Whether an event may stand under a seat where a client is alone: what it starts, asks, gives up, makes ready and ends
--- stands under its own seat, but tops are committed under the ledger's; copies grant and refuse under theirs. None is
--- marked, and no top was unable to be logged.
-abbrev pub is_lone : ℕ → ℕ → Event → Bool
-is_lone own seat (event.Start n k) = seat == own
-is_lone own seat (event.Ask ask) = seat == own
-is_lone own seat (event.Gone access why) = seat == own
-is_lone own seat (event.Granted copy grant) = seat == copy_seat copy
-is_lone own seat (event.Refused access copy refusal) = seat == copy_seat copy
-is_lone own seat (event.Unable n why) = not (length n == 1)
-is_lone own seat (event.Mark by session) = false
-is_lone own seat (event.Ready top) = seat == own
-is_lone own seat (event.End n how) = (seat == own) || ((seat == ledger_seat) && (length n == 1) && is_commit how)
-
--- each access whose manager has ended has ended
-abbrev pub AccessesEnd : Past → Type 0
-AccessesEnd past = (n : Name) → Started past n (λ b. IsTrue (is_access b.kind)) → is_some (end past (name.front n)) ≡ true → is_some (end past n) ≡ true
 
 -- who a client is that is alone: its seat is a client's, epochs are counted from 1, and it has neither branches nor marks
 pub record IsLoneClient (c : Client) : Type 0 where
@@ -56,11 +35,11 @@ pub record IsLoneClient (c : Client) : Type 0 where
   pub no_branch : c.out ≡ []
   pub marks_none : c.may ≡ []
 
--- A client is alone in a history: each entry may stand there, tops are numbered in order, and accesses end before their
--- managers do.
+-- A client is alone in a history: each entry is its own, a copy's answer or the ledger's commit of a top; tops are numbered
+-- in order; and accesses end before their managers do.
 pub record IsAlone (c : Client) (past : Past) : Type 0 where
   pub client : IsLoneClient c
-  pub entries : IsTrue (list_all (λ (e : Entry). is_lone c.number e.seat e.event) past)
+  pub entries : AreLone c past
   pub numbered : IsTrue (each (is_next_top c.epoch) past)
   pub accesses : AccessesEnd past
 
@@ -71,4 +50,8 @@ pub record IsKept (tops : ℕ) (view : View) : Type 0 where
 
 -- a client's requests meet the fates of its link
 abbrev pub MeetsFates : Client → Past → Type 0
-MeetsFates c past = MatchOption c.net ⊥ (λ (n : Net). IsTrue (meets_fates c.number (record { fates = n.fates; hold = n.hold; patience = n.patience }) past))
+MeetsFates c past = MatchOption c.net ⊥ (λ net. IsTrue (meets_fates c.number net past))
+
+-- a client alone followed these bodies
+abbrev pub FollowsAlone : Client → List Numbered → Past → Type 0
+FollowsAlone c bodies past = MatchOption c.net ⊥ (λ net. FollowsScript c.session c.epoch net bodies past)

@@ -17,12 +17,13 @@ use Rattle.qc_event.specs.Dead.{dead}
 use Rattle.qc_event.specs.History.{Past, Name, limit, end, is_ready, children}
 use Rattle.qc_event.specs.Legal.{Allowed}
 use Rattle.qc_event.specs.Standing.{Started, IsUser, open_child}
-use Rattle.qc_client.specs.Alone.{is_lone}
-use Rattle.qc_line.specs.Lined.{Lined, IsOfTransaction}
+use Rattle.qc_interp.specs.Alone.{is_lone}
+use Rattle.qc_line.specs.Lined.{Lined, IsOfTransaction, all_able}
 use Rattle.qc_rw.specs.Managed.{cause_of}
 use Rattle.qc_rw.specs.declared.no.MgrNo.{MgrNo}
 use Rattle.qc_rw.specs.declared.no.MgrNo.TheVariants as no
-use Rattle.qc_script.specs.Calls.{KindFits, Refuses, by_client}
+use Rattle.qc_script.specs.Calls.{Refuses, by_client}
+use Rattle.qc_script.specs.Plan.{KindFits}
 use Rattle.qc_script.specs.Client.{Client, View}
 use Rattle.qc_script.specs.Numbers.{any_top}
 use Rattle.qc_script.specs.declared.tx.TxNo.{TxNo}
@@ -39,7 +40,7 @@ MayEndNow past _ = Unit {0}
 pub record MayEnter (c : Client) (past : Past) (e : Entry) : Type 0 where
   pub allowed : Allowed c.setting past e
   pub of_transaction : IsOfTransaction past e.event
-  pub lone : IsTrue (is_lone c.number e.seat e.event)
+  pub lone : IsTrue (is_lone c e.seat e.event)
   pub no_top : any_top e.event ≡ None
   pub ends : MayEndNow past e.event
 
@@ -59,6 +60,11 @@ pub record SameLine (old new : Lined) : Type 0 where
   pub setting : new.setting ≡ old.setting
   pub seat : new.seat ≡ old.seat
   pub net : new.net ≡ old.net
+
+-- and where none was unable, none is
+pub record HasAsked (old new : Lined) : Type 0 where
+  pub same : SameLine old new
+  pub able : IsTrue (all_able old.past) → IsTrue (all_able new.past)
 
 -- NAMES
 

@@ -6,6 +6,7 @@ mod client;
 mod lone;
 mod lookups;
 mod managers;
+mod run;
 
 pub use client::Client;
 pub use lone::LoneClient;

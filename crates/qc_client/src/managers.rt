@@ -6,11 +6,12 @@ ghost use Rattle.qc_event.specs.History.{limit, is_child, children};
 ghost use Rattle.qc_event.specs.Standing.{Started, IsUser};
 ghost use Rattle.qc_event.specs.Legal.{Legal};
 ghost use Rattle.qc_client.specs.Alone.{IsAlone};
-ghost use Rattle.qc_client.specs.Entering.{MayEnter, IsShort, StandsBelow, StopsOrShort, HasStarted, IsAnswerTo, ending_of, told, Closed, NotClosed, SameLine};
+ghost use Rattle.qc_client.specs.Entering.{MayEnter, IsShort, StandsBelow, StopsOrShort, HasStarted, IsAnswerTo, ending_of, told, Closed, NotClosed, HasAsked};
 ghost use Rattle.qc_gather.specs.Carrying.{IsRunning, HasGrown};
 ghost use Rattle.qc_line.specs.Lined.{Lined};
 ghost use Rattle.qc_rw.specs.Managed.{IsAnswered, IsRefused};
-ghost use Rattle.qc_script.specs.Calls.{KindFits, by_client, Answers, Fails};
+ghost use Rattle.qc_script.specs.Calls.{by_client, Answers, Fails};
+ghost use Rattle.qc_script.specs.Plan.{KindFits};
 ghost use Rattle.qc_store.specs.Served.{is_answer};
 
 use crate::lone::LoneClient;
@@ -39,7 +40,7 @@ fn ask(line: &mut Line, name: &Name, kind: &Kind) -> Result<Answer, MgrNo>
     requires fits { KindFits line.old.setting kind.now }
     requires manager { IsRunning line.old.seat line.old.past name.now kind.now }
     requires no_child { children line.old.past name.now ≡ [] }
-    ensures same { SameLine line.old line.new }
+    ensures asked { HasAsked line.old line.new }
     ensures grown { HasGrown
         (λ e. is_answer e) (λ n. IsTrue (is_child name.now n)) line.old.past line.new.past }
     ensures answered { IfOk result
