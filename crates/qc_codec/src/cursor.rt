@@ -17,12 +17,13 @@ const EPOCH: u64 = 0x1_0000_0000;
 
 /// Bytes that are taken from the front. Behind a refusal nothing is known of them.
 #[derive(Drop)]
-pub(crate) struct Cursor<'a> {
-    pub(crate) rest: &'a [u8],
+pub struct Cursor<'a> {
+    pub rest: &'a [u8],
 }
 
 impl<'a> Cursor<'a> {
-    pub(crate) fn byte(&mut self) -> Result<u8, CodecNo>
+    /// The next byte.
+    pub fn byte(&mut self) -> Result<u8, CodecNo>
         ensures taken { Reads byte result self.old self.new }
         ensures only_bad { IfErr result (λ e. e ≡ Bad) }
     {
@@ -35,8 +36,9 @@ impl<'a> Cursor<'a> {
         }
     }
 
+    /// A number of two bytes, the higher first.
     #[tactic(auto, unfolding(crate::specs::Fields::half))]
-    pub(crate) fn half(&mut self) -> Result<u16, CodecNo>
+    pub fn half(&mut self) -> Result<u16, CodecNo>
         ensures taken { Reads field.half result self.old self.new }
         ensures only_bad { IfErr result (λ e. e ≡ Bad) }
     {
@@ -48,8 +50,9 @@ impl<'a> Cursor<'a> {
         Ok(u16::from_be_bytes([front[0], front[1]]))
     }
 
+    /// A number of four bytes, the highest first.
     #[tactic(auto, unfolding(crate::specs::Fields::word))]
-    pub(crate) fn word(&mut self) -> Result<u32, CodecNo>
+    pub fn word(&mut self) -> Result<u32, CodecNo>
         ensures taken { Reads field.word result self.old self.new }
         ensures only_bad { IfErr result (λ e. e ≡ Bad) }
     {
@@ -61,8 +64,9 @@ impl<'a> Cursor<'a> {
         Ok(u32::from_be_bytes([front[0], front[1], front[2], front[3]]))
     }
 
+    /// A number of eight bytes, the highest first.
     #[tactic(auto, unfolding(crate::specs::Fields::long))]
-    pub(crate) fn long(&mut self) -> Result<u64, CodecNo>
+    pub fn long(&mut self) -> Result<u64, CodecNo>
         ensures taken { Reads field.long result self.old self.new }
         ensures only_bad { IfErr result (λ e. e ≡ Bad) }
     {
@@ -118,7 +122,7 @@ impl<'a> Cursor<'a> {
 
     /// A name of at least so many numbers.
     #[tactic(auto, unfolding(crate::specs::Fields::name))]
-    pub(crate) fn name(&mut self, least: u8) -> Result<Name, CodecNo>
+    pub fn name(&mut self, least: u8) -> Result<Name, CodecNo>
         ensures taken { Reads (field.name least) result self.old self.new }
         ensures only_bad { IfErr result (λ e. e ≡ Bad) }
     {
@@ -132,7 +136,7 @@ impl<'a> Cursor<'a> {
 
     /// A legal configuration for so many copies.
     #[tactic(auto, unfolding(crate::specs::Fields::config))]
-    pub(crate) fn config(&mut self, copies: u8) -> Result<Config, CodecNo>
+    pub fn config(&mut self, copies: u8) -> Result<Config, CodecNo>
         requires { copies ≤ 16 }
         ensures taken { Reads (field.config (format_1 copies)) result self.old self.new }
         ensures only_bad { IfErr result (λ e. e ≡ Bad) }
@@ -151,8 +155,9 @@ impl<'a> Cursor<'a> {
         }
     }
 
+    /// A tuple, with a legal configuration for so many copies.
     #[tactic(auto, unfolding(crate::specs::Fields::tuple))]
-    pub(crate) fn tuple(&mut self, copies: u8) -> Result<Tuple, CodecNo>
+    pub fn tuple(&mut self, copies: u8) -> Result<Tuple, CodecNo>
         requires { copies ≤ 16 }
         ensures taken { Reads (field.tuple (format_1 copies)) result self.old self.new }
         ensures only_bad { IfErr result (λ e. e ≡ Bad) }
