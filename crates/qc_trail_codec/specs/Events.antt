@@ -53,14 +53,14 @@ op layout = choose code_of
 -- KINDS
 
 abbrev pub kind_tag : Kind → ℕ
-kind_tag (User session body) = 0
+kind_tag (User n body) = 0
 kind_tag (Read rec) = 1
 kind_tag (Write rec value) = 2
 kind_tag (Reconf rec c) = 3
 kind_tag Access = 4
 
 abbrev pub user_of : Kind → Option (ℕ × ℕ)
-user_of (User session body) = Some (session, body)
+user_of (User n body) = Some (n, body)
 user_of _ = None
 
 abbrev pub read_of : Kind → Option ℕ
@@ -86,7 +86,7 @@ reconf p = Reconf p.0 p.1
 
 unfoldable pub kind : Layout → Form Kind
 kind layout = choose kind_tag
-    (under 0 (variant user user_of (pair byte (λ session. word)))
+    (under 0 (variant user user_of (pair byte (λ n. word)))
     (under 1 (variant Read read_of byte)
     (under 2 (variant write write_of (pair byte (λ rec. long)))
     (under 3 (variant reconf reconf_of (pair byte (λ rec. config layout)))
@@ -219,7 +219,7 @@ event_tag (event_is.Refused access copy r) = 5
 event_tag (event_is.Ready top) = 6
 event_tag (event_is.End n h) = 7
 event_tag (event_is.Unable n w) = 8
-event_tag (event_is.Mark by session) = 9
+event_tag (event_is.Mark by n) = 9
 
 abbrev pub start_of : Event → Option (Name × Kind)
 start_of (event_is.Start n k) = Some (n, k)
@@ -254,7 +254,7 @@ unable_of (event_is.Unable n w) = Some (n, w)
 unable_of _ = None
 
 abbrev pub mark_of : Event → Option (Name × ℕ)
-mark_of (event_is.Mark by session) = Some (by, session)
+mark_of (event_is.Mark by n) = Some (by, n)
 mark_of _ = None
 
 abbrev pub start : Name × Kind → Event
@@ -282,6 +282,10 @@ mark p = event_is.Mark p.0 p.1
 abbrev pub is_session : ℕ → Bool
 is_session n = nat_le n 15
 
+-- the session of a mark
+abbrev pub session : Form ℕ
+session = only is_session byte
+
 unfoldable pub event : Layout → Form Event
 event layout = choose event_tag
     (under 1 (variant start start_of (pair (name 1) (λ n. kind layout)))
@@ -292,7 +296,7 @@ event layout = choose event_tag
     (under 6 (variant event_is.Ready ready_of (name 1))
     (under 7 (variant end end_of (pair (name 1) (λ n. how layout)))
     (under 8 (variant unable unable_of (pair (name 1) (λ n. inability)))
-    (under 9 (variant mark mark_of (pair (name 1) (λ by. only is_session byte)))
+    (under 9 (variant mark mark_of (pair (name 1) (λ by. session)))
     nothing)))))))))
 
 -- a step, and the seat under which it was made
