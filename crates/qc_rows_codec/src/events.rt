@@ -12,7 +12,10 @@ fn print_ask(rt: &HostRuntime, ask: &Ask) -> io::Result<()> {
 }
 
 fn print_grant(rt: &HostRuntime, copy: u8, grant: &Grant) -> io::Result<()> {
-    print!(rt; "granted {} copy {copy} record {} ", grant.access, grant.rec)?;
+    print!(rt;
+        "granted {} copy {copy} record {} ",
+        grant.access, grant.rec
+    )?;
     print_op(rt, &grant.op)?;
     let tuple = TupleText(grant.tuple);
     println!(rt; " leaves {tuple}")

@@ -1,5 +1,5 @@
 -- The forms of events are exact.
-use Rattle.std.proofs.Common.{◌≡◌, ℕ, List, Option, Some, refl, sym, ap}
+use Rattle.std.proofs.Common.{◌≡◌, ℕ, Option, Some, refl, ap}
 use Rattle.qc_config.specs.Config.{Voting}
 use Rattle.qc_config.specs.declared.tuple.Op.{Op}
 use Rattle.qc_config.specs.declared.tuple.Op.TheVariants.{Get, PutData, PutConfig}
@@ -22,13 +22,12 @@ use Rattle.qc_event.specs.declared.event.Refusal.TheVariants.{Blocked, Dead}
 use Rattle.qc_event.specs.declared.event.Why.{Why}
 use Rattle.qc_event.specs.History.{Name}
 use Rattle.qc_codec.specs.Form.{Form, Any, byte, variant, under}
-use Rattle.qc_codec.specs.Fields.{Layout, word, long, name, config, tuple}
-use Rattle.qc_codec.specs.Bodies.{code_of, granted}
+use Rattle.qc_codec.specs.Fields.{Layout, word, long, name}
+use Rattle.qc_codec.specs.Bodies.{code_of}
 use Rattle.qc_codec.proofs.Exact.{IsExact, AreTagged, exact_byte, exact_word, exact_long, exact_pair, exact_as, exact_only, exact_variant, variant_tag, exact_choose, tagged_under, tagged_nothing}
 use Rattle.qc_codec.proofs.Fields.{exact_name, exact_config, exact_tuple}
 use Rattle.qc_codec.proofs.Bodies.{exact_granted}
-use Rattle.qc_trail_codec.specs.Reasons.{why, inability, lack}
-use Rattle.qc_trail_codec.specs.Events.{op, data_of, config_of, put_data, put_config, kind, kind_tag, user_of, read_of, write_of, reconf_of, user, write, reconf, answer, answer_tag, value_of, generation_of, reply_of, cause, cause_tag, asked_of, conflict_of, lack_of, orphan_of, child_of, conflict, how, how_tag, commit_of, abort_of, ask, refusal, refusal_tag, blocked_of, dead_of, event, event_tag, start_of, ask_of, gone_of, granted_of, refused_of, ready_of, end_of, unable_of, mark_of, start, gone, grant_of_copy, refused, end, unable, mark, is_session, session, entry}
+use Rattle.qc_trail_codec.specs.Events.{op, data_of, config_of, put_data, put_config, kind, kind_tag, user_of, read_of, write_of, reconf_of, user, write, reconf, answer, answer_tag, value_of, generation_of, reply_of, cause, cause_tag, asked_of, conflict_of, lack_of, orphan_of, child_of, conflict, how, how_tag, commit_of, abort_of, ask, refusal, refusal_tag, blocked_of, dead_of, event, event_tag, start_of, ask_of, gone_of, granted_of, refused_of, ready_of, end_of, unable_of, mark_of, start, gone, grant_of_copy, refused, end, unable, mark, is_session, entry}
 use Rattle.qc_trail_codec.proofs.Reasons.{exact_why, exact_inability, exact_lack, tagged_just}
 
 -- one variant under its tag

@@ -1,9 +1,9 @@
 -- The forms of reasons and lacks are exact.
-use Rattle.std.proofs.Common.{◌≡◌, ℕ, ◌<◌, ◌^◌, List, Bool, length, Option, None, Some, refl, sym, ap, arith}
+use Rattle.std.proofs.Common.{◌≡◌, ℕ, Option, None, Some, refl, sym, ap}
 use Rattle.qc_event.specs.declared.event.Why.{Why}
 use Rattle.qc_event.specs.declared.event.Why.TheVariants.{Lost, Late, Down, Full, Strange}
 use Rattle.qc_event.specs.declared.event.Phase.TheVariants.{Collect, Values, Configs}
-use Rattle.qc_codec.specs.Form.{Form, Any, under, nothing, just}
+use Rattle.qc_codec.specs.Form.{Form, Any, under, just}
 use Rattle.qc_codec.specs.Fields.{half}
 use Rattle.qc_codec.proofs.Exact.{IsExact, AreTagged, exact_half, exact_pair, exact_as, exact_only, exact_times, exact_just, exact_variant, exact_choose, tagged_under, tagged_nothing}
 use Rattle.qc_trail_codec.specs.Reasons.{why_tag, whys, why, is_inability, inability, missing_tag, some_of, reason, marks_of, number_of, IsWhole, copies, phase_tag, phase, lack}

@@ -1,17 +1,14 @@
 -- The form of a trail is exact.
-use mathlib.Core.Bool.{true≢false}
-use Rattle.std.proofs.Common.{◌≡◌, ℕ, ◌<◌, ◌≤◌, true, List, [], ◌∷◌, length, refl, sym, ap, ap₂, ◌∙◌, arith}
+use Rattle.std.proofs.Common.{◌≡◌, ℕ, ◌≤◌, List, [], length, refl, ap₂, arith}
 use Rattle.std.specs.Prelude.{nat_le, slice_index_or}
-use Rattle.std.specs.List.{All}
 use Rattle.std.proofs.lemmas.Bool.{and_parts, leb-true}
 use Rattle.qc_config.specs.declared.tuple.Tuple.{Tuple}
-use Rattle.qc_codec.specs.Form.{Form, Any, byte, pair, only, times, counted}
+use Rattle.qc_codec.specs.Form.{Form, Any, byte, pair, only, times}
 use Rattle.qc_codec.specs.Fields.{long, tuple}
 use Rattle.qc_codec.specs.Bodies.{is_between}
 use Rattle.qc_codec.proofs.Exact.{IsExact, exact_byte, exact_long, exact_pair, exact_as, exact_only, exact_times, exact_counted}
 use Rattle.qc_codec.proofs.Fields.{exact_tuple}
 use Rattle.qc_trail_codec.specs.Trail.{layout_of, base_of, parts_of_base, base, trail}
-use Rattle.qc_trail_codec.specs.Events.{entry}
 use Rattle.qc_trail_codec.proofs.Events.{exact_entry}
 
 parts : ℕ → Form (ℕ × (ℕ × List (List Tuple)))

@@ -1,7 +1,6 @@
 -- The body of a saved trail.
-use Rattle.std.specs.Prelude.{ℕ, List, [], ◌∷◌, length, slice_index_or}
+use Rattle.std.specs.Prelude.{ℕ, List, [], length, slice_index_or}
 use Rattle.qc_config.specs.declared.tuple.Tuple.{Tuple}
-use Rattle.qc_event.specs.declared.event.Entry.{Entry}
 use Rattle.qc_trail_codec.specs.declared.record.Trail.{Trail}
 use Rattle.qc_codec.specs.Form.{Form, Any, byte, pair, as_another, only, times, counted}
 use Rattle.qc_codec.specs.Fields.{Layout, long, tuple}

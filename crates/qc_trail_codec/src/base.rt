@@ -20,7 +20,12 @@ const COPIES: u8 = 16;
 const RECORDS: u8 = 64;
 
 // The tuples of a copy of so many records.
-fn row(cursor: &mut Cursor<'_>, alloc: Global, copies: u8, records: u8) -> Result<Vec<Tuple>, CodecNo>
+fn row(
+    cursor: &mut Cursor<'_>,
+    alloc: Global,
+    copies: u8,
+    records: u8,
+) -> Result<Vec<Tuple>, CodecNo>
     requires { copies ≤ 16 }
     ensures some { IfOk result (λ row. times_taken records (field.tuple (format_1 copies))
         cursor.old.rest.now ≡ Some (row.items, cursor.new.rest.now)) }

@@ -23,7 +23,12 @@ fn append<T: Copy>(items: &mut Vec<T>, item: T) -> Result<(), AllocError>
 }
 
 // So many entries.
-fn entries(cursor: &mut Cursor<'_>, alloc: Global, copies: u8, count: u64) -> Result<Entries, CodecNo>
+fn entries(
+    cursor: &mut Cursor<'_>,
+    alloc: Global,
+    copies: u8,
+    count: u64,
+) -> Result<Entries, CodecNo>
     requires { copies ≤ 16 }
     ensures { ReadsEach (events.entry (format_1 copies)) count result cursor.old cursor.new }
 {

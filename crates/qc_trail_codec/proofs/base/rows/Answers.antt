@@ -1,4 +1,4 @@
-use Rattle.std.proofs.Common.{◌+◌, ◌-◌, ◌++◌, ◌∷◌, [], List, map, ap, ◌∙◌, arith}
+use Rattle.std.proofs.Common.{◌+◌, ◌-◌, ◌∷◌, [], List, map, ap, ◌∙◌, arith}
 use Rattle.std.specs.Prelude.{length}
 use Rattle.std.proofs.lemmas.List.{map-append, length-append}
 use Rattle.std.proofs.lemmas.Result.{err_from_is_err_and}
@@ -19,7 +19,7 @@ returns-in_err-row-clause-taken c =
 pub loop-preserved : goal.loop-preserved
 loop-preserved c = record {
   same = ap (λ (xs : List (List Tuple)). continued xs (times_taken (c.args.copies - (c.loop.counter + 1)) (times c.args.records (field.tuple (format_1 c.args.copies))) c.row.new.cursor.rest.now))
-          (ap (λ rs. map (λ r. r.items) rs) c.in_ok-push.ensures.items ∙ map-append (λ r. r.items) c.loop.rows.items (c.in_ok-row.row ∷ []))
+      (ap (λ rs. map (λ r. r.items) rs) c.in_ok-push.ensures.items ∙ map-append (λ r. r.items) c.loop.rows.items (c.in_ok-row.row ∷ []))
       ∙ goes_on (times c.args.records (field.tuple (format_1 c.args.copies))) (map (λ r. r.items) c.loop.rows.items) c.args.copies c.loop.counter c.loop.cursor.rest.now c.row.new.cursor.rest.now c.in_ok-row.row.items _ c.loop-test.true c.in_ok-row.ensures.some c.loop.invariant.same;
   many = ap (λ rs. length rs) c.in_ok-push.ensures.items ∙ length-append c.loop.rows.items (c.in_ok-row.row ∷ []) ∙ omega (arith, c.loop.invariant.many);
 }
