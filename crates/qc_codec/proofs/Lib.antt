@@ -1,7 +1,7 @@
 pub mod Exact
 pub mod Fields
 pub mod Bodies
-mod Loops
-mod Fits
-mod Puts
-mod Whole
+pub mod Loops
+pub mod Fits
+pub mod Puts
+pub mod Whole

@@ -1,11 +1,12 @@
 //! Fields at the front of bytes.
-ghost use Rattle.std.specs.Prelude.{◌+◌, ◌<◌, ◌≤◌, length};
+ghost use Rattle.std.specs.Prelude.{◌≡◌, ◌+◌, ◌<◌, ◌≤◌, length, IfErr};
 ghost use Rattle.qc_names.specs.Name.{longest};
 ghost use Rattle.qc_codec.specs.Form.{byte, times_taken};
 ghost use Rattle.qc_codec.specs.Lists.{continued};
 ghost use Rattle.qc_codec.specs.Fields as field;
 ghost use Rattle.qc_codec.specs.Fields.{format_1};
 ghost use Rattle.qc_codec.specs.Gives.{Takes, Reads};
+ghost use Rattle.qc_codec.specs.declared.fault.CodecNo.TheVariants.{Bad};
 
 use crate::fault::CodecNo;
 use qc_config::{Config, Tuple};
@@ -16,13 +17,15 @@ const EPOCH: u64 = 0x1_0000_0000;
 
 /// Bytes that are taken from the front. Behind a refusal nothing is known of them.
 #[derive(Drop)]
-pub(crate) struct Cursor<'a> {
-    pub(crate) rest: &'a [u8],
+pub struct Cursor<'a> {
+    pub rest: &'a [u8],
 }
 
 impl<'a> Cursor<'a> {
-    pub(crate) fn byte(&mut self) -> Result<u8, CodecNo>
-        ensures { Reads byte result self.old self.new }
+    /// The next byte.
+    pub fn byte(&mut self) -> Result<u8, CodecNo>
+        ensures taken { Reads byte result self.old self.new }
+        ensures only_bad { IfErr result (λ e. e ≡ Bad) }
     {
         match self.rest {
             [] => Err(CodecNo::Bad),
@@ -33,9 +36,11 @@ impl<'a> Cursor<'a> {
         }
     }
 
+    /// A number of two bytes, the higher first.
     #[tactic(auto, unfolding(crate::specs::Fields::half))]
-    pub(crate) fn half(&mut self) -> Result<u16, CodecNo>
-        ensures { Reads field.half result self.old self.new }
+    pub fn half(&mut self) -> Result<u16, CodecNo>
+        ensures taken { Reads field.half result self.old self.new }
+        ensures only_bad { IfErr result (λ e. e ≡ Bad) }
     {
         if self.rest.len() < 2 {
             return Err(CodecNo::Bad);
@@ -45,9 +50,11 @@ impl<'a> Cursor<'a> {
         Ok(u16::from_be_bytes([front[0], front[1]]))
     }
 
+    /// A number of four bytes, the highest first.
     #[tactic(auto, unfolding(crate::specs::Fields::word))]
-    pub(crate) fn word(&mut self) -> Result<u32, CodecNo>
-        ensures { Reads field.word result self.old self.new }
+    pub fn word(&mut self) -> Result<u32, CodecNo>
+        ensures taken { Reads field.word result self.old self.new }
+        ensures only_bad { IfErr result (λ e. e ≡ Bad) }
     {
         if self.rest.len() < 4 {
             return Err(CodecNo::Bad);
@@ -57,9 +64,11 @@ impl<'a> Cursor<'a> {
         Ok(u32::from_be_bytes([front[0], front[1], front[2], front[3]]))
     }
 
+    /// A number of eight bytes, the highest first.
     #[tactic(auto, unfolding(crate::specs::Fields::long))]
-    pub(crate) fn long(&mut self) -> Result<u64, CodecNo>
-        ensures { Reads field.long result self.old self.new }
+    pub fn long(&mut self) -> Result<u64, CodecNo>
+        ensures taken { Reads field.long result self.old self.new }
+        ensures only_bad { IfErr result (λ e. e ≡ Bad) }
     {
         if self.rest.len() < 8 {
             return Err(CodecNo::Bad);
@@ -73,7 +82,8 @@ impl<'a> Cursor<'a> {
 
     /// A number that is not 0.
     pub(crate) fn some_number(&mut self) -> Result<u32, CodecNo>
-        ensures { Reads field.some_number result self.old self.new }
+        ensures taken { Reads field.some_number result self.old self.new }
+        ensures only_bad { IfErr result (λ e. e ≡ Bad) }
     {
         let number = self.word()?;
         if number == 0 {
@@ -84,7 +94,8 @@ impl<'a> Cursor<'a> {
 
     /// The number of a top.
     pub(crate) fn top_number(&mut self) -> Result<u64, CodecNo>
-        ensures { Reads field.top_number result self.old self.new }
+        ensures taken { Reads field.top_number result self.old self.new }
+        ensures only_bad { IfErr result (λ e. e ≡ Bad) }
     {
         let top = self.long()?;
         if top / EPOCH == 0 || top % EPOCH == 0 {
@@ -97,8 +108,9 @@ impl<'a> Cursor<'a> {
     fn steps(&mut self, first: &Name, more: u8) -> Result<Name, CodecNo>
         requires some { 0 < length first.now }
         requires room { length first.now + more ≤ longest }
-        ensures { Takes result self.new.rest.now
+        ensures taken { Takes result self.new.rest.now
             (continued first.now (times_taken more field.some_number self.old.rest.now)) }
+        ensures only_bad { IfErr result (λ e. e ≡ Bad) }
     {
         let mut name = *first;
         for _ in 0..more {
@@ -110,8 +122,9 @@ impl<'a> Cursor<'a> {
 
     /// A name of at least so many numbers.
     #[tactic(auto, unfolding(crate::specs::Fields::name))]
-    pub(crate) fn name(&mut self, least: u8) -> Result<Name, CodecNo>
-        ensures { Reads (field.name least) result self.old self.new }
+    pub fn name(&mut self, least: u8) -> Result<Name, CodecNo>
+        ensures taken { Reads (field.name least) result self.old self.new }
+        ensures only_bad { IfErr result (λ e. e ≡ Bad) }
     {
         let count = self.byte()?;
         if count == 0 || count < least || usize::from(count) > LONGEST {
@@ -123,9 +136,10 @@ impl<'a> Cursor<'a> {
 
     /// A legal configuration for so many copies.
     #[tactic(auto, unfolding(crate::specs::Fields::config))]
-    pub(crate) fn config(&mut self, copies: u8) -> Result<Config, CodecNo>
+    pub fn config(&mut self, copies: u8) -> Result<Config, CodecNo>
         requires { copies ≤ 16 }
-        ensures { Reads (field.config (format_1 copies)) result self.old self.new }
+        ensures taken { Reads (field.config (format_1 copies)) result self.old self.new }
+        ensures only_bad { IfErr result (λ e. e ≡ Bad) }
     {
         let count = self.byte()?;
         if count != copies || self.rest.len() < copies as usize {
@@ -141,10 +155,12 @@ impl<'a> Cursor<'a> {
         }
     }
 
+    /// A tuple, with a legal configuration for so many copies.
     #[tactic(auto, unfolding(crate::specs::Fields::tuple))]
-    pub(crate) fn tuple(&mut self, copies: u8) -> Result<Tuple, CodecNo>
+    pub fn tuple(&mut self, copies: u8) -> Result<Tuple, CodecNo>
         requires { copies ≤ 16 }
-        ensures { Reads (field.tuple (format_1 copies)) result self.old self.new }
+        ensures taken { Reads (field.tuple (format_1 copies)) result self.old self.new }
+        ensures only_bad { IfErr result (λ e. e ≡ Bad) }
     {
         let version = self.long()?;
         let value = self.long()?;

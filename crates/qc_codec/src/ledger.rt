@@ -1,5 +1,5 @@
 //! Records of the ledger.
-ghost use Rattle.std.specs.Prelude.{◌≡◌, [], ◌<◌, length, slice_index, IfOk, IsErrOf};
+ghost use Rattle.std.specs.Prelude.{◌≡◌, [], ◌<◌, length, slice_index, IfOk, IfErr, IsErrOf};
 ghost use Rattle.std.specs.List.{All};
 ghost use Rattle.qc_codec.specs.Fields as field;
 ghost use Rattle.qc_codec.specs.Bodies as body;
@@ -29,7 +29,8 @@ impl Cursor<'_> {
     // A name below a top.
     #[tactic(auto, unfolding(crate::specs::Bodies::below))]
     fn below(&mut self, top: u64) -> Result<Name, CodecNo>
-        ensures { Reads (body.below top) result self.old self.new }
+        ensures taken { Reads (body.below top) result self.old self.new }
+        ensures only_bad { IfErr result (λ e. e ≡ Bad) }
     {
         let name = self.name(2)?;
         if !is_below(top, &name) {

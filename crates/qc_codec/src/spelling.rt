@@ -1,4 +1,4 @@
-//! Fields behind bytes.
+//! Fields behind bytes, of which nothing is known behind an error.
 ghost use Rattle.std.specs.Prelude.{◌≡◌, ◌<◌, ◌≤◌, length};
 ghost use Rattle.qc_codec.specs.Fields as field;
 ghost use Rattle.qc_codec.specs.Fields.{format_1};
@@ -8,29 +8,33 @@ use qc_config::{Config, Tuple};
 use qc_event::Name;
 use std::alloc::AllocError;
 
+/// Writes a number of two bytes behind bytes, the higher first.
 #[tactic(auto, unfolding(crate::specs::Fields::half))]
-pub(crate) fn put_half(out: &mut Vec<u8>, number: u16) -> Result<(), AllocError>
+pub fn put_half(out: &mut Vec<u8>, number: u16) -> Result<(), AllocError>
     ensures { Puts field.half number result out.old.items out.new.items }
 {
     out.extend_from_slice(&number.to_be_bytes())
 }
 
+/// Writes a number of four bytes behind bytes, the highest first.
 #[tactic(auto, unfolding(crate::specs::Fields::word))]
-pub(crate) fn put_word(out: &mut Vec<u8>, number: u32) -> Result<(), AllocError>
+pub fn put_word(out: &mut Vec<u8>, number: u32) -> Result<(), AllocError>
     ensures { Puts field.word number result out.old.items out.new.items }
 {
     out.extend_from_slice(&number.to_be_bytes())
 }
 
+/// Writes a number of eight bytes behind bytes, the highest first.
 #[tactic(auto, unfolding(crate::specs::Fields::long))]
-pub(crate) fn put_long(out: &mut Vec<u8>, number: u64) -> Result<(), AllocError>
+pub fn put_long(out: &mut Vec<u8>, number: u64) -> Result<(), AllocError>
     ensures { Puts field.long number result out.old.items out.new.items }
 {
     out.extend_from_slice(&number.to_be_bytes())
 }
 
+/// Writes a configuration for so many copies behind bytes.
 #[tactic(auto, unfolding(crate::specs::Fields::config))]
-pub(crate) fn put_config(out: &mut Vec<u8>, copies: u8, config: &Config) -> Result<(), AllocError>
+pub fn put_config(out: &mut Vec<u8>, copies: u8, config: &Config) -> Result<(), AllocError>
     requires copies { copies ≤ 16 }
     requires same { length config.now.votes ≡ copies }
     ensures { Puts (field.config (format_1 copies)) config.now result out.old.items out.new.items }
@@ -43,8 +47,9 @@ pub(crate) fn put_config(out: &mut Vec<u8>, copies: u8, config: &Config) -> Resu
     put_half(out, config.write())
 }
 
+/// Writes a tuple, whose configuration is for so many copies, behind bytes.
 #[tactic(auto, unfolding(crate::specs::Fields::tuple))]
-pub(crate) fn put_tuple(out: &mut Vec<u8>, copies: u8, tuple: &Tuple) -> Result<(), AllocError>
+pub fn put_tuple(out: &mut Vec<u8>, copies: u8, tuple: &Tuple) -> Result<(), AllocError>
     requires copies { copies ≤ 16 }
     requires same { length tuple.now.config.votes ≡ copies }
     ensures { Puts (field.tuple (format_1 copies)) tuple.now result out.old.items out.new.items }
@@ -55,9 +60,9 @@ pub(crate) fn put_tuple(out: &mut Vec<u8>, copies: u8, tuple: &Tuple) -> Result<
     put_config(out, copies, &tuple.config)
 }
 
-/// A name, of at least one number. Its spelling is the same whatever least length a reader wants.
+/// Writes a name, of at least one number, behind bytes. Its spelling is the same whatever least length a reader wants.
 #[tactic(auto, unfolding(crate::specs::Fields::name))]
-pub(crate) fn put_name(out: &mut Vec<u8>, name: &Name) -> Result<(), AllocError>
+pub fn put_name(out: &mut Vec<u8>, name: &Name) -> Result<(), AllocError>
     requires { 0 < length name.now }
     ensures { Puts (field.name 1) name.now result out.old.items out.new.items }
 {

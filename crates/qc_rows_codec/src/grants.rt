@@ -11,7 +11,8 @@ use qc_trail_text::{BadLine, ConfigText, TupleText, Words};
 use std::alloc::Global;
 use std::io;
 
-fn print_op(rt: &HostRuntime, op: &Op) -> io::Result<()> {
+/// Prints an operation.
+pub(crate) fn print_op(rt: &HostRuntime, op: &Op) -> io::Result<()> {
     match *op {
         Op::Get => print!(rt; "get"),
         Op::PutData { version, value } => print!(rt; "put {version} {value}"),

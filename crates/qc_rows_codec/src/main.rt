@@ -3,9 +3,12 @@
 //! begin with `#`, are printed as they are.
 #![tactic(auto)]
 
+mod ends;
+mod events;
 mod grants;
 mod ledgers;
 mod mades;
+mod trails;
 
 use qc_codec::CodecNo;
 use qc_trail_text::{BadLine, Words};
@@ -44,6 +47,7 @@ fn answer(rt: &HostRuntime, alloc: Global, line: &str) -> Answer {
         "made" => mades::made(rt, alloc, words),
         "grant" => grants::grant(rt, alloc, words),
         "ledger" => ledgers::ledger(rt, alloc, words),
+        "trail" => trails::trail(rt, alloc, words),
         _ => Err(BadLine::Word),
     }
 }

@@ -11,9 +11,9 @@ pub returns-in_err-name : goal.returns-in_err-name
 returns-in_err-name c =
     let p = err_from_is_err_and c.from_residual.result c.from_residual.ensures.1 in
     rw (p.1, p.2)
-    (refused (body.below c.args.top) c.loop.names.items c.args.count c.loop.counter c.loop.self.rest.now _ c.in_err-name.field-0.0 c.loop-test.true c.in_err-name.ensures c.loop.invariant)
+    (refused (body.below c.args.top) c.loop.names.items c.args.count c.loop.counter c.loop.self.rest.now _ c.in_err-name.field-0.0 c.loop-test.true c.in_err-name.ensures.taken c.loop.invariant)
 
 pub loop-preserved : goal.loop-preserved
 loop-preserved c =
     ap (λ (xs : List Name). continued xs (times_taken (c.args.count - (c.loop.counter + 1)) (body.below c.args.top) c.below.new.self.rest.now)) c.in_ok-push.ensures.items
-    ∙ goes_on (body.below c.args.top) c.loop.names.items c.args.count c.loop.counter c.loop.self.rest.now c.below.new.self.rest.now c.in_ok-name.name _ c.loop-test.true c.in_ok-name.ensures c.loop.invariant
+    ∙ goes_on (body.below c.args.top) c.loop.names.items c.args.count c.loop.counter c.loop.self.rest.now c.below.new.self.rest.now c.in_ok-name.name _ c.loop-test.true c.in_ok-name.ensures.taken c.loop.invariant

@@ -1,0 +1,5 @@
+mod Marks
+mod Reasons
+mod Events
+mod Saved
+mod Fits

@@ -1,0 +1,119 @@
+//! Operations, and what transactions are for.
+ghost use Rattle.std.specs.Prelude.{◌≤◌};
+ghost use Rattle.qc_codec.specs.Fields.{format_1};
+ghost use Rattle.qc_codec.specs.Form.{byte};
+ghost use Rattle.qc_codec.specs.Gives.{Reads, Puts};
+ghost use Rattle.qc_trail_codec.specs.Events as events;
+
+use qc_codec::{CodecNo, Cursor, put_config, put_long, put_word};
+use qc_config::Op;
+use qc_event::Kind;
+use std::alloc::AllocError;
+
+/// Writes a byte behind bytes, which stay as they are behind an error.
+pub(crate) fn put_byte(out: &mut Vec<u8>, number: u8) -> Result<(), AllocError>
+    ensures { Puts byte number result out.old.items out.new.items }
+{
+    out.push(number)?;
+    Ok(())
+}
+
+/// The operation at a cursor.
+#[tactic(auto, unfolding(crate::specs::Events::op))]
+pub(crate) fn op(cursor: &mut Cursor<'_>, copies: u8) -> Result<Op, CodecNo>
+    requires { copies ≤ 16 }
+    ensures { Reads (events.op (format_1 copies)) result cursor.old cursor.new }
+{
+    match cursor.byte()? {
+        0 => Ok(Op::Get),
+        1 => Ok(Op::PutData {
+            version: cursor.long()?,
+            value: cursor.long()?,
+        }),
+        2 => Ok(Op::PutConfig {
+            generation: cursor.long()?,
+            config: cursor.config(copies)?,
+        }),
+        _ => Err(CodecNo::Bad),
+    }
+}
+
+/// Writes an operation behind bytes, of which nothing is known behind an error.
+#[tactic(auto, using(qc_codec::proofs::Fits::config_votes), unfolding(crate::specs::Events::op))]
+pub(crate) fn put_op(out: &mut Vec<u8>, copies: u8, op: &Op) -> Result<(), AllocError>
+    requires copies { copies ≤ 16 }
+    requires fits { (events.op (format_1 copies)).fits op.now }
+    ensures { Puts (events.op (format_1 copies)) op.now result out.old.items out.new.items }
+{
+    match op {
+        Op::Get => put_byte(out, 0),
+        Op::PutData { version, value } => {
+            out.push(1)?;
+            put_long(out, *version)?;
+            put_long(out, *value)
+        }
+        Op::PutConfig { generation, config } => {
+            out.push(2)?;
+            put_long(out, *generation)?;
+            put_config(out, copies, config)
+        }
+    }
+}
+
+/// What the transaction at a cursor is for.
+#[tactic(auto, unfolding(crate::specs::Events::kind))]
+pub(crate) fn kind(cursor: &mut Cursor<'_>, copies: u8) -> Result<Kind, CodecNo>
+    requires { copies ≤ 16 }
+    ensures { Reads (events.kind (format_1 copies)) result cursor.old cursor.new }
+{
+    match cursor.byte()? {
+        0 => Ok(Kind::User {
+            session: cursor.byte()?,
+            body: cursor.word()?,
+        }),
+        1 => Ok(Kind::Read {
+            rec: cursor.byte()?,
+        }),
+        2 => Ok(Kind::Write {
+            rec: cursor.byte()?,
+            value: cursor.long()?,
+        }),
+        3 => Ok(Kind::Reconf {
+            rec: cursor.byte()?,
+            config: cursor.config(copies)?,
+        }),
+        4 => Ok(Kind::Access),
+        _ => Err(CodecNo::Bad),
+    }
+}
+
+/// Writes what a transaction is for behind bytes, of which nothing is known behind an error.
+#[tactic(auto, using(qc_codec::proofs::Fits::config_votes), unfolding(crate::specs::Events::kind))]
+pub(crate) fn put_kind(out: &mut Vec<u8>, copies: u8, kind: &Kind) -> Result<(), AllocError>
+    requires copies { copies ≤ 16 }
+    requires fits { (events.kind (format_1 copies)).fits kind.now }
+    ensures { Puts (events.kind (format_1 copies)) kind.now result out.old.items out.new.items }
+{
+    match kind {
+        Kind::User { session, body } => {
+            out.push(0)?;
+            out.push(*session)?;
+            put_word(out, *body)
+        }
+        Kind::Read { rec } => {
+            out.push(1)?;
+            put_byte(out, *rec)
+        }
+        Kind::Write { rec, value } => {
+            out.push(2)?;
+            out.push(*rec)?;
+            put_long(out, *value)
+        }
+        Kind::Reconf { rec, config } => {
+            out.push(3)?;
+            out.push(*rec)?;
+            put_config(out, copies, config)
+        }
+        Kind::Access => put_byte(out, 4),
+    }
+}

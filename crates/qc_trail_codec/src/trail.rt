@@ -1,0 +1,100 @@
+//! Saved trails.
+ghost use Rattle.std.specs.Prelude.{◌≡◌, ◌≤◌, [], ◌∷◌, ◌++◌, IfOk, IsErrOf, OnOk};
+ghost use Rattle.std.specs.List.{All};
+ghost use Rattle.qc_codec.specs.Fields.{format_1};
+ghost use Rattle.qc_codec.specs.Gives.{Reads, ReadsEach, ReadsAll, Spells, SpellsNone, PutsEach};
+ghost use Rattle.qc_codec.specs.declared.fault.CodecNo.TheVariants.{Bad};
+ghost use Rattle.qc_trail_codec.specs.Events as events;
+ghost use Rattle.qc_trail_codec.specs.Trail as saved;
+
+use crate::base::{base, put_base};
+use crate::event::{entry, put_entry};
+use crate::record::{Entries, Trail};
+use qc_codec::{CodecNo, Cursor, put_long};
+use qc_event::{Base, Entry};
+use std::alloc::{AllocError, Global};
+
+// A generic push: one at the type of entries gets no proof today.
+fn append<T: Copy>(items: &mut Vec<T>, item: T) -> Result<(), AllocError>
+    ensures { OnOk result (items.new.items ≡ items.old.items ++ item ∷ []) }
+{
+    items.push(item)?;
+    Ok(())
+}
+
+// So many entries.
+fn entries(
+    cursor: &mut Cursor<'_>,
+    alloc: Global,
+    copies: u8,
+    count: u64,
+) -> Result<Entries, CodecNo>
+    requires { copies ≤ 16 }
+    ensures { ReadsEach (events.entry (format_1 copies)) count result cursor.old cursor.new }
+{
+    let mut entries = Vec::new(alloc);
+    for _ in 0..count {
+        // A `?` in place of the match gets no proof today.
+        match entry(cursor, copies) {
+            Ok(entry) => append(&mut entries, entry)?,
+            Err(fault) => return Err(fault),
+        }
+    }
+    Ok(Entries::new(entries))
+}
+
+#[tactic(auto, unfolding(crate::specs::Trail::trail))]
+fn trail(cursor: &mut Cursor<'_>, alloc: Global) -> Result<Trail, CodecNo>
+    ensures { Reads (saved.trail 1) result cursor.old cursor.new }
+{
+    let base = base(cursor, alloc)?;
+    let count = cursor.long()?;
+    let entries = entries(cursor, alloc, base.copies() as u8, count)?;
+    Ok(Trail { base, entries })
+}
+
+fn all(alloc: Global, bytes: &[u8]) -> Result<Trail, CodecNo>
+    ensures { ReadsAll (saved.trail 1) result bytes.now }
+{
+    let mut cursor = Cursor { rest: bytes };
+    let trail = trail(&mut cursor, alloc)?;
+    if !cursor.rest.is_empty() {
+        return Err(CodecNo::Bad);
+    }
+    Ok(trail)
+}
+
+/// The saved trail that the bytes are.
+pub fn read_trail(alloc: Global, bytes: &[u8]) -> Result<Trail, CodecNo>
+    ensures exact { ReadsAll (saved.trail 1) result bytes.now }
+    ensures found { IfOk result (Spells (saved.trail 1) bytes.now) }
+    ensures bad { IsErrOf result Bad → SpellsNone (saved.trail 1) bytes.now }
+{
+    all(alloc, bytes)
+}
+
+fn put_entries(out: &mut Vec<u8>, copies: u8, entries: &[Entry]) -> Result<(), AllocError>
+    requires copies { copies ≤ 16 }
+    requires fits { All (events.entry (format_1 copies)).fits entries.now }
+    ensures { PutsEach (events.entry (format_1 copies)) entries.now result
+        out.old.items out.new.items }
+{
+    for entry in entries {
+        put_entry(out, copies, entry)?;
+    }
+    Ok(())
+}
+
+/// The bytes of a trail: what a run started from, and its entries.
+#[tactic(auto, using(crate::proofs::Fits::base_most), unfolding(crate::specs::Trail::trail))]
+pub fn write_trail(alloc: Global, base: &Base, entries: &[Entry]) -> Result<Vec<u8>, AllocError>
+    requires proper { (saved.trail 1).fits (record { base = base.now; entries = entries.now }) }
+    ensures { IfOk result (λ bytes. Spells (saved.trail 1) bytes.items
+        (record { base = base.now; entries = entries.now })) }
+{
+    let mut out = Vec::new(alloc);
+    put_base(&mut out, base)?;
+    put_long(&mut out, entries.len() as u64)?;
+    put_entries(&mut out, base.copies() as u8, entries)?;
+    Ok(out)
+}
