@@ -1,6 +1,7 @@
 ghost use Rattle.std.specs.Prelude.{◌≡◌, ◌≤◌, ◌↔◌, ◌∷◌, [], IsTrue, IsErrOf, IfOk, OnOk, OnErr, reverse, length};
 ghost use Rattle.qc_event.specs.Base.{first_of, IsProper};
-ghost use Rattle.qc_event.specs.History.{limit};
+ghost use Rattle.qc_event.specs.Dead.{outcome as outcome_in};
+ghost use Rattle.qc_event.specs.History.{limit, end};
 ghost use Rattle.qc_event.specs.Legal.{Allowed, Legal};
 ghost use Rattle.qc_event.specs.Seats.{is_client};
 ghost use Rattle.qc_line.specs.Lined.{IsOfTransaction};
@@ -8,7 +9,7 @@ ghost use Rattle.qc_net.specs.Messages.{meets_fates};
 
 use crate::access::{NextAccess, access, is_cut_off};
 use qc_config::{Config, Op};
-use qc_event::{Base, Entry, Name, Short};
+use qc_event::{Base, Entry, How, Name, Outcome, Short};
 use qc_gather::{Carried, Carrier, CarryNo};
 use qc_net::{Courier, Fate, PlanLink};
 use qc_store::Store;
@@ -118,6 +119,20 @@ impl Line {
         ensures { result ≡ first_of self.now.setting rec }
     {
         self.store.first(rec)
+    }
+
+    /// How a name stands, in a step for each number of the name.
+    pub fn outcome(&self, name: &Name) -> Outcome
+        ensures { result ≡ outcome_in self.now.past name.now }
+    {
+        self.store.outcome(name)
+    }
+
+    /// How a name ended, where it did, in a step for each number of the name.
+    pub fn ended(&self, name: &Name) -> Option<How>
+        ensures { result ≡ end self.now.past name.now }
+    {
+        self.store.ended(name)
     }
 
     /// Whether the history takes no more entries.

@@ -1,4 +1,5 @@
 use crate::setting::Setting;
+use crate::settlement::Settlement;
 use crate::wrong::Wrong;
 use qc_copy::CopyState;
 use qc_event::{Ask, Base, Config, Entry, Log, Name, Op, Row, Tuple, Val};
@@ -122,6 +123,14 @@ impl Case {
         Ok(())
     }
 
+    fn settle(&mut self, settlement: &Settlement) {
+        for rec in 0..=u8::MAX {
+            if usize::from(rec) < self.copy.locks().records() {
+                self.copy.settle_by(rec, settlement);
+            }
+        }
+    }
+
     /// Does what a line says that sets up the case.
     pub fn set(&mut self, setting: Setting) -> Result<(), Wrong> {
         match setting {
@@ -132,7 +141,7 @@ impl Case {
             Setting::Copy(copy) => self.begin(copy),
             Setting::Grant { access, rec, op } => self.grant(&access, rec, &op),
             Setting::Settle(name, outcome) => {
-                self.copy.settle(&name, outcome);
+                self.settle(&Settlement { name, outcome });
                 Ok(())
             }
         }

@@ -20,6 +20,7 @@ mod locks;
 mod orders;
 mod question;
 mod setting;
+mod settlement;
 mod told;
 mod wrong;
 

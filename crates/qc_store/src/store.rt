@@ -1,7 +1,7 @@
 ghost use Rattle.std.specs.Prelude.{◌≡◌, ◌≤◌, ◌<◌, ◌↔◌, ◌∷◌, [], not, IsTrue, IsErrOf, IfOk, OnOk, OnErr, reverse, length};
 ghost use Rattle.qc_event.specs.Base.{first_of, IsProper};
-ghost use Rattle.qc_event.specs.Dead.{dead as dead_in};
-ghost use Rattle.qc_event.specs.History.{limit, children};
+ghost use Rattle.qc_event.specs.Dead.{dead as dead_in, outcome as outcome_in};
+ghost use Rattle.qc_event.specs.History.{limit, children, end};
 ghost use Rattle.qc_event.specs.Legal.{Allowed, Legal};
 ghost use Rattle.qc_store.specs.Served as served;
 ghost use Rattle.qc_store.specs.Sites.{is_grant, AreSites};
@@ -10,7 +10,9 @@ use crate::history::History;
 use qc_config::Config;
 use qc_copy::{CopyState, Indexed};
 use qc_desk::Outcomes;
-use qc_event::{Answered, Ask, Base, Entry, Event, Grant, Name, Refusal, Short, Tuple, copy_seat};
+use qc_event::{
+    Answered, Ask, Base, Entry, Event, Grant, How, Name, Outcome, Refusal, Short, Tuple, copy_seat,
+};
 use qc_net::Port;
 use std::alloc::{AllocError, Global};
 use std::marker::Model;
@@ -167,6 +169,20 @@ impl Store {
         ensures { result ≡ dead_in self.now.past name.now }
     {
         self.log.index().dead(name)
+    }
+
+    /// How a name stands, in a step for each number of the name.
+    pub fn outcome(&self, name: &Name) -> Outcome
+        ensures { result ≡ outcome_in self.now.past name.now }
+    {
+        self.log.index().outcome(name)
+    }
+
+    /// How a name ended, where it did, in a step for each number of the name.
+    pub fn ended(&self, name: &Name) -> Option<How>
+        ensures { result ≡ end self.now.past name.now }
+    {
+        self.log.ended(name)
     }
 
     /// How many children of a name have started, in a step for each number of the name.
