@@ -1,9 +1,9 @@
 -- That a client stays alone, one entry after another.
-use Rattle.std.proofs.Common.{◌≡◌, ℕ, ◌+◌, ◌*◌, ◌^◌, ◌/◌, ◌%◌, ◌<◌, ◌≤◌, ◌⊎◌, inl, inr, Bool, true, false, List, [], ◌∷◌, ◌++◌, length, refl, sym, ap, ◌∙◌, subst, arith, append-nil}
+use Rattle.std.proofs.Common.{◌≡◌, ℕ, ◌+◌, ◌*◌, ◌^◌, ◌/◌, ◌%◌, ◌<◌, ◌≤◌, ◌⊎◌, inl, inr, Bool, true, false, [], ◌∷◌, ◌++◌, length, refl, sym, ap, ◌∙◌, subst, arith, append-nil}
 use mathlib.Core.Bool.{true≢false}
-use Rattle.std.specs.Prelude.{Option, None, Some, MatchOption, is_some, ◌&&◌, ◌||◌, ◌==◌, not, IsTrue, All, option_to_list, nat_le, ◌↔◌}
-use Rattle.std.specs.List.{list_all, AllByRecursion}
-use Rattle.std.specs.Option.{option_map_or, option_or}
+use Rattle.std.specs.Prelude.{Option, None, Some, MatchOption, is_some, ◌&&◌, ◌||◌, ◌==◌, IsTrue, All, option_to_list, nat_le, ◌↔◌}
+use Rattle.std.specs.List.{AllByRecursion}
+use Rattle.std.specs.Option.{option_map_or}
 use Rattle.std.proofs.lemmas.Bool.{eq-eqb, eqb-true, and_parts, false_from_ne_true}
 use Rattle.std.proofs.lemmas.Bool.Decides.{nat_tests}
 use Rattle.std.proofs.lemmas.List.{length-append}
@@ -12,8 +12,6 @@ use Rattle.qc_names.specs.Name as name
 use Rattle.qc_event.specs.Base.{Setting}
 use Rattle.qc_event.specs.Aborts.{Licensed}
 use Rattle.qc_event.specs.Commits.{MayCommit}
-use Rattle.qc_event.specs.declared.event.Answer.{Answer}
-use Rattle.qc_event.specs.declared.event.Cause.{Cause}
 use Rattle.qc_event.specs.declared.event.Entry.{Entry}
 use Rattle.qc_event.specs.declared.event.Event.{Event}
 use Rattle.qc_event.specs.declared.event.Event.TheVariants as event
@@ -21,29 +19,28 @@ use Rattle.qc_event.specs.declared.event.How.{How}
 use Rattle.qc_event.specs.declared.event.How.TheVariants.{Commit, Abort}
 use Rattle.qc_event.specs.declared.event.Kind.{Kind}
 use Rattle.qc_event.specs.declared.event.Kind.TheVariants as kind
-use Rattle.qc_event.specs.History.{Past, Name, Begun, Asked, every, start, start_in, end, asked, is_child}
+use Rattle.qc_event.specs.History.{Past, Name, Begun, Asked, every, start, end, asked, is_child}
 use Rattle.qc_event.specs.Legal.{Legal, Allowed, MayEnd, MayHappen}
-use Rattle.qc_event.specs.Seats.{ledger_seat, copy_seat}
-use Rattle.qc_event.specs.Standing.{IsUser, IsManager, Started, open_child}
+use Rattle.qc_event.specs.Standing.{IsManager, Started, open_child}
 use Rattle.qc_event.specs.Starts.{Stands}
-use Rattle.qc_event.proofs.LastNumber.{EndsIn, child_last, front_last, ends_in}
+use Rattle.qc_event.proofs.LastNumber.{EndsIn, front_last, ends_in}
 use Rattle.qc_event.proofs.Lawful.{started_wider, started_some, no_open_child, lawful}
 use Rattle.qc_event.proofs.LegalAgain.{legal_again}
 use Rattle.qc_event.proofs.LegalOrderly.{legal_orderly}
-use Rattle.qc_event.proofs.OneEntry.{Starting, Ending, start_step, start_is, end_step, end_stays, some_or_none, unless_some}
+use Rattle.qc_event.proofs.OneEntry.{Starting, start_step, start_is, end_step, end_stays, some_or_none, unless_some}
 use Rattle.qc_event.proofs.Lawful.{some_how}
-use Rattle.qc_client.specs.Alone.{view_of, IsLoneClient, IsAlone, IsKept}
+use Rattle.qc_client.specs.Alone.{view_of, IsAlone, IsKept}
 use Rattle.qc_client.specs.Entering.{MayEndNow, MayEnter, SameLine, HasAsked}
 use Rattle.qc_client.proofs.Made.{own_is}
 use Rattle.qc_interp.specs.Alone.{is_lone, AreLone, AccessesEnd}
 use Rattle.qc_client.proofs.Names.{child_longer, child_front, no_child_length}
-use Rattle.qc_client.proofs.Standing.{not_both, not_access_too, start_same, started_same, no_user_below, access_of, manager_above, SaysSeat, asked_seat}
+use Rattle.qc_client.proofs.Standing.{not_both, not_access_too, start_same, access_of, manager_above, SaysSeat, asked_seat}
 use Rattle.qc_client.proofs.OfAccesses.{OfManager, answer_replies, end_apart, start_apart, stands_there, accesses_do}
 use Rattle.qc_gather.specs.Carrying.{IsRunning, HasGrown, name_of}
 use Rattle.qc_line.specs.Lined.{Lined, IsOfTransaction, IsNoAccess, is_able, all_able}
 use Rattle.qc_script.specs.Calls.{IsOfAccess, is_access, by_client}
 use Rattle.qc_script.specs.Plan.{KindFits}
-use Rattle.qc_script.specs.Client.{Client, View, is_own, is_commit}
+use Rattle.qc_script.specs.Client.{Client, View, is_own}
 use Rattle.qc_script.specs.Numbers.{each, any_top, is_next_top, next_top}
 use Rattle.qc_store.specs.Served.{is_reply, is_answer}
 

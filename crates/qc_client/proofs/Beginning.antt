@@ -1,6 +1,6 @@
 -- What a client makes as it begins a user transaction.
-use Rattle.std.proofs.Common.{◌≡◌, ℕ, ◌+◌, ◌<◌, Bool, true, false, [], ◌∷◌, ◌++◌, length, refl, sym, ap, ◌∙◌, subst, arith}
-use Rattle.std.specs.Prelude.{Option, None, Some, Result, Ok, Err, IfOk, IfErr, OnErr, IsTrue, not, ◌==◌, ◌||◌, ◌&&◌}
+use Rattle.std.proofs.Common.{◌≡◌, ℕ, ◌<◌, Bool, true, false, [], ◌∷◌, length, refl, sym, ap, ◌∙◌, subst, arith}
+use Rattle.std.specs.Prelude.{Result, Ok, Err, IfOk, IfErr, OnErr, IsTrue, not, ◌==◌, ◌||◌, ◌&&◌}
 use Rattle.std.specs.Option.{option_map_or}
 use Rattle.std.proofs.lemmas.Bool.{eq-eqb}
 use Rattle.qc_event.specs.declared.event.Event.{Event}
@@ -13,9 +13,9 @@ use Rattle.qc_client.specs.Entering.{StopsOrShort, IsShort, HasStarted}
 use Rattle.qc_client.proofs.Ending.{one_made, none_made}
 use Rattle.qc_client.proofs.Refusals.{was_refused}
 use Rattle.qc_client.proofs.Starting.{no_top}
-use Rattle.qc_script.specs.Calls.{Began, WasRefused, Refuses, by_client}
+use Rattle.qc_script.specs.Calls.{Began, WasRefused, by_client}
 use Rattle.qc_script.specs.Client.{Client, View, is_own}
-use Rattle.qc_script.specs.Numbers.{each, any_top, is_next_top, own_next, next_top, Numbers}
+use Rattle.qc_script.specs.Numbers.{any_top, is_next_top, own_next, next_top, Numbers}
 use Rattle.qc_script.specs.declared.tx.TxNo.{TxNo}
 use Rattle.qc_script.specs.declared.tx.TxNo.TheVariants as tx_no
 

@@ -1,5 +1,5 @@
 -- That a client alone followed the bodies that it ran.
-use Rattle.std.proofs.Common.{◌≡◌, List, [], sym, ap, ◌∙◌, subst}
+use Rattle.std.proofs.Common.{◌≡◌, List, [], subst}
 use Rattle.std.specs.Prelude.{Option, None, Some, MatchOption, Result, Ok, Err, OnOk, IsTrue}
 use Rattle.qc_event.specs.declared.log.Short.{Short}
 use Rattle.qc_event.specs.History.{Past}

@@ -1,11 +1,10 @@
 -- A manager from its start to its end.
-use Rattle.std.proofs.Common.{◌≡◌, ℕ, ◌+◌, ◌<◌, ◌⊎◌, inl, inr, true, false, [], ◌∷◌, ◌++◌, length, refl, sym, ap, ◌∙◌, subst, arith, append_assoc}
-use Rattle.std.specs.Prelude.{Option, None, Some, MatchOption, Result, Ok, Err, IfOk, IfErr, is_some, is_none, find, filter, option_to_list, not, IsTrue, All, if◌then◌else◌}
+use Rattle.std.proofs.Common.{◌≡◌, ℕ, ◌+◌, ◌<◌, inl, inr, true, false, [], ◌∷◌, ◌++◌, length, refl, sym, ap, ◌∙◌, subst, arith, append_assoc}
+use Rattle.std.specs.Prelude.{Option, None, Some, MatchOption, Result, Ok, Err, IfOk, IfErr, is_some, is_none, find, option_to_list, not, IsTrue, All, if◌then◌else◌}
 use Rattle.std.specs.List.{AllByRecursion}
 use Rattle.std.specs.Option.{option_or}
-use Rattle.std.proofs.lemmas.Bool.{false_from_ne_true, eq-eqb}
-use Rattle.std.proofs.lemmas.List.Elements.{All-head, All-tail, filter-append}
-use Rattle.qc_names.specs.Name as name
+use Rattle.std.proofs.lemmas.Bool.{false_from_ne_true}
+use Rattle.std.proofs.lemmas.List.Elements.{filter-append}
 use Rattle.qc_event.specs.Aborts.{ManagerCause, Licensed}
 use Rattle.qc_event.specs.Base.{Setting}
 use Rattle.qc_event.specs.Commits.{MayCommitManager, MayCommit}
@@ -21,9 +20,8 @@ use Rattle.qc_event.specs.declared.event.Kind.TheVariants as kind
 use Rattle.qc_event.specs.Dead.{dead, outcome_of, is_aborted}
 use Rattle.qc_event.specs.History.{Past, Name, Begun, start, start_in, end, is_ready, is_child, children}
 use Rattle.qc_event.specs.Legal.{Legal, Allowed, MayEnd}
-use Rattle.qc_event.specs.Manager.{is_complete, first_for}
 use Rattle.qc_event.specs.Seats.{is_client}
-use Rattle.qc_event.specs.Standing.{IsGoing, IsUser, IsManager, IsOrphanOf, Started, open_child}
+use Rattle.qc_event.specs.Standing.{IsUser, IsManager, IsOrphanOf, Started}
 use Rattle.qc_event.proofs.Absent.{same_itself}
 use Rattle.qc_event.proofs.Histories.{or_none}
 use Rattle.qc_event.proofs.LastNumber.{length_last, is_child-last}
@@ -36,15 +34,14 @@ use Rattle.qc_rw.specs.Managed.{IsAnswered, IsRefused, MayEndFor, IsShort, cause
 use Rattle.qc_rw.specs.declared.no.MgrNo.{MgrNo}
 use Rattle.qc_rw.specs.declared.no.MgrNo.TheVariants as no
 use Rattle.qc_script.specs.Calls.{Ran, WasCut, GaveNone, IsOfAccess, is_asked, by_client}
-use Rattle.qc_script.specs.Plan.{KindFits}
-use Rattle.qc_script.specs.Client.{Client, View, Made, mine, is_own}
+use Rattle.qc_script.specs.Client.{Client, View, mine, is_own}
 use Rattle.qc_script.specs.declared.tx.TxNo.{TxNo}
 use Rattle.qc_script.specs.declared.tx.TxNo.TheVariants as tx_no
 use Rattle.qc_store.specs.Served.{is_answer}
 use Rattle.qc_client.specs.Alone.{IsAlone}
 use Rattle.qc_client.specs.Entering.{MayEnter, IsClear, HasStarted, ending_of, aborting, told, ended, Closed, NotClosed, WasAborted}
 use Rattle.qc_client.specs.Entering as entering
-use Rattle.qc_client.proofs.Alone.{manager_fits, own_lone}
+use Rattle.qc_client.proofs.Alone.{own_lone}
 use Rattle.qc_client.proofs.Fallen.{dead_same, no_orphan}
 use Rattle.qc_client.proofs.Made.{mine_one, mine_own, own_is}
 use Rattle.qc_client.proofs.Names.{no_child_length, begins_short}

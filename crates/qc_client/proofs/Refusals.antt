@@ -9,7 +9,6 @@ use Rattle.qc_event.specs.declared.event.Event.{Event}
 use Rattle.qc_event.specs.declared.event.Event.TheVariants as event
 use Rattle.qc_event.specs.declared.event.How.{How}
 use Rattle.qc_event.specs.declared.event.How.TheVariants.{Commit, Abort}
-use Rattle.qc_event.specs.declared.event.Kind.{Kind}
 use Rattle.qc_event.specs.Dead.{outcome_of, is_aborted, dead}
 use Rattle.qc_event.specs.History.{Past, Name, start, end, is_child, child_in, children}
 use Rattle.qc_event.specs.Standing.{IsAbort, open_child}

@@ -1,11 +1,9 @@
 -- Where accesses stand: below a manager, under its seat, and none is a user transaction or a manager itself.
-use Rattle.std.proofs.Common.{◌≡◌, ℕ, ◌+◌, ◌<◌, ◌⊎◌, inl, inr, Bool, true, false, [], ◌∷◌, ◌++◌, length, refl, sym, ap, ◌∙◌, subst, arith}
+use Rattle.std.proofs.Common.{◌≡◌, ◌<◌, inl, inr, Bool, true, false, [], ◌∷◌, ◌++◌, length, refl, sym, ap, ◌∙◌, subst}
 use mathlib.Core.Bool.{true≢false}
 use Rattle.std.specs.Prelude.{Option, None, Some, MatchOption, is_some, IsTrue, if◌then◌else◌}
 use Rattle.std.specs.Option.{option_or}
 use Rattle.qc_names.specs.Name as name
-use Rattle.qc_event.specs.declared.event.Ask.{Ask}
-use Rattle.qc_event.specs.declared.event.Entry.{Entry}
 use Rattle.qc_event.specs.declared.event.Event.{Event}
 use Rattle.qc_event.specs.declared.event.Event.TheVariants as event
 use Rattle.qc_event.specs.declared.event.Kind.{Kind}
@@ -13,17 +11,15 @@ use Rattle.qc_event.specs.declared.event.Kind.TheVariants as kind
 use Rattle.qc_event.specs.Base.{Setting}
 use Rattle.qc_event.specs.History.{Past, Name, Begun, Asked, same, start, start_in, asked, ask_in, is_ready, is_child}
 use Rattle.qc_event.specs.Legal.{Legal, MayHappen}
-use Rattle.qc_event.specs.Requests.{MayAsk}
 use Rattle.qc_event.specs.Standing.{IsUser, IsManager, Started}
 use Rattle.qc_event.specs.Starts.{Stands, Starts}
-use Rattle.qc_event.specs.Users.{MayReady, MayStartNext}
+use Rattle.qc_event.specs.Users.{MayReady}
 use Rattle.qc_event.proofs.Absent.{same_is}
-use Rattle.qc_event.proofs.LastNumber.{child_last, front_last}
-use Rattle.qc_event.proofs.Lawful.{Lawful, lawful, user_parent, started_wider, started_some}
+use Rattle.qc_event.proofs.LastNumber.{child_last}
+use Rattle.qc_event.proofs.Lawful.{lawful, user_parent, started_wider, started_some}
 use Rattle.qc_event.proofs.LegalOrderly.{legal_orderly}
 use Rattle.qc_event.proofs.Orderly.{Belongs}
-use Rattle.qc_event.proofs.OneEntry.{Starting, start_step, start_stays, start_is, started_stays, ready_step, first_some}
-use Rattle.qc_client.proofs.Names.{child_longer}
+use Rattle.qc_event.proofs.OneEntry.{Starting, start_step, start_is, started_stays, ready_step}
 use Rattle.qc_script.specs.Calls.{is_access}
 
 -- KINDS

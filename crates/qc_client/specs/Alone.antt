@@ -6,7 +6,7 @@ use Rattle.qc_event.specs.Seats.{is_client}
 use Rattle.qc_interp.specs.Alone.{AreLone, AccessesEnd}
 use Rattle.qc_interp.specs.FollowsScript.{FollowsScript}
 use Rattle.qc_line.specs.Lined.{Lined}
-use Rattle.qc_net.specs.Messages.{Net, meets_fates}
+use Rattle.qc_net.specs.Messages.{meets_fates}
 use Rattle.qc_script.specs.Client.{Client, View}
 use Rattle.qc_script.specs.Numbers.{each, any_top, is_next_top}
 use Rattle.qc_script.specs.Plan.{Numbered}

@@ -1,9 +1,3 @@
-use Rattle.std.proofs.Common.{◌≡◌, refl, sym, ap, ◌∙◌, ◌∷◌, subst}
-use Rattle.std.specs.Prelude.{Result, Ok, Err, OnOk, IfErr}
-use Rattle.qc_event.specs.declared.event.Event.TheVariants as event
-use Rattle.qc_event.specs.declared.event.How.TheVariants.{Abort}
-use Rattle.qc_event.specs.History.{Past, Name}
-use Rattle.qc_script.specs.Client.{Client, View}
 use Rattle.qc_client.proofs.Ending.{all_aborts, all_not_aborted}
 use Rattle.qc_client.proofs.calls.LoneClientTx.abort.Goals as goal
 

@@ -1,12 +1,11 @@
-use Rattle.std.proofs.Common.{◌≡◌, ◌+◌, ◌<◌, ◌∷◌, [], length, refl, sym, subst, arith, ap, ◌∙◌}
+use Rattle.std.proofs.Common.{length, sym, subst, arith}
 use Rattle.qc_event.specs.declared.event.Kind.TheVariants as kind
 use Rattle.qc_event.specs.Legal.{Legal}
 use Rattle.qc_script.specs.Client.{View}
 use Rattle.qc_event.specs.Starts.{Starts}
 use Rattle.qc_event.proofs.LegalAgain.{legal_again}
-use Rattle.qc_client.specs.Alone.{view_of, IsKept}
-use Rattle.qc_client.specs.Entering.{SameLine}
-use Rattle.qc_client.proofs.Alone.{same_view, kept_top, may_start_top, tops_fit, not_full}
+use Rattle.qc_client.specs.Alone.{view_of}
+use Rattle.qc_client.proofs.Alone.{may_start_top, tops_fit, not_full}
 use Rattle.qc_client.proofs.lone.LoneClient.begin_top.Goals as goal
 
 pub overflow_add-self-inside : goal.overflow_add-self-inside

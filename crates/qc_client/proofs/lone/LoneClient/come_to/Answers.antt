@@ -1,7 +1,7 @@
 use Rattle.std.proofs.Common.{sym, subst}
 use Rattle.qc_event.proofs.LegalAgain.{legal_again}
 use Rattle.qc_client.proofs.Alone.{kept_carried}
-use Rattle.qc_gather.specs.Carrying.{IsRunning, HasGrown}
+use Rattle.qc_gather.specs.Carrying.{IsRunning}
 use Rattle.qc_script.specs.Plan.{KindFits}
 use Rattle.qc_script.specs.Client.{View}
 use Rattle.qc_client.proofs.lone.LoneClient.come_to.Goals as goal

@@ -1,4 +1,3 @@
-use Rattle.std.proofs.Common.{sym, ap, ◌∙◌}
 use Rattle.qc_client.proofs.Ending.{may_be_ready, short_before, logs, all_logged, all_not_logged}
 use Rattle.qc_client.proofs.lone.LoneClient.commit_top.Goals as goal
 

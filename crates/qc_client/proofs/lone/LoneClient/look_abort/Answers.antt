@@ -1,11 +1,10 @@
-use Rattle.std.proofs.Common.{◌≡◌, true, false, refl, sym, ap, ◌∙◌}
+use Rattle.std.proofs.Common.{◌≡◌, true, refl, sym, ap, ◌∙◌}
 use mathlib.Core.Bool.{true≢false}
 use Rattle.std.specs.Prelude.{Option, None, Some}
-use Rattle.qc_event.specs.declared.event.Cause.TheVariants as cause
 use Rattle.qc_event.specs.declared.event.How.{How}
 use Rattle.qc_event.specs.declared.event.How.TheVariants.{Commit, Abort}
 use Rattle.qc_event.specs.Dead.{outcome, outcome_of, is_live, is_committed}
-use Rattle.qc_event.specs.History.{Name, end, is_ready}
+use Rattle.qc_event.specs.History.{end, is_ready}
 use Rattle.qc_client.proofs.Ending.{grounded, may_abort_user}
 use Rattle.qc_client.proofs.lone.LoneClient.look_abort.Goals as goal
 

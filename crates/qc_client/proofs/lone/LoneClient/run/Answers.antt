@@ -1,4 +1,4 @@
-use Rattle.std.proofs.Common.{[], map, sym, subst}
+use Rattle.std.proofs.Common.{map, sym, subst}
 use Rattle.qc_event.specs.History.{Past}
 use Rattle.qc_event.specs.Legal.{Legal}
 use Rattle.qc_script.specs.Steps.{numbered}
