@@ -9,7 +9,6 @@ ghost use Rattle.qc_client.specs.Alone.{IsAlone};
 ghost use Rattle.qc_script.specs.Calls.{IsGrounded, NotAborted, Committed, NotCommitted, by_client};
 
 use crate::lone::LoneClient;
-use crate::lookups::{is_ready, look, open_child, outcome};
 use qc_event::{Answer, Cause, Config, Entry, Event, How, Kind, LEDGER_SEAT, Name};
 use qc_script::{Tx, TxNo};
 
@@ -24,15 +23,16 @@ impl LoneClient {
             self.now.client target.now cause.now self.now.seen self.now.seen) }
         ensures legal { Legal self.now.client.setting self.now.seen }
     {
-        let h = self.entries();
-        if !outcome(h, target).is_live() {
+        // What is kept of the history is seen where its entries are read.
+        let _ = self.entries();
+        if !self.outcome(target).is_live() {
             return Err(TxNo::Ended);
         }
-        if is_ready(h, target) {
+        if self.is_ready(target) {
             return Err(TxNo::Ready);
         }
         if let Cause::Orphan(ancestor) = cause {
-            if outcome(h, ancestor).is_committed() {
+            if self.outcome(ancestor).is_committed() {
                 return Err(TxNo::Ended);
             }
             return Ok(());
@@ -112,12 +112,13 @@ impl Tx for LoneClient {
     }
 
     fn commit(&mut self, of: &Name) -> Result<(), TxNo> {
-        let h = self.entries();
-        match look(h, of) {
+        // What is kept of the history is seen where its entries are read.
+        let _ = self.entries();
+        match self.look(of) {
             Ok(()) => {}
             Err(why) => return Err(why),
         }
-        if let Some(child) = open_child(h, of) {
+        if let Some(child) = self.open_child(of) {
             return Err(TxNo::ChildrenOpen(child));
         }
         if of.len() == 1 {

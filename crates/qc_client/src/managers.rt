@@ -15,7 +15,6 @@ ghost use Rattle.qc_script.specs.Plan.{KindFits};
 ghost use Rattle.qc_store.specs.Served.{is_answer};
 
 use crate::lone::LoneClient;
-use crate::lookups::{count_children, look};
 use qc_event::{Answer, Event, How, Kind, Name};
 use qc_line::Line;
 use qc_rw::MgrNo;
@@ -80,15 +79,16 @@ impl LoneClient {
         ensures legal { Legal self.new.client.setting self.new.seen }
         ensures alone { IsAlone self.new.client self.new.seen }
     {
-        let h = self.entries();
+        // What is kept of the history is seen where its entries are read.
+        let _ = self.entries();
         if self.is_full() {
             return Err(TxNo::Room);
         }
-        match look(h, of) {
+        match self.look(of) {
             Ok(()) => {}
             Err(why) => return Err(why),
         }
-        let number = count_children(h, of) + 1;
+        let number = self.children(of) + 1;
         let name = of.child(number as u32);
         match self.act(Event::Start { name, kind: *kind }) {
             Ok(()) => Ok(name),

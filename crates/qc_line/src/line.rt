@@ -1,7 +1,9 @@
-ghost use Rattle.std.specs.Prelude.{◌≡◌, ◌≤◌, ◌↔◌, ◌∷◌, [], IsTrue, IsErrOf, IfOk, OnOk, OnErr, reverse, length};
+ghost use Rattle.std.specs.Prelude.{◌≡◌, ◌<◌, ◌≤◌, ◌↔◌, ◌∷◌, [], IsTrue, IsErrOf, IfOk, OnOk, OnErr, reverse, length};
 ghost use Rattle.qc_event.specs.Base.{first_of, IsProper};
-ghost use Rattle.qc_event.specs.Dead.{outcome as outcome_in};
-ghost use Rattle.qc_event.specs.History.{limit, end};
+ghost use Rattle.qc_event.specs.Dead.{dead as dead_in, outcome as outcome_in};
+ghost use Rattle.qc_event.specs.History.{limit, children, end, is_ready};
+ghost use Rattle.qc_event.specs.Standing.{open_child};
+ghost use Rattle.qc_names.specs.Name.{longest};
 ghost use Rattle.qc_event.specs.Legal.{Allowed, Legal};
 ghost use Rattle.qc_event.specs.Seats.{is_client};
 ghost use Rattle.qc_line.specs.Lined.{IsOfTransaction};
@@ -126,6 +128,37 @@ impl Line {
         ensures { result ≡ outcome_in self.now.past name.now }
     {
         self.store.outcome(name)
+    }
+
+    /// The shortest aborted ancestor of a name, in a step for each number of the name.
+    pub fn dead(&self, name: &Name) -> Option<Name>
+        ensures { result ≡ dead_in self.now.past name.now }
+    {
+        self.store.dead(name)
+    }
+
+    /// Whether a name is ready, in a step for each number of the name.
+    pub fn is_ready(&self, name: &Name) -> bool
+        ensures { result ≡ is_ready self.now.past name.now }
+    {
+        self.store.is_ready(name)
+    }
+
+    /// The first started child of a name that has not ended, where there is one. It looks at each child up to that.
+    pub fn open_child(&self, name: &Name) -> Option<Name>
+        requires below_a_top { 0 < length name.now }
+        requires room { length name.now < longest }
+        ensures { result ≡ open_child self.now.past name.now }
+    {
+        self.store.open_child(name)
+    }
+
+    /// How many children of a name have started, in a step for each number of the name.
+    pub fn children(&self, name: &Name) -> usize
+        requires { 0 < length name.now }
+        ensures { result ≡ length (children self.now.past name.now) }
+    {
+        self.store.children(name)
     }
 
     /// How a name ended, where it did, in a step for each number of the name.
