@@ -1,8 +1,7 @@
 use Rattle.std.proofs.Common.{◌≡◌, List, reverse, sym, ap, ◌∙◌, subst, arith, get_or}
-use Rattle.std.specs.Prelude.{None, Some, slice_get}
+use Rattle.std.specs.Prelude.{Some, slice_get}
 use Rattle.std.proofs.lemmas.List.{reverse-reverse, length-reverse}
 use Rattle.std.proofs.lemmas.Option.{slice_get-get_or}
-use Rattle.qc_event.specs.Base.{Setting}
 use Rattle.qc_event.specs.declared.event.Entry.{Entry}
 use Rattle.qc_event.specs.Legal.{Legal}
 use Rattle.qc_event.specs.History.{end}
