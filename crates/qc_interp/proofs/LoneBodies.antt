@@ -1,6 +1,6 @@
 -- Tops that follow bodies by what a client made do so by what was seen, where all about them is its own.
-use Rattle.std.proofs.Common.{◌≡◌, ◌⊎◌, ◌<◌, arith, inl, inr, ℕ, zero, suc, Bool, true, false, List, [], ◌∷◌, length, take, refl, sym, ap, ◌∙◌, subst}
-use Rattle.std.specs.Prelude.{Option, None, Some, MatchBool, is_some, not, ◌&&◌}
+use Rattle.std.proofs.Common.{◌≡◌, ◌<◌, arith, inl, inr, ℕ, zero, suc, Bool, true, false, List, [], ◌∷◌, length, take, refl, sym, ap, ◌∙◌, subst}
+use Rattle.std.specs.Prelude.{Option, None, Some, MatchBool, not, ◌&&◌}
 use Rattle.std.specs.List.{AllByRecursion}
 use Rattle.qc_event.specs.declared.event.Answer.{Answer}
 use Rattle.qc_event.specs.declared.event.Entry.{Entry}
@@ -10,7 +10,7 @@ use Rattle.qc_event.specs.History.{Past, Name, end, end_in, children, is_child, 
 use Rattle.qc_event.specs.Legal.{Legal}
 use Rattle.qc_event.proofs.OneEntry.{ending, some_or_none, not_some}
 use Rattle.qc_names.specs.Name as name
-use Rattle.qc_script.specs.Client.{Client, mine, is_own, concerns, is_commit, AreOurs}
+use Rattle.qc_script.specs.Client.{Client, mine, is_own, concerns, AreOurs}
 use Rattle.qc_script.specs.Plan.{Numbered}
 use Rattle.qc_interp.specs.Asking.{BodiesAsk, Asks}
 use Rattle.qc_interp.specs.Follows.{FollowsBody}
@@ -20,7 +20,6 @@ use Rattle.qc_interp.proofs.Growth.{own_found}
 use Rattle.qc_interp.proofs.LoneEntries.{top_is}
 use Rattle.qc_interp.proofs.Mine.{kept_some}
 use Rattle.qc_interp.proofs.Seen.{same_kind, follows_seen, asks_seen, own_once}
-use Rattle.qc_interp.proofs.Turning.{itself}
 
 -- TRIES BY TWO WAYS OF ENDING
 
@@ -34,10 +33,10 @@ pub tries_alike : (first second : Name → Option How) (IsTry IsTryToo : Name �
 tries_alike first second IsTry IsTryToo Stopped Rest RestToo Good alike try rest zero cs good h = rest cs good h
 tries_alike first second IsTry IsTryToo Stopped Rest RestToo Good alike try rest (suc left) [] good h = h
 tries_alike first second IsTry IsTryToo Stopped Rest RestToo Good alike try rest (suc left) (x ∷ cs) good h = (
-    try x good.0 h.0,
-    subst (λ b. MatchBool b (Tries second IsTryToo Stopped RestToo left cs) (RestToo cs)) (alike x good.0)
-        (by_test (is_tried_again (first x)) h.1 (tries_alike first second IsTry IsTryToo Stopped Rest RestToo Good alike try rest left cs good.1)),
-  )
+  try x good.0 h.0,
+  subst (λ b. MatchBool b (Tries second IsTryToo Stopped RestToo left cs) (RestToo cs)) (alike x good.0)
+      (by_test (is_tried_again (first x)) h.1 (tries_alike first second IsTry IsTryToo Stopped Rest RestToo Good alike try rest left cs good.1)),
+)
   where
     by_test : (b : Bool) → MatchBool b (Tries first IsTry Stopped Rest left cs) (Rest cs) → (Tries first IsTry Stopped Rest left cs → Tries second IsTryToo Stopped RestToo left cs) → MatchBool b (Tries second IsTryToo Stopped RestToo left cs) (RestToo cs)
     by_test true h more = more h

@@ -1,19 +1,19 @@
 -- Where a client is alone, all about its tops is its own.
-use Rattle.std.proofs.Common.{◌≡◌, ℕ, Bool, true, false, List, [], ◌∷◌, ◌++◌, length, take, refl, sym, ap, ◌∙◌, subst, filter, ◌+◌, arith}
+use Rattle.std.proofs.Common.{◌≡◌, ℕ, Bool, true, false, List, [], ◌∷◌, length, refl, sym, ap, ◌∙◌, subst, ◌+◌, arith}
 use mathlib.Core.Bool.{true≢false}
-use Rattle.std.specs.Prelude.{Option, None, Some, not, ◌==◌, ◌&&◌, ◌||◌, if◌then◌else◌}
-use Rattle.std.specs.List.{AllByRecursion, list_all}
+use Rattle.std.specs.Prelude.{not, ◌==◌, ◌&&◌, ◌||◌}
+use Rattle.std.specs.List.{AllByRecursion}
 use Rattle.std.proofs.lemmas.Bool.{eqb-true}
 use Rattle.qc_event.specs.declared.event.Entry.{Entry}
 use Rattle.qc_event.specs.declared.event.Event.{Event}
 use Rattle.qc_event.specs.declared.event.Event.TheVariants as event
 use Rattle.qc_event.specs.declared.event.How.{How}
-use Rattle.qc_event.specs.History.{Past, Name, children, is_child, same}
+use Rattle.qc_event.specs.History.{Past, Name, is_child, same}
 use Rattle.qc_event.proofs.Absent.{same_itself}
 use Rattle.qc_event.proofs.LastNumber.{child_last, rest_of}
 use Rattle.qc_names.specs.Name as name
-use Rattle.qc_script.specs.Client.{Client, mine, is_own, is_commit, concerns, all_ours, AreOurs}
-use Rattle.qc_interp.specs.Alone.{is_lone, all_lone, AreLone}
+use Rattle.qc_script.specs.Client.{Client, mine, is_own, is_commit, concerns, AreOurs}
+use Rattle.qc_interp.specs.Alone.{is_lone, AreLone}
 use Rattle.qc_interp.specs.Session.{tops, AreAllOurs}
 use Rattle.qc_interp.proofs.Adding.{all_wider}
 use Rattle.qc_interp.proofs.Growth.{and_both}

@@ -1,17 +1,14 @@
 -- A history in which one client alone acts follows the script whose bodies it ran.
-use Rattle.std.proofs.Common.{◌≡◌, ◌⊎◌, inl, inr, ◌<◌, arith, ℕ, Bool, true, false, List, [], ◌∷◌, ◌++◌, length, refl, sym, ap, ◌∙◌, subst, filter, append-nil}
+use Rattle.std.proofs.Common.{◌≡◌, ◌⊎◌, inl, inr, arith, ℕ, Bool, true, false, List, [], ◌∷◌, ◌++◌, length, refl, sym, ap, ◌∙◌, subst, append-nil}
 use mathlib.Core.Bool.{true≢false}
-use Rattle.std.specs.Prelude.{Option, None, Some, MatchOption, is_some, option_to_list, option_map, ◌==◌, not, ◌&&◌, ◌||◌, if◌then◌else◌}
+use Rattle.std.specs.Prelude.{Option, None, Some, MatchOption, is_some, option_to_list, option_map, ◌==◌, ◌&&◌, ◌||◌, if◌then◌else◌}
 use Rattle.std.specs.List.{AllByRecursion, list_all, list_any}
-use Rattle.std.specs.Option.{option_or}
 use Rattle.std.proofs.lemmas.List.Folds.{list_all-append}
-use Rattle.qc_event.specs.declared.event.Cause.{Cause}
 use Rattle.qc_event.specs.declared.event.Cause.TheVariants.{Asked}
 use Rattle.qc_event.specs.declared.event.Entry.{Entry}
 use Rattle.qc_event.specs.declared.event.Event.{Event}
 use Rattle.qc_event.specs.declared.event.Event.TheVariants as event
-use Rattle.qc_event.specs.declared.event.How.{How}
-use Rattle.qc_event.specs.declared.event.How.TheVariants.{Commit, Abort}
+use Rattle.qc_event.specs.declared.event.How.TheVariants.{Abort}
 use Rattle.qc_event.specs.declared.event.Kind.{Kind}
 use Rattle.qc_event.specs.declared.event.Kind.TheVariants as kind
 use Rattle.qc_event.specs.Base.{Setting}
@@ -27,7 +24,7 @@ use Rattle.qc_event.proofs.OneEntry.{ending, first_is, first_some, starting, som
 use Rattle.qc_names.specs.Name as name
 use Rattle.qc_net.specs.Messages.{Net, meets_fates}
 use Rattle.qc_script.specs.Calls.{is_access, is_over, unable_in}
-use Rattle.qc_script.specs.Client.{Client, mine, is_own, is_commit}
+use Rattle.qc_script.specs.Client.{Client, mine, is_own}
 use Rattle.qc_script.specs.Plan.{Numbered}
 use Rattle.qc_interp.specs.Adding.{is_of_one, all_over}
 use Rattle.qc_interp.specs.Alone.{is_lone, all_lone, AreLone, AccessesEnd}
@@ -326,7 +323,7 @@ lone_follows c net bodies past legal single lone ends ran met accesses = record 
         by_parent (x ∷ p) j at b =
             let begun : start past ((x ∷ p) ++ j ∷ []) ≡ Some b.0 = sym (ap (start past) at) ∙ b.1 in
             let under : Started past (x ∷ p) (λ m. Belongs m b.0.kind) =
-                subst (λ o. MatchOption o ⊥ (λ (y : Begun). Started past (x ∷ p) (λ m. Belongs m y.kind))) begun ((lawful past (legal_orderly c.setting past legal)).under (x ∷ p) j (omega arith) (ap is_some begun)) in
+            subst (λ o. MatchOption o ⊥ (λ (y : Begun). Started past (x ∷ p) (λ m. Belongs m y.kind))) begun ((lawful past (legal_orderly c.setting past legal)).under (x ∷ p) j (omega arith) (ap is_some begun)) in
             by_manager (x ∷ p) j at (start past (x ∷ p)) refl (subst (λ k. Started past (x ∷ p) (λ m. Belongs m k)) b.2 under) b.0 b.1 b.2
 
     by_kind : (n : Name) (k : Kind) → kind_of past n ≡ Some k → is_some (end past n) ≡ true

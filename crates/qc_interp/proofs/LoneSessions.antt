@@ -1,5 +1,5 @@
 -- A lone client's session: all tops are its own, it keeps its seat, and its tops start in order and with their numbers.
-use Rattle.std.proofs.Common.{◌≡◌, ◌⊎◌, inl, inr, ◌<◌, ◌+◌, arith, ℕ, suc, Bool, true, false, List, [], ◌∷◌, ◌++◌, length, refl, sym, ap, ◌∙◌, subst, filter, append-nil, append_assoc}
+use Rattle.std.proofs.Common.{◌≡◌, inl, inr, ◌<◌, ◌+◌, arith, ℕ, Bool, true, false, List, [], ◌∷◌, ◌++◌, length, refl, sym, ap, ◌∙◌, subst, filter, append_assoc}
 use mathlib.Core.Bool.{true≢false}
 use Rattle.std.specs.Prelude.{Option, None, Some, is_some, option_to_list, option_map, ◌==◌, not, ◌&&◌, ◌||◌, if◌then◌else◌}
 use Rattle.std.specs.List.{AllByRecursion, list_all, list_any}
@@ -9,17 +9,16 @@ use Rattle.std.proofs.lemmas.List.Folds.{list_all-append}
 use Rattle.qc_event.specs.declared.event.Entry.{Entry}
 use Rattle.qc_event.specs.declared.event.Event.{Event}
 use Rattle.qc_event.specs.declared.event.Event.TheVariants as event
-use Rattle.qc_event.specs.declared.event.How.{How}
 use Rattle.qc_event.specs.declared.event.Kind.{Kind}
 use Rattle.qc_event.specs.declared.event.Kind.TheVariants as kind
 use Rattle.qc_event.specs.Base.{Setting}
-use Rattle.qc_event.specs.History.{Past, Name, Begun, earliest, every, start, start_in, children, child_in, is_child, kind_of, same}
+use Rattle.qc_event.specs.History.{Past, Name, Begun, every, start, start_in, children, child_in, is_child, kind_of, same}
 use Rattle.qc_event.specs.Legal.{Legal}
 use Rattle.qc_event.specs.Seats.{is_client}
-use Rattle.qc_event.proofs.Absent.{same_is, same_itself, if_not}
+use Rattle.qc_event.proofs.Absent.{same_is, if_not}
 use Rattle.qc_event.proofs.Histories.{earliest-append}
 use Rattle.qc_event.proofs.LastNumber.{length_last}
-use Rattle.qc_event.proofs.Lawful.{lawful, child_starts}
+use Rattle.qc_event.proofs.Lawful.{lawful}
 use Rattle.qc_event.proofs.LegalOrderly.{legal_orderly}
 use Rattle.qc_event.proofs.Lineage.{fresh_child}
 use Rattle.qc_event.proofs.OneEntry.{if_is, first_is, start_is, start_stays, start_now}
@@ -38,7 +37,7 @@ use Rattle.qc_interp.proofs.Growth.{and_both, and_by, no_child_by}
 use Rattle.qc_interp.proofs.LoneBodies.{IsOfSession}
 use Rattle.qc_interp.proofs.LoneEntries.{top_is}
 use Rattle.qc_interp.proofs.LoneTurns.{Answers, earliest_kept, DropsNone, turns_kept}
-use Rattle.qc_interp.proofs.SessionsStill.{AllOurs, part_mine}
+use Rattle.qc_interp.proofs.SessionsStill.{part_mine}
 
 all_front : {X : Type 0} (P : X → Type 0) (xs ys : List X) → AllByRecursion P (xs ++ ys) → AllByRecursion P xs
 all_front P [] ys all = tt
@@ -210,9 +209,9 @@ turns_lone c s past single lone inside turns =
 start_under : (seat : ℕ) (h : Past) (n : Name) (b : Begun) → AllUnder seat h → start h n ≡ Some b → seat ≡ b.seat
 start_under seat [] n b all is = absurd cc
 start_under seat (e ∷ h) n b all is = elim (first_is (start h n) (start_in n e.seat e.event) b is) [
-    | inl old ↦ start_under seat h n b all.1 old
-    | inr new ↦ all.0 ∙ by_event e.event new.1
-  ]
+  | inl old ↦ start_under seat h n b all.1 old
+  | inr new ↦ all.0 ∙ by_event e.event new.1
+]
   where
     by_event : (ev : Event) → start_in n e.seat ev ≡ Some b → e.seat ≡ b.seat
     by_event (event.Start m k) h = ap (λ (x : Begun). x.seat) (if_is (same m n) _ b h).1
@@ -264,7 +263,6 @@ tops_started s (e ∷ h) =
     by_event (event.Mark m session) is = refl
     by_event (event.Ready m) is = refl
     by_event (event.End m how) is = refl
-
 
 abbrev AllTops : List Name → Type 0
 AllTops ts = AllByRecursion (λ t. is_child [] t ≡ true) ts

@@ -1,20 +1,14 @@
 -- A lone client's session runs in turn, keeps its seat, and has all tops.
-use Rattle.std.proofs.Common.{◌≡◌, ◌⊎◌, inl, inr, ◌<◌, ◌+◌, arith, ℕ, suc, Bool, true, false, List, [], ◌∷◌, ◌++◌, length, refl, sym, ap, ◌∙◌, subst, filter, append-nil, append_assoc}
-use mathlib.Core.Bool.{true≢false}
-use Rattle.std.specs.Prelude.{Option, None, Some, is_some, option_to_list, ◌==◌, not, ◌&&◌, ◌||◌, if◌then◌else◌}
-use Rattle.std.specs.List.{AllByRecursion, list_all, list_any}
+use Rattle.std.proofs.Common.{◌≡◌, Bool, true, false, List, [], ◌∷◌, ◌++◌, refl, sym, ap, ◌∙◌, filter, append-nil}
+use Rattle.std.specs.Prelude.{Option, None, Some, is_some, option_to_list, ◌&&◌, ◌||◌, if◌then◌else◌}
+use Rattle.std.specs.List.{AllByRecursion, list_all}
 use Rattle.std.specs.Option.{option_or, option_map_or}
-use Rattle.std.proofs.lemmas.Bool.{eqb-true, eq-eqb}
 use Rattle.qc_event.specs.declared.event.Entry.{Entry}
 use Rattle.qc_event.specs.declared.event.Event.{Event}
 use Rattle.qc_event.specs.declared.event.Event.TheVariants as event
-use Rattle.qc_event.specs.declared.event.How.{How}
-use Rattle.qc_event.specs.declared.event.How.TheVariants.{Commit, Abort}
-use Rattle.qc_event.specs.declared.event.Kind.{Kind}
-use Rattle.qc_event.specs.declared.event.Kind.TheVariants as kind
-use Rattle.qc_event.specs.History.{Past, Name, Begun, earliest, every, start, start_in, end, end_in, is_ready, ready_in, children, child_in, is_child, kind_of}
+use Rattle.qc_event.specs.History.{Past, Name, earliest, every, end, end_in, is_ready, ready_in}
 use Rattle.qc_names.specs.Name as name
-use Rattle.qc_script.specs.Client.{Client, about}
+use Rattle.qc_script.specs.Client.{about}
 use Rattle.qc_script.specs.Numbers.{each}
 use Rattle.qc_interp.specs.Turns.{acts, begun_in, is_done, is_alone, takes_turn}
 use Rattle.qc_interp.proofs.Growth.{and_both, and_by}

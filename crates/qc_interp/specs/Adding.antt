@@ -6,7 +6,7 @@ use Rattle.qc_names.specs.Name as name
 use Rattle.qc_event.specs.declared.event.Entry.{Entry}
 use Rattle.qc_event.specs.History.{Past, Name, children}
 use Rattle.qc_script.specs.Client.{Client, mine, is_own, about}
-use Rattle.qc_script.specs.Numbers.{each, any_top}
+use Rattle.qc_script.specs.Numbers.{any_top}
 use Rattle.qc_script.specs.Calls.{is_over}
 
 -- an entry starts no top, and whom it is about is at or below one

@@ -1,13 +1,12 @@
 -- What the tops of a session leave.
 use Rattle.std.specs.Prelude.{ℕ, ◌≡◌, true, List, [], ◌∷◌, ◌++◌}
 use Rattle.std.specs.List.{AllByRecursion}
-use Rattle.qc_event.specs.Base.{Setting}
 use Rattle.qc_event.specs.History.{Past, Name, end, children}
 use Rattle.qc_interp.specs.Adding.{AllOfOne, own_after, all_over}
 use Rattle.qc_script.specs.Numbers.{Numbers}
 use Rattle.qc_script.specs.Client.{Client, mine, IsLater, AreOurs}
 use Rattle.qc_interp.specs.Follows.{FollowsBody}
-use Rattle.qc_script.specs.Plan.{Numbered, PlanFits}
+use Rattle.qc_script.specs.Plan.{Numbered}
 use Rattle.qc_script.specs.Numbers.{each}
 use Rattle.qc_interp.specs.Turns.{takes_turn, is_alone}
 use Rattle.qc_interp.specs.Tries.{Tries}

@@ -7,7 +7,6 @@ use Rattle.qc_event.specs.declared.event.Cause.TheVariants.{Asked}
 use Rattle.qc_event.specs.declared.event.Entry.{Entry}
 use Rattle.qc_event.specs.declared.event.Event.{Event}
 use Rattle.qc_event.specs.declared.event.Event.TheVariants as event
-use Rattle.qc_event.specs.declared.event.How.{How}
 use Rattle.qc_event.specs.declared.event.How.TheVariants.{Abort}
 use Rattle.qc_event.specs.History.{Past, Name, every, end, is_ready}
 use Rattle.qc_script.specs.Calls.{is_access}

@@ -191,7 +191,7 @@ fn child_tries<T: Tx>(tx: &mut T, of: &Name, body: &Body) -> Result<Option<bool>
             Err(why) => {
                 return match why {
                     TxNo::Memory => Err(Short::Memory),
-            TxNo::Room => Err(Short::Room),
+                    TxNo::Room => Err(Short::Room),
                     _ => Ok(Some(stop(tx, of, &why)?)),
                 };
             }

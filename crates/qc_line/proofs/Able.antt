@@ -1,5 +1,5 @@
 -- That none is told unable by what an access enters and copies answer.
-use Rattle.std.proofs.Common.{◌≡◌, ℕ, true, [], ◌∷◌, ◌++◌, inl, inr, refl, sym, ap, ◌∙◌, subst}
+use Rattle.std.proofs.Common.{◌≡◌, ℕ, true, [], ◌∷◌, ◌++◌, inl, inr, refl, sym, ap, ◌∙◌}
 use mathlib.Core.Bool.{true≢false}
 use Rattle.std.specs.Prelude.{All, IsTrue, ◌&&◌}
 use Rattle.std.proofs.lemmas.Bool.{and_parts}

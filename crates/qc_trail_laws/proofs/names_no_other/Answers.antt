@@ -1,5 +1,5 @@
 use Rattle.std.proofs.Common.{refl, inl, inr, ◌≡◌}
-use Rattle.std.specs.Prelude.{reverse, []}
+use Rattle.std.specs.Prelude.{reverse}
 use Rattle.qc_event.specs.History.{children}
 use Rattle.qc_interp.specs.Asking.{Asks}
 use Rattle.qc_trail_laws.specs.Trails.{top, first_child, grandchild, aborts_two, abort_body}

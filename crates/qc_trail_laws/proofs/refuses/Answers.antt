@@ -1,4 +1,4 @@
-use Rattle.std.proofs.Common.{refl, sym, ◌∙◌}
+use Rattle.std.proofs.Common.{sym}
 use mathlib.Core.Bool.{true≢false}
 use Rattle.qc_trail_laws.proofs.refuses.Goals as goal
 

@@ -1,4 +1,4 @@
-use Rattle.std.proofs.Common.{◌≡◌, ◌<◌, ◌≤◌, ◌+◌, ◌-◌, ℕ, suc, [], ◌∷◌, length, sym, ap, ◌∙◌, subst, arith, append-nil, refl}
+use Rattle.std.proofs.Common.{◌≡◌, ◌<◌, ◌≤◌, ◌+◌, ◌-◌, ℕ, suc, [], ◌∷◌, length, sym, ap, ◌∙◌, subst, arith, refl}
 use Rattle.qc_event.specs.declared.event.Event.TheVariants as event
 use Rattle.qc_event.specs.declared.event.Kind.TheVariants as kind
 use Rattle.qc_event.specs.History.{Past, Name}
@@ -9,7 +9,6 @@ use Rattle.qc_script.specs.Steps.{put, plan_of, numbered}
 use Rattle.qc_interp.specs.Running.{Runs, WhyStop, Stopped, Ended, Stepped}
 use Rattle.qc_interp.proofs.Results.{if_ok}
 use Rattle.qc_interp.proofs.Growth.{child_length}
-use Rattle.qc_interp.proofs.Ending.{unended_commit}
 use Rattle.qc_interp.proofs.Plans.{weight, plan_is, tries_of, number_of, put_read, put_set, put_reconf, put_child, put_abort, step_lighter}
 use Rattle.qc_interp.proofs.Loops.{fits_step, one_done, stopped_there, all_done, none_done}
 use Rattle.qc_interp.proofs.Tried.{TriesLeft, Tried, runs_begun, tried_once, tried_more, tried_out, tried_all, not_begun, begin_stops, none_tried}

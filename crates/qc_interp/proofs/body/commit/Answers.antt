@@ -1,8 +1,7 @@
-use Rattle.std.proofs.Common.{sym, subst, ◌∙◌, [], append-nil}
+use Rattle.std.proofs.Common.{sym, subst, ◌∙◌}
 use Rattle.qc_script.specs.Plan.{Plan}
 use Rattle.qc_interp.specs.Running.{Runs, WhyStop, Stopped, Ended}
 use Rattle.qc_interp.proofs.Results.{if_ok}
-use Rattle.qc_interp.proofs.Ending.{unended_commit}
 use Rattle.qc_interp.proofs.Asking.{commit_ok, commit_ledger, commit_stops, commit_over}
 use Rattle.qc_interp.proofs.body.commit.Goals as goal
 

@@ -1,6 +1,4 @@
-use Rattle.std.proofs.Common.{refl, sym, ap, subst, ◌∙◌, arith}
-use Rattle.qc_event.specs.Standing.{open_child}
-use Rattle.qc_client.specs.Entering.{IsClear}
+use Rattle.std.proofs.Common.{refl, sym, ◌∙◌, arith}
 use Rattle.qc_client.proofs.Ending.{may_commit_below, all_committed}
 use Rattle.qc_client.proofs.Made.{made_none}
 use Rattle.qc_client.proofs.Refusals.{open_refuses}
