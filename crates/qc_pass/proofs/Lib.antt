@@ -1,0 +1,4 @@
+pub mod Lists
+pub mod Moves
+pub mod Numbers
+pub mod Since

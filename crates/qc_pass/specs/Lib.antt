@@ -1,0 +1,4 @@
+pub mod Nothing
+pub mod Entries
+pub mod Rules
+pub mod Calling

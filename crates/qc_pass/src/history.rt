@@ -1,0 +1,107 @@
+//! The history of a desk, with the index of its names.
+ghost use Rattle.std.specs.Prelude.{◌≡◌, ◌<◌, ◌≤◌, ◌∷◌, ◌++◌, [], vec_len, vec_capacity, IsErrOf, OnOk, OnErr, length, reverse};
+ghost use Rattle.qc_event.specs.Base.{Setting};
+ghost use Rattle.qc_event.specs.History.{limit};
+ghost use Rattle.qc_event.specs.Legal.{Legal};
+
+use qc_desk::{Index, Outcomes};
+use qc_event::{Entry, Short};
+use std::alloc::{AllocError, Global};
+use std::marker::Model;
+
+/// The most entries that a history takes.
+const LIMIT: usize = 4_294_967_295;
+
+// Room for one more: generic, since the calls at the type of entries get no proof today.
+fn make_room<T: Copy>(items: &mut Vec<T>) -> Result<(), AllocError>
+    ensures same { items.new.items ≡ items.old.items }
+    ensures room { OnOk result (vec_len items.new < vec_capacity items.new) }
+{
+    items.reserve(1)
+}
+
+fn put<T: Copy>(items: &mut Vec<T>, item: T)
+    requires room { vec_len items.old < vec_capacity items.old }
+    ensures { items.new.items ≡ items.old.items ++ item ∷ [] }
+{
+    items.push_reserved(item);
+}
+
+/// A legal history with its index. Contracts see it with its latest entry first. How a name stands is found by the
+/// index, in a step for each of the name's numbers, however long the history is.
+#[derive(Drop)]
+pub struct History {
+    entries: Vec<Entry>,
+    index: Index,
+}
+
+impl Model for History {
+    ghost use Rattle.std.specs.Prelude.{List, ◌≤◌, length, reverse};
+    ghost use Rattle.qc_event.specs.declared.event.Entry.{Entry};
+    ghost use Rattle.qc_event.specs.History.{limit};
+    ghost use Rattle.qc_desk.specs.Index.{IsOf};
+
+    ghost Value = { List Entry };
+
+    ghost view = { λ h. reverse h.entries.items };
+
+    ghost invariant = { λ h.
+        (length h.entries.items ≤ limit) × IsOf h.index (reverse h.entries.items) };
+}
+
+impl History {
+    /// An empty history. It takes no memory.
+    pub fn new(alloc: Global) -> Self
+        ensures { result ≡ [] }
+    {
+        History {
+            entries: Vec::new(alloc),
+            index: Index::new(alloc),
+        }
+    }
+
+    /// How many entries there are.
+    pub fn len(&self) -> usize
+        ensures length { result ≡ length self.now }
+        ensures bounded { length self.now ≤ limit }
+    {
+        self.entries.len()
+    }
+
+    fn take_in(&mut self, entry: &Entry) -> Result<(), AllocError>
+        requires legal { (setting : Setting) × Legal setting (entry.now ∷ self.old) }
+        requires room { length self.old < limit }
+        ensures ok { OnOk result (self.new ≡ entry.now ∷ self.old) }
+        ensures err { OnErr result (self.new ≡ self.old) }
+    {
+        make_room(&mut self.entries)?;
+        self.index.push(entry)?;
+        put(&mut self.entries, *entry);
+        Ok(())
+    }
+
+    /// Takes in an entry that may come next; `Room` comes exactly where the history takes no more. An error leaves
+    /// the history as it was.
+    pub fn push(&mut self, entry: &Entry) -> Result<(), Short>
+        requires legal { (setting : Setting) × Legal setting (entry.now ∷ self.old) }
+        ensures ok { OnOk result (self.new ≡ entry.now ∷ self.old) }
+        ensures err { OnErr result (self.new ≡ self.old) }
+        ensures room { IsErrOf result Short.Room → length self.old ≡ limit }
+        ensures full { length self.old ≡ limit → IsErrOf result Short.Room }
+    {
+        if self.entries.len() >= LIMIT {
+            return Err(Short::Room);
+        }
+        match self.take_in(entry) {
+            Ok(()) => Ok(()),
+            Err(AllocError) => Err(Short::Memory),
+        }
+    }
+
+    /// The entries, the oldest first. It takes no memory.
+    pub fn into_entries(self) -> Vec<Entry>
+        ensures { reverse result.items ≡ self }
+    {
+        self.entries
+    }
+}

@@ -1,0 +1,15 @@
+//! One legal history behind a lock, and passes that know a beginning of it.
+#![tactic(auto)]
+
+mod desk;
+mod history;
+mod locked;
+mod pass;
+mod steps;
+mod store;
+mod view;
+
+pub use desk::{Blank, Desk};
+pub use pass::Pass;
+pub use store::Store;
+pub use view::View;
