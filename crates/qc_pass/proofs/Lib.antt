@@ -2,3 +2,8 @@ pub mod Lists
 pub mod Moves
 pub mod Numbers
 pub mod Since
+pub mod Begun
+pub mod Fewer
+pub mod Counting
+pub mod Calls
+pub mod Entering

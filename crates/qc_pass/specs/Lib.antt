@@ -1,4 +1,5 @@
 pub mod Nothing
 pub mod Entries
 pub mod Rules
+pub mod Refusing
 pub mod Calling

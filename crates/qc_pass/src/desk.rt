@@ -34,6 +34,7 @@ pub struct Desk<N: Store> {
     ghost named: { room.shared.table_id ≡ N.desk },
     ghost two: { room.shared.table_id.words ≡ 2 },
     ghost over: { base ≡ N.base },
+    ghost some: { 1 ≤ epoch },
 }
 
 /// A desk without a name.
@@ -47,6 +48,7 @@ pub struct Blank {
     ghost seat_is: { (seat.table_id ≡ room.shared.table_id) × (seat.me ≡ (first_of_all, [])) },
     ghost two: { room.shared.table_id.words ≡ 2 },
     ghost none: { history ≡ [] },
+    ghost some: { 1 ≤ epoch },
 }
 
 impl Blank {

@@ -1,11 +1,16 @@
 //! The history of a desk, with the index of its names.
 ghost use Rattle.std.specs.Prelude.{◌≡◌, ◌<◌, ◌≤◌, ◌∷◌, ◌++◌, [], vec_len, vec_capacity, IsErrOf, OnOk, OnErr, length, reverse};
 ghost use Rattle.qc_event.specs.Base.{Setting};
+ghost use Rattle.qc_event.specs.Dead as dead_words;
+ghost use Rattle.qc_event.specs.History as words;
 ghost use Rattle.qc_event.specs.History.{limit};
 ghost use Rattle.qc_event.specs.Legal.{Legal};
+ghost use Rattle.qc_event.specs.Standing.{open_child};
+ghost use Rattle.qc_names.specs.Name.{longest};
+ghost use Rattle.qc_pass.specs.Entries.{WhereLegal};
 
 use qc_desk::{Index, Outcomes};
-use qc_event::{Entry, Short};
+use qc_event::{Entry, Name, Outcome, Short};
 use std::alloc::{AllocError, Global};
 use std::marker::Model;
 
@@ -96,6 +101,51 @@ impl History {
             Ok(()) => Ok(()),
             Err(AllocError) => Err(Short::Memory),
         }
+    }
+
+    /// How a name stands.
+    pub fn outcome(&self, name: &Name) -> Outcome
+        ensures { WhereLegal self.now (result ≡ dead_words.outcome self.now name.now) }
+    {
+        self.index.outcome(name)
+    }
+
+    /// The shortest aborted ancestor of a name.
+    pub fn dead(&self, name: &Name) -> Option<Name>
+        ensures { WhereLegal self.now (result ≡ dead_words.dead self.now name.now) }
+    {
+        self.index.dead(name)
+    }
+
+    /// Whether a name is ready.
+    pub fn is_ready(&self, name: &Name) -> bool
+        ensures { WhereLegal self.now (result ≡ words.is_ready self.now name.now) }
+    {
+        self.index.is_ready(name)
+    }
+
+    /// How many children of a name have started.
+    pub fn children(&self, name: &Name) -> usize
+        requires { 0 < length name.now }
+        ensures { WhereLegal self.now (result ≡ length (words.children self.now name.now)) }
+    {
+        self.index.children(name)
+    }
+
+    /// How many tops have started.
+    pub fn tops(&self) -> usize
+        ensures { WhereLegal self.now (result ≡ length (words.children self.now [])) }
+    {
+        self.index.tops()
+    }
+
+    /// The first started child of a name that has no end. It reads each child up to that.
+    pub fn open_child(&self, name: &Name) -> Option<Name>
+        requires below_a_top { 0 < length name.now }
+        requires room { length name.now < longest }
+        ensures { WhereLegal self.now (result ≡ open_child self.now name.now) }
+    {
+        self.index.open_child(name)
     }
 
     /// The entries, the oldest first. It takes no memory.

@@ -4,12 +4,17 @@
 mod desk;
 mod history;
 mod locked;
+mod lookups;
 mod pass;
+mod refusal;
+mod starts;
 mod steps;
 mod store;
+mod tops;
 mod view;
 
 pub use desk::{Blank, Desk};
 pub use pass::Pass;
+pub use refusal::DeskNo;
 pub use store::Store;
 pub use view::View;

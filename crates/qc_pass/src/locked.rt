@@ -1,14 +1,16 @@
 //! What lies under the lock of a desk: the one history, and the right to append.
-ghost use Rattle.std.specs.Prelude.{◌≡◌, List, [], ◌++◌, true, reverse, length, OnOk, OnErr, IsErrOf};
+ghost use Rattle.std.specs.Prelude.{◌≡◌, ◌≤◌, List, [], ◌∷◌, ◌++◌, true, None, IfErr, reverse, length, OnOk, OnErr, IsErrOf};
 ghost use Rattle.qc_event.specs.Tables.{setting_of};
 ghost use Rattle.qc_event.specs.History.{limit};
 ghost use Rattle.qc_event.specs.Legal.{Legal, Allowed};
 ghost use Rattle.qc_pass.specs.Calling.{IsRoomOf, IsLook, IsEntry};
-ghost use Rattle.qc_pass.specs.Entries.{IsLegal, IsOlder, IsSince, entry, entries_of};
+ghost use Rattle.qc_pass.specs.Entries.{AreCounted, IsLegal, IsOlder, IsSince, entry, entries_of};
+ghost use Rattle.qc_pass.specs.Refusing.{Refuses};
 ghost use Rattle.qc_pass.specs.Rules.{IsClient, IsSettled, joined};
 
 use crate::history::History;
 use crate::pass::Pass;
+use crate::refusal::{DeskNo, no_of};
 use crate::steps::{give_back, lend, push};
 use crate::store::{Room, Store};
 use crate::view::{Joining, Settling, View};
@@ -28,7 +30,7 @@ impl<N: Store> Model for Locked<N> {
     ghost use Rattle.std.specs.Prelude.{◌≡◌, List, []};
     ghost use Rattle.qc_event.specs.Tables.{setting_of};
     ghost use Rattle.qc_event.specs.declared.event.Entry.{Entry};
-    ghost use Rattle.qc_pass.specs.Entries.{IsLegal};
+    ghost use Rattle.qc_pass.specs.Entries.{IsLegal, AreCounted};
     ghost use Rattle.qc_pass.specs.Rules.{ruler};
 
     ghost Value = { List Entry };
@@ -36,15 +38,17 @@ impl<N: Store> Model for Locked<N> {
     ghost view = { λ d. d.history };
 
     ghost invariant = { λ d. (d.seat.table_id ≡ N.desk) × (d.seat.me ≡ (ruler d.history, []))
-        × IsLegal (setting_of N.table N.base) d.history };
+        × IsLegal (setting_of N.table N.base) d.history × AreCounted d.history };
 }
 
 impl<N: Store> Locked<N> {
-    /// The history is legal.
+    /// What the history keeps: it is legal, and its tops are counted.
     pub(crate) fn known(&self)
-        ensures { Legal (setting_of N.table N.base) self.now }
+        ensures legal { Legal (setting_of N.table N.base) self.now }
+        ensures counted { AreCounted self.now }
+        ensures bounded { length self.now ≤ limit }
     {
-        let _ = &self.history;
+        let _ = self.history.len();
     }
 
     /// Appends an entry under the pass's number that may come next.
@@ -58,6 +62,8 @@ impl<N: Store> Locked<N> {
         requires live { pass.old.live ≡ true }
         requires allowed { Allowed (setting_of N.table N.base) self.old
             (entry pass.old.number event) }
+        requires counted { AreCounted self.old →
+            AreCounted (entry pass.old.number event ∷ self.old) }
         ensures ok { OnOk result (IsEntry event self.old self.new pass.old pass.new) }
         ensures err { OnErr result (IsLook self.old self.new pass.old pass.new) }
         ensures room_left { IsErrOf result Short.Room → length self.old ≡ limit }
@@ -70,6 +76,35 @@ impl<N: Store> Locked<N> {
         let answer = push(room, &mut pass.seat, &mut self.history, &new);
         give_back(room, &mut pass.seat, &mut self.seat);
         answer
+    }
+
+    /// Appends an entry where nothing is against it, and says why not otherwise.
+    pub(crate) fn enter(
+        &mut self,
+        room: &Room,
+        pass: &mut Pass<N>,
+        no: Option<DeskNo>,
+        event: Event,
+    ) -> Result<(), DeskNo>
+        requires room { IsRoomOf N.desk room.now.shared.table_id }
+        requires live { pass.old.live ≡ true }
+        requires allowed { no ≡ None → Allowed (setting_of N.table N.base) self.old
+            (entry pass.old.number event) }
+        requires counted { AreCounted self.old →
+            AreCounted (entry pass.old.number event ∷ self.old) }
+        ensures ok { OnOk result ((no ≡ None)
+            × IsEntry event self.old self.new pass.old pass.new) }
+        ensures err { IfErr result (λ why. IsLook self.old self.new pass.old pass.new
+            × Refuses (λ _. no) self.old why) }
+    {
+        if let Some(why) = no {
+            self.look(room, pass);
+            return Err(why);
+        }
+        match self.append(room, pass, event) {
+            Ok(()) => Ok(()),
+            Err(short) => Err(no_of(short)),
+        }
     }
 
     /// The pass sees the history.

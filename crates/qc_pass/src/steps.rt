@@ -50,7 +50,7 @@ pub(crate) fn lend(room: &Room, seat: &mut Seat<Entry, View>, right: &mut Seat<E
     ensures seen { IsOlder seat.old.me.0.seen right.old.me.0.all }
     ensures mine { seat.old.me.0.live ≡ true →
         entries_of seat.old.me.0.number right.old.me.0.all
-            ≡ seat.old.me.0.flight ++ seat.old.me.0.mine }
+        ≡ seat.old.me.0.flight ++ seat.old.me.0.mine }
 {
     let lent = room.shared.split_seat::<Cut>(right);
     room.shared.join_seat::<Lends>(seat, lent);
