@@ -7,3 +7,10 @@ pub mod Fewer
 pub mod Counting
 pub mod Calls
 pub mod Entering
+pub mod Lasting
+pub mod Requests
+pub mod Others
+pub mod OwnSince
+pub mod OwnEnding
+pub mod OwnAsking
+pub mod OwnEntering

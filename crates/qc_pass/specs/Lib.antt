@@ -3,3 +3,5 @@ pub mod Entries
 pub mod Rules
 pub mod Refusing
 pub mod Calling
+pub mod Own
+pub mod Ending

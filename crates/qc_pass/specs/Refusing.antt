@@ -54,6 +54,10 @@ against_commit n past = option_or (if_ended past n) (option_or (if_dead past n) 
 abbrev pub against_abort : Name → Past → Option DeskNo
 against_abort n past = option_or (if_ended past n) (if_ready past n)
 
+-- what is against an access: its death
+abbrev pub against_access : Name → Past → Option DeskNo
+against_access n past = if_dead past n
+
 -- nothing is looked at
 abbrev pub against_nothing : Past → Option DeskNo
 against_nothing past = None

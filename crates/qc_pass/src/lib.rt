@@ -1,7 +1,9 @@
 //! One legal history behind a lock, and passes that know a beginning of it.
 #![tactic(auto)]
 
+mod accesses;
 mod desk;
+mod ends;
 mod history;
 mod locked;
 mod lookups;

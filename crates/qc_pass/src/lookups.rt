@@ -5,7 +5,7 @@ ghost use Rattle.qc_event.specs.History as words;
 ghost use Rattle.qc_event.specs.History.{limit};
 ghost use Rattle.qc_event.specs.Standing.{open_child};
 ghost use Rattle.qc_names.specs.Name.{longest};
-ghost use Rattle.qc_pass.specs.Refusing.{against_child, against_ready, against_commit, against_abort, if_dead};
+ghost use Rattle.qc_pass.specs.Refusing.{against_child, against_ready, against_commit, against_abort, against_access};
 
 use crate::locked::Locked;
 use crate::refusal::DeskNo;
@@ -66,9 +66,9 @@ impl<N: Store> Locked<N> {
         self.history.open_child(name)
     }
 
-    /// What is against a name that is dead.
-    pub(crate) fn against_dead(&self, name: &Name) -> Option<DeskNo>
-        ensures { result ≡ if_dead self.now name.now }
+    /// What is against an access: its death.
+    pub(crate) fn against_access(&self, name: &Name) -> Option<DeskNo>
+        ensures { result ≡ against_access name.now self.now }
     {
         match self.dead(name) {
             Some(ancestor) => Some(DeskNo::Orphan(ancestor)),
