@@ -14,3 +14,5 @@ pub mod OwnSince
 pub mod OwnEnding
 pub mod OwnAsking
 pub mod OwnEntering
+pub mod Granting
+pub mod Seers

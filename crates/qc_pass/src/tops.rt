@@ -1,9 +1,10 @@
-//! Calls with which a client starts tops, and makes them ready.
-ghost use Rattle.std.specs.Prelude.{◌≡◌, ◌+◌, true, length, is_some, OnOk, IfOk, IfErr, []};
+//! Calls with which a client starts tops, makes them ready, and marks sessions.
+ghost use Rattle.std.specs.Prelude.{◌≡◌, ◌≤◌, ◌+◌, true, length, is_some, OnOk, IfOk, IfErr, []};
 ghost use Rattle.qc_event.specs.declared.event.Event.TheVariants as event;
 ghost use Rattle.qc_event.specs.declared.event.Kind.TheVariants as kind;
 ghost use Rattle.qc_event.specs.History.{Past, start, children};
 ghost use Rattle.qc_event.specs.Seats as seats;
+ghost use Rattle.qc_event.specs.Standing.{Started, IsUser};
 ghost use Rattle.qc_pass.specs.Calling.{EnteredAs, Entered, Refused};
 ghost use Rattle.qc_pass.specs.Refusing.{against_nothing, against_ready};
 ghost use Rattle.qc_pass.specs.Rules.{IsClient};
@@ -62,5 +63,27 @@ impl<N: Store> Desk<N> {
         locked.look(&self.room, pass);
         let no = locked.against_ready(top);
         locked.enter(&self.room, pass, no, Event::Ready { top: *top })
+    }
+
+    /// A user transaction whose start was seen marks a session, whose number is at most 15. The only errors are
+    /// want of memory and of room.
+    pub fn mark<R: Wait>(
+        &self,
+        rt: &R,
+        pass: &mut Pass<N>,
+        by: &Name,
+        session: u8,
+    ) -> Result<(), DeskNo>
+        requires client { IsClient pass.old }
+        requires user { Started pass.old.seen by.now (λ b. IsUser b.kind) }
+        requires small { session ≤ 15 }
+        ensures ok { OnOk result
+            (Entered against_nothing (event.Mark by.now session) pass.old pass.new) }
+        ensures err { IfErr result (Refused against_nothing pass.old pass.new) }
+    {
+        let mut locked = self.locked.lock(rt);
+        locked.look(&self.room, pass);
+        let event = Event::Mark { by: *by, session };
+        locked.enter(&self.room, pass, None, event)
     }
 }
