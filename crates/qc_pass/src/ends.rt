@@ -1,9 +1,10 @@
-//! The calls with which a client commits and aborts.
+//! The calls with which a client commits, aborts, and looks whether a name has ended.
 ghost use Rattle.std.specs.Prelude.{◌≡◌, OnOk, IfErr};
 ghost use Rattle.qc_event.specs.declared.event.Event.TheVariants as event;
 ghost use Rattle.qc_event.specs.declared.event.How.TheVariants.{Commit as Commits, Abort as Aborts};
+ghost use Rattle.qc_event.specs.History.{end};
 ghost use Rattle.qc_event.specs.Standing.{Started};
-ghost use Rattle.qc_pass.specs.Calling.{Entered, Refused};
+ghost use Rattle.qc_pass.specs.Calling.{Entered, Refused, Shown};
 ghost use Rattle.qc_event.specs.Tables.{setting_of};
 ghost use Rattle.qc_pass.specs.Ending.{LastingCause};
 ghost use Rattle.qc_pass.specs.Own.{CommitsOwn};
@@ -69,5 +70,15 @@ impl<N: Store> Desk<N> {
             how: How::Abort(*cause),
         };
         locked.enter(&self.room, pass, no, event)
+    }
+
+    /// How a name ended, in the history at this step; none exactly where it has not.
+    pub fn ended<R: Wait>(&self, rt: &R, pass: &mut Pass<N>, name: &Name) -> Option<How>
+        ensures looked { Shown pass.old pass.new }
+        ensures end { result ≡ end pass.new.seen name.now }
+    {
+        let mut locked = self.locked.lock(rt);
+        locked.look(&self.room, pass);
+        locked.end(name)
     }
 }

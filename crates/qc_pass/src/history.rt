@@ -10,7 +10,7 @@ ghost use Rattle.qc_names.specs.Name.{longest};
 ghost use Rattle.qc_pass.specs.Entries.{WhereLegal};
 
 use qc_desk::{Index, Outcomes};
-use qc_event::{Entry, Name, Outcome, Short};
+use qc_event::{Entry, Event, How, Name, Outcome, Short};
 use std::alloc::{AllocError, Global};
 use std::marker::Model;
 
@@ -30,6 +30,16 @@ fn put<T: Copy>(items: &mut Vec<T>, item: T)
     ensures { items.new.items ≡ items.old.items ++ item ∷ [] }
 {
     items.push_reserved(item);
+}
+
+// How a name ended, where the entry is its end.
+fn end_in(entry: &Entry, n: &Name) -> Option<How>
+    ensures { result ≡ words.end_in n.now entry.now.event }
+{
+    match &entry.event {
+        Event::End { name, how } if name == n => Some(*how),
+        _ => None,
+    }
 }
 
 /// A legal history with its index. Contracts see it with its latest entry first. How a name stands is found by the
@@ -108,6 +118,19 @@ impl History {
         ensures { WhereLegal self.now (result ≡ dead_words.outcome self.now name.now) }
     {
         self.index.outcome(name)
+    }
+
+    /// How a name ended.
+    pub fn end(&self, name: &Name) -> Option<How>
+        ensures { WhereLegal self.now (result ≡ words.end self.now name.now) }
+    {
+        let Some(at) = self.index.end(name) else {
+            return None;
+        };
+        match self.entries.get(at as usize) {
+            Some(entry) => end_in(entry, name),
+            None => None,
+        }
     }
 
     /// The shortest aborted ancestor of a name.

@@ -10,7 +10,7 @@ ghost use Rattle.qc_pass.specs.Refusing.{against_child, against_ready, against_c
 use crate::locked::Locked;
 use crate::refusal::DeskNo;
 use crate::store::Store;
-use qc_event::{Name, Outcome};
+use qc_event::{How, Name, Outcome};
 
 impl<N: Store> Locked<N> {
     /// How many entries there are.
@@ -26,6 +26,13 @@ impl<N: Store> Locked<N> {
         ensures { result ≡ dead_words.outcome self.now name.now }
     {
         self.history.outcome(name)
+    }
+
+    /// How a name ended.
+    pub(crate) fn end(&self, name: &Name) -> Option<How>
+        ensures { result ≡ words.end self.now name.now }
+    {
+        self.history.end(name)
     }
 
     /// The shortest aborted ancestor of a name.
