@@ -1,0 +1,143 @@
+-- Licences that stand once they were seen.
+use Rattle.std.proofs.Common.{◌≡◌, ℕ, Bool, true, false, ◌++◌, refl, sym, ap, ◌∙◌, subst, inl, inr}
+use Rattle.std.specs.Prelude.{Option, None, Some, MatchOption, IsTrue, not, is_some, ◌||◌, ◌&&◌, ◌==◌, nat_le}
+use Rattle.std.specs.List.{list_any}
+use Rattle.std.specs.Option.{option_or, option_map_or}
+use Rattle.std.proofs.lemmas.Bool.{or_cases, or_left, or_right}
+use Rattle.std.proofs.lemmas.List.Folds.{list_any-append}
+use Rattle.qc_names.specs.Name as name
+use Rattle.qc_event.specs.declared.event.Cause.{Cause}
+use Rattle.qc_event.specs.declared.event.Cause.TheVariants as cause
+use Rattle.qc_event.specs.declared.event.Entry.{Entry}
+use Rattle.qc_event.specs.declared.event.Event.TheVariants as event
+use Rattle.qc_event.specs.declared.event.How.{How}
+use Rattle.qc_event.specs.declared.event.How.TheVariants.{Abort}
+use Rattle.qc_event.specs.declared.event.Kind.{Kind}
+use Rattle.qc_event.specs.declared.event.Kind.TheVariants as kind
+use Rattle.qc_event.specs.Aborts.{AccessCause, Licensed}
+use Rattle.qc_event.specs.Base.{Setting}
+use Rattle.qc_event.specs.History.{Past, Name, Begun, IsOpen, earliest, start, start_in, end, gone, refused, is_ready}
+use Rattle.qc_event.specs.Legal.{Allowed, MayEnd}
+use Rattle.qc_event.specs.Seats.{is_client}
+use Rattle.qc_event.specs.Standing.{Started, IsAbort, IsUser, IsManager, IsOrphanOf}
+use Rattle.qc_event.specs.Users.{ChildAborted, UserCause, MayAbort, is_marked, mark_of, top_number}
+use Rattle.qc_event.proofs.Histories.{earliest-append}
+use Rattle.qc_event.proofs.Lawful.{started_some}
+use Rattle.qc_pass.specs.Ending.{LastingCause}
+use Rattle.qc_pass.specs.Entries.{IsOlder, entry}
+use Rattle.qc_pass.specs.Refusing.{if_ended, if_ready, against_abort}
+use Rattle.qc_pass.proofs.Entering.{neither, not_ended, unready, started_since}
+
+-- what an entry told first is told first for ever
+still_there : {X : Type 0} (o new : Option X) (P : X → Type 0) → MatchOption o ⊥ P → MatchOption (option_or o new) ⊥ P
+still_there None new P h = absurd h
+still_there (Some x) new P h = h
+
+pub match_stays : {Y : Type 0} (f : Entry → Option Y) (newer past : Past) (P : Y → Type 0) → MatchOption (earliest f past) ⊥ P → MatchOption (earliest f (newer ++ past)) ⊥ P
+match_stays f newer past P h = subst (λ o. MatchOption o ⊥ P) (sym (earliest-append f newer past)) (still_there (earliest f past) (earliest f newer) P h)
+
+still_some : {X : Type 0} (o new : Option X) → is_some o ≡ true → is_some (option_or o new) ≡ true
+still_some None new h = absurd cc
+still_some (Some x) new h = refl
+
+pub some_stays : {Y : Type 0} (f : Entry → Option Y) (newer past : Past) → is_some (earliest f past) ≡ true → is_some (earliest f (newer ++ past)) ≡ true
+some_stays f newer past h = ap is_some (earliest-append f newer past) ∙ still_some (earliest f past) (earliest f newer) h
+
+still_is : {X : Type 0} (o new : Option X) (x : X) → o ≡ Some x → option_or o new ≡ Some x
+still_is o new x is = ap (λ q. option_or q new) is
+
+pub is_stays : {Y : Type 0} (f : Entry → Option Y) (newer past : Past) (y : Y) → earliest f past ≡ Some y → earliest f (newer ++ past) ≡ Some y
+is_stays f newer past y is = earliest-append f newer past ∙ still_is (earliest f past) (earliest f newer) y is
+
+pub any_stays : (test : Entry → Bool) (newer past : Past) → list_any test past ≡ true → list_any test (newer ++ past) ≡ true
+any_stays test newer past h = list_any-append test newer past ∙ or_right (list_any test newer) (list_any test past) h
+
+pub map_match : {X : Type 0} (o : Option X) (P Q : X → Type 0) → ((x : X) → P x → Q x) → MatchOption o ⊥ P → MatchOption o ⊥ Q
+map_match None P Q f h = absurd h
+map_match (Some x) P Q f h = f x h
+
+pub orphan_stays : (newer past : Past) (n a : Name) → IsOrphanOf past n a → IsOrphanOf (newer ++ past) n a
+orphan_stays newer past n a o = record { above = o.above; not_itself = o.not_itself; aborted = match_stays _ newer past IsAbort o.aborted }
+
+pub access_cause_stays : (newer past : Past) (n : Name) (c : Cause) → AccessCause past n c → AccessCause (newer ++ past) n c
+access_cause_stays newer past n cause.Missed h = elim (or_cases (is_some (gone past n)) (is_some (refused past n)) h) [
+  | inl was ↦ or_left (is_some (gone (newer ++ past) n)) (is_some (refused (newer ++ past) n)) (some_stays _ newer past was)
+  | inr was ↦ or_right (is_some (gone (newer ++ past) n)) (is_some (refused (newer ++ past) n)) (some_stays _ newer past was)
+]
+access_cause_stays newer past n (cause.Orphan a) h = orphan_stays newer past n a h
+access_cause_stays newer past n (cause.Conflict c x) h = absurd h
+access_cause_stays newer past n (cause.NoQuorum l) h = absurd h
+access_cause_stays newer past n cause.Last h = absurd h
+access_cause_stays newer past n (cause.Asked x) h = absurd h
+access_cause_stays newer past n cause.Killed h = absurd h
+access_cause_stays newer past n (cause.Child x) h = absurd h
+
+child_stays : (newer past : Past) (n : Name) (c : Cause) → ChildAborted past n c → ChildAborted (newer ++ past) n c
+child_stays newer past n c a = record {
+  child = a.child;
+  is_one = a.is_one;
+  manages = started_since newer past a.child (λ b. IsManager b.kind) a.manages;
+  ended = is_stays _ newer past (Abort c) a.ended;
+}
+
+pub user_cause_stays : (newer past : Past) (n : Name) (session : ℕ) (c : Cause) → UserCause past n session c → UserCause (newer ++ past) n session c
+user_cause_stays newer past n session (cause.Asked by) h = (started_since newer past by (λ b. IsUser b.kind) h.0, h.1)
+user_cause_stays newer past n session (cause.Orphan a) h = orphan_stays newer past n a h
+user_cause_stays newer past n session cause.Killed h = any_stays (λ (e : Entry). option_map_or (λ m. (m.1 == session) && nat_le (top_number n) (top_number m.0)) (mark_of e.event) false) newer past h
+user_cause_stays newer past n session (cause.Child c) h = (h.0, started_since newer past c (λ b. IsUser b.kind) h.1, match_stays _ newer past IsAbort h.2)
+user_cause_stays newer past n session cause.Missed h = absurd h
+user_cause_stays newer past n session (cause.Conflict copy x) h = child_stays newer past n (cause.Conflict copy x) h
+user_cause_stays newer past n session (cause.NoQuorum lack) h = child_stays newer past n (cause.NoQuorum lack) h
+user_cause_stays newer past n session cause.Last h = child_stays newer past n cause.Last h
+
+-- what was licensed still is
+pub licence_stays : (setting : Setting) (newer past : Past) (seat : ℕ) (n : Name) (b : Begun) (k : Kind) (c : Cause) → LastingCause past seat n b k c → Licensed setting (newer ++ past) seat n b k c
+licence_stays setting newer past seat n b (kind.User session body) c h = user_cause_stays newer past n session c h
+licence_stays setting newer past seat n b kind.Access c h = (access_cause_stays newer past n c h.0, started_since newer past (name.front n) (λ m. seat ≡ m.seat) h.1)
+licence_stays setting newer past seat n b (kind.Read rec) (cause.Orphan a) h = (orphan_stays newer past n a h.0, h.1)
+licence_stays setting newer past seat n b (kind.Read rec) (cause.Conflict copy x) h = absurd h
+licence_stays setting newer past seat n b (kind.Read rec) (cause.NoQuorum lack) h = absurd h
+licence_stays setting newer past seat n b (kind.Read rec) cause.Last h = absurd h
+licence_stays setting newer past seat n b (kind.Read rec) (cause.Asked by) h = absurd h
+licence_stays setting newer past seat n b (kind.Read rec) cause.Killed h = absurd h
+licence_stays setting newer past seat n b (kind.Read rec) (cause.Child x) h = absurd h
+licence_stays setting newer past seat n b (kind.Read rec) cause.Missed h = absurd h
+licence_stays setting newer past seat n b (kind.Write rec value) (cause.Orphan a) h = (orphan_stays newer past n a h.0, h.1)
+licence_stays setting newer past seat n b (kind.Write rec value) (cause.Conflict copy x) h = absurd h
+licence_stays setting newer past seat n b (kind.Write rec value) (cause.NoQuorum lack) h = absurd h
+licence_stays setting newer past seat n b (kind.Write rec value) cause.Last h = absurd h
+licence_stays setting newer past seat n b (kind.Write rec value) (cause.Asked by) h = absurd h
+licence_stays setting newer past seat n b (kind.Write rec value) cause.Killed h = absurd h
+licence_stays setting newer past seat n b (kind.Write rec value) (cause.Child x) h = absurd h
+licence_stays setting newer past seat n b (kind.Write rec value) cause.Missed h = absurd h
+licence_stays setting newer past seat n b (kind.Reconf rec config) (cause.Orphan a) h = (orphan_stays newer past n a h.0, h.1)
+licence_stays setting newer past seat n b (kind.Reconf rec config) (cause.Conflict copy x) h = absurd h
+licence_stays setting newer past seat n b (kind.Reconf rec config) (cause.NoQuorum lack) h = absurd h
+licence_stays setting newer past seat n b (kind.Reconf rec config) cause.Last h = absurd h
+licence_stays setting newer past seat n b (kind.Reconf rec config) (cause.Asked by) h = absurd h
+licence_stays setting newer past seat n b (kind.Reconf rec config) cause.Killed h = absurd h
+licence_stays setting newer past seat n b (kind.Reconf rec config) (cause.Child x) h = absurd h
+licence_stays setting newer past seat n b (kind.Reconf rec config) cause.Missed h = absurd h
+
+-- THE ABORT
+
+pub abort_allowed : (setting : Setting) (seat : ℕ) (seen now : Past) (n : Name) (c : Cause) → IsOlder seen now → IsTrue (is_client seat) → Started seen n (λ b. LastingCause seen seat n b b.kind c)
+    → against_abort n now ≡ None → Allowed setting now (entry seat (event.End n (Abort c)))
+abort_allowed setting seat seen now n c older client licensed none =
+    subst (λ p. Started p n (MayEnd setting p seat n (Abort c))) (sym older.1)
+    (map_match (start (older.0 ++ seen) n) (λ b. LastingCause seen seat n b b.kind c) (MayEnd setting (older.0 ++ seen) seat n (Abort c)) ends (match_stays (λ e. start_in n e.seat e.event) older.0 seen (λ b. LastingCause seen seat n b b.kind c) licensed))
+  where
+    tests : (if_ended now n ≡ None) × (if_ready now n ≡ None)
+    tests = neither (if_ended now n) (if_ready now n) none
+
+    is_open : IsOpen (older.0 ++ seen) n
+    is_open = record {
+      started = some_stays (λ e. start_in n e.seat e.event) older.0 seen (started_some (λ b. LastingCause seen seat n b b.kind c) (start seen n) licensed);
+      not_ended = ap (λ p. end p n) (sym older.1) ∙ not_ended now n tests.0;
+    }
+
+    ends : (b : Begun) → LastingCause seen seat n b b.kind c → MayEnd setting (older.0 ++ seen) seat n (Abort c) b
+    ends b h = may
+      where
+        may : MayAbort (Licensed setting (older.0 ++ seen) seat n b b.kind c) (older.0 ++ seen) seat n
+        may = record { by_client = client; is_open = is_open; not_ready = ap (λ p. not (is_ready p n)) (sym older.1) ∙ ap not (unready now n tests.1); licensed = licence_stays setting older.0 seen seat n b b.kind c h }

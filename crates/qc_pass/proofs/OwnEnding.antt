@@ -1,0 +1,124 @@
+-- What ends an access or commits a manager by what was seen does so after all that others entered, unless it has died.
+use Rattle.std.proofs.Common.{◌≡◌, inl, inr, ℕ, ◌+◌, Bool, true, false, List, [], ◌∷◌, ◌++◌, refl, sym, ap, ap₂, ◌∙◌, subst}
+use Rattle.std.proofs.Math.Path.{fun_ext}
+use Rattle.std.specs.Prelude.{Option, None, Some, MatchOption, IsTrue, ◌&&◌, not, is_some}
+use Rattle.std.specs.List.{AllByRecursion, list_any, list_all}
+use Rattle.std.specs.Option.{option_or, option_map_or}
+use Rattle.std.proofs.lemmas.Bool.{or_cases, or_left, or_right}
+use Rattle.std.proofs.lemmas.List.Folds.{list_any-append}
+use Rattle.qc_config.specs.Config.{Voting}
+use Rattle.qc_config.specs.declared.tuple.Tuple.{Tuple}
+use Rattle.qc_event.specs.declared.event.Answer.{Answer}
+use Rattle.qc_event.specs.declared.event.Answer.TheVariants as answer
+use Rattle.qc_event.specs.declared.event.Ask.{Ask}
+use Rattle.qc_event.specs.declared.event.Entry.{Entry}
+use Rattle.qc_event.specs.declared.event.Kind.{Kind}
+use Rattle.qc_event.specs.declared.event.Kind.TheVariants as kind
+use Rattle.qc_event.specs.declared.event.Phase.{Phase}
+use Rattle.qc_event.specs.declared.event.Why.{Why}
+use Rattle.qc_event.specs.Base.{Setting}
+use Rattle.qc_event.specs.Commits.{MayCommitAccess, MayCommitManager, manager_answer}
+use Rattle.qc_event.specs.Dead.{dead}
+use Rattle.qc_event.specs.History.{Past, Name, Begun, Asked, Given, IsOpen, start, end, asked, granted, asks, is_child}
+use Rattle.qc_event.specs.Legal.{Legal}
+use Rattle.qc_event.specs.Manager.{result, stages_by, collecting, is_last, greatest_among, is_complete, first_for}
+use Rattle.qc_event.specs.Requests.{MayGiveUp, is_fault, is_why, unable_in, was_unable}
+use Rattle.qc_event.specs.Seats.{is_client}
+use Rattle.qc_event.specs.Standing.{open_child}
+use Rattle.qc_event.proofs.Histories.{earliest-append}
+use Rattle.qc_event.proofs.OneEntry.{start_stays}
+use Rattle.qc_pass.proofs.Requests.{waits_for_none}
+use Rattle.qc_pass.specs.Entries.{AreOthers}
+use Rattle.qc_pass.specs.Own.{IsMine, IsComplete}
+use Rattle.qc_pass.proofs.OwnSince as since
+use Rattle.qc_pass.proofs.OwnSince.{replies_by, has_by, enough_of, newest_of, replies_agree, has_agree}
+
+still_there : {X : Type 0} (o new : Option X) (P : X → Type 0) → MatchOption o ⊥ P → MatchOption (option_or o new) ⊥ P
+still_there None new P h = absurd h
+still_there (Some x) new P h = h
+
+started_still : (newer past : Past) (n : Name) → is_some (start past n) ≡ true → is_some (start (newer ++ past) n) ≡ true
+started_still [] past n h = h
+started_still (e ∷ newer) past n h = start_stays e (newer ++ past) n (started_still newer past n h)
+
+-- whether a manager is complete, by the replies to its reads and by who replied in each phase
+abbrev complete_of : List Tuple → (Phase → ℕ → Bool) → Voting → Kind → Bool
+complete_of tuples has first k =
+    not (enough_of has (collecting (newest_of tuples first)) && is_last k (newest_of tuples first) (greatest_among tuples))
+    && list_all (enough_of has) (stages_by k (newest_of tuples first) (greatest_among tuples))
+
+module _ (setting : Setting) (past newer : Past) (seat : ℕ) (m : Name) (mine : IsMine past seat m) (legal : Legal setting (newer ++ past)) (all : AreOthers seat newer) where
+  abbrev now : Past
+  now = newer ++ past
+
+  older : Legal setting past
+  older = since.older setting past seat m mine newer legal
+
+  -- ACCESSES
+
+  module _ (c : Name) (child : is_child m c ≡ true) where
+    open_now : IsOpen past c → IsOpen now c
+    open_now was = record { started = started_still newer past c was.started; not_ended = since.access_end_same setting past seat m mine newer legal all c child ∙ was.not_ended }
+
+    asked_now : MatchOption (asked past c) ⊥ (λ a. a.seat ≡ seat) → MatchOption (asked now c) ⊥ (λ a. a.seat ≡ seat)
+    asked_now h = subst (λ o. MatchOption o ⊥ (λ (a : Asked). a.seat ≡ seat)) (sym (since.asked_same setting past seat m mine newer legal all c child)) h
+
+    -- an access is given up by what was seen alone
+    pub gives_up_now : (why : Why) → MayGiveUp past seat c why → MayGiveUp now seat c why
+    gives_up_now why may = record {
+      by_client = may.by_client;
+      asked_here = asked_now may.asked_here;
+      is_open = open_now may.is_open;
+      first_time = since.gone_same setting past seat m mine newer legal all c child ∙ may.first_time;
+      told = elim (or_cases (not (is_fault why)) (was_unable past c why) may.told) [
+        | inl lossy ↦ or_left (not (is_fault why)) (was_unable now c why) lossy
+        | inr unable ↦ or_right (not (is_fault why)) (was_unable now c why)
+            (list_any-append (λ (e : Entry). option_map_or (is_why why) (unable_in c e.event) false) newer past ∙ or_right (list_any (λ (e : Entry). option_map_or (is_why why) (unable_in c e.event) false) newer) _ unable)
+      ];
+    }
+
+    -- an access commits with the reply that was seen, unless it has died
+    pub replies_now : (given : Answer) → MayCommitAccess past seat c given → dead now c ≡ None → MayCommitAccess now seat c given
+    replies_now given may alive = record {
+      by_client = may.by_client;
+      asked_here = asked_now may.asked_here;
+      going = record { is_open = open_now may.going.is_open; alive = alive };
+      reply = subst (λ o. MatchOption o ⊥ (λ (g : Given). given ≡ answer.Reply g.grant.tuple)) (sym (earliest-append _ newer past))
+          (still_there (granted past c) (granted newer c) (λ g. given ≡ answer.Reply g.grant.tuple) may.reply);
+    }
+
+  -- THE MANAGER
+
+  module _ (closed : open_child past m ≡ None) where
+    agree : AllByRecursion (λ (a : Ask). result now a.access ≡ result past a.access) (asks past m)
+    agree = since.results_same setting past seat m mine newer legal all (waits_for_none setting past m older closed)
+
+    tuples_same : replies_by (asks now m) (result now) ≡ replies_by (asks past m) (result past)
+    tuples_same = ap (λ requests. replies_by requests (result now)) (since.asks_same setting past seat m mine newer legal all) ∙ replies_agree (result now) (result past) (asks past m) agree
+
+    has_same : has_by (asks now m) (result now) ≡ has_by (asks past m) (result past)
+    has_same = ap (λ requests. has_by requests (result now)) (since.asks_same setting past seat m mine newer legal all) ∙ fun_ext (λ phase. fun_ext (λ copy. has_agree (result now) (result past) (asks past m) agree phase copy))
+
+    complete_same : (first : Voting) (k : Kind) → is_complete now first m k ≡ is_complete past first m k
+    complete_same first k = ap₂ (λ (t : List Tuple) (h : Phase → ℕ → Bool). complete_of t h first k) tuples_same has_same
+
+    answer_same : (first : Voting) (k : Kind) → manager_answer now first m k ≡ manager_answer past first m k
+    answer_same first (kind.Read rec) = ap (λ t. answer.Value (greatest_among t).value) tuples_same
+    answer_same first (kind.Reconf rec config) = ap (λ t. answer.Generation ((newest_of t first).generation + 1)) tuples_same
+    answer_same first (kind.Write rec value) = refl
+    answer_same first (kind.User session body) = refl
+    answer_same first kind.Access = refl
+
+  -- a manager that was complete by what was seen commits with the same answer, unless it has ended, died, or has an open child
+  pub commits_now : (b : Begun) (given : Answer) → IsTrue (is_client seat) → IsComplete setting past seat m given b → is_some (start past m) ≡ true → end now m ≡ None → dead now m ≡ None → open_child now m ≡ None → MayCommitManager setting now seat m b given
+  commits_now b given client own started not_ended alive closed = record {
+    by_client = client;
+    own_seat = own.own_seat;
+    going = record { is_open = record { started = started_still newer past m started; not_ended = not_ended }; alive = alive };
+    complete = complete_same closed_then (first_for setting b.kind) b.kind ∙ own.complete;
+    children_ended = closed;
+    answers = own.answers ∙ sym (answer_same closed_then (first_for setting b.kind) b.kind);
+  }
+    where
+      closed_then : open_child past m ≡ None
+      closed_then = sym (since.closed_same setting past seat m mine newer legal all) ∙ closed

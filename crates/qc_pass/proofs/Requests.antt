@@ -1,0 +1,84 @@
+-- Requests: each is of a started child of its manager, and the request of a name is of its access.
+use Rattle.std.proofs.Common.{◌≡◌, ℕ, Bool, true, false, List, [], ◌∷◌, ◌++◌, refl, sym, ap, ◌∙◌, inl, inr}
+use Rattle.std.specs.Prelude.{Option, None, Some, cond, if◌then◌else◌, find, is_some, is_none, option_to_list}
+use Rattle.std.specs.List.{AllByRecursion}
+use Rattle.std.specs.Option.{option_or}
+use Rattle.qc_event.specs.declared.event.Ask.{Ask}
+use Rattle.qc_event.specs.declared.event.Entry.{Entry}
+use Rattle.qc_event.specs.declared.event.Event.{Event}
+use Rattle.qc_event.specs.declared.event.Event.TheVariants as event
+use Rattle.qc_event.specs.Base.{Setting}
+use Rattle.qc_event.specs.History.{Past, Name, Asked, same, start, end, is_child, asks, ask_below, asked, ask_in}
+use Rattle.qc_event.specs.Legal.{Legal, MayHappen}
+use Rattle.qc_event.specs.Manager.{waiting}
+use Rattle.qc_event.specs.Standing.{open_child}
+use Rattle.qc_event.proofs.Absent.{same_is}
+use Rattle.qc_event.proofs.Lawful.{started_some}
+use Rattle.qc_event.proofs.OneEntry.{if_is, first_is, no_child_passes, start_stays}
+
+-- nothing comes to an answer
+pub still : {Y : Type 0} (o : Option Y) → option_or o None ≡ o
+still None = refl
+still (Some y) = refl
+
+-- a request is of a started child
+pub record IsOwn (past : Past) (m : Name) (ask : Ask) : Type 0 where
+  pub child : is_child m ask.access ≡ true
+  pub started : is_some (start past ask.access) ≡ true
+
+own_still : (e : Entry) (past : Past) (m : Name) (requests : List Ask) → AllByRecursion (IsOwn past m) requests → AllByRecursion (IsOwn (e ∷ past) m) requests
+own_still e past m [] all = tt
+own_still e past m (a ∷ rest) all = (record { child = all.0.child; started = start_stays e past a.access all.0.started }, own_still e past m rest all.1)
+
+own_more : (past : Past) (m : Name) (requests more : List Ask) → AllByRecursion (IsOwn past m) requests → AllByRecursion (IsOwn past m) more → AllByRecursion (IsOwn past m) (requests ++ more)
+own_more past m [] more all here = here
+own_more past m (a ∷ rest) more all here = (all.0, own_more past m rest more all.1 here)
+
+-- each request of a manager is a started child's
+pub asks_own : (setting : Setting) (past : Past) (m : Name) → Legal setting past → AllByRecursion (IsOwn past m) (asks past m)
+asks_own setting [] m legal = tt
+asks_own setting (e ∷ past) m legal = own_more (e ∷ past) m (asks past m) _ (own_still e past m (asks past m) (asks_own setting past m legal.0)) (by_event e.event legal.1)
+  where
+    by_test : (ask : Ask) (b : Bool) → is_child m ask.access ≡ b → is_some (start past ask.access) ≡ true → AllByRecursion (IsOwn (e ∷ past) m) (option_to_list (if b then Some ask else None))
+    by_test ask true child began = (record { child = child; started = start_stays e past ask.access began }, tt)
+    by_test ask false child began = tt
+
+    by_event : (ev : Event) → MayHappen setting past e.seat ev → AllByRecursion (IsOwn (e ∷ past) m) (option_to_list (ask_below m ev))
+    by_event (event.Ask ask) may = by_test ask (is_child m ask.access) refl (started_some _ (start past ask.access) may.started)
+    by_event _ may = tt
+
+none_found : {X : Type 0} (p : X → Bool) (xs : List X) → AllByRecursion (λ x. p x ≡ false) xs → find p xs ≡ None
+none_found p [] all = refl
+none_found p (x ∷ xs) all = ap (λ b. cond b (Some x) (find p xs)) all.0 ∙ none_found p xs all.1
+
+-- a manager without an open child waits for nothing
+pub waits_for_none : (setting : Setting) (past : Past) (m : Name) → Legal setting past → open_child past m ≡ None → waiting past m ≡ None
+waits_for_none setting past m legal closed = none_found (λ (ask : Ask). is_none (end past ask.access)) (asks past m) (each_ended (asks past m) (asks_own setting past m legal))
+  where
+    each_ended : (requests : List Ask) → AllByRecursion (IsOwn past m) requests → AllByRecursion (λ (ask : Ask). is_none (end past ask.access) ≡ false) requests
+    each_ended [] all = tt
+    each_ended (a ∷ rest) all = (no_child_passes (λ c. is_none (end past c)) past m a.access all.0.child all.0.started closed, each_ended rest all.1)
+
+-- An entry is this request, of this name.
+record IsAsk (n : Name) (seat : ℕ) (ev : Event) (a : Asked) : Type 0 where
+  same_seat : seat ≡ a.seat
+  asks : ev ≡ event.Ask a.ask
+  of_name : a.ask.access ≡ n
+
+asking : (n : Name) (seat : ℕ) (ev : Event) (a : Asked) → ask_in n seat ev ≡ Some a → IsAsk n seat ev a
+asking n seat (event.Ask ask) a is =
+    let parts = if_is (same ask.access n) (record { seat = seat; ask = ask }) a is in
+    record {
+      same_seat = ap (λ (x : Asked). x.seat) parts.1;
+      asks = ap (λ (x : Asked). event.Ask x.ask) parts.1;
+      of_name = sym (ap (λ (x : Asked). x.ask.access) parts.1) ∙ same_is ask.access n parts.0;
+    }
+asking n seat _ a is = absurd cc
+
+-- the request of a name is of its access
+pub asked_access : (past : Past) (n : Name) (a : Asked) → asked past n ≡ Some a → a.ask.access ≡ n
+asked_access [] n a is = absurd cc
+asked_access (e ∷ past) n a is = elim (first_is (asked past n) (ask_in n e.seat e.event) a is) [
+  | inl old ↦ asked_access past n a old
+  | inr new ↦ (asking n e.seat e.event a new.1).of_name
+]

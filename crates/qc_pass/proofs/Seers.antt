@@ -1,0 +1,61 @@
+-- What a pass and a seer know while the history goes on.
+use Rattle.std.proofs.Common.{◌≡◌, ℕ, ◌+◌, true, [], ◌∷◌, ◌++◌, refl, sym, ap, ◌∙◌, append_assoc, subst, inl, inr}
+use Rattle.std.specs.Prelude.{Option, None, Some, MatchOption, IsTrue, Result, Ok, Err}
+use Rattle.qc_event.specs.Base.{Setting}
+use Rattle.qc_event.specs.declared.event.Event.{Event}
+use Rattle.qc_event.specs.declared.event.Event.TheVariants as event
+use Rattle.qc_event.specs.declared.event.Grant.{Grant}
+use Rattle.qc_event.specs.declared.event.Why.{Why}
+use Rattle.qc_event.specs.Dead.{dead}
+use Rattle.qc_event.specs.Grants.{MayGrant}
+use Rattle.qc_event.specs.History.{Past, Name, earliest, ask_in, ready_in}
+use Rattle.qc_event.specs.Legal.{Legal, Allowed}
+use Rattle.qc_event.specs.Requests.{MayBeUnable}
+use Rattle.qc_event.specs.Standing.{Started, IsUser}
+use Rattle.qc_event.specs.Users.{MayMark}
+use Rattle.qc_pass.specs.declared.refusal.DeskNo.{DeskNo}
+use Rattle.qc_pass.specs.declared.view.View.{View}
+use Rattle.qc_pass.specs.Calling.{IsLook, IsEntry, Shown}
+use Rattle.qc_pass.specs.Entries.{AreOthers, IsOlder, IsSince, entry}
+use Rattle.qc_pass.specs.Refusing.{Refuses}
+use Rattle.qc_pass.specs.Rules.{knows}
+use Rattle.qc_pass.proofs.Granting.{grant_still_allowed}
+use Rattle.qc_pass.proofs.Lasting.{match_stays, some_stays}
+
+pub older_trans : (a b c : Past) → IsOlder a b → IsOlder b c → IsOlder a c
+older_trans a b c p q = (q.0 ++ p.0, q.1 ∙ ap (λ x. q.0 ++ x) p.1 ∙ sym (append_assoc q.0 p.0 a))
+
+others_append : (seat : ℕ) (xs ys : Past) → AreOthers seat xs → AreOthers seat ys → AreOthers seat (xs ++ ys)
+others_append seat [] ys a b = b
+others_append seat (x ∷ xs) ys a b = (a.0, others_append seat xs ys a.1 b)
+
+pub since_trans : (seat : ℕ) (a b c : Past) → IsSince seat a b → IsSince seat b c → IsSince seat a c
+since_trans seat a b c p q = (q.0 ++ p.0, q.1 ∙ ap (λ x. q.0 ++ x) p.1 ∙ sym (append_assoc q.0 p.0 a), others_append seat q.0 p.0 q.2 p.2)
+
+-- a seer that looked at one history and then at a later one was shown the later one
+pub shown_twice : (v u w : View) (old old' now now' : Past) → IsOlder v.seen old → (v.live ≡ true → IsSince v.number v.seen old) → IsLook old old' v u
+    → IsOlder u.seen now → (u.live ≡ true → IsSince u.number u.seen now) → IsLook now now' u w → Shown v w
+shown_twice v u w old old' now now' p s l q t k =
+    let mid : u.seen ≡ old = ap (λ (x : View). x.seen) l.1 in
+    let is : w ≡ knows now v = k.1 ∙ ap (λ x. knows now x) l.1 in
+    let seen : w.seen ≡ now = ap (λ (x : View). x.seen) is in (
+      subst (IsOlder v.seen) (sym seen) (older_trans v.seen old now p (subst (λ x. IsOlder x now) mid q)),
+      is ∙ ap (λ x. knows x v) (sym seen),
+      λ live. subst (IsSince v.number v.seen) (sym seen) (since_trans v.number v.seen old now (s live)
+          (subst (λ (x : ℕ × Past). IsSince x.0 x.1 now) (λ i. ((l.1 i).number, mid i)) (t (ap (λ (x : View). x.live) l.1 ∙ live)))),
+    )
+
+-- WHAT COPIES, THE LEDGER AND CLIENTS ENTER BY WHAT A SEER SAW
+
+pub unable_later : (seen now : Past) (seat : ℕ) (n : Name) (why : Why) → IsOlder seen now → MayBeUnable seen seat n why → MayBeUnable now seat n why
+unable_later seen now seat n why older may = subst (λ p. MayBeUnable p seat n why) (sym older.1) (by_who may)
+  where
+    by_who : MayBeUnable seen seat n why → MayBeUnable (older.0 ++ seen) seat n why
+    by_who (inl copy) = inl record { asked_there = match_stays (λ e. ask_in n e.seat e.event) older.0 seen _ copy.asked_there; fault = copy.fault }
+    by_who (inr ledger) = inr record { ledger = ledger.ledger; is_top = ledger.is_top; ready = some_stays (λ e. ready_in n e.event) older.0 seen ledger.ready; fault = ledger.fault }
+
+pub grant_enters : (setting : Setting) (seat copy : ℕ) (seen now : Past) (grant : Grant) → Legal setting now → IsSince seat seen now → MayGrant setting seen seat copy grant → dead seen grant.access ≡ None → Allowed setting now (entry seat (event.Granted copy grant))
+grant_enters setting seat copy seen now grant legal s may alive =
+    subst (λ p. MayGrant setting p seat copy grant) (sym s.1)
+    (subst (λ n. MayGrant setting (s.0 ++ seen) n copy grant) (sym may.by_copy)
+    (grant_still_allowed setting seen s.0 copy grant (subst (Legal setting) s.1 legal) (subst (λ n. AreOthers n s.0) may.by_copy s.2) (subst (λ n. MayGrant setting seen n copy grant) may.by_copy may) alive))

@@ -1,0 +1,26 @@
+-- What stands above what a pass has seen is of others, where no more stands under its number.
+use Rattle.std.proofs.Common.{◌≡◌, ℕ, ◌==◌, Bool, true, false, cond, [], ◌∷◌, ◌++◌, length, arith, refl, sym, ap, ◌∙◌, eq-eqb}
+use Rattle.std.proofs.lemmas.List.{length-append}
+use Rattle.qc_event.specs.History.{Past}
+use Rattle.qc_pass.specs.Entries.{AreOthers}
+use Rattle.qc_pass.specs.Entries.{entries_of, IsOlder, IsSince}
+use Rattle.qc_pass.proofs.Lists.{entries_append}
+
+none_of : (n : ℕ) (newer : Past) → entries_of n newer ≡ [] → AreOthers n newer
+none_of n [] none = tt
+none_of n (e ∷ newer) none = let parts = by_test (e.seat == n) refl none in (parts.0, none_of n newer parts.1)
+  where
+    by_test : (b : Bool) → (e.seat == n) ≡ b → cond b (e ∷ entries_of n newer) (entries_of n newer) ≡ [] → (e.seat ≡ n → ⊥) × (entries_of n newer ≡ [])
+    by_test true is h = absurd cc
+    by_test false is h = ((λ same. absurd (cc (sym is ∙ eq-eqb e.seat n same))), h)
+
+empty : (xs ys : Past) → xs ++ ys ≡ ys → xs ≡ []
+empty [] ys is = refl
+empty (x ∷ xs) ys is = absurd (omega (arith, ap length is, length-append (x ∷ xs) ys))
+
+pub since : (n : ℕ) (before now : Past) → IsOlder before now → entries_of n now ≡ entries_of n before → IsSince n before now
+since n before now older same = (
+  older.0,
+  older.1,
+  none_of n older.0 (empty (entries_of n older.0) (entries_of n before) (sym (entries_append n older.0 before) ∙ sym (ap (entries_of n) older.1) ∙ same)),
+)

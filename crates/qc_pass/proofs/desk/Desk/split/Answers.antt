@@ -1,0 +1,47 @@
+use Rattle.qc_event.specs.Tables.{setting_of}
+use Rattle.std.proofs.Common.{◌≡◌, ◌+◌, ◌<◌, ◌≤◌, [], sym, ap, ◌∙◌, subst, arith}
+use Rattle.qc_pass.specs.declared.view.View.{View}
+use Rattle.qc_pass.specs.Entries.{IsLegal, entries_of}
+use Rattle.qc_pass.specs.Rules.{given}
+use Rattle.qc_pass.proofs.Numbers.{counts, gives, unused, new_rest}
+use Rattle.qc_pass.proofs.desk.Desk.split.Goals as goal
+
+pub load-requires : goal.load-requires
+load-requires g c =
+    let i = c.pass.invariant in
+    let v = c.pass.view_is in
+    (i.0 ∙ sym c.args.self.now.named, omega (arith, c.args.self.now.two), unused _ _ _ _ (ap (λ m. m.live) v ∙ c.requires.client.0) (sym i.2 ∙ c.if-pass-eq0.true) (omega (arith, i.3, c.if-pass-lt-LOW.true)))
+
+pub split_seat-seat-requires : goal.split_seat-seat-requires
+split_seat-seat-requires g c =
+    let i = c.pass.invariant in
+    let v = c.pass.view_is in
+    let l = c.load.ensures in
+    let m = ap (λ m. m.0) l.2.0 in
+    (l.0 ∙ i.0 ∙ sym c.args.self.now.named, omega (arith, c.args.self.now.two), counts _ _ (ap (λ m. m.live) (m ∙ v) ∙ c.requires.client.0) (ap (λ m. m.number) m ∙ sym i.2 ∙ c.if-pass-eq0.true) (subst (λ n. n < 17) (sym (ap (λ m. m.count) m ∙ sym i.3)) (omega (arith, c.if-pass-lt-LOW.true))))
+
+pub invariant_of-result : goal.invariant_of-result
+invariant_of-result g c =
+    let i = c.pass.invariant in
+    let l = c.load.ensures in
+    let m = ap (λ m. m.0) l.2.0 in
+    let sp = c.split_seat-seat.ensures in
+    let n = ap (λ m. m.0) sp.4 in
+    (sp.3 ∙ l.0 ∙ i.0, ap (λ m. m.1) sp.4, ap (λ k. k + 1) (i.3 ∙ sym (ap (λ m. m.count) m)) ∙ sym (ap (λ m. m.number) n), sym (ap (λ m. m.count) n), new_rest (setting_of g.N.Store.table g.N.Store.base) (c.load.new.seat.me.0.count + 1) _ _ n (subst (IsLegal (setting_of g.N.Store.table g.N.Store.base)) (sym (ap (λ m. m.seen) m)) i.4.3) (subst (λ (x : View). entries_of (x.count + 1) x.seen ≡ []) (sym m) l.2.1))
+
+pub split_seat-seat-requires-2 : goal.split_seat-seat-requires-2
+split_seat-seat-requires-2 g c =
+    let i = c.pass.invariant in
+    let v = c.pass.view_is in
+    let d = c.draw-number.ensures in
+    let m = ap (λ m. m.0) d.drawn.0 in
+    (d.room ∙ i.0 ∙ sym c.args.self.now.named, omega (arith, c.args.self.now.two), gives _ _ c.draw-number.result (ap (λ m. m.live) m ∙ ap (λ m. m.live) v ∙ c.requires.client.0) (ap (λ m. m.drawn) m) (subst (λ n. 1 ≤ n → 17 < n) (sym (ap (λ m. m.number) m ∙ ap (λ m. m.number) v)) c.requires.client.1))
+
+pub invariant_of-result-2 : goal.invariant_of-result-2
+invariant_of-result-2 g c =
+    let i = c.pass.invariant in
+    let d = c.draw-number.ensures in
+    let m = ap (λ m. m.0) d.drawn.0 in
+    let sp = c.split_seat-seat-2.ensures in
+    let n = ap (λ m. m.0) sp.4 ∙ ap given m in
+    (sp.3 ∙ d.room ∙ i.0, ap (λ m. m.1) sp.4, sym (ap (λ m. m.number) n), sym (ap (λ m. m.count) n), new_rest (setting_of g.N.Store.table g.N.Store.base) c.draw-number.result _ _ n i.4.3 d.drawn.2)

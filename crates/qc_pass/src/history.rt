@@ -1,0 +1,180 @@
+//! The history of a desk, with the index of its names.
+ghost use Rattle.std.specs.Prelude.{◌≡◌, ◌<◌, ◌≤◌, ◌∷◌, ◌++◌, [], vec_len, vec_capacity, IsErrOf, OnOk, OnErr, length, reverse};
+ghost use Rattle.qc_event.specs.Base.{Setting};
+ghost use Rattle.qc_event.specs.Dead as dead_words;
+ghost use Rattle.qc_event.specs.History as words;
+ghost use Rattle.qc_event.specs.History.{limit};
+ghost use Rattle.qc_event.specs.Legal.{Legal};
+ghost use Rattle.qc_event.specs.Standing.{open_child};
+ghost use Rattle.qc_names.specs.Name.{longest};
+ghost use Rattle.qc_pass.specs.Entries.{WhereLegal};
+
+use qc_desk::{Index, Outcomes};
+use qc_event::{Entry, Event, How, Name, Outcome, Short};
+use std::alloc::{AllocError, Global};
+use std::marker::Model;
+
+/// The most entries that a history takes.
+const LIMIT: usize = 4_294_967_295;
+
+// Room for one more: generic, since the calls at the type of entries get no proof today.
+fn make_room<T: Copy>(items: &mut Vec<T>) -> Result<(), AllocError>
+    ensures same { items.new.items ≡ items.old.items }
+    ensures room { OnOk result (vec_len items.new < vec_capacity items.new) }
+{
+    items.reserve(1)
+}
+
+fn put<T: Copy>(items: &mut Vec<T>, item: T)
+    requires room { vec_len items.old < vec_capacity items.old }
+    ensures { items.new.items ≡ items.old.items ++ item ∷ [] }
+{
+    items.push_reserved(item);
+}
+
+// How a name ended, where the entry is its end.
+fn end_in(entry: &Entry, n: &Name) -> Option<How>
+    ensures { result ≡ words.end_in n.now entry.now.event }
+{
+    match &entry.event {
+        Event::End { name, how } if name == n => Some(*how),
+        _ => None,
+    }
+}
+
+/// A legal history with its index. Contracts see it with its latest entry first. How a name stands is found by the
+/// index, in a step for each of the name's numbers, however long the history is.
+#[derive(Drop)]
+pub struct History {
+    entries: Vec<Entry>,
+    index: Index,
+}
+
+impl Model for History {
+    ghost use Rattle.std.specs.Prelude.{List, ◌≤◌, length, reverse};
+    ghost use Rattle.qc_event.specs.declared.event.Entry.{Entry};
+    ghost use Rattle.qc_event.specs.History.{limit};
+    ghost use Rattle.qc_desk.specs.Index.{IsOf};
+
+    ghost Value = { List Entry };
+
+    ghost view = { λ h. reverse h.entries.items };
+
+    ghost invariant = { λ h.
+        (length h.entries.items ≤ limit) × IsOf h.index (reverse h.entries.items) };
+}
+
+impl History {
+    /// An empty history. It takes no memory.
+    pub fn new(alloc: Global) -> Self
+        ensures { result ≡ [] }
+    {
+        History {
+            entries: Vec::new(alloc),
+            index: Index::new(alloc),
+        }
+    }
+
+    /// How many entries there are.
+    pub fn len(&self) -> usize
+        ensures length { result ≡ length self.now }
+        ensures bounded { length self.now ≤ limit }
+    {
+        self.entries.len()
+    }
+
+    fn take_in(&mut self, entry: &Entry) -> Result<(), AllocError>
+        requires legal { (setting : Setting) × Legal setting (entry.now ∷ self.old) }
+        requires room { length self.old < limit }
+        ensures ok { OnOk result (self.new ≡ entry.now ∷ self.old) }
+        ensures err { OnErr result (self.new ≡ self.old) }
+    {
+        make_room(&mut self.entries)?;
+        self.index.push(entry)?;
+        put(&mut self.entries, *entry);
+        Ok(())
+    }
+
+    /// Takes in an entry that may come next; `Room` comes exactly where the history takes no more. An error leaves
+    /// the history as it was.
+    pub fn push(&mut self, entry: &Entry) -> Result<(), Short>
+        requires legal { (setting : Setting) × Legal setting (entry.now ∷ self.old) }
+        ensures ok { OnOk result (self.new ≡ entry.now ∷ self.old) }
+        ensures err { OnErr result (self.new ≡ self.old) }
+        ensures room { IsErrOf result Short.Room → length self.old ≡ limit }
+        ensures full { length self.old ≡ limit → IsErrOf result Short.Room }
+    {
+        if self.entries.len() >= LIMIT {
+            return Err(Short::Room);
+        }
+        match self.take_in(entry) {
+            Ok(()) => Ok(()),
+            Err(AllocError) => Err(Short::Memory),
+        }
+    }
+
+    /// How a name stands.
+    pub fn outcome(&self, name: &Name) -> Outcome
+        ensures { WhereLegal self.now (result ≡ dead_words.outcome self.now name.now) }
+    {
+        self.index.outcome(name)
+    }
+
+    /// How a name ended.
+    pub fn end(&self, name: &Name) -> Option<How>
+        ensures { WhereLegal self.now (result ≡ words.end self.now name.now) }
+    {
+        let Some(at) = self.index.end(name) else {
+            return None;
+        };
+        match self.entries.get(at as usize) {
+            Some(entry) => end_in(entry, name),
+            None => None,
+        }
+    }
+
+    /// The shortest aborted ancestor of a name.
+    pub fn dead(&self, name: &Name) -> Option<Name>
+        ensures { WhereLegal self.now (result ≡ dead_words.dead self.now name.now) }
+    {
+        self.index.dead(name)
+    }
+
+    /// Whether a name is ready.
+    pub fn is_ready(&self, name: &Name) -> bool
+        ensures { WhereLegal self.now (result ≡ words.is_ready self.now name.now) }
+    {
+        self.index.is_ready(name)
+    }
+
+    /// How many children of a name have started.
+    pub fn children(&self, name: &Name) -> usize
+        requires { 0 < length name.now }
+        ensures { WhereLegal self.now (result ≡ length (words.children self.now name.now)) }
+    {
+        self.index.children(name)
+    }
+
+    /// How many tops have started.
+    pub fn tops(&self) -> usize
+        ensures { WhereLegal self.now (result ≡ length (words.children self.now [])) }
+    {
+        self.index.tops()
+    }
+
+    /// The first started child of a name that has no end. It reads each child up to that.
+    pub fn open_child(&self, name: &Name) -> Option<Name>
+        requires below_a_top { 0 < length name.now }
+        requires room { length name.now < longest }
+        ensures { WhereLegal self.now (result ≡ open_child self.now name.now) }
+    {
+        self.index.open_child(name)
+    }
+
+    /// The entries, the oldest first. It takes no memory.
+    pub fn into_entries(self) -> Vec<Entry>
+        ensures { reverse result.items ≡ self }
+    {
+        self.entries
+    }
+}

@@ -1,0 +1,23 @@
+//! One legal history behind a lock, and passes that know a beginning of it.
+#![tactic(auto)]
+
+mod accesses;
+mod copies;
+mod desk;
+mod ends;
+mod history;
+mod locked;
+mod lookups;
+mod pass;
+mod refusal;
+mod starts;
+mod steps;
+mod store;
+mod tops;
+mod view;
+
+pub use desk::{Blank, Desk};
+pub use pass::Pass;
+pub use refusal::DeskNo;
+pub use store::Store;
+pub use view::View;

@@ -1,0 +1,155 @@
+//! What lies under the lock of a desk: the one history, and the right to append.
+ghost use Rattle.std.specs.Prelude.{◌≡◌, ◌≤◌, List, [], ◌∷◌, ◌++◌, true, None, IfErr, reverse, length, OnOk, OnErr, IsErrOf};
+ghost use Rattle.qc_event.specs.Tables.{setting_of};
+ghost use Rattle.qc_event.specs.History.{limit};
+ghost use Rattle.qc_event.specs.Legal.{Legal, Allowed};
+ghost use Rattle.qc_pass.specs.Calling.{IsRoomOf, IsLook, IsEntry};
+ghost use Rattle.qc_pass.specs.Entries.{AreCounted, IsLegal, IsOlder, IsSince, entry, entries_of};
+ghost use Rattle.qc_pass.specs.Refusing.{Refuses};
+ghost use Rattle.qc_pass.specs.Rules.{IsClient, IsSettled, joined};
+
+use crate::history::History;
+use crate::pass::Pass;
+use crate::refusal::{DeskNo, no_of};
+use crate::steps::{give_back, lend, push};
+use crate::store::{Room, Store};
+use crate::view::{Joining, Settling, View};
+use atomic_table::Seat;
+use qc_event::{Entry, Event, Short};
+use std::marker::{Model, PhantomData};
+
+/// What lies under the lock: the history, and the right to append.
+#[derive(Drop)]
+pub(crate) struct Locked<N: Store> {
+    pub(crate) history: History,
+    pub(crate) seat: Seat<Entry, View>,
+    pub(crate) of: PhantomData<N>,
+}
+
+impl<N: Store> Model for Locked<N> {
+    ghost use Rattle.std.specs.Prelude.{◌≡◌, List, []};
+    ghost use Rattle.qc_event.specs.Tables.{setting_of};
+    ghost use Rattle.qc_event.specs.declared.event.Entry.{Entry};
+    ghost use Rattle.qc_pass.specs.Entries.{IsLegal, AreCounted};
+    ghost use Rattle.qc_pass.specs.Rules.{ruler};
+
+    ghost Value = { List Entry };
+
+    ghost view = { λ d. d.history };
+
+    ghost invariant = { λ d. (d.seat.table_id ≡ N.desk) × (d.seat.me ≡ (ruler d.history, []))
+        × IsLegal (setting_of N.table N.base) d.history × AreCounted d.history };
+}
+
+impl<N: Store> Locked<N> {
+    /// What the history keeps: it is legal, and its tops are counted.
+    pub(crate) fn known(&self)
+        ensures legal { Legal (setting_of N.table N.base) self.now }
+        ensures counted { AreCounted self.now }
+        ensures bounded { length self.now ≤ limit }
+    {
+        let _ = self.history.len();
+    }
+
+    /// Appends an entry under the pass's number that may come next.
+    pub(crate) fn append(
+        &mut self,
+        room: &Room,
+        pass: &mut Pass<N>,
+        event: Event,
+    ) -> Result<(), Short>
+        requires room { IsRoomOf N.desk room.now.shared.table_id }
+        requires live { pass.old.live ≡ true }
+        requires allowed { Allowed (setting_of N.table N.base) self.old
+            (entry pass.old.number event) }
+        requires counted { AreCounted self.old →
+            AreCounted (entry pass.old.number event ∷ self.old) }
+        ensures ok { OnOk result (IsEntry event self.old self.new pass.old pass.new) }
+        ensures err { OnErr result (IsLook self.old self.new pass.old pass.new) }
+        ensures room_left { IsErrOf result Short.Room → length self.old ≡ limit }
+    {
+        lend(room, &mut pass.seat, &mut self.seat);
+        let new = Entry {
+            seat: pass.number,
+            event,
+        };
+        let answer = push(room, &mut pass.seat, &mut self.history, &new);
+        give_back(room, &mut pass.seat, &mut self.seat);
+        answer
+    }
+
+    /// Appends an entry where nothing is against it, and says why not otherwise.
+    pub(crate) fn enter(
+        &mut self,
+        room: &Room,
+        pass: &mut Pass<N>,
+        no: Option<DeskNo>,
+        event: Event,
+    ) -> Result<(), DeskNo>
+        requires room { IsRoomOf N.desk room.now.shared.table_id }
+        requires live { pass.old.live ≡ true }
+        requires allowed { no ≡ None → Allowed (setting_of N.table N.base) self.old
+            (entry pass.old.number event) }
+        requires counted { AreCounted self.old →
+            AreCounted (entry pass.old.number event ∷ self.old) }
+        ensures ok { OnOk result ((no ≡ None)
+            × IsEntry event self.old self.new pass.old pass.new) }
+        ensures err { IfErr result (λ why. IsLook self.old self.new pass.old pass.new
+            × Refuses (λ _. no) self.old why) }
+    {
+        if let Some(why) = no {
+            self.look(room, pass);
+            return Err(why);
+        }
+        match self.append(room, pass, event) {
+            Ok(()) => Ok(()),
+            Err(short) => Err(no_of(short)),
+        }
+    }
+
+    /// The pass sees the history.
+    pub(crate) fn look(&mut self, room: &Room, pass: &mut Pass<N>)
+        requires room { IsRoomOf N.desk room.now.shared.table_id }
+        ensures seen { IsOlder pass.old.seen self.old }
+        ensures mine { pass.old.live ≡ true →
+            entries_of pass.old.number self.old ≡ pass.old.mine }
+        ensures since { pass.old.live ≡ true → IsSince pass.old.number pass.old.seen self.old }
+        ensures same { IsLook self.old self.new pass.old pass.new }
+    {
+        lend(room, &mut pass.seat, &mut self.seat);
+        give_back(room, &mut pass.seat, &mut self.seat);
+    }
+
+    /// A pass with nothing out is joined into a pass, which sees the history.
+    pub(crate) fn join(&mut self, room: &Room, pass: &mut Pass<N>, mut other: Pass<N>)
+        requires room { IsRoomOf N.desk room.now.shared.table_id }
+        requires client { IsClient pass.old }
+        requires other { (other.live ≡ true) × (other.out ≡ []) }
+        ensures seen { IsOlder pass.old.seen self.old × IsOlder other.seen self.old }
+        ensures same { IsLook self.old self.new (joined pass.old other) pass.new }
+    {
+        self.look(room, pass);
+        self.look(room, &mut other);
+        let Pass { seat, .. } = other;
+        room.shared.join_seat::<Joining>(&mut pass.seat, seat);
+    }
+
+    /// The history. The pass is the first, and has nothing out.
+    pub(crate) fn close(self, room: Room, pass: Pass<N>) -> Vec<Entry>
+        requires room { IsRoomOf N.desk room.shared.table_id }
+        requires first { (pass.live ≡ true) × (pass.number ≡ 0) × (pass.out ≡ []) }
+        ensures legal { Legal (setting_of N.table N.base) (reverse result.items) }
+        ensures settled { IsOlder pass.seen (reverse result.items)
+            × IsSettled (reverse result.items) pass }
+    {
+        let Locked {
+            history,
+            seat: mut right,
+            ..
+        } = self;
+        let Pass { mut seat, .. } = pass;
+        lend(&room, &mut seat, &mut right);
+        room.shared.load::<Settling>(&mut seat, 0);
+        history.into_entries()
+    }
+}

@@ -1,0 +1,48 @@
+//! The call with which a client starts what stands below a top.
+ghost use Rattle.std.specs.Prelude.{◌≡◌, ◌+◌, [], ◌∷◌, ◌++◌, length, IfOk, IfErr};
+ghost use Rattle.qc_event.specs.declared.event.Event.TheVariants as event;
+ghost use Rattle.qc_event.specs.History.{children};
+ghost use Rattle.qc_event.specs.Standing.{Started};
+ghost use Rattle.qc_event.specs.Starts.{Stands};
+ghost use Rattle.qc_event.specs.Tables.{setting_of};
+ghost use Rattle.qc_pass.specs.Calling.{EnteredAs, Refused};
+ghost use Rattle.qc_pass.specs.Refusing.{against_child};
+ghost use Rattle.qc_pass.specs.Rules.{IsClient};
+
+use crate::desk::Desk;
+use crate::pass::Pass;
+use crate::refusal::DeskNo;
+use crate::store::Store;
+use qc_event::{Event, Kind, Name};
+use std::sync::Wait;
+
+impl<N: Store> Desk<N> {
+    /// Starts the next child of a name whose start was seen, for what may stand there: a user transaction or a
+    /// manager below a user transaction, an access below a manager of the pass. Refused where the parent has
+    /// committed, is dead, or is ready.
+    pub fn start<R: Wait>(
+        &self,
+        rt: &R,
+        pass: &mut Pass<N>,
+        parent: &Name,
+        kind: Kind,
+    ) -> Result<Name, DeskNo>
+        requires client { IsClient pass.old }
+        requires stands { Started pass.old.seen parent.now (λ p. Stands
+            (setting_of N.table N.base) pass.old.number p (length parent.now + 1) kind) }
+        ensures ok { IfOk result (λ n. EnteredAs (against_child parent.now)
+            (λ past ev. (n ≡ parent.now ++ (length (children past parent.now) + 1) ∷ [])
+            × (ev ≡ event.Start n kind)) pass.old pass.new) }
+        ensures err { IfErr result (Refused (against_child parent.now) pass.old pass.new) }
+    {
+        let mut locked = self.locked.lock(rt);
+        locked.look(&self.room, pass);
+        locked.known();
+        let no = locked.against_child(parent);
+        let number = locked.children(parent) + 1;
+        let name = parent.child(number as u32);
+        let event = Event::Start { name, kind };
+        locked.enter(&self.room, pass, no, event)?;
+        Ok(name)
+    }
+}
