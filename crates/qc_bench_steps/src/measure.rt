@@ -1,7 +1,10 @@
 //! The time of a run, and that of its report.
+ghost use Rattle.std.specs.Prelude.{reverse};
+ghost use Rattle.qc_desk.specs.Index.{IsOf};
 ghost use Rattle.qc_report.specs.Indexed.{IsLegal};
 
 use crate::trouble::Trouble;
+use qc_desk::Index;
 use qc_event::Table;
 use qc_report::{History, finals, index_of, report};
 use qc_run::io::{MemSink, MemSource};
@@ -26,16 +29,21 @@ fn run_words(alloc: Global) -> Result<Vec<String>, AllocError> {
 }
 
 // The report of a run over a table, made as the run made it.
-fn report_of(alloc: Global, table: &Table, ran: &Ran) -> Result<Vec<u8>, Trouble>
-    requires { IsLegal ran.now.trail.items }
+fn report_of(
+    alloc: Global,
+    table: &Table,
+    ran: &Ran,
+    index: &Index,
+) -> Result<Vec<u8>, Trouble>
+    requires legal { IsLegal ran.now.trail.items }
+    requires index { IsOf index.now (reverse ran.now.trail.items) }
 {
     let trail = ran.trail.as_slice();
     let records = table.records.as_slice().len();
     if ran.start.copies() > 16 || records > 64 {
         return Err(Trouble::Script);
     }
-    let index = index_of(alloc, trail)?;
-    let history = History::indexed(trail, &index);
+    let history = History::indexed(trail, index);
     let values = finals(alloc, &ran.start, &history, records)?;
     Ok(report(alloc, table, values.as_slice(), &history)?)
 }
@@ -56,8 +64,10 @@ pub(crate) fn both_times(
     let Status::Done = ran.status else {
         return Err(Trouble::Script);
     };
+    // A run's client keeps this index as it goes on.
+    let index = index_of(alloc, ran.trail.as_slice())?;
     let start = Instant::now(clock)?;
-    let text = report_of(alloc, &script.table, &ran)?;
+    let text = report_of(alloc, &script.table, &ran, &index)?;
     let report = start.elapsed(clock)?;
     if text.as_slice() != sink.bytes() {
         return Err(Trouble::Differs);

@@ -9,8 +9,10 @@ ghost use Rattle.qc_client.specs.Alone.{IsAlone, MeetsFates};
 ghost use Rattle.qc_client.specs.Entering.{MayEnter, IsShort, no_of};
 ghost use Rattle.qc_script.specs.Calls.{by_client};
 ghost use Rattle.qc_script.specs.Numbers.{next_top};
+ghost use Rattle.qc_store.specs.Indexed.{IsIndex};
 
 use crate::client::Client;
+use qc_desk::Index;
 use qc_event::{Base, Config, Entry, Event, Kind, Name, Short, top_name};
 use qc_line::Line;
 use qc_net::Fate;
@@ -99,6 +101,13 @@ impl LoneClient {
         ensures met { MeetsFates self.now.client self.now.seen }
     {
         self.line.entries()
+    }
+
+    /// The index of the history, which tells how names stand in it.
+    pub fn index(&self) -> &Index
+        ensures { IsIndex result.now self.now.seen }
+    {
+        self.line.index()
     }
 
     /// The start tuples.

@@ -8,9 +8,11 @@ ghost use Rattle.qc_event.specs.Legal.{Allowed, Legal};
 ghost use Rattle.qc_event.specs.Seats.{is_client};
 ghost use Rattle.qc_line.specs.Lined.{IsOfTransaction};
 ghost use Rattle.qc_net.specs.Messages.{meets_fates};
+ghost use Rattle.qc_store.specs.Indexed.{IsIndex};
 
 use crate::access::{NextAccess, access, is_cut_off};
 use qc_config::{Config, Op};
+use qc_desk::Index;
 use qc_event::{Base, Entry, How, Name, Outcome, Short};
 use qc_gather::{Carried, Carrier, CarryNo};
 use qc_net::{Courier, Fate, PlanLink};
@@ -121,6 +123,13 @@ impl Line {
         ensures { result ≡ first_of self.now.setting rec }
     {
         self.store.first(rec)
+    }
+
+    /// The index of the history, which tells how names stand in it.
+    pub fn index(&self) -> &Index
+        ensures { IsIndex result.now self.now.past }
+    {
+        self.store.index()
     }
 
     /// How a name stands, in a step for each number of the name.

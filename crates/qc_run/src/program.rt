@@ -18,7 +18,7 @@ use crate::status::{ROOM_LINE, Status, fault_line};
 use crate::words::is_command;
 use qc_event::{Base, CLIENT_SEAT, Config, Entry, Row, Short, Table, Tuple};
 use qc_client::{Client, LoneClient};
-use qc_report::{History, finals, index_of, report};
+use qc_report::{History, finals, report};
 use qc_script::{BadScript, MOST_BYTES, Script};
 use std::alloc::{AllocError, Global};
 
@@ -111,8 +111,7 @@ fn page_of(alloc: Global, table: &Table, client: &LoneClient) -> Result<Vec<u8>,
     ensures { IfOk result (λ text. text.items ≡ terms.page table.now client.now) }
 {
     let trail = client.entries();
-    let index = index_of(alloc, trail)?;
-    let history = History::indexed(trail, &index);
+    let history = History::indexed(trail, client.index());
     let records = table.records.as_slice().len();
     let values = finals(alloc, client.base(), &history, records)?;
     report(alloc, table, values.as_slice(), &history)

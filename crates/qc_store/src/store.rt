@@ -5,13 +5,14 @@ ghost use Rattle.qc_event.specs.History.{limit, children, end, is_ready};
 ghost use Rattle.qc_event.specs.Standing.{open_child};
 ghost use Rattle.qc_names.specs.Name.{longest};
 ghost use Rattle.qc_event.specs.Legal.{Allowed, Legal};
+ghost use Rattle.qc_store.specs.Indexed.{IsIndex};
 ghost use Rattle.qc_store.specs.Served as served;
 ghost use Rattle.qc_store.specs.Sites.{is_grant, AreSites};
 
 use crate::history::History;
 use qc_config::Config;
 use qc_copy::{CopyState, Indexed};
-use qc_desk::Outcomes;
+use qc_desk::{Index, Outcomes};
 use qc_event::{
     Answered, Ask, Base, Entry, Event, Grant, How, Name, Outcome, Refusal, Short, Tuple, copy_seat,
 };
@@ -164,6 +165,13 @@ impl Store {
         ensures bounded { length self.now.past ≤ limit }
     {
         self.log.is_full()
+    }
+
+    /// The index of the history, which tells how names stand in it.
+    pub fn index(&self) -> &Index
+        ensures { IsIndex result.now self.now.past }
+    {
+        self.log.index()
     }
 
     /// The shortest aborted ancestor of a name, in a step for each number of the name.

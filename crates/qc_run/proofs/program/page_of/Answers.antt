@@ -1,5 +1,6 @@
 use Rattle.std.proofs.Common.{◌∙◌, ap, length, reverse, subst, sym, List}
 use Rattle.std.proofs.lemmas.Result.{IfOk-weaker}
+use Rattle.qc_desk.specs.Index.{IsOf}
 use Rattle.qc_event.specs.Legal.{Legal}
 use Rattle.qc_event.specs.declared.table.Row.{Row}
 use Rattle.qc_report.specs.Report.{report}
@@ -15,7 +16,7 @@ indexed-history-requires-clause-legal c =
 pub indexed-history-requires-clause-index : goal.indexed-history-requires-clause-index
 indexed-history-requires-clause-index c =
     let setting = c.args.client.now.client.setting in
-    c.in_ok-index.ensures setting (subst (Legal setting) (sym c.entries-trail.ensures.entries) c.entries-trail.ensures.legal)
+    subst (IsOf c.index.result.now) (sym c.entries-trail.ensures.entries) (c.index.ensures setting c.entries-trail.ensures.legal)
 
 pub returns : goal.returns
 returns c =
