@@ -1,7 +1,7 @@
 ghost use Rattle.std.specs.Prelude.{◌≡◌, ◌<◌, ◌≤◌, ◌↔◌, ◌∷◌, [], IsTrue, IsErrOf, IfOk, OnOk, OnErr, reverse, length};
 ghost use Rattle.qc_event.specs.Base.{first_of, IsProper};
 ghost use Rattle.qc_event.specs.Dead.{dead as dead_in, outcome as outcome_in};
-ghost use Rattle.qc_event.specs.History.{limit, children, end, is_ready};
+ghost use Rattle.qc_event.specs.History.{limit, children, is_ready};
 ghost use Rattle.qc_event.specs.Standing.{open_child};
 ghost use Rattle.qc_names.specs.Name.{longest};
 ghost use Rattle.qc_event.specs.Legal.{Allowed, Legal};
@@ -13,7 +13,7 @@ ghost use Rattle.qc_store.specs.Indexed.{IsIndex};
 use crate::access::{NextAccess, access, is_cut_off};
 use qc_config::{Config, Op};
 use qc_desk::Index;
-use qc_event::{Base, Entry, How, Name, Outcome, Short};
+use qc_event::{Base, Entry, Name, Outcome, Short};
 use qc_gather::{Carried, Carrier, CarryNo};
 use qc_net::{Courier, Fate, PlanLink};
 use qc_store::Store;
@@ -168,13 +168,6 @@ impl Line {
         ensures { result ≡ length (children self.now.past name.now) }
     {
         self.store.children(name)
-    }
-
-    /// How a name ended, where it did, in a step for each number of the name.
-    pub fn ended(&self, name: &Name) -> Option<How>
-        ensures { result ≡ end self.now.past name.now }
-    {
-        self.store.ended(name)
     }
 
     /// Whether the history takes no more entries.

@@ -1,11 +1,9 @@
 ghost use Rattle.std.specs.Prelude.{◌≡◌, ◌≤◌, ◌<◌, ◌↔◌, [], ◌∷◌, ◌++◌, IsTrue, IsErrOf, OnOk, OnErr, reverse, length, vec_len, vec_capacity};
-ghost use Rattle.qc_event.specs.Base.{Setting};
-ghost use Rattle.qc_event.specs.History.{limit, end, end_in as ends};
-ghost use Rattle.qc_event.specs.Legal.{Legal};
+ghost use Rattle.qc_event.specs.History.{limit};
 ghost use Rattle.qc_store.specs.Indexed.{IsIndex};
 
 use qc_desk::{Index, Outcomes};
-use qc_event::{Entry, Event, How, Name, Short};
+use qc_event::{Entry, Short};
 use std::alloc::Global;
 use std::marker::Model;
 
@@ -18,18 +16,6 @@ fn add<T: Copy>(items: &mut Vec<T>, item: T)
     ensures { items.new.items ≡ items.old.items ++ item ∷ [] }
 {
     items.push_reserved(item);
-}
-
-// How a name ended, where the entry is its end.
-fn end_in(entry: &Entry, n: &Name) -> Option<How>
-    ensures { result ≡ ends n.now entry.now.event }
-{
-    if let Event::End { name, how } = &entry.event {
-        if name == n {
-            return Some(*how);
-        }
-    }
-    None
 }
 
 /// A history that grows, and its index. Contracts see it with its latest entry first.
@@ -100,19 +86,6 @@ impl History {
         ensures { IsIndex result.now self.now }
     {
         &self.index
-    }
-
-    /// How a name ended, where the history is legal.
-    pub fn ended(&self, name: &Name) -> Option<How>
-        ensures { (setting : Setting) → Legal setting self.now → result ≡ end self.now name.now }
-    {
-        let Some(at) = self.index.end(name) else {
-            return None;
-        };
-        match self.entries.get(at as usize) {
-            Some(entry) => end_in(entry, name),
-            None => None,
-        }
     }
 
     /// The entries, the oldest first. It takes no memory.

@@ -1,7 +1,7 @@
 ghost use Rattle.std.specs.Prelude.{◌≡◌, ◌≤◌, ◌<◌, ◌↔◌, ◌∷◌, [], not, IsTrue, IsErrOf, IfOk, OnOk, OnErr, reverse, length};
 ghost use Rattle.qc_event.specs.Base.{first_of, IsProper};
 ghost use Rattle.qc_event.specs.Dead.{dead as dead_in, outcome as outcome_in};
-ghost use Rattle.qc_event.specs.History.{limit, children, end, is_ready};
+ghost use Rattle.qc_event.specs.History.{limit, children, is_ready};
 ghost use Rattle.qc_event.specs.Standing.{open_child};
 ghost use Rattle.qc_names.specs.Name.{longest};
 ghost use Rattle.qc_event.specs.Legal.{Allowed, Legal};
@@ -14,7 +14,7 @@ use qc_config::Config;
 use qc_copy::{CopyState, Indexed};
 use qc_desk::{Index, Outcomes};
 use qc_event::{
-    Answered, Ask, Base, Entry, Event, Grant, How, Name, Outcome, Refusal, Short, Tuple, copy_seat,
+    Answered, Ask, Base, Entry, Event, Grant, Name, Outcome, Refusal, Short, Tuple, copy_seat,
 };
 use qc_net::Port;
 use std::alloc::{AllocError, Global};
@@ -186,13 +186,6 @@ impl Store {
         ensures { result ≡ outcome_in self.now.past name.now }
     {
         self.log.index().outcome(name)
-    }
-
-    /// How a name ended, where it did, in a step for each number of the name.
-    pub fn ended(&self, name: &Name) -> Option<How>
-        ensures { result ≡ end self.now.past name.now }
-    {
-        self.log.ended(name)
     }
 
     /// Whether a name is ready, in a step for each number of the name.
