@@ -29,12 +29,7 @@ fn run_words(alloc: Global) -> Result<Vec<String>, AllocError> {
 }
 
 // The report of a run over a table, made as the run made it.
-fn report_of(
-    alloc: Global,
-    table: &Table,
-    ran: &Ran,
-    index: &Index,
-) -> Result<Vec<u8>, Trouble>
+fn report_of(alloc: Global, table: &Table, ran: &Ran, index: &Index) -> Result<Vec<u8>, Trouble>
     requires legal { IsLegal ran.now.trail.items }
     requires index { IsOf index.now (reverse ran.now.trail.items) }
 {
