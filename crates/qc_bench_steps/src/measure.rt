@@ -60,7 +60,8 @@ pub(crate) fn both_times(
         return Err(Trouble::Script);
     };
     // A run's client keeps this index as it goes on.
-    let index = index_of(alloc, ran.trail.as_slice())?;
+    let trail = ran.trail.as_slice();
+    let index = index_of(alloc, trail)?;
     let start = Instant::now(clock)?;
     let text = report_of(alloc, &script.table, &ran, &index)?;
     let report = start.elapsed(clock)?;
