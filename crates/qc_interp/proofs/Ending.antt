@@ -1,8 +1,9 @@
 -- How a transaction ends that runs, and what a refusal tells of it.
-use Rattle.std.proofs.Common.{◌≡◌, inl, inr, ℕ, ◌<◌, Bool, true, false, [], ◌∷◌, ◌++◌, length, take, refl, sym, ap, ◌∙◌, subst, append-nil, arith, length-append}
+use Rattle.std.proofs.Common.{◌≡◌, inl, inr, ℕ, ◌<◌, true, false, [], ◌∷◌, ◌++◌, length, take, refl, sym, ap, ◌∙◌, subst, append-nil, arith, length-append}
 use mathlib.Core.Bool.{true≢false}
 use Rattle.std.specs.Prelude.{Option, None, Some, MatchOption, is_some, not, ◌&&◌}
 use Rattle.std.specs.Option.{option_or}
+use Rattle.std.proofs.Math.Bool.{and-false}
 use Rattle.qc_event.specs.declared.event.Cause.{Cause}
 use Rattle.qc_event.specs.declared.event.Cause.TheVariants as cause
 use Rattle.qc_event.specs.declared.event.Entry.{Entry}
@@ -185,12 +186,8 @@ module _ (c : Client) (of : Name) where
         by_end None is h = absurd (true≢false (sym h))
         by_end (Some (Commit given)) is h = absurd (not_committed of [] (sym (append-nil of)) (ap (λ o. is_committed (outcome_of o)) is))
         by_end (Some (Abort x)) is h =
-            let found = own_end of [] (Abort x) (sym (append-nil of)) runs.nonroot (and_false (same of (take 1 of))) is in
+            let found = own_end of [] (Abort x) (sym (append-nil of)) runs.nonroot (and-false (same of (take 1 of))) is in
             unended_some of _ (runs.above of [] (sym (append-nil of)) runs.nonroot).0 (ap is_some found)
-          where
-            and_false : (b : Bool) → (b && false) ≡ false
-            and_false true = refl
-            and_false false = refl
 
   -- WHAT IS LEFT
 

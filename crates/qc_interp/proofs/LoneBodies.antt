@@ -1,6 +1,6 @@
 -- Tops that follow bodies by what a client made do so by what was seen, where all about them is its own.
-use Rattle.std.proofs.Common.{◌≡◌, ◌<◌, arith, inl, inr, ℕ, zero, suc, Bool, true, false, List, [], ◌∷◌, length, take, refl, sym, ap, ◌∙◌, subst}
-use Rattle.std.specs.Prelude.{Option, None, Some, MatchBool, not, ◌&&◌}
+use Rattle.std.proofs.Common.{◌≡◌, ◌<◌, arith, ℕ, true, false, List, [], ◌∷◌, length, refl, sym, ap, ◌∙◌, subst}
+use Rattle.std.specs.Prelude.{Option, None, Some}
 use Rattle.std.specs.List.{AllByRecursion}
 use Rattle.qc_event.specs.declared.event.Answer.{Answer}
 use Rattle.qc_event.specs.declared.event.Entry.{Entry}
@@ -8,53 +8,18 @@ use Rattle.qc_event.specs.declared.event.How.{How}
 use Rattle.qc_event.specs.declared.event.How.TheVariants.{Commit, Abort}
 use Rattle.qc_event.specs.History.{Past, Name, end, end_in, children, is_child, same}
 use Rattle.qc_event.specs.Legal.{Legal}
-use Rattle.qc_event.proofs.OneEntry.{ending, some_or_none, not_some}
-use Rattle.qc_names.specs.Name as name
-use Rattle.qc_script.specs.Client.{Client, mine, is_own, concerns, AreOurs}
+use Rattle.qc_event.proofs.OneEntry.{some_or_none, not_some}
+use Rattle.qc_script.specs.Client.{Client, mine, is_own, AreOurs}
 use Rattle.qc_script.specs.Plan.{Numbered}
 use Rattle.qc_interp.specs.Asking.{BodiesAsk, Asks}
 use Rattle.qc_interp.specs.Follows.{FollowsBody}
 use Rattle.qc_interp.specs.Session.{FollowsBodies}
-use Rattle.qc_interp.specs.Tries.{Tries, TriesDo, is_tried_again}
-use Rattle.qc_interp.proofs.Growth.{own_found}
+use Rattle.qc_interp.specs.Tries.{is_tried_again}
 use Rattle.qc_interp.proofs.LoneEntries.{top_is}
 use Rattle.qc_interp.proofs.Mine.{kept_some}
-use Rattle.qc_interp.proofs.Seen.{same_kind, follows_seen, asks_seen, own_once}
-
--- TRIES BY TWO WAYS OF ENDING
-
--- names that are tried again alike by two ways of ending
-abbrev pub AreAlike : (Name → Option How) → (Name → Option How) → Name → Type 0
-AreAlike first second n = is_tried_again (first n) ≡ is_tried_again (second n)
-
-pub tries_alike : (first second : Name → Option How) (IsTry IsTryToo : Name → Type 0) (Stopped : Type 0) (Rest RestToo : List Name → Type 0) (Good : Name → Type 0)
-    → ((x : Name) → Good x → AreAlike first second x) → ((x : Name) → Good x → IsTry x → IsTryToo x) → ((cs : List Name) → AllByRecursion Good cs → Rest cs → RestToo cs)
-    → (left : ℕ) (cs : List Name) → AllByRecursion Good cs → Tries first IsTry Stopped Rest left cs → Tries second IsTryToo Stopped RestToo left cs
-tries_alike first second IsTry IsTryToo Stopped Rest RestToo Good alike try rest zero cs good h = rest cs good h
-tries_alike first second IsTry IsTryToo Stopped Rest RestToo Good alike try rest (suc left) [] good h = h
-tries_alike first second IsTry IsTryToo Stopped Rest RestToo Good alike try rest (suc left) (x ∷ cs) good h = (
-  try x good.0 h.0,
-  subst (λ b. MatchBool b (Tries second IsTryToo Stopped RestToo left cs) (RestToo cs)) (alike x good.0)
-      (by_test (is_tried_again (first x)) h.1 (tries_alike first second IsTry IsTryToo Stopped Rest RestToo Good alike try rest left cs good.1)),
-)
-  where
-    by_test : (b : Bool) → MatchBool b (Tries first IsTry Stopped Rest left cs) (Rest cs) → (Tries first IsTry Stopped Rest left cs → Tries second IsTryToo Stopped RestToo left cs) → MatchBool b (Tries second IsTryToo Stopped RestToo left cs) (RestToo cs)
-    by_test true h more = more h
-    by_test false h more = rest cs good.1 h
-
-pub tries_do_alike : (first second : Name → Option How) (Does DoesToo : Name → Type 0) (Rest RestToo : List Name → Type 0) (Good : Name → Type 0)
-    → ((x : Name) → Good x → AreAlike first second x) → ((x : Name) → Good x → Does x → DoesToo x) → ((cs : List Name) → AllByRecursion Good cs → Rest cs → RestToo cs)
-    → (left : ℕ) (cs : List Name) → AllByRecursion Good cs → TriesDo first Does Rest left cs → TriesDo second DoesToo RestToo left cs
-tries_do_alike first second Does DoesToo Rest RestToo Good alike try rest zero cs good h = rest cs good h
-tries_do_alike first second Does DoesToo Rest RestToo Good alike try rest (suc left) [] good h = absurd h
-tries_do_alike first second Does DoesToo Rest RestToo Good alike try rest (suc left) (x ∷ cs) good (inl h) = inl (try x good.0 h)
-tries_do_alike first second Does DoesToo Rest RestToo Good alike try rest (suc left) (x ∷ cs) good (inr h) =
-    inr (subst (λ b. MatchBool b (TriesDo second DoesToo RestToo left cs) (RestToo cs)) (alike x good.0)
-    (by_test (is_tried_again (first x)) h (tries_do_alike first second Does DoesToo Rest RestToo Good alike try rest left cs good.1)))
-  where
-    by_test : (b : Bool) → MatchBool b (TriesDo first Does Rest left cs) (Rest cs) → (TriesDo first Does Rest left cs → TriesDo second DoesToo RestToo left cs) → MatchBool b (TriesDo second DoesToo RestToo left cs) (RestToo cs)
-    by_test true h more = more h
-    by_test false h more = rest cs good.1 h
+use Rattle.qc_interp.proofs.Adding.{at_top}
+use Rattle.qc_interp.proofs.Seen.{same_kind, follows_seen, asks_seen, own_abort, own_once}
+use Rattle.qc_interp.proofs.TriesAlike.{AreAlike, tries_alike, tries_do_alike, tries_all}
 
 -- BODIES
 
@@ -67,38 +32,21 @@ module _ (c : Client) (past : Past) (legal : Legal c.setting past) where
   again_alike : (t : Name) → IsOurTop c past t → AreAlike (end (mine c past)) (end past) t
   again_alike t ours = by_end (end past t) refl
     where
-      aborted : (x : Rattle.qc_event.specs.declared.event.Cause.Cause) → end past t ≡ Some (Abort x) → end (mine c past) t ≡ Some (Abort x)
-      aborted x is =
-          own_found c (λ e. end_in t e.event) (Abort x) t past
-          (λ e g. subst (λ ev. concerns (take 1 t) ev ≡ true) (sym (ending t e.event (Abort x) g)) (ap (λ b. name.is_ancestor (take 1 t) t && not b) (and_false (same t (take 1 t))) ∙ ap (λ b. b && true) (below t))) ours.1 is
-        where
-          and_false : (b : Bool) → (b && false) ≡ false
-          and_false true = refl
-          and_false false = refl
-
-          below : (n : Name) → name.is_ancestor (take 1 n) n ≡ true
-          below [] = refl
-          below (x ∷ n) = Rattle.qc_event.proofs.LastNumber.is_ancestor-append (x ∷ []) n
-
       committed : (given : Answer) (o : Option How) → end (mine c past) t ≡ o → end past t ≡ Some (Commit given) → is_tried_again o ≡ false
       committed given None at is = refl
       committed given (Some how) at is = let same_how : Some how ≡ Some (Commit given) = sym (own_once c past t how legal at) ∙ is in ap is_tried_again same_how
 
       by_end : (o : Option How) → end past t ≡ o → AreAlike (end (mine c past)) (end past) t
       by_end None is = ap is_tried_again (not_some (end (mine c past) t) (λ h. some_or_none (end past t) (kept_some (λ (e : Entry). is_own c e.seat) _ past h) is) ∙ sym is)
-      by_end (Some (Abort x)) is = ap is_tried_again (aborted x is ∙ sym is)
+      by_end (Some (Abort x)) is = ap is_tried_again (own_abort c t past x ours.1 is ∙ sym is)
       by_end (Some (Commit given)) is = committed given (end (mine c past) t) refl is ∙ sym (ap is_tried_again is)
 
   long : (t : Name) → is_child [] t ≡ true → 0 < length t
   long t child = let top = top_is t child in subst (λ x. 0 < length x) (sym top.1) (omega arith)
 
-  low : (t : Name) → name.is_ancestor (take 1 t) t ≡ true
-  low [] = refl
-  low (x ∷ t) = Rattle.qc_event.proofs.LastNumber.is_ancestor-append (x ∷ []) t
-
   body_seen : (s : ℕ) (b : Numbered) (t : Name) → IsOurTop c past t → FollowsBody s (mine c past) b t → FollowsBody s past b t
   body_seen s b t ours follows = record {
-    kind = sym (same_kind c t past ours.1 t (low t)) ∙ follows.kind;
+    kind = sym (same_kind c t past ours.1 t (at_top t)) ∙ follows.kind;
     steps = follows_seen c s t past b.plan legal (long t ours.0) ours.1 follows.steps;
   }
 
@@ -114,22 +62,11 @@ module _ (c : Client) (past : Past) (legal : Legal c.setting past) where
   bodies_ask_seen by target (b ∷ bodies) ts ours h =
       tries_do_alike (end (mine c past)) (end past) (λ t. Asks (mine c past) t b.plan (children (mine c past) t) by target) (λ t. Asks past t b.plan (children past t) by target)
       (λ further. BodiesAsk (mine c past) bodies further by target) (λ further. BodiesAsk past bodies further by target) (IsOurTop c past)
-      again_alike (λ t o a. asks_seen c t past o.1 by target b.plan (long t o.0) (low t) a) (λ further o. bodies_ask_seen by target bodies further o) b.tries ts ours h
+      again_alike (λ t o a. asks_seen c t past o.1 by target b.plan (long t o.0) (at_top t) a) (λ further o. bodies_ask_seen by target bodies further o) b.tries ts ours h
 
 -- each top that follows a body is a user transaction of the session
 abbrev pub IsOfSession : ℕ → Past → Name → Type 0
 IsOfSession s past t = (b : ℕ) × (Rattle.qc_event.specs.History.kind_of past t ≡ Some (Rattle.qc_event.specs.declared.event.Kind.Kind.User s b))
-
--- what holds of each try, and of what stands behind the last
-tries_all : (ended : Name → Option How) (IsTry Good : Name → Type 0) (Rest : List Name → Type 0) → ((x : Name) → IsTry x → Good x) → ((cs : List Name) → Rest cs → AllByRecursion Good cs)
-    → (left : ℕ) (cs : List Name) → Tries ended IsTry ⊥ Rest left cs → AllByRecursion Good cs
-tries_all ended IsTry Good Rest try rest zero cs h = rest cs h
-tries_all ended IsTry Good Rest try rest (suc left) [] h = absurd h
-tries_all ended IsTry Good Rest try rest (suc left) (x ∷ cs) h = (try x h.0, by_test (is_tried_again (ended x)) h.1 (tries_all ended IsTry Good Rest try rest left cs))
-  where
-    by_test : (again : Bool) → MatchBool again (Tries ended IsTry ⊥ Rest left cs) (Rest cs) → (Tries ended IsTry ⊥ Rest left cs → AllByRecursion Good cs) → AllByRecursion Good cs
-    by_test true h more = more h
-    by_test false h more = rest cs h
 
 pub each_of_session : (s : ℕ) (past : Past) (bodies : List Numbered) (ts : List Name) → FollowsBodies s past bodies ts → AllByRecursion (IsOfSession s past) ts
 each_of_session s past [] [] h = tt

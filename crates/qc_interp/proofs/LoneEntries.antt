@@ -23,18 +23,10 @@ or_right : (a b : Bool) → b ≡ true → (a || b) ≡ true
 or_right true b h = refl
 or_right false b h = h
 
-or_left : (a b : Bool) → a ≡ true → (a || b) ≡ true
-or_left true b h = refl
-or_left false b h = absurd (true≢false (sym h))
-
 not_both : (a b : Bool) → a ≡ true → b ≡ true → not (a && b) ≡ false
 not_both true true h g = refl
 not_both true false h g = absurd (true≢false (sym g))
 not_both false b h g = absurd (true≢false (sym h))
-
-and_right : (a b : Bool) → b ≡ false → (a && b) ≡ false
-and_right true b h = h
-and_right false b h = refl
 
 only_one : (r : Name) → length r + 1 ≡ 1 → r ≡ []
 only_one [] h = refl

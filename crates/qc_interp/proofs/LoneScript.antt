@@ -4,6 +4,7 @@ use mathlib.Core.Bool.{true≢false}
 use Rattle.std.specs.Prelude.{Option, None, Some, MatchOption, is_some, option_to_list, option_map, ◌==◌, ◌&&◌, ◌||◌, if◌then◌else◌}
 use Rattle.std.specs.List.{AllByRecursion, list_all, list_any}
 use Rattle.std.proofs.lemmas.List.Folds.{list_all-append}
+use Rattle.std.proofs.Math.Bool.{or-false}
 use Rattle.qc_event.specs.declared.event.Cause.TheVariants.{Asked}
 use Rattle.qc_event.specs.declared.event.Entry.{Entry}
 use Rattle.qc_event.specs.declared.event.Event.{Event}
@@ -196,11 +197,7 @@ none_unable n (e ∷ past) plain =
 
 -- who is over where none is unable has ended
 over_ends : (n : Name) (past : Past) → all_plain past ≡ true → is_over past n ≡ true → is_some (end past n) ≡ true
-over_ends n past plain over = by_test (is_some (end past n)) (sym (ap (λ b. is_some (end past n) || b) (none_unable n past plain)) ∙ over)
-  where
-    by_test : (b : Bool) → (b || false) ≡ true → b ≡ true
-    by_test true h = refl
-    by_test false h = h
+over_ends n past plain over = sym (ap (λ b. is_some (end past n) || b) (none_unable n past plain) ∙ or-false (is_some (end past n))) ∙ over
 
 -- a user transaction or manager of a lone client that is alone at the root has ended
 begun_ended : (c : Client) (past : Past) (n : Name) (k : Kind) → Legal c.setting past → AreLone c past → is_alone (mine c past) [] ≡ true → all_over c past ≡ true → kind_of past n ≡ Some k → is_access k ≡ false → is_some (end past n) ≡ true
@@ -224,11 +221,7 @@ begun_ended c past n k legal lone alone over is none =
 
     by_name : (n : Name) {b : Begun} → start (mine c past) n ≡ Some b → start past n ≡ Some b → (is_done (mine c past) n || name.is_ancestor n []) ≡ true → is_some (end past n) ≡ true
     by_name [] at was done = absurd (some_or_none (start past []) (ap is_some was) (lawful past (legal_orderly c.setting past legal)).no_root_start)
-    by_name (x ∷ n) {b = b} at was done = by_done (x ∷ n) b at (is_some (end (mine c past) (x ∷ n))) (is_ready (mine c past) (x ∷ n)) refl refl (or_false (is_done (mine c past) (x ∷ n)) done)
-      where
-        or_false : (b : Bool) → (b || false) ≡ true → b ≡ true
-        or_false true h = refl
-        or_false false h = h
+    by_name (x ∷ n) {b = b} at was done = by_done (x ∷ n) b at (is_some (end (mine c past) (x ∷ n))) (is_ready (mine c past) (x ∷ n)) refl refl (sym (or-false (is_done (mine c past) (x ∷ n))) ∙ done)
 
 -- ALL OF IT
 

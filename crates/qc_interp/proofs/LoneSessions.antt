@@ -6,6 +6,7 @@ use Rattle.std.specs.List.{AllByRecursion, list_all, list_any}
 use Rattle.std.specs.Option.{option_or, option_map_or}
 use Rattle.std.proofs.lemmas.Bool.{eqb-true, eq-eqb}
 use Rattle.std.proofs.lemmas.List.Folds.{list_all-append}
+use Rattle.std.proofs.Math.Bool.{or-false}
 use Rattle.qc_event.specs.declared.event.Entry.{Entry}
 use Rattle.qc_event.specs.declared.event.Event.{Event}
 use Rattle.qc_event.specs.declared.event.Event.TheVariants as event
@@ -33,7 +34,7 @@ use Rattle.qc_interp.specs.Alone.{is_lone, all_lone, AreLone}
 use Rattle.qc_interp.specs.Sessions.{top_by, top_in, tops_of, is_of, part_of, is_under, seat_for, keeps_seat, after_others, seat_in, is_plain, all_plain}
 use Rattle.qc_interp.specs.Turns.{begun_in, takes_turn}
 use Rattle.qc_interp.proofs.Adding.{all_wider, names_wider}
-use Rattle.qc_interp.proofs.Growth.{and_both, and_by, no_child_by}
+use Rattle.qc_interp.proofs.Growth.{and_both, and_by, legal_rest, no_child_by}
 use Rattle.qc_interp.proofs.LoneBodies.{IsOfSession}
 use Rattle.qc_interp.proofs.LoneEntries.{top_is}
 use Rattle.qc_interp.proofs.LoneTurns.{Answers, earliest_kept, DropsNone, turns_kept}
@@ -65,14 +66,10 @@ start_fresh setting past e n k legal is = by_name n (subst (KeepsOrder past) is 
     by_name (x ∷ []) keeps = keeps.fresh
     by_name (x ∷ y ∷ r) keeps = by_next x y r keeps
 
-legal_from : (setting : Setting) (newer past : Past) → Legal setting (newer ++ past) → Legal setting past
-legal_from setting [] past legal = legal
-legal_from setting (e ∷ newer) past legal = legal_from setting newer past legal.0
-
 -- what a start says is what its name is for
 pub kind_at : (setting : Setting) (newer past : Past) (e : Entry) (n : Name) (k : Kind) → Legal setting (newer ++ (e ∷ past)) → e.event ≡ event.Start n k → kind_of (newer ++ (e ∷ past)) n ≡ Some k
 kind_at setting newer past e n k legal is =
-    let begun = start_is e past n k (start_fresh setting past e n k (legal_from setting newer (e ∷ past) legal) is) is in
+    let begun = start_is e past n k (start_fresh setting past e n k (legal_rest setting newer (e ∷ past) legal) is) is in
     ap (option_map (λ (b : Begun). b.kind)) (earliest-append _ newer (e ∷ past) ∙ ap (λ o. option_or o (start newer n)) begun)
 
 pub one_more : (newer past : Past) (e : Entry) → (newer ++ e ∷ []) ++ past ≡ newer ++ (e ∷ past)
@@ -161,13 +158,9 @@ pub record IsSingle (c : Client) : Type 0 where
   pub kinless : c.kin ≡ []
   pub client : is_client c.number ≡ true
 
-or_false : (b : Bool) → (b || false) ≡ true → b ≡ true
-or_false true h = refl
-or_false false h = h
-
 -- who is its own stands under its number
 own_seat : (c : Client) (seat : ℕ) → IsSingle c → is_own c seat ≡ true → c.number ≡ seat
-own_seat c seat single own = eqb-true c.number seat (or_false (c.number == seat) (ap (λ kin. list_any (λ k. k == seat) (c.number ∷ kin)) (sym single.kinless) ∙ own))
+own_seat c seat single own = eqb-true c.number seat (sym (or-false (c.number == seat)) ∙ (ap (λ kin. list_any (λ k. k == seat) (c.number ∷ kin)) (sym single.kinless) ∙ own))
 
 own_client : (c : Client) (seat : ℕ) → IsSingle c → is_own c seat ≡ true → is_client seat ≡ true
 own_client c seat single own = ap is_client (sym (own_seat c seat single own)) ∙ single.client

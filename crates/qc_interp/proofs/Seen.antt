@@ -1,7 +1,7 @@
 -- Who follows a plan by what a client made follows it by what was seen, where all about its top is the client's.
-use Rattle.std.proofs.Common.{◌≡◌, inl, inr, ℕ, zero, suc, ◌<◌, Bool, true, false, List, [], ◌∷◌, ◌++◌, length, take, refl, sym, ap, ◌∙◌, subst, append-nil, append_assoc, arith}
+use Rattle.std.proofs.Common.{◌≡◌, inl, inr, ℕ, ◌<◌, Bool, true, false, List, [], ◌∷◌, ◌++◌, length, take, refl, sym, ap, ◌∙◌, subst, append-nil, append_assoc, arith}
 use mathlib.Core.Bool.{true≢false}
-use Rattle.std.specs.Prelude.{Option, None, Some, MatchBool, is_some, not, ◌&&◌, ◌||◌, if◌then◌else◌, option_map, option_to_list}
+use Rattle.std.specs.Prelude.{Option, None, Some, is_some, not, ◌&&◌, ◌||◌, if◌then◌else◌, option_map, option_to_list}
 use Rattle.std.specs.List.{AllByRecursion}
 use Rattle.std.specs.Option.{option_or}
 use Rattle.qc_event.specs.declared.event.Entry.{Entry}
@@ -21,10 +21,14 @@ use Rattle.qc_script.specs.Client.{Client, mine, is_own, concerns, is_commit, Ar
 use Rattle.qc_interp.specs.Follows.{StopsEarly, GoesOn, Commits, FollowsPlan}
 use Rattle.qc_script.specs.Plan.{Plan}
 use Rattle.qc_interp.specs.Asking.{DoesOn, Asks}
-use Rattle.qc_interp.specs.Tries.{Tries, TriesDo, is_tried_again}
+use Rattle.qc_interp.specs.Tries.{is_tried_again}
 use Rattle.qc_interp.proofs.Mine.{kept_some, some_is}
 use Rattle.qc_interp.proofs.Growth.{and_both, implied, own_found, differ, child_length}
+use Rattle.qc_interp.proofs.Adding.{at_top}
 use Rattle.qc_interp.proofs.Still.{plan_committed}
+use Rattle.qc_interp.proofs.TriesAlike.{AreAlike, tries_alike, tries_do_alike}
+use Rattle.std.proofs.Math.Bool.{and-false}
+use Rattle.qc_event.specs.declared.event.Cause.{Cause}
 
 below_more : (a n r : Name) → name.is_ancestor a n ≡ true → name.is_ancestor a (n ++ r) ≡ true
 below_more a n r h = let s = rest_of a n h in ap (λ x. name.is_ancestor a (x ++ r)) s.1 ∙ ap (name.is_ancestor a) (append_assoc a s.0 r) ∙ is_ancestor-append a (s.0 ++ r)
@@ -133,19 +137,8 @@ module _ (c : Client) (of : Name) (past : Past) (ours : AreOurs c of past) where
       by_top (x ∷ n) apart is = true≢false (sym is)
   longer (x ∷ n) low = omega arith
 
-  tries_seen : (IsTry IsTrySeen : Name → Type 0) (Stopped : Type 0) (Rest RestSeen : List Name → Type 0) → ((x : Name) → Low x → IsTry x → IsTrySeen x) → ((cs : List Name) → AllByRecursion Low cs → Rest cs → RestSeen cs)
-      → (left : ℕ) (cs : List Name) → AllByRecursion Low cs → Tries (end made) IsTry Stopped Rest left cs → Tries (end past) IsTrySeen Stopped RestSeen left cs
-  tries_seen IsTry IsTrySeen Stopped Rest RestSeen try rest zero cs low h = rest cs low h
-  tries_seen IsTry IsTrySeen Stopped Rest RestSeen try rest (suc left) [] low h = h
-  tries_seen IsTry IsTrySeen Stopped Rest RestSeen try rest (suc left) (x ∷ cs) low h = (
-    try x low.0 h.0,
-    subst (λ o. MatchBool (is_tried_again o) (Tries (end past) IsTrySeen Stopped RestSeen left cs) (RestSeen cs)) (same_end x low.0.0 low.0.1)
-        (by_test (is_tried_again (end made x)) h.1 (tries_seen IsTry IsTrySeen Stopped Rest RestSeen try rest left cs low.1)),
-  )
-    where
-      by_test : (b : Bool) → MatchBool b (Tries (end made) IsTry Stopped Rest left cs) (Rest cs) → (Tries (end made) IsTry Stopped Rest left cs → Tries (end past) IsTrySeen Stopped RestSeen left cs) → MatchBool b (Tries (end past) IsTrySeen Stopped RestSeen left cs) (RestSeen cs)
-      by_test true h more = more h
-      by_test false h more = rest cs low.1 h
+  again_low : (n : Name) → Low n → AreAlike (end made) (end past) n
+  again_low n low = ap is_tried_again (same_end n low.0 low.1)
 
   plan_seen : (s : ℕ) (n : Name) (plan : Plan) (cs : List Name) (how : Option How) → name.is_ancestor (take 1 of) n ≡ true → AllByRecursion Low cs → FollowsPlan s made n plan cs how → FollowsPlan s past n plan cs how
   plan_seen s n Plan.done [] how low all (inl is) = inl (by_how how is)
@@ -167,7 +160,7 @@ module _ (c : Client) (of : Name) (past : Past) (ours : AreOurs c of past) where
       by_end (Some (Commit given)) step g = step g
       by_end (Some (Abort y)) step g = g
   plan_seen s n (Plan.child_then number tries inner rest) cs how low all h =
-      tries_seen _ _ (StopsEarly n how) (λ further. FollowsPlan s made n rest further how) (λ further. FollowsPlan s past n rest further how)
+      tries_alike (end made) (end past) _ _ (StopsEarly n how) (λ further. FollowsPlan s made n rest further how) (λ further. FollowsPlan s past n rest further how) Low again_low
       (λ x lx t. (
         sym (same_kind x lx.0) ∙ t.0,
         subst (λ o. FollowsPlan s past x inner (children past x) o) (same_end x lx.0 lx.1)
@@ -177,19 +170,6 @@ module _ (c : Client) (of : Name) (past : Past) (ours : AreOurs c of past) where
       (λ further lf f. plan_seen s n rest further how low lf f) tries cs all h
   plan_seen s n (Plan.abort_then levels rest) [] how low all h = h
   plan_seen s n (Plan.abort_then levels rest) (x ∷ cs) how low all h = absurd h
-
-  tries_do_seen : (Does DoesSeen : Name → Type 0) (Rest RestSeen : List Name → Type 0) → ((x : Name) → Low x → Does x → DoesSeen x) → ((cs : List Name) → AllByRecursion Low cs → Rest cs → RestSeen cs)
-      → (left : ℕ) (cs : List Name) → AllByRecursion Low cs → TriesDo (end made) Does Rest left cs → TriesDo (end past) DoesSeen RestSeen left cs
-  tries_do_seen Does DoesSeen Rest RestSeen try rest zero cs low h = rest cs low h
-  tries_do_seen Does DoesSeen Rest RestSeen try rest (suc left) [] low h = absurd h
-  tries_do_seen Does DoesSeen Rest RestSeen try rest (suc left) (x ∷ cs) low (inl h) = inl (try x low.0 h)
-  tries_do_seen Does DoesSeen Rest RestSeen try rest (suc left) (x ∷ cs) low (inr h) =
-      inr (subst (λ o. MatchBool (is_tried_again o) (TriesDo (end past) DoesSeen RestSeen left cs) (RestSeen cs)) (same_end x low.0.0 low.0.1)
-      (by_test (is_tried_again (end made x)) h (tries_do_seen Does DoesSeen Rest RestSeen try rest left cs low.1)))
-    where
-      by_test : (b : Bool) → MatchBool b (TriesDo (end made) Does Rest left cs) (Rest cs) → (TriesDo (end made) Does Rest left cs → TriesDo (end past) DoesSeen RestSeen left cs) → MatchBool b (TriesDo (end past) DoesSeen RestSeen left cs) (RestSeen cs)
-      by_test true h more = more h
-      by_test false h more = rest cs low.1 h
 
   plan_asks_seen : (by target n : Name) (plan : Plan) (cs : List Name) → AllByRecursion Low cs → Asks made n plan cs by target → Asks past n plan cs by target
   plan_asks_seen by target n Plan.done cs all h = absurd h
@@ -202,7 +182,7 @@ module _ (c : Client) (of : Name) (past : Past) (ours : AreOurs c of past) where
       by_end (Some (Commit given)) step g = step g
       by_end (Some (Abort y)) step g = g
   plan_asks_seen by target n (Plan.child_then number tries inner rest) cs all h =
-      tries_do_seen (λ x. Asks made x inner (children made x) by target) (λ x. Asks past x inner (children past x) by target) (λ further. Asks made n rest further by target) (λ further. Asks past n rest further by target)
+      tries_do_alike (end made) (end past) (λ x. Asks made x inner (children made x) by target) (λ x. Asks past x inner (children past x) by target) (λ further. Asks made n rest further by target) (λ further. Asks past n rest further by target) Low again_low
       (λ x lx t. subst (λ xs. Asks past x inner xs by target) (same_children x lx.0) (plan_asks_seen by target x inner (children made x) (low_children x lx.0 (longer x lx) (children made x) (all_children made x)) t))
       (λ further lf f. plan_asks_seen by target n rest further lf f) tries cs all h
   plan_asks_seen by target n (Plan.abort_then levels rest) [] all h = h
@@ -229,17 +209,18 @@ own_once c (e ∷ past) n how legal is = by_test (is_own c e.seat) (own_once c p
     by_test false before h = ap (λ o. option_or o (end_in n e.event)) (before h)
     by_test true before h = by_old (end (mine c past) n) refl before h
 
+-- an abort of a name about whose top all is the client's is the client's
+pub own_abort : (c : Client) (n : Name) (past : Past) (x : Cause) → AreOurs c n past → end past n ≡ Some (Abort x) → end (mine c past) n ≡ Some (Abort x)
+own_abort c n past x ours is =
+    own_found c (λ e. end_in n e.event) (Abort x) n past (λ e g. subst (λ ev. concerns (take 1 n) ev ≡ true) (sym (ending n e.event (Abort x) g)) (ap (λ b. name.is_ancestor (take 1 n) n && not b) (and-false (same n (take 1 n))) ∙ ap (λ b. b && true) (at_top n))) ours is
+
 -- a transaction that follows its plan by what a client made does so by what was seen
 pub follows_seen : (c : Client) (s : ℕ) (of : Name) (past : Past) (plan : Plan) → Legal c.setting past → 0 < length of → AreOurs c of past → FollowsPlan s (mine c past) of plan (children (mine c past) of) (end (mine c past) of) → FollowsPlan s past of plan (children past of) (end past of)
 follows_seen c s of past plan legal far ours h =
-    let low : name.is_ancestor (take 1 of) of ≡ true = itself of in
+    let low : name.is_ancestor (take 1 of) of ≡ true = at_top of in
     let f = plan_seen c of past ours s of plan (children (mine c past) of) (end (mine c past) of) low (low_children c of past ours of low far (children (mine c past) of) (all_children (mine c past) of)) h in
     subst (λ cs. FollowsPlan s past of plan cs (end past of)) (same_children c of past ours of low) (by_end (end past of) refl f)
   where
-    itself : (n : Name) → name.is_ancestor (take 1 n) n ≡ true
-    itself [] = refl
-    itself (x ∷ n) = is_ancestor-append (x ∷ []) n
-
     with_how : (given : Rattle.qc_event.specs.declared.event.Answer.Answer) (o : Option How) → (is_some o ≡ true → o ≡ Some (Commit given)) → FollowsPlan s past of plan (children (mine c past) of) o → FollowsPlan s past of plan (children (mine c past) of) (Some (Commit given))
     with_how given None agrees f = plan_committed s past of plan (children (mine c past) of) given f
     with_how given (Some how) agrees f = subst (λ o. FollowsPlan s past of plan (children (mine c past) of) o) (agrees refl) f
@@ -248,11 +229,7 @@ follows_seen c s of past plan legal far ours h =
     by_end None is f = subst (λ o. FollowsPlan s past of plan (children (mine c past) of) o) (not_some (end (mine c past) of) (λ h. some_or_none (end past of) (kept_some (λ (e : Entry). is_own c e.seat) _ past h) is)) f
     by_end (Some (Abort x)) is f =
         subst (λ o. FollowsPlan s past of plan (children (mine c past) of) o)
-        (own_found c (λ e. end_in of e.event) (Abort x) of past (λ e g. subst (λ ev. concerns (take 1 of) ev ≡ true) (sym (ending of e.event (Abort x) g)) (ap (λ b. name.is_ancestor (take 1 of) of && not b) (and_false (same of (take 1 of))) ∙ ap (λ b. b && true) (itself of))) ours is) f
-      where
-        and_false : (b : Bool) → (b && false) ≡ false
-        and_false true = refl
-        and_false false = refl
+        (own_abort c of past x ours is) f
     by_end (Some (Commit given)) is f = with_how given (end (mine c past) of) (λ some. once some) f
       where
         once : is_some (end (mine c past) of) ≡ true → end (mine c past) of ≡ Some (Commit given)

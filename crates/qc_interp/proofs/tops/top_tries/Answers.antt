@@ -1,29 +1,17 @@
-use Rattle.std.proofs.Common.{◌≡◌, ◌<◌, ◌+◌, ◌-◌, ℕ, suc, [], ◌∷◌, length, false, true, sym, ap, ◌∙◌, subst, arith, refl}
-use Rattle.qc_event.specs.Dead.{outcome_of, is_committed}
-use Rattle.qc_event.specs.declared.event.Entry.{Entry}
+use Rattle.std.proofs.Common.{◌≡◌, ◌<◌, ◌+◌, ◌-◌, ℕ, suc, [], ◌∷◌, length, true, sym, ◌∙◌, subst, arith, refl}
 use Rattle.qc_event.specs.declared.event.Event.TheVariants as event
 use Rattle.qc_event.specs.declared.event.Kind.TheVariants as kind
-use Rattle.qc_event.specs.History.{Past, Name, end, is_child}
-use Rattle.qc_event.specs.Legal.{Legal}
-use Rattle.qc_event.proofs.Lawful.{lawful}
-use Rattle.qc_event.proofs.LegalOrderly.{legal_orderly}
-use Rattle.qc_event.proofs.OneEntry.{not_some, some_or_none}
+use Rattle.qc_event.specs.History.{Past, Name, is_child}
 use Rattle.qc_script.specs.Numbers.{Numbers}
 use Rattle.qc_script.specs.Calls.{by_client}
-use Rattle.qc_script.specs.Client.{Client, Made, mine, is_own}
+use Rattle.qc_script.specs.Client.{Client, Made}
 use Rattle.qc_script.specs.Plan.{PlanFits, Numbered}
 use Rattle.qc_script.specs.Steps.{plan_of, numbered}
 use Rattle.qc_interp.specs.Running.{Runs, Ended}
 use Rattle.qc_interp.proofs.Growth.{child_length}
-use Rattle.qc_interp.proofs.Mine.{kept_some}
 use Rattle.qc_interp.proofs.Plans.{plan_is, tries_of, number_of}
 use Rattle.qc_interp.proofs.TopsRun.{TopTriesLeft, TriedTop, runs_top, top_once, top_more, top_out, no_top, tops_out}
 use Rattle.qc_interp.proofs.tops.top_tries.Goals as goal
-
-root_uncommitted : (c : Client) (past : Past) (n : Name) → Legal c.setting past → n ≡ [] → is_committed (outcome_of (end (mine c past) n)) ≡ false
-root_uncommitted c past n legal is =
-    let none = not_some (end (mine c past) []) (λ h. some_or_none (end past []) (kept_some (λ (e : Entry). is_own c e.seat) _ past h) (lawful past (legal_orderly c.setting past legal)).no_root_end) in
-    ap (λ m. is_committed (outcome_of (end (mine c past) m))) is ∙ ap (λ o. is_committed (outcome_of o)) none
 
 start_of : (c d : Client) (n : Name) (number other : ℕ) (before now : Past) → d ≡ c → number ≡ other → Made d (by_client d (event.Start n (kind.User d.session number)) ∷ []) before now → Made c (by_client c (event.Start n (kind.User c.session other)) ∷ []) before now
 start_of c d n number other before now same is m = subst (λ k. Made c (by_client c (event.Start n (kind.User c.session k)) ∷ []) before now) is (subst (λ x. Made x (by_client x (event.Start n (kind.User x.session number)) ∷ []) before now) same m)
