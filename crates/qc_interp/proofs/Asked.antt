@@ -18,6 +18,7 @@ use Rattle.qc_script.specs.Calls.{IsOfAccess}
 use Rattle.qc_script.specs.Client.{Client, mine, Made}
 use Rattle.qc_interp.specs.Follows.{GoesOn, FollowsPlan, StopsEarly}
 use Rattle.qc_script.specs.Plan.{Plan}
+use Rattle.qc_interp.specs.Reach.{Reach}
 use Rattle.qc_interp.specs.Tries.{Tries, TriesDo, is_tried_again}
 use Rattle.qc_script.specs.Calls.{is_asked}
 use Rattle.qc_interp.proofs.Growth.{made_is}
@@ -115,7 +116,7 @@ module _ (s : ℕ) (p : Entry → Bool) (setting : Setting) (newer past : Past) 
   abbrev now : Past
   now = filter p (newer ++ past)
 
-  does_still : (n c : Name) (Follows Does DoesNow : Type 0) (further : List Name) (how : Option How) → (Follows → Does → DoesNow) → (o : Option How) → end old c ≡ o → GoesOn n o Follows further how → DoesOn o Does → DoesOn (end now c) DoesNow
+  does_still : (n c : Name) (Follows Does DoesNow : Type 0) (further : List Name) (how : Option How) → (Follows → Does → DoesNow) → (o : Option How) → end old c ≡ o → GoesOn Reach.to_the_end old n o Follows further how → DoesOn o Does → DoesOn (end now c) DoesNow
   does_still n c Follows Does DoesNow further how step None is follows h = absurd h
   does_still n c Follows Does DoesNow further how step (Some (Abort x)) is follows h = absurd h
   does_still n c Follows Does DoesNow further how step (Some (Commit given)) is follows h = subst (λ o. DoesOn o DoesNow) (sym (end_some p setting newer past c (Commit given) is)) (step follows h)

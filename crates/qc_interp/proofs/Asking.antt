@@ -17,25 +17,27 @@ use Rattle.qc_event.proofs.Lawful.{lawful}
 use Rattle.qc_event.proofs.Lineage.{above_user}
 use Rattle.qc_event.proofs.OneEntry.{end_now}
 use Rattle.qc_names.specs.Name as name
-use Rattle.qc_script.specs.Calls.{by_client, NotAborted, Committed, NotCommitted}
+use Rattle.qc_script.specs.Calls.{by_client, NotAborted, Committed, MadeReady, NotCommitted}
 use Rattle.qc_script.specs.Client.{Client, mine, is_own, Made}
 use Rattle.qc_interp.specs.Follows.{StopsEarly, WasAsked, IsUnended, FollowsPlan, asked_end, above}
 use Rattle.qc_script.specs.Plan.{Plan}
-use Rattle.qc_interp.specs.Running.{Runs, Leaves, Quit, WhyStop, Stopped, Ended}
+use Rattle.qc_interp.specs.Reach.{Reach, AtTheEnd}
+use Rattle.qc_interp.specs.Running.{Runs, LeavesAt, Leaves, CutOff, Quit, WhyStop, Stopped, Ended}
 use Rattle.qc_script.specs.declared.tx.TxNo.{TxNo}
 use Rattle.qc_script.specs.declared.tx.TxNo.TheVariants as tx_no
 use Rattle.qc_interp.proofs.Mine.{kept_some}
 use Rattle.qc_interp.proofs.Adding.{at_top, over_later, over_ended}
 use Rattle.qc_interp.proofs.Turning.{InTurn, Alone, act_turns, itself}
 use Rattle.qc_interp.proofs.Growth.{made_is, made_later, ours_before, differ, started_still}
+use Rattle.qc_interp.proofs.Still.{follows_runs}
 use Rattle.qc_interp.proofs.Managers.{children_quiet, found_quiet}
-use Rattle.qc_interp.proofs.Ending.{asked_early, unended_again, top_above, not_ready, leaves_trans, leaves_still, runs_still, leaves_end, children_end, ends_so}
+use Rattle.qc_interp.proofs.Ending.{at_any, at_the_end, asked_early, unended_again, running_unended, top_above, not_ready, leaves_trans, leaves_cut, cut_still, still, leaves_still, runs_still, leaves_end, children_end, ends_so}
 use Rattle.qc_interp.proofs.StepsLeave.{orphan_early, stopped_still, some_later, none_open, is_none_by, is_some_by}
 use Rattle.std.specs.List.{list_all}
 use Rattle.qc_interp.specs.Adding.{stays_in}
 use Rattle.qc_script.specs.Calls.{is_over}
 use Rattle.qc_interp.specs.Asking.{AllAsked}
-use Rattle.qc_interp.proofs.Asked.{asked_made, asked_none, asked_wider, asked_trans}
+use Rattle.qc_interp.proofs.Asked.{NoOne, asked_made, asked_none, asked_wider, asked_trans}
 
 orphaned : (of t : Name) (levels : ℕ) (how : Option How) → t ≡ above of levels → (levels ≡ 0 → ⊥) → (how ≡ Some (Abort (cause.Orphan t))) ⊎ WasAsked of how → (how ≡ asked_end of levels) ⊎ WasAsked of how
 orphaned of t zero how named some h = absurd (some refl)
@@ -50,6 +52,21 @@ module _ (c : Client) (of : Name) where
     tried = quit.tried;
     ends = λ ours. ([], quit.children ∙ same_children ∙ sym (append-nil _), orphaned of t levels _ named some (quit.ended ours), asked_trans c before mid now _ (asked_wider _ _ (λ by x a. (a.0, a.1 ∙ named)) c before mid asked) (asked_none c mid now _ quit.asked));
   }
+
+  -- the run was cut off after a step `abort`
+  pub asked_cut : (t : Name) (levels : ℕ) → t ≡ above of levels → (before mid now : Past) (rest : Plan) → Runs c of mid → Leaves c of before mid → AllAsked c before mid (λ by x. (by ≡ of) × (x ≡ t)) → children (mine c mid) of ≡ children (mine c before) of → Made c [] mid now → CutOff c of before now (Plan.abort_then levels rest)
+  asked_cut t levels named before mid now rest runs leaves asked same_children made =
+      let at = (runs_still c of mid now made runs).above of [] (sym (append-nil of)) runs.nonroot in
+      record {
+        leaves = leaves_trans c of before mid now leaves (leaves_cut c of mid now (leaves_still c of mid now made));
+        unended = at.0;
+        begins = λ ours. (
+          [],
+          ap (λ h. children h of) (still c of mid now made) ∙ same_children ∙ sym (append-nil _),
+          inr (running_unended (mine c now) of _ at.0 at.1),
+          asked_trans c before mid now _ (asked_wider _ _ (λ by x a. (a.0, a.1 ∙ named)) c before mid asked) (asked_none c mid now _ (asked_made c [] mid now NoOne made tt)),
+        );
+      }
 
   pub asked_itself : (levels : ℕ) (before now : Past) (again : Bool) (rest : Plan) → levels ≡ 0 → Quit c of (Abort (cause.Asked of)) before now again → Ended c of before now (Plan.abort_then levels rest) again
   asked_itself zero before now again rest none quit = record {
@@ -162,6 +179,19 @@ module _ (c : Client) (of : Name) where
   ask_no t levels before now (tx_no.ChildrenOpen x) rest a runs none n1 n0 n2 = absurd none
   ask_no t levels before now tx_no.Ledger rest a runs none n1 n0 n2 = absurd none
 
+  -- whatever a refused abort tells, nothing was made
+  pub not_aborted_made : (t : Name) (x : Rattle.qc_event.specs.declared.event.Cause.Cause) (before now : Past) (why : TxNo) → NotAborted c t x before now why → Made c [] before now
+  not_aborted_made t x before now tx_no.Memory none = none
+  not_aborted_made t x before now tx_no.Room none = none.0
+  not_aborted_made t x before now tx_no.Ended none = none.0
+  not_aborted_made t x before now tx_no.Ready none = none.0
+  not_aborted_made t x before now (tx_no.Orphan a) none = absurd none
+  not_aborted_made t x before now (tx_no.Conflict copy holder) none = absurd none
+  not_aborted_made t x before now (tx_no.NoQuorum lack) none = absurd none
+  not_aborted_made t x before now tx_no.Last none = absurd none
+  not_aborted_made t x before now (tx_no.ChildrenOpen child) none = absurd none
+  not_aborted_made t x before now tx_no.Ledger none = absurd none
+
   -- what it found of an ancestor that had ended
   pub ask_ended : (t : Name) (before now : Past) (why : TxNo) → why ≡ tx_no.Ended → NotAborted c t (cause.Asked of) before now why → Made c [] before now × (is_some (end now t) ≡ true)
   ask_ended t before now why is none = by_no (subst (NotAborted c t (cause.Asked of) before now) is none)
@@ -177,46 +207,74 @@ module _ (c : Client) (of : Name) where
 
   -- COMMITS
 
-  ready_made : (before now : Past) → Runs c of before → length of ≡ 1 → Made c (by_client c (event.Ready of) ∷ []) before now → is_over now of ≡ true → Ended c of before now Plan.done false
-  ready_made before now runs top m over = record {
-    leaves = record {
-      turns = λ ours turns alone. subst (λ h. InTurn h × Alone h of) (sym now_is) (act_turns (by_client c (event.Ready of)) (mine c before) of of refl refl turns alone alone);
+  module _ (before now : Past) (runs : Runs c of before) (m : Made c (by_client c (event.Ready of) ∷ []) before now) where
+    ready_now : mine c now ≡ by_client c (event.Ready of) ∷ mine c before
+    ready_now = made_is c _ before now m
+
+    children_ready : (p : Name) → children (mine c now) p ≡ children (mine c before) p
+    children_ready p = ap (λ h. children h p) ready_now ∙ children_quiet p (by_client c (event.Ready of) ∷ []) (mine c before) (refl, tt)
+
+    end_ready : (p : Name) → end (mine c now) p ≡ end (mine c before) p
+    end_ready p = ap (λ h. end h p) ready_now ∙ found_quiet _ (by_client c (event.Ready of) ∷ []) (mine c before) (refl, tt)
+
+    unended_ready : IsUnended of (end (mine c now) of)
+    unended_ready = subst (λ o. IsUnended of o) (sym (end_ready of)) (runs.above of [] (sym (append-nil of)) runs.nonroot).0
+
+    ready_is : is_ready (mine c now) of ≡ true
+    ready_is = ap (λ h. is_ready h of) ready_now ∙ by_old (Rattle.qc_event.specs.History.earliest (λ (e : Entry). ready_in of e.event) (mine c before)) (same of of) (same_itself of)
+      where
+        by_old : (o : Option (Unit {0})) (b : Bool) → b ≡ true → is_some (option_or o (if b then Some tt else None)) ≡ true
+        by_old None b so = ap (λ x. is_some (if x then Some tt else None)) so
+        by_old (Some y) b so = refl
+
+    done_ready : FollowsPlan c.session (mine c now) of Plan.done [] (end (mine c now) of)
+    done_ready = by_end (end (mine c now) of) unended_ready
+      where
+        by_end : (o : Option How) → IsUnended of o → FollowsPlan c.session (mine c now) of Plan.done [] o
+        by_end o (inl none) = inl (subst (λ x. Rattle.qc_interp.specs.Follows.Commits (mine c now) of x) (sym none) ready_is)
+        by_end o (inr s) = inr (asked_early of o s)
+
+    leaves_ready : (reach : Reach) → AtTheEnd reach (is_over now of ≡ true) → LeavesAt reach c of before now
+    leaves_ready reach over = record {
+      turns = λ ours turns alone.
+          let t = subst (λ h. InTurn h × Alone h of) (sym ready_now) (act_turns (by_client c (event.Ready of)) (mine c before) of of refl refl turns alone alone) in
+          (t.0, at_any reach _ t.1);
       later = made_later c _ before now m;
       inside = ap (list_all (stays_in (take 1 of))) m.made ∙ ap (λ b. b && true) (at_top of);
-      over = λ was r. over;
+      over = at_the_end reach _ _ (λ so was r. so) over;
       above = λ p r is far.
           record {
-            children = children_is p;
-            ready = ap (λ h. is_ready h p) now_is ∙ ap is_some (found_quiet _ (by_client c (event.Ready of) ∷ []) (mine c before) (if_not (same of p) (Some tt) (differ of p (λ l. omega (arith, l, far, ap length is, length-append p r))), tt));
-            unended = subst (λ o. IsUnended p o) (sym (end_is p));
+            children = children_ready p;
+            ready = ap (λ h. is_ready h p) ready_now ∙ ap is_some (found_quiet _ (by_client c (event.Ready of) ∷ []) (mine c before) (if_not (same of p) (Some tt) (differ of p (λ l. omega (arith, l, far, ap length is, length-append p r))), tt));
+            unended = subst (λ o. IsUnended p o) (sym (end_ready p));
           };
-    };
-    tried = sym (unended_again of _ was);
-    ends = λ ours. ([], children_is of ∙ sym (append-nil _), by_end (end (mine c now) of) was, asked_made c _ before now _ m (tt, tt));
-  }
+    }
+
+    ready_made : is_over now of ≡ true → Ended c of before now Plan.done false
+    ready_made over = record {
+      leaves = leaves_ready Reach.to_the_end over;
+      tried = sym (unended_again of _ unended_ready);
+      ends = λ ours. ([], children_ready of ∙ sym (append-nil _), done_ready, asked_made c _ before now _ m (tt, tt));
+    }
+
+    -- a top was made ready, and the run was cut off
+    ready_cut : CutOff c of before now Plan.done
+    ready_cut = record {
+      leaves = leaves_ready Reach.cut_off tt;
+      unended = unended_ready;
+      begins = λ ours. ([], children_ready of ∙ sym (append-nil _), follows_runs Reach.cut_off c.session (mine c now) of Plan.done [] _ done_ready, asked_made c _ before now _ m (tt, tt));
+    }
+
+  -- a commit was refused for want of memory or room
+  pub commit_short : (before now : Past) (why : TxNo) → (why ≡ tx_no.Memory) ⊎ (why ≡ tx_no.Room) → Runs c of before → NotCommitted c of before now why → CutOff c of before now Plan.done
+  commit_short before now why short runs none = elim short [
+    | inl is ↦ either (subst (NotCommitted c of before now) is none)
+    | inr is ↦ either (subst (NotCommitted c of before now) is none).0
+  ]
     where
-      now_is : mine c now ≡ by_client c (event.Ready of) ∷ mine c before
-      now_is = made_is c _ before now m
-
-      children_is : (p : Name) → children (mine c now) p ≡ children (mine c before) p
-      children_is p = ap (λ h. children h p) now_is ∙ children_quiet p (by_client c (event.Ready of) ∷ []) (mine c before) (refl, tt)
-
-      end_is : (p : Name) → end (mine c now) p ≡ end (mine c before) p
-      end_is p = ap (λ h. end h p) now_is ∙ found_quiet _ (by_client c (event.Ready of) ∷ []) (mine c before) (refl, tt)
-
-      was : IsUnended of (end (mine c now) of)
-      was = subst (λ o. IsUnended of o) (sym (end_is of)) (runs.above of [] (sym (append-nil of)) runs.nonroot).0
-
-      ready : is_ready (mine c now) of ≡ true
-      ready = ap (λ h. is_ready h of) now_is ∙ by_old (Rattle.qc_event.specs.History.earliest (λ (e : Entry). ready_in of e.event) (mine c before)) (same of of) (same_itself of)
-        where
-          by_old : (o : Option (Unit {0})) (b : Bool) → b ≡ true → is_some (option_or o (if b then Some tt else None)) ≡ true
-          by_old None b so = ap (λ x. is_some (if x then Some tt else None)) so
-          by_old (Some y) b so = refl
-
-      by_end : (o : Option How) → IsUnended of o → FollowsPlan c.session (mine c now) of Plan.done [] o
-      by_end o (inl none) = inl (subst (λ x. Rattle.qc_interp.specs.Follows.Commits (mine c now) of x) (sym none) ready)
-      by_end o (inr s) = inr (asked_early of o s)
+      either : Made c [] before now ⊎ MadeReady c of before now → CutOff c of before now Plan.done
+      either (inl m) = cut_still c of before now runs m Plan.done
+      either (inr ready) = ready_cut before now runs ready.1
 
   end_made : (before now : Past) → Runs c of before → Made c (by_client c (event.End of (Commit answer.Nothing)) ∷ []) before now → Ended c of before now Plan.done false
   end_made before now runs m = record {
@@ -226,7 +284,7 @@ module _ (c : Client) (of : Name) where
   }
 
   pub commit_ledger : (before now : Past) (why : TxNo) → why ≡ tx_no.Ledger → Runs c of before → NotCommitted c of before now why → Ended c of before now Plan.done false
-  commit_ledger before now why is runs none = let x = subst (NotCommitted c of before now) is none in ready_made before now runs x.0 x.1 x.2
+  commit_ledger before now why is runs none = let x = subst (NotCommitted c of before now) is none in ready_made before now runs x.1 x.2
 
   pub commit_stops : (before now : Past) (why : TxNo) → Runs c of before → NotCommitted c of before now why → (why ≡ tx_no.Memory → ⊥) → (why ≡ tx_no.Room → ⊥) → (why ≡ tx_no.Ledger → ⊥) → Runs c of now × WhyStop c now of why × Made c [] before now
   commit_stops before now tx_no.Memory runs none n1 n0 n2 = absurd (n1 refl)
@@ -255,5 +313,5 @@ commit_over c of before mid now tx_no.Last again runs none n1 n0 n2 stopped = ab
 
 pub commit_ok : (c : Client) (of : Name) (before now : Past) → Runs c of before → Committed c of before now → Ended c of before now Plan.done false
 commit_ok c [] before now runs m = end_made c [] before now runs m
-commit_ok c (x ∷ []) before now runs m = ready_made c (x ∷ []) before now runs refl m.0 (over_ended now (x ∷ []) (ap is_some m.1))
+commit_ok c (x ∷ []) before now runs m = ready_made c (x ∷ []) before now runs m.0 (over_ended now (x ∷ []) (ap is_some m.1))
 commit_ok c (x ∷ y ∷ of) before now runs m = end_made c (x ∷ y ∷ of) before now runs m

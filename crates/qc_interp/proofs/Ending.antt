@@ -28,8 +28,11 @@ use Rattle.qc_event.proofs.Orderly.{KeepsOrder, Begins}
 use Rattle.qc_names.specs.Name as name
 use Rattle.qc_script.specs.Calls.{by_client, NotAborted, IsGrounded, IsNone}
 use Rattle.qc_script.specs.Client.{Client, mine, is_own, concerns, Made, IsLater, AreOurs}
-use Rattle.qc_interp.specs.Follows.{StopsEarly, WasAsked, IsUnended}
-use Rattle.qc_interp.specs.Running.{Runs, Leaves, Quit}
+use Rattle.qc_interp.specs.Follows.{StopsEarly, WasAsked, IsUnended, Stops, HasNotEnded, RunsPlan}
+use Rattle.qc_script.specs.Plan.{Plan}
+use Rattle.qc_interp.proofs.TriesAlike.{no_tries}
+use Rattle.qc_interp.specs.Reach.{Reach, AtTheEnd}
+use Rattle.qc_interp.specs.Running.{Runs, LeavesAt, Leaves, CutOff, Quit}
 use Rattle.qc_interp.specs.Turns.{acts}
 use Rattle.qc_interp.proofs.Adding.{all_later, at_top, over_later}
 use Rattle.qc_interp.proofs.Turning.{InTurn, Alone, end_turns, alone_below, itself}
@@ -41,7 +44,16 @@ use Rattle.qc_interp.proofs.Managers.{children_quiet, found_quiet, absent, came_
 use Rattle.std.specs.List.{list_all}
 use Rattle.qc_interp.specs.Adding.{stays_in}
 use Rattle.qc_interp.specs.Asking.{ByItself}
-use Rattle.qc_interp.proofs.Asked.{NoOne, asked_made, itself_end}
+use Rattle.qc_interp.proofs.Asked.{NoOne, asked_made, asked_none, itself_end}
+
+-- what follows from what is so where the run came to its end
+pub at_the_end : (reach : Reach) (P Q : Type 0) → (P → Q) → AtTheEnd reach P → AtTheEnd reach Q
+at_the_end Reach.to_the_end P Q step h = step h
+at_the_end Reach.cut_off P Q step h = tt
+
+pub at_any : (reach : Reach) (P : Type 0) → P → AtTheEnd reach P
+at_any Reach.to_the_end P h = h
+at_any Reach.cut_off P h = tt
 
 -- who was aborted as another asked was stopped early
 pub asked_early : (n : Name) (how : Option How) → WasAsked n how → StopsEarly n how
@@ -69,6 +81,23 @@ unended_again n (Some (Abort cause.Last)) (inr h) = absurd h
 unended_again n (Some (Abort cause.Killed)) (inr h) = absurd h
 unended_again n (Some (Abort (cause.Child x))) (inr h) = absurd h
 unended_again n (Some (Abort cause.Missed)) (inr h) = absurd h
+
+-- who has not ended itself and is not ready stops where the run was cut off
+pub running_stops : (past : Past) (n : Name) (how : Option How) → IsUnended n how → is_ready past n ≡ false → Stops Reach.cut_off past n how
+running_stops past n how (inl none) unready = inr (none, unready)
+running_stops past n how (inr asked) unready = inl (asked_early n how asked)
+
+pub running_unended : (past : Past) (n : Name) (how : Option How) → IsUnended n how → is_ready past n ≡ false → HasNotEnded Reach.cut_off past n how
+running_unended past n how (inl none) unready = inr (none, unready)
+running_unended past n how (inr asked) unready = inl asked
+
+-- and with no child it has come as far with any plan
+pub running_runs : (s : ℕ) (past : Past) (n : Name) (how : Option How) → IsUnended n how → is_ready past n ≡ false → (plan : Plan) → RunsPlan Reach.cut_off s past n plan [] how
+running_runs s past n how unended unready Plan.done = inr (running_stops past n how unended unready)
+running_runs s past n how unended unready (Plan.manage_then k rest) = running_stops past n how unended unready
+running_runs s past n how unended unready (Plan.child_then number tries inner rest) =
+    no_tries (end past) _ (Stops Reach.cut_off past n how) (λ further. RunsPlan Reach.cut_off s past n rest further how) (running_stops past n how unended unready) (running_runs s past n how unended unready rest) tries
+running_runs s past n how unended unready (Plan.abort_then levels rest) = inr (running_unended past n how unended unready)
 
 pub stops_some : (n : Name) (how : Option How) → StopsEarly n how → is_some how ≡ true
 stops_some n None h = absurd h
@@ -112,7 +141,7 @@ top_user setting (e ∷ past) x b legal is = elim (first_is (start past (x ∷ [
     by_event (event.Ready n) same_ev h = absurd cc
     by_event (event.End n how) same_ev h = absurd cc
 
-committed_ready : (setting : Setting) (past : Past) (x : ℕ) (given : Rattle.qc_event.specs.declared.event.Answer.Answer) → Legal setting past → end past (x ∷ []) ≡ Some (Commit given) → is_ready past (x ∷ []) ≡ true
+pub committed_ready : (setting : Setting) (past : Past) (x : ℕ) (given : Rattle.qc_event.specs.declared.event.Answer.Answer) → Legal setting past → end past (x ∷ []) ≡ Some (Commit given) → is_ready past (x ∷ []) ≡ true
 committed_ready setting [] x given legal is = absurd cc
 committed_ready setting (e ∷ past) x given legal is = elim (end_step e past (x ∷ []) (Commit given) is) [
   | inl old ↦ stays_some _ _ (committed_ready setting past x given legal.0 old)
@@ -194,11 +223,11 @@ module _ (c : Client) (of : Name) where
   pub leaves_itself : (now : Past) → Legal c.setting now → Leaves c of now now
   leaves_itself now legal = record { inside = refl; over = λ was. was; later = later_itself c now legal; above = λ p r is far. record { children = refl; ready = refl; unended = λ h. h }; turns = λ ours turns alone. (turns, alone) }
 
-  pub leaves_trans : (a b d : Past) → Leaves c of a b → Leaves c of b d → Leaves c of a d
-  leaves_trans a b d f g = record {
+  pub leaves_trans : {reach : Reach} (a b d : Past) → Leaves c of a b → LeavesAt reach c of b d → LeavesAt reach c of a d
+  leaves_trans {reach = reach} a b d f g = record {
     later = later_trans c a b d f.later g.later;
     inside = all_later _ c f.later.newer g.later.newer f.inside g.inside;
-    over = λ was. g.over (f.over was);
+    over = at_the_end reach _ _ (λ over was. over (f.over was)) g.over;
     above = λ p r is far. record {
       children = (g.above p r is far).children ∙ (f.above p r is far).children;
       ready = (g.above p r is far).ready ∙ (f.above p r is far).ready;
@@ -206,6 +235,10 @@ module _ (c : Client) (of : Name) where
     };
     turns = λ ours turns alone. let m = f.turns (ours_before c of b d g.later ours) turns alone in g.turns ours m.0 m.1;
   }
+
+  -- what is left is left where the run was cut off
+  pub leaves_cut : (before now : Past) → Leaves c of before now → LeavesAt Reach.cut_off c of before now
+  leaves_cut before now f = record { later = f.later; inside = f.inside; over = tt; above = f.above; turns = λ ours turns alone. ((f.turns ours turns alone).0, tt) }
 
   module _ (before now : Past) (m : Made c [] before now) where
     pub still : mine c now ≡ mine c before
@@ -228,6 +261,16 @@ module _ (c : Client) (of : Name) where
       above = λ p r is far. subst (λ h. IsUnended p (end h p) × (is_ready h p ≡ false)) (sym still) (runs.above p r is far);
       closed = λ ours. ap (λ h. open_child h of) still ∙ runs.closed (ours_before c of before now (made_later c [] before now m) ours);
     }
+
+  -- it was cut off before it did anything of a plan
+  pub cut_still : (before now : Past) → Runs c of before → Made c [] before now → (plan : Plan) → CutOff c of before now plan
+  cut_still before now runs m plan =
+      let at = (runs_still before now m runs).above of [] (sym (append-nil of)) runs.nonroot in
+      record {
+        leaves = leaves_cut before now (leaves_still before now m);
+        unended = at.0;
+        begins = λ ours. ([], ap (λ h. children h of) (still before now m) ∙ sym (append-nil _), running_runs c.session (mine c now) of _ at.0 at.1 plan, asked_none c before now _ (asked_made c [] before now NoOne m tt));
+      }
 
   -- an end that is made
   module _ (how : How) (before now : Past) (m : Made c (by_client c (event.End of how) ∷ []) before now) where

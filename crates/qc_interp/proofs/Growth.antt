@@ -41,6 +41,21 @@ module _ (c : Client) where
   abbrev pub made_later : (es before now : Past) → Made c es before now → IsLater c before now
   made_later es before now m = record { newer = m.newer; grown = m.grown; legal = m.legal }
 
+  pub made_itself : (now : Past) → Legal c.setting now → Made c [] now now
+  made_itself now legal = record { newer = []; grown = refl; made = refl; legal = legal }
+
+  -- these were made, and then nothing
+  pub made_after : (es a b d : Past) → Made c es a b → Made c [] b d → Made c es a d
+  made_after es a b d m n = record {
+    newer = n.newer ++ m.newer;
+    grown = n.grown ∙ ap (λ x. n.newer ++ x) m.grown ∙ sym (append_assoc n.newer m.newer a);
+    made = filter-append _ n.newer m.newer ∙ ap (λ x. x ++ mine c m.newer) n.made ∙ m.made;
+    legal = n.legal;
+  }
+
+  pub made_both : (a b d : Past) → Made c [] a b → Made c [] b d → Made c [] a d
+  made_both a b d m n = made_after [] a b d m n
+
   abbrev pub later_itself : (now : Past) → Legal c.setting now → IsLater c now now
   later_itself now legal = record { newer = []; grown = refl; legal = legal }
 

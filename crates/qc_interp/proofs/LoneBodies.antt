@@ -6,19 +6,21 @@ use Rattle.qc_event.specs.declared.event.Answer.{Answer}
 use Rattle.qc_event.specs.declared.event.Entry.{Entry}
 use Rattle.qc_event.specs.declared.event.How.{How}
 use Rattle.qc_event.specs.declared.event.How.TheVariants.{Commit, Abort}
-use Rattle.qc_event.specs.History.{Past, Name, end, end_in, children, is_child, same}
+use Rattle.qc_event.specs.History.{Past, Name, end, end_in, is_ready, children, is_child, same}
 use Rattle.qc_event.specs.Legal.{Legal}
 use Rattle.qc_event.proofs.OneEntry.{some_or_none, not_some}
 use Rattle.qc_script.specs.Client.{Client, mine, is_own, AreOurs}
 use Rattle.qc_script.specs.Plan.{Numbered}
 use Rattle.qc_interp.specs.Asking.{BodiesAsk, Asks}
-use Rattle.qc_interp.specs.Follows.{FollowsBody}
-use Rattle.qc_interp.specs.Session.{FollowsBodies}
+use Rattle.qc_interp.specs.Follows.{RunsBody}
+use Rattle.qc_interp.specs.Reach.{Reach}
+use Rattle.qc_interp.specs.Session.{NotBegun, RunsBodies}
 use Rattle.qc_interp.specs.Tries.{is_tried_again}
 use Rattle.qc_interp.proofs.LoneEntries.{top_is}
 use Rattle.qc_interp.proofs.Mine.{kept_some}
 use Rattle.qc_interp.proofs.Adding.{at_top}
-use Rattle.qc_interp.proofs.Seen.{same_kind, follows_seen, asks_seen, own_abort, own_once}
+use Rattle.qc_interp.proofs.Ending.{committed_ready}
+use Rattle.qc_interp.proofs.Seen.{same_kind, runs_seen, asks_seen, own_abort, own_once}
 use Rattle.qc_interp.proofs.TriesAlike.{AreAlike, tries_alike, tries_do_alike, tries_all}
 
 -- BODIES
@@ -44,18 +46,24 @@ module _ (c : Client) (past : Past) (legal : Legal c.setting past) where
   long : (t : Name) → is_child [] t ≡ true → 0 < length t
   long t child = let top = top_is t child in subst (λ x. 0 < length x) (sym top.1) (omega arith)
 
-  body_seen : (s : ℕ) (b : Numbered) (t : Name) → IsOurTop c past t → FollowsBody s (mine c past) b t → FollowsBody s past b t
-  body_seen s b t ours follows = record {
-    kind = sym (same_kind c t past ours.1 t (at_top t)) ∙ follows.kind;
-    steps = follows_seen c s t past b.plan legal (long t ours.0) ours.1 follows.steps;
-  }
+  module _ (reach : Reach) (s : ℕ) where
+    body_seen : (b : Numbered) (t : Name) → IsOurTop c past t → RunsBody reach s (mine c past) b t → RunsBody reach s past b t
+    body_seen b t ours runs = record {
+      kind = sym (same_kind c t past ours.1 t (at_top t)) ∙ runs.kind;
+      steps = runs_seen reach c s t past b.plan legal (long t ours.0) ours.1 ready runs.steps;
+    }
+      where
+        ready : (given : Answer) → end past t ≡ Some (Commit given) → is_ready past t ≡ true
+        ready given is =
+            let top = top_is t ours.0 in
+            subst (λ x. is_ready past x ≡ true) (sym top.1) (committed_ready c.setting past top.0 given legal (sym (ap (end past) top.1) ∙ is))
 
-  pub bodies_seen : (s : ℕ) (bodies : List Numbered) (ts : List Name) → AllByRecursion (IsOurTop c past) ts → FollowsBodies s (mine c past) bodies ts → FollowsBodies s past bodies ts
-  bodies_seen s [] [] ours h = h
-  bodies_seen s [] (t ∷ ts) ours h = absurd h
-  bodies_seen s (b ∷ bodies) ts ours h =
-      tries_alike (end (mine c past)) (end past) (FollowsBody s (mine c past) b) (FollowsBody s past b) ⊥ (λ further. FollowsBodies s (mine c past) bodies further) (λ further. FollowsBodies s past bodies further) (IsOurTop c past)
-      again_alike (body_seen s b) (bodies_seen s bodies) b.tries ts ours h
+    pub bodies_seen : (bodies : List Numbered) (ts : List Name) → AllByRecursion (IsOurTop c past) ts → RunsBodies reach s (mine c past) bodies ts → RunsBodies reach s past bodies ts
+    bodies_seen [] [] ours h = h
+    bodies_seen [] (t ∷ ts) ours h = absurd h
+    bodies_seen (b ∷ bodies) ts ours h =
+        tries_alike (end (mine c past)) (end past) (RunsBody reach s (mine c past) b) (RunsBody reach s past b) (NotBegun reach) (NotBegun reach) (λ further. RunsBodies reach s (mine c past) bodies further) (λ further. RunsBodies reach s past bodies further) (IsOurTop c past)
+        again_alike (λ none. none) (body_seen b) (bodies_seen bodies) b.tries ts ours h
 
   pub bodies_ask_seen : (by target : Name) (bodies : List Numbered) (ts : List Name) → AllByRecursion (IsOurTop c past) ts → BodiesAsk (mine c past) bodies ts by target → BodiesAsk past bodies ts by target
   bodies_ask_seen by target [] ts ours h = absurd h
@@ -68,8 +76,8 @@ module _ (c : Client) (past : Past) (legal : Legal c.setting past) where
 abbrev pub IsOfSession : ℕ → Past → Name → Type 0
 IsOfSession s past t = (b : ℕ) × (Rattle.qc_event.specs.History.kind_of past t ≡ Some (Rattle.qc_event.specs.declared.event.Kind.Kind.User s b))
 
-pub each_of_session : (s : ℕ) (past : Past) (bodies : List Numbered) (ts : List Name) → FollowsBodies s past bodies ts → AllByRecursion (IsOfSession s past) ts
-each_of_session s past [] [] h = tt
-each_of_session s past [] (t ∷ ts) h = absurd h
-each_of_session s past (b ∷ bodies) ts h =
-    tries_all (end past) (FollowsBody s past b) (IsOfSession s past) (λ further. FollowsBodies s past bodies further) (λ t f. (b.number, f.kind)) (each_of_session s past bodies) b.tries ts h
+pub each_of_session : (reach : Reach) (s : ℕ) (past : Past) (bodies : List Numbered) (ts : List Name) → RunsBodies reach s past bodies ts → AllByRecursion (IsOfSession s past) ts
+each_of_session reach s past [] [] h = tt
+each_of_session reach s past [] (t ∷ ts) h = absurd h
+each_of_session reach s past (b ∷ bodies) ts h =
+    tries_all (end past) (RunsBody reach s past b) (IsOfSession s past) (NotBegun reach) (λ further. RunsBodies reach s past bodies further) (λ t f. (b.number, f.kind)) (each_of_session reach s past bodies) b.tries ts h

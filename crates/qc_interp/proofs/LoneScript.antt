@@ -1,7 +1,7 @@
 -- A history in which one client alone acts follows the script whose bodies it ran.
 use Rattle.std.proofs.Common.{◌≡◌, ◌⊎◌, inl, inr, arith, ℕ, Bool, true, false, List, [], ◌∷◌, ◌++◌, length, refl, sym, ap, ◌∙◌, subst, append-nil}
 use mathlib.Core.Bool.{true≢false}
-use Rattle.std.specs.Prelude.{Option, None, Some, MatchOption, is_some, option_to_list, option_map, ◌==◌, ◌&&◌, ◌||◌, if◌then◌else◌}
+use Rattle.std.specs.Prelude.{Option, None, Some, MatchOption, IsTrue, is_some, option_to_list, option_map, ◌==◌, ◌&&◌, ◌||◌, if◌then◌else◌}
 use Rattle.std.specs.List.{AllByRecursion, list_all, list_any}
 use Rattle.std.proofs.lemmas.List.Folds.{list_all-append}
 use Rattle.std.proofs.Math.Bool.{or-false}
@@ -30,8 +30,9 @@ use Rattle.qc_script.specs.Plan.{Numbered}
 use Rattle.qc_interp.specs.Adding.{is_of_one, all_over}
 use Rattle.qc_interp.specs.Alone.{is_lone, all_lone, AreLone, AccessesEnd}
 use Rattle.qc_interp.specs.Asking.{BodiesAsk, IsAskedBy}
-use Rattle.qc_interp.specs.FollowsScript.{FollowsScript, started, started_in}
-use Rattle.qc_interp.specs.Session.{tops, FollowsBodies, EndsTops, RanInTurn}
+use Rattle.qc_interp.specs.FollowsScript.{RunsScript, FollowsScript, started, started_in}
+use Rattle.qc_interp.specs.Reach.{Reach, AtTheEnd}
+use Rattle.qc_interp.specs.Session.{tops, RunsBodies, EndsTopsAt, EndsTops, InTurnAt, RanInTurn}
 use Rattle.qc_interp.specs.Sessions.{tops_of, is_plain, all_plain}
 use Rattle.qc_interp.specs.Turns.{begun_in, is_done, is_alone}
 use Rattle.qc_interp.proofs.Ending.{top_user}
@@ -225,10 +226,12 @@ begun_ended c past n k legal lone alone over is none =
 
 -- ALL OF IT
 
-pub lone_follows : (c : Client) (net : Net) (bodies : List Numbered) (past : Past) → Legal c.setting past → IsSingle c → AreLone c past → EndsTops c [] past bodies → RanInTurn c [] past → meets_fates c.number net past ≡ true → AccessesEnd past → FollowsScript c.session c.epoch net bodies past
-lone_follows c net bodies past legal single lone ends ran met accesses = record {
+-- as far as the run came
+pub lone_runs : (reach : Reach) (c : Client) (net : Net) (bodies : List Numbered) (past : Past) → Legal c.setting past → IsSingle c → AreLone c past → EndsTopsAt reach c [] past bodies → InTurnAt reach c [] past → meets_fates c.number net past ≡ true
+    → AtTheEnd reach (IsTrue (list_all (λ n. is_some (end past n)) (started past))) → RunsScript reach c.session c.epoch net bodies past
+lone_runs reach c net bodies past legal single lone ends ran met all_ended = record {
   only = only;
-  bodies_run = subst (FollowsBodies c.session past bodies) further_is follows;
+  bodies_run = subst (RunsBodies reach c.session past bodies) further_is follows;
   in_turn = record {
     turns = turns_lone c c.session past single lone inside turns.0;
     seats = seats_lone c c.session past legal single lone (subst (AllByRecursion (λ t. is_child [] t ≡ true)) (sym only) (all_children past []));
@@ -239,7 +242,7 @@ lone_follows c net bodies past legal single lone ends ran met accesses = record 
     | inl same ↦ inl same
     | inr asks ↦ inr (subst (λ ts. BodiesAsk past bodies ts by n) further_is (bodies_ask_seen c past legal by n bodies further ours asks))
   ];
-  each_ended = all_started c.setting (λ n. is_some (end past n)) [] past legal by_kind;
+  each_ended = all_ended;
   plain = plain_lone c past lone;
   messages = messages_lone c c.session net past single lone met;
 }
@@ -263,11 +266,11 @@ lone_follows c net bodies past legal single lone ends ran met accesses = record 
         by_tops [] all = tt
         by_tops (t ∷ ts) all = ((all.0, ours_alone c t past all.0 lone), by_tops ts all.1)
 
-    follows : FollowsBodies c.session past bodies further
-    follows = bodies_seen c past legal c.session bodies further ours (ends all_ours).2
+    follows : RunsBodies reach c.session past bodies further
+    follows = bodies_seen c past legal reach c.session bodies further ours (ends all_ours).2
 
     only : tops_of c.session past ≡ children past []
-    only = only_of c.setting c.session [] past legal (subst (AllByRecursion (IsOfSession c.session past)) (sym tops_are ∙ same_tops c past lone) (each_of_session c.session past bodies further follows))
+    only = only_of c.setting c.session [] past legal (subst (AllByRecursion (IsOfSession c.session past)) (sym tops_are ∙ same_tops c past lone) (each_of_session reach c.session past bodies further follows))
 
     further_is : further ≡ tops_of c.session past
     further_is = sym tops_are ∙ same_tops c past lone ∙ sym only
@@ -278,17 +281,27 @@ lone_follows c net bodies past legal single lone ends ran met accesses = record 
     inside : list_all (is_of_one (tops_of c.session past)) (mine c past) ≡ true
     inside = subst (λ h. list_all (is_of_one (tops_of c.session past)) (mine c h) ≡ true) newer_is (subst (λ ts. list_all (is_of_one ts) (mine c ran.later.newer) ≡ true) (sym ran.more ∙ same_tops c past lone ∙ sym only) ran.inside)
 
-    turns : (Rattle.qc_script.specs.Numbers.each Rattle.qc_interp.specs.Turns.takes_turn (mine c past) ≡ true) × (is_alone (mine c past) [] ≡ true)
+    turns : (Rattle.qc_script.specs.Numbers.each Rattle.qc_interp.specs.Turns.takes_turn (mine c past) ≡ true) × AtTheEnd reach (is_alone (mine c past) [] ≡ true)
     turns = ran.turns all_ours refl refl
 
-    order : (Rattle.qc_script.specs.Numbers.each (Rattle.qc_interp.specs.Adding.own_after c) past ≡ true) × (all_over c past ≡ true)
+    order : (Rattle.qc_script.specs.Numbers.each (Rattle.qc_interp.specs.Adding.own_after c) past ≡ true) × AtTheEnd reach (all_over c past ≡ true)
     order = ran.order all_ours refl refl
 
     asked : AllByRecursion (λ (e : Entry). IsAskedBy Q e.event) (mine c past)
     asked = let a = (ends all_ours).3 in subst (AllByRecursion (λ (e : Entry). IsAskedBy Q e.event)) (sym (a.1 ∙ append-nil a.0)) a.2
 
+pub lone_follows : (c : Client) (net : Net) (bodies : List Numbered) (past : Past) → Legal c.setting past → IsSingle c → AreLone c past → EndsTops c [] past bodies → RanInTurn c [] past → meets_fates c.number net past ≡ true → AccessesEnd past → FollowsScript c.session c.epoch net bodies past
+lone_follows c net bodies past legal single lone ends ran met accesses =
+    lone_runs Reach.to_the_end c net bodies past legal single lone ends ran met (all_started c.setting (λ n. is_some (end past n)) [] past legal by_kind)
+  where
+    turns : is_alone (mine c past) [] ≡ true
+    turns = (ran.turns (all_ours_alone c past lone) refl refl).1
+
+    order : all_over c past ≡ true
+    order = (ran.order (all_ours_alone c past lone) refl refl).1
+
     manager_ended : (p : Name) (b : Begun) → start past p ≡ Some b → IsManager b.kind → is_some (end past p) ≡ true
-    manager_ended p b at manages = begun_ended c past p b.kind legal lone turns.1 order.1 (ap (option_map (λ (x : Begun). x.kind)) at) (no_access b.kind manages)
+    manager_ended p b at manages = begun_ended c past p b.kind legal lone turns order (ap (option_map (λ (x : Begun). x.kind)) at) (no_access b.kind manages)
       where
         no_access : (k : Kind) → IsManager k → is_access k ≡ false
         no_access (kind.User s b) h = refl
@@ -321,7 +334,7 @@ lone_follows c net bodies past legal single lone ends ran met accesses = record 
 
     by_kind : (n : Name) (k : Kind) → kind_of past n ≡ Some k → is_some (end past n) ≡ true
     by_kind n kind.Access is = access_ended n is
-    by_kind n (kind.User s b) is = begun_ended c past n (kind.User s b) legal lone turns.1 order.1 is refl
-    by_kind n (kind.Read rec) is = begun_ended c past n (kind.Read rec) legal lone turns.1 order.1 is refl
-    by_kind n (kind.Write rec value) is = begun_ended c past n (kind.Write rec value) legal lone turns.1 order.1 is refl
-    by_kind n (kind.Reconf rec config) is = begun_ended c past n (kind.Reconf rec config) legal lone turns.1 order.1 is refl
+    by_kind n (kind.User s b) is = begun_ended c past n (kind.User s b) legal lone turns order is refl
+    by_kind n (kind.Read rec) is = begun_ended c past n (kind.Read rec) legal lone turns order is refl
+    by_kind n (kind.Write rec value) is = begun_ended c past n (kind.Write rec value) legal lone turns order is refl
+    by_kind n (kind.Reconf rec config) is = begun_ended c past n (kind.Reconf rec config) legal lone turns order is refl

@@ -6,7 +6,8 @@ use Rattle.qc_script.specs.declared.script.Step.{Step}
 use Rattle.qc_script.specs.Client.{Client, IsLater}
 use Rattle.qc_script.specs.Plan.{Plan, PlanFits}
 use Rattle.qc_script.specs.Steps.{put, plan_of}
-use Rattle.qc_interp.specs.Running.{Runs, Leaves, Ends, Ended, WentOn}
+use Rattle.qc_interp.specs.Reach.{Reach}
+use Rattle.qc_interp.specs.Running.{Runs, Leaves, EndsAt, Ends, Ended, WentOn, CutOff}
 use Rattle.qc_interp.proofs.Ending.{leaves_itself, leaves_trans}
 use Rattle.qc_interp.proofs.Growth.{later_trans}
 use Rattle.qc_interp.proofs.Plans.{plan_at, fits_at}
@@ -15,11 +16,11 @@ pub record StepsLeft (c : Client) (of : Name) (steps : List Step) (before now : 
   pub leaves : Leaves c of before now
   pub runs : Runs c of now
   pub fits : PlanFits c.setting (length of) (plan_of (drop i steps))
-  pub front : (x : Past) → IsLater c now x → Ends c of now x (plan_of (drop i steps)) → Ends c of before x (plan_of steps)
+  pub front : (reach : Reach) (x : Past) → IsLater c now x → EndsAt reach c of now x (plan_of (drop i steps)) → EndsAt reach c of before x (plan_of steps)
 
 module _ (c : Client) (of : Name) (steps : List Step) where
   pub none_done : (now : Past) → Runs c of now → PlanFits c.setting (length of) (plan_of steps) → StepsLeft c of steps now now 0
-  none_done now runs fits = record { leaves = leaves_itself c of now runs.legal; runs = runs; fits = fits; front = λ x later ends. ends }
+  none_done now runs fits = record { leaves = leaves_itself c of now runs.legal; runs = runs; fits = fits; front = λ reach x later ends. ends }
 
   module _ (before now next : Past) (i : ℕ) (s : Step) (left : StepsLeft c of steps before now i) (below : i < length steps) (is : s ≡ get_or steps i s) where
     pub fits_step : PlanFits c.setting (length of) (put s Plan.done)
@@ -30,8 +31,8 @@ module _ (c : Client) (of : Name) (steps : List Step) where
       leaves = leaves_trans c of before now next left.leaves on.leaves;
       runs = on.runs;
       fits = (fits_at c.setting (length of) steps i s below is left.fits).1;
-      front = λ x later ends.
-          left.front x (later_trans c now next x on.leaves.later later) (subst (Ends c of now x) (sym (plan_at steps i s below is)) (on.follows x later (plan_of (drop (i + 1) steps)) ends));
+      front = λ reach x later ends.
+          left.front reach x (later_trans c now next x on.leaves.later later) (subst (EndsAt reach c of now x) (sym (plan_at steps i s below is)) (on.follows reach x later (plan_of (drop (i + 1) steps)) ends));
     }
 
     pub stopped_there : (again : Bool) → ((rest : Plan) → Ended c of now next (put s rest) again) → Ended c of before next (plan_of steps) again
@@ -40,12 +41,28 @@ module _ (c : Client) (of : Name) (steps : List Step) where
         record {
           leaves = leaves_trans c of before now next left.leaves e.leaves;
           tried = e.tried;
-          ends = left.front next e.leaves.later (subst (Ends c of now next) (sym (plan_at steps i s below is)) e.ends);
+          ends = left.front Reach.to_the_end next e.leaves.later (subst (Ends c of now next) (sym (plan_at steps i s below is)) e.ends);
+        }
+
+    pub cut_there : ((rest : Plan) → CutOff c of now next (put s rest)) → CutOff c of before next (plan_of steps)
+    cut_there cut =
+        let e = cut (plan_of (drop (i + 1) steps)) in
+        record {
+          leaves = leaves_trans c of before now next left.leaves e.leaves;
+          unended = e.unended;
+          begins = left.front Reach.cut_off next e.leaves.later (subst (EndsAt Reach.cut_off c of now next) (sym (plan_at steps i s below is)) e.begins);
         }
 
   pub all_done : (before now next : Past) (i : ℕ) (again : Bool) → StepsLeft c of steps before now i → length steps ≤ i → Ended c of now next Plan.done again → Ended c of before next (plan_of steps) again
   all_done before now next i again left past e = record {
     leaves = leaves_trans c of before now next left.leaves e.leaves;
     tried = e.tried;
-    ends = left.front next e.leaves.later (subst (Ends c of now next) (sym (ap plan_of (drop_all i steps past))) e.ends);
+    ends = left.front Reach.to_the_end next e.leaves.later (subst (Ends c of now next) (sym (ap plan_of (drop_all i steps past))) e.ends);
+  }
+
+  pub cut_at_last : (before now next : Past) (i : ℕ) → StepsLeft c of steps before now i → length steps ≤ i → CutOff c of now next Plan.done → CutOff c of before next (plan_of steps)
+  cut_at_last before now next i left past e = record {
+    leaves = leaves_trans c of before now next left.leaves e.leaves;
+    unended = e.unended;
+    begins = left.front Reach.cut_off next e.leaves.later (subst (EndsAt Reach.cut_off c of now next) (sym (ap plan_of (drop_all i steps past))) e.begins);
   }

@@ -18,7 +18,7 @@ use Rattle.qc_event.proofs.LegalOrderly.{legal_orderly}
 use Rattle.qc_event.proofs.Lineage.{fresh_child, IsFresh}
 use Rattle.qc_event.proofs.OneEntry.{start_is, end_now, stays_some, some_or_none, not_some, child_added}
 use Rattle.qc_event.proofs.Orderly.{KeepsOrder}
-use Rattle.qc_script.specs.Calls.{Ran, IsOfAccess, by_client}
+use Rattle.qc_script.specs.Calls.{Ran, WasCut, IsOfAccess, AreOfAccesses, by_client}
 use Rattle.qc_script.specs.Client.{Client, mine, is_own, Made, IsLater}
 use Rattle.qc_interp.proofs.Growth.{FirstMade, first_made, made_is, made_later, differ, no_child_by, child_length, legal_rest, start_still}
 use Rattle.qc_interp.proofs.Mine.{kept_some}
@@ -156,6 +156,66 @@ module _ (c : Client) where
 
   -- WHAT A MANAGER LEAVES
 
+  -- it has begun, and entries of its accesses stand behind its start
+  module _ (of m : Name) (k : Kind) (inner h0 : Past) (is_one : is_child of m ≡ true) (fresh : IsFresh h0 m) (of_accesses : AreOfAccesses m inner) where
+    abbrev pub begins : Entry
+    begins = by_client c (event.Start m k)
+
+    abbrev pub running : Past
+    running = inner ++ begins ∷ h0
+
+    longer : length m ≡ length of + 1
+    longer = child_length of m is_one
+
+    begun : start (begins ∷ h0) m ≡ Some (record { seat = c.number; kind = k })
+    begun = start_is begins h0 m k fresh.no_start refl
+
+    pub start_running : start running m ≡ Some (record { seat = c.number; kind = k })
+    start_running = start_still inner (begins ∷ h0) m _ begun
+
+    pub kind_running : kind_of running m ≡ Some k
+    kind_running = ap (option_map (λ (b : Begun). b.kind)) start_running
+
+    pub end_running : end running m ≡ None
+    end_running = found_quiet _ inner (begins ∷ h0) (all_wider _ _ inner (λ e. access_end m m (omega arith) e.event) of_accesses) ∙ ap (λ o. option_or o None) fresh.no_end
+
+    -- at the transactions from the parent up
+    module _ (p r : Name) (above : of ≡ p ++ r) where
+      short : length p + length r ≡ length of
+      short = sym (ap length above ∙ length-append p r)
+
+      pub apart : same m p ≡ false
+      apart = differ m p (λ l. omega (arith, l, longer, short))
+
+      pub same_end_running : end running p ≡ end h0 p
+      same_end_running =
+          found_quiet _ inner (begins ∷ h0) (all_wider _ _ inner (λ e. access_end m p (omega (arith, longer, short)) e.event) of_accesses)
+          ∙ found_quiet _ (begins ∷ []) h0 (refl, tt)
+
+      pub same_ready_running : is_ready running p ≡ is_ready h0 p
+      same_ready_running =
+          ap is_some (found_quiet _ inner (begins ∷ h0) (all_wider _ _ inner (λ e. access_ready m p e.event) of_accesses) ∙ found_quiet _ (begins ∷ []) h0 (refl, tt))
+
+      inner_quiet : children running p ≡ children (begins ∷ h0) p
+      inner_quiet = children_quiet p inner (begins ∷ h0) (all_wider _ _ inner (λ e. access_child m p (omega (arith, longer, short)) e.event) of_accesses)
+
+      pub same_children_running : 0 < length r → children running p ≡ children h0 p
+      same_children_running far = inner_quiet ∙ children_quiet p (begins ∷ []) h0 (if_not (is_child p m) (Some m) (no_child_by p m (λ l. omega (arith, l, longer, short, far))), tt)
+
+    pub children_running : children running of ≡ children h0 of ++ m ∷ []
+    children_running = inner_quiet of [] (sym (append-nil of)) ∙ child_added begins h0 of m k refl is_one
+
+    pub turns_running : InTurn h0 → Alone h0 of → InTurn running × Alone running m
+    turns_running turns alone =
+        let a = start_turns begins h0 of m k refl is_one turns alone in
+        access_turns m inner (begins ∷ h0) of_accesses a.0 a.1
+
+    pub inside_running : 0 < length of → list_all (stays_in (take 1 of)) (inner ++ begins ∷ []) ≡ true
+    inside_running nonroot =
+        let low = child_top of m is_one in
+        all_both (stays_in (take 1 of)) inner (begins ∷ []) (accesses_stay (take 1 of) m inner (omega (arith, longer)) low of_accesses)
+        (ap (λ b. b && true) (start_stays_in (take 1 of) m k begins refl (omega (arith, longer, nonroot)) low))
+
   pub record Managed (of : Name) (k : Kind) (how : How) (m : Name) (before now : Past) : Type 0 where
     pub turns : InTurn (mine c before) → Alone (mine c before) of → InTurn (mine c now) × Alone (mine c now) of
     pub later : IsLater c before now
@@ -175,94 +235,113 @@ module _ (c : Client) where
     abbrev m : Name
     m = ran.manager
 
-    abbrev begins : Entry
-    begins = by_client c (event.Start m k)
-
     abbrev ends : Entry
     ends = by_client c (event.End m how)
 
     abbrev h0 : Past
     h0 = mine c before
 
-    longer : length m ≡ length of + 1
-    longer = child_length of m ran.is_one
-
-    now_is : mine c now ≡ ends ∷ ran.inner ++ begins ∷ h0
-    now_is = made_is c _ before now ran.made ∙ ap (λ l. ends ∷ l) (append_assoc ran.inner (begins ∷ []) h0)
-
     new : NewChild of m k before now
     new = new_child (ends ∷ ran.inner) [] of m k before now nonroot ran.is_one ran.made
 
-    begun : start (begins ∷ h0) m ≡ Some (record { seat = c.number; kind = k })
-    begun = start_is begins h0 m k new.fresh.no_start refl
+    abbrev h1 : Past
+    h1 = running of m k ran.inner h0 ran.is_one new.fresh ran.of_accesses
+
+    now_is : mine c now ≡ ends ∷ h1
+    now_is = made_is c _ before now ran.made ∙ ap (λ l. ends ∷ l) (append_assoc ran.inner (by_client c (event.Start m k) ∷ []) h0)
 
     kind_is : kind_of (mine c now) m ≡ Some k
-    kind_is = ap (λ h. kind_of h m) now_is ∙ ap (option_map (λ (b : Begun). b.kind)) (start_still (ends ∷ ran.inner) (begins ∷ h0) m _ begun)
+    kind_is =
+        ap (λ h. kind_of h m) now_is
+        ∙ ap (option_map (λ (b : Begun). b.kind)) (start_still (ends ∷ []) h1 m _ (start_running of m k ran.inner h0 ran.is_one new.fresh ran.of_accesses))
 
     end_is : end (mine c now) m ≡ Some how
     end_is =
         ap (λ h. end h m) now_is
-        ∙ ap (λ o. option_or o (end_in m ends.event)) (found_quiet _ ran.inner (begins ∷ h0) (all_wider _ _ ran.inner (λ e. access_end m m (omega arith) e.event) ran.of_accesses) ∙ ap (λ o. option_or o None) new.fresh.no_end)
+        ∙ ap (λ o. option_or o (end_in m ends.event)) (end_running of m k ran.inner h0 ran.is_one new.fresh ran.of_accesses)
         ∙ end_now m ends.event how refl
 
     ended_is : Rattle.qc_event.specs.History.end now m ≡ Some how
     ended_is =
-        let at = came_after [] ends (ran.inner ++ begins ∷ []) before now ran.made in
+        let at = came_after [] ends (ran.inner ++ by_client c (event.Start m k) ∷ []) before now ran.made in
         let keeps : KeepsOrder (at.mid ++ before) (event.End m how) = (legal_orderly c.setting (ends ∷ (at.mid ++ before)) at.legal).1 in
         let open_ = ends_open (at.mid ++ before) ends m how refl keeps in
         ap (λ h. end h m) at.is ∙ earliest-append _ at.after _
         ∙ ap (λ o. option_or o (end at.after m)) (ap (λ o. option_or o (end_in m ends.event)) open_.not_ended ∙ end_now m ends.event how refl)
 
-    module _ (p r : Name) (above : of ≡ p ++ r) where
-      short : length p + length r ≡ length of
-      short = sym (ap length above ∙ length-append p r)
+    same_end_at : (p r : Name) → of ≡ p ++ r → end (mine c now) p ≡ end h0 p
+    same_end_at p r above =
+        ap (λ h. end h p) now_is
+        ∙ found_quiet _ (ends ∷ []) h1 (if_not (same m p) (Some how) (apart of m k ran.inner h0 ran.is_one new.fresh ran.of_accesses p r above), tt)
+        ∙ same_end_running of m k ran.inner h0 ran.is_one new.fresh ran.of_accesses p r above
 
-      same_end_at : end (mine c now) p ≡ end h0 p
-      same_end_at =
-          ap (λ h. end h p) now_is
-          ∙ found_quiet _ (ends ∷ ran.inner) (begins ∷ h0) (if_not (same m p) (Some how) (differ m p (λ l. omega (arith, l, longer, short))), all_wider _ _ ran.inner (λ e. access_end m p (omega (arith, longer, short)) e.event) ran.of_accesses)
-          ∙ found_quiet _ (begins ∷ []) h0 (refl, tt)
+    same_ready_at : (p r : Name) → of ≡ p ++ r → is_ready (mine c now) p ≡ is_ready h0 p
+    same_ready_at p r above =
+        ap (λ h. is_ready h p) now_is
+        ∙ ap is_some (found_quiet _ (ends ∷ []) h1 (refl, tt))
+        ∙ same_ready_running of m k ran.inner h0 ran.is_one new.fresh ran.of_accesses p r above
 
-      same_ready_at : is_ready (mine c now) p ≡ is_ready h0 p
-      same_ready_at =
-          ap (λ h. is_ready h p) now_is
-          ∙ ap is_some (found_quiet _ (ends ∷ ran.inner) (begins ∷ h0) (refl, all_wider _ _ ran.inner (λ e. access_ready m p e.event) ran.of_accesses) ∙ found_quiet _ (begins ∷ []) h0 (refl, tt))
-
-      inner_quiet : children (mine c now) p ≡ children (begins ∷ h0) p
-      inner_quiet =
-          ap (λ h. children h p) now_is
-          ∙ children_quiet p (ends ∷ ran.inner) (begins ∷ h0) (refl, all_wider _ _ ran.inner (λ e. access_child m p (omega (arith, longer, short)) e.event) ran.of_accesses)
-
-      same_children_at : 0 < length r → children (mine c now) p ≡ children h0 p
-      same_children_at far = inner_quiet ∙ children_quiet p (begins ∷ []) h0 (if_not (is_child p m) (Some m) (no_child_by p m (λ l. omega (arith, l, longer, short, far))), tt)
+    end_quiet : (p : Name) → children (mine c now) p ≡ children h1 p
+    end_quiet p = ap (λ h. children h p) now_is ∙ children_quiet p (ends ∷ []) h1 (refl, tt)
 
     turns_is : InTurn (mine c before) → Alone (mine c before) of → InTurn (mine c now) × Alone (mine c now) of
     turns_is turns alone =
-        let a = start_turns begins h0 of m k refl ran.is_one turns alone in
-        let b = access_turns m ran.inner (begins ∷ h0) ran.of_accesses a.0 a.1 in
-        let d = end_turns ends (ran.inner ++ begins ∷ h0) m m how refl (own_actor m how ran.not_asked) b.0 b.1 b.1 in
-        subst (λ h. InTurn h × Alone h of) (sym now_is) (d.0, alone_up (ends ∷ ran.inner ++ begins ∷ h0) of m ran.is_one (some_done (ends ∷ ran.inner ++ begins ∷ h0) m (ap is_some (ap (λ h. end h m) (sym now_is) ∙ end_is))) d.1)
+        let b = turns_running of m k ran.inner h0 ran.is_one new.fresh ran.of_accesses turns alone in
+        let d = end_turns ends h1 m m how refl (own_actor m how ran.not_asked) b.0 b.1 b.1 in
+        subst (λ h. InTurn h × Alone h of) (sym now_is) (d.0, alone_up (ends ∷ h1) of m ran.is_one (some_done (ends ∷ h1) m (ap is_some (ap (λ h. end h m) (sym now_is) ∙ end_is))) d.1)
 
-    inside_is : list_all (stays_in (take 1 of)) (ends ∷ ran.inner ++ begins ∷ []) ≡ true
+    inside_is : list_all (stays_in (take 1 of)) (ends ∷ ran.inner ++ by_client c (event.Start m k) ∷ []) ≡ true
     inside_is =
-        let low = child_top of m ran.is_one in
-        ap (λ b. b && list_all (stays_in (take 1 of)) (ran.inner ++ begins ∷ [])) low
-        ∙ all_both (stays_in (take 1 of)) ran.inner (begins ∷ []) (accesses_stay (take 1 of) m ran.inner (omega (arith, longer)) low ran.of_accesses)
-        (ap (λ b. b && true) (start_stays_in (take 1 of) m k begins refl (omega (arith, longer, nonroot)) low))
+        ap (λ b. b && list_all (stays_in (take 1 of)) (ran.inner ++ by_client c (event.Start m k) ∷ [])) (child_top of m ran.is_one)
+        ∙ inside_running of m k ran.inner h0 ran.is_one new.fresh ran.of_accesses nonroot
 
     pub managed : Managed of k how m before now
     managed = record {
       turns = turns_is;
       later = made_later c _ before now ran.made;
       inside = ap (list_all (stays_in (take 1 of))) ran.made.made ∙ inside_is;
-      asked = asked_made c _ before now NoOne ran.made (unasked_end m how ran.not_asked, accesses_unasked m ran.inner (begins ∷ []) ran.of_accesses (tt, tt));
+      asked = asked_made c _ before now NoOne ran.made (unasked_end m how ran.not_asked, accesses_unasked m ran.inner (by_client c (event.Start m k) ∷ []) ran.of_accesses (tt, tt));
       is_one = ran.is_one;
       kind = kind_is;
       end = end_is;
       started = new.started;
       ended = ended_is;
-      children = inner_quiet of [] (sym (append-nil of)) ∙ child_added begins h0 of m k refl ran.is_one;
-      same_children = same_children_at;
+      children = end_quiet of ∙ children_running of m k ran.inner h0 ran.is_one new.fresh ran.of_accesses;
+      same_children = λ p r above far. end_quiet p ∙ same_children_running of m k ran.inner h0 ran.is_one new.fresh ran.of_accesses p r above far;
       same_end = same_end_at;
       same_ready = same_ready_at;
     }
+
+  -- WHAT A MANAGER LEAVES THAT WAS CUT OFF
+
+  pub record Interrupted (of : Name) (k : Kind) (m : Name) (before now : Past) : Type 0 where
+    pub turns : InTurn (mine c before) → Alone (mine c before) of → InTurn (mine c now)
+    pub later : IsLater c before now
+    pub inside : AllStayIn c (take 1 of) later.newer
+    pub asked : AllAsked c before now NoOne
+    pub kind : kind_of (mine c now) m ≡ Some k
+    pub end : end (mine c now) m ≡ None
+    pub children : children (mine c now) of ≡ children (mine c before) of ++ m ∷ []
+    pub same_children : (p r : Name) → of ≡ p ++ r → 0 < length r → Rattle.qc_event.specs.History.children (mine c now) p ≡ Rattle.qc_event.specs.History.children (mine c before) p
+    pub same_end : (p r : Name) → of ≡ p ++ r → Rattle.qc_event.specs.History.end (mine c now) p ≡ Rattle.qc_event.specs.History.end (mine c before) p
+    pub same_ready : (p r : Name) → of ≡ p ++ r → is_ready (mine c now) p ≡ is_ready (mine c before) p
+
+  pub interrupted : (of : Name) (k : Kind) (before now : Past) → 0 < length of → (cut : WasCut c of k before now) → Interrupted of k cut.manager before now
+  interrupted of k before now nonroot cut = record {
+    turns = λ turns alone. subst InTurn (sym now_is) (turns_running of cut.manager k cut.inner (mine c before) cut.is_one new.fresh cut.of_accesses turns alone).0;
+    later = made_later c _ before now cut.made;
+    inside = ap (list_all (stays_in (take 1 of))) cut.made.made ∙ inside_running of cut.manager k cut.inner (mine c before) cut.is_one new.fresh cut.of_accesses nonroot;
+    asked = asked_made c _ before now NoOne cut.made (accesses_unasked cut.manager cut.inner (by_client c (event.Start cut.manager k) ∷ []) cut.of_accesses (tt, tt));
+    kind = ap (λ h. kind_of h cut.manager) now_is ∙ kind_running of cut.manager k cut.inner (mine c before) cut.is_one new.fresh cut.of_accesses;
+    end = ap (λ h. end h cut.manager) now_is ∙ end_running of cut.manager k cut.inner (mine c before) cut.is_one new.fresh cut.of_accesses;
+    children = ap (λ h. children h of) now_is ∙ children_running of cut.manager k cut.inner (mine c before) cut.is_one new.fresh cut.of_accesses;
+    same_children = λ p r above far. ap (λ h. children h p) now_is ∙ same_children_running of cut.manager k cut.inner (mine c before) cut.is_one new.fresh cut.of_accesses p r above far;
+    same_end = λ p r above. ap (λ h. end h p) now_is ∙ same_end_running of cut.manager k cut.inner (mine c before) cut.is_one new.fresh cut.of_accesses p r above;
+    same_ready = λ p r above. ap (λ h. is_ready h p) now_is ∙ same_ready_running of cut.manager k cut.inner (mine c before) cut.is_one new.fresh cut.of_accesses p r above;
+  }
+    where
+      new : NewChild of cut.manager k before now
+      new = new_child cut.inner [] of cut.manager k before now nonroot cut.is_one cut.made
+
+      now_is : mine c now ≡ cut.inner ++ by_client c (event.Start cut.manager k) ∷ mine c before
+      now_is = made_is c _ before now cut.made ∙ append_assoc cut.inner (by_client c (event.Start cut.manager k) ∷ []) (mine c before)

@@ -18,7 +18,8 @@ use Rattle.qc_event.proofs.LastNumber.{child_last, is_ancestor-append, rest_of}
 use Rattle.qc_event.proofs.OneEntry.{starting, ending, marking, some_or_none, not_some}
 use Rattle.qc_names.specs.Name as name
 use Rattle.qc_script.specs.Client.{Client, mine, is_own, concerns, is_commit, AreOurs, all_ours}
-use Rattle.qc_interp.specs.Follows.{StopsEarly, GoesOn, Commits, FollowsPlan}
+use Rattle.qc_interp.specs.Follows.{Stops, HasNotEnded, GoesOn, Commits, RunsPlan}
+use Rattle.qc_interp.specs.Reach.{Reach}
 use Rattle.qc_script.specs.Plan.{Plan}
 use Rattle.qc_interp.specs.Asking.{DoesOn, Asks}
 use Rattle.qc_interp.specs.Tries.{is_tried_again}
@@ -140,36 +141,51 @@ module _ (c : Client) (of : Name) (past : Past) (ours : AreOurs c of past) where
   again_low : (n : Name) → Low n → AreAlike (end made) (end past) n
   again_low n low = ap is_tried_again (same_end n low.0 low.1)
 
-  plan_seen : (s : ℕ) (n : Name) (plan : Plan) (cs : List Name) (how : Option How) → name.is_ancestor (take 1 of) n ≡ true → AllByRecursion Low cs → FollowsPlan s made n plan cs how → FollowsPlan s past n plan cs how
-  plan_seen s n Plan.done [] how low all (inl is) = inl (by_how how is)
+  stops_seen : (reach : Reach) (n : Name) (how : Option How) → name.is_ancestor (take 1 of) n ≡ true → Stops reach made n how → Stops reach past n how
+  stops_seen Reach.to_the_end n how low h = h
+  stops_seen Reach.cut_off n how low (inl h) = inl h
+  stops_seen Reach.cut_off n how low (inr h) = inr (h.0, sym (same_ready n low) ∙ h.1)
+
+  unended_seen : (reach : Reach) (n : Name) (how : Option How) → name.is_ancestor (take 1 of) n ≡ true → HasNotEnded reach made n how → HasNotEnded reach past n how
+  unended_seen Reach.to_the_end n how low h = h
+  unended_seen Reach.cut_off n how low (inl h) = inl h
+  unended_seen Reach.cut_off n how low (inr h) = inr (h.0, sym (same_ready n low) ∙ h.1)
+
+  goes_seen : (reach : Reach) (n : Name) (o : Option How) (Rest RestToo : Type 0) (further : List Name) (how : Option How) → name.is_ancestor (take 1 of) n ≡ true → (Rest → RestToo) → GoesOn reach made n o Rest further how → GoesOn reach past n o RestToo further how
+  goes_seen Reach.to_the_end n None Rest RestToo further how low step h = h
+  goes_seen Reach.cut_off n None Rest RestToo further how low step h = (h.0, unended_seen Reach.cut_off n how low h.1)
+  goes_seen reach n (Some (Commit given)) Rest RestToo further how low step h = step h
+  goes_seen reach n (Some (Abort y)) Rest RestToo further how low step h = (h.0, elim h.1 [
+    | inl is ↦ inl is
+    | inr x ↦ inr (stops_seen reach n how low x)
+  ])
+
+  plan_seen : (reach : Reach) (s : ℕ) (n : Name) (plan : Plan) (cs : List Name) (how : Option How) → name.is_ancestor (take 1 of) n ≡ true → AllByRecursion Low cs → RunsPlan reach s made n plan cs how → RunsPlan reach s past n plan cs how
+  plan_seen reach s n Plan.done [] how low all (inl is) = inl (by_how how is)
     where
       by_how : (o : Option How) → Commits made n o → Commits past n o
       by_how None h = sym (same_ready n low) ∙ h
       by_how (Some (Commit given)) h = tt
       by_how (Some (Abort x)) h = h
-  plan_seen s n Plan.done [] how low all (inr x) = inr x
-  plan_seen s n Plan.done (x ∷ cs) how low all h = absurd h
-  plan_seen s n (Plan.manage_then k rest) [] how low all h = h
-  plan_seen s n (Plan.manage_then k rest) (x ∷ cs) how low all h = (
+  plan_seen reach s n Plan.done [] how low all (inr x) = inr (stops_seen reach n how low x)
+  plan_seen reach s n Plan.done (x ∷ cs) how low all h = absurd h
+  plan_seen reach s n (Plan.manage_then k rest) [] how low all h = stops_seen reach n how low h
+  plan_seen reach s n (Plan.manage_then k rest) (x ∷ cs) how low all h = (
     sym (same_kind x all.0.0) ∙ h.0,
-    subst (λ o. GoesOn n o (FollowsPlan s past n rest cs how) cs how) (same_end x all.0.0 all.0.1) (by_end (end made x) (plan_seen s n rest cs how low all.1) h.1),
+    subst (λ o. GoesOn reach past n o (RunsPlan reach s past n rest cs how) cs how) (same_end x all.0.0 all.0.1) (goes_seen reach n (end made x) _ _ cs how low (plan_seen reach s n rest cs how low all.1) h.1),
   )
-    where
-      by_end : (o : Option How) → (FollowsPlan s made n rest cs how → FollowsPlan s past n rest cs how) → GoesOn n o (FollowsPlan s made n rest cs how) cs how → GoesOn n o (FollowsPlan s past n rest cs how) cs how
-      by_end None step g = g
-      by_end (Some (Commit given)) step g = step g
-      by_end (Some (Abort y)) step g = g
-  plan_seen s n (Plan.child_then number tries inner rest) cs how low all h =
-      tries_alike (end made) (end past) _ _ (StopsEarly n how) (λ further. FollowsPlan s made n rest further how) (λ further. FollowsPlan s past n rest further how) Low again_low
+  plan_seen reach s n (Plan.child_then number tries inner rest) cs how low all h =
+      tries_alike (end made) (end past) _ _ (Stops reach made n how) (Stops reach past n how) (λ further. RunsPlan reach s made n rest further how) (λ further. RunsPlan reach s past n rest further how) Low again_low (stops_seen reach n how low)
       (λ x lx t. (
         sym (same_kind x lx.0) ∙ t.0,
-        subst (λ o. FollowsPlan s past x inner (children past x) o) (same_end x lx.0 lx.1)
-            (subst (λ xs. FollowsPlan s past x inner xs (end made x)) (same_children x lx.0)
-            (plan_seen s x inner (children made x) (end made x) lx.0 (low_children x lx.0 (longer x lx) (children made x) (all_children made x)) t.1)),
+        subst (λ o. RunsPlan reach s past x inner (children past x) o) (same_end x lx.0 lx.1)
+            (subst (λ xs. RunsPlan reach s past x inner xs (end made x)) (same_children x lx.0)
+            (plan_seen reach s x inner (children made x) (end made x) lx.0 (low_children x lx.0 (longer x lx) (children made x) (all_children made x)) t.1)),
       ))
-      (λ further lf f. plan_seen s n rest further how low lf f) tries cs all h
-  plan_seen s n (Plan.abort_then levels rest) [] how low all h = h
-  plan_seen s n (Plan.abort_then levels rest) (x ∷ cs) how low all h = absurd h
+      (λ further lf f. plan_seen reach s n rest further how low lf f) tries cs all h
+  plan_seen reach s n (Plan.abort_then levels rest) [] how low all (inl is) = inl is
+  plan_seen reach s n (Plan.abort_then levels rest) [] how low all (inr x) = inr (unended_seen reach n how low x)
+  plan_seen reach s n (Plan.abort_then levels rest) (x ∷ cs) how low all h = absurd h
 
   plan_asks_seen : (by target n : Name) (plan : Plan) (cs : List Name) → AllByRecursion Low cs → Asks made n plan cs by target → Asks past n plan cs by target
   plan_asks_seen by target n Plan.done cs all h = absurd h
@@ -214,23 +230,24 @@ pub own_abort : (c : Client) (n : Name) (past : Past) (x : Cause) → AreOurs c 
 own_abort c n past x ours is =
     own_found c (λ e. end_in n e.event) (Abort x) n past (λ e g. subst (λ ev. concerns (take 1 n) ev ≡ true) (sym (ending n e.event (Abort x) g)) (ap (λ b. name.is_ancestor (take 1 n) n && not b) (and-false (same n (take 1 n))) ∙ ap (λ b. b && true) (at_top n))) ours is
 
--- a transaction that follows its plan by what a client made does so by what was seen
-pub follows_seen : (c : Client) (s : ℕ) (of : Name) (past : Past) (plan : Plan) → Legal c.setting past → 0 < length of → AreOurs c of past → FollowsPlan s (mine c past) of plan (children (mine c past) of) (end (mine c past) of) → FollowsPlan s past of plan (children past of) (end past of)
-follows_seen c s of past plan legal far ours h =
+-- A transaction that does its plan by what a client made does so by what was seen, where it is ready if it has committed.
+pub runs_seen : (reach : Reach) (c : Client) (s : ℕ) (of : Name) (past : Past) (plan : Plan) → Legal c.setting past → 0 < length of → AreOurs c of past → ((given : Rattle.qc_event.specs.declared.event.Answer.Answer) → end past of ≡ Some (Commit given) → is_ready past of ≡ true)
+    → RunsPlan reach s (mine c past) of plan (children (mine c past) of) (end (mine c past) of) → RunsPlan reach s past of plan (children past of) (end past of)
+runs_seen reach c s of past plan legal far ours ready h =
     let low : name.is_ancestor (take 1 of) of ≡ true = at_top of in
-    let f = plan_seen c of past ours s of plan (children (mine c past) of) (end (mine c past) of) low (low_children c of past ours of low far (children (mine c past) of) (all_children (mine c past) of)) h in
-    subst (λ cs. FollowsPlan s past of plan cs (end past of)) (same_children c of past ours of low) (by_end (end past of) refl f)
+    let f = plan_seen c of past ours reach s of plan (children (mine c past) of) (end (mine c past) of) low (low_children c of past ours of low far (children (mine c past) of) (all_children (mine c past) of)) h in
+    subst (λ cs. RunsPlan reach s past of plan cs (end past of)) (same_children c of past ours of low) (by_end (end past of) refl f)
   where
-    with_how : (given : Rattle.qc_event.specs.declared.event.Answer.Answer) (o : Option How) → (is_some o ≡ true → o ≡ Some (Commit given)) → FollowsPlan s past of plan (children (mine c past) of) o → FollowsPlan s past of plan (children (mine c past) of) (Some (Commit given))
-    with_how given None agrees f = plan_committed s past of plan (children (mine c past) of) given f
-    with_how given (Some how) agrees f = subst (λ o. FollowsPlan s past of plan (children (mine c past) of) o) (agrees refl) f
+    with_how : (given : Rattle.qc_event.specs.declared.event.Answer.Answer) (o : Option How) → is_ready past of ≡ true → (is_some o ≡ true → o ≡ Some (Commit given)) → RunsPlan reach s past of plan (children (mine c past) of) o → RunsPlan reach s past of plan (children (mine c past) of) (Some (Commit given))
+    with_how given None is_so agrees f = plan_committed reach s past of plan (children (mine c past) of) given is_so f
+    with_how given (Some how) is_so agrees f = subst (λ o. RunsPlan reach s past of plan (children (mine c past) of) o) (agrees refl) f
 
-    by_end : (o : Option How) → end past of ≡ o → FollowsPlan s past of plan (children (mine c past) of) (end (mine c past) of) → FollowsPlan s past of plan (children (mine c past) of) o
-    by_end None is f = subst (λ o. FollowsPlan s past of plan (children (mine c past) of) o) (not_some (end (mine c past) of) (λ h. some_or_none (end past of) (kept_some (λ (e : Entry). is_own c e.seat) _ past h) is)) f
+    by_end : (o : Option How) → end past of ≡ o → RunsPlan reach s past of plan (children (mine c past) of) (end (mine c past) of) → RunsPlan reach s past of plan (children (mine c past) of) o
+    by_end None is f = subst (λ o. RunsPlan reach s past of plan (children (mine c past) of) o) (not_some (end (mine c past) of) (λ h. some_or_none (end past of) (kept_some (λ (e : Entry). is_own c e.seat) _ past h) is)) f
     by_end (Some (Abort x)) is f =
-        subst (λ o. FollowsPlan s past of plan (children (mine c past) of) o)
+        subst (λ o. RunsPlan reach s past of plan (children (mine c past) of) o)
         (own_abort c of past x ours is) f
-    by_end (Some (Commit given)) is f = with_how given (end (mine c past) of) (λ some. once some) f
+    by_end (Some (Commit given)) is f = with_how given (end (mine c past) of) (ready given is) (λ some. once some) f
       where
         once : is_some (end (mine c past) of) ≡ true → end (mine c past) of ≡ Some (Commit given)
         once some = let how = some_is (end (mine c past) of) some in how.1 ∙ sym (own_once c past of how.0 legal how.1) ∙ is

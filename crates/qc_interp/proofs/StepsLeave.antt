@@ -20,18 +20,19 @@ use Rattle.qc_event.proofs.LegalOrderly.{legal_orderly}
 use Rattle.qc_event.proofs.OneEntry.{ready_step, some_or_none, starting}
 use Rattle.qc_event.proofs.Orderly.{KeepsOrder}
 use Rattle.qc_names.specs.Name as name
-use Rattle.qc_script.specs.Calls.{HasRun, Refuses, GaveNone}
+use Rattle.qc_script.specs.Calls.{HasRun, Refuses, GaveNone, WasCut}
 use Rattle.qc_script.specs.Client.{Client, mine, is_own, concerns, Made, IsLater, AreOurs}
-use Rattle.qc_interp.specs.Follows.{StopsEarly, WasAsked, IsUnended, FollowsPlan, GoesOn, is_handed_on}
+use Rattle.qc_interp.specs.Follows.{StopsEarly, WasAsked, IsUnended, RunsPlan, FollowsPlan, GoesOn, is_handed_on}
+use Rattle.qc_interp.specs.Reach.{Reach}
 use Rattle.qc_script.specs.Plan.{Plan}
 use Rattle.qc_script.specs.Plan.{KindFits}
-use Rattle.qc_interp.specs.Running.{Runs, Leaves, WhyStop, StopsBy, Stopped, Ended, WentOn}
+use Rattle.qc_interp.specs.Running.{Runs, Leaves, WhyStop, StopsBy, Stopped, Ended, CutOff, WentOn}
 use Rattle.qc_script.specs.declared.tx.TxNo.{TxNo}
 use Rattle.qc_script.specs.declared.tx.TxNo.TheVariants as tx_no
 use Rattle.qc_interp.proofs.Mine.{end_some, kind_still, kept_some, some_is}
-use Rattle.qc_interp.proofs.Growth.{ours_before, own_found, started_still}
-use Rattle.qc_interp.proofs.Managers.{Managed, managed}
-use Rattle.qc_interp.proofs.Ending.{asked_early, unended_again, top_above, not_ready, ended_early, leaves_itself, leaves_trans, still, leaves_still, runs_still}
+use Rattle.qc_interp.proofs.Growth.{made_both, ours_before, own_found, started_still}
+use Rattle.qc_interp.proofs.Managers.{Managed, managed, Interrupted, interrupted}
+use Rattle.qc_interp.proofs.Ending.{asked_early, unended_again, running_stops, running_unended, top_above, not_ready, ended_early, leaves_itself, leaves_trans, leaves_cut, cut_still, still, leaves_still, runs_still}
 use Rattle.qc_interp.specs.Asking.{DoesOn, Asks, AllAsked}
 use Rattle.qc_interp.proofs.Asked.{NoOne, asked_made, asked_none, asked_wider, asked_trans}
 use Rattle.qc_interp.proofs.Adding.{over_later}
@@ -142,13 +143,13 @@ module _ (c : Client) (of : Name) where
       record {
         leaves = leaves_managed k _ _ before now ran;
         runs = runs_managed k _ _ before now ran runs;
-        follows = λ x later rest ends ours.
-            let h = more_follows k _ _ before now ran x (λ further. FollowsPlan c.session (mine c x) of rest further (end (mine c x) of)) (λ further. AllAsked c now x (λ by t. Asks (mine c x) of rest further by t)) later (ends ours) in (
+        follows = λ reach x later rest ends ours.
+            let h = more_follows k _ _ before now ran x (λ further. RunsPlan reach c.session (mine c x) of rest further (end (mine c x) of)) (λ further. AllAsked c now x (λ by t. Asks (mine c x) of rest further by t)) later (ends ours) in (
               has.ran.manager ∷ h.0,
               h.1,
               (
                 kind_later now x later _ k ran.kind,
-                subst (λ o. GoesOn of o (FollowsPlan c.session (mine c x) of rest h.0 (end (mine c x) of)) h.0 (end (mine c x) of)) (sym (end_later now x later _ _ ran.end)) h.2,
+                subst (λ o. GoesOn reach (mine c x) of o (RunsPlan reach c.session (mine c x) of rest h.0 (end (mine c x) of)) h.0 (end (mine c x) of)) (sym (end_later now x later _ _ ran.end)) h.2,
               ),
               asked_trans c before now x _ (asked_none c before now _ ran.asked) (asked_wider _ _ (λ by t a. subst (λ o. DoesOn o (Asks (mine c x) of rest h.0 by t)) (sym (end_later now x later _ _ ran.end)) a) c now x h.3),
             );
@@ -196,7 +197,7 @@ module _ (c : Client) (of : Name) where
       stopped.children ∙ ran.children,
       (
         kind_later mid now stopped.leaves.later m k ran.kind,
-        subst (λ o. GoesOn of o (FollowsPlan c.session (mine c now) of rest [] (end (mine c now) of)) [] (end (mine c now) of)) (sym (end_later mid now stopped.leaves.later m _ ran.end)) (refl, handed (stopped.ended ours)),
+        subst (λ o. GoesOn Reach.to_the_end (mine c now) of o (FollowsPlan c.session (mine c now) of rest [] (end (mine c now) of)) [] (end (mine c now) of)) (sym (end_later mid now stopped.leaves.later m _ ran.end)) (refl, handed (stopped.ended ours)),
       ),
       asked_none c before now _ (asked_trans c before mid now NoOne ran.asked stopped.asked),
     );
@@ -228,6 +229,83 @@ module _ (c : Client) (of : Name) where
   manage_over k before mid now tx_no.Ready again rest runs none other full stopped = stopped_still before mid now _ again _ none.0 stopped (λ s. asked_early of _ s)
   manage_over k before mid now (tx_no.ChildrenOpen child) again rest runs none other full stopped = absurd none
   manage_over k before mid now tx_no.Ledger again rest runs none other full stopped = absurd none.1
+
+  -- A MANAGER THAT WAS CUT OFF, OR AFTER WHICH ITS TRANSACTION WAS
+
+  -- nothing was made after a manager that was aborted
+  cut_managed : (k : Kind) (x : Cause) (m : Name) (before mid now : Past) (rest : Plan) → Runs c of before → Managed c of k (Abort x) m before mid → Made c [] mid now → CutOff c of before now (Plan.manage_then k rest)
+  cut_managed k x m before mid now rest runs ran made =
+      let at = (runs_still c of mid now made (runs_managed k _ m before mid ran runs)).above of [] (sym (append-nil of)) runs.nonroot in
+      let later = (leaves_still c of mid now made).later in
+      record {
+        leaves = leaves_trans c of before mid now (leaves_managed k _ m before mid ran) (leaves_cut c of mid now (leaves_still c of mid now made));
+        unended = at.0;
+        begins = λ ours. (
+          m ∷ [],
+          ap (λ h. children h of) (still c of mid now made) ∙ ran.children,
+          (
+            kind_later mid now later m k ran.kind,
+            subst (λ o. GoesOn Reach.cut_off (mine c now) of o (RunsPlan Reach.cut_off c.session (mine c now) of rest [] (end (mine c now) of)) [] (end (mine c now) of)) (sym (end_later mid now later m _ ran.end)) (refl, inr (running_stops (mine c now) of _ at.0 at.1)),
+          ),
+          asked_none c before now _ (asked_trans c before mid now NoOne ran.asked (asked_made c [] mid now NoOne made tt)),
+        );
+      }
+
+  cut_interrupted : (k : Kind) (m : Name) (before now : Past) (rest : Plan) → Runs c of before → Interrupted c of k m before now → CutOff c of before now (Plan.manage_then k rest)
+  cut_interrupted k m before now rest runs ran =
+      let at = runs.above of [] (sym (append-nil of)) runs.nonroot in
+      let unready : is_ready (mine c now) of ≡ false = ran.same_ready of [] (sym (append-nil of)) ∙ at.1 in
+      let unended : IsUnended of (end (mine c now) of) = subst (λ o. IsUnended of o) (sym (ran.same_end of [] (sym (append-nil of)))) at.0 in
+      record {
+        leaves = record {
+          later = ran.later;
+          inside = ran.inside;
+          over = tt;
+          above = λ p r is far. record {
+            children = ran.same_children p r is far;
+            ready = ran.same_ready p r is;
+            unended = subst (λ o. IsUnended p o) (sym (ran.same_end p r is));
+          };
+          turns = λ ours turns alone. (ran.turns turns alone, tt);
+        };
+        unended = unended;
+        begins = λ ours. (
+          m ∷ [],
+          ran.children,
+          (
+            ran.kind,
+            subst (λ o. GoesOn Reach.cut_off (mine c now) of o (RunsPlan Reach.cut_off c.session (mine c now) of rest [] (end (mine c now) of)) [] (end (mine c now) of)) (sym ran.end) (refl, running_unended (mine c now) of _ unended unready),
+          ),
+          asked_none c before now _ ran.asked,
+        );
+      }
+
+  -- a manager gave no answer for want of memory or room
+  pub manage_short : (k : Kind) (before now : Past) (why : TxNo) (rest : Plan) → (why ≡ tx_no.Memory) ⊎ (why ≡ tx_no.Room) → Runs c of before → GaveNone c of k before now why → CutOff c of before now (Plan.manage_then k rest)
+  manage_short k before now why rest short runs none = elim short [
+    | inl is ↦ either (subst (GaveNone c of k before now) is none)
+    | inr is ↦ either (subst (GaveNone c of k before now) is none).0
+  ]
+    where
+      either : Made c [] before now ⊎ WasCut c of k before now → CutOff c of before now (Plan.manage_then k rest)
+      either (inl m) = cut_still c of before now runs m (Plan.manage_then k rest)
+      either (inr cut) = cut_interrupted k cut.manager before now rest runs (interrupted c of k before now runs.nonroot cut)
+
+  -- a manager gave no answer for another reason, and nothing was made after it
+  pub manage_cut : (k : Kind) (before mid now : Past) (why : TxNo) (rest : Plan) → Runs c of before → GaveNone c of k before mid why → (why ≡ tx_no.Memory → ⊥) → (why ≡ tx_no.Room → ⊥) → Made c [] mid now → CutOff c of before now (Plan.manage_then k rest)
+  manage_cut k before mid now tx_no.Memory rest runs none other full made = absurd (other refl)
+  manage_cut k before mid now tx_no.Room rest runs none other full made = absurd (full refl)
+  manage_cut k before mid now (tx_no.Orphan a) rest runs none other full made = elim none.1 [
+    | inl m ↦ cut_still c of before now runs (made_both c before mid now m made) (Plan.manage_then k rest)
+    | inr ran ↦ cut_managed k _ _ before mid now rest runs (managed c of k _ before mid runs.nonroot ran) made
+  ]
+  manage_cut k before mid now (tx_no.Conflict copy holder) rest runs ran other full made = cut_managed k _ _ before mid now rest runs (managed c of k _ before mid runs.nonroot ran) made
+  manage_cut k before mid now (tx_no.NoQuorum lack) rest runs ran other full made = cut_managed k _ _ before mid now rest runs (managed c of k _ before mid runs.nonroot ran) made
+  manage_cut k before mid now tx_no.Last rest runs ran other full made = cut_managed k _ _ before mid now rest runs (managed c of k _ before mid runs.nonroot ran) made
+  manage_cut k before mid now tx_no.Ended rest runs none other full made = cut_still c of before now runs (made_both c before mid now none.0 made) (Plan.manage_then k rest)
+  manage_cut k before mid now tx_no.Ready rest runs none other full made = cut_still c of before now runs (made_both c before mid now none.0 made) (Plan.manage_then k rest)
+  manage_cut k before mid now (tx_no.ChildrenOpen child) rest runs none other full made = absurd none
+  manage_cut k before mid now tx_no.Ledger rest runs none other full made = absurd none.1
 
   -- STOPPING AT ONCE
 

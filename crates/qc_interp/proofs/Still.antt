@@ -1,5 +1,6 @@
 -- Who follows a plan, by some entries of a legal history, follows it by those of each later one.
 use Rattle.std.proofs.Common.{◌≡◌, ◌⊎◌, inl, inr, ℕ, zero, suc, Bool, true, false, List, [], ◌∷◌, ◌++◌, refl, sym, ap, ◌∙◌, subst, filter}
+use mathlib.Core.Bool.{true≢false}
 use Rattle.std.specs.Prelude.{Option, None, Some, MatchBool, is_some}
 use Rattle.qc_event.specs.declared.event.Entry.{Entry}
 use Rattle.qc_event.specs.declared.event.How.{How}
@@ -11,7 +12,8 @@ use Rattle.qc_event.proofs.Histories.{earliest-append}
 use Rattle.qc_event.proofs.OneEntry.{stays_some}
 use Rattle.qc_script.specs.Plan.{Plan}
 use Rattle.qc_interp.specs.Tries.{Tries, is_tried_again}
-use Rattle.qc_interp.specs.Follows.{StopsEarly, WasAsked, GoesOn, Commits, FollowsPlan, asked_end}
+use Rattle.qc_interp.specs.Follows.{StopsEarly, WasAsked, Stops, HasNotEnded, GoesOn, Commits, RunsPlan, FollowsPlan, asked_end}
+use Rattle.qc_interp.specs.Reach.{Reach}
 use Rattle.qc_interp.proofs.Mine.{Closed, CommittedSince, children_still, how_still, end_some, kind_still, kept_append}
 
 -- WHO FOLLOWS A PLAN HAS ENDED, OR IS READY
@@ -33,7 +35,7 @@ committed_done past n None h = inr (refl, h)
 committed_done past n (Some (Abort c)) h = absurd h
 committed_done past n (Some (Commit given)) h = inl refl
 
-goes_done : (past : Past) (n : Name) (o : Option How) (Rest : Type 0) (further : List Name) (how : Option How) → (Rest → Done past n how) → GoesOn n o Rest further how → Done past n how
+goes_done : (past : Past) (n : Name) (o : Option How) (Rest : Type 0) (further : List Name) (how : Option How) → (Rest → Done past n how) → GoesOn Reach.to_the_end past n o Rest further how → Done past n how
 goes_done past n None Rest further how rest h = absurd h
 goes_done past n (Some (Commit given)) Rest further how rest h = rest h
 goes_done past n (Some (Abort c)) Rest further how rest h = elim h.1 [
@@ -72,39 +74,89 @@ done_closed past n (inr ready) = inr ready.1
 
 -- A READY TOP THAT COMMITS
 
-goes_committed : (n : Name) (o : Option How) (Rest Rest2 : Type 0) (further : List Name) (how : How) → (Rest → Rest2) → GoesOn n o Rest further None → GoesOn n o Rest2 further (Some how)
-goes_committed n None Rest Rest2 further how step h = absurd h
-goes_committed n (Some (Commit given)) Rest Rest2 further how step h = step h
-goes_committed n (Some (Abort c)) Rest Rest2 further how step h = elim h.1 [
+-- who is ready neither stopped early nor runs
+ready_not : (reach : Reach) (past : Past) (n : Name) → is_ready past n ≡ true → Stops reach past n None → ⊥
+ready_not Reach.to_the_end past n ready h = h
+ready_not Reach.cut_off past n ready (inl h) = h
+ready_not Reach.cut_off past n ready (inr h) = true≢false (sym ready ∙ h.1)
+
+unended_not : (reach : Reach) (past : Past) (n : Name) → is_ready past n ≡ true → HasNotEnded reach past n None → ⊥
+unended_not Reach.to_the_end past n ready h = h
+unended_not Reach.cut_off past n ready (inl h) = h
+unended_not Reach.cut_off past n ready (inr h) = true≢false (sym ready ∙ h.1)
+
+goes_committed : (reach : Reach) (past : Past) (n : Name) (o : Option How) (Rest Rest2 : Type 0) (further : List Name) (how : How) → is_ready past n ≡ true → (Rest → Rest2) → GoesOn reach past n o Rest further None → GoesOn reach past n o Rest2 further (Some how)
+goes_committed Reach.to_the_end past n None Rest Rest2 further how ready step h = absurd h
+goes_committed Reach.cut_off past n None Rest Rest2 further how ready step h = absurd (unended_not Reach.cut_off past n ready h.1)
+goes_committed reach past n (Some (Commit given)) Rest Rest2 further how ready step h = step h
+goes_committed reach past n (Some (Abort c)) Rest Rest2 further how ready step h = elim h.1 [
   | inl is ↦ absurd cc
-  | inr x ↦ absurd x
+  | inr x ↦ absurd (ready_not reach past n ready x)
 ]
 
-tries_committed : (ended : Name → Option How) (IsTry : Name → Type 0) (Stopped Stopped2 : Type 0) (Rest Rest2 : List Name → Type 0) → (Stopped → Stopped2) → ((cs : List Name) → Rest cs → Rest2 cs) → (left : ℕ) (cs : List Name) → Tries ended IsTry Stopped Rest left cs → Tries ended IsTry Stopped2 Rest2 left cs
-tries_committed ended IsTry Stopped Stopped2 Rest Rest2 stop rest zero cs h = rest cs h
-tries_committed ended IsTry Stopped Stopped2 Rest Rest2 stop rest (suc left) [] h = stop h
-tries_committed ended IsTry Stopped Stopped2 Rest Rest2 stop rest (suc left) (c ∷ cs) h = (h.0, by_test (is_tried_again (ended c)) (tries_committed ended IsTry Stopped Stopped2 Rest Rest2 stop rest left cs) h.1)
+pub tries_wider : (ended : Name → Option How) (IsTry IsTry2 : Name → Type 0) (Stopped Stopped2 : Type 0) (Rest Rest2 : List Name → Type 0) → ((c : Name) → IsTry c → IsTry2 c) → (Stopped → Stopped2) → ((cs : List Name) → Rest cs → Rest2 cs) → (left : ℕ) (cs : List Name) → Tries ended IsTry Stopped Rest left cs → Tries ended IsTry2 Stopped2 Rest2 left cs
+tries_wider ended IsTry IsTry2 Stopped Stopped2 Rest Rest2 try stop rest zero cs h = rest cs h
+tries_wider ended IsTry IsTry2 Stopped Stopped2 Rest Rest2 try stop rest (suc left) [] h = stop h
+tries_wider ended IsTry IsTry2 Stopped Stopped2 Rest Rest2 try stop rest (suc left) (c ∷ cs) h = (try c h.0, by_test (is_tried_again (ended c)) (tries_wider ended IsTry IsTry2 Stopped Stopped2 Rest Rest2 try stop rest left cs) h.1)
   where
-    by_test : (b : Bool) → (Tries ended IsTry Stopped Rest left cs → Tries ended IsTry Stopped2 Rest2 left cs) → MatchBool b (Tries ended IsTry Stopped Rest left cs) (Rest cs) → MatchBool b (Tries ended IsTry Stopped2 Rest2 left cs) (Rest2 cs)
+    by_test : (b : Bool) → (Tries ended IsTry Stopped Rest left cs → Tries ended IsTry2 Stopped2 Rest2 left cs) → MatchBool b (Tries ended IsTry Stopped Rest left cs) (Rest cs) → MatchBool b (Tries ended IsTry2 Stopped2 Rest2 left cs) (Rest2 cs)
     by_test true more x = more x
     by_test false more x = rest cs x
 
-pub plan_committed : (s : ℕ) (past : Past) (n : Name) (plan : Plan) (cs : List Name) (given : Rattle.qc_event.specs.declared.event.Answer.Answer) → FollowsPlan s past n plan cs None → FollowsPlan s past n plan cs (Some (Commit given))
-plan_committed s past n Plan.done [] given (inl is) = inl tt
-plan_committed s past n Plan.done [] given (inr x) = absurd x
-plan_committed s past n Plan.done (c ∷ cs) given h = absurd h
-plan_committed s past n (Plan.manage_then k rest) [] given h = absurd h
-plan_committed s past n (Plan.manage_then k rest) (c ∷ cs) given h = (h.0, goes_committed n (end past c) _ _ cs (Commit given) (plan_committed s past n rest cs given) h.1)
-plan_committed s past n (Plan.child_then number tries inner rest) cs given h =
-    tries_committed (end past) _ (StopsEarly n None) (StopsEarly n (Some (Commit given))) (λ further. FollowsPlan s past n rest further None) (λ further. FollowsPlan s past n rest further (Some (Commit given)))
-    (λ x. absurd x) (λ further f. plan_committed s past n rest further given f) tries cs h
-plan_committed s past n (Plan.abort_then levels rest) [] given (inl is) = absurd (by_levels levels is)
+pub plan_committed : (reach : Reach) (s : ℕ) (past : Past) (n : Name) (plan : Plan) (cs : List Name) (given : Rattle.qc_event.specs.declared.event.Answer.Answer) → is_ready past n ≡ true → RunsPlan reach s past n plan cs None → RunsPlan reach s past n plan cs (Some (Commit given))
+plan_committed reach s past n Plan.done [] given ready (inl is) = inl tt
+plan_committed reach s past n Plan.done [] given ready (inr x) = absurd (ready_not reach past n ready x)
+plan_committed reach s past n Plan.done (c ∷ cs) given ready h = absurd h
+plan_committed reach s past n (Plan.manage_then k rest) [] given ready h = absurd (ready_not reach past n ready h)
+plan_committed reach s past n (Plan.manage_then k rest) (c ∷ cs) given ready h = (h.0, goes_committed reach past n (end past c) _ _ cs (Commit given) ready (plan_committed reach s past n rest cs given ready) h.1)
+plan_committed reach s past n (Plan.child_then number tries inner rest) cs given ready h =
+    tries_wider (end past) _ _ (Stops reach past n None) (Stops reach past n (Some (Commit given))) (λ further. RunsPlan reach s past n rest further None) (λ further. RunsPlan reach s past n rest further (Some (Commit given)))
+    (λ c t. t) (λ x. absurd (ready_not reach past n ready x)) (λ further f. plan_committed reach s past n rest further given ready f) tries cs h
+plan_committed reach s past n (Plan.abort_then levels rest) [] given ready (inl is) = absurd (by_levels levels is)
   where
     by_levels : (l : ℕ) → None ≡ asked_end n l → ⊥
     by_levels zero is = cc
     by_levels (suc l) is = cc
-plan_committed s past n (Plan.abort_then levels rest) [] given (inr x) = absurd x
-plan_committed s past n (Plan.abort_then levels rest) (c ∷ cs) given h = absurd h
+plan_committed reach s past n (Plan.abort_then levels rest) [] given ready (inr x) = absurd (unended_not reach past n ready x)
+plan_committed reach s past n (Plan.abort_then levels rest) (c ∷ cs) given ready h = absurd h
+
+-- who has not ended, and follows its plan, is ready
+followed_ready : (s : ℕ) (past : Past) (n : Name) (plan : Plan) (cs : List Name) → FollowsPlan s past n plan cs None → is_ready past n ≡ true
+followed_ready s past n plan cs h = elim (followed_done s past n plan cs None h) [
+  | inl some ↦ absurd (true≢false (sym some))
+  | inr done ↦ done.1
+]
+
+-- WHO FOLLOWS A PLAN RUNS IT, HOWEVER FAR THE RUN CAME
+
+stops_early : (reach : Reach) (past : Past) (n : Name) (how : Option How) → StopsEarly n how → Stops reach past n how
+stops_early Reach.to_the_end past n how h = h
+stops_early Reach.cut_off past n how h = inl h
+
+asked_unended : (reach : Reach) (past : Past) (n : Name) (how : Option How) → WasAsked n how → HasNotEnded reach past n how
+asked_unended Reach.to_the_end past n how h = h
+asked_unended Reach.cut_off past n how h = inl h
+
+goes_any : (reach : Reach) (past : Past) (n : Name) (o : Option How) (Rest Rest2 : Type 0) (further : List Name) (how : Option How) → (Rest → Rest2) → GoesOn Reach.to_the_end past n o Rest further how → GoesOn reach past n o Rest2 further how
+goes_any reach past n None Rest Rest2 further how step h = absurd h
+goes_any reach past n (Some (Commit given)) Rest Rest2 further how step h = step h
+goes_any reach past n (Some (Abort c)) Rest Rest2 further how step h = (h.0, elim h.1 [
+  | inl is ↦ inl is
+  | inr x ↦ inr (stops_early reach past n how x)
+])
+
+pub follows_runs : (reach : Reach) (s : ℕ) (past : Past) (n : Name) (plan : Plan) (cs : List Name) (how : Option How) → FollowsPlan s past n plan cs how → RunsPlan reach s past n plan cs how
+follows_runs reach s past n Plan.done [] how (inl is) = inl is
+follows_runs reach s past n Plan.done [] how (inr x) = inr (stops_early reach past n how x)
+follows_runs reach s past n Plan.done (c ∷ cs) how h = absurd h
+follows_runs reach s past n (Plan.manage_then k rest) [] how h = stops_early reach past n how h
+follows_runs reach s past n (Plan.manage_then k rest) (c ∷ cs) how h = (h.0, goes_any reach past n (end past c) _ _ cs how (follows_runs reach s past n rest cs how) h.1)
+follows_runs reach s past n (Plan.child_then number tries inner rest) cs how h =
+    tries_wider (end past) _ _ (StopsEarly n how) (Stops reach past n how) (λ further. FollowsPlan s past n rest further how) (λ further. RunsPlan reach s past n rest further how)
+    (λ c t. (t.0, follows_runs reach s past c inner (children past c) (end past c) t.1)) (stops_early reach past n how) (λ further f. follows_runs reach s past n rest further how f) tries cs h
+follows_runs reach s past n (Plan.abort_then levels rest) [] how (inl is) = inl is
+follows_runs reach s past n (Plan.abort_then levels rest) [] how (inr x) = inr (asked_unended reach past n how x)
+follows_runs reach s past n (Plan.abort_then levels rest) (c ∷ cs) how h = absurd h
 
 -- AND FOLLOWS IT FOR EVER
 
@@ -120,10 +172,10 @@ module _ (s : ℕ) (p : Entry → Bool) (setting : Setting) (newer past : Past) 
   commits_still n (Some (Commit given)) h = tt
   commits_still n (Some (Abort c)) h = absurd h
 
-  goes_still : (n c : Name) (Rest RestNow : Type 0) (further : List Name) (how : Option How) → (Rest → RestNow) → (o : Option How) → end old c ≡ o → GoesOn n o Rest further how → GoesOn n (end now c) RestNow further how
+  goes_still : (n c : Name) (Rest RestNow : Type 0) (further : List Name) (how : Option How) → (Rest → RestNow) → (o : Option How) → end old c ≡ o → GoesOn Reach.to_the_end old n o Rest further how → GoesOn Reach.to_the_end now n (end now c) RestNow further how
   goes_still n c Rest RestNow further how step None is h = absurd h
-  goes_still n c Rest RestNow further how step (Some (Commit given)) is h = subst (λ o. GoesOn n o RestNow further how) (sym (end_some p setting newer past c (Commit given) is)) (step h)
-  goes_still n c Rest RestNow further how step (Some (Abort x)) is h = subst (λ o. GoesOn n o RestNow further how) (sym (end_some p setting newer past c (Abort x) is)) h
+  goes_still n c Rest RestNow further how step (Some (Commit given)) is h = subst (λ o. GoesOn Reach.to_the_end now n o RestNow further how) (sym (end_some p setting newer past c (Commit given) is)) (step h)
+  goes_still n c Rest RestNow further how step (Some (Abort x)) is h = subst (λ o. GoesOn Reach.to_the_end now n o RestNow further how) (sym (end_some p setting newer past c (Abort x) is)) h
 
   pub again_still : (c : Name) → Closed old c → is_tried_again (end now c) ≡ is_tried_again (end old c)
   again_still c closed = elim (how_still p setting newer past c legal closed) [
@@ -169,7 +221,9 @@ module _ (s : ℕ) (p : Entry → Bool) (setting : Setting) (newer past : Past) 
       by_end : (a b : Option How) → CommittedSince a b → FollowsPlan s now c inner (children old c) a → FollowsPlan s now c inner (children old c) b
       by_end a None h f = absurd h
       by_end a (Some (Abort x)) h f = absurd h
-      by_end a (Some (Commit given)) h f = plan_committed s now c inner (children old c) given (subst (λ o. FollowsPlan s now c inner (children old c) o) h f)
+      by_end a (Some (Commit given)) h f =
+          let was : FollowsPlan s now c inner (children old c) None = subst (λ o. FollowsPlan s now c inner (children old c) o) h f in
+          plan_committed Reach.to_the_end s now c inner (children old c) given (followed_ready s now c inner (children old c) was) was
 
   pub plan_still : (n : Name) (plan : Plan) (cs : List Name) (how : Option How) → FollowsPlan s old n plan cs how → FollowsPlan s now n plan cs how
   plan_still n Plan.done [] how (inl is) = inl (commits_still n how is)

@@ -21,19 +21,22 @@ use Rattle.qc_event.proofs.Orderly.{KeepsOrder, Begins}
 use Rattle.qc_script.specs.declared.script.Body.{Body}
 use Rattle.qc_script.specs.Calls.{by_client}
 use Rattle.qc_script.specs.Client.{Client, mine, is_own, Made, IsLater, AreOurs}
-use Rattle.qc_interp.specs.Follows.{FollowsPlan, FollowsBody, IsUnended}
+use Rattle.qc_interp.specs.Follows.{RunsPlan, FollowsPlan, RunsBody, IsUnended}
+use Rattle.qc_interp.specs.Reach.{Reach}
 use Rattle.qc_script.specs.Plan.{Numbered, PlanFits}
 use Rattle.qc_script.specs.Steps.{numbered}
-use Rattle.qc_interp.specs.Running.{Runs, Ended}
-use Rattle.qc_interp.specs.Session.{tops, FollowsBodies, AreAllOurs, EndsTops, RanTops, RanInTurn}
+use Rattle.qc_interp.specs.Running.{Runs, LeavesAt, EndsAt, Ended, CutOff}
+use Rattle.qc_interp.specs.Session.{tops, NotBegun, RunsBodies, AreAllOurs, EndsTopsAt, EndsTops, RanTops, InTurnAt, RanInTurn, CutTops}
 use Rattle.qc_script.specs.Plan.{BodiesFit}
 use Rattle.qc_interp.specs.Turns.{is_done}
 use Rattle.qc_script.specs.Numbers.{each}
 use Rattle.qc_interp.proofs.Adding.{numbers_stay, one_both, all_one, all_later, after_stay, begun_after, all_over_more, over_ended}
 use Rattle.qc_interp.proofs.Turning.{InTurn, Alone, start_turns, alone_up, some_done, itself}
 use Rattle.qc_interp.specs.Tries.{Tries, is_tried_again, TriesDo}
+use Rattle.qc_interp.proofs.TriesAlike.{no_tries}
 use Rattle.qc_interp.proofs.Mine.{kept_some}
-use Rattle.qc_interp.proofs.Still.{follows_still, followed_done, done_closed, again_still}
+use Rattle.qc_interp.proofs.Still.{follows_runs, follows_still, followed_done, done_closed, again_still}
+use Rattle.qc_interp.proofs.Ending.{unended_again}
 use Rattle.qc_interp.proofs.Growth.{made_is, made_later, later_itself, later_trans, ours_before, no_child_by, child_length, start_still}
 use Rattle.qc_interp.proofs.Managers.{children_quiet, found_quiet, absent, came_after, none_kept, children_rest}
 use Rattle.qc_interp.proofs.StepsLeave.{kind_later}
@@ -125,7 +128,7 @@ all_front P Q (x ∷ xs) ys step h = (step x h.0, all_front P Q xs ys step h.1)
 pub turn_itself : (c : Client) (now : Past) → Legal c.setting now → RanInTurn c now now
 turn_itself c now legal = record { later = later_itself c now legal; inside = refl; numbers = λ was. was; order = λ ours after over. (after, over); made = []; more = sym (append-nil _); turns = λ ours turns alone. (turns, alone) }
 
-pub turn_trans : (c : Client) (a b d : Past) → IsLater c b d → RanInTurn c a b → RanInTurn c b d → RanInTurn c a d
+pub turn_trans : {reach : Reach} (c : Client) (a b d : Past) → IsLater c b d → RanInTurn c a b → InTurnAt reach c b d → InTurnAt reach c a d
 turn_trans c a b d later f g = record {
   made = f.made ++ g.made;
   later = later_trans c a b d f.later g.later;
@@ -140,6 +143,20 @@ turn_trans c a b d later f g = record {
       g.turns ours mid.0 mid.1;
 }
 
+-- nothing was made
+turn_cut : (c : Client) (before now : Past) → Made c [] before now → InTurnAt Reach.cut_off c before now
+turn_cut c before now m =
+    let own = made_is c [] before now m in
+    record {
+      made = [];
+      more = ap (λ h. children h []) own ∙ sym (append-nil _);
+      later = made_later c [] before now m;
+      inside = ap (list_all (is_of_one [])) m.made;
+      numbers = λ was. subst (λ h. each (own_next c) h ≡ true) (sym m.grown) (numbers_stay c [] m.newer before (ap (list_all (Rattle.qc_interp.specs.Adding.stays_in [])) m.made) was);
+      order = λ ours after over. (subst (λ h. each (own_after c) h ≡ true) (sym m.grown) (after_stay c [] m.newer before (ap (list_all (Rattle.qc_interp.specs.Adding.stays_in [])) m.made) after), tt);
+      turns = λ ours turns alone. (subst InTurn (sym own) turns, tt);
+    }
+
 -- A TRY OF A TOP
 
 pub record TriedTop (c : Client) (body : Numbered) (before now : Past) (again : Bool) : Type 0 where
@@ -152,89 +169,146 @@ pub record TriedTop (c : Client) (body : Numbered) (before now : Past) (again : 
   pub asked : AreOurs c top now → AllAsked c before now (λ by t. Asks (mine c now) top body.plan (children (mine c now) top) by t)
   pub tried : again ≡ is_tried_again (end (mine c now) top)
 
-pub top_once : (c : Client) (t : Name) (body : Numbered) (before mid now : Past) (again : Bool) → is_child [] t ≡ true → Made c (by_client c (event.Start t (kind.User c.session body.number)) ∷ []) before mid → Numbers c before mid → Ended c t mid now body.plan again → TriedTop c body before now again
-top_once c t body before mid now again top m numbers ended = record {
-  later = later_trans c before mid now (made_later c _ before mid m) ended.leaves.later;
-  top = t;
-  more = more_is;
-  kind = kind_later c [] mid now ended.leaves.later t _ (kind_top c t body.number before mid top m);
-  in_turn = record {
-    made = t ∷ [];
-    more = more_is;
-    later = later_trans c before mid now (made_later c _ before mid m) ended.leaves.later;
-    inside = one_one (made_later c _ before mid m).newer ended.leaves.later.newer begun_one (all_one c t ended.leaves.later.newer (subst (λ x. AllStayIn c x ended.leaves.later.newer) whole ended.leaves.inside));
-    numbers = λ was. subst (λ h. each (own_next c) h ≡ true) (sym ended.leaves.later.grown) (numbers_stay c (take 1 t) ended.leaves.later.newer mid ended.leaves.inside (numbers was));
-    order = λ ours after over. (
-      subst (λ h. each (own_after c) h ≡ true) (sym ended.leaves.later.grown) (after_stay c (take 1 t) ended.leaves.later.newer mid ended.leaves.inside (subst (λ h. each (own_after c) h ≡ true) (sym m.grown) (begun_after c _ m.newer before m.made after over))),
-      all_later_over (all_last (λ n. AreOurs c n now) (tops c before) t [] (subst (AllByRecursion (λ n. AreOurs c n now)) more_is ours)) (later_trans c before mid now (made_later c _ before mid m) ended.leaves.later) over,
-    );
-    turns = λ ours turns alone.
-        let one = all_last (λ n. AreOurs c n now) (tops c before) t [] (subst (AllByRecursion (λ n. AreOurs c n now)) more_is ours) in
-        let a = turns_top c t body.number before mid top m turns alone in
-        let b = ended.leaves.turns one a.0 a.1 in
-        (b.0, alone_up (mine c now) [] t top (done_is (follows_is one)) b.1);
-  };
-  follows = follows_is;
-  asked = λ ours.
-      let e = ended.ends ours in
-      asked_trans c before mid now _ (asked_made c _ before mid _ m (tt, tt)) (asked_wider _ _ (λ by n a. subst (λ cs. Asks (mine c now) t body.plan cs by n) (sym (all_are e.0 e.1)) a) c mid now e.3);
-  tried = ended.tried;
-}
-  where
-    long_top : length t ≡ 1
-    long_top = child_length [] t top
+-- A try of a top that was cut off.
+pub record CutTop (c : Client) (body : Numbered) (before now : Past) : Type 0 where
+  pub in_turn : InTurnAt Reach.cut_off c before now
+  pub top : Name
+  pub more : tops c now ≡ tops c before ++ top ∷ []
+  pub kind : kind_of (mine c now) top ≡ Some (kind.User c.session body.number)
+  pub begins : AreOurs c top now → RunsPlan Reach.cut_off c.session (mine c now) top body.plan (children (mine c now) top) (end (mine c now) top)
+  pub asked : AreOurs c top now → AllAsked c before now (λ by t. Asks (mine c now) top body.plan (children (mine c now) top) by t)
+  pub tried : is_tried_again (end (mine c now) top) ≡ false
 
-    whole : take 1 t ≡ t
-    whole = by_name t long_top
-      where
-        by_name : (n : Name) → length n ≡ 1 → take 1 n ≡ n
-        by_name [] l = let z : ⊥ = omega (arith, l) in absurd z
-        by_name (x ∷ []) l = refl
-        by_name (x ∷ y ∷ n) l = let z : ⊥ = omega (arith, l) in absurd z
+module _ (c : Client) (t : Name) (body : Numbered) (before mid now : Past) (top : is_child [] t ≡ true) (m : Made c (by_client c (event.Start t (kind.User c.session body.number)) ∷ []) before mid) (numbers : Numbers c before mid) where
+  long_top : length t ≡ 1
+  long_top = child_length [] t top
 
-    begun_one : AllOfOne c (t ∷ []) m.newer
-    begun_one = ap (list_all (is_of_one (t ∷ []))) m.made ∙ ap (λ b. (b || false) && true) (itself t)
+  whole : take 1 t ≡ t
+  whole = by_name t long_top
+    where
+      by_name : (n : Name) → length n ≡ 1 → take 1 n ≡ n
+      by_name [] l = let z : ⊥ = omega (arith, l) in absurd z
+      by_name (x ∷ []) l = refl
+      by_name (x ∷ y ∷ n) l = let z : ⊥ = omega (arith, l) in absurd z
 
-    one_one : (older newer : Past) → AllOfOne c (t ∷ []) older → AllOfOne c (t ∷ []) newer → AllOfOne c (t ∷ []) (newer ++ older)
-    one_one older newer a b = all_later (is_of_one (t ∷ [])) c older newer a b
+  begun_one : AllOfOne c (t ∷ []) m.newer
+  begun_one = ap (list_all (is_of_one (t ∷ []))) m.made ∙ ap (λ b. (b || false) && true) (itself t)
+
+  one_one : (older newer : Past) → AllOfOne c (t ∷ []) older → AllOfOne c (t ∷ []) newer → AllOfOne c (t ∷ []) (newer ++ older)
+  one_one older newer a b = all_later (is_of_one (t ∷ [])) c older newer a b
+
+  -- by what the top left, which has ended or was cut off
+  module _ (reach : Reach) (leaves : LeavesAt reach c t mid now) where
+    abbrev later_is : IsLater c before now
+    later_is = later_trans c before mid now (made_later c _ before mid m) leaves.later
 
     more_is : tops c now ≡ tops c before ++ t ∷ []
-    more_is = (ended.leaves.above [] t refl (let l : length t ≡ 1 = child_length [] t top in omega (arith, l))).children ∙ tops_begun c t body.number before mid top m
+    more_is = (leaves.above [] t refl (let l : length t ≡ 1 = child_length [] t top in omega (arith, l))).children ∙ tops_begun c t body.number before mid top m
+
+    kind_is : kind_of (mine c now) t ≡ Some (kind.User c.session body.number)
+    kind_is = kind_later c [] mid now leaves.later t _ (kind_top c t body.number before mid top m)
+
+    inside_is : AllOfOne c (t ∷ []) later_is.newer
+    inside_is = one_one (made_later c _ before mid m).newer leaves.later.newer begun_one (all_one c t leaves.later.newer (subst (λ x. AllStayIn c x leaves.later.newer) whole leaves.inside))
+
+    numbers_are : Numbers c before now
+    numbers_are was = subst (λ h. each (own_next c) h ≡ true) (sym leaves.later.grown) (numbers_stay c (take 1 t) leaves.later.newer mid leaves.inside (numbers was))
+
+    after_is : each (own_after c) before ≡ true → all_over c before ≡ true → each (own_after c) now ≡ true
+    after_is after over =
+        subst (λ h. each (own_after c) h ≡ true) (sym leaves.later.grown) (after_stay c (take 1 t) leaves.later.newer mid leaves.inside (subst (λ h. each (own_after c) h ≡ true) (sym m.grown) (begun_after c _ m.newer before m.made after over)))
+
+    ours_new : AreAllOurs c now → AreOurs c t now
+    ours_new ours = all_last (λ n. AreOurs c n now) (tops c before) t [] (subst (AllByRecursion (λ n. AreOurs c n now)) more_is ours)
 
     all_are : (further : List Name) → children (mine c now) t ≡ children (mine c mid) t ++ further → children (mine c now) t ≡ further
     all_are further is = is ∙ ap (λ l. l ++ further) (none_top c t body.number before mid top m)
 
-    follows_is : AreOurs c t now → FollowsPlan c.session (mine c now) t body.plan (children (mine c now) t) (end (mine c now) t)
-    follows_is ours =
-        let e = ended.ends ours in
-        subst (λ cs. FollowsPlan c.session (mine c now) t body.plan cs (end (mine c now) t)) (sym (all_are e.0 e.1)) e.2
+    module _ (ends : EndsAt reach c t mid now body.plan) where
+      runs_is : AreOurs c t now → RunsPlan reach c.session (mine c now) t body.plan (children (mine c now) t) (end (mine c now) t)
+      runs_is ours =
+          let e = ends ours in
+          subst (λ cs. RunsPlan reach c.session (mine c now) t body.plan cs (end (mine c now) t)) (sym (all_are e.0 e.1)) e.2
 
-    over_is : AreOurs c t now → is_over now t ≡ true
-    over_is ours = elim (done_closed (mine c now) t (followed_done c.session (mine c now) t body.plan (children (mine c now) t) (end (mine c now) t) (follows_is ours))) [
-      | inl some ↦ over_ended now t (kept_some (λ (e : Entry). is_own c e.seat) _ now some)
-      | inr ready ↦ ended.leaves.over (λ was. absurd (true≢false (sym was ∙ ((runs_top c t body.number before mid top m).above t [] (sym (append-nil t)) (omega (arith, long_top))).1))) ready
-    ]
+      asked_is : AreOurs c t now → AllAsked c before now (λ by n. Asks (mine c now) t body.plan (children (mine c now) t) by n)
+      asked_is ours =
+          let e = ends ours in
+          asked_trans c before mid now _ (asked_made c _ before mid _ m (tt, tt)) (asked_wider _ _ (λ by n a. subst (λ cs. Asks (mine c now) t body.plan cs by n) (sym (all_are e.0 e.1)) a) c mid now e.3)
 
-    all_later_over : AreOurs c t now → IsLater c before now → all_over c before ≡ true → all_over c now ≡ true
-    all_later_over ours later was =
-        subst (λ h. all_over c h ≡ true) (sym later.grown)
-        (all_over_more c later.newer before (t ∷ []) (ap (tops c) (sym later.grown) ∙ more_is) was (subst (λ h. list_all (is_over h) (t ∷ []) ≡ true) later.grown (ap (λ b. b && true) (over_is ours))))
+  pub top_once : (again : Bool) → Ended c t mid now body.plan again → TriedTop c body before now again
+  top_once again ended = record {
+    later = later_is Reach.to_the_end ended.leaves;
+    top = t;
+    more = more_is Reach.to_the_end ended.leaves;
+    kind = kind_is Reach.to_the_end ended.leaves;
+    in_turn = record {
+      made = t ∷ [];
+      more = more_is Reach.to_the_end ended.leaves;
+      later = later_is Reach.to_the_end ended.leaves;
+      inside = inside_is Reach.to_the_end ended.leaves;
+      numbers = numbers_are Reach.to_the_end ended.leaves;
+      order = λ ours after over. (after_is Reach.to_the_end ended.leaves after over, all_later_over (ours_new Reach.to_the_end ended.leaves ours) (later_is Reach.to_the_end ended.leaves) over);
+      turns = λ ours turns alone.
+          let one = ours_new Reach.to_the_end ended.leaves ours in
+          let a = turns_top c t body.number before mid top m turns alone in
+          let b = ended.leaves.turns one a.0 a.1 in
+          (b.0, alone_up (mine c now) [] t top (done_is (follows_is one)) b.1);
+    };
+    follows = follows_is;
+    asked = asked_is Reach.to_the_end ended.leaves ended.ends;
+    tried = ended.tried;
+  }
+    where
+      follows_is : AreOurs c t now → FollowsPlan c.session (mine c now) t body.plan (children (mine c now) t) (end (mine c now) t)
+      follows_is ours = runs_is Reach.to_the_end ended.leaves ended.ends ours
 
-    done_is : FollowsPlan c.session (mine c now) t body.plan (children (mine c now) t) (end (mine c now) t) → is_done (mine c now) t ≡ true
-    done_is f = elim (done_closed (mine c now) t (followed_done c.session (mine c now) t body.plan (children (mine c now) t) (end (mine c now) t) f)) [
-      | inl some ↦ some_done (mine c now) t some
-      | inr ready ↦ ready_done (is_some (end (mine c now) t)) (is_ready (mine c now) t) ready
-    ]
-      where
-        ready_done : (a b : Bool) → b ≡ true → Rattle.std.specs.Prelude.◌||◌ a b ≡ true
-        ready_done true b h = refl
-        ready_done false b h = h
+      over_is : AreOurs c t now → is_over now t ≡ true
+      over_is ours = elim (done_closed (mine c now) t (followed_done c.session (mine c now) t body.plan (children (mine c now) t) (end (mine c now) t) (follows_is ours))) [
+        | inl some ↦ over_ended now t (kept_some (λ (e : Entry). is_own c e.seat) _ now some)
+        | inr ready ↦ ended.leaves.over (λ was. absurd (true≢false (sym was ∙ ((runs_top c t body.number before mid top m).above t [] (sym (append-nil t)) (omega (arith, long_top))).1))) ready
+      ]
 
--- from `before` on, so many tries of a body and then of other bodies
-abbrev pub EndsTopTries : Client → Past → Past → Numbered → ℕ → List Numbered → Type 0
-EndsTopTries c before now body left rest =
+      all_later_over : AreOurs c t now → IsLater c before now → all_over c before ≡ true → all_over c now ≡ true
+      all_later_over ours later was =
+          subst (λ h. all_over c h ≡ true) (sym later.grown)
+          (all_over_more c later.newer before (t ∷ []) (ap (tops c) (sym later.grown) ∙ more_is Reach.to_the_end ended.leaves) was (subst (λ h. list_all (is_over h) (t ∷ []) ≡ true) later.grown (ap (λ b. b && true) (over_is ours))))
+
+      done_is : FollowsPlan c.session (mine c now) t body.plan (children (mine c now) t) (end (mine c now) t) → is_done (mine c now) t ≡ true
+      done_is f = elim (done_closed (mine c now) t (followed_done c.session (mine c now) t body.plan (children (mine c now) t) (end (mine c now) t) f)) [
+        | inl some ↦ some_done (mine c now) t some
+        | inr ready ↦ ready_done (is_some (end (mine c now) t)) (is_ready (mine c now) t) ready
+      ]
+        where
+          ready_done : (a b : Bool) → b ≡ true → Rattle.std.specs.Prelude.◌||◌ a b ≡ true
+          ready_done true b h = refl
+          ready_done false b h = h
+
+  pub top_cut : CutOff c t mid now body.plan → CutTop c body before now
+  top_cut cut = record {
+    top = t;
+    more = more_is Reach.cut_off cut.leaves;
+    kind = kind_is Reach.cut_off cut.leaves;
+    in_turn = record {
+      made = t ∷ [];
+      more = more_is Reach.cut_off cut.leaves;
+      later = later_is Reach.cut_off cut.leaves;
+      inside = inside_is Reach.cut_off cut.leaves;
+      numbers = numbers_are Reach.cut_off cut.leaves;
+      order = λ ours after over. (after_is Reach.cut_off cut.leaves after over, tt);
+      turns = λ ours turns alone.
+          let a = turns_top c t body.number before mid top m turns alone in
+          ((cut.leaves.turns (ours_new Reach.cut_off cut.leaves ours) a.0 a.1).0, tt);
+    };
+    begins = runs_is Reach.cut_off cut.leaves cut.begins;
+    asked = asked_is Reach.cut_off cut.leaves cut.begins;
+    tried = unended_again t _ cut.unended;
+  }
+
+-- from `before` on, so many tries of a body and then of other bodies, or as far as the run came
+abbrev pub EndsTopTries : Reach → Client → Past → Past → Numbered → ℕ → List Numbered → Type 0
+EndsTopTries reach c before now body left rest =
     AreAllOurs c now → (further : List Name) × (tops c now ≡ tops c before ++ further)
-    × Tries (end (mine c now)) (FollowsBody c.session (mine c now) body) ⊥ (λ more. FollowsBodies c.session (mine c now) rest more) left further
+    × Tries (end (mine c now)) (RunsBody reach c.session (mine c now) body) (NotBegun reach) (λ more. RunsBodies reach c.session (mine c now) rest more) left further
     × AllAsked c before now (λ by t. TriesDo (end (mine c now)) (λ n. Asks (mine c now) n body.plan (children (mine c now) n) by t) (λ more. BodiesAsk (mine c now) rest more by t) left further)
 
 match_true : (P Q : Type 0) (b : Bool) → b ≡ true → P → MatchBool b P Q
@@ -246,7 +320,7 @@ match_false P Q false is h = h
 match_false P Q true is h = absurd (true≢false is)
 
 module _ (c : Client) (body : Numbered) (before now : Past) (again : Bool) (t : TriedTop c body before now again) where
-  module _ (x : Past) (later : IsLater c now x) (further : List Name) (more : tops c x ≡ tops c now ++ further) (ours : AreAllOurs c x) where
+  module _ (reach : Reach) (x : Past) (later : IsLater c now x) (further : List Name) (more : tops c x ≡ tops c now ++ further) (ours : AreAllOurs c x) where
     more_later : tops c x ≡ tops c before ++ t.top ∷ further
     more_later = more ∙ ap (λ l. l ++ further) t.more ∙ append_assoc (tops c before) (t.top ∷ []) further
 
@@ -256,11 +330,11 @@ module _ (c : Client) (body : Numbered) (before now : Past) (again : Bool) (t : 
     follows_now : FollowsPlan c.session (mine c now) t.top body.plan (children (mine c now) t.top) (end (mine c now) t.top)
     follows_now = t.follows (ours_before c t.top now x later ours_top)
 
-    one_top : FollowsBody c.session (mine c x) body t.top
+    one_top : RunsBody reach c.session (mine c x) body t.top
     one_top = record {
       kind = kind_later c [] now x later t.top _ t.kind;
-      steps = subst (λ h. FollowsPlan c.session (mine c h) t.top body.plan (children (mine c h) t.top) (end (mine c h) t.top)) (sym later.grown)
-          (follows_still c.session (λ (e : Entry). is_own c e.seat) c.setting later.newer now (subst (Legal c.setting) later.grown later.legal) t.top body.plan follows_now).0;
+      steps = follows_runs reach c.session (mine c x) t.top body.plan _ _ (subst (λ h. FollowsPlan c.session (mine c h) t.top body.plan (children (mine c h) t.top) (end (mine c h) t.top)) (sym later.grown)
+          (follows_still c.session (λ (e : Entry). is_own c e.seat) c.setting later.newer now (subst (Legal c.setting) later.grown later.legal) t.top body.plan follows_now).0);
     }
 
     again_later : is_tried_again (end (mine c x) t.top) ≡ again
@@ -283,53 +357,85 @@ module _ (c : Client) (body : Numbered) (before now : Past) (again : Bool) (t : 
     with_asked : (left : ℕ) (rest : List Numbered) → AllAsked c now x (λ by n. MoreDo left rest by n again) → AllAsked c before x (λ by n. TriesDo (end (mine c x)) (λ y. Asks (mine c x) y body.plan (children (mine c x) y) by n) (λ more. BodiesAsk (mine c x) rest more by n) (suc left) (t.top ∷ further))
     with_asked left rest h = asked_trans c before now x _ (asked_wider _ _ (λ by n a. inl a) c before now asked_later) (asked_wider _ _ (λ by n a. inr (subst (MoreDo left rest by n) (sym again_later) a)) c now x h)
 
-  pub top_again : again ≡ true → (x : Past) → IsLater c now x → (left : ℕ) (rest : List Numbered) → EndsTopTries c now x body left rest → EndsTopTries c before x body (suc left) rest
-  top_again is x later left rest ends ours =
+  pub top_again : again ≡ true → (reach : Reach) (x : Past) → IsLater c now x → (left : ℕ) (rest : List Numbered) → EndsTopTries reach c now x body left rest → EndsTopTries reach c before x body (suc left) rest
+  top_again is reach x later left rest ends ours =
       let e = ends ours in
-      (t.top ∷ e.0, more_later x later e.0 e.1 ours, (one_top x later e.0 e.1 ours, match_true _ (FollowsBodies c.session (mine c x) rest e.0) _ (again_later x later e.0 e.1 ours ∙ is) e.2), with_asked x later e.0 e.1 ours left rest (asked_wider _ _ (λ by n a. match_true _ (BodiesAsk (mine c x) rest e.0 by n) again is a) c now x e.3))
+      (t.top ∷ e.0, more_later reach x later e.0 e.1 ours, (one_top reach x later e.0 e.1 ours, match_true _ (RunsBodies reach c.session (mine c x) rest e.0) _ (again_later reach x later e.0 e.1 ours ∙ is) e.2), with_asked reach x later e.0 e.1 ours left rest (asked_wider _ _ (λ by n a. match_true _ (BodiesAsk (mine c x) rest e.0 by n) again is a) c now x e.3))
 
-  pub top_last : again ≡ false → (x : Past) → IsLater c now x → (left : ℕ) (rest : List Numbered) → EndsTops c now x rest → EndsTopTries c before x body (suc left) rest
-  top_last is x later left rest ends ours =
+  pub top_last : again ≡ false → (reach : Reach) (x : Past) → IsLater c now x → (left : ℕ) (rest : List Numbered) → EndsTopsAt reach c now x rest → EndsTopTries reach c before x body (suc left) rest
+  top_last is reach x later left rest ends ours =
       let e = ends ours in
-      (t.top ∷ e.0, more_later x later e.0 e.1 ours, (one_top x later e.0 e.1 ours, match_false (Tries (end (mine c x)) (FollowsBody c.session (mine c x) body) ⊥ (λ more. FollowsBodies c.session (mine c x) rest more) left e.0) _ _ (again_later x later e.0 e.1 ours ∙ is) e.2), with_asked x later e.0 e.1 ours left rest (asked_wider _ _ (λ by n a. match_false (DoTries x later e.0 e.1 ours left rest by n) _ again is a) c now x e.3))
+      (t.top ∷ e.0, more_later reach x later e.0 e.1 ours, (one_top reach x later e.0 e.1 ours, match_false (Tries (end (mine c x)) (RunsBody reach c.session (mine c x) body) (NotBegun reach) (λ more. RunsBodies reach c.session (mine c x) rest more) left e.0) _ _ (again_later reach x later e.0 e.1 ours ∙ is) e.2), with_asked reach x later e.0 e.1 ours left rest (asked_wider _ _ (λ by n a. match_false (DoTries reach x later e.0 e.1 ours left rest by n) _ again is a) c now x e.3))
+
+-- no body was begun where the run was cut off
+pub none_begun : (s : ℕ) (past : Past) (bodies : List Numbered) → RunsBodies Reach.cut_off s past bodies []
+none_begun s past [] = tt
+none_begun s past (b ∷ bodies) = no_tries (end past) _ (NotBegun Reach.cut_off) (λ further. RunsBodies Reach.cut_off s past bodies further) tt (none_begun s past bodies) b.tries
+
+-- a try of a top that was cut off is the last
+pub cut_last : (c : Client) (body : Numbered) (before now : Past) → CutTop c body before now → (left : ℕ) (rest : List Numbered) → EndsTopTries Reach.cut_off c before now body (suc left) rest
+cut_last c body before now t left rest ours =
+    let one = all_last (λ n. AreOurs c n now) (tops c before) t.top [] (subst (AllByRecursion (λ n. AreOurs c n now)) t.more ours) in (
+      t.top ∷ [],
+      t.more,
+      (record { kind = t.kind; steps = t.begins one }, match_false _ _ _ t.tried (none_begun c.session (mine c now) rest)),
+      asked_wider _ _ (λ by n a. inl a) c before now (t.asked one),
+    )
 
 -- THE LOOPS
 
 pub record TopTriesLeft (c : Client) (body : Numbered) (before now : Past) (left : ℕ) : Type 0 where
   pub later : IsLater c before now
   pub in_turn : RanInTurn c before now
-  pub front : (x : Past) → IsLater c now x → (rest : List Numbered) → EndsTopTries c now x body left rest → EndsTops c before x (body ∷ rest)
+  pub front : (reach : Reach) (x : Past) → IsLater c now x → (rest : List Numbered) → EndsTopTries reach c now x body left rest → EndsTopsAt reach c before x (body ∷ rest)
 
 module _ (c : Client) (body : Numbered) where
   pub no_top : (now : Past) → Legal c.setting now → TopTriesLeft c body now now body.tries
-  no_top now legal = record { in_turn = turn_itself c now legal; later = later_itself c now legal; front = λ x later rest ends. ends }
+  no_top now legal = record { in_turn = turn_itself c now legal; later = later_itself c now legal; front = λ reach x later rest ends. ends }
 
   pub top_more : (before now next : Past) (left : ℕ) → TopTriesLeft c body before now (suc left) → TriedTop c body now next true → TopTriesLeft c body before next left
   top_more before now next left l t = record {
     in_turn = turn_trans c before now next t.later l.in_turn t.in_turn;
     later = later_trans c before now next l.later t.later;
-    front = λ x later rest ends. l.front x (later_trans c now next x t.later later) rest (top_again c body now next true t refl x later left rest ends);
+    front = λ reach x later rest ends. l.front reach x (later_trans c now next x t.later later) rest (top_again c body now next true t refl reach x later left rest ends);
   }
 
   pub top_out : (before now next : Past) (left : ℕ) → TopTriesLeft c body before now (suc left) → TriedTop c body now next false → RanTops c before next (λ rest. body ∷ rest)
   top_out before now next left l t = record {
     in_turn = turn_trans c before now next t.later l.in_turn t.in_turn;
     later = later_trans c before now next l.later t.later;
-    follows = λ x later rest ends. l.front x (later_trans c now next x t.later later) rest (top_last c body now next false t refl x later left rest ends);
+    follows = λ reach x later rest ends. l.front reach x (later_trans c now next x t.later later) rest (top_last c body now next false t refl reach x later left rest ends);
   }
 
   pub tops_out : (before now : Past) → TopTriesLeft c body before now 0 → RanTops c before now (λ rest. body ∷ rest)
-  tops_out before now l = record { in_turn = l.in_turn; later = l.later; follows = λ x later rest ends. l.front x later rest ends }
+  tops_out before now l = record { in_turn = l.in_turn; later = l.later; follows = λ reach x later rest ends. l.front reach x later rest ends }
+
+module _ (c : Client) (body : Numbered) where
+  pub try_cut : (before now next : Past) (left : ℕ) (rest : List Numbered) → TopTriesLeft c body before now (suc left) → CutTop c body now next → CutTops c before next (body ∷ rest)
+  try_cut before now next left rest l t = record {
+    in_turn = turn_trans c before now next t.in_turn.later l.in_turn t.in_turn;
+    begins = l.front Reach.cut_off next t.in_turn.later rest (cut_last c body now next t left rest);
+  }
+
+  -- a top was not begun
+  pub top_not_begun : (before now next : Past) (left : ℕ) (rest : List Numbered) → TopTriesLeft c body before now (suc left) → Made c [] now next → CutTops c before next (body ∷ rest)
+  top_not_begun before now next left rest l m =
+      let own = made_is c [] now next m in
+      let later = made_later c [] now next m in
+      record {
+        in_turn = turn_trans c before now next later l.in_turn (turn_cut c now next m);
+        begins = l.front Reach.cut_off next later rest (λ ours. ([], ap (λ h. children h []) own ∙ sym (append-nil _), tt, asked_made c [] now next _ m tt));
+      }
 
 pub record BodiesLeft (c : Client) (bodies : List Body) (before now : Past) (i : ℕ) : Type 0 where
   pub later : IsLater c before now
   pub in_turn : RanInTurn c before now
   pub fits : BodiesFit c.setting (map numbered (drop i bodies))
-  pub front : (x : Past) → IsLater c now x → EndsTops c now x (map numbered (drop i bodies)) → EndsTops c before x (map numbered bodies)
+  pub front : (reach : Reach) (x : Past) → IsLater c now x → EndsTopsAt reach c now x (map numbered (drop i bodies)) → EndsTopsAt reach c before x (map numbered bodies)
 
 module _ (c : Client) (bodies : List Body) where
   pub no_body : (now : Past) → Legal c.setting now → BodiesFit c.setting (map numbered bodies) → BodiesLeft c bodies now now 0
-  no_body now legal fits = record { in_turn = turn_itself c now legal; later = later_itself c now legal; fits = fits; front = λ x later ends. ends }
+  no_body now legal fits = record { in_turn = turn_itself c now legal; later = later_itself c now legal; fits = fits; front = λ reach x later ends. ends }
 
   split : (i : ℕ) (b : Body) → i < length bodies → b ≡ get_or bodies i b → map numbered (drop i bodies) ≡ numbered b ∷ map numbered (drop (i + 1) bodies)
   split i b below is = ap (map numbered) (let s : drop i bodies ≡ b ∷ drop (i + 1) bodies = rw add-one (drop-cons bodies i b below ∙ ap (λ y. y ∷ drop (suc i) bodies) (sym is)) in s)
@@ -342,8 +448,16 @@ module _ (c : Client) (bodies : List Body) where
     in_turn = turn_trans c before now next ran.later l.in_turn ran.in_turn;
     later = later_trans c before now next l.later ran.later;
     fits = (subst (BodiesFit c.setting) (split i b below is) l.fits).2;
-    front = λ x later ends. l.front x (later_trans c now next x ran.later later) (subst (EndsTops c now x) (sym (split i b below is)) (ran.follows x later (map numbered (drop (i + 1) bodies)) ends));
+    front = λ reach x later ends. l.front reach x (later_trans c now next x ran.later later) (subst (EndsTopsAt reach c now x) (sym (split i b below is)) (ran.follows reach x later (map numbered (drop (i + 1) bodies)) ends));
   }
 
+  pub bodies_cut : (before now next : Past) (i : ℕ) (b : Body) → BodiesLeft c bodies before now i → i < length bodies → b ≡ get_or bodies i b → ((rest : List Numbered) → CutTops c now next (numbered b ∷ rest)) → CutTops c before next (map numbered bodies)
+  bodies_cut before now next i b l below is cut =
+      let one = cut (map numbered (drop (i + 1) bodies)) in
+      record {
+        in_turn = turn_trans c before now next one.in_turn.later l.in_turn one.in_turn;
+        begins = l.front Reach.cut_off next one.in_turn.later (subst (EndsTopsAt Reach.cut_off c now next) (sym (split i b below is)) one.begins);
+      }
+
   pub all_bodies : (before now : Past) (i : ℕ) → BodiesLeft c bodies before now i → length bodies ≤ i → EndsTops c before now (map numbered bodies)
-  all_bodies before now i l past = l.front now (later_itself c now l.later.legal) (subst (EndsTops c now now) (sym (ap (map numbered) (drop_all i bodies past))) (λ ours. ([], sym (append-nil _), tt, ([], refl, tt))))
+  all_bodies before now i l past = l.front Reach.to_the_end now (later_itself c now l.later.legal) (subst (EndsTops c now now) (sym (ap (map numbered) (drop_all i bodies past))) (λ ours. ([], sym (append-nil _), tt, ([], refl, tt))))

@@ -15,19 +15,20 @@ use Rattle.qc_event.proofs.LastNumber.{child_last, length_last, is_ancestor-appe
 use Rattle.qc_event.proofs.OneEntry.{child_added, start_is}
 use Rattle.qc_script.specs.Calls.{by_client, WasRefused}
 use Rattle.qc_script.specs.Client.{Client, mine, is_own, Made, IsLater, AreOurs}
-use Rattle.qc_interp.specs.Follows.{StopsEarly, IsUnended, FollowsPlan}
+use Rattle.qc_interp.specs.Follows.{StopsEarly, Stops, IsUnended, RunsPlan, FollowsPlan}
+use Rattle.qc_interp.specs.Reach.{Reach}
 use Rattle.qc_script.specs.Plan.{Plan, Numbered}
-use Rattle.qc_interp.specs.Running.{Runs, LeavesIt, Leaves, WhyStop, StopsBy, Stopped, Ends, Ended, WentOn, EndsTries, FrontTries}
+use Rattle.qc_interp.specs.Running.{Runs, LeavesIt, LeavesAt, Leaves, WhyStop, StopsBy, Stopped, EndsAt, Ended, CutOff, WentOn, EndsTries, FrontTries}
 use Rattle.qc_interp.specs.Tries.{Tries, is_tried_again, TriesDo}
 use Rattle.qc_script.specs.declared.tx.TxNo.{TxNo}
 use Rattle.qc_script.specs.declared.tx.TxNo.TheVariants as tx_no
 use Rattle.qc_interp.proofs.Adding.{all_later, start_stays_in, child_top, over_later}
 use Rattle.qc_interp.proofs.Turning.{InTurn, Alone, start_turns, alone_up, some_done}
 use Rattle.qc_interp.proofs.Mine.{kept_some}
-use Rattle.qc_interp.proofs.Still.{follows_still, followed_done, done_closed, again_still}
+use Rattle.qc_interp.proofs.Still.{follows_runs, follows_still, followed_done, done_closed, again_still}
 use Rattle.qc_interp.proofs.Growth.{made_is, made_later, later_trans, ours_before, started_still, child_length, no_child_by}
 use Rattle.qc_interp.proofs.Managers.{children_quiet, found_quiet, NewChild, new_child}
-use Rattle.qc_interp.proofs.Ending.{unended_again, not_ready, leaves_trans, still, leaves_still, runs_still, leaves_end, children_end, ends_so}
+use Rattle.qc_interp.proofs.Ending.{unended_again, running_stops, running_runs, not_ready, leaves_trans, leaves_cut, still, leaves_still, runs_still, leaves_end, children_end, ends_so}
 use Rattle.qc_interp.proofs.StepsLeave.{kind_later, closed_more, ready_short, stop_here}
 use Rattle.std.specs.List.{list_all}
 use Rattle.qc_interp.specs.Adding.{stays_in, AllStayIn}
@@ -129,8 +130,20 @@ pub record Tried (c : Client) (of : Name) (body : Numbered) (before now : Past) 
   pub asked : AreOurs c of now → AllAsked c before now (λ by t. Asks (mine c now) child body.plan (children (mine c now) child) by t)
   pub tried : again ≡ is_tried_again (end (mine c now) child)
 
-module _ (c : Client) (of n : Name) (body : Numbered) (before mid now : Past) (again : Bool) (runs : Runs c of before) (child : is_child of n ≡ true)
-    (m : Made c (by_client c (event.Start n (kind.User c.session body.number)) ∷ []) before mid) (ended : Ended c n mid now body.plan again) where
+-- of a body that was cut off
+pub record CutTry (c : Client) (of : Name) (body : Numbered) (before now : Past) : Type 0 where
+  pub leaves : LeavesAt Reach.cut_off c of before now
+  pub unended : IsUnended of (end (mine c now) of)
+  pub unready : is_ready (mine c now) of ≡ false
+  pub child : Name
+  pub more : children (mine c now) of ≡ children (mine c before) of ++ child ∷ []
+  pub kind : kind_of (mine c now) child ≡ Some (kind.User c.session body.number)
+  pub begins : AreOurs c of now → RunsPlan Reach.cut_off c.session (mine c now) child body.plan (children (mine c now) child) (end (mine c now) child)
+  pub asked : AreOurs c of now → AllAsked c before now (λ by t. Asks (mine c now) child body.plan (children (mine c now) child) by t)
+  pub tried : is_tried_again (end (mine c now) child) ≡ false
+
+module _ (c : Client) (of n : Name) (body : Numbered) (before mid now : Past) (runs : Runs c of before) (child : is_child of n ≡ true)
+    (m : Made c (by_client c (event.Start n (kind.User c.session body.number)) ∷ []) before mid) where
   last : (j : ℕ) × (n ≡ of ++ j ∷ [])
   last = child_last of n child
 
@@ -144,71 +157,106 @@ module _ (c : Client) (of n : Name) (body : Numbered) (before mid now : Past) (a
   ours_child : AreOurs c of now → AreOurs c n now
   ours_child ours = subst (λ t. IsTrue (Rattle.std.specs.List.list_all (λ (e : Entry). Rattle.std.specs.Prelude.◌||◌ (not (Rattle.qc_script.specs.Client.concerns t e.event)) (is_own c e.seat)) now)) (sym same_top) ours
 
-  left : (p r : Name) → of ≡ p ++ r → LeavesIt c p mid now
-  left p r is = ended.leaves.above p (r ++ last.0 ∷ []) (last.1 ∙ ap (λ x. x ++ last.0 ∷ []) is ∙ append_assoc p r (last.0 ∷ [])) (let l : length (r ++ last.0 ∷ []) ≡ length r + 1 = length_last r last.0 in omega (arith, l))
+  -- by what the child left, which has ended or was cut off
+  module _ (reach : Reach) (leaves : LeavesAt reach c n mid now) where
+    left : (p r : Name) → of ≡ p ++ r → LeavesIt c p mid now
+    left p r is = leaves.above p (r ++ last.0 ∷ []) (last.1 ∙ ap (λ x. x ++ last.0 ∷ []) is ∙ append_assoc p r (last.0 ∷ [])) (let l : length (r ++ last.0 ∷ []) ≡ length r + 1 = length_last r last.0 in omega (arith, l))
 
-  more_is : children (mine c now) of ≡ children (mine c before) of ++ n ∷ []
-  more_is = (left of [] (sym (append-nil of))).children ∙ children_begun c of n body.number before mid runs child m
+    more_is : children (mine c now) of ≡ children (mine c before) of ++ n ∷ []
+    more_is = (left of [] (sym (append-nil of))).children ∙ children_begun c of n body.number before mid runs child m
 
-  abbrev later_is : IsLater c before now
-  later_is = later_trans c before mid now (later_begun c of n body.number before mid runs child m) ended.leaves.later
+    abbrev later_is : IsLater c before now
+    later_is = later_trans c before mid now (later_begun c of n body.number before mid runs child m) leaves.later
 
-  all_are : (further : List Name) → children (mine c now) n ≡ children (mine c mid) n ++ further → children (mine c now) n ≡ further
-  all_are further is = is ∙ ap (λ l. l ++ further) (none_begun c of n body.number before mid runs child m)
+    inside_is : AllStayIn c (take 1 of) later_is.newer
+    inside_is = all_later _ c _ leaves.later.newer (inside_begun c of n body.number before mid runs child m) (subst (λ t. AllStayIn c t leaves.later.newer) same_top leaves.inside)
 
-  follows_is : AreOurs c of now → FollowsPlan c.session (mine c now) n body.plan (children (mine c now) n) (end (mine c now) n)
-  follows_is ours =
-      let e = ended.ends (ours_child ours) in
-      subst (λ cs. FollowsPlan c.session (mine c now) n body.plan cs (end (mine c now) n)) (sym (all_are e.0 e.1)) e.2
+    unended_is : (p r : Name) → of ≡ p ++ r → IsUnended p (end (mine c before) p) → IsUnended p (end (mine c now) p)
+    unended_is p r is h = (left p r is).unended (subst (λ o. IsUnended p o) (sym (end_begun c of n body.number before mid runs child m p r is)) h)
 
-  asked_is : AreOurs c of now → AllAsked c before now (λ by t. Asks (mine c now) n body.plan (children (mine c now) n) by t)
-  asked_is ours =
-      let e = ended.ends (ours_child ours) in
-      asked_trans c before mid now _ (asked_made c _ before mid _ m (tt, tt)) (asked_wider _ _ (λ by t a. subst (λ cs. Asks (mine c now) n body.plan cs by t) (sym (all_are e.0 e.1)) a) c mid now e.3)
+    ready_is : (p r : Name) → of ≡ p ++ r → is_ready (mine c now) p ≡ is_ready (mine c before) p
+    ready_is p r is = (left p r is).ready ∙ ready_begun c of n body.number before mid runs child m p r is
 
-  ended_is : AreOurs c of now → is_some (end (mine c now) n) ≡ true
-  ended_is ours = elim (done_closed (mine c now) n (followed_done c.session (mine c now) n body.plan (children (mine c now) n) (end (mine c now) n) (follows_is ours))) [
-    | inl some ↦ some
-    | inr ready ↦
-        let short = ready_short c.setting now n ended.leaves.later.legal (kept_some (λ (e : Entry). is_own c e.seat) _ now ready) in
-        let z : ⊥ = omega (arith, short, child_length of n child, runs.nonroot) in absurd z
-  ]
-
-  leaves_is : Leaves c of before now
-  leaves_is = record {
-    turns = λ ours turns alone.
-        let a = turns_begun c of n body.number before mid runs child m turns alone in
-        let b = ended.leaves.turns (ours_child ours) a.0 a.1 in
-        (b.0, alone_up (mine c now) of n child (some_done (mine c now) n (ended_is ours)) b.1);
-    later = later_is;
-    inside = all_later _ c _ ended.leaves.later.newer (inside_begun c of n body.number before mid runs child m) (subst (λ t. AllStayIn c t ended.leaves.later.newer) same_top ended.leaves.inside);
-    over = λ was r. over_later c before now later_is of (was (sym ((left of [] (sym (append-nil of))).ready ∙ ready_begun c of n body.number before mid runs child m of [] (sym (append-nil of))) ∙ r));
-    above = λ p r is far.
+    above_is : (p r : Name) → of ≡ p ++ r → 0 < length r → LeavesIt c p before now
+    above_is p r is far =
         let a = above_begun c of n body.number before mid runs child m p r is far in
-        let b = left p r is in
-        record { children = b.children ∙ a.children; ready = b.ready ∙ a.ready; unended = λ h. b.unended (a.unended h) };
-  }
+        record { children = (left p r is).children ∙ a.children; ready = ready_is p r is; unended = unended_is p r is }
 
-  pub tried_once : Tried c of body before now again
-  tried_once = record {
-    leaves = leaves_is;
-    runs = record {
-      legal = ended.leaves.later.legal;
-      user = subst (λ h. Started h of (λ b. IsUser b.kind)) (sym later_is.grown) (started_still later_is.newer before of _ runs.user);
-      nonroot = runs.nonroot;
-      above = λ p r is far.
-          let b = left p r is in (
-            b.unended (subst (λ o. IsUnended p o) (sym (end_begun c of n body.number before mid runs child m p r is)) (runs.above p r is far).0),
-            b.ready ∙ ready_begun c of n body.number before mid runs child m p r is ∙ (runs.above p r is far).1,
-          );
-      closed = λ ours. closed_more c of before now n later_is more_is (runs.closed (ours_before c of before now later_is ours)) (ended_is ours);
+    kind_is : kind_of (mine c now) n ≡ Some (kind.User c.session body.number)
+    kind_is = kind_later c of mid now leaves.later n _ (kind_begun c of n body.number before mid runs child m)
+
+    all_are : (further : List Name) → children (mine c now) n ≡ children (mine c mid) n ++ further → children (mine c now) n ≡ further
+    all_are further is = is ∙ ap (λ l. l ++ further) (none_begun c of n body.number before mid runs child m)
+
+    module _ (ends : EndsAt reach c n mid now body.plan) where
+      runs_is : AreOurs c of now → RunsPlan reach c.session (mine c now) n body.plan (children (mine c now) n) (end (mine c now) n)
+      runs_is ours =
+          let e = ends (ours_child ours) in
+          subst (λ cs. RunsPlan reach c.session (mine c now) n body.plan cs (end (mine c now) n)) (sym (all_are e.0 e.1)) e.2
+
+      asked_is : AreOurs c of now → AllAsked c before now (λ by t. Asks (mine c now) n body.plan (children (mine c now) n) by t)
+      asked_is ours =
+          let e = ends (ours_child ours) in
+          asked_trans c before mid now _ (asked_made c _ before mid _ m (tt, tt)) (asked_wider _ _ (λ by t a. subst (λ cs. Asks (mine c now) n body.plan cs by t) (sym (all_are e.0 e.1)) a) c mid now e.3)
+
+  module _ (again : Bool) (ended : Ended c n mid now body.plan again) where
+    ended_is : AreOurs c of now → is_some (end (mine c now) n) ≡ true
+    ended_is ours = elim (done_closed (mine c now) n (followed_done c.session (mine c now) n body.plan (children (mine c now) n) (end (mine c now) n) (runs_is Reach.to_the_end ended.leaves ended.ends ours))) [
+      | inl some ↦ some
+      | inr ready ↦
+          let short = ready_short c.setting now n ended.leaves.later.legal (kept_some (λ (e : Entry). is_own c e.seat) _ now ready) in
+          let z : ⊥ = omega (arith, short, child_length of n child, runs.nonroot) in absurd z
+    ]
+
+    leaves_is : Leaves c of before now
+    leaves_is = record {
+      turns = λ ours turns alone.
+          let a = turns_begun c of n body.number before mid runs child m turns alone in
+          let b = ended.leaves.turns (ours_child ours) a.0 a.1 in
+          (b.0, alone_up (mine c now) of n child (some_done (mine c now) n (ended_is ours)) b.1);
+      later = later_is Reach.to_the_end ended.leaves;
+      inside = inside_is Reach.to_the_end ended.leaves;
+      over = λ was r. over_later c before now (later_is Reach.to_the_end ended.leaves) of (was (sym (ready_is Reach.to_the_end ended.leaves of [] (sym (append-nil of))) ∙ r));
+      above = above_is Reach.to_the_end ended.leaves;
+    }
+
+    pub tried_once : Tried c of body before now again
+    tried_once = record {
+      leaves = leaves_is;
+      runs = record {
+        legal = ended.leaves.later.legal;
+        user = subst (λ h. Started h of (λ b. IsUser b.kind)) (sym (later_is Reach.to_the_end ended.leaves).grown) (started_still (later_is Reach.to_the_end ended.leaves).newer before of _ runs.user);
+        nonroot = runs.nonroot;
+        above = λ p r is far. (unended_is Reach.to_the_end ended.leaves p r is (runs.above p r is far).0, ready_is Reach.to_the_end ended.leaves p r is ∙ (runs.above p r is far).1);
+        closed = λ ours. closed_more c of before now n (later_is Reach.to_the_end ended.leaves) (more_is Reach.to_the_end ended.leaves) (runs.closed (ours_before c of before now (later_is Reach.to_the_end ended.leaves) ours)) (ended_is ours);
+      };
+      child = n;
+      more = more_is Reach.to_the_end ended.leaves;
+      kind = kind_is Reach.to_the_end ended.leaves;
+      follows = runs_is Reach.to_the_end ended.leaves ended.ends;
+      asked = asked_is Reach.to_the_end ended.leaves ended.ends;
+      tried = ended.tried;
+    }
+
+  pub cut_once : CutOff c n mid now body.plan → CutTry c of body before now
+  cut_once cut = record {
+    leaves = record {
+      turns = λ ours turns alone.
+          let a = turns_begun c of n body.number before mid runs child m turns alone in
+          ((cut.leaves.turns (ours_child ours) a.0 a.1).0, tt);
+      later = later_is Reach.cut_off cut.leaves;
+      inside = inside_is Reach.cut_off cut.leaves;
+      over = tt;
+      above = above_is Reach.cut_off cut.leaves;
     };
+    unended = unended_is Reach.cut_off cut.leaves of [] (sym (append-nil of)) (runs.above of [] (sym (append-nil of)) runs.nonroot).0;
+    unready = ready_is Reach.cut_off cut.leaves of [] (sym (append-nil of)) ∙ (runs.above of [] (sym (append-nil of)) runs.nonroot).1;
     child = n;
-    more = more_is;
-    kind = kind_later c of mid now ended.leaves.later n _ (kind_begun c of n body.number before mid runs child m);
-    follows = follows_is;
-    asked = asked_is;
-    tried = ended.tried;
+    more = more_is Reach.cut_off cut.leaves;
+    kind = kind_is Reach.cut_off cut.leaves;
+    begins = runs_is Reach.cut_off cut.leaves cut.begins;
+    asked = asked_is Reach.cut_off cut.leaves cut.begins;
+    tried = unended_again n _ cut.unended;
   }
 
 -- WHAT TRIES LEAD TO
@@ -223,15 +271,15 @@ match_false P Q true is h = absurd (true≢false is)
 
 module _ (c : Client) (of : Name) (body : Numbered) (before now : Past) (again : Bool) (t : Tried c of body before now again) where
   -- the try by what was seen later
-  module _ (x : Past) (later : IsLater c now x) (ours : AreOurs c of x) where
+  module _ (reach : Reach) (x : Past) (later : IsLater c now x) (ours : AreOurs c of x) where
     follows_now : FollowsPlan c.session (mine c now) t.child body.plan (children (mine c now) t.child) (end (mine c now) t.child)
     follows_now = t.follows (ours_before c of now x later ours)
 
-    one_try : (kind_of (mine c x) t.child ≡ Some (kind.User c.session body.number)) × FollowsPlan c.session (mine c x) t.child body.plan (children (mine c x) t.child) (end (mine c x) t.child)
+    one_try : (kind_of (mine c x) t.child ≡ Some (kind.User c.session body.number)) × RunsPlan reach c.session (mine c x) t.child body.plan (children (mine c x) t.child) (end (mine c x) t.child)
     one_try = (
       kind_later c of now x later t.child _ t.kind,
-      subst (λ h. FollowsPlan c.session (mine c h) t.child body.plan (children (mine c h) t.child) (end (mine c h) t.child)) (sym later.grown)
-          (follows_still c.session (λ (e : Entry). is_own c e.seat) c.setting later.newer now (subst (Legal c.setting) later.grown later.legal) t.child body.plan follows_now).0,
+      follows_runs reach c.session (mine c x) t.child body.plan _ _ (subst (λ h. FollowsPlan c.session (mine c h) t.child body.plan (children (mine c h) t.child) (end (mine c h) t.child)) (sym later.grown)
+          (follows_still c.session (λ (e : Entry). is_own c e.seat) c.setting later.newer now (subst (Legal c.setting) later.grown later.legal) t.child body.plan follows_now).0),
     )
 
     again_later : is_tried_again (end (mine c x) t.child) ≡ again
@@ -255,29 +303,38 @@ module _ (c : Client) (of : Name) (body : Numbered) (before now : Past) (again :
     with_asked left rest further h = asked_trans c before now x _ (asked_wider _ _ (λ by n a. inl a) c before now asked_later) (asked_wider _ _ (λ by n a. inr (subst (MoreDo left rest further by n) (sym again_later) a)) c now x h)
 
     abbrev Rest : Plan → List Name → Type 0
-    Rest rest further = FollowsPlan c.session (mine c x) of rest further (end (mine c x) of)
+    Rest rest further = RunsPlan reach c.session (mine c x) of rest further (end (mine c x) of)
 
     abbrev Try : Name → Type 0
-    Try n = (kind_of (mine c x) n ≡ Some (kind.User c.session body.number)) × FollowsPlan c.session (mine c x) n body.plan (children (mine c x) n) (end (mine c x) n)
+    Try n = (kind_of (mine c x) n ≡ Some (kind.User c.session body.number)) × RunsPlan reach c.session (mine c x) n body.plan (children (mine c x) n) (end (mine c x) n)
 
-    with_try : (left : ℕ) (rest : Plan) (further : List Name) → MatchBool again (Tries (end (mine c x)) Try (StopsEarly of (end (mine c x) of)) (Rest rest) left further) (Rest rest further)
-        → Tries (end (mine c x)) Try (StopsEarly of (end (mine c x) of)) (Rest rest) (suc left) (t.child ∷ further)
-    with_try left rest further h = (one_try, subst (λ b. MatchBool b (Tries (end (mine c x)) Try (StopsEarly of (end (mine c x) of)) (Rest rest) left further) (Rest rest further)) (sym again_later) h)
+    with_try : (left : ℕ) (rest : Plan) (further : List Name) → MatchBool again (Tries (end (mine c x)) Try (Stops reach (mine c x) of (end (mine c x) of)) (Rest rest) left further) (Rest rest further)
+        → Tries (end (mine c x)) Try (Stops reach (mine c x) of (end (mine c x) of)) (Rest rest) (suc left) (t.child ∷ further)
+    with_try left rest further h = (one_try, subst (λ b. MatchBool b (Tries (end (mine c x)) Try (Stops reach (mine c x) of (end (mine c x) of)) (Rest rest) left further) (Rest rest further)) (sym again_later) h)
 
     more_later : (further : List Name) → children (mine c x) of ≡ children (mine c now) of ++ further → children (mine c x) of ≡ children (mine c before) of ++ t.child ∷ further
     more_later further is = is ∙ ap (λ l. l ++ further) t.more ∙ append_assoc (children (mine c before) of) (t.child ∷ []) further
 
   -- one try more, after which there is another
-  pub try_again : again ≡ true → (x : Past) → IsLater c now x → (left : ℕ) (rest : Plan) → EndsTries c of now x body left rest → EndsTries c of before x body (suc left) rest
-  try_again is x later left rest ends ours =
+  pub try_again : again ≡ true → (reach : Reach) (x : Past) → IsLater c now x → (left : ℕ) (rest : Plan) → EndsTries reach c of now x body left rest → EndsTries reach c of before x body (suc left) rest
+  try_again is reach x later left rest ends ours =
       let e = ends ours in
-      (t.child ∷ e.0, more_later x later ours e.0 e.1, with_try x later ours left rest e.0 (match_true _ (Rest x later ours rest e.0) again is e.2), with_asked x later ours left rest e.0 (asked_wider _ _ (λ by n a. match_true _ (Asks (mine c x) of rest e.0 by n) again is a) c now x e.3))
+      (t.child ∷ e.0, more_later reach x later ours e.0 e.1, with_try reach x later ours left rest e.0 (match_true _ (Rest reach x later ours rest e.0) again is e.2), with_asked reach x later ours left rest e.0 (asked_wider _ _ (λ by n a. match_true _ (Asks (mine c x) of rest e.0 by n) again is a) c now x e.3))
 
   -- one try more, which is the last
-  pub try_last : again ≡ false → (x : Past) → IsLater c now x → (left : ℕ) (rest : Plan) → Ends c of now x rest → EndsTries c of before x body (suc left) rest
-  try_last is x later left rest ends ours =
+  pub try_last : again ≡ false → (reach : Reach) (x : Past) → IsLater c now x → (left : ℕ) (rest : Plan) → EndsAt reach c of now x rest → EndsTries reach c of before x body (suc left) rest
+  try_last is reach x later left rest ends ours =
       let e = ends ours in
-      (t.child ∷ e.0, more_later x later ours e.0 e.1, with_try x later ours left rest e.0 (match_false (Tries (end (mine c x)) (Try x later ours) (StopsEarly of (end (mine c x) of)) (Rest x later ours rest) left e.0) _ again is e.2), with_asked x later ours left rest e.0 (asked_wider _ _ (λ by n a. match_false (DoTries x later ours left rest e.0 by n) _ again is a) c now x e.3))
+      (t.child ∷ e.0, more_later reach x later ours e.0 e.1, with_try reach x later ours left rest e.0 (match_false (Tries (end (mine c x)) (Try reach x later ours) (Stops reach (mine c x) of (end (mine c x) of)) (Rest reach x later ours rest) left e.0) _ again is e.2), with_asked reach x later ours left rest e.0 (asked_wider _ _ (λ by n a. match_false (DoTries reach x later ours left rest e.0 by n) _ again is a) c now x e.3))
+
+-- A try that was cut off is the last, and the run came no further.
+pub try_cut : (c : Client) (of : Name) (body : Numbered) (before now : Past) → CutTry c of body before now → (left : ℕ) (rest : Plan) → EndsTries Reach.cut_off c of before now body (suc left) rest
+try_cut c of body before now t left rest ours = (
+  t.child ∷ [],
+  t.more,
+  ((t.kind, t.begins ours), match_false _ _ _ t.tried (running_runs c.session (mine c now) of _ t.unended t.unready rest)),
+  asked_wider _ _ (λ by n a. inl a) c before now (t.asked ours),
+)
 
 -- THE LOOP OVER TRIES
 
@@ -289,24 +346,24 @@ pub record TriesLeft (c : Client) (of : Name) (body : Numbered) (before now : Pa
 
 module _ (c : Client) (of : Name) (body : Numbered) where
   pub none_tried : (now : Past) → Runs c of now → TriesLeft c of body now now body.tries
-  none_tried now runs = record { leaves = Rattle.qc_interp.proofs.Ending.leaves_itself c of now runs.legal; runs = runs; front = λ x later rest ends. ends }
+  none_tried now runs = record { leaves = Rattle.qc_interp.proofs.Ending.leaves_itself c of now runs.legal; runs = runs; front = λ reach x later rest ends. ends }
 
   pub tried_more : (before now next : Past) (left : ℕ) → TriesLeft c of body before now (suc left) → Tried c of body now next true → TriesLeft c of body before next left
   tried_more before now next left l t = record {
     leaves = leaves_trans c of before now next l.leaves t.leaves;
     runs = t.runs;
-    front = λ x later rest ends. l.front x (later_trans c now next x t.leaves.later later) rest (try_again c of body now next true t refl x later left rest ends);
+    front = λ reach x later rest ends. l.front reach x (later_trans c now next x t.leaves.later later) rest (try_again c of body now next true t refl reach x later left rest ends);
   }
 
   pub tried_out : (before now next : Past) (left : ℕ) → TriesLeft c of body before now (suc left) → Tried c of body now next false → WentOn c of before next (Plan.child_then body.number body.tries body.plan)
   tried_out before now next left l t = record {
     leaves = leaves_trans c of before now next l.leaves t.leaves;
     runs = t.runs;
-    follows = λ x later rest ends. l.front x (later_trans c now next x t.leaves.later later) rest (try_last c of body now next false t refl x later left rest ends);
+    follows = λ reach x later rest ends. l.front reach x (later_trans c now next x t.leaves.later later) rest (try_last c of body now next false t refl reach x later left rest ends);
   }
 
   pub tried_all : (before now : Past) → TriesLeft c of body before now 0 → WentOn c of before now (Plan.child_then body.number body.tries body.plan)
-  tried_all before now l = record { leaves = l.leaves; runs = l.runs; follows = λ x later rest ends. l.front x later rest ends }
+  tried_all before now l = record { leaves = l.leaves; runs = l.runs; follows = λ reach x later rest ends. l.front reach x later rest ends }
 
   -- a try was not begun, and the parent has stopped
   pub not_begun : (before now mid next : Past) (left : ℕ) (why : TxNo) (again : Bool) (rest : Plan) → TriesLeft c of body before now (suc left) → WasRefused c of now mid why → (why ≡ tx_no.Memory → ⊥) → (why ≡ tx_no.Room → ⊥) → Stopped c of why mid next again
@@ -317,7 +374,7 @@ module _ (c : Client) (of : Name) (body : Numbered) where
       stops why m stopped early = record {
         leaves = leaves_trans c of before mid next (leaves_trans c of before now mid l.leaves (leaves_still c of now mid m)) stopped.leaves;
         tried = stopped.tried;
-        ends = l.front next (later_trans c now mid next (made_later c [] now mid m) stopped.leaves.later) rest (λ ours.
+        ends = l.front Reach.to_the_end next (later_trans c now mid next (made_later c [] now mid m) stopped.leaves.later) rest (λ ours.
             ([], stopped.children ∙ ap (λ h. children h of) (still c of now mid m) ∙ sym (append-nil _), early (stopped.ended ours), asked_none c now next _ (asked_trans c now mid next NoOne (asked_made c [] now mid NoOne m tt) stopped.asked)));
       }
 
@@ -332,6 +389,36 @@ module _ (c : Client) (of : Name) (body : Numbered) where
       by_why (tx_no.NoQuorum lack) refused other full stopped = absurd refused.1
       by_why tx_no.Last refused other full stopped = absurd refused.1
       by_why tx_no.Ledger refused other full stopped = absurd refused.1
+
+  pub tries_cut : (before now next : Past) (left : ℕ) (rest : Plan) → TriesLeft c of body before now (suc left) → CutTry c of body now next → CutOff c of before next (Plan.child_then body.number body.tries body.plan rest)
+  tries_cut before now next left rest l t = record {
+    leaves = leaves_trans c of before now next l.leaves t.leaves;
+    unended = t.unended;
+    begins = l.front Reach.cut_off next t.leaves.later rest (try_cut c of body now next t left rest);
+  }
+
+  -- a try was not begun, and nothing was made after it
+  pub begin_cut : (before now next : Past) (left : ℕ) (rest : Plan) → TriesLeft c of body before now (suc left) → Made c [] now next → CutOff c of before next (Plan.child_then body.number body.tries body.plan rest)
+  begin_cut before now next left rest l m =
+      let at = (runs_still c of now next m l.runs).above of [] (sym (append-nil of)) l.runs.nonroot in
+      record {
+        leaves = leaves_trans c of before now next l.leaves (leaves_cut c of now next (leaves_still c of now next m));
+        unended = at.0;
+        begins = l.front Reach.cut_off next (made_later c [] now next m) rest (λ ours. ([], ap (λ h. children h of) (still c of now next m) ∙ sym (append-nil _), running_stops (mine c next) of _ at.0 at.1, asked_none c now next _ (asked_made c [] now next NoOne m tt)));
+      }
+
+  -- whatever a refusal to begin tells, nothing was made
+  pub refused_made : (now mid : Past) (why : TxNo) → WasRefused c of now mid why → Made c [] now mid
+  refused_made now mid tx_no.Memory refused = refused.0
+  refused_made now mid tx_no.Room refused = refused.0
+  refused_made now mid (tx_no.Orphan a) refused = refused.0
+  refused_made now mid tx_no.Ended refused = refused.0
+  refused_made now mid tx_no.Ready refused = refused.0
+  refused_made now mid (tx_no.ChildrenOpen child) refused = absurd refused
+  refused_made now mid (tx_no.Conflict copy holder) refused = refused.0
+  refused_made now mid (tx_no.NoQuorum lack) refused = refused.0
+  refused_made now mid tx_no.Last refused = refused.0
+  refused_made now mid tx_no.Ledger refused = refused.0
 
   pub begin_stops : (now mid : Past) (why : TxNo) → Runs c of now → WasRefused c of now mid why → (why ≡ tx_no.Memory → ⊥) → (why ≡ tx_no.Room → ⊥) → Runs c of mid × WhyStop c mid of why
   begin_stops now mid tx_no.Memory runs refused other full = absurd (other refl)

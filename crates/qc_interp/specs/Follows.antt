@@ -9,6 +9,7 @@ use Rattle.qc_event.specs.declared.event.How.TheVariants.{Commit, Abort}
 use Rattle.qc_event.specs.declared.event.Kind.TheVariants as kind
 use Rattle.qc_event.specs.History.{Past, Name, same, end, is_ready, children, kind_of}
 use Rattle.qc_script.specs.Plan.{Plan, Numbered}
+use Rattle.qc_interp.specs.Reach.{Reach}
 use Rattle.qc_interp.specs.Tries.{Tries}
 
 -- the ancestor so many levels up
@@ -31,6 +32,25 @@ WasAsked n _ = ⊥
 abbrev pub IsUnended : Name → Option How → Type 0
 IsUnended n how = (how ≡ None) ⊎ WasAsked n how
 
+-- it is neither ended nor a ready top
+abbrev pub IsRunning : Past → Name → Option How → Type 0
+IsRunning past n how = (how ≡ None) × (is_ready past n ≡ false)
+
+-- it stopped early, or the run was cut off while it ran
+abbrev pub Stops : Reach → Past → Name → Option How → Type 0
+Stops Reach.to_the_end past n how = StopsEarly n how
+Stops Reach.cut_off past n how = StopsEarly n how ⊎ IsRunning past n how
+
+-- it was aborted as another asked, or the run was cut off while it ran
+abbrev pub HasNotEnded : Reach → Past → Name → Option How → Type 0
+HasNotEnded Reach.to_the_end past n how = WasAsked n how
+HasNotEnded Reach.cut_off past n how = WasAsked n how ⊎ IsRunning past n how
+
+-- the run was cut off at its last child, which has not ended
+abbrev pub IsCutShort : Reach → Past → Name → List Name → Option How → Type 0
+IsCutShort Reach.to_the_end past n further how = ⊥
+IsCutShort Reach.cut_off past n further how = (further ≡ []) × HasNotEnded Reach.cut_off past n how
+
 -- the causes that a manager hands to its transaction
 abbrev pub is_handed_on : Cause → Bool
 is_handed_on (cause.Conflict copy holder) = true
@@ -40,10 +60,10 @@ is_handed_on _ = false
 
 -- A step goes on where its manager committed. Where that was aborted, the transaction has no further child, and is aborted
 -- with the same cause where that is handed on, unless it stops early.
-abbrev pub GoesOn : Name → Option How → Type 0 → List Name → Option How → Type 0
-GoesOn n (Some (Commit given)) rest further how = rest
-GoesOn n (Some (Abort c)) rest further how = (further ≡ []) × (((is_handed_on c ≡ true) × (how ≡ Some (Abort c))) ⊎ StopsEarly n how)
-GoesOn n None rest further how = ⊥
+abbrev pub GoesOn : Reach → Past → Name → Option How → Type 0 → List Name → Option How → Type 0
+GoesOn reach past n (Some (Commit given)) rest further how = rest
+GoesOn reach past n (Some (Abort c)) rest further how = (further ≡ []) × (((is_handed_on c ≡ true) × (how ≡ Some (Abort c))) ⊎ Stops reach past n how)
+GoesOn reach past n None rest further how = IsCutShort reach past n further how
 
 -- it has committed, or is a ready top
 abbrev pub Commits : Past → Name → Option How → Type 0
@@ -56,20 +76,29 @@ abbrev pub asked_end : Name → ℕ → Option How
 asked_end n zero = Some (Abort (cause.Asked n))
 asked_end n (suc below) = Some (Abort (cause.Orphan (above n (suc below))))
 
--- The children of a transaction of a session are those that its plan asks for, as far as it goes on.
-abbrev pub FollowsPlan : ℕ → Past → Name → Plan → List Name → Option How → Type 0
-FollowsPlan s past n Plan.done [] how = Commits past n how ⊎ StopsEarly n how
-FollowsPlan s past n Plan.done (c ∷ further) how = ⊥
-FollowsPlan s past n (Plan.manage_then k rest) [] how = StopsEarly n how
-FollowsPlan s past n (Plan.manage_then k rest) (c ∷ further) how =
-    (kind_of past c ≡ Some k) × GoesOn n (end past c) (FollowsPlan s past n rest further how) further how
-FollowsPlan s past n (Plan.child_then number tries inner rest) cs how =
-    Tries (end past) (λ c. (kind_of past c ≡ Some (kind.User s number)) × FollowsPlan s past c inner (children past c) (end past c))
-    (StopsEarly n how) (λ further. FollowsPlan s past n rest further how) tries cs
-FollowsPlan s past n (Plan.abort_then levels rest) [] how = (how ≡ asked_end n levels) ⊎ WasAsked n how
-FollowsPlan s past n (Plan.abort_then levels rest) (c ∷ further) how = ⊥
+-- The children of a transaction of a session are those that its plan asks for, as far as it goes on, or as far as the
+-- run came that was cut off.
+abbrev pub RunsPlan : Reach → ℕ → Past → Name → Plan → List Name → Option How → Type 0
+RunsPlan reach s past n Plan.done [] how = Commits past n how ⊎ Stops reach past n how
+RunsPlan reach s past n Plan.done (c ∷ further) how = ⊥
+RunsPlan reach s past n (Plan.manage_then k rest) [] how = Stops reach past n how
+RunsPlan reach s past n (Plan.manage_then k rest) (c ∷ further) how =
+    (kind_of past c ≡ Some k) × GoesOn reach past n (end past c) (RunsPlan reach s past n rest further how) further how
+RunsPlan reach s past n (Plan.child_then number tries inner rest) cs how =
+    Tries (end past) (λ c. (kind_of past c ≡ Some (kind.User s number)) × RunsPlan reach s past c inner (children past c) (end past c))
+    (Stops reach past n how) (λ further. RunsPlan reach s past n rest further how) tries cs
+RunsPlan reach s past n (Plan.abort_then levels rest) [] how = (how ≡ asked_end n levels) ⊎ HasNotEnded reach past n how
+RunsPlan reach s past n (Plan.abort_then levels rest) (c ∷ further) how = ⊥
 
--- a top of a session and of a body, whose children follow the body's plan
-pub record FollowsBody (s : ℕ) (past : Past) (body : Numbered) (top : Name) : Type 0 where
+-- a top of a session and of a body, whose children are those of the body's plan
+pub record RunsBody (reach : Reach) (s : ℕ) (past : Past) (body : Numbered) (top : Name) : Type 0 where
   pub kind : kind_of past top ≡ Some (kind.User s body.number)
-  pub steps : FollowsPlan s past top body.plan (children past top) (end past top)
+  pub steps : RunsPlan reach s past top body.plan (children past top) (end past top)
+
+-- IN A RUN THAT CAME TO ITS END
+
+abbrev pub FollowsPlan : ℕ → Past → Name → Plan → List Name → Option How → Type 0
+FollowsPlan s past n plan cs how = RunsPlan Reach.to_the_end s past n plan cs how
+
+abbrev pub FollowsBody : ℕ → Past → Numbered → Name → Type 0
+FollowsBody s past body top = RunsBody Reach.to_the_end s past body top

@@ -10,7 +10,8 @@ use Rattle.qc_net.specs.Messages.{Net}
 use Rattle.qc_script.specs.Numbers.{each, is_next_top}
 use Rattle.qc_script.specs.Plan.{Numbered}
 use Rattle.qc_interp.specs.Asking.{BodiesAsk}
-use Rattle.qc_interp.specs.Session.{FollowsBodies}
+use Rattle.qc_interp.specs.Reach.{Reach, AtTheEnd}
+use Rattle.qc_interp.specs.Session.{RunsBodies}
 use Rattle.qc_interp.specs.Sessions.{tops_of, RunsInTurn, meets, all_plain}
 
 abbrev pub started_in : Event → Option Name
@@ -21,16 +22,25 @@ started_in _ = None
 abbrev pub started : Past → List Name
 started past = every (λ e. started_in e.event) past
 
--- A history follows a script of one session, over a link, in an epoch. Its tops are the session's, and are tries of the
--- bodies in order, each with the children that its plan asks for. The session runs in turn; tops are numbered in order;
--- whoever was aborted as another asked is named by a step `abort` to which that one came; what has started has ended;
--- nothing was marked or unable; and the requests meet the fates of the link.
-pub record FollowsScript (session epoch : ℕ) (net : Net) (bodies : List Numbered) (past : Past) : Type 0 where
+-- A history is of a script of one session, over a link, in an epoch. Its tops are the session's, and are tries of the
+-- bodies in order, each with the children that its plan asks for, as far as the run came. The session runs in turn; tops
+-- are numbered in order; whoever was aborted as another asked is named by a step `abort` to which that one came; what has
+-- started has ended, where the run came to its end; nothing was marked or unable; and the requests meet the fates of the
+-- link.
+pub record RunsScript (reach : Reach) (session epoch : ℕ) (net : Net) (bodies : List Numbered) (past : Past) : Type 0 where
   pub only : tops_of session past ≡ children past []
-  pub bodies_run : FollowsBodies session past bodies (tops_of session past)
+  pub bodies_run : RunsBodies reach session past bodies (tops_of session past)
   pub in_turn : RunsInTurn session past
   pub numbers : IsTrue (each (is_next_top epoch) past)
   pub as_asked : (n by : Name) → end past n ≡ Some (Abort (Asked by)) → (n ≡ by) ⊎ BodiesAsk past bodies (tops_of session past) by n
-  pub each_ended : IsTrue (list_all (λ n. is_some (end past n)) (started past))
+  pub each_ended : AtTheEnd reach (IsTrue (list_all (λ n. is_some (end past n)) (started past)))
   pub plain : IsTrue (all_plain past)
   pub messages : IsTrue (meets session net past)
+
+-- It follows the script.
+abbrev pub FollowsScript : ℕ → ℕ → Net → List Numbered → Past → Type 0
+FollowsScript session epoch net bodies past = RunsScript Reach.to_the_end session epoch net bodies past
+
+-- It is a beginning of one that follows the script, cut off for want of memory or room.
+abbrev pub BeginsScript : ℕ → ℕ → Net → List Numbered → Past → Type 0
+BeginsScript session epoch net bodies past = RunsScript Reach.cut_off session epoch net bodies past

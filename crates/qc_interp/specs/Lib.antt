@@ -2,6 +2,7 @@ pub mod Adding
 pub mod Alone
 pub mod Asking
 pub mod Tries
+pub mod Reach
 pub mod Follows
 pub mod FollowsScript
 pub mod Turns

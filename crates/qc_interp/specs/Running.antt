@@ -14,7 +14,8 @@ use Rattle.qc_event.specs.Standing.{Started, IsUser, open_child}
 use Rattle.qc_interp.specs.Adding.{AllStayIn}
 use Rattle.qc_script.specs.Calls.{is_over}
 use Rattle.qc_script.specs.Client.{Client, mine, IsLater, AreOurs}
-use Rattle.qc_interp.specs.Follows.{StopsEarly, WasAsked, IsUnended, FollowsPlan}
+use Rattle.qc_interp.specs.Follows.{Stops, WasAsked, IsUnended, RunsPlan}
+use Rattle.qc_interp.specs.Reach.{Reach, AtTheEnd}
 use Rattle.qc_script.specs.Plan.{Plan, Numbered}
 use Rattle.qc_script.specs.Numbers.{each}
 use Rattle.qc_interp.specs.Turns.{takes_turn, is_alone}
@@ -37,25 +38,37 @@ pub record LeavesIt (c : Client) (p : Name) (before now : Past) : Type 0 where
 
 -- What a transaction did left those above it as they were, but that it may have aborted them as it asked. All that was
 -- added is about its top or names below it.
-pub record Leaves (c : Client) (of : Name) (before now : Past) : Type 0 where
+pub record LeavesAt (reach : Reach) (c : Client) (of : Name) (before now : Past) : Type 0 where
   pub later : IsLater c before now
   pub above : (p r : Name) → of ≡ p ++ r → 0 < length r → LeavesIt c p before now
   pub inside : AllStayIn c (take 1 of) later.newer
-  pub over : (is_ready (mine c before) of ≡ true → is_over before of ≡ true) → is_ready (mine c now) of ≡ true → is_over now of ≡ true
-  pub turns : AreOurs c of now → each takes_turn (mine c before) ≡ true → is_alone (mine c before) of ≡ true → (each takes_turn (mine c now) ≡ true) × (is_alone (mine c now) of ≡ true)
+  pub over : AtTheEnd reach ((is_ready (mine c before) of ≡ true → is_over before of ≡ true) → is_ready (mine c now) of ≡ true → is_over now of ≡ true)
+  pub turns : AreOurs c of now → each takes_turn (mine c before) ≡ true → is_alone (mine c before) of ≡ true → (each takes_turn (mine c now) ≡ true) × AtTheEnd reach (is_alone (mine c now) of ≡ true)
 
--- From `before` on, a transaction did what this plan asks for, and ended. Whoever was aborted meanwhile as another asked,
--- that one came to a step `abort` that names it.
-abbrev pub Ends : Client → Name → Past → Past → Plan → Type 0
-Ends c of before now plan =
-    AreOurs c of now → (further : List Name) × (children (mine c now) of ≡ children (mine c before) of ++ further) × FollowsPlan c.session (mine c now) of plan further (end (mine c now) of)
+abbrev pub Leaves : Client → Name → Past → Past → Type 0
+Leaves c of before now = LeavesAt Reach.to_the_end c of before now
+
+-- From `before` on, a transaction did what this plan asks for, and ended, or came as far as the run. Whoever was aborted
+-- meanwhile as another asked, that one came to a step `abort` that names it.
+abbrev pub EndsAt : Reach → Client → Name → Past → Past → Plan → Type 0
+EndsAt reach c of before now plan =
+    AreOurs c of now → (further : List Name) × (children (mine c now) of ≡ children (mine c before) of ++ further) × RunsPlan reach c.session (mine c now) of plan further (end (mine c now) of)
     × AllAsked c before now (λ by t. Asks (mine c now) of plan further by t)
+
+abbrev pub Ends : Client → Name → Past → Past → Plan → Type 0
+Ends c of before now plan = EndsAt Reach.to_the_end c of before now plan
 
 -- the same, and whether its body is to be tried again
 pub record Ended (c : Client) (of : Name) (before now : Past) (plan : Plan) (again : Bool) : Type 0 where
   pub leaves : Leaves c of before now
   pub tried : again ≡ is_tried_again (end (mine c now) of)
   pub ends : Ends c of before now plan
+
+-- A transaction was cut off, for want of memory or room, as it did what this plan asks for: it has not ended itself.
+pub record CutOff (c : Client) (of : Name) (before now : Past) (plan : Plan) : Type 0 where
+  pub leaves : LeavesAt Reach.cut_off c of before now
+  pub unended : IsUnended of (end (mine c now) of)
+  pub begins : EndsAt Reach.cut_off c of before now plan
 
 -- A transaction was aborted, or was aborted before that as another asked. No other was aborted as it asked.
 pub record Quit (c : Client) (of : Name) (how : How) (before now : Past) (again : Bool) : Type 0 where
@@ -89,10 +102,10 @@ pub record Stopped (c : Client) (of : Name) (why : TxNo) (before now : Past) (ag
   pub asked : AllAsked c before now (λ by t. ⊥)
   pub ended : AreOurs c of now → StopsBy of why (end (mine c now) of)
 
--- The front of a plan was done: however the transaction goes on from `now` and ends, whatever is entered until then, from
--- `before` on it did the whole plan.
+-- The front of a plan was done: however the transaction goes on from `now` and ends, or is cut off, whatever is entered
+-- until then, from `before` on it did the whole plan, or came as far.
 abbrev pub FrontFollows : Client → Name → Past → Past → (Plan → Plan) → Type 0
-FrontFollows c of before now front = (x : Past) → IsLater c now x → (rest : Plan) → Ends c of now x rest → Ends c of before x (front rest)
+FrontFollows c of before now front = (reach : Reach) (x : Past) → IsLater c now x → (rest : Plan) → EndsAt reach c of now x rest → EndsAt reach c of before x (front rest)
 
 -- A transaction goes on after a step.
 pub record WentOn (c : Client) (of : Name) (before now : Past) (front : Plan → Plan) : Type 0 where
@@ -105,15 +118,15 @@ abbrev pub Stepped : Client → Name → Past → Past → (Plan → Plan) → O
 Stepped c of before now front None = WentOn c of before now front
 Stepped c of before now front (Some again) = (rest : Plan) → Ended c of before now (front rest) again
 
--- From `before` on, a transaction did so many tries of a body and then the rest, and ended.
-abbrev pub EndsTries : Client → Name → Past → Past → Numbered → ℕ → Plan → Type 0
-EndsTries c of before now body left rest =
+-- From `before` on, a transaction did so many tries of a body and then the rest, and ended, or came as far as the run.
+abbrev pub EndsTries : Reach → Client → Name → Past → Past → Numbered → ℕ → Plan → Type 0
+EndsTries reach c of before now body left rest =
     AreOurs c of now → (further : List Name) × (children (mine c now) of ≡ children (mine c before) of ++ further)
-    × Tries (end (mine c now)) (λ n. (kind_of (mine c now) n ≡ Some (kind.User c.session body.number)) × FollowsPlan c.session (mine c now) n body.plan (children (mine c now) n) (end (mine c now) n))
-    (StopsEarly of (end (mine c now) of)) (λ more. FollowsPlan c.session (mine c now) of rest more (end (mine c now) of)) left further
+    × Tries (end (mine c now)) (λ n. (kind_of (mine c now) n ≡ Some (kind.User c.session body.number)) × RunsPlan reach c.session (mine c now) n body.plan (children (mine c now) n) (end (mine c now) n))
+    (Stops reach (mine c now) of (end (mine c now) of)) (λ more. RunsPlan reach c.session (mine c now) of rest more (end (mine c now) of)) left further
     × AllAsked c before now (λ by t. TriesDo (end (mine c now)) (λ n. Asks (mine c now) n body.plan (children (mine c now) n) by t) (λ more. Asks (mine c now) of rest more by t) left further)
 
 -- Some tries were done: what is left of them leads to all of them.
 abbrev pub FrontTries : Client → Name → Past → Past → Numbered → ℕ → Type 0
 FrontTries c of before now body left =
-    (x : Past) → IsLater c now x → (rest : Plan) → EndsTries c of now x body left rest → Ends c of before x (Plan.child_then body.number body.tries body.plan rest)
+    (reach : Reach) (x : Past) → IsLater c now x → (rest : Plan) → EndsTries reach c of now x body left rest → EndsAt reach c of before x (Plan.child_then body.number body.tries body.plan rest)

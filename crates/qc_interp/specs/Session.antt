@@ -5,7 +5,8 @@ use Rattle.qc_event.specs.History.{Past, Name, end, children}
 use Rattle.qc_interp.specs.Adding.{AllOfOne, own_after, all_over}
 use Rattle.qc_script.specs.Numbers.{Numbers}
 use Rattle.qc_script.specs.Client.{Client, mine, IsLater, AreOurs}
-use Rattle.qc_interp.specs.Follows.{FollowsBody}
+use Rattle.qc_interp.specs.Follows.{RunsBody}
+use Rattle.qc_interp.specs.Reach.{Reach, AtTheEnd}
 use Rattle.qc_script.specs.Plan.{Numbered}
 use Rattle.qc_script.specs.Numbers.{each}
 use Rattle.qc_interp.specs.Turns.{takes_turn, is_alone}
@@ -16,11 +17,19 @@ use Rattle.qc_interp.specs.Asking.{BodiesAsk, AllAsked}
 abbrev pub tops : Client → Past → List Name
 tops c past = children (mine c past) []
 
--- the tops are the tries of each body, in order
+-- the run was cut off before a try began
+abbrev pub NotBegun : Reach → Type 0
+NotBegun Reach.to_the_end = ⊥
+NotBegun Reach.cut_off = Unit {0}
+
+-- the tops are the tries of each body, in order, or of the first bodies as far as the run came that was cut off
+abbrev pub RunsBodies : Reach → ℕ → Past → List Numbered → List Name → Type 0
+RunsBodies reach s past [] [] = Unit {0}
+RunsBodies reach s past [] (t ∷ ts) = ⊥
+RunsBodies reach s past (b ∷ bodies) ts = Tries (end past) (RunsBody reach s past b) (NotBegun reach) (λ further. RunsBodies reach s past bodies further) b.tries ts
+
 abbrev pub FollowsBodies : ℕ → Past → List Numbered → List Name → Type 0
-FollowsBodies s past [] [] = Unit {0}
-FollowsBodies s past [] (t ∷ ts) = ⊥
-FollowsBodies s past (b ∷ bodies) ts = Tries (end past) (FollowsBody s past b) ⊥ (λ further. FollowsBodies s past bodies further) b.tries ts
+FollowsBodies s past bodies ts = RunsBodies Reach.to_the_end s past bodies ts
 
 -- all about each top that a client made, but its commit, is the client's
 abbrev pub AreAllOurs : Client → Past → Type 0
@@ -28,22 +37,34 @@ AreAllOurs c past = AllByRecursion (λ t. AreOurs c t past) (tops c past)
 
 -- From `before` on the tops that a client made are tries of these bodies, and whoever was aborted as another asked was
 -- named by a step `abort` to which that one came.
-abbrev pub EndsTops : Client → Past → Past → List Numbered → Type 0
-EndsTops c before now bodies = AreAllOurs c now → (further : List Name) × (tops c now ≡ tops c before ++ further) × FollowsBodies c.session (mine c now) bodies further
+abbrev pub EndsTopsAt : Reach → Client → Past → Past → List Numbered → Type 0
+EndsTopsAt reach c before now bodies = AreAllOurs c now → (further : List Name) × (tops c now ≡ tops c before ++ further) × RunsBodies reach c.session (mine c now) bodies further
     × AllAsked c before now (λ by t. BodiesAsk (mine c now) bodies further by t)
 
--- What was made meanwhile is about these tops alone, which had the next numbers and started once those before were over; it was made in turn, and all of it is done.
-pub record RanInTurn (c : Client) (before now : Past) : Type 0 where
+abbrev pub EndsTops : Client → Past → Past → List Numbered → Type 0
+EndsTops c before now bodies = EndsTopsAt Reach.to_the_end c before now bodies
+
+-- What was made meanwhile is about these tops alone, which had the next numbers and started once those before were over;
+-- it was made in turn, and all of it is done where the run came to its end.
+pub record InTurnAt (reach : Reach) (c : Client) (before now : Past) : Type 0 where
   pub made : List Name
   pub more : tops c now ≡ tops c before ++ made
   pub later : IsLater c before now
   pub inside : AllOfOne c made later.newer
   pub numbers : Numbers c before now
-  pub order : AreAllOurs c now → each (own_after c) before ≡ true → all_over c before ≡ true → (each (own_after c) now ≡ true) × (all_over c now ≡ true)
-  pub turns : AreAllOurs c now → each takes_turn (mine c before) ≡ true → is_alone (mine c before) [] ≡ true → (each takes_turn (mine c now) ≡ true) × (is_alone (mine c now) [] ≡ true)
+  pub order : AreAllOurs c now → each (own_after c) before ≡ true → all_over c before ≡ true → (each (own_after c) now ≡ true) × AtTheEnd reach (all_over c now ≡ true)
+  pub turns : AreAllOurs c now → each takes_turn (mine c before) ≡ true → is_alone (mine c before) [] ≡ true → (each takes_turn (mine c now) ≡ true) × AtTheEnd reach (is_alone (mine c now) [] ≡ true)
+
+abbrev pub RanInTurn : Client → Past → Past → Type 0
+RanInTurn c before now = InTurnAt Reach.to_the_end c before now
 
 -- the tops of some bodies were run: whatever bodies follow, they follow these
 pub record RanTops (c : Client) (before now : Past) (front : List Numbered → List Numbered) : Type 0 where
   pub later : IsLater c before now
   pub in_turn : RanInTurn c before now
-  pub follows : (x : Past) → IsLater c now x → (rest : List Numbered) → EndsTops c now x rest → EndsTops c before x (front rest)
+  pub follows : (reach : Reach) (x : Past) → IsLater c now x → (rest : List Numbered) → EndsTopsAt reach c now x rest → EndsTopsAt reach c before x (front rest)
+
+-- The tops of these bodies were cut off, for want of memory or room.
+pub record CutTops (c : Client) (before now : Past) (bodies : List Numbered) : Type 0 where
+  pub in_turn : InTurnAt Reach.cut_off c before now
+  pub begins : EndsTopsAt Reach.cut_off c before now bodies

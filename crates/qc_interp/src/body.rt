@@ -8,11 +8,11 @@ ghost use Rattle.qc_event.specs.History.{children};
 ghost use Rattle.qc_event.specs.Standing.{Started, IsUser};
 ghost use Rattle.qc_interp.specs.Asking.{ByItself};
 ghost use Rattle.qc_script.specs.Calls.{GaveNone, HasRun, IsGrounded};
-ghost use Rattle.qc_script.specs.Client.{View, Client, mine};
+ghost use Rattle.qc_script.specs.Client.{View, Client, Made, mine};
 ghost use Rattle.qc_script.specs.Plan.{Plan, PlanFits};
 ghost use Rattle.qc_script.specs.Steps.{put, plan_of, numbered};
 ghost use Rattle.qc_script.specs.Plan.{KindFits};
-ghost use Rattle.qc_interp.specs.Running.{Runs, Quit, WhyStop, Stopped, Ended, Stepped};
+ghost use Rattle.qc_interp.specs.Running.{Runs, Quit, WhyStop, Stopped, Ended, CutOff, Stepped};
 ghost use Rattle.qc_interp.specs.Tries as tries;
 
 use qc_event::{Cause, Kind, Name, Short};
@@ -36,6 +36,8 @@ fn quit<T: Tx>(tx: &mut T, of: &Name, cause: Cause) -> Result<bool, Short>
     ensures client { (T.view tx.new).client ≡ (T.view tx.old).client }
     ensures ok { IfOk result (Quit (T.view tx.old).client of.now (Abort cause)
         (T.view tx.old).seen (T.view tx.new).seen) }
+    ensures cut { IfErr result (λ _. Made (T.view tx.old).client []
+        (T.view tx.old).seen (T.view tx.new).seen) }
     ensures room { IfErr result (λ e. e ≡ Short.Room → length (T.view tx.new).seen ≡ limit) }
 {
     match tx.abort(of, cause) {
@@ -55,6 +57,8 @@ fn stop<T: Tx>(tx: &mut T, of: &Name, why: &TxNo) -> Result<bool, Short>
     ensures client { (T.view tx.new).client ≡ (T.view tx.old).client }
     ensures ok { IfOk result (Stopped (T.view tx.old).client of.now why.now (T.view tx.old).seen
         (T.view tx.new).seen) }
+    ensures cut { IfErr result (λ _. Made (T.view tx.old).client []
+        (T.view tx.old).seen (T.view tx.new).seen) }
     ensures room { IfErr result (λ e. e ≡ Short.Room → length (T.view tx.new).seen ≡ limit) }
 {
     match why {
@@ -109,6 +113,8 @@ fn manage<T: Tx>(tx: &mut T, of: &Name, kind: &Kind) -> Result<Option<bool>, Sho
     ensures client { (T.view tx.new).client ≡ (T.view tx.old).client }
     ensures ok { IfOk result (Stepped (T.view tx.old).client of.now (T.view tx.old).seen
         (T.view tx.new).seen (Plan.manage_then kind.now)) }
+    ensures cut { IfErr result (λ _. (rest : Plan) → CutOff (T.view tx.old).client of.now
+        (T.view tx.old).seen (T.view tx.new).seen (Plan.manage_then kind.now rest)) }
     ensures room { IfErr result (λ e. e ≡ Short.Room → length (T.view tx.new).seen ≡ limit) }
 {
     match call(tx, of, kind) {
@@ -132,6 +138,8 @@ fn ask<T: Tx>(tx: &mut T, of: &Name, levels: u8) -> Result<bool, Short>
     ensures ok { IfOk result (λ again. (rest : Plan)
         → Ended (T.view tx.old).client of.now (T.view tx.old).seen (T.view tx.new).seen
         (Plan.abort_then levels rest) again) }
+    ensures cut { IfErr result (λ _. (rest : Plan) → CutOff (T.view tx.old).client of.now
+        (T.view tx.old).seen (T.view tx.new).seen (Plan.abort_then levels rest)) }
     ensures room { IfErr result (λ e. e ≡ Short.Room → length (T.view tx.new).seen ≡ limit) }
 {
     if levels == 0 {
@@ -155,6 +163,8 @@ fn commit<T: Tx>(tx: &mut T, of: &Name) -> Result<bool, Short>
     ensures client { (T.view tx.new).client ≡ (T.view tx.old).client }
     ensures ok { IfOk result (Ended (T.view tx.old).client of.now (T.view tx.old).seen
         (T.view tx.new).seen Plan.done) }
+    ensures cut { IfErr result (λ _. CutOff (T.view tx.old).client of.now
+        (T.view tx.old).seen (T.view tx.new).seen Plan.done) }
     ensures room { IfErr result (λ e. e ≡ Short.Room → length (T.view tx.new).seen ≡ limit) }
 {
     match tx.commit(of) {
@@ -179,6 +189,10 @@ fn child_tries<T: Tx>(tx: &mut T, of: &Name, body: &Body) -> Result<Option<bool>
     ensures ok { IfOk result (Stepped (T.view tx.old).client of.now (T.view tx.old).seen
         (T.view tx.new).seen (Plan.child_then (numbered body.now).number (numbered body.now).tries
         (numbered body.now).plan)) }
+    ensures cut { IfErr result (λ _. (rest : Plan) → CutOff (T.view tx.old).client of.now
+        (T.view tx.old).seen (T.view tx.new).seen
+        (Plan.child_then (numbered body.now).number (numbered body.now).tries
+        (numbered body.now).plan rest)) }
     ensures room { IfErr result (λ e. e ≡ Short.Room → length (T.view tx.new).seen ≡ limit) }
 {
     for _ in 0..body.tries {
@@ -209,6 +223,8 @@ fn step<T: Tx>(tx: &mut T, of: &Name, step: &Step) -> Result<Option<bool>, Short
     ensures client { (T.view tx.new).client ≡ (T.view tx.old).client }
     ensures ok { IfOk result (Stepped (T.view tx.old).client of.now (T.view tx.old).seen
         (T.view tx.new).seen (put step.now)) }
+    ensures cut { IfErr result (λ _. (rest : Plan) → CutOff (T.view tx.old).client of.now
+        (T.view tx.old).seen (T.view tx.new).seen (put step.now rest)) }
     ensures room { IfErr result (λ e. e ≡ Short.Room → length (T.view tx.new).seen ≡ limit) }
 {
     match step {
@@ -236,7 +252,7 @@ fn step<T: Tx>(tx: &mut T, of: &Name, step: &Step) -> Result<Option<bool>, Short
 }
 
 /// Runs the steps of a transaction that has started and has done nothing, and ends it. It answers whether its body is to
-/// be tried again.
+/// be tried again. Want of memory or room cuts it off: it has then done the first of its steps.
 #[cycle(run)]
 pub fn steps<T: Tx>(tx: &mut T, of: &Name, steps: &[Step]) -> Result<bool, Short>
     requires runs { Runs (T.view tx.old).client of.now (T.view tx.old).seen }
@@ -244,6 +260,8 @@ pub fn steps<T: Tx>(tx: &mut T, of: &Name, steps: &[Step]) -> Result<bool, Short
     ensures client { (T.view tx.new).client ≡ (T.view tx.old).client }
     ensures ok { IfOk result (Ended (T.view tx.old).client of.now (T.view tx.old).seen
         (T.view tx.new).seen (plan_of steps.now)) }
+    ensures cut { IfErr result (λ _. CutOff (T.view tx.old).client of.now
+        (T.view tx.old).seen (T.view tx.new).seen (plan_of steps.now)) }
     ensures room { IfErr result (λ e. e ≡ Short.Room → length (T.view tx.new).seen ≡ limit) }
 {
     for s in steps {

@@ -4,7 +4,7 @@ ghost use Rattle.qc_event.specs.History.{limit};
 ghost use Rattle.qc_event.specs.Legal.{Legal};
 ghost use Rattle.qc_script.specs.Plan.{Numbered, PlanFits};
 ghost use Rattle.qc_script.specs.Steps.{numbered};
-ghost use Rattle.qc_interp.specs.Session.{EndsTops, RanTops, RanInTurn};
+ghost use Rattle.qc_interp.specs.Session.{EndsTops, RanTops, RanInTurn, CutTops};
 ghost use Rattle.qc_script.specs.Plan.{BodiesFit};
 
 use crate::body::steps;
@@ -18,6 +18,8 @@ fn top_tries<T: Tx>(tx: &mut T, body: &Body) -> Result<(), Short>
     ensures client { (T.view tx.new).client ≡ (T.view tx.old).client }
     ensures ok { OnOk result (RanTops (T.view tx.old).client (T.view tx.old).seen
         (T.view tx.new).seen (λ rest. numbered body.now ∷ rest)) }
+    ensures cut { IfErr result (λ _. (rest : List Numbered) → CutTops (T.view tx.old).client
+        (T.view tx.old).seen (T.view tx.new).seen (numbered body.now ∷ rest)) }
     ensures room { IfErr result (λ e. e ≡ Short.Room → length (T.view tx.new).seen ≡ limit) }
 {
     for _ in 0..body.tries {
@@ -37,7 +39,8 @@ fn top_tries<T: Tx>(tx: &mut T, body: &Body) -> Result<(), Short>
 /// Runs the tops of these bodies one after another. They get the next numbers, and nothing is made but of them. Where all
 /// about them is its own, but for their commits, they are tries of the bodies in order, each follows its body and starts
 /// once those before it are over, whoever acts does so in turn, and whoever is aborted as another asked is named by a step
-/// `abort` to which that one came.
+/// `abort` to which that one came. Where want of memory or room cuts it off, all of that holds of what was made, as far
+/// as it came.
 pub fn run_tops<T: Tx>(tx: &mut T, bodies: &[Body]) -> Result<(), Short>
     requires legal { Legal (T.view tx.old).client.setting (T.view tx.old).seen }
     requires fits { BodiesFit (T.view tx.old).client.setting (map numbered bodies.now) }
@@ -45,6 +48,8 @@ pub fn run_tops<T: Tx>(tx: &mut T, bodies: &[Body]) -> Result<(), Short>
     ensures turns { OnOk result (RanInTurn (T.view tx.old).client (T.view tx.old).seen
         (T.view tx.new).seen) }
     ensures ok { OnOk result (EndsTops (T.view tx.old).client (T.view tx.old).seen
+        (T.view tx.new).seen (map numbered bodies.now)) }
+    ensures cut { IfErr result (λ _. CutTops (T.view tx.old).client (T.view tx.old).seen
         (T.view tx.new).seen (map numbered bodies.now)) }
     ensures room { IfErr result (λ e. e ≡ Short.Room → length (T.view tx.new).seen ≡ limit) }
 {

@@ -1,4 +1,4 @@
-use Rattle.std.proofs.Common.{◌≡◌, ◌<◌, ◌≤◌, ◌+◌, ◌-◌, ℕ, suc, [], ◌∷◌, length, sym, ap, ◌∙◌, subst, arith, refl}
+use Rattle.std.proofs.Common.{rules, ◌≡◌, ◌<◌, ◌≤◌, ◌+◌, ◌-◌, ℕ, suc, [], ◌∷◌, length, sym, ap, ◌∙◌, subst, arith, refl}
 use Rattle.qc_event.specs.declared.event.Event.TheVariants as event
 use Rattle.qc_event.specs.declared.event.Kind.TheVariants as kind
 use Rattle.qc_event.specs.History.{Past, Name}
@@ -6,12 +6,12 @@ use Rattle.qc_script.specs.Calls.{by_client, WasRefused}
 use Rattle.qc_script.specs.Client.{Client, Made}
 use Rattle.qc_script.specs.Plan.{Plan, PlanFits}
 use Rattle.qc_script.specs.Steps.{put, plan_of, numbered}
-use Rattle.qc_interp.specs.Running.{Runs, WhyStop, Stopped, Ended, Stepped}
-use Rattle.qc_interp.proofs.Results.{if_ok}
-use Rattle.qc_interp.proofs.Growth.{child_length}
+use Rattle.qc_interp.specs.Running.{Runs, WhyStop, Stopped, Ended, CutOff, Stepped}
+use Rattle.qc_interp.proofs.Results.{if_ok, if_err, any_err}
+use Rattle.qc_interp.proofs.Growth.{child_length, made_both}
 use Rattle.qc_interp.proofs.Plans.{weight, plan_is, tries_of, number_of, put_read, put_set, put_reconf, put_child, put_abort, step_lighter}
-use Rattle.qc_interp.proofs.Loops.{fits_step, one_done, stopped_there, all_done, none_done}
-use Rattle.qc_interp.proofs.Tried.{TriesLeft, Tried, runs_begun, tried_once, tried_more, tried_out, tried_all, not_begun, begin_stops, none_tried}
+use Rattle.qc_interp.proofs.Loops.{fits_step, one_done, stopped_there, cut_there, cut_at_last, all_done, none_done}
+use Rattle.qc_interp.proofs.Tried.{TriesLeft, Tried, runs_begun, tried_once, cut_once, tried_more, tried_out, tried_all, tries_cut, not_begun, begin_stops, begin_cut, refused_made, none_tried}
 use Rattle.qc_interp.proofs.body.+run.Goals as goal
 
 -- CHILDREN
@@ -57,7 +57,7 @@ child_tries-returns-then-not-branch-clause-ok g t c =
     let made = start_of v.client w.client c.in-Ok.name _ (numbered body).number w.seen x.seen inv.client (sym (number_of body)) c.in-Ok.ensures.ok in
     let ended = subst (λ d. Ended d c.in-Ok.name x.seen y.seen (numbered body).plan c.in_ok-steps-in-Ok.field-0) (c.begin.ensures.client ∙ inv.client)
     (subst (λ p. Ended x.client c.in-Ok.name x.seen y.seen p c.in_ok-steps-in-Ok.field-0) (plan_is body c.as_slice.result.now c.as_slice.ensures.value) c.in_ok-steps-in-Ok.ensures.ok) in
-    let tried = tried_once v.client of c.in-Ok.name (numbered body) w.seen x.seen y.seen c.in_ok-steps-in-Ok.field-0 inv.left.runs c.in-Ok.ensures.child made ended in
+    let tried = tried_once v.client of c.in-Ok.name (numbered body) w.seen x.seen y.seen inv.left.runs c.in-Ok.ensures.child made c.in_ok-steps-in-Ok.field-0 ended in
     tried_out v.client of (numbered body) v.seen w.seen y.seen _ (one_less v.client of (numbered body) v.seen w.seen c.loop.counter (subst (λ n. c.loop.counter < n) (sym (tries_of body)) c.loop-test.true) inv.left)
     (subst (Tried v.client of (numbered body) w.seen y.seen) c.if-not-branch.true tried)
 
@@ -89,6 +89,7 @@ child_tries-returns-in_ok-stop-in_default g t c =
           (one_less v.client of body v.seen w.seen c.loop.counter (subst (λ n. c.loop.counter < n) (sym (tries_of c.args.body.now)) c.loop-test.true) inv.left)
           (subst (λ d. WasRefused d of w.seen x.seen c.in-Err.why) inv.client c.in-Err.ensures.err) c.in_default.not-Memory c.in_default.not-Room
           (subst (λ d. Stopped d of c.in-Err.why x.seen y.seen c.in_ok-stop-in_default.field-0) client c.in_ok-stop-in_default.ensures.ok);
+      cut = tt;
       room = tt;
     }
 
@@ -104,7 +105,7 @@ child_tries-loop-preserved g t c =
     let made = start_of v.client w.client c.in-Ok.name _ (numbered body).number w.seen x.seen inv.client (sym (number_of body)) c.in-Ok.ensures.ok in
     let ended = subst (λ d. Ended d c.in-Ok.name x.seen y.seen (numbered body).plan c.in_ok-steps-in-Ok.field-0) (c.begin.ensures.client ∙ inv.client)
     (subst (λ p. Ended x.client c.in-Ok.name x.seen y.seen p c.in_ok-steps-in-Ok.field-0) (plan_is body c.as_slice.result.now c.as_slice.ensures.value) c.in_ok-steps-in-Ok.ensures.ok) in
-    let tried = tried_once v.client of c.in-Ok.name (numbered body) w.seen x.seen y.seen c.in_ok-steps-in-Ok.field-0 inv.left.runs c.in-Ok.ensures.child made ended in
+    let tried = tried_once v.client of c.in-Ok.name (numbered body) w.seen x.seen y.seen inv.left.runs c.in-Ok.ensures.child made c.in_ok-steps-in-Ok.field-0 ended in
     record {
       client = c.steps.ensures.client ∙ c.begin.ensures.client ∙ inv.client;
       left = tried_more v.client of (numbered body) v.seen w.seen y.seen _ (one_less v.client of (numbered body) v.seen w.seen c.loop.counter (subst (λ n. c.loop.counter < n) (sym (tries_of body)) c.loop-test.true) inv.left)
@@ -119,6 +120,69 @@ child_tries-returns-clause-ok g t c =
     let body = numbered c.args.body.now in
     let over : body.tries ≤ c.loop.counter = subst (λ n. n ≤ c.loop.counter) (sym (tries_of c.args.body.now)) c.loop-test.false in
     tried_all v.client c.args.of.now body v.seen w.seen (subst (TriesLeft v.client c.args.of.now body v.seen w.seen) (let e : body.tries - c.loop.counter ≡ 0 = omega (arith, over) in e) inv.left)
+
+-- where it was cut off
+
+pub child_tries-returns-in_err-steps-in-Ok-clause-cut : goal.child_tries-returns-in_err-steps-in-Ok-clause-cut
+child_tries-returns-in_err-steps-in-Ok-clause-cut g t c =
+    let inv = c.loop.invariant in
+    let v = g.T.Tx.view c.args.tx.now in
+    let w = g.T.Tx.view c.loop.tx in
+    let x = g.T.Tx.view c.begin.new.self in
+    let y = g.T.Tx.view c.steps.new.tx in
+    let of = c.args.of.now in
+    let body = c.args.body.now in
+    let made = start_of v.client w.client c.in-Ok.name _ (numbered body).number w.seen x.seen inv.client (sym (number_of body)) c.in-Ok.ensures.ok in
+    let cut = subst (λ d. CutOff d c.in-Ok.name x.seen y.seen (numbered body).plan) (c.begin.ensures.client ∙ inv.client)
+    (subst (CutOff x.client c.in-Ok.name x.seen y.seen) (plan_is body c.as_slice.result.now c.as_slice.ensures.value) c.in_err-steps-in-Ok.ensures.cut) in
+    any_err _ c.from_residual.result
+    (λ rest. tries_cut v.client of (numbered body) v.seen w.seen y.seen _ rest (one_less v.client of (numbered body) v.seen w.seen c.loop.counter (subst (λ n. c.loop.counter < n) (sym (tries_of body)) c.loop-test.true) inv.left)
+    (cut_once v.client of c.in-Ok.name (numbered body) w.seen x.seen y.seen inv.left.runs c.in-Ok.ensures.child made cut))
+
+pub child_tries-returns-in-Memory-clause-cut : goal.child_tries-returns-in-Memory-clause-cut
+child_tries-returns-in-Memory-clause-cut g t c rest =
+    let inv = c.loop.invariant in
+    let v = g.T.Tx.view c.args.tx.now in
+    let w = g.T.Tx.view c.loop.tx in
+    let x = g.T.Tx.view c.begin.new.self in
+    let of = c.args.of.now in
+    let body = numbered c.args.body.now in
+    begin_cut v.client of body v.seen w.seen x.seen _ rest
+    (one_less v.client of body v.seen w.seen c.loop.counter (subst (λ n. c.loop.counter < n) (sym (tries_of c.args.body.now)) c.loop-test.true) inv.left)
+    (refused_made v.client of body w.seen x.seen c.in-Err.why (subst (λ d. WasRefused d of w.seen x.seen c.in-Err.why) inv.client c.in-Err.ensures.err))
+
+pub child_tries-returns-in-Room-clause-cut : goal.child_tries-returns-in-Room-clause-cut
+child_tries-returns-in-Room-clause-cut g t c rest =
+    let inv = c.loop.invariant in
+    let v = g.T.Tx.view c.args.tx.now in
+    let w = g.T.Tx.view c.loop.tx in
+    let x = g.T.Tx.view c.begin.new.self in
+    let of = c.args.of.now in
+    let body = numbered c.args.body.now in
+    begin_cut v.client of body v.seen w.seen x.seen _ rest
+    (one_less v.client of body v.seen w.seen c.loop.counter (subst (λ n. c.loop.counter < n) (sym (tries_of c.args.body.now)) c.loop-test.true) inv.left)
+    (refused_made v.client of body w.seen x.seen c.in-Err.why (subst (λ d. WasRefused d of w.seen x.seen c.in-Err.why) inv.client c.in-Err.ensures.err))
+
+pub child_tries-returns-in_err-stop-in_default : goal.child_tries-returns-in_err-stop-in_default
+child_tries-returns-in_err-stop-in_default g t c =
+    let inv = c.loop.invariant in
+    let v = g.T.Tx.view c.args.tx.now in
+    let w = g.T.Tx.view c.loop.tx in
+    let x = g.T.Tx.view c.begin.new.self in
+    let y = g.T.Tx.view c.stop.new.tx in
+    let of = c.args.of.now in
+    let body = numbered c.args.body.now in
+    let client = c.begin.ensures.client ∙ inv.client in
+    record {
+      client = c.stop.ensures.client ∙ client;
+      ok = search rules;
+      cut = any_err _ c.from_residual-in_err-stop-in_default.result
+          (λ rest. begin_cut v.client of body v.seen w.seen y.seen _ rest
+          (one_less v.client of body v.seen w.seen c.loop.counter (subst (λ n. c.loop.counter < n) (sym (tries_of c.args.body.now)) c.loop-test.true) inv.left)
+          (made_both v.client w.seen x.seen y.seen (refused_made v.client of body w.seen x.seen c.in-Err.why (subst (λ d. WasRefused d of w.seen x.seen c.in-Err.why) inv.client c.in-Err.ensures.err))
+          (subst (λ d. Made d [] x.seen y.seen) client c.in_err-stop-in_default.ensures.cut)));
+      room = search rules;
+    }
 
 -- ONE STEP
 
@@ -157,7 +221,66 @@ step-returns-in_ok-again-in-Abort-clause-ok g t c = λ rest.
     let w = g.T.Tx.view c.ask.new.tx in
     subst (λ f. Ended v.client c.args.of.now v.seen w.seen (f rest) c.in_ok-again-in-Abort.again) (sym (ap put c.in-Abort.is ∙ put_abort c.in-Abort.levels)) (c.in_ok-again-in-Abort.ensures.ok rest)
 
+-- where it was cut off
+
+pub step-returns-in-Read-clause-cut : goal.step-returns-in-Read-clause-cut
+step-returns-in-Read-clause-cut g t c =
+    let v = g.T.Tx.view c.args.tx.now in
+    let w = g.T.Tx.view c.manage.new.tx in
+    if_err ((rest : Plan) → CutOff v.client c.args.of.now v.seen w.seen (Plan.manage_then (kind.Read c.in-Read.rec) rest)) ((rest : Plan) → CutOff v.client c.args.of.now v.seen w.seen (put c.args.step.now rest)) c.manage.result
+    (λ h rest. subst (λ f. CutOff v.client c.args.of.now v.seen w.seen (f rest)) (sym (ap put c.in-Read.is ∙ put_read c.in-Read.rec)) (h rest)) c.manage.ensures.cut
+
+pub step-returns-in-Set-clause-cut : goal.step-returns-in-Set-clause-cut
+step-returns-in-Set-clause-cut g t c =
+    let v = g.T.Tx.view c.args.tx.now in
+    let w = g.T.Tx.view c.manage-in-Set.new.tx in
+    if_err ((rest : Plan) → CutOff v.client c.args.of.now v.seen w.seen (Plan.manage_then (kind.Write c.in-Set.rec c.in-Set.value) rest)) ((rest : Plan) → CutOff v.client c.args.of.now v.seen w.seen (put c.args.step.now rest)) c.manage-in-Set.result
+    (λ h rest. subst (λ f. CutOff v.client c.args.of.now v.seen w.seen (f rest)) (sym (ap put c.in-Set.is ∙ put_set c.in-Set.rec c.in-Set.value)) (h rest)) c.manage-in-Set.ensures.cut
+
+pub step-returns-in-Reconf-clause-cut : goal.step-returns-in-Reconf-clause-cut
+step-returns-in-Reconf-clause-cut g t c =
+    let v = g.T.Tx.view c.args.tx.now in
+    let w = g.T.Tx.view c.manage-in-Reconf.new.tx in
+    if_err ((rest : Plan) → CutOff v.client c.args.of.now v.seen w.seen (Plan.manage_then (kind.Reconf c.in-Reconf.rec c.in-Reconf.config) rest)) ((rest : Plan) → CutOff v.client c.args.of.now v.seen w.seen (put c.args.step.now rest)) c.manage-in-Reconf.result
+    (λ h rest. subst (λ f. CutOff v.client c.args.of.now v.seen w.seen (f rest)) (sym (ap put c.in-Reconf.is ∙ put_reconf c.in-Reconf.rec c.in-Reconf.config)) (h rest)) c.manage-in-Reconf.ensures.cut
+
+pub step-returns-in-Child-clause-cut : goal.step-returns-in-Child-clause-cut
+step-returns-in-Child-clause-cut g t c =
+    let v = g.T.Tx.view c.args.tx.now in
+    let w = g.T.Tx.view c.child_tries.new.tx in
+    let body = numbered c.in-Child.body in
+    if_err ((rest : Plan) → CutOff v.client c.args.of.now v.seen w.seen (Plan.child_then body.number body.tries body.plan rest)) ((rest : Plan) → CutOff v.client c.args.of.now v.seen w.seen (put c.args.step.now rest)) c.child_tries.result
+    (λ h rest. subst (λ f. CutOff v.client c.args.of.now v.seen w.seen (f rest)) (sym (ap put c.in-Child.is ∙ put_child c.in-Child.body)) (h rest)) c.child_tries.ensures.cut
+
+pub step-returns-in_err-again-in-Abort-clause-cut : goal.step-returns-in_err-again-in-Abort-clause-cut
+step-returns-in_err-again-in-Abort-clause-cut g t c =
+    let v = g.T.Tx.view c.args.tx.now in
+    let w = g.T.Tx.view c.ask.new.tx in
+    any_err _ c.from_residual.result
+    (λ rest. subst (λ f. CutOff v.client c.args.of.now v.seen w.seen (f rest)) (sym (ap put c.in-Abort.is ∙ put_abort c.in-Abort.levels)) (c.in_err-again-in-Abort.ensures.cut rest))
+
 -- STEPS
+
+pub steps-returns-in_err-again-clause-cut : goal.steps-returns-in_err-again-clause-cut
+steps-returns-in_err-again-clause-cut g t c =
+    let inv = c.loop-s.invariant in
+    let v = g.T.Tx.view c.args.tx.now in
+    let w = g.T.Tx.view c.loop-s.tx in
+    let x = g.T.Tx.view c.step.new.tx in
+    let of = c.args.of.now in
+    any_err _ c.from_residual.result
+    (cut_there v.client of c.args.steps.now v.seen w.seen x.seen c.loop-s.s-index c.s-item.result inv.left c.loop-s-test.true c.s-item.is
+    (λ rest. subst (λ d. CutOff d of w.seen x.seen (put c.s-item.result rest)) inv.client (c.in_err-again.ensures.cut rest)))
+
+pub steps-returns-clause-cut : goal.steps-returns-clause-cut
+steps-returns-clause-cut g t c =
+    let inv = c.loop-s.invariant in
+    let v = g.T.Tx.view c.args.tx.now in
+    let w = g.T.Tx.view c.loop-s.tx in
+    let x = g.T.Tx.view c.commit.new.tx in
+    let of = c.args.of.now in
+    if_err (CutOff w.client of w.seen x.seen Plan.done) (CutOff v.client of v.seen x.seen (plan_of c.args.steps.now)) c.commit.result
+    (λ e. cut_at_last v.client of c.args.steps.now v.seen w.seen x.seen c.loop-s.s-index inv.left c.loop-s-test.false (subst (λ d. CutOff d of w.seen x.seen Plan.done) inv.client e)) c.commit.ensures.cut
 
 pub steps-step-requires : goal.steps-step-requires
 steps-step-requires g t c κs within =

@@ -5,11 +5,13 @@ use Rattle.qc_event.specs.declared.event.How.TheVariants.{Abort}
 use Rattle.qc_event.proofs.LastNumber.{is_ancestor-append}
 use Rattle.qc_names.specs.Name as name
 use Rattle.qc_script.specs.Plan.{Plan}
-use Rattle.qc_interp.specs.Running.{Runs, Quit, Ended}
-use Rattle.qc_interp.proofs.Results.{if_ok}
-use Rattle.qc_interp.proofs.Ending.{runs_still, leaves_still, still}
+use Rattle.qc_script.specs.Client.{Made}
+use Rattle.qc_interp.proofs.Growth.{made_both}
+use Rattle.qc_interp.specs.Running.{Runs, Quit, Ended, CutOff}
+use Rattle.qc_interp.proofs.Results.{if_ok, if_err}
+use Rattle.qc_interp.proofs.Ending.{runs_still, leaves_still, still, cut_still}
 use Rattle.qc_interp.proofs.Asked.{asked_made}
-use Rattle.qc_interp.proofs.Asking.{above_is, user_above, asked_orphan, runs_asked, leaves_asked, asked_one, same_asked, ended_asked, ask_no, ask_ended, asked_itself}
+use Rattle.qc_interp.proofs.Asking.{above_is, user_above, asked_orphan, runs_asked, leaves_asked, asked_one, same_asked, ended_asked, ask_no, ask_ended, asked_itself, asked_cut, not_aborted_made}
 use Rattle.qc_event.specs.History.{children}
 use Rattle.qc_interp.proofs.body.ask.Goals as goal
 
@@ -93,7 +95,7 @@ returns-in_default g c =
     let of = c.args.of.now in
     let t = c.ancestor-ancestor.result in
     let up = above_is v.client of t c.args.levels c.len.result c.len.ensures.length c.ancestor-ancestor.ensures c.if-levels-eq0.false c.requires.within in
-    record { client = c.abort.ensures.client; ok = λ rest. ask_no v.client of t c.args.levels v.seen w.seen c.in-Err.why rest up c.requires.runs c.in-Err.ensures.err c.in_default.not-Memory c.in_default.not-Room c.in_default.not-Ended; room = tt }
+    record { client = c.abort.ensures.client; ok = λ rest. ask_no v.client of t c.args.levels v.seen w.seen c.in-Err.why rest up c.requires.runs c.in-Err.ensures.err c.in_default.not-Memory c.in_default.not-Room c.in_default.not-Ended; cut = tt; room = tt }
 
 pub returns-then-levels-eq0-clause-ok : goal.returns-then-levels-eq0-clause-ok
 returns-then-levels-eq0-clause-ok g c =
@@ -102,3 +104,55 @@ returns-then-levels-eq0-clause-ok g c =
     let of = c.args.of.now in
     if_ok (Quit v.client of (Abort (cause.Asked of)) v.seen x.seen) (λ again. (rest : Plan) → Ended v.client of v.seen x.seen (Plan.abort_then c.args.levels rest) again) c.quit.result
     (λ again quit rest. asked_itself v.client of c.args.levels v.seen x.seen again rest c.if-levels-eq0.true quit) c.quit.ensures.ok
+
+-- WHERE IT WAS CUT OFF
+
+pub returns-then-levels-eq0-clause-cut : goal.returns-then-levels-eq0-clause-cut
+returns-then-levels-eq0-clause-cut g c =
+    let v = g.T.Tx.view c.args.tx.now in
+    let x = g.T.Tx.view c.quit.new.tx in
+    let of = c.args.of.now in
+    if_err (Made v.client [] v.seen x.seen) ((rest : Plan) → CutOff v.client of v.seen x.seen (Plan.abort_then c.args.levels rest)) c.quit.result
+    (λ m rest. cut_still v.client of v.seen x.seen c.requires.runs m (Plan.abort_then c.args.levels rest)) c.quit.ensures.cut
+
+pub returns-in-Ok-clause-cut : goal.returns-in-Ok-clause-cut
+returns-in-Ok-clause-cut g c =
+    let v = g.T.Tx.view c.args.tx.now in
+    let w = g.T.Tx.view c.abort.new.self in
+    let x = g.T.Tx.view c.quit-in-Ok.new.tx in
+    let of = c.args.of.now in
+    let t = c.ancestor-ancestor.result in
+    let up = above_is v.client of t c.args.levels c.len.result c.len.ensures.length c.ancestor-ancestor.ensures c.if-levels-eq0.false c.requires.within in
+    if_err (Made w.client [] w.seen x.seen) ((rest : Plan) → CutOff v.client of v.seen x.seen (Plan.abort_then c.args.levels rest)) c.quit-in-Ok.result
+    (λ m rest.
+    asked_cut v.client of t c.args.levels up.named v.seen w.seen x.seen rest
+    (runs_asked v.client of t up.rest up.is up.far up.nonroot v.seen w.seen c.in-Ok.ensures.ok c.requires.runs)
+    (leaves_asked v.client of t up.rest up.is up.far up.nonroot v.seen w.seen c.in-Ok.ensures.ok)
+    (asked_one v.client of t up.rest up.is up.far up.nonroot v.seen w.seen c.in-Ok.ensures.ok)
+    (same_asked v.client of t up.rest up.is up.far up.nonroot v.seen w.seen c.in-Ok.ensures.ok)
+    (subst (λ d. Made d [] w.seen x.seen) c.abort.ensures.client m)) c.quit-in-Ok.ensures.cut
+
+pub returns-in-Ended-clause-cut : goal.returns-in-Ended-clause-cut
+returns-in-Ended-clause-cut g c =
+    let v = g.T.Tx.view c.args.tx.now in
+    let w = g.T.Tx.view c.abort.new.self in
+    let x = g.T.Tx.view c.quit-in-Ended.new.tx in
+    let of = c.args.of.now in
+    if_err (Made w.client [] w.seen x.seen) ((rest : Plan) → CutOff v.client of v.seen x.seen (Plan.abort_then c.args.levels rest)) c.quit-in-Ended.result
+    (λ m rest.
+    cut_still v.client of v.seen x.seen c.requires.runs
+    (made_both v.client v.seen w.seen x.seen (not_aborted_made v.client of c.ancestor-ancestor.result (cause.Asked of) v.seen w.seen c.in-Err.why c.in-Err.ensures.err) (subst (λ d. Made d [] w.seen x.seen) c.abort.ensures.client m)) (Plan.abort_then c.args.levels rest)) c.quit-in-Ended.ensures.cut
+
+pub returns-in-Memory-clause-cut : goal.returns-in-Memory-clause-cut
+returns-in-Memory-clause-cut g c rest =
+    let v = g.T.Tx.view c.args.tx.now in
+    let w = g.T.Tx.view c.abort.new.self in
+    let of = c.args.of.now in
+    cut_still v.client of v.seen w.seen c.requires.runs (not_aborted_made v.client of c.ancestor-ancestor.result (cause.Asked of) v.seen w.seen c.in-Err.why c.in-Err.ensures.err) (Plan.abort_then c.args.levels rest)
+
+pub returns-in-Room-clause-cut : goal.returns-in-Room-clause-cut
+returns-in-Room-clause-cut g c rest =
+    let v = g.T.Tx.view c.args.tx.now in
+    let w = g.T.Tx.view c.abort.new.self in
+    let of = c.args.of.now in
+    cut_still v.client of v.seen w.seen c.requires.runs (not_aborted_made v.client of c.ancestor-ancestor.result (cause.Asked of) v.seen w.seen c.in-Err.why c.in-Err.ensures.err) (Plan.abort_then c.args.levels rest)

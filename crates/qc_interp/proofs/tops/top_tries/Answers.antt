@@ -1,16 +1,21 @@
-use Rattle.std.proofs.Common.{◌≡◌, ◌<◌, ◌+◌, ◌-◌, ℕ, suc, [], ◌∷◌, length, true, sym, ◌∙◌, subst, arith, refl}
+use Rattle.std.proofs.Common.{◌≡◌, ◌<◌, ◌+◌, ◌-◌, ℕ, suc, List, [], ◌∷◌, length, true, sym, ◌∙◌, subst, arith, refl}
 use Rattle.qc_event.specs.declared.event.Event.TheVariants as event
 use Rattle.qc_event.specs.declared.event.Kind.TheVariants as kind
 use Rattle.qc_event.specs.History.{Past, Name, is_child}
 use Rattle.qc_script.specs.Numbers.{Numbers}
-use Rattle.qc_script.specs.Calls.{by_client}
+use Rattle.qc_script.specs.Calls.{by_client, WasRefused}
 use Rattle.qc_script.specs.Client.{Client, Made}
 use Rattle.qc_script.specs.Plan.{PlanFits, Numbered}
+use Rattle.qc_script.specs.declared.script.Body.{Body}
+use Rattle.qc_script.specs.declared.tx.TxNo.{TxNo}
+use Rattle.qc_interp.specs.Session.{CutTops}
 use Rattle.qc_script.specs.Steps.{plan_of, numbered}
-use Rattle.qc_interp.specs.Running.{Runs, Ended}
+use Rattle.qc_interp.specs.Running.{Runs, Ended, CutOff}
 use Rattle.qc_interp.proofs.Growth.{child_length}
 use Rattle.qc_interp.proofs.Plans.{plan_is, tries_of, number_of}
-use Rattle.qc_interp.proofs.TopsRun.{TopTriesLeft, TriedTop, runs_top, top_once, top_more, top_out, no_top, tops_out}
+use Rattle.qc_interp.proofs.TopsRun.{TopTriesLeft, TriedTop, runs_top, top_once, top_cut, top_more, top_out, try_cut, top_not_begun, no_top, tops_out}
+use Rattle.qc_interp.proofs.Tried.{refused_made}
+use Rattle.qc_interp.proofs.Results.{any_err}
 use Rattle.qc_interp.proofs.tops.top_tries.Goals as goal
 
 start_of : (c d : Client) (n : Name) (number other : ℕ) (before now : Past) → d ≡ c → number ≡ other → Made d (by_client d (event.Start n (kind.User d.session number)) ∷ []) before now → Made c (by_client c (event.Start n (kind.User c.session other)) ∷ []) before now
@@ -49,7 +54,7 @@ returns-then-not-branch-clause-ok g c =
     let made = start_of v.client w.client c.in-Ok.name _ (numbered body).number w.seen x.seen inv.client (sym (number_of body)) c.in-Ok.ensures.ok in
     let ended = subst (λ d. Ended d c.in-Ok.name x.seen y.seen (numbered body).plan c.in_ok-steps-in-Ok.field-0) (c.begin.ensures.client ∙ inv.client)
     (subst (λ p. Ended x.client c.in-Ok.name x.seen y.seen p c.in_ok-steps-in-Ok.field-0) (plan_is body c.as_slice.result.now c.as_slice.ensures.value) c.in_ok-steps-in-Ok.ensures.ok) in
-    let tried = top_once v.client c.in-Ok.name (numbered body) w.seen x.seen y.seen c.in_ok-steps-in-Ok.field-0 (subst (λ r. is_child r c.in-Ok.name ≡ true) c.root.ensures c.in-Ok.ensures.child) made (subst (λ d. Numbers d w.seen x.seen) inv.client c.in-Ok.ensures.number) ended in
+    let tried = top_once v.client c.in-Ok.name (numbered body) w.seen x.seen y.seen (subst (λ r. is_child r c.in-Ok.name ≡ true) c.root.ensures c.in-Ok.ensures.child) made (subst (λ d. Numbers d w.seen x.seen) inv.client c.in-Ok.ensures.number) c.in_ok-steps-in-Ok.field-0 ended in
     top_out v.client (numbered body) v.seen w.seen y.seen _ (one_less v.client (numbered body) v.seen w.seen c.loop.counter (subst (λ n. c.loop.counter < n) (sym (tries_of body)) c.loop-test.true) inv.left)
     (subst (TriedTop v.client (numbered body) w.seen y.seen) c.if-not-branch.true tried)
 
@@ -64,7 +69,7 @@ loop-preserved g c =
     let made = start_of v.client w.client c.in-Ok.name _ (numbered body).number w.seen x.seen inv.client (sym (number_of body)) c.in-Ok.ensures.ok in
     let ended = subst (λ d. Ended d c.in-Ok.name x.seen y.seen (numbered body).plan c.in_ok-steps-in-Ok.field-0) (c.begin.ensures.client ∙ inv.client)
     (subst (λ p. Ended x.client c.in-Ok.name x.seen y.seen p c.in_ok-steps-in-Ok.field-0) (plan_is body c.as_slice.result.now c.as_slice.ensures.value) c.in_ok-steps-in-Ok.ensures.ok) in
-    let tried = top_once v.client c.in-Ok.name (numbered body) w.seen x.seen y.seen c.in_ok-steps-in-Ok.field-0 (subst (λ r. is_child r c.in-Ok.name ≡ true) c.root.ensures c.in-Ok.ensures.child) made (subst (λ d. Numbers d w.seen x.seen) inv.client c.in-Ok.ensures.number) ended in
+    let tried = top_once v.client c.in-Ok.name (numbered body) w.seen x.seen y.seen (subst (λ r. is_child r c.in-Ok.name ≡ true) c.root.ensures c.in-Ok.ensures.child) made (subst (λ d. Numbers d w.seen x.seen) inv.client c.in-Ok.ensures.number) c.in_ok-steps-in-Ok.field-0 ended in
     record {
       client = c.steps.ensures.client ∙ c.begin.ensures.client ∙ inv.client;
       left = top_more v.client (numbered body) v.seen w.seen y.seen _ (one_less v.client (numbered body) v.seen w.seen c.loop.counter (subst (λ n. c.loop.counter < n) (sym (tries_of body)) c.loop-test.true) inv.left)
@@ -83,3 +88,52 @@ returns-clause-ok g c =
     let w = g.T.Tx.view c.loop.tx in
     let b = numbered c.args.body.now in
     tops_out v.client b v.seen w.seen (subst (TopTriesLeft v.client b v.seen w.seen) (let e : b.tries - c.loop.counter ≡ 0 = omega (arith, tries_of c.args.body.now, c.loop-test.false) in e) c.loop.invariant.left)
+
+-- WHERE IT WAS CUT OFF
+
+pub returns-in_err-steps-in-Ok-clause-cut : goal.returns-in_err-steps-in-Ok-clause-cut
+returns-in_err-steps-in-Ok-clause-cut g c =
+    let inv = c.loop.invariant in
+    let v = g.T.Tx.view c.args.tx.now in
+    let w = g.T.Tx.view c.loop.tx in
+    let x = g.T.Tx.view c.begin.new.self in
+    let y = g.T.Tx.view c.steps.new.tx in
+    let body = c.args.body.now in
+    let top = subst (λ r. is_child r c.in-Ok.name ≡ true) c.root.ensures c.in-Ok.ensures.child in
+    let made = start_of v.client w.client c.in-Ok.name _ (numbered body).number w.seen x.seen inv.client (sym (number_of body)) c.in-Ok.ensures.ok in
+    let cut = subst (λ d. CutOff d c.in-Ok.name x.seen y.seen (numbered body).plan) (c.begin.ensures.client ∙ inv.client)
+    (subst (CutOff x.client c.in-Ok.name x.seen y.seen) (plan_is body c.as_slice.result.now c.as_slice.ensures.value) c.in_err-steps-in-Ok.ensures.cut) in
+    any_err _ c.from_residual.result
+    (λ rest. try_cut v.client (numbered body) v.seen w.seen y.seen _ rest (one_less v.client (numbered body) v.seen w.seen c.loop.counter (subst (λ n. c.loop.counter < n) (sym (tries_of body)) c.loop-test.true) inv.left)
+    (top_cut v.client c.in-Ok.name (numbered body) w.seen x.seen y.seen top made (subst (λ d. Numbers d w.seen x.seen) inv.client c.in-Ok.ensures.number) cut))
+
+-- a try that could not be begun
+not_begun : (c : Client) (body : Body) (before now next : Past) (root : Name) (why : TxNo) (counter : ℕ) (rest : List Numbered) → counter < (numbered body).tries → TopTriesLeft c (numbered body) before now ((numbered body).tries - counter) → WasRefused c root now next why → CutTops c before next (numbered body ∷ rest)
+not_begun c body before now next root why counter rest few left refused =
+    top_not_begun c (numbered body) before now next _ rest (one_less c (numbered body) before now counter few left) (refused_made c root (numbered body) now next why refused)
+
+pub returns-in-Err-Room-clause-cut : goal.returns-in-Err-Room-clause-cut
+returns-in-Err-Room-clause-cut g c rest =
+    let inv = c.loop.invariant in
+    let v = g.T.Tx.view c.args.tx.now in
+    let w = g.T.Tx.view c.loop.tx in
+    let x = g.T.Tx.view c.begin.new.self in
+    let body = c.args.body.now in
+    not_begun v.client body v.seen w.seen x.seen c.root.result c.in-Err-Room.field-0 c.loop.counter rest (subst (λ n. c.loop.counter < n) (sym (tries_of body)) c.loop-test.true) inv.left
+    (subst (λ d. WasRefused d c.root.result w.seen x.seen c.in-Err-Room.field-0) inv.client c.in-Err-Room.ensures.err)
+
+pub returns-in-Err : goal.returns-in-Err
+returns-in-Err g c =
+    let inv = c.loop.invariant in
+    let v = g.T.Tx.view c.args.tx.now in
+    let w = g.T.Tx.view c.loop.tx in
+    let x = g.T.Tx.view c.begin.new.self in
+    let body = c.args.body.now in
+    record {
+      client = c.begin.ensures.client ∙ inv.client;
+      ok = tt;
+      cut = λ rest.
+          not_begun v.client body v.seen w.seen x.seen c.root.result c.in-Err.field-0 c.loop.counter rest (subst (λ n. c.loop.counter < n) (sym (tries_of body)) c.loop-test.true) inv.left
+          (subst (λ d. WasRefused d c.root.result w.seen x.seen c.in-Err.field-0) inv.client c.in-Err.ensures.err);
+      room = λ is. absurd cc;
+    }
