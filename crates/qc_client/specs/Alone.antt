@@ -4,7 +4,7 @@ use Rattle.qc_event.specs.declared.event.Entry.{Entry}
 use Rattle.qc_event.specs.History.{Past, every}
 use Rattle.qc_event.specs.Seats.{is_client}
 use Rattle.qc_interp.specs.Alone.{AreLone, AccessesEnd}
-use Rattle.qc_interp.specs.FollowsScript.{FollowsScript}
+use Rattle.qc_interp.specs.FollowsScript.{FollowsScript, BeginsScript}
 use Rattle.qc_line.specs.Lined.{Lined}
 use Rattle.qc_net.specs.Messages.{meets_fates}
 use Rattle.qc_script.specs.Client.{Client, View}
@@ -55,3 +55,7 @@ MeetsFates c past = MatchOption c.net ⊥ (λ net. IsTrue (meets_fates c.number 
 -- a client alone followed these bodies
 abbrev pub FollowsAlone : Client → List Numbered → Past → Type 0
 FollowsAlone c bodies past = MatchOption c.net ⊥ (λ net. FollowsScript c.session c.epoch net bodies past)
+
+-- what a client alone did is a beginning of what follows these bodies
+abbrev pub BeginsAlone : Client → List Numbered → Past → Type 0
+BeginsAlone c bodies past = MatchOption c.net ⊥ (λ net. BeginsScript c.session c.epoch net bodies past)

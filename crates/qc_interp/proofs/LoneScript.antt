@@ -30,9 +30,10 @@ use Rattle.qc_script.specs.Plan.{Numbered}
 use Rattle.qc_interp.specs.Adding.{is_of_one, all_over}
 use Rattle.qc_interp.specs.Alone.{is_lone, all_lone, AreLone, AccessesEnd}
 use Rattle.qc_interp.specs.Asking.{BodiesAsk, IsAskedBy}
-use Rattle.qc_interp.specs.FollowsScript.{RunsScript, FollowsScript, started, started_in}
+use Rattle.qc_interp.specs.FollowsScript.{RunsScript, FollowsScript, BeginsScript, started, started_in}
+use Rattle.qc_interp.specs.Follows.{RunsBody, FollowsBody}
 use Rattle.qc_interp.specs.Reach.{Reach, AtTheEnd}
-use Rattle.qc_interp.specs.Session.{tops, RunsBodies, EndsTopsAt, EndsTops, InTurnAt, RanInTurn}
+use Rattle.qc_interp.specs.Session.{tops, NotBegun, RunsBodies, FollowsBodies, EndsTopsAt, EndsTops, InTurnAt, RanInTurn}
 use Rattle.qc_interp.specs.Sessions.{tops_of, is_plain, all_plain}
 use Rattle.qc_interp.specs.Turns.{begun_in, is_done, is_alone}
 use Rattle.qc_interp.proofs.Ending.{top_user}
@@ -44,6 +45,7 @@ use Rattle.qc_interp.proofs.LoneTurns.{Answers, earliest_kept, every_kept}
 use Rattle.qc_interp.proofs.Mine.{kept_some}
 use Rattle.qc_interp.proofs.ReadyTops.{ready_is_top}
 use Rattle.qc_interp.proofs.Seen.{all_children}
+use Rattle.qc_interp.proofs.Still.{tries_wider, follows_runs}
 
 -- ALL STARTS ARE THE CLIENT'S
 
@@ -338,3 +340,27 @@ lone_follows c net bodies past legal single lone ends ran met accesses =
     by_kind n (kind.Read rec) is = begun_ended c past n (kind.Read rec) legal lone turns order is refl
     by_kind n (kind.Write rec value) is = begun_ended c past n (kind.Write rec value) legal lone turns order is refl
     by_kind n (kind.Reconf rec config) is = begun_ended c past n (kind.Reconf rec config) legal lone turns order is refl
+
+-- who follows a script has begun it
+module _ (s : ℕ) (past : Past) where
+  body_begins : (b : Numbered) (t : Name) → FollowsBody s past b t → RunsBody Reach.cut_off s past b t
+  body_begins b t follows = record { kind = follows.kind; steps = follows_runs Reach.cut_off s past t b.plan (children past t) (end past t) follows.steps }
+
+  bodies_begin : (bodies : List Numbered) (ts : List Name) → FollowsBodies s past bodies ts → RunsBodies Reach.cut_off s past bodies ts
+  bodies_begin [] [] h = h
+  bodies_begin [] (t ∷ ts) h = absurd h
+  bodies_begin (b ∷ bodies) ts h =
+      tries_wider (end past) (FollowsBody s past b) (RunsBody Reach.cut_off s past b) ⊥ (NotBegun Reach.cut_off) (λ further. FollowsBodies s past bodies further) (λ further. RunsBodies Reach.cut_off s past bodies further)
+      (body_begins b) (λ none. tt) (bodies_begin bodies) b.tries ts h
+
+pub follows_begins : (session epoch : ℕ) (net : Net) (bodies : List Numbered) (past : Past) → FollowsScript session epoch net bodies past → BeginsScript session epoch net bodies past
+follows_begins session epoch net bodies past follows = record {
+  only = follows.only;
+  bodies_run = bodies_begin session past bodies (tops_of session past) follows.bodies_run;
+  in_turn = follows.in_turn;
+  numbers = follows.numbers;
+  as_asked = follows.as_asked;
+  each_ended = tt;
+  plain = follows.plain;
+  messages = follows.messages;
+}

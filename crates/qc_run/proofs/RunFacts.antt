@@ -20,9 +20,9 @@ use Rattle.qc_script.specs.Plan.{ScriptPlan}
 use Rattle.qc_script.specs.Reading.{IsProper}
 use Rattle.qc_report.specs.LastValues.{values_by_version}
 use Rattle.qc_report.specs.Report.{report}
-use Rattle.qc_client.specs.Alone.{FollowsAlone}
-use Rattle.qc_interp.specs.FollowsScript.{FollowsScript}
-use Rattle.qc_run.specs.Run.{Follows, first_epoch, net_of, fresh, page, report_of, HasSerialValues, IsHalted, OfRun, RanToEnd, ReadsScript}
+use Rattle.qc_client.specs.Alone.{FollowsAlone, BeginsAlone}
+use Rattle.qc_interp.specs.FollowsScript.{FollowsScript, BeginsScript}
+use Rattle.qc_run.specs.Run.{Follows, Begins, first_epoch, net_of, fresh, page, report_of, HasSerialValues, IsHalted, OfRun, RanToEnd, ReadsScript}
 use Rattle.qc_run.specs.declared.status.Status.{Status}
 use Rattle.qc_run.proofs.Starts.{start_is_sound, firsts_length}
 
@@ -79,6 +79,11 @@ sound_from s start proper is = subst (λ base. IsSound (setting_of s.table base)
 pub halted_not_ended : (e : Short) (answer : Status) → IsHalted e answer → RanToEnd answer → ⊥
 halted_not_ended short.Memory answer is ended = subst RanToEnd is ended
 halted_not_ended short.Room answer is ended = subst RanToEnd is ended
+
+-- what a client did that began as a script's is a beginning of one that follows the script
+pub script_begun : (s : ScriptPlan) (trail : List Entry) (old now : View) → old ≡ fresh s → reverse trail ≡ now.seen → BeginsAlone old.client s.tops now.seen → Begins s trail
+script_begun s trail old now begun entries begins =
+    subst (λ past. BeginsScript 0 first_epoch (net_of s) s.tops past) (sym entries) (subst (λ (v : View). BeginsAlone v.client s.tops now.seen) begun begins)
 
 -- a client that began as a script's and ran its bodies has followed the script
 pub script_followed : (s : ScriptPlan) (trail : List Entry) (old now : View) → old ≡ fresh s → reverse trail ≡ now.seen → FollowsAlone old.client s.tops now.seen → Follows s trail

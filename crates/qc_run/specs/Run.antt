@@ -1,5 +1,6 @@
 -- What a run answers: words for the clauses of the top call.
 use Rattle.std.specs.Prelude.{ℕ, ◌+◌, ◌^◌, ◌≡◌, ◌≢◌, ◌⊎◌, List, [], length, map, reverse, Option, None, Some, IfSome}
+use Rattle.qc_event.specs.Legal.{Legal}
 use Rattle.qc_event.specs.Seats.{client_seat}
 use Rattle.qc_event.specs.Sound.{IsSound}
 use Rattle.qc_event.specs.Tables.{base_of, setting_of}
@@ -15,7 +16,7 @@ use Rattle.qc_script.specs.Reading.{IsScript, IsRefused}
 use Rattle.qc_report.specs.LastValues.{values_by_version}
 use Rattle.qc_report.specs.Report.{Text, report}
 use Rattle.qc_simlock.specs.Serial.{IsSerialThroughout, final_values}
-use Rattle.qc_interp.specs.FollowsScript.{FollowsScript}
+use Rattle.qc_interp.specs.FollowsScript.{FollowsScript, BeginsScript}
 use Rattle.qc_run.specs.FaultLine.{fault_line}
 use Rattle.qc_script.specs.declared.bad_script.BadScript.TheVariants.{Memory}
 use Rattle.qc_script.specs.Plan.{ScriptPlan}
@@ -50,6 +51,14 @@ fresh s = record { client = client_of s; seen = [] }
 -- a trail follows a script, whose one session runs in the first epoch
 abbrev pub Follows : ScriptPlan → List Entry → Type 0
 Follows s trail = FollowsScript 0 first_epoch (net_of s) s.tops (reverse trail)
+
+-- a trail is a beginning of one that follows a script
+abbrev pub Begins : ScriptPlan → List Entry → Type 0
+Begins s trail = BeginsScript 0 first_epoch (net_of s) s.tops (reverse trail)
+
+-- a run of a script has a legal history, which is a beginning of one that follows the script
+abbrev pub HasHistory : List (List Tuple) → List Entry → ScriptPlan → Type 0
+HasHistory start trail s = Legal (setting_of s.table start) (reverse trail) × Begins s trail
 
 -- The source was read to its end, and its bytes are this script.
 pub record ReadsScript (before now : Option (List ℕ)) (s : ScriptPlan) : Type 0 where

@@ -171,7 +171,7 @@ fn halt<K: Sink>(short: Short, sink: &mut K) -> Status
 fn proceed<K: Sink>(alloc: Global, script: &Script, mut client: LoneClient, sink: &mut K) -> Ran
     requires proper { IsProper (plan_of_script script.now) }
     requires client { client ≡ terms.fresh (plan_of_script script.now) }
-    ensures legal_history { Legal (setting_of script.now.table result.start) (reverse result.trail.items) }
+    ensures history { terms.HasHistory result.start result.trail.items (plan_of_script script.now) }
     ensures start { result.start ≡ base_of script.now.table }
     ensures follows { terms.RanToEnd result.status
         → terms.Follows (plan_of_script script.now) result.trail.items }
@@ -202,9 +202,9 @@ fn proceed<K: Sink>(alloc: Global, script: &Script, mut client: LoneClient, sink
 // Runs a proper script, and reports it.
 fn perform<K: Sink>(alloc: Global, script: &Script, sink: &mut K) -> Ran
     requires { IsProper (plan_of_script script.now) }
-    ensures legal_history { terms.NoneBegun result.start result.trail.items
+    ensures history { terms.NoneBegun result.start result.trail.items
         ⊎ ((result.start ≡ base_of script.now.table)
-        × Legal (setting_of script.now.table result.start) (reverse result.trail.items)) }
+        × terms.HasHistory result.start result.trail.items (plan_of_script script.now)) }
     ensures start { terms.ReadIt result.status → result.start ≡ base_of script.now.table }
     ensures follows { terms.RanToEnd result.status
         → terms.Follows (plan_of_script script.now) result.trail.items }
@@ -243,8 +243,8 @@ fn refuse<K: Sink>(alloc: Global, status: Status, sink: &mut K) -> Ran
 
 // Runs the script that the bytes are, or refuses them.
 fn over<K: Sink>(alloc: Global, bytes: &[u8], sink: &mut K) -> Ran
-    ensures legal_history { terms.OfBytesRun bytes.now result.start result.trail.items
-        (λ s. Legal (setting_of s.table result.start) (reverse result.trail.items)) }
+    ensures history { terms.OfBytesRun bytes.now result.start result.trail.items
+        (terms.HasHistory result.start result.trail.items) }
     ensures nothing_begun { terms.BeganNothing result.status
         → (result.trail.items ≡ []) × (result.start ≡ []) }
     ensures started { terms.ReadIt result.status → terms.OfBytes bytes.now result.start (λ _. ⊤) }
@@ -272,8 +272,8 @@ fn over<K: Sink>(alloc: Global, bytes: &[u8], sink: &mut K) -> Ran
 
 // Does what the words say.
 fn answer<S: Source, K: Sink>(alloc: Global, words: &[String], source: &mut S, sink: &mut K) -> Ran
-    ensures legal_history { terms.OfRun (S.left source.old) (S.left source.new) result.start result.trail.items
-        (λ s. Legal (setting_of s.table result.start) (reverse result.trail.items)) }
+    ensures history { terms.OfRun (S.left source.old) (S.left source.new) result.start
+        result.trail.items (terms.HasHistory result.start result.trail.items) }
     ensures nothing_begun { terms.BeganNothing result.status
         → (result.trail.items ≡ []) × (result.start ≡ []) }
     ensures started { terms.ReadIt result.status
@@ -343,8 +343,10 @@ pub fn run<S: Source, K: Sink>(alloc: Global, words: &[String], source: &mut S, 
     ensures last_values { terms.OfRun (S.left source.old) (S.left source.new) result.start result.trail.items
         (λ s. terms.HasSerialValues s.table result.start result.trail.items) }
 
-    // What ran to its end is a script that the source held, and the history follows it, with requests
-    // that meet the fates of its network.
+    // Whatever cut the run off, the history is a beginning of one that follows the script, with requests that meet the
+    // fates of its network; what ran to its end follows it.
+    ensures begins_script { terms.OfRun (S.left source.old) (S.left source.new) result.start
+        result.trail.items (λ s. terms.Begins s result.trail.items) }
     ensures follows_script { terms.RanToEnd result.status
         → terms.OfScript (S.left source.old) (S.left source.new) result.start
         (λ s. terms.Follows s result.trail.items) }

@@ -3,11 +3,11 @@ use Rattle.std.specs.Prelude.{IfSome}
 use Rattle.qc_run.proofs.Taken.{most, reads_script, fault_of_all}
 use Rattle.qc_run.proofs.program.answer.Goals as goal
 
-pub returns-in-Ok-clause-legal_history : goal.returns-in-Ok-clause-legal_history
-returns-in-Ok-clause-legal_history g c =
+pub returns-in-Ok-clause-history : goal.returns-in-Ok-clause-history
+returns-in-Ok-clause-history g c =
     let left = g.S.Source.left c.args.source.now in
     let taken = subst (λ b. IfSome left (λ l. b ≡ take most l)) (sym c.as_slice.ensures.value) c.in-Ok.ensures.bytes in
-    elim c.over.ensures.legal_history [
+    elim c.over.ensures.history [
       | inl none ↦ inl none
       | inr run ↦ inr (run.0, reads_script left (g.S.Source.left c.take_all.new.source) c.as_slice.result.now run.0 taken c.in-Ok.ensures.left c.in-Ok.ensures.ended run.1, run.2, run.3)
     ]

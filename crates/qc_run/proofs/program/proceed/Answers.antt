@@ -2,18 +2,21 @@ use Rattle.std.proofs.Common.{◌∙◌, sym, subst}
 use Rattle.qc_io.specs.Io.{Appends, AppendsFront}
 use Rattle.qc_run.specs.Run as terms
 use Rattle.qc_script.specs.Steps.{plan_of_script}
-use Rattle.qc_run.proofs.RunFacts.{gave_back, trail_legal, page_is_report, halted_not_ended}
+use Rattle.qc_run.proofs.RunFacts.{gave_back, trail_legal, page_is_report, script_begun, halted_not_ended}
 use Rattle.qc_run.proofs.program.proceed.Goals as goal
 use Rattle.qc_run.proofs.program.proceed.Goals.{in-Ok, in-Err}
 
-pub returns-clause-legal_history : goal.returns-clause-legal_history
-returns-clause-legal_history g c =
+pub returns-clause-history : goal.returns-clause-history
+returns-clause-history g c =
     let s = plan_of_script c.args.script.now in
     let start = c.into_parts-start.result.0 in
     let trail = c.into_parts-start.result.1.items in
     let parts = c.into_parts-start.ensures in
     let back = gave_back s start trail c.args.client c.run.new.self c.requires.client c.run.ensures.client parts.base parts.entries parts.legal in
-    trail_legal s start trail c.run.new.self back
+    (
+      trail_legal s start trail c.run.new.self back,
+      script_begun s trail c.args.client c.run.new.self c.requires.client parts.entries c.run.ensures.begins,
+    )
 
 pub returns-clause-done : goal.returns-clause-done
 returns-clause-done g c = λ done.

@@ -7,17 +7,23 @@ use Rattle.qc_run.proofs.RunFacts.{of_run, serial_values, sound_from}
 use Rattle.qc_run.proofs.Taken.{none_was_run, script_was_run}
 use Rattle.qc_run.proofs.program.run.Goals as goal
 
+pub returns-clause-legal_history : goal.returns-clause-legal_history
+returns-clause-legal_history g c = of_run _ _ _ _ (λ s reads from has. has.0) c.answer.ensures.history
+
+pub returns-clause-begins_script : goal.returns-clause-begins_script
+returns-clause-begins_script g c = of_run _ _ _ _ (λ s reads from has. has.1) c.answer.ensures.history
+
 pub returns-clause-serial_order : goal.returns-clause-serial_order
 returns-clause-serial_order g c =
-    of_run _ _ _ _ (λ s reads from legal. serial_orders s.table c.answer.result.start c.answer.result.trail.items legal) c.answer.ensures.legal_history
+    of_run _ _ _ _ (λ s reads from has. serial_orders s.table c.answer.result.start c.answer.result.trail.items has.0) c.answer.ensures.history
 
 pub returns-clause-sound_start : goal.returns-clause-sound_start
 returns-clause-sound_start g c =
-    of_run _ _ _ _ (λ s reads from legal. sound_from s c.answer.result.start (proper_script reads.bytes s reads.is_script) from) c.answer.ensures.legal_history
+    of_run _ _ _ _ (λ s reads from has. sound_from s c.answer.result.start (proper_script reads.bytes s reads.is_script) from) c.answer.ensures.history
 
 pub returns-clause-last_values : goal.returns-clause-last_values
 returns-clause-last_values g c =
-    of_run _ _ _ _ (λ s reads from legal. serial_values s.table c.answer.result.start c.answer.result.trail.items legal) c.answer.ensures.legal_history
+    of_run _ _ _ _ (λ s reads from has. serial_values s.table c.answer.result.start c.answer.result.trail.items has.0) c.answer.ensures.history
 
 pub returns-clause-no_script : goal.returns-clause-no_script
 returns-clause-no_script g c = λ command.
