@@ -1,5 +1,5 @@
 -- Trails of small scripts: some follow them, and some only seem to.
-use Rattle.std.specs.Prelude.{◌==◌, if◌then◌else◌, ℕ, List, [], ◌∷◌, None, Some, replicate, false}
+use Rattle.std.specs.Prelude.{◌==◌, if◌then◌else◌, ℕ, List, [], ◌∷◌, ◌++◌, None, Some, replicate, take, false}
 use Rattle.qc_config.specs.Config.{Voting}
 use Rattle.qc_config.specs.declared.tuple.Tuple.{Tuple}
 use Rattle.qc_config.specs.declared.tuple.Op.{Op}
@@ -298,3 +298,17 @@ reconfigure = body_of (Plan.manage_then (kind.Reconf 0 one) Plan.done)
 
 abbrev pub two_steps : List Numbered
 two_steps = record { number = 0; tries = 1; plan = Plan.done } ∷ record { number = 0; tries = 1; plan = Plan.done } ∷ []
+
+-- CUT OFF
+
+-- the first run, cut off after so many entries
+abbrev pub first_cut : ℕ → List Entry
+first_cut many = take many first_run
+
+-- the first run, whose top is ready without its read
+abbrev pub ready_too_soon : List Entry
+ready_too_soon = take 11 first_run ++ by 18 (event.Ready top) ∷ []
+
+-- the first run, cut off as the read runs that stands behind the set, which is not run
+abbrev pub set_skipped : List Entry
+set_skipped = user 18 top ∷ by 18 (event.Start first_child (kind.Read 0)) ∷ []

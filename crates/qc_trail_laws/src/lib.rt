@@ -1,12 +1,13 @@
 //! Laws that tell by example what it is to follow a script: trails that do, and trails that only seem to.
 #![tactic(auto)]
 
-ghost use Rattle.std.specs.Prelude.{◌≡◌, false, [], ◌∷◌, IsTrue, map, reverse};
+ghost use Rattle.std.specs.Prelude.{◌≡◌, false, [], ◌∷◌, IsTrue, map, reverse, take};
 ghost use Rattle.qc_event.specs.History.{children};
 ghost use Rattle.qc_interp.specs.Asking.{Asks};
 ghost use Rattle.qc_interp.specs.Follows.{FollowsBody};
-ghost use Rattle.qc_interp.specs.FollowsScript.{FollowsScript};
-ghost use Rattle.qc_interp.specs.Session.{FollowsBodies};
+ghost use Rattle.qc_interp.specs.FollowsScript.{FollowsScript, BeginsScript};
+ghost use Rattle.qc_interp.specs.Reach.{Reach};
+ghost use Rattle.qc_interp.specs.Session.{FollowsBodies, RunsBodies};
 ghost use Rattle.qc_interp.specs.Sessions.{RunsInTurn, tops_of, meets, all_plain};
 ghost use Rattle.qc_script.specs.Numbers.{each, is_next_top};
 ghost use Rattle.qc_trail_laws.specs.Trails as trails;
@@ -57,4 +58,30 @@ pub fn names_no_other()
     ensures parent_named { Asks (reverse trails.aborts_two) trails.top (trails.abort_body 1).plan
         (children (reverse trails.aborts_two) trails.top) trails.grandchild trails.first_child }
     ensures top_not_named { FollowsScript 0 1 trails.net (trails.abort_body 1 ∷ []) (reverse trails.aborts_two) → ⊥ }
+{}
+
+/// The first run, cut off within a manager, between two steps, or as its top is ready, is a beginning of what follows its
+/// script.
+pub fn begins()
+    ensures in_manager { RunsBodies Reach.cut_off 0 (reverse (trails.first_cut 14)) trails.set_then_read
+        (trails.top ∷ []) }
+    ensures in_manager_turns { RunsInTurn 0 (reverse (trails.first_cut 14)) }
+    ensures between_steps { RunsBodies Reach.cut_off 0 (reverse (trails.first_cut 11)) trails.set_then_read
+        (trails.top ∷ []) }
+    ensures between_turns { RunsInTurn 0 (reverse (trails.first_cut 11)) }
+    ensures ready { RunsBodies Reach.cut_off 0 (reverse (trails.first_cut 18)) trails.set_then_read
+        (trails.top ∷ []) }
+    ensures not_begun { RunsBodies Reach.cut_off 0 [] trails.set_then_read [] }
+{}
+
+/// None of these is a beginning of what follows its script: a top that is ready before its last step, a read whose set
+/// is left out, and a read before the set has ended that stands before it. Nor does a run follow its script that was cut
+/// off.
+pub fn begins_otherwise()
+    ensures ready_too_soon { BeginsScript 0 1 trails.net trails.set_then_read
+        (reverse trails.ready_too_soon) → ⊥ }
+    ensures set_skipped { BeginsScript 0 1 trails.net trails.set_then_read (reverse trails.set_skipped) → ⊥ }
+    ensures read_before_set { BeginsScript 0 1 trails.net trails.set_then_read
+        (reverse (take 3 trails.read_before_set)) → ⊥ }
+    ensures cut_off { FollowsScript 0 1 trails.net trails.set_then_read (reverse (trails.first_cut 14)) → ⊥ }
 {}
