@@ -1,7 +1,9 @@
 use Rattle.std.proofs.Common.{◌∙◌, sym, subst}
+use Rattle.std.specs.Prelude.{map}
+use Rattle.qc_client.specs.Alone.{BeginsAlone}
 use Rattle.qc_io.specs.Io.{Appends, AppendsFront}
 use Rattle.qc_run.specs.Run as terms
-use Rattle.qc_script.specs.Steps.{plan_of_script}
+use Rattle.qc_script.specs.Steps.{plan_of_script, numbered}
 use Rattle.qc_run.proofs.RunFacts.{gave_back, trail_legal, page_is_report, script_begun, halted_not_ended}
 use Rattle.qc_run.proofs.program.proceed.Goals as goal
 use Rattle.qc_run.proofs.program.proceed.Goals.{in-Ok, in-Err}
@@ -15,7 +17,8 @@ returns-clause-history g c =
     let back = gave_back s start trail c.args.client c.run.new.self c.requires.client c.run.ensures.client parts.base parts.entries parts.legal in
     (
       trail_legal s start trail c.run.new.self back,
-      script_begun s trail c.args.client c.run.new.self c.requires.client parts.entries c.run.ensures.begins,
+      script_begun s trail c.args.client c.run.new.self c.requires.client parts.entries
+          (subst (λ bodies. BeginsAlone c.args.client.client (map numbered bodies) c.run.new.self.seen) c.as_slice.ensures.value c.run.ensures.begins),
     )
 
 pub returns-clause-done : goal.returns-clause-done
