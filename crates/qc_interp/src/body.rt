@@ -7,7 +7,7 @@ ghost use Rattle.qc_event.specs.declared.event.Kind.TheVariants as kind;
 ghost use Rattle.qc_event.specs.History.{children};
 ghost use Rattle.qc_event.specs.Standing.{Started, IsUser};
 ghost use Rattle.qc_interp.specs.Asking.{ByItself};
-ghost use Rattle.qc_script.specs.Calls.{GaveNone, HasRun, IsGrounded};
+ghost use Rattle.qc_script.specs.Calls.{GaveNone, HasRun, IsGrounded, MeetsLink};
 ghost use Rattle.qc_script.specs.Client.{View, Client, Made, mine};
 ghost use Rattle.qc_script.specs.Plan.{Plan, PlanFits};
 ghost use Rattle.qc_script.specs.Steps.{put, plan_of, numbered};
@@ -33,6 +33,8 @@ fn quit<T: Tx>(tx: &mut T, of: &Name, cause: Cause) -> Result<bool, Short>
     requires runs { Runs (T.view tx.old).client of.now (T.view tx.old).seen }
     requires grounded { IsGrounded (T.view tx.old).seen of.now cause }
     requires itself { ByItself of.now cause }
+    requires met { MeetsLink (T.view tx.old) }
+    ensures met { MeetsLink (T.view tx.new) }
     ensures client { (T.view tx.new).client ≡ (T.view tx.old).client }
     ensures ok { IfOk result (Quit (T.view tx.old).client of.now (Abort cause)
         (T.view tx.old).seen (T.view tx.new).seen) }
@@ -54,6 +56,8 @@ fn quit<T: Tx>(tx: &mut T, of: &Name, cause: Cause) -> Result<bool, Short>
 fn stop<T: Tx>(tx: &mut T, of: &Name, why: &TxNo) -> Result<bool, Short>
     requires runs { Runs (T.view tx.old).client of.now (T.view tx.old).seen }
     requires why { WhyStop (T.view tx.old).client (T.view tx.old).seen of.now why.now }
+    requires met { MeetsLink (T.view tx.old) }
+    ensures met { MeetsLink (T.view tx.new) }
     ensures client { (T.view tx.new).client ≡ (T.view tx.old).client }
     ensures ok { IfOk result (Stopped (T.view tx.old).client of.now why.now (T.view tx.old).seen
         (T.view tx.new).seen) }
@@ -86,6 +90,8 @@ fn stop<T: Tx>(tx: &mut T, of: &Name, why: &TxNo) -> Result<bool, Short>
 fn call<T: Tx>(tx: &mut T, of: &Name, kind: &Kind) -> Result<(), TxNo>
     requires fits { KindFits (T.view tx.old).client.setting kind.now }
     requires user { Started (T.view tx.old).seen of.now (λ b. IsUser b.kind) }
+    requires met { MeetsLink (T.view tx.old) }
+    ensures met { MeetsLink (T.view tx.new) }
     ensures client { (T.view tx.new).client ≡ (T.view tx.old).client }
     ensures ok { OnOk result (HasRun (T.view tx.old).client of.now kind.now (T.view tx.old).seen
         (T.view tx.new).seen) }
@@ -110,6 +116,8 @@ fn call<T: Tx>(tx: &mut T, of: &Name, kind: &Kind) -> Result<(), TxNo>
 fn manage<T: Tx>(tx: &mut T, of: &Name, kind: &Kind) -> Result<Option<bool>, Short>
     requires runs { Runs (T.view tx.old).client of.now (T.view tx.old).seen }
     requires fits { KindFits (T.view tx.old).client.setting kind.now }
+    requires met { MeetsLink (T.view tx.old) }
+    ensures met { MeetsLink (T.view tx.new) }
     ensures client { (T.view tx.new).client ≡ (T.view tx.old).client }
     ensures ok { IfOk result (Stepped (T.view tx.old).client of.now (T.view tx.old).seen
         (T.view tx.new).seen (Plan.manage_then kind.now)) }
@@ -134,6 +142,8 @@ fn manage<T: Tx>(tx: &mut T, of: &Name, kind: &Kind) -> Result<Option<bool>, Sho
 fn ask<T: Tx>(tx: &mut T, of: &Name, levels: u8) -> Result<bool, Short>
     requires runs { Runs (T.view tx.old).client of.now (T.view tx.old).seen }
     requires within { levels < length of.now }
+    requires met { MeetsLink (T.view tx.old) }
+    ensures met { MeetsLink (T.view tx.new) }
     ensures client { (T.view tx.new).client ≡ (T.view tx.old).client }
     ensures ok { IfOk result (λ again. (rest : Plan)
         → Ended (T.view tx.old).client of.now (T.view tx.old).seen (T.view tx.new).seen
@@ -160,6 +170,8 @@ fn ask<T: Tx>(tx: &mut T, of: &Name, levels: u8) -> Result<bool, Short>
 // Commits the transaction that runs.
 fn commit<T: Tx>(tx: &mut T, of: &Name) -> Result<bool, Short>
     requires runs { Runs (T.view tx.old).client of.now (T.view tx.old).seen }
+    requires met { MeetsLink (T.view tx.old) }
+    ensures met { MeetsLink (T.view tx.new) }
     ensures client { (T.view tx.new).client ≡ (T.view tx.old).client }
     ensures ok { IfOk result (Ended (T.view tx.old).client of.now (T.view tx.old).seen
         (T.view tx.new).seen Plan.done) }
@@ -185,6 +197,8 @@ fn child_tries<T: Tx>(tx: &mut T, of: &Name, body: &Body) -> Result<Option<bool>
     requires depth { length of.now < 16 }
     requires fits { PlanFits (T.view tx.old).client.setting (length of.now + 1)
         (numbered body.now).plan }
+    requires met { MeetsLink (T.view tx.old) }
+    ensures met { MeetsLink (T.view tx.new) }
     ensures client { (T.view tx.new).client ≡ (T.view tx.old).client }
     ensures ok { IfOk result (Stepped (T.view tx.old).client of.now (T.view tx.old).seen
         (T.view tx.new).seen (Plan.child_then (numbered body.now).number (numbered body.now).tries
@@ -220,6 +234,8 @@ fn step<T: Tx>(tx: &mut T, of: &Name, step: &Step) -> Result<Option<bool>, Short
     requires runs { Runs (T.view tx.old).client of.now (T.view tx.old).seen }
     requires fits { PlanFits (T.view tx.old).client.setting (length of.now)
         (put step.now Plan.done) }
+    requires met { MeetsLink (T.view tx.old) }
+    ensures met { MeetsLink (T.view tx.new) }
     ensures client { (T.view tx.new).client ≡ (T.view tx.old).client }
     ensures ok { IfOk result (Stepped (T.view tx.old).client of.now (T.view tx.old).seen
         (T.view tx.new).seen (put step.now)) }
@@ -257,6 +273,8 @@ fn step<T: Tx>(tx: &mut T, of: &Name, step: &Step) -> Result<Option<bool>, Short
 pub fn steps<T: Tx>(tx: &mut T, of: &Name, steps: &[Step]) -> Result<bool, Short>
     requires runs { Runs (T.view tx.old).client of.now (T.view tx.old).seen }
     requires fits { PlanFits (T.view tx.old).client.setting (length of.now) (plan_of steps.now) }
+    requires met { MeetsLink (T.view tx.old) }
+    ensures met { MeetsLink (T.view tx.new) }
     ensures client { (T.view tx.new).client ≡ (T.view tx.old).client }
     ensures ok { IfOk result (Ended (T.view tx.old).client of.now (T.view tx.old).seen
         (T.view tx.new).seen (plan_of steps.now)) }

@@ -2,6 +2,7 @@
 ghost use Rattle.std.specs.Prelude.{◌≡◌, ◌∷◌, ◌++◌, List, [], length, map, OnOk, IfOk, IfErr};
 ghost use Rattle.qc_event.specs.History.{limit};
 ghost use Rattle.qc_event.specs.Legal.{Legal};
+ghost use Rattle.qc_script.specs.Calls.{MeetsLink};
 ghost use Rattle.qc_script.specs.Plan.{Numbered, PlanFits};
 ghost use Rattle.qc_script.specs.Steps.{numbered};
 ghost use Rattle.qc_interp.specs.Session.{EndsTops, RanTops, RanInTurn, CutTops};
@@ -15,6 +16,8 @@ use qc_script::{Body, Tx, TxNo};
 fn top_tries<T: Tx>(tx: &mut T, body: &Body) -> Result<(), Short>
     requires legal { Legal (T.view tx.old).client.setting (T.view tx.old).seen }
     requires fits { PlanFits (T.view tx.old).client.setting 1 (numbered body.now).plan }
+    requires met { MeetsLink (T.view tx.old) }
+    ensures met { MeetsLink (T.view tx.new) }
     ensures client { (T.view tx.new).client ≡ (T.view tx.old).client }
     ensures ok { OnOk result (RanTops (T.view tx.old).client (T.view tx.old).seen
         (T.view tx.new).seen (λ rest. numbered body.now ∷ rest)) }
@@ -39,11 +42,13 @@ fn top_tries<T: Tx>(tx: &mut T, body: &Body) -> Result<(), Short>
 /// Runs the tops of these bodies one after another. They get the next numbers, and nothing is made but of them. Where all
 /// about them is its own, but for their commits, they are tries of the bodies in order, each follows its body and starts
 /// once those before it are over, whoever acts does so in turn, and whoever is aborted as another asked is named by a step
-/// `abort` to which that one came. Where want of memory or room cuts it off, all of that holds of what was made, as far
+/// `abort` to which that one came; where the link is told, its requests meet the fates. Where want of memory or room cuts it off, all of that holds of what was made, as far
 /// as it came.
 pub fn run_tops<T: Tx>(tx: &mut T, bodies: &[Body]) -> Result<(), Short>
     requires legal { Legal (T.view tx.old).client.setting (T.view tx.old).seen }
     requires fits { BodiesFit (T.view tx.old).client.setting (map numbered bodies.now) }
+    requires met { MeetsLink (T.view tx.old) }
+    ensures met { MeetsLink (T.view tx.new) }
     ensures client { (T.view tx.new).client ≡ (T.view tx.old).client }
     ensures turns { OnOk result (RanInTurn (T.view tx.old).client (T.view tx.old).seen
         (T.view tx.new).seen) }

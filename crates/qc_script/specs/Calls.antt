@@ -17,6 +17,7 @@ use Rattle.qc_event.specs.History.{Past, Name, limit, same, start, end, is_ready
 use Rattle.qc_event.specs.Standing.{Started, IsAbort}
 use Rattle.qc_event.specs.Users.{UserCause}
 use Rattle.qc_names.specs.Name as name
+use Rattle.qc_net.specs.Messages.{meets_fates}
 use Rattle.qc_script.specs.declared.tx.TxNo.{TxNo}
 use Rattle.qc_script.specs.declared.tx.TxNo.TheVariants as tx_no
 use Rattle.qc_script.specs.Client.{Client, View, Made}
@@ -153,6 +154,10 @@ NotCommitted c of before now tx_no.Room = (Made c [] before now ⊎ MadeReady c 
 NotCommitted c of before now why = Made c [] before now × Refuses now of why
 
 -- WHAT A CALL DOES TO A VIEW
+
+-- where the link is told, the requests under the client's seat meet its fates
+abbrev pub MeetsLink : View → Type 0
+MeetsLink view = MatchOption view.client.net (Unit {0}) (λ net. IsTrue (meets_fates view.client.number net view.seen))
 
 -- a user transaction of the client's session and of a body was started
 abbrev pub Began : View → View → ℕ → Name → Type 0

@@ -33,7 +33,8 @@ pub enum TxNo {
 }
 
 /// Carries out what a session asks, in one transaction after another. No call changes what stays of its client, and the
-/// history that it has seen only grows. Each answer is the one that the history then seen gives.
+/// history that it has seen only grows. Each answer is the one that the history then seen gives. Where the link is told,
+/// the requests go on to meet its fates.
 pub trait Tx: Sized {
     ghost use Rattle.std.specs.Prelude.{◌≡◌, ◌<◌, ◌⊎◌, [], length, IfOk, IfErr, OnOk, IsTrue};
     ghost use Rattle.qc_event.specs.declared.event.Answer.TheVariants as answer;
@@ -41,7 +42,7 @@ pub trait Tx: Sized {
     ghost use Rattle.qc_event.specs.History.{is_child};
     ghost use Rattle.qc_event.specs.Standing.{Started, IsUser};
     ghost use Rattle.qc_script.specs.Numbers.{Numbers};
-    ghost use Rattle.qc_script.specs.Calls.{Began, Answers, Fails, Aborts, IsGrounded, WasRefused, NotAborted, Committed, NotCommitted};
+    ghost use Rattle.qc_script.specs.Calls.{Began, Answers, Fails, Aborts, IsGrounded, WasRefused, NotAborted, Committed, NotCommitted, MeetsLink};
     ghost use Rattle.qc_script.specs.Client.{View};
     ghost use Rattle.qc_script.specs.Plan.{KindFits};
 
@@ -52,6 +53,8 @@ pub trait Tx: Sized {
     fn begin(&mut self, parent: &Name, body: u32) -> Result<Name, TxNo>
         requires depth { length parent.now < 16 }
         requires parent { (parent.now ≡ []) ⊎ Started (view self.old).seen parent.now (λ b. IsUser b.kind) }
+        requires met { MeetsLink (view self.old) }
+        ensures met { MeetsLink (view self.new) }
         ensures client { (view self.new).client ≡ (view self.old).client }
         ensures child { IfOk result (λ n. IsTrue (is_child parent.now n)) }
         ensures ok { IfOk result (Began (view self.old) (view self.new) body) }
@@ -64,6 +67,8 @@ pub trait Tx: Sized {
     fn read(&mut self, of: &Name, rec: u8) -> Result<u64, TxNo>
         requires fits { KindFits (view self.old).client.setting (kind.Read rec) }
         requires user { Started (view self.old).seen of.now (λ b. IsUser b.kind) }
+        requires met { MeetsLink (view self.old) }
+        ensures met { MeetsLink (view self.new) }
         ensures client { (view self.new).client ≡ (view self.old).client }
         ensures ok { IfOk result (λ value. Answers
             (view self.old) (view self.new) of.now (kind.Read rec) (answer.Value value)) }
@@ -73,6 +78,8 @@ pub trait Tx: Sized {
     fn write(&mut self, of: &Name, rec: u8, value: u64) -> Result<(), TxNo>
         requires fits { KindFits (view self.old).client.setting (kind.Write rec value) }
         requires user { Started (view self.old).seen of.now (λ b. IsUser b.kind) }
+        requires met { MeetsLink (view self.old) }
+        ensures met { MeetsLink (view self.new) }
         ensures client { (view self.new).client ≡ (view self.old).client }
         ensures ok { OnOk result (Answers
             (view self.old) (view self.new) of.now (kind.Write rec value) answer.Nothing) }
@@ -82,6 +89,8 @@ pub trait Tx: Sized {
     fn reconfigure(&mut self, of: &Name, rec: u8, config: &Config) -> Result<u64, TxNo>
         requires fits { KindFits (view self.old).client.setting (kind.Reconf rec config.now) }
         requires user { Started (view self.old).seen of.now (λ b. IsUser b.kind) }
+        requires met { MeetsLink (view self.old) }
+        ensures met { MeetsLink (view self.new) }
         ensures client { (view self.new).client ≡ (view self.old).client }
         ensures ok { IfOk result (λ generation. Answers
             (view self.old) (view self.new) of.now (kind.Reconf rec config.now) (answer.Generation generation)) }
@@ -92,6 +101,8 @@ pub trait Tx: Sized {
     fn abort(&mut self, target: &Name, cause: Cause) -> Result<(), TxNo>
         requires user { Started (view self.old).seen target.now (λ b. IsUser b.kind) }
         requires grounded { IsGrounded (view self.old).seen target.now cause }
+        requires met { MeetsLink (view self.old) }
+        ensures met { MeetsLink (view self.new) }
         ensures client { (view self.new).client ≡ (view self.old).client }
         ensures ok { OnOk result (Aborts (view self.old) (view self.new) target.now cause) }
         ensures err { IfErr result (NotAborted
@@ -100,6 +111,8 @@ pub trait Tx: Sized {
     /// Commits a transaction. A top becomes ready, and is committed by the ledger.
     fn commit(&mut self, of: &Name) -> Result<(), TxNo>
         requires user { Started (view self.old).seen of.now (λ b. IsUser b.kind) }
+        requires met { MeetsLink (view self.old) }
+        ensures met { MeetsLink (view self.new) }
         ensures client { (view self.new).client ≡ (view self.old).client }
         ensures ok { OnOk result (Committed
             (view self.old).client of.now (view self.old).seen (view self.new).seen) }

@@ -39,8 +39,8 @@ child_tries-steps-requires g t c κs within =
         within,
         (
           subst (λ d. Runs d c.in-Ok.name x.seen) (sym client) (runs_begun v.client of c.in-Ok.name (numbered body).number w.seen x.seen inv.left.runs c.in-Ok.ensures.child made),
-          subst (λ d. PlanFits d.setting (length c.in-Ok.name) (plan_of c.as_slice.result.now)) (sym client)
-              (subst (λ k. PlanFits v.client.setting k (plan_of c.as_slice.result.now)) (sym (child_length of c.in-Ok.name c.in-Ok.ensures.child)) (subst (PlanFits v.client.setting (length of + 1)) (sym same) c.requires.fits)),
+          (subst (λ d. PlanFits d.setting (length c.in-Ok.name) (plan_of c.as_slice.result.now)) (sym client)
+              (subst (λ k. PlanFits v.client.setting k (plan_of c.as_slice.result.now)) (sym (child_length of c.in-Ok.name c.in-Ok.ensures.child)) (subst (PlanFits v.client.setting (length of + 1)) (sym same) c.requires.fits)), c.begin.ensures.met),
         ),
       ),
     )
@@ -70,7 +70,7 @@ child_tries-stop-requires g t c =
     let of = c.args.of.now in
     let h = begin_stops v.client of (numbered c.args.body.now) w.seen x.seen c.in-Err.why inv.left.runs (subst (λ d. WasRefused d of w.seen x.seen c.in-Err.why) inv.client c.in-Err.ensures.err) c.in_default.not-Memory c.in_default.not-Room in
     let client = c.begin.ensures.client ∙ inv.client in
-    record { runs = subst (λ d. Runs d of x.seen) (sym client) h.0; why = subst (λ d. WhyStop d x.seen of c.in-Err.why) (sym client) h.1 }
+    record { met = c.begin.ensures.met; runs = subst (λ d. Runs d of x.seen) (sym client) h.0; why = subst (λ d. WhyStop d x.seen of c.in-Err.why) (sym client) h.1 }
 
 pub child_tries-returns-in_ok-stop-in_default : goal.child_tries-returns-in_ok-stop-in_default
 child_tries-returns-in_ok-stop-in_default g t c =
@@ -83,6 +83,7 @@ child_tries-returns-in_ok-stop-in_default g t c =
     let body = numbered c.args.body.now in
     let client = c.begin.ensures.client ∙ inv.client in
     record {
+      met = c.stop.ensures.met;
       client = c.stop.ensures.client ∙ client;
       ok = λ rest.
           not_begun v.client of body v.seen w.seen x.seen y.seen _ c.in-Err.why c.in_ok-stop-in_default.field-0 rest
@@ -107,6 +108,7 @@ child_tries-loop-preserved g t c =
     (subst (λ p. Ended x.client c.in-Ok.name x.seen y.seen p c.in_ok-steps-in-Ok.field-0) (plan_is body c.as_slice.result.now c.as_slice.ensures.value) c.in_ok-steps-in-Ok.ensures.ok) in
     let tried = tried_once v.client of c.in-Ok.name (numbered body) w.seen x.seen y.seen inv.left.runs c.in-Ok.ensures.child made c.in_ok-steps-in-Ok.field-0 ended in
     record {
+      met = c.steps.ensures.met;
       client = c.steps.ensures.client ∙ c.begin.ensures.client ∙ inv.client;
       left = tried_more v.client of (numbered body) v.seen w.seen y.seen _ (one_less v.client of (numbered body) v.seen w.seen c.loop.counter (subst (λ n. c.loop.counter < n) (sym (tries_of body)) c.loop-test.true) inv.left)
           (subst (Tried v.client of (numbered body) w.seen y.seen) c.if-not-branch.false tried);
@@ -174,6 +176,7 @@ child_tries-returns-in_err-stop-in_default g t c =
     let body = numbered c.args.body.now in
     let client = c.begin.ensures.client ∙ inv.client in
     record {
+      met = c.stop.ensures.met;
       client = c.stop.ensures.client ∙ client;
       ok = search rules;
       cut = any_err _ c.from_residual-in_err-stop-in_default.result
@@ -293,7 +296,7 @@ steps-step-requires g t c κs within =
         within,
         (
           subst (λ d. Runs d of w.seen) (sym inv.client) inv.left.runs,
-          subst (λ d. PlanFits d.setting (length of) (put c.s-item.result Plan.done)) (sym inv.client) (fits_step v.client of c.args.steps.now v.seen w.seen w.seen c.loop-s.s-index c.s-item.result inv.left c.loop-s-test.true c.s-item.is),
+          (subst (λ d. PlanFits d.setting (length of) (put c.s-item.result Plan.done)) (sym inv.client) (fits_step v.client of c.args.steps.now v.seen w.seen w.seen c.loop-s.s-index c.s-item.result inv.left c.loop-s-test.true c.s-item.is), inv.met),
         ),
       ),
     )
@@ -318,6 +321,7 @@ steps-loop-s-preserved g t c =
     let of = c.args.of.now in
     let stepped = subst (λ d. Stepped d of w.seen x.seen (put c.s-item.result) c.in_ok-again.field-0) inv.client c.in_ok-again.ensures.ok in
     record {
+      met = c.step.ensures.met;
       client = c.step.ensures.client ∙ inv.client;
       left = one_done v.client of c.args.steps.now v.seen w.seen x.seen c.loop-s.s-index c.s-item.result inv.left c.loop-s-test.true c.s-item.is
           (subst (Stepped v.client of w.seen x.seen (put c.s-item.result)) c.in_default.is stepped);
@@ -337,9 +341,9 @@ pub child_tries-loop-init : goal.child_tries-loop-init
 child_tries-loop-init g t c =
     let v = g.T.Tx.view c.args.tx.now in
     let b = numbered c.args.body.now in
-    record { client = refl; left = subst (TriesLeft v.client c.args.of.now b v.seen v.seen) (let e : b.tries ≡ b.tries - 0 = omega arith in e) (none_tried v.client c.args.of.now b v.seen c.requires.runs) }
+    record { met = c.requires.met; client = refl; left = subst (TriesLeft v.client c.args.of.now b v.seen v.seen) (let e : b.tries ≡ b.tries - 0 = omega arith in e) (none_tried v.client c.args.of.now b v.seen c.requires.runs) }
 
 pub steps-loop-s-init : goal.steps-loop-s-init
 steps-loop-s-init g t c =
     let v = g.T.Tx.view c.args.tx.now in
-    record { client = refl; left = none_done v.client c.args.of.now c.args.steps.now v.seen c.requires.runs c.requires.fits }
+    record { met = c.requires.met; client = refl; left = none_done v.client c.args.of.now c.args.steps.now v.seen c.requires.runs c.requires.fits }

@@ -1,4 +1,5 @@
 use Rattle.std.proofs.Common.{◌≡◌, ◌+◌, ◌-◌}
+use Rattle.qc_script.specs.Calls.{MeetsLink}
 use Rattle.qc_script.specs.Plan.{Plan}
 use Rattle.qc_script.specs.Steps.{put, plan_of, numbered}
 use Rattle.qc_interp.proofs.Loops.{StepsLeft}
@@ -10,6 +11,7 @@ abbrev pub invariant-child_tries-loop : goal.invariant-child_tries-loop
 invariant-child_tries-loop g l =
     let view = g.T.Tx.view in
     record {
+      met : MeetsLink (view l.tx);
       client : (view l.tx).client ≡ (view l.initial.tx).client;
       left : TriesLeft (view l.initial.tx).client l.of (numbered l.body) (view l.initial.tx).seen (view l.tx).seen ((numbered l.body).tries - l.counter);
     }
@@ -18,6 +20,7 @@ abbrev pub invariant-steps-loop-s : goal.invariant-steps-loop-s
 invariant-steps-loop-s g l =
     let view = g.T.Tx.view in
     record {
+      met : MeetsLink (view l.tx);
       client : (view l.tx).client ≡ (view l.initial.tx).client;
       left : StepsLeft (view l.initial.tx).client l.of l.steps (view l.initial.tx).seen (view l.tx).seen l.s-index;
     }

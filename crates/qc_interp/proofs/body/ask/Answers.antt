@@ -95,7 +95,7 @@ returns-in_default g c =
     let of = c.args.of.now in
     let t = c.ancestor-ancestor.result in
     let up = above_is v.client of t c.args.levels c.len.result c.len.ensures.length c.ancestor-ancestor.ensures c.if-levels-eq0.false c.requires.within in
-    record { client = c.abort.ensures.client; ok = λ rest. ask_no v.client of t c.args.levels v.seen w.seen c.in-Err.why rest up c.requires.runs c.in-Err.ensures.err c.in_default.not-Memory c.in_default.not-Room c.in_default.not-Ended; cut = tt; room = tt }
+    record { met = c.abort.ensures.met; client = c.abort.ensures.client; ok = λ rest. ask_no v.client of t c.args.levels v.seen w.seen c.in-Err.why rest up c.requires.runs c.in-Err.ensures.err c.in_default.not-Memory c.in_default.not-Room c.in_default.not-Ended; cut = tt; room = tt }
 
 pub returns-then-levels-eq0-clause-ok : goal.returns-then-levels-eq0-clause-ok
 returns-then-levels-eq0-clause-ok g c =

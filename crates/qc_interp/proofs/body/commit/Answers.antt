@@ -15,6 +15,7 @@ stop-requires g c =
     let h = commit_stops v.client c.args.of.now v.seen w.seen c.in-Err.why c.requires.runs c.in-Err.ensures.err c.in_default.not-Memory c.in_default.not-Room c.in_default.not-Ledger in
     record {
       runs = subst (λ d. Runs d c.args.of.now w.seen) (sym c.commit.ensures.client) h.0;
+      met = c.commit.ensures.met;
       why = subst (λ d. WhyStop d w.seen c.args.of.now c.in-Err.why) (sym c.commit.ensures.client) h.1;
     }
 
@@ -35,6 +36,7 @@ returns-in_default g c =
     let x = g.T.Tx.view c.stop.new.tx in
     let of = c.args.of.now in
     record {
+      met = c.stop.ensures.met;
       client = c.stop.ensures.client ∙ c.commit.ensures.client;
       ok = if_ok (Stopped w.client of c.in-Err.why w.seen x.seen) (Ended v.client of v.seen x.seen Plan.done) c.stop.result
           (λ again stopped. commit_over v.client of v.seen w.seen x.seen c.in-Err.why again c.requires.runs c.in-Err.ensures.err c.in_default.not-Memory c.in_default.not-Room c.in_default.not-Ledger

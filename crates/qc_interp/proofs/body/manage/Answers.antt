@@ -12,6 +12,7 @@ stop-requires g c =
     let h = manage_stops v.client c.args.of.now c.args.kind.now v.seen w.seen c.in-Err.why c.requires.fits c.requires.runs c.in-Err.ensures.err c.in_default.not-Memory c.in_default.not-Room in
     record {
       runs = subst (λ d. Runs d c.args.of.now w.seen) (sym c.call.ensures.client) h.0;
+      met = c.call.ensures.met;
       why = subst (λ d. WhyStop d w.seen c.args.of.now c.in-Err.why) (sym c.call.ensures.client) h.1;
     }
 
@@ -25,6 +26,7 @@ returns-in_ok-again-in_default g c =
     let v = g.T.Tx.view c.args.tx.now in
     let w = g.T.Tx.view c.call.new.tx in
     record {
+      met = c.stop.ensures.met;
       client = c.stop.ensures.client ∙ c.call.ensures.client;
       ok = λ rest.
           manage_over v.client c.args.of.now c.args.kind.now v.seen w.seen (g.T.Tx.view c.stop.new.tx).seen c.in-Err.why c.in_ok-again-in_default.again rest c.requires.runs c.in-Err.ensures.err c.in_default.not-Memory c.in_default.not-Room
@@ -49,6 +51,7 @@ returns-in_err-again-in_default g c =
     let w = g.T.Tx.view c.call.new.tx in
     let x = g.T.Tx.view c.stop.new.tx in
     record {
+      met = c.stop.ensures.met;
       client = c.stop.ensures.client ∙ c.call.ensures.client;
       ok = search rules;
       cut = any_err _ c.from_residual.result

@@ -14,4 +14,4 @@ returns-then-eq-clause-ok g c =
 pub returns-in_default : goal.returns-in_default
 returns-in_default g c =
     let v = g.T.Tx.view c.args.tx.now in
-    record { client = refl; ok = stop_other v.client c.args.of.now v.seen c.args.why.now c.requires.runs c.requires.why c.in_default.not-Conflict c.in_default.not-Orphan c.in_default.not-NoQuorum c.in_default.not-Last; cut = tt; room = tt }
+    record { met = c.requires.met; client = refl; ok = stop_other v.client c.args.of.now v.seen c.args.why.now c.requires.runs c.requires.why c.in_default.not-Conflict c.in_default.not-Orphan c.in_default.not-NoQuorum c.in_default.not-Last; cut = tt; room = tt }

@@ -12,6 +12,7 @@ loop-body-preserved g c =
     let w = g.T.Tx.view c.loop-body.tx in
     let x = g.T.Tx.view c.top_tries.new.tx in
     record {
+      met = c.top_tries.ensures.met;
       client = c.top_tries.ensures.client ∙ inv.client;
       left = one_body v.client c.args.bodies.now v.seen w.seen x.seen c.loop-body.body-index c.body-item.result inv.left c.loop-body-test.true c.body-item.is
           (subst (λ d. RanTops d w.seen x.seen (λ rest. numbered c.body-item.result ∷ rest)) inv.client c.in_ok-top_tries.ensures.ok);
@@ -20,7 +21,7 @@ loop-body-preserved g c =
 pub loop-body-init : goal.loop-body-init
 loop-body-init g c =
     let v = g.T.Tx.view c.args.tx.now in
-    record { client = refl; left = no_body v.client c.args.bodies.now v.seen c.requires.legal c.requires.fits }
+    record { met = c.requires.met; client = refl; left = no_body v.client c.args.bodies.now v.seen c.requires.legal c.requires.fits }
 
 pub returns-clause-ok : goal.returns-clause-ok
 returns-clause-ok g c =

@@ -71,6 +71,7 @@ loop-preserved g c =
     (subst (λ p. Ended x.client c.in-Ok.name x.seen y.seen p c.in_ok-steps-in-Ok.field-0) (plan_is body c.as_slice.result.now c.as_slice.ensures.value) c.in_ok-steps-in-Ok.ensures.ok) in
     let tried = top_once v.client c.in-Ok.name (numbered body) w.seen x.seen y.seen (subst (λ r. is_child r c.in-Ok.name ≡ true) c.root.ensures c.in-Ok.ensures.child) made (subst (λ d. Numbers d w.seen x.seen) inv.client c.in-Ok.ensures.number) c.in_ok-steps-in-Ok.field-0 ended in
     record {
+      met = c.steps.ensures.met;
       client = c.steps.ensures.client ∙ c.begin.ensures.client ∙ inv.client;
       left = top_more v.client (numbered body) v.seen w.seen y.seen _ (one_less v.client (numbered body) v.seen w.seen c.loop.counter (subst (λ n. c.loop.counter < n) (sym (tries_of body)) c.loop-test.true) inv.left)
           (subst (TriedTop v.client (numbered body) w.seen y.seen) c.if-not-branch.false tried);
@@ -80,7 +81,7 @@ pub loop-init : goal.loop-init
 loop-init g c =
     let v = g.T.Tx.view c.args.tx.now in
     let b = numbered c.args.body.now in
-    record { client = refl; left = subst (TopTriesLeft v.client b v.seen v.seen) (let e : b.tries ≡ b.tries - 0 = omega arith in e) (no_top v.client b v.seen c.requires.legal) }
+    record { met = c.requires.met; client = refl; left = subst (TopTriesLeft v.client b v.seen v.seen) (let e : b.tries ≡ b.tries - 0 = omega arith in e) (no_top v.client b v.seen c.requires.legal) }
 
 pub returns-clause-ok : goal.returns-clause-ok
 returns-clause-ok g c =
@@ -130,6 +131,7 @@ returns-in-Err g c =
     let x = g.T.Tx.view c.begin.new.self in
     let body = c.args.body.now in
     record {
+      met = c.begin.ensures.met;
       client = c.begin.ensures.client ∙ inv.client;
       ok = tt;
       cut = λ rest.

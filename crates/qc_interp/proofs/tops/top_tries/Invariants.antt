@@ -1,3 +1,4 @@
+use Rattle.qc_script.specs.Calls.{MeetsLink}
 use Rattle.std.proofs.Common.{◌≡◌, ◌-◌}
 use Rattle.qc_script.specs.Steps.{numbered}
 use Rattle.qc_interp.proofs.TopsRun.{TopTriesLeft}
@@ -7,6 +8,7 @@ abbrev pub invariant-loop : goal.invariant-loop
 invariant-loop g l =
     let view = g.T.Tx.view in
     record {
+      met : MeetsLink (view l.tx);
       client : (view l.tx).client ≡ (view l.initial.tx).client;
       left : TopTriesLeft (view l.initial.tx).client (numbered l.body) (view l.initial.tx).seen (view l.tx).seen ((numbered l.body).tries - l.counter);
     }
