@@ -23,8 +23,7 @@ impl LoneClient {
             self.now.client target.now cause.now self.now.seen self.now.seen) }
         ensures legal { Legal self.now.client.setting self.now.seen }
     {
-        // What is kept of the history is seen where its entries are read.
-        let _ = self.entries();
+        self.known();
         if !self.outcome(target).is_live() {
             return Err(TxNo::Ended);
         }
@@ -69,14 +68,20 @@ impl Tx for LoneClient {
 
     fn begin(&mut self, parent: &Name, body: u32) -> Result<Name, TxNo> {
         if parent.is_empty() {
-            return self.begin_top(body);
+            let top = self.begin_top(body);
+            self.known();
+            return top;
         }
         let session = self.session();
-        self.start(parent, &Kind::User { session, body })
+        let child = self.start(parent, &Kind::User { session, body });
+        self.known();
+        child
     }
 
     fn read(&mut self, of: &Name, rec: u8) -> Result<u64, TxNo> {
-        match self.manage(of, &Kind::Read { rec }) {
+        let answer = self.manage(of, &Kind::Read { rec });
+        self.known();
+        match answer {
             Ok(Answer::Value(value)) => Ok(value),
             Ok(_) => unreachable!(),
             Err(why) => Err(why),
@@ -84,7 +89,9 @@ impl Tx for LoneClient {
     }
 
     fn write(&mut self, of: &Name, rec: u8, value: u64) -> Result<(), TxNo> {
-        match self.manage(of, &Kind::Write { rec, value }) {
+        let answer = self.manage(of, &Kind::Write { rec, value });
+        self.known();
+        match answer {
             Ok(_) => Ok(()),
             Err(why) => Err(why),
         }
@@ -95,7 +102,9 @@ impl Tx for LoneClient {
             rec,
             config: *config,
         };
-        match self.manage(of, &kind) {
+        let answer = self.manage(of, &kind);
+        self.known();
+        match answer {
             Ok(Answer::Generation(generation)) => Ok(generation),
             Ok(_) => unreachable!(),
             Err(why) => Err(why),
@@ -108,12 +117,13 @@ impl Tx for LoneClient {
             Err(why) => return Err(why),
         }
         let how = How::Abort(cause);
-        self.act(Event::End { name: *target, how })
+        let ended = self.act(Event::End { name: *target, how });
+        self.known();
+        ended
     }
 
     fn commit(&mut self, of: &Name) -> Result<(), TxNo> {
-        // What is kept of the history is seen where its entries are read.
-        let _ = self.entries();
+        self.known();
         match self.look(of) {
             Ok(()) => {}
             Err(why) => return Err(why),
@@ -122,9 +132,13 @@ impl Tx for LoneClient {
             return Err(TxNo::ChildrenOpen(child));
         }
         if of.len() == 1 {
-            return self.commit_top(of);
+            let committed = self.commit_top(of);
+            self.known();
+            return committed;
         }
         let how = How::Commit(Answer::Nothing);
-        self.act(Event::End { name: *of, how })
+        let ended = self.act(Event::End { name: *of, how });
+        self.known();
+        ended
     }
 }

@@ -129,6 +129,15 @@ impl LoneClient {
         self.line.into_parts()
     }
 
+    // What is kept of the history.
+    pub(crate) fn known(&self)
+        ensures legal { Legal self.now.client.setting self.now.seen }
+        ensures alone { IsAlone self.now.client self.now.seen }
+        ensures met { MeetsFates self.now.client self.now.seen }
+    {
+        let _ = self.entries();
+    }
+
     // Whether the history takes no more entries.
     pub(crate) fn is_full(&self) -> bool
         ensures full { IsTrue result ↔ (length self.now.seen ≡ limit) }

@@ -79,8 +79,7 @@ impl LoneClient {
         ensures legal { Legal self.new.client.setting self.new.seen }
         ensures alone { IsAlone self.new.client self.new.seen }
     {
-        // What is kept of the history is seen where its entries are read.
-        let _ = self.entries();
+        self.known();
         if self.is_full() {
             return Err(TxNo::Room);
         }

@@ -24,8 +24,7 @@ impl LoneClient {
         ensures room { IfErr result (λ e. e ≡ Short.Room → length self.new.seen ≡ limit) }
     {
         let ran = run_tops(self, bodies);
-        // What was made is seen where the entries are read.
-        let _ = self.entries();
+        self.known();
         ran
     }
 }

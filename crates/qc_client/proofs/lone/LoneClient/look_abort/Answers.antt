@@ -19,7 +19,7 @@ returns-clause-ok c =
     let n = c.args.target.now in
     let going = live_is (end v.seen n) (ap is_live (sym c.outcome.ensures) ∙ sym c.is_live.ensures ∙ c.if-not-is_live.false) in
     let unready = sym c.is_ready.ensures ∙ c.if-is_ready.false in
-    may_abort_user v.client v.seen n c.args.cause.now c.entries.ensures.alone c.requires.user going unready
+    may_abort_user v.client v.seen n c.args.cause.now c.known.ensures.alone c.requires.user going unready
     (λ s body k. grounded v.seen n c.args.cause.now c.requires.grounded (λ a is. absurd (c.in_default.not-Orphan a is)) s body k)
 
 pub returns-in-Orphan-clause-ok : goal.returns-in-Orphan-clause-ok
@@ -29,6 +29,6 @@ returns-in-Orphan-clause-ok c =
     let going = live_is (end v.seen n) (ap is_live (sym c.outcome.ensures) ∙ sym c.is_live.ensures ∙ c.if-not-is_live.false) in
     let unready = sym c.is_ready.ensures ∙ c.if-is_ready.false in
     let open' = ap is_committed (sym c.outcome-in-Orphan.ensures) ∙ sym c.is_committed.ensures ∙ c.if-is_committed.false in
-    may_abort_user v.client v.seen n c.args.cause.now c.entries.ensures.alone c.requires.user going unready
+    may_abort_user v.client v.seen n c.args.cause.now c.known.ensures.alone c.requires.user going unready
     (λ s body k. grounded v.seen n c.args.cause.now c.requires.grounded
     (λ a is. let same : c.in-Orphan.ancestor ≡ a = cc (c.in-Orphan.is, is) in ap (λ x. is_committed (outcome v.seen x)) (sym same) ∙ open') s body k)

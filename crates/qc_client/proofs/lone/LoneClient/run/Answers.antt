@@ -10,8 +10,8 @@ run_tops-ran-requires-clause-legal c = subst (λ (p : Past). Legal c.args.self.n
 
 pub returns-clause-follows : goal.returns-clause-follows
 returns-clause-follows c =
-    all_follow c.args.self.now c.run_tops-ran.new.tx (map numbered c.args.bodies.now) c.requires.fresh c.run_tops-ran.ensures.client c.entries.ensures.legal c.entries.ensures.alone c.entries.ensures.met c.run_tops-ran.result c.run_tops-ran.ensures.ok c.run_tops-ran.ensures.turns
+    all_follow c.args.self.now c.run_tops-ran.new.tx (map numbered c.args.bodies.now) c.requires.fresh c.run_tops-ran.ensures.client c.known.ensures.legal c.known.ensures.alone c.known.ensures.met c.run_tops-ran.result c.run_tops-ran.ensures.ok c.run_tops-ran.ensures.turns
 
 pub returns-clause-begins : goal.returns-clause-begins
 returns-clause-begins c =
-    all_begin c.args.self.now c.run_tops-ran.new.tx (map numbered c.args.bodies.now) c.requires.fresh c.run_tops-ran.ensures.client c.entries.ensures.legal c.entries.ensures.alone c.entries.ensures.met c.run_tops-ran.result c.run_tops-ran.ensures.ok c.run_tops-ran.ensures.turns c.run_tops-ran.ensures.cut
+    all_begin c.args.self.now c.run_tops-ran.new.tx (map numbered c.args.bodies.now) c.requires.fresh c.run_tops-ran.ensures.client c.known.ensures.legal c.known.ensures.alone c.known.ensures.met c.run_tops-ran.result c.run_tops-ran.ensures.ok c.run_tops-ran.ensures.turns c.run_tops-ran.ensures.cut

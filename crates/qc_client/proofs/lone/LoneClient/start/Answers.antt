@@ -23,13 +23,13 @@ overflow_cast-number c =
     omega arith
 
 pub children-number-requires : goal.children-number-requires
-children-number-requires c = user_nonroot c.args.self.now.client.setting c.args.self.now.seen c.args.of.now c.entries.ensures.legal c.requires.user
+children-number-requires c = user_nonroot c.args.self.now.client.setting c.args.self.now.seen c.args.of.now c.known.ensures.legal c.requires.user
 
 pub child-name-requires-clause-below_a_top : goal.child-name-requires-clause-below_a_top
-child-name-requires-clause-below_a_top c = user_nonroot c.args.self.now.client.setting c.args.self.now.seen c.args.of.now c.entries.ensures.legal c.requires.user
+child-name-requires-clause-below_a_top c = user_nonroot c.args.self.now.client.setting c.args.self.now.seen c.args.of.now c.known.ensures.legal c.requires.user
 
 pub child-name-requires-clause-room : goal.child-name-requires-clause-room
-child-name-requires-clause-room c = omega (arith, user_depth c.args.self.now.client.setting c.args.self.now.seen c.args.of.now c.entries.ensures.legal c.requires.user)
+child-name-requires-clause-room c = omega (arith, user_depth c.args.self.now.client.setting c.args.self.now.seen c.args.of.now c.known.ensures.legal c.requires.user)
 
 pub act-requires : goal.act-requires
 act-requires c =
@@ -39,7 +39,7 @@ act-requires c =
     let clear = c.in-Ok.ensures.ok in
     record {
       may = subst (λ n. MayEnter v.client v.seen (by_client v.client (event.Start n c.args.kind.now))) (sym c.child-name.ensures)
-          (may_enter_child v.client v.seen of (c.children-number.result + 1) c.args.kind.now c.entries.ensures.legal c.entries.ensures.alone c.requires.user clear (ap (λ k. k + 1) (sym counted)) c.requires.stands);
+          (may_enter_child v.client v.seen of (c.children-number.result + 1) c.args.kind.now c.known.ensures.legal c.known.ensures.alone c.requires.user clear (ap (λ k. k + 1) (sym counted)) c.requires.stands);
     }
 
 pub returns-in-Ok-act-clause-ok : goal.returns-in-Ok-act-clause-ok
@@ -52,6 +52,6 @@ returns-in-Ok-act-clause-ok c =
       named = c.child-name.ensures;
       next = ap (λ k. k + 1) (sym counted);
       clear = c.in-Ok.ensures.ok;
-      nonroot = user_nonroot v.client.setting v.seen of c.entries.ensures.legal c.requires.user;
+      nonroot = user_nonroot v.client.setting v.seen of c.known.ensures.legal c.requires.user;
       grown = c.in-Ok-act.ensures.ok;
     }
