@@ -1,7 +1,8 @@
-//! Asks names, configurations, collections and couriers what each line of the input says, and prints what they
+//! Asks names, configurations, collections, couriers and boards what each line of the input says, and prints what they
 //! answer. Blank lines and titles, which begin with `#`, are printed as they are.
 #![tactic(auto)]
 
+mod boards;
 mod collecting;
 mod configs;
 mod couriers;
@@ -25,6 +26,7 @@ fn answer(rt: &HostRuntime, alloc: Global, collecting: &mut Collecting, line: &s
         "config" => configs::config(rt, words),
         "holds" => configs::holds(rt, words),
         "after" => configs::after(rt, words),
+        "board" => boards::board(rt, alloc, words),
         "courier" => couriers::courier(rt, alloc, words),
         "link" => couriers::link(rt, alloc, words),
         word => collecting.answer(rt, word, words),
