@@ -1,0 +1,26 @@
+//! What is looked up under the lock beside how names stand, each by an index.
+ghost use Rattle.std.specs.Prelude.{◌≡◌, [], is_none};
+ghost use Rattle.qc_event.specs.Standing.{open_child};
+ghost use Rattle.qc_pass.specs.Entries.{WhereLegal};
+
+use crate::history::History;
+use crate::locked::Locked;
+use crate::store::Store;
+
+impl History {
+    /// Whether each started top has its end.
+    pub fn settled(&self) -> bool
+        ensures { WhereLegal self.now (result ≡ is_none (open_child self.now [])) }
+    {
+        self.beside.settled()
+    }
+}
+
+impl<N: Store> Locked<N> {
+    /// Whether each started top has its end.
+    pub(crate) fn settled(&self) -> bool
+        ensures { result ≡ is_none (open_child self.now []) }
+    {
+        self.history.settled()
+    }
+}

@@ -1,0 +1,21 @@
+//! Calls that look something up in the history at their step, and append nothing.
+ghost use Rattle.std.specs.Prelude.{◌≡◌, [], is_none};
+ghost use Rattle.qc_event.specs.Standing.{open_child};
+ghost use Rattle.qc_pass.specs.Calling.{Shown};
+
+use crate::desk::Desk;
+use crate::pass::Pass;
+use crate::store::Store;
+use std::sync::Wait;
+
+impl<N: Store> Desk<N> {
+    /// Whether each top that was started in the history at this step has its end. It takes no memory.
+    pub fn settled<R: Wait>(&self, rt: &R, pass: &mut Pass<N>) -> bool
+        ensures looked { Shown pass.old pass.new }
+        ensures settled { result ≡ is_none (open_child pass.new.seen []) }
+    {
+        let mut locked = self.locked.lock(rt);
+        locked.look(&self.room, pass);
+        locked.settled()
+    }
+}
