@@ -1,1 +1,3 @@
 pub mod OpenTops
+pub mod Beside
+pub mod FirstRefusals

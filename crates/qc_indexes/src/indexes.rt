@@ -1,35 +1,59 @@
 //! All that is kept beside a history.
-ghost use Rattle.std.specs.Prelude.{◌≡◌, [], is_none};
+ghost use Rattle.std.specs.Prelude.{◌≡◌, ◌<◌, [], ◌∷◌, OnOk, is_none, length, reverse};
+ghost use Rattle.qc_event.specs.Base.{Setting};
+ghost use Rattle.qc_event.specs.History.{Past, limit, refused};
+ghost use Rattle.qc_event.specs.Legal.{Legal};
 ghost use Rattle.qc_event.specs.Standing.{open_child};
-ghost use Rattle.qc_desk.specs.Standing.{OfEach, Grows};
+ghost use Rattle.qc_desk.specs.Index.{IsOf};
+ghost use Rattle.qc_desk.specs.Standing.{OfEach};
 ghost use Rattle.qc_indexes.specs.Growing.{CanFollow};
-ghost use Rattle.qc_indexes.specs.Indexes.{AreOf};
+ghost use Rattle.qc_indexes.specs.Indexes.{AreOf, HaveRoom, OfEntries};
 
 use crate::opens::Opens;
-use qc_event::Entry;
+use crate::refusals::Refusals;
+use qc_desk::Index;
+use qc_event::{Entry, Name, Refusal};
+use std::alloc::{AllocError, Global};
 
 /// What is kept beside a history and the index of its names, so that no look goes over the entries.
 #[derive(Drop)]
 pub struct Indexes {
     pub(crate) opens: Opens,
+    pub(crate) refusals: Refusals,
 }
 
 impl Indexes {
     /// Those of no entries. It takes no memory.
-    pub fn new() -> Self
+    pub fn new(alloc: Global) -> Self
         ensures { AreOf result [] }
     {
         Indexes {
             opens: Opens::new(),
+            refusals: Refusals::new(alloc),
         }
     }
 
-    /// Takes in an entry that may come next.
-    pub fn push(&mut self, entry: &Entry)
-        requires { CanFollow (AreOf self.old) entry.now }
-        ensures { Grows (AreOf self.old) (AreOf self.new) entry.now }
+    /// Makes room for an entry more. They stay those of the same history, after an error too.
+    pub fn make_room(&mut self) -> Result<(), AllocError>
+        ensures same { (past : Past) → AreOf self.old past → AreOf self.new past }
+        ensures room { OnOk result ((past : Past) → AreOf self.old past →
+            HaveRoom self.new past) }
+    {
+        self.refusals.make_room()
+    }
+
+    /// Takes in an entry that may come next, for which room was made, at its place. The index of names has it. It
+    /// takes no memory.
+    pub fn push(&mut self, entry: &Entry, names: &Index, at: u32)
+        requires follows { CanFollow (AreOf self.old) entry.now }
+        requires at { at < limit }
+        ensures { (setting : Setting) → (past : Past) → AreOf self.old past →
+            HaveRoom self.old past → IsOf names.now (entry.now ∷ past) →
+            Legal setting (entry.now ∷ past) → at ≡ length past →
+            AreOf self.new (entry.now ∷ past) }
     {
         self.opens.push(entry);
+        self.refusals.push(entry, names, at);
     }
 
     /// Whether each started top has its end.
@@ -37,5 +61,13 @@ impl Indexes {
         ensures { OfEach (AreOf self.now) (λ past. result ≡ is_none (open_child past [])) }
     {
         self.opens.is_none()
+    }
+
+    /// The first refusal of an access.
+    pub fn refusal(&self, names: &Index, entries: &[Entry], access: &Name) -> Option<Refusal>
+        ensures { OfEntries self.now names.now (reverse entries.now)
+            (λ past. result ≡ refused past access.now) }
+    {
+        self.refusals.first(names, entries, access)
     }
 }

@@ -3,5 +3,7 @@
 
 mod indexes;
 mod opens;
+mod refusals;
+mod slots;
 
 pub use indexes::Indexes;

@@ -75,7 +75,7 @@ impl History {
         History {
             entries: Vec::new(alloc),
             index: Index::new(alloc),
-            beside: Indexes::new(),
+            beside: Indexes::new(alloc),
         }
     }
 
@@ -94,8 +94,10 @@ impl History {
         ensures err { OnErr result (self.new ≡ self.old) }
     {
         make_room(&mut self.entries)?;
+        self.beside.make_room()?;
+        let at = self.entries.len() as u32;
         self.index.push(entry)?;
-        self.beside.push(entry);
+        self.beside.push(entry, &self.index, at);
         put(&mut self.entries, *entry);
         Ok(())
     }

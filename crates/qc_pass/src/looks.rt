@@ -1,14 +1,32 @@
 //! Calls that look something up in the history at their step, and append nothing.
 ghost use Rattle.std.specs.Prelude.{◌≡◌, [], is_none};
+ghost use Rattle.qc_event.specs.History.{refused};
 ghost use Rattle.qc_event.specs.Standing.{open_child};
 ghost use Rattle.qc_pass.specs.Calling.{Shown};
 
 use crate::desk::Desk;
 use crate::pass::Pass;
 use crate::store::Store;
+use qc_event::{Name, Refusal};
 use std::sync::Wait;
 
 impl<N: Store> Desk<N> {
+    /// The first refusal of an access in the history at this step; none exactly where there is none. It takes no
+    /// memory.
+    pub fn refusal<R: Wait>(
+        &self,
+        rt: &R,
+        pass: &mut Pass<N>,
+        access: &Name,
+    ) -> Option<Refusal>
+        ensures looked { Shown pass.old pass.new }
+        ensures first { result ≡ refused pass.new.seen access.now }
+    {
+        let mut locked = self.locked.lock(rt);
+        locked.look(&self.room, pass);
+        locked.refusal(access)
+    }
+
     /// Whether each top that was started in the history at this step has its end. It takes no memory.
     pub fn settled<R: Wait>(&self, rt: &R, pass: &mut Pass<N>) -> bool
         ensures looked { Shown pass.old pass.new }
