@@ -1,3 +1,4 @@
 pub mod OpenTops
 pub mod Beside
 pub mod FirstRefusals
+pub mod Marked

@@ -5,6 +5,7 @@ use Rattle.qc_event.specs.History.{Past}
 use Rattle.qc_event.specs.Legal.{Legal}
 use Rattle.qc_desk.specs.Index.{Shape, IsOf}
 use Rattle.qc_indexes.specs.declared.indexes.Indexes.{Indexes}
+use Rattle.qc_indexes.specs.Marks.{AreMarks}
 use Rattle.qc_indexes.specs.Opens.{AreOpen}
 use Rattle.qc_indexes.specs.Refusals.{AreRefusals}
 
@@ -12,6 +13,7 @@ use Rattle.qc_indexes.specs.Refusals.{AreRefusals}
 pub record AreIndexes (past : Past) (indexes : Indexes) : Type 0 where
   pub opens : AreOpen indexes.opens past
   pub refusals : AreRefusals indexes.refusals past
+  pub marks : AreMarks indexes.marks past
 
 -- what is kept is kept of a history
 abbrev pub AreOf : Indexes → Past → Type 0

@@ -4,11 +4,13 @@ ghost use Rattle.qc_event.specs.Base.{Setting};
 ghost use Rattle.qc_event.specs.History.{Past, limit, refused};
 ghost use Rattle.qc_event.specs.Legal.{Legal};
 ghost use Rattle.qc_event.specs.Standing.{open_child};
+ghost use Rattle.qc_event.specs.Users.{is_marked, top_number};
 ghost use Rattle.qc_desk.specs.Index.{IsOf};
 ghost use Rattle.qc_desk.specs.Standing.{OfEach};
 ghost use Rattle.qc_indexes.specs.Growing.{CanFollow};
 ghost use Rattle.qc_indexes.specs.Indexes.{AreOf, HaveRoom, OfEntries};
 
+use crate::marks::Marks;
 use crate::opens::Opens;
 use crate::refusals::Refusals;
 use qc_desk::Index;
@@ -20,6 +22,7 @@ use std::alloc::{AllocError, Global};
 pub struct Indexes {
     pub(crate) opens: Opens,
     pub(crate) refusals: Refusals,
+    pub(crate) marks: Marks,
 }
 
 impl Indexes {
@@ -30,6 +33,7 @@ impl Indexes {
         Indexes {
             opens: Opens::new(),
             refusals: Refusals::new(alloc),
+            marks: Marks::new(),
         }
     }
 
@@ -54,6 +58,7 @@ impl Indexes {
     {
         self.opens.push(entry);
         self.refusals.push(entry, names, at);
+        self.marks.push(entry);
     }
 
     /// Whether each started top has its end.
@@ -69,5 +74,13 @@ impl Indexes {
             (λ past. result ≡ refused past access.now) }
     {
         self.refusals.first(names, entries, access)
+    }
+
+    /// Whether a session is marked by a transaction whose top has at least the number of a name's top.
+    pub fn marked(&self, session: u8, name: &Name) -> bool
+        ensures { OfEach (AreOf self.now)
+            (λ past. result ≡ is_marked past session (top_number name.now)) }
+    {
+        self.marks.reach(session, name)
     }
 }

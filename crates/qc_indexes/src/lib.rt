@@ -2,6 +2,7 @@
 #![tactic(auto)]
 
 mod indexes;
+mod marks;
 mod opens;
 mod refusals;
 mod slots;

@@ -3,11 +3,23 @@ ghost use Rattle.std.specs.Prelude.{◌≡◌, [], is_none};
 ghost use Rattle.qc_event.specs.History.{refused};
 ghost use Rattle.qc_event.specs.Standing.{open_child};
 ghost use Rattle.qc_pass.specs.Entries.{WhereLegal};
+ghost use Rattle.qc_pass.specs.Looking as words;
+ghost use Rattle.qc_pass.specs.Looking.{is_marked_for};
 
 use crate::history::History;
 use crate::locked::Locked;
 use crate::store::Store;
-use qc_event::{Name, Refusal};
+use qc_event::{Kind, Name, Refusal};
+
+// The session of a user transaction.
+fn session_of(kind: &Kind) -> Option<u8>
+    ensures { result ≡ words.session_of kind.now }
+{
+    match kind {
+        Kind::User { session, .. } => Some(*session),
+        _ => None,
+    }
+}
 
 impl History {
     /// The first refusal of an access.
@@ -16,6 +28,19 @@ impl History {
     {
         self.beside
             .refusal(&self.index, self.entries.as_slice(), access)
+    }
+
+    /// Whether a user transaction is marked to be killed.
+    pub fn marked(&self, of: &Name) -> bool
+        ensures { WhereLegal self.now (result ≡ is_marked_for self.now of.now) }
+    {
+        let Some(kind) = self.index.kind(self.entries.as_slice(), of) else {
+            return false;
+        };
+        let Some(session) = session_of(&kind) else {
+            return false;
+        };
+        self.beside.marked(session, of)
     }
 
     /// Whether each started top has its end.
@@ -32,6 +57,13 @@ impl<N: Store> Locked<N> {
         ensures { result ≡ refused self.now access.now }
     {
         self.history.refusal(access)
+    }
+
+    /// Whether a user transaction is marked to be killed.
+    pub(crate) fn marked(&self, of: &Name) -> bool
+        ensures { result ≡ is_marked_for self.now of.now }
+    {
+        self.history.marked(of)
     }
 
     /// Whether each started top has its end.

@@ -3,6 +3,7 @@ ghost use Rattle.std.specs.Prelude.{◌≡◌, [], is_none};
 ghost use Rattle.qc_event.specs.History.{refused};
 ghost use Rattle.qc_event.specs.Standing.{open_child};
 ghost use Rattle.qc_pass.specs.Calling.{Shown};
+ghost use Rattle.qc_pass.specs.Looking.{is_marked_for};
 
 use crate::desk::Desk;
 use crate::pass::Pass;
@@ -25,6 +26,17 @@ impl<N: Store> Desk<N> {
         let mut locked = self.locked.lock(rt);
         locked.look(&self.room, pass);
         locked.refusal(access)
+    }
+
+    /// Whether a mark stands, in the history at this step, that lets a user transaction be killed: of its session, by
+    /// a transaction whose top has at least the number of its own. It takes no memory.
+    pub fn marked<R: Wait>(&self, rt: &R, pass: &mut Pass<N>, of: &Name) -> bool
+        ensures looked { Shown pass.old pass.new }
+        ensures marked { result ≡ is_marked_for pass.new.seen of.now }
+    {
+        let mut locked = self.locked.lock(rt);
+        locked.look(&self.room, pass);
+        locked.marked(of)
     }
 
     /// Whether each top that was started in the history at this step has its end. It takes no memory.
