@@ -1,15 +1,17 @@
 //! All that is kept beside a history.
-ghost use Rattle.std.specs.Prelude.{◌≡◌, ◌<◌, [], ◌∷◌, OnOk, is_none, length, reverse};
+ghost use Rattle.std.specs.Prelude.{◌≡◌, ◌<◌, [], ◌∷◌, OnOk, IfOk, is_none, length, reverse};
 ghost use Rattle.qc_event.specs.Base.{Setting};
 ghost use Rattle.qc_event.specs.History.{Past, limit, refused};
 ghost use Rattle.qc_event.specs.Legal.{Legal};
+ghost use Rattle.qc_event.specs.Listed.{aborted_below};
 ghost use Rattle.qc_event.specs.Standing.{open_child};
 ghost use Rattle.qc_event.specs.Users.{is_marked, top_number};
 ghost use Rattle.qc_desk.specs.Index.{IsOf};
 ghost use Rattle.qc_desk.specs.Standing.{OfEach};
 ghost use Rattle.qc_indexes.specs.Growing.{CanFollow};
-ghost use Rattle.qc_indexes.specs.Indexes.{AreOf, HaveRoom, OfEntries};
+ghost use Rattle.qc_indexes.specs.Indexes.{AreOf, AreKept, HaveRoom, OfEntries};
 
+use crate::aborts::Aborts;
 use crate::marks::Marks;
 use crate::opens::Opens;
 use crate::refusals::Refusals;
@@ -20,9 +22,11 @@ use std::alloc::{AllocError, Global};
 /// What is kept beside a history and the index of its names, so that no look goes over the entries.
 #[derive(Drop)]
 pub struct Indexes {
+    alloc: Global,
     pub(crate) opens: Opens,
     pub(crate) refusals: Refusals,
     pub(crate) marks: Marks,
+    pub(crate) aborts: Aborts,
 }
 
 impl Indexes {
@@ -31,9 +35,11 @@ impl Indexes {
         ensures { AreOf result [] }
     {
         Indexes {
+            alloc,
             opens: Opens::new(),
             refusals: Refusals::new(alloc),
             marks: Marks::new(),
+            aborts: Aborts::new(alloc),
         }
     }
 
@@ -43,7 +49,8 @@ impl Indexes {
         ensures room { OnOk result ((past : Past) → AreOf self.old past →
             HaveRoom self.new past) }
     {
-        self.refusals.make_room()
+        self.refusals.make_room()?;
+        self.aborts.make_room()
     }
 
     /// Takes in an entry that may come next, for which room was made, at its place. The index of names has it. It
@@ -59,6 +66,7 @@ impl Indexes {
         self.opens.push(entry);
         self.refusals.push(entry, names, at);
         self.marks.push(entry);
+        self.aborts.push(entry, names, at);
     }
 
     /// Whether each started top has its end.
@@ -82,5 +90,21 @@ impl Indexes {
             (λ past. result ≡ is_marked past session (top_number name.now)) }
     {
         self.marks.reach(session, name)
+    }
+
+    /// The aborted descendants of a top whose parent is not aborted, in the order of their ends. It reads each abort
+    /// below the top once, those below an aborted name too. The only error is want of memory for the list.
+    pub fn aborted_below(
+        &self,
+        names: &Index,
+        entries: &[Entry],
+        top: &Name,
+    ) -> Result<Vec<Name>, AllocError>
+        requires kept { AreKept self.now names.now (reverse entries.now) }
+        requires top { length top.now ≡ 1 }
+        ensures { IfOk result (λ found.
+            found.items ≡ aborted_below (reverse entries.now) top.now) }
+    {
+        self.aborts.below(self.alloc, names, entries, top)
     }
 }

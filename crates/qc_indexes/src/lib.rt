@@ -1,6 +1,7 @@
 //! What is kept beside a history, so that no look at it goes over its entries.
 #![tactic(auto)]
 
+mod aborts;
 mod indexes;
 mod marks;
 mod opens;

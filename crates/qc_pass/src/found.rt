@@ -1,6 +1,9 @@
 //! What is looked up under the lock beside how names stand, each by an index.
-ghost use Rattle.std.specs.Prelude.{◌≡◌, [], is_none};
+ghost use Rattle.std.specs.Prelude.{◌≡◌, [], is_none, length, IfOk};
+ghost use Rattle.qc_event.specs.Base.{Setting};
 ghost use Rattle.qc_event.specs.History.{refused};
+ghost use Rattle.qc_event.specs.Legal.{Legal};
+ghost use Rattle.qc_event.specs.Listed.{aborted_below};
 ghost use Rattle.qc_event.specs.Standing.{open_child};
 ghost use Rattle.qc_pass.specs.Entries.{WhereLegal};
 ghost use Rattle.qc_pass.specs.Looking as words;
@@ -10,6 +13,7 @@ use crate::history::History;
 use crate::locked::Locked;
 use crate::store::Store;
 use qc_event::{Kind, Name, Refusal};
+use std::alloc::AllocError;
 
 // The session of a user transaction.
 fn session_of(kind: &Kind) -> Option<u8>
@@ -43,6 +47,16 @@ impl History {
         self.beside.marked(session, of)
     }
 
+    /// The aborted descendants of a top whose parent is not aborted, in the order of their ends.
+    pub fn aborted_below(&self, top: &Name) -> Result<Vec<Name>, AllocError>
+        requires legal { (setting : Setting) × Legal setting self.now }
+        requires top { length top.now ≡ 1 }
+        ensures { IfOk result (λ found. found.items ≡ aborted_below self.now top.now) }
+    {
+        self.beside
+            .aborted_below(&self.index, self.entries.as_slice(), top)
+    }
+
     /// Whether each started top has its end.
     pub fn settled(&self) -> bool
         ensures { WhereLegal self.now (result ≡ is_none (open_child self.now [])) }
@@ -64,6 +78,14 @@ impl<N: Store> Locked<N> {
         ensures { result ≡ is_marked_for self.now of.now }
     {
         self.history.marked(of)
+    }
+
+    /// The aborted descendants of a top whose parent is not aborted, in the order of their ends.
+    pub(crate) fn aborted_below(&self, top: &Name) -> Result<Vec<Name>, AllocError>
+        requires { length top.now ≡ 1 }
+        ensures { IfOk result (λ found. found.items ≡ aborted_below self.now top.now) }
+    {
+        self.history.aborted_below(top)
     }
 
     /// Whether each started top has its end.
