@@ -4,3 +4,4 @@ pub mod FirstRefusals
 pub mod Marked
 pub mod Linking
 pub mod AbortsBelow
+pub mod GrantsBack

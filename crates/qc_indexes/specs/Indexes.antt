@@ -6,6 +6,7 @@ use Rattle.qc_event.specs.Legal.{Legal}
 use Rattle.qc_desk.specs.Index.{Shape, IsOf}
 use Rattle.qc_indexes.specs.declared.indexes.Indexes.{Indexes}
 use Rattle.qc_indexes.specs.Aborts.{AreAborts}
+use Rattle.qc_indexes.specs.Grants.{AreGrants}
 use Rattle.qc_indexes.specs.Marks.{AreMarks}
 use Rattle.qc_indexes.specs.Opens.{AreOpen}
 use Rattle.qc_indexes.specs.Refusals.{AreRefusals}
@@ -16,6 +17,7 @@ pub record AreIndexes (past : Past) (indexes : Indexes) : Type 0 where
   pub refusals : AreRefusals indexes.refusals past
   pub marks : AreMarks indexes.marks past
   pub aborts : AreAborts indexes.aborts past
+  pub grants : AreGrants indexes.grants past
 
 -- what is kept is kept of a history
 abbrev pub AreOf : Indexes → Past → Type 0
@@ -26,6 +28,7 @@ pub record HasRoom (past : Past) (indexes : Indexes) : Type 0 where
   pub refusals : length past < length indexes.refusals.firsts.items
   pub last_aborts : length past < length indexes.aborts.last.items
   pub aborts : length past < length indexes.aborts.before.items
+  pub grants : length past < length indexes.grants.before.items
 
 abbrev pub HaveRoom : Indexes → Past → Type 0
 HaveRoom indexes past = HasRoom past indexes

@@ -5,4 +5,5 @@ pub mod Refusals
 pub mod Marks
 pub mod Chains
 pub mod Aborts
+pub mod Grants
 pub mod Indexes

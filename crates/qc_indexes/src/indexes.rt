@@ -1,7 +1,7 @@
 //! All that is kept beside a history.
 ghost use Rattle.std.specs.Prelude.{◌≡◌, ◌<◌, [], ◌∷◌, OnOk, IfOk, is_none, length, reverse};
 ghost use Rattle.qc_event.specs.Base.{Setting};
-ghost use Rattle.qc_event.specs.History.{Past, limit, refused};
+ghost use Rattle.qc_event.specs.History.{Past, limit, grants, refused};
 ghost use Rattle.qc_event.specs.Legal.{Legal};
 ghost use Rattle.qc_event.specs.Listed.{aborted_below};
 ghost use Rattle.qc_event.specs.Standing.{open_child};
@@ -9,14 +9,16 @@ ghost use Rattle.qc_event.specs.Users.{is_marked, top_number};
 ghost use Rattle.qc_desk.specs.Index.{IsOf};
 ghost use Rattle.qc_desk.specs.Standing.{OfEach};
 ghost use Rattle.qc_indexes.specs.Growing.{CanFollow};
+ghost use Rattle.qc_indexes.specs.Grants.{Differs};
 ghost use Rattle.qc_indexes.specs.Indexes.{AreOf, AreKept, HaveRoom, OfEntries};
 
 use crate::aborts::Aborts;
+use crate::grants::Grants;
 use crate::marks::Marks;
 use crate::opens::Opens;
 use crate::refusals::Refusals;
 use qc_desk::Index;
-use qc_event::{Entry, Name, Refusal};
+use qc_event::{Entry, Grant, Name, Refusal};
 use std::alloc::{AllocError, Global};
 
 /// What is kept beside a history and the index of its names, so that no look goes over the entries.
@@ -27,6 +29,7 @@ pub struct Indexes {
     pub(crate) refusals: Refusals,
     pub(crate) marks: Marks,
     pub(crate) aborts: Aborts,
+    pub(crate) grants: Grants,
 }
 
 impl Indexes {
@@ -40,6 +43,7 @@ impl Indexes {
             refusals: Refusals::new(alloc),
             marks: Marks::new(),
             aborts: Aborts::new(alloc),
+            grants: Grants::new(alloc),
         }
     }
 
@@ -50,7 +54,8 @@ impl Indexes {
             HaveRoom self.new past) }
     {
         self.refusals.make_room()?;
-        self.aborts.make_room()
+        self.aborts.make_room()?;
+        self.grants.make_room()
     }
 
     /// Takes in an entry that may come next, for which room was made, at its place. The index of names has it. It
@@ -67,6 +72,7 @@ impl Indexes {
         self.refusals.push(entry, names, at);
         self.marks.push(entry);
         self.aborts.push(entry, names, at);
+        self.grants.push(entry, at);
     }
 
     /// Whether each started top has its end.
@@ -106,5 +112,15 @@ impl Indexes {
             found.items ≡ aborted_below (reverse entries.now) top.now) }
     {
         self.aborts.below(self.alloc, names, entries, top)
+    }
+
+    /// The first of a copy's grants where another or none was given, with its index. It reads each grant of the copy
+    /// once.
+    pub fn differ(&self, entries: &[Entry], copy: u8, given: &[Grant]) -> Option<(usize, Grant)>
+        requires kept { AreOf self.now (reverse entries.now) }
+        requires small { copy < 16 }
+        ensures { Differs given.now (grants (reverse entries.now) copy) result }
+    {
+        self.grants.differ(entries, copy, given)
     }
 }

@@ -2,6 +2,7 @@
 #![tactic(auto)]
 
 mod aborts;
+mod grants;
 mod indexes;
 mod marks;
 mod opens;

@@ -1,10 +1,11 @@
 //! What is looked up under the lock beside how names stand, each by an index.
-ghost use Rattle.std.specs.Prelude.{◌≡◌, [], is_none, length, IfOk};
+ghost use Rattle.std.specs.Prelude.{◌≡◌, ◌<◌, [], is_none, length, IfOk};
 ghost use Rattle.qc_event.specs.Base.{Setting};
-ghost use Rattle.qc_event.specs.History.{refused};
+ghost use Rattle.qc_event.specs.History.{grants, refused};
 ghost use Rattle.qc_event.specs.Legal.{Legal};
 ghost use Rattle.qc_event.specs.Listed.{aborted_below};
 ghost use Rattle.qc_event.specs.Standing.{open_child};
+ghost use Rattle.qc_indexes.specs.Grants.{Differs};
 ghost use Rattle.qc_pass.specs.Entries.{WhereLegal};
 ghost use Rattle.qc_pass.specs.Looking as words;
 ghost use Rattle.qc_pass.specs.Looking.{is_marked_for};
@@ -12,7 +13,7 @@ ghost use Rattle.qc_pass.specs.Looking.{is_marked_for};
 use crate::history::History;
 use crate::locked::Locked;
 use crate::store::Store;
-use qc_event::{Kind, Name, Refusal};
+use qc_event::{Grant, Kind, Name, Refusal};
 use std::alloc::AllocError;
 
 // The session of a user transaction.
@@ -57,6 +58,14 @@ impl History {
             .aborted_below(&self.index, self.entries.as_slice(), top)
     }
 
+    /// The first of a copy's grants where another or none was given, with its index.
+    pub fn differ(&self, copy: u8, given: &[Grant]) -> Option<(usize, Grant)>
+        requires { copy < 16 }
+        ensures { Differs given.now (grants self.now copy) result }
+    {
+        self.beside.differ(self.entries.as_slice(), copy, given)
+    }
+
     /// Whether each started top has its end.
     pub fn settled(&self) -> bool
         ensures { WhereLegal self.now (result ≡ is_none (open_child self.now [])) }
@@ -86,6 +95,14 @@ impl<N: Store> Locked<N> {
         ensures { IfOk result (λ found. found.items ≡ aborted_below self.now top.now) }
     {
         self.history.aborted_below(top)
+    }
+
+    /// The first of a copy's grants where another or none was given, with its index.
+    pub(crate) fn differ(&self, copy: u8, given: &[Grant]) -> Option<(usize, Grant)>
+        requires { copy < 16 }
+        ensures { Differs given.now (grants self.now copy) result }
+    {
+        self.history.differ(copy, given)
     }
 
     /// Whether each started top has its end.

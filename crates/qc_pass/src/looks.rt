@@ -1,14 +1,15 @@
 //! Calls that look something up in the history at their step, and append nothing.
-ghost use Rattle.std.specs.Prelude.{◌≡◌, [], is_none};
-ghost use Rattle.qc_event.specs.History.{refused};
+ghost use Rattle.std.specs.Prelude.{◌≡◌, ◌<◌, [], is_none};
+ghost use Rattle.qc_event.specs.History.{grants, refused};
 ghost use Rattle.qc_event.specs.Standing.{open_child};
+ghost use Rattle.qc_indexes.specs.Grants.{Differs};
 ghost use Rattle.qc_pass.specs.Calling.{Shown};
 ghost use Rattle.qc_pass.specs.Looking.{is_marked_for};
 
 use crate::desk::Desk;
 use crate::pass::Pass;
 use crate::store::Store;
-use qc_event::{Name, Refusal};
+use qc_event::{Grant, Name, Refusal};
 use std::sync::Wait;
 
 impl<N: Store> Desk<N> {
@@ -47,5 +48,24 @@ impl<N: Store> Desk<N> {
         let mut locked = self.locked.lock(rt);
         locked.look(&self.room, pass);
         locked.settled()
+    }
+
+    /// None exactly where the grants given begin with a copy's, all of them in order, in the history at this step. Else
+    /// the first index at which the copy has a grant and another or none was given, and the copy's grant there. It takes
+    /// no memory, and reads each grant of the copy once.
+    pub fn matches<R: Wait>(
+        &self,
+        rt: &R,
+        pass: &mut Pass<N>,
+        copy: u8,
+        given: &[Grant],
+    ) -> Option<(usize, Grant)>
+        requires { copy < 16 }
+        ensures looked { Shown pass.old pass.new }
+        ensures differs { Differs given.now (grants pass.new.seen copy) result }
+    {
+        let mut locked = self.locked.lock(rt);
+        locked.look(&self.room, pass);
+        locked.differ(copy, given)
     }
 }
