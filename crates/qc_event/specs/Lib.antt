@@ -15,3 +15,4 @@ pub mod Grants
 pub mod Commits
 pub mod Aborts
 pub mod Legal
+pub mod Listed

@@ -11,6 +11,7 @@ ghost use Rattle.qc_pass.specs.Entries.{WhereLegal};
 
 use qc_desk::{Index, Outcomes};
 use qc_event::{Entry, Event, How, Name, Outcome, Short};
+use qc_indexes::Indexes;
 use std::alloc::{AllocError, Global};
 use std::marker::Model;
 
@@ -42,12 +43,13 @@ fn end_in(entry: &Entry, n: &Name) -> Option<How>
     }
 }
 
-/// A legal history with its index. Contracts see it with its latest entry first. How a name stands is found by the
-/// index, in a step for each of the name's numbers, however long the history is.
+/// A legal history with its indexes. Contracts see it with its latest entry first. How a name stands is found by the
+/// index of names, in a step for each of the name's numbers, however long the history is; no other look scans it either.
 #[derive(Drop)]
 pub struct History {
-    entries: Vec<Entry>,
-    index: Index,
+    pub(crate) entries: Vec<Entry>,
+    pub(crate) index: Index,
+    pub(crate) beside: Indexes,
 }
 
 impl Model for History {
@@ -55,13 +57,14 @@ impl Model for History {
     ghost use Rattle.qc_event.specs.declared.event.Entry.{Entry};
     ghost use Rattle.qc_event.specs.History.{limit};
     ghost use Rattle.qc_desk.specs.Index.{IsOf};
+    ghost use Rattle.qc_indexes.specs.Indexes.{AreOf};
 
     ghost Value = { List Entry };
 
     ghost view = { λ h. reverse h.entries.items };
 
-    ghost invariant = { λ h.
-        (length h.entries.items ≤ limit) × IsOf h.index (reverse h.entries.items) };
+    ghost invariant = { λ h. (length h.entries.items ≤ limit)
+        × IsOf h.index (reverse h.entries.items) × AreOf h.beside (reverse h.entries.items) };
 }
 
 impl History {
@@ -72,6 +75,7 @@ impl History {
         History {
             entries: Vec::new(alloc),
             index: Index::new(alloc),
+            beside: Indexes::new(alloc),
         }
     }
 
@@ -90,7 +94,10 @@ impl History {
         ensures err { OnErr result (self.new ≡ self.old) }
     {
         make_room(&mut self.entries)?;
+        self.beside.make_room()?;
+        let at = self.entries.len() as u32;
         self.index.push(entry)?;
+        self.beside.push(entry, &self.index, at);
         put(&mut self.entries, *entry);
         Ok(())
     }

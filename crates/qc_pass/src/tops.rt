@@ -3,6 +3,7 @@ ghost use Rattle.std.specs.Prelude.{◌≡◌, ◌≤◌, ◌+◌, true, length,
 ghost use Rattle.qc_event.specs.declared.event.Event.TheVariants as event;
 ghost use Rattle.qc_event.specs.declared.event.Kind.TheVariants as kind;
 ghost use Rattle.qc_event.specs.History.{Past, start, children};
+ghost use Rattle.qc_event.specs.Listed.{listed};
 ghost use Rattle.qc_event.specs.Seats as seats;
 ghost use Rattle.qc_event.specs.Standing.{Started, IsUser};
 ghost use Rattle.qc_pass.specs.Calling.{EnteredAs, Entered, Refused};
@@ -50,19 +51,32 @@ impl<N: Store> Desk<N> {
         Ok(top)
     }
 
-    /// A top is ready: from then on it is not aborted. Refused where it has ended, is ready, or has a child that has
-    /// not ended.
-    pub fn ready<R: Wait>(&self, rt: &R, pass: &mut Pass<N>, top: &Name) -> Result<(), DeskNo>
+    /// A top is ready: from then on it is not aborted. It tells the top's aborted descendants whose parent is not
+    /// aborted, in the order of their ends. Refused where it has ended, is ready, or has a child that has not ended.
+    /// An error leaves the history as it was. It reads each abort below the top once.
+    pub fn ready<R: Wait>(
+        &self,
+        rt: &R,
+        pass: &mut Pass<N>,
+        top: &Name,
+    ) -> Result<Vec<Name>, DeskNo>
         requires client { IsClient pass.old }
         requires started { (length top.now ≡ 1) × (is_some (start pass.old.seen top.now) ≡ true) }
         ensures ok { OnOk result
             (Entered (against_ready top.now) (event.Ready top.now) pass.old pass.new) }
+        ensures list { IfOk result (λ found. found.items ≡ listed pass.new.seen top.now) }
         ensures err { IfErr result (Refused (against_ready top.now) pass.old pass.new) }
     {
         let mut locked = self.locked.lock(rt);
         locked.look(&self.room, pass);
-        let no = locked.against_ready(top);
-        locked.enter(&self.room, pass, no, Event::Ready { top: *top })
+        if let Some(why) = locked.against_ready(top) {
+            return Err(why);
+        }
+        let Ok(found) = locked.aborted_below(top) else {
+            return Err(DeskNo::Memory);
+        };
+        locked.enter(&self.room, pass, None, Event::Ready { top: *top })?;
+        Ok(found)
     }
 
     /// A user transaction whose start was seen marks a session, whose number is at most 15. The only errors are

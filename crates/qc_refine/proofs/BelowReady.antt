@@ -24,7 +24,7 @@ use Rattle.qc_event.proofs.Orderly.{Orderly, KeepsOrder, BecomesReady}
 use Rattle.qc_event.proofs.Lawful.{Lawful, lawful, ChildStart, child_starts, no_open_child, parent_started}
 use Rattle.qc_event.proofs.Lineage.{dead_parent, alive_not_aborted}
 use Rattle.qc_simlock.proofs.Above.{other_length}
-use Rattle.qc_refine.specs.Listed.{aborted_in, aborted_below, listed}
+use Rattle.qc_event.specs.Listed.{aborted_in, aborted_below, listed}
 use Rattle.qc_refine.proofs.LiveGrants.{alive_before}
 
 -- ENDS THAT STAY

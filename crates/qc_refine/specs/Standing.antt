@@ -9,7 +9,8 @@ use Rattle.qc_event.specs.declared.event.How.TheVariants.{Commit}
 use Rattle.qc_event.specs.Base.{Setting}
 use Rattle.qc_event.specs.History.{Past, Name, start, is_ready, asked, granted, grants, IsOpen}
 use Rattle.qc_event.specs.Seats.{ledger_seat}
-use Rattle.qc_refine.specs.Listed.{listed, logged}
+use Rattle.qc_event.specs.Listed.{listed}
+use Rattle.qc_refine.specs.Listed.{logged}
 use Rattle.qc_refine.specs.Restored.{Logged, Kept, granted_at, restored}
 
 -- WHAT THE HISTORY DOES NOT TELL YET

@@ -1,0 +1,42 @@
+-- What is kept beside a history.
+use Rattle.std.specs.Prelude.{◌<◌, length}
+use Rattle.qc_event.specs.Base.{Setting}
+use Rattle.qc_event.specs.History.{Past}
+use Rattle.qc_event.specs.Legal.{Legal}
+use Rattle.qc_desk.specs.Index.{Shape, IsOf}
+use Rattle.qc_indexes.specs.declared.indexes.Indexes.{Indexes}
+use Rattle.qc_indexes.specs.Aborts.{AreAborts}
+use Rattle.qc_indexes.specs.Grants.{AreGrants}
+use Rattle.qc_indexes.specs.Marks.{AreMarks}
+use Rattle.qc_indexes.specs.Opens.{AreOpen}
+use Rattle.qc_indexes.specs.Refusals.{AreRefusals}
+
+-- Each is that of a history.
+pub record AreIndexes (past : Past) (indexes : Indexes) : Type 0 where
+  pub opens : AreOpen indexes.opens past
+  pub refusals : AreRefusals indexes.refusals past
+  pub marks : AreMarks indexes.marks past
+  pub aborts : AreAborts indexes.aborts past
+  pub grants : AreGrants indexes.grants past
+
+-- what is kept is kept of a history
+abbrev pub AreOf : Indexes → Past → Type 0
+AreOf indexes past = AreIndexes past indexes
+
+-- There is room for an entry more.
+pub record HasRoom (past : Past) (indexes : Indexes) : Type 0 where
+  pub refusals : length past < length indexes.refusals.firsts.items
+  pub last_aborts : length past < length indexes.aborts.last.items
+  pub aborts : length past < length indexes.aborts.before.items
+  pub grants : length past < length indexes.grants.before.items
+
+abbrev pub HaveRoom : Indexes → Past → Type 0
+HaveRoom indexes past = HasRoom past indexes
+
+-- a fact holds of a legal history, where this is kept beside it and its names are indexed
+abbrev pub OfEntries : Indexes → Shape → Past → (Past → Type 0) → Type 0
+OfEntries indexes names past fact = (setting : Setting) → AreOf indexes past → IsOf names past → Legal setting past → fact past
+
+-- this is kept beside a legal history whose names are indexed
+abbrev pub AreKept : Indexes → Shape → Past → Type 0
+AreKept indexes names past = (setting : Setting) × AreOf indexes past × IsOf names past × Legal setting past

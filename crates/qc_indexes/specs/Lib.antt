@@ -1,0 +1,9 @@
+pub mod Growing
+pub mod Opens
+pub mod Slots
+pub mod Refusals
+pub mod Marks
+pub mod Chains
+pub mod Aborts
+pub mod Grants
+pub mod Indexes

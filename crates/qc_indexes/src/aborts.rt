@@ -1,0 +1,160 @@
+//! Who was aborted below each top.
+ghost use Rattle.std.specs.Prelude.{◌≡◌, ◌+◌, ◌<◌, [], ◌∷◌, ◌++◌, length, reverse, OnOk, IfOk, option_to_list};
+ghost use Rattle.std.specs.Option.{option_map};
+ghost use Rattle.qc_names.specs.Name as names_words;
+ghost use Rattle.qc_event.specs.Base.{Setting};
+ghost use Rattle.qc_event.specs.History.{Past, limit};
+ghost use Rattle.qc_event.specs.Legal.{Legal};
+ghost use Rattle.qc_event.specs.Listed as listed;
+ghost use Rattle.qc_event.specs.Listed.{aborted_below};
+ghost use Rattle.qc_desk.specs.Index.{IsOf};
+ghost use Rattle.qc_desk.specs.Standing.{OfEach};
+ghost use Rattle.qc_indexes.specs.Aborts.{AreAborts, abort_top, last_abort};
+
+use crate::slots::{set_slot, slot, widen};
+use qc_desk::{Index, Outcomes};
+use qc_event::{Entry, Event, How, Name};
+use std::alloc::{AllocError, Global};
+
+// The top below which the entry aborts a name.
+fn top_of(entry: &Entry) -> Option<Name>
+    ensures { result ≡ option_map (λ x. x ∷ []) (abort_top entry.now.event) }
+{
+    match &entry.event {
+        Event::End {
+            name,
+            how: How::Abort(_),
+        } if name.len() > 1 => Some(name.ancestor(1)),
+        _ => None,
+    }
+}
+
+fn front(name: &Name) -> Name
+    ensures { result ≡ names_words.front name.now }
+{
+    match name.parent() {
+        Some(parent) => parent,
+        None => *name,
+    }
+}
+
+// The name that the entry aborts below a top, where its parent is not aborted.
+fn aborted_in(names: &Index, entry: &Entry, top: &Name) -> Option<Name>
+    ensures { OfEach (IsOf names.now)
+        (λ past. result ≡ listed.aborted_in past top.now entry.now.event) }
+{
+    match &entry.event {
+        Event::End {
+            name,
+            how: How::Abort(_),
+        } if top.is_ancestor(name)
+            && top != name
+            && !names.outcome(&front(name)).is_aborted() =>
+            Some(*name),
+        _ => None,
+    }
+}
+
+// Generic: a push at the type of names gets no proof today.
+fn append<T: Copy>(items: &mut Vec<T>, item: Option<T>) -> Result<(), AllocError>
+    ensures { OnOk result (items.new.items ≡ items.old.items ++ option_to_list item) }
+{
+    if let Some(item) = item {
+        items.push(item)?;
+    }
+    Ok(())
+}
+
+fn turn<T: Copy>(items: &mut Vec<T>)
+    ensures { items.new.items ≡ reverse items.old.items }
+{
+    items.reverse();
+}
+
+/// Who was aborted below each top: beside the place of the top's name, one more than the place of the last such entry,
+/// and beside each such entry the same of the one before it.
+#[derive(Drop)]
+pub struct Aborts {
+    last: Vec<u32>,
+    before: Vec<u32>,
+}
+
+impl Aborts {
+    /// Those of no entries. It takes no memory.
+    pub(crate) fn new(alloc: Global) -> Self
+        ensures { AreAborts result [] }
+    {
+        Aborts {
+            last: Vec::new(alloc),
+            before: Vec::new(alloc),
+        }
+    }
+
+    /// Makes room for an entry more, of the same history.
+    pub(crate) fn make_room(&mut self) -> Result<(), AllocError>
+        ensures same { (past : Past) → AreAborts self.old past → AreAborts self.new past }
+        ensures last { OnOk result ((past : Past) → AreAborts self.old past →
+            length past < length self.new.last.items) }
+        ensures before { OnOk result ((past : Past) → AreAborts self.old past →
+            length past < length self.new.before.items) }
+    {
+        widen(&mut self.last)?;
+        widen(&mut self.before)
+    }
+
+    /// Takes in an entry that may come next, for which there is room, at its place. The index of names has it.
+    pub(crate) fn push(&mut self, entry: &Entry, names: &Index, at: u32)
+        requires { at < limit }
+        ensures { (setting : Setting) → (past : Past) → AreAborts self.old past →
+            length past < length self.old.last.items →
+            length past < length self.old.before.items → IsOf names.now (entry.now ∷ past) →
+            Legal setting (entry.now ∷ past) → at ≡ length past →
+            AreAborts self.new (entry.now ∷ past) }
+    {
+        let Some(top) = top_of(entry) else {
+            return;
+        };
+        let Some(place) = names.place(&top) else {
+            return;
+        };
+        set_slot(&mut self.before, at as usize, slot(&self.last, place as usize));
+        set_slot(&mut self.last, place as usize, at + 1);
+    }
+
+    // One more than the place of the last abort below a top, or 0.
+    fn last_below(&self, names: &Index, top: &Name) -> u32
+        ensures { (setting : Setting) → (past : Past) → AreAborts self.now past →
+            IsOf names.now past → Legal setting past → result ≡ last_abort past top.now }
+    {
+        match names.place(top) {
+            Some(place) => slot(&self.last, place as usize),
+            None => 0,
+        }
+    }
+
+    /// The aborted descendants of a top whose parent is not aborted, in the order of their ends. It reads each abort
+    /// below the top once.
+    pub(crate) fn below(
+        &self,
+        alloc: Global,
+        names: &Index,
+        entries: &[Entry],
+        top: &Name,
+    ) -> Result<Vec<Name>, AllocError>
+        requires kept { (setting : Setting) × AreAborts self.now (reverse entries.now)
+            × IsOf names.now (reverse entries.now) × Legal setting (reverse entries.now) }
+        requires top { length top.now ≡ 1 }
+        ensures { IfOk result (λ found.
+            found.items ≡ aborted_below (reverse entries.now) top.now) }
+    {
+        let mut found = Vec::new(alloc);
+        let mut next = self.last_below(names, top);
+        while next > 0 {
+            let at = next as usize - 1;
+            append(&mut found, aborted_in(names, &entries[at], top))?;
+            next = slot(&self.before, at);
+        }
+        turn(&mut found);
+        Ok(found)
+    }
+}

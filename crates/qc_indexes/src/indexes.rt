@@ -1,0 +1,126 @@
+//! All that is kept beside a history.
+ghost use Rattle.std.specs.Prelude.{◌≡◌, ◌<◌, [], ◌∷◌, OnOk, IfOk, is_none, length, reverse};
+ghost use Rattle.qc_event.specs.Base.{Setting};
+ghost use Rattle.qc_event.specs.History.{Past, limit, grants, refused};
+ghost use Rattle.qc_event.specs.Legal.{Legal};
+ghost use Rattle.qc_event.specs.Listed.{aborted_below};
+ghost use Rattle.qc_event.specs.Standing.{open_child};
+ghost use Rattle.qc_event.specs.Users.{is_marked, top_number};
+ghost use Rattle.qc_desk.specs.Index.{IsOf};
+ghost use Rattle.qc_desk.specs.Standing.{OfEach};
+ghost use Rattle.qc_indexes.specs.Growing.{CanFollow};
+ghost use Rattle.qc_indexes.specs.Grants.{Differs};
+ghost use Rattle.qc_indexes.specs.Indexes.{AreOf, AreKept, HaveRoom, OfEntries};
+
+use crate::aborts::Aborts;
+use crate::grants::Grants;
+use crate::marks::Marks;
+use crate::opens::Opens;
+use crate::refusals::Refusals;
+use qc_desk::Index;
+use qc_event::{Entry, Grant, Name, Refusal};
+use std::alloc::{AllocError, Global};
+
+/// What is kept beside a history and the index of its names, so that no look goes over the entries.
+#[derive(Drop)]
+pub struct Indexes {
+    alloc: Global,
+    pub(crate) opens: Opens,
+    pub(crate) refusals: Refusals,
+    pub(crate) marks: Marks,
+    pub(crate) aborts: Aborts,
+    pub(crate) grants: Grants,
+}
+
+impl Indexes {
+    /// Those of no entries. It takes no memory.
+    pub fn new(alloc: Global) -> Self
+        ensures { AreOf result [] }
+    {
+        Indexes {
+            alloc,
+            opens: Opens::new(),
+            refusals: Refusals::new(alloc),
+            marks: Marks::new(),
+            aborts: Aborts::new(alloc),
+            grants: Grants::new(alloc),
+        }
+    }
+
+    /// Makes room for an entry more. They stay those of the same history, after an error too.
+    pub fn make_room(&mut self) -> Result<(), AllocError>
+        ensures same { (past : Past) → AreOf self.old past → AreOf self.new past }
+        ensures room { OnOk result ((past : Past) → AreOf self.old past →
+            HaveRoom self.new past) }
+    {
+        self.refusals.make_room()?;
+        self.aborts.make_room()?;
+        self.grants.make_room()
+    }
+
+    /// Takes in an entry that may come next, for which room was made, at its place. The index of names has it. It
+    /// takes no memory.
+    pub fn push(&mut self, entry: &Entry, names: &Index, at: u32)
+        requires follows { CanFollow (AreOf self.old) entry.now }
+        requires at { at < limit }
+        ensures { (setting : Setting) → (past : Past) → AreOf self.old past →
+            HaveRoom self.old past → IsOf names.now (entry.now ∷ past) →
+            Legal setting (entry.now ∷ past) → at ≡ length past →
+            AreOf self.new (entry.now ∷ past) }
+    {
+        self.opens.push(entry);
+        self.refusals.push(entry, names, at);
+        self.marks.push(entry);
+        self.aborts.push(entry, names, at);
+        self.grants.push(entry, at);
+    }
+
+    /// Whether each started top has its end.
+    pub fn settled(&self) -> bool
+        ensures { OfEach (AreOf self.now) (λ past. result ≡ is_none (open_child past [])) }
+    {
+        self.opens.is_none()
+    }
+
+    /// The first refusal of an access.
+    pub fn refusal(&self, names: &Index, entries: &[Entry], access: &Name) -> Option<Refusal>
+        ensures { OfEntries self.now names.now (reverse entries.now)
+            (λ past. result ≡ refused past access.now) }
+    {
+        self.refusals.first(names, entries, access)
+    }
+
+    /// Whether a session is marked by a transaction whose top has at least the number of a name's top.
+    pub fn marked(&self, session: u8, name: &Name) -> bool
+        ensures { OfEach (AreOf self.now)
+            (λ past. result ≡ is_marked past session (top_number name.now)) }
+    {
+        self.marks.reach(session, name)
+    }
+
+    /// The aborted descendants of a top whose parent is not aborted, in the order of their ends. It reads each abort
+    /// below the top once, those below an aborted name too. The only error is want of memory for the list.
+    pub fn aborted_below(
+        &self,
+        names: &Index,
+        entries: &[Entry],
+        top: &Name,
+    ) -> Result<Vec<Name>, AllocError>
+        requires kept { AreKept self.now names.now (reverse entries.now) }
+        requires top { length top.now ≡ 1 }
+        ensures { IfOk result (λ found.
+            found.items ≡ aborted_below (reverse entries.now) top.now) }
+    {
+        self.aborts.below(self.alloc, names, entries, top)
+    }
+
+    /// The first of a copy's grants where another or none was given, with its index. It reads each grant of the copy
+    /// once.
+    pub fn differ(&self, entries: &[Entry], copy: u8, given: &[Grant]) -> Option<(usize, Grant)>
+        requires kept { AreOf self.now (reverse entries.now) }
+        requires small { copy < 16 }
+        ensures { Differs given.now (grants (reverse entries.now) copy) result }
+    {
+        self.grants.differ(entries, copy, given)
+    }
+}

@@ -1,0 +1,114 @@
+//! What is looked up under the lock beside how names stand, each by an index.
+ghost use Rattle.std.specs.Prelude.{◌≡◌, ◌<◌, [], is_none, length, IfOk};
+ghost use Rattle.qc_event.specs.Base.{Setting};
+ghost use Rattle.qc_event.specs.History.{grants, refused};
+ghost use Rattle.qc_event.specs.Legal.{Legal};
+ghost use Rattle.qc_event.specs.Listed.{aborted_below};
+ghost use Rattle.qc_event.specs.Standing.{open_child};
+ghost use Rattle.qc_indexes.specs.Grants.{Differs};
+ghost use Rattle.qc_pass.specs.Entries.{WhereLegal};
+ghost use Rattle.qc_pass.specs.Looking as words;
+ghost use Rattle.qc_pass.specs.Looking.{is_marked_for};
+
+use crate::history::History;
+use crate::locked::Locked;
+use crate::store::Store;
+use qc_event::{Grant, Kind, Name, Refusal};
+use std::alloc::AllocError;
+
+// The session of a user transaction.
+fn session_of(kind: &Kind) -> Option<u8>
+    ensures { result ≡ words.session_of kind.now }
+{
+    match kind {
+        Kind::User { session, .. } => Some(*session),
+        _ => None,
+    }
+}
+
+impl History {
+    /// The first refusal of an access.
+    pub fn refusal(&self, access: &Name) -> Option<Refusal>
+        ensures { WhereLegal self.now (result ≡ refused self.now access.now) }
+    {
+        self.beside
+            .refusal(&self.index, self.entries.as_slice(), access)
+    }
+
+    /// Whether a user transaction is marked to be killed.
+    pub fn marked(&self, of: &Name) -> bool
+        ensures { WhereLegal self.now (result ≡ is_marked_for self.now of.now) }
+    {
+        let Some(kind) = self.index.kind(self.entries.as_slice(), of) else {
+            return false;
+        };
+        let Some(session) = session_of(&kind) else {
+            return false;
+        };
+        self.beside.marked(session, of)
+    }
+
+    /// The aborted descendants of a top whose parent is not aborted, in the order of their ends.
+    pub fn aborted_below(&self, top: &Name) -> Result<Vec<Name>, AllocError>
+        requires legal { (setting : Setting) × Legal setting self.now }
+        requires top { length top.now ≡ 1 }
+        ensures { IfOk result (λ found. found.items ≡ aborted_below self.now top.now) }
+    {
+        self.beside
+            .aborted_below(&self.index, self.entries.as_slice(), top)
+    }
+
+    /// The first of a copy's grants where another or none was given, with its index.
+    pub fn differ(&self, copy: u8, given: &[Grant]) -> Option<(usize, Grant)>
+        requires { copy < 16 }
+        ensures { Differs given.now (grants self.now copy) result }
+    {
+        self.beside.differ(self.entries.as_slice(), copy, given)
+    }
+
+    /// Whether each started top has its end.
+    pub fn settled(&self) -> bool
+        ensures { WhereLegal self.now (result ≡ is_none (open_child self.now [])) }
+    {
+        self.beside.settled()
+    }
+}
+
+impl<N: Store> Locked<N> {
+    /// The first refusal of an access.
+    pub(crate) fn refusal(&self, access: &Name) -> Option<Refusal>
+        ensures { result ≡ refused self.now access.now }
+    {
+        self.history.refusal(access)
+    }
+
+    /// Whether a user transaction is marked to be killed.
+    pub(crate) fn marked(&self, of: &Name) -> bool
+        ensures { result ≡ is_marked_for self.now of.now }
+    {
+        self.history.marked(of)
+    }
+
+    /// The aborted descendants of a top whose parent is not aborted, in the order of their ends.
+    pub(crate) fn aborted_below(&self, top: &Name) -> Result<Vec<Name>, AllocError>
+        requires { length top.now ≡ 1 }
+        ensures { IfOk result (λ found. found.items ≡ aborted_below self.now top.now) }
+    {
+        self.history.aborted_below(top)
+    }
+
+    /// The first of a copy's grants where another or none was given, with its index.
+    pub(crate) fn differ(&self, copy: u8, given: &[Grant]) -> Option<(usize, Grant)>
+        requires { copy < 16 }
+        ensures { Differs given.now (grants self.now copy) result }
+    {
+        self.history.differ(copy, given)
+    }
+
+    /// Whether each started top has its end.
+    pub(crate) fn settled(&self) -> bool
+        ensures { result ≡ is_none (open_child self.now []) }
+    {
+        self.history.settled()
+    }
+}
