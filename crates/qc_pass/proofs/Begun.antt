@@ -2,7 +2,7 @@
 use Rattle.std.proofs.Common.{◌≡◌, ℕ, ◌+◌, ◌-◌, ◌<◌, ◌≤◌, true, [], ◌∷◌, length, refl, sym, ap, ◌∙◌, subst, inl, inr, arith}
 use mathlib.Core.Bool.{true≢false}
 use Rattle.std.specs.Prelude.{Option, None, Some, is_some, MatchOption}
-use Rattle.std.proofs.lemmas.Bool.{ltb-true, leb-true}
+use Rattle.std.proofs.lemmas.Bool.{leb-true}
 use Rattle.std.proofs.lemmas.List.{length-take-le}
 use Rattle.qc_names.specs.Name as name
 use Rattle.qc_event.specs.declared.event.Entry.{Entry}
@@ -14,7 +14,7 @@ use Rattle.qc_event.specs.Legal.{Legal, MayHappen}
 use Rattle.qc_event.specs.Standing.{IsUser, IsManager, Started}
 use Rattle.qc_event.specs.Starts.{Stands, Starts}
 use Rattle.qc_event.specs.Users.{MayReady}
-use Rattle.qc_event.proofs.OneEntry.{Starting, first_is, start_is, starting, started_stays, ready_step}
+use Rattle.qc_event.proofs.OneEntry.{Starting, first_is, start_is, starting, ready_step}
 
 -- THE MOMENT
 

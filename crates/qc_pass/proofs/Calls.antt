@@ -1,6 +1,6 @@
 -- What a call under the lock has made of a pass, put together of its look and what it entered.
-use Rattle.std.proofs.Common.{◌≡◌, ℕ, length, ◌<◌, ◌≤◌, true, zero, suc, ◌∷◌, refl, sym, ap, ◌∙◌, subst, arith, inl, inr}
-use Rattle.std.specs.Prelude.{Option, None, Some, Result, Ok, Err, IsErrOf, nat_lt, ◌==◌, IsTrue}
+use Rattle.std.proofs.Common.{◌≡◌, ℕ, length, ◌<◌, ◌≤◌, zero, suc, refl, sym, ap, ◌∙◌, subst, arith, inl, inr}
+use Rattle.std.specs.Prelude.{Option, None, Result, Err, IsErrOf, nat_lt, ◌==◌, IsTrue}
 use Rattle.std.proofs.lemmas.Bool.{lt-ltb, or_right}
 use Rattle.qc_event.specs.Base.{Setting}
 use Rattle.qc_event.specs.declared.event.Event.{Event}
@@ -11,7 +11,7 @@ use Rattle.qc_pass.specs.declared.refusal.DeskNo.{DeskNo}
 use Rattle.qc_event.specs.declared.log.Short.{Short}
 use Rattle.qc_event.specs.declared.log.Short.TheVariants as short
 use Rattle.qc_pass.specs.declared.view.View.{View}
-use Rattle.qc_pass.specs.Calling.{IsLook, IsEntry, Looked, Entered, Refused}
+use Rattle.qc_pass.specs.Calling.{IsLook, IsEntry, Entered, Refused}
 use Rattle.qc_pass.specs.Entries.{IsSince, entry}
 use Rattle.qc_pass.specs.Refusing.{Refuses, IsWant, want}
 use Rattle.qc_pass.specs.Rules.{IsClient, knows, extends}

@@ -1,6 +1,6 @@
 -- What may be entered where nothing was against it.
-use Rattle.std.proofs.Common.{◌≡◌, ℕ, ◌+◌, ◌<◌, ◌≤◌, Bool, true, false, [], ◌∷◌, ◌++◌, length, refl, sym, ap, ◌∙◌, subst, arith, inl, inr}
-use Rattle.std.specs.Prelude.{Option, None, Some, IsTrue, MatchOption, not, is_some, if◌then◌else◌}
+use Rattle.std.proofs.Common.{◌≡◌, ℕ, ◌+◌, ◌<◌, ◌≤◌, Bool, true, false, [], ◌∷◌, ◌++◌, length, refl, sym, ap, ◌∙◌, subst, arith}
+use Rattle.std.specs.Prelude.{Option, None, Some, IsTrue, not, is_some, if◌then◌else◌}
 use Rattle.std.specs.Option.{option_or, option_map}
 use Rattle.qc_names.specs.Name as name
 use Rattle.qc_event.specs.Base.{Setting}
@@ -8,8 +8,7 @@ use Rattle.qc_event.specs.declared.event.Event.TheVariants as event
 use Rattle.qc_event.specs.declared.event.How.{How}
 use Rattle.qc_event.specs.declared.event.How.TheVariants.{Commit, Abort}
 use Rattle.qc_event.specs.declared.event.Kind.{Kind}
-use Rattle.qc_event.specs.declared.event.Kind.TheVariants as kind
-use Rattle.qc_event.specs.Dead.{dead, outcome, outcome_of, is_live, is_committed, is_aborted}
+use Rattle.qc_event.specs.Dead.{dead, outcome_of, is_live, is_committed, is_aborted}
 use Rattle.qc_event.specs.History.{Past, Name, Begun, start, end, is_ready, children}
 use Rattle.qc_event.specs.Legal.{Legal, Allowed}
 use Rattle.qc_event.specs.Seats.{is_client}
@@ -20,7 +19,6 @@ use Rattle.qc_event.proofs.LastNumber.{front_last, length_last}
 use Rattle.qc_event.proofs.Lawful.{started_some}
 use Rattle.qc_event.proofs.Lineage.{alive_not_aborted}
 use Rattle.qc_event.proofs.OneEntry.{started_stays, start_stays}
-use Rattle.qc_pass.specs.declared.refusal.DeskNo.{DeskNo}
 use Rattle.qc_pass.specs.declared.refusal.DeskNo.TheVariants as no
 use Rattle.qc_pass.specs.Entries.{IsOlder, entry}
 use Rattle.qc_pass.specs.Refusing.{if_ended, if_committed, if_dead, if_ready, if_open, against_child, against_ready}

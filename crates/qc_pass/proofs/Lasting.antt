@@ -1,32 +1,20 @@
 -- Licences that stand once they were seen.
 use Rattle.std.proofs.Common.{◌≡◌, ℕ, Bool, true, false, ◌++◌, refl, sym, ap, ◌∙◌, subst, inl, inr}
-use Rattle.std.specs.Prelude.{Option, None, Some, MatchOption, IsTrue, not, is_some, ◌||◌, ◌&&◌, ◌==◌, nat_le}
+use Rattle.std.specs.Prelude.{Option, None, Some, MatchOption, is_some, ◌&&◌, ◌==◌, nat_le}
 use Rattle.std.specs.List.{list_any}
 use Rattle.std.specs.Option.{option_or, option_map_or}
 use Rattle.std.proofs.lemmas.Bool.{or_cases, or_left, or_right}
 use Rattle.std.proofs.lemmas.List.Folds.{list_any-append}
-use Rattle.qc_names.specs.Name as name
 use Rattle.qc_event.specs.declared.event.Cause.{Cause}
 use Rattle.qc_event.specs.declared.event.Cause.TheVariants as cause
 use Rattle.qc_event.specs.declared.event.Entry.{Entry}
-use Rattle.qc_event.specs.declared.event.Event.TheVariants as event
-use Rattle.qc_event.specs.declared.event.How.{How}
 use Rattle.qc_event.specs.declared.event.How.TheVariants.{Abort}
-use Rattle.qc_event.specs.declared.event.Kind.{Kind}
-use Rattle.qc_event.specs.declared.event.Kind.TheVariants as kind
-use Rattle.qc_event.specs.Aborts.{AccessCause, Licensed}
-use Rattle.qc_event.specs.Base.{Setting}
-use Rattle.qc_event.specs.History.{Past, Name, Begun, IsOpen, earliest, start, start_in, end, gone, refused, is_ready}
-use Rattle.qc_event.specs.Legal.{Allowed, MayEnd}
-use Rattle.qc_event.specs.Seats.{is_client}
-use Rattle.qc_event.specs.Standing.{Started, IsAbort, IsUser, IsManager, IsOrphanOf}
-use Rattle.qc_event.specs.Users.{ChildAborted, UserCause, MayAbort, is_marked, mark_of, top_number}
+use Rattle.qc_event.specs.Aborts.{AccessCause}
+use Rattle.qc_event.specs.History.{Past, Name, earliest, gone, refused}
+use Rattle.qc_event.specs.Standing.{IsAbort, IsUser, IsManager, IsOrphanOf}
+use Rattle.qc_event.specs.Users.{ChildAborted, UserCause, mark_of, top_number}
 use Rattle.qc_event.proofs.Histories.{earliest-append}
-use Rattle.qc_event.proofs.Lawful.{started_some}
-use Rattle.qc_pass.specs.Ending.{LastingCause}
-use Rattle.qc_pass.specs.Entries.{IsOlder, entry}
-use Rattle.qc_pass.specs.Refusing.{if_ended, if_ready, against_abort}
-use Rattle.qc_pass.proofs.Entering.{neither, not_ended, unready, started_since}
+use Rattle.qc_pass.proofs.Entering.{started_since}
 
 -- what an entry told first is told first for ever
 still_there : {X : Type 0} (o new : Option X) (P : X → Type 0) → MatchOption o ⊥ P → MatchOption (option_or o new) ⊥ P
@@ -89,55 +77,3 @@ user_cause_stays newer past n session cause.Missed h = absurd h
 user_cause_stays newer past n session (cause.Conflict copy x) h = child_stays newer past n (cause.Conflict copy x) h
 user_cause_stays newer past n session (cause.NoQuorum lack) h = child_stays newer past n (cause.NoQuorum lack) h
 user_cause_stays newer past n session cause.Last h = child_stays newer past n cause.Last h
-
--- what was licensed still is
-pub licence_stays : (setting : Setting) (newer past : Past) (seat : ℕ) (n : Name) (b : Begun) (k : Kind) (c : Cause) → LastingCause past seat n b k c → Licensed setting (newer ++ past) seat n b k c
-licence_stays setting newer past seat n b (kind.User session body) c h = user_cause_stays newer past n session c h
-licence_stays setting newer past seat n b kind.Access c h = (access_cause_stays newer past n c h.0, started_since newer past (name.front n) (λ m. seat ≡ m.seat) h.1)
-licence_stays setting newer past seat n b (kind.Read rec) (cause.Orphan a) h = (orphan_stays newer past n a h.0, h.1)
-licence_stays setting newer past seat n b (kind.Read rec) (cause.Conflict copy x) h = absurd h
-licence_stays setting newer past seat n b (kind.Read rec) (cause.NoQuorum lack) h = absurd h
-licence_stays setting newer past seat n b (kind.Read rec) cause.Last h = absurd h
-licence_stays setting newer past seat n b (kind.Read rec) (cause.Asked by) h = absurd h
-licence_stays setting newer past seat n b (kind.Read rec) cause.Killed h = absurd h
-licence_stays setting newer past seat n b (kind.Read rec) (cause.Child x) h = absurd h
-licence_stays setting newer past seat n b (kind.Read rec) cause.Missed h = absurd h
-licence_stays setting newer past seat n b (kind.Write rec value) (cause.Orphan a) h = (orphan_stays newer past n a h.0, h.1)
-licence_stays setting newer past seat n b (kind.Write rec value) (cause.Conflict copy x) h = absurd h
-licence_stays setting newer past seat n b (kind.Write rec value) (cause.NoQuorum lack) h = absurd h
-licence_stays setting newer past seat n b (kind.Write rec value) cause.Last h = absurd h
-licence_stays setting newer past seat n b (kind.Write rec value) (cause.Asked by) h = absurd h
-licence_stays setting newer past seat n b (kind.Write rec value) cause.Killed h = absurd h
-licence_stays setting newer past seat n b (kind.Write rec value) (cause.Child x) h = absurd h
-licence_stays setting newer past seat n b (kind.Write rec value) cause.Missed h = absurd h
-licence_stays setting newer past seat n b (kind.Reconf rec config) (cause.Orphan a) h = (orphan_stays newer past n a h.0, h.1)
-licence_stays setting newer past seat n b (kind.Reconf rec config) (cause.Conflict copy x) h = absurd h
-licence_stays setting newer past seat n b (kind.Reconf rec config) (cause.NoQuorum lack) h = absurd h
-licence_stays setting newer past seat n b (kind.Reconf rec config) cause.Last h = absurd h
-licence_stays setting newer past seat n b (kind.Reconf rec config) (cause.Asked by) h = absurd h
-licence_stays setting newer past seat n b (kind.Reconf rec config) cause.Killed h = absurd h
-licence_stays setting newer past seat n b (kind.Reconf rec config) (cause.Child x) h = absurd h
-licence_stays setting newer past seat n b (kind.Reconf rec config) cause.Missed h = absurd h
-
--- THE ABORT
-
-pub abort_allowed : (setting : Setting) (seat : ℕ) (seen now : Past) (n : Name) (c : Cause) → IsOlder seen now → IsTrue (is_client seat) → Started seen n (λ b. LastingCause seen seat n b b.kind c)
-    → against_abort n now ≡ None → Allowed setting now (entry seat (event.End n (Abort c)))
-abort_allowed setting seat seen now n c older client licensed none =
-    subst (λ p. Started p n (MayEnd setting p seat n (Abort c))) (sym older.1)
-    (map_match (start (older.0 ++ seen) n) (λ b. LastingCause seen seat n b b.kind c) (MayEnd setting (older.0 ++ seen) seat n (Abort c)) ends (match_stays (λ e. start_in n e.seat e.event) older.0 seen (λ b. LastingCause seen seat n b b.kind c) licensed))
-  where
-    tests : (if_ended now n ≡ None) × (if_ready now n ≡ None)
-    tests = neither (if_ended now n) (if_ready now n) none
-
-    is_open : IsOpen (older.0 ++ seen) n
-    is_open = record {
-      started = some_stays (λ e. start_in n e.seat e.event) older.0 seen (started_some (λ b. LastingCause seen seat n b b.kind c) (start seen n) licensed);
-      not_ended = ap (λ p. end p n) (sym older.1) ∙ not_ended now n tests.0;
-    }
-
-    ends : (b : Begun) → LastingCause seen seat n b b.kind c → MayEnd setting (older.0 ++ seen) seat n (Abort c) b
-    ends b h = may
-      where
-        may : MayAbort (Licensed setting (older.0 ++ seen) seat n b b.kind c) (older.0 ++ seen) seat n
-        may = record { by_client = client; is_open = is_open; not_ready = ap (λ p. not (is_ready p n)) (sym older.1) ∙ ap not (unready now n tests.1); licensed = licence_stays setting older.0 seen seat n b b.kind c h }

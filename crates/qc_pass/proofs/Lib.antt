@@ -15,4 +15,7 @@ pub mod OwnEnding
 pub mod OwnAsking
 pub mod OwnEntering
 pub mod Granting
+pub mod OwnFailing
+pub mod Aborting
 pub mod Seers
+pub mod Finishing

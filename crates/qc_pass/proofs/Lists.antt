@@ -1,5 +1,5 @@
 -- What a history was before, and entries under a number.
-use Rattle.std.proofs.Common.{◌≡◌, ◌≢◌, ℕ, ◌==◌, cond, Bool, true, false, List, [], ◌∷◌, ◌++◌, refl, ap, sym, append-nil, eq-eqb, ne_eqb}
+use Rattle.std.proofs.Common.{◌≡◌, ◌≢◌, ℕ, ◌==◌, cond, Bool, true, false, [], ◌∷◌, ◌++◌, refl, ap, sym, append-nil, eq-eqb, ne_eqb}
 use Rattle.std.proofs.Math.Logic.{∥∥₁_map}
 use Rattle.qc_event.specs.Base.{Setting}
 use Rattle.qc_event.specs.declared.event.Entry.{Entry}

@@ -1,5 +1,5 @@
 -- What an access may ask by its client's own entries, it may ask after all that others entered, unless it is dead.
-use Rattle.std.proofs.Common.{◌≡◌, ℕ, Bool, true, List, ◌++◌, refl, sym, ap, ap₂, ◌∙◌, subst}
+use Rattle.std.proofs.Common.{◌≡◌, ℕ, Bool, List, ◌++◌, sym, ap, ap₂, ◌∙◌, subst}
 use Rattle.std.proofs.Math.Path.{fun_ext}
 use Rattle.std.specs.Prelude.{Option, None, Some, MatchOption, ◌&&◌, ◌==◌, nat_lt, find, filter, is_none}
 use Rattle.std.specs.List.{AllByRecursion}
@@ -76,5 +76,5 @@ module _ (setting : Setting) (past newer : Past) (seat : ℕ) (legal : Legal set
         of_stage = subst (λ x. Started now x (λ p. AtStage setting now x p.kind (IsNextAsk now x p.kind ask))) (sym front)
             (started_since newer past m (λ p. AtStage setting now m p.kind (IsNextAsk now m p.kind ask))
             (wider (start past m) (λ p. AtStage setting past m p.kind (IsNextAsk past m p.kind ask)) (λ p. AtStage setting now m p.kind (IsNextAsk now m p.kind ask))
-            (λ p h. at_stage_same setting past now m p.kind ask (since.asks_same setting past seat m may.mine newer legal all) (since.results_same setting past seat m may.mine newer legal all may.nothing_open) h) may.of_stage));
+            (λ p h. at_stage_same setting past now m p.kind ask (since.asks_same setting past seat m may.mine newer legal all) (since.results_same setting past seat m may.mine newer legal all) h) may.of_stage));
       }

@@ -1,8 +1,7 @@
 -- What ends an access or commits a manager by what was seen does so after all that others entered, unless it has died.
 use Rattle.std.proofs.Common.{◌≡◌, inl, inr, ℕ, ◌+◌, Bool, true, false, List, [], ◌∷◌, ◌++◌, refl, sym, ap, ap₂, ◌∙◌, subst}
-use Rattle.std.proofs.Math.Path.{fun_ext}
 use Rattle.std.specs.Prelude.{Option, None, Some, MatchOption, IsTrue, ◌&&◌, not, is_some}
-use Rattle.std.specs.List.{AllByRecursion, list_any, list_all}
+use Rattle.std.specs.List.{list_any, list_all}
 use Rattle.std.specs.Option.{option_or, option_map_or}
 use Rattle.std.proofs.lemmas.Bool.{or_cases, or_left, or_right}
 use Rattle.std.proofs.lemmas.List.Folds.{list_any-append}
@@ -10,7 +9,6 @@ use Rattle.qc_config.specs.Config.{Voting}
 use Rattle.qc_config.specs.declared.tuple.Tuple.{Tuple}
 use Rattle.qc_event.specs.declared.event.Answer.{Answer}
 use Rattle.qc_event.specs.declared.event.Answer.TheVariants as answer
-use Rattle.qc_event.specs.declared.event.Ask.{Ask}
 use Rattle.qc_event.specs.declared.event.Entry.{Entry}
 use Rattle.qc_event.specs.declared.event.Kind.{Kind}
 use Rattle.qc_event.specs.declared.event.Kind.TheVariants as kind
@@ -27,7 +25,6 @@ use Rattle.qc_event.specs.Seats.{is_client}
 use Rattle.qc_event.specs.Standing.{open_child}
 use Rattle.qc_event.proofs.Histories.{earliest-append}
 use Rattle.qc_event.proofs.OneEntry.{start_stays}
-use Rattle.qc_pass.proofs.Requests.{waits_for_none}
 use Rattle.qc_pass.specs.Entries.{AreOthers}
 use Rattle.qc_pass.specs.Own.{IsMine, IsComplete}
 use Rattle.qc_pass.proofs.OwnSince as since
@@ -89,25 +86,18 @@ module _ (setting : Setting) (past newer : Past) (seat : ℕ) (m : Name) (mine :
 
   -- THE MANAGER
 
-  module _ (closed : open_child past m ≡ None) where
-    agree : AllByRecursion (λ (a : Ask). result now a.access ≡ result past a.access) (asks past m)
-    agree = since.results_same setting past seat m mine newer legal all (waits_for_none setting past m older closed)
+  tuples_same : replies_by (asks now m) (result now) ≡ replies_by (asks past m) (result past)
+  tuples_same = since.tuples_same setting past newer seat m mine legal all
 
-    tuples_same : replies_by (asks now m) (result now) ≡ replies_by (asks past m) (result past)
-    tuples_same = ap (λ requests. replies_by requests (result now)) (since.asks_same setting past seat m mine newer legal all) ∙ replies_agree (result now) (result past) (asks past m) agree
+  complete_same : (first : Voting) (k : Kind) → is_complete now first m k ≡ is_complete past first m k
+  complete_same first k = ap₂ (λ (t : List Tuple) (h : Phase → ℕ → Bool). complete_of t h first k) tuples_same (since.has_same setting past newer seat m mine legal all)
 
-    has_same : has_by (asks now m) (result now) ≡ has_by (asks past m) (result past)
-    has_same = ap (λ requests. has_by requests (result now)) (since.asks_same setting past seat m mine newer legal all) ∙ fun_ext (λ phase. fun_ext (λ copy. has_agree (result now) (result past) (asks past m) agree phase copy))
-
-    complete_same : (first : Voting) (k : Kind) → is_complete now first m k ≡ is_complete past first m k
-    complete_same first k = ap₂ (λ (t : List Tuple) (h : Phase → ℕ → Bool). complete_of t h first k) tuples_same has_same
-
-    answer_same : (first : Voting) (k : Kind) → manager_answer now first m k ≡ manager_answer past first m k
-    answer_same first (kind.Read rec) = ap (λ t. answer.Value (greatest_among t).value) tuples_same
-    answer_same first (kind.Reconf rec config) = ap (λ t. answer.Generation ((newest_of t first).generation + 1)) tuples_same
-    answer_same first (kind.Write rec value) = refl
-    answer_same first (kind.User session body) = refl
-    answer_same first kind.Access = refl
+  answer_same : (first : Voting) (k : Kind) → manager_answer now first m k ≡ manager_answer past first m k
+  answer_same first (kind.Read rec) = ap (λ t. answer.Value (greatest_among t).value) tuples_same
+  answer_same first (kind.Reconf rec config) = ap (λ t. answer.Generation ((newest_of t first).generation + 1)) tuples_same
+  answer_same first (kind.Write rec value) = refl
+  answer_same first (kind.User session body) = refl
+  answer_same first kind.Access = refl
 
   -- a manager that was complete by what was seen commits with the same answer, unless it has ended, died, or has an open child
   pub commits_now : (b : Begun) (given : Answer) → IsTrue (is_client seat) → IsComplete setting past seat m given b → is_some (start past m) ≡ true → end now m ≡ None → dead now m ≡ None → open_child now m ≡ None → MayCommitManager setting now seat m b given
@@ -115,10 +105,7 @@ module _ (setting : Setting) (past newer : Past) (seat : ℕ) (m : Name) (mine :
     by_client = client;
     own_seat = own.own_seat;
     going = record { is_open = record { started = started_still newer past m started; not_ended = not_ended }; alive = alive };
-    complete = complete_same closed_then (first_for setting b.kind) b.kind ∙ own.complete;
+    complete = complete_same (first_for setting b.kind) b.kind ∙ own.complete;
     children_ended = closed;
-    answers = own.answers ∙ sym (answer_same closed_then (first_for setting b.kind) b.kind);
+    answers = own.answers ∙ sym (answer_same (first_for setting b.kind) b.kind);
   }
-    where
-      closed_then : open_child past m ≡ None
-      closed_then = sym (since.closed_same setting past seat m mine newer legal all) ∙ closed

@@ -1,6 +1,6 @@
 -- What a client enters of its own accesses and managers by what was seen, whatever others entered since.
-use Rattle.std.proofs.Common.{◌≡◌, ℕ, ◌+◌, ◌<◌, ◌≤◌, true, [], ◌∷◌, ◌++◌, length, refl, sym, ap, ◌∙◌, subst, arith}
-use Rattle.std.specs.Prelude.{Option, None, Some, MatchOption, IsTrue, is_some}
+use Rattle.std.proofs.Common.{◌≡◌, ℕ, ◌≤◌, [], ◌∷◌, ◌++◌, length, refl, sym, ap, ◌∙◌, subst, arith}
+use Rattle.std.specs.Prelude.{None, Some, MatchOption, IsTrue, is_some}
 use Rattle.std.specs.Option.{option_or}
 use Rattle.qc_config.specs.declared.tuple.Tuple.{Tuple}
 use Rattle.qc_names.specs.Name as name
@@ -16,14 +16,14 @@ use Rattle.qc_event.specs.declared.event.Why.{Why}
 use Rattle.qc_event.specs.Base.{Setting}
 use Rattle.qc_event.specs.Commits.{MayCommit, MayCommitAccess, MayCommitManager}
 use Rattle.qc_event.specs.Dead.{dead}
-use Rattle.qc_event.specs.History.{Past, Name, Begun, IsOpen, start, start_in, end, asked, granted}
+use Rattle.qc_event.specs.History.{Past, Name, Begun, IsOpen, start, start_in, end, granted}
 use Rattle.qc_event.specs.Legal.{Legal, Allowed, MayEnd}
 use Rattle.qc_event.specs.Requests.{MayGiveUp}
 use Rattle.qc_event.specs.Seats.{is_client}
 use Rattle.qc_event.specs.Standing.{Started, IsUser, IsManager, IsGoing, open_child}
 use Rattle.qc_event.specs.Users.{MayCommitUser, MayCommitUserOrTop}
 use Rattle.qc_pass.specs.Entries.{AreOthers, IsSince, entry}
-use Rattle.qc_pass.specs.Own.{IsMine, IsOwnAccess, MayReplyOwn, MayAskOwn, CommitsOwn, IsComplete}
+use Rattle.qc_pass.specs.Own.{IsOwnAccess, MayReplyOwn, MayAskOwn, CommitsOwn, IsComplete}
 use Rattle.qc_pass.specs.Refusing.{if_ended, if_dead, if_open, against_commit, against_access}
 use Rattle.qc_pass.proofs.Begun.{HasRoom, user_short, manager_name, not_root, started_at}
 use Rattle.qc_pass.proofs.Entering.{neither, not_ended, alive, closed}

@@ -1,5 +1,6 @@
 -- What a manager and its accesses are by their own client's entries, whatever others entered since.
-use Rattle.std.proofs.Common.{◌≡◌, ℕ, Bool, true, false, List, [], ◌∷◌, ◌++◌, refl, ap, ap₂, ◌∙◌, append-nil}
+use Rattle.std.proofs.Common.{◌≡◌, ℕ, Bool, true, false, List, [], ◌∷◌, ◌++◌, refl, sym, ap, ap₂, ◌∙◌, append-nil}
+use Rattle.std.proofs.Math.Path.{fun_ext}
 use Rattle.std.specs.Prelude.{Option, None, Some, cond, find, filter, filter_map, fold, map, not, ◌&&◌, ◌||◌, ◌==◌, if◌then◌else◌, is_some, is_none, option_to_list}
 use Rattle.std.specs.List.{AllByRecursion, list_any, cons_option}
 use Rattle.std.specs.Option.{option_or}
@@ -7,16 +8,15 @@ use Rattle.qc_config.specs.Config.{Voting, holds_read, holds_write}
 use Rattle.qc_config.specs.declared.tuple.Tuple.{Tuple}
 use Rattle.qc_event.specs.declared.event.Ask.{Ask}
 use Rattle.qc_event.specs.declared.event.Entry.{Entry}
-use Rattle.qc_event.specs.declared.event.Event.{Event}
-use Rattle.qc_event.specs.declared.event.Event.TheVariants as event
+use Rattle.qc_event.specs.declared.event.How.{How}
 use Rattle.qc_event.specs.declared.event.Kind.{Kind}
 use Rattle.qc_event.specs.declared.event.Phase.{Phase}
 use Rattle.qc_event.specs.Base.{Setting}
 use Rattle.qc_event.specs.Clear.{is_get}
-use Rattle.qc_event.specs.History.{Past, Name, Begun, earliest, every, end, end_in, children, child_in, asks, ask_below, asked, ask_in, gone, gone_in, is_child}
+use Rattle.qc_event.specs.History.{Past, Name, Begun, earliest, every, end, end_in, children, child_in, asks, ask_below, asked, ask_in, gone, gone_in, refused, is_child}
 use Rattle.qc_event.specs.Legal.{Legal, Allowed}
-use Rattle.qc_event.specs.Manager.{Result, result, reply_of, Stage, Newest, newer as newer_of, greatest_among, collecting, stages_by, is_last, is_phase, phase_of, all_copies, waiting}
-use Rattle.qc_event.specs.Standing.{IsManager, Started, open_child}
+use Rattle.qc_event.specs.Manager.{Result, result, result_by, reply_of, Stage, Newest, newer as newer_of, greatest_among, collecting, stages_by, is_last, is_phase, phase_of, all_copies, waiting}
+use Rattle.qc_event.specs.Standing.{IsManager, Started}
 use Rattle.qc_event.proofs.OneEntry.{started_stays}
 use Rattle.qc_pass.proofs.Requests.{IsOwn, asks_own, still}
 use Rattle.qc_pass.specs.Entries.{AreOthers}
@@ -31,23 +31,6 @@ started_since (e ∷ newer) past n P h = started_stays e (newer ++ past) n P (st
 pub find_same : {X : Type 0} (p q : X → Bool) (xs : List X) → AllByRecursion (λ x. p x ≡ q x) xs → find p xs ≡ find q xs
 find_same p q [] all = refl
 find_same p q (x ∷ xs) all = ap₂ (λ (b : Bool) (o : Option _). cond b (Some x) o) all.0 (find_same p q xs all.1)
-
--- each child of a name is one
-pub children_are : (past : Past) (m : Name) → AllByRecursion (λ c. is_child m c ≡ true) (children past m)
-children_are [] m = tt
-children_are (e ∷ past) m = more (children past m) _ (children_are past m) (by_event e.event)
-  where
-    more : (xs ys : List Name) → AllByRecursion (λ c. is_child m c ≡ true) xs → AllByRecursion (λ c. is_child m c ≡ true) ys → AllByRecursion (λ c. is_child m c ≡ true) (xs ++ ys)
-    more [] ys a b = b
-    more (x ∷ xs) ys a b = (a.0, more xs ys a.1 b)
-
-    by_test : (c : Name) (b : Bool) → is_child m c ≡ b → AllByRecursion (λ c. is_child m c ≡ true) (option_to_list (if b then Some c else None))
-    by_test c true is = (is, tt)
-    by_test c false is = tt
-
-    by_event : (ev : Event) → AllByRecursion (λ c. is_child m c ≡ true) (option_to_list (child_in m ev))
-    by_event (event.Start c k) = by_test c (is_child m c) refl
-    by_event _ = tt
 
 module _ (setting : Setting) (past : Past) (seat : ℕ) (m : Name) (mine : IsMine past seat m) where
   -- what no entry of another tells of is as it was
@@ -90,12 +73,20 @@ module _ (setting : Setting) (past : Past) (seat : ℕ) (m : Name) (mine : IsMin
       pub gone_same : gone (newer ++ past) c ≡ gone past c
       gone_same = earliest_since (λ e. gone_in c e.event) (λ e before other law may own. others.no_giving_up setting e before seat m other law may own c child) newer legal all
 
-  pub result_same : (newer : Past) → Legal setting (newer ++ past) → AreOthers seat newer → (c : Name) → is_child m c ≡ true → is_some (end past c) ≡ true → result (newer ++ past) c ≡ result past c
-  result_same [] legal all c child ended = refl
-  result_same (e ∷ newer) legal all c child ended =
-      others.result_stays setting e (newer ++ past) seat m all.0 legal.0 legal.1 (started_since newer past m (λ b. IsManager b.kind × (b.seat ≡ seat)) mine) c child
-      (ap is_some (access_end_same newer legal.0 all.1 c child) ∙ ended)
-      ∙ result_same newer legal.0 all.1 c child ended
+  -- the result of an access stays, and what is open has none
+  pub result_same : (newer : Past) → Legal setting (newer ++ past) → AreOthers seat newer → (c : Name) → is_child m c ≡ true → result (newer ++ past) c ≡ result past c
+  result_same [] legal all c child = refl
+  result_same (e ∷ newer) legal all c child = by_end (end (newer ++ past) c) refl ∙ result_same newer legal.0 all.1 c child
+    where
+      still_own : IsMine (newer ++ past) seat m
+      still_own = started_since newer past m (λ b. IsManager b.kind × (b.seat ≡ seat)) mine
+
+      by_end : (o : Option How) → end (newer ++ past) c ≡ o → result (e ∷ newer ++ past) c ≡ result (newer ++ past) c
+      by_end (Some how) is = others.result_stays setting e (newer ++ past) seat m all.0 legal.0 legal.1 still_own c child (ap is_some is)
+      by_end None is =
+          let none = ap (λ o. option_or o (end_in c e.event)) is ∙ others.no_access_end setting e (newer ++ past) seat m all.0 legal.0 legal.1 still_own c child in
+          ap (λ o. result_by o (gone (e ∷ newer ++ past) c) (refused (e ∷ newer ++ past) c)) none
+          ∙ sym (ap (λ o. result_by o (gone (newer ++ past) c) (refused (newer ++ past) c)) is)
 
   -- WHAT A MANAGER WAITS FOR
 
@@ -113,31 +104,13 @@ module _ (setting : Setting) (past : Past) (seat : ℕ) (m : Name) (mine : IsMin
         ap (find (λ (ask : Ask). is_none (end (newer ++ past) ask.access))) (asks_same newer legal all)
         ∙ find_same (λ (ask : Ask). is_none (end (newer ++ past) ask.access)) (λ (ask : Ask). is_none (end past ask.access)) (asks past m) (open_same (asks past m) (asks_own setting past m (older newer legal)))
 
-    ends_alike : (cs : List Name) → AllByRecursion (λ c. is_child m c ≡ true) cs → AllByRecursion (λ c. is_none (end (newer ++ past) c) ≡ is_none (end past c)) cs
-    ends_alike [] children_all = tt
-    ends_alike (c ∷ cs) children_all = (ap is_none (access_end_same newer legal all c children_all.0), ends_alike cs children_all.1)
+    -- the results of its requests are as they were
+    results_of : (requests : List Ask) → AllByRecursion (IsOwn past m) requests → AllByRecursion (λ (ask : Ask). result (newer ++ past) ask.access ≡ result past ask.access) requests
+    results_of [] own = tt
+    results_of (a ∷ rest) own = (result_same newer legal all a.access own.0.child, results_of rest own.1)
 
-    pub closed_same : open_child (newer ++ past) m ≡ open_child past m
-    closed_same =
-        ap (find (λ c. is_none (end (newer ++ past) c))) (children_same newer legal all)
-        ∙ find_same (λ c. is_none (end (newer ++ past) c)) (λ c. is_none (end past c)) (children past m) (ends_alike (children past m) (children_are past m))
-
-    -- where a manager waits for nothing, each of its requests has ended
-    ended_by : (a : Ask) (rest : List Ask) (o : _) → end past a.access ≡ o → cond (is_none o) (Some a) (find (λ (ask : Ask). is_none (end past ask.access)) rest) ≡ None
-        → (is_some (end past a.access) ≡ true) × (find (λ (ask : Ask). is_none (end past ask.access)) rest ≡ None)
-    ended_by a rest None is h = absurd cc
-    ended_by a rest (Some how) is h = (ap is_some is, h)
-
-    ended_all : (requests : List Ask) → find (λ (ask : Ask). is_none (end past ask.access)) requests ≡ None → AllByRecursion (λ (ask : Ask). is_some (end past ask.access) ≡ true) requests
-    ended_all [] none = tt
-    ended_all (a ∷ rest) none = let parts = ended_by a rest (end past a.access) refl none in (parts.0, ended_all rest parts.1)
-
-    results_of : (requests : List Ask) → AllByRecursion (IsOwn past m) requests → AllByRecursion (λ (ask : Ask). is_some (end past ask.access) ≡ true) requests → AllByRecursion (λ (ask : Ask). result (newer ++ past) ask.access ≡ result past ask.access) requests
-    results_of [] own ended = tt
-    results_of (a ∷ rest) own ended = (result_same newer legal all a.access own.0.child ended.0, results_of rest own.1 ended.1)
-
-    pub results_same : waiting past m ≡ None → AllByRecursion (λ (ask : Ask). result (newer ++ past) ask.access ≡ result past ask.access) (asks past m)
-    results_same none = results_of (asks past m) (asks_own setting past m (older newer legal)) (ended_all (asks past m) none)
+    pub results_same : AllByRecursion (λ (ask : Ask). result (newer ++ past) ask.access ≡ result past ask.access) (asks past m)
+    results_same = results_of (asks past m) (asks_own setting past m (older newer legal))
 
 -- THE STAGE BY REQUESTS AND RESULTS
 
@@ -164,7 +137,7 @@ module _ (r q : Name → Option Result) where
   abbrev pub Agree : List Ask → Type 0
   Agree requests = AllByRecursion (λ (ask : Ask). r ask.access ≡ q ask.access) requests
 
-  kept : (p : Ask → Bool) (requests : List Ask) → Agree requests → Agree (filter p requests)
+  pub kept : (p : Ask → Bool) (requests : List Ask) → Agree requests → Agree (filter p requests)
   kept p [] all = tt
   kept p (a ∷ rest) all = by_test (p a) (all.0, kept p rest all.1)
     where
@@ -186,3 +159,16 @@ module _ (r q : Name → Option Result) where
 
   pub has_agree : (requests : List Ask) → Agree requests → (phase : Phase) (copy : ℕ) → has_by requests r phase copy ≡ has_by requests q phase copy
   has_agree requests all phase copy = any_same copy (filter (λ (ask : Ask). is_phase phase (phase_of ask.op)) requests) (kept (λ (ask : Ask). is_phase phase (phase_of ask.op)) requests all)
+
+-- WHAT A MANAGER HAS LEARNT
+
+module _ (setting : Setting) (past newer : Past) (seat : ℕ) (m : Name) (mine : IsMine past seat m) (legal : Legal setting (newer ++ past)) (all : AreOthers seat newer) where
+  abbrev now : Past
+  now = newer ++ past
+
+  pub tuples_same : replies_by (asks now m) (result now) ≡ replies_by (asks past m) (result past)
+  tuples_same = ap (λ requests. replies_by requests (result now)) (asks_same setting past seat m mine newer legal all) ∙ replies_agree (result now) (result past) (asks past m) (results_same setting past seat m mine newer legal all)
+
+  pub has_same : has_by (asks now m) (result now) ≡ has_by (asks past m) (result past)
+  has_same = ap (λ requests. has_by requests (result now)) (asks_same setting past seat m mine newer legal all)
+      ∙ fun_ext (λ phase. fun_ext (λ copy. has_agree (result now) (result past) (asks past m) (results_same setting past seat m mine newer legal all) phase copy))

@@ -1,6 +1,6 @@
 -- Requests: each is of a started child of its manager, and the request of a name is of its access.
 use Rattle.std.proofs.Common.{◌≡◌, ℕ, Bool, true, false, List, [], ◌∷◌, ◌++◌, refl, sym, ap, ◌∙◌, inl, inr}
-use Rattle.std.specs.Prelude.{Option, None, Some, cond, if◌then◌else◌, find, is_some, is_none, option_to_list}
+use Rattle.std.specs.Prelude.{Option, None, Some, if◌then◌else◌, is_some, option_to_list}
 use Rattle.std.specs.List.{AllByRecursion}
 use Rattle.std.specs.Option.{option_or}
 use Rattle.qc_event.specs.declared.event.Ask.{Ask}
@@ -8,13 +8,11 @@ use Rattle.qc_event.specs.declared.event.Entry.{Entry}
 use Rattle.qc_event.specs.declared.event.Event.{Event}
 use Rattle.qc_event.specs.declared.event.Event.TheVariants as event
 use Rattle.qc_event.specs.Base.{Setting}
-use Rattle.qc_event.specs.History.{Past, Name, Asked, same, start, end, is_child, asks, ask_below, asked, ask_in}
+use Rattle.qc_event.specs.History.{Past, Name, Asked, same, start, is_child, asks, ask_below, asked, ask_in}
 use Rattle.qc_event.specs.Legal.{Legal, MayHappen}
-use Rattle.qc_event.specs.Manager.{waiting}
-use Rattle.qc_event.specs.Standing.{open_child}
 use Rattle.qc_event.proofs.Absent.{same_is}
 use Rattle.qc_event.proofs.Lawful.{started_some}
-use Rattle.qc_event.proofs.OneEntry.{if_is, first_is, no_child_passes, start_stays}
+use Rattle.qc_event.proofs.OneEntry.{if_is, first_is, start_stays}
 
 -- nothing comes to an answer
 pub still : {Y : Type 0} (o : Option Y) → option_or o None ≡ o
@@ -46,18 +44,6 @@ asks_own setting (e ∷ past) m legal = own_more (e ∷ past) m (asks past m) _ 
     by_event : (ev : Event) → MayHappen setting past e.seat ev → AllByRecursion (IsOwn (e ∷ past) m) (option_to_list (ask_below m ev))
     by_event (event.Ask ask) may = by_test ask (is_child m ask.access) refl (started_some _ (start past ask.access) may.started)
     by_event _ may = tt
-
-none_found : {X : Type 0} (p : X → Bool) (xs : List X) → AllByRecursion (λ x. p x ≡ false) xs → find p xs ≡ None
-none_found p [] all = refl
-none_found p (x ∷ xs) all = ap (λ b. cond b (Some x) (find p xs)) all.0 ∙ none_found p xs all.1
-
--- a manager without an open child waits for nothing
-pub waits_for_none : (setting : Setting) (past : Past) (m : Name) → Legal setting past → open_child past m ≡ None → waiting past m ≡ None
-waits_for_none setting past m legal closed = none_found (λ (ask : Ask). is_none (end past ask.access)) (asks past m) (each_ended (asks past m) (asks_own setting past m legal))
-  where
-    each_ended : (requests : List Ask) → AllByRecursion (IsOwn past m) requests → AllByRecursion (λ (ask : Ask). is_none (end past ask.access) ≡ false) requests
-    each_ended [] all = tt
-    each_ended (a ∷ rest) all = (no_child_passes (λ c. is_none (end past c)) past m a.access all.0.child all.0.started closed, each_ended rest all.1)
 
 -- An entry is this request, of this name.
 record IsAsk (n : Name) (seat : ℕ) (ev : Event) (a : Asked) : Type 0 where

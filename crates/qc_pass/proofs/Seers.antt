@@ -1,23 +1,18 @@
 -- What a pass and a seer know while the history goes on.
-use Rattle.std.proofs.Common.{◌≡◌, ℕ, ◌+◌, true, [], ◌∷◌, ◌++◌, refl, sym, ap, ◌∙◌, append_assoc, subst, inl, inr}
-use Rattle.std.specs.Prelude.{Option, None, Some, MatchOption, IsTrue, Result, Ok, Err}
+use Rattle.std.proofs.Common.{◌≡◌, ℕ, true, [], ◌∷◌, ◌++◌, sym, ap, ◌∙◌, append_assoc, subst, inl, inr}
+use Rattle.std.specs.Prelude.{None}
 use Rattle.qc_event.specs.Base.{Setting}
-use Rattle.qc_event.specs.declared.event.Event.{Event}
 use Rattle.qc_event.specs.declared.event.Event.TheVariants as event
 use Rattle.qc_event.specs.declared.event.Grant.{Grant}
 use Rattle.qc_event.specs.declared.event.Why.{Why}
 use Rattle.qc_event.specs.Dead.{dead}
 use Rattle.qc_event.specs.Grants.{MayGrant}
-use Rattle.qc_event.specs.History.{Past, Name, earliest, ask_in, ready_in}
+use Rattle.qc_event.specs.History.{Past, Name, ask_in, ready_in}
 use Rattle.qc_event.specs.Legal.{Legal, Allowed}
 use Rattle.qc_event.specs.Requests.{MayBeUnable}
-use Rattle.qc_event.specs.Standing.{Started, IsUser}
-use Rattle.qc_event.specs.Users.{MayMark}
-use Rattle.qc_pass.specs.declared.refusal.DeskNo.{DeskNo}
 use Rattle.qc_pass.specs.declared.view.View.{View}
-use Rattle.qc_pass.specs.Calling.{IsLook, IsEntry, Shown}
+use Rattle.qc_pass.specs.Calling.{IsLook, Shown}
 use Rattle.qc_pass.specs.Entries.{AreOthers, IsOlder, IsSince, entry}
-use Rattle.qc_pass.specs.Refusing.{Refuses}
 use Rattle.qc_pass.specs.Rules.{knows}
 use Rattle.qc_pass.proofs.Granting.{grant_still_allowed}
 use Rattle.qc_pass.proofs.Lasting.{match_stays, some_stays}

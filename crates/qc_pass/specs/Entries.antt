@@ -1,5 +1,5 @@
 -- Histories of entries, the latest first: which are legal, what stands under a number, what was before.
-use Rattle.std.specs.Prelude.{◌≡◌, ◌≤◌, ◌%◌, ◌^◌, ℕ, true, List, [], ◌∷◌, ◌++◌, length, ◌==◌, filter, is_some}
+use Rattle.std.specs.Prelude.{◌≡◌, ◌≤◌, ◌%◌, ◌^◌, ℕ, true, [], ◌∷◌, ◌++◌, length, ◌==◌, filter, is_some}
 use Rattle.std.specs.List.{AllByRecursion}
 use Rattle.qc_event.specs.Base.{Setting}
 use Rattle.qc_event.specs.declared.event.Entry.{Entry}

@@ -4,5 +4,4 @@ pub mod Rules
 pub mod Refusing
 pub mod Calling
 pub mod Own
-pub mod Ending
 pub mod Looking

@@ -1,12 +1,12 @@
 //! The calls with which a client commits, aborts, and looks whether a name has ended.
 ghost use Rattle.std.specs.Prelude.{◌≡◌, OnOk, IfErr};
+ghost use Rattle.qc_event.specs.Aborts.{Licensed};
 ghost use Rattle.qc_event.specs.declared.event.Event.TheVariants as event;
 ghost use Rattle.qc_event.specs.declared.event.How.TheVariants.{Commit as Commits, Abort as Aborts};
 ghost use Rattle.qc_event.specs.History.{end};
 ghost use Rattle.qc_event.specs.Standing.{Started};
 ghost use Rattle.qc_pass.specs.Calling.{Entered, Refused, Shown};
 ghost use Rattle.qc_event.specs.Tables.{setting_of};
-ghost use Rattle.qc_pass.specs.Ending.{LastingCause};
 ghost use Rattle.qc_pass.specs.Own.{CommitsOwn};
 ghost use Rattle.qc_pass.specs.Refusing.{against_commit, against_abort};
 ghost use Rattle.qc_pass.specs.Rules.{IsClient};
@@ -46,8 +46,8 @@ impl<N: Store> Desk<N> {
         locked.enter(&self.room, pass, no, event)
     }
 
-    /// Aborts a name whose start was seen, for a cause that was seen to be licensed. Refused where the name has
-    /// ended, or is ready.
+    /// Aborts a name whose start was seen, for a cause that was seen to be licensed: it still is, whatever others
+    /// entered since. Refused where the name has ended, or is ready.
     pub fn abort<R: Wait>(
         &self,
         rt: &R,
@@ -56,14 +56,15 @@ impl<N: Store> Desk<N> {
         cause: &Cause,
     ) -> Result<(), DeskNo>
         requires client { IsClient pass.old }
-        requires licensed { Started pass.old.seen name.now
-            (λ b. LastingCause pass.old.seen pass.old.number name.now b b.kind cause.now) }
+        requires licensed { Started pass.old.seen name.now (λ b. Licensed
+            (setting_of N.table N.base) pass.old.seen pass.old.number name.now b b.kind cause.now) }
         ensures ok { OnOk result (Entered (against_abort name.now)
             (event.End name.now (Aborts cause.now)) pass.old pass.new) }
         ensures err { IfErr result (Refused (against_abort name.now) pass.old pass.new) }
     {
         let mut locked = self.locked.lock(rt);
         locked.look(&self.room, pass);
+        locked.known();
         let no = locked.against_abort(name);
         let event = Event::End {
             name: *name,

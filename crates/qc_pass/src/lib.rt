@@ -6,6 +6,7 @@ mod copies;
 mod desk;
 mod ends;
 mod found;
+mod finish;
 mod history;
 mod locked;
 mod looks;

@@ -1,9 +1,11 @@
+use Rattle.std.proofs.Common.{◌∙◌, subst}
+use Rattle.qc_event.specs.Legal.{Legal}
 use Rattle.qc_event.specs.Tables.{setting_of}
 use Rattle.qc_event.specs.declared.event.Event.TheVariants as event
 use Rattle.qc_event.specs.declared.event.How.TheVariants.{Abort}
 use Rattle.qc_pass.specs.Refusing.{against_abort}
+use Rattle.qc_pass.proofs.Aborting.{abort_allowed}
 use Rattle.qc_pass.proofs.Calls.{client, after_look}
-use Rattle.qc_pass.proofs.Lasting.{abort_allowed}
 use Rattle.qc_pass.proofs.desk.Desk.abort.Goals as goal
 
 pub enter-requires-clause-allowed : goal.enter-requires-clause-allowed
@@ -11,5 +13,6 @@ enter-requires-clause-allowed g c none =
     let setting = setting_of g.N.Store.table g.N.Store.base in
     let l = c.look.ensures in
     let s = l.since c.requires.client.0 in
-    after_look setting (event.End c.args.name.now (Abort c.args.cause.now)) (against_abort c.args.name.now) _ _ _ _ c.args.pass.now _ c.against_abort-no.result l.same c.deref.ensures c.deref_mut-2.ensures.value c.against_abort-no.ensures
-    (abort_allowed setting c.args.pass.now.number c.args.pass.now.seen _ c.args.name.now c.args.cause.now (s.0, s.1) (client c.args.pass.now c.requires.client) c.requires.licensed) none
+    let legal = subst (Legal setting) (c.deref.ensures ∙ l.same.0) c.known.ensures.legal in
+    after_look setting (event.End c.args.name.now (Abort c.args.cause.now)) (against_abort c.args.name.now) _ _ _ _ c.args.pass.now _ c.against_abort-no.result l.same c.deref-2.ensures c.deref_mut-2.ensures.value c.against_abort-no.ensures
+    (abort_allowed setting c.args.pass.now.number c.args.pass.now.seen _ c.args.name.now c.args.cause.now legal s (client c.args.pass.now c.requires.client) c.requires.licensed) none

@@ -3,7 +3,6 @@ use Rattle.std.specs.Prelude.{None}
 use Rattle.qc_event.specs.Legal.{Legal}
 use Rattle.qc_event.specs.Tables.{setting_of}
 use Rattle.qc_event.specs.declared.event.Event.TheVariants as event
-use Rattle.qc_pass.specs.Entries.{IsOlder}
 use Rattle.qc_pass.specs.Refusing.{against_nothing}
 use Rattle.qc_pass.proofs.Calls.{after_look}
 use Rattle.qc_pass.proofs.Seers.{shown_twice, grant_enters}

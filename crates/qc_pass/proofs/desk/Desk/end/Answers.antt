@@ -1,11 +1,9 @@
-use Rattle.std.proofs.Common.{refl, ◌∙◌, subst, arith}
-use Rattle.std.specs.Prelude.{None}
+use Rattle.std.proofs.Common.{◌∙◌, subst, arith}
 use Rattle.qc_event.specs.Legal.{Legal}
 use Rattle.qc_event.specs.Tables.{setting_of}
-use Rattle.qc_event.specs.declared.event.Answer.TheVariants as answer
 use Rattle.qc_event.specs.declared.event.Event.TheVariants as event
 use Rattle.qc_event.specs.declared.event.How.TheVariants.{Commit}
-use Rattle.qc_pass.specs.Refusing.{against_access, against_commit, against_nothing}
+use Rattle.qc_pass.specs.Refusing.{against_commit}
 use Rattle.qc_pass.proofs.Calls.{client, after_look}
 use Rattle.qc_pass.proofs.OwnEntering.{commit_enters, commit_room}
 use Rattle.qc_pass.proofs.desk.Desk.end.Goals as goal

@@ -1,12 +1,10 @@
-use Rattle.std.proofs.Common.{refl, ◌∙◌, subst, arith}
+use Rattle.std.proofs.Common.{refl, ◌∙◌, subst}
 use Rattle.std.specs.Prelude.{None}
 use Rattle.qc_event.specs.Legal.{Legal}
 use Rattle.qc_event.specs.Tables.{setting_of}
-use Rattle.qc_event.specs.declared.event.Answer.TheVariants as answer
 use Rattle.qc_event.specs.declared.event.Event.TheVariants as event
-use Rattle.qc_event.specs.declared.event.How.TheVariants.{Commit}
-use Rattle.qc_pass.specs.Refusing.{against_access, against_commit, against_nothing}
-use Rattle.qc_pass.proofs.Calls.{client, after_look}
+use Rattle.qc_pass.specs.Refusing.{against_nothing}
+use Rattle.qc_pass.proofs.Calls.{after_look}
 use Rattle.qc_pass.proofs.OwnEntering.{gone_enters}
 use Rattle.qc_pass.proofs.desk.Desk.gone.Goals as goal
 

@@ -1,8 +1,5 @@
-use Rattle.std.proofs.Common.{sym, ap, ◌∙◌}
-use Rattle.qc_event.specs.Legal.{Allowed}
 use Rattle.qc_event.specs.Tables.{setting_of}
 use Rattle.qc_event.specs.declared.event.Event.TheVariants as event
-use Rattle.qc_pass.specs.Entries.{entry}
 use Rattle.qc_pass.specs.Refusing.{against_ready}
 use Rattle.qc_pass.proofs.Calls.{client, after_look}
 use Rattle.qc_pass.proofs.Entering.{ready_allowed}

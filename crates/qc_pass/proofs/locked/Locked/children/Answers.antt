@@ -1,4 +1,4 @@
-use Rattle.std.proofs.Common.{◌≡◌, length, [], subst}
+use Rattle.std.proofs.Common.{◌≡◌, length, subst}
 use Rattle.qc_event.proofs.LegalAgain.{legal_again}
 use Rattle.qc_event.specs.History.{children}
 use Rattle.qc_event.specs.History.{Past}
