@@ -24,7 +24,7 @@ use Rattle.qc_script.specs.Calls.{by_client}
 use Rattle.qc_script.specs.Plan.{KindFits}
 use Rattle.qc_script.specs.Client.{Client}
 use Rattle.qc_script.specs.Numbers.{any_top}
-use Rattle.qc_store.proofs.Begun.{user_short}
+use Rattle.qc_copy.proofs.Begun.{user_short}
 
 -- NAMES
 

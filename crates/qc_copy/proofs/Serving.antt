@@ -11,6 +11,7 @@ use Rattle.qc_event.specs.declared.event.Answered.TheVariants.{Granted, Blocked,
 use Rattle.qc_event.specs.declared.event.Grant.{Grant}
 use Rattle.qc_event.specs.History.{Past, Name}
 use Rattle.qc_event.specs.Seen.{changed_by, is_live_at}
+use Rattle.qc_event.proofs.Lineage.{alive_above}
 use Rattle.qc_moss.specs.declared.locks.Test.TheVariants.{Free, Held}
 use Rattle.qc_moss.specs.Follows.{Follows, IsSettled}
 use Rattle.qc_moss.specs.Locks.{Table, test_of, test_by, start_of}
@@ -63,6 +64,15 @@ pub verdict_free : (past : Past) (s : State) (ask : Ask) → dead past ask.acces
 verdict_free past s ask alive none =
     ap (λ o. option_map_or verdicts.Dead o (option_map_or verdicts.Blocked (blocker past s ask) (verdicts.Free (tuple_after past s ask)))) alive
     ∙ ap (λ o. option_map_or verdicts.Blocked o (verdicts.Free (tuple_after past s ask))) none
+
+-- what the settled locks tell is the verdict
+pub held_told : (past : Past) (s : State) (ask : Ask) (table : Table) (first : Name) → IsReady past s ask table → dead past ask.access ≡ None → test_of table ask.access ask.rec (not (is_get ask.op)) ≡ Held first → verdict past s ask ≡ verdicts.Blocked first
+held_told past s ask table first ready alive held = verdict_blocked past s ask first alive (is_blocked past s ask table first ready (alive_above past [] ask.access alive) held)
+
+pub free_told : (past : Past) (s : State) (ask : Ask) (table : Table) → IsReady past s ask table → dead past ask.access ≡ None → test_of table ask.access ask.rec (not (is_get ask.op)) ≡ Free → verdict past s ask ≡ verdicts.Free (grant_of table ask).tuple
+free_told past s ask table ready alive none =
+    let root : dead past [] ≡ None = alive_above past [] ask.access alive in
+    verdict_free past s ask alive (is_free past s ask table ready root none) ∙ ap (λ (x : Grant). verdicts.Free x.tuple) (sym (grant_is past s ask table ready root))
 
 -- THE ANSWERS
 

@@ -20,13 +20,17 @@ pub record State : Type 0 where
   pub table : Table
   pub grants : List Grant
 
+-- a copy with this lock table, which granted all this
+abbrev pub state_of : ℕ → Table → List Grant → State
+state_of copy table given = record { copy = copy; table = table; grants = given }
+
 -- the lock table after grants of which each access holds its own lock
 abbrev pub all_granted : Table → List Grant → Table
 all_granted table given = fold (λ t (g : Grant). granted_to t g.access g.rec g.op) table given
 
 -- the copy that granted all this, with nothing settled
 abbrev pub replayed : ℕ → List Tuple → List Grant → State
-replayed copy start given = record { copy = copy; table = all_granted (unheld start) given; grants = given }
+replayed copy start given = state_of copy (all_granted (unheld start) given) given
 
 -- the tuple of the first grant to an access
 abbrev pub again : List Grant → Name → Option Tuple

@@ -6,4 +6,4 @@ mod sources;
 mod state;
 
 pub use sources::{Entries, Indexed};
-pub use state::{CopyState, Verdict};
+pub use state::{CopyState, Verdict, consult_locks};

@@ -70,6 +70,30 @@ fn grant_of(ask: &Ask, tuple: &Tuple) -> Grant
     }
 }
 
+/// Says whether a request may be granted by a history that a source tells, and by the locks of its copy, which follow
+/// that with the grants there. It grants nothing, settles the locks of the record asked for, and takes no memory.
+pub fn consult_locks<S: Source>(locks: &mut Locks, ask: &Ask, source: &S) -> Verdict
+    requires { ask.now.rec < length locks.old.start }
+    ensures start { locks.new.start ≡ locks.old.start }
+    ensures reserved { locks.new.reserved ≡ locks.old.reserved }
+    ensures follows { (past : Past) (given : List Grant) → S.tells source.now past
+        → Follows past given locks.old → Follows past given locks.new }
+    ensures verdict { (past : Past) (given : List Grant) → S.tells source.now past
+        → Follows past given locks.old
+        → result ≡ words.verdict past (words.state_of ask.now.copy locks.old given) ask.now }
+    ensures admits { (tuple : Tuple) → result ≡ Free tuple
+        → words.grant_of locks.new ask.now ≡ words.grant_with ask.now tuple }
+{
+    if let Some(ancestor) = source.dead(&ask.access) {
+        return Verdict::Dead(ancestor);
+    }
+    locks.settle_by(ask.rec, source);
+    match locks.test(&ask.access, ask.rec, is_write(&ask.op)) {
+        Test::Held(first) => Verdict::Blocked(first),
+        Test::Free => Verdict::Free(locks.seen_by(ask.rec).after(&ask.op)),
+    }
+}
+
 impl CopyState {
     /// A copy that starts with these tuples, record by record, and granted all this, where each access still
     /// holds its own lock. That follows any history.
@@ -185,14 +209,7 @@ impl CopyState {
         ensures admits { (tuple : Tuple) → result ≡ Free tuple
             → words.grant_of self.new.table ask.now ≡ words.grant_with ask.now tuple }
     {
-        if let Some(ancestor) = source.dead(&ask.access) {
-            return Verdict::Dead(ancestor);
-        }
-        self.locks.settle_by(ask.rec, source);
-        match self.locks.test(&ask.access, ask.rec, is_write(&ask.op)) {
-            Test::Held(first) => Verdict::Blocked(first),
-            Test::Free => Verdict::Free(self.locks.seen_by(ask.rec).after(&ask.op)),
-        }
+        consult_locks(&mut self.locks, ask, source)
     }
 
     /// Answers a request by a history that a source tells: what it was granted before, the shortest aborted

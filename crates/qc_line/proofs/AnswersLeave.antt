@@ -31,7 +31,7 @@ use Rattle.qc_gather.specs.Carrying.{made_by}
 use Rattle.qc_net.specs.Messages.{ask_of, ask_under, asked_under}
 use Rattle.qc_line.proofs.Stays.{still}
 use Rattle.qc_store.specs.Served.{is_reply, is_answer}
-use Rattle.qc_store.proofs.Asked.{asked_access}
+use Rattle.qc_copy.proofs.Asked.{asked_access}
 
 -- each entry is a copy's answer
 abbrev pub AreAnswers : Past → Type 0

@@ -25,7 +25,7 @@ use Rattle.qc_event.proofs.LegalOrderly.{legal_orderly}
 use Rattle.qc_event.proofs.Lineage.{IsFresh, fresh_child, dead_child}
 use Rattle.qc_gather.specs.Carrying.{entry, next_ask}
 use Rattle.qc_line.specs.Access.{MayAccess}
-use Rattle.qc_store.proofs.Begun.{IsManagerName, manager_name, ready_top}
+use Rattle.qc_copy.proofs.Begun.{IsManagerName, manager_name, ready_top}
 use Rattle.qc_line.proofs.Stays.{still, dead_same, result_same, waiting_same, at_stage_same, waits_for_none}
 use Rattle.qc_line.proofs.Unheard as unheard
 

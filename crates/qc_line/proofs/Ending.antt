@@ -33,7 +33,7 @@ use Rattle.qc_line.specs.Access.{MayAccess}
 use Rattle.qc_line.proofs.Asking as asking
 use Rattle.qc_line.proofs.Heard.{IsHeard, none_or}
 use Rattle.qc_line.proofs.Stays.{IsOwn, asks_own, still, dead_same, result_same}
-use Rattle.qc_store.proofs.Begun.{ready_top}
+use Rattle.qc_copy.proofs.Begun.{ready_top}
 
 -- what passes neither test before passes none after
 none_passes : (p q : Name → Bool) → ((x : Name) → p x ≡ false → q x ≡ false) → (xs : List Name) → find p xs ≡ None → find q xs ≡ None

@@ -11,7 +11,7 @@ use Rattle.qc_event.specs.Dead.{outcome, outcome_of, is_aborted, ancestors, dead
 use Rattle.qc_event.specs.History.{Past, Name, same, end}
 use Rattle.qc_event.specs.Standing.{IsAbort, IsOrphanOf}
 use Rattle.qc_event.proofs.Absent.{same_is}
-use Rattle.qc_store.proofs.Found.{found_holds, found_passes}
+use Rattle.qc_copy.proofs.Found.{found_holds, found_passes}
 
 abbrev Above : Name → Name → Type 0
 Above n a = name.is_ancestor a n ≡ true

@@ -126,7 +126,7 @@ module _ (setting : Setting) (past : Past) (copy : ℕ) where
       by_event (event.Granted c g) h = if_not (c == copy) (Some g) (false_from_ne_true (c == copy) (λ is. other (h.by_copy ∙ ap (λ x. x + 2) (eqb-true c copy is))))
       by_event _ h = refl
 
-  grants_same : (newer : Past) → Legal setting (newer ++ past) → AreOthers (copy + 2) newer → grants (newer ++ past) copy ≡ grants past copy
+  pub grants_same : (newer : Past) → Legal setting (newer ++ past) → AreOthers (copy + 2) newer → grants (newer ++ past) copy ≡ grants past copy
   grants_same [] legal all = refl
   grants_same (e ∷ newer) legal all =
       ap (λ o. grants (newer ++ past) copy ++ option_to_list o) (none_here e (newer ++ past) all.0 legal.1)

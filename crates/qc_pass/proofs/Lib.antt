@@ -19,3 +19,4 @@ pub mod OwnFailing
 pub mod Aborting
 pub mod Seers
 pub mod Finishing
+pub mod Consulting

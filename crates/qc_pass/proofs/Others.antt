@@ -38,7 +38,8 @@ use Rattle.qc_event.proofs.Lineage.{alive_not_aborted}
 use Rattle.qc_event.proofs.OneEntry.{if_is, first_is, started_stays}
 use Rattle.qc_event.proofs.Orderly.{Belongs}
 use Rattle.qc_pass.proofs.Begun.{manager_name, started_at}
-use Rattle.qc_pass.proofs.Requests.{asked_access, still}
+use Rattle.qc_copy.proofs.Asked.{asked_access}
+use Rattle.qc_pass.proofs.Requests.{still}
 use Rattle.qc_pass.specs.Own.{IsMine}
 
 -- WHO ENDS A MANAGER

@@ -1,5 +1,5 @@
--- Requests: each is of a started child of its manager, and the request of a name is of its access.
-use Rattle.std.proofs.Common.{◌≡◌, ℕ, Bool, true, false, List, [], ◌∷◌, ◌++◌, refl, sym, ap, ◌∙◌, inl, inr}
+-- Each request of a manager is of a started child.
+use Rattle.std.proofs.Common.{◌≡◌, Bool, true, false, List, [], ◌∷◌, ◌++◌, refl}
 use Rattle.std.specs.Prelude.{Option, None, Some, if◌then◌else◌, is_some, option_to_list}
 use Rattle.std.specs.List.{AllByRecursion}
 use Rattle.std.specs.Option.{option_or}
@@ -8,11 +8,10 @@ use Rattle.qc_event.specs.declared.event.Entry.{Entry}
 use Rattle.qc_event.specs.declared.event.Event.{Event}
 use Rattle.qc_event.specs.declared.event.Event.TheVariants as event
 use Rattle.qc_event.specs.Base.{Setting}
-use Rattle.qc_event.specs.History.{Past, Name, Asked, same, start, is_child, asks, ask_below, asked, ask_in}
+use Rattle.qc_event.specs.History.{Past, Name, start, is_child, asks, ask_below}
 use Rattle.qc_event.specs.Legal.{Legal, MayHappen}
-use Rattle.qc_event.proofs.Absent.{same_is}
 use Rattle.qc_event.proofs.Lawful.{started_some}
-use Rattle.qc_event.proofs.OneEntry.{if_is, first_is, start_stays}
+use Rattle.qc_event.proofs.OneEntry.{start_stays}
 
 -- nothing comes to an answer
 pub still : {Y : Type 0} (o : Option Y) → option_or o None ≡ o
@@ -44,27 +43,3 @@ asks_own setting (e ∷ past) m legal = own_more (e ∷ past) m (asks past m) _ 
     by_event : (ev : Event) → MayHappen setting past e.seat ev → AllByRecursion (IsOwn (e ∷ past) m) (option_to_list (ask_below m ev))
     by_event (event.Ask ask) may = by_test ask (is_child m ask.access) refl (started_some _ (start past ask.access) may.started)
     by_event _ may = tt
-
--- An entry is this request, of this name.
-record IsAsk (n : Name) (seat : ℕ) (ev : Event) (a : Asked) : Type 0 where
-  same_seat : seat ≡ a.seat
-  asks : ev ≡ event.Ask a.ask
-  of_name : a.ask.access ≡ n
-
-asking : (n : Name) (seat : ℕ) (ev : Event) (a : Asked) → ask_in n seat ev ≡ Some a → IsAsk n seat ev a
-asking n seat (event.Ask ask) a is =
-    let parts = if_is (same ask.access n) (record { seat = seat; ask = ask }) a is in
-    record {
-      same_seat = ap (λ (x : Asked). x.seat) parts.1;
-      asks = ap (λ (x : Asked). event.Ask x.ask) parts.1;
-      of_name = sym (ap (λ (x : Asked). x.ask.access) parts.1) ∙ same_is ask.access n parts.0;
-    }
-asking n seat _ a is = absurd cc
-
--- the request of a name is of its access
-pub asked_access : (past : Past) (n : Name) (a : Asked) → asked past n ≡ Some a → a.ask.access ≡ n
-asked_access [] n a is = absurd cc
-asked_access (e ∷ past) n a is = elim (first_is (asked past n) (ask_in n e.seat e.event) a is) [
-  | inl old ↦ asked_access past n a old
-  | inr new ↦ (asking n e.seat e.event a new.1).of_name
-]

@@ -5,3 +5,4 @@ pub mod Refusing
 pub mod Calling
 pub mod Own
 pub mod Looking
+pub mod Consulting

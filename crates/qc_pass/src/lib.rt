@@ -2,6 +2,7 @@
 #![tactic(auto)]
 
 mod accesses;
+mod consult;
 mod copies;
 mod desk;
 mod ends;

@@ -20,58 +20,21 @@ use Rattle.qc_event.specs.History.{Past, Name, Asked, Given, asked, granted, gra
 use Rattle.qc_event.specs.Legal.{Legal, Allowed}
 use Rattle.qc_event.specs.Seen.{seen, holder}
 use Rattle.qc_event.proofs.Absent.{same_itself}
+use Rattle.qc_copy.proofs.Allowing as allowing
 use Rattle.qc_store.specs.Served.{HasAnswered, grant_entry, refusal_entry}
-use Rattle.qc_store.proofs.Sized.{IsSized, OpSized, after_sized, seen_sized}
-
-sets_after : (op : Op) (t : Tuple) → Sets op (after t op)
-sets_after Get t = tt
-sets_after (PutData version value) t = (refl, refl)
-sets_after (PutConfig generation config) t = (refl, refl)
+use Rattle.qc_copy.proofs.Sized.{IsSized, OpSized}
 
 module _ (setting : Setting) (past : Past) (seat : ℕ) (ask : Ask) (legal : Legal setting past) (stands : asked past ask.access ≡ Some (record { seat = seat; ask = ask })) where
-  asks_this : (P : Asked → Type 0) → P (record { seat = seat; ask = ask }) → MatchOption (asked past ask.access) ⊥ P
-  asks_this P h = subst (λ o. MatchOption o ⊥ P) (sym stands) h
-
-  -- A GRANT
-
-  abbrev pub tuple : Tuple
-  tuple = after (seen setting.base past ask.copy ask.rec) ask.op
-
-  abbrev grant : Grant
-  grant = record { access = ask.access; rec = ask.rec; op = ask.op; tuple = tuple }
-
   -- one that is not dead is granted where none is in its way
   pub grant_allowed : granted past ask.access ≡ None → dead past ask.access ≡ None → holder past ask.copy ask.rec ask.op ask.access ≡ None
-      → IsSized (length setting.base) (start_tuple setting.base ask.copy ask.rec) → OpSized (length setting.base) ask.op → Allowed setting past (grant_entry ask tuple)
-  grant_allowed first alive free here sized = may_grant
-    where
-      may_grant : MayGrant setting past (ask.copy + 2) ask.copy grant
-      may_grant = record {
-        by_copy = refl;
-        request = asks_this (λ a. a.ask ≡ record { access = ask.access; copy = ask.copy; rec = ask.rec; op = ask.op }) refl;
-        first_time = first;
-        sets = sets_after ask.op (seen setting.base past ask.copy ask.rec);
-        for_copies = after_sized (length setting.base) (seen setting.base past ask.copy ask.rec) ask.op (seen_sized setting past ask.copy ask.rec legal here) sized;
-        served = subst (λ o. IfNone o (IsServed setting past ask.copy grant)) (sym alive) (record { free = free; tuple = refl });
-      }
-
-  -- A REFUSAL
-
-  refusal_allowed : (refusal : Refusal) → IsRefusal past ask refusal → Allowed setting past (refusal_entry ask refusal)
-  refusal_allowed refusal reason = may_refuse
-    where
-      may_refuse : MayRefuse past (ask.copy + 2) ask.access ask.copy refusal
-      may_refuse = record {
-        by_copy = refl;
-        request = asks_this (λ a. a.ask.copy ≡ ask.copy) refl;
-        reason = asks_this (λ a. IsRefusal past a.ask refusal) reason;
-      }
+      → IsSized (length setting.base) (start_tuple setting.base ask.copy ask.rec) → OpSized (length setting.base) ask.op → Allowed setting past (grant_entry ask (allowing.tuple setting past seat ask stands))
+  grant_allowed first alive free here sized = allowing.may_grant setting past seat ask stands legal first alive (record { free = free; tuple = refl }) here sized
 
   pub blocked_allowed : (h : Name) → dead past ask.access ≡ None → holder past ask.copy ask.rec ask.op ask.access ≡ Some h → Allowed setting past (refusal_entry ask (Blocked h))
-  blocked_allowed h alive held = refusal_allowed (Blocked h) (alive, held)
+  blocked_allowed h alive held = allowing.may_refuse setting past seat ask stands (Blocked h) (alive, held)
 
   pub dead_allowed : (a : Name) → dead past ask.access ≡ Some a → Allowed setting past (refusal_entry ask (Dead a))
-  dead_allowed a is = refusal_allowed (Dead a) is
+  dead_allowed a is = allowing.may_refuse setting past seat ask stands (Dead a) is
 
 -- WHAT STANDS THEN
 

@@ -1,8 +1,3 @@
-pub mod Begun
-pub mod Sized
-pub mod Found
-pub mod Fits
-pub mod Asked
 pub mod Repeats
 pub mod Sited
 pub mod Pushed

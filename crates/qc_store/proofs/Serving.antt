@@ -26,8 +26,8 @@ use Rattle.qc_store.specs.Served.{MayServe, HasAnswered, IsOfCopy, is_answer, an
 use Rattle.qc_store.specs.Sites.{IsSite, AreSites, IsKept}
 use Rattle.qc_store.specs.Stored.{Stored}
 use Rattle.qc_store.proofs.Answering as answering
-use Rattle.qc_store.proofs.Asked.{asked_fits}
-use Rattle.qc_store.proofs.Fits.{AskFits, start_sized}
+use Rattle.qc_copy.proofs.Asked.{asked_fits}
+use Rattle.qc_copy.proofs.Fits.{AskFits, start_sized}
 use Rattle.qc_store.proofs.Repeats.{again_granted, none_granted, was_granted}
 use Rattle.qc_store.proofs.Sited.{sites_still, sites_settled, sites_granted}
 

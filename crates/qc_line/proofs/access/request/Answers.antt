@@ -4,7 +4,7 @@ use Rattle.std.specs.Prelude.{is_some}
 use Rattle.qc_event.proofs.LegalAgain.{legal_again}
 use Rattle.qc_line.proofs.Children.{children_fewer}
 use Rattle.qc_line.proofs.access.request.Goals as goal
-use Rattle.qc_store.proofs.Begun.{IsManagerName, manager_name}
+use Rattle.qc_copy.proofs.Begun.{IsManagerName, manager_name}
 
 pub overflow_add-number : goal.overflow_add-number
 overflow_add-number c =

@@ -14,8 +14,8 @@ use Rattle.qc_event.specs.Requests.{IsNextAsk, MayAsk}
 use Rattle.qc_event.specs.Standing.{IsManager}
 use Rattle.qc_event.proofs.Absent.{same_is}
 use Rattle.qc_event.proofs.OneEntry.{if_is, first_is}
-use Rattle.qc_store.proofs.Begun.{KindFits, IsManaged, kind_fits, record_fits, access_managed}
-use Rattle.qc_store.proofs.Fits.{AskFits, ask_fits, first_sized}
+use Rattle.qc_copy.proofs.Begun.{KindFits, IsManaged, kind_fits, record_fits, access_managed}
+use Rattle.qc_copy.proofs.Fits.{AskFits, ask_fits, first_sized}
 
 -- the moment at which an access asked
 pub record WasAsked (setting : Setting) (a : Asked) : Type 0 where

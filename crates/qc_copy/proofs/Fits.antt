@@ -14,9 +14,9 @@ use Rattle.qc_event.specs.Legal.{Legal}
 use Rattle.qc_event.specs.Manager.{Stage, Newest, Greatest, stages_by, stages, stage, is_enough, at_last_number, newest, greatest, ask_at, first_for, AtStage}
 use Rattle.qc_event.specs.Requests.{IsNextAsk}
 use Rattle.qc_event.specs.Standing.{IsManager}
-use Rattle.qc_store.proofs.Found.{found_holds, found_range}
-use Rattle.qc_store.proofs.Begun.{KindFits, record_fits}
-use Rattle.qc_store.proofs.Sized.{IsSized, OpSized, newest_sized}
+use Rattle.qc_copy.proofs.Found.{found_holds, found_range}
+use Rattle.qc_copy.proofs.Begun.{KindFits, record_fits}
+use Rattle.qc_copy.proofs.Sized.{IsSized, OpSized, newest_sized}
 
 has_place : (votes : List ℕ) (c : ℕ) → 0 < slice_index_or votes c 0 → c < length votes
 has_place [] c some = absurd (omega arith)

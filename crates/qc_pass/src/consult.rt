@@ -1,0 +1,134 @@
+//! The call with which a copy asks the desk before it grants.
+ghost use Rattle.std.specs.Prelude.{◌≡◌, [], true, Ok, None, IfOk, IfErr, slice_index_or};
+ghost use Rattle.qc_config.specs.declared.tuple.Tuple.{Tuple};
+ghost use Rattle.qc_copy.specs.declared.state.Verdict.TheVariants.{Free};
+ghost use Rattle.qc_copy.specs.State.{grant_of, grant_with};
+ghost use Rattle.qc_event.specs.Base.{IsProper};
+ghost use Rattle.qc_event.specs.History.{grants};
+ghost use Rattle.qc_event.specs.Seats.{copy_seat};
+ghost use Rattle.qc_event.specs.Tables.{setting_of};
+ghost use Rattle.qc_moss.specs.Follows.{Follows};
+ghost use Rattle.qc_pass.specs.Calling.{IsRoomOf, Refused, Shown};
+ghost use Rattle.qc_pass.specs.Consulting as words;
+ghost use Rattle.qc_pass.specs.Consulting.{HasAsked, IsTold};
+ghost use Rattle.qc_pass.specs.Refusing.{against_nothing};
+
+use crate::desk::Desk;
+use crate::locked::Locked;
+use crate::pass::Pass;
+use crate::refusal::DeskNo;
+use crate::store::{Room, Store};
+use qc_copy::{Verdict, consult_locks};
+use qc_event::{Ask, Event, Name, Outcome, Refusal};
+use qc_moss::{Locks, Source};
+use std::sync::Wait;
+
+// What tells a copy of the history at this step.
+#[derive(Clone, Copy)]
+struct Told<'a, N: Store> {
+    locked: &'a Locked<N>,
+}
+
+impl<'a, N: Store> Source for Told<'a, N> {
+    ghost use Rattle.std.specs.Prelude.{◌≡◌};
+
+    ghost tells = { λ told past. told.locked.now ≡ past };
+
+    fn outcome(&self, name: &Name) -> Outcome {
+        self.locked.outcome(name)
+    }
+
+    fn dead(&self, name: &Name) -> Option<Name> {
+        self.locked.dead(name)
+    }
+}
+
+// The refusal that a verdict is.
+fn refusal_of(verdict: &Verdict) -> Option<Refusal>
+    ensures { result ≡ words.refusal_of verdict.now }
+{
+    match verdict {
+        Verdict::Free(_) => None,
+        Verdict::Blocked(holder) => Some(Refusal::Blocked(*holder)),
+        Verdict::Dead(ancestor) => Some(Refusal::Dead(*ancestor)),
+    }
+}
+
+impl<N: Store> Locked<N> {
+    // Asks the locks of a copy by the history, and appends what they refuse.
+    fn consult(
+        &mut self,
+        room: &Room,
+        pass: &mut Pass<N>,
+        ask: &Ask,
+        locks: &mut Locks,
+    ) -> Result<Verdict, DeskNo>
+        requires room { IsRoomOf N.desk room.now.shared.table_id }
+        requires copy { (pass.old.live ≡ true) × (pass.old.number ≡ copy_seat ask.now.copy) }
+        requires asked { HasAsked self.old ask.now }
+        requires proper { IsProper (setting_of N.table N.base) }
+        requires start { locks.old.start ≡ slice_index_or N.base ask.now.copy [] }
+        requires follows { Follows pass.old.seen (grants pass.old.seen ask.now.copy) locks.old }
+        ensures told { IfOk result
+            (IsTold (setting_of N.table N.base) ask.now pass.old pass.new) }
+        ensures admits { (tuple : Tuple) → result ≡ Ok (Free tuple)
+            → grant_of locks.new ask.now ≡ grant_with ask.now tuple }
+        ensures err { IfErr result (Refused against_nothing pass.old pass.new) }
+        ensures follows { Follows pass.new.seen (grants pass.new.seen ask.now.copy) locks.new }
+        ensures start { locks.new.start ≡ locks.old.start }
+        ensures reserved { locks.new.reserved ≡ locks.old.reserved }
+        ensures seen { pass.new.seen ≡ self.new }
+    {
+        self.look(room, pass);
+        self.known();
+        let verdict = consult_locks(locks, ask, &Told { locked: self });
+        let Some(refusal) = refusal_of(&verdict) else {
+            return Ok(verdict);
+        };
+        let event = Event::Refused {
+            access: ask.access,
+            copy: ask.copy,
+            refusal,
+        };
+        self.enter(room, pass, None, event)?;
+        Ok(verdict)
+    }
+}
+
+impl<N: Store> Desk<N> {
+    /// Says by the history at this step, and by the locks of a copy, whether a request that the seer saw may be
+    /// granted, and with which tuple. Where it may not, the refusal is appended under the copy's pass, and the
+    /// verdict tells it. The locks of the record are settled by the history; at an error too they are locks of this
+    /// copy, with the room that they had. The only errors are want of memory and of room for a refusal. Both passes
+    /// have then seen the history at this step.
+    pub fn consult<R: Wait>(
+        &self,
+        rt: &R,
+        pass: &mut Pass<N>,
+        seer: &mut Pass<N>,
+        ask: &Ask,
+        locks: &mut Locks,
+    ) -> Result<Verdict, DeskNo>
+        requires copy { (pass.old.live ≡ true) × (pass.old.number ≡ copy_seat ask.now.copy) }
+        requires asked { HasAsked seer.old.seen ask.now }
+        requires proper { IsProper (setting_of N.table N.base) }
+        requires start { locks.old.start ≡ slice_index_or N.base ask.now.copy [] }
+        requires follows { Follows pass.old.seen (grants pass.old.seen ask.now.copy) locks.old }
+        ensures told { IfOk result
+            (IsTold (setting_of N.table N.base) ask.now pass.old pass.new) }
+        ensures admits { (tuple : Tuple) → result ≡ Ok (Free tuple)
+            → grant_of locks.new ask.now ≡ grant_with ask.now tuple }
+        ensures err { IfErr result (Refused against_nothing pass.old pass.new) }
+        ensures follows { Follows pass.new.seen (grants pass.new.seen ask.now.copy) locks.new }
+        ensures start { locks.new.start ≡ locks.old.start }
+        ensures reserved { locks.new.reserved ≡ locks.old.reserved }
+        ensures shown { Shown seer.old seer.new }
+        ensures same { seer.new.seen ≡ pass.new.seen }
+    {
+        let mut locked = self.locked.lock(rt);
+        locked.look(&self.room, seer);
+        let verdict = locked.consult(&self.room, pass, ask, locks);
+        locked.look(&self.room, seer);
+        verdict
+    }
+}
