@@ -68,55 +68,15 @@ follows_refused past seat copy ask r table f =
 
 -- WHAT IS TOLD
 
-module _ (setting : Setting) (past : Past) (ask : Ask) (proper : IsProper setting) (legal : Legal setting past) (has : HasAsked past ask) (table : Table) (start : table.start ≡ slice_index_or setting.base ask.copy []) where
-  request : (seat : ℕ) × (asked past ask.access ≡ Some (record { seat = seat; ask = ask }))
-  request = stands (asked past ask.access) ask has
-
-  fits : AskFits setting ask
-  fits = asked_fits setting past ask.access (record { seat = request.0; ask = ask }) proper legal request.1
-
-  pub within : ask.rec < length table.start
-  within =
-      let row : length (slice_index_or setting.base ask.copy []) ≡ length setting.firsts = (proper.base.rows ask.copy [] fits.is_copy).same_records in
-      let here = ap length start in
-      let rec_fits = fits.is_record in
-      omega arith
-
-  pub refusal_allowed : (seat : ℕ) (r : Refusal) → seat ≡ copy_seat ask.copy → IsRefusal past ask r → Allowed setting past (entry seat (event.Refused ask.access ask.copy r))
-  refusal_allowed seat r number reason = subst (λ n. MayRefuse past n ask.access ask.copy r) (sym number) (may_refuse setting past request.0 ask request.1 r reason)
-
+module _ (setting : Setting) (past : Past) (ask : Ask) where
   -- what stands of a verdict
   abbrev pub Stands : Verdict → Type 0
   Stands (verdict.Free tuple) = IsFree setting past ask tuple
   Stands (verdict.Blocked holder) = IsRefusal past ask (refusal.Blocked holder)
   Stands (verdict.Dead ancestor) = IsRefusal past ask (refusal.Dead ancestor)
 
-  abbrev tuple : Tuple
-  tuple = after (seen setting.base past ask.copy ask.rec) ask.op
-
-  free : dead past ask.access ≡ None → holder past ask.copy ask.rec ask.op ask.access ≡ None → IsFree setting past ask tuple
-  free alive none = record {
-    alive = alive;
-    served = record { free = none; tuple = refl };
-    may = λ first. may_grant setting past request.0 ask request.1 legal first alive (record { free = none; tuple = refl }) (start_sized setting proper ask.copy ask.rec fits.is_copy fits.is_record) fits.sized;
-  }
-
-  abbrev by_both : Option Name → Option Name → Tuple → Verdict
-  by_both d h t = option_map_or verdict.Dead d (option_map_or verdict.Blocked h (verdict.Free t))
-
-  pub verdict_stands : (v : Verdict) → v ≡ copies.verdict past (copies.state_of ask.copy table (grants past ask.copy)) ask → Stands v
-  verdict_stands v is = by_cases (dead past ask.access) (holder past ask.copy ask.rec ask.op ask.access) refl refl (is ∙ ap (λ t. by_both (dead past ask.access) (holder past ask.copy ask.rec ask.op ask.access) t) same)
-    where
-      same : copies.tuple_after past (copies.state_of ask.copy table (grants past ask.copy)) ask ≡ tuple
-      same = ap (λ (ts : List Tuple). after (changed_by (slice_index_or ts ask.rec no_tuple) (filter (is_live_at past ask.rec) (grants past ask.copy))) ask.op) start
-
-      by_cases : (d h : Option Name) → dead past ask.access ≡ d → holder past ask.copy ask.rec ask.op ask.access ≡ h → v ≡ by_both (dead past ask.access) (holder past ask.copy ask.rec ask.op ask.access) tuple → Stands v
-      by_cases (Some a) h dies way at = subst Stands (sym (at ∙ ap (λ d. by_both d (holder past ask.copy ask.rec ask.op ask.access) tuple) dies)) dies
-      by_cases None (Some h) alive held at = subst Stands (sym (at ∙ (λ i. by_both (alive i) (held i) tuple))) (alive, held)
-      by_cases None None alive none at = subst Stands (sym (at ∙ (λ i. by_both (alive i) (none i) tuple))) (free alive none)
-
   -- a refusal has its reason
-  pub has_reason : (v : Verdict) (r : Refusal) → refusal_of v ≡ Some r → Stands v → IsRefusal past ask r
+  pub has_reason : (said : Verdict) (r : Refusal) → refusal_of said ≡ Some r → Stands said → IsRefusal past ask r
   has_reason (verdict.Free tuple) r is h = absurd cc
   has_reason (verdict.Blocked holder) r is h = let same : refusal.Blocked holder ≡ r = cc in subst (IsRefusal past ask) same h
   has_reason (verdict.Dead ancestor) r is h = let same : refusal.Dead ancestor ≡ r = cc in subst (IsRefusal past ask) same h
@@ -127,10 +87,54 @@ module _ (setting : Setting) (past : Past) (ask : Ask) (proper : IsProper settin
   told_refused v w (verdict.Blocked holder) r is e = let same : r ≡ refusal.Blocked holder = cc in subst (λ x. EnteredAs against_nothing (IsRefused ask x) v w) same e
   told_refused v w (verdict.Dead ancestor) r is e = let same : r ≡ refusal.Dead ancestor = cc in subst (λ x. EnteredAs against_nothing (IsRefused ask x) v w) same e
 
+  -- what is free is told
   pub told_free : (v w : View) (said : Verdict) → refusal_of said ≡ None → Stands said → Looked v w → w.seen ≡ past → IsTold setting ask v w said
   told_free v w (verdict.Free tuple) none h looked is = (looked, subst (λ p. IsFree setting p ask tuple) (sym is) h)
   told_free v w (verdict.Blocked holder) none h looked is = absurd cc
   told_free v w (verdict.Dead ancestor) none h looked is = absurd cc
+
+  module _ (has : HasAsked past ask) where
+    request : (seat : ℕ) × (asked past ask.access ≡ Some (record { seat = seat; ask = ask }))
+    request = stands (asked past ask.access) ask has
+
+    pub refusal_allowed : (seat : ℕ) (r : Refusal) → seat ≡ copy_seat ask.copy → IsRefusal past ask r → Allowed setting past (entry seat (event.Refused ask.access ask.copy r))
+    refusal_allowed seat r number reason = subst (λ n. MayRefuse past n ask.access ask.copy r) (sym number) (may_refuse setting past request.0 ask request.1 r reason)
+
+    module _ (proper : IsProper setting) (legal : Legal setting past) (table : Table) (start : table.start ≡ slice_index_or setting.base ask.copy []) where
+      fits : AskFits setting ask
+      fits = asked_fits setting past ask.access (record { seat = request.0; ask = ask }) proper legal request.1
+
+      pub within : ask.rec < length table.start
+      within =
+          let row : length (slice_index_or setting.base ask.copy []) ≡ length setting.firsts = (proper.base.rows ask.copy [] fits.is_copy).same_records in
+          let here = ap length start in
+          let rec_fits = fits.is_record in
+          omega arith
+
+      abbrev tuple : Tuple
+      tuple = after (seen setting.base past ask.copy ask.rec) ask.op
+
+      free : dead past ask.access ≡ None → holder past ask.copy ask.rec ask.op ask.access ≡ None → IsFree setting past ask tuple
+      free alive none = record {
+        alive = alive;
+        served = record { free = none; tuple = refl };
+        may = λ first. may_grant setting past request.0 ask request.1 legal first alive (record { free = none; tuple = refl }) (start_sized setting proper ask.copy ask.rec fits.is_copy fits.is_record) fits.sized;
+      }
+
+      abbrev by_both : Option Name → Option Name → Tuple → Verdict
+      by_both d h t = option_map_or verdict.Dead d (option_map_or verdict.Blocked h (verdict.Free t))
+
+      -- what the locks tell stands
+      pub verdict_stands : (said : Verdict) → said ≡ copies.verdict past (copies.state_of ask.copy table (grants past ask.copy)) ask → Stands said
+      verdict_stands said is = by_cases (dead past ask.access) (holder past ask.copy ask.rec ask.op ask.access) refl refl (is ∙ ap (λ t. by_both (dead past ask.access) (holder past ask.copy ask.rec ask.op ask.access) t) same)
+        where
+          same : copies.tuple_after past (copies.state_of ask.copy table (grants past ask.copy)) ask ≡ tuple
+          same = ap (λ (ts : List Tuple). after (changed_by (slice_index_or ts ask.rec no_tuple) (filter (is_live_at past ask.rec) (grants past ask.copy))) ask.op) start
+
+          by_cases : (d h : Option Name) → dead past ask.access ≡ d → holder past ask.copy ask.rec ask.op ask.access ≡ h → said ≡ by_both (dead past ask.access) (holder past ask.copy ask.rec ask.op ask.access) tuple → Stands said
+          by_cases (Some a) h dies way at = subst Stands (sym (at ∙ ap (λ d. by_both d (holder past ask.copy ask.rec ask.op ask.access) tuple) dies)) dies
+          by_cases None (Some h) alive held at = subst Stands (sym (at ∙ (λ i. by_both (alive i) (held i) tuple))) (alive, held)
+          by_cases None None alive none at = subst Stands (sym (at ∙ (λ i. by_both (alive i) (none i) tuple))) (free alive none)
 
 -- AFTER THE LOOK
 

@@ -9,7 +9,7 @@ pub consult_locks-verdict-requires : goal.consult_locks-verdict-requires
 consult_locks-verdict-requires g c =
     let setting = setting_of g.N.Store.table g.N.Store.base in
     let r = ready setting c.args.self.now c.look.new.self c.args.pass.now c.look.new.pass c.args.ask.now c.args.locks.now c.requires.copy.1 c.known.ensures.legal c.requires.asked (c.look.ensures.since c.requires.copy.0) c.look.ensures.same c.requires.follows in
-    within setting c.look.new.self c.args.ask.now c.requires.proper r.legal r.has c.args.locks.now c.requires.start
+    within setting c.look.new.self c.args.ask.now r.has c.requires.proper r.legal c.args.locks.now c.requires.start
 
 pub returns-in_default-clause-told : goal.returns-in_default-clause-told
 returns-in_default-clause-told g c =
@@ -18,8 +18,8 @@ returns-in_default-clause-told g c =
     let ask = c.args.ask.now in
     let r = ready setting c.args.self.now h c.args.pass.now c.look.new.pass ask c.args.locks.now c.requires.copy.1 c.known.ensures.legal c.requires.asked (c.look.ensures.since c.requires.copy.0) c.look.ensures.same c.requires.follows in
     let said = c.consult_locks-verdict.ensures.verdict h (grants h ask.copy) refl r.follows in
-    told_free setting h ask c.requires.proper r.legal r.has c.args.locks.now c.requires.start c.args.pass.now c.look.new.pass c.consult_locks-verdict.result (sym c.refusal_of.ensures ∙ c.in_default.is)
-    (verdict_stands setting h ask c.requires.proper r.legal r.has c.args.locks.now c.requires.start c.consult_locks-verdict.result said)
+    told_free setting h ask c.args.pass.now c.look.new.pass c.consult_locks-verdict.result (sym c.refusal_of.ensures ∙ c.in_default.is)
+    (verdict_stands setting h ask r.has c.requires.proper r.legal c.args.locks.now c.requires.start c.consult_locks-verdict.result said)
     (looked setting h c.args.pass.now c.look.new.pass ask c.args.locks.now r) (ap (λ (x : View). x.seen) r.is)
 
 pub returns-in_default-clause-follows : goal.returns-in_default-clause-follows
@@ -37,9 +37,9 @@ enter-requires-clause-allowed g c = λ none.
     let ask = c.args.ask.now in
     let r = ready setting c.args.self.now h c.args.pass.now c.look.new.pass ask c.args.locks.now c.requires.copy.1 c.known.ensures.legal c.requires.asked (c.look.ensures.since c.requires.copy.0) c.look.ensures.same c.requires.follows in
     let said = c.consult_locks-verdict.ensures.verdict h (grants h ask.copy) refl r.follows in
-    refusal_allowed setting h ask c.requires.proper r.legal r.has c.args.locks.now c.requires.start c.look.new.pass.number c.in-Some.refusal (ap (λ (x : View). x.number) r.is ∙ c.requires.copy.1)
-    (has_reason setting h ask c.requires.proper r.legal r.has c.args.locks.now c.requires.start c.consult_locks-verdict.result c.in-Some.refusal (sym c.refusal_of.ensures ∙ c.in-Some.is)
-        (verdict_stands setting h ask c.requires.proper r.legal r.has c.args.locks.now c.requires.start c.consult_locks-verdict.result said))
+    refusal_allowed setting h ask r.has c.look.new.pass.number c.in-Some.refusal (ap (λ (x : View). x.number) r.is ∙ c.requires.copy.1)
+    (has_reason setting h ask c.consult_locks-verdict.result c.in-Some.refusal (sym c.refusal_of.ensures ∙ c.in-Some.is)
+        (verdict_stands setting h ask r.has c.requires.proper r.legal c.args.locks.now c.requires.start c.consult_locks-verdict.result said))
 
 pub returns-in_err-enter-clause-follows : goal.returns-in_err-enter-clause-follows
 returns-in_err-enter-clause-follows g c =
@@ -57,9 +57,9 @@ returns-clause-told g c =
     let r = ready setting c.args.self.now h c.args.pass.now c.look.new.pass ask c.args.locks.now c.requires.copy.1 c.known.ensures.legal c.requires.asked (c.look.ensures.since c.requires.copy.0) c.look.ensures.same c.requires.follows in
     let said = c.consult_locks-verdict.ensures.verdict h (grants h ask.copy) refl r.follows in
     let some = sym c.refusal_of.ensures ∙ c.in-Some.is in
-    let reason = has_reason setting h ask c.requires.proper r.legal r.has c.args.locks.now c.requires.start c.consult_locks-verdict.result c.in-Some.refusal some
-    (verdict_stands setting h ask c.requires.proper r.legal r.has c.args.locks.now c.requires.start c.consult_locks-verdict.result said) in
-    told_refused setting h ask c.requires.proper r.legal r.has c.args.locks.now c.requires.start c.args.pass.now c.enter.new.pass c.consult_locks-verdict.result c.in-Some.refusal some
+    let reason = has_reason setting h ask c.consult_locks-verdict.result c.in-Some.refusal some
+    (verdict_stands setting h ask r.has c.requires.proper r.legal c.args.locks.now c.requires.start c.consult_locks-verdict.result said) in
+    told_refused setting h ask c.args.pass.now c.enter.new.pass c.consult_locks-verdict.result c.in-Some.refusal some
     (entered_refusal setting h c.args.pass.now c.look.new.pass ask c.args.locks.now r c.enter.new.self c.enter.new.pass c.in-Some.refusal reason c.in_ok-enter.ensures.ok.1)
 
 pub returns-clause-follows : goal.returns-clause-follows
