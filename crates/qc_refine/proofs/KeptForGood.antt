@@ -20,7 +20,8 @@ use Rattle.qc_event.proofs.Lineage.{dead_child}
 use Rattle.qc_simlock.proofs.MossNames.{two_ways}
 use Rattle.qc_refine.specs.Final.{is_for_good}
 use Rattle.qc_refine.proofs.CopiesSerial.{root_alive}
-use Rattle.qc_refine.specs.Restored.{Logged, keeps, is_kept}
+use Rattle.qc_codec.specs.declared.past.Logged.{Logged}
+use Rattle.qc_refine.specs.Restored.{keeps, is_kept}
 use Rattle.qc_refine.specs.Listed.{listed, logged}
 use Rattle.qc_refine.proofs.BelowReady.{IsSettledBelow, settled_below, committed_or}
 use Rattle.qc_refine.proofs.LoggedTops.{WasAborted, listed_aborted, IsLogged, logged_are, logged_any, committed_ready}

@@ -7,7 +7,7 @@ use Rattle.qc_event.specs.declared.event.Event.TheVariants as event
 use Rattle.qc_event.specs.declared.event.How.TheVariants.{Commit, Abort}
 use Rattle.qc_event.specs.Dead.{outcome, is_aborted}
 use Rattle.qc_event.specs.History.{Past, Name, same, every, ready_in}
-use Rattle.qc_refine.specs.Restored.{Logged}
+use Rattle.qc_codec.specs.declared.past.Logged.{Logged}
 
 -- a descendant of a top, where the event aborts one whose parent is not aborted in this history
 abbrev pub aborted_in : Past → Name → Event → Option Name
