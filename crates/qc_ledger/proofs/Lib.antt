@@ -1,0 +1,5 @@
+mod Told
+mod Numbers
+mod Firsts
+mod Writing
+mod Mounts

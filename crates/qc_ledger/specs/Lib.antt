@@ -1,0 +1,5 @@
+pub mod Image
+pub mod Refusing
+pub mod Seen
+pub mod Reading
+pub mod Mounted

@@ -1,0 +1,12 @@
+//! The ledger of a store: a journal of the epochs of its mountings and of the tops that committed.
+#![tactic(auto)]
+
+mod book;
+mod fault;
+mod mounting;
+mod reading;
+mod seen;
+
+pub use book::Book;
+pub use fault::LedgerNo;
+pub use mounting::mount;
