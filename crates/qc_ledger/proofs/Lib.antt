@@ -3,3 +3,4 @@ mod Numbers
 mod Firsts
 mod Writing
 mod Mounts
+mod Logging

@@ -3,3 +3,5 @@ pub mod Refusing
 pub mod Seen
 pub mod Reading
 pub mod Mounted
+pub mod Runs
+pub mod Shelf

@@ -21,6 +21,13 @@ mount_no (fault.Broken place) = image_no (image.Broken place)
 mount_no (fault.Full place) = image_no (image.Full place)
 mount_no fault.Memory = Memory
 
+-- what a fault of the journal is to a logging
+abbrev pub log_no : Fault → LedgerNo
+log_no fault.Disk = Disk
+log_no (fault.Broken place) = Disk
+log_no (fault.Full place) = Full place
+log_no fault.Memory = Memory
+
 -- a fault of the ledger's image, of which this holds; or of the disk or the memory
 abbrev pub IsImage : (ImageFault → Type 0) → LedgerNo → Type 0
 IsImage P Disk = Unit {0}

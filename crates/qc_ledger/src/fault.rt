@@ -1,6 +1,6 @@
 //! Why the ledger did not do what it was asked.
 ghost use Rattle.std.specs.Prelude.{◌≡◌};
-ghost use Rattle.qc_ledger.specs.Refusing.{mount_no, image_no};
+ghost use Rattle.qc_ledger.specs.Refusing.{mount_no, image_no, log_no};
 ghost use Rattle.qc_ledger.specs.declared.fault.LedgerNo.TheVariants.{Memory};
 
 use qc_codec::{BadImage, ImageFault};
@@ -38,6 +38,17 @@ impl<T: Drop> From<AllocFailed<T>> for LedgerNo {
 
     fn from(_: AllocFailed<T>) -> Self {
         LedgerNo::Memory
+    }
+}
+
+/// What a fault of the journal is to a logging. A journal that is up answers no other.
+pub(crate) fn log_no(fault: Fault) -> LedgerNo
+    ensures { result ≡ log_no fault }
+{
+    match fault {
+        Fault::Disk | Fault::Broken { .. } => LedgerNo::Disk,
+        Fault::Full { place } => LedgerNo::Full { place },
+        Fault::Memory => LedgerNo::Memory,
     }
 }
 

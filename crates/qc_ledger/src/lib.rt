@@ -6,7 +6,9 @@ mod fault;
 mod mounting;
 mod reading;
 mod seen;
+mod shelf;
 
 pub use book::Book;
 pub use fault::LedgerNo;
 pub use mounting::mount;
+pub use shelf::Shelf;

@@ -182,7 +182,12 @@ pub fn mount<D: Disk>(
     match begin(alloc, &mut journal, &mut bodies, table) {
         Ok(past) => {
             let epoch = past.epoch + 1;
-            Ok((Book { journal, bodies }, past, epoch))
+            let book = Book {
+                alloc,
+                journal,
+                bodies,
+            };
+            Ok((book, past, epoch))
         }
         Err(no) => Err((journal.into_disk(), no)),
     }
