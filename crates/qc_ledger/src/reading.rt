@@ -40,8 +40,10 @@ fn check_made(alloc: Global, first: &[u8], made: Made, spelled: &[u8]) -> Result
 // Takes in the record that bytes are, where it is one that may stand behind those before it.
 fn take_next(alloc: Global, seen: &mut Seen, bytes: &[u8]) -> Result<bool, LedgerNo>
     requires { HasNumbers seen.old }
-    ensures tells { IfOk result (λ taken. IsTrue taken ↔ MatchOption (all_of body.ledger bytes.now) ⊥ (MayFollow (told_by seen.old))) }
-    ensures taken { IfOk result (λ taken. OnTrue taken (told_by seen.new ≡ with_body (told_by seen.old) (all_of body.ledger bytes.now))) }
+    ensures tells { IfOk result (λ taken. IsTrue taken ↔ MatchOption (all_of body.ledger bytes.now)
+        ⊥ (MayFollow (told_by seen.old))) }
+    ensures taken { IfOk result (λ taken. OnTrue taken (told_by seen.new ≡ with_body
+        (told_by seen.old) (all_of body.ledger bytes.now))) }
     ensures numbers { IfOk result (λ taken. OnTrue taken (HasNumbers seen.new)) }
     ensures memory { IfErr result (λ no. no ≡ LedgerNo.Memory) }
 {
@@ -84,7 +86,8 @@ pub(crate) fn past_of(
     ensures past { IfOk result (λ past. past ≡ past_in (bodies_of bodies.now)) }
     ensures ledgers { OnOk result (AreLedgers made.table (bodies_of bodies.now)) }
     ensures epoch { IfOk result (λ past. past.epoch < LAST_EPOCH) }
-    ensures fault { (limit : ℕ) → IfErr result (IsOfBytes (IsFault made.table limit (bodies_of bodies.now))) }
+    ensures fault { (limit : ℕ)
+        → IfErr result (IsOfBytes (IsFault made.table limit (bodies_of bodies.now))) }
 {
     if bodies.is_empty() {
         return Ok(Seen::new(alloc).into_past());

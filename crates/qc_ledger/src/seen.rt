@@ -48,7 +48,8 @@ impl Seen {
     fn take_epoch(&mut self, epoch: u32) -> bool
         requires { HasNumbers self.old }
         ensures tells { IsTrue result ↔ MayFollow (told_by self.old) (Epoch epoch) }
-        ensures taken { OnTrue result (told_by self.new ≡ with_record (told_by self.old) (Epoch epoch)) }
+        ensures taken { OnTrue result (told_by self.new ≡ with_record (told_by self.old)
+            (Epoch epoch)) }
         ensures numbers { HasNumbers self.new }
     {
         if epoch == 0 || epoch - 1 != self.epoch {
@@ -61,8 +62,10 @@ impl Seen {
     // Takes in a top, where it is of the last epoch and new. Behind an error nothing is known.
     fn take_top(&mut self, top: Name, aborted: Names) -> Result<bool, AllocError>
         requires { HasNumbers self.old }
-        ensures tells { IfOk result (λ taken. IsTrue taken ↔ MayFollow (told_by self.old) (Top top aborted)) }
-        ensures taken { IfOk result (λ taken. OnTrue taken (told_by self.new ≡ with_record (told_by self.old) (Top top aborted))) }
+        ensures tells { IfOk result (λ taken. IsTrue taken ↔ MayFollow (told_by self.old)
+            (Top top aborted)) }
+        ensures taken { IfOk result (λ taken. OnTrue taken (told_by self.new ≡ with_record
+            (told_by self.old) (Top top aborted))) }
         ensures numbers { IfOk result (λ taken. OnTrue taken (HasNumbers self.new)) }
     {
         let [number] = *top.as_slice() else {
@@ -79,7 +82,8 @@ impl Seen {
     pub(crate) fn take(&mut self, next: LedgerRecord) -> Result<bool, AllocError>
         requires { HasNumbers self.old }
         ensures tells { IfOk result (λ taken. IsTrue taken ↔ MayFollow (told_by self.old) next) }
-        ensures taken { IfOk result (λ taken. OnTrue taken (told_by self.new ≡ with_record (told_by self.old) next)) }
+        ensures taken { IfOk result (λ taken. OnTrue taken (told_by self.new ≡ with_record
+            (told_by self.old) next)) }
         ensures numbers { IfOk result (λ taken. OnTrue taken (HasNumbers self.new)) }
     {
         match next {

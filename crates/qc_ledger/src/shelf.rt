@@ -54,21 +54,30 @@ impl<D: Disk> Shelf<D> {
         requires down { IsDown (journal_in self.old) }
 
         ensures up { OnOk result (IsUp (journal_in self.new)) }
-        ensures hand { IfOk result (λ stands. top_in self.new ≡ (if stands then top_in self.old else None)) }
-        ensures place { IfOk result (λ stands. place_of (journal_in self.new) ≡ (if stands then behind_hand (place_of (journal_in self.old)) (in_hand (journal_in self.old)) else place_of (journal_in self.old))) }
+        ensures hand { IfOk result (λ stands. top_in self.new ≡
+            (if stands then top_in self.old else None)) }
+        ensures place { IfOk result (λ stands. place_of (journal_in self.new) ≡
+            (if stands then behind_hand (place_of (journal_in self.old))
+            (in_hand (journal_in self.old)) else place_of (journal_in self.old))) }
 
         // Where the disk tells its bytes, each image has the record exactly where the answer says so.
-        ensures tells { IfOk result (λ stands. (bodies : List (List ℕ)) → Keeps (journal_in self.old) bodies
+        ensures tells { IfOk result (λ stands. (bodies : List (List ℕ))
+            → Keeps (journal_in self.old) bodies
             → Keeps (journal_in self.new) (if stands then with_hand bodies (in_hand (journal_in self.old)) else bodies)) }
         ensures refused { IfErr result IsDeviceNo }
         ensures hand_err { OnErr result (top_in self.new ≡ top_in self.old) }
-        ensures in_journal { OnErr result (in_hand (journal_in self.new) ≡ in_hand (journal_in self.old)) }
-        ensures place_err { OnErr result (place_of (journal_in self.new) ≡ place_of (journal_in self.old)) }
-        ensures kept { OnErr result ((bodies : List (List ℕ)) → Keeps (journal_in self.old) bodies → Keeps (journal_in self.new) bodies) }
+        ensures in_journal { OnErr result (in_hand (journal_in self.new) ≡ in_hand
+            (journal_in self.old)) }
+        ensures place_err { OnErr result (place_of (journal_in self.new) ≡ place_of
+            (journal_in self.old)) }
+        ensures kept { OnErr result ((bodies : List (List ℕ)) → Keeps (journal_in self.old) bodies
+            → Keeps (journal_in self.new) bodies) }
         ensures limit { limit_of (journal_in self.new) ≡ limit_of (journal_in self.old) }
-        ensures content { D.content (disk_of (journal_in self.new)) ≡ D.content (disk_of (journal_in self.old)) }
+        ensures content { D.content (disk_of (journal_in self.new)) ≡ D.content
+            (disk_of (journal_in self.old)) }
 
-        ensures any_moment { Leaves (journal_in self.old) (journal_in self.new) (D.may_leave (disk_of (journal_in self.old))) }
+        ensures any_moment { Leaves (journal_in self.old) (journal_in self.new)
+            (D.may_leave (disk_of (journal_in self.old))) }
         ensures falls { Falls (journal_in self.old) (journal_in self.new) }
         ensures cause { Costs (journal_in self.old) (journal_in self.new) (IsErrOf result Disk) }
     {
@@ -88,14 +97,20 @@ impl<D: Disk> Shelf<D> {
         requires none { top_in self.old ≡ None }
         ensures up { OnOk result (IsUp (journal_in self.new)) }
         ensures hand { OnOk result (top_in self.new ≡ Some top.now) }
-        ensures place { OnOk result (place_of (journal_in self.new) ≡ place_of (journal_in self.old) + 5 + length record.now) }
-        ensures logged { OnOk result ((bodies : List (List ℕ)) → Keeps (journal_in self.old) bodies → Keeps (journal_in self.new) (bodies ++ record.now ∷ [])) }
+        ensures place { OnOk result (place_of (journal_in self.new) ≡ place_of (journal_in self.old)
+            + 5 + length record.now) }
+        ensures logged { OnOk result ((bodies : List (List ℕ)) → Keeps (journal_in self.old) bodies
+            → Keeps (journal_in self.new) (bodies ++ record.now ∷ [])) }
         ensures left { IfErr result (LogLeaves self.old self.new top.now record.now) }
-        ensures full { (result ≡ Err (Full (place_of (journal_in self.old)))) ↔ IsTooLong (place_of (journal_in self.old)) (limit_of (journal_in self.old)) record.now }
-        ensures kept { OnErr result ((bodies : List (List ℕ)) → Keeps (journal_in self.old) bodies → Keeps (journal_in self.new) bodies) }
+        ensures full { (result ≡ Err (Full (place_of (journal_in self.old)))) ↔ IsTooLong
+            (place_of (journal_in self.old)) (limit_of (journal_in self.old)) record.now }
+        ensures kept { OnErr result ((bodies : List (List ℕ)) → Keeps (journal_in self.old) bodies
+            → Keeps (journal_in self.new) bodies) }
         ensures limit { limit_of (journal_in self.new) ≡ limit_of (journal_in self.old) }
-        ensures any_moment { (bodies : List (List ℕ)) → Keeps (journal_in self.old) bodies → Leaves (journal_in self.old) (journal_in self.new) (HasOrMore bodies record.now) }
-        ensures grows { (bodies : List (List ℕ)) → Keeps (journal_in self.old) bodies → LosesNone (journal_in self.old) (journal_in self.new) }
+        ensures any_moment { (bodies : List (List ℕ)) → Keeps (journal_in self.old) bodies
+            → Leaves (journal_in self.old) (journal_in self.new) (HasOrMore bodies record.now) }
+        ensures grows { (bodies : List (List ℕ)) → Keeps (journal_in self.old) bodies
+            → LosesNone (journal_in self.old) (journal_in self.new) }
         ensures cause { Costs (journal_in self.old) (journal_in self.new) (IsErrOf result Disk) }
     {
         match self.journal.append(record) {
@@ -115,17 +130,23 @@ impl<D: Disk> Shelf<D> {
     // After a fault: the record stands, or it is written once more.
     fn write_again(&mut self, top: &Name, record: &[u8]) -> Result<(), LedgerNo>
         requires unsure { IsUnsure self.old (place_of (journal_in self.old)) top.now record.now }
-        requires short { IsTooLong (place_of (journal_in self.old)) (limit_of (journal_in self.old)) record.now → ⊥ }
+        requires short { IsTooLong (place_of (journal_in self.old)) (limit_of (journal_in self.old))
+            record.now → ⊥ }
         ensures up { OnOk result (IsUp (journal_in self.new)) }
         ensures hand { OnOk result (top_in self.new ≡ Some top.now) }
-        ensures place { OnOk result (place_of (journal_in self.new) ≡ place_of (journal_in self.old) + 5 + length record.now) }
-        ensures logged { OnOk result ((bodies : List (List ℕ)) → Keeps (journal_in self.old) bodies → Keeps (journal_in self.new) (bodies ++ record.now ∷ [])) }
+        ensures place { OnOk result (place_of (journal_in self.new) ≡ place_of (journal_in self.old)
+            + 5 + length record.now) }
+        ensures logged { OnOk result ((bodies : List (List ℕ)) → Keeps (journal_in self.old) bodies
+            → Keeps (journal_in self.new) (bodies ++ record.now ∷ [])) }
         ensures left { IfErr result (LogLeaves self.old self.new top.now record.now) }
         ensures full { (place : ℕ) → result ≡ Err (Full place) → ⊥ }
-        ensures kept { OnErr result ((bodies : List (List ℕ)) → Keeps (journal_in self.old) bodies → Keeps (journal_in self.new) bodies) }
+        ensures kept { OnErr result ((bodies : List (List ℕ)) → Keeps (journal_in self.old) bodies
+            → Keeps (journal_in self.new) bodies) }
         ensures limit { limit_of (journal_in self.new) ≡ limit_of (journal_in self.old) }
-        ensures any_moment { (bodies : List (List ℕ)) → Keeps (journal_in self.old) bodies → Leaves (journal_in self.old) (journal_in self.new) (HasOrMore bodies record.now) }
-        ensures grows { (bodies : List (List ℕ)) → Keeps (journal_in self.old) bodies → LosesNone (journal_in self.old) (journal_in self.new) }
+        ensures any_moment { (bodies : List (List ℕ)) → Keeps (journal_in self.old) bodies
+            → Leaves (journal_in self.old) (journal_in self.new) (HasOrMore bodies record.now) }
+        ensures grows { (bodies : List (List ℕ)) → Keeps (journal_in self.old) bodies
+            → LosesNone (journal_in self.old) (journal_in self.new) }
         ensures cause { Costs (journal_in self.old) (journal_in self.new) (IsErrOf result Disk) }
     {
         if self.revive()? {
@@ -140,14 +161,20 @@ impl<D: Disk> Shelf<D> {
         requires none { top_in self.old ≡ None }
         ensures up { OnOk result (IsUp (journal_in self.new)) }
         ensures hand { OnOk result (top_in self.new ≡ Some top.now) }
-        ensures place { OnOk result (place_of (journal_in self.new) ≡ place_of (journal_in self.old) + 5 + length record.now) }
-        ensures logged { OnOk result ((bodies : List (List ℕ)) → Keeps (journal_in self.old) bodies → Keeps (journal_in self.new) (bodies ++ record.now ∷ [])) }
+        ensures place { OnOk result (place_of (journal_in self.new) ≡ place_of (journal_in self.old)
+            + 5 + length record.now) }
+        ensures logged { OnOk result ((bodies : List (List ℕ)) → Keeps (journal_in self.old) bodies
+            → Keeps (journal_in self.new) (bodies ++ record.now ∷ [])) }
         ensures left { IfErr result (LogLeaves self.old self.new top.now record.now) }
-        ensures full { (result ≡ Err (Full (place_of (journal_in self.old)))) ↔ IsTooLong (place_of (journal_in self.old)) (limit_of (journal_in self.old)) record.now }
-        ensures kept { OnErr result ((bodies : List (List ℕ)) → Keeps (journal_in self.old) bodies → Keeps (journal_in self.new) bodies) }
+        ensures full { (result ≡ Err (Full (place_of (journal_in self.old)))) ↔ IsTooLong
+            (place_of (journal_in self.old)) (limit_of (journal_in self.old)) record.now }
+        ensures kept { OnErr result ((bodies : List (List ℕ)) → Keeps (journal_in self.old) bodies
+            → Keeps (journal_in self.new) bodies) }
         ensures limit { limit_of (journal_in self.new) ≡ limit_of (journal_in self.old) }
-        ensures any_moment { (bodies : List (List ℕ)) → Keeps (journal_in self.old) bodies → Leaves (journal_in self.old) (journal_in self.new) (HasOrMore bodies record.now) }
-        ensures grows { (bodies : List (List ℕ)) → Keeps (journal_in self.old) bodies → LosesNone (journal_in self.old) (journal_in self.new) }
+        ensures any_moment { (bodies : List (List ℕ)) → Keeps (journal_in self.old) bodies
+            → Leaves (journal_in self.old) (journal_in self.new) (HasOrMore bodies record.now) }
+        ensures grows { (bodies : List (List ℕ)) → Keeps (journal_in self.old) bodies
+            → LosesNone (journal_in self.old) (journal_in self.new) }
         ensures cause { Costs (journal_in self.old) (journal_in self.new) (IsErrOf result Disk) }
         ensures twice { IsErrOf result Disk → CostsTwo (journal_in self.old) (journal_in self.new) }
     {
@@ -167,22 +194,33 @@ impl<D: Disk> Shelf<D> {
 
         ensures up { OnOk result (IsUp (journal_in self.new)) }
         ensures hand { OnOk result (top_in self.new ≡ Some top.now) }
-        ensures place { OnOk result (place_of (journal_in self.new) ≡ place_of (journal_in self.old) + 5 + length (top_body top.now aborted.now)) }
+        ensures place { OnOk result (place_of (journal_in self.new) ≡ place_of (journal_in self.old)
+            + 5 + length (top_body top.now aborted.now)) }
 
         // Where the disk tells its bytes, each image has the record after `Ok`, and may have it after an error.
-        ensures logged { OnOk result ((bodies : List (List ℕ)) → Keeps (journal_in self.old) bodies → Keeps (journal_in self.new) (bodies ++ top_body top.now aborted.now ∷ [])) }
-        ensures kept { OnErr result ((bodies : List (List ℕ)) → Keeps (journal_in self.old) bodies → Keeps (journal_in self.new) bodies) }
+        ensures logged { OnOk result ((bodies : List (List ℕ)) → Keeps (journal_in self.old) bodies
+            → Keeps (journal_in self.new) (bodies ++ top_body top.now aborted.now ∷ [])) }
+        ensures kept { OnErr result ((bodies : List (List ℕ)) → Keeps (journal_in self.old) bodies
+            → Keeps (journal_in self.new) bodies) }
 
         // After a fault of the disk it is down with the top in hand. Full changes nothing, and comes where the record would
         // pass the limit, or else memory was wanting.
-        ensures left { IfErr result (LogLeaves self.old self.new top.now (top_body top.now aborted.now)) }
-        ensures full { (place : ℕ) → result ≡ Err (Full place) → IsTooLong (place_of (journal_in self.old)) (limit_of (journal_in self.old)) (top_body top.now aborted.now) }
-        ensures too_long { IsTooLong (place_of (journal_in self.old)) (limit_of (journal_in self.old)) (top_body top.now aborted.now) → IsRefusedFor (Full (place_of (journal_in self.old))) result }
+        ensures left { IfErr result (LogLeaves self.old self.new top.now
+            (top_body top.now aborted.now)) }
+        ensures full { (place : ℕ) → result ≡ Err (Full place)
+            → IsTooLong (place_of (journal_in self.old)) (limit_of (journal_in self.old))
+            (top_body top.now aborted.now) }
+        ensures too_long { IsTooLong (place_of (journal_in self.old))
+            (limit_of (journal_in self.old)) (top_body top.now aborted.now)
+            → IsRefusedFor (Full (place_of (journal_in self.old))) result }
         ensures limit { limit_of (journal_in self.new) ≡ limit_of (journal_in self.old) }
 
         // A crash at any moment of the call leaves the records from before it, with the new one or without.
-        ensures any_moment { (bodies : List (List ℕ)) → Keeps (journal_in self.old) bodies → Leaves (journal_in self.old) (journal_in self.new) (HasOrMore bodies (top_body top.now aborted.now)) }
-        ensures grows { (bodies : List (List ℕ)) → Keeps (journal_in self.old) bodies → LosesNone (journal_in self.old) (journal_in self.new) }
+        ensures any_moment { (bodies : List (List ℕ)) → Keeps (journal_in self.old) bodies
+            → Leaves (journal_in self.old) (journal_in self.new)
+            (HasOrMore bodies (top_body top.now aborted.now)) }
+        ensures grows { (bodies : List (List ℕ)) → Keeps (journal_in self.old) bodies
+            → LosesNone (journal_in self.old) (journal_in self.new) }
 
         // A fault of the disk is told only after two.
         ensures cause { Costs (journal_in self.old) (journal_in self.new) (IsErrOf result Disk) }

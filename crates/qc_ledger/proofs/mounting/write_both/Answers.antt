@@ -24,7 +24,7 @@ returns-clause-room g c =
     let one = c.in_ok-make.ensures in
     on_ok c.write.result (λ room k.
     room_both (limit_of c.args.journal.now) bodies made (c.args.epoch.items ∷ []) (one.room k)
-    (λ place full. room (subst (Keeps mid) (sym one.bodies) (one.keeps k)) place
+    (λ place full. room (one.keeps k) place
     (subst (λ n. IsFull n (bodies_of c.make.new.bodies.items) (c.args.epoch.items ∷ []) place) (sym one.limit)
     (subst (λ (b : List (List ℕ)). IsFull (limit_of c.args.journal.now) b (c.args.epoch.items ∷ []) place) (sym one.bodies) full))))
     c.write.ensures.room
@@ -38,7 +38,7 @@ returns-clause-full g c = λ place is k.
     full_back (limit_of c.args.journal.now) bodies made (c.args.epoch.items ∷ []) place (one.room k)
     (subst (λ n. IsFull n (bodies ++ made) (c.args.epoch.items ∷ []) place) one.limit
     (subst (λ (b : List (List ℕ)). IsFull (limit_of mid) b (c.args.epoch.items ∷ []) place) one.bodies
-    (c.write.ensures.full place is (subst (Keeps mid) (sym one.bodies) (one.keeps k)))))
+    (c.write.ensures.full place is (one.keeps k))))
 
 pub returns-clause-any_moment : goal.returns-clause-any_moment
 returns-clause-any_moment g c = λ k.
@@ -48,7 +48,7 @@ returns-clause-any_moment g c = λ k.
     let mid = c.make.new.journal in
     let one = c.in_ok-make.ensures in
     continues g.D.Disk.moment g.D.Disk.left_at (disk_of c.args.journal.now) (disk_of mid) (disk_of c.write.new.journal) (HasSome bodies made) (HasSome (bodies_of c.make.new.bodies.items) next) (HasSome bodies (made ++ next))
-    (one.any_moment k) (c.write.ensures.any_moment (subst (Keeps mid) (sym one.bodies) (one.keeps k)))
+    (one.any_moment k) (c.write.ensures.any_moment (one.keeps k))
     (some_front bodies made next)
     (λ image has. some_back bodies made next image (subst (λ (b : List (List ℕ)). HasSome b next image) one.bodies has))
 
@@ -56,6 +56,6 @@ pub returns-clause-grows : goal.returns-clause-grows
 returns-clause-grows g c = λ k index had.
     let mid = c.make.new.journal in
     let one = c.in_ok-make.ensures in
-    let now = subst (Keeps mid) (sym one.bodies) (one.keeps k) in
+    let now = one.keeps k in
     grows_on g.D.Disk.moment g.D.Disk.left_at (disk_of c.args.journal.now) (disk_of mid) (disk_of c.write.new.journal) (HasAt index had) _ (one.any_moment k).later
     (one.grows k index had) (c.write.ensures.any_moment now) (c.write.ensures.grows now index had)
