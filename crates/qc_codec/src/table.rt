@@ -221,3 +221,29 @@ pub fn write_made(alloc: Global, made: &Made) -> Result<Vec<u8>, AllocError>
     put_making(&mut out, made)?;
     Ok(out)
 }
+
+// Copies of rows.
+fn copy_rows(alloc: Global, rows: &[Row]) -> Result<Rows, AllocError>
+    ensures { IfOk result (λ copied. copied ≡ rows.now) }
+{
+    let mut copied = Vec::new(alloc);
+    for row in rows {
+        let name = Label::new(alloc, row.name.as_bytes())?;
+        copied.push(Row {
+            name,
+            start: row.start,
+            config: row.config,
+        })?;
+    }
+    Ok(Rows::new(copied))
+}
+
+/// A copy of a table.
+pub fn copy_table(alloc: Global, table: &Table) -> Result<Table, AllocError>
+    ensures { IfOk result (λ copied. copied ≡ table.now) }
+{
+    Ok(Table {
+        copies: table.copies,
+        records: copy_rows(alloc, table.records.as_slice())?,
+    })
+}

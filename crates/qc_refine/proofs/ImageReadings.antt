@@ -6,6 +6,8 @@ use Rattle.std.proofs.lemmas.List.Elements.{All-head, All-tail, filter_map-appen
 use Rattle.qc_codec.specs.Bodies as body
 use Rattle.qc_codec.specs.Fields.{format_1}
 use Rattle.qc_codec.specs.Form.{Form}
+use Rattle.qc_codec.specs.Ledger.{logged_in, made_for, readings, record_of_top}
+use Rattle.qc_codec.specs.declared.past.Logged.{Logged}
 use Rattle.qc_codec.specs.declared.record.LedgerRecord.{LedgerRecord}
 use Rattle.qc_codec.specs.declared.record.LedgerRecord.TheVariants as ledger_record
 use Rattle.qc_codec.specs.declared.record.Made.{Made}
@@ -15,8 +17,7 @@ use Rattle.qc_event.specs.declared.event.Grant.{Grant}
 use Rattle.qc_event.specs.declared.table.Table.{Table}
 use Rattle.qc_journal.proofs.Readings.{records-same}
 use Rattle.qc_journal.specs.Image.{HasRecords}
-use Rattle.qc_refine.specs.Images.{IsCopyImage, IsLedgerImage, grant_form, ledger_records, logged_in, made_for, readings, record_of_top}
-use Rattle.qc_refine.specs.Restored.{Logged}
+use Rattle.qc_refine.specs.Images.{IsCopyImage, IsLedgerImage, grant_form, ledger_records}
 
 -- WHAT IS READ
 

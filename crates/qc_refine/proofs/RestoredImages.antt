@@ -6,6 +6,7 @@ use Rattle.std.proofs.lemmas.Bool.{cases_lt}
 use Rattle.std.proofs.lemmas.List.{get_or_past, get_or-replicate, length-map, length-replicate}
 use Rattle.std.proofs.lemmas.List.Elements.{All-nil}
 use Rattle.std.proofs.lemmas.List.FromFn.{get_or-map-range_with_len}
+use Rattle.qc_codec.specs.Ledger.{readings}
 use Rattle.qc_config.specs.declared.tuple.Tuple.{Tuple}
 use Rattle.qc_event.specs.declared.table.Row.{Row}
 use Rattle.qc_event.specs.declared.table.Table.{Table}
@@ -18,7 +19,7 @@ use Rattle.qc_event.specs.Tables.{base_of, first_tuple, setting_of}
 use Rattle.qc_journal.proofs.Readings.{records-same}
 use Rattle.qc_journal.specs.Image.{HasRecords}
 use Rattle.qc_simlock.specs.Serial.{final_values}
-use Rattle.qc_refine.specs.Images.{AreFresh, CarryFinal, IsStanding, Restores, grant_form, kept_in, readings}
+use Rattle.qc_refine.specs.Images.{AreFresh, CarryFinal, IsStanding, Restores, grant_form, kept_in}
 use Rattle.qc_refine.specs.Restored.{granted_at, restored, restored_setting}
 use Rattle.qc_refine.specs.Standing.{StandBeside, committed_too}
 use Rattle.qc_refine.proofs.Grids.{grid_is}

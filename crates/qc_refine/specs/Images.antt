@@ -1,12 +1,13 @@
 -- When images of disks stand beside a history, and what they restore: image 0 is the ledger's, image c + 1 copy c's.
-use Rattle.std.specs.Prelude.{ℕ, ◌≡◌, ◌+◌, ◌<◌, List, [], ◌∷◌, ◌++◌, length, map, slice_get, slice_index_or, All, Option, None, Some}
+use Rattle.std.specs.Prelude.{ℕ, ◌≡◌, ◌+◌, ◌<◌, List, [], ◌∷◌, ◌++◌, length, map, slice_get, slice_index_or, All, Some}
 use Rattle.std.specs.List.{filter_map, range_with_len}
 use Rattle.qc_codec.specs.Bodies as body
 use Rattle.qc_codec.specs.Fields.{format_1}
-use Rattle.qc_codec.specs.Form.{Form, all_of}
+use Rattle.qc_codec.specs.Form.{Form}
+use Rattle.qc_codec.specs.Ledger.{logged_in, made_for, readings, record_of_top}
+use Rattle.qc_codec.specs.declared.past.Logged.{Logged}
 use Rattle.qc_codec.specs.declared.record.LedgerRecord.{LedgerRecord}
 use Rattle.qc_codec.specs.declared.record.LedgerRecord.TheVariants as ledger_record
-use Rattle.qc_codec.specs.declared.record.Made.{Made}
 use Rattle.qc_config.specs.declared.tuple.Tuple.{Tuple}
 use Rattle.qc_event.specs.declared.event.Grant.{Grant}
 use Rattle.qc_event.specs.declared.table.Table.{Table}
@@ -16,35 +17,18 @@ use Rattle.qc_event.specs.Tables.{base_of, setting_of}
 use Rattle.qc_journal.specs.Image.{HasRecords}
 use Rattle.qc_simlock.specs.Serial.{final_values}
 use Rattle.qc_refine.specs.Listed.{logged}
-use Rattle.qc_refine.specs.Restored.{Logged, Kept, granted_at, restored, restored_value}
+use Rattle.qc_refine.specs.Restored.{Kept, granted_at, restored, restored_value}
 use Rattle.qc_refine.specs.Standing.{StandBeside}
 
 -- WHAT STANDS IN BODIES
-
--- how the disk of a number was made, for a store of this table
-abbrev pub made_for : ℕ → Table → Made
-made_for number table = record { who = number; table = table }
 
 -- the form of what a table's copies granted
 abbrev pub grant_form : Table → Form Grant
 grant_form table = body.grant (format_1 table.copies)
 
--- the ledger's record of a top
-abbrev pub record_of_top : Logged → LedgerRecord
-record_of_top l = ledger_record.Top l.top l.aborted
-
 -- the ledger's records: how its disk was made, older ones, an epoch, and the tops since
 abbrev pub ledger_records : Table → List LedgerRecord → ℕ → List Logged → List LedgerRecord
 ledger_records table old epoch since = ledger_record.Made (made_for 0 table) ∷ (old ++ ledger_record.Epoch epoch ∷ map record_of_top since)
-
--- the top that a record of the ledger tells
-abbrev pub logged_in : LedgerRecord → Option Logged
-logged_in (ledger_record.Top top aborted) = Some (record { top = top; aborted = aborted })
-logged_in _ = None
-
--- the values that bodies are in a form, in order
-abbrev pub readings : {A : Type 0} → Form A → List (List ℕ) → List A
-readings form bodies = filter_map (all_of form) bodies
 
 -- STANDING
 

@@ -3,10 +3,10 @@ use Rattle.std.specs.Prelude.{List, [], ◌∷◌, ◌++◌, Option, None, Some,
 use Rattle.std.specs.Option.{option_map}
 use Rattle.qc_event.specs.declared.event.Event.{Event}
 use Rattle.qc_event.specs.declared.event.Event.TheVariants as event
+use Rattle.qc_codec.specs.declared.past.Logged.{Logged}
 use Rattle.qc_event.specs.declared.event.How.TheVariants.{Commit}
 use Rattle.qc_event.specs.History.{Past, Name}
 use Rattle.qc_event.specs.Listed.{listed}
-use Rattle.qc_refine.specs.Restored.{Logged}
 
 -- the top that the event commits
 abbrev pub top_in : Event → Option Name

@@ -2,6 +2,7 @@
 use Rattle.std.specs.Prelude.{ℕ, ◌==◌, Bool, ◌&&◌, not, List, [], map, filter, length, slice_index_or}
 use Rattle.std.specs.List.{list_any, range_with_len}
 use Rattle.qc_names.specs.Name as name
+use Rattle.qc_codec.specs.declared.past.Logged.{Logged}
 use Rattle.qc_config.specs.declared.tuple.Tuple.{Tuple}
 use Rattle.qc_event.specs.declared.event.Grant.{Grant}
 use Rattle.qc_event.specs.Base.{Setting, start_tuple}
@@ -9,11 +10,6 @@ use Rattle.qc_event.specs.History.{Name}
 use Rattle.qc_event.specs.Manager.{greatest_among}
 use Rattle.qc_event.specs.Seen.{changed_by}
 use Rattle.qc_event.specs.Sound.{column}
-
--- A top that was logged, with its aborted descendants whose parent was not aborted.
-pub record Logged : Type 0 where
-  pub top : Name
-  pub aborted : List Name
 
 -- What disks tell: the tops that were logged, and what each copy granted, both in order.
 pub record Kept : Type 0 where

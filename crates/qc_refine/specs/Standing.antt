@@ -1,5 +1,7 @@
 -- When disks stand beside a history: what they tell is what they told before it, and what it tells.
-use Rattle.std.specs.Prelude.{ℕ, ◌≡◌, ◌<◌, ◌/◌, ◌^◌, true, is_some, List, [], ◌∷◌, ◌++◌, length, All, None}
+use Rattle.std.specs.Prelude.{ℕ, ◌≡◌, ◌<◌, true, is_some, List, [], ◌∷◌, ◌++◌, length, All, None}
+use Rattle.qc_codec.specs.Ledger.{epoch_in}
+use Rattle.qc_codec.specs.declared.past.Logged.{Logged}
 use Rattle.qc_config.specs.declared.tuple.Tuple.{Tuple}
 use Rattle.qc_event.specs.declared.event.Answer.TheVariants.{Nothing}
 use Rattle.qc_event.specs.declared.event.Entry.{Entry}
@@ -9,9 +11,9 @@ use Rattle.qc_event.specs.declared.event.How.TheVariants.{Commit}
 use Rattle.qc_event.specs.Base.{Setting}
 use Rattle.qc_event.specs.History.{Past, Name, start, is_ready, asked, granted, grants, IsOpen}
 use Rattle.qc_event.specs.Seats.{ledger_seat}
+use Rattle.qc_refine.specs.Restored.{Kept, granted_at, restored}
 use Rattle.qc_event.specs.Listed.{listed}
 use Rattle.qc_refine.specs.Listed.{logged}
-use Rattle.qc_refine.specs.Restored.{Logged, Kept, granted_at, restored}
 
 -- WHAT THE HISTORY DOES NOT TELL YET
 
@@ -43,10 +45,6 @@ pub record IsUntold (past : Past) (g : Grant) : Type 0 where
   pub not_granted : granted past g.access ≡ None
 
 -- EPOCHS
-
--- the epoch of a top's number
-abbrev pub epoch_in : ℕ → ℕ
-epoch_in number = number / 2 ^ 32
 
 -- a top of an earlier epoch, or a name below one
 abbrev pub IsOld : ℕ → Name → Type 0

@@ -1,5 +1,6 @@
 //! What disks restore after a crash, as a law over all legal histories.
 ghost use Rattle.std.specs.Prelude.{ℕ, ◌≡◌, List, []};
+ghost use Rattle.qc_codec.specs.declared.past.Logged.{Logged};
 ghost use Rattle.qc_config.specs.declared.tuple.Tuple.{Tuple};
 ghost use Rattle.qc_event.specs.declared.table.Table.{Table};
 ghost use Rattle.qc_event.specs.Base.{Setting};
@@ -9,7 +10,7 @@ ghost use Rattle.qc_event.specs.Sound.{IsSound};
 ghost use Rattle.qc_event.specs.Tables.{base_of, setting_of};
 ghost use Rattle.qc_simlock.specs.Serial.{final_values};
 ghost use Rattle.qc_refine.specs.Images.{AreFresh, CarryFinal, IsStanding, Restores};
-ghost use Rattle.qc_refine.specs.Restored.{Kept, Logged, restored_setting};
+ghost use Rattle.qc_refine.specs.Restored.{Kept, restored_setting};
 ghost use Rattle.qc_refine.specs.Standing.{AreNext, StandBeside, committed_too};
 
 /// What a crash leaves on disks restores a prefix of the serial order: every top that the history tells committed,

@@ -1,0 +1,70 @@
+-- What a ledger's records tell, and which may stand behind which.
+use Rattle.std.specs.Prelude.{ℕ, length, ◌≡◌, ◌≢◌, ◌+◌, ◌/◌, ◌^◌, List, [], ◌∷◌, ◌++◌, All, Option, None, Some, MatchOption, unwrap_or}
+use Rattle.std.specs.List.{filter_map, last_or}
+use Rattle.qc_event.specs.declared.table.Table.{Table}
+use Rattle.qc_codec.specs.Bodies as body
+use Rattle.qc_codec.specs.Form.{Form, all_of}
+use Rattle.qc_codec.specs.declared.past.Logged.{Logged}
+use Rattle.qc_codec.specs.declared.past.Past.{Past}
+use Rattle.qc_codec.specs.declared.record.LedgerRecord.{LedgerRecord}
+use Rattle.qc_codec.specs.declared.record.LedgerRecord.TheVariants as ledger_record
+use Rattle.qc_codec.specs.declared.record.Made.{Made}
+
+-- how the disk of a number was made, for a store of this table
+abbrev pub made_for : ℕ → Table → Made
+made_for number table = record { who = number; table = table }
+
+-- the ledger's record of a top
+abbrev pub record_of_top : Logged → LedgerRecord
+record_of_top l = ledger_record.Top l.top l.aborted
+
+-- the top that a record of the ledger tells
+abbrev pub logged_in : LedgerRecord → Option Logged
+logged_in (ledger_record.Top top aborted) = Some (record { top = top; aborted = aborted })
+logged_in _ = None
+
+-- the values that bodies are in a form, in order
+abbrev pub readings : {A : Type 0} → Form A → List (List ℕ) → List A
+readings form bodies = filter_map (all_of form) bodies
+
+-- what bodies of the ledger's records tell: the last epoch, 0 where there is none, and the tops in order
+abbrev pub past_in : List (List ℕ) → Past
+past_in bodies = record {
+  epoch = unwrap_or (last_or None (filter_map body.epoch_of (readings body.ledger bodies))) 0;
+  tops = filter_map logged_in (readings body.ledger bodies);
+}
+
+-- the epoch of a top's number
+abbrev pub epoch_in : ℕ → ℕ
+epoch_in number = number / 2 ^ 32
+
+-- A record may stand behind others that tell a past: the next epoch, or a top of the last one that was not logged.
+abbrev pub MayFollow : Past → LedgerRecord → Type 0
+MayFollow past (ledger_record.Made made) = ⊥
+MayFollow past (ledger_record.Epoch epoch) = epoch ≡ past.epoch + 1
+MayFollow past (ledger_record.Top (number ∷ []) aborted) = (epoch_in number ≡ past.epoch) × All (λ (l : Logged). l.top ≢ number ∷ []) past.tops
+MayFollow past (ledger_record.Top _ aborted) = ⊥
+
+-- a record says that disk 0 was made with it
+abbrev pub IsMade : LedgerRecord → Type 0
+IsMade (ledger_record.Made made) = made.who ≡ 0
+IsMade _ = ⊥
+
+-- a body may stand behind others: the first tells how the disk was made
+abbrev pub MayStand : List (List ℕ) → List ℕ → Type 0
+MayStand [] bytes = MatchOption (all_of body.ledger bytes) ⊥ IsMade
+MayStand (first ∷ bodies) bytes = MatchOption (all_of body.ledger bytes) ⊥ (MayFollow (past_in (first ∷ bodies)))
+
+-- each body may stand behind those before it
+abbrev pub AreInOrder : List (List ℕ) → Type 0
+AreInOrder bodies = (before after : List (List ℕ)) (bytes : List ℕ) → bodies ≡ before ++ bytes ∷ after → MayStand before bytes
+
+-- The first body that may not stand behind those before it has this index.
+pub record IsOutOfOrder (index : ℕ) (bodies : List (List ℕ)) : Type 0 where
+  pub before : List (List ℕ)
+  pub after : List (List ℕ)
+  pub bytes : List ℕ
+  pub split : bodies ≡ before ++ bytes ∷ after
+  pub size : index ≡ length before
+  pub order : AreInOrder before
+  pub breaks : MayStand before bytes → ⊥

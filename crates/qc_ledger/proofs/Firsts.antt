@@ -1,0 +1,149 @@
+-- Which fault of bodies is the first.
+use Rattle.std.proofs.Common.{◌≡◌, ◌≢◌, ℕ, zero, suc, ◌+◌, ◌<◌, ◌≤◌, List, [], ◌∷◌, ◌++◌, length, take, drop, get_or, refl, sym, ap, ◌∙◌, subst, arith, take-append-drop, length-take}
+use Rattle.std.specs.Prelude.{◌==◌, false, Result, Ok, Err, IfErr, Option, None, Some, MatchOption, Vec, map, slice_index_or}
+use Rattle.std.specs.Result.{IsErrAnd, IsErrOf}
+use Rattle.std.specs.declared.alloc.Global.{Global}
+use Rattle.std.proofs.lemmas.List.{drop_more, length-map, map-append, map_push, take_more}
+use Rattle.qc_event.specs.declared.table.Table.{Table}
+use Rattle.qc_codec.specs.Bodies as body
+use Rattle.qc_codec.specs.Form.{all_of}
+use Rattle.qc_codec.specs.Ledger.{AreInOrder, IsMade, IsOutOfOrder, MayFollow, MayStand, made_for, past_in}
+use Rattle.qc_codec.specs.declared.image.ImageFault.{ImageFault}
+use Rattle.qc_codec.specs.declared.image.ImageFault.TheVariants.{Broken, Grammar, Full, Table as OtherTable, Epoch}
+use Rattle.qc_codec.specs.declared.past.Past.{Past}
+use Rattle.qc_codec.specs.declared.record.Made.{Made}
+use Rattle.qc_codec.specs.declared.record.LedgerRecord.{LedgerRecord}
+use Rattle.qc_codec.specs.declared.record.LedgerRecord.TheVariants as ledger_record
+use Rattle.qc_codec.proofs.Bodies.{exact_ledger}
+use Rattle.qc_codec.proofs.Exact.{all_again}
+use Rattle.qc_journal.specs.Image.{bodies_of}
+use Rattle.qc_ledger.specs.Image.{made_body, epoch_body, AreMadeFor, IsFault}
+use Rattle.qc_ledger.specs.Reading.{IsFirstBad, IsLaterBad}
+use Rattle.qc_ledger.specs.Seen.{with_body}
+use Rattle.qc_ledger.specs.Refusing.{IsImage, IsOfBytes}
+use Rattle.qc_ledger.specs.declared.fault.LedgerNo.{LedgerNo}
+use Rattle.qc_ledger.specs.declared.fault.LedgerNo.TheVariants.{Disk, Image, Memory}
+use Rattle.qc_ledger.specs.declared.fault.LedgerNo.TheVariants as ledger_no
+use Rattle.qc_ledger.proofs.Told.{by_stands, order_none, order_push, past_push, stands_by}
+
+-- HOW THE LEDGER WAS MADE
+
+pub made_whole : (m : Made) → m.who ≡ 0 → made_for 0 m.table ≡ m
+made_whole m is = ap (λ n. made_for n m.table) (sym is)
+
+ledger_fits : (m : Made) → body.made.fits m → body.ledger.fits (ledger_record.Made m)
+unfolding body.made body.ledger
+ledger_fits m fits = fits
+
+-- a made record is read from its body
+pub made_again : (m : Made) → body.made.fits m → m.who ≡ 0 → all_of body.ledger (made_body m.table) ≡ Some (ledger_record.Made m)
+made_again m fits is =
+    ap (λ (x : Made). all_of body.ledger (body.ledger.spell (ledger_record.Made x))) (made_whole m is)
+    ∙ all_again body.ledger exact_ledger (ledger_record.Made m) (ledger_fits m fits)
+
+-- FAULTS
+
+pub bytes_also : (P Q : ImageFault → Type 0) → ((f : ImageFault) → P f → Q f) → (fault : LedgerNo) → IsOfBytes P fault → IsOfBytes Q fault
+bytes_also P Q also Disk is = is
+bytes_also P Q also (Image bad) is = (is.0, also bad.fault is.1)
+bytes_also P Q also (ledger_no.Full place) is = is
+bytes_also P Q also Memory is = tt
+
+-- what is handed on
+pub handed_on : {T : Type 0} (r : Result T LedgerNo) (fault : LedgerNo) (P Q : ImageFault → Type 0) → ((f : ImageFault) → P f → Q f) → IsErrAnd r (λ e. e ≡ fault) → IsOfBytes P fault → IfErr r (IsOfBytes Q)
+handed_on (Ok x) fault P Q also same is = tt
+handed_on (Err e) fault P Q also same is = subst (IsOfBytes Q) (sym same) (bytes_also P Q also fault is)
+
+pub first_fault : (table : Table) (limit : ℕ) (first : List ℕ) (bodies rest : List (List ℕ)) → bodies ≡ first ∷ rest → (f : ImageFault) → IsFirstBad table first f → IsFault table limit bodies f
+first_fault table limit first bodies rest is (Broken place) bad = bad
+first_fault table limit first bodies rest is (Grammar index) bad = (
+  record { before = []; after = rest; bytes = first; split = is; size = bad.0; order = order_none; breaks = bad.1 },
+  λ other. absurd (other bad.0),
+)
+first_fault table limit first bodies rest is (Full place) bad = absurd bad
+first_fault table limit first bodies rest is (OtherTable kept asked) bad = (bad.0, bad.1, (λ none. let two : first ∷ rest ≡ [] = sym is ∙ none in absurd cc), subst (AreMadeFor kept) (sym is) bad.2)
+first_fault table limit first bodies rest is (Epoch epoch) bad = absurd bad
+
+pub later_fault : (table : Table) (limit : ℕ) (bodies : List (List ℕ)) → AreMadeFor table bodies → (f : ImageFault) → IsLaterBad bodies f → IsFault table limit bodies f
+later_fault table limit bodies made (Broken place) bad = bad
+later_fault table limit bodies made (Grammar index) bad = (bad.1, λ other. made)
+later_fault table limit bodies made (Full place) bad = absurd bad
+later_fault table limit bodies made (OtherTable kept asked) bad = absurd bad
+later_fault table limit bodies made (Epoch epoch) bad = absurd bad
+
+-- BODIES ONE BY ONE
+
+pub some_by : (n : ℕ) → (n == 0) ≡ false → 0 < n
+some_by zero none = absurd cc
+some_by (suc n) none = omega arith
+
+module _ (bodies : List (Vec ℕ Global)) where
+  pub with_first : (v : Vec ℕ Global) → 0 < length bodies → v ≡ get_or bodies 0 v → bodies_of bodies ≡ v.items ∷ bodies_of (drop 1 bodies)
+  with_first v some is = ap bodies_of (drop_more bodies 0 v some ∙ ap (λ x. x ∷ drop 1 bodies) (sym is))
+
+  module _ (i : ℕ) (v : Vec ℕ Global) (within : i < length bodies) (is : v ≡ get_or bodies i v) where
+    pub one_more : bodies_of (take (i + 1) bodies) ≡ bodies_of (take i bodies) ++ v.items ∷ []
+    one_more = ap bodies_of (take_more bodies i v within ∙ ap (λ x. take i bodies ++ x ∷ []) (sym is)) ∙ map_push (λ (b : Vec ℕ Global). b.items) (take i bodies) v
+
+    parted : bodies_of bodies ≡ bodies_of (take i bodies) ++ v.items ∷ bodies_of (drop (i + 1) bodies)
+    parted =
+        ap bodies_of (sym (take-append-drop i bodies) ∙ ap (λ l. take i bodies ++ l) (drop_more bodies i v within ∙ ap (λ x. x ∷ drop (i + 1) bodies) (sym is)))
+        ∙ map-append (λ (b : Vec ℕ Global). b.items) (take i bodies) (v ∷ drop (i + 1) bodies)
+
+    so_many : i ≡ length (bodies_of (take i bodies))
+    so_many = omega (arith, within, length-map (take i bodies) (λ (b : Vec ℕ Global). b.items), length-take i bodies)
+
+    -- a body that may not stand behind those before it is the first fault
+    pub later_bad : 1 ≤ i → AreInOrder (bodies_of (take i bodies)) → (MatchOption (all_of body.ledger v.items) ⊥ (MayFollow (past_in (bodies_of (take i bodies)))) → ⊥) → IsLaterBad (bodies_of bodies) (Grammar i)
+    later_bad some order never = (
+      (λ none. omega (arith, some, none)),
+      record {
+        before = bodies_of (take i bodies);
+        after = bodies_of (drop (i + 1) bodies);
+        bytes = v.items;
+        split = parted;
+        size = so_many;
+        order = order;
+        breaks = λ may. never (by_stands (bodies_of (take i bodies)) v.items (omega (arith, some, so_many)) may);
+      },
+    )
+
+    -- a body that may stand behind those before it
+    pub keeps_on : (past : Past) (bytes : List ℕ) → 1 ≤ i → bytes ≡ v.items → past ≡ past_in (bodies_of (take i bodies)) → AreInOrder (bodies_of (take i bodies)) → MatchOption (all_of body.ledger bytes) ⊥ (MayFollow past)
+        → (with_body past (all_of body.ledger bytes) ≡ past_in (bodies_of (take (i + 1) bodies))) × AreInOrder (bodies_of (take (i + 1) bodies))
+    keeps_on past bytes some same told order may =
+        let so_far = bodies_of (take i bodies) in
+        let one = sym one_more in
+        let stands = stands_by so_far bytes (omega (arith, some, so_many)) (subst (λ p. MatchOption (all_of body.ledger bytes) ⊥ (MayFollow p)) told may) in
+        let all : so_far ++ bytes ∷ [] ≡ bodies_of (take (i + 1) bodies) = ap (λ (b : List ℕ). so_far ++ b ∷ []) same ∙ one in (
+          ap (λ p. with_body p (all_of body.ledger bytes)) told ∙ sym (past_push so_far bytes) ∙ ap past_in all,
+          subst AreInOrder all (order_push so_far bytes order stands),
+        )
+
+-- THE FIRST BODY ALONE
+
+made_tells : (o : Option LedgerRecord) → MatchOption o ⊥ IsMade → with_body (past_in []) o ≡ past_in []
+made_tells None made = absurd made
+made_tells (Some (ledger_record.Made m)) made = refl
+made_tells (Some (ledger_record.Epoch epoch)) made = absurd made
+made_tells (Some (ledger_record.Top top aborted)) made = absurd made
+
+pub begun : (bodies : List (Vec ℕ Global)) → 0 < length bodies → MayStand [] (slice_index_or (bodies_of bodies) 0 []) → (past_in (bodies_of (take 1 bodies)) ≡ past_in []) × AreInOrder (bodies_of (take 1 bodies))
+begun [] some may = absurd (omega (arith, some))
+begun (v ∷ bodies) some may = (past_push [] v.items ∙ made_tells (all_of body.ledger v.items) may, order_push [] v.items order_none may)
+
+-- A FAULT OF BYTES IS HANDED ON BY A MOUNTING
+
+image_of_bytes : (P Q : ImageFault → Type 0) → ((f : ImageFault) → P f → Q f) → (fault : LedgerNo) → IsOfBytes P fault → IsImage Q fault
+image_of_bytes P Q also Disk is = tt
+image_of_bytes P Q also (Image bad) is = (is.0, also bad.fault is.1)
+image_of_bytes P Q also (ledger_no.Full place) is = is
+image_of_bytes P Q also Memory is = tt
+
+pub passed_on : {T : Type 0} (r : Result T LedgerNo) (fault : LedgerNo) (P Q : ImageFault → Type 0) → ((f : ImageFault) → P f → Q f) → IsErrAnd r (λ e. e ≡ fault) → IsOfBytes P fault → IfErr r (IsImage Q)
+passed_on (Ok x) fault P Q also same is = tt
+passed_on (Err e) fault P Q also same is = subst (IsImage Q) (sym same) (image_of_bytes P Q also fault is)
+
+pub no_disk : {T : Type 0} (r : Result T LedgerNo) (fault : LedgerNo) (P : ImageFault → Type 0) → IsErrAnd r (λ e. e ≡ fault) → IsOfBytes P fault → IsErrOf r Disk → ⊥
+no_disk (Ok x) fault P same is of = absurd cc
+no_disk (Err e) fault P same is of = let one : e ≡ Disk = cc in subst (IsOfBytes P) (sym same ∙ one) is

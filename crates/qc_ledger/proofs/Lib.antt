@@ -1,0 +1,6 @@
+mod Told
+mod Numbers
+mod Firsts
+mod Writing
+mod Mounts
+mod Logging

@@ -1,0 +1,82 @@
+-- What bodies tell with one more, and that they stay in order.
+use Rattle.std.proofs.Common.{◌≡◌, ◌⊎◌, inl, inr, ⊎_elim, ℕ, zero, suc, ◌<◌, List, [], ◌∷◌, ◌++◌, length, refl, sym, ap, ap₂, ◌∙◌, subst, arith, append-nil}
+use Rattle.std.specs.Prelude.{Option, None, Some, MatchOption, unwrap_or}
+use Rattle.std.specs.List.{cons_option, filter_map, last_or}
+use Rattle.std.proofs.lemmas.List.Elements.{filter_map-append}
+use Rattle.qc_codec.specs.Bodies as body
+use Rattle.qc_codec.specs.Form.{all_of}
+use Rattle.qc_codec.specs.Ledger.{AreInOrder, MayFollow, MayStand, logged_in, past_in, readings}
+use Rattle.qc_codec.specs.declared.past.Logged.{Logged}
+use Rattle.qc_codec.specs.declared.past.Past.{Past}
+use Rattle.qc_codec.specs.declared.record.LedgerRecord.{LedgerRecord}
+use Rattle.qc_codec.specs.declared.record.LedgerRecord.TheVariants.{Made, Epoch, Top}
+use Rattle.qc_ledger.specs.Seen.{with_body}
+
+last_push : {A : Type 0} (o : Option A) (xs : List A) (x : A) → last_or o (xs ++ x ∷ []) ≡ Some x
+last_push o [] x = refl
+last_push o (y ∷ ys) x = last_push (Some y) ys x
+
+abbrev last_epoch : List LedgerRecord → ℕ
+last_epoch rs = unwrap_or (last_or None (filter_map body.epoch_of rs)) 0
+
+abbrev tells : List LedgerRecord → Past
+tells rs = record { epoch = last_epoch rs; tops = filter_map logged_in rs }
+
+abbrev made_past : ℕ → List Logged → Past
+made_past epoch tops = record { epoch = epoch; tops = tops }
+
+past_is : (a b : ℕ) (s t : List Logged) → a ≡ b → s ≡ t → made_past a s ≡ made_past b t
+past_is a b s t e is = ap₂ made_past e is
+
+epoch_same : (rs : List LedgerRecord) (r : LedgerRecord) → filter_map body.epoch_of (r ∷ []) ≡ [] → last_epoch (rs ++ r ∷ []) ≡ last_epoch rs
+epoch_same rs r none = ap (λ (l : List ℕ). unwrap_or (last_or None l) 0) (filter_map-append body.epoch_of rs (r ∷ []) ∙ ap (λ (l : List ℕ). filter_map body.epoch_of rs ++ l) none ∙ append-nil (filter_map body.epoch_of rs))
+
+tops_same : (rs : List LedgerRecord) (r : LedgerRecord) → filter_map logged_in (r ∷ []) ≡ [] → filter_map logged_in (rs ++ r ∷ []) ≡ filter_map logged_in rs
+tops_same rs r none = filter_map-append logged_in rs (r ∷ []) ∙ ap (λ (l : List Logged). filter_map logged_in rs ++ l) none ∙ append-nil (filter_map logged_in rs)
+
+tells_more : (rs : List LedgerRecord) (o : Option LedgerRecord) → tells (rs ++ cons_option o []) ≡ with_body (tells rs) o
+tells_more rs None = ap tells (append-nil rs)
+tells_more rs (Some (Made m)) = past_is _ _ _ _ (epoch_same rs (Made m) refl) (tops_same rs (Made m) refl)
+tells_more rs (Some (Epoch e)) = past_is _ _ _ _
+    (ap (λ (l : List ℕ). unwrap_or (last_or None l) 0) (filter_map-append body.epoch_of rs (Epoch e ∷ []))
+    ∙ ap (λ (o : Option ℕ). unwrap_or o 0) (last_push None (filter_map body.epoch_of rs) e))
+    (tops_same rs (Epoch e) refl)
+tells_more rs (Some (Top t aborted)) = past_is _ _ _ _ (epoch_same rs (Top t aborted) refl) (filter_map-append logged_in rs (Top t aborted ∷ []))
+
+-- what bodies tell with one more
+pub past_push : (bodies : List (List ℕ)) (bytes : List ℕ) → past_in (bodies ++ bytes ∷ []) ≡ with_body (past_in bodies) (all_of body.ledger bytes)
+past_push bodies bytes = ap tells (filter_map-append (all_of body.ledger) bodies (bytes ∷ [])) ∙ tells_more (readings body.ledger bodies) (all_of body.ledger bytes)
+
+-- a list with one more, parted before an item: that item is the last, or one of the list
+snoc_cases : {A : Type 0} (xs : List A) (x : A) (before after : List A) (y : A) → xs ++ x ∷ [] ≡ before ++ y ∷ after → ((before ≡ xs) × (y ≡ x)) ⊎ ((rest : List A) × (xs ≡ before ++ y ∷ rest))
+snoc_cases [] x [] after y is = inl (refl, cc)
+snoc_cases [] x (b ∷ []) after y is = absurd cc
+snoc_cases [] x (b ∷ c ∷ before) after y is = absurd cc
+snoc_cases (z ∷ xs) x [] after y is = let same : z ≡ y = cc in inr (xs, ap (λ k. k ∷ xs) same)
+snoc_cases {A} (z ∷ xs) x (b ∷ before) after y is =
+    let head : z ≡ b = cc in
+    let tail : xs ++ x ∷ [] ≡ before ++ y ∷ after = cc in
+    ⊎_elim
+    (λ last. let one : z ∷ xs ≡ b ∷ before = ap₂ (λ k (l : List A). k ∷ l) head (sym last.0) in inl (sym one, last.1))
+    (λ more. inr (more.0, ap₂ (λ k (l : List A). k ∷ l) head more.1))
+    (snoc_cases xs x before after y tail)
+
+pub order_none : AreInOrder []
+order_none [] after bytes is = absurd cc
+order_none (b ∷ before) after bytes is = absurd cc
+
+-- with one more that may stand behind them they are in order
+pub order_push : (bodies : List (List ℕ)) (bytes : List ℕ) → AreInOrder bodies → MayStand bodies bytes → AreInOrder (bodies ++ bytes ∷ [])
+order_push bodies bytes order may before after b is = ⊎_elim
+    (λ last. subst (λ (bs : List (List ℕ)). MayStand bs b) (sym last.0) (subst (MayStand bodies) (sym last.1) may))
+    (λ more. order before more.0 b more.1)
+    (snoc_cases bodies bytes before after b is)
+
+-- behind some bodies, the rule is that of the past that they tell
+pub stands_by : (bodies : List (List ℕ)) (bytes : List ℕ) → 0 < length bodies → MatchOption (all_of body.ledger bytes) ⊥ (MayFollow (past_in bodies)) → MayStand bodies bytes
+stands_by [] bytes some may = absurd (omega (arith, some))
+stands_by (first ∷ bodies) bytes some may = may
+
+pub by_stands : (bodies : List (List ℕ)) (bytes : List ℕ) → 0 < length bodies → MayStand bodies bytes → MatchOption (all_of body.ledger bytes) ⊥ (MayFollow (past_in bodies))
+by_stands [] bytes some may = absurd (omega (arith, some))
+by_stands (first ∷ bodies) bytes some may = may

@@ -1,0 +1,54 @@
+-- Why a mounting is refused.
+use Rattle.std.specs.Prelude.{ℕ, ◌≡◌, List, Option, IfSome}
+use Rattle.qc_codec.specs.declared.image.BadImage.{BadImage}
+use Rattle.qc_codec.specs.declared.image.ImageFault.{ImageFault}
+use Rattle.qc_codec.specs.declared.image.ImageFault.TheVariants as image
+use Rattle.qc_event.specs.declared.table.Table.{Table}
+use Rattle.qc_journal.specs.declared.fault.Fault.{Fault}
+use Rattle.qc_journal.specs.declared.fault.Fault.TheVariants as fault
+use Rattle.qc_ledger.specs.Image.{IsFirstFault}
+use Rattle.qc_ledger.specs.declared.fault.LedgerNo.{LedgerNo}
+use Rattle.qc_ledger.specs.declared.fault.LedgerNo.TheVariants.{Disk, Image, Full, Memory}
+
+-- the ledger's image is refused
+abbrev pub image_no : ImageFault → LedgerNo
+image_no f = Image (record { disk = 0; fault = f })
+
+-- what a fault of the journal is to a mounting
+abbrev pub mount_no : Fault → LedgerNo
+mount_no fault.Disk = Disk
+mount_no (fault.Broken place) = image_no (image.Broken place)
+mount_no (fault.Full place) = image_no (image.Full place)
+mount_no fault.Memory = Memory
+
+-- what a fault of the journal is to a logging
+abbrev pub log_no : Fault → LedgerNo
+log_no fault.Disk = Disk
+log_no (fault.Broken place) = Disk
+log_no (fault.Full place) = Full place
+log_no fault.Memory = Memory
+
+-- a fault of the ledger's image, of which this holds; or of the disk or the memory
+abbrev pub IsImage : (ImageFault → Type 0) → LedgerNo → Type 0
+IsImage P Disk = Unit {0}
+IsImage P (Image bad) = (bad.disk ≡ 0) × P bad.fault
+IsImage P (Full place) = ⊥
+IsImage P Memory = Unit {0}
+
+-- a fault of the ledger's image, of which this holds; or of the memory
+abbrev pub IsOfBytes : (ImageFault → Type 0) → LedgerNo → Type 0
+IsOfBytes P Disk = ⊥
+IsOfBytes P (Image bad) = (bad.disk ≡ 0) × P bad.fault
+IsOfBytes P (Full place) = ⊥
+IsOfBytes P Memory = Unit {0}
+
+-- a mounting may be refused: for the first fault of the image that is told, for the disk, or for memory
+abbrev pub IsRefusal : Table → ℕ → Option (List ℕ) → LedgerNo → Type 0
+IsRefusal table limit told fault = IsImage (λ f. IfSome told (IsFirstFault table limit f)) fault
+
+-- a fault of the disk, of want of room or of the memory
+abbrev pub IsOfWriting : Fault → Type 0
+IsOfWriting fault.Disk = Unit {0}
+IsOfWriting (fault.Broken place) = ⊥
+IsOfWriting (fault.Full place) = Unit {0}
+IsOfWriting fault.Memory = Unit {0}

@@ -1,0 +1,55 @@
+-- What a run of calls on a journal leaves, and what it costs.
+use Rattle.std.specs.Prelude.{◌≡◌, ◌≤◌, ◌⊎◌, ℕ, List, [], ◌∷◌, ◌++◌, Vec}
+use Rattle.std.specs.declared.alloc.Global.{Global}
+use Rattle.qc_disk.specs.Disk.{FallsAway, Grows, HasCause, LeavesOnly, next}
+use Rattle.qc_disk.specs.declared.disk.Disk.{Ghosts}
+use Rattle.qc_journal.specs.Image.{HasAt, HasRecords, bodies_of}
+use Rattle.qc_journal.specs.Journal.{Keeps, disk_of, limit_of}
+use Rattle.qc_journal.specs.declared.journal.Journal.{Journal}
+use Rattle.qc_ledger.specs.Image.{IsFull}
+
+-- an image has these records, or these and one more
+abbrev pub HasOrMore : List (List ℕ) → List ℕ → List ℕ → Type 0
+HasOrMore bodies more image = HasRecords bodies image ⊎ HasRecords (bodies ++ more ∷ []) image
+
+-- it rose twice
+abbrev pub RoseTwice : ℕ → ℕ → Type 0
+RoseTwice before now = next (next before) ≤ now
+
+module _ {D : Type 0} {g : Ghosts D} (journal : Journal D g) (bodies : Vec (Vec ℕ Global) Global) where
+  -- it keeps the records of these bodies
+  abbrev pub KeepsAll : Type 0
+  KeepsAll = Keeps journal (bodies_of bodies.items)
+
+  -- of others that are written behind them, the first that would pass the limit goes to this place
+  abbrev pub IsFullFor : List (List ℕ) → ℕ → Type 0
+  IsFullFor more place = IsFull (limit_of journal) (bodies_of bodies.items) more place
+
+  -- others have room behind them
+  abbrev pub HasRoom : List (List ℕ) → Type 0
+  HasRoom more = (place : ℕ) → IsFullFor more place → ⊥
+
+-- there are these bodies more
+abbrev pub HasMore : Vec (Vec ℕ Global) Global → Vec (Vec ℕ Global) Global → List (List ℕ) → Type 0
+HasMore old new more = bodies_of new.items ≡ bodies_of old.items ++ more
+
+module _ {D : Type 0} {g : Ghosts D} (old new : Journal D g) where
+  -- a crash at any moment of the run leaves what has P
+  abbrev pub Leaves : (List ℕ → Type 0) → Type 0
+  Leaves P = LeavesOnly g.moment g.left_at (disk_of old) (disk_of new) P
+
+  -- of two moments of the run, each image of the later has every record that all images of the earlier have
+  abbrev pub LosesNone : Type 0
+  LosesNone = (index : ℕ) (had : List ℕ) → Grows g.moment g.left_at (disk_of old) (disk_of new) (HasAt index had)
+
+  -- images only fall away
+  abbrev pub Falls : Type 0
+  Falls = FallsAway g.moment g.left_at (disk_of old) (disk_of new)
+
+  -- the disk's count of faults never falls, and it rose where this failed
+  abbrev pub Costs : Type 0 → Type 0
+  Costs Failed = HasCause (g.faults (disk_of old)) (g.faults (disk_of new)) Failed
+
+  -- the disk's count of faults rose twice
+  abbrev pub CostsTwo : Type 0
+  CostsTwo = RoseTwice (g.faults (disk_of old)) (g.faults (disk_of new))

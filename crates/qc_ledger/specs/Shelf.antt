@@ -1,0 +1,54 @@
+-- The parts of an open ledger, and what a refused logging leaves.
+use Rattle.std.specs.Prelude.{◌≡◌, ◌⊎◌, ℕ, List, Option, None, Some, Result, Err}
+use Rattle.qc_disk.specs.declared.disk.Disk.{Ghosts}
+use Rattle.qc_codec.specs.Bodies as body
+use Rattle.qc_codec.specs.declared.record.LedgerRecord.TheVariants.{Top}
+use Rattle.qc_event.specs.History.{Name}
+use Rattle.qc_journal.specs.Journal.{IsDown, IsUp, in_hand, place_of}
+use Rattle.qc_journal.specs.declared.journal.Journal.{Journal}
+use Rattle.qc_ledger.specs.declared.fault.LedgerNo.{LedgerNo}
+use Rattle.qc_ledger.specs.declared.fault.LedgerNo.TheVariants.{Disk, Image, Full, Memory}
+use Rattle.qc_ledger.specs.declared.shelf.Shelf.{Shelf}
+
+-- the journal
+abbrev pub journal_in : {D : Type 0} {g : Ghosts D} → Shelf D g → Journal D g
+journal_in shelf = shelf.journal
+
+-- the top in hand
+abbrev pub top_in : {D : Type 0} {g : Ghosts D} → Shelf D g → Option Name
+top_in shelf = shelf.hand
+
+-- the body of a top's record
+abbrev pub top_body : Name → List Name → List ℕ
+top_body top aborted = body.ledger.spell (Top top aborted)
+
+-- It is up with nothing in hand, and the next record goes to this place.
+pub record IsIdle {D : Type 0} {g : Ghosts D} (shelf : Shelf D g) (place : ℕ) : Type 0 where
+  pub up : IsUp shelf.journal
+  pub none : shelf.hand ≡ None
+  pub at : place_of shelf.journal ≡ place
+
+-- It is down, with this top and its record in hand, which may stand at this place.
+pub record IsUnsure {D : Type 0} {g : Ghosts D} (shelf : Shelf D g) (place : ℕ) (top : Name) (body : List ℕ) : Type 0 where
+  pub down : IsDown shelf.journal
+  pub hand : shelf.hand ≡ Some top
+  pub in_journal : in_hand shelf.journal ≡ Some body
+  pub at : place_of shelf.journal ≡ place
+
+-- what each refusal of a logging leaves
+abbrev pub LogLeaves : {D : Type 0} {g : Ghosts D} → Shelf D g → Shelf D g → Name → List ℕ → LedgerNo → Type 0
+LogLeaves old new top body Disk = IsUnsure new (place_of old.journal) top body
+LogLeaves old new top body (Image bad) = ⊥
+LogLeaves old new top body (Full place) = (place ≡ place_of old.journal) × (new.journal ≡ old.journal) × (new.hand ≡ old.hand)
+LogLeaves old new top body Memory = IsIdle new (place_of old.journal) ⊎ IsUnsure new (place_of old.journal) top body
+
+-- a refusal by the disk or for memory
+abbrev pub IsDeviceNo : LedgerNo → Type 0
+IsDeviceNo Disk = Unit {0}
+IsDeviceNo (Image bad) = ⊥
+IsDeviceNo (Full place) = ⊥
+IsDeviceNo Memory = Unit {0}
+
+-- this refusal, or for memory
+abbrev pub IsRefusedFor : {T : Type 0} → LedgerNo → Result T LedgerNo → Type 0
+IsRefusedFor refusal result = (result ≡ Err refusal) ⊎ (result ≡ Err Memory)

@@ -1,0 +1,50 @@
+//! A mounted ledger.
+ghost use Rattle.std.specs.Prelude.{◌≡◌, None};
+ghost use Rattle.qc_journal.specs.Journal.{disk_of, IsDown, IsUp};
+
+use crate::shelf::Shelf;
+use qc_disk::Disk;
+use qc_journal::{Body, Journal};
+use std::alloc::Global;
+
+/// A ledger that was mounted: its journal, which is up, and the bodies of its records.
+#[derive(Drop)]
+pub struct Book<D: Disk> {
+    pub(crate) alloc: Global,
+    pub(crate) journal: Journal<D>,
+    pub(crate) bodies: Vec<Body>,
+    ghost up: { IsDown journal → ⊥ },
+}
+
+impl<D: Disk> Book<D> {
+    ghost use Rattle.qc_journal.specs.Image.{bodies_of};
+    ghost use Rattle.qc_ledger.specs.Mounted.{journal_of, records_of};
+    ghost use Rattle.qc_ledger.specs.Shelf.{journal_in, top_in};
+
+    /// The bodies of its records, the one that says how it was made and this mounting's epoch among them.
+    pub fn records(&self) -> &[Body]
+        ensures { bodies_of result.now ≡ records_of self.now }
+    {
+        self.bodies.as_slice()
+    }
+
+    /// Opens it for tops to be logged.
+    pub fn open(self) -> Shelf<D>
+        ensures up { IsUp (journal_in result) }
+        ensures none { top_in result ≡ None }
+        ensures journal { journal_in result ≡ journal_of self }
+    {
+        Shelf {
+            alloc: self.alloc,
+            journal: self.journal,
+            hand: None,
+        }
+    }
+
+    /// The disk.
+    pub fn into_disk(self) -> D
+        ensures { result ≡ disk_of (journal_of self) }
+    {
+        self.journal.into_disk()
+    }
+}

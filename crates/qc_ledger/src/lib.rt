@@ -1,0 +1,14 @@
+//! The ledger of a store: a journal of the epochs of its mountings and of the tops that committed.
+#![tactic(auto)]
+
+mod book;
+mod fault;
+mod mounting;
+mod reading;
+mod seen;
+mod shelf;
+
+pub use book::Book;
+pub use fault::LedgerNo;
+pub use mounting::mount;
+pub use shelf::Shelf;

@@ -1,0 +1,227 @@
+//! Mounting the ledger.
+ghost use Rattle.std.specs.Prelude.{ℕ, ◌≡◌, ◌<◌, ◌+◌, [], ◌∷◌, ◌++◌, List, IfOk, IfErr, IsSome, OnOk, OnErr, IsErrOf, IsErrAnd, Err};
+ghost use Rattle.qc_disk.specs.Disk.{HasCause, LeavesOnly, Grows};
+ghost use Rattle.qc_codec.specs.Bodies as body;
+ghost use Rattle.qc_codec.specs.Ledger.{made_for, past_in};
+ghost use Rattle.qc_journal.specs.Image.{HasAt, bodies_of};
+ghost use Rattle.qc_journal.specs.Journal.{disk_of, limit_of, IsUp, Keeps};
+ghost use Rattle.qc_journal.specs.declared.fault.Fault.TheVariants.{Full};
+ghost use Rattle.qc_ledger.specs.Image.{made_body, epoch_body, made_where_none, to_write, AreMountable, IsFault, AreLedgers, LAST_EPOCH};
+ghost use Rattle.qc_ledger.specs.Refusing.{IsRefusal, IsImage, IsOfBytes, IsOfWriting};
+ghost use Rattle.qc_ledger.specs.Mounted.{Mounts, MountLeaves, journal_of, records_of, disk_after, HasSome};
+ghost use Rattle.qc_ledger.specs.Runs.{Costs, HasMore, HasRoom, IsFullFor, KeepsAll, Leaves, LosesNone};
+
+use crate::book::Book;
+use crate::fault::{LedgerNo, mount_no};
+use crate::reading::past_of;
+use qc_codec::{LedgerRecord, Made, Past, copy_table, write_ledger, write_made};
+use qc_disk::Disk;
+use qc_event::Table;
+use qc_journal::{Body, Fault, Journal};
+use std::alloc::{AllocError, Global};
+
+// A generic push: one at the type of bodies may get no proof.
+fn append<T: Drop>(items: &mut Vec<T>, item: T) -> Result<(), AllocError>
+    ensures ok { OnOk result (items.new.items ≡ items.old.items ++ item ∷ []) }
+    ensures err { OnErr result (items.new.items ≡ items.old.items) }
+{
+    items.push(item)?;
+    Ok(())
+}
+
+// Writes a record, and keeps its body.
+fn write<D: Disk>(journal: &mut Journal<D>, bodies: &mut Vec<Body>, next: Body) -> Result<(), Fault>
+    requires up { IsUp journal.old }
+    ensures up { OnOk result (IsUp journal.new) }
+    ensures bodies { OnOk result (HasMore bodies.old bodies.new (next.items ∷ [])) }
+    ensures limit { limit_of journal.new ≡ limit_of journal.old }
+    ensures keeps { OnOk result (KeepsAll journal.old bodies.old
+        → KeepsAll journal.new bodies.new) }
+    ensures room { OnOk result (KeepsAll journal.old bodies.old
+        → HasRoom journal.old bodies.old (next.items ∷ [])) }
+    ensures full { (place : ℕ) → result ≡ Err (Full place) → KeepsAll journal.old bodies.old
+        → IsFullFor journal.old bodies.old (next.items ∷ []) place }
+    ensures fault { IfErr result IsOfWriting }
+    ensures any_moment { KeepsAll journal.old bodies.old
+        → Leaves journal.old journal.new (HasSome (bodies_of bodies.old.items) (next.items ∷ [])) }
+    ensures grows { KeepsAll journal.old bodies.old → LosesNone journal.old journal.new }
+    ensures cause { Costs journal.old journal.new (IsErrOf result Fault.Disk) }
+{
+    journal.append(&next)?;
+    append(bodies, next)?;
+    Ok(())
+}
+
+// Writes how the ledger was made, where there are no records.
+fn make<D: Disk>(journal: &mut Journal<D>, bodies: &mut Vec<Body>, made: Body) -> Result<(), Fault>
+    requires up { IsUp journal.old }
+    ensures up { OnOk result (IsUp journal.new) }
+    ensures bodies { OnOk result (HasMore bodies.old bodies.new
+        (made_where_none made.items (bodies_of bodies.old.items))) }
+    ensures limit { limit_of journal.new ≡ limit_of journal.old }
+    ensures keeps { OnOk result (KeepsAll journal.old bodies.old
+        → KeepsAll journal.new bodies.new) }
+    ensures room { OnOk result (KeepsAll journal.old bodies.old
+        → HasRoom journal.old bodies.old (made_where_none made.items (bodies_of bodies.old.items))) }
+    ensures full { (place : ℕ) → result ≡ Err (Full place) → KeepsAll journal.old bodies.old
+        → IsFullFor journal.old bodies.old (made_where_none made.items (bodies_of bodies.old.items))
+        place }
+    ensures fault { IfErr result IsOfWriting }
+    ensures any_moment { KeepsAll journal.old bodies.old
+        → Leaves journal.old journal.new (HasSome (bodies_of bodies.old.items)
+        (made_where_none made.items (bodies_of bodies.old.items))) }
+    ensures grows { KeepsAll journal.old bodies.old → LosesNone journal.old journal.new }
+    ensures cause { Costs journal.old journal.new (IsErrOf result Fault.Disk) }
+{
+    if bodies.is_empty() {
+        return write(journal, bodies, made);
+    }
+    Ok(())
+}
+
+// Writes how the ledger was made, where there are no records, and an epoch.
+fn write_both<D: Disk>(
+    journal: &mut Journal<D>,
+    bodies: &mut Vec<Body>,
+    made: Body,
+    epoch: Body,
+) -> Result<(), Fault>
+    requires up { IsUp journal.old }
+    ensures up { OnOk result (IsUp journal.new) }
+    ensures bodies { OnOk result (HasMore bodies.old bodies.new
+        (made_where_none made.items (bodies_of bodies.old.items) ++ epoch.items ∷ [])) }
+    ensures limit { limit_of journal.new ≡ limit_of journal.old }
+    ensures keeps { OnOk result (KeepsAll journal.old bodies.old
+        → KeepsAll journal.new bodies.new) }
+    ensures room { OnOk result (KeepsAll journal.old bodies.old
+        → HasRoom journal.old bodies.old (made_where_none made.items (bodies_of bodies.old.items) ++
+        epoch.items ∷ [])) }
+    ensures full { (place : ℕ) → result ≡ Err (Full place) → KeepsAll journal.old bodies.old
+        → IsFullFor journal.old bodies.old (made_where_none made.items (bodies_of bodies.old.items)
+        ++ epoch.items ∷ []) place }
+    ensures fault { IfErr result IsOfWriting }
+    ensures any_moment { KeepsAll journal.old bodies.old
+        → Leaves journal.old journal.new (HasSome (bodies_of bodies.old.items)
+        (made_where_none made.items (bodies_of bodies.old.items) ++ epoch.items ∷ [])) }
+    ensures grows { KeepsAll journal.old bodies.old → LosesNone journal.old journal.new }
+    ensures cause { Costs journal.old journal.new (IsErrOf result Fault.Disk) }
+{
+    make(journal, bodies, made)?;
+    write(journal, bodies, epoch)
+}
+
+// What bodies tell, how the ledger was made, and the next epoch.
+#[derive(Drop)]
+struct Plan {
+    past: Past,
+    made: Body,
+    epoch: Body,
+}
+
+// What bodies tell, and what a mounting writes behind them.
+fn plan_of(alloc: Global, bodies: &[Body], table: &Table) -> Result<Plan, LedgerNo>
+    requires proper { body.made.fits (made_for 0 table.now) }
+    ensures past { IfOk result (λ plan. plan.past ≡ past_in (bodies_of bodies.now)) }
+    ensures last { IfOk result (λ plan. plan.past.epoch < LAST_EPOCH) }
+    ensures ledgers { OnOk result (AreLedgers table.now (bodies_of bodies.now)) }
+    ensures made { IfOk result (λ plan. plan.made.items ≡ made_body table.now) }
+    ensures epoch { IfOk result (λ plan. plan.epoch.items ≡ epoch_body (plan.past.epoch + 1)) }
+    ensures fault { (limit : ℕ)
+        → IfErr result (IsOfBytes (IsFault table.now limit (bodies_of bodies.now))) }
+{
+    let made = Made {
+        who: 0,
+        table: copy_table(alloc, table)?,
+    };
+    let spelled = write_made(alloc, &made)?;
+    let past = past_of(alloc, bodies, made, &spelled)?;
+    let epoch = write_ledger(alloc, &LedgerRecord::Epoch(past.epoch + 1))?;
+    Ok(Plan {
+        past,
+        made: spelled,
+        epoch,
+    })
+}
+
+// Reads what the bodies tell, and writes what a mounting writes.
+fn begin<D: Disk>(
+    alloc: Global,
+    journal: &mut Journal<D>,
+    bodies: &mut Vec<Body>,
+    table: &Table,
+) -> Result<Past, LedgerNo>
+    requires up { IsUp journal.old }
+    requires proper { body.made.fits (made_for 0 table.now) }
+    ensures up { OnOk result (IsUp journal.new) }
+    ensures past { IfOk result (λ past. past ≡ past_in (bodies_of bodies.old.items)) }
+    ensures epoch { IfOk result (λ past. past.epoch < LAST_EPOCH) }
+    ensures ledgers { OnOk result (AreLedgers table.now (bodies_of bodies.old.items)) }
+    ensures fine { OnOk result (KeepsAll journal.old bodies.old
+        → AreMountable table.now (limit_of journal.old) (bodies_of bodies.old.items)) }
+    ensures bodies { OnOk result (HasMore bodies.old bodies.new
+        (to_write table.now (bodies_of bodies.old.items))) }
+    ensures limit { limit_of journal.new ≡ limit_of journal.old }
+    ensures keeps { OnOk result (KeepsAll journal.old bodies.old
+        → KeepsAll journal.new bodies.new) }
+    ensures refused { IfErr result (IsImage (λ fault. KeepsAll journal.old bodies.old
+        → IsFault table.now (limit_of journal.old) (bodies_of bodies.old.items) fault)) }
+    ensures any_moment { KeepsAll journal.old bodies.old
+        → Leaves journal.old journal.new (HasSome (bodies_of bodies.old.items)
+        (to_write table.now (bodies_of bodies.old.items))) }
+    ensures grows { KeepsAll journal.old bodies.old → LosesNone journal.old journal.new }
+    ensures cause { Costs journal.old journal.new (IsErrOf result LedgerNo.Disk) }
+{
+    let Plan { past, made, epoch } = plan_of(alloc, bodies, table)?;
+    match write_both(journal, bodies, made, epoch) {
+        Ok(()) => Ok(past),
+        Err(fault) => Err(mount_no(fault)),
+    }
+}
+
+/// Reads what stands on the ledger's disk, and writes how it was made, where nothing stands there, and this
+/// mounting's epoch. It gives what was told before, and the epoch. A refusal hands the disk back.
+pub fn mount<D: Disk>(
+    alloc: Global,
+    disk: D,
+    table: &Table,
+    limit: u64,
+) -> Result<(Book<D>, Past, u32), (D, LedgerNo)>
+    requires proper { body.made.fits (made_for 0 table.now) }
+
+    // The past is what the records tell that were found, and the epoch, which stands behind them, is the next.
+    ensures mounts { IfOk result (λ mounted. Mounts table.now limit (D.content disk)
+        (records_of mounted.0) mounted.1 mounted.2) }
+    ensures limit { IfOk result (λ mounted. limit_of (journal_of mounted.0) ≡ limit) }
+
+    // Where the disk tells its bytes, each image has these records from now on.
+    ensures keeps { IfOk result (λ mounted. IsSome (D.content disk)
+        → Keeps (journal_of mounted.0) (records_of mounted.0)) }
+
+    // It is refused for the image's first fault, where the disk tells its bytes.
+    ensures refused { IfErr result (λ refused. IsRefusal table.now limit (D.content disk) refused.1) }
+
+    ensures any_moment { IsSome (D.content disk)
+        → LeavesOnly D.moment D.left_at disk (disk_after result)
+        (MountLeaves table.now (D.may_leave disk) (D.content disk)) }
+    ensures grows { IsSome (D.content disk) → (index : ℕ) (had : List ℕ)
+        → Grows D.moment D.left_at disk (disk_after result) (HasAt index had) }
+    ensures cause { HasCause (D.faults disk) (D.faults (disk_after result))
+        (IsErrAnd result (λ refused. refused.1 ≡ LedgerNo.Disk)) }
+{
+    let (mut journal, mut bodies) = match Journal::mount(alloc, disk, limit) {
+        Ok(mounted) => mounted,
+        Err((disk, fault)) => return Err((disk, mount_no(fault))),
+    };
+    match begin(alloc, &mut journal, &mut bodies, table) {
+        Ok(past) => {
+            let epoch = past.epoch + 1;
+            let book = Book {
+                alloc,
+                journal,
+                bodies,
+            };
+            Ok((book, past, epoch))
+        }
+        Err(no) => Err((journal.into_disk(), no)),
+    }
+}

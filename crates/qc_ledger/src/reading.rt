@@ -1,0 +1,101 @@
+//! What the bodies of a ledger's journal tell, held to its grammar.
+ghost use Rattle.std.specs.Prelude.{ℕ, ◌≡◌, ◌<◌, ◌↔◌, [], IfOk, IfErr, OnOk, IsTrue, MatchOption, Some, length, slice_index_or};
+ghost use Rattle.std.specs.Bool.{OnTrue};
+ghost use Rattle.qc_codec.specs.Bodies as body;
+ghost use Rattle.qc_codec.specs.Form.{all_of};
+ghost use Rattle.qc_codec.specs.Ledger.{past_in, MayFollow, MayStand, AreInOrder};
+ghost use Rattle.qc_journal.specs.Image.{bodies_of};
+ghost use Rattle.qc_ledger.specs.Image.{made_body, LAST_EPOCH, AreLedgers, IsFault};
+ghost use Rattle.qc_ledger.specs.Reading.{IsFirstBad, IsLaterBad};
+ghost use Rattle.qc_ledger.specs.Refusing.{IsOfBytes};
+ghost use Rattle.qc_ledger.specs.Seen.{told_by, HasNumbers, with_body};
+
+use crate::fault::{LedgerNo, image_no};
+use crate::seen::Seen;
+use qc_codec::{CodecNo, ImageFault, LedgerRecord, Made, Past, read_ledger};
+use qc_journal::Body;
+use std::alloc::Global;
+
+// Holds the first body to how the ledger was made: what it is, and its spelling.
+fn check_made(alloc: Global, first: &[u8], made: Made, spelled: &[u8]) -> Result<(), LedgerNo>
+    requires fits { body.made.fits made }
+    requires who { made.who ≡ 0 }
+    requires spelled { spelled.now ≡ made_body made.table }
+    ensures made { OnOk result (all_of body.ledger first.now ≡ Some (LedgerRecord.Made made)) }
+    ensures fault { IfErr result (IsOfBytes (IsFirstBad made.table first.now)) }
+{
+    if first == spelled {
+        return Ok(());
+    }
+    match read_ledger(alloc, first) {
+        Ok(LedgerRecord::Made(kept)) if kept.who == 0 => Err(image_no(ImageFault::Table {
+            kept: kept.table,
+            asked: made.table,
+        })),
+        Ok(_) | Err(CodecNo::Bad) => Err(image_no(ImageFault::Grammar { index: 0 })),
+        Err(CodecNo::Memory) => Err(LedgerNo::Memory),
+    }
+}
+
+// Takes in the record that bytes are, where it is one that may stand behind those before it.
+fn take_next(alloc: Global, seen: &mut Seen, bytes: &[u8]) -> Result<bool, LedgerNo>
+    requires { HasNumbers seen.old }
+    ensures tells { IfOk result (λ taken. IsTrue taken ↔ MatchOption (all_of body.ledger bytes.now)
+        ⊥ (MayFollow (told_by seen.old))) }
+    ensures taken { IfOk result (λ taken. OnTrue taken (told_by seen.new ≡ with_body
+        (told_by seen.old) (all_of body.ledger bytes.now))) }
+    ensures numbers { IfOk result (λ taken. OnTrue taken (HasNumbers seen.new)) }
+    ensures memory { IfErr result (λ no. no ≡ LedgerNo.Memory) }
+{
+    match read_ledger(alloc, bytes) {
+        Ok(next) => Ok(seen.take(next)?),
+        Err(CodecNo::Bad) => Ok(false),
+        Err(CodecNo::Memory) => Err(LedgerNo::Memory),
+    }
+}
+
+// What bodies tell whose first says how the ledger was made, where each may stand behind those before it.
+fn read_rest(alloc: Global, bodies: &[Body]) -> Result<Seen, LedgerNo>
+    requires some { 0 < length bodies.now }
+    requires made { MayStand [] (slice_index_or (bodies_of bodies.now) 0 []) }
+    ensures told { IfOk result (λ seen. told_by seen ≡ past_in (bodies_of bodies.now)) }
+    ensures order { OnOk result (AreInOrder (bodies_of bodies.now)) }
+    ensures fault { IfErr result (IsOfBytes (IsLaterBad (bodies_of bodies.now))) }
+{
+    let mut seen = Seen::new(alloc);
+    for index in 1..bodies.len() {
+        if !take_next(alloc, &mut seen, bodies[index].as_slice())? {
+            let index = index as u64;
+            return Err(image_no(ImageFault::Grammar { index }));
+        }
+    }
+    Ok(seen)
+}
+
+/// What bodies tell, where they are a ledger's for the table of a made record with this spelling, and an epoch may
+/// follow.
+pub(crate) fn past_of(
+    alloc: Global,
+    bodies: &[Body],
+    made: Made,
+    spelled: &[u8],
+) -> Result<Past, LedgerNo>
+    requires fits { body.made.fits made }
+    requires who { made.who ≡ 0 }
+    requires spelled { spelled.now ≡ made_body made.table }
+    ensures past { IfOk result (λ past. past ≡ past_in (bodies_of bodies.now)) }
+    ensures ledgers { OnOk result (AreLedgers made.table (bodies_of bodies.now)) }
+    ensures epoch { IfOk result (λ past. past.epoch < LAST_EPOCH) }
+    ensures fault { (limit : ℕ)
+        → IfErr result (IsOfBytes (IsFault made.table limit (bodies_of bodies.now))) }
+{
+    if bodies.is_empty() {
+        return Ok(Seen::new(alloc).into_past());
+    }
+    check_made(alloc, bodies[0].as_slice(), made, spelled)?;
+    let seen = read_rest(alloc, bodies)?;
+    if seen.epoch() == u32::MAX {
+        return Err(image_no(ImageFault::Epoch(u32::MAX)));
+    }
+    Ok(seen.into_past())
+}
