@@ -1,20 +1,19 @@
 -- Who was aborted below a top, one entry after another, and all of them one after another.
-use Rattle.std.proofs.Common.{◌≡◌, ℕ, ◌+◌, ◌<◌, ◌≤◌, ◌⊎◌, inl, inr, Bool, true, false, List, [], ◌∷◌, ◌++◌, length, reverse, refl, sym, ap, ◌∙◌, subst, arith, append-nil, append_assoc}
+use Rattle.std.proofs.Common.{◌≡◌, ℕ, ◌+◌, ◌<◌, ◌≤◌, Bool, true, false, List, [], ◌∷◌, ◌++◌, length, reverse, refl, sym, ap, ◌∙◌, subst, arith, append-nil, append_assoc}
 use mathlib.Core.Bool.{true≢false}
 use Rattle.std.specs.Prelude.{Option, None, Some, is_some, ◌==◌, ◌&&◌, not, if◌then◌else◌, option_to_list, slice_get, slice_index, slice_set}
 use Rattle.std.specs.Option.{option_map}
-use Rattle.std.proofs.lemmas.Bool.{eqb-true, eq-eqb, false_from_ne_true}
-use Rattle.std.proofs.lemmas.List.{length-append, length-set, reverse-append, reverse-reverse, length-reverse}
+use Rattle.std.proofs.lemmas.Bool.{eqb-true, false_from_ne_true}
+use Rattle.std.proofs.lemmas.List.{length-set, reverse-append, length-reverse}
 use Rattle.std.proofs.lemmas.Option.{same_Some, slice_get_within}
 use Rattle.qc_names.specs.Name as name
 use Rattle.qc_event.specs.Base.{Setting}
 use Rattle.qc_event.specs.declared.event.Entry.{Entry}
 use Rattle.qc_event.specs.declared.event.Event.{Event}
 use Rattle.qc_event.specs.declared.event.Event.TheVariants as event
-use Rattle.qc_event.specs.declared.event.How.{How}
-use Rattle.qc_event.specs.declared.event.How.TheVariants.{Commit, Abort}
+use Rattle.qc_event.specs.declared.event.How.TheVariants.{Abort}
 use Rattle.qc_event.specs.Dead.{outcome, is_aborted}
-use Rattle.qc_event.specs.History.{Past, Name, same, start, every}
+use Rattle.qc_event.specs.History.{Past, Name, start, every}
 use Rattle.qc_event.specs.Legal.{Legal}
 use Rattle.qc_event.specs.Listed.{aborted_in, aborted_below}
 use Rattle.qc_event.proofs.LegalOrderly.{legal_orderly}
@@ -23,10 +22,8 @@ use Rattle.qc_event.proofs.Lineage.{above_started}
 use Rattle.qc_event.proofs.OneEntry.{Starting, not_some, some_or_none, start_stays}
 use Rattle.qc_desk.specs.Places.{starts_in, place}
 use Rattle.qc_desk.proofs.Looking.{unstarted}
-use Rattle.qc_indexes.specs.Slots.{IsBeside}
 use Rattle.qc_indexes.specs.Chains.{last_of, AreLinked}
 use Rattle.qc_indexes.specs.Aborts.{AreAbortsOf, abort_top, last_abort}
-use Rattle.qc_indexes.specs.declared.aborts.Aborts.{Aborts}
 use Rattle.qc_indexes.proofs.Beside.{beside_stays, beside_set, place_stays}
 use Rattle.qc_indexes.proofs.Linking.{entry_there, last_here, last_stays, last_few, linked_stays, linked_set, none_left, one_back, link_back, Step}
 

@@ -1,7 +1,7 @@
 -- First refusals, one entry after another.
-use Rattle.std.proofs.Common.{◌≡◌, ℕ, ◌+◌, ◌<◌, Bool, true, false, [], ◌∷◌, length, reverse, refl, sym, ap, ◌∙◌, subst, arith, ◌⊎◌, inl, inr, List}
+use Rattle.std.proofs.Common.{◌≡◌, ℕ, ◌+◌, ◌<◌, Bool, true, false, [], ◌∷◌, length, refl, sym, ap, ◌∙◌, subst, ◌⊎◌, inl, inr, List}
 use mathlib.Core.Bool.{true≢false}
-use Rattle.std.specs.Prelude.{Option, None, Some, is_some, slice_get, if◌then◌else◌, MatchOption, slice_index, slice_set}
+use Rattle.std.specs.Prelude.{Option, None, Some, is_some, if◌then◌else◌, MatchOption, slice_index, slice_set}
 use Rattle.std.specs.Option.{option_or, option_map}
 use Rattle.std.proofs.lemmas.Option.{same_Some}
 use Rattle.std.proofs.lemmas.Bool.{cases_Bool}
@@ -18,9 +18,8 @@ use Rattle.qc_event.proofs.Absent.{same_is, same_itself}
 use Rattle.qc_event.proofs.Lawful.{started_some}
 use Rattle.qc_event.proofs.OneEntry.{Starting, first_some, if_some, not_some, some_or_none, start_stays}
 use Rattle.qc_desk.specs.Places.{IsWhere, starts_in, place, before_first}
-use Rattle.qc_desk.proofs.Changing.{if_not}
 use Rattle.qc_desk.proofs.Looking.{unstarted}
-use Rattle.qc_desk.proofs.Placing.{count_stays, count_now, counted, uncounted, answered_there, placed}
+use Rattle.qc_desk.proofs.Placing.{count_stays, count_now, counted, uncounted, answered_there}
 use Rattle.qc_indexes.specs.Slots.{code, IsBeside}
 use Rattle.qc_indexes.specs.Refusals.{refused_name, first_refusal}
 use Rattle.qc_indexes.proofs.Beside.{code_none, code_some, beside_stays, beside_set, place_stays}

@@ -1,8 +1,6 @@
 -- The grants of a copy, one entry after another, and back along them.
 use Rattle.std.proofs.Common.{◌≡◌, ℕ, zero, suc, ◌+◌, ◌-◌, ◌<◌, ◌≤◌, ◌⊎◌, inl, inr, Bool, true, false, List, [], ◌∷◌, ◌++◌, length, take, reverse, refl, sym, ap, ◌∙◌, subst, arith, append-nil, append_assoc}
-use mathlib.Core.Bool.{true≢false}
 use Rattle.std.specs.Prelude.{Option, None, Some, ◌==◌, nat_lt, if◌then◌else◌, option_to_list, slice_get, slice_index, slice_set}
-use Rattle.std.specs.Option.{option_map_or}
 use Rattle.std.proofs.lemmas.Bool.{eqb-true, eq-eqb, false_from_ne_true, lt-ltb, ltb-true}
 use Rattle.std.proofs.lemmas.List.{length-append, length-set, length-reverse, get_or-set_same, get_or-set_other}
 use Rattle.std.proofs.lemmas.Option.{same_Some, slice_get_within}
@@ -10,7 +8,7 @@ use Rattle.qc_event.specs.declared.event.Entry.{Entry}
 use Rattle.qc_event.specs.declared.event.Event.{Event}
 use Rattle.qc_event.specs.declared.event.Event.TheVariants as event
 use Rattle.qc_event.specs.declared.event.Grant.{Grant}
-use Rattle.qc_event.specs.History.{Past, every, grants, grant_at}
+use Rattle.qc_event.specs.History.{Past, grants, grant_at}
 use Rattle.qc_desk.proofs.Placing.{get_first, get_last}
 use Rattle.qc_desk.proofs.Spots.{one_of}
 use Rattle.qc_indexes.specs.Chains.{last_of, AreLinked}
@@ -196,8 +194,8 @@ one_grant_back past copy given counts lasts before next i index found was small 
     let place : index - 1 ≡ length (grants s.older copy) = omega (arith, long) in
     let lower : index - 1 + 1 ≡ index = omega (arith, long) in
     let at : slice_get (grants past copy) (index - 1) ≡ Some g =
-        ap (λ gs. slice_get gs (index - 1)) m.all
-        ∙ get_first (grants m.older copy) m.later (index - 1) g (ap (λ gs. slice_get gs (index - 1)) theirs ∙ get_last (grants s.older copy) g (index - 1) place) in
+    ap (λ gs. slice_get gs (index - 1)) m.all
+    ∙ get_first (grants m.older copy) m.later (index - 1) g (ap (λ gs. slice_get gs (index - 1)) theirs ∙ get_last (grants s.older copy) g (index - 1) place) in
     record {
       inside = omega (arith, slice_get_within (reverse past) i s.here there, length-reverse past);
       some_left = omega (arith, long);

@@ -1,7 +1,7 @@
 -- Chains, one entry after another, and the way back along them.
-use Rattle.std.proofs.Common.{◌≡◌, ℕ, ◌+◌, ◌<◌, ◌≤◌, Bool, true, false, List, [], ◌∷◌, ◌++◌, length, reverse, refl, sym, ap, ◌∙◌, subst, arith, append-nil}
+use Rattle.std.proofs.Common.{◌≡◌, ℕ, ◌+◌, ◌<◌, ◌≤◌, Bool, true, false, List, [], ◌∷◌, ◌++◌, length, reverse, refl, sym, ap, ◌∙◌, arith, append-nil}
 use mathlib.Core.Bool.{true≢false}
-use Rattle.std.specs.Prelude.{Option, None, Some, ◌==◌, if◌then◌else◌, option_to_list, slice_get, slice_index, slice_set}
+use Rattle.std.specs.Prelude.{Option, None, Some, if◌then◌else◌, option_to_list, slice_get, slice_index, slice_set}
 use Rattle.std.proofs.lemmas.Bool.{eq-eqb, eqb-true, false_from_ne_true}
 use Rattle.std.proofs.lemmas.List.{get_or-set_same, get_or-set_other, length-reverse, reverse-append}
 use Rattle.qc_event.specs.declared.event.Entry.{Entry}

@@ -1,5 +1,5 @@
 -- How many tops have no end, one entry after another.
-use Rattle.std.proofs.Common.{◌≡◌, ℕ, ◌+◌, ◌<◌, ◌≤◌, ◌⊎◌, inl, inr, Bool, true, false, List, [], ◌∷◌, ◌++◌, length, refl, sym, ap, ◌∙◌, subst, arith, cond, append-nil, zero, suc}
+use Rattle.std.proofs.Common.{◌≡◌, ℕ, ◌+◌, ◌≤◌, Bool, true, false, List, [], ◌∷◌, ◌++◌, length, refl, sym, ap, ◌∙◌, subst, arith, cond, append-nil}
 use mathlib.Core.Bool.{true≢false}
 use Rattle.std.specs.Prelude.{Option, None, Some, is_some, is_none, find, count_by, ◌&&◌, ◌==◌, option_to_list, if◌then◌else◌}
 use Rattle.std.specs.Option.{option_or}
@@ -13,9 +13,9 @@ use Rattle.qc_event.specs.declared.event.How.{How}
 use Rattle.qc_event.specs.declared.event.Kind.{Kind}
 use Rattle.qc_event.specs.History.{Past, Name, Begun, same, start, start_in, end, end_in, is_child, child_in, children}
 use Rattle.qc_event.proofs.Absent.{same_is, same_itself}
-use Rattle.qc_event.proofs.OneEntry.{some_or_none, not_some, start_is}
+use Rattle.qc_event.proofs.OneEntry.{some_or_none, not_some}
 use Rattle.qc_event.proofs.Orderly.{KeepsOrder, Orderly, IsNewTop}
-use Rattle.qc_event.proofs.Lawful.{Lawful, lawful, ends_open}
+use Rattle.qc_event.proofs.Lawful.{lawful, ends_open}
 use Rattle.qc_indexes.specs.Opens.{open_tops, ends_top}
 
 -- COUNTS
@@ -141,9 +141,9 @@ one_top (e ∷ past) x orderly = count_child past (x ∷ []) e.event ∙ step e.
         let none = new.fresh in
         let zero : count_by (same (x ∷ [])) (children past []) ≡ 0 = before ∙ ap (λ o. flag (is_some o)) none in
         let added : count_by (same (x ∷ [])) (option_to_list (child_in [] (event.Start n k))) ≡ 1 =
-            ap (λ y. count_by (same (x ∷ [])) (option_to_list (child_in [] (event.Start y k)))) this ∙ ap (λ (b : Bool). 0 + cond b 1 0) (same_itself (x ∷ [])) in
+        ap (λ y. count_by (same (x ∷ [])) (option_to_list (child_in [] (event.Start y k)))) this ∙ ap (λ (b : Bool). 0 + cond b 1 0) (same_itself (x ∷ [])) in
         let now : flag (is_some (option_or (start past (x ∷ [])) (start_in (x ∷ []) e.seat (event.Start n k)))) ≡ 1 =
-            ap (λ o. flag (is_some (option_or o (start_in (x ∷ []) e.seat (event.Start n k))))) none ∙ started (same n (x ∷ [])) is in
+        ap (λ o. flag (is_some (option_or o (start_in (x ∷ []) e.seat (event.Start n k))))) none ∙ started (same n (x ∷ [])) is in
         omega (arith, zero, added, now)
       where
         started : (b : Bool) → b ≡ true → flag (is_some {T = Begun} (if b then Some (record { seat = e.seat; kind = k }) else None)) ≡ 1
@@ -206,9 +206,9 @@ module _ (e : Entry) (past : Past) where
           let none : end past n ≡ None = not_some (end past n) (λ ended. some_or_none (start past n) ((lawful past orderly.0).end_has_start n ended) (ap (start past) top.1 ∙ new.fresh)) in
           let more : open_tops (e ∷ past) ≡ open_tops past + count_by (λ c. is_none (end past c)) (option_to_list (child_in [] e.event)) = calm (λ c. ap (end_in c) is) in
           let one : count_by (λ c. is_none (end past c)) (option_to_list (child_in [] e.event)) ≡ 1 =
-              ap (λ ev. count_by (λ c. is_none (end past c)) (option_to_list (child_in [] ev))) is
-              ∙ ap (λ (b : Bool). count_by (λ c. is_none (end past c)) (option_to_list (if b then Some n else None))) child
-              ∙ ap (λ o. 0 + cond (is_none o) 1 0) none in
+          ap (λ ev. count_by (λ c. is_none (end past c)) (option_to_list (child_in [] ev))) is
+          ∙ ap (λ (b : Bool). count_by (λ c. is_none (end past c)) (option_to_list (if b then Some n else None))) child
+          ∙ ap (λ o. 0 + cond (is_none o) 1 0) none in
           omega (arith, more, one)
 
       by_event : (ev : Event) → e.event ≡ ev → is_some (child_in [] ev) ≡ true → open_tops (e ∷ past) ≡ open_tops past + 1
@@ -221,8 +221,8 @@ module _ (e : Entry) (past : Past) where
       let none = (ends_open past e n how is orderly.1).not_ended in
       let less = ended_less (end past) n how (children past []) none in
       let now : open_tops (e ∷ past) ≡ count_by (λ c. is_none (option_or (end past c) (if same n c then Some how else None))) (children past []) =
-          ap (λ ev. count_by (λ c. is_none (option_or (end past c) (end_in c ev))) (children past [] ++ option_to_list (child_in [] ev))) is
-          ∙ ap (count_by (λ c. is_none (option_or (end past c) (if same n c then Some how else None)))) (append-nil (children past [])) in
+      ap (λ ev. count_by (λ c. is_none (option_or (end past c) (end_in c ev))) (children past [] ++ option_to_list (child_in [] ev))) is
+      ∙ ap (count_by (λ c. is_none (option_or (end past c) (if same n c then Some how else None)))) (append-nil (children past [])) in
       omega (arith, less, now)
 
   -- an entry that ends a top takes away one
@@ -233,9 +233,9 @@ module _ (e : Entry) (past : Past) where
       by_event (event.End n how) is top =
           let number = top_is n top in
           let once : count_by (same n) (children past []) ≡ 1 =
-              ap (λ y. count_by (same y) (children past [])) number.1
-              ∙ one_top past number.0 orderly.0
-              ∙ ap (λ (b : Bool). cond b 1 0) (sym (ap (λ y. is_some (start past y)) number.1) ∙ (ends_open past e n how is orderly.1).started) in
+          ap (λ y. count_by (same y) (children past [])) number.1
+          ∙ one_top past number.0 orderly.0
+          ∙ ap (λ (b : Bool). cond b 1 0) (sym (ap (λ y. is_some (start past y)) number.1) ∙ (ends_open past e n how is orderly.1).started) in
           let less = ended_now n how is orderly in
           omega (arith, once, less)
       by_event ev is top = absurd (true≢false (sym top))

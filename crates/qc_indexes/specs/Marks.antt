@@ -1,5 +1,5 @@
 -- Marks of sessions.
-use Rattle.std.specs.Prelude.{ℕ, ◌≡◌, ◌<◌, Bool, false, nat_le, length, Option, None, Some, slice_index_or}
+use Rattle.std.specs.Prelude.{ℕ, ◌≡◌, ◌<◌, Bool, false, nat_le, Option, None, Some, slice_index_or}
 use Rattle.qc_event.specs.History.{Past}
 use Rattle.qc_event.specs.Users.{is_marked}
 use Rattle.qc_indexes.specs.declared.marks.Marks.{Marks}

@@ -47,9 +47,7 @@ fn aborted_in(names: &Index, entry: &Entry, top: &Name) -> Option<Name>
         Event::End {
             name,
             how: How::Abort(_),
-        } if top.is_ancestor(name)
-            && top != name
-            && !names.outcome(&front(name)).is_aborted() =>
+        } if top.is_ancestor(name) && top != name && !names.outcome(&front(name)).is_aborted() =>
             Some(*name),
         _ => None,
     }
@@ -117,7 +115,11 @@ impl Aborts {
         let Some(place) = names.place(&top) else {
             return;
         };
-        set_slot(&mut self.before, at as usize, slot(&self.last, place as usize));
+        set_slot(
+            &mut self.before,
+            at as usize,
+            slot(&self.last, place as usize),
+        );
         set_slot(&mut self.last, place as usize, at + 1);
     }
 

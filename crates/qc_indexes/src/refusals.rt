@@ -28,7 +28,9 @@ fn refusal_in(entry: &Entry, n: &Name) -> Option<Refusal>
 {
     match &entry.event {
         Event::Refused {
-            access, refusal, ..
+            access,
+            refusal,
+            ..
         } if access == n => Some(*refusal),
         _ => None,
     }
@@ -79,12 +81,7 @@ impl Refusals {
     }
 
     /// The first refusal of an access.
-    pub(crate) fn first(
-        &self,
-        names: &Index,
-        entries: &[Entry],
-        access: &Name,
-    ) -> Option<Refusal>
+    pub(crate) fn first(&self, names: &Index, entries: &[Entry], access: &Name) -> Option<Refusal>
         ensures { (setting : Setting) → AreRefusals self.now (reverse entries.now) →
             IsOf names.now (reverse entries.now) → Legal setting (reverse entries.now) →
             result ≡ history.refused (reverse entries.now) access.now }

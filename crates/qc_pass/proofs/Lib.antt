@@ -20,3 +20,4 @@ pub mod Aborting
 pub mod Seers
 pub mod Finishing
 pub mod Consulting
+pub mod AskedTops

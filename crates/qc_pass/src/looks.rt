@@ -15,12 +15,7 @@ use std::sync::Wait;
 impl<N: Store> Desk<N> {
     /// The first refusal of an access in the history at this step; none exactly where there is none. It takes no
     /// memory.
-    pub fn refusal<R: Wait>(
-        &self,
-        rt: &R,
-        pass: &mut Pass<N>,
-        access: &Name,
-    ) -> Option<Refusal>
+    pub fn refusal<R: Wait>(&self, rt: &R, pass: &mut Pass<N>, access: &Name) -> Option<Refusal>
         ensures looked { Shown pass.old pass.new }
         ensures first { result ≡ refused pass.new.seen access.now }
     {

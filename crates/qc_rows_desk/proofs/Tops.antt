@@ -1,49 +1,7 @@
--- A top that was started may be aborted as it asked; and the first pass once its splits are joined back.
-use Rattle.std.proofs.Common.{◌≡◌, ℕ, ◌+◌, ◌<◌, ◌==◌, Bool, true, false, cond, nat_lt, ◌&&◌, List, [], ◌∷◌, length, refl, sym, ap, ap₂, ◌∙◌, subst, eq-eqb, MatchBool, append-nil}
-use Rattle.std.specs.Prelude.{Some, MatchOption, IsTrue}
-use Rattle.qc_names.specs.Name as name
-use Rattle.qc_event.specs.declared.event.Cause.TheVariants as cause
-use Rattle.qc_event.specs.declared.event.Event.{Event}
-use Rattle.qc_event.specs.declared.event.Event.TheVariants as event
-use Rattle.qc_event.specs.declared.event.Kind.TheVariants as kind
-use Rattle.qc_event.specs.Aborts.{Licensed}
-use Rattle.qc_event.specs.Base.{Setting}
-use Rattle.qc_event.specs.History.{Past, Name, Begun, start, children}
-use Rattle.qc_event.specs.Legal.{Legal}
-use Rattle.qc_event.specs.Seats.{top_name}
-use Rattle.qc_event.specs.Standing.{Started, IsUser}
-use Rattle.qc_event.proofs.LastNumber.{is_ancestor-append}
-use Rattle.qc_event.proofs.OneEntry.{start_is}
+-- The first pass once its splits are joined back.
+use Rattle.std.proofs.Common.{◌≡◌, ℕ, ◌+◌, ◌<◌, ◌≤◌, ◌==◌, Bool, true, false, cond, nat_lt, ◌&&◌, List, [], ◌∷◌, refl, ap, ap₂, ◌∙◌, subst, eq-eqb, MatchBool}
 use Rattle.qc_pass.specs.declared.view.View.{View}
-use Rattle.qc_pass.specs.Calling.{EnteredAs}
-use Rattle.qc_pass.specs.Entries.{entry}
-use Rattle.qc_pass.specs.Refusing.{against_nothing}
 use Rattle.qc_pass.specs.Rules.{IsSplit, IsClient, without, knows, joined, pass, counted}
-
-abbrev pub IsTop : ℕ → ℕ → ℕ → Name → Past → Event → Type 0
-IsTop epoch session body n past ev = (n ≡ top_name epoch (length (children past []) + 1)) × (ev ≡ event.Start n (kind.User session body))
-
-itself : (n : Name) → IsTrue (name.is_ancestor n n)
-itself n = ap (name.is_ancestor n) (sym (append-nil n)) ∙ is_ancestor-append n []
-
-begun : (setting : Setting) (epoch seat session body : ℕ) (past : Past) (n : Name) → n ≡ top_name epoch (length (children past []) + 1) → Legal setting (entry seat (event.Start n (kind.User session body)) ∷ past)
-    → start (entry seat (event.Start n (kind.User session body)) ∷ past) n ≡ Some (record { seat = seat; kind = kind.User session body })
-begun setting epoch seat session body past n named legal =
-    subst (λ m. Legal setting (entry seat (event.Start m (kind.User session body)) ∷ past) → start (entry seat (event.Start m (kind.User session body)) ∷ past) m ≡ Some (record { seat = seat; kind = kind.User session body })) (sym named) by_top legal
-  where
-    by_top : Legal setting (entry seat (event.Start (top_name epoch (length (children past []) + 1)) (kind.User session body)) ∷ past) → start (entry seat (event.Start (top_name epoch (length (children past []) + 1)) (kind.User session body)) ∷ past) (top_name epoch (length (children past []) + 1)) ≡ Some (record { seat = seat; kind = kind.User session body })
-    by_top (was, may) = start_is (entry seat (event.Start (top_name epoch (length (children past []) + 1)) (kind.User session body))) past (top_name epoch (length (children past []) + 1)) (kind.User session body) may.fresh refl
-
-pub may_abort : (setting : Setting) (epoch session body : ℕ) (v w : View) (n : Name) → EnteredAs against_nothing (IsTop epoch session body n) v w → Legal setting w.seen
-    → Started w.seen n (λ b. Licensed setting w.seen w.number n b b.kind (cause.Asked n))
-may_abort setting epoch session body v w n (before, ev, (named, is), since, none, same) legal =
-    let seen : w.seen ≡ entry v.number (event.Start n (kind.User session body)) ∷ before = ap (λ (x : View). x.seen) same ∙ ap (λ e. entry v.number e ∷ before) is in
-    let here = begun setting epoch v.number session body before n named (subst (Legal setting) seen legal) in
-    let at : start w.seen n ≡ Some (record { seat = v.number; kind = kind.User session body }) = ap (λ p. start p n) seen ∙ here in
-    subst (λ o. MatchOption o ⊥ (λ (b : Begun). Licensed setting w.seen w.number n b b.kind (cause.Asked n))) (sym at)
-    (subst (λ o. MatchOption o ⊥ (λ (b : Begun). IsUser b.kind)) (sym at) tt, itself n)
-
--- THE FIRST PASS
 
 -- two that were split off are taken out again
 without_both : (a b : ℕ) → without b (without a (b ∷ a ∷ [])) ≡ []

@@ -1,4 +1,4 @@
-use Rattle.std.proofs.Common.{arith, sym, ap, ◌∙◌}
+use Rattle.std.proofs.Common.{ap, ◌∙◌}
 use Rattle.std.specs.Prelude.{slice_index}
 use Rattle.qc_indexes.proofs.Beside.{slot_widened}
 use Rattle.qc_indexes.proofs.slots.widen.Goals as goal

@@ -1,4 +1,4 @@
-use Rattle.std.proofs.Common.{◌≤◌, arith}
+use Rattle.std.proofs.Common.{arith}
 use Rattle.qc_indexes.specs.Aborts.{abort_top, last_abort}
 use Rattle.qc_indexes.proofs.Beside.{beside_wider}
 use Rattle.qc_indexes.proofs.Linking.{linked_same}

@@ -1,5 +1,5 @@
-use Rattle.std.proofs.Common.{◌≡◌, ◌+◌, [], ◌∷◌, List, ℕ, sym, ap, ◌∙◌, subst}
-use Rattle.std.specs.Prelude.{None, slice_index, slice_set}
+use Rattle.std.proofs.Common.{◌∷◌, List, ℕ, sym, ap, ◌∙◌, subst}
+use Rattle.std.specs.Prelude.{slice_index, slice_set}
 use Rattle.qc_desk.specs.Places.{place}
 use Rattle.qc_indexes.specs.Aborts.{AreAbortsOf, abort_top}
 use Rattle.qc_indexes.proofs.AbortsBelow.{none_aborted, top_before, top_placed, one_aborted, top_none, top_some}

@@ -1,8 +1,8 @@
-use Rattle.std.proofs.Common.{◌≡◌, ℕ, ◌+◌, ◌-◌, ◌<◌, length, reverse, sym, ap, ◌∙◌, subst, arith}
+use Rattle.std.proofs.Common.{◌≡◌, ◌+◌, ◌-◌, reverse, sym, ap, ◌∙◌, subst, arith}
 use Rattle.std.specs.Prelude.{Some, slice_get, slice_index}
 use Rattle.std.proofs.lemmas.List.{reverse-reverse, length-reverse}
 use Rattle.std.proofs.lemmas.Option.{slice_get-get_or}
-use Rattle.qc_indexes.proofs.GrantsBack.{IsMidway, GoesOn, midway_last, one_grant_back, all_read}
+use Rattle.qc_indexes.proofs.GrantsBack.{IsMidway, midway_last, one_grant_back, all_read}
 use Rattle.qc_indexes.proofs.grants.Grants.differ.Goals as goal
 
 pub loop-next-init : goal.loop-next-init
@@ -42,7 +42,7 @@ loop-next-preserved c =
     let on = one_grant_back past c.args.copy c.args.given.now _ _ _ next (next - 1) c.loop-next.index c.loop-next.found c.requires.kept c.requires.small c.loop-next.invariant more in
     let stands = c.slot-next.ensures ∙ ap (λ xs. slice_index xs (next - 1)) c.deref.ensures.value in
     let here : slice_get (reverse past) (next - 1) ≡ Some e =
-        ap (λ es. slice_get es (next - 1)) (reverse-reverse entries) ∙ slice_get-get_or entries (next - 1) e (omega (arith, on.inside, length-reverse entries)) ∙ ap Some (sym c.index-entries-at.is) in
+    ap (λ es. slice_get es (next - 1)) (reverse-reverse entries) ∙ slice_get-get_or entries (next - 1) e (omega (arith, on.inside, length-reverse entries)) ∙ ap Some (sym c.index-entries-at.is) in
     subst (λ n. IsMidway past c.args.copy c.args.given.now n (c.loop-next.index - 1) c.earlier-found.result) (sym stands)
     (on.goes_on e c.grant_of.result c.earlier-found.result here c.grant_of.ensures c.earlier-found.ensures)
 

@@ -1,4 +1,4 @@
-use Rattle.std.proofs.Common.{◌≤◌, arith}
+use Rattle.std.proofs.Common.{arith}
 use Rattle.qc_indexes.specs.Grants.{granted_at}
 use Rattle.qc_indexes.proofs.Linking.{linked_same}
 use Rattle.qc_indexes.proofs.grants.Grants.make_room.Goals as goal

@@ -1,4 +1,4 @@
-use Rattle.std.proofs.Common.{◌≡◌, ◌<◌, ◌∷◌, length, sym, ◌∙◌, subst, arith}
+use Rattle.std.proofs.Common.{◌∷◌, sym, ◌∙◌, subst, arith}
 use Rattle.qc_indexes.specs.Grants.{AreGrantsOf}
 use Rattle.qc_indexes.proofs.GrantsBack.{granted_small, grants_few, one_granted}
 use Rattle.qc_indexes.proofs.grants.Grants.push.Goals as goal

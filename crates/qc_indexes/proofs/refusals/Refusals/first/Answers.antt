@@ -1,4 +1,4 @@
-use Rattle.std.proofs.Common.{◌≡◌, ◌+◌, ◌-◌, reverse, length, sym, ap, ◌∙◌, refl, arith}
+use Rattle.std.proofs.Common.{◌≡◌, ◌+◌, ◌-◌, reverse, sym, ap, ◌∙◌, refl, arith}
 use Rattle.std.specs.Prelude.{Some, slice_get, slice_index}
 use Rattle.std.proofs.lemmas.List.{reverse-reverse, length-reverse}
 use Rattle.std.proofs.lemmas.Option.{slice_get-get_or}
@@ -26,7 +26,7 @@ returns-in-Some-get c = λ setting was names legal.
     let e = c.in-Some-get.entry.now in
     let some : c.slot-after.result ≡ i + 1 = omega (arith, c.if-after-eq0.false) in
     let told = its_entry setting past c.args.self.now.firsts.items c.args.access.now was legal at i (sym (c.place.ensures.place setting past names legal) ∙ c.in-Some.is)
-        (ap (λ ys. slice_index ys at) (sym c.deref.ensures.value) ∙ sym c.slot-after.ensures ∙ some) in
+    (ap (λ ys. slice_index ys at) (sym c.deref.ensures.value) ∙ sym c.slot-after.ensures ∙ some) in
     let less = told.within i refl in
     let here : slice_get entries i ≡ Some e = slice_get-get_or entries i e (omega (arith, less, length-reverse entries)) ∙ ap Some (sym (c.in-Some-get.ensures.lookup.3.1 e)) in
     c.refusal_in.ensures ∙ told.there i e refl (ap (λ xs. slice_get xs i) (reverse-reverse entries) ∙ here)
@@ -39,6 +39,6 @@ returns-in-None c = λ setting was names legal.
     let i = c.slot-after.result - 1 in
     let some : c.slot-after.result ≡ i + 1 = omega (arith, c.if-after-eq0.false) in
     let told = its_entry setting past c.args.self.now.firsts.items c.args.access.now was legal at i (sym (c.place.ensures.place setting past names legal) ∙ c.in-Some.is)
-        (ap (λ ys. slice_index ys at) (sym c.deref.ensures.value) ∙ sym c.slot-after.ensures ∙ some) in
+    (ap (λ ys. slice_index ys at) (sym c.deref.ensures.value) ∙ sym c.slot-after.ensures ∙ some) in
     let less = told.within i refl in
     absurd (omega (arith, less, length-reverse entries, c.in-None.ensures.lookup.3))

@@ -1,4 +1,3 @@
-use Rattle.std.proofs.Common.{arith}
 use Rattle.qc_indexes.specs.Refusals.{first_refusal}
 use Rattle.qc_indexes.proofs.Beside.{beside_wider}
 use Rattle.qc_indexes.proofs.refusals.Refusals.make_room.Goals as goal

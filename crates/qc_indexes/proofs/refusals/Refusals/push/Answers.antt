@@ -1,6 +1,5 @@
-use Rattle.std.proofs.Common.{◌≡◌, ◌+◌, ◌∷◌, length, sym, ap, ◌∙◌, subst, arith}
-use Rattle.std.specs.Prelude.{None, Some, slice_index, slice_set}
-use Rattle.qc_desk.specs.Places.{place}
+use Rattle.std.proofs.Common.{◌+◌, ◌∷◌, sym, ap, ◌∙◌, subst}
+use Rattle.std.specs.Prelude.{slice_index, slice_set}
 use Rattle.qc_indexes.specs.Slots.{IsBeside}
 use Rattle.qc_indexes.specs.Refusals.{first_refusal}
 use Rattle.qc_indexes.proofs.FirstRefusals.{none_refused, placed_before, has_place, refused_first, refused_again}

@@ -1,0 +1,61 @@
+-- A top that was started is a user transaction, and may be aborted as it asked.
+use Rattle.std.proofs.Common.{◌≡◌, ℕ, ◌+◌, List, [], ◌∷◌, length, refl, sym, ap, ◌∙◌, subst, MatchBool, append-nil}
+use Rattle.std.specs.Prelude.{Option, None, Some, MatchOption, IsTrue}
+use Rattle.qc_names.specs.Name as name
+use Rattle.qc_event.specs.declared.event.Cause.TheVariants as cause
+use Rattle.qc_event.specs.declared.event.Event.{Event}
+use Rattle.qc_event.specs.declared.event.Event.TheVariants as event
+use Rattle.qc_event.specs.declared.event.Kind.{Kind}
+use Rattle.qc_event.specs.declared.event.Kind.TheVariants as kind
+use Rattle.qc_event.specs.Aborts.{Licensed}
+use Rattle.qc_event.specs.Base.{Setting}
+use Rattle.qc_event.specs.History.{Past, Name, Begun, start, children}
+use Rattle.qc_event.specs.Legal.{Legal}
+use Rattle.qc_event.specs.Seats.{top_name}
+use Rattle.qc_event.specs.Standing.{Started, IsUser}
+use Rattle.qc_event.proofs.LastNumber.{is_ancestor-append}
+use Rattle.qc_event.proofs.OneEntry.{start_is}
+use Rattle.qc_pass.specs.declared.view.View.{View}
+use Rattle.qc_pass.specs.Calling.{EnteredAs}
+use Rattle.qc_pass.specs.Entries.{entry}
+use Rattle.qc_pass.specs.Refusing.{against_nothing}
+
+abbrev pub IsTop : ℕ → ℕ → ℕ → Name → Past → Event → Type 0
+IsTop epoch session body n past ev = (n ≡ top_name epoch (length (children past []) + 1)) × (ev ≡ event.Start n (kind.User session body))
+
+itself : (n : Name) → IsTrue (name.is_ancestor n n)
+itself n = ap (name.is_ancestor n) (sym (append-nil n)) ∙ is_ancestor-append n []
+
+begun : (setting : Setting) (epoch seat session body : ℕ) (past : Past) (n : Name) → n ≡ top_name epoch (length (children past []) + 1) → Legal setting (entry seat (event.Start n (kind.User session body)) ∷ past)
+    → start (entry seat (event.Start n (kind.User session body)) ∷ past) n ≡ Some (record { seat = seat; kind = kind.User session body })
+begun setting epoch seat session body past n named legal =
+    subst (λ m. Legal setting (entry seat (event.Start m (kind.User session body)) ∷ past) → start (entry seat (event.Start m (kind.User session body)) ∷ past) m ≡ Some (record { seat = seat; kind = kind.User session body })) (sym named) by_top legal
+  where
+    by_top : Legal setting (entry seat (event.Start (top_name epoch (length (children past []) + 1)) (kind.User session body)) ∷ past) → start (entry seat (event.Start (top_name epoch (length (children past []) + 1)) (kind.User session body)) ∷ past) (top_name epoch (length (children past []) + 1)) ≡ Some (record { seat = seat; kind = kind.User session body })
+    by_top (was, may) = start_is (entry seat (event.Start (top_name epoch (length (children past []) + 1)) (kind.User session body))) past (top_name epoch (length (children past []) + 1)) (kind.User session body) may.fresh refl
+
+-- the call that starts a top starts a user transaction
+pub top_begun : (setting : Setting) (epoch session body : ℕ) (v w : View) (n : Name) → EnteredAs against_nothing (IsTop epoch session body n) v w → Legal setting w.seen → Started w.seen n (λ b. IsUser b.kind)
+top_begun setting epoch session body v w n (before, ev, (named, is), since, none, same) legal =
+    let seen : w.seen ≡ entry v.number (event.Start n (kind.User session body)) ∷ before = ap (λ (x : View). x.seen) same ∙ ap (λ e. entry v.number e ∷ before) is in
+    let here = begun setting epoch v.number session body before n named (subst (Legal setting) seen legal) in
+    subst (λ o. MatchOption o ⊥ (λ (b : Begun). IsUser b.kind)) (sym (ap (λ p. start p n) seen ∙ here)) tt
+
+-- a user transaction may be aborted as it asked
+pub may_ask_abort : (setting : Setting) (past : Past) (seat : ℕ) (n : Name) → Started past n (λ b. IsUser b.kind) → Started past n (λ b. Licensed setting past seat n b b.kind (cause.Asked n))
+may_ask_abort setting past seat n user = by_start (start past n) user
+  where
+    by_kind : (b : Begun) (k : Kind) → IsUser k → Licensed setting past seat n b k (cause.Asked n)
+    by_kind b (kind.User session body) is = (user, itself n)
+    by_kind b (kind.Read rec) is = absurd is
+    by_kind b (kind.Write rec value) is = absurd is
+    by_kind b (kind.Reconf rec config) is = absurd is
+    by_kind b kind.Access is = absurd is
+
+    by_start : (o : Option Begun) → MatchOption o ⊥ (λ b. IsUser b.kind) → MatchOption o ⊥ (λ b. Licensed setting past seat n b b.kind (cause.Asked n))
+    by_start None is = is
+    by_start (Some b) is = by_kind b b.kind is
+
+pub may_abort : (setting : Setting) (epoch session body : ℕ) (v w : View) (n : Name) → EnteredAs against_nothing (IsTop epoch session body n) v w → Legal setting w.seen
+    → Started w.seen n (λ b. Licensed setting w.seen w.number n b b.kind (cause.Asked n))
+may_abort setting epoch session body v w n entered legal = may_ask_abort setting w.seen w.number n (top_begun setting epoch session body v w n entered legal)
