@@ -1,14 +1,10 @@
 -- Tops that were started stay so, and one more is.
 use Rattle.std.proofs.Common.{◌≡◌, ℕ, ◌<◌, List, [], ◌∷◌, ◌++◌, length, get_or, sym, ap, ◌∙◌, subst}
-use Rattle.std.specs.Prelude.{All, Option, Result, Ok, Err, OnOk}
+use Rattle.std.specs.Prelude.{All}
 use Rattle.std.proofs.lemmas.List.Elements.{All-append, All-cons, All-nil}
 use Rattle.qc_event.specs.History.{Past, Name}
 use Rattle.qc_event.specs.Standing.{Started, IsUser}
-use Rattle.qc_event.specs.declared.event.Event.{Event}
-use Rattle.qc_pass.specs.declared.refusal.DeskNo.{DeskNo}
-use Rattle.qc_pass.specs.declared.view.View.{View}
-use Rattle.qc_pass.specs.Calling.{Entered, EnteredAs}
-use Rattle.qc_pass.specs.Entries.{IsOlder, entry}
+use Rattle.qc_pass.specs.Entries.{IsOlder}
 use Rattle.qc_pass.proofs.Entering.{started_later}
 use Rattle.qc_bench_desk.specs.Tops.{AreStarted}
 
@@ -20,17 +16,6 @@ one_more past names n was new = All-append (λ n. Started past n (λ b. IsUser b
   where
     alone : (n : Name) → Started past n (λ b. IsUser b.kind) → All (λ n. Started past n (λ b. IsUser b.kind)) (n ∷ [])
     alone n h = All-cons (λ n. Started past n (λ b. IsUser b.kind)) n [] h (All-nil (λ n. Started past n (λ b. IsUser b.kind)))
-
--- what was seen is a beginning of what is seen once an event was entered
-pub entered_later : (against : Past → Option DeskNo) (event : Event) (v w : View) → Entered against event v w → IsOlder v.seen w.seen
-entered_later against event v w (before, since, none, same) = (entry v.number event ∷ since.0, ap (λ (x : View). x.seen) same ∙ ap (λ p. entry v.number event ∷ p) since.1)
-
-pub entered_as_later : (against : Past → Option DeskNo) (IsIt : Past → Event → Type 0) (v w : View) → EnteredAs against IsIt v w → IsOlder v.seen w.seen
-entered_as_later against IsIt v w (before, event, it, since, none, same) = entered_later against event v w (before, since, none, same)
-
-pub on_ok : {T E : Type 0} (r : Result T E) (P Q : Type 0) → (P → Q) → OnOk r P → OnOk r Q
-on_ok (Ok x) P Q h p = h p
-on_ok (Err e) P Q h p = p
 
 -- one of them
 pub one_of_them : (past : Past) (names : List Name) (k : ℕ) (n : Name) → AreStarted past names → k < length names → n ≡ get_or names k n → Started past n (λ b. IsUser b.kind)

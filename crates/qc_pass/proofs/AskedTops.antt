@@ -1,6 +1,6 @@
 -- A top that was started is a user transaction, and may be aborted as it asked.
 use Rattle.std.proofs.Common.{◌≡◌, ℕ, ◌+◌, List, [], ◌∷◌, length, refl, sym, ap, ◌∙◌, subst, MatchBool, append-nil}
-use Rattle.std.specs.Prelude.{Option, None, Some, MatchOption, IsTrue}
+use Rattle.std.specs.Prelude.{Option, None, Some, MatchOption, IsTrue, Result, Ok, Err, OnOk}
 use Rattle.qc_names.specs.Name as name
 use Rattle.qc_event.specs.declared.event.Cause.TheVariants as cause
 use Rattle.qc_event.specs.declared.event.Event.{Event}
@@ -15,9 +15,10 @@ use Rattle.qc_event.specs.Seats.{top_name}
 use Rattle.qc_event.specs.Standing.{Started, IsUser}
 use Rattle.qc_event.proofs.LastNumber.{is_ancestor-append}
 use Rattle.qc_event.proofs.OneEntry.{start_is}
+use Rattle.qc_pass.specs.declared.refusal.DeskNo.{DeskNo}
 use Rattle.qc_pass.specs.declared.view.View.{View}
-use Rattle.qc_pass.specs.Calling.{EnteredAs}
-use Rattle.qc_pass.specs.Entries.{entry}
+use Rattle.qc_pass.specs.Calling.{Entered, EnteredAs}
+use Rattle.qc_pass.specs.Entries.{IsOlder, entry}
 use Rattle.qc_pass.specs.Refusing.{against_nothing}
 
 abbrev pub IsTop : ℕ → ℕ → ℕ → Name → Past → Event → Type 0
@@ -56,6 +57,15 @@ may_ask_abort setting past seat n user = by_start (start past n) user
     by_start None is = is
     by_start (Some b) is = by_kind b b.kind is
 
-pub may_abort : (setting : Setting) (epoch session body : ℕ) (v w : View) (n : Name) → EnteredAs against_nothing (IsTop epoch session body n) v w → Legal setting w.seen
-    → Started w.seen n (λ b. Licensed setting w.seen w.number n b b.kind (cause.Asked n))
-may_abort setting epoch session body v w n entered legal = may_ask_abort setting w.seen w.number n (top_begun setting epoch session body v w n entered legal)
+-- WHAT A CALL HAS SEEN
+
+-- what was seen is a beginning of what is seen once an event was entered
+pub entered_later : (against : Past → Option DeskNo) (event : Event) (v w : View) → Entered against event v w → IsOlder v.seen w.seen
+entered_later against event v w (before, since, none, same) = (entry v.number event ∷ since.0, ap (λ (x : View). x.seen) same ∙ ap (λ p. entry v.number event ∷ p) since.1)
+
+pub entered_as_later : (against : Past → Option DeskNo) (IsIt : Past → Event → Type 0) (v w : View) → EnteredAs against IsIt v w → IsOlder v.seen w.seen
+entered_as_later against IsIt v w (before, event, it, since, none, same) = entered_later against event v w (before, since, none, same)
+
+pub on_ok : {T E : Type 0} (r : Result T E) (P Q : Type 0) → (P → Q) → OnOk r P → OnOk r Q
+on_ok (Ok x) P Q h p = h p
+on_ok (Err e) P Q h p = p

@@ -2,8 +2,8 @@ use Rattle.qc_event.specs.declared.event.Cause.TheVariants as cause
 use Rattle.qc_event.specs.declared.event.Event.TheVariants as event
 use Rattle.qc_event.specs.declared.event.How.TheVariants.{Abort}
 use Rattle.qc_pass.specs.Refusing.{against_abort}
-use Rattle.qc_pass.proofs.AskedTops.{may_ask_abort}
-use Rattle.qc_bench_desk.proofs.More.{still_started, entered_later, one_of_them, on_ok}
+use Rattle.qc_pass.proofs.AskedTops.{may_ask_abort, entered_later, on_ok}
+use Rattle.qc_bench_desk.proofs.More.{still_started, one_of_them}
 use Rattle.qc_bench_desk.proofs.tops.abort_one.Goals as goal
 
 pub abort-requires-clause-licensed : goal.abort-requires-clause-licensed
