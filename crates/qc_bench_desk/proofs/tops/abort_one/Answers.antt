@@ -1,3 +1,4 @@
+use Rattle.qc_event.specs.Tables.{setting_of}
 use Rattle.qc_event.specs.declared.event.Cause.TheVariants as cause
 use Rattle.qc_event.specs.declared.event.Event.TheVariants as event
 use Rattle.qc_event.specs.declared.event.How.TheVariants.{Abort}
@@ -9,7 +10,7 @@ use Rattle.qc_bench_desk.proofs.tops.abort_one.Goals as goal
 pub abort-requires-clause-licensed : goal.abort-requires-clause-licensed
 abort-requires-clause-licensed g c =
     let top = c.in-Some.top.now in
-    may_ask_abort c.args.pass.now.seen c.args.pass.now.number top (one_of_them c.args.pass.now.seen c.args.tops.now c.args.at top c.requires.started c.in-Some.ensures.lookup.3.0 (c.in-Some.ensures.lookup.3.1 top))
+    may_ask_abort (setting_of g.N.Store.table g.N.Store.base) c.args.pass.now.seen c.args.pass.now.number top (one_of_them c.args.pass.now.seen c.args.tops.now c.args.at top c.requires.started c.in-Some.ensures.lookup.3.0 (c.in-Some.ensures.lookup.3.1 top))
 
 pub returns-in-Some-clause-started : goal.returns-in-Some-clause-started
 returns-in-Some-clause-started g c =

@@ -1,3 +1,4 @@
+use Rattle.qc_event.specs.Tables.{setting_of}
 use Rattle.qc_event.specs.declared.event.Cause.TheVariants as cause
 use Rattle.qc_event.specs.declared.event.Event.TheVariants as event
 use Rattle.qc_event.specs.declared.event.How.TheVariants.{Abort}
@@ -7,7 +8,7 @@ use Rattle.qc_rows_desk.proofs.Children.{still_top}
 use Rattle.qc_rows_desk.proofs.looks.abort_child.Goals as goal
 
 pub abort-requires-clause-licensed : goal.abort-requires-clause-licensed
-abort-requires-clause-licensed g c = may_ask_abort c.args.pass.now.seen c.args.pass.now.number c.args.child.now c.requires.child
+abort-requires-clause-licensed g c = may_ask_abort (setting_of g.N.Store.table g.N.Store.base) c.args.pass.now.seen c.args.pass.now.number c.args.child.now c.requires.child
 
 pub returns-clause-top : goal.returns-clause-top
 returns-clause-top g c =
