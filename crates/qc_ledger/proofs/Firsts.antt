@@ -147,3 +147,8 @@ passed_on (Err e) fault P Q also same is = subst (IsImage Q) (sym same) (image_o
 pub no_disk : {T : Type 0} (r : Result T LedgerNo) (fault : LedgerNo) (P : ImageFault → Type 0) → IsErrAnd r (λ e. e ≡ fault) → IsOfBytes P fault → IsErrOf r Disk → ⊥
 no_disk (Ok x) fault P same is of = absurd cc
 no_disk (Err e) fault P same is of = let one : e ≡ Disk = cc in subst (IsOfBytes P) (sym same ∙ one) is
+
+-- a proper table has a made record
+pub made_proper : (table : Table) → (body.table 1).fits table → body.made.fits (made_for 0 table)
+unfolding body.made body.making
+made_proper table fits = ((omega arith, fits), tt)
