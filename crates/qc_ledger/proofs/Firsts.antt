@@ -1,13 +1,13 @@
 -- Which fault of bodies is the first.
-use Rattle.std.proofs.Common.{◌≡◌, ◌≢◌, ℕ, zero, suc, ◌+◌, ◌<◌, ◌≤◌, List, [], ◌∷◌, ◌++◌, length, take, drop, get_or, refl, sym, ap, ◌∙◌, subst, arith, take-append-drop, length-take}
-use Rattle.std.specs.Prelude.{◌==◌, false, Result, Ok, Err, IfErr, Option, None, Some, MatchOption, Vec, map, slice_index_or}
+use Rattle.std.proofs.Common.{◌≡◌, ℕ, zero, suc, ◌+◌, ◌<◌, ◌≤◌, List, [], ◌∷◌, ◌++◌, length, take, drop, get_or, refl, sym, ap, ◌∙◌, subst, arith, take-append-drop, length-take}
+use Rattle.std.specs.Prelude.{◌==◌, false, Result, Ok, Err, IfErr, Option, None, Some, MatchOption, Vec, slice_index_or}
 use Rattle.std.specs.Result.{IsErrAnd, IsErrOf}
 use Rattle.std.specs.declared.alloc.Global.{Global}
 use Rattle.std.proofs.lemmas.List.{drop_more, length-map, map-append, map_push, take_more}
 use Rattle.qc_event.specs.declared.table.Table.{Table}
 use Rattle.qc_codec.specs.Bodies as body
 use Rattle.qc_codec.specs.Form.{all_of}
-use Rattle.qc_codec.specs.Ledger.{AreInOrder, IsMade, IsOutOfOrder, MayFollow, MayStand, made_for, past_in}
+use Rattle.qc_codec.specs.Ledger.{AreInOrder, IsMade, MayFollow, MayStand, made_for, past_in}
 use Rattle.qc_codec.specs.declared.image.ImageFault.{ImageFault}
 use Rattle.qc_codec.specs.declared.image.ImageFault.TheVariants.{Broken, Grammar, Full, Table as OtherTable, Epoch}
 use Rattle.qc_codec.specs.declared.past.Past.{Past}
@@ -17,7 +17,7 @@ use Rattle.qc_codec.specs.declared.record.LedgerRecord.TheVariants as ledger_rec
 use Rattle.qc_codec.proofs.Bodies.{exact_ledger}
 use Rattle.qc_codec.proofs.Exact.{all_again}
 use Rattle.qc_journal.specs.Image.{bodies_of}
-use Rattle.qc_ledger.specs.Image.{made_body, epoch_body, AreMadeFor, IsFault}
+use Rattle.qc_ledger.specs.Image.{made_body, AreMadeFor, IsFault}
 use Rattle.qc_ledger.specs.Reading.{IsFirstBad, IsLaterBad}
 use Rattle.qc_ledger.specs.Seen.{with_body}
 use Rattle.qc_ledger.specs.Refusing.{IsImage, IsOfBytes}
@@ -147,3 +147,8 @@ passed_on (Err e) fault P Q also same is = subst (IsImage Q) (sym same) (image_o
 pub no_disk : {T : Type 0} (r : Result T LedgerNo) (fault : LedgerNo) (P : ImageFault → Type 0) → IsErrAnd r (λ e. e ≡ fault) → IsOfBytes P fault → IsErrOf r Disk → ⊥
 no_disk (Ok x) fault P same is of = absurd cc
 no_disk (Err e) fault P same is of = let one : e ≡ Disk = cc in subst (IsOfBytes P) (sym same ∙ one) is
+
+-- a proper table has a made record
+pub made_proper : (table : Table) → (body.table 1).fits table → body.made.fits (made_for 0 table)
+unfolding body.made body.making
+made_proper table fits = ((omega arith, fits), tt)

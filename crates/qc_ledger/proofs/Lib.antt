@@ -4,3 +4,4 @@ mod Firsts
 mod Writing
 mod Mounts
 mod Logging
+mod Verdicts

@@ -1,10 +1,9 @@
 -- What a refused record leaves in hand.
-use Rattle.std.proofs.Common.{◌≡◌, ◌⊎◌, inl, inr, ⊎_elim, ℕ, List, refl, sym, ap, ◌∙◌, subst}
+use Rattle.std.proofs.Common.{◌≡◌, inl, inr, ⊎_elim, ℕ, List, sym, ap, ◌∙◌, subst}
 use Rattle.std.specs.Prelude.{Option, None, Some}
 use Rattle.qc_disk.specs.declared.disk.Disk.{Ghosts}
 use Rattle.qc_event.specs.History.{Name}
-use Rattle.qc_journal.specs.Image.{HasRecords}
-use Rattle.qc_journal.specs.Journal.{AppendLeaves, IsDown, IsUp, Keeps, Stands, TakesInHand, in_hand, place_of, with_hand}
+use Rattle.qc_journal.specs.Journal.{AppendLeaves, IsDown, IsUp, Stands, TakesInHand, place_of}
 use Rattle.qc_journal.specs.State.{IsUpState}
 use Rattle.qc_journal.specs.declared.journal.State.{State}
 use Rattle.qc_journal.specs.declared.journal.State.TheVariants.{Up, Down}

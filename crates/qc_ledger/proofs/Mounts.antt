@@ -1,5 +1,5 @@
 -- What a mounting leaves, and why it is refused.
-use Rattle.std.proofs.Common.{◌≡◌, ◌⊎◌, inl, inr, ℕ, List, [], ◌∷◌, refl, sym, subst}
+use Rattle.std.proofs.Common.{◌≡◌, inl, inr, ℕ, List, [], refl, sym, subst}
 use Rattle.std.specs.Prelude.{Option, None, Some, IfSome, IsSome}
 use Rattle.qc_disk.specs.Disk.{IsImage as IsDiskImage}
 use Rattle.qc_event.specs.declared.table.Table.{Table}

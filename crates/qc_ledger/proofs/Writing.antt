@@ -9,7 +9,7 @@ use Rattle.std.specs.declared.alloc.Global.{Global}
 use Rattle.qc_disk.specs.Disk.{LeavesOnly}
 use Rattle.qc_disk.specs.declared.disk.Disk.{Ghosts}
 use Rattle.qc_journal.specs.Image.{row, EndsAt, HasRecords, bodies_of}
-use Rattle.qc_journal.specs.Journal.{IsTooLong, IsUp, Keeps, Stands, disk_of, in_hand, place_of}
+use Rattle.qc_journal.specs.Journal.{IsUp, Keeps, Stands, disk_of, in_hand, place_of}
 use Rattle.qc_journal.specs.State.{IsUpState, hand_of}
 use Rattle.qc_journal.specs.declared.journal.Journal.{Journal}
 use Rattle.qc_journal.specs.declared.journal.State.{State}

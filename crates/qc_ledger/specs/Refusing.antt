@@ -1,6 +1,5 @@
 -- Why a mounting is refused.
 use Rattle.std.specs.Prelude.{ℕ, ◌≡◌, List, Option, IfSome}
-use Rattle.qc_codec.specs.declared.image.BadImage.{BadImage}
 use Rattle.qc_codec.specs.declared.image.ImageFault.{ImageFault}
 use Rattle.qc_codec.specs.declared.image.ImageFault.TheVariants as image
 use Rattle.qc_event.specs.declared.table.Table.{Table}

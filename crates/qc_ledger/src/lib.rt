@@ -3,6 +3,7 @@
 
 mod book;
 mod fault;
+mod law;
 mod mounting;
 mod reading;
 mod seen;
@@ -10,5 +11,6 @@ mod shelf;
 
 pub use book::Book;
 pub use fault::LedgerNo;
+pub use law::one_verdict;
 pub use mounting::mount;
 pub use shelf::Shelf;

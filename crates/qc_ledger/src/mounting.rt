@@ -2,7 +2,7 @@
 ghost use Rattle.std.specs.Prelude.{ℕ, ◌≡◌, ◌<◌, ◌+◌, [], ◌∷◌, ◌++◌, List, IfOk, IfErr, IsSome, OnOk, OnErr, IsErrOf, IsErrAnd, Err};
 ghost use Rattle.qc_disk.specs.Disk.{HasCause, LeavesOnly, Grows};
 ghost use Rattle.qc_codec.specs.Bodies as body;
-ghost use Rattle.qc_codec.specs.Ledger.{made_for, past_in};
+ghost use Rattle.qc_codec.specs.Ledger.{past_in};
 ghost use Rattle.qc_journal.specs.Image.{HasAt, bodies_of};
 ghost use Rattle.qc_journal.specs.Journal.{disk_of, limit_of, IsUp, Keeps};
 ghost use Rattle.qc_journal.specs.declared.fault.Fault.TheVariants.{Full};
@@ -120,7 +120,7 @@ struct Plan {
 
 // What bodies tell, and what a mounting writes behind them.
 fn plan_of(alloc: Global, bodies: &[Body], table: &Table) -> Result<Plan, LedgerNo>
-    requires proper { body.made.fits (made_for 0 table.now) }
+    requires proper { (body.table 1).fits table.now }
     ensures past { IfOk result (λ plan. plan.past ≡ past_in (bodies_of bodies.now)) }
     ensures last { IfOk result (λ plan. plan.past.epoch < LAST_EPOCH) }
     ensures ledgers { OnOk result (AreLedgers table.now (bodies_of bodies.now)) }
@@ -151,7 +151,7 @@ fn begin<D: Disk>(
     table: &Table,
 ) -> Result<Past, LedgerNo>
     requires up { IsUp journal.old }
-    requires proper { body.made.fits (made_for 0 table.now) }
+    requires proper { (body.table 1).fits table.now }
     ensures up { OnOk result (IsUp journal.new) }
     ensures past { IfOk result (λ past. past ≡ past_in (bodies_of bodies.old.items)) }
     ensures epoch { IfOk result (λ past. past.epoch < LAST_EPOCH) }
@@ -186,7 +186,7 @@ pub fn mount<D: Disk>(
     table: &Table,
     limit: u64,
 ) -> Result<(Book<D>, Past, u32), (D, LedgerNo)>
-    requires proper { body.made.fits (made_for 0 table.now) }
+    requires proper { (body.table 1).fits table.now }
 
     // The past is what the records tell that were found, and the epoch, which stands behind them, is the next.
     ensures mounts { IfOk result (λ mounted. Mounts table.now limit (D.content disk)

@@ -1,8 +1,7 @@
 -- What is wrong with the bodies is handed on.
-use Rattle.std.proofs.Common.{◌≤◌, arith, ap, subst, List, ℕ}
-use Rattle.qc_disk.specs.Disk.{HasCause}
+use Rattle.std.proofs.Common.{arith, ap, subst, List, ℕ}
 use Rattle.qc_journal.specs.Image.{bodies_of}
-use Rattle.qc_journal.specs.Journal.{Keeps, disk_of, limit_of}
+use Rattle.qc_journal.specs.Journal.{Keeps, limit_of}
 use Rattle.qc_ledger.specs.Image.{IsFault}
 use Rattle.qc_ledger.proofs.Firsts.{no_disk, passed_on}
 use Rattle.qc_ledger.proofs.mounting.begin.Goals as goal

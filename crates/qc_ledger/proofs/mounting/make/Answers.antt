@@ -1,5 +1,5 @@
 -- It is written, or nothing is.
-use Rattle.std.proofs.Common.{◌∷◌, [], ℕ, List, ap, sym, ◌∙◌, subst}
+use Rattle.std.proofs.Common.{ℕ, List, ap, sym, ◌∙◌, subst}
 use Rattle.std.specs.Prelude.{◌==◌, OnOk}
 use Rattle.qc_journal.specs.Image.{bodies_of}
 use Rattle.qc_journal.specs.Journal.{Keeps, disk_of, limit_of}

@@ -1,10 +1,11 @@
 -- The copied table is the table, and a made record is spelled as the ledger's.
 use Rattle.std.proofs.Common.{ap, sym, subst, ◌∙◌}
 use Rattle.qc_event.specs.declared.table.Table.{Table}
+use Rattle.qc_codec.specs.Bodies as body
 use Rattle.qc_codec.specs.Ledger.{made_for}
 use Rattle.qc_journal.specs.Image.{bodies_of}
 use Rattle.qc_ledger.specs.Image.{IsFault, made_body}
-use Rattle.qc_ledger.proofs.Firsts.{handed_on}
+use Rattle.qc_ledger.proofs.Firsts.{handed_on, made_proper}
 use Rattle.qc_ledger.proofs.Writing.{epoch_fits, made_spelled}
 use Rattle.qc_ledger.proofs.mounting.plan_of.Goals as goal
 
@@ -23,3 +24,6 @@ write_ledger-requires c = record { proper = epoch_fits c.in_ok-past.past.epoch c
 
 pub returns-clause-made : goal.returns-clause-made
 returns-clause-made c = c.in_ok-spelled.ensures.0 ∙ made_spelled (made_for 0 c.in_ok-copy_table.field-0) ∙ ap made_body c.in_ok-copy_table.ensures
+
+pub write_made-requires : goal.write_made-requires
+write_made-requires c = record { proper = made_proper c.in_ok-copy_table.field-0 (subst (λ (t : Table). (body.table 1).fits t) (sym c.in_ok-copy_table.ensures) c.requires.proper) }

@@ -1,8 +1,7 @@
 -- One record behind another.
-use Rattle.std.proofs.Common.{◌≡◌, ◌∷◌, [], ◌++◌, ℕ, List, sym, ap, ◌∙◌, subst, Err}
+use Rattle.std.proofs.Common.{◌∷◌, [], ◌++◌, ℕ, List, sym, ap, ◌∙◌, subst, Err}
 use Rattle.qc_journal.specs.Image.{HasAt, bodies_of}
-use Rattle.qc_journal.specs.Journal.{Keeps, disk_of, limit_of}
-use Rattle.qc_journal.specs.declared.fault.Fault.{Fault}
+use Rattle.qc_journal.specs.Journal.{disk_of, limit_of}
 use Rattle.qc_journal.specs.declared.fault.Fault.TheVariants.{Full}
 use Rattle.qc_journal.proofs.Moments.{continues, grows_on}
 use Rattle.qc_ledger.specs.Image.{IsFull, made_where_none}

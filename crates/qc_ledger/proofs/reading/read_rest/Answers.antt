@@ -1,12 +1,12 @@
 -- The bodies so far with the next.
-use Rattle.std.proofs.Common.{◌≡◌, refl, sym, ap, ◌∙◌, subst, true, false, arith}
+use Rattle.std.proofs.Common.{refl, sym, ◌∙◌, subst, arith}
 use mathlib.Core.Bool.{true≢false}
 use Rattle.std.proofs.lemmas.Bool.{OnTrue_at}
 use Rattle.qc_codec.specs.Form.{all_of}
 use Rattle.qc_codec.specs.Bodies as body
-use Rattle.qc_codec.specs.Ledger.{MayFollow, past_in}
+use Rattle.qc_codec.specs.Ledger.{MayFollow}
 use Rattle.qc_journal.specs.Image.{bodies_of}
-use Rattle.std.specs.Prelude.{MatchOption, take}
+use Rattle.std.specs.Prelude.{MatchOption}
 use Rattle.qc_ledger.specs.Reading.{IsLaterBad}
 use Rattle.qc_ledger.specs.Refusing.{IsOfBytes}
 use Rattle.qc_ledger.specs.Seen.{told_by}

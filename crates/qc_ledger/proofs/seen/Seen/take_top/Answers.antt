@@ -1,5 +1,5 @@
 -- A top's number joins those of the tops.
-use Rattle.std.proofs.Common.{◌≡◌, ◌∷◌, ◌++◌, [], List, ap, sym, ◌∙◌, subst}
+use Rattle.std.proofs.Common.{List, sym, ◌∙◌, subst}
 use Rattle.std.specs.Prelude.{slice_index}
 use Rattle.qc_codec.specs.declared.past.Logged.{Logged}
 use Rattle.qc_ledger.specs.Seen.{AreNumbers}

@@ -1,0 +1,25 @@
+//! What a case stands on.
+
+use qc_disk::MemDisk;
+use qc_ledger::{Book, Shelf};
+
+/// What a case stands on.
+#[derive(Drop)]
+pub(crate) enum State {
+    Nothing,
+    Disk(MemDisk),
+    Book(Book<MemDisk>),
+    Shelf(Shelf<MemDisk>),
+}
+
+impl State {
+    /// The disk below it: a ledger ends.
+    pub(crate) fn into_disk(self) -> Option<MemDisk> {
+        match self {
+            State::Nothing => None,
+            State::Disk(disk) => Some(disk),
+            State::Book(book) => Some(book.into_disk()),
+            State::Shelf(shelf) => Some(shelf.into_disk()),
+        }
+    }
+}
