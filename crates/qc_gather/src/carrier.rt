@@ -2,9 +2,10 @@
 ghost use Rattle.std.specs.Prelude.{◌≡◌, ◌≤◌, ℕ, Bool, IfOk, IfErr};
 ghost use Rattle.qc_event.specs.declared.event.Entry.{Entry};
 ghost use Rattle.qc_event.specs.Base.{Setting};
+ghost use Rattle.qc_event.specs.Counts.{Rose};
 ghost use Rattle.qc_event.specs.History.{Past};
 ghost use Rattle.qc_event.specs.Legal.{Legal};
-ghost use Rattle.qc_gather.specs.Carrying.{MayCarry, next_ask, made_by, HasGrown, carriage, became as result_of, WasCarried, WasNotCarried, HasReason, Rose};
+ghost use Rattle.qc_gather.specs.Carrying.{MayCarry, next_ask, made_by, HasGrown, carriage, became as result_of, WasCarried, WasNotCarried, HasReason};
 
 use qc_config::{Op, Tuple};
 use qc_event::{Name, Why};

@@ -2,7 +2,7 @@
 ghost use Rattle.std.specs.Prelude.{◌≡◌, ◌≤◌, [], ◌∷◌, ◌++◌, length, option_map, All, IfOk, OnOk, OnErr, IfSome, IsTrue};
 ghost use Rattle.qc_event.specs.declared.event.Ask.{Ask};
 ghost use Rattle.qc_event.specs.declared.event.Answered.{Answered};
-ghost use Rattle.qc_gather.specs.Carrying.{Rose};
+ghost use Rattle.qc_event.specs.Counts.{Rose};
 ghost use Rattle.qc_net.specs.Plan.{Counts, is_trouble, next_fate, passed, anew, due_in};
 ghost use Rattle.qc_net.specs.Sending.{waiting, meeting, sending, IsSending};
 

@@ -55,7 +55,7 @@ impl PlanLink {
 
 impl Link for PlanLink {
     ghost use Rattle.std.specs.Prelude.{◌≡◌, ◌<◌, Some, if◌then◌else◌, IfSome, IfOk};
-    ghost use Rattle.qc_gather.specs.Carrying.{next};
+    ghost use Rattle.qc_event.specs.Counts.{next};
     ghost use Rattle.qc_net.specs.Plan.{Counts, is_trouble, next_fate, asked, due_in, passed, anew};
     ghost use Rattle.qc_net.specs.PlanLink.{plan_of, troubles_of};
 

@@ -1,8 +1,9 @@
 //! One request of a manager, carried to a copy and back.
 ghost use Rattle.std.specs.Prelude.{◌≡◌, IfOk, IfErr, [], ◌∷◌};
 ghost use Rattle.qc_event.specs.declared.event.Kind.{Kind};
+ghost use Rattle.qc_event.specs.Counts.{Rose};
 ghost use Rattle.qc_event.specs.Manager.{phase_of};
-ghost use Rattle.qc_gather.specs.Carrying.{MayCarry, Rose, became};
+ghost use Rattle.qc_gather.specs.Carrying.{MayCarry, became};
 ghost use Rattle.qc_rw.specs.Going.{MayGoOn, HasHeard, HasServed, link};
 ghost use Rattle.qc_rw.specs.Managed.{IsRefused};
 ghost use Rattle.qc_rw.specs.Undisturbed.{HasCause, IsUndisturbed, IsShortage};
