@@ -67,7 +67,8 @@ impl Link for PlanLink {
         ensures told { result ≡ next_fate (plan_of self.old).coming }
         ensures plan { plan_of self.new ≡ asked (plan_of self.old) }
         ensures counts { Counts result (troubles_of self.old) (troubles_of self.new) }
-        ensures counted { troubles_of self.new ≡ (if is_trouble result then next (troubles_of self.old) else troubles_of self.old) }
+        ensures counted { troubles_of self.new
+            ≡ (if is_trouble result then next (troubles_of self.old) else troubles_of self.old) }
     {
         let fate = match self.fates.get(self.at) {
             Some(fate) => *fate,
