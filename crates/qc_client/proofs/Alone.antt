@@ -1,10 +1,10 @@
 -- That a client stays alone, one entry after another.
 use Rattle.std.proofs.Common.{◌≡◌, ℕ, ◌+◌, ◌*◌, ◌^◌, ◌/◌, ◌%◌, ◌<◌, ◌≤◌, ◌⊎◌, inl, inr, Bool, true, false, [], ◌∷◌, ◌++◌, length, refl, sym, ap, ◌∙◌, subst, arith, append-nil}
 use mathlib.Core.Bool.{true≢false}
-use Rattle.std.specs.Prelude.{Option, None, Some, MatchOption, is_some, ◌&&◌, ◌||◌, ◌==◌, IsTrue, All, option_to_list, nat_le, ◌↔◌}
+use Rattle.std.specs.Prelude.{Option, None, Some, MatchOption, is_some, ◌||◌, ◌==◌, IsTrue, All, option_to_list, nat_le, ◌↔◌}
 use Rattle.std.specs.List.{AllByRecursion}
 use Rattle.std.specs.Option.{option_map_or}
-use Rattle.std.proofs.lemmas.Bool.{eq-eqb, eqb-true, and_parts, false_from_ne_true}
+use Rattle.std.proofs.lemmas.Bool.{eq-eqb, eqb-true, and_parts, false_from_ne_true, and_from}
 use Rattle.std.proofs.lemmas.Bool.Decides.{nat_tests}
 use Rattle.std.proofs.lemmas.List.{length-append}
 use Rattle.std.proofs.lemmas.List.Elements.{All-head, All-tail}
@@ -23,29 +23,27 @@ use Rattle.qc_event.specs.History.{Past, Name, Begun, Asked, every, start, end, 
 use Rattle.qc_event.specs.Legal.{Legal, Allowed, MayEnd, MayHappen}
 use Rattle.qc_event.specs.Standing.{IsManager, Started, open_child}
 use Rattle.qc_event.specs.Starts.{Stands}
-use Rattle.qc_event.proofs.LastNumber.{EndsIn, front_last, ends_in}
+use Rattle.qc_event.proofs.LastNumber.{EndsIn, front_last, ends_in, child_longer, no_child_length, child_front}
 use Rattle.qc_event.proofs.Lawful.{started_wider, started_some, no_open_child, lawful}
 use Rattle.qc_event.proofs.LegalAgain.{legal_again}
 use Rattle.qc_event.proofs.LegalOrderly.{legal_orderly}
-use Rattle.qc_event.proofs.OneEntry.{Starting, start_step, start_is, end_step, end_stays, some_or_none, unless_some}
+use Rattle.qc_event.proofs.OneEntry.{Starting, start_step, start_is, end_step, end_stays, some_or_none, unless_some, at_most_one}
 use Rattle.qc_event.proofs.Lawful.{some_how}
 use Rattle.qc_client.specs.Alone.{view_of, IsAlone, IsKept}
 use Rattle.qc_client.specs.Entering.{MayEndNow, MayEnter, SameLine, HasAsked}
 use Rattle.qc_client.proofs.Made.{own_is}
 use Rattle.qc_interp.specs.Alone.{is_lone, AreLone, AccessesEnd}
-use Rattle.qc_client.proofs.Names.{child_longer, child_front, no_child_length}
+use Rattle.qc_interp.proofs.StepsLeave.{manages}
 use Rattle.qc_client.proofs.Standing.{not_both, not_access_too, start_same, access_of, manager_above, SaysSeat, asked_seat}
-use Rattle.qc_client.proofs.OfAccesses.{OfManager, answer_replies, end_apart, start_apart, stands_there, accesses_do}
+use Rattle.qc_client.proofs.OfAccesses.{OfManager, end_apart, start_apart, stands_there, accesses_do}
 use Rattle.qc_gather.specs.Carrying.{IsRunning, HasGrown, name_of}
 use Rattle.qc_line.specs.Lined.{Lined, IsOfTransaction, IsNoAccess, is_able, all_able}
+use Rattle.qc_line.proofs.AnswersLeave.{reply_of_answer}
 use Rattle.qc_script.specs.Calls.{IsOfAccess, is_access, by_client}
 use Rattle.qc_script.specs.Plan.{KindFits}
 use Rattle.qc_script.specs.Client.{Client, View, is_own}
 use Rattle.qc_script.specs.Numbers.{each, any_top, is_next_top, next_top}
 use Rattle.qc_store.specs.Served.{is_reply, is_answer}
-
-and_by : (a b : Bool) → a ≡ true → b ≡ true → (a && b) ≡ true
-and_by a b x y = ap (λ t. t && b) x ∙ y
 
 or_left : (a b : Bool) → a ≡ true → (a || b) ≡ true
 or_left a b x = ap (λ t. t || b) x
@@ -64,7 +62,7 @@ able_by c s _ lone = refl
 -- where a client is alone none is unable
 pub lone_able : (c : Client) (past : Past) → AreLone c past → all_able past ≡ true
 lone_able c [] lone = refl
-lone_able c (e ∷ past) lone = let parts = and_parts _ _ lone in and_by _ _ (able_by c e.seat e.event parts.0) (lone_able c past parts.1)
+lone_able c (e ∷ past) lone = let parts = and_parts _ _ lone in and_from _ _ (able_by c e.seat e.event parts.0) (lone_able c past parts.1)
 
 -- THE LINE
 
@@ -122,8 +120,8 @@ same_count past e none = ap (λ o. every (λ (x : Entry). any_top x.event) past 
 pub alone_entered : (c : Client) (past : Past) (e : Entry) → Legal c.setting past → IsAlone c past → MayEnter c past e → IsAlone c (e ∷ past)
 alone_entered c past e legal was may = record {
   client = was.client;
-  entries = and_by _ _ may.lone was.entries;
-  numbered = and_by _ _ was.numbered (not_next c.epoch past e may.no_top);
+  entries = and_from _ _ may.lone was.entries;
+  numbered = and_from _ _ was.numbered (not_next c.epoch past e may.no_top);
   accesses = accesses_end c.setting past e legal may.of_transaction may.ends was.accesses;
 }
 
@@ -166,10 +164,6 @@ few_tops [] = omega arith
 few_tops (e ∷ past) =
     let one = at_most_one (any_top e.event) in
     omega (arith, few_tops past, length-append (every (λ (x : Entry). any_top x.event) past) (option_to_list (any_top e.event)))
-  where
-    at_most_one : {Y : Type 0} (o : Option Y) → length (option_to_list o) ≤ 1
-    at_most_one None = omega arith
-    at_most_one (Some y) = omega arith
 
 pub not_full : (b : Bool) (n : ℕ) → (IsTrue b ↔ (n ≡ 4294967295)) → n ≤ 4294967295 → b ≡ false → n < 4294967295
 not_full b n full bounded is = let differs : n ≡ 4294967295 → ⊥ = λ e. true≢false (sym (full.1 e) ∙ is) in omega (arith, bounded, differs)
@@ -197,8 +191,8 @@ pub kept_top : (tops session body : ℕ) (c : Client) (past : Past) → Legal c.
 kept_top tops session body c past legal kept = record {
   alone = record {
     client = kept.alone.client;
-    entries = and_by _ _ (own_is c) kept.alone.entries;
-    numbered = and_by _ _ kept.alone.numbered (eq-eqb _ _ (next_named tops (record { client = c; seen = past }) kept));
+    entries = and_from _ _ (own_is c) kept.alone.entries;
+    numbered = and_from _ _ kept.alone.numbered (eq-eqb _ _ (next_named tops (record { client = c; seen = past }) kept));
     accesses = accesses_end c.setting past (by_client c (event.Start ((c.epoch * 2 ^ 32 + (tops + 1)) ∷ []) (kind.User session body))) legal tt tt kept.alone.accesses;
   };
   tops_are = omega (arith, kept.tops_are, length-append (every (λ (x : Entry). any_top x.event) past) ((c.epoch * 2 ^ 32 + (tops + 1)) ∷ []));
@@ -266,7 +260,7 @@ module _ (c : Client) (n : Name) (kd : Kind) (past : Past) (legal_before : Legal
 
   of_manager_lone : (now : Past) (e : Entry) → Legal c.setting now → start now n ≡ start past n → IsOfAccess n e.event → is_able e.event ≡ true → OfManager n e → MayHappen c.setting now e.seat e.event → is_lone c e.seat e.event ≡ true
   of_manager_lone now e legal same does able (inl access) may = access_lone now e.seat e.event legal same access does able may
-  of_manager_lone now e legal same does able (inr answer) may = reply_lone e.seat e.event (answer_replies e answer)
+  of_manager_lone now e legal same does able (inr answer) may = reply_lone e.seat e.event (reply_of_answer e answer)
 
   no_top_of : (e : Entry) → IsOfAccess n e.event → any_top e.event ≡ None
   no_top_of e does = by_event e.event does
@@ -294,13 +288,13 @@ module _ (c : Client) (n : Name) (kd : Kind) (past : Past) (legal_before : Legal
   entries_lone [] legal each does able was = was
   entries_lone (e ∷ inner) legal each does able was =
       let parts = and_parts _ _ able in
-      and_by _ _
+      and_from _ _
       (of_manager_lone (inner ++ past) e legal.0 (start_same inner past n began_some) does.0 parts.0 (All-head (OfManager n) e inner each) legal.1)
       (entries_lone inner legal.0 (All-tail (OfManager n) e inner each) does.1 parts.1 was)
 
   numbered_still : (inner : Past) → AllByRecursion (λ (e : Entry). IsOfAccess n e.event) inner → each (is_next_top c.epoch) past ≡ true → each (is_next_top c.epoch) (inner ++ past) ≡ true
   numbered_still [] does was = was
-  numbered_still (e ∷ inner) does was = and_by _ _ (numbered_still inner does.1 was) (not_next c.epoch (inner ++ past) e (no_top_of e does.0))
+  numbered_still (e ∷ inner) does was = and_from _ _ (numbered_still inner does.1 was) (not_next c.epoch (inner ++ past) e (no_top_of e does.0))
 
   tops_same : (inner : Past) → AllByRecursion (λ (e : Entry). IsOfAccess n e.event) inner → every (λ (x : Entry). any_top x.event) (inner ++ past) ≡ every (λ (x : Entry). any_top x.event) past
   tops_same [] does = refl
@@ -338,17 +332,10 @@ module _ (c : Client) (n : Name) (kd : Kind) (past : Past) (legal_before : Legal
         tops_are = was.tops_are ∙ ap (λ ts. length ts) (sym (tops_same inner does));
       }
 
-pub manager_fits : (setting : Setting) (kd : Kind) → KindFits setting kd → IsManager kd
-manager_fits setting (kind.User session body) fits = absurd fits
-manager_fits setting (kind.Read rec) fits = tt
-manager_fits setting (kind.Write rec value) fits = tt
-manager_fits setting (kind.Reconf rec config) fits = tt
-manager_fits setting kind.Access fits = absurd fits
-
 pub kept_carried : (tops session epoch : ℕ) (old new : Lined) (n : Name) (kd : Kind) → IsKept tops (view_of old session epoch) → HasAsked old new → KindFits old.setting kd → IsRunning old.seat old.past n kd → 0 < length n → HasGrown (λ e. is_answer e) (λ m. IsTrue (is_child n m)) old.past new.past → IsKept tops (view_of new session epoch)
 kept_carried tops session epoch old new n kd kept asked fits running pos g =
     let c = (view_of old session epoch).client in
     let legal : Legal old.setting (g.newer ++ old.past) = subst (λ s. Legal s (g.newer ++ old.past)) asked.same.setting (subst (λ p. Legal new.setting p) g.grown (legal_again new.setting new.past new.is_legal)) in
     let able : all_able (g.newer ++ old.past) ≡ true = ap all_able (sym g.grown) ∙ asked.able (lone_able c old.past kept.alone.entries) in
     subst (IsKept tops) (sym (same_view old new session epoch (g.newer ++ old.past) asked.same g.grown))
-    (kept_grown c n kd old.past (legal_again old.setting old.past old.is_legal) pos (manager_fits old.setting kd fits) running.started running.not_ended tops g.newer legal g.each able kept)
+    (kept_grown c n kd old.past (legal_again old.setting old.past old.is_legal) pos (manages old.setting kd fits) running.started running.not_ended tops g.newer legal g.each able kept)

@@ -12,12 +12,12 @@ use Rattle.qc_event.proofs.LastNumber.{length_last, is_child-last}
 use Rattle.qc_client.specs.Entering.{StopsOrShort, IsShort, HasStarted}
 use Rattle.qc_client.proofs.Ending.{one_made, none_made}
 use Rattle.qc_client.proofs.Refusals.{was_refused}
-use Rattle.qc_client.proofs.Starting.{no_top}
 use Rattle.qc_script.specs.Calls.{Began, WasRefused, by_client}
 use Rattle.qc_script.specs.Client.{Client, View, is_own}
 use Rattle.qc_script.specs.Numbers.{any_top, is_next_top, own_next, next_top, Numbers}
 use Rattle.qc_script.specs.declared.tx.TxNo.{TxNo}
 use Rattle.qc_script.specs.declared.tx.TxNo.TheVariants as tx_no
+use Rattle.qc_interp.proofs.Adding.{no_top}
 
 numbered_more : (c : Client) (before : Past) (e : Rattle.qc_event.specs.declared.event.Entry.Entry) → is_next_top c.epoch e before ≡ true → Numbers c before (e ∷ before)
 numbered_more c before e next was = ap (λ b. b && own_next c e before) was ∙ by_own (not (is_own c e.seat)) next

@@ -24,10 +24,11 @@ use Rattle.qc_event.specs.Seats.{is_client}
 use Rattle.qc_event.specs.Standing.{IsUser, IsManager, IsOrphanOf, Started}
 use Rattle.qc_event.proofs.Absent.{same_itself}
 use Rattle.qc_event.proofs.Histories.{or_none}
-use Rattle.qc_event.proofs.LastNumber.{length_last, is_child-last}
+use Rattle.qc_event.proofs.LastNumber.{length_last, is_child-last, no_child_length}
 use Rattle.qc_event.proofs.Lawful.{lawful}
-use Rattle.qc_event.proofs.LegalOrderly.{legal_orderly}
+use Rattle.qc_event.proofs.LegalOrderly.{legal_orderly, ready_top}
 use Rattle.qc_event.proofs.Lineage.{IsFresh, fresh_child, dead_child}
+use Rattle.qc_event.proofs.Later.{started_still}
 use Rattle.qc_gather.specs.Carrying.{IsRunning, HasGrown}
 use Rattle.qc_line.specs.Lined.{IsOfTransaction, IsNoAccess}
 use Rattle.qc_rw.specs.Managed.{IsAnswered, IsRefused, MayEndFor, IsShort, cause_of}
@@ -44,9 +45,9 @@ use Rattle.qc_client.specs.Entering as entering
 use Rattle.qc_client.proofs.Alone.{own_lone}
 use Rattle.qc_client.proofs.Fallen.{dead_same, no_orphan}
 use Rattle.qc_client.proofs.Made.{mine_one, mine_own, own_is}
-use Rattle.qc_client.proofs.Names.{no_child_length, begins_short}
+use Rattle.qc_client.proofs.Names.{begins_short}
 use Rattle.qc_client.proofs.OfAccesses.{OfManager, end_apart, accesses_do, all_filtered}
-use Rattle.qc_client.proofs.Standing.{ready_is_top, start_same, started_same}
+use Rattle.qc_client.proofs.Standing.{start_same}
 
 -- WHO MAY END
 
@@ -135,7 +136,7 @@ module _ (c : Client) (seated : IsTrue (is_client c.number)) (old : Past) (of : 
     enters : (how : How) → IsRunning c.number past n kd → Allowed c.setting past (by_client c (event.End n how)) → MayEnter c past (by_client c (event.End n how))
     enters how runs allowed = record {
       allowed = allowed;
-      of_transaction = ends_so IsManager kind_no_access past n how (started_same inner first n _ manager);
+      of_transaction = ends_so IsManager kind_no_access past n how (started_still inner first n _ manager);
       lone = own_lone c n how;
       no_top = refl;
       ends = inr runs.children_ended;
@@ -154,7 +155,7 @@ module _ (c : Client) (seated : IsTrue (is_client c.number)) (old : Past) (of : 
         })))
 
     unready : is_ready past n ≡ false
-    unready = false_from_ne_true (is_ready past n) (λ t. omega (arith, ready_is_top c.setting past n legal t, length_last of k, nonroot))
+    unready = false_from_ne_true (is_ready past n) (λ t. omega (arith, ready_top c.setting past n legal t, length_last of k, nonroot))
 
     pub may_abort : (why : Cause) → MayEndFor c.setting c.number past n kd why → MayEnter c past (by_client c (event.End n (Abort why)))
     may_abort why came = enters (Abort why) came.running

@@ -4,7 +4,6 @@ use mathlib.Core.Bool.{true≢false}
 use Rattle.std.specs.Prelude.{None, is_some, filter, not, IsTrue, All, cond}
 use Rattle.std.specs.List.{AllByRecursion}
 use Rattle.std.specs.Option.{option_or}
-use Rattle.std.proofs.lemmas.Bool.{and_parts}
 use Rattle.std.proofs.lemmas.List.Elements.{All-head, All-tail}
 use Rattle.qc_names.specs.Name as name
 use Rattle.qc_event.specs.Aborts.{Licensed}
@@ -24,26 +23,19 @@ use Rattle.qc_event.specs.Starts.{Stands, Starts}
 use Rattle.qc_event.specs.Users.{MayStartNext}
 use Rattle.qc_event.proofs.Absent.{if_not, told_apart}
 use Rattle.qc_event.proofs.Histories.{or_none}
-use Rattle.qc_event.proofs.LastNumber.{child_last, front_last}
+use Rattle.qc_event.proofs.LastNumber.{child_last, front_last, child_longer}
 use Rattle.qc_event.proofs.Lawful.{started_wider}
 use Rattle.qc_event.proofs.OneEntry.{start_step}
-use Rattle.qc_client.proofs.Names.{child_longer}
-use Rattle.qc_client.proofs.Standing.{not_both, no_user_below, started_same}
+use Rattle.qc_event.proofs.Later.{started_still}
+use Rattle.qc_client.proofs.Standing.{not_both, no_user_below}
 use Rattle.qc_gather.specs.Carrying.{name_of}
 use Rattle.qc_script.specs.Calls.{IsOfAccess, is_access, is_asked}
 use Rattle.qc_store.specs.Served.{is_reply, is_answer}
+use Rattle.qc_line.proofs.AnswersLeave.{reply_of_answer}
 
 -- the entry is of a child of the name, or a copy's answer
 abbrev pub OfManager : Name → Entry → Type 0
 OfManager n e = IsTrue (is_child n (name_of e.event)) ⊎ IsTrue (is_answer e)
-
--- a copy's answer is a grant or a refusal
-pub answer_replies : (e : Entry) → is_answer e ≡ true → is_reply e.event ≡ true
-answer_replies e h = (and_parts (is_reply e.event) _ h).0
-
-pub older_legal : (setting : Setting) (later past : Past) → Legal setting (later ++ past) → Legal setting past
-older_legal setting [] past legal = legal
-older_legal setting (e ∷ later) past legal = older_legal setting later past legal.0
 
 -- ENDS
 
@@ -57,7 +49,7 @@ end_in_reply m _ is = refl
 
 end_in_apart : (n m : Name) (e : Entry) → OfManager n e → is_child n m ≡ false → end_in m e.event ≡ None
 end_in_apart n m e (inl access) out = end_in_access n m e.event access out
-end_in_apart n m e (inr answer) out = end_in_reply m e.event (answer_replies e answer)
+end_in_apart n m e (inr answer) out = end_in_reply m e.event (reply_of_answer e answer)
 
 -- they end no other name
 pub end_apart : (n m : Name) (inner past : Past) → All (OfManager n) inner → is_child n m ≡ false → end (inner ++ past) m ≡ end past m
@@ -76,7 +68,7 @@ start_apart n m (e ∷ inner) past each began = elim (start_step e (inner ++ pas
   | inl old ↦ start_apart n m inner past (All-tail (OfManager n) e inner each) old
   | inr new ↦ elim (All-head (OfManager n) e inner each) [
     | inl access ↦ inr (ap (λ ev. is_child n (name_of ev)) (sym new.1.1) ∙ access)
-    | inr answer ↦ absurd (true≢false (sym (answer_replies e answer) ∙ ap is_reply new.1.1))
+    | inr answer ↦ absurd (true≢false (sym (reply_of_answer e answer) ∙ ap is_reply new.1.1))
   ]
 ]
 
@@ -133,8 +125,8 @@ pub accesses_do : (setting : Setting) (n : Name) (inner past : Past) → Legal s
 accesses_do setting n [] past legal pos manager each = tt
 accesses_do setting n (e ∷ inner) past legal pos manager each = (
   elim (All-head (OfManager n) e inner each) [
-    | inl access ↦ access_does setting (inner ++ past) n e.seat e.event legal.0 pos (started_same inner past n _ manager) access legal.1
-    | inr answer ↦ reply_does n e.event (answer_replies e answer)
+    | inl access ↦ access_does setting (inner ++ past) n e.seat e.event legal.0 pos (started_still inner past n _ manager) access legal.1
+    | inr answer ↦ reply_does n e.event (reply_of_answer e answer)
   ],
   accesses_do setting n inner past legal.0 pos manager (All-tail (OfManager n) e inner each),
 )

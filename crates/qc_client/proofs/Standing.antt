@@ -9,34 +9,27 @@ use Rattle.qc_event.specs.declared.event.Event.TheVariants as event
 use Rattle.qc_event.specs.declared.event.Kind.{Kind}
 use Rattle.qc_event.specs.declared.event.Kind.TheVariants as kind
 use Rattle.qc_event.specs.Base.{Setting}
-use Rattle.qc_event.specs.History.{Past, Name, Begun, Asked, same, start, start_in, asked, ask_in, is_ready, is_child}
+use Rattle.qc_event.specs.History.{Past, Name, Begun, Asked, same, start, start_in, asked, ask_in, is_child}
 use Rattle.qc_event.specs.Legal.{Legal, MayHappen}
 use Rattle.qc_event.specs.Standing.{IsUser, IsManager, Started}
 use Rattle.qc_event.specs.Starts.{Stands, Starts}
-use Rattle.qc_event.specs.Users.{MayReady}
 use Rattle.qc_event.proofs.Absent.{same_is}
 use Rattle.qc_event.proofs.LastNumber.{child_last}
 use Rattle.qc_event.proofs.Lawful.{lawful, user_parent, started_wider, started_some}
 use Rattle.qc_event.proofs.LegalOrderly.{legal_orderly}
 use Rattle.qc_event.proofs.Orderly.{Belongs}
-use Rattle.qc_event.proofs.OneEntry.{Starting, start_step, start_is, started_stays, ready_step}
+use Rattle.qc_event.proofs.OneEntry.{Starting, start_step, start_is, started_stays}
+use Rattle.qc_event.proofs.KindsApart.{user_or_manager}
 use Rattle.qc_script.specs.Calls.{is_access}
 
 -- KINDS
-
-kind_not_both : (k : Kind) → IsUser k → IsManager k → ⊥
-kind_not_both (kind.User session body) user manager = manager
-kind_not_both (kind.Read rec) user manager = user
-kind_not_both (kind.Write rec value) user manager = user
-kind_not_both (kind.Reconf rec config) user manager = user
-kind_not_both kind.Access user manager = user
 
 pub not_both : (past : Past) (n : Name) → Started past n (λ b. IsUser b.kind) → Started past n (λ b. IsManager b.kind) → ⊥
 not_both past n user manager = by_start (start past n) user manager
   where
     by_start : (o : Option Begun) → MatchOption o ⊥ (λ b. IsUser b.kind) → MatchOption o ⊥ (λ b. IsManager b.kind) → ⊥
     by_start None user manager = user
-    by_start (Some b) user manager = kind_not_both b.kind user manager
+    by_start (Some b) user manager = user_or_manager b.kind user manager
 
 access_not_manager : (k : Kind) → is_access k ≡ true → IsManager k → ⊥
 access_not_manager kind.Access is manager = manager
@@ -59,9 +52,6 @@ start_same [] past m began = refl
 start_same (e ∷ inner) past m began =
     let old = start_same inner past m began in
     ap (λ o. option_or o (start_in m e.seat e.event)) old ∙ some_first (start past m) (start_in m e.seat e.event) began
-
-pub started_same : (inner past : Past) (m : Name) (P : Begun → Type 0) → Started past m P → Started (inner ++ past) m P
-started_same inner past m P began = subst (λ o. MatchOption o ⊥ P) (sym (start_same inner past m (started_some P (start past m) began))) began
 
 -- BELOW MANAGERS
 
@@ -134,12 +124,3 @@ asked_seat setting (e ∷ past) n legal = by_old (asked past n) refl (asked_seat
     by_old : (o : Option Asked) → asked past n ≡ o → SaysSeat past n o → SaysSeat (e ∷ past) n (option_or o (ask_in n e.seat e.event))
     by_old None is old = by_event e.event legal.1
     by_old (Some a) is old = started_stays e past (name.front n) (λ m. m.seat ≡ a.seat) old
-
--- READY TOPS
-
-pub ready_is_top : (setting : Setting) (past : Past) (n : Name) → Legal setting past → is_ready past n ≡ true → length n ≡ 1
-ready_is_top setting [] n legal h = absurd (true≢false (sym h))
-ready_is_top setting (e ∷ past) n legal h = elim (ready_step e past n h) [
-  | inl old ↦ ready_is_top setting past n legal.0 old
-  | inr new ↦ let may : MayReady past e.seat n = subst (MayHappen setting past e.seat) new legal.1 in may.is_top
-]

@@ -20,10 +20,10 @@ use Rattle.qc_client.specs.Alone.{IsAlone}
 use Rattle.qc_client.specs.Entering.{MayEnter, IsClear, StandsBelow}
 use Rattle.qc_client.proofs.Made.{own_is}
 use Rattle.qc_line.specs.Lined.{IsNoAccess}
+use Rattle.qc_interp.proofs.Adding.{no_top}
 use Rattle.qc_script.specs.Calls.{by_client}
 use Rattle.qc_script.specs.Plan.{KindFits}
 use Rattle.qc_script.specs.Client.{Client}
-use Rattle.qc_script.specs.Numbers.{any_top}
 use Rattle.qc_copy.proofs.Begun.{user_short}
 
 -- NAMES
@@ -80,11 +80,6 @@ may_start_child setting seat past of k kd client nonroot going unready next stan
   next_child = sym (ap (λ q. q ++ (length (children past q) + 1) ∷ []) (front_last of k) ∙ ap (λ j. of ++ j ∷ []) next);
   stands = subst (λ q. Started past q (λ b. Stands setting seat b (length (of ++ k ∷ [])) kd)) (sym (front_last of k)) stands;
 })
-
-pub no_top : (n : Name) (kd : Kind) → 1 < length n → any_top (event.Start n kd) ≡ None
-no_top [] kd long = refl
-no_top (x ∷ []) kd long = absurd (omega arith)
-no_top (x ∷ y ∷ r) kd long = refl
 
 pub may_enter_child : (c : Client) (past : Past) (of : Name) (k : ℕ) (kd : Kind) → Legal c.setting past → IsAlone c past → Started past of (λ b. IsUser b.kind) → IsClear past of → length (children past of) + 1 ≡ k → StandsBelow c.setting (length of + 1) kd → MayEnter c past (by_client c (event.Start (of ++ k ∷ []) kd))
 may_enter_child c past of k kd legal alone user clear next below =

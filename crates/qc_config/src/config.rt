@@ -76,7 +76,8 @@ impl Config {
     pub fn new(votes: &[u8], read: u64, write: u64) -> Result<Self, BadConfig>
         requires { length votes.now ≤ 16 }
         ensures refused { IfErr result (λ e. config.fault votes.now read write ≡ Some e) }
-        ensures made { IfOk result (λ c. c ≡ record { votes = votes.now; read = read; write = write }) }
+        ensures made { IfOk result (λ c. c
+            ≡ record { votes = votes.now; read = read; write = write }) }
         ensures legal { IfOk result (λ c. config.IsLegal c) }
         ensures faultless { IfOk result (λ c. config.fault votes.now read write ≡ None) }
     {

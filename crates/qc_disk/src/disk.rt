@@ -63,10 +63,15 @@ pub trait Disk {
         ensures content { content self.new ≡ content self.old }
         ensures size { OnErr result (size self.new ≡ size self.old) }
         ensures crash { Within (may_leave self.old) (may_leave self.new) }
-        ensures time { Elapses (moment self.old) (moment self.new) (left_at self.old) (left_at self.new) (may_leave self.old) (may_leave self.new) }
-        ensures advances { Advances (moment self.old) (moment self.new) (IsErrOf result DiskNo.Memory) }
-        ensures cause { HasCause (faults self.old) (faults self.new) (IsErrOf result DiskNo.Failed) }
-        ensures memory { IsErrOf result DiskNo.Memory → Stays (content self.old) (content self.new) (size self.old) (size self.new) (may_leave self.old) (may_leave self.new) (faults self.old) (faults self.new) };
+        ensures time { Elapses (moment self.old) (moment self.new) (left_at self.old)
+            (left_at self.new) (may_leave self.old) (may_leave self.new) }
+        ensures advances { Advances (moment self.old) (moment self.new)
+            (IsErrOf result DiskNo.Memory) }
+        ensures cause { HasCause (faults self.old) (faults self.new)
+            (IsErrOf result DiskNo.Failed) }
+        ensures memory { IsErrOf result DiskNo.Memory
+            → Stays (content self.old) (content self.new) (size self.old) (size self.new)
+            (may_leave self.old) (may_leave self.new) (faults self.old) (faults self.new) };
 
     /// Reads the bytes from a place on, as many as the buffer takes.
     fn read(&mut self, at: u64, into: &mut [u8]) -> Result<(), DiskNo>
@@ -75,34 +80,53 @@ pub trait Disk {
         ensures content { content self.new ≡ content self.old }
         ensures size { size self.new ≡ size self.old }
         ensures crash { Within (may_leave self.old) (may_leave self.new) }
-        ensures time { Elapses (moment self.old) (moment self.new) (left_at self.old) (left_at self.new) (may_leave self.old) (may_leave self.new) }
-        ensures advances { Advances (moment self.old) (moment self.new) (IsErrOf result DiskNo.Memory) }
-        ensures cause { HasCause (faults self.old) (faults self.new) (IsErrOf result DiskNo.Failed) }
-        ensures memory { IsErrOf result DiskNo.Memory → Stays (content self.old) (content self.new) (size self.old) (size self.new) (may_leave self.old) (may_leave self.new) (faults self.old) (faults self.new) };
+        ensures time { Elapses (moment self.old) (moment self.new) (left_at self.old)
+            (left_at self.new) (may_leave self.old) (may_leave self.new) }
+        ensures advances { Advances (moment self.old) (moment self.new)
+            (IsErrOf result DiskNo.Memory) }
+        ensures cause { HasCause (faults self.old) (faults self.new)
+            (IsErrOf result DiskNo.Failed) }
+        ensures memory { IsErrOf result DiskNo.Memory
+            → Stays (content self.old) (content self.new) (size self.old) (size self.new)
+            (may_leave self.old) (may_leave self.new) (faults self.old) (faults self.new) };
 
     /// Writes over what is there, and past the end. Until a sync, a crash may leave any bytes in the range.
     fn write_at(&mut self, at: u64, bytes: &[u8]) -> Result<(), DiskNo>
         requires { at ≤ size self.old }
-        ensures written { OnOk result (content self.new ≡ option_map (written at bytes.now) (content self.old)) }
+        ensures written { OnOk result (content self.new ≡ option_map (written at bytes.now)
+            (content self.old)) }
         ensures size { OnOk result (size self.new ≡ max (size self.old) (at + length bytes.now)) }
-        ensures failed { IsErrOf result DiskNo.Failed → Steps (Torn at (length bytes.now)) (content self.old) (content self.new) }
-        ensures crash { Follows (Torn at (length bytes.now)) (may_leave self.old) (may_leave self.new) }
-        ensures time { Elapses (moment self.old) (moment self.new) (left_at self.old) (left_at self.new) (may_leave self.old) (may_leave self.new) }
-        ensures advances { Advances (moment self.old) (moment self.new) (IsErrOf result DiskNo.Memory) }
-        ensures cause { HasCause (faults self.old) (faults self.new) (IsErrOf result DiskNo.Failed) }
-        ensures memory { IsErrOf result DiskNo.Memory → Stays (content self.old) (content self.new) (size self.old) (size self.new) (may_leave self.old) (may_leave self.new) (faults self.old) (faults self.new) };
+        ensures failed { IsErrOf result DiskNo.Failed
+            → Steps (Torn at (length bytes.now)) (content self.old) (content self.new) }
+        ensures crash { Follows (Torn at (length bytes.now)) (may_leave self.old)
+            (may_leave self.new) }
+        ensures time { Elapses (moment self.old) (moment self.new) (left_at self.old)
+            (left_at self.new) (may_leave self.old) (may_leave self.new) }
+        ensures advances { Advances (moment self.old) (moment self.new)
+            (IsErrOf result DiskNo.Memory) }
+        ensures cause { HasCause (faults self.old) (faults self.new)
+            (IsErrOf result DiskNo.Failed) }
+        ensures memory { IsErrOf result DiskNo.Memory
+            → Stays (content self.old) (content self.new) (size self.old) (size self.new)
+            (may_leave self.old) (may_leave self.new) (faults self.old) (faults self.new) };
 
     /// Drops the bytes behind a length. Until a sync, a crash may leave any bytes behind it, or none.
     fn cut(&mut self, to: u64) -> Result<(), DiskNo>
         requires { to ≤ size self.old }
         ensures cut { OnOk result (content self.new ≡ option_map (take to) (content self.old)) }
         ensures size { OnOk result (size self.new ≡ to) }
-        ensures failed { IsErrOf result DiskNo.Failed → Steps (Cut to) (content self.old) (content self.new) }
+        ensures failed { IsErrOf result DiskNo.Failed
+            → Steps (Cut to) (content self.old) (content self.new) }
         ensures crash { Follows (Cut to) (may_leave self.old) (may_leave self.new) }
-        ensures time { Elapses (moment self.old) (moment self.new) (left_at self.old) (left_at self.new) (may_leave self.old) (may_leave self.new) }
-        ensures advances { Advances (moment self.old) (moment self.new) (IsErrOf result DiskNo.Memory) }
-        ensures cause { HasCause (faults self.old) (faults self.new) (IsErrOf result DiskNo.Failed) }
-        ensures memory { IsErrOf result DiskNo.Memory → Stays (content self.old) (content self.new) (size self.old) (size self.new) (may_leave self.old) (may_leave self.new) (faults self.old) (faults self.new) };
+        ensures time { Elapses (moment self.old) (moment self.new) (left_at self.old)
+            (left_at self.new) (may_leave self.old) (may_leave self.new) }
+        ensures advances { Advances (moment self.old) (moment self.new)
+            (IsErrOf result DiskNo.Memory) }
+        ensures cause { HasCause (faults self.old) (faults self.new)
+            (IsErrOf result DiskNo.Failed) }
+        ensures memory { IsErrOf result DiskNo.Memory
+            → Stays (content self.old) (content self.new) (size self.old) (size self.new)
+            (may_leave self.old) (may_leave self.new) (faults self.old) (faults self.new) };
 
     /// After it, a crash leaves what a read returns.
     fn sync(&mut self) -> Result<(), DiskNo>
@@ -111,10 +135,15 @@ pub trait Disk {
         ensures content { content self.new ≡ content self.old }
         ensures size { size self.new ≡ size self.old }
         ensures crash { Within (may_leave self.old) (may_leave self.new) }
-        ensures time { Elapses (moment self.old) (moment self.new) (left_at self.old) (left_at self.new) (may_leave self.old) (may_leave self.new) }
-        ensures advances { Advances (moment self.old) (moment self.new) (IsErrOf result DiskNo.Memory) }
-        ensures cause { HasCause (faults self.old) (faults self.new) (IsErrOf result DiskNo.Failed) }
-        ensures memory { IsErrOf result DiskNo.Memory → Stays (content self.old) (content self.new) (size self.old) (size self.new) (may_leave self.old) (may_leave self.new) (faults self.old) (faults self.new) };
+        ensures time { Elapses (moment self.old) (moment self.new) (left_at self.old)
+            (left_at self.new) (may_leave self.old) (may_leave self.new) }
+        ensures advances { Advances (moment self.old) (moment self.new)
+            (IsErrOf result DiskNo.Memory) }
+        ensures cause { HasCause (faults self.old) (faults self.new)
+            (IsErrOf result DiskNo.Failed) }
+        ensures memory { IsErrOf result DiskNo.Memory
+            → Stays (content self.old) (content self.new) (size self.old) (size self.new)
+            (may_leave self.old) (may_leave self.new) (faults self.old) (faults self.new) };
 
     /// A disk as it reads is one of its images.
     ghost reads_as_image: { (disk : Self) → IsImage (content disk) (may_leave disk) };

@@ -55,7 +55,8 @@ impl MemDisk {
     /// synced last.
     pub fn image_at(&self, alloc: Global, call: u64, done: bool) -> Result<Vec<u8>, AllocError>
         requires { call ≤ length (mem_acts self.now) + 1 }
-        ensures image { IfOk result (λ bytes. bytes.items ≡ image_after (mem_first self.now) (take (call - 1) (mem_acts self.now)) done) }
+        ensures image { IfOk result (λ bytes. bytes.items ≡ image_after (mem_first self.now)
+            (take (call - 1) (mem_acts self.now)) done) }
         ensures left { IfOk result (λ bytes. mem_at self.now (call - 1) bytes.items) }
     {
         self.tape
@@ -71,10 +72,16 @@ impl MemDisk {
 
     // Makes a call whose work is a deed.
     fn turn(&mut self, deed: Deed) -> Result<(), DiskNo>
-        ensures time { Elapses (length (mem_acts self.old)) (length (mem_acts self.new)) (mem_at self.old) (mem_at self.new) (mem_images self.old) (mem_images self.new) }
-        ensures advances { Advances (length (mem_acts self.old)) (length (mem_acts self.new)) (IsErrOf result DiskNo.Memory) }
-        ensures cause { HasCause (mem_faults self.old) (mem_faults self.new) (IsErrOf result DiskNo.Failed) }
-        ensures memory { IsErrOf result DiskNo.Memory → Stays (Some (mem_bytes self.old)) (Some (mem_bytes self.new)) (length (mem_bytes self.old)) (length (mem_bytes self.new)) (mem_images self.old) (mem_images self.new) (mem_faults self.old) (mem_faults self.new) }
+        ensures time { Elapses (length (mem_acts self.old)) (length (mem_acts self.new))
+            (mem_at self.old) (mem_at self.new) (mem_images self.old) (mem_images self.new) }
+        ensures advances { Advances (length (mem_acts self.old)) (length (mem_acts self.new))
+            (IsErrOf result DiskNo.Memory) }
+        ensures cause { HasCause (mem_faults self.old) (mem_faults self.new)
+            (IsErrOf result DiskNo.Failed) }
+        ensures memory { IsErrOf result DiskNo.Memory
+            → Stays (Some (mem_bytes self.old)) (Some (mem_bytes self.new))
+            (length (mem_bytes self.old)) (length (mem_bytes self.new)) (mem_images self.old)
+            (mem_images self.new) (mem_faults self.old) (mem_faults self.new) }
         ensures turned { Turned self.old self.new (act_of deed) result }
     {
         let fault = self.next_fault();
@@ -124,10 +131,16 @@ impl Disk for MemDisk {
         ensures content { Some (mem_bytes self.new) ≡ Some (mem_bytes self.old) }
         ensures size { OnErr result (length (mem_bytes self.new) ≡ length (mem_bytes self.old)) }
         ensures crash { Within (mem_images self.old) (mem_images self.new) }
-        ensures time { Elapses (length (mem_acts self.old)) (length (mem_acts self.new)) (mem_at self.old) (mem_at self.new) (mem_images self.old) (mem_images self.new) }
-        ensures advances { Advances (length (mem_acts self.old)) (length (mem_acts self.new)) (IsErrOf result DiskNo.Memory) }
-        ensures cause { HasCause (mem_faults self.old) (mem_faults self.new) (IsErrOf result DiskNo.Failed) }
-        ensures memory { IsErrOf result DiskNo.Memory → Stays (Some (mem_bytes self.old)) (Some (mem_bytes self.new)) (length (mem_bytes self.old)) (length (mem_bytes self.new)) (mem_images self.old) (mem_images self.new) (mem_faults self.old) (mem_faults self.new) }
+        ensures time { Elapses (length (mem_acts self.old)) (length (mem_acts self.new))
+            (mem_at self.old) (mem_at self.new) (mem_images self.old) (mem_images self.new) }
+        ensures advances { Advances (length (mem_acts self.old)) (length (mem_acts self.new))
+            (IsErrOf result DiskNo.Memory) }
+        ensures cause { HasCause (mem_faults self.old) (mem_faults self.new)
+            (IsErrOf result DiskNo.Failed) }
+        ensures memory { IsErrOf result DiskNo.Memory
+            → Stays (Some (mem_bytes self.old)) (Some (mem_bytes self.new))
+            (length (mem_bytes self.old)) (length (mem_bytes self.new)) (mem_images self.old)
+            (mem_images self.new) (mem_faults self.old) (mem_faults self.new) }
         ensures turned { Turned self.old self.new nothing result }
     {
         self.turn(Deed::Nothing)?;
@@ -140,10 +153,16 @@ impl Disk for MemDisk {
         ensures content { Some (mem_bytes self.new) ≡ Some (mem_bytes self.old) }
         ensures size { length (mem_bytes self.new) ≡ length (mem_bytes self.old) }
         ensures crash { Within (mem_images self.old) (mem_images self.new) }
-        ensures time { Elapses (length (mem_acts self.old)) (length (mem_acts self.new)) (mem_at self.old) (mem_at self.new) (mem_images self.old) (mem_images self.new) }
-        ensures advances { Advances (length (mem_acts self.old)) (length (mem_acts self.new)) (IsErrOf result DiskNo.Memory) }
-        ensures cause { HasCause (mem_faults self.old) (mem_faults self.new) (IsErrOf result DiskNo.Failed) }
-        ensures memory { IsErrOf result DiskNo.Memory → Stays (Some (mem_bytes self.old)) (Some (mem_bytes self.new)) (length (mem_bytes self.old)) (length (mem_bytes self.new)) (mem_images self.old) (mem_images self.new) (mem_faults self.old) (mem_faults self.new) }
+        ensures time { Elapses (length (mem_acts self.old)) (length (mem_acts self.new))
+            (mem_at self.old) (mem_at self.new) (mem_images self.old) (mem_images self.new) }
+        ensures advances { Advances (length (mem_acts self.old)) (length (mem_acts self.new))
+            (IsErrOf result DiskNo.Memory) }
+        ensures cause { HasCause (mem_faults self.old) (mem_faults self.new)
+            (IsErrOf result DiskNo.Failed) }
+        ensures memory { IsErrOf result DiskNo.Memory
+            → Stays (Some (mem_bytes self.old)) (Some (mem_bytes self.new))
+            (length (mem_bytes self.old)) (length (mem_bytes self.new)) (mem_images self.old)
+            (mem_images self.new) (mem_faults self.old) (mem_faults self.new) }
         ensures turned { Turned self.old self.new nothing result }
     {
         self.turn(Deed::Nothing)?;
@@ -154,14 +173,25 @@ impl Disk for MemDisk {
 
     fn write_at(&mut self, at: u64, bytes: &[u8]) -> Result<(), DiskNo>
         requires { at ≤ length (mem_bytes self.old) }
-        ensures written { OnOk result (Some (mem_bytes self.new) ≡ option_map (written at bytes.now) (Some (mem_bytes self.old))) }
-        ensures size { OnOk result (length (mem_bytes self.new) ≡ max (length (mem_bytes self.old)) (at + length bytes.now)) }
-        ensures failed { IsErrOf result DiskNo.Failed → Steps (Torn at (length bytes.now)) (Some (mem_bytes self.old)) (Some (mem_bytes self.new)) }
-        ensures crash { Follows (Torn at (length bytes.now)) (mem_images self.old) (mem_images self.new) }
-        ensures time { Elapses (length (mem_acts self.old)) (length (mem_acts self.new)) (mem_at self.old) (mem_at self.new) (mem_images self.old) (mem_images self.new) }
-        ensures advances { Advances (length (mem_acts self.old)) (length (mem_acts self.new)) (IsErrOf result DiskNo.Memory) }
-        ensures cause { HasCause (mem_faults self.old) (mem_faults self.new) (IsErrOf result DiskNo.Failed) }
-        ensures memory { IsErrOf result DiskNo.Memory → Stays (Some (mem_bytes self.old)) (Some (mem_bytes self.new)) (length (mem_bytes self.old)) (length (mem_bytes self.new)) (mem_images self.old) (mem_images self.new) (mem_faults self.old) (mem_faults self.new) }
+        ensures written { OnOk result (Some (mem_bytes self.new) ≡ option_map (written at bytes.now)
+            (Some (mem_bytes self.old))) }
+        ensures size { OnOk result (length (mem_bytes self.new) ≡ max (length (mem_bytes self.old))
+            (at + length bytes.now)) }
+        ensures failed { IsErrOf result DiskNo.Failed
+            → Steps (Torn at (length bytes.now)) (Some (mem_bytes self.old))
+            (Some (mem_bytes self.new)) }
+        ensures crash { Follows (Torn at (length bytes.now)) (mem_images self.old)
+            (mem_images self.new) }
+        ensures time { Elapses (length (mem_acts self.old)) (length (mem_acts self.new))
+            (mem_at self.old) (mem_at self.new) (mem_images self.old) (mem_images self.new) }
+        ensures advances { Advances (length (mem_acts self.old)) (length (mem_acts self.new))
+            (IsErrOf result DiskNo.Memory) }
+        ensures cause { HasCause (mem_faults self.old) (mem_faults self.new)
+            (IsErrOf result DiskNo.Failed) }
+        ensures memory { IsErrOf result DiskNo.Memory
+            → Stays (Some (mem_bytes self.old)) (Some (mem_bytes self.new))
+            (length (mem_bytes self.old)) (length (mem_bytes self.new)) (mem_images self.old)
+            (mem_images self.new) (mem_faults self.old) (mem_faults self.new) }
         ensures turned { Turned self.old self.new (wrote at bytes.now) result }
     {
         let bytes = bytes.to_vec(self.tape.allocator())?;
@@ -173,14 +203,22 @@ impl Disk for MemDisk {
 
     fn cut(&mut self, to: u64) -> Result<(), DiskNo>
         requires { to ≤ length (mem_bytes self.old) }
-        ensures cut { OnOk result (Some (mem_bytes self.new) ≡ option_map (take to) (Some (mem_bytes self.old))) }
+        ensures cut { OnOk result (Some (mem_bytes self.new) ≡ option_map (take to)
+            (Some (mem_bytes self.old))) }
         ensures size { OnOk result (length (mem_bytes self.new) ≡ to) }
-        ensures failed { IsErrOf result DiskNo.Failed → Steps (Cut to) (Some (mem_bytes self.old)) (Some (mem_bytes self.new)) }
+        ensures failed { IsErrOf result DiskNo.Failed
+            → Steps (Cut to) (Some (mem_bytes self.old)) (Some (mem_bytes self.new)) }
         ensures crash { Follows (Cut to) (mem_images self.old) (mem_images self.new) }
-        ensures time { Elapses (length (mem_acts self.old)) (length (mem_acts self.new)) (mem_at self.old) (mem_at self.new) (mem_images self.old) (mem_images self.new) }
-        ensures advances { Advances (length (mem_acts self.old)) (length (mem_acts self.new)) (IsErrOf result DiskNo.Memory) }
-        ensures cause { HasCause (mem_faults self.old) (mem_faults self.new) (IsErrOf result DiskNo.Failed) }
-        ensures memory { IsErrOf result DiskNo.Memory → Stays (Some (mem_bytes self.old)) (Some (mem_bytes self.new)) (length (mem_bytes self.old)) (length (mem_bytes self.new)) (mem_images self.old) (mem_images self.new) (mem_faults self.old) (mem_faults self.new) }
+        ensures time { Elapses (length (mem_acts self.old)) (length (mem_acts self.new))
+            (mem_at self.old) (mem_at self.new) (mem_images self.old) (mem_images self.new) }
+        ensures advances { Advances (length (mem_acts self.old)) (length (mem_acts self.new))
+            (IsErrOf result DiskNo.Memory) }
+        ensures cause { HasCause (mem_faults self.old) (mem_faults self.new)
+            (IsErrOf result DiskNo.Failed) }
+        ensures memory { IsErrOf result DiskNo.Memory
+            → Stays (Some (mem_bytes self.old)) (Some (mem_bytes self.new))
+            (length (mem_bytes self.old)) (length (mem_bytes self.new)) (mem_images self.old)
+            (mem_images self.new) (mem_faults self.old) (mem_faults self.new) }
         ensures turned { Turned self.old self.new (cut_to to) result }
     {
         self.turn(Deed::Cut(to as usize))
@@ -192,10 +230,16 @@ impl Disk for MemDisk {
         ensures content { Some (mem_bytes self.new) ≡ Some (mem_bytes self.old) }
         ensures size { length (mem_bytes self.new) ≡ length (mem_bytes self.old) }
         ensures crash { Within (mem_images self.old) (mem_images self.new) }
-        ensures time { Elapses (length (mem_acts self.old)) (length (mem_acts self.new)) (mem_at self.old) (mem_at self.new) (mem_images self.old) (mem_images self.new) }
-        ensures advances { Advances (length (mem_acts self.old)) (length (mem_acts self.new)) (IsErrOf result DiskNo.Memory) }
-        ensures cause { HasCause (mem_faults self.old) (mem_faults self.new) (IsErrOf result DiskNo.Failed) }
-        ensures memory { IsErrOf result DiskNo.Memory → Stays (Some (mem_bytes self.old)) (Some (mem_bytes self.new)) (length (mem_bytes self.old)) (length (mem_bytes self.new)) (mem_images self.old) (mem_images self.new) (mem_faults self.old) (mem_faults self.new) }
+        ensures time { Elapses (length (mem_acts self.old)) (length (mem_acts self.new))
+            (mem_at self.old) (mem_at self.new) (mem_images self.old) (mem_images self.new) }
+        ensures advances { Advances (length (mem_acts self.old)) (length (mem_acts self.new))
+            (IsErrOf result DiskNo.Memory) }
+        ensures cause { HasCause (mem_faults self.old) (mem_faults self.new)
+            (IsErrOf result DiskNo.Failed) }
+        ensures memory { IsErrOf result DiskNo.Memory
+            → Stays (Some (mem_bytes self.old)) (Some (mem_bytes self.new))
+            (length (mem_bytes self.old)) (length (mem_bytes self.new)) (mem_images self.old)
+            (mem_images self.new) (mem_faults self.old) (mem_faults self.new) }
         ensures turned { Turned self.old self.new synced result }
     {
         self.turn(Deed::Synced)

@@ -80,7 +80,8 @@ fn changed(alloc: Global, old: &[u8], deed: &Deed) -> Result<Option<Vec<u8>>, Al
 
 // The bytes at the last sync and after all deeds.
 fn replay(alloc: Global, first: &[u8], deeds: &[Deed]) -> Result<(Vec<u8>, Vec<u8>), AllocError>
-    ensures synced { IfOk result (λ both. both.0.items ≡ last_synced first.now first.now (map act_of deeds.now)) }
+    ensures synced { IfOk result (λ both. both.0.items ≡ last_synced first.now first.now
+        (map act_of deeds.now)) }
     ensures now { IfOk result (λ both. both.1.items ≡ replayed first.now (map act_of deeds.now)) }
 {
     let mut synced = first.to_vec(alloc)?;
@@ -153,7 +154,8 @@ impl Tape {
         done: bool,
     ) -> Result<Vec<u8>, AllocError>
         requires { count ≤ length (tape_acts self.now) }
-        ensures { IfOk result (λ bytes. bytes.items ≡ image_after (tape_first self.now) (take count (tape_acts self.now)) done) }
+        ensures { IfOk result (λ bytes. bytes.items ≡ image_after (tape_first self.now)
+            (take count (tape_acts self.now)) done) }
     {
         let (synced, bytes) = replay(alloc, &self.first, &self.calls[..count])?;
         Ok(if done { bytes } else { synced })

@@ -21,8 +21,12 @@ pub trait Shop {
 
     /// Gives a disk. The others are as before, and so is each where it fails.
     fn obtain(&mut self, alloc: Global, place: &str, which: u8) -> Result<Self::D, DiskNo>
-        ensures given { IfOk result (λ disk. Tells (offers self.old place.now which) (Self.D.content disk)) }
-        ensures others { (p : List ℕ) (n : ℕ) → n ≢ which → offers self.new p n ≡ offers self.old p n }
-        ensures kept { OnErr result ((p : List ℕ) (n : ℕ) → offers self.new p n ≡ offers self.old p n) }
-        ensures cause { HasCause (faults self.old) (faults self.new) (IsErrOf result DiskNo.Failed) };
+        ensures given { IfOk result (λ disk. Tells (offers self.old place.now which)
+            (Self.D.content disk)) }
+        ensures others { (p : List ℕ) (n : ℕ) → n ≢ which
+            → offers self.new p n ≡ offers self.old p n }
+        ensures kept { OnErr result ((p : List ℕ) (n : ℕ) → offers self.new p n ≡ offers
+            self.old p n) }
+        ensures cause { HasCause (faults self.old) (faults self.new)
+            (IsErrOf result DiskNo.Failed) };
 }

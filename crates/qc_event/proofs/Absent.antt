@@ -1,5 +1,5 @@
 -- A name of which no entry of a history speaks has no start, no end and no children there.
-use Rattle.std.proofs.Common.{◌≡◌, ℕ, Bool, true, false, List, [], ◌∷◌, ◌++◌, refl, sym, ap, ◌∙◌}
+use Rattle.std.proofs.Common.{◌≡◌, ℕ, Bool, true, false, List, [], ◌∷◌, ◌++◌, length, refl, sym, ap, ◌∙◌}
 use mathlib.Core.Bool.{true≢false}
 use Rattle.std.specs.Prelude.{Option, None, Some, is_some, if◌then◌else◌, option_to_list, find}
 use Rattle.std.specs.Option.{option_or}
@@ -36,6 +36,10 @@ not_true false h = refl
 -- names that a test tells apart are not the same
 pub told_apart : (test : Name → Bool) (m n : Name) → test m ≡ true → test n ≡ false → same m n ≡ false
 told_apart test m n here out = not_true (same m n) (λ h. true≢false (sym here ∙ ap test (same_is m n h) ∙ out))
+
+-- names of different lengths are not the same
+pub other_length : (m n : Name) → (length m ≡ length n → ⊥) → same m n ≡ false
+other_length m n differ = not_true (same m n) (λ h. differ (ap length (same_is m n h)))
 
 pub both_none : {Y : Type 0} (a b : Option Y) → a ≡ None → b ≡ None → option_or a b ≡ None
 both_none a b p q = ap (λ o. option_or o b) p ∙ q

@@ -1,7 +1,7 @@
 -- What a name is by its parent and its last number.
-use Rattle.std.proofs.Common.{◌≡◌, ℕ, ◌+◌, ◌-◌, ◌⊎◌, inl, inr, true, [], ◌∷◌, ◌++◌, length, take, refl, sym, ap, ◌∙◌, arith, append_assoc, append-nil, subst}
+use Rattle.std.proofs.Common.{◌≡◌, ℕ, ◌+◌, ◌-◌, ◌⊎◌, inl, inr, true, false, [], ◌∷◌, ◌++◌, length, take, refl, sym, ap, ◌∙◌, arith, append_assoc, append-nil, subst}
 use Rattle.std.specs.Prelude.{◌==◌, map}
-use Rattle.std.proofs.lemmas.Bool.{eqb-true, eq-eqb, and_parts, and_from}
+use Rattle.std.proofs.lemmas.Bool.{eqb-true, eq-eqb, and_parts, and_from, false_from_ne_true}
 use Rattle.std.proofs.lemmas.List.{length-append, map-append}
 use Rattle.std.proofs.Math.Seq.{take-append_seam}
 use Rattle.qc_names.specs.Name as name
@@ -96,3 +96,21 @@ by_last P root next n = onward [] n root
 pub same_rest : (a r s : Name) → a ++ r ≡ a ++ s → r ≡ s
 same_rest [] r s is = is
 same_rest (x ∷ a) r s is = let tails : a ++ r ≡ a ++ s = cc in same_rest a r s tails
+
+-- BELOW A NAME
+
+pub child_longer : (p c : Name) → is_child p c ≡ true → length c ≡ length p + 1
+child_longer p c h = let is = child_last p c h in ap length is.1 ∙ length_last p is.0
+
+pub no_child_length : (p c : Name) → (length c ≡ length p + 1 → ⊥) → is_child p c ≡ false
+no_child_length p c differ = false_from_ne_true (is_child p c) (λ h. differ (child_longer p c h))
+
+-- the front of a child is its parent
+pub child_front : (p c : Name) → is_child p c ≡ true → name.front c ≡ p
+child_front p c h = let is = child_last p c h in ap name.front is.1 ∙ front_last p is.0
+
+-- an ancestor of a name is one of all below the name
+pub below_more : (a n r : Name) → name.is_ancestor a n ≡ true → name.is_ancestor a (n ++ r) ≡ true
+below_more a n r h =
+    let rest = rest_of a n h in
+    ap (λ m. name.is_ancestor a (m ++ r)) rest.1 ∙ ap (name.is_ancestor a) (append_assoc a rest.0 r) ∙ is_ancestor-append a (rest.0 ++ r)

@@ -1,5 +1,5 @@
 -- What every orderly history keeps about its tree of names: who stands under whom, and what has ended.
-use Rattle.std.proofs.Common.{◌≡◌, ℕ, ◌+◌, ◌<◌, ◌≤◌, ◌⊎◌, inl, inr, Bool, true, false, [], ◌∷◌, ◌++◌, length, refl, sym, ap, ◌∙◌, subst, arith}
+use Rattle.std.proofs.Common.{◌≡◌, ℕ, ◌+◌, ◌<◌, ◌≤◌, ◌⊎◌, inl, inr, true, [], ◌∷◌, ◌++◌, length, refl, sym, ap, ◌∙◌, subst, arith}
 use mathlib.Core.Bool.{true≢false}
 use Rattle.std.specs.Prelude.{Option, None, Some, is_some, is_none, MatchOption, IsTrue, not}
 use Rattle.std.proofs.lemmas.List.{length-append}
@@ -15,8 +15,9 @@ use Rattle.qc_event.specs.History.{Past, Name, Begun, start, end, is_ready, IsOp
 use Rattle.qc_event.specs.Dead.{outcome, outcome_of, is_committed}
 use Rattle.qc_event.specs.Standing.{IsUser, Started, open_child, IsGoing}
 use Rattle.qc_event.proofs.Orderly.{Belongs, IsNextChild, Begins, Commits, BecomesReady, KeepsOrder, Orderly}
+use Rattle.qc_event.proofs.Booleans.{not_both}
 use Rattle.qc_event.proofs.LastNumber.{length_last, front_last, same_last, is_child-last}
-use Rattle.qc_event.proofs.OneEntry.{Starting, Ending, some_or_none, not_some, unless_some, start_or_end, start_is, start_step, start_stays, started_stays, end_step, end_stays, ready_step, child_added, children_longer, no_child_passes}
+use Rattle.qc_event.proofs.OneEntry.{Starting, Ending, some_or_none, not_some, unless_some, start_or_end, start_is, start_step, start_stays, started_stays, end_step, end_stays, ready_step, some_if_not_none, child_added, children_longer, no_child_passes}
 
 pub record Lawful (past : Past) : Type 0 where
   pub no_root_start : start past [] ≡ None
@@ -50,10 +51,6 @@ pub record ChildStart (past : Past) (p : Name) (j : ℕ) (k : Kind) : Type 0 whe
   pub next : j ≡ length (children past p) + 1
   pub belongs : Started past p (λ b. Belongs b k)
 
-not_both : (b : Bool) → IsTrue (not b) → b ≡ true → ⊥
-not_both true h t = true≢false (sym h)
-not_both false h t = true≢false (sym t)
-
 pub child_starts : (past : Past) (e : Entry) (p : Name) (j : ℕ) → 0 < length p → (starting : Starting (p ++ j ∷ []) e.event) → KeepsOrder past e.event → ChildStart past p j starting.0
 child_starts past e p j pos starting keeps =
     let may : IsNextChild past (p ++ j ∷ []) starting.0 = below_top past (p ++ j ∷ []) starting.0 (omega (arith, length_last p j)) (subst (KeepsOrder past) starting.1 keeps) in
@@ -83,11 +80,7 @@ committed_is (Some (Abort c)) h = absurd (true≢false (sym h))
 
 -- where no child is open, each that was started has ended
 pub no_open_child : (past : Past) (p : Name) (j : ℕ) → open_child past p ≡ None → is_some (start past (p ++ j ∷ [])) ≡ true → is_some (end past (p ++ j ∷ [])) ≡ true
-no_open_child past p j none h = ended (end past (p ++ j ∷ [])) (no_child_passes (λ c. is_none (end past c)) past p (p ++ j ∷ []) (is_child-last p j) h none)
-  where
-    ended : (o : Option How) → is_none o ≡ false → is_some o ≡ true
-    ended None h = absurd (true≢false h)
-    ended (Some how) h = refl
+no_open_child past p j none h = some_if_not_none (end past (p ++ j ∷ [])) (no_child_passes (λ c. is_none (end past c)) past p (p ++ j ∷ []) (is_child-last p j) h none)
 
 pub some_how : (o : Option How) → is_some o ≡ true → (how : How) × (o ≡ Some how)
 some_how None h = absurd (true≢false (sym h))

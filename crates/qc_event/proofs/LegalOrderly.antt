@@ -1,5 +1,6 @@
 -- Legal histories are orderly.
 use Rattle.std.proofs.Common.{◌≡◌, ℕ, ◌<◌, inl, inr, true, [], ◌∷◌, ◌++◌, length, refl, sym, ap, ◌∙◌, subst, arith}
+use mathlib.Core.Bool.{true≢false}
 use Rattle.std.specs.Prelude.{Option, None, Some, is_some, is_none, find, MatchOption}
 use Rattle.qc_names.specs.Name as name
 use Rattle.qc_event.specs.Base.{Setting}
@@ -10,7 +11,7 @@ use Rattle.qc_event.specs.declared.event.How.{How}
 use Rattle.qc_event.specs.declared.event.How.TheVariants.{Commit, Abort}
 use Rattle.qc_event.specs.declared.event.Kind.{Kind}
 use Rattle.qc_event.specs.declared.event.Kind.TheVariants as kind
-use Rattle.qc_event.specs.History.{Past, Name, Begun, start, end}
+use Rattle.qc_event.specs.History.{Past, Name, Begun, start, end, is_ready}
 use Rattle.qc_event.specs.Standing.{IsUser, IsManager, Started, open_child, IsGoing}
 use Rattle.qc_event.specs.Users.{MayStartTop, MayStartNext, MayReady, MayCommitUserOrTop}
 use Rattle.qc_event.specs.Starts.{Stands}
@@ -20,7 +21,7 @@ use Rattle.qc_event.specs.Legal as legal
 use Rattle.qc_event.specs.Legal.{Legal}
 use Rattle.qc_event.proofs.Orderly.{Belongs, IsNewTop, IsNextChild, Begins, BecomesReady, Commits, Ends, KeepsOrder, Orderly}
 use Rattle.qc_event.proofs.LastNumber.{child_last}
-use Rattle.qc_event.proofs.OneEntry.{not_some, some_or_none, childless}
+use Rattle.qc_event.proofs.OneEntry.{not_some, some_or_none, ready_step, childless}
 use Rattle.qc_event.proofs.Lawful.{Lawful, lawful, started_some, started_wider}
 
 new_top : (past : Past) (seat number : ℕ) (k : Kind) → MayStartTop past seat number k → IsNewTop past number k
@@ -109,3 +110,11 @@ legal_orderly setting [] h = tt
 legal_orderly setting (e ∷ past) h =
     let before = legal_orderly setting past h.0 in
     (before, keeps setting past e.seat e.event (lawful past before) h.1)
+
+-- only tops are ready
+pub ready_top : (setting : Setting) (past : Past) (n : Name) → Legal setting past → is_ready past n ≡ true → length n ≡ 1
+ready_top setting [] n h ready = absurd (true≢false (sym ready))
+ready_top setting (e ∷ past) n h ready = elim (ready_step e past n ready) [
+  | inl old ↦ ready_top setting past n h.0 old
+  | inr is ↦ (subst (KeepsOrder past) is (legal_orderly setting (e ∷ past) h).1).is_top
+]

@@ -1,9 +1,12 @@
+pub mod Booleans
+pub mod KindsApart
 pub mod Histories
 pub mod Granted
 pub mod Ancestors
 pub mod Absent
 pub mod LastNumber
 pub mod OneEntry
+pub mod Later
 pub mod Orderly
 pub mod Lawful
 pub mod LegalOrderly

@@ -10,7 +10,7 @@ use Rattle.qc_event.specs.declared.event.How.TheVariants.{Commit, Abort}
 use Rattle.qc_event.specs.History.{Past, Name, IsOpen, start, end, children}
 use Rattle.qc_event.specs.Dead.{outcome, outcome_of, is_aborted, is_committed, ancestors, dead}
 use Rattle.qc_event.proofs.LastNumber.{EndsIn, ends_in, length_last, child_last, ancestors-last, append_next}
-use Rattle.qc_event.proofs.OneEntry.{not_some, some_or_none, childless}
+use Rattle.qc_event.proofs.OneEntry.{not_some, some_or_none, none_before, childless}
 use Rattle.qc_event.specs.Standing.{IsUser, Started}
 use Rattle.qc_event.proofs.Lawful.{Lawful, parent_started, user_parent}
 
@@ -64,11 +64,7 @@ dead_last past p j = ap (find (λ a. is_aborted (outcome past a))) (ancestors-la
 
 -- who lives has a living parent, and is not aborted
 pub dead_parent : (past : Past) (p : Name) (j : ℕ) → dead past (p ++ j ∷ []) ≡ None → dead past p ≡ None
-dead_parent past p j alive = before (dead past p) _ (sym (dead_last past p j) ∙ alive)
-  where
-    before : (a b : Option Name) → option_or a b ≡ None → a ≡ None
-    before None b h = refl
-    before (Some x) b h = h
+dead_parent past p j alive = (none_before (dead past p) _ (sym (dead_last past p j) ∙ alive)).0
 
 none_if : (b : Bool) (n : Name) → (if b then Some n else None) ≡ None → b ≡ false
 none_if true n h = absurd cc

@@ -1,7 +1,7 @@
 -- What one entry more changes in a history: what stood still stands, and what is new the entry says.
 use Rattle.std.proofs.Common.{◌≡◌, ℕ, ◌≤◌, arith, ◌⊎◌, inl, inr, Bool, true, false, List, [], ◌∷◌, ◌++◌, length, refl, sym, ap, ◌∙◌}
 use mathlib.Core.Bool.{true≢false}
-use Rattle.std.specs.Prelude.{Option, None, Some, is_some, MatchOption, if◌then◌else◌, option_to_list, find}
+use Rattle.std.specs.Prelude.{Option, None, Some, is_some, is_none, MatchOption, if◌then◌else◌, option_to_list, find}
 use Rattle.std.specs.Option.{option_or}
 use Rattle.std.proofs.lemmas.List.{length-append}
 use Rattle.std.proofs.lemmas.List.Folds.{find-append}
@@ -54,6 +54,26 @@ unless_some (Some y) h = absurd (h y refl)
 pub some_or_none : {Y : Type 0} (o : Option Y) → is_some o ≡ true → o ≡ None → ⊥
 some_or_none o h none = true≢false (sym h ∙ ap is_some none)
 
+pub no_some : {Y : Type 0} (o : Option Y) → is_some o ≡ false → o ≡ None
+no_some None h = refl
+no_some (Some y) h = absurd (true≢false h)
+
+pub some_not_none : {Y : Type 0} (o : Option Y) → is_some o ≡ true → is_none o ≡ false
+some_not_none None h = absurd (true≢false (sym h))
+some_not_none (Some y) h = refl
+
+pub some_if_not_none : {Y : Type 0} (o : Option Y) → is_none o ≡ false → is_some o ≡ true
+some_if_not_none None h = absurd (true≢false h)
+some_if_not_none (Some y) h = refl
+
+pub none_before : {Y : Type 0} (old new : Option Y) → option_or old new ≡ None → (old ≡ None) × (new ≡ None)
+none_before None new h = (refl, h)
+none_before (Some y) new h = absurd cc
+
+pub at_most_one : {Y : Type 0} (o : Option Y) → length (option_to_list o) ≤ 1
+at_most_one None = omega arith
+at_most_one (Some y) = omega arith
+
 -- STARTS
 
 pub starting : (n : Name) (seat : ℕ) (ev : Event) → is_some (start_in n seat ev) ≡ true → Starting n ev
@@ -72,7 +92,7 @@ start_stays e past n h = stays_some (start past n) (start_in n e.seat e.event) h
 starts_some : (n : Name) (seat : ℕ) (ev : Event) → Starting n ev → is_some (start_in n seat ev) ≡ true
 starts_some n seat ev (k, is) = ap (λ x. is_some (start_in n seat x)) is ∙ ap (λ (b : Bool). is_some {T = Begun} (if b then Some (record { seat = seat; kind = k }) else None)) (same_itself n)
 
-here_some : {Y : Type 0} (o new : Option Y) → is_some new ≡ true → is_some (option_or o new) ≡ true
+pub here_some : {Y : Type 0} (o new : Option Y) → is_some new ≡ true → is_some (option_or o new) ≡ true
 here_some None new h = h
 here_some (Some y) new h = refl
 
@@ -117,6 +137,9 @@ end_step e past n how is = elim (first_is (end past n) (end_in n e.event) how is
 pub end_stays : (e : Entry) (past : Past) (n : Name) → is_some (end past n) ≡ true → is_some (end (e ∷ past) n) ≡ true
 end_stays e past n h = stays_some (end past n) (end_in n e.event) h
 
+pub open_before : (e : Entry) (past : Past) (n : Name) → end (e ∷ past) n ≡ None → end past n ≡ None
+open_before e past n h = (none_before (end past n) (end_in n e.event) h).0
+
 -- READY MARKS
 
 pub marking : (n : Name) (ev : Event) → is_some (ready_in n ev) ≡ true → ev ≡ event.Ready n
@@ -141,24 +164,16 @@ child_added e past n c k is h = ap (λ ev. children past n ++ option_to_list (ch
 pub no_child_passes : (test : Name → Bool) (past : Past) (n c : Name) → is_child n c ≡ true → is_some (start past c) ≡ true → find test (children past n) ≡ None → test c ≡ false
 no_child_passes test [] n c is h none = absurd (true≢false (sym h))
 no_child_passes test (e ∷ past) n c is h none = elim (start_step e past c h) [
-  | inl old ↦ no_child_passes test past n c is old (before (find test (children past n)) _ (sym (find-append test (children past n) (option_to_list (child_in n e.event))) ∙ none))
+  | inl old ↦ no_child_passes test past n c is old (none_before (find test (children past n)) _ (sym (find-append test (children past n) (option_to_list (child_in n e.event))) ∙ none)).0
   | inr new ↦ last (children past n) (sym (ap (find test) (child_added e past n c new.1.0 new.1.1 is)) ∙ none)
 ]
   where
-    before : (a b : Option Name) → option_or a b ≡ None → a ≡ None
-    before None b h = refl
-    before (Some x) b h = absurd cc
-
     alone : (b : Bool) → (if b then Some c else None) ≡ None → b ≡ false
     alone true h = absurd cc
     alone false h = refl
 
-    after : (a b : Option Name) → option_or a b ≡ None → b ≡ None
-    after None b h = h
-    after (Some x) b h = absurd cc
-
     last : (cs : List Name) → find test (cs ++ c ∷ []) ≡ None → test c ≡ false
-    last cs h = alone (test c) (after (find test cs) _ (sym (find-append test cs (c ∷ [])) ∙ h))
+    last cs h = alone (test c) (none_before (find test cs) _ (sym (find-append test cs (c ∷ [])) ∙ h)).1
 
 -- a name none of whose children has started has no children
 pub childless : (past : Past) (n : Name) → ((c : Name) → is_child n c ≡ true → start past c ≡ None) → children past n ≡ []

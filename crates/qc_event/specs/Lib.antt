@@ -1,4 +1,5 @@
 pub mod Base
+pub mod Counts
 pub mod Seats
 pub mod Tables
 pub mod History

@@ -1,38 +1,35 @@
 -- What is kept of the copies asked, after one more.
 use Rattle.std.proofs.Common.{◌≡◌, ℕ, ◌<◌, Bool, true, false, List, [], ◌∷◌, ◌++◌, map, refl, sym, ap, ◌∙◌, arith, ne_eqb, ◌⊎◌, inl, inr}
-use Rattle.std.proofs.Math.Bool.{or-false}
+use Rattle.std.proofs.Math.Bool.{or-false, or-true}
 use Rattle.std.proofs.lemmas.Bool.{eq-eqb}
 use Rattle.std.proofs.lemmas.Grind.{common_steps}
-use Rattle.std.specs.Prelude.{◌==◌, ◌&&◌, ◌||◌, is_some, slice_set, Option, None, Some}
+use Rattle.std.specs.Prelude.{◌==◌, ◌&&◌, ◌||◌, is_some, slice_set, None, Some}
 use Rattle.std.specs.Option.{option_or}
 use Rattle.qc_config.specs.Copies.{has, with}
 use Rattle.qc_config.specs.declared.tuple.Tuple.{Tuple}
 use Rattle.qc_event.specs.declared.event.Why.{Why}
 use Rattle.qc_event.specs.History.{Name}
 use Rattle.qc_event.specs.Manager.{Replied, Missing, BlockedBy, all_copies}
+use Rattle.qc_event.proofs.Histories.{or_none}
 use Rattle.qc_gather.specs.declared.heard.Heard.{Heard}
 use Rattle.qc_gather.specs.Told.{Told, reply_in, why_in, was_asked, replied_by, replied_in, missing_in}
 use Rattle.qc_gather.specs.Heard.{heard, block_in, first_block_in}
 use Rattle.qc_gather.proofs.Rows.{row_set, row_same, row_at}
 use Rattle.qc_gather.proofs.OneMore.{asked_more, replied_more, missing_more, block_more}
 
-or_true : (b : Bool) → (b || true) ≡ true
-or_true true = refl
-or_true false = refl
-
 -- one more was asked
 asked_row : (told : List Told) (t : Told) → t.copy < 16 → map (was_asked (told ++ t ∷ [])) all_copies ≡ with (map (was_asked told) all_copies) t.copy
 asked_row told t within =
     row_set (was_asked told) (was_asked (told ++ t ∷ [])) 16 t.copy true within
     (λ k other. asked_more told t k ∙ ap (λ b. was_asked told k || b) (ne_eqb t.copy k (λ e. other (sym e))) ∙ or-false (was_asked told k))
-    (asked_more told t t.copy ∙ ap (λ b. was_asked told t.copy || b) (eq-eqb t.copy t.copy refl) ∙ or_true (was_asked told t.copy))
+    (asked_more told t t.copy ∙ ap (λ b. was_asked told t.copy || b) (eq-eqb t.copy t.copy refl) ∙ or-true (was_asked told t.copy))
 
 -- one more replied
 replied_row : (told : List Told) (t : Told) → is_some (reply_in t) ≡ true → t.copy < 16 → replied_in (told ++ t ∷ []) ≡ with (replied_in told) t.copy
 replied_row told t reply within =
     row_set (replied_by told) (replied_by (told ++ t ∷ [])) 16 t.copy true within
     (λ k other. replied_more told t k ∙ ap (λ b. replied_by told k || (b && is_some (reply_in t))) (ne_eqb t.copy k (λ e. other (sym e))) ∙ or-false (replied_by told k))
-    (replied_more told t t.copy ∙ ap (λ b. replied_by told t.copy || (b && is_some (reply_in t))) (eq-eqb t.copy t.copy refl) ∙ ap (λ b. replied_by told t.copy || b) reply ∙ or_true (replied_by told t.copy))
+    (replied_more told t t.copy ∙ ap (λ b. replied_by told t.copy || (b && is_some (reply_in t))) (eq-eqb t.copy t.copy refl) ∙ ap (λ b. replied_by told t.copy || b) reply ∙ or-true (replied_by told t.copy))
 
 -- what is no reply leaves who replied
 replied_same : (told : List Told) (t : Told) → is_some (reply_in t) ≡ false → replied_in (told ++ t ∷ []) ≡ replied_in told
@@ -62,11 +59,7 @@ missing_row told copy why first within =
 
 -- what is no block leaves the first
 block_same : (told : List Told) (t : Told) → block_in t ≡ None → first_block_in (told ++ t ∷ []) ≡ first_block_in told
-block_same told t none = block_more told t ∙ ap (λ o. option_or (first_block_in told) o) none ∙ or_none (first_block_in told)
-  where
-    or_none : {X : Type 0} (a : Option X) → option_or a None ≡ a
-    or_none None = refl
-    or_none (Some x) = refl
+block_same told t none = block_more told t ∙ ap (λ o. option_or (first_block_in told) o) none ∙ sym (or_none (first_block_in told))
 
 pub heard_reply : (told : List Told) (copy : ℕ) (tuple : Tuple) → copy < 16 → heard (told ++ record { copy = copy; result = Replied tuple } ∷ []) ≡ record (heard told) { asked = with (heard told).asked copy; replied = with (heard told).replied copy }
 heard_reply told copy tuple within =

@@ -3,10 +3,11 @@ use Rattle.std.proofs.Common.{◌≡◌, ℕ, Bool, List, [], ◌∷◌, ◌++�
 use Rattle.std.proofs.Math.Bool.{or-false}
 use Rattle.std.proofs.lemmas.Grind.{common_steps}
 use Rattle.std.proofs.lemmas.List.Folds.{list_any-append}
-use Rattle.std.specs.Prelude.{◌==◌, ◌&&◌, ◌||◌, cond, is_some, Option, None, Some}
+use Rattle.std.specs.Prelude.{◌==◌, ◌&&◌, ◌||◌, cond, is_some, None}
 use Rattle.std.specs.List.{list_any}
 use Rattle.std.specs.Option.{option_or}
 use Rattle.qc_event.specs.Manager.{Result, Replied, Missing, BlockedBy}
+use Rattle.qc_event.proofs.Histories.{or_none, or_first}
 use Rattle.qc_gather.specs.Told.{Told, reply_in, why_in, was_asked, replied_by, missing_in}
 use Rattle.qc_gather.specs.Heard.{block_in, first_block_in}
 
@@ -29,18 +30,10 @@ block_first copy (Replied tuple) told = refl
 block_first copy (Missing why) told = refl
 block_first copy (BlockedBy holder) told = refl
 
-or_assoc : {X : Type 0} (a b c : Option X) → option_or a (option_or b c) ≡ option_or (option_or a b) c
-or_assoc None b c = refl
-or_assoc (Some x) b c = refl
-
 pub block_more : (told : List Told) (t : Told) → first_block_in (told ++ t ∷ []) ≡ option_or (first_block_in told) (block_in t)
-block_more [] t = block_first t.copy t.result [] ∙ or_none (block_in t)
-  where
-    or_none : {X : Type 0} (a : Option X) → option_or a None ≡ a
-    or_none None = refl
-    or_none (Some x) = refl
+block_more [] t = block_first t.copy t.result [] ∙ sym (or_none (block_in t))
 block_more (u ∷ told) t =
     block_first u.copy u.result (told ++ t ∷ [])
     ∙ ap (λ o. option_or (block_in u) o) (block_more told t)
-    ∙ or_assoc (block_in u) (first_block_in told) (block_in t)
+    ∙ sym (or_first (block_in u) (first_block_in told) (block_in t))
     ∙ ap (λ o. option_or o (block_in t)) (sym (block_first u.copy u.result told))

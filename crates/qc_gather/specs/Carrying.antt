@@ -1,5 +1,5 @@
 -- What a carrier does for a manager: one access, started, asked and ended.
-use Rattle.std.specs.Prelude.{ℕ, ◌≡◌, ◌≤◌, ◌+◌, ◌-◌, ◌^◌, ◌==◌, ◌⊎◌, Bool, IsTrue, min, [], ◌∷◌, ◌++◌, length, filter, All, None, Some}
+use Rattle.std.specs.Prelude.{ℕ, ◌≡◌, ◌+◌, ◌==◌, ◌⊎◌, Bool, IsTrue, [], ◌∷◌, ◌++◌, length, filter, All, None, Some}
 use Rattle.qc_config.specs.declared.tuple.Op.{Op}
 use Rattle.qc_event.specs.declared.event.Answer.TheVariants.{Reply}
 use Rattle.qc_event.specs.declared.event.Ask.{Ask}
@@ -13,6 +13,7 @@ use Rattle.qc_event.specs.declared.event.Kind.TheVariants as kind
 use Rattle.qc_event.specs.declared.event.Why.{Why}
 use Rattle.qc_event.specs.declared.event.Why.TheVariants.{Lost, Late}
 use Rattle.qc_event.specs.Base.{Setting}
+pub use Rattle.qc_event.specs.Counts.{Rose}
 use Rattle.qc_event.specs.History.{Past, Name, limit, start, end, children, asks}
 use Rattle.qc_event.specs.Manager.{Result, Replied, Missing, BlockedBy, result, AtStage}
 use Rattle.qc_event.specs.Requests.{IsNextAsk, was_unable}
@@ -153,14 +154,6 @@ abbrev pub WasNotCarried : Carriage → CarryNo → Type 0
 WasNotCarried way (no.Orphan a) = WasOrphaned way a
 WasNotCarried way no.Memory = WasCutOff way
 WasNotCarried way no.Room = WasCutOff way × (length way.now ≡ limit)
-
--- one more, up to the end of a count's range
-abbrev pub next : ℕ → ℕ
-next n = min (n + 1) (2 ^ 64 - 1)
-
--- the count of troubles rose; one that stands at the end of its range counts as risen
-abbrev pub Rose : ℕ → ℕ → Type 0
-Rose before now = next before ≤ now
 
 -- A reason for no answer stands on something: a trouble of the link, or the copy's own word.
 abbrev pub HasReason : Carriage → Type 0 → Carried → Type 0

@@ -2,9 +2,10 @@
 ghost use Rattle.std.specs.Prelude.{◌≡◌, ◌≤◌, ℕ, Bool, IfOk, IfErr};
 ghost use Rattle.qc_event.specs.declared.event.Entry.{Entry};
 ghost use Rattle.qc_event.specs.Base.{Setting};
+ghost use Rattle.qc_event.specs.Counts.{Rose};
 ghost use Rattle.qc_event.specs.History.{Past};
 ghost use Rattle.qc_event.specs.Legal.{Legal};
-ghost use Rattle.qc_gather.specs.Carrying.{MayCarry, next_ask, made_by, HasGrown, carriage, became as result_of, WasCarried, WasNotCarried, HasReason, Rose};
+ghost use Rattle.qc_gather.specs.Carrying.{MayCarry, next_ask, made_by, HasGrown, carriage, became as result_of, WasCarried, WasNotCarried, HasReason};
 
 use qc_config::{Op, Tuple};
 use qc_event::{Name, Why};
@@ -57,14 +58,23 @@ pub trait Carrier {
     /// Starts the manager's next access, sends its request to a copy, and ends it by what came back. A
     /// copy's word that the access is dead comes back as `Orphan`.
     fn carry(&mut self, manager: &Name, copy: u8, rec: u8, op: Op) -> Result<Carried, CarryNo>
-        requires { MayCarry (setting self.old) (seat self.old) (seen self.old) manager.now copy rec op }
+        requires { MayCarry (setting self.old) (seat self.old) (seen self.old)
+            manager.now copy rec op }
         ensures setting { setting self.new ≡ setting self.old }
         ensures seat { seat self.new ≡ seat self.old }
         ensures others { others self.new ≡ others self.old }
-        ensures grown { HasGrown (others self.old) (λ n. n ≡ (next_ask (seen self.old) manager.now copy rec op).access) (seen self.old) (seen self.new) }
-        ensures carried { IfOk result (λ c. WasCarried (carriage (seat self.old) (seen self.old) (seen self.new) (own self.old) (own self.new) manager.now copy rec op) (result_of c)) }
-        ensures refused { IfErr result (WasNotCarried (carriage (seat self.old) (seen self.old) (seen self.new) (own self.old) (own self.new) manager.now copy rec op)) }
-        ensures reason { IfOk result (HasReason (carriage (seat self.old) (seen self.old) (seen self.new) (own self.old) (own self.new) manager.now copy rec op) (Rose (troubles self.old) (troubles self.new))) }
+        ensures grown { HasGrown (others self.old)
+            (λ n. n ≡ (next_ask (seen self.old) manager.now copy rec op).access) (seen self.old)
+            (seen self.new) }
+        ensures carried { IfOk result (λ c. WasCarried
+            (carriage (seat self.old) (seen self.old) (seen self.new) (own self.old) (own self.new)
+            manager.now copy rec op) (result_of c)) }
+        ensures refused { IfErr result (WasNotCarried
+            (carriage (seat self.old) (seen self.old) (seen self.new) (own self.old) (own self.new)
+            manager.now copy rec op)) }
+        ensures reason { IfOk result (HasReason
+            (carriage (seat self.old) (seen self.old) (seen self.new) (own self.old) (own self.new)
+            manager.now copy rec op) (Rose (troubles self.old) (troubles self.new))) }
         ensures later { troubles self.old ≤ troubles self.new }
         ensures became { became self.old self.new };
 

@@ -57,7 +57,9 @@ impl Gather {
     /// configuration, else the least copy with votes there that was not asked. Where it is short, that
     /// configuration is of no more than sixteen copies.
     pub fn next(&self) -> Next
-        ensures next { (first : Voting) (told : List Told) → self.now ≡ gathered first told → result ≡ next_of (holds_read (newest_in first told).config (replied_in told)) (newest_in first told).config told }
+        ensures next { (first : Voting) (told : List Told) → self.now ≡ gathered first told
+            → result ≡ next_of (holds_read (newest_in first told).config (replied_in told))
+            (newest_in first told).config told }
         ensures within { result ≡ Next.Short → length self.now.newest.config.votes ≤ 16 }
     {
         let enough = self.config.has_read(self.heard.replied());
@@ -68,7 +70,9 @@ impl Gather {
     /// theirs are of the same generation and version.
     pub fn add(&mut self, copy: u8, tuple: &Tuple)
         requires { copy < 16 }
-        ensures { (first : Voting) (told : List Told) → self.old ≡ gathered first told → self.new ≡ gathered first (told ++ record { copy = copy; result = Replied tuple.now } ∷ []) }
+        ensures { (first : Voting) (told : List Told) → self.old ≡ gathered first told
+            → self.new ≡ gathered first (told
+            ++ record { copy = copy; result = Replied tuple.now } ∷ []) }
     {
         self.heard.add(copy);
         self.greatest = Some(greater(self.greatest, tuple));
@@ -81,7 +85,9 @@ impl Gather {
     /// A copy named the holder in the way there.
     pub fn blocked(&mut self, copy: u8, holder: &Name)
         requires { copy < 16 }
-        ensures { (first : Voting) (told : List Told) → self.old ≡ gathered first told → self.new ≡ gathered first (told ++ record { copy = copy; result = BlockedBy holder.now } ∷ []) }
+        ensures { (first : Voting) (told : List Told) → self.old ≡ gathered first told
+            → self.new ≡ gathered first (told
+            ++ record { copy = copy; result = BlockedBy holder.now } ∷ []) }
     {
         self.heard.blocked(copy, holder);
     }
@@ -89,23 +95,29 @@ impl Gather {
     /// A copy gave no answer, for this reason.
     pub fn miss(&mut self, copy: u8, why: Why)
         requires { copy < 16 }
-        ensures { (first : Voting) (told : List Told) → self.old ≡ gathered first told → self.new ≡ gathered first (told ++ record { copy = copy; result = Missing why } ∷ []) }
+        ensures { (first : Voting) (told : List Told) → self.old ≡ gathered first told
+            → self.new ≡ gathered first (told
+            ++ record { copy = copy; result = Missing why } ∷ []) }
     {
         self.heard.miss(copy, why);
     }
 
     /// The newest configuration, after its generation.
     pub fn newest(&self) -> (u64, Config)
-        ensures generation { (first : Voting) (told : List Told) → self.now ≡ gathered first told → result.0 ≡ (newest_in first told).generation }
-        ensures config { (first : Voting) (told : List Told) → self.now ≡ gathered first told → result.1 ≡ (newest_in first told).config }
+        ensures generation { (first : Voting) (told : List Told) → self.now ≡ gathered first told
+            → result.0 ≡ (newest_in first told).generation }
+        ensures config { (first : Voting) (told : List Told) → self.now ≡ gathered first told
+            → result.1 ≡ (newest_in first told).config }
     {
         (self.generation, self.config)
     }
 
     /// The value of the greatest version, after that version. Both are 0 where nothing replied.
     pub fn greatest(&self) -> (u64, Val)
-        ensures version { (first : Voting) (told : List Told) → self.now ≡ gathered first told → result.0 ≡ (greatest_in told).version }
-        ensures value { (first : Voting) (told : List Told) → self.now ≡ gathered first told → result.1 ≡ (greatest_in told).value }
+        ensures version { (first : Voting) (told : List Told) → self.now ≡ gathered first told
+            → result.0 ≡ (greatest_in told).version }
+        ensures value { (first : Voting) (told : List Told) → self.now ≡ gathered first told
+            → result.1 ≡ (greatest_in told).value }
     {
         match self.greatest {
             Some(found) => found,
@@ -115,7 +127,8 @@ impl Gather {
 
     /// Why the collection fails, where it is short.
     pub fn lack(&self) -> Shortage
-        ensures { (first : Voting) (told : List Told) → self.now ≡ gathered first told → result ≡ shortage_in Phase.Collect told }
+        ensures { (first : Voting) (told : List Told) → self.now ≡ gathered first told
+            → result ≡ shortage_in Phase.Collect told }
     {
         self.heard.lack(Phase::Collect)
     }

@@ -34,7 +34,8 @@ impl Heard {
     /// A copy replied.
     pub fn add(&mut self, copy: u8)
         requires { copy < 16 }
-        ensures { (tuple : Tuple) (told : List Told) → self.old ≡ heard told → self.new ≡ heard (told ++ record { copy = copy; result = Replied tuple } ∷ []) }
+        ensures { (tuple : Tuple) (told : List Told) → self.old ≡ heard told
+            → self.new ≡ heard (told ++ record { copy = copy; result = Replied tuple } ∷ []) }
     {
         self.asked = self.asked.with(copy);
         self.replied = self.replied.with(copy);
@@ -43,7 +44,9 @@ impl Heard {
     /// A copy named the holder in the way there. The first such is kept.
     pub fn blocked(&mut self, copy: u8, holder: &Name)
         requires { copy < 16 }
-        ensures { (told : List Told) → self.old ≡ heard told → self.new ≡ heard (told ++ record { copy = copy; result = BlockedBy holder.now } ∷ []) }
+        ensures { (told : List Told) → self.old ≡ heard told
+            → self.new ≡ heard (told
+            ++ record { copy = copy; result = BlockedBy holder.now } ∷ []) }
     {
         self.asked = self.asked.with(copy);
         if self.blocked.is_none() {
@@ -54,7 +57,8 @@ impl Heard {
     /// A copy gave no answer. The reason is kept where it is the first word of the copy.
     pub fn miss(&mut self, copy: u8, why: Why)
         requires { copy < 16 }
-        ensures { (told : List Told) → self.old ≡ heard told → self.new ≡ heard (told ++ record { copy = copy; result = Missing why } ∷ []) }
+        ensures { (told : List Told) → self.old ≡ heard told
+            → self.new ≡ heard (told ++ record { copy = copy; result = Missing why } ∷ []) }
     {
         let was_asked = self.asked.has(copy);
         self.asked = self.asked.with(copy);
@@ -71,7 +75,8 @@ impl Heard {
     }
 
     fn unasked(&self, config: &Config) -> Option<u8>
-        ensures next { (told : List Told) → self.now ≡ heard told → result ≡ next_in config.now told }
+        ensures next { (told : List Told) → self.now ≡ heard told
+            → result ≡ next_in config.now told }
         ensures within { length config.now.votes ≤ 16 }
     {
         for copy in 0..config.count() as u8 {
@@ -85,7 +90,8 @@ impl Heard {
     /// What is done next, by the configuration that counts and whether its quorum replied. Where that is
     /// short, the configuration is of no more than sixteen copies.
     pub fn next(&self, config: &Config, enough: bool) -> Next
-        ensures next { (told : List Told) → self.now ≡ heard told → result ≡ next_of enough config.now told }
+        ensures next { (told : List Told) → self.now ≡ heard told
+            → result ≡ next_of enough config.now told }
         ensures within { result ≡ Next.Short → length config.now.votes ≤ 16 }
     {
         if enough {

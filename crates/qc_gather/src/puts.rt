@@ -45,7 +45,9 @@ impl Puts {
     /// copy with votes that was not asked. Where it is short, the configuration is of no more than sixteen
     /// copies.
     pub fn next(&self) -> Next
-        ensures next { (config : Voting) (phase : Phase) (told : List Told) → self.now ≡ put config phase told → result ≡ next_of (holds_write config (replied_in told)) config told }
+        ensures next { (config : Voting) (phase : Phase) (told : List Told)
+            → self.now ≡ put config phase told
+            → result ≡ next_of (holds_write config (replied_in told)) config told }
         ensures within { result ≡ Next.Short → length self.now.config.votes ≤ 16 }
     {
         let enough = self.config.has_write(self.heard.replied());
@@ -55,7 +57,10 @@ impl Puts {
     /// A copy replied. Its tuple does not count.
     pub fn add(&mut self, copy: u8)
         requires { copy < 16 }
-        ensures { (tuple : Tuple) (config : Voting) (phase : Phase) (told : List Told) → self.old ≡ put config phase told → self.new ≡ put config phase (told ++ record { copy = copy; result = Replied tuple } ∷ []) }
+        ensures { (tuple : Tuple) (config : Voting) (phase : Phase) (told : List Told)
+            → self.old ≡ put config phase told
+            → self.new ≡ put config phase (told
+            ++ record { copy = copy; result = Replied tuple } ∷ []) }
     {
         self.heard.add(copy);
     }
@@ -63,7 +68,10 @@ impl Puts {
     /// A copy named the holder in the way there.
     pub fn blocked(&mut self, copy: u8, holder: &Name)
         requires { copy < 16 }
-        ensures { (config : Voting) (phase : Phase) (told : List Told) → self.old ≡ put config phase told → self.new ≡ put config phase (told ++ record { copy = copy; result = BlockedBy holder.now } ∷ []) }
+        ensures { (config : Voting) (phase : Phase) (told : List Told)
+            → self.old ≡ put config phase told
+            → self.new ≡ put config phase (told
+            ++ record { copy = copy; result = BlockedBy holder.now } ∷ []) }
     {
         self.heard.blocked(copy, holder);
     }
@@ -71,14 +79,18 @@ impl Puts {
     /// A copy gave no answer, for this reason.
     pub fn miss(&mut self, copy: u8, why: Why)
         requires { copy < 16 }
-        ensures { (config : Voting) (phase : Phase) (told : List Told) → self.old ≡ put config phase told → self.new ≡ put config phase (told ++ record { copy = copy; result = Missing why } ∷ []) }
+        ensures { (config : Voting) (phase : Phase) (told : List Told)
+            → self.old ≡ put config phase told
+            → self.new ≡ put config phase (told
+            ++ record { copy = copy; result = Missing why } ∷ []) }
     {
         self.heard.miss(copy, why);
     }
 
     /// Why the phase fails, where it is short.
     pub fn lack(&self) -> Shortage
-        ensures { (config : Voting) (phase : Phase) (told : List Told) → self.now ≡ put config phase told → result ≡ shortage_in phase told }
+        ensures { (config : Voting) (phase : Phase) (told : List Told)
+            → self.now ≡ put config phase told → result ≡ shortage_in phase told }
     {
         self.heard.lack(self.phase)
     }

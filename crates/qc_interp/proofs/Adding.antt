@@ -6,6 +6,7 @@ use Rattle.std.specs.List.{AllByRecursion, list_all, list_any}
 use Rattle.std.specs.Option.{option_map_or}
 use Rattle.std.proofs.lemmas.List.Elements.{filter-append}
 use Rattle.std.proofs.lemmas.List.Folds.{list_all-append}
+use Rattle.std.proofs.lemmas.Bool.{and_parts, and_from, or_right}
 use Rattle.qc_event.specs.declared.event.Entry.{Entry}
 use Rattle.qc_event.specs.declared.event.Event.{Event}
 use Rattle.qc_event.specs.declared.event.Event.TheVariants as event
@@ -13,7 +14,8 @@ use Rattle.qc_event.specs.declared.event.Kind.{Kind}
 use Rattle.qc_event.specs.History.{Past, Name, every, end, children, is_child}
 use Rattle.qc_event.proofs.Histories.{earliest-append}
 use Rattle.qc_event.proofs.OneEntry.{stays_some}
-use Rattle.qc_event.proofs.LastNumber.{child_last, is_ancestor-append}
+use Rattle.qc_event.proofs.LastNumber.{child_last, is_ancestor-append, child_longer}
+use Rattle.qc_event.proofs.Booleans.{or_wider, all_wider, any_right}
 use Rattle.qc_names.specs.Name as name
 use Rattle.qc_script.specs.Calls.{IsOfAccess}
 use Rattle.qc_script.specs.Client.{Client, mine, is_own, about, IsLater}
@@ -21,15 +23,10 @@ use Rattle.qc_script.specs.Numbers.{any_top, own_next}
 use Rattle.qc_interp.specs.Adding.{own_after, all_over, stays_in, AllStayIn, is_of_one, AllOfOne}
 use Rattle.qc_script.specs.Calls.{is_over, unable_in}
 use Rattle.qc_script.specs.Numbers.{each}
-use Rattle.qc_interp.proofs.Growth.{and_both, and_by, child_length}
-
-pub all_wider : (f g : Entry → Bool) (es : Past) → ((e : Entry) → f e ≡ true → g e ≡ true) → list_all f es ≡ true → list_all g es ≡ true
-all_wider f g [] step h = refl
-all_wider f g (e ∷ es) step h = let p = and_both (f e) (list_all f es) h in and_by (g e) (list_all g es) (step e p.0) (all_wider f g es step p.1)
 
 module _ (f : Entry → Bool) where
   pub all_both : (xs ys : Past) → list_all f xs ≡ true → list_all f ys ≡ true → list_all f (xs ++ ys) ≡ true
-  all_both xs ys a b = list_all-append f xs ys ∙ and_by _ _ a b
+  all_both xs ys a b = list_all-append f xs ys ∙ and_from _ _ a b
 
   pub all_later : (c : Client) (older newer : Past) → list_all f (mine c older) ≡ true → list_all f (mine c newer) ≡ true → list_all f (mine c (newer ++ older)) ≡ true
   all_later c older newer a b = ap (list_all f) (filter-append _ newer older) ∙ all_both (mine c newer) (mine c older) b a
@@ -52,12 +49,12 @@ child_top of n child = let l = child_last of n child in ap (name.is_ancestor (ta
 -- a child starts below one that is no root
 pub start_stays_in : (t n : Name) (k : Kind) (e : Entry) → e.event ≡ event.Start n k → 1 < length n → name.is_ancestor t n ≡ true → stays_in t e ≡ true
 start_stays_in t n k e is far low =
-    and_by _ _ (ap (λ ev. is_none (any_top ev)) is ∙ ap is_none (no_top n k far)) (ap (λ ev. option_map_or (λ m. name.is_ancestor t m) (about ev) true) is ∙ low)
+    and_from _ _ (ap (λ ev. is_none (any_top ev)) is ∙ ap is_none (no_top n k far)) (ap (λ ev. option_map_or (λ m. name.is_ancestor t m) (about ev) true) is ∙ low)
 
 -- the entries of accesses stay
 pub accesses_stay : (t m : Name) (inner : Past) → 0 < length m → name.is_ancestor t m ≡ true → AllByRecursion (λ (e : Entry). IsOfAccess m e.event) inner → list_all (stays_in t) inner ≡ true
 accesses_stay t m [] long low all = refl
-accesses_stay t m (e ∷ inner) long low all = and_by _ _ (by_event e.event refl all.0) (accesses_stay t m inner long low all.1)
+accesses_stay t m (e ∷ inner) long low all = and_from _ _ (by_event e.event refl all.0) (accesses_stay t m inner long low all.1)
   where
     child : (n : Name) → is_child m n ≡ true → name.is_ancestor t n ≡ true
     child n h =
@@ -66,15 +63,15 @@ accesses_stay t m (e ∷ inner) long low all = and_by _ _ (by_event e.event refl
         ap (name.is_ancestor t) (l.1 ∙ ap (λ x. x ++ l.0 ∷ []) s.1 ∙ Rattle.std.proofs.Common.append_assoc t s.0 (l.0 ∷ [])) ∙ is_ancestor-append t (s.0 ++ l.0 ∷ [])
 
     by_event : (ev : Event) → e.event ≡ ev → IsOfAccess m ev → stays_in t e ≡ true
-    by_event (event.Start n k) is of = start_stays_in t n k e is (let l : length n ≡ length m + 1 = child_length m n of.0 in omega (arith, l, long)) (child n of.0)
-    by_event (event.End n how) is of = and_by _ _ (ap (λ ev. is_none (any_top ev)) is) (ap (λ ev. option_map_or (λ x. name.is_ancestor t x) (about ev) true) is ∙ child n of.0)
+    by_event (event.Start n k) is of = start_stays_in t n k e is (let l : length n ≡ length m + 1 = child_longer m n of.0 in omega (arith, l, long)) (child n of.0)
+    by_event (event.End n how) is of = and_from _ _ (ap (λ ev. is_none (any_top ev)) is) (ap (λ ev. option_map_or (λ x. name.is_ancestor t x) (about ev) true) is ∙ child n of.0)
     by_event (event.Ready n) is of = absurd of
     by_event (event.Mark n session) is of = absurd of
-    by_event (event.Ask ask) is of = and_by _ _ (ap (λ ev. is_none (any_top ev)) is) (ap (λ ev. option_map_or (λ x. name.is_ancestor t x) (about ev) true) is)
-    by_event (event.Gone n why) is of = and_by _ _ (ap (λ ev. is_none (any_top ev)) is) (ap (λ ev. option_map_or (λ x. name.is_ancestor t x) (about ev) true) is)
-    by_event (event.Granted copy grant) is of = and_by _ _ (ap (λ ev. is_none (any_top ev)) is) (ap (λ ev. option_map_or (λ x. name.is_ancestor t x) (about ev) true) is)
-    by_event (event.Refused n copy refusal) is of = and_by _ _ (ap (λ ev. is_none (any_top ev)) is) (ap (λ ev. option_map_or (λ x. name.is_ancestor t x) (about ev) true) is)
-    by_event (event.Unable n why) is of = and_by _ _ (ap (λ ev. is_none (any_top ev)) is) (ap (λ ev. option_map_or (λ x. name.is_ancestor t x) (about ev) true) is)
+    by_event (event.Ask ask) is of = and_from _ _ (ap (λ ev. is_none (any_top ev)) is) (ap (λ ev. option_map_or (λ x. name.is_ancestor t x) (about ev) true) is)
+    by_event (event.Gone n why) is of = and_from _ _ (ap (λ ev. is_none (any_top ev)) is) (ap (λ ev. option_map_or (λ x. name.is_ancestor t x) (about ev) true) is)
+    by_event (event.Granted copy grant) is of = and_from _ _ (ap (λ ev. is_none (any_top ev)) is) (ap (λ ev. option_map_or (λ x. name.is_ancestor t x) (about ev) true) is)
+    by_event (event.Refused n copy refusal) is of = and_from _ _ (ap (λ ev. is_none (any_top ev)) is) (ap (λ ev. option_map_or (λ x. name.is_ancestor t x) (about ev) true) is)
+    by_event (event.Unable n why) is of = and_from _ _ (ap (λ ev. is_none (any_top ev)) is) (ap (λ ev. option_map_or (λ x. name.is_ancestor t x) (about ev) true) is)
 
 -- where no top starts, what holds of tops as they start holds as before
 module _ (c : Client) (t : Name) (G : Past → ℕ → Bool) where
@@ -90,10 +87,10 @@ module _ (c : Client) (t : Name) (G : Past → ℕ → Bool) where
   tops_stay (e ∷ newer) before stay was = by_seat (is_own c e.seat) refl stay (λ h. tops_stay newer before h was)
     where
       by_seat : (b : Bool) → is_own c e.seat ≡ b → list_all (stays_in t) (if b then e ∷ mine c newer else mine c newer) ≡ true → (AllStayIn c t newer → each passes (newer ++ before) ≡ true) → each passes (e ∷ newer ++ before) ≡ true
-      by_seat false so h rest = and_by _ _ (rest h) (ap (λ b. not b || option_map_or (G (newer ++ before)) (any_top e.event) true) so)
+      by_seat false so h rest = and_from _ _ (rest h) (ap (λ b. not b || option_map_or (G (newer ++ before)) (any_top e.event) true) so)
       by_seat true so h rest =
-          let p = and_both (stays_in t e) (list_all (stays_in t) (mine c newer)) h in
-          and_by _ _ (rest p.1) (ap (λ b. not b || option_map_or (G (newer ++ before)) (any_top e.event) true) so ∙ none_started (newer ++ before) (any_top e.event) (and_both _ _ p.0).0)
+          let p = and_parts (stays_in t e) (list_all (stays_in t) (mine c newer)) h in
+          and_from _ _ (rest p.1) (ap (λ b. not b || option_map_or (G (newer ++ before)) (any_top e.event) true) so ∙ none_started (newer ++ before) (any_top e.event) (and_parts _ _ p.0).0)
 
 pub numbers_stay : (c : Client) (t : Name) (newer before : Past) → AllStayIn c t newer → each (own_next c) before ≡ true → each (own_next c) (newer ++ before) ≡ true
 numbers_stay c t newer before stay was = tops_stay c t (λ past number. number == c.epoch * 2 ^ 32 + length (every (λ x. any_top x.event) past) + 1) newer before stay was
@@ -103,22 +100,9 @@ after_stay c t newer before stay was = tops_stay c t (λ past number. all_over c
 
 -- WHO IS OVER
 
-entry_right : (f : Entry → Bool) (xs ys : Past) → list_any f ys ≡ true → list_any f (xs ++ ys) ≡ true
-entry_right f [] ys h = h
-entry_right f (x ∷ xs) ys h = by_test (f x) (entry_right f xs ys h)
-  where
-    by_test : (b : Bool) → list_any f (xs ++ ys) ≡ true → (b || list_any f (xs ++ ys)) ≡ true
-    by_test true h = refl
-    by_test false h = h
-
-or_wider : (a b x y : Bool) → (a ≡ true → x ≡ true) → (b ≡ true → y ≡ true) → (a || b) ≡ true → (x || y) ≡ true
-or_wider true b x y f g h = ap (λ z. z || y) (f refl)
-or_wider false b true y f g h = refl
-or_wider false b false y f g h = g h
-
 pub over_still : (newer past : Past) (n : Name) → is_over past n ≡ true → is_over (newer ++ past) n ≡ true
 over_still newer past n h = or_wider (is_some (end past n)) (list_any (λ (e : Entry). unable_in n e.event) past) (is_some (end (newer ++ past) n)) (list_any (λ (e : Entry). unable_in n e.event) (newer ++ past))
-    (λ s. ap is_some (earliest-append _ newer past) ∙ stays_some _ _ s) (entry_right _ newer past) h
+    (λ s. ap is_some (earliest-append _ newer past) ∙ stays_some _ _ s) (any_right _ newer past) h
 
 pub over_later : (c : Client) (a b : Past) → IsLater c a b → (n : Name) → is_over a n ≡ true → is_over b n ≡ true
 over_later c a b p n h = subst (λ x. is_over x n ≡ true) (sym p.grown) (over_still p.newer a n h)
@@ -126,14 +110,10 @@ over_later c a b p n h = subst (λ x. is_over x n ≡ true) (sym p.grown) (over_
 pub over_ended : (past : Past) (n : Name) → is_some (end past n) ≡ true → is_over past n ≡ true
 over_ended past n h = ap (λ b. b || list_any (λ (e : Entry). unable_in n e.event) past) h
 
-pub names_wider : (f g : Name → Bool) (ns : List Name) → ((n : Name) → f n ≡ true → g n ≡ true) → list_all f ns ≡ true → list_all g ns ≡ true
-names_wider f g [] step h = refl
-names_wider f g (n ∷ ns) step h = let p = and_both (f n) (list_all f ns) h in and_by (g n) (list_all g ns) (step n p.0) (names_wider f g ns step p.1)
-
 pub all_over_more : (c : Client) (newer past : Past) (more : List Name) → children (mine c (newer ++ past)) [] ≡ children (mine c past) [] ++ more → all_over c past ≡ true → list_all (is_over (newer ++ past)) more ≡ true → all_over c (newer ++ past) ≡ true
 all_over_more c newer past more is was new =
     ap (list_all (is_over (newer ++ past))) is ∙ list_all-append (is_over (newer ++ past)) (children (mine c past) []) more
-    ∙ and_by _ _ (names_wider (is_over past) (is_over (newer ++ past)) (children (mine c past) []) (λ n. over_still newer past n) was) new
+    ∙ and_from _ _ (all_wider (is_over past) (is_over (newer ++ past)) (children (mine c past) []) (λ n. over_still newer past n) was) new
 
 -- a top starts, and those before it are over
 pub begun_after : (c : Client) (e : Entry) (newer before : Past) → mine c newer ≡ e ∷ [] → each (own_after c) before ≡ true → all_over c before ≡ true → each (own_after c) (newer ++ before) ≡ true
@@ -144,17 +124,13 @@ begun_after c e (x ∷ newer) before is was over = by_seat (is_own c x.seat) ref
     all_the_same b None h = refl
     all_the_same b (Some number) h = h
 
-    or_of : (b d : Bool) → d ≡ true → (b || d) ≡ true
-    or_of true d h = refl
-    or_of false d h = h
-
     by_seat : (b : Bool) → is_own c x.seat ≡ b → (if b then x ∷ mine c newer else mine c newer) ≡ e ∷ [] → (mine c newer ≡ e ∷ [] → each (own_after c) (newer ++ before) ≡ true) → each (own_after c) (x ∷ newer ++ before) ≡ true
-    by_seat false so h rest = and_by _ _ (rest h) (ap (λ b. not b || option_map_or (λ number. all_over c (newer ++ before)) (any_top x.event) true) so)
+    by_seat false so h rest = and_from _ _ (rest h) (ap (λ b. not b || option_map_or (λ number. all_over c (newer ++ before)) (any_top x.event) true) so)
     by_seat true so h rest =
         let none : mine c newer ≡ [] = cc in
         let same : mine c (newer ++ before) ≡ mine c before = filter-append _ newer before ∙ ap (λ l. l ++ mine c before) none in
-        and_by _ _ (after_stay c [] newer before (ap (list_all (stays_in [])) none) was)
-        (or_of _ _ (all_the_same (all_over c (newer ++ before)) (any_top x.event) (all_over_more c newer before [] (ap (λ l. children l []) same ∙ sym (Rattle.std.proofs.Common.append-nil _)) over refl)))
+        and_from _ _ (after_stay c [] newer before (ap (list_all (stays_in [])) none) was)
+        (or_right _ _ (all_the_same (all_over c (newer ++ before)) (any_top x.event) (all_over_more c newer before [] (ap (λ l. children l []) same ∙ sym (Rattle.std.proofs.Common.append-nil _)) over refl)))
 
 -- OF ONE OF SOME TOPS
 
@@ -166,14 +142,6 @@ any_left f (x ∷ xs) ys h = by_test (f x) h (any_left f xs ys)
     by_test true h more = refl
     by_test false h more = more h
 
-any_right : (f : Name → Bool) (xs ys : List Name) → list_any f ys ≡ true → list_any f (xs ++ ys) ≡ true
-any_right f [] ys h = h
-any_right f (x ∷ xs) ys h = by_test (f x) (any_right f xs ys h)
-  where
-    by_test : (b : Bool) → list_any f (xs ++ ys) ≡ true → (b || list_any f (xs ++ ys)) ≡ true
-    by_test true h = refl
-    by_test false h = h
-
 about_wider : (f g : Name → Bool) (o : Option Name) → ((n : Name) → f n ≡ true → g n ≡ true) → option_map_or f o true ≡ true → option_map_or g o true ≡ true
 about_wider f g None step h = refl
 about_wider f g (Some n) step h = step n h
@@ -184,7 +152,7 @@ one_both c xs ys older newer a b = all_later (is_of_one (xs ++ ys)) c older newe
     (all_wider (is_of_one ys) (is_of_one (xs ++ ys)) (mine c newer) (λ e. about_wider _ _ (about e.event) (λ n. any_right (λ t. name.is_ancestor t n) xs ys)) b)
 
 pub stays_one : (t : Name) (e : Entry) → stays_in t e ≡ true → is_of_one (t ∷ []) e ≡ true
-stays_one t e h = about_wider (λ n. name.is_ancestor t n) _ (about e.event) (λ n a. ap (λ b. b || false) a) (and_both _ _ h).1
+stays_one t e h = about_wider (λ n. name.is_ancestor t n) _ (about e.event) (λ n a. ap (λ b. b || false) a) (and_parts _ _ h).1
 
 pub all_one : (c : Client) (t : Name) (newer : Past) → AllStayIn c t newer → AllOfOne c (t ∷ []) newer
 all_one c t newer stay = all_wider (stays_in t) (is_of_one (t ∷ [])) (mine c newer) (stays_one t) stay

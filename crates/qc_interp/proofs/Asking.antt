@@ -10,12 +10,13 @@ use Rattle.qc_event.specs.declared.event.How.{How}
 use Rattle.qc_event.specs.declared.event.How.TheVariants.{Commit, Abort}
 use Rattle.qc_event.specs.History.{Past, Name, end, end_in, ready_in, is_ready, children, same}
 use Rattle.qc_event.specs.Standing.{Started, IsUser}
-use Rattle.qc_event.proofs.Absent.{if_not, same_is, same_itself}
+use Rattle.qc_event.proofs.Absent.{if_not, same_is, same_itself, other_length}
 use Rattle.qc_event.proofs.LastNumber.{is_ancestor-append}
 use Rattle.qc_event.proofs.LegalOrderly.{legal_orderly}
 use Rattle.qc_event.proofs.Lawful.{lawful}
 use Rattle.qc_event.proofs.Lineage.{above_user}
-use Rattle.qc_event.proofs.OneEntry.{end_now}
+use Rattle.qc_event.proofs.OneEntry.{end_now, some_not_none, some_if_not_none}
+use Rattle.qc_event.proofs.Later.{started_still}
 use Rattle.qc_names.specs.Name as name
 use Rattle.qc_script.specs.Calls.{by_client, NotAborted, Committed, MadeReady, NotCommitted}
 use Rattle.qc_script.specs.Client.{Client, mine, is_own, Made}
@@ -28,11 +29,11 @@ use Rattle.qc_script.specs.declared.tx.TxNo.TheVariants as tx_no
 use Rattle.qc_interp.proofs.Mine.{kept_some}
 use Rattle.qc_interp.proofs.Adding.{at_top, over_later, over_ended}
 use Rattle.qc_interp.proofs.Turning.{InTurn, Alone, act_turns, itself}
-use Rattle.qc_interp.proofs.Growth.{made_is, made_later, ours_before, differ, started_still}
+use Rattle.qc_interp.proofs.Growth.{made_is, made_later, ours_before}
 use Rattle.qc_interp.proofs.Still.{follows_runs}
 use Rattle.qc_interp.proofs.Managers.{children_quiet, found_quiet}
 use Rattle.qc_interp.proofs.Ending.{at_any, at_the_end, asked_early, unended_again, running_unended, top_above, not_ready, leaves_trans, leaves_cut, cut_still, still, leaves_still, runs_still, leaves_end, children_end, ends_so}
-use Rattle.qc_interp.proofs.StepsLeave.{orphan_early, stopped_still, some_later, none_open, is_none_by, is_some_by}
+use Rattle.qc_interp.proofs.StepsLeave.{orphan_early, stopped_still, some_later, none_open}
 use Rattle.std.specs.List.{list_all}
 use Rattle.qc_interp.specs.Adding.{stays_in}
 use Rattle.qc_script.specs.Calls.{is_over}
@@ -96,7 +97,7 @@ module _ (c : Client) (of : Name) where
         by_test : (b : Bool) → same t p ≡ b → (o : Option How) → IsUnended p o → IsUnended p (option_or o (if b then Some (Abort (cause.Asked of)) else None))
         by_test b so (Some how) x = x
         by_test false so None x = inl refl
-        by_test true so None x = inr (ap not (differ of p (λ l. omega (arith, l, ap length (same_is t p so), shorter))))
+        by_test true so None x = inr (ap not (other_length of p (λ l. omega (arith, l, ap length (same_is t p so), shorter))))
 
     pub leaves_asked : Leaves c of before mid
     leaves_asked = record { turns = λ ours turns alone. subst (λ h. InTurn h × Alone h of) (sym now_is) (act_turns (by_client c (event.End t (Abort (cause.Asked of)))) (mine c before) of of refl refl turns alone alone); later = made_later c _ before mid m; inside = ap (list_all (stays_in (take 1 of))) m.made ∙ ap (λ b. b && true) (top_above of t s is nonroot); over = λ was r. over_later c before mid (made_later c _ before mid m) of (was (sym (ready_asked of) ∙ r)); above = λ p r so more. record { children = children_asked p; ready = ready_asked p; unended = unended_asked p } }
@@ -112,7 +113,7 @@ module _ (c : Client) (of : Name) where
       above = λ p r so more. (unended_asked p (runs.above p r so more).0, ready_asked p ∙ (runs.above p r so more).1);
       closed = λ ours.
           ap (find (λ x. is_none (end (mine c mid) x))) (children_asked of)
-          ∙ none_open _ _ (children (mine c before) of) (λ x h. is_none_by _ (some_later c of before mid (made_later c _ before mid m) x (is_some_by _ h))) (runs.closed (ours_before c of before mid (made_later c _ before mid m) ours));
+          ∙ none_open _ _ (children (mine c before) of) (λ x h. some_not_none _ (some_later c of before mid (made_later c _ before mid m) x (some_if_not_none _ h))) (runs.closed (ours_before c of before mid (made_later c _ before mid m) ours));
     }
 
     pub same_asked : children (mine c mid) of ≡ children (mine c before) of
@@ -147,7 +148,7 @@ module _ (c : Client) (of : Name) where
         far = omega (arith, l, lt, within, positive levels some);
         nonroot = omega (arith, lt, within);
         is_ancestor = ap (name.is_ancestor t) is ∙ is_ancestor-append t _;
-        apart = differ t of (λ same_length. omega (arith, same_length, lt, within, positive levels some));
+        apart = other_length t of (λ same_length. omega (arith, same_length, lt, within, positive levels some));
       }
     where
       at : t ≡ take (length of - levels) of
@@ -245,7 +246,7 @@ module _ (c : Client) (of : Name) where
       above = λ p r is far.
           record {
             children = children_ready p;
-            ready = ap (λ h. is_ready h p) ready_now ∙ ap is_some (found_quiet _ (by_client c (event.Ready of) ∷ []) (mine c before) (if_not (same of p) (Some tt) (differ of p (λ l. omega (arith, l, far, ap length is, length-append p r))), tt));
+            ready = ap (λ h. is_ready h p) ready_now ∙ ap is_some (found_quiet _ (by_client c (event.Ready of) ∷ []) (mine c before) (if_not (same of p) (Some tt) (other_length of p (λ l. omega (arith, l, far, ap length is, length-append p r))), tt));
             unended = subst (λ o. IsUnended p o) (sym (end_ready p));
           };
     }

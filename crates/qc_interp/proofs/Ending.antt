@@ -19,12 +19,13 @@ use Rattle.qc_event.specs.History.{Past, Name, Begun, earliest, start, end, end_
 use Rattle.qc_event.specs.Legal.{Legal, MayHappen, MayEnd}
 use Rattle.qc_event.specs.Commits.{MayCommit}
 use Rattle.qc_event.specs.Standing.{Started, IsUser, open_child}
-use Rattle.qc_event.proofs.Absent.{if_not}
+use Rattle.qc_event.proofs.Absent.{if_not, other_length}
 use Rattle.qc_event.proofs.LastNumber.{is_ancestor-append}
 use Rattle.qc_event.proofs.Lawful.{lawful, ends_open, committed_is}
 use Rattle.qc_event.proofs.LegalOrderly.{legal_orderly}
 use Rattle.qc_event.proofs.OneEntry.{end_now, end_step, ending, marking, stays_some, some_or_none, first_is, if_is}
 use Rattle.qc_event.proofs.Orderly.{KeepsOrder, Begins}
+use Rattle.qc_event.proofs.Later.{started_still}
 use Rattle.qc_names.specs.Name as name
 use Rattle.qc_script.specs.Calls.{by_client, NotAborted, IsGrounded, IsNone}
 use Rattle.qc_script.specs.Client.{Client, mine, is_own, concerns, Made, IsLater, AreOurs}
@@ -39,7 +40,7 @@ use Rattle.qc_interp.proofs.Turning.{InTurn, Alone, end_turns, alone_below, itse
 use Rattle.qc_interp.specs.Tries.{is_tried_again}
 use Rattle.qc_script.specs.declared.tx.TxNo.{TxNo}
 use Rattle.qc_script.specs.declared.tx.TxNo.TheVariants as tx_no
-use Rattle.qc_interp.proofs.Growth.{made_is, made_later, later_itself, later_trans, ours_before, own_found, differ, started_still}
+use Rattle.qc_interp.proofs.Growth.{made_is, made_later, later_itself, later_trans, ours_before, own_found}
 use Rattle.qc_interp.proofs.Managers.{children_quiet, found_quiet, absent, came_after}
 use Rattle.std.specs.List.{list_all}
 use Rattle.qc_interp.specs.Adding.{stays_in}
@@ -200,7 +201,7 @@ module _ (c : Client) (of : Name) where
         not_ready (x ∷ []) r is (omega arith) (committed_ready c.setting now x g.0 runs.legal g.1)
     not_committed (x ∷ y ∷ p) r is h =
         let g = committed_is (end now (x ∷ y ∷ p)) h in
-        let apart : (same (x ∷ y ∷ p) (take 1 of) && true) ≡ false = ap (λ b. b && true) (differ (x ∷ y ∷ p) (take 1 of) (λ l. omega (arith, l, short))) in
+        let apart : (same (x ∷ y ∷ p) (take 1 of) && true) ≡ false = ap (λ b. b && true) (other_length (x ∷ y ∷ p) (take 1 of) (λ l. omega (arith, l, short))) in
         let found = own_end (x ∷ y ∷ p) r (Commit g.0) is (omega arith) apart g.1 in
         true≢false (sym (ap (λ o. is_committed (outcome_of o)) found) ∙ unended_commit (x ∷ y ∷ p) _ (runs.above (x ∷ y ∷ p) r is (omega arith)).0)
       where
@@ -284,7 +285,7 @@ module _ (c : Client) (of : Name) where
       inside = ap (list_all (stays_in (take 1 of))) m.made ∙ ap (λ b. b && true) (at_top of);
       over = λ was r. over_later c before now (made_later c _ before now m) of (was (sym (ap (λ h. is_ready h of) now_is ∙ ap is_some (found_quiet _ (by_client c (event.End of how) ∷ []) (mine c before) (refl, tt))) ∙ r));
       above = λ p r is far.
-          let quiet : end_in p (event.End of how) ≡ None = if_not (same of p) (Some how) (differ of p (λ l. omega (arith, l, far, ap length is ∙ length-append p r))) in
+          let quiet : end_in p (event.End of how) ≡ None = if_not (same of p) (Some how) (other_length of p (λ l. omega (arith, l, far, ap length is ∙ length-append p r))) in
           record {
             children = ap (λ h. children h p) now_is ∙ children_quiet p (by_client c (event.End of how) ∷ []) (mine c before) (refl, tt);
             ready = ap (λ h. is_ready h p) now_is ∙ ap is_some (found_quiet _ (by_client c (event.End of how) ∷ []) (mine c before) (refl, tt));

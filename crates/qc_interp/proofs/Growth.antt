@@ -1,38 +1,22 @@
 -- What a client has seen grows, by its own entries and others'.
-use Rattle.std.proofs.Common.{◌≡◌, ◌+◌, Bool, true, false, [], ◌∷◌, ◌++◌, length, refl, sym, ap, ◌∙◌, subst, append_assoc, take}
+use Rattle.std.proofs.Common.{◌≡◌, Bool, true, false, [], ◌∷◌, ◌++◌, refl, sym, ap, ◌∙◌, subst, append_assoc, take}
 use mathlib.Core.Bool.{true≢false}
-use Rattle.std.specs.Prelude.{Option, None, Some, MatchOption, not, ◌&&◌, ◌||◌, if◌then◌else◌}
+use Rattle.std.specs.Prelude.{Option, None, Some, MatchOption, not, ◌||◌, if◌then◌else◌}
 use Rattle.std.specs.Option.{option_or}
 use Rattle.std.proofs.lemmas.List.Elements.{filter-append}
 use Rattle.std.proofs.lemmas.List.Folds.{list_all-append}
-use Rattle.std.proofs.lemmas.Bool.{false_from_ne_true}
+use Rattle.std.proofs.lemmas.Bool.{and_parts}
 use Rattle.qc_event.specs.declared.event.Entry.{Entry}
-use Rattle.qc_event.specs.Base.{Setting}
-use Rattle.qc_event.specs.History.{Past, Name, Begun, earliest, start, end, is_child, same}
+use Rattle.qc_event.specs.History.{Past, Name, earliest, end}
 use Rattle.qc_event.specs.Legal.{Legal}
-use Rattle.qc_event.specs.Standing.{Started}
 use Rattle.qc_event.proofs.Histories.{earliest-append}
-use Rattle.qc_event.proofs.LastNumber.{child_last, length_last}
-use Rattle.qc_event.proofs.Absent.{same_is}
 use Rattle.qc_event.proofs.OneEntry.{some_or_none, not_some}
 use Rattle.qc_script.specs.Client.{Client, mine, is_own, concerns, Made, IsLater, AreOurs, all_ours}
 use Rattle.qc_interp.proofs.Mine.{kept_some}
 
-pub and_both : (a b : Bool) → (a && b) ≡ true → (a ≡ true) × (b ≡ true)
-and_both true b h = (refl, h)
-and_both false b h = absurd (true≢false (sym h))
-
-pub and_by : (a b : Bool) → a ≡ true → b ≡ true → (a && b) ≡ true
-and_by true b x y = y
-and_by false b x y = absurd (true≢false (sym x))
-
 pub implied : (a b : Bool) → (not a || b) ≡ true → a ≡ true → b ≡ true
 implied true b h is = h
 implied false b h is = absurd (true≢false (sym is))
-
-pub legal_rest : (setting : Setting) (after past : Past) → Legal setting (after ++ past) → Legal setting past
-legal_rest setting [] past legal = legal
-legal_rest setting (e ∷ after) past legal = legal_rest setting after past legal.0
 
 module _ (c : Client) where
   pub made_is : (es before now : Past) → Made c es before now → mine c now ≡ es ++ mine c before
@@ -64,13 +48,13 @@ module _ (c : Client) where
 
   pub ours_before : (n : Name) (before now : Past) → IsLater c before now → AreOurs c n now → AreOurs c n before
   ours_before n before now p ours =
-      (and_both _ _ (sym (list_all-append _ p.newer before) ∙ ap (all_ours c n) (sym p.grown) ∙ ours)).1
+      (and_parts _ _ (sym (list_all-append _ p.newer before) ∙ ap (all_ours c n) (sym p.grown) ∙ ours)).1
 
   -- what all is one's own about a name is found among one's own
   pub own_found : {Y : Type 0} (f : Entry → Option Y) (y : Y) (n : Name) (past : Past) → ((e : Entry) → f e ≡ Some y → concerns (take 1 n) e.event ≡ true) → AreOurs c n past → earliest f past ≡ Some y → earliest f (mine c past) ≡ Some y
   own_found f y n [] about ours is = absurd cc
   own_found {Y = Y} f y n (e ∷ past) about ours is =
-      let both = and_both (not (concerns (take 1 n) e.event) || is_own c e.seat) _ ours in
+      let both = and_parts (not (concerns (take 1 n) e.event) || is_own c e.seat) _ ours in
       by_old (earliest f past) refl (own_found f y n past about both.1) (implied (concerns (take 1 n) e.event) (is_own c e.seat) both.0) is
     where
       found : Past → Type 0
@@ -104,28 +88,7 @@ module _ (c : Client) where
           record { after = []; mid = newer; is = ap (λ y. y ∷ newer) heads; made = tails }
       by_test false is more = let f = more is in record { after = x ∷ f.after; mid = f.mid; is = ap (λ l. x ∷ l) f.is; made = f.made }
 
--- NAMES OF DIFFERENT LENGTHS
-
-pub differ : (m n : Name) → (length m ≡ length n → ⊥) → same m n ≡ false
-differ m n apart = false_from_ne_true (same m n) (λ h. apart (ap length (same_is m n h)))
-
-pub child_length : (p n : Name) → is_child p n ≡ true → length n ≡ length p + 1
-child_length p n h = let l = child_last p n h in ap length l.1 ∙ length_last p l.0
-
-pub no_child_by : (p n : Name) → (length n ≡ length p + 1 → ⊥) → is_child p n ≡ false
-no_child_by p n apart = false_from_ne_true (is_child p n) (λ h. apart (child_length p n h))
-
 -- WHO IS STARTED STAYS SO
-
-pub start_still : (newer past : Past) (n : Name) (b : Begun) → start past n ≡ Some b → start (newer ++ past) n ≡ Some b
-start_still newer past n b is = earliest-append _ newer past ∙ ap (λ o. option_or o (start newer n)) is
-
-pub started_still : (newer past : Past) (n : Name) (P : Begun → Type 0) → Started past n P → Started (newer ++ past) n P
-started_still newer past n P h = by_start (start past n) refl h
-  where
-    by_start : (o : Option Begun) → start past n ≡ o → MatchOption o ⊥ P → Started (newer ++ past) n P
-    by_start None is h = absurd h
-    by_start (Some b) is h = subst (λ o. MatchOption o ⊥ P) (sym (start_still newer past n b is)) h
 
 pub ended_still : (newer past : Past) (n : Name) (P : Rattle.qc_event.specs.declared.event.How.How → Type 0) → MatchOption (end past n) ⊥ P → MatchOption (end (newer ++ past) n) ⊥ P
 ended_still newer past n P h = by_end (end past n) refl h

@@ -3,7 +3,7 @@ use Rattle.std.proofs.Common.{◌≡◌, ℕ, Bool, true, false, List, [], ◌�
 use mathlib.Core.Bool.{true≢false}
 use Rattle.std.specs.Prelude.{not, ◌==◌, ◌&&◌, ◌||◌}
 use Rattle.std.specs.List.{AllByRecursion}
-use Rattle.std.proofs.lemmas.Bool.{eqb-true}
+use Rattle.std.proofs.lemmas.Bool.{eqb-true, and_parts, or_right}
 use Rattle.qc_event.specs.declared.event.Entry.{Entry}
 use Rattle.qc_event.specs.declared.event.Event.{Event}
 use Rattle.qc_event.specs.declared.event.Event.TheVariants as event
@@ -11,17 +11,12 @@ use Rattle.qc_event.specs.declared.event.How.{How}
 use Rattle.qc_event.specs.History.{Past, Name, is_child, same}
 use Rattle.qc_event.proofs.Absent.{same_itself}
 use Rattle.qc_event.proofs.LastNumber.{child_last, rest_of}
+use Rattle.qc_event.proofs.Booleans.{all_wider}
 use Rattle.qc_names.specs.Name as name
 use Rattle.qc_script.specs.Client.{Client, mine, is_own, is_commit, concerns, AreOurs}
 use Rattle.qc_interp.specs.Alone.{is_lone, AreLone}
 use Rattle.qc_interp.specs.Session.{tops, AreAllOurs}
-use Rattle.qc_interp.proofs.Adding.{all_wider}
-use Rattle.qc_interp.proofs.Growth.{and_both}
 use Rattle.qc_interp.proofs.Seen.{all_children}
-
-or_right : (a b : Bool) → b ≡ true → (a || b) ≡ true
-or_right true b h = refl
-or_right false b h = h
 
 not_both : (a b : Bool) → a ≡ true → b ≡ true → not (a && b) ≡ false
 not_both true true h g = refl
@@ -55,7 +50,7 @@ lone_ours c number seat (event.End n how) h = by_own (is_own c seat) h
     by_own : (b : Bool) → (b || ((seat == 1) && ((length n == 1) && is_commit how))) ≡ true → (not (concerns (number ∷ []) (event.End n how)) || b) ≡ true
     by_own true h = or_right (not (concerns (number ∷ []) (event.End n how))) true refl
     by_own false h =
-        let p = and_both (length n == 1) (is_commit how) (and_both (seat == 1) _ h).1 in
+        let p = and_parts (length n == 1) (is_commit how) (and_parts (seat == 1) _ h).1 in
         ap (λ b. not b || false) (commits_none number n how p.0 p.1)
 lone_ours c number seat (event.Granted copy grant) h = refl
 lone_ours c number seat (event.Refused n copy refusal) h = refl

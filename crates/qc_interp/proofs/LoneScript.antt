@@ -5,6 +5,7 @@ use Rattle.std.specs.Prelude.{Option, None, Some, MatchOption, IsTrue, is_some, 
 use Rattle.std.specs.List.{AllByRecursion, list_all, list_any}
 use Rattle.std.proofs.lemmas.List.Folds.{list_all-append}
 use Rattle.std.proofs.Math.Bool.{or-false}
+use Rattle.std.proofs.lemmas.Bool.{and_parts, and_from}
 use Rattle.qc_event.specs.declared.event.Cause.TheVariants.{Asked}
 use Rattle.qc_event.specs.declared.event.Entry.{Entry}
 use Rattle.qc_event.specs.declared.event.Event.{Event}
@@ -37,7 +38,6 @@ use Rattle.qc_interp.specs.Session.{tops, NotBegun, RunsBodies, FollowsBodies, E
 use Rattle.qc_interp.specs.Sessions.{tops_of, is_plain, all_plain}
 use Rattle.qc_interp.specs.Turns.{begun_in, is_done, is_alone}
 use Rattle.qc_interp.proofs.Ending.{top_user}
-use Rattle.qc_interp.proofs.Growth.{and_both, and_by}
 use Rattle.qc_interp.proofs.LoneBodies.{IsOurTop, IsOfSession, bodies_seen, bodies_ask_seen, each_of_session}
 use Rattle.qc_interp.proofs.LoneEntries.{ours_alone, all_ours_alone}
 use Rattle.qc_interp.proofs.LoneSessions.{IsSingle, kind_at, one_more, only_of, turns_lone, seats_lone, messages_lone, order_lone, numbers_lone, plain_lone}
@@ -53,7 +53,7 @@ module _ (c : Client) where
   start_own : {Y : Type 0} (f : ℕ → Event → Option Y) → ((seat : ℕ) (ev : Event) → ((n : Name) (k : Kind) → ev ≡ event.Start n k → ⊥) → f seat ev ≡ None) → (past : Past) → AreLone c past → Answers (λ (e : Entry). is_own c e.seat) (λ e. f e.seat e.event) past
   start_own f none [] lone = tt
   start_own f none (e ∷ past) lone =
-      let both = and_both (is_lone c e.seat e.event) (all_lone c past) lone in
+      let both = and_parts (is_lone c e.seat e.event) (all_lone c past) lone in
       ((λ other. none e.seat e.event (λ n k is. true≢false (sym (sym (ap (is_lone c e.seat) is) ∙ both.0) ∙ other))), start_own f none past both.1)
 
   child_none : (p : Name) (seat : ℕ) (ev : Event) → ((n : Name) (k : Kind) → ev ≡ event.Start n k → ⊥) → child_in p ev ≡ None
@@ -89,7 +89,7 @@ module _ (c : Client) where
   asked_in : (Q : Name → Name → Type 0) (past : Past) (n by : Name) → AreLone c past → AllByRecursion (λ (e : Entry). IsAskedBy Q e.event) (mine c past) → end past n ≡ Some (Abort (Asked by)) → (n ≡ by) ⊎ Q by n
   asked_in Q [] n by lone all is = absurd cc
   asked_in Q (e ∷ past) n by lone all is =
-      let both = and_both (is_lone c e.seat e.event) (all_lone c past) lone in
+      let both = and_parts (is_lone c e.seat e.event) (all_lone c past) lone in
       by_own (is_own c e.seat) refl all both.0 (λ rest old. asked_in Q past n by both.1 rest old)
     where
       by_own : (b : Bool) → is_own c e.seat ≡ b → AllByRecursion (λ (e : Entry). IsAskedBy Q e.event) (if b then e ∷ mine c past else mine c past) → is_lone c e.seat e.event ≡ true
@@ -119,7 +119,7 @@ all_started setting passes newer [] legal pass = refl
 all_started setting passes newer (e ∷ past) legal pass =
     let shift = one_more newer past e in
     list_all-append passes (started past) (option_to_list (started_in e.event))
-    ∙ and_by _ _ (all_started setting passes (newer ++ e ∷ []) past (subst (Legal setting) (sym shift) legal) (λ n k is. pass n k (subst (λ h. kind_of h n ≡ Some k) shift is))) (by_event e.event refl)
+    ∙ and_from _ _ (all_started setting passes (newer ++ e ∷ []) past (subst (Legal setting) (sym shift) legal) (λ n k is. pass n k (subst (λ h. kind_of h n ≡ Some k) shift is))) (by_event e.event refl)
   where
     by_event : (ev : Event) → e.event ≡ ev → list_all passes (option_to_list (started_in ev)) ≡ true
     by_event (event.Start n k) is = ap (λ b. b && true) (pass n k (kind_at setting newer past e n k legal is))
@@ -137,7 +137,7 @@ some_kind None k is = absurd cc
 some_kind (Some b) k is = (b, refl, let same : b.kind ≡ k = cc in same)
 
 pass_append : (passes : Name → Bool) (xs ys : List Name) → list_all passes (xs ++ ys) ≡ true → (list_all passes xs ≡ true) × (list_all passes ys ≡ true)
-pass_append passes xs ys h = and_both _ _ (sym (list_all-append passes xs ys) ∙ h)
+pass_append passes xs ys h = and_parts _ _ (sym (list_all-append passes xs ys) ∙ h)
 
 -- what passes of all user transactions and managers that have begun passes of each
 begun_passes : (passes : Name → Bool) (h : Past) (n : Name) (b : Begun) → start h n ≡ Some b → is_access b.kind ≡ false → list_all passes (every (λ e. begun_in e.event) h) ≡ true → passes n ≡ true
@@ -151,7 +151,7 @@ begun_passes passes (e ∷ h) n b is none all =
   where
     by_kind : (m : Name) (k : Kind) (x : Bool) → is_access k ≡ x → x ≡ false → list_all passes (option_to_list (if x then None else Some m)) ≡ true → passes m ≡ true
     by_kind m k true at none all = absurd (true≢false none)
-    by_kind m k false at none all = (and_both (passes m) true all).0
+    by_kind m k false at none all = (and_parts (passes m) true all).0
 
     by_event : (ev : Event) → start_in n e.seat ev ≡ Some b → list_all passes (option_to_list (begun_in ev)) ≡ true → passes n ≡ true
     by_event (event.Start m k) at all =
@@ -179,12 +179,12 @@ child_passes passes (e ∷ h) p n child some all =
     by_child : (k : Kind) → e.event ≡ event.Start n k → list_all passes (option_to_list (child_in p e.event)) ≡ true → passes n ≡ true
     by_child k is all =
         let at : child_in p e.event ≡ Some n = ap (child_in p) is ∙ ap (λ b. if b then Some n else None) child in
-        (and_both (passes n) true (sym (ap (λ o. list_all passes (option_to_list o)) at) ∙ all)).0
+        (and_parts (passes n) true (sym (ap (λ o. list_all passes (option_to_list o)) at) ∙ all)).0
 
 none_unable : (n : Name) (past : Past) → all_plain past ≡ true → list_any (λ (e : Entry). unable_in n e.event) past ≡ false
 none_unable n [] plain = refl
 none_unable n (e ∷ past) plain =
-    let both = and_both (is_plain e.event) (all_plain past) plain in
+    let both = and_parts (is_plain e.event) (all_plain past) plain in
     ap (λ b. b || list_any (λ (e : Entry). unable_in n e.event) past) (by_event e.event both.0) ∙ none_unable n past both.1
   where
     by_event : (ev : Event) → is_plain ev ≡ true → unable_in n ev ≡ false

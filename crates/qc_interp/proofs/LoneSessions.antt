@@ -4,7 +4,7 @@ use mathlib.Core.Bool.{true≢false}
 use Rattle.std.specs.Prelude.{Option, None, Some, is_some, option_to_list, option_map, ◌==◌, not, ◌&&◌, ◌||◌, if◌then◌else◌}
 use Rattle.std.specs.List.{AllByRecursion, list_all, list_any}
 use Rattle.std.specs.Option.{option_or, option_map_or}
-use Rattle.std.proofs.lemmas.Bool.{eqb-true, eq-eqb}
+use Rattle.std.proofs.lemmas.Bool.{eqb-true, eq-eqb, and_parts, and_from}
 use Rattle.std.proofs.lemmas.List.Folds.{list_all-append}
 use Rattle.std.proofs.Math.Bool.{or-false}
 use Rattle.qc_event.specs.declared.event.Entry.{Entry}
@@ -18,12 +18,14 @@ use Rattle.qc_event.specs.Legal.{Legal}
 use Rattle.qc_event.specs.Seats.{is_client}
 use Rattle.qc_event.proofs.Absent.{same_is, if_not}
 use Rattle.qc_event.proofs.Histories.{earliest-append}
-use Rattle.qc_event.proofs.LastNumber.{length_last}
+use Rattle.qc_event.proofs.LastNumber.{length_last, no_child_length}
 use Rattle.qc_event.proofs.Lawful.{lawful}
 use Rattle.qc_event.proofs.LegalOrderly.{legal_orderly}
 use Rattle.qc_event.proofs.Lineage.{fresh_child}
 use Rattle.qc_event.proofs.OneEntry.{if_is, first_is, start_is, start_stays, start_now}
 use Rattle.qc_event.proofs.Orderly.{KeepsOrder, IsNextChild}
+use Rattle.qc_event.proofs.Later.{earlier_legal}
+use Rattle.qc_event.proofs.Booleans.{all_wider}
 use Rattle.qc_names.specs.Name as name
 use Rattle.qc_net.specs.Messages.{Net, meets_fates}
 use Rattle.qc_script.specs.Calls.{is_over}
@@ -33,8 +35,6 @@ use Rattle.qc_interp.specs.Adding.{all_over, own_after, is_of_one}
 use Rattle.qc_interp.specs.Alone.{is_lone, all_lone, AreLone}
 use Rattle.qc_interp.specs.Sessions.{top_by, top_in, tops_of, is_of, part_of, is_under, seat_for, keeps_seat, after_others, seat_in, is_plain, all_plain}
 use Rattle.qc_interp.specs.Turns.{begun_in, takes_turn}
-use Rattle.qc_interp.proofs.Adding.{all_wider, names_wider}
-use Rattle.qc_interp.proofs.Growth.{and_both, and_by, legal_rest, no_child_by}
 use Rattle.qc_interp.proofs.LoneBodies.{IsOfSession}
 use Rattle.qc_interp.proofs.LoneEntries.{top_is}
 use Rattle.qc_interp.proofs.LoneTurns.{Answers, earliest_kept, DropsNone, turns_kept}
@@ -69,7 +69,7 @@ start_fresh setting past e n k legal is = by_name n (subst (KeepsOrder past) is 
 -- what a start says is what its name is for
 pub kind_at : (setting : Setting) (newer past : Past) (e : Entry) (n : Name) (k : Kind) → Legal setting (newer ++ (e ∷ past)) → e.event ≡ event.Start n k → kind_of (newer ++ (e ∷ past)) n ≡ Some k
 kind_at setting newer past e n k legal is =
-    let begun = start_is e past n k (start_fresh setting past e n k (legal_rest setting newer (e ∷ past) legal) is) is in
+    let begun = start_is e past n k (start_fresh setting past e n k (earlier_legal setting newer (e ∷ past) legal) is) is in
     ap (option_map (λ (b : Begun). b.kind)) (earliest-append _ newer (e ∷ past) ∙ ap (λ o. option_or o (start newer n)) begun)
 
 pub one_more : (newer past : Past) (e : Entry) → (newer ++ e ∷ []) ++ past ≡ newer ++ (e ∷ past)
@@ -81,7 +81,7 @@ top_some : (s x b : ℕ) → top_by s (x ∷ []) (kind.User s b) ≡ Some (x ∷
 top_some s x b = ap (λ t. if t then Some (x ∷ []) else None) (eq-eqb s s refl)
 
 far_child : (x y : ℕ) (n : Name) (k : Kind) → child_in [] (event.Start (x ∷ y ∷ n) k) ≡ None
-far_child x y n k = if_not (is_child [] (x ∷ y ∷ n)) (Some (x ∷ y ∷ n)) (no_child_by [] (x ∷ y ∷ n) (λ l. omega (arith, l)))
+far_child x y n k = if_not (is_child [] (x ∷ y ∷ n)) (Some (x ∷ y ∷ n)) (no_child_length [] (x ∷ y ∷ n) (λ l. omega (arith, l)))
 
 -- each top is of a session where each that has started is
 pub only_of : (setting : Setting) (s : ℕ) (newer past : Past) → Legal setting (newer ++ past) → AllByRecursion (IsOfSession s (newer ++ past)) (children past []) → tops_of s past ≡ children past []
@@ -116,7 +116,7 @@ not_ledger : (seat : ℕ) → (seat == 1) ≡ true → is_client seat ≡ false
 not_ledger seat is = ap is_client (eqb-true seat 1 is)
 
 of_lone : (c : Client) (tops : List Name) (e : Entry) → is_lone c e.seat e.event ≡ true → is_of tops e ≡ true → is_own c e.seat ≡ true
-of_lone c tops e lone of = by_event e.event refl lone (and_both (is_client e.seat) _ of).0 (and_both (is_client e.seat) _ of).1
+of_lone c tops e lone of = by_event e.event refl lone (and_parts (is_client e.seat) _ of).0 (and_parts (is_client e.seat) _ of).1
   where
     by_event : (ev : Event) → e.event ≡ ev → is_lone c e.seat ev ≡ true → is_client e.seat ≡ true → option_map_or (λ n. list_any (λ t. name.is_ancestor t n) tops) (about e.event) false ≡ true → is_own c e.seat ≡ true
     by_event (event.Start n k) is lone client low = lone
@@ -127,7 +127,7 @@ of_lone c tops e lone of = by_event e.event refl lone (and_both (is_client e.sea
       where
         by_own : (b : Bool) → (b || ((e.seat == 1) && ((length n == 1) && Rattle.qc_script.specs.Client.is_commit how))) ≡ true → b ≡ true
         by_own true h = refl
-        by_own false h = absurd (true≢false (sym client ∙ not_ledger e.seat (and_both (e.seat == 1) _ h).0))
+        by_own false h = absurd (true≢false (sym client ∙ not_ledger e.seat (and_parts (e.seat == 1) _ h).0))
     by_event (event.Granted copy grant) is lone client low = absurd (true≢false (sym (sym (ap (λ ev. option_map_or (λ n. list_any (λ t. name.is_ancestor t n) tops) (about ev) false) is) ∙ low)))
     by_event (event.Refused n copy refusal) is lone client low = absurd (true≢false (sym (sym (ap (λ ev. option_map_or (λ m. list_any (λ t. name.is_ancestor t m) tops) (about ev) false) is) ∙ low)))
     by_event (event.Unable n why) is lone client low = absurd (true≢false (sym lone))
@@ -135,7 +135,7 @@ of_lone c tops e lone of = by_event e.event refl lone (and_both (is_client e.sea
 
 all_of_lone : (c : Client) (tops : List Name) (past : Past) → AreLone c past → AllByRecursion (λ (e : Entry). is_of tops e ≡ true → is_own c e.seat ≡ true) past
 all_of_lone c tops [] lone = tt
-all_of_lone c tops (e ∷ past) lone = let both = and_both (is_lone c e.seat e.event) (all_lone c past) lone in ((λ of. of_lone c tops e both.0 of), all_of_lone c tops past both.1)
+all_of_lone c tops (e ∷ past) lone = let both = and_parts (is_lone c e.seat e.event) (all_lone c past) lone in ((λ of. of_lone c tops e both.0 of), all_of_lone c tops past both.1)
 
 pub part_lone : (c : Client) (s : ℕ) (past : Past) → AreLone c past → filter (is_of (tops_of s past)) (mine c past) ≡ part_of s past
 part_lone c s past lone = part_mine c s past (all_of_lone c (tops_of s past) past lone)
@@ -173,7 +173,7 @@ part_under c tops past single lone = kept_all _ (is_of tops) past (by_past past 
   where
     by_past : (past : Past) → AreLone c past → AllByRecursion (λ (e : Entry). is_of tops e ≡ true → c.number ≡ e.seat) past
     by_past [] lone = tt
-    by_past (e ∷ past) lone = let both = and_both (is_lone c e.seat e.event) (all_lone c past) lone in ((λ of. own_seat c e.seat single (of_lone c tops e both.0 of)), by_past past both.1)
+    by_past (e ∷ past) lone = let both = and_parts (is_lone c e.seat e.event) (all_lone c past) lone in ((λ of. own_seat c e.seat single (of_lone c tops e both.0 of)), by_past past both.1)
 
 -- TURNS
 
@@ -184,13 +184,13 @@ all_mine c h = kept_all _ (λ (e : Entry). is_own c e.seat) h (itself_kept (λ (
 drops : (c : Client) (tops : List Name) (es : Past) → IsSingle c → AllByRecursion (λ (e : Entry). is_own c e.seat ≡ true) es → list_all (is_of_one tops) es ≡ true → DropsNone (is_of tops) es
 drops c tops [] single own all = tt
 drops c tops (e ∷ es) single own all =
-    let both = and_both (is_of_one tops e) (list_all (is_of_one tops) es) all in
+    let both = and_parts (is_of_one tops e) (list_all (is_of_one tops) es) all in
     ((λ other. by_about (about e.event) refl both.0 other), drops c tops es single own.1 both.1)
   where
     by_about : (o : Option Name) → about e.event ≡ o → option_map_or (λ n. list_any (λ t. name.is_ancestor t n) tops) o true ≡ true → is_of tops e ≡ false → about e.event ≡ None
     by_about None is one other = is
     by_about (Some n) is one other =
-        let of : is_of tops e ≡ true = and_by _ _ (own_client c e.seat single own.0) (ap (λ o. option_map_or (λ n. list_any (λ t. name.is_ancestor t n) tops) o false) is ∙ one) in
+        let of : is_of tops e ≡ true = and_from _ _ (own_client c e.seat single own.0) (ap (λ o. option_map_or (λ n. list_any (λ t. name.is_ancestor t n) tops) o false) is ∙ one) in
         absurd (true≢false (sym of ∙ other))
 
 pub turns_lone : (c : Client) (s : ℕ) (past : Past) → IsSingle c → AreLone c past → list_all (is_of_one (tops_of s past)) (mine c past) ≡ true → each takes_turn (mine c past) ≡ true → each takes_turn (part_of s past) ≡ true
@@ -228,7 +228,7 @@ tops_started : (s : ℕ) (h : Past) → list_all (λ t. is_some (start h t)) (to
 tops_started s [] = refl
 tops_started s (e ∷ h) =
     list_all-append (λ t. is_some (start (e ∷ h) t)) (tops_of s h) (option_to_list (top_in s e.event))
-    ∙ and_by _ _ (names_wider (λ t. is_some (start h t)) (λ t. is_some (start (e ∷ h) t)) (tops_of s h) (λ t was. start_stays e h t was) (tops_started s h)) (by_event e.event refl)
+    ∙ and_from _ _ (all_wider (λ t. is_some (start h t)) (λ t. is_some (start (e ∷ h) t)) (tops_of s h) (λ t was. start_stays e h t was) (tops_started s h)) (by_event e.event refl)
   where
     one : (t : Name) (k : Kind) → e.event ≡ event.Start t k → list_all (λ x. is_some (start (e ∷ h) x)) (t ∷ []) ≡ true
     one t k is = ap (λ b. b && true) (start_now e h t (k, is))
@@ -277,13 +277,13 @@ parent_low (t ∷ ts) p j all far low = by_test (name.is_ancestor t p) refl (par
 start_answers : (c : Client) (ts : List Name) (p : Name) (past : Past) → IsSingle c → AreLone c past → list_any (λ t. name.is_ancestor t p) ts ≡ true → Answers (is_of ts) (λ e. start_in p e.seat e.event) past
 start_answers c ts p [] single lone low = tt
 start_answers c ts p (e ∷ past) single lone low =
-    let both = and_both (is_lone c e.seat e.event) (all_lone c past) lone in
+    let both = and_parts (is_lone c e.seat e.event) (all_lone c past) lone in
     ((λ other. by_event e.event refl both.0 other), start_answers c ts p past single both.1 low)
   where
     by_test : (m : Name) (k : Kind) (y : Begun) (b : Bool) → same m p ≡ b → e.event ≡ event.Start m k → is_own c e.seat ≡ true → is_of ts e ≡ false → (if b then Some y else None) ≡ None
     by_test m k y false at is own other = refl
     by_test m k y true at is own other =
-        let of : is_of ts e ≡ true = and_by _ _ (own_client c e.seat single own) (ap (λ ev. option_map_or (λ n. list_any (λ t. name.is_ancestor t n) ts) (about ev) false) is ∙ ap (λ n. list_any (λ t. name.is_ancestor t n) ts) (same_is m p at) ∙ low) in
+        let of : is_of ts e ≡ true = and_from _ _ (own_client c e.seat single own) (ap (λ ev. option_map_or (λ n. list_any (λ t. name.is_ancestor t n) ts) (about ev) false) is ∙ ap (λ n. list_any (λ t. name.is_ancestor t n) ts) (same_is m p at) ∙ low) in
         absurd (true≢false (sym of ∙ other))
 
     by_event : (ev : Event) → e.event ≡ ev → is_lone c e.seat ev ≡ true → is_of ts e ≡ false → start_in p e.seat ev ≡ None
@@ -300,7 +300,7 @@ start_answers c ts p (e ∷ past) single lone low =
 seats_kept : (c : Client) (s : ℕ) (ts : List Name) (past : Past) → Legal c.setting past → IsSingle c → AreLone c past → AllTops ts → each (keeps_seat s) (filter (is_of ts) past) ≡ true
 seats_kept c s ts [] legal single lone tops = refl
 seats_kept c s ts (e ∷ past) legal single lone tops =
-    let both = and_both (is_lone c e.seat e.event) (all_lone c past) lone in
+    let both = and_parts (is_lone c e.seat e.event) (all_lone c past) lone in
     by_test (is_of ts e) refl (seats_kept c s ts past legal.0 single both.1 tops) both.0 (part_under c ts past single both.1)
   where
     h : Past
@@ -322,7 +322,7 @@ seats_kept c s ts (e ∷ past) legal single lone tops =
     by_event : (ev : Event) → e.event ≡ ev → AreLone c past → c.number ≡ e.seat → AllUnder c.number h → option_map_or (λ n. list_any (λ t. name.is_ancestor t n) ts) (about ev) false ≡ true → seat_for s h e.seat ev ≡ true
     by_event (event.Start [] k) is others seat under low = absurd (let z : KeepsOrder past (event.Start [] k) = subst (KeepsOrder past) is keeps in z)
     by_event (event.Start (x ∷ []) k) is others seat under low =
-        subst (λ n. list_all (is_under h n) (tops_of s h) ≡ true) seat (names_wider (λ t. is_some (start h t)) (is_under h c.number) (tops_of s h) (λ t some. under_started c.number h t under some) (tops_started s h))
+        subst (λ n. list_all (is_under h n) (tops_of s h) ≡ true) seat (all_wider (λ t. is_some (start h t)) (is_under h c.number) (tops_of s h) (λ t some. under_started c.number h t under some) (tops_started s h))
     by_event (event.Start (x ∷ y ∷ r) k) is others seat under low = subst (λ n. is_under h n (name.front (x ∷ y ∷ r)) ≡ true) seat (parent_under x y r k others is low under)
     by_event (event.Ask ask) is others seat under low = refl
     by_event (event.Gone m why) is others seat under low = refl
@@ -335,7 +335,7 @@ seats_kept c s ts (e ∷ past) legal single lone tops =
 
     by_test : (b : Bool) → is_of ts e ≡ b → each (keeps_seat s) h ≡ true → is_lone c e.seat e.event ≡ true → AllUnder c.number h → each (keeps_seat s) (if b then e ∷ h else h) ≡ true
     by_test true of rest own under =
-        and_by _ _ rest (by_event e.event refl (and_both (is_lone c e.seat e.event) (all_lone c past) lone).1 (own_seat c e.seat single (of_lone c ts e own of)) under (and_both (is_client e.seat) _ of).1)
+        and_from _ _ rest (by_event e.event refl (and_parts (is_lone c e.seat e.event) (all_lone c past) lone).1 (own_seat c e.seat single (of_lone c ts e own of)) under (and_parts (is_client e.seat) _ of).1)
     by_test false of rest own under = rest
 
 pub seats_lone : (c : Client) (s : ℕ) (past : Past) → Legal c.setting past → IsSingle c → AreLone c past → AllTops (tops_of s past) → each (keeps_seat s) (part_of s past) ≡ true
@@ -352,7 +352,7 @@ messages_lone c s net past single lone met = by_list (part_of s past) (part_unde
 
     by_list : (h : Past) → AllUnder c.number h → list_all (λ seat. meets_fates seat net past) (every seat_in h) ≡ true
     by_list [] all = refl
-    by_list (e ∷ h) all = list_all-append (λ seat. meets_fates seat net past) (every seat_in h) (option_to_list (seat_in e)) ∙ and_by _ _ (by_list h all.1) (one e (begun_in e.event) all.0)
+    by_list (e ∷ h) all = list_all-append (λ seat. meets_fates seat net past) (every seat_in h) (option_to_list (seat_in e)) ∙ and_from _ _ (by_list h all.1) (one e (begun_in e.event) all.0)
 
 -- TOPS, IN ORDER AND BY NUMBER
 
@@ -400,7 +400,7 @@ top_child s (event.End m how) t is = absurd cc
 tops_pass : (c : Client) (s : ℕ) (passes : Name → Bool) (past : Past) → AreLone c past → list_all passes (children (mine c past) []) ≡ true → list_all passes (tops_of s past) ≡ true
 tops_pass c s passes [] lone all = refl
 tops_pass c s passes (e ∷ past) lone all =
-    let both = and_both (is_lone c e.seat e.event) (all_lone c past) lone in
+    let both = and_parts (is_lone c e.seat e.event) (all_lone c past) lone in
     by_own (is_own c e.seat) refl all (tops_pass c s passes past both.1) both.0
   where
     by_top : (o : Option Name) → top_in s e.event ≡ o → list_all passes (option_to_list (child_in [] e.event)) ≡ true → list_all passes (option_to_list o) ≡ true
@@ -409,10 +409,10 @@ tops_pass c s passes (e ∷ past) lone all =
 
     by_own : (b : Bool) → is_own c e.seat ≡ b → list_all passes (children (if b then e ∷ mine c past else mine c past) []) ≡ true → (list_all passes (children (mine c past) []) ≡ true → list_all passes (tops_of s past) ≡ true) → is_lone c e.seat e.event ≡ true → list_all passes (tops_of s past ++ option_to_list (top_in s e.event)) ≡ true
     by_own true own all rest lone =
-        let split = and_both _ _ (sym (list_all-append passes (children (mine c past) []) (option_to_list (child_in [] e.event))) ∙ all) in
-        list_all-append passes (tops_of s past) (option_to_list (top_in s e.event)) ∙ and_by _ _ (rest split.0) (by_top (top_in s e.event) refl split.1)
+        let split = and_parts _ _ (sym (list_all-append passes (children (mine c past) []) (option_to_list (child_in [] e.event))) ∙ all) in
+        list_all-append passes (tops_of s past) (option_to_list (top_in s e.event)) ∙ and_from _ _ (rest split.0) (by_top (top_in s e.event) refl split.1)
     by_own false own all rest lone =
-        list_all-append passes (tops_of s past) (option_to_list (top_in s e.event)) ∙ and_by _ _ (rest all) (by_none (top_in s e.event) refl)
+        list_all-append passes (tops_of s past) (option_to_list (top_in s e.event)) ∙ and_from _ _ (rest all) (by_none (top_in s e.event) refl)
       where
         by_none : (o : Option Name) → top_in s e.event ≡ o → list_all passes (option_to_list o) ≡ true
         by_none None is = refl
@@ -421,9 +421,9 @@ tops_pass c s passes (e ∷ past) lone all =
 pub order_lone : (c : Client) (s : ℕ) (past : Past) → AreLone c past → each (own_after c) past ≡ true → each (after_others s) past ≡ true
 order_lone c s [] lone order = refl
 order_lone c s (e ∷ past) lone order =
-    let both = and_both (is_lone c e.seat e.event) (all_lone c past) lone in
-    let parts = and_both (each (own_after c) past) (own_after c e past) order in
-    and_by _ _ (order_lone c s past both.1 parts.0) (by_top (top_in s e.event) refl both.0 both.1 parts.1)
+    let both = and_parts (is_lone c e.seat e.event) (all_lone c past) lone in
+    let parts = and_parts (each (own_after c) past) (own_after c e past) order in
+    and_from _ _ (order_lone c s past both.1 parts.0) (by_top (top_in s e.event) refl both.0 both.1 parts.1)
   where
     by_number : (number : ℕ) → any_top e.event ≡ Some number → is_own c e.seat ≡ true → own_after c e past ≡ true → all_over c past ≡ true
     by_number number is own after = sym (ap (λ b. not b || option_map_or (λ n. all_over c past) (any_top e.event) true) own ∙ ap (λ o. option_map_or (λ n. all_over c past) o true) is) ∙ after
@@ -437,9 +437,9 @@ order_lone c s (e ∷ past) lone order =
 pub numbers_lone : (c : Client) (past : Past) → AreLone c past → each (own_next c) past ≡ true → each (is_next_top c.epoch) past ≡ true
 numbers_lone c [] lone numbers = refl
 numbers_lone c (e ∷ past) lone numbers =
-    let both = and_both (is_lone c e.seat e.event) (all_lone c past) lone in
-    let parts = and_both (each (own_next c) past) (own_next c e past) numbers in
-    and_by _ _ (numbers_lone c past both.1 parts.0) (by_own (is_own c e.seat) refl parts.1 both.0)
+    let both = and_parts (is_lone c e.seat e.event) (all_lone c past) lone in
+    let parts = and_parts (each (own_next c) past) (own_next c e past) numbers in
+    and_from _ _ (numbers_lone c past both.1 parts.0) (by_own (is_own c e.seat) refl parts.1 both.0)
   where
     none_started : is_own c e.seat ≡ false → (ev : Event) → is_lone c e.seat ev ≡ true → any_top ev ≡ None
     none_started other (event.Start n k) lone = absurd (true≢false (sym lone ∙ other))

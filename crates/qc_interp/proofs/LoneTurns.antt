@@ -3,6 +3,7 @@ use Rattle.std.proofs.Common.{◌≡◌, Bool, true, false, List, [], ◌∷◌,
 use Rattle.std.specs.Prelude.{Option, None, Some, is_some, option_to_list, ◌&&◌, ◌||◌, if◌then◌else◌}
 use Rattle.std.specs.List.{AllByRecursion, list_all}
 use Rattle.std.specs.Option.{option_or, option_map_or}
+use Rattle.std.proofs.lemmas.Bool.{and_parts, and_from}
 use Rattle.qc_event.specs.declared.event.Entry.{Entry}
 use Rattle.qc_event.specs.declared.event.Event.{Event}
 use Rattle.qc_event.specs.declared.event.Event.TheVariants as event
@@ -11,7 +12,6 @@ use Rattle.qc_names.specs.Name as name
 use Rattle.qc_script.specs.Client.{about}
 use Rattle.qc_script.specs.Numbers.{each}
 use Rattle.qc_interp.specs.Turns.{acts, begun_in, is_done, is_alone, takes_turn}
-use Rattle.qc_interp.proofs.Growth.{and_both, and_by}
 
 -- SOME ENTRIES OF SOME, AS FAR AS A LOOK GOES
 
@@ -103,8 +103,8 @@ turn_kept keep h drops (Some n) = alone_kept keep h drops n
 -- whoever takes turns does so without the entries about no one
 pub turns_kept : (keep : Entry → Bool) (h : Past) → DropsNone keep h → each takes_turn h ≡ true → each takes_turn (filter keep h) ≡ true
 turns_kept keep [] drops turns = refl
-turns_kept keep (e ∷ h) drops turns = let both = and_both (each takes_turn h) (takes_turn e h) turns in by_test (keep e) (turns_kept keep h drops.1 both.0) both.1
+turns_kept keep (e ∷ h) drops turns = let both = and_parts (each takes_turn h) (takes_turn e h) turns in by_test (keep e) (turns_kept keep h drops.1 both.0) both.1
   where
     by_test : (b : Bool) → each takes_turn (filter keep h) ≡ true → takes_turn e h ≡ true → each takes_turn (if b then e ∷ filter keep h else filter keep h) ≡ true
-    by_test true rest turn = and_by _ _ rest (turn_kept keep h drops.1 (acts e.event) ∙ turn)
+    by_test true rest turn = and_from _ _ rest (turn_kept keep h drops.1 (acts e.event) ∙ turn)
     by_test false rest turn = rest

@@ -10,17 +10,18 @@ use Rattle.qc_event.specs.declared.event.How.{How}
 use Rattle.qc_event.specs.declared.event.Kind.{Kind}
 use Rattle.qc_event.specs.History.{Past, Name, Begun, earliest, start, end, end_in, ready_in, child_in, is_ready, children, is_child, kind_of, same}
 use Rattle.qc_event.specs.Legal.{Legal}
-use Rattle.qc_event.proofs.Absent.{if_not}
+use Rattle.qc_event.proofs.Absent.{if_not, other_length}
 use Rattle.qc_event.proofs.Histories.{earliest-append}
-use Rattle.qc_event.proofs.LastNumber.{child_last}
+use Rattle.qc_event.proofs.LastNumber.{child_last, child_longer, no_child_length}
 use Rattle.qc_event.proofs.Lawful.{lawful, child_starts, ends_open}
 use Rattle.qc_event.proofs.LegalOrderly.{legal_orderly}
 use Rattle.qc_event.proofs.Lineage.{fresh_child, IsFresh}
 use Rattle.qc_event.proofs.OneEntry.{start_is, end_now, stays_some, some_or_none, not_some, child_added}
 use Rattle.qc_event.proofs.Orderly.{KeepsOrder}
+use Rattle.qc_event.proofs.Later.{earlier_legal, start_still}
 use Rattle.qc_script.specs.Calls.{Ran, WasCut, IsOfAccess, AreOfAccesses, by_client}
 use Rattle.qc_script.specs.Client.{Client, mine, is_own, Made, IsLater}
-use Rattle.qc_interp.proofs.Growth.{FirstMade, first_made, made_is, made_later, differ, no_child_by, child_length, legal_rest, start_still}
+use Rattle.qc_interp.proofs.Growth.{FirstMade, first_made, made_is, made_later}
 use Rattle.qc_interp.proofs.Mine.{kept_some}
 use Rattle.qc_interp.proofs.Adding.{all_both, start_stays_in, accesses_stay, child_top}
 use Rattle.qc_interp.proofs.Turning.{InTurn, Alone, start_turns, access_turns, end_turns, own_actor, alone_up, some_done}
@@ -48,7 +49,7 @@ all_wider P Q (e ∷ es) step h = (step e h.0, all_wider P Q es step h.1)
 
 module _ (m p : Name) (shorter : length p < length m) where
   access_child : (ev : Event) → IsOfAccess m ev → child_in p ev ≡ None
-  access_child (event.Start n k) h = if_not (is_child p n) (Some n) (no_child_by p n (λ l. omega (arith, l, child_length m n h.0, shorter)))
+  access_child (event.Start n k) h = if_not (is_child p n) (Some n) (no_child_length p n (λ l. omega (arith, l, child_longer m n h.0, shorter)))
   access_child (event.Ask ask) h = refl
   access_child (event.Gone n why) h = refl
   access_child (event.Granted copy grant) h = refl
@@ -59,7 +60,7 @@ module _ (m p : Name) (shorter : length p < length m) where
   access_child (event.End n how) h = refl
 
 access_end : (m p : Name) → length p < length m + 1 → (ev : Event) → IsOfAccess m ev → end_in p ev ≡ None
-access_end m p shorter (event.End n how) h = if_not (same n p) (Some how) (differ n p (λ l. omega (arith, l, child_length m n h.0, shorter)))
+access_end m p shorter (event.End n how) h = if_not (same n p) (Some how) (other_length n p (λ l. omega (arith, l, child_longer m n h.0, shorter)))
 access_end m p shorter (event.Ask ask) h = refl
 access_end m p shorter (event.Gone n why) h = refl
 access_end m p shorter (event.Granted copy grant) h = refl
@@ -134,7 +135,7 @@ module _ (c : Client) where
       by_parts f.after f.mid (m.grown ∙ ap (λ x. x ++ before) f.is ∙ grouped f.after f.mid before e)
     where
       by_parts : (after mid : Past) → now ≡ after ++ (e ∷ (mid ++ before)) → CameAfter e before now
-      by_parts after mid is = record { after = after; mid = mid; is = is; legal = legal_rest c.setting after (e ∷ (mid ++ before)) (subst (Legal c.setting) is m.legal) }
+      by_parts after mid is = record { after = after; mid = mid; is = is; legal = earlier_legal c.setting after (e ∷ (mid ++ before)) (subst (Legal c.setting) is m.legal) }
 
   -- a child that started meanwhile was new, and is there
   pub record NewChild (of n : Name) (k : Kind) (before now : Past) : Type 0 where
@@ -165,7 +166,7 @@ module _ (c : Client) where
     running = inner ++ begins ∷ h0
 
     longer : length m ≡ length of + 1
-    longer = child_length of m is_one
+    longer = child_longer of m is_one
 
     begun : start (begins ∷ h0) m ≡ Some (record { seat = c.number; kind = k })
     begun = start_is begins h0 m k fresh.no_start refl
@@ -185,7 +186,7 @@ module _ (c : Client) where
       short = sym (ap length above ∙ length-append p r)
 
       pub apart : same m p ≡ false
-      apart = differ m p (λ l. omega (arith, l, longer, short))
+      apart = other_length m p (λ l. omega (arith, l, longer, short))
 
       pub same_end_running : end running p ≡ end h0 p
       same_end_running =
@@ -200,7 +201,7 @@ module _ (c : Client) where
       inner_quiet = children_quiet p inner (begins ∷ h0) (all_wider _ _ inner (λ e. access_child m p (omega (arith, longer, short)) e.event) of_accesses)
 
       pub same_children_running : 0 < length r → children running p ≡ children h0 p
-      same_children_running far = inner_quiet ∙ children_quiet p (begins ∷ []) h0 (if_not (is_child p m) (Some m) (no_child_by p m (λ l. omega (arith, l, longer, short, far))), tt)
+      same_children_running far = inner_quiet ∙ children_quiet p (begins ∷ []) h0 (if_not (is_child p m) (Some m) (no_child_length p m (λ l. omega (arith, l, longer, short, far))), tt)
 
     pub children_running : children running of ≡ children h0 of ++ m ∷ []
     children_running = inner_quiet of [] (sym (append-nil of)) ∙ child_added begins h0 of m k refl is_one

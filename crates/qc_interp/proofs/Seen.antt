@@ -1,5 +1,5 @@
 -- Who follows a plan by what a client made follows it by what was seen, where all about its top is the client's.
-use Rattle.std.proofs.Common.{◌≡◌, inl, inr, ℕ, ◌<◌, Bool, true, false, List, [], ◌∷◌, ◌++◌, length, take, refl, sym, ap, ◌∙◌, subst, append-nil, append_assoc, arith}
+use Rattle.std.proofs.Common.{◌≡◌, inl, inr, ℕ, ◌<◌, Bool, true, false, List, [], ◌∷◌, ◌++◌, length, take, refl, sym, ap, ◌∙◌, subst, append-nil, arith}
 use mathlib.Core.Bool.{true≢false}
 use Rattle.std.specs.Prelude.{Option, None, Some, is_some, not, ◌&&◌, ◌||◌, if◌then◌else◌, option_map, option_to_list}
 use Rattle.std.specs.List.{AllByRecursion}
@@ -14,7 +14,7 @@ use Rattle.qc_event.specs.Legal.{Legal}
 use Rattle.qc_event.proofs.Lawful.{ends_open}
 use Rattle.qc_event.proofs.LegalOrderly.{legal_orderly}
 use Rattle.qc_event.proofs.Orderly.{KeepsOrder}
-use Rattle.qc_event.proofs.LastNumber.{child_last, is_ancestor-append, rest_of}
+use Rattle.qc_event.proofs.LastNumber.{child_last, child_longer, below_more}
 use Rattle.qc_event.proofs.OneEntry.{starting, ending, marking, some_or_none, not_some}
 use Rattle.qc_names.specs.Name as name
 use Rattle.qc_script.specs.Client.{Client, mine, is_own, concerns, is_commit, AreOurs, all_ours}
@@ -24,15 +24,14 @@ use Rattle.qc_script.specs.Plan.{Plan}
 use Rattle.qc_interp.specs.Asking.{DoesOn, Asks}
 use Rattle.qc_interp.specs.Tries.{is_tried_again}
 use Rattle.qc_interp.proofs.Mine.{kept_some, some_is}
-use Rattle.qc_interp.proofs.Growth.{and_both, implied, own_found, differ, child_length}
+use Rattle.qc_interp.proofs.Growth.{implied, own_found}
 use Rattle.qc_interp.proofs.Adding.{at_top}
 use Rattle.qc_interp.proofs.Still.{plan_committed}
 use Rattle.qc_interp.proofs.TriesAlike.{AreAlike, tries_alike, tries_do_alike}
 use Rattle.std.proofs.Math.Bool.{and-false}
+use Rattle.std.proofs.lemmas.Bool.{and_parts}
 use Rattle.qc_event.specs.declared.event.Cause.{Cause}
-
-below_more : (a n r : Name) → name.is_ancestor a n ≡ true → name.is_ancestor a (n ++ r) ≡ true
-below_more a n r h = let s = rest_of a n h in ap (λ x. name.is_ancestor a (x ++ r)) s.1 ∙ ap (name.is_ancestor a) (append_assoc a s.0 r) ∙ is_ancestor-append a (s.0 ++ r)
+use Rattle.qc_event.proofs.Absent.{other_length}
 
 below_child : (a n c : Name) → name.is_ancestor a n ≡ true → is_child n c ≡ true → name.is_ancestor a c ≡ true
 below_child a n c h child = let l = child_last n c child in ap (name.is_ancestor a) l.1 ∙ below_more a n (l.0 ∷ []) h
@@ -111,7 +110,7 @@ module _ (c : Client) (of : Name) (past : Past) (ours : AreOurs c of past) where
       by_past : (h : Past) → AreOurs c of h → children (mine c h) n ≡ children h n
       by_past [] all = refl
       by_past (e ∷ h) all =
-          let both = and_both (not (concerns (take 1 of) e.event) || is_own c e.seat) (all_ours c of h) all in
+          let both = and_parts (not (concerns (take 1 of) e.event) || is_own c e.seat) (all_ours c of h) all in
           by_test (is_own c e.seat) refl both.0 (by_past h both.1)
         where
           by_test : (b : Bool) → is_own c e.seat ≡ b → (not (concerns (take 1 of) e.event) || is_own c e.seat) ≡ true → children (mine c h) n ≡ children h n → children (if b then e ∷ mine c h else mine c h) n ≡ children h n ++ option_to_list (child_in n e.event)
@@ -124,7 +123,7 @@ module _ (c : Client) (of : Name) (past : Past) (ours : AreOurs c of past) where
 
   low_children : (n : Name) → name.is_ancestor (take 1 of) n ≡ true → 0 < length n → (cs : List Name) → AllByRecursion (λ x. is_child n x ≡ true) cs → AllByRecursion Low cs
   low_children n low far [] all = tt
-  low_children n low far (x ∷ cs) all = ((below_child (take 1 of) n x low all.0, differ x (take 1 of) (λ l. omega (arith, l, child_length n x all.0, far, short of))), low_children n low far cs all.1)
+  low_children n low far (x ∷ cs) all = ((below_child (take 1 of) n x low all.0, other_length x (take 1 of) (λ l. omega (arith, l, child_longer n x all.0, far, short of))), low_children n low far cs all.1)
     where
       short : (n : Name) → length (take 1 n) < 2
       short [] = omega arith
@@ -155,10 +154,13 @@ module _ (c : Client) (of : Name) (past : Past) (ours : AreOurs c of past) where
   goes_seen Reach.to_the_end n None Rest RestToo further how low step h = h
   goes_seen Reach.cut_off n None Rest RestToo further how low step h = (h.0, unended_seen Reach.cut_off n how low h.1)
   goes_seen reach n (Some (Commit given)) Rest RestToo further how low step h = step h
-  goes_seen reach n (Some (Abort y)) Rest RestToo further how low step h = (h.0, elim h.1 [
-    | inl is ↦ inl is
-    | inr x ↦ inr (stops_seen reach n how low x)
-  ])
+  goes_seen reach n (Some (Abort y)) Rest RestToo further how low step h = (
+    h.0,
+    elim h.1 [
+      | inl is ↦ inl is
+      | inr x ↦ inr (stops_seen reach n how low x)
+    ],
+  )
 
   plan_seen : (reach : Reach) (s : ℕ) (n : Name) (plan : Plan) (cs : List Name) (how : Option How) → name.is_ancestor (take 1 of) n ≡ true → AllByRecursion Low cs → RunsPlan reach s made n plan cs how → RunsPlan reach s past n plan cs how
   plan_seen reach s n Plan.done [] how low all (inl is) = inl (by_how how is)

@@ -1,6 +1,5 @@
 -- What each step of a transaction leaves.
-use Rattle.std.proofs.Common.{◌≡◌, ◌⊎◌, inl, inr, ℕ, Bool, true, false, List, [], ◌∷◌, ◌++◌, length, take, refl, sym, ap, ◌∙◌, subst, append-nil, append_assoc}
-use mathlib.Core.Bool.{true≢false}
+use Rattle.std.proofs.Common.{◌≡◌, ◌⊎◌, inl, inr, ℕ, Bool, true, false, List, [], ◌∷◌, ◌++◌, take, refl, sym, ap, ◌∙◌, subst, append-nil, append_assoc}
 use Rattle.std.specs.Prelude.{Option, None, Some, MatchOption, is_some, is_none, find, if◌then◌else◌}
 use Rattle.qc_event.specs.declared.event.Cause.{Cause}
 use Rattle.qc_event.specs.declared.event.Cause.TheVariants as cause
@@ -11,14 +10,12 @@ use Rattle.qc_event.specs.declared.event.Kind.{Kind}
 use Rattle.qc_event.specs.declared.event.Kind.TheVariants as kind
 use Rattle.qc_event.specs.Base.{Setting}
 use Rattle.qc_event.specs.History.{Past, Name, Begun, start, end, end_in, ready_in, child_in, is_ready, children, is_child, same, kind_of}
-use Rattle.qc_event.specs.Legal.{Legal}
 use Rattle.qc_event.specs.Standing.{Started, IsUser, IsManager, IsAbort, open_child}
 use Rattle.qc_event.specs.Users.{UserCause}
-use Rattle.qc_event.proofs.LastNumber.{child_last, length_last, is_ancestor-append}
+use Rattle.qc_event.proofs.LastNumber.{child_last, below_more}
 use Rattle.qc_event.proofs.Lawful.{no_open_child}
-use Rattle.qc_event.proofs.LegalOrderly.{legal_orderly}
-use Rattle.qc_event.proofs.OneEntry.{ready_step, some_or_none, starting}
-use Rattle.qc_event.proofs.Orderly.{KeepsOrder}
+use Rattle.qc_event.proofs.OneEntry.{some_or_none, starting, some_not_none, some_if_not_none}
+use Rattle.qc_event.proofs.Later.{started_still}
 use Rattle.qc_names.specs.Name as name
 use Rattle.qc_script.specs.Calls.{HasRun, Refuses, GaveNone, WasCut}
 use Rattle.qc_script.specs.Client.{Client, mine, is_own, concerns, Made, IsLater, AreOurs}
@@ -30,7 +27,7 @@ use Rattle.qc_interp.specs.Running.{Runs, Leaves, WhyStop, StopsBy, Stopped, End
 use Rattle.qc_script.specs.declared.tx.TxNo.{TxNo}
 use Rattle.qc_script.specs.declared.tx.TxNo.TheVariants as tx_no
 use Rattle.qc_interp.proofs.Mine.{end_some, kind_still, kept_some, some_is}
-use Rattle.qc_interp.proofs.Growth.{made_both, ours_before, own_found, started_still}
+use Rattle.qc_interp.proofs.Growth.{made_both, ours_before, own_found}
 use Rattle.qc_interp.proofs.Managers.{Managed, managed, Interrupted, interrupted}
 use Rattle.qc_interp.proofs.Ending.{asked_early, unended_again, running_stops, running_unended, top_above, not_ready, ended_early, leaves_itself, leaves_trans, leaves_cut, cut_still, still, leaves_still, runs_still}
 use Rattle.qc_interp.specs.Asking.{DoesOn, Asks, AllAsked}
@@ -55,22 +52,7 @@ none_more g (x ∷ xs) m h last = by_test (g x) h (none_more g xs m)
     by_test true h more = absurd cc
     by_test false h more = more h last
 
-pub is_none_by : (o : Option How) → is_some o ≡ true → is_none o ≡ false
-is_none_by None h = absurd (true≢false (sym h))
-is_none_by (Some x) h = refl
-
-pub is_some_by : (o : Option How) → is_none o ≡ false → is_some o ≡ true
-is_some_by None h = absurd (true≢false h)
-is_some_by (Some x) h = refl
-
-pub ready_short : (setting : Setting) (past : Past) (n : Name) → Legal setting past → is_ready past n ≡ true → length n ≡ 1
-ready_short setting [] n legal h = absurd (true≢false (sym h))
-ready_short setting (e ∷ past) n legal h = elim (ready_step e past n h) [
-  | inl old ↦ ready_short setting past n legal.0 old
-  | inr is ↦ (subst (KeepsOrder past) is (legal_orderly setting (e ∷ past) legal).1).is_top
-]
-
-manages : (setting : Setting) (k : Kind) → KindFits setting k → IsManager k
+pub manages : (setting : Setting) (k : Kind) → KindFits setting k → IsManager k
 manages setting (kind.Read rec) h = tt
 manages setting (kind.Write rec value) h = tt
 manages setting (kind.Reconf rec config) h = tt
@@ -95,8 +77,8 @@ module _ (c : Client) (of : Name) where
   closed_more before now m later more none last =
       ap (find (λ x. is_none (end (mine c now) x))) more
       ∙ none_more _ (children (mine c before) of) m
-      (none_open _ _ (children (mine c before) of) (λ x h. is_none_by _ (some_later before now later x (is_some_by _ h))) none)
-      (is_none_by _ last)
+      (none_open _ _ (children (mine c before) of) (λ x h. some_not_none _ (some_later before now later x (some_if_not_none _ h))) none)
+      (some_not_none _ last)
 
   -- MANAGERS
 
@@ -329,14 +311,11 @@ module _ (c : Client) (of : Name) where
   open_not now child runs ours why =
       let l = child_last of child why.0 in
       let b = some_is (start now child) why.1 in
-      let top : name.is_ancestor (take 1 of) child ≡ true = ap (name.is_ancestor (take 1 of)) l.1 ∙ below (take 1 of) of (l.0 ∷ []) (top_above of of [] (sym (append-nil of)) runs.nonroot) in
+      let top : name.is_ancestor (take 1 of) child ≡ true = ap (name.is_ancestor (take 1 of)) l.1 ∙ below_more (take 1 of) of (l.0 ∷ []) (top_above of of [] (sym (append-nil of)) runs.nonroot) in
       let found = own_found c (λ e. Rattle.qc_event.specs.History.start_in child e.seat e.event) b.0 of now
       (λ e f. let s = starting child e.seat e.event (ap is_some f) in subst (λ ev. concerns (take 1 of) ev ≡ true) (sym s.1) top) ours b.1 in
       let ended = no_open_child (mine c now) of l.0 (runs.closed ours) (subst (λ n. is_some (start (mine c now) n) ≡ true) l.1 (ap is_some found)) in
       some_or_none (end now child) (kept_some (λ (e : Entry). is_own c e.seat) _ now (subst (λ n. is_some (end (mine c now) n) ≡ true) (sym l.1) ended)) why.2
-    where
-      below : (a n r : Name) → name.is_ancestor a n ≡ true → name.is_ancestor a (n ++ r) ≡ true
-      below a n r h = let s = Rattle.qc_event.proofs.LastNumber.rest_of a n h in ap (λ x. name.is_ancestor a (x ++ r)) s.1 ∙ ap (name.is_ancestor a) (append_assoc a s.0 r) ∙ is_ancestor-append a (s.0 ++ r)
 
   -- a refusal of any other kind
   pub stop_other : (now : Past) (why : TxNo) → Runs c of now → WhyStop c now of why → ((copy : ℕ) (h : Name) → why ≡ tx_no.Conflict copy h → ⊥) → ((a : Name) → why ≡ tx_no.Orphan a → ⊥) → ((l : Rattle.qc_event.specs.declared.event.Lack.Lack) → why ≡ tx_no.NoQuorum l → ⊥) → (why ≡ tx_no.Last → ⊥) → Stopped c of why now now false

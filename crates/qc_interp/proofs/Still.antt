@@ -140,10 +140,13 @@ asked_unended Reach.cut_off past n how h = inl h
 goes_any : (reach : Reach) (past : Past) (n : Name) (o : Option How) (Rest Rest2 : Type 0) (further : List Name) (how : Option How) → (Rest → Rest2) → GoesOn Reach.to_the_end past n o Rest further how → GoesOn reach past n o Rest2 further how
 goes_any reach past n None Rest Rest2 further how step h = absurd h
 goes_any reach past n (Some (Commit given)) Rest Rest2 further how step h = step h
-goes_any reach past n (Some (Abort c)) Rest Rest2 further how step h = (h.0, elim h.1 [
-  | inl is ↦ inl is
-  | inr x ↦ inr (stops_early reach past n how x)
-])
+goes_any reach past n (Some (Abort c)) Rest Rest2 further how step h = (
+  h.0,
+  elim h.1 [
+    | inl is ↦ inl is
+    | inr x ↦ inr (stops_early reach past n how x)
+  ],
+)
 
 pub follows_runs : (reach : Reach) (s : ℕ) (past : Past) (n : Name) (plan : Plan) (cs : List Name) (how : Option How) → FollowsPlan s past n plan cs how → RunsPlan reach s past n plan cs how
 follows_runs reach s past n Plan.done [] how (inl is) = inl is

@@ -12,12 +12,13 @@ use Rattle.qc_event.specs.Base.{Setting}
 use Rattle.qc_event.specs.History.{Past, Name, Begun, start, end, is_ready, children, is_child, kind_of}
 use Rattle.qc_event.specs.Legal.{Legal}
 use Rattle.qc_event.specs.Standing.{IsUser}
-use Rattle.qc_event.proofs.LastNumber.{child_last}
+use Rattle.qc_event.proofs.LastNumber.{child_last, child_longer, no_child_length}
 use Rattle.qc_event.proofs.Lawful.{lawful}
 use Rattle.qc_event.proofs.LegalOrderly.{legal_orderly}
 use Rattle.qc_event.proofs.Lineage.{IsFresh, fresh_below}
 use Rattle.qc_event.proofs.OneEntry.{child_added, start_is, start_stays, ready_step, stays_some, some_or_none}
 use Rattle.qc_event.proofs.Orderly.{KeepsOrder, Begins}
+use Rattle.qc_event.proofs.Later.{start_still}
 use Rattle.qc_script.specs.declared.script.Body.{Body}
 use Rattle.qc_script.specs.Calls.{by_client}
 use Rattle.qc_script.specs.Client.{Client, mine, is_own, Made, IsLater, AreOurs}
@@ -37,7 +38,7 @@ use Rattle.qc_interp.proofs.TriesAlike.{no_tries}
 use Rattle.qc_interp.proofs.Mine.{kept_some}
 use Rattle.qc_interp.proofs.Still.{follows_runs, follows_still, followed_done, done_closed, again_still}
 use Rattle.qc_interp.proofs.Ending.{unended_again}
-use Rattle.qc_interp.proofs.Growth.{made_is, made_later, later_itself, later_trans, ours_before, no_child_by, child_length, start_still}
+use Rattle.qc_interp.proofs.Growth.{made_is, made_later, later_itself, later_trans, ours_before}
 use Rattle.qc_interp.proofs.Managers.{children_quiet, found_quiet, absent, came_after, none_kept, children_rest}
 use Rattle.qc_interp.proofs.StepsLeave.{kind_later}
 use Rattle.qc_interp.specs.Adding.{AllStayIn, is_of_one, AllOfOne, own_after, all_over}
@@ -45,6 +46,7 @@ use Rattle.qc_script.specs.Numbers.{Numbers, own_next}
 use Rattle.qc_script.specs.Calls.{is_over}
 use Rattle.qc_interp.specs.Asking.{Asks, BodiesAsk, AllAsked}
 use Rattle.qc_interp.proofs.Asked.{asked_made, asked_wider, asked_trans, asks_still}
+use Rattle.qc_interp.proofs.Tried.{match_true, match_false}
 
 ready_started : (setting : Setting) (past : Past) (n : Name) → Legal setting past → is_ready past n ≡ true → is_some (start past n) ≡ true
 ready_started setting [] n legal h = absurd (true≢false (sym h))
@@ -63,7 +65,7 @@ module _ (c : Client) (t : Name) (number : ℕ) (before now : Past) (top : is_ch
   now_is = made_is c _ before now m
 
   long : length t ≡ 1
-  long = child_length [] t top
+  long = child_longer [] t top
 
   -- it was new
   pub record NewTop : Type 0 where
@@ -99,7 +101,7 @@ module _ (c : Client) (t : Name) (number : ℕ) (before now : Past) (top : is_ch
   turns_top turns alone = subst (λ h. InTurn h × Alone h t) (sym now_is) (start_turns begins (mine c before) [] t (kind.User c.session number) refl top turns alone)
 
   pub none_top : children (mine c now) t ≡ []
-  none_top = ap (λ h. children h t) now_is ∙ children_quiet t (begins ∷ []) (mine c before) (Rattle.qc_event.proofs.Absent.if_not (is_child t t) (Some t) (no_child_by t t (λ l. omega (arith, l))), tt) ∙ new.fresh.no_children
+  none_top = ap (λ h. children h t) now_is ∙ children_quiet t (begins ∷ []) (mine c before) (Rattle.qc_event.proofs.Absent.if_not (is_child t t) (Some t) (no_child_length t t (λ l. omega (arith, l))), tt) ∙ new.fresh.no_children
 
   pub runs_top : Runs c t now
   runs_top = record {
@@ -181,7 +183,7 @@ pub record CutTop (c : Client) (body : Numbered) (before now : Past) : Type 0 wh
 
 module _ (c : Client) (t : Name) (body : Numbered) (before mid now : Past) (top : is_child [] t ≡ true) (m : Made c (by_client c (event.Start t (kind.User c.session body.number)) ∷ []) before mid) (numbers : Numbers c before mid) where
   long_top : length t ≡ 1
-  long_top = child_length [] t top
+  long_top = child_longer [] t top
 
   whole : take 1 t ≡ t
   whole = by_name t long_top
@@ -203,7 +205,7 @@ module _ (c : Client) (t : Name) (body : Numbered) (before mid now : Past) (top 
     later_is = later_trans c before mid now (made_later c _ before mid m) leaves.later
 
     more_is : tops c now ≡ tops c before ++ t ∷ []
-    more_is = (leaves.above [] t refl (let l : length t ≡ 1 = child_length [] t top in omega (arith, l))).children ∙ tops_begun c t body.number before mid top m
+    more_is = (leaves.above [] t refl (let l : length t ≡ 1 = child_longer [] t top in omega (arith, l))).children ∙ tops_begun c t body.number before mid top m
 
     kind_is : kind_of (mine c now) t ≡ Some (kind.User c.session body.number)
     kind_is = kind_later c [] mid now leaves.later t _ (kind_top c t body.number before mid top m)
@@ -310,14 +312,6 @@ EndsTopTries reach c before now body left rest =
     AreAllOurs c now → (further : List Name) × (tops c now ≡ tops c before ++ further)
     × Tries (end (mine c now)) (RunsBody reach c.session (mine c now) body) (NotBegun reach) (λ more. RunsBodies reach c.session (mine c now) rest more) left further
     × AllAsked c before now (λ by t. TriesDo (end (mine c now)) (λ n. Asks (mine c now) n body.plan (children (mine c now) n) by t) (λ more. BodiesAsk (mine c now) rest more by t) left further)
-
-match_true : (P Q : Type 0) (b : Bool) → b ≡ true → P → MatchBool b P Q
-match_true P Q true is h = h
-match_true P Q false is h = absurd (true≢false (sym is))
-
-match_false : (P Q : Type 0) (b : Bool) → b ≡ false → Q → MatchBool b P Q
-match_false P Q false is h = h
-match_false P Q true is h = absurd (true≢false is)
 
 module _ (c : Client) (body : Numbered) (before now : Past) (again : Bool) (t : TriedTop c body before now again) where
   module _ (reach : Reach) (x : Past) (later : IsLater c now x) (further : List Name) (more : tops c x ≡ tops c now ++ further) (ours : AreAllOurs c x) where

@@ -11,8 +11,10 @@ use Rattle.qc_event.specs.History.{Past, Name, Begun, end, is_ready, children, i
 use Rattle.qc_event.specs.Legal.{Legal}
 use Rattle.qc_event.specs.Standing.{Started, IsUser}
 use Rattle.qc_event.proofs.Absent.{if_not}
-use Rattle.qc_event.proofs.LastNumber.{child_last, length_last, is_ancestor-append}
+use Rattle.qc_event.proofs.LastNumber.{child_last, length_last, is_ancestor-append, child_longer, no_child_length}
 use Rattle.qc_event.proofs.OneEntry.{child_added, start_is}
+use Rattle.qc_event.proofs.Later.{started_still}
+use Rattle.qc_event.proofs.LegalOrderly.{ready_top}
 use Rattle.qc_script.specs.Calls.{by_client, WasRefused}
 use Rattle.qc_script.specs.Client.{Client, mine, is_own, Made, IsLater, AreOurs}
 use Rattle.qc_interp.specs.Follows.{StopsEarly, Stops, IsUnended, RunsPlan, FollowsPlan}
@@ -26,10 +28,10 @@ use Rattle.qc_interp.proofs.Adding.{all_later, start_stays_in, child_top, over_l
 use Rattle.qc_interp.proofs.Turning.{InTurn, Alone, start_turns, alone_up, some_done}
 use Rattle.qc_interp.proofs.Mine.{kept_some}
 use Rattle.qc_interp.proofs.Still.{follows_runs, follows_still, followed_done, done_closed, again_still}
-use Rattle.qc_interp.proofs.Growth.{made_is, made_later, later_trans, ours_before, started_still, child_length, no_child_by}
+use Rattle.qc_interp.proofs.Growth.{made_is, made_later, later_trans, ours_before}
 use Rattle.qc_interp.proofs.Managers.{children_quiet, found_quiet, NewChild, new_child}
 use Rattle.qc_interp.proofs.Ending.{unended_again, running_stops, running_runs, not_ready, leaves_trans, leaves_cut, still, leaves_still, runs_still, leaves_end, children_end, ends_so}
-use Rattle.qc_interp.proofs.StepsLeave.{kind_later, closed_more, ready_short, stop_here}
+use Rattle.qc_interp.proofs.StepsLeave.{kind_later, closed_more, stop_here}
 use Rattle.std.specs.List.{list_all}
 use Rattle.qc_interp.specs.Adding.{stays_in, AllStayIn}
 use Rattle.qc_interp.specs.Asking.{Asks, AllAsked}
@@ -49,7 +51,7 @@ module _ (c : Client) (of n : Name) (number : ℕ) (before now : Past) (runs : R
   new = new_child c [] [] of n (kind.User c.session number) before now runs.nonroot child m
 
   longer : length n ≡ length of + 1
-  longer = child_length of n child
+  longer = child_longer of n child
 
   abbrev pub later_begun : IsLater c before now
   later_begun = made_later c _ before now m
@@ -66,7 +68,7 @@ module _ (c : Client) (of n : Name) (number : ℕ) (before now : Past) (runs : R
     ready_begun = ap (λ h. is_ready h p) now_is ∙ ap is_some (found_quiet _ (begins ∷ []) (mine c before) (refl, tt))
 
     pub children_above : 0 < length r → children (mine c now) p ≡ children (mine c before) p
-    children_above far = ap (λ h. children h p) now_is ∙ children_quiet p (begins ∷ []) (mine c before) (if_not (is_child p n) (Some n) (no_child_by p n (λ l. omega (arith, l, longer, short, far))), tt)
+    children_above far = ap (λ h. children h p) now_is ∙ children_quiet p (begins ∷ []) (mine c before) (if_not (is_child p n) (Some n) (no_child_length p n (λ l. omega (arith, l, longer, short, far))), tt)
 
   pub children_begun : children (mine c now) of ≡ children (mine c before) of ++ n ∷ []
   children_begun = ap (λ h. children h of) now_is ∙ child_added begins (mine c before) of n (kind.User c.session number) refl child
@@ -84,14 +86,14 @@ module _ (c : Client) (of n : Name) (number : ℕ) (before now : Past) (runs : R
   turns_begun turns alone = subst (λ h. InTurn h × Alone h n) (sym now_is) (start_turns begins (mine c before) of n (kind.User c.session number) refl child turns alone)
 
   pub none_begun : children (mine c now) n ≡ []
-  none_begun = ap (λ h. children h n) now_is ∙ children_quiet n (begins ∷ []) (mine c before) (if_not (is_child n n) (Some n) (no_child_by n n (λ l. omega (arith, l))), tt) ∙ new.fresh.no_children
+  none_begun = ap (λ h. children h n) now_is ∙ children_quiet n (begins ∷ []) (mine c before) (if_not (is_child n n) (Some n) (no_child_length n n (λ l. omega (arith, l))), tt) ∙ new.fresh.no_children
 
   unready_begun : is_ready (mine c now) n ≡ false
   unready_begun = false_from_ne_true _ (λ h. ready_child h)
     where
       ready_child : is_ready (mine c now) n ≡ true → ⊥
       ready_child h =
-          let short = ready_short c.setting now n m.legal (kept_some (λ (e : Entry). is_own c e.seat) _ now h) in
+          let short = ready_top c.setting now n m.legal (kept_some (λ (e : Entry). is_own c e.seat) _ now h) in
           omega (arith, short, longer, runs.nonroot)
 
   -- the child runs, below its parent
@@ -204,8 +206,8 @@ module _ (c : Client) (of n : Name) (body : Numbered) (before mid now : Past) (r
     ended_is ours = elim (done_closed (mine c now) n (followed_done c.session (mine c now) n body.plan (children (mine c now) n) (end (mine c now) n) (runs_is Reach.to_the_end ended.leaves ended.ends ours))) [
       | inl some ↦ some
       | inr ready ↦
-          let short = ready_short c.setting now n ended.leaves.later.legal (kept_some (λ (e : Entry). is_own c e.seat) _ now ready) in
-          let z : ⊥ = omega (arith, short, child_length of n child, runs.nonroot) in absurd z
+          let short = ready_top c.setting now n ended.leaves.later.legal (kept_some (λ (e : Entry). is_own c e.seat) _ now ready) in
+          let z : ⊥ = omega (arith, short, child_longer of n child, runs.nonroot) in absurd z
     ]
 
     leaves_is : Leaves c of before now
@@ -261,11 +263,15 @@ module _ (c : Client) (of n : Name) (body : Numbered) (before mid now : Past) (r
 
 -- WHAT TRIES LEAD TO
 
-match_true : (P Q : Type 0) (b : Bool) → b ≡ true → P → MatchBool b P Q
+-- a start told of one client is told of the same
+pub start_of : (c d : Client) (n : Name) (number other : ℕ) (before now : Past) → d ≡ c → number ≡ other → Made d (by_client d (event.Start n (kind.User d.session number)) ∷ []) before now → Made c (by_client c (event.Start n (kind.User c.session other)) ∷ []) before now
+start_of c d n number other before now same is m = subst (λ k. Made c (by_client c (event.Start n (kind.User c.session k)) ∷ []) before now) is (subst (λ x. Made x (by_client x (event.Start n (kind.User x.session number)) ∷ []) before now) same m)
+
+pub match_true : (P Q : Type 0) (b : Bool) → b ≡ true → P → MatchBool b P Q
 match_true P Q true is h = h
 match_true P Q false is h = absurd (true≢false (sym is))
 
-match_false : (P Q : Type 0) (b : Bool) → b ≡ false → Q → MatchBool b P Q
+pub match_false : (P Q : Type 0) (b : Bool) → b ≡ false → Q → MatchBool b P Q
 match_false P Q false is h = h
 match_false P Q true is h = absurd (true≢false is)
 

@@ -1,10 +1,11 @@
 -- Who acts in turn as entries are made.
-use Rattle.std.proofs.Common.{◌≡◌, ◌⊎◌, inl, inr, ℕ, Bool, true, false, List, [], ◌∷◌, ◌++◌, refl, sym, ap, ◌∙◌, append-nil, append_assoc}
+use Rattle.std.proofs.Common.{◌≡◌, ◌⊎◌, inl, inr, ℕ, Bool, true, false, [], ◌∷◌, ◌++◌, refl, sym, ap, ◌∙◌, append-nil, append_assoc}
 use mathlib.Core.Bool.{true≢false}
-use Rattle.std.specs.Prelude.{None, Some, is_some, ◌&&◌, ◌||◌, not, if◌then◌else◌, option_to_list, IsTrue}
+use Rattle.std.specs.Prelude.{None, Some, is_some, ◌||◌, not, if◌then◌else◌, option_to_list, IsTrue}
 use Rattle.std.specs.List.{AllByRecursion, list_all}
 use Rattle.std.specs.Option.{option_map_or}
 use Rattle.std.proofs.lemmas.List.Folds.{list_all-append}
+use Rattle.std.proofs.lemmas.Bool.{or_right, and_from}
 use Rattle.qc_event.specs.declared.event.Cause.TheVariants as cause
 use Rattle.qc_event.specs.declared.event.Entry.{Entry}
 use Rattle.qc_event.specs.declared.event.Event.{Event}
@@ -13,8 +14,9 @@ use Rattle.qc_event.specs.declared.event.How.{How}
 use Rattle.qc_event.specs.declared.event.How.TheVariants.{Commit, Abort}
 use Rattle.qc_event.specs.declared.event.Kind.{Kind}
 use Rattle.qc_event.specs.History.{Past, Name, every, end, is_ready, is_child}
-use Rattle.qc_event.proofs.LastNumber.{child_last, rest_of, is_ancestor-append, front_last, ends_in, same_last}
+use Rattle.qc_event.proofs.LastNumber.{child_last, rest_of, is_ancestor-append, front_last, ends_in, same_last, below_more}
 use Rattle.qc_event.proofs.OneEntry.{stays_some}
+use Rattle.qc_event.proofs.Booleans.{or_wider, all_wider}
 use Rattle.qc_names.specs.Name as name
 use Rattle.qc_script.specs.Calls.{IsOfAccess}
 use Rattle.qc_script.specs.Numbers.{each}
@@ -27,35 +29,11 @@ InTurn h = each takes_turn h ≡ true
 abbrev pub Alone : Past → Name → Type 0
 Alone h n = is_alone h n ≡ true
 
-or_wider : (a b x y : Bool) → (a ≡ true → x ≡ true) → (b ≡ true → y ≡ true) → (a || b) ≡ true → (x || y) ≡ true
-or_wider true b x y f g h = ap (λ z. z || y) (f refl)
-or_wider false b true y f g h = refl
-or_wider false b false y f g h = g h
-
-or_right : (a b : Bool) → b ≡ true → (a || b) ≡ true
-or_right true b h = refl
-or_right false b h = h
-
-and_true : (a b : Bool) → a ≡ true → b ≡ true → (a && b) ≡ true
-and_true true b x y = y
-and_true false b x y = absurd (true≢false (sym x))
-
-and_parts : (a b : Bool) → (a && b) ≡ true → (a ≡ true) × (b ≡ true)
-and_parts true b h = (refl, h)
-and_parts false b h = absurd (true≢false (sym h))
-
-all_wider : (f g : Name → Bool) (xs : List Name) → ((x : Name) → f x ≡ true → g x ≡ true) → list_all f xs ≡ true → list_all g xs ≡ true
-all_wider f g [] step h = refl
-all_wider f g (x ∷ xs) step h = let p = and_parts (f x) (list_all f xs) h in and_true (g x) (list_all g xs) (step x p.0) (all_wider f g xs step p.1)
-
 pub some_done : (h : Past) (n : Name) → is_some (end h n) ≡ true → is_done h n ≡ true
 some_done h n some = ap (λ b. b || is_ready h n) some
 
 done_stays : (e : Entry) (h : Past) (m : Name) → is_done h m ≡ true → is_done (e ∷ h) m ≡ true
 done_stays e h m = or_wider (is_some (end h m)) (is_ready h m) (is_some (end (e ∷ h) m)) (is_ready (e ∷ h) m) (λ x. stays_some _ _ x) (λ x. stays_some _ _ x)
-
-below_more : (a n r : Name) → name.is_ancestor a n ≡ true → name.is_ancestor a (n ++ r) ≡ true
-below_more a n r h = let s = rest_of a n h in ap (λ x. name.is_ancestor a (x ++ r)) s.1 ∙ ap (name.is_ancestor a) (append_assoc a s.0 r) ∙ is_ancestor-append a (s.0 ++ r)
 
 pub itself : (n : Name) → name.is_ancestor n n ≡ true
 itself n = ap (name.is_ancestor n) (sym (append-nil n)) ∙ is_ancestor-append n []
@@ -76,8 +54,8 @@ alone_more : (e : Entry) (h : Past) (n m : Name) → begun_in e.event ≡ Some m
 alone_more e h n m some low alone =
     ap (λ o. list_all (λ x. is_done (e ∷ h) x || name.is_ancestor x n) (every (λ x. begun_in x.event) h ++ option_to_list o)) some
     ∙ list_all-append (λ x. is_done (e ∷ h) x || name.is_ancestor x n) (every (λ x. begun_in x.event) h) (m ∷ [])
-    ∙ and_true _ _ (all_wider _ _ (every (λ x. begun_in x.event) h) (λ x. or_wider (is_done h x) (name.is_ancestor x n) (is_done (e ∷ h) x) (name.is_ancestor x n) (done_stays e h x) (λ a. a)) alone)
-    (and_true (is_done (e ∷ h) m || name.is_ancestor m n) true (or_right (is_done (e ∷ h) m) (name.is_ancestor m n) low) refl)
+    ∙ and_from _ _ (all_wider _ _ (every (λ x. begun_in x.event) h) (λ x. or_wider (is_done h x) (name.is_ancestor x n) (is_done (e ∷ h) x) (name.is_ancestor x n) (done_stays e h x) (λ a. a)) alone)
+    (and_from (is_done (e ∷ h) m || name.is_ancestor m n) true (or_right (is_done (e ∷ h) m) (name.is_ancestor m n) low) refl)
 
 -- a child that is done, and was alone, leaves its parent alone
 pub alone_up : (h : Past) (of m : Name) → is_child of m ≡ true → is_done h m ≡ true → Alone h m → Alone h of
@@ -104,7 +82,7 @@ alone_up h of m child done alone = all_wider _ _ (every (λ e. begun_in e.event)
     ]
 
 turn_more : (e : Entry) (h : Past) → InTurn h → takes_turn e h ≡ true → InTurn (e ∷ h)
-turn_more e h turns takes = and_true (each takes_turn h) (takes_turn e h) turns takes
+turn_more e h turns takes = and_from (each takes_turn h) (takes_turn e h) turns takes
 
 -- a child starts
 pub start_turns : (e : Entry) (h : Past) (of m : Name) (k : Kind) → e.event ≡ event.Start m k → is_child of m ≡ true → InTurn h → Alone h of → InTurn (e ∷ h) × Alone (e ∷ h) m

@@ -51,7 +51,8 @@ fn body_size(after: &[u8]) -> Option<usize>
 /// Reads the records of an image of more than one byte.
 pub(crate) fn scan(alloc: Global, bytes: &[u8]) -> Result<Found, Fault>
     requires { 1 < length bytes.now }
-    ensures records { IfOk result (λ found. EndsAt found.place (bodies_of found.bodies.items) bytes.now) }
+    ensures records { IfOk result (λ found. EndsAt found.place
+        (bodies_of found.bodies.items) bytes.now) }
     ensures within { IfOk result (λ found. found.place < length bytes.now) }
     ensures size { IfOk result (λ found. found.size ≡ length bytes.now) }
     ensures broken { (place : ℕ) → result ≡ Err (Broken place) → IsBroken place bytes.now }

@@ -49,18 +49,26 @@ impl<D: Disk> Journal<D> {
         ensures limit { IfOk result (λ mounted. limit_of mounted.0 ≡ limit) }
 
         // Where the disk tells its bytes, they have these records, and from now on each image has.
-        ensures records { IfOk result (λ mounted. IfSome (D.content disk) (HasRecords (bodies_of mounted.1.items))) }
-        ensures keeps { IfOk result (λ mounted. IsSome (D.content disk) → Keeps mounted.0 (bodies_of mounted.1.items)) }
-        ensures content { IfOk result (λ mounted. D.content (disk_of mounted.0) ≡ option_map made_ready (D.content disk)) }
+        ensures records { IfOk result (λ mounted. IfSome (D.content disk)
+            (HasRecords (bodies_of mounted.1.items))) }
+        ensures keeps { IfOk result (λ mounted. IsSome (D.content disk) → Keeps mounted.0
+            (bodies_of mounted.1.items)) }
+        ensures content { IfOk result (λ mounted. D.content (disk_of mounted.0) ≡ option_map
+            made_ready (D.content disk)) }
 
         // Broken comes where the bytes are broken, and Full never.
-        ensures broken { IfErr result (λ refused. (place : ℕ) → refused.1 ≡ Broken place → IfSome (D.content disk) (IsBroken place)) }
+        ensures broken { IfErr result (λ refused. (place : ℕ) → refused.1 ≡ Broken place
+            → IfSome (D.content disk) (IsBroken place)) }
         ensures fault { IfErr result (λ refused. IsOfReading refused.1) }
-        ensures left { IfErr result (λ refused. Steps IsAlike (D.content disk) (D.content refused.0)) }
+        ensures left { IfErr result (λ refused. Steps IsAlike (D.content disk)
+            (D.content refused.0)) }
 
-        ensures any_moment { LeavesOnly D.moment D.left_at disk (disk_after result) (LeftOrAlike (D.may_leave disk) (D.content disk)) }
-        ensures grows { IsSome (D.content disk) → (index : ℕ) (body : List ℕ) → Grows D.moment D.left_at disk (disk_after result) (HasAt index body) }
-        ensures cause { HasCause (D.faults disk) (D.faults (disk_after result)) (IsErrAnd result (λ refused. refused.1 ≡ Fault.Disk)) }
+        ensures any_moment { LeavesOnly D.moment D.left_at disk (disk_after result)
+            (LeftOrAlike (D.may_leave disk) (D.content disk)) }
+        ensures grows { IsSome (D.content disk) → (index : ℕ) (body : List ℕ)
+            → Grows D.moment D.left_at disk (disk_after result) (HasAt index body) }
+        ensures cause { HasCause (D.faults disk) (D.faults (disk_after result))
+            (IsErrAnd result (λ refused. refused.1 ≡ Fault.Disk)) }
     {
         let mut disk = disk;
         match prepare(alloc, &mut disk) {
@@ -80,7 +88,8 @@ impl<D: Disk> Journal<D> {
 
     // Whether a body fits.
     fn has_room(&self, body: &[u8]) -> bool
-        ensures { IsTrue result ↔ ((self.now.place + 6 + length body.now ≤ self.now.limit) × (length body.now < 2 ^ 32)) }
+        ensures { IsTrue result ↔ ((self.now.place + 6 + length body.now ≤ self.now.limit)
+            × (length body.now < 2 ^ 32)) }
     {
         let limit = self.limit;
         match self.place.checked_add(6 + body.len() as u64) {
@@ -107,21 +116,32 @@ impl<D: Disk> Journal<D> {
         // At `Ok` it is up behind the record. Full comes where the record would pass the limit, and nowhere else.
         ensures up { OnOk result (IsUp self.new) }
         ensures place { OnOk result (place_of self.new ≡ place_of self.old + 5 + length body.now) }
-        ensures full { (result ≡ Err (Full (place_of self.old))) ↔ IsTooLong (place_of self.old) (limit_of self.old) body.now }
+        ensures full { (result ≡ Err (Full (place_of self.old))) ↔ IsTooLong (place_of self.old)
+            (limit_of self.old) body.now }
         ensures left { IfErr result (AppendLeaves self.old self.new body.now) }
         ensures limit { limit_of self.new ≡ limit_of self.old }
 
         // Where the disk tells its bytes, each image has the new record after `Ok`, and may have it after an error.
-        ensures acknowledged { OnOk result ((bodies : List (List ℕ)) → Keeps self.old bodies → Keeps self.new (bodies ++ body.now ∷ [])) }
-        ensures content { OnOk result ((bodies : List (List ℕ)) → Keeps self.old bodies → D.content (disk_of self.new) ≡ option_map (written (place_of self.old) (1 ∷ behind_gate body.now)) (D.content (disk_of self.old))) }
-        ensures kept { OnErr result ((bodies : List (List ℕ)) → Keeps self.old bodies → Keeps self.new bodies) }
+        ensures acknowledged { OnOk result ((bodies : List (List ℕ)) → Keeps self.old bodies
+            → Keeps self.new (bodies ++ body.now ∷ [])) }
+        ensures content { OnOk result ((bodies : List (List ℕ)) → Keeps self.old bodies
+            → D.content (disk_of self.new) ≡ option_map
+            (written (place_of self.old) (1 ∷ behind_gate body.now))
+            (D.content (disk_of self.old))) }
+        ensures kept { OnErr result ((bodies : List (List ℕ)) → Keeps self.old bodies
+            → Keeps self.new bodies) }
 
         // A crash at any moment of the call leaves the records from before it, with the new one or without.
-        ensures any_moment { (bodies : List (List ℕ)) → Keeps self.old bodies → LeavesOnly D.moment D.left_at (disk_of self.old) (disk_of self.new) (λ image. HasRecords bodies image ⊎ HasRecords (bodies ++ body.now ∷ []) image) }
+        ensures any_moment { (bodies : List (List ℕ)) → Keeps self.old bodies
+            → LeavesOnly D.moment D.left_at (disk_of self.old) (disk_of self.new)
+            (λ image. HasRecords bodies image ⊎ HasRecords (bodies ++ body.now ∷ []) image) }
 
         // Of two moments of the call each image of the later has every record that all images of the earlier have.
-        ensures grows { (bodies : List (List ℕ)) → Keeps self.old bodies → (index : ℕ) (had : List ℕ) → Grows D.moment D.left_at (disk_of self.old) (disk_of self.new) (HasAt index had) }
-        ensures cause { HasCause (D.faults (disk_of self.old)) (D.faults (disk_of self.new)) (IsErrOf result Fault.Disk) }
+        ensures grows { (bodies : List (List ℕ)) → Keeps self.old bodies
+            → (index : ℕ) (had : List ℕ)
+            → Grows D.moment D.left_at (disk_of self.old) (disk_of self.new) (HasAt index had) }
+        ensures cause { HasCause (D.faults (disk_of self.old)) (D.faults (disk_of self.new))
+            (IsErrOf result Fault.Disk) }
     {
         if !self.has_room(body) {
             return Err(Fault::Full { place: self.place });
@@ -154,20 +174,26 @@ impl<D: Disk> Journal<D> {
         requires { IsSome (in_hand self.old) }
 
         ensures up { OnOk result (IsUp self.new) }
-        ensures place { IfOk result (λ stands. place_of self.new ≡ (if stands then behind_hand (place_of self.old) (in_hand self.old) else place_of self.old)) }
+        ensures place { IfOk result (λ stands. place_of self.new
+            ≡ (if stands then behind_hand (place_of self.old) (in_hand self.old)
+            else place_of self.old)) }
         ensures fault { IfErr result IsOfDevice }
         ensures in_hand { OnErr result (in_hand self.new ≡ in_hand self.old) }
         ensures place_err { OnErr result (place_of self.new ≡ place_of self.old) }
         ensures limit { limit_of self.new ≡ limit_of self.old }
 
         // Where the disk tells its bytes, each image has the body exactly where the answer says so.
-        ensures tells { IfOk result (λ stands. (bodies : List (List ℕ)) → Keeps self.old bodies → Keeps self.new (if stands then with_hand bodies (in_hand self.old) else bodies)) }
-        ensures kept { OnErr result ((bodies : List (List ℕ)) → Keeps self.old bodies → Keeps self.new bodies) }
+        ensures tells { IfOk result (λ stands. (bodies : List (List ℕ)) → Keeps self.old bodies
+            → Keeps self.new (if stands then with_hand bodies (in_hand self.old) else bodies)) }
+        ensures kept { OnErr result ((bodies : List (List ℕ)) → Keeps self.old bodies
+            → Keeps self.new bodies) }
         ensures content { D.content (disk_of self.new) ≡ D.content (disk_of self.old) }
 
-        ensures any_moment { LeavesOnly D.moment D.left_at (disk_of self.old) (disk_of self.new) (D.may_leave (disk_of self.old)) }
+        ensures any_moment { LeavesOnly D.moment D.left_at (disk_of self.old) (disk_of self.new)
+            (D.may_leave (disk_of self.old)) }
         ensures falls { FallsAway D.moment D.left_at (disk_of self.old) (disk_of self.new) }
-        ensures cause { HasCause (D.faults (disk_of self.old)) (D.faults (disk_of self.new)) (IsErrOf result Fault.Disk) }
+        ensures cause { HasCause (D.faults (disk_of self.old)) (D.faults (disk_of self.new))
+            (IsErrOf result Fault.Disk) }
     {
         let behind = self.behind_hand();
         let size = synced_len(&mut self.disk)?;
@@ -202,18 +228,24 @@ impl<D: Disk> Journal<D> {
         ensures limit { limit_of self.new ≡ limit_of self.old }
 
         // Where the disk tells its bytes, they have these records.
-        ensures records { IfOk result (λ found. IfSome (D.content (disk_of self.old)) (HasRecords (bodies_of found.items))) }
-        ensures tells { IfOk result (λ found. (bodies : List (List ℕ)) → Keeps self.old bodies → Keeps self.new (bodies_of found.items)) }
-        ensures kept { OnErr result ((bodies : List (List ℕ)) → Keeps self.old bodies → Keeps self.new bodies) }
+        ensures records { IfOk result (λ found. IfSome (D.content (disk_of self.old))
+            (HasRecords (bodies_of found.items))) }
+        ensures tells { IfOk result (λ found. (bodies : List (List ℕ)) → Keeps self.old bodies
+            → Keeps self.new (bodies_of found.items)) }
+        ensures kept { OnErr result ((bodies : List (List ℕ)) → Keeps self.old bodies
+            → Keeps self.new bodies) }
         ensures content { D.content (disk_of self.new) ≡ D.content (disk_of self.old) }
 
         // Broken comes where the bytes are broken, and Full never.
-        ensures broken { (place : ℕ) → result ≡ Err (Broken place) → IfSome (D.content (disk_of self.old)) (IsBroken place) }
+        ensures broken { (place : ℕ) → result ≡ Err (Broken place)
+            → IfSome (D.content (disk_of self.old)) (IsBroken place) }
         ensures fault { IfErr result IsOfReading }
 
-        ensures any_moment { LeavesOnly D.moment D.left_at (disk_of self.old) (disk_of self.new) (D.may_leave (disk_of self.old)) }
+        ensures any_moment { LeavesOnly D.moment D.left_at (disk_of self.old) (disk_of self.new)
+            (D.may_leave (disk_of self.old)) }
         ensures falls { FallsAway D.moment D.left_at (disk_of self.old) (disk_of self.new) }
-        ensures cause { HasCause (D.faults (disk_of self.old)) (D.faults (disk_of self.new)) (IsErrOf result Fault.Disk) }
+        ensures cause { HasCause (D.faults (disk_of self.old)) (D.faults (disk_of self.new))
+            (IsErrOf result Fault.Disk) }
     {
         self.close();
         let found = read_records(self.alloc, &mut self.disk)?;

@@ -17,7 +17,8 @@ use std::alloc::Global;
 pub(crate) fn read_records<D: Disk>(alloc: Global, disk: &mut D) -> Result<Found, Fault>
     ensures found { IfOk result (Finds (D.content disk.old) (D.size disk.new)) }
     ensures durable { OnOk result (Only (D.content disk.new) (D.may_leave disk.new)) }
-    ensures broken { (place : ℕ) → result ≡ Err (Broken place) → IfSome (D.content disk.old) (IsBroken place) }
+    ensures broken { (place : ℕ) → result ≡ Err (Broken place)
+        → IfSome (D.content disk.old) (IsBroken place) }
     ensures fault { IfErr result IsOfReading }
     ensures content { D.content disk.new ≡ D.content disk.old }
     ensures crash { Within (D.may_leave disk.old) (D.may_leave disk.new) }
@@ -40,16 +41,21 @@ pub(crate) fn read_records<D: Disk>(alloc: Global, disk: &mut D) -> Result<Found
 
 /// Reads the records, and writes a closed gate where there is at most one byte.
 pub(crate) fn prepare<D: Disk>(alloc: Global, disk: &mut D) -> Result<Found, Fault>
-    ensures records { IfOk result (λ found. IfSome (D.content disk.old) (HasRecords (found_bodies found))) }
-    ensures ready { IfOk result (λ found. IfSome (D.content disk.new) (EndsAt found.place (found_bodies found))) }
+    ensures records { IfOk result (λ found. IfSome (D.content disk.old)
+        (HasRecords (found_bodies found))) }
+    ensures ready { IfOk result (λ found. IfSome (D.content disk.new)
+        (EndsAt found.place (found_bodies found))) }
     ensures within { IfOk result (λ found. found.place + 1 ≤ D.size disk.new) }
     ensures durable { OnOk result (Only (D.content disk.new) (D.may_leave disk.new)) }
-    ensures broken { (place : ℕ) → result ≡ Err (Broken place) → IfSome (D.content disk.old) (IsBroken place) }
+    ensures broken { (place : ℕ) → result ≡ Err (Broken place)
+        → IfSome (D.content disk.old) (IsBroken place) }
     ensures fault { IfErr result IsOfReading }
     ensures made { OnOk result (D.content disk.new ≡ option_map made_ready (D.content disk.old)) }
     ensures content { Steps IsAlike (D.content disk.old) (D.content disk.new) }
-    ensures any_moment { LeavesOnly D.moment D.left_at disk.old disk.new (LeftOrAlike (D.may_leave disk.old) (D.content disk.old)) }
-    ensures grows { IsSome (D.content disk.old) → (index : ℕ) (body : List ℕ) → Grows D.moment D.left_at disk.old disk.new (HasAt index body) }
+    ensures any_moment { LeavesOnly D.moment D.left_at disk.old disk.new
+        (LeftOrAlike (D.may_leave disk.old) (D.content disk.old)) }
+    ensures grows { IsSome (D.content disk.old) → (index : ℕ) (body : List ℕ)
+        → Grows D.moment D.left_at disk.old disk.new (HasAt index body) }
     ensures cause { HasCause (D.faults disk.old) (D.faults disk.new) (IsErrOf result Fault.Disk) }
 {
     let found = read_records(alloc, disk)?;

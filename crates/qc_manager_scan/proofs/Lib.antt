@@ -1,4 +1,3 @@
 pub mod Ranges
 pub mod Raised
-pub mod Truth
 pub mod Stages

@@ -16,6 +16,7 @@ use Rattle.qc_event.specs.History.{Past, Name}
 use Rattle.qc_event.specs.Clear.{clear, conflict, is_get}
 use Rattle.qc_event.specs.Dead.{dead, outcome, is_committed, ancestors}
 use Rattle.qc_event.specs.Seen.{changed_by, is_in_way, is_live_at}
+use Rattle.qc_event.proofs.Histories.{or_first}
 use Rattle.qc_moss.specs.declared.holder.Holder.{Holder}
 use Rattle.qc_moss.specs.declared.holder.Put.{Put}
 use Rattle.qc_moss.specs.declared.holder.Change.{Change}
@@ -88,10 +89,6 @@ both_ways access write a b same = by_test (name.is_ancestor a.at access) write �
     by_test false true = refl
     by_test false false = refl
 
-or_or : {Y : Type 0} (a b c : Option Y) → option_or (option_or a b) c ≡ option_or a (option_or b c)
-or_or None b c = refl
-or_or (Some y) b c = refl
-
 -- who holds a lock before is in no write's way, and holds still
 record AreAbove (past : Past) (op : Op) (access : Name) (before : List Name) : Type 0 where
   pub still : (n : Name) → IsAmong n before → IsStill past n
@@ -153,7 +150,7 @@ same_first past op access _ _ _ (more before g h given held i rest) above still 
     let one = alone g.access h.at g.op in
     let head : IsStill past h.at = All-head (HoldsStill past) (joined one h) held still in
     ap (λ o. option_or o (first_in_way access (not (is_get op)) held)) (both_ways access (not (is_get op)) one h refl)
-    ∙ or_or (in_way access (not (is_get op)) one) (in_way access (not (is_get op)) h) (first_in_way access (not (is_get op)) held)
+    ∙ or_first (in_way access (not (is_get op)) one) (in_way access (not (is_get op)) h) (first_in_way access (not (is_get op)) held)
     ∙ found_or past op g h.at access (first_in_way access (not (is_get op)) (h ∷ held)) _ (clear_by past g.access h.at access i head) (λ passes.
     same_first past op access (h.at ∷ before) given (h ∷ held) rest (one_above past op access h.at before head passes above) (All-cons (HoldsStill past) h held head (All-tail (HoldsStill past) (joined one h) held still)))
 same_first past op access _ _ _ (read before g at given held gets among i rest) above still =

@@ -16,6 +16,7 @@ use Rattle.qc_moss.specs.declared.holder.Change.{Change}
 use Rattle.qc_config.specs.declared.tuple.Op.{Op}
 use Rattle.qc_config.specs.declared.tuple.Op.TheVariants.{Get, PutData, PutConfig}
 use Rattle.qc_event.specs.Clear.{is_get}
+use Rattle.qc_event.proofs.Histories.{or_first}
 use Rattle.qc_moss.specs.Locks.{alone, joined, with_neighbour, with_next, is_read, is_held, held_at}
 use Rattle.qc_moss.specs.Follows.{IsAmong, IsInherited, AreOf, HasMoved, Becomes, HoldsStill}
 use Rattle.qc_moss.specs.Follows.AreOf.{none, gone, kept, more, read}
@@ -125,12 +126,8 @@ move_one past ks rest h to m = becomes past ks (h ∷ rest) (to ∷ rest) (λ be
 
 -- A LOCK JOINS ITS NEIGHBOUR
 
-or_or : {Y : Type 0} (a b c : Option Y) → option_or a (option_or b c) ≡ option_or (option_or a b) c
-or_or None b c = refl
-or_or (Some y) b c = refl
-
 joined_joined : (a b c : Holder) → joined a (joined b c) ≡ joined (joined a b) c
-joined_joined a b c = made _ _ _ _ _ _ (or_or a.writer b.writer c.writer) (sym (or_or c.put b.put a.put)) (sym (or_or c.change b.change a.change))
+joined_joined a b c = made _ _ _ _ _ _ (sym (or_first a.writer b.writer c.writer)) (or_first c.put b.put a.put) (or_first c.change b.change a.change)
   where
     made : (w w' : Option Name) (p p' : Option Put) (q q' : Option Change) → w ≡ w' → p ≡ p' → q ≡ q' → (let x : Holder = record { first = a.first; at = a.at; writer = w; put = p; change = q } in x) ≡ record { first = a.first; at = a.at; writer = w'; put = p'; change = q' }
     made w w' p p' q q' e f g = cc

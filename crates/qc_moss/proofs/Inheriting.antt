@@ -9,10 +9,11 @@ use Rattle.qc_event.specs.declared.event.Entry.{Entry}
 use Rattle.qc_event.specs.declared.event.Grant.{Grant}
 use Rattle.qc_event.specs.History.{Past, Name}
 use Rattle.qc_event.specs.Dead.{dead, outcome, is_committed}
+use Rattle.qc_event.proofs.Later.{committed_stays}
 use Rattle.qc_moss.specs.declared.holder.Holder.{Holder}
 use Rattle.qc_moss.specs.Follows.{IsAmong, IsInherited, AreOf}
 use Rattle.qc_moss.specs.Follows.AreOf.{none, gone, kept, more, read}
-use Rattle.qc_moss.proofs.Ancestry.{ancestor_itself, ancestor_further, alive_if, alive_at, committed_stays}
+use Rattle.qc_moss.proofs.Ancestry.{ancestor_itself, ancestor_further, alive_if, alive_at}
 
 -- INHERITING
 
@@ -121,7 +122,3 @@ to_parent past n done = record {
 
 pub still_alive : (past : Past) (n at : Name) → IsInherited past n at → dead past n ≡ None → dead past at ≡ None
 still_alive past n at i lives = alive_if past at (λ a above. alive_at past a n (ancestor_further a at n above i.above) lives)
-
-pub none_if : {Y : Type 0} (o : Option Y) → is_some o ≡ false → o ≡ None
-none_if None h = refl
-none_if (Some y) h = absurd (true≢false h)

@@ -19,15 +19,20 @@ ghost use Rattle.qc_moss.specs.Locks.{Table, unheld, test_of, test_by, start_of,
 /// folded into the copy's tuples, and stays. The empty table follows every history, and a table goes on to follow
 /// where the history grows and where an access is granted; when a record is settled is left open (Moss).
 pub fn locks_follow_histories()
-    ensures free { (past : Past) (given : List Grant) (table : Table) (access : Name) (rec : ℕ) (op : Op)
+    ensures free { (past : Past) (given : List Grant) (table : Table) (access : Name)
+        (rec : ℕ) (op : Op)
         → Follows past given table → IsSettled past table rec → dead past [] ≡ None
         → test_of table access rec (not (is_get op))
-        ≡ test_by (option_map (λ (g : Grant). g.access) (find (is_in_way past rec op access) given)) }
-    ensures tuple { (past : Past) (given : List Grant) (table : Table) (rec : ℕ) → Follows past given table
+        ≡ test_by (option_map (λ (g : Grant). g.access)
+        (find (is_in_way past rec op access) given)) }
+    ensures tuple { (past : Past) (given : List Grant) (table : Table) (rec : ℕ)
+        → Follows past given table
         → IsSettled past table rec → dead past [] ≡ None
-        → tuple_of table rec ≡ changed_by (start_of table rec) (filter (is_live_at past rec) given) }
+        → tuple_of table rec ≡ changed_by (start_of table rec)
+        (filter (is_live_at past rec) given) }
     ensures starts { (past : Past) (start : List Tuple) → Follows past [] (unheld start) }
-    ensures grows { (past : Past) (e : Entry) (given : List Grant) (table : Table) → Follows past given table
+    ensures grows { (past : Past) (e : Entry) (given : List Grant) (table : Table)
+        → Follows past given table
         → Follows (e ∷ past) given table }
     ensures granted { (past : Past) (given : List Grant) (table : Table) (g : Grant)
         → g.rec < length table.held → Follows past given table

@@ -11,10 +11,14 @@ use qc_names::Name;
 
 // Who inherited what was done at a transaction; none where it is dead.
 fn raised<S: Source>(at: &Name, source: &S) -> Option<Name>
-    ensures gone { (past : Past) → S.tells source.now past → result ≡ None → is_some (dead_words.dead past at.now) ≡ true }
-    ensures up { (past : Past) (to : List ℕ) → S.tells source.now past → result ≡ Some to → IsInherited past at.now to }
-    ensures alive { (past : Past) (to : List ℕ) → S.tells source.now past → result ≡ Some to → dead_words.dead past to ≡ None }
-    ensures still { (past : Past) (to : List ℕ) → S.tells source.now past → result ≡ Some to → (to ≡ []) ⊎ (dead_words.is_committed (dead_words.outcome past to) ≡ false) }
+    ensures gone { (past : Past) → S.tells source.now past → result ≡ None
+        → is_some (dead_words.dead past at.now) ≡ true }
+    ensures up { (past : Past) (to : List ℕ) → S.tells source.now past → result ≡ Some to
+        → IsInherited past at.now to }
+    ensures alive { (past : Past) (to : List ℕ) → S.tells source.now past → result ≡ Some to
+        → dead_words.dead past to ≡ None }
+    ensures still { (past : Past) (to : List ℕ) → S.tells source.now past → result ≡ Some to
+        → (to ≡ []) ⊎ (dead_words.is_committed (dead_words.outcome past to) ≡ false) }
 {
     if source.dead(at).is_some() {
         return None;
@@ -75,8 +79,10 @@ fn place(held: &mut Vec<Holder>, kept: usize, holder: &Holder) -> usize
 /// Settles the locks of one record: each goes up as far as it was inherited, those of the dead go, and what one
 /// transaction holds becomes one lock where it is next to another, or a read. It takes no memory.
 pub fn settle_list<S: Source>(held: &mut Vec<Holder>, source: &S)
-    ensures becomes { (past : Past) → S.tells source.now past → Becomes past held.old.items held.new.items }
-    ensures settled { (past : Past) → S.tells source.now past → All (HoldsStill past) held.new.items }
+    ensures becomes { (past : Past) → S.tells source.now past
+        → Becomes past held.old.items held.new.items }
+    ensures settled { (past : Past) → S.tells source.now past
+        → All (HoldsStill past) held.new.items }
     ensures short { locks.is_short held.new.items ≡ true }
     ensures room { locks.HasRoom held.old → locks.HasRoom held.new }
 {

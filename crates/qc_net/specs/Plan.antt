@@ -1,6 +1,6 @@
 -- What a link does, by its plan, and how it counts its troubles.
 use Rattle.std.specs.Prelude.{◌≡◌, ◌≤◌, ℕ, ◌+◌, ◌==◌, nat_lt, Bool, true, false, ◌&&◌, MatchBool, if◌then◌else◌, List, [], ◌∷◌, ◌++◌, Option, Some, None}
-use Rattle.qc_gather.specs.Carrying.{Rose}
+use Rattle.qc_event.specs.Counts.{Rose}
 use Rattle.qc_net.specs.declared.link.Fate.{Fate}
 use Rattle.qc_net.specs.declared.link.Fate.TheVariants.{Deliver, LoseAsk, LoseReply, Hold, Twice}
 

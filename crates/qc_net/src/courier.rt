@@ -2,7 +2,7 @@
 ghost use Rattle.std.specs.Prelude.{◌≡◌, ◌≤◌, [], ◌∷◌, ◌++◌, length, option_map, All, IfOk, OnOk, OnErr, IfSome, IsTrue};
 ghost use Rattle.qc_event.specs.declared.event.Ask.{Ask};
 ghost use Rattle.qc_event.specs.declared.event.Answered.{Answered};
-ghost use Rattle.qc_gather.specs.Carrying.{Rose};
+ghost use Rattle.qc_event.specs.Counts.{Rose};
 ghost use Rattle.qc_net.specs.Plan.{Counts, is_trouble, next_fate, passed, anew, due_in};
 ghost use Rattle.qc_net.specs.Sending.{waiting, meeting, sending, IsSending};
 
@@ -56,14 +56,18 @@ impl<L: Link> Courier<L> {
     // stays held.
     fn due_step<P: Port>(&mut self, port: &mut P) -> Result<Option<(usize, Answered)>, AllocError>
         requires { All (P.may port.old) (held_of self.old) }
-        ensures stepped { IfOk result (Stepped (P.gave port.new) (held_of self.old) (held_of self.new) (P.made port.old) (P.made port.new)) }
+        ensures stepped { IfOk result (Stepped (P.gave port.new) (held_of self.old)
+            (held_of self.new) (P.made port.old) (P.made port.new)) }
         ensures held_err { OnErr result (held_of self.new ≡ held_of self.old) }
         ensures made_err { OnErr result (P.made port.new ≡ P.made port.old) }
-        ensures place { IfSome (L.plan (link_of self.old)) (λ plan. IfOk result (λ step. option_map (λ s. s.0) step ≡ due_in plan (length (held_of self.old)))) }
+        ensures place { IfSome (L.plan (link_of self.old))
+            (λ plan. IfOk result (λ step. option_map (λ s. s.0) step ≡ due_in plan
+            (length (held_of self.old)))) }
         ensures plan { L.plan (link_of self.new) ≡ option_map passed (L.plan (link_of self.old)) }
         ensures counts { L.troubles (link_of self.new) ≡ L.troubles (link_of self.old) }
         ensures may { (other : Ask) → P.may port.old other → P.may port.new other }
-        ensures gave { (other : Ask) (answer : Answered) → P.gave port.old other answer → P.gave port.new other answer }
+        ensures gave { (other : Ask) (answer : Answered) → P.gave port.old other answer
+            → P.gave port.new other answer }
         ensures became { P.became port.old port.new }
     {
         let Some(place) = self.link.due(self.held.len()) else {
@@ -79,14 +83,21 @@ impl<L: Link> Courier<L> {
     fn hold<P: Port>(&mut self, ask: &Ask, port: &mut P, patience: u32) -> Result<Sent, AllocError>
         requires ask { P.may port.old ask.now }
         requires held { All (P.may port.old) (held_of self.old) }
-        ensures told { IfSome (L.plan (link_of self.old)) (λ plan. IfOk result (IsSending (waiting patience (record { plan = plan; held = held_of self.old ++ ask.now ∷ []; delivered = [] })) (L.plan (link_of self.new)) (held_of self.new) (P.gave port.new) (P.made port.old) (P.made port.new))) }
+        ensures told { IfSome (L.plan (link_of self.old))
+            (λ plan. IfOk result (IsSending (waiting patience
+            (record { plan = plan; held = held_of self.old ++ ask.now ∷ []; delivered = [] }))
+            (L.plan (link_of self.new)) (held_of self.new) (P.gave port.new) (P.made port.old)
+            (P.made port.new))) }
         ensures answered { IfOk result (IsAnswered (P.gave port.new) ask.now) }
-        ensures held { HeldAfter (P.gave port.new) (held_of self.old) ask.now (held_of self.new) result }
+        ensures held { HeldAfter (P.gave port.new) (held_of self.old) ask.now
+            (held_of self.new) result }
         ensures allowed { All (P.may port.new) (held_of self.new) }
         ensures may { (other : Ask) → P.may port.old other → P.may port.new other }
-        ensures gave { (other : Ask) (answer : Answered) → P.gave port.old other answer → P.gave port.new other answer }
+        ensures gave { (other : Ask) (answer : Answered) → P.gave port.old other answer
+            → P.gave port.new other answer }
         ensures became { P.became port.old port.new }
-        ensures plan { option_map anew (L.plan (link_of self.new)) ≡ option_map anew (L.plan (link_of self.old)) }
+        ensures plan { option_map anew (L.plan (link_of self.new)) ≡ option_map anew
+            (L.plan (link_of self.old)) }
         ensures counts { L.troubles (link_of self.new) ≡ L.troubles (link_of self.old) }
     {
         append(&mut self.held, *ask)?;
@@ -111,15 +122,22 @@ impl<L: Link> Courier<L> {
     ) -> Result<Sent, AllocError>
         requires ask { P.may port.old ask.now }
         requires held { All (P.may port.old) (held_of self.old) }
-        ensures told { IfSome (L.plan (link_of self.old)) (λ plan. IfOk result (IsSending (meeting fate ask.now patience (record { plan = plan; held = held_of self.old; delivered = [] })) (L.plan (link_of self.new)) (held_of self.new) (P.gave port.new) (P.made port.old) (P.made port.new))) }
+        ensures told { IfSome (L.plan (link_of self.old))
+            (λ plan. IfOk result (IsSending (meeting fate ask.now patience
+            (record { plan = plan; held = held_of self.old; delivered = [] }))
+            (L.plan (link_of self.new)) (held_of self.new) (P.gave port.new) (P.made port.old)
+            (P.made port.new))) }
         ensures answered { IfOk result (IsAnswered (P.gave port.new) ask.now) }
-        ensures held { HeldAfter (P.gave port.new) (held_of self.old) ask.now (held_of self.new) result }
+        ensures held { HeldAfter (P.gave port.new) (held_of self.old) ask.now
+            (held_of self.new) result }
         ensures allowed { All (P.may port.new) (held_of self.new) }
         ensures cause { IfOk result (HasCause (IsTrue (is_trouble fate))) }
         ensures may { (other : Ask) → P.may port.old other → P.may port.new other }
-        ensures gave { (other : Ask) (answer : Answered) → P.gave port.old other answer → P.gave port.new other answer }
+        ensures gave { (other : Ask) (answer : Answered) → P.gave port.old other answer
+            → P.gave port.new other answer }
         ensures became { P.became port.old port.new }
-        ensures plan { option_map anew (L.plan (link_of self.new)) ≡ option_map anew (L.plan (link_of self.old)) }
+        ensures plan { option_map anew (L.plan (link_of self.new)) ≡ option_map anew
+            (L.plan (link_of self.old)) }
         ensures counts { L.troubles (link_of self.new) ≡ L.troubles (link_of self.old) }
     {
         match fate {
@@ -148,17 +166,26 @@ impl<L: Link> Courier<L> {
     ) -> Result<Sent, AllocError>
         requires ask { P.may port.old ask.now }
         requires held { All (P.may port.old) (held_of self.old) }
-        ensures told { IfSome (L.plan (link_of self.old)) (λ plan. IfOk result (IsSending (sending plan (held_of self.old) ask.now patience) (L.plan (link_of self.new)) (held_of self.new) (P.gave port.new) (P.made port.old) (P.made port.new))) }
+        ensures told { IfSome (L.plan (link_of self.old))
+            (λ plan. IfOk result (IsSending (sending plan (held_of self.old) ask.now patience)
+            (L.plan (link_of self.new)) (held_of self.new) (P.gave port.new) (P.made port.old)
+            (P.made port.new))) }
         ensures answered { IfOk result (IsAnswered (P.gave port.new) ask.now) }
-        ensures held { HeldAfter (P.gave port.new) (held_of self.old) ask.now (held_of self.new) result }
+        ensures held { HeldAfter (P.gave port.new) (held_of self.old) ask.now
+            (held_of self.new) result }
         ensures allowed { All (P.may port.new) (held_of self.new) }
-        ensures cause { IfOk result (HasCause (Rose (L.troubles (link_of self.old)) (L.troubles (link_of self.new)))) }
-        ensures counts { IfSome (L.plan (link_of self.old)) (λ plan. OnOk result (Counts (next_fate plan.coming) (L.troubles (link_of self.old)) (L.troubles (link_of self.new)))) }
+        ensures cause { IfOk result (HasCause
+            (Rose (L.troubles (link_of self.old)) (L.troubles (link_of self.new)))) }
+        ensures counts { IfSome (L.plan (link_of self.old))
+            (λ plan. OnOk result (Counts (next_fate plan.coming) (L.troubles (link_of self.old))
+            (L.troubles (link_of self.new)))) }
         ensures later { L.troubles (link_of self.old) ≤ L.troubles (link_of self.new) }
         ensures may { (other : Ask) → P.may port.old other → P.may port.new other }
-        ensures gave { (other : Ask) (answer : Answered) → P.gave port.old other answer → P.gave port.new other answer }
+        ensures gave { (other : Ask) (answer : Answered) → P.gave port.old other answer
+            → P.gave port.new other answer }
         ensures became { P.became port.old port.new }
-        ensures plan { option_map anew (L.plan (link_of self.new)) ≡ option_map anew (L.plan (link_of self.old)) }
+        ensures plan { option_map anew (L.plan (link_of self.new)) ≡ option_map anew
+            (L.plan (link_of self.old)) }
     {
         self.due_step(port)?;
         let fate = self.link.fate(ask.copy);

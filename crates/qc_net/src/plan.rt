@@ -55,7 +55,7 @@ impl PlanLink {
 
 impl Link for PlanLink {
     ghost use Rattle.std.specs.Prelude.{◌≡◌, ◌<◌, Some, if◌then◌else◌, IfSome, IfOk};
-    ghost use Rattle.qc_gather.specs.Carrying.{next};
+    ghost use Rattle.qc_event.specs.Counts.{next};
     ghost use Rattle.qc_net.specs.Plan.{Counts, is_trouble, next_fate, asked, due_in, passed, anew};
     ghost use Rattle.qc_net.specs.PlanLink.{plan_of, troubles_of};
 
@@ -67,7 +67,8 @@ impl Link for PlanLink {
         ensures told { result ≡ next_fate (plan_of self.old).coming }
         ensures plan { plan_of self.new ≡ asked (plan_of self.old) }
         ensures counts { Counts result (troubles_of self.old) (troubles_of self.new) }
-        ensures counted { troubles_of self.new ≡ (if is_trouble result then next (troubles_of self.old) else troubles_of self.old) }
+        ensures counted { troubles_of self.new
+            ≡ (if is_trouble result then next (troubles_of self.old) else troubles_of self.old) }
     {
         let fate = match self.fates.get(self.at) {
             Some(fate) => *fate,

@@ -25,10 +25,12 @@ pub trait Port {
     fn deliver(&mut self, ask: &Ask) -> Result<Answered, AllocError>
         requires { may self.old ask.now }
         ensures answered { IfOk result (λ answer. gave self.new ask.now answer) }
-        ensures told { IfOk result (λ answer. made self.new ≡ option_map (λ earlier. given ask.now answer ∷ earlier) (made self.old)) }
+        ensures told { IfOk result (λ answer. made self.new ≡ option_map
+            (λ earlier. given ask.now answer ∷ earlier) (made self.old)) }
         ensures told_err { OnErr result (made self.new ≡ made self.old) }
         ensures may { (other : Ask) → may self.old other → may self.new other }
-        ensures gave { (other : Ask) (answer : Answered) → gave self.old other answer → gave self.new other answer }
+        ensures gave { (other : Ask) (answer : Answered) → gave self.old other answer
+            → gave self.new other answer }
         ensures became { became self.old self.new };
 
     /// Without a delivery it is as it was.
@@ -42,9 +44,11 @@ pub trait Port {
 pub(crate) fn deliver_twice<P: Port>(port: &mut P, ask: &Ask) -> Result<Answered, AllocError>
     requires { P.may port.old ask.now }
     ensures answered { IfOk result (λ answer. P.gave port.new ask.now answer) }
-    ensures told { IfOk result (λ answer. GaveTwice (P.gave port.new) (P.made port.old) (P.made port.new) ask.now answer) }
+    ensures told { IfOk result (λ answer. GaveTwice (P.gave port.new) (P.made port.old)
+        (P.made port.new) ask.now answer) }
     ensures may { (other : Ask) → P.may port.old other → P.may port.new other }
-    ensures gave { (other : Ask) (answer : Answered) → P.gave port.old other answer → P.gave port.new other answer }
+    ensures gave { (other : Ask) (answer : Answered) → P.gave port.old other answer
+        → P.gave port.new other answer }
     ensures became { P.became port.old port.new }
 {
     let first = port.deliver(ask)?;

@@ -34,20 +34,31 @@ pub fn reconfigure<C: Carrier>(
     first: &Config,
     new: &Config,
 ) -> Result<u64, MgrNo>
-    requires manager { IsRunning (C.seat carrier.old) (C.seen carrier.old) manager.now (kind.Reconf rec new.now) }
+    requires manager { IsRunning (C.seat carrier.old) (C.seen carrier.old) manager.now
+        (kind.Reconf rec new.now) }
     requires no_child { children (C.seen carrier.old) manager.now ≡ [] }
     requires first { first.now ≡ first_of (C.setting carrier.old) rec }
     ensures setting { C.setting carrier.new ≡ C.setting carrier.old }
     ensures seat { C.seat carrier.new ≡ C.seat carrier.old }
     ensures others { C.others carrier.new ≡ C.others carrier.old }
-    ensures grown { HasGrown (C.others carrier.old) (λ n. IsTrue (is_child manager.now n)) (C.seen carrier.old) (C.seen carrier.new) }
+    ensures grown { HasGrown (C.others carrier.old) (λ n. IsTrue (is_child manager.now n))
+        (C.seen carrier.old) (C.seen carrier.new) }
     ensures own { HasMade manager.now (C.own carrier.old) (C.own carrier.new) }
-    ensures answered { IfOk result (λ generation. IsAnswered (C.setting carrier.old) (C.seat carrier.old) (C.seen carrier.new) manager.now (kind.Reconf rec new.now) (answer.Generation generation)) }
-    ensures generation { IfOk result (λ generation. generation ≡ (newest (C.seen carrier.new) first.now manager.now).generation + 1) }
-    ensures value_moved { IfOk result (λ _. IsTrue (holds_write new.now (replied (C.seen carrier.new) manager.now Values))) }
-    ensures config_moved { IfOk result (λ _. IsTrue (holds_write (newest (C.seen carrier.new) first.now manager.now).config (replied (C.seen carrier.new) manager.now Configs))) }
-    ensures refused { IfErr result (IsRefused (C.setting carrier.old) (C.seat carrier.old) (C.seen carrier.new) manager.now (kind.Reconf rec new.now)) }
-    ensures complete { IfErr result (λ why. IsUndisturbed (C.setting carrier.old) (C.seen carrier.new) manager.now (kind.Reconf rec new.now) (C.troubles carrier.old) (C.troubles carrier.new) → IsShortage why) }
+    ensures answered { IfOk result (λ generation. IsAnswered (C.setting carrier.old)
+        (C.seat carrier.old) (C.seen carrier.new) manager.now (kind.Reconf rec new.now)
+        (answer.Generation generation)) }
+    ensures generation { IfOk result (λ generation. generation
+        ≡ (newest (C.seen carrier.new) first.now manager.now).generation + 1) }
+    ensures value_moved { IfOk result (λ _. IsTrue
+        (holds_write new.now (replied (C.seen carrier.new) manager.now Values))) }
+    ensures config_moved { IfOk result (λ _. IsTrue
+        (holds_write (newest (C.seen carrier.new) first.now manager.now).config
+        (replied (C.seen carrier.new) manager.now Configs))) }
+    ensures refused { IfErr result (IsRefused (C.setting carrier.old) (C.seat carrier.old)
+        (C.seen carrier.new) manager.now (kind.Reconf rec new.now)) }
+    ensures complete { IfErr result (λ why. IsUndisturbed (C.setting carrier.old)
+        (C.seen carrier.new) manager.now (kind.Reconf rec new.now) (C.troubles carrier.old)
+        (C.troubles carrier.new) → IsShortage why) }
     ensures became { C.became carrier.old carrier.new }
     ensures later { C.troubles carrier.old ≤ C.troubles carrier.new }
 {

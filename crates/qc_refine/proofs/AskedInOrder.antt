@@ -20,9 +20,9 @@ use Rattle.qc_event.specs.Manager.{Stage, stage, replied, first_for, AtStage}
 use Rattle.qc_event.specs.Requests.{IsNextAsk}
 use Rattle.qc_event.specs.Legal.{Legal}
 use Rattle.qc_event.proofs.Absent.{same_is}
-use Rattle.qc_event.proofs.OneEntry.{end_now}
+use Rattle.qc_event.proofs.OneEntry.{end_now, open_before}
+use Rattle.qc_event.proofs.LastNumber.{child_front}
 use Rattle.qc_simlock.specs.Visible.{given_in, served}
-use Rattle.qc_refine.proofs.OneMore.{child_front, open_before}
 use Rattle.qc_simlock.proofs.OneAsked.{one_asked}
 use Rattle.qc_refine.specs.Given.{in_phase, tuples_of}
 use Rattle.qc_refine.proofs.KindsBelow.{HasKind, kind_before}

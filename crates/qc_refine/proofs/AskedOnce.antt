@@ -3,6 +3,7 @@
 use Rattle.std.proofs.Common.{◌≡◌, ◌<◌, Bool, true, List, [], ◌∷◌, ◌++◌, length, refl, sym, ap, ◌∙◌, subst, inl, inr}
 use Rattle.std.specs.Prelude.{Option, None, Some, MatchOption, if◌then◌else◌}
 use Rattle.std.specs.Option.{option_or}
+use Rattle.std.proofs.lemmas.Option.{same_Some}
 use Rattle.qc_config.specs.declared.tuple.Tuple.{Tuple}
 use Rattle.qc_event.specs.declared.event.Answer.TheVariants as answer
 use Rattle.qc_event.specs.declared.event.Ask.{Ask}
@@ -161,7 +162,7 @@ reply_granted setting (e ∷ past) m n k t legal pos has manager child is = elim
         record {
           g = d.g;
           was_granted = grant_stays e past n d.g (ap (granted past) (sym own) ∙ d.was_granted);
-          same_tuple = some_same d.g.grant.tuple t (sym now ∙ ap (reply (e ∷ past)) own ∙ is);
+          same_tuple = same_Some d.g.grant.tuple t (sym now ∙ ap (reply (e ∷ past)) own ∙ is);
           asked_for = asked_for_still e past n d.g (subst (λ x. AskedFor past x d.g) own d.asked_for);
         }
     | inr quiet ↦ absurd (quiet.no_commit n _ new.1.1 child)
@@ -170,6 +171,3 @@ reply_granted setting (e ∷ past) m n k t legal pos has manager child is = elim
   where
     same_end : (a b : Name) (x y : How) → event.End a x ≡ event.End b y → a ≡ b
     same_end a b x y h = cc
-
-    some_same : (x y : Tuple) → Some x ≡ Some y → x ≡ y
-    some_same x y h = cc

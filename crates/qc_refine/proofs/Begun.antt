@@ -1,11 +1,9 @@
 -- What the start of a name tells of its kind.
-use Rattle.std.proofs.Common.{◌≡◌, ◌<◌, length}
-use Rattle.std.specs.Prelude.{Some}
+use Rattle.std.proofs.Common.{◌<◌, length}
 use Rattle.std.proofs.lemmas.Bool.{ltb-true}
 use Rattle.qc_event.specs.declared.event.Kind.{Kind}
 use Rattle.qc_event.specs.declared.event.Kind.TheVariants as kind
 use Rattle.qc_event.specs.Base.{Setting}
-use Rattle.qc_event.specs.History.{Begun}
 use Rattle.qc_event.specs.Manager.{record_of}
 use Rattle.qc_event.specs.Standing.{IsManager}
 use Rattle.qc_refine.proofs.KindFits.{KindFits}
@@ -17,7 +15,3 @@ record_fits setting (kind.Write rec value) manager fits = ltb-true rec (length s
 record_fits setting (kind.Reconf rec config) manager fits = ltb-true rec (length setting.firsts) fits.0
 record_fits setting (kind.User session body) manager fits = absurd manager
 record_fits setting kind.Access manager fits = absurd manager
-
--- two starts of a name are one
-pub some_same : (x y : Begun) → Some x ≡ Some y → x ≡ y
-some_same x y is = cc

@@ -12,7 +12,7 @@ use Rattle.qc_event.specs.Base.{Setting, no_tuple}
 use Rattle.qc_event.specs.History.{Given}
 use Rattle.qc_event.specs.Sound.{column}
 use Rattle.qc_simlock.specs.Visible.{is_at, left_at, Finds}
-use Rattle.qc_refine.proofs.OneMore.{left_last}
+use Rattle.qc_simlock.proofs.MossFinds.{left_last}
 use Rattle.qc_refine.specs.Completed.{FindsThere, Within, tuple_at, after_one, after_all}
 use Rattle.qc_refine.specs.InTurn.{IsAt, left_base}
 

@@ -3,6 +3,7 @@ use Rattle.std.proofs.Common.{◌≡◌, ℕ, ◌<◌, true, [], ◌∷◌, ◌+
 use Rattle.std.specs.Prelude.{Some, IsTrue, not}
 use Rattle.std.specs.List.{list_all}
 use Rattle.std.proofs.lemmas.Bool.{and_parts}
+use Rattle.std.proofs.lemmas.Option.{same_Some}
 use Rattle.qc_config.specs.Config.{Voting}
 use Rattle.qc_event.specs.declared.event.Answer.{Answer}
 use Rattle.qc_event.specs.declared.event.How.TheVariants.{Commit}
@@ -89,11 +90,8 @@ pub record IsStarted (past : Past) (m : Name) (k : Kind) : Type 0 where
   pub has : HasKind past m k
 
 pub is_started : (setting : Setting) (past : Past) (m : Name) (b : Begun) → Legal setting past → start past m ≡ Some b → IsStarted past m b.kind
-is_started setting past m b legal is = record { below_root = not_root m is; has = λ c at. ap (λ (x : Begun). x.kind) (some_same c b (sym at ∙ is)) }
+is_started setting past m b legal is = record { below_root = not_root m is; has = λ c at. ap (λ (x : Begun). x.kind) (same_Some c b (sym at ∙ is)) }
   where
-    some_same : (x y : Begun) → Some x ≡ Some y → x ≡ y
-    some_same x y h = cc
-
     not_root : (n : Name) → start past n ≡ Some b → 0 < length n
     not_root [] at = absurd (let none = (lawful past (legal_orderly setting past legal)).no_root_start in let differ = sym none ∙ at in cc)
     not_root (x ∷ n) at = omega arith

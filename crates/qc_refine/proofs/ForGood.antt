@@ -1,9 +1,10 @@
 -- What puts left for good are the tuples of the puts that the root is served.
-use Rattle.std.proofs.Common.{◌≡◌, ℕ, Bool, true, false, ◌&&◌, ◌||◌, List, [], ◌∷◌, refl, sym, ap, ap₂, ◌∙◌, subst, inl, inr, arith}
+use Rattle.std.proofs.Common.{◌≡◌, ℕ, true, false, ◌&&◌, ◌||◌, List, [], ◌∷◌, refl, sym, ap, ap₂, ◌∙◌, subst, inl, inr, arith}
 use Rattle.std.specs.Prelude.{◌==◌, All, Option, None, Some, not, map, option_to_list, if◌then◌else◌}
 use Rattle.std.specs.List.{Contains, list_all}
 use Rattle.std.proofs.lemmas.Bool.{eqb-true, eq-eqb, and_parts}
 use Rattle.std.proofs.lemmas.List.Elements.{All-nil, All-cons, All-append, Contains-append_left, Contains-append_right}
+use Rattle.std.proofs.Math.Bool.{or-true, or-false}
 use Rattle.qc_names.specs.Name.{is_ancestor}
 use Rattle.qc_config.specs.declared.tuple.Tuple.{Tuple}
 use Rattle.qc_event.specs.declared.event.Entry.{Entry}
@@ -26,19 +27,11 @@ use Rattle.qc_refine.proofs.CopiesSerial.{root_alive}
 -- WHAT THE ROOT SEES
 
 root_passes : (past : Past) → (is_committed (outcome past []) || (is_ancestor [] [] && is_open_or_root past [])) ≡ true
-root_passes past = either (is_committed (outcome past []))
-  where
-    either : (b : Bool) → (b || true) ≡ true
-    either true = refl
-    either false = refl
+root_passes past = or-true (is_committed (outcome past []))
 
 others_pass : (past : Past) (x : ℕ) (ns : List Name) → list_all (λ a. is_committed (outcome past a) || (is_ancestor a [] && is_open_or_root past a)) (map (λ a. x ∷ a) ns) ≡ list_all (λ a. is_committed (outcome past a)) (map (λ a. x ∷ a) ns)
 others_pass past x [] = refl
-others_pass past x (n ∷ ns) = ap₂ (λ b c. b && c) (neither (is_committed (outcome past (x ∷ n)))) (others_pass past x ns)
-  where
-    neither : (b : Bool) → (b || false) ≡ b
-    neither true = refl
-    neither false = refl
+others_pass past x (n ∷ ns) = ap₂ (λ b c. b && c) (or-false (is_committed (outcome past (x ∷ n)))) (others_pass past x ns)
 
 -- the root sees what is committed for good
 pub root_sees : (past : Past) (n : Name) → is_visible past n [] ≡ is_for_good past n

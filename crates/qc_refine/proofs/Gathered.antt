@@ -4,6 +4,7 @@ use Rattle.std.specs.Prelude.{Option, None, Some, is_some, filter_map, filter, m
 use Rattle.std.specs.Option.{option_map}
 use Rattle.std.specs.List.{cons_option, list_any}
 use Rattle.std.proofs.Math.Path.{fun_ext}
+use Rattle.std.proofs.Math.Bool.{and-false, and-true}
 use Rattle.qc_config.specs.declared.tuple.Op.{Op}
 use Rattle.qc_config.specs.declared.tuple.Op.TheVariants.{Get, PutData, PutConfig}
 use Rattle.qc_config.specs.declared.tuple.Tuple.{Tuple}
@@ -61,26 +62,18 @@ answers_from past copy requests = list_any (λ (ask : Ask). (ask.copy == copy) &
 abbrev is_from : ℕ → List Given → Bool
 is_from copy given = list_any (λ (g : Given). g.copy == copy) given
 
-and_false : (b : Bool) → (b && false) ≡ false
-and_false true = refl
-and_false false = refl
-
-and_true : (b : Bool) → (b && true) ≡ b
-and_true true = refl
-and_true false = refl
-
 copy_step : (past : Past) (phase : Phase) (copy : ℕ) (x : Ask) (b : Bool) (o : Option Tuple) (rest : List Ask) (gs : List Given) → is_phase phase (phase_of x.op) ≡ b → reply past x.access ≡ o → answers_from past copy rest ≡ is_from copy (in_phase phase gs)
     → answers_from past copy (cond (is_phase phase (phase_of x.op)) (x ∷ rest) rest) ≡ is_from copy (in_phase phase (cons_option (option_map (given_as x) (reply past x.access)) gs))
 copy_step past phase copy x true None rest gs here told before =
     ap (λ b. answers_from past copy (cond b (x ∷ rest) rest)) here
     ∙ ap (λ o. ((x.copy == copy) && is_some {T = Tuple} o) || answers_from past copy rest) told
-    ∙ ap (λ b. b || answers_from past copy rest) (and_false (x.copy == copy))
+    ∙ ap (λ b. b || answers_from past copy rest) (and-false (x.copy == copy))
     ∙ before
     ∙ ap (λ o. is_from copy (in_phase phase (cons_option (option_map (given_as x) o) gs))) (sym told)
 copy_step past phase copy x true (Some t) rest gs here told before =
     ap (λ b. answers_from past copy (cond b (x ∷ rest) rest)) here
     ∙ ap (λ o. ((x.copy == copy) && is_some {T = Tuple} o) || answers_from past copy rest) told
-    ∙ ap₂ (λ b c. b || c) (and_true (x.copy == copy)) before
+    ∙ ap₂ (λ b c. b || c) (and-true (x.copy == copy)) before
     ∙ ap (λ b. is_from copy (cond b (given_as x t ∷ in_phase phase gs) (in_phase phase gs))) (sym here)
     ∙ ap (λ o. is_from copy (in_phase phase (cons_option (option_map (given_as x) o) gs))) (sym told)
 copy_step past phase copy x false None rest gs here told before =

@@ -6,6 +6,7 @@ use Rattle.std.specs.Option.{option_map, option_or}
 use Rattle.std.specs.List.{flat_map}
 use Rattle.std.proofs.lemmas.Bool.{false_from_ne_true}
 use Rattle.std.proofs.lemmas.Grind.{flat_map-append}
+use Rattle.std.proofs.lemmas.Option.{same_Some}
 use Rattle.qc_names.specs.Name.{is_ancestor}
 use Rattle.qc_event.specs.declared.event.Answer.{Answer}
 use Rattle.qc_event.specs.declared.event.Entry.{Entry}
@@ -29,6 +30,7 @@ use Rattle.qc_event.proofs.LegalOrderly.{legal_orderly}
 use Rattle.qc_event.proofs.Lineage.{above_user}
 use Rattle.qc_event.proofs.OneEntry.{Starting, first_is, starting, start_is}
 use Rattle.qc_event.proofs.Orderly.{Belongs}
+use Rattle.qc_event.proofs.KindsApart.{user_or_manager}
 use Rattle.qc_simlock.specs.Serial.{IsUserOf}
 use Rattle.qc_simlock.specs.Visible.{served, given_in, served_order}
 use Rattle.qc_simlock.specs.Walk.{is_open_or_root}
@@ -37,7 +39,6 @@ use Rattle.qc_simlock.proofs.Accesses.{asked_access, grant_asked}
 use Rattle.qc_refine.specs.InTurn.{Done, given_to}
 use Rattle.qc_refine.specs.Turns.{done_by, done_in, dones, dones_order}
 use Rattle.qc_refine.proofs.AloneServed.{commits_started}
-use Rattle.qc_refine.proofs.Begun.{some_same}
 use Rattle.qc_refine.proofs.KindsBelow.{below}
 
 -- WHO STANDS BELOW
@@ -52,10 +53,6 @@ user_before e past n has b is = has b (ap (λ o. option_or o (start_in n e.seat 
 not_access : (k : Kind) → IsUser k → k ≡ kind.Access → ⊥
 not_access k user is = subst IsUser is user
 
-not_manager : (k : Kind) → IsUser k → IsManager k → ⊥
-not_manager (kind.User session body) user manager = manager
-not_manager _ user manager = user
-
 -- a top is a user transaction
 top_user : (setting : Setting) (past : Past) (j : ℕ) → Legal setting past → IsUserIf past (j ∷ [])
 top_user setting [] j legal b is = absurd cc
@@ -66,7 +63,7 @@ top_user setting (e ∷ past) j legal b is = elim (first_is (start past (j ∷ [
   where
     began : start past (j ∷ []) ≡ None → Starting (j ∷ []) e.event → IsUser b.kind
     began none (k, at) =
-        let same_begun : record { seat = e.seat; kind = k } ≡ b = some_same (record { seat = e.seat; kind = k }) b (sym (start_is e past (j ∷ []) k none at) ∙ is) in
+        let same_begun : record { seat = e.seat; kind = k } ≡ b = same_Some (record { seat = e.seat; kind = k }) b (sym (start_is e past (j ∷ []) k none at) ∙ is) in
         let may : MayStartTop past e.seat j k = subst (MayHappen setting past e.seat) at legal.1 in
         subst (λ (x : Begun). IsUser x.kind) same_begun may.user
 
@@ -78,9 +75,9 @@ no_access setting past [] c b legal user is began access = at_top (child_last []
     at_top (j, last) = not_access b.kind (top_user setting past j legal b (ap (start past) (sym last) ∙ began)) access
 no_access setting past (x ∷ n) c b legal user is began access =
     let u = below past (x ∷ n) c (lawful past (legal_orderly setting past legal)) (omega arith) is (ap is_some began) in
-    let same_child : u.child ≡ b = some_same u.child b (sym u.child_start ∙ began) in
+    let same_child : u.child ≡ b = same_Some u.child b (sym u.child_start ∙ began) in
     let under : IsManager u.parent.kind = subst (Belongs u.parent) (ap (λ (y : Begun). y.kind) same_child ∙ access) u.belongs in
-    not_manager u.parent.kind (user u.parent u.parent_start) under
+    user_or_manager u.parent.kind (user u.parent u.parent_start) under
 
 -- no grant is the own of the root or of a user transaction
 no_grant : (setting : Setting) (past : Past) (seat copy : ℕ) (g : Grant) (n : Name) → Legal setting past → IsUserIf past n → MayGrant setting past seat copy g → same g.access n ≡ false
@@ -107,7 +104,7 @@ module _ (setting : Setting) (past : Past) (n c : Name) (told : Answer) (legal :
   given_child is None at began = absurd (true≢false (sym began))
   given_child is (Some b) at began =
       given_by b.kind told (served past c) (dones past c) (no_access setting past n c b legal user is at)
-      (λ u. inner (λ x here. subst (λ (y : Begun). IsUser y.kind) (some_same b x (sym at ∙ here)) u))
+      (λ u. inner (λ x here. subst (λ (y : Begun). IsUser y.kind) (same_Some b x (sym at ∙ here)) u))
 
   given_end : (b : Bool) → is_child n c ≡ b → is_some (start past c) ≡ true → given_to (if b then done_by (kind_of past c) told (served past c) (dones past c) else []) ≡ (if b then served past c else [])
   given_end true is began = given_child is (start past c) refl began

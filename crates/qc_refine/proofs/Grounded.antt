@@ -6,6 +6,7 @@ use Rattle.std.specs.Prelude.{All, Option, None, Some, MatchOption, slice_get}
 use Rattle.std.specs.List.{last_or}
 use Rattle.std.proofs.lemmas.List.{length-map, get_or-map}
 use Rattle.std.proofs.lemmas.List.Elements.{All-get_or}
+use Rattle.std.proofs.lemmas.Option.{same_Some}
 use Rattle.qc_config.specs.Config.{Voting, IsLegal}
 use Rattle.qc_config.specs.declared.tuple.Tuple.{Tuple}
 use Rattle.qc_event.specs.Base.{Setting, first_of, no_tuple, start_tuple}
@@ -45,10 +46,7 @@ module _ (first : Voting) (base : List (List Tuple)) (rec value : ℕ) (carried 
       let listed = All-get_or (λ (t : Tuple). slice_get carried.configs t.generation ≡ Some t.config) (column base rec) copy no_tuple inside carried.each_listed in
       let here : slice_get carried.configs (start_tuple base copy rec).generation ≡ Some (start_tuple base copy rec).config =
       subst (λ t. slice_get carried.configs t.generation ≡ Some t.config) at listed in
-      some_same (start_tuple base copy rec).config first (sym here ∙ ap (slice_get carried.configs) zeroth ∙ carried.begins)
-    where
-      some_same : (x y : Voting) → Some x ≡ Some y → x ≡ y
-      some_same x y h = cc
+      same_Some (start_tuple base copy rec).config first (sym here ∙ ap (slice_get carried.configs) zeroth ∙ carried.begins)
 
 pub grounded : (setting : Setting) (values : List ℕ) → IsSound setting values → IsGrounded setting
 grounded setting values sound = record {

@@ -13,7 +13,7 @@ use Rattle.qc_event.specs.History.{Past, Name, start, end}
 use Rattle.qc_event.specs.Legal.{Legal}
 use Rattle.qc_event.specs.declared.event.How.{How}
 use Rattle.qc_event.specs.declared.event.How.TheVariants.{Commit, Abort}
-use Rattle.qc_event.proofs.LastNumber.{ends_in, EndsIn, by_last, is_ancestor-append, rest_of, ancestors-last}
+use Rattle.qc_event.proofs.LastNumber.{ends_in, EndsIn, by_last, is_ancestor-append, rest_of, ancestors-last, below_more}
 use Rattle.qc_event.proofs.Lawful.{Lawful, lawful, parent_started}
 use Rattle.qc_event.proofs.LegalOrderly.{legal_orderly}
 use Rattle.qc_event.proofs.Lineage.{dead_child}
@@ -79,12 +79,8 @@ contains_any names n a has above = list_any_at (λ m. name.is_ancestor m a) name
 fewer_above : (names : List Name) (p r : Name) → NoneAbove names (p ++ r) → NoneAbove names p
 fewer_above [] p r none = refl
 fewer_above (n ∷ names) p r none = by_tests (name.is_ancestor n p) (name.is_ancestor n (p ++ r)) (list_any (λ m. name.is_ancestor m (p ++ r)) names) (list_any (λ m. name.is_ancestor m p) names)
-    (further n p r) none (fewer_above names p r)
+    (below_more n p r) none (fewer_above names p r)
   where
-    further : (n p r : Name) → name.is_ancestor n p ≡ true → name.is_ancestor n (p ++ r) ≡ true
-    further n p r above = let rest = rest_of n p above in
-        ap (λ m. name.is_ancestor n (m ++ r)) rest.1 ∙ ap (name.is_ancestor n) (append_assoc n rest.0 r) ∙ is_ancestor-append n (rest.0 ++ r)
-
     by_tests : (a b c d : Bool) → (a ≡ true → b ≡ true) → (b || c) ≡ false → (c ≡ false → d ≡ false) → (a || d) ≡ false
     by_tests false false c d h none rest = rest none
     by_tests false true c d h none rest = absurd (true≢false none)

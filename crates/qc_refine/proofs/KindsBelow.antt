@@ -2,6 +2,7 @@
 use Rattle.std.proofs.Common.{◌≡◌, ℕ, ◌<◌, true, [], ◌∷◌, ◌++◌, length, refl, sym, ap, ◌∙◌, subst}
 use Rattle.std.specs.Prelude.{Option, None, Some, is_some, MatchOption}
 use Rattle.std.specs.Option.{option_or}
+use Rattle.std.proofs.lemmas.Option.{same_Some}
 use Rattle.qc_event.specs.declared.event.Entry.{Entry}
 use Rattle.qc_event.specs.declared.event.Kind.{Kind}
 use Rattle.qc_event.specs.declared.event.Kind.TheVariants as kind
@@ -10,6 +11,7 @@ use Rattle.qc_event.specs.Standing.{IsUser, IsManager, Started}
 use Rattle.qc_event.proofs.LastNumber.{child_last}
 use Rattle.qc_event.proofs.Lawful.{Lawful}
 use Rattle.qc_event.proofs.Orderly.{Belongs}
+use Rattle.qc_event.proofs.KindsApart.{user_or_manager}
 
 -- the name is of this kind, if it was started
 abbrev pub HasKind : Past → Name → Kind → Type 0
@@ -42,10 +44,6 @@ below past p c law pos is began = at_last (child_last p c is)
     at_last (j, last) = by_child (start past c) refl
         (subst (λ x. Started past x (λ b. Started past p (λ a. Belongs a b.kind))) (sym last) (law.under p j pos (ap (λ x. is_some (start past x)) (sym last) ∙ began)))
 
-user_or_manager : (k : Kind) → IsUser k → IsManager k → ⊥
-user_or_manager (kind.User session body) user manager = manager
-user_or_manager _ user manager = user
-
 only_access : (k x : Kind) (b : Begun) → IsManager k → b.kind ≡ k → Belongs b x → x ≡ kind.Access
 only_access k kind.Access b manager is under = refl
 only_access k (kind.User session body) b manager is under = absurd (user_or_manager k (subst IsUser is under) manager)
@@ -60,14 +58,11 @@ none_belongs (kind.Read rec) b is under = subst IsUser is under
 none_belongs (kind.Write rec value) b is under = subst IsUser is under
 none_belongs (kind.Reconf rec config) b is under = subst IsUser is under
 
-some_same : (x y : Begun) → Some x ≡ Some y → x ≡ y
-some_same x y is = cc
-
 -- a child of a manager is an access
 pub child_access : (past : Past) (m c : Name) (k : Kind) → Lawful past → 0 < length m → HasKind past m k → IsManager k → is_child m c ≡ true → is_some (start past c) ≡ true → HasKind past c kind.Access
 child_access past m c k law pos has manager is began b here =
     let u = below past m c law pos is began in
-    let same : u.child ≡ b = some_same u.child b (sym u.child_start ∙ here) in
+    let same : u.child ≡ b = same_Some u.child b (sym u.child_start ∙ here) in
     ap (λ (x : Begun). x.kind) (sym same) ∙ only_access k u.child.kind u.parent manager (has u.parent u.parent_start) u.belongs
 
 -- an access has no child

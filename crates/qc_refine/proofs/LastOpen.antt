@@ -15,7 +15,8 @@ use Rattle.qc_event.specs.Manager.{waiting}
 use Rattle.qc_event.specs.Requests.{MayAsk}
 use Rattle.qc_event.specs.Legal.{Legal, MayHappen}
 use Rattle.qc_event.proofs.Absent.{same_itself}
-use Rattle.qc_refine.proofs.OneMore.{no_ask_passes, child_front}
+use Rattle.qc_event.proofs.LastNumber.{child_front}
+use Rattle.qc_simlock.proofs.OneAsked.{no_ask_passes}
 
 -- the entry is a request of a child of the manager
 pub record Asks (m : Name) (ev : Event) : Type 0 where

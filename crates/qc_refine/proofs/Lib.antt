@@ -1,4 +1,3 @@
-pub mod OneMore
 pub mod Meet
 pub mod Grants
 pub mod Folds

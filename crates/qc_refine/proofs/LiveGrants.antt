@@ -5,6 +5,7 @@ use Rattle.std.specs.Prelude.{Option, None, Some, is_some, is_none, MatchOption,
 use Rattle.std.specs.Option.{option_or}
 use Rattle.std.proofs.lemmas.Bool.{ltb-false, leb-true}
 use Rattle.std.proofs.lemmas.List.{get_or_past}
+use Rattle.std.proofs.lemmas.Option.{same_Some}
 use Rattle.qc_names.specs.Name as name
 use Rattle.qc_config.specs.Config.{Voting, weight, holds_read}
 use Rattle.qc_config.specs.Tuple.{after}
@@ -16,11 +17,10 @@ use Rattle.qc_event.specs.declared.event.Entry.{Entry}
 use Rattle.qc_event.specs.declared.event.Event.{Event}
 use Rattle.qc_event.specs.declared.event.Event.TheVariants as event
 use Rattle.qc_event.specs.declared.event.Grant.{Grant}
-use Rattle.qc_event.specs.declared.event.How.{How}
 use Rattle.qc_event.specs.declared.event.Kind.{Kind}
 use Rattle.qc_event.specs.declared.event.Kind.TheVariants as kind
 use Rattle.qc_event.specs.Base.{Setting, first_of, no_tuple, start_tuple}
-use Rattle.qc_event.specs.Dead.{dead, outcome, outcome_of, is_aborted}
+use Rattle.qc_event.specs.Dead.{dead, outcome, is_aborted}
 use Rattle.qc_event.specs.History.{Past, Name, Begun, Given, Asked, same, start, end, asked, ask_in, ask_below, granted, grants, is_child}
 use Rattle.qc_event.specs.Legal.{Legal}
 use Rattle.qc_event.specs.Manager.{Newest, Greatest, newer, record_of, first_for, all_copies}
@@ -34,10 +34,10 @@ use Rattle.qc_event.proofs.LegalOrderly.{legal_orderly}
 use Rattle.qc_event.proofs.Lineage.{dead_last, dead_parent, alive_not_aborted}
 use Rattle.qc_event.proofs.OneEntry.{if_is}
 use Rattle.qc_event.proofs.Orderly.{Belongs}
+use Rattle.qc_event.proofs.Later.{aborted_first}
 use Rattle.qc_simlock.specs.Visible.{served}
 use Rattle.qc_refine.specs.Given.{tuples_of, marks_of}
 use Rattle.qc_refine.proofs.AskedInOrder.{OfStage, of_stage}
-use Rattle.qc_refine.proofs.Begun.{some_same}
 use Rattle.qc_refine.proofs.Finished.{is_started}
 use Rattle.qc_refine.proofs.Grounded.{OfFirst}
 use Rattle.qc_refine.proofs.KindsBelow.{HasKind, Below, below}
@@ -136,12 +136,8 @@ no_place setting copy (PutConfig generation config) some out fits sized = let th
 pub alive_before : (e : Entry) (past : Past) (n : Name) → dead (e ∷ past) n ≡ None → dead past n ≡ None
 alive_before e past n = by_last (λ m. dead (e ∷ past) m ≡ None → dead past m ≡ None) root one_lower n
   where
-    not_aborted : (old new : Option How) → is_aborted (outcome_of (option_or old new)) ≡ false → is_aborted (outcome_of old) ≡ false
-    not_aborted None new h = refl
-    not_aborted (Some how) new h = h
-
     before : (m : Name) → dead (e ∷ past) m ≡ None → is_aborted (outcome past m) ≡ false
-    before m alive = not_aborted (end past m) _ (alive_not_aborted (e ∷ past) m alive)
+    before m alive = aborted_first (end past m) _ (alive_not_aborted (e ∷ past) m alive)
 
     none_if : (b : Bool) (m : Name) → b ≡ false → (if b then Some m else None) ≡ None
     none_if b m is = ap (λ c. if c then Some m else None) is
@@ -231,9 +227,9 @@ module _ (setting : Setting) (past : Past) (e : Entry) (legal : Legal setting (e
           let s = is_started setting past p b legal.0 there in
           let child : is_child p ask.access ≡ true = ap (is_child p) last ∙ is_child-last p j in
           let u : Below past p ask.access = below past p ask.access law s.below_root child (ap is_some here) in
-          let as_access : u.child.kind ≡ kind.Access = ap (λ (x : Begun). x.kind) (some_same u.child a (sym u.child_start ∙ here)) ∙ access in
+          let as_access : u.child.kind ≡ kind.Access = ap (λ (x : Begun). x.kind) (same_Some u.child a (sym u.child_start ∙ here)) ∙ access in
           let above : IsManager u.parent.kind = subst (Belongs u.parent) as_access u.belongs in
-          let manager : IsManager b.kind = subst (λ (x : Begun). IsManager x.kind) (some_same u.parent b (sym u.parent_start ∙ there)) above in
+          let manager : IsManager b.kind = subst (λ (x : Begun). IsManager x.kind) (same_Some u.parent b (sym u.parent_start ∙ there)) above in
           let new : Asks p e.event = record { ask = ask; is = is; child = child; adds = ap (ask_below p) is ∙ ap (λ t. if t then Some ask else None) child } in
           record {
             m = p;

@@ -22,13 +22,12 @@ use Rattle.qc_event.specs.Legal.{Legal, MayHappen}
 use Rattle.qc_event.specs.Manager.{Stage, record_of, first_for, phase_of, is_phase}
 use Rattle.qc_event.specs.Seen.{seen}
 use Rattle.qc_event.specs.Standing.{IsManager}
-use Rattle.qc_event.proofs.LastNumber.{length_last, child_last}
+use Rattle.qc_event.proofs.LastNumber.{length_last, child_last, child_front}
 use Rattle.qc_event.proofs.LegalOrderly.{legal_orderly}
 use Rattle.qc_event.proofs.OneEntry.{first_is, if_is}
 use Rattle.qc_event.proofs.Orderly.{Commits, KeepsOrder}
 use Rattle.qc_simlock.specs.Visible.{served}
 use Rattle.qc_simlock.proofs.Accesses.{granted_step}
-use Rattle.qc_refine.proofs.OneMore.{child_front}
 use Rattle.qc_refine.specs.Given.{in_phase, tuples_of}
 use Rattle.qc_refine.specs.InTurn.{IsAt}
 use Rattle.qc_refine.proofs.Begun.{record_fits}

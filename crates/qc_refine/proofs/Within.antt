@@ -4,6 +4,7 @@ use Rattle.std.specs.Prelude.{Option, None, Some, cond, find, nat_lt, slice_inde
 use Rattle.std.specs.Option.{option_map}
 use Rattle.std.specs.List.{cons_option, range_with_len}
 use Rattle.std.proofs.lemmas.Bool.{cases_Bool, and_parts, ltb-true}
+use Rattle.std.proofs.lemmas.Option.{same_Some}
 use Rattle.qc_config.specs.Config.{votes_of}
 use Rattle.qc_config.specs.declared.tuple.Tuple.{Tuple}
 use Rattle.qc_event.specs.declared.event.Ask.{Ask}
@@ -69,15 +70,12 @@ found_range : (p : ℕ → Bool) (a n c : ℕ) → find p (range_with_len a n) �
 found_range p a zero c is = absurd cc
 found_range p a (suc n) c is = elim (cases_Bool (p a)) [
   | inl here ↦
-      let same : a ≡ c = some_same a c (sym (ap (λ b. cond b (Some a) (find p (range_with_len (a + 1) n))) here) ∙ is) in
+      let same : a ≡ c = same_Some a c (sym (ap (λ b. cond b (Some a) (find p (range_with_len (a + 1) n))) here) ∙ is) in
       (omega arith, ap p (sym same) ∙ here)
   | inr other ↦
       let rest = found_range p (a + 1) n c (sym (ap (λ b. cond b (Some a) (find p (range_with_len (a + 1) n))) other) ∙ is) in
       (omega (arith, rest.0), rest.1)
 ]
-  where
-    some_same : (x y : ℕ) → Some x ≡ Some y → x ≡ y
-    some_same x y h = cc
 
 pub has_place : (votes : List ℕ) (c : ℕ) → 0 < slice_index_or votes c 0 → c < length votes
 has_place [] c some = absurd (omega arith)

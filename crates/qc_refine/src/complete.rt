@@ -14,8 +14,12 @@ ghost use Rattle.qc_simlock.specs.Visible.{served};
 /// what its kind writes, at write quorums. All of it is of its record, and where the record's first configuration
 /// is for as many copies as there are, from these copies.
 pub fn committed_managers_are_complete()
-    ensures done { (setting : Setting) (past : Past) (m : Name) (b : Begun) (given : Answer) → Legal setting past → start past m ≡ Some b
-        → IsManager b.kind → end past m ≡ Some (Commit given) → HasDone setting past m given b.kind }
-    ensures within { (setting : Setting) (past : Past) (m : Name) (b : Begun) → Legal setting past → start past m ≡ Some b
-        → IsManager b.kind → length (first_for setting b.kind).votes ≡ length setting.base → AllWithin setting b.kind (served past m) }
+    ensures done { (setting : Setting) (past : Past) (m : Name) (b : Begun) (given : Answer)
+        → Legal setting past → start past m ≡ Some b
+        → IsManager b.kind → end past m ≡ Some (Commit given)
+        → HasDone setting past m given b.kind }
+    ensures within { (setting : Setting) (past : Past) (m : Name) (b : Begun) → Legal setting past
+        → start past m ≡ Some b
+        → IsManager b.kind → length (first_for setting b.kind).votes ≡ length setting.base
+        → AllWithin setting b.kind (served past m) }
 {}

@@ -12,9 +12,13 @@ ghost use Rattle.qc_refine.specs.Final.{final_value};
 /// version among its start tuples and what the puts whose every ancestor but the root is committed left at any
 /// copy: no version falls, and the tuples of the greatest one have one value (Gifford).
 pub fn last_values_are_serial()
-    ensures one { (setting : Setting) (values : List ℕ) (past : Past) (rec : ℕ) → Legal setting past → IsSound setting values
-        → rec < length setting.firsts → slice_get (final_values values past) rec ≡ Some (final_value setting.base past rec) }
-    ensures every { (setting : Setting) (values : List ℕ) (past : Past) → Legal setting past → IsSound setting values
+    ensures one { (setting : Setting) (values : List ℕ) (past : Past) (rec : ℕ) → Legal setting past
+        → IsSound setting values
+        → rec < length setting.firsts → slice_get (final_values values past) rec ≡ Some
+        (final_value setting.base past rec) }
+    ensures every { (setting : Setting) (values : List ℕ) (past : Past) → Legal setting past
+        → IsSound setting values
         → length values ≡ length setting.firsts
-        → final_values values past ≡ map (final_value setting.base past) (range_with_len 0 (length setting.firsts)) }
+        → final_values values past ≡ map (final_value setting.base past)
+        (range_with_len 0 (length setting.firsts)) }
 {}

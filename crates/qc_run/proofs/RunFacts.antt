@@ -5,7 +5,6 @@ use Rattle.std.specs.List.{range_with_len}
 use Rattle.std.proofs.lemmas.List.{reverse-reverse}
 use Rattle.qc_config.specs.declared.tuple.Tuple.{Tuple}
 use Rattle.qc_event.specs.Base.{Setting}
-use Rattle.qc_event.specs.History.{Past}
 use Rattle.qc_event.specs.Legal.{Legal}
 use Rattle.qc_event.specs.Sound.{IsSound}
 use Rattle.qc_event.specs.Tables.{base_of, setting_of, first_values}

@@ -11,9 +11,10 @@ use Rattle.qc_event.specs.declared.event.Entry.{Entry}
 use Rattle.qc_event.specs.declared.event.Phase.{Phase}
 use Rattle.qc_event.specs.declared.event.Why.{Why}
 use Rattle.qc_event.specs.declared.event.Why.TheVariants.{Lost, Late, Down, Full, Strange}
+use Rattle.qc_event.specs.Counts.{Rose}
 use Rattle.qc_event.specs.History.{Past, Name, asks, ask_below}
 use Rattle.qc_event.specs.Requests.{is_why, is_fault, unable_in, was_unable}
-use Rattle.qc_gather.specs.Carrying.{Carriage, HasGrown, HasReason, Rose, WasCarried, became}
+use Rattle.qc_gather.specs.Carrying.{Carriage, HasGrown, HasReason, WasCarried, became}
 use Rattle.qc_gather.specs.declared.carrier.Carried.{Carried}
 use Rattle.qc_gather.specs.declared.carrier.Carried.TheVariants as carried
 use Rattle.qc_gather.specs.Told.{Told, why_in}

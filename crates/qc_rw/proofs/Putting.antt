@@ -5,9 +5,10 @@ use Rattle.qc_config.specs.Config.{Voting, holds_write}
 use Rattle.qc_config.specs.declared.tuple.Op.{Op}
 use Rattle.qc_event.specs.declared.event.Kind.{Kind}
 use Rattle.qc_event.specs.declared.event.Phase.{Phase}
+use Rattle.qc_event.specs.Counts.{Rose}
 use Rattle.qc_event.specs.History.{Past, Name}
 use Rattle.qc_event.specs.Manager.{phase_of, stage, record_of, first_for}
-use Rattle.qc_gather.specs.Carrying.{MayCarry, Rose}
+use Rattle.qc_gather.specs.Carrying.{MayCarry}
 use Rattle.qc_gather.specs.declared.next.Next.{Next}
 use Rattle.qc_gather.specs.declared.next.Next.TheVariants.{Enough, Copy, Short}
 use Rattle.qc_gather.specs.declared.shortage.Shortage.{Shortage}

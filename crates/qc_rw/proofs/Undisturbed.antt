@@ -7,6 +7,7 @@ use Rattle.std.proofs.lemmas.Bool.{true≢false}
 use Rattle.std.proofs.lemmas.List.Elements.{All-filter, recursion_from_All}
 use Rattle.qc_config.specs.Config.{IsLegal}
 use Rattle.qc_event.specs.Base.{Setting}
+use Rattle.qc_event.specs.Counts.{Rose}
 use Rattle.qc_event.specs.Dead.{dead, outcome_of, is_aborted}
 use Rattle.qc_event.specs.declared.event.Ask.{Ask}
 use Rattle.qc_event.specs.declared.event.How.{How}
@@ -19,7 +20,7 @@ use Rattle.qc_event.specs.Manager.{Result, Stage, result, blocked_by, holder_of,
 use Rattle.qc_event.specs.Standing.{IsAbort, IsOrphanOf}
 use Rattle.qc_event.proofs.LastNumber.{rest_of}
 use Rattle.qc_event.proofs.Lineage.{alive_above, alive_not_aborted}
-use Rattle.qc_gather.specs.Carrying.{Carriage, Rose, WasNotCarried}
+use Rattle.qc_gather.specs.Carrying.{Carriage, WasNotCarried}
 use Rattle.qc_gather.specs.declared.carrier.CarryNo.{CarryNo}
 use Rattle.qc_gather.specs.declared.carrier.CarryNo.TheVariants as carry
 use Rattle.qc_gather.specs.Told.{Told, why_in, missing_in, blocked_in, next_in, replied_in}

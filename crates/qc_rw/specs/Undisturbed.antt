@@ -3,6 +3,7 @@ use Rattle.std.specs.Prelude.{ℕ, ◌≡◌, Bool, false, IsTrue, All, None, Ma
 use Rattle.std.specs.List.{list_any}
 use Rattle.qc_config.specs.Config.{IsLegal}
 use Rattle.qc_event.specs.Base.{Setting}
+use Rattle.qc_event.specs.Counts.{Rose}
 use Rattle.qc_event.specs.Dead.{dead}
 use Rattle.qc_event.specs.declared.event.Ask.{Ask}
 use Rattle.qc_event.specs.declared.event.Kind.{Kind}
@@ -11,7 +12,6 @@ use Rattle.qc_event.specs.declared.event.Why.TheVariants.{Lost, Late}
 use Rattle.qc_event.specs.History.{Past, Name, asks}
 use Rattle.qc_event.specs.Manager.{Stage, blocked_by, at_last_number, stage, first_for}
 use Rattle.qc_event.specs.Requests.{is_fault, was_unable}
-use Rattle.qc_gather.specs.Carrying.{Rose}
 use Rattle.qc_gather.specs.Told.{Told, why_in}
 use Rattle.qc_rw.specs.declared.no.MgrNo.{MgrNo}
 use Rattle.qc_rw.specs.declared.no.MgrNo.TheVariants as no

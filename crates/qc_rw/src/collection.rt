@@ -17,7 +17,9 @@ use qc_gather::{Carried, Carrier, Gather, Next};
 
 fn hear(gather: &mut Gather, copy: u8, carried: &Carried)
     requires { copy < 16 }
-    ensures { (first : Voting) (told : List Told) → gather.old ≡ gathered first told → gather.new ≡ gathered first (told ++ record { copy = copy; result = became carried.now } ∷ []) }
+    ensures { (first : Voting) (told : List Told) → gather.old ≡ gathered first told
+        → gather.new ≡ gathered first (told
+        ++ record { copy = copy; result = became carried.now } ∷ []) }
 {
     match *carried {
         Carried::Reply(tuple) => gather.add(copy, &tuple),
@@ -38,11 +40,19 @@ pub fn collect<C: Carrier>(
     first: &Config,
 ) -> Result<Gather, MgrNo>
     ghost kind: { Kind }
-    requires { MayCollect (C.setting carrier.old) (C.seat carrier.old) (C.seen carrier.old) manager.now kind rec first.now }
-    ensures served { HasServed manager.now (link (C.setting carrier.old) (C.seat carrier.old) (C.own carrier.old) (C.seen carrier.old) (C.others carrier.old) (C.troubles carrier.old)) (link (C.setting carrier.new) (C.seat carrier.new) (C.own carrier.new) (C.seen carrier.new) (C.others carrier.new) (C.troubles carrier.new)) }
-    ensures collected { IfOk result (HasCollected (C.seat carrier.old) (C.seen carrier.old) (C.seen carrier.new) manager.now kind first.now) }
-    ensures refused { IfErr result (IsRefused (C.setting carrier.old) (C.seat carrier.old) (C.seen carrier.new) manager.now kind) }
-    ensures complete { IfErr result (λ why. IsUndisturbed (C.setting carrier.old) (C.seen carrier.new) manager.now kind (C.troubles carrier.old) (C.troubles carrier.new) → IsShortage why) }
+    requires { MayCollect (C.setting carrier.old) (C.seat carrier.old) (C.seen carrier.old)
+        manager.now kind rec first.now }
+    ensures served { HasServed manager.now (link (C.setting carrier.old) (C.seat carrier.old)
+        (C.own carrier.old) (C.seen carrier.old) (C.others carrier.old) (C.troubles carrier.old))
+        (link (C.setting carrier.new) (C.seat carrier.new) (C.own carrier.new) (C.seen carrier.new)
+        (C.others carrier.new) (C.troubles carrier.new)) }
+    ensures collected { IfOk result (HasCollected (C.seat carrier.old) (C.seen carrier.old)
+        (C.seen carrier.new) manager.now kind first.now) }
+    ensures refused { IfErr result (IsRefused (C.setting carrier.old) (C.seat carrier.old)
+        (C.seen carrier.new) manager.now kind) }
+    ensures complete { IfErr result (λ why. IsUndisturbed (C.setting carrier.old)
+        (C.seen carrier.new) manager.now kind (C.troubles carrier.old) (C.troubles carrier.new)
+        → IsShortage why) }
     ensures became { C.became carrier.old carrier.new }
 {
     let mut gather = Gather::new(first);

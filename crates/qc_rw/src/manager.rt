@@ -26,17 +26,23 @@ pub fn read<C: Carrier>(
     rec: u8,
     first: &Config,
 ) -> Result<Val, MgrNo>
-    requires manager { IsRunning (C.seat carrier.old) (C.seen carrier.old) manager.now (kind.Read rec) }
+    requires manager { IsRunning (C.seat carrier.old) (C.seen carrier.old) manager.now
+        (kind.Read rec) }
     requires no_child { children (C.seen carrier.old) manager.now ≡ [] }
     requires first { first.now ≡ first_of (C.setting carrier.old) rec }
     ensures setting { C.setting carrier.new ≡ C.setting carrier.old }
     ensures seat { C.seat carrier.new ≡ C.seat carrier.old }
     ensures others { C.others carrier.new ≡ C.others carrier.old }
-    ensures grown { HasGrown (C.others carrier.old) (λ n. IsTrue (is_child manager.now n)) (C.seen carrier.old) (C.seen carrier.new) }
+    ensures grown { HasGrown (C.others carrier.old) (λ n. IsTrue (is_child manager.now n))
+        (C.seen carrier.old) (C.seen carrier.new) }
     ensures own { HasMade manager.now (C.own carrier.old) (C.own carrier.new) }
-    ensures answered { IfOk result (λ value. IsAnswered (C.setting carrier.old) (C.seat carrier.old) (C.seen carrier.new) manager.now (kind.Read rec) (answer.Value value)) }
-    ensures refused { IfErr result (IsRefused (C.setting carrier.old) (C.seat carrier.old) (C.seen carrier.new) manager.now (kind.Read rec)) }
-    ensures complete { IfErr result (λ why. IsUndisturbed (C.setting carrier.old) (C.seen carrier.new) manager.now (kind.Read rec) (C.troubles carrier.old) (C.troubles carrier.new) → IsShortage why) }
+    ensures answered { IfOk result (λ value. IsAnswered (C.setting carrier.old) (C.seat carrier.old)
+        (C.seen carrier.new) manager.now (kind.Read rec) (answer.Value value)) }
+    ensures refused { IfErr result (IsRefused (C.setting carrier.old) (C.seat carrier.old)
+        (C.seen carrier.new) manager.now (kind.Read rec)) }
+    ensures complete { IfErr result (λ why. IsUndisturbed (C.setting carrier.old)
+        (C.seen carrier.new) manager.now (kind.Read rec) (C.troubles carrier.old)
+        (C.troubles carrier.new) → IsShortage why) }
     ensures became { C.became carrier.old carrier.new }
     ensures later { C.troubles carrier.old ≤ C.troubles carrier.new }
 {
@@ -57,18 +63,26 @@ pub fn write<C: Carrier>(
     first: &Config,
     value: Val,
 ) -> Result<u64, MgrNo>
-    requires manager { IsRunning (C.seat carrier.old) (C.seen carrier.old) manager.now (kind.Write rec value) }
+    requires manager { IsRunning (C.seat carrier.old) (C.seen carrier.old) manager.now
+        (kind.Write rec value) }
     requires no_child { children (C.seen carrier.old) manager.now ≡ [] }
     requires first { first.now ≡ first_of (C.setting carrier.old) rec }
     ensures setting { C.setting carrier.new ≡ C.setting carrier.old }
     ensures seat { C.seat carrier.new ≡ C.seat carrier.old }
     ensures others { C.others carrier.new ≡ C.others carrier.old }
-    ensures grown { HasGrown (C.others carrier.old) (λ n. IsTrue (is_child manager.now n)) (C.seen carrier.old) (C.seen carrier.new) }
+    ensures grown { HasGrown (C.others carrier.old) (λ n. IsTrue (is_child manager.now n))
+        (C.seen carrier.old) (C.seen carrier.new) }
     ensures own { HasMade manager.now (C.own carrier.old) (C.own carrier.new) }
-    ensures answered { IfOk result (λ version. IsAnswered (C.setting carrier.old) (C.seat carrier.old) (C.seen carrier.new) manager.now (kind.Write rec value) answer.Nothing) }
-    ensures version { IfOk result (λ version. version ≡ (greatest (C.seen carrier.new) manager.now).version + 1) }
-    ensures refused { IfErr result (IsRefused (C.setting carrier.old) (C.seat carrier.old) (C.seen carrier.new) manager.now (kind.Write rec value)) }
-    ensures complete { IfErr result (λ why. IsUndisturbed (C.setting carrier.old) (C.seen carrier.new) manager.now (kind.Write rec value) (C.troubles carrier.old) (C.troubles carrier.new) → IsShortage why) }
+    ensures answered { IfOk result (λ version. IsAnswered (C.setting carrier.old)
+        (C.seat carrier.old) (C.seen carrier.new) manager.now (kind.Write rec value)
+        answer.Nothing) }
+    ensures version { IfOk result (λ version. version
+        ≡ (greatest (C.seen carrier.new) manager.now).version + 1) }
+    ensures refused { IfErr result (IsRefused (C.setting carrier.old) (C.seat carrier.old)
+        (C.seen carrier.new) manager.now (kind.Write rec value)) }
+    ensures complete { IfErr result (λ why. IsUndisturbed (C.setting carrier.old)
+        (C.seen carrier.new) manager.now (kind.Write rec value) (C.troubles carrier.old)
+        (C.troubles carrier.new) → IsShortage why) }
     ensures became { C.became carrier.old carrier.new }
     ensures later { C.troubles carrier.old ≤ C.troubles carrier.new }
 {

@@ -18,7 +18,10 @@ use qc_gather::{Carried, Carrier, Next, Puts};
 
 fn hear(puts: &mut Puts, copy: u8, carried: &Carried)
     requires { copy < 16 }
-    ensures { (config : Voting) (phase : Phase) (told : List Told) → puts.old ≡ gathered_words.put config phase told → puts.new ≡ gathered_words.put config phase (told ++ record { copy = copy; result = became carried.now } ∷ []) }
+    ensures { (config : Voting) (phase : Phase) (told : List Told)
+        → puts.old ≡ gathered_words.put config phase told
+        → puts.new ≡ gathered_words.put config phase
+        (told ++ record { copy = copy; result = became carried.now } ∷ []) }
 {
     match *carried {
         Carried::Reply(_) => puts.add(copy),
@@ -40,11 +43,19 @@ pub fn put<C: Carrier>(
     op: &Op,
 ) -> Result<(), MgrNo>
     ghost kind: { Kind }
-    requires { MayPut (C.setting carrier.old) (C.seat carrier.old) (C.seen carrier.old) manager.now kind rec (putting config.now phase op.now) }
-    ensures served { HasServed manager.now (link (C.setting carrier.old) (C.seat carrier.old) (C.own carrier.old) (C.seen carrier.old) (C.others carrier.old) (C.troubles carrier.old)) (link (C.setting carrier.new) (C.seat carrier.new) (C.own carrier.new) (C.seen carrier.new) (C.others carrier.new) (C.troubles carrier.new)) }
-    ensures put { OnOk result (HasPut (C.seat carrier.old) (C.seen carrier.old) (C.seen carrier.new) manager.now kind (putting config.now phase op.now)) }
-    ensures refused { IfErr result (IsRefused (C.setting carrier.old) (C.seat carrier.old) (C.seen carrier.new) manager.now kind) }
-    ensures complete { IfErr result (λ why. IsUndisturbed (C.setting carrier.old) (C.seen carrier.new) manager.now kind (C.troubles carrier.old) (C.troubles carrier.new) → IsShortage why) }
+    requires { MayPut (C.setting carrier.old) (C.seat carrier.old) (C.seen carrier.old) manager.now
+        kind rec (putting config.now phase op.now) }
+    ensures served { HasServed manager.now (link (C.setting carrier.old) (C.seat carrier.old)
+        (C.own carrier.old) (C.seen carrier.old) (C.others carrier.old) (C.troubles carrier.old))
+        (link (C.setting carrier.new) (C.seat carrier.new) (C.own carrier.new) (C.seen carrier.new)
+        (C.others carrier.new) (C.troubles carrier.new)) }
+    ensures put { OnOk result (HasPut (C.seat carrier.old) (C.seen carrier.old) (C.seen carrier.new)
+        manager.now kind (putting config.now phase op.now)) }
+    ensures refused { IfErr result (IsRefused (C.setting carrier.old) (C.seat carrier.old)
+        (C.seen carrier.new) manager.now kind) }
+    ensures complete { IfErr result (λ why. IsUndisturbed (C.setting carrier.old)
+        (C.seen carrier.new) manager.now kind (C.troubles carrier.old) (C.troubles carrier.new)
+        → IsShortage why) }
     ensures became { C.became carrier.old carrier.new }
 {
     let mut puts = Puts::new(config, phase);

@@ -52,7 +52,8 @@ pub trait Tx: Sized {
     /// Starts a child of a body, under the root a top with the next number.
     fn begin(&mut self, parent: &Name, body: u32) -> Result<Name, TxNo>
         requires depth { length parent.now < 16 }
-        requires parent { (parent.now ≡ []) ⊎ Started (view self.old).seen parent.now (λ b. IsUser b.kind) }
+        requires parent { (parent.now ≡ []) ⊎ Started (view self.old).seen parent.now
+            (λ b. IsUser b.kind) }
         requires met { MeetsLink (view self.old) }
         ensures met { MeetsLink (view self.new) }
         ensures client { (view self.new).client ≡ (view self.old).client }
@@ -83,7 +84,8 @@ pub trait Tx: Sized {
         ensures client { (view self.new).client ≡ (view self.old).client }
         ensures ok { OnOk result (Answers
             (view self.old) (view self.new) of.now (kind.Write rec value) answer.Nothing) }
-        ensures err { IfErr result (Fails (view self.old) (view self.new) of.now (kind.Write rec value)) };
+        ensures err { IfErr result (Fails (view self.old) (view self.new) of.now
+            (kind.Write rec value)) };
 
     /// Gives a record another configuration, and answers its generation.
     fn reconfigure(&mut self, of: &Name, rec: u8, config: &Config) -> Result<u64, TxNo>
@@ -93,7 +95,8 @@ pub trait Tx: Sized {
         ensures met { MeetsLink (view self.new) }
         ensures client { (view self.new).client ≡ (view self.old).client }
         ensures ok { IfOk result (λ generation. Answers
-            (view self.old) (view self.new) of.now (kind.Reconf rec config.now) (answer.Generation generation)) }
+            (view self.old) (view self.new) of.now (kind.Reconf rec config.now)
+            (answer.Generation generation)) }
         ensures err { IfErr result (Fails
             (view self.old) (view self.new) of.now (kind.Reconf rec config.now)) };
 

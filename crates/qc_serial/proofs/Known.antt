@@ -2,6 +2,7 @@
 use Rattle.std.proofs.Common.{◌≡◌, Bool, true, false, ◌||◌, List, [], ◌∷◌, ◌++◌, refl, ap, ◌∙◌}
 use Rattle.std.proofs.lemmas.List.Folds.{list_any-append}
 use Rattle.std.proofs.lemmas.Slice.Eq.{bytes_eq-Decides}
+use Rattle.std.proofs.Math.Bool.{or-false, or-true}
 use Rattle.qc_serial.specs.declared.event.SerialEvent.{SerialEvent}
 use Rattle.qc_serial.specs.declared.event.SerialEvent.TheVariants.{Start, Enter, Read, Write, Leave, Skip}
 use Rattle.qc_serial.specs.Machine.{Name, State, same, is_in, next}
@@ -38,18 +39,10 @@ pub same_itself : (n : Name) → same n n ≡ true
 same_itself n = (bytes_eq-Decides n n).1 refl
 
 is_in_other : (n x : Name) (names : List Name) → same n x ≡ false → is_in x (names ++ n ∷ []) ≡ is_in x names
-is_in_other n x names other = list_any-append (λ y. same y x) names (n ∷ []) ∙ ap (λ b. is_in x names || (b || false)) other ∙ or_false (is_in x names)
-  where
-    or_false : (b : Bool) → (b || false) ≡ b
-    or_false true = refl
-    or_false false = refl
+is_in_other n x names other = list_any-append (λ y. same y x) names (n ∷ []) ∙ ap (λ b. is_in x names || (b || false)) other ∙ or-false (is_in x names)
 
 is_in_last : (n : Name) (names : List Name) → is_in n (names ++ n ∷ []) ≡ true
-is_in_last n names = list_any-append (λ y. same y n) names (n ∷ []) ∙ ap (λ b. is_in n names || (b || false)) (same_itself n) ∙ or_true (is_in n names)
-  where
-    or_true : (b : Bool) → (b || true) ≡ true
-    or_true true = refl
-    or_true false = refl
+is_in_last n names = list_any-append (λ y. same y n) names (n ∷ []) ∙ ap (λ b. is_in n names || (b || false)) (same_itself n) ∙ or-true (is_in n names)
 
 -- an event changes nothing about other names
 pub known_other : (m : State) (e : SerialEvent) (x : Name) → same (name_of e) x ≡ false → known (next m e) x ≡ known m x

@@ -4,6 +4,7 @@ use Rattle.std.specs.Prelude.{Some, slice_get}
 use Rattle.std.specs.Option.{option_map_or}
 use Rattle.std.specs.List.{list_all}
 use Rattle.std.proofs.Math.Seq.{take-append_seam}
+use Rattle.std.proofs.lemmas.Bool.{or_right}
 use Rattle.qc_names.specs.Name as name
 use Rattle.qc_serial.specs.declared.event.SerialEvent.TheVariants.{Leave}
 use Rattle.qc_serial.specs.Machine.{Name, State, same, is_in, is_child, top, on_top, parent_on, may_begin, is_waiting, all_closed, allows}
@@ -54,11 +55,7 @@ each_passes p [] each = refl
 each_passes p (y ∷ names) each =
     both (p y) (list_all p names)
     (each y (ap (λ b. b || is_in y names) (same_itself y)))
-    (each_passes p names (λ x h. each x (later (same y x) (is_in x names) h)))
-  where
-    later : (a b : Bool) → b ≡ true → (a || b) ≡ true
-    later true b h = refl
-    later false b h = h
+    (each_passes p names (λ x h. each x (or_right (same y x) (is_in x names) h)))
 
 -- a name leaves from the top, once each child that it started has closed
 pub leaves : (m : State) (n : Name) → top m.stack ≡ Some n → same n [] ≡ false → ((x : Name) → is_child n x ≡ true → (known m x).started ≡ true → (known m x).closed ≡ true) → IsTrue (allows m (Leave n))

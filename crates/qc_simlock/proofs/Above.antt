@@ -1,14 +1,13 @@
 -- The ancestors above a name, and of which of them a child is neither the name nor a child.
-use Rattle.std.proofs.Common.{◌≡◌, ℕ, ◌+◌, ◌<◌, ◌≤◌, true, false, List, [], ◌∷◌, ◌++◌, length, refl, sym, ap, ◌∙◌, arith, append_assoc}
+use Rattle.std.proofs.Common.{◌≡◌, ℕ, ◌<◌, ◌≤◌, true, List, [], ◌∷◌, ◌++◌, length, refl, sym, ap, ◌∙◌, arith, append_assoc}
 use Rattle.std.specs.Prelude.{◌==◌, map}
-use Rattle.std.proofs.lemmas.Bool.{eq-eqb, and_from, false_from_ne_true}
+use Rattle.std.proofs.lemmas.Bool.{eq-eqb, and_from}
 use Rattle.std.proofs.lemmas.List.{length-append, map-append}
 use Rattle.qc_names.specs.Name.{is_ancestor}
-use Rattle.qc_event.specs.History.{Name, same, is_child}
+use Rattle.qc_event.specs.History.{Name, is_child}
 use Rattle.qc_event.specs.Dead.{ancestors}
-use Rattle.qc_event.proofs.Absent.{same_is}
+pub use Rattle.qc_event.proofs.Absent.{other_length}
 use Rattle.qc_event.proofs.LastNumber.{same_last, is_ancestor-append, rest_of, child_last}
-use Rattle.qc_simlock.proofs.OwnOrder.{child_longer}
 
 -- the ancestors of a name other than itself, the shortest first
 abbrev pub above : Name → List Name
@@ -41,13 +40,6 @@ pub each_above : (P : Name → Type 0) (a : Name) → ((b : Name) → length b <
 each_above P [] h = tt
 each_above P (x ∷ xs) h =
     (h [] (omega arith), each_map P (λ b. x ∷ b) (above xs) (each_above (λ b. P (x ∷ b)) xs (λ b lt. h (x ∷ b) (omega arith))))
-
--- names of different lengths are not the same
-pub other_length : (m n : Name) → (length m ≡ length n → ⊥) → same m n ≡ false
-other_length m n differ = false_from_ne_true (same m n) (λ h. differ (ap length (same_is m n h)))
-
-pub no_child_length : (b c : Name) → (length c ≡ length b + 1 → ⊥) → is_child b c ≡ false
-no_child_length b c differ = false_from_ne_true (is_child b c) (λ h. differ (child_longer b c h))
 
 -- a front of an ancestor is an ancestor
 pub front_ancestor : (p q a : Name) → is_ancestor (p ++ q) a ≡ true → is_ancestor p a ≡ true

@@ -5,6 +5,7 @@ use Rattle.std.specs.Prelude.{filter}
 use Rattle.std.proofs.lemmas.List.{reverse-append, reverse-reverse, map-append}
 use Rattle.std.proofs.lemmas.List.Elements.{filter-append}
 use Rattle.std.proofs.lemmas.List.Sums.{fold-append}
+use Rattle.std.proofs.Math.Bool.{and-true}
 use Rattle.qc_config.specs.declared.tuple.Tuple.{Tuple}
 use Rattle.qc_config.specs.Tuple.{after}
 use Rattle.qc_event.specs.Base.{start_tuple}
@@ -20,7 +21,7 @@ abbrev grant_of : Given → Grant
 grant_of g = g.grant
 
 -- what one grant more leaves
-left_last : (base : List (List Tuple)) (given : List Given) (g : Given) (copy rec : ℕ)
+pub left_last : (base : List (List Tuple)) (given : List Given) (g : Given) (copy rec : ℕ)
     → left_at base (given ++ g ∷ []) copy rec ≡ cond (is_at copy rec g) (after (left_at base given copy rec) g.grant.op) (left_at base given copy rec)
 left_last base given g copy rec =
     ap (λ gs. changed_by (start_tuple base copy rec) (map grant_of gs)) (filter-append (is_at copy rec) given (g ∷ []))
@@ -32,15 +33,11 @@ left_last base given g copy rec =
     by_test true t = refl
     by_test false t = refl
 
-and_true : (b : Bool) → (b && true) ≡ b
-and_true true = refl
-and_true false = refl
-
 pub state_left : (base : List (List Tuple)) (gs : List Given) (place : Place) → state (start_at base) gs place ≡ left_at base (reverse gs) place.copy place.rec
 state_left base [] place = refl
 state_left base (g ∷ gs) place =
     ap (λ (t : Tuple). cond (same_place (place_of g) place && true) (after t g.grant.op) t) (state_left base gs place)
-    ∙ ap (λ b. cond b (after (left_at base (reverse gs) place.copy place.rec) g.grant.op) (left_at base (reverse gs) place.copy place.rec)) (and_true (same_place (place_of g) place))
+    ∙ ap (λ b. cond b (after (left_at base (reverse gs) place.copy place.rec) g.grant.op) (left_at base (reverse gs) place.copy place.rec)) (and-true (same_place (place_of g) place))
     ∙ sym (left_last base (reverse gs) g place.copy place.rec)
     ∙ ap (λ given. left_at base given place.copy place.rec) (sym (reverse-cons g gs))
 

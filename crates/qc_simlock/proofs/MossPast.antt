@@ -1,8 +1,7 @@
 -- The moves of a history, what its grants leave, and what they gave, in terms of the moves.
 use mathlib.Core.List.{reverse-cons}
 use Rattle.std.proofs.Common.{ℕ, ◌≡◌, ◌==◌, ◌&&◌, Bool, true, false, cond, List, [], ◌∷◌, ◌++◌, reverse, refl, sym, ap, ap₂, ◌∙◌, subst, inl, inr, append-nil, length, arith}
-use Rattle.std.specs.Prelude.{Option, None, Some, filter, find, option_to_list, if◌then◌else◌}
-use Rattle.std.specs.Option.{option_or}
+use Rattle.std.specs.Prelude.{None, Some, filter, find, option_to_list, if◌then◌else◌}
 use Rattle.std.proofs.lemmas.List.{reverse-append}
 use Rattle.std.proofs.lemmas.List.Elements.{filter-append}
 use Rattle.std.proofs.lemmas.List.Sums.{fold-append}
@@ -18,8 +17,9 @@ use Rattle.qc_event.specs.declared.event.How.{How}
 use Rattle.qc_event.specs.declared.event.How.TheVariants as how
 use Rattle.qc_event.specs.History.{Past, Name, Given, same, is_child, grants, grant_at}
 use Rattle.qc_event.specs.Seen.{changed_by}
+use Rattle.qc_event.proofs.LastNumber.{no_child_length}
+use Rattle.qc_event.proofs.OneEntry.{none_before}
 use Rattle.qc_simlock.specs.Visible.{given_in, served}
-use Rattle.qc_simlock.proofs.Above.{no_child_length}
 use Rattle.qc_simlock.proofs.MossNames.{Line}
 use Rattle.qc_simlock.proofs.MossMoves as moss
 use Rattle.qc_simlock.proofs.MossMoves.{Move, Granted, Commit, Abort, Place, same_place, left_by}
@@ -93,10 +93,6 @@ module _ (base : List (List Tuple)) (passes : Line → Bool) (passed : Name → 
   left_moves (e ∷ past) = left_entry past e.event (left_moves past)
 
 -- WHO IS IN THE WAY
-
-none_before : {Y : Type 0} (a b : Option Y) → option_or a b ≡ None → (a ≡ None) × (b ≡ None)
-none_before None b h = (refl, h)
-none_before (Some y) b h = absurd cc
 
 -- where none of a copy's grants passes a test, each of the moves' grants there fails it
 module _ (test : Grant → Bool) (copy : ℕ) where

@@ -8,6 +8,7 @@ use Rattle.std.proofs.lemmas.List.Elements.{filter-append}
 use Rattle.std.proofs.lemmas.List.Folds.{list_all-append}
 use Rattle.std.proofs.lemmas.Grind.{flat_map-append}
 use Rattle.std.proofs.lemmas.Bool.{and_parts, and_from, or_cases, or_left, or_right}
+use Rattle.std.proofs.Math.Bool.{and-false}
 use Rattle.qc_names.specs.Name.{is_ancestor}
 use Rattle.qc_event.specs.declared.event.How.{How}
 use Rattle.qc_event.specs.declared.event.How.TheVariants as how
@@ -56,12 +57,8 @@ order_open past p k began going =
 order_ended : (past : Past) (p : Name) (k : ℕ) (h : How) → end past (p ++ k ∷ []) ≡ Some h → served_order past (p ++ k ∷ []) ≡ served_order past p
 order_ended past p k h gone =
     order_last past p k
-    ∙ ap (λ b. served_order past p ++ (if b then served past (p ++ k ∷ []) else [])) (open_last past p k ∙ ap (λ o. is_some (start past (p ++ k ∷ [])) && is_none o) gone ∙ and_false (is_some (start past (p ++ k ∷ []))))
+    ∙ ap (λ b. served_order past p ++ (if b then served past (p ++ k ∷ []) else [])) (open_last past p k ∙ ap (λ o. is_some (start past (p ++ k ∷ [])) && is_none o) gone ∙ and-false (is_some (start past (p ++ k ∷ []))))
     ∙ append-nil (served_order past p)
-  where
-    and_false : (b : Bool) → (b && false) ≡ false
-    and_false true = refl
-    and_false false = refl
 
 -- where all ancestors are open, it is theirs in turn
 order_moves : (past : Past) → Orderly past → (d : Line) → StartedOrRoot past (reverse d) → AllLive (moves past) d → served_order past (reverse d) ≡ reverse (serial (moves past) d)

@@ -23,12 +23,12 @@ use Rattle.qc_event.specs.Dead.{outcome_of, is_committed}
 use Rattle.qc_event.proofs.Orderly.{Begins, KeepsOrder}
 use Rattle.qc_event.proofs.Absent.{if_not}
 use Rattle.qc_event.proofs.LastNumber.{length_last}
-use Rattle.qc_event.proofs.OneEntry.{some_or_none, not_some, start_stays}
+use Rattle.qc_event.proofs.OneEntry.{some_or_none, not_some, start_stays, open_before}
 use Rattle.qc_event.proofs.Lawful.{Lawful, ends_open}
 use Rattle.qc_event.proofs.Lineage.{IsFresh, fresh_child}
 use Rattle.qc_simlock.specs.Walk.{walk, added, ended}
 use Rattle.qc_simlock.proofs.Outside.{no_child, parent_of}
-use Rattle.qc_simlock.proofs.Stage.{nothing, stage, stage_of, same_stage, open_before, stage_unstarted, stage_at_start, end_there, end_elsewhere, stage_open, stage_at_end}
+use Rattle.qc_simlock.proofs.Stage.{nothing, stage, stage_of, same_stage, stage_unstarted, stage_at_start, end_there, end_elsewhere, stage_open, stage_at_end}
 use Rattle.qc_simlock.proofs.Kept.{Clean, Walked, Adds, GoesOn, grows, stays, child_known, one_adds, none_adds}
 use Rattle.qc_simlock.proofs.Inside.{not_below, longer_than_root, clean_inside, inside_shaped, inside_adds}
 

@@ -1,28 +1,23 @@
 -- Of a manager's accesses at most one that was asked is open.
 use Rattle.std.proofs.Common.{◌≡◌, Bool, true, false, [], ◌∷◌, refl, sym, ap, ◌∙◌, subst, inl, inr}
 use mathlib.Core.Bool.{true≢false}
-use Rattle.std.specs.Prelude.{Option, None, Some, is_some, is_none, find, option_to_list, if◌then◌else◌}
-use Rattle.std.specs.Option.{option_or}
+use Rattle.std.specs.Prelude.{None, Some, is_some, is_none, find, option_to_list, if◌then◌else◌}
 use Rattle.std.proofs.lemmas.List.Folds.{find-append}
 use Rattle.qc_names.specs.Name as name
 use Rattle.qc_event.specs.declared.event.Ask.{Ask}
 use Rattle.qc_event.specs.declared.event.Entry.{Entry}
 use Rattle.qc_event.specs.declared.event.Event.TheVariants as event
-use Rattle.qc_event.specs.declared.event.How.{How}
 use Rattle.qc_event.specs.Base.{Setting}
-use Rattle.qc_event.specs.History.{Past, Name, end, end_in, asked, asks, ask_below, is_child}
+use Rattle.qc_event.specs.History.{Past, Name, end, asked, asks, ask_below, is_child}
 use Rattle.qc_event.specs.Manager.{waiting}
 use Rattle.qc_event.specs.Requests.{MayAsk}
 use Rattle.qc_event.specs.Legal.{Legal}
-use Rattle.qc_event.proofs.LastNumber.{front_last, child_last}
+use Rattle.qc_event.proofs.LastNumber.{child_front}
+use Rattle.qc_event.proofs.OneEntry.{open_before, none_before}
 use Rattle.qc_simlock.proofs.Accesses.{Asking, asked_step, may_ask}
 
--- the parent of a child is its front
-child_front : (m c : Name) → is_child m c ≡ true → name.front c ≡ m
-child_front m c is = let (j, e) = child_last m c is in ap name.front e ∙ front_last m j
-
 -- what every request of a manager fails, each access that asked fails
-no_ask_passes : (test : Name → Bool) (past : Past) (m a : Name) → is_child m a ≡ true → is_some (asked past a) ≡ true → find (λ (ask : Ask). test ask.access) (asks past m) ≡ None → test a ≡ false
+pub no_ask_passes : (test : Name → Bool) (past : Past) (m a : Name) → is_child m a ≡ true → is_some (asked past a) ≡ true → find (λ (ask : Ask). test ask.access) (asks past m) ≡ None → test a ≡ false
 no_ask_passes test [] m a is asks none = absurd (true≢false (sym asks))
 no_ask_passes test (e ∷ past) m a is h none =
     let parts = none_before _ _ (sym (find-append (λ (ask : Ask). test ask.access) (asks past m) (option_to_list (ask_below m e.event))) ∙ none) in
@@ -31,23 +26,12 @@ no_ask_passes test (e ∷ past) m a is h none =
       | inr new ↦ ap test (sym new.2) ∙ alone (test new.0.access) new.0 (sym (ap (λ o. find (λ (ask : Ask). test ask.access) (option_to_list o)) (below new)) ∙ parts.1)
     ]
   where
-    none_before : {Y : Type 0} (x y : Option Y) → option_or x y ≡ None → (x ≡ None) × (y ≡ None)
-    none_before None y h = (refl, h)
-    none_before (Some z) y h = absurd cc
-
     below : (new : Asking a e.event) → ask_below m e.event ≡ Some new.0
     below new = ap (ask_below m) new.1 ∙ ap (λ b. if b then Some new.0 else None) (ap (is_child m) new.2 ∙ is)
 
     alone : (b : Bool) (ask : Ask) → (if b then Some ask else None) ≡ None → b ≡ false
     alone true ask h = absurd cc
     alone false ask h = refl
-
-open_before : (e : Entry) (past : Past) (n : Name) → end (e ∷ past) n ≡ None → end past n ≡ None
-open_before e past n h = before (end past n) (end_in n e.event) h
-  where
-    before : (old new : Option How) → option_or old new ≡ None → old ≡ None
-    before None new h = refl
-    before (Some how) new h = h
 
 -- who asks finds no other open
 asks_alone : (setting : Setting) (past : Past) (e : Entry) (m a b : Name) → is_child m a ≡ true → is_child m b ≡ true → (asks : Asking a e.event) → Legal setting (e ∷ past) → is_some (asked past b) ≡ true → end past b ≡ None → ⊥

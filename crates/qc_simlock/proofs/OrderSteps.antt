@@ -22,14 +22,13 @@ use Rattle.qc_event.specs.declared.event.Kind.TheVariants as kind
 use Rattle.qc_event.specs.History.{Past, Name, Begun, same, start, start_in, end, end_in, is_child, kind_of}
 use Rattle.qc_event.specs.Dead.{ancestors}
 use Rattle.qc_event.specs.Standing.{IsUser}
-use Rattle.qc_event.proofs.Absent.{AllNames, name_in, told_apart, same_is, same_itself, if_not}
-use Rattle.qc_event.proofs.LastNumber.{length_last, is_child-last, ancestors-last}
+use Rattle.qc_event.proofs.Absent.{AllNames, name_in, told_apart, same_is, same_itself, if_not, other_length}
+use Rattle.qc_event.proofs.LastNumber.{length_last, is_child-last, ancestors-last, child_longer, no_child_length}
 use Rattle.qc_serial.specs.declared.event.SerialEvent.{SerialEvent}
 use Rattle.qc_serial.specs.declared.event.SerialEvent.TheVariants.{Start, Enter, Read, Write, Leave, Skip}
 use Rattle.qc_simlock.specs.Walk.{ended, added, walk, is_open_or_root, entering, visits, serialise}
-use Rattle.qc_simlock.proofs.Above.{Each, above, ancestors_are, each_ancestor, each_above, other_length, no_child_length, front_ancestor, ancestor_short, parent_is}
+use Rattle.qc_simlock.proofs.Above.{Each, above, ancestors_are, each_ancestor, each_above, front_ancestor, ancestor_short, parent_is}
 use Rattle.qc_simlock.proofs.Ancestors.{visits_more}
-use Rattle.qc_simlock.proofs.OwnOrder.{child_longer}
 
 -- THE ORDER OF A NAME WITH ONE MORE NUMBER
 

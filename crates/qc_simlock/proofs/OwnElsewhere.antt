@@ -20,7 +20,7 @@ use Rattle.qc_event.specs.History.{Past, Name, Begun, IsOpen, start, end, is_chi
 use Rattle.qc_event.specs.Dead.{outcome, is_committed}
 use Rattle.qc_event.specs.Standing.{IsUser, Started}
 use Rattle.qc_event.proofs.Orderly.{Belongs, KeepsOrder, Orderly}
-use Rattle.qc_event.proofs.LastNumber.{same_last, child_last, rest_of, append_next, is_ancestor-append}
+use Rattle.qc_event.proofs.LastNumber.{same_last, child_last, rest_of, append_next, is_ancestor-append, child_longer}
 use Rattle.qc_event.proofs.OneEntry.{Starting, Ending, some_or_none, started_stays}
 use Rattle.qc_event.proofs.Lawful.{Lawful, lawful, child_starts, ends_open, committed_is}
 use Rattle.qc_event.proofs.Lineage.{above_user}
@@ -28,7 +28,6 @@ use Rattle.qc_serial.specs.declared.event.SerialEvent.{SerialEvent}
 use Rattle.qc_serial.specs.declared.event.SerialEvent.TheVariants.{Start, Read, Write, Leave, Skip}
 use Rattle.qc_simlock.specs.Walk.{walk, added, ended}
 use Rattle.qc_simlock.specs.Own.{is_own, own, own_past, own_in, own_end}
-use Rattle.qc_simlock.proofs.OwnOrder.{child_longer}
 
 -- what ends so is entered and left
 abbrev pub enters : Option Kind → How → Bool

@@ -1,11 +1,11 @@
 -- A walk has exactly the own events of the transaction that it walks through.
-use Rattle.std.proofs.Common.{◌≡◌, ℕ, ◌+◌, Bool, true, false, List, [], ◌∷◌, ◌++◌, length, refl, sym, ap, ◌∙◌, arith}
+use Rattle.std.proofs.Common.{◌≡◌, ℕ, ◌+◌, Bool, true, false, List, [], ◌∷◌, ◌++◌, length, refl, ap, ◌∙◌, arith}
 use Rattle.std.specs.Prelude.{Option, Some, ◌&&◌, ◌==◌, cond, nat_lt, if◌then◌else◌}
 use Rattle.std.specs.List.{list_all}
 use Rattle.std.proofs.lemmas.List.Elements.{filter-append}
 use Rattle.std.proofs.lemmas.List.Folds.{list_all-append}
 use Rattle.std.proofs.lemmas.Bool.Decides.{nat_tests}
-use mathlib.Core.Bool.{true≢false}
+use Rattle.std.proofs.lemmas.Bool.{and_parts}
 use Rattle.qc_names.specs.Name as name
 use Rattle.qc_event.specs.declared.event.Answer.TheVariants as answer
 use Rattle.qc_event.specs.declared.event.Event.{Event}
@@ -18,6 +18,7 @@ use Rattle.qc_serial.specs.declared.event.SerialEvent.{SerialEvent}
 use Rattle.qc_serial.specs.declared.event.SerialEvent.TheVariants.{Start, Enter, Read, Write, Leave, Skip}
 use Rattle.qc_serial.proofs.Known.{name_of}
 use Rattle.qc_event.specs.History.{Past, Name, is_child, kind_of}
+use Rattle.qc_event.proofs.LastNumber.{child_longer}
 use Rattle.qc_simlock.specs.Walk.{walk, added, ended}
 use Rattle.qc_simlock.specs.Own.{is_own, own, own_past, own_end, own_in}
 
@@ -33,18 +34,11 @@ all_if p false xs h = refl
 all_both : {X : Type 0} (p : X → Bool) (xs ys : List X) → list_all p xs ≡ true → list_all p ys ≡ true → list_all p (xs ++ ys) ≡ true
 all_both p xs ys a b = list_all-append p xs ys ∙ ap (λ t. t && list_all p ys) a ∙ b
 
-pub child_longer : (n c : Name) → is_child n c ≡ true → length c ≡ length n + 1
-child_longer n c h = grind (arith, nat_tests)
-
 child_deeper : (n c : Name) (e : SerialEvent) → is_child n c ≡ true → name_of e ≡ c → deeper (length n) e ≡ true
 child_deeper n c e h is = let l : length (name_of e) ≡ length n + 1 = ap length is ∙ child_longer n c h in grind (arith, nat_tests)
 
 one_deeper : (n c : Name) (e : SerialEvent) → is_child n c ≡ true → name_of e ≡ c → list_all (deeper (length n)) (e ∷ []) ≡ true
 one_deeper n c e h is = ap (λ b. b && true) (child_deeper n c e h is)
-
-pub both : (a b : Bool) → (a && b) ≡ true → (a ≡ true) × (b ≡ true)
-both true b h = (refl, h)
-both false b h = absurd (true≢false (sym h))
 
 still_deeper : (n c : Name) (e : SerialEvent) → is_child n c ≡ true → deeper (length c) e ≡ true → deeper (length n) e ≡ true
 still_deeper n c e h d = let l = child_longer n c h in grind (arith, nat_tests)
@@ -52,7 +46,7 @@ still_deeper n c e h d = let l = child_longer n c h in grind (arith, nat_tests)
 less_deep : (n c : Name) (es : List SerialEvent) → is_child n c ≡ true → list_all (deeper (length c)) es ≡ true → list_all (deeper (length n)) es ≡ true
 less_deep n c [] h all = refl
 less_deep n c (e ∷ es) h all =
-    let parts = both (deeper (length c) e) (list_all (deeper (length c)) es) all in
+    let parts = and_parts (deeper (length c) e) (list_all (deeper (length c)) es) all in
     ap (λ b. b && list_all (deeper (length n)) es) (still_deeper n c e h parts.0) ∙ less_deep n c es h parts.1
 
 -- what a child's end adds is deeper than its parent
@@ -89,7 +83,7 @@ not_own t c (Skip n) h d = no_child t c n h d
 own_deeper : (t c : Name) (es : List SerialEvent) → is_child t c ≡ true → list_all (deeper (length c)) es ≡ true → own t es ≡ []
 own_deeper t c [] h all = refl
 own_deeper t c (e ∷ es) h all =
-    let parts = both (deeper (length c) e) (list_all (deeper (length c)) es) all in
+    let parts = and_parts (deeper (length c) e) (list_all (deeper (length c)) es) all in
     ap (λ b. cond b (e ∷ own t es) (own t es)) (not_own t c e h parts.0) ∙ own_deeper t c es h parts.1
 
 -- an event that is the transaction's own is kept

@@ -1,20 +1,19 @@
 -- What the children of a committed transaction did is settled: its walk at its commit is its walk through the
 -- whole history.
 use Rattle.std.proofs.Common.{◌≡◌, ◌<◌, true, [], ◌∷◌, ◌++◌, refl, sym, ap, ◌∙◌, append-nil}
-use Rattle.std.specs.Prelude.{Option, Some, None, is_some, if◌then◌else◌, length}
-use Rattle.std.specs.Option.{option_or}
+use Rattle.std.specs.Prelude.{is_some, if◌then◌else◌, length}
 use Rattle.std.proofs.lemmas.Bool.{false_from_ne_true}
 use Rattle.qc_event.specs.declared.event.Entry.{Entry}
 use Rattle.qc_event.specs.declared.event.Event.{Event}
 use Rattle.qc_event.specs.declared.event.Event.TheVariants as event
-use Rattle.qc_event.specs.declared.event.How.{How}
 use Rattle.qc_event.specs.declared.event.Kind.TheVariants as kind
-use Rattle.qc_event.specs.Dead.{outcome, outcome_of, is_committed}
-use Rattle.qc_event.specs.History.{Past, Name, start, end, end_in, is_child, kind_of}
+use Rattle.qc_event.specs.Dead.{outcome, is_committed}
+use Rattle.qc_event.specs.History.{Past, Name, start, end, is_child, kind_of}
 use Rattle.qc_event.proofs.LastNumber.{child_last}
 use Rattle.qc_event.proofs.Lawful.{lawful, child_starts, ends_open, committed_is}
 use Rattle.qc_event.proofs.OneEntry.{some_or_none}
 use Rattle.qc_event.proofs.Orderly.{Orderly, KeepsOrder}
+use Rattle.qc_event.proofs.Later.{committed_still}
 use Rattle.qc_serial.specs.declared.event.SerialEvent.TheVariants.{Start}
 use Rattle.qc_simlock.specs.Walk.{walk, added, ended}
 
@@ -38,17 +37,9 @@ adds_none past e c pos orderly keeps done = by_event e.event refl
         still_open.not_ended))
     by_event _ is = refl
 
-kept : (o new : Option How) → is_committed (outcome_of o) ≡ true → is_committed (outcome_of (option_or o new)) ≡ true
-kept None new done = absurd cc
-kept (Some how) new done = done
-
-still_committed : (later past : Past) (c : Name) → is_committed (outcome past c) ≡ true → is_committed (outcome (later ++ past) c) ≡ true
-still_committed [] past c done = done
-still_committed (e ∷ later) past c done = kept (end (later ++ past) c) (end_in c e.event) (still_committed later past c done)
-
 pub walk_settled : (later past : Past) (c : Name) → 0 < length c → Orderly (later ++ past) → is_committed (outcome past c) ≡ true → walk (later ++ past) c ≡ walk past c
 walk_settled [] past c pos orderly done = refl
 walk_settled (e ∷ later) past c pos orderly done =
-    ap (λ es. walk (later ++ past) c ++ es) (adds_none (later ++ past) e c pos orderly.0 orderly.1 (still_committed later past c done))
+    ap (λ es. walk (later ++ past) c ++ es) (adds_none (later ++ past) e c pos orderly.0 orderly.1 (committed_still later past c done))
     ∙ append-nil (walk (later ++ past) c)
     ∙ walk_settled later past c pos orderly.0 done

@@ -66,14 +66,6 @@ same_stage e past x no_start no_end =
     ∙ ap (λ o. stage_of (kind_of past x) (option_or (end past x) o)) no_end
     ∙ ap (stage_of (kind_of past x)) (sym (or_none (end past x)))
 
--- what has no end has none before
-pub open_before : (e : Entry) (past : Past) (x : Name) → end (e ∷ past) x ≡ None → end past x ≡ None
-open_before e past x h = before (end past x) (end_in x e.event) h
-  where
-    before : (old new : Option How) → option_or old new ≡ None → old ≡ None
-    before None new h = refl
-    before (Some how) new h = h
-
 pub stage_unstarted : (past : Past) (x : Name) → start past x ≡ None → end past x ≡ None → stage past x ≡ nothing
 stage_unstarted past x no_start no_end = ap (λ o. stage_of (kind_in o) (end past x)) no_start ∙ ap (stage_of None) no_end
 

@@ -16,14 +16,16 @@ ghost use Rattle.qc_simlock.specs.Walk.{serialise, walk};
 /// each read in that order finds the value that was written last. How sessions interleave is left open
 /// (Lynch and Merritt's serial scheduler).
 pub fn serial_where_reads_agree()
-    ensures { (setting : Setting) (values : List ℕ) (past : Past) (t : Name) → Legal setting past → IsUserOf past t
+    ensures { (setting : Setting) (values : List ℕ) (past : Past) (t : Name) → Legal setting past
+        → IsUserOf past t
         → dead past t ≡ None → Reads values (serialise past t) → IsSerialFor values past t }
 {}
 
 /// The walk of a transaction is taken at its commit. What its children did is settled then: in a legal history
 /// that is its walk through all that the history has.
 pub fn walks_are_settled()
-    ensures { (setting : Setting) (later past : Past) (c : Name) → Legal setting (later ++ past) → 0 < length c
+    ensures { (setting : Setting) (later past : Past) (c : Name) → Legal setting (later ++ past)
+        → 0 < length c
         → is_committed (outcome past c) ≡ true → walk (later ++ past) c ≡ walk past c }
 {}
 
@@ -33,15 +35,21 @@ pub fn walks_are_settled()
 /// at a copy is what the grants that the transaction sees leave there in the order of the history (Moss's
 /// nested locks).
 pub fn locks_serve_in_order()
-    ensures finds { (setting : Setting) (past : Past) (t : Name) → Legal setting past → IsUserOf past t
+    ensures finds { (setting : Setting) (past : Past) (t : Name) → Legal setting past
+        → IsUserOf past t
         → dead past t ≡ None → Finds setting.base (served_order past t) }
-    ensures visible { (setting : Setting) (past : Past) (t : Name) → Legal setting past → IsUserOf past t
+    ensures visible { (setting : Setting) (past : Past) (t : Name) → Legal setting past
+        → IsUserOf past t
         → dead past t ≡ None → (g : Given) → Contains (served_order past t) g → IsVisible past g t }
-    ensures all { (setting : Setting) (past : Past) (t : Name) → Legal setting past → IsUserOf past t
+    ensures all { (setting : Setting) (past : Past) (t : Name) → Legal setting past
+        → IsUserOf past t
         → dead past t ≡ None → (g : Given) → IsVisible past g t → Contains (served_order past t) g }
-    ensures in_order { (setting : Setting) (past : Past) (t : Name) → Legal setting past → IsUserOf past t
+    ensures in_order { (setting : Setting) (past : Past) (t : Name) → Legal setting past
+        → IsUserOf past t
         → dead past t ≡ None → KeepsTurns past (served_order past t) }
-    ensures leaves { (setting : Setting) (past : Past) (t : Name) → Legal setting past → IsUserOf past t
+    ensures leaves { (setting : Setting) (past : Past) (t : Name) → Legal setting past
+        → IsUserOf past t
         → dead past t ≡ None → (copy rec : ℕ) → left_at setting.base (served_order past t) copy rec
-        ≡ changed_by (start_tuple setting.base copy rec) (filter (λ (g : Grant). (g.rec == rec) && is_visible past g.access t) (grants past copy)) }
+        ≡ changed_by (start_tuple setting.base copy rec)
+        (filter (λ (g : Grant). (g.rec == rec) && is_visible past g.access t) (grants past copy)) }
 {}

@@ -2,13 +2,14 @@
 ghost use Rattle.std.specs.Prelude.{◌≤◌};
 ghost use Rattle.qc_codec.specs.Fields.{format_1};
 ghost use Rattle.qc_codec.specs.Gives.{Reads, Puts};
+ghost use Rattle.qc_event.specs.declared.event.Event.TheVariants as event;
 ghost use Rattle.qc_trail_codec.specs.Events as events;
 
 use crate::end::{how, put_how};
 use crate::kind::{kind, op, put_byte, put_kind, put_op};
 use crate::reason::{inability, put_why, why};
 use qc_codec::{CodecNo, Cursor, put_granted, put_name, put_word};
-use qc_event::{Ask, Entry, Event, Refusal};
+use qc_event::{Ask, Entry, Event, Grant, Name, Refusal, Why};
 use std::alloc::AllocError;
 
 /// The number past those of the sessions.
@@ -121,6 +122,50 @@ fn event(cursor: &mut Cursor<'_>, copies: u8) -> Result<Event, CodecNo>
     }
 }
 
+#[tactic(auto, using(qc_codec::proofs::Fits::name_some), unfolding(crate::specs::Events::event))]
+fn put_gone(out: &mut Vec<u8>, copies: u8, access: &Name, why: Why) -> Result<(), AllocError>
+    requires copies { copies ≤ 16 }
+    requires fits { (events.event (format_1 copies)).fits (event.Gone access.now why) }
+    ensures { Puts (events.event (format_1 copies)) (event.Gone access.now why) result
+        out.old.items out.new.items }
+{
+    put_byte(out, 3)?;
+    put_name(out, access)?;
+    put_why(out, why)
+}
+
+#[tactic(auto, using(qc_codec::proofs::Fits::granted_name, qc_codec::proofs::Fits::granted_votes), unfolding(crate::specs::Events::event))]
+fn put_grant(out: &mut Vec<u8>, copies: u8, copy: u8, grant: &Grant) -> Result<(), AllocError>
+    requires copies { copies ≤ 16 }
+    requires fits { (events.event (format_1 copies)).fits (event.Granted copy grant.now) }
+    ensures { Puts (events.event (format_1 copies)) (event.Granted copy grant.now) result
+        out.old.items out.new.items }
+{
+    put_byte(out, 4)?;
+    put_byte(out, copy)?;
+    put_granted(out, copies, grant)
+}
+
+#[tactic(auto, using(qc_codec::proofs::Fits::name_some), unfolding(crate::specs::Events::event))]
+fn put_refused(
+    out: &mut Vec<u8>,
+    copies: u8,
+    access: &Name,
+    copy: u8,
+    refusal: &Refusal,
+) -> Result<(), AllocError>
+    requires copies { copies ≤ 16 }
+    requires fits { (events.event (format_1 copies)).fits
+        (event.Refused access.now copy refusal.now) }
+    ensures { Puts (events.event (format_1 copies)) (event.Refused access.now copy refusal.now)
+        result out.old.items out.new.items }
+{
+    put_byte(out, 5)?;
+    put_name(out, access)?;
+    put_byte(out, copy)?;
+    put_refusal(out, refusal)
+}
+
 #[tactic(auto, using(qc_codec::proofs::Fits::name_some, qc_codec::proofs::Fits::granted_name, qc_codec::proofs::Fits::granted_votes), unfolding(crate::specs::Events::event, crate::specs::Reasons::inability))]
 fn put_event(out: &mut Vec<u8>, copies: u8, event: &Event) -> Result<(), AllocError>
     requires copies { copies ≤ 16 }
@@ -137,26 +182,13 @@ fn put_event(out: &mut Vec<u8>, copies: u8, event: &Event) -> Result<(), AllocEr
             put_byte(out, 2)?;
             put_ask(out, copies, ask)
         }
-        Event::Gone { access, why } => {
-            put_byte(out, 3)?;
-            put_name(out, access)?;
-            put_why(out, *why)
-        }
-        Event::Granted { copy, grant } => {
-            put_byte(out, 4)?;
-            put_byte(out, *copy)?;
-            put_granted(out, copies, grant)
-        }
+        Event::Gone { access, why } => put_gone(out, copies, access, *why),
+        Event::Granted { copy, grant } => put_grant(out, copies, *copy, grant),
         Event::Refused {
             access,
             copy,
             refusal,
-        } => {
-            put_byte(out, 5)?;
-            put_name(out, access)?;
-            put_byte(out, *copy)?;
-            put_refusal(out, refusal)
-        }
+        } => put_refused(out, copies, access, *copy, refusal),
         Event::Ready { top } => {
             put_byte(out, 6)?;
             put_name(out, top)

@@ -15,7 +15,8 @@ ghost use Rattle.qc_trail_laws.specs.Trails as trails;
 /// The first run follows its script, in turn, with its numbers and its messages; a try after a lost request, another
 /// configuration, and an abort from two levels below follow theirs.
 pub fn accepts()
-    ensures first_run { FollowsBodies 0 (reverse trails.first_run) trails.set_then_read (trails.top ∷ []) }
+    ensures first_run { FollowsBodies 0 (reverse trails.first_run) trails.set_then_read
+        (trails.top ∷ []) }
     ensures first_turns { RunsInTurn 0 (reverse trails.first_run) }
     ensures first_numbers { IsTrue (each (is_next_top 1) (reverse trails.first_run)) }
     ensures first_messages { IsTrue (meets 0 trails.net (reverse trails.first_run)) }
@@ -24,7 +25,8 @@ pub fn accepts()
         (trails.top ∷ trails.top2 ∷ []) }
     ensures tried_turns { RunsInTurn 0 (reverse trails.tried_again) }
     ensures tried_messages { IsTrue (meets 0 trails.first_lost (reverse trails.tried_again)) }
-    ensures reconfigured { FollowsBodies 0 (reverse trails.reconfigured) trails.reconfigure (trails.top ∷ []) }
+    ensures reconfigured { FollowsBodies 0 (reverse trails.reconfigured) trails.reconfigure
+        (trails.top ∷ []) }
     ensures reconfigured_turns { RunsInTurn 0 (reverse trails.reconfigured) }
     ensures far_abort { FollowsBody 0 (reverse trails.far_abort) (trails.abort_body 2) trails.top }
     ensures far_turns { RunsInTurn 0 (reverse trails.far_abort) }
@@ -38,18 +40,22 @@ pub fn accepts()
 pub fn refuses()
     ensures read_before_set { FollowsScript 0 1 trails.net trails.set_then_read
         (reverse trails.read_before_set) → ⊥ }
-    ensures own_conflict { FollowsScript 0 1 trails.net trails.set_then_read (reverse trails.own_conflict) → ⊥ }
+    ensures own_conflict { FollowsScript 0 1 trails.net trails.set_then_read
+        (reverse trails.own_conflict) → ⊥ }
     ensures dropped_steps { FollowsScript 0 1 trails.net trails.child_and_abort
         (reverse trails.dropped_steps) → ⊥ }
-    ensures late_commit { FollowsScript 0 1 trails.net trails.set_and_read (reverse trails.late_commit) → ⊥ }
+    ensures late_commit { FollowsScript 0 1 trails.net trails.set_and_read
+        (reverse trails.late_commit) → ⊥ }
     ensures lost_elsewhere { FollowsScript 0 1 trails.net trails.read_alone
         (reverse trails.lost_elsewhere) → ⊥ }
     ensures elsewhere_lossy { FollowsScript 0 1 trails.lossy trails.set_then_read
         (reverse (map trails.moved trails.first_run)) → ⊥ }
-    ensures down_at_once { FollowsScript 0 1 trails.net trails.read_alone (reverse trails.down_at_once) → ⊥ }
+    ensures down_at_once { FollowsScript 0 1 trails.net trails.read_alone
+        (reverse trails.down_at_once) → ⊥ }
     ensures marked_elsewhere { FollowsScript 0 1 trails.net trails.no_step
         (reverse trails.marked_elsewhere) → ⊥ }
-    ensures two_seats { FollowsScript 0 1 trails.net trails.two_steps (reverse trails.two_seats) → ⊥ }
+    ensures two_seats { FollowsScript 0 1 trails.net trails.two_steps (reverse trails.two_seats)
+        → ⊥ }
 {}
 
 /// A grandchild that is to abort its parent does not name the top, so a trail in which it aborts both follows no script
@@ -57,16 +63,19 @@ pub fn refuses()
 pub fn names_no_other()
     ensures parent_named { Asks (reverse trails.aborts_two) trails.top (trails.abort_body 1).plan
         (children (reverse trails.aborts_two) trails.top) trails.grandchild trails.first_child }
-    ensures top_not_named { FollowsScript 0 1 trails.net (trails.abort_body 1 ∷ []) (reverse trails.aborts_two) → ⊥ }
+    ensures top_not_named { FollowsScript 0 1 trails.net (trails.abort_body 1 ∷ [])
+        (reverse trails.aborts_two) → ⊥ }
 {}
 
 /// The first run, cut off within a manager, between two steps, or as its top is ready, is a beginning of what follows its
 /// script.
 pub fn begins()
-    ensures in_manager { RunsBodies Reach.cut_off 0 (reverse (trails.first_cut 14)) trails.set_then_read
+    ensures in_manager { RunsBodies Reach.cut_off 0 (reverse (trails.first_cut 14))
+        trails.set_then_read
         (trails.top ∷ []) }
     ensures in_manager_turns { RunsInTurn 0 (reverse (trails.first_cut 14)) }
-    ensures between_steps { RunsBodies Reach.cut_off 0 (reverse (trails.first_cut 11)) trails.set_then_read
+    ensures between_steps { RunsBodies Reach.cut_off 0 (reverse (trails.first_cut 11))
+        trails.set_then_read
         (trails.top ∷ []) }
     ensures between_turns { RunsInTurn 0 (reverse (trails.first_cut 11)) }
     ensures ready { RunsBodies Reach.cut_off 0 (reverse (trails.first_cut 18)) trails.set_then_read
@@ -80,8 +89,10 @@ pub fn begins()
 pub fn begins_otherwise()
     ensures ready_too_soon { BeginsScript 0 1 trails.net trails.set_then_read
         (reverse trails.ready_too_soon) → ⊥ }
-    ensures set_skipped { BeginsScript 0 1 trails.net trails.set_then_read (reverse trails.set_skipped) → ⊥ }
+    ensures set_skipped { BeginsScript 0 1 trails.net trails.set_then_read
+        (reverse trails.set_skipped) → ⊥ }
     ensures read_before_set { BeginsScript 0 1 trails.net trails.set_then_read
         (reverse (take 3 trails.read_before_set)) → ⊥ }
-    ensures cut_off { FollowsScript 0 1 trails.net trails.set_then_read (reverse (trails.first_cut 14)) → ⊥ }
+    ensures cut_off { FollowsScript 0 1 trails.net trails.set_then_read
+        (reverse (trails.first_cut 14)) → ⊥ }
 {}

@@ -57,16 +57,21 @@ impl Shop for MemShop {
     ghost faults = { shop_faults };
 
     fn obtain(&mut self, alloc: Global, place: &str, which: u8) -> Result<MemDisk, DiskNo>
-        ensures given { IfOk result (λ disk. Tells (Some (shop_bytes self.old which)) (Some (mem_bytes disk))) }
-        ensures others { (p : List ℕ) (n : ℕ) → n ≢ which → Some (shop_bytes self.new n) ≡ Some (shop_bytes self.old n) }
-        ensures kept { OnErr result ((p : List ℕ) (n : ℕ) → Some (shop_bytes self.new n) ≡ Some (shop_bytes self.old n)) }
-        ensures cause { HasCause (shop_faults self.old) (shop_faults self.new) (IsErrOf result DiskNo.Failed) }
+        ensures given { IfOk result (λ disk. Tells (Some (shop_bytes self.old which))
+            (Some (mem_bytes disk))) }
+        ensures others { (p : List ℕ) (n : ℕ) → n ≢ which
+            → Some (shop_bytes self.new n) ≡ Some (shop_bytes self.old n) }
+        ensures kept { OnErr result ((p : List ℕ) (n : ℕ) → Some (shop_bytes self.new n) ≡ Some
+            (shop_bytes self.old n)) }
+        ensures cause { HasCause (shop_faults self.old) (shop_faults self.new)
+            (IsErrOf result DiskNo.Failed) }
         ensures gives { IfOk result (Gives self.old self.new which) }
         ensures disks { OnErr result (shop_disks self.new ≡ shop_disks self.old) }
         ensures listed { IsErr result ↔ Contains (shop_fails self.old) which }
         ensures failed { IfErr result (λ e. e ≡ DiskNo.Failed) }
         ensures fails { shop_fails self.new ≡ shop_fails self.old }
-        ensures counted { shop_faults self.new ≡ (if is_err result then next (shop_faults self.old) else shop_faults self.old) }
+        ensures counted { shop_faults self.new ≡ (if is_err result then next (shop_faults self.old)
+            else shop_faults self.old) }
     {
         if self.fails.contains(&which) {
             self.faults = self.faults.saturating_add(1);

@@ -42,7 +42,8 @@ pub(crate) fn check_object(
     others: &[&str],
 ) -> Result<(), BadScript>
     ensures exact { Gives (λ _. tt) result
-        (script.object_of word (map (λ n. n.now) needed.now) (map (λ n. n.now) others.now) (view value.now)) }
+        (script.object_of word (map (λ n. n.now) needed.now) (map (λ n. n.now) others.now)
+        (view value.now)) }
     ensures no_memory { IfErr result (λ e. e ≢ BadScript.Memory) }
 {
     let Some(members) = value.as_object() else {
@@ -60,7 +61,8 @@ pub(crate) fn member_at<'v>(
     name: &str,
     word: Member,
 ) -> Result<&'v Value, BadScript>
-    ensures exact { Gives (λ v. view v.now) result (script.member_at name.now word (view object.now)) }
+    ensures exact { Gives (λ v. view v.now) result
+        (script.member_at name.now word (view object.now)) }
     ensures no_memory { IfErr result (λ e. e ≢ BadScript.Memory) }
 {
     object.get(name).ok_or(BadScript::Shape(word))
@@ -94,7 +96,8 @@ pub(crate) fn list_at<'v>(
     name: &str,
     word: Member,
 ) -> Result<&'v [Value], BadScript>
-    ensures exact { Gives (λ vs. map view vs.now) result (script.list_at name.now word (view object.now)) }
+    ensures exact { Gives (λ vs. map view vs.now) result
+        (script.list_at name.now word (view object.now)) }
     ensures no_memory { IfErr result (λ e. e ≢ BadScript.Memory) }
 {
     match object.get(name).and_then(Value::as_array) {

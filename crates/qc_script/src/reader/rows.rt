@@ -62,7 +62,8 @@ fn name_of<'v>(
     names: &mut IndexSet<&'v str>,
     value: &'v Value,
 ) -> Result<Label, BadScript>
-    ensures exact { Gives (λ l. l) result (script.name_of (texts_of names.old.keys) (view value.now)) }
+    ensures exact { Gives (λ l. l) result (script.name_of (texts_of names.old.keys)
+        (view value.now)) }
     ensures added { IfOk result (λ l. texts_of names.new.keys ≡ texts_of names.old.keys ++ l ∷ []) }
 {
     let name = text_at(value, "name", Member::Name)?;
@@ -83,7 +84,8 @@ fn vote_of(value: &Value) -> Result<u8, BadScript>
 }
 
 fn votes_of(alloc: Global, list: &[Value]) -> Result<Vec<u8>, BadScript>
-    ensures exact { Gives (λ votes. votes.items) result (script.each script.vote_of (map view list.now)) }
+    ensures exact { Gives (λ votes. votes.items) result
+        (script.each script.vote_of (map view list.now)) }
     ensures counted { IfOk result (λ votes. vec_len votes ≡ length list.now) }
 {
     let mut votes = Vec::new(alloc);
@@ -120,8 +122,10 @@ fn row_of<'v>(
     value: &'v Value,
 ) -> Result<Row, BadScript>
     requires { copies ≤ 16 }
-    ensures exact { Gives (λ r. r) result (script.row_of copies (texts_of names.old.keys) (view value.now)) }
-    ensures added { IfOk result (λ r. texts_of names.new.keys ≡ texts_of names.old.keys ++ r.name ∷ []) }
+    ensures exact { Gives (λ r. r) result (script.row_of copies (texts_of names.old.keys)
+        (view value.now)) }
+    ensures added { IfOk result (λ r. texts_of names.new.keys ≡ texts_of names.old.keys
+        ++ r.name ∷ []) }
 {
     check_object(value, Member::RecordRow, &["name", "start", "config"], &[])?;
     let name = name_of(alloc, names, value)?;
@@ -143,7 +147,8 @@ pub(crate) fn rows_of<'v>(
 ) -> Result<Records<'v>, BadScript>
     requires copies { copies ≤ 16 }
     requires few { length list.now ≤ 64 }
-    ensures exact { Gives (λ r. r.table.records) result (script.rows_of copies [] (map view list.now)) }
+    ensures exact { Gives (λ r. r.table.records) result
+        (script.rows_of copies [] (map view list.now)) }
     ensures copies { IfOk result (λ r. r.table.copies ≡ copies) }
 {
     let mut names = IndexSet::new(alloc);

@@ -98,7 +98,8 @@ fn three_of(
 }
 
 fn abort_of(depth: u8, levels: &Value) -> Result<Step, BadScript>
-    ensures { (next : ℕ) → Gives (λ s. (put s, next)) result (script.abort_of depth next (view levels.now)) }
+    ensures { (next : ℕ)
+        → Gives (λ s. (put s, next)) result (script.abort_of depth next (view levels.now)) }
 {
     let levels = levels.as_u64().ok_or(BadScript::Shape(Member::Step))?;
     if levels >= depth as u64 {
@@ -143,7 +144,8 @@ fn two_of(
     requires bounded { below ≤ 16 }
     requires tried { around ≤ 256 }
     ensures { Gives (λ s. (put s, next.new)) result
-        (script.two_of (script.body_of below around records.now.table) (16 - below) records.now.table
+        (script.two_of (script.body_of below around records.now.table) (16 - below)
+        records.now.table
         next.old (view word.now) (view part.now)) }
 {
     if is_word(word, "read") {
@@ -169,7 +171,8 @@ fn step_in(
     requires bounded { below ≤ 16 }
     requires tried { around ≤ 256 }
     ensures { Gives (λ s. (put s, next.new)) result
-        (script.step_in (script.body_of below around records.now.table) (16 - below) records.now.table
+        (script.step_in (script.body_of below around records.now.table) (16 - below)
+        records.now.table
         next.old (map view parts.now)) }
 {
     match parts {
@@ -192,7 +195,8 @@ fn step_of(
     requires bounded { below ≤ 16 }
     requires tried { around ≤ 256 }
     ensures { Gives (λ s. (put s, next.new)) result
-        (script.step_of (script.body_of below around records.now.table) (16 - below) records.now.table
+        (script.step_of (script.body_of below around records.now.table) (16 - below)
+        records.now.table
         next.old (view value.now)) }
 {
     match value.as_array() {
@@ -213,7 +217,8 @@ fn steps_of(
     requires bounded { below ≤ 16 }
     requires tried { around ≤ 256 }
     ensures { Gives (λ steps. (plan_of steps.items, next.new)) result
-        (script.steps_of (script.body_of below around records.now.table) (16 - below) records.now.table
+        (script.steps_of (script.body_of below around records.now.table) (16 - below)
+        records.now.table
         next.old (map view list.now)) }
 {
     let mut steps = Vec::new(alloc);

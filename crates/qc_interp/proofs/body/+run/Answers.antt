@@ -1,24 +1,20 @@
-use Rattle.std.proofs.Common.{rules, ◌≡◌, ◌<◌, ◌≤◌, ◌+◌, ◌-◌, ℕ, suc, [], ◌∷◌, length, sym, ap, ◌∙◌, subst, arith, refl}
-use Rattle.qc_event.specs.declared.event.Event.TheVariants as event
+use Rattle.std.proofs.Common.{rules, ◌≡◌, ◌<◌, ◌≤◌, ◌+◌, ◌-◌, ℕ, suc, [], length, sym, ap, ◌∙◌, subst, arith, refl}
 use Rattle.qc_event.specs.declared.event.Kind.TheVariants as kind
 use Rattle.qc_event.specs.History.{Past, Name}
-use Rattle.qc_script.specs.Calls.{by_client, WasRefused}
+use Rattle.qc_event.proofs.LastNumber.{child_longer}
+use Rattle.qc_script.specs.Calls.{WasRefused}
 use Rattle.qc_script.specs.Client.{Client, Made}
 use Rattle.qc_script.specs.Plan.{Plan, PlanFits}
 use Rattle.qc_script.specs.Steps.{put, plan_of, numbered}
 use Rattle.qc_interp.specs.Running.{Runs, WhyStop, Stopped, Ended, CutOff, Stepped}
 use Rattle.qc_interp.proofs.Results.{if_ok, if_err, any_err}
-use Rattle.qc_interp.proofs.Growth.{child_length, made_both}
+use Rattle.qc_interp.proofs.Growth.{made_both}
 use Rattle.qc_interp.proofs.Plans.{weight, plan_is, tries_of, number_of, put_read, put_set, put_reconf, put_child, put_abort, step_lighter}
 use Rattle.qc_interp.proofs.Loops.{fits_step, one_done, stopped_there, cut_there, cut_at_last, all_done, none_done}
-use Rattle.qc_interp.proofs.Tried.{TriesLeft, Tried, runs_begun, tried_once, cut_once, tried_more, tried_out, tried_all, tries_cut, not_begun, begin_stops, begin_cut, refused_made, none_tried}
+use Rattle.qc_interp.proofs.Tried.{TriesLeft, Tried, runs_begun, tried_once, cut_once, tried_more, tried_out, tried_all, tries_cut, not_begun, begin_stops, begin_cut, refused_made, none_tried, start_of}
 use Rattle.qc_interp.proofs.body.+run.Goals as goal
 
 -- CHILDREN
-
--- a start told of one client is told of the same
-start_of : (c d : Client) (n : Name) (number other : ℕ) (before now : Past) → d ≡ c → number ≡ other → Made d (by_client d (event.Start n (kind.User d.session number)) ∷ []) before now → Made c (by_client c (event.Start n (kind.User c.session other)) ∷ []) before now
-start_of c d n number other before now same is m = subst (λ k. Made c (by_client c (event.Start n (kind.User c.session k)) ∷ []) before now) is (subst (λ x. Made x (by_client x (event.Start n (kind.User x.session number)) ∷ []) before now) same m)
 
 one_less : (c : Client) (of : Name) (body : Rattle.qc_script.specs.Plan.Numbered) (before now : Past) (counter : ℕ) → counter < body.tries → TriesLeft c of body before now (body.tries - counter) → TriesLeft c of body before now (suc (body.tries - (counter + 1)))
 one_less c of body before now counter few left = subst (TriesLeft c of body before now) (let e : body.tries - counter ≡ suc (body.tries - (counter + 1)) = omega (arith, few) in e) left
@@ -39,8 +35,11 @@ child_tries-steps-requires g t c κs within =
         within,
         (
           subst (λ d. Runs d c.in-Ok.name x.seen) (sym client) (runs_begun v.client of c.in-Ok.name (numbered body).number w.seen x.seen inv.left.runs c.in-Ok.ensures.child made),
-          (subst (λ d. PlanFits d.setting (length c.in-Ok.name) (plan_of c.as_slice.result.now)) (sym client)
-              (subst (λ k. PlanFits v.client.setting k (plan_of c.as_slice.result.now)) (sym (child_length of c.in-Ok.name c.in-Ok.ensures.child)) (subst (PlanFits v.client.setting (length of + 1)) (sym same) c.requires.fits)), c.begin.ensures.met),
+          (
+            subst (λ d. PlanFits d.setting (length c.in-Ok.name) (plan_of c.as_slice.result.now)) (sym client)
+                (subst (λ k. PlanFits v.client.setting k (plan_of c.as_slice.result.now)) (sym (child_longer of c.in-Ok.name c.in-Ok.ensures.child)) (subst (PlanFits v.client.setting (length of + 1)) (sym same) c.requires.fits)),
+            c.begin.ensures.met,
+          ),
         ),
       ),
     )

@@ -1,25 +1,20 @@
 use Rattle.std.proofs.Common.{◌≡◌, ◌<◌, ◌+◌, ◌-◌, ℕ, suc, List, [], ◌∷◌, length, true, sym, ◌∙◌, subst, arith, refl}
-use Rattle.qc_event.specs.declared.event.Event.TheVariants as event
-use Rattle.qc_event.specs.declared.event.Kind.TheVariants as kind
 use Rattle.qc_event.specs.History.{Past, Name, is_child}
+use Rattle.qc_event.proofs.LastNumber.{child_longer}
 use Rattle.qc_script.specs.Numbers.{Numbers}
-use Rattle.qc_script.specs.Calls.{by_client, WasRefused}
-use Rattle.qc_script.specs.Client.{Client, Made}
+use Rattle.qc_script.specs.Calls.{WasRefused}
+use Rattle.qc_script.specs.Client.{Client}
 use Rattle.qc_script.specs.Plan.{PlanFits, Numbered}
 use Rattle.qc_script.specs.declared.script.Body.{Body}
 use Rattle.qc_script.specs.declared.tx.TxNo.{TxNo}
 use Rattle.qc_interp.specs.Session.{CutTops}
 use Rattle.qc_script.specs.Steps.{plan_of, numbered}
 use Rattle.qc_interp.specs.Running.{Runs, Ended, CutOff}
-use Rattle.qc_interp.proofs.Growth.{child_length}
 use Rattle.qc_interp.proofs.Plans.{plan_is, tries_of, number_of}
 use Rattle.qc_interp.proofs.TopsRun.{TopTriesLeft, TriedTop, runs_top, top_once, top_cut, top_more, top_out, try_cut, top_not_begun, no_top, tops_out}
-use Rattle.qc_interp.proofs.Tried.{refused_made}
+use Rattle.qc_interp.proofs.Tried.{refused_made, start_of}
 use Rattle.qc_interp.proofs.Results.{any_err}
 use Rattle.qc_interp.proofs.tops.top_tries.Goals as goal
-
-start_of : (c d : Client) (n : Name) (number other : ℕ) (before now : Past) → d ≡ c → number ≡ other → Made d (by_client d (event.Start n (kind.User d.session number)) ∷ []) before now → Made c (by_client c (event.Start n (kind.User c.session other)) ∷ []) before now
-start_of c d n number other before now same is m = subst (λ k. Made c (by_client c (event.Start n (kind.User c.session k)) ∷ []) before now) is (subst (λ x. Made x (by_client x (event.Start n (kind.User x.session number)) ∷ []) before now) same m)
 
 one_less : (c : Client) (body : Numbered) (before now : Past) (counter : ℕ) → counter < body.tries → TopTriesLeft c body before now (body.tries - counter) → TopTriesLeft c body before now (suc (body.tries - (counter + 1)))
 one_less c body before now counter few left = subst (TopTriesLeft c body before now) (let e : body.tries - counter ≡ suc (body.tries - (counter + 1)) = omega (arith, few) in e) left
@@ -40,7 +35,7 @@ steps-requires-clause-fits g c =
     let v = g.T.Tx.view c.args.tx.now in
     let body = c.args.body.now in
     subst (λ (d : Client). PlanFits d.setting (length c.in-Ok.name) (plan_of c.as_slice.result.now)) (sym (c.begin.ensures.client ∙ inv.client))
-    (subst (λ k. PlanFits v.client.setting k (plan_of c.as_slice.result.now)) (sym (child_length [] c.in-Ok.name (subst (λ r. is_child r c.in-Ok.name ≡ true) c.root.ensures c.in-Ok.ensures.child)))
+    (subst (λ k. PlanFits v.client.setting k (plan_of c.as_slice.result.now)) (sym (child_longer [] c.in-Ok.name (subst (λ r. is_child r c.in-Ok.name ≡ true) c.root.ensures c.in-Ok.ensures.child)))
     (subst (PlanFits v.client.setting 1) (sym (plan_is body c.as_slice.result.now c.as_slice.ensures.value)) c.requires.fits))
 
 pub returns-then-not-branch-clause-ok : goal.returns-then-not-branch-clause-ok

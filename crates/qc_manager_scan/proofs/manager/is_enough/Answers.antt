@@ -2,7 +2,7 @@ use Rattle.std.proofs.Common.{◌≡◌, reverse, sym, ap, ◌∙◌, subst}
 use Rattle.std.specs.Prelude.{if◌then◌else◌}
 use Rattle.qc_config.specs.Config.{holds_read, holds_write}
 use Rattle.qc_event.specs.Manager as words
-use Rattle.qc_manager_scan.proofs.Truth.{same_truth}
+use Rattle.qc_event.proofs.Booleans.{same_truth}
 use Rattle.qc_manager_scan.proofs.manager.is_enough.Goals as goal
 
 pub returns-then-stage : goal.returns-then-stage

@@ -3,8 +3,9 @@ use Rattle.std.specs.Prelude.{None, is_some}
 use Rattle.std.proofs.lemmas.Option.{same_Some}
 use Rattle.qc_names.specs.Name as name
 use Rattle.qc_event.specs.Dead.{dead, outcome, is_committed}
+use Rattle.qc_event.proofs.OneEntry.{no_some}
 use Rattle.qc_moss.specs.Follows.{IsInherited}
-use Rattle.qc_moss.proofs.Inheriting.{not_passed, passed_on, to_parent, still_alive, none_if}
+use Rattle.qc_moss.proofs.Inheriting.{not_passed, passed_on, to_parent, still_alive}
 use Rattle.qc_moss.proofs.settling.raised.Goals as goal
 
 pub loop-to-init : goal.loop-to-init
@@ -19,5 +20,5 @@ loop-to-preserved g c = λ past tells.
 
 pub returns-clause-alive : goal.returns-clause-alive
 returns-clause-alive g c = λ past to tells is.
-    let lives : dead past c.args.at.now ≡ None = none_if (dead past c.args.at.now) (ap is_some (sym (c.dead.ensures past tells)) ∙ sym c.is_some.ensures ∙ c.if-is_some.false) in
+    let lives : dead past c.args.at.now ≡ None = no_some (dead past c.args.at.now) (ap is_some (sym (c.dead.ensures past tells)) ∙ sym c.is_some.ensures ∙ c.if-is_some.false) in
     ap (dead past) (sym (same_Some c.loop-to.to to is)) ∙ still_alive past c.args.at.now c.loop-to.to (c.loop-to.invariant past tells) lives

@@ -14,8 +14,7 @@ returns-clause-history g c =
     let start = c.into_parts-start.result.0 in
     let trail = c.into_parts-start.result.1.items in
     let parts = c.into_parts-start.ensures in
-    let back = gave_back s start trail c.args.client c.run.new.self c.requires.client c.run.ensures.client parts.base parts.entries parts.legal in
-    (
+    let back = gave_back s start trail c.args.client c.run.new.self c.requires.client c.run.ensures.client parts.base parts.entries parts.legal in (
       trail_legal s start trail c.run.new.self back,
       script_begun s trail c.args.client c.run.new.self c.requires.client parts.entries
           (subst (λ bodies. BeginsAlone c.args.client.client (map numbered bodies) c.run.new.self.seen) c.as_slice.ensures.value c.run.ensures.begins),

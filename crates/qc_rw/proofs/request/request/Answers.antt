@@ -1,8 +1,9 @@
 -- An access that was carried, or not, as its manager sees it.
 use Rattle.std.proofs.Common.{◌≡◌, ◌+◌, length, refl}
+use Rattle.qc_event.specs.Counts.{Rose}
 use Rattle.qc_event.specs.History.{children}
 use Rattle.qc_event.proofs.LastNumber.{is_child-last}
-use Rattle.qc_gather.specs.Carrying.{carriage, Rose, became}
+use Rattle.qc_gather.specs.Carrying.{carriage, became}
 use Rattle.qc_rw.proofs.Causes.{cause_of_request}
 use Rattle.qc_rw.proofs.Served.{served_once}
 use Rattle.qc_rw.proofs.Undisturbed.{shortage_of}

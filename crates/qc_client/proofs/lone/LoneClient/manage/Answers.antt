@@ -1,6 +1,5 @@
 use Rattle.std.proofs.Common.{ap, sym, subst, ◌∙◌}
 use Rattle.std.specs.Prelude.{IfOk, IfErr}
-use Rattle.qc_client.proofs.Alone.{manager_fits}
 use Rattle.qc_client.proofs.Managing.{came, runs_now, ends_so_far, all_answers, all_fails}
 use Rattle.qc_client.specs.Entering.{MayEnter}
 use Rattle.qc_event.specs.declared.event.Event.TheVariants as event
@@ -8,6 +7,7 @@ use Rattle.qc_rw.specs.Managed.{IsAnswered, IsRefused}
 use Rattle.qc_script.specs.Calls.{by_client}
 use Rattle.qc_script.specs.Client.{Client, View}
 use Rattle.qc_client.proofs.lone.LoneClient.manage.Goals as goal
+use Rattle.qc_interp.proofs.StepsLeave.{manages}
 
 pub come_to-came_to-requires-clause-manager : goal.come_to-came_to-requires-clause-manager
 come_to-came_to-requires-clause-manager c = (runs_now c.args.self.now c.start.new.self c.args.of.now c.in-Ok.name c.args.kind.now c.in-Ok.ensures.ok c.in-Ok.ensures.legal c.in-Ok.ensures.alone).0
@@ -21,7 +21,7 @@ close-requires-clause-may_end c =
     let kd = c.args.kind.now in
     let at = c.come_to-came_to in
     let mid = at.new.self in
-    let h = came old c.start.new.self mid c.args.of.now c.in-Ok.name kd c.in-Ok.ensures.ok c.in-Ok.ensures.legal c.in-Ok.ensures.alone (manager_fits old.client.setting kd c.requires.fits) at.ensures.same at.ensures.grown at.ensures.legal in
+    let h = came old c.start.new.self mid c.args.of.now c.in-Ok.name kd c.in-Ok.ensures.ok c.in-Ok.ensures.legal c.in-Ok.ensures.alone (manages old.client.setting kd c.requires.fits) at.ensures.same at.ensures.grown at.ensures.legal in
     let client = ap (λ (v : View). v.client) c.in-Ok.ensures.ok.grown in
     let all = ap (λ (v : View). v.client) at.ensures.same ∙ client in
     λ how is. subst (λ (x : Client). MayEnter x mid.seen (by_client x (event.End c.in-Ok.name how))) (sym all)
@@ -35,7 +35,7 @@ returns-clause-ok c =
     let kd = c.args.kind.now in
     let at = c.come_to-came_to in
     let mid = at.new.self in
-    let h = came old c.start.new.self mid c.args.of.now c.in-Ok.name kd c.in-Ok.ensures.ok c.in-Ok.ensures.legal c.in-Ok.ensures.alone (manager_fits old.client.setting kd c.requires.fits) at.ensures.same at.ensures.grown at.ensures.legal in
+    let h = came old c.start.new.self mid c.args.of.now c.in-Ok.name kd c.in-Ok.ensures.ok c.in-Ok.ensures.legal c.in-Ok.ensures.alone (manages old.client.setting kd c.requires.fits) at.ensures.same at.ensures.grown at.ensures.legal in
     let client = ap (λ (v : View). v.client) at.ensures.same ∙ ap (λ (v : View). v.client) c.in-Ok.ensures.ok.grown in
     all_answers old c.start.new.self mid c.close.new.self c.args.of.now c.in-Ok.name kd at.result h client c.close.ensures.legal c.close.result c.close.ensures.ok
 
@@ -45,7 +45,7 @@ returns-clause-err c =
     let kd = c.args.kind.now in
     let at = c.come_to-came_to in
     let mid = at.new.self in
-    let h = came old c.start.new.self mid c.args.of.now c.in-Ok.name kd c.in-Ok.ensures.ok c.in-Ok.ensures.legal c.in-Ok.ensures.alone (manager_fits old.client.setting kd c.requires.fits) at.ensures.same at.ensures.grown at.ensures.legal in
+    let h = came old c.start.new.self mid c.args.of.now c.in-Ok.name kd c.in-Ok.ensures.ok c.in-Ok.ensures.legal c.in-Ok.ensures.alone (manages old.client.setting kd c.requires.fits) at.ensures.same at.ensures.grown at.ensures.legal in
     let started = ap (λ (v : View). v.client) c.in-Ok.ensures.ok.grown in
     let client = ap (λ (v : View). v.client) at.ensures.same ∙ started in
     all_fails old c.start.new.self mid c.close.new.self c.args.of.now c.in-Ok.name kd at.result h client c.close.ensures.legal

@@ -3,15 +3,15 @@ use Rattle.qc_config.specs.Config.{holds_write}
 use Rattle.qc_gather.specs.Told.{replied_in}
 use Rattle.qc_gather.specs.Heard.{next_of}
 use Rattle.qc_gather.specs.Gathered.{Putting}
-use Rattle.qc_gather.proofs.SameTest.{same_test}
 use Rattle.qc_gather.proofs.puts.Puts.next.Goals as goal
+use Rattle.qc_event.proofs.Booleans.{same_truth}
 
 pub returns-clause-next : goal.returns-clause-next
 returns-clause-next c = λ config phase told is.
     let was = c.self.view_is ∙ is in
     let heard = ap (λ (p : Putting). p.heard) was in
     let enough : c.has_write-enough.result ≡ holds_write config (replied_in told) =
-    same_test _ _ c.has_write-enough.ensures
+    same_truth _ _ c.has_write-enough.ensures
     ∙ ap (λ r. holds_write c.self.inside.config r) (c.replied.ensures told heard)
     ∙ ap (λ (p : Putting). holds_write p.config (replied_in told)) was in
     c.next.ensures.next told heard
