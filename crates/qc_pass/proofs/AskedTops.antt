@@ -1,5 +1,5 @@
 -- A top that was started is a user transaction, and may be aborted as it asked.
-use Rattle.std.proofs.Common.{◌≡◌, ℕ, ◌+◌, List, [], ◌∷◌, length, refl, sym, ap, ◌∙◌, subst, MatchBool, append-nil}
+use Rattle.std.proofs.Common.{◌≡◌, ℕ, ◌+◌, [], ◌∷◌, length, refl, sym, ap, ◌∙◌, subst, append-nil}
 use Rattle.std.specs.Prelude.{Option, None, Some, MatchOption, IsTrue, Result, Ok, Err, OnOk}
 use Rattle.qc_names.specs.Name as name
 use Rattle.qc_event.specs.declared.event.Cause.TheVariants as cause

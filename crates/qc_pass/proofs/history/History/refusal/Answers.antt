@@ -1,5 +1,4 @@
-use Rattle.std.proofs.Common.{◌≡◌, List, reverse, sym, ap, ◌∙◌, subst}
-use Rattle.qc_event.specs.declared.event.Entry.{Entry}
+use Rattle.std.proofs.Common.{◌≡◌, reverse, sym, ap, ◌∙◌, subst}
 use Rattle.qc_event.specs.History.{Past, refused}
 use Rattle.qc_event.specs.Legal.{Legal}
 use Rattle.qc_desk.specs.Index.{IsOf}
