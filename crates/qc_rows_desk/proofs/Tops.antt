@@ -1,5 +1,5 @@
 -- The first pass once its splits are joined back.
-use Rattle.std.proofs.Common.{◌≡◌, ℕ, ◌+◌, ◌<◌, ◌≤◌, ◌==◌, Bool, true, false, cond, nat_lt, ◌&&◌, List, [], ◌∷◌, refl, ap, ap₂, ◌∙◌, subst, eq-eqb, MatchBool}
+use Rattle.std.proofs.Common.{◌≡◌, ℕ, ◌+◌, ◌<◌, ◌==◌, Bool, true, false, cond, nat_lt, ◌&&◌, List, [], ◌∷◌, refl, ap, ap₂, ◌∙◌, subst, eq-eqb, MatchBool}
 use Rattle.qc_pass.specs.declared.view.View.{View}
 use Rattle.qc_pass.specs.Rules.{IsSplit, IsClient, without, knows, joined, pass, counted}
 

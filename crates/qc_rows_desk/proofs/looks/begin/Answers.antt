@@ -1,4 +1,4 @@
-use Rattle.std.proofs.Common.{length, sym, ap, ◌∙◌, refl}
+use Rattle.std.proofs.Common.{length, ap}
 use Rattle.qc_event.specs.Tables.{setting_of}
 use Rattle.qc_pass.proofs.AskedTops.{top_begun}
 use Rattle.qc_rows_desk.proofs.looks.begin.Goals as goal
