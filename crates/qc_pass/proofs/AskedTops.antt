@@ -35,12 +35,15 @@ begun setting epoch seat session body past n named legal =
     by_top : Legal setting (entry seat (event.Start (top_name epoch (length (children past []) + 1)) (kind.User session body)) ∷ past) → start (entry seat (event.Start (top_name epoch (length (children past []) + 1)) (kind.User session body)) ∷ past) (top_name epoch (length (children past []) + 1)) ≡ Some (record { seat = seat; kind = kind.User session body })
     by_top (was, may) = start_is (entry seat (event.Start (top_name epoch (length (children past []) + 1)) (kind.User session body))) past (top_name epoch (length (children past []) + 1)) (kind.User session body) may.fresh refl
 
--- the call that starts a top starts a user transaction
-pub top_begun : (setting : Setting) (epoch session body : ℕ) (v w : View) (n : Name) → EnteredAs against_nothing (IsTop epoch session body n) v w → Legal setting w.seen → Started w.seen n (λ b. IsUser b.kind)
-top_begun setting epoch session body v w n (before, ev, (named, is), since, none, same) legal =
+-- the start of a top stands once it was entered
+pub top_started : (setting : Setting) (epoch session body : ℕ) (v w : View) (n : Name) → EnteredAs against_nothing (IsTop epoch session body n) v w → Legal setting w.seen → start w.seen n ≡ Some (record { seat = v.number; kind = kind.User session body })
+top_started setting epoch session body v w n (before, ev, (named, is), since, none, same) legal =
     let seen : w.seen ≡ entry v.number (event.Start n (kind.User session body)) ∷ before = ap (λ (x : View). x.seen) same ∙ ap (λ e. entry v.number e ∷ before) is in
-    let here = begun setting epoch v.number session body before n named (subst (Legal setting) seen legal) in
-    subst (λ o. MatchOption o ⊥ (λ (b : Begun). IsUser b.kind)) (sym (ap (λ p. start p n) seen ∙ here)) tt
+    ap (λ p. start p n) seen ∙ begun setting epoch v.number session body before n named (subst (Legal setting) seen legal)
+
+-- and is that of a user transaction
+pub top_begun : (setting : Setting) (epoch session body : ℕ) (v w : View) (n : Name) → EnteredAs against_nothing (IsTop epoch session body n) v w → Legal setting w.seen → Started w.seen n (λ b. IsUser b.kind)
+top_begun setting epoch session body v w n entered legal = subst (λ o. MatchOption o ⊥ (λ (b : Begun). IsUser b.kind)) (sym (top_started setting epoch session body v w n entered legal)) tt
 
 -- a user transaction may be aborted as it asked
 pub may_ask_abort : (setting : Setting) (past : Past) (seat : ℕ) (n : Name) → Started past n (λ b. IsUser b.kind) → Started past n (λ b. Licensed setting past seat n b b.kind (cause.Asked n))

@@ -37,7 +37,7 @@ use Rattle.qc_pass.proofs.Lasting.{is_stays}
 -- REQUESTS
 
 -- the request, and the seat under which it was made
-stands : (o : Option Asked) (ask : Ask) → option_map (λ (a : Asked). a.ask) o ≡ Some ask → (seat : ℕ) × (o ≡ Some (record { seat = seat; ask = ask }))
+pub stands : (o : Option Asked) (ask : Ask) → option_map (λ (a : Asked). a.ask) o ≡ Some ask → (seat : ℕ) × (o ≡ Some (record { seat = seat; ask = ask }))
 stands None ask h = absurd cc
 stands (Some a) ask h = let same : a.ask ≡ ask = cc in (a.seat, ap (λ x. Some (record { seat = a.seat; ask = x })) same)
 

@@ -133,7 +133,7 @@ module _ (setting : Setting) (past : Past) (copy : ℕ) where
       ∙ append-nil (grants (newer ++ past) copy) ∙ grants_same newer legal.0 all.1
 
   -- the access that asked this copy was granted nothing elsewhere
-  ungranted : (newer : Past) (n : Name) (a : Asked) → asked past n ≡ Some a → a.ask.copy ≡ copy → granted past n ≡ None → Legal setting (newer ++ past) → AreOthers (copy + 2) newer → granted (newer ++ past) n ≡ None
+  pub ungranted : (newer : Past) (n : Name) (a : Asked) → asked past n ≡ Some a → a.ask.copy ≡ copy → granted past n ≡ None → Legal setting (newer ++ past) → AreOthers (copy + 2) newer → granted (newer ++ past) n ≡ None
   ungranted [] n a is at none legal all = none
   ungranted (e ∷ newer) n a is at none legal all =
       ap₂ option_or (ungranted newer n a is at none legal.0 all.1) (by_event e.event legal.1)

@@ -1,2 +1,4 @@
 pub mod Tops
 pub mod Children
+pub mod Asking
+pub mod OneCopy

@@ -1,23 +1,40 @@
-//! Rows of a desk in threads. `tops N`: two clients start and abort N tops each, in threads of their own; then what
-//! stands in the history is printed, and whether it is legal. `looks`: a client marks the session of a top, aborts the
-//! top's child and makes the top ready; then what the desk tells is printed. Other lines are printed as they are.
+//! Rows of a desk. `tops N`: two clients start and abort N tops each, in threads of their own. `copy`: a copy refuses a
+//! request and grants another, and the ledger commits a top. Then what stands in the history is printed, and whether it
+//! is legal. `looks`: a client marks the session of a top, aborts the top's child and makes the top ready; then what the
+//! desk tells is printed. Other lines are printed as they are.
 #![tactic(auto)]
+
+ghost use Rattle.std.specs.Prelude.{◌≡◌, IfSome};
+ghost use Rattle.qc_rows_desk.specs.OneCopy.{config};
 
 mod clients;
 mod looks;
+mod scene;
 
 use clients::run;
 use looks::{Told, run_looks};
 use qc_audit::audit;
-use qc_event::{Base, Entry, Event};
+use qc_config::Config;
+use qc_event::{Base, Entry, Event, Kind};
+use scene::{one_vote, play_scene};
 use std::io;
 
-fn is_start(entry: &Entry) -> bool {
-    matches!(entry.event, Event::Start { .. })
+fn is_top(entry: &Entry) -> bool {
+    match entry.event {
+        Event::Start {
+            kind: Kind::User { .. },
+            ..
+        } => true,
+        _ => false,
+    }
 }
 
 fn is_end(entry: &Entry) -> bool {
     matches!(entry.event, Event::End { .. })
+}
+
+fn is_answer(entry: &Entry) -> bool {
+    matches!(entry.event, Event::Granted { .. } | Event::Refused { .. })
 }
 
 // How many tops each client starts, where the line says so.
@@ -28,15 +45,29 @@ fn tops_of(line: &str) -> Option<u32> {
     }
 }
 
-fn tell(rt: HostRuntime, tops: u32, base: &Base, entries: &[Entry]) -> io::Result<()> {
-    let started = entries.iter().filter(|entry| is_start(entry)).count();
+// The configuration of a copy's record, where the line says so.
+fn config_of(line: &str) -> Option<Config>
+    ensures { IfSome result (λ c. c ≡ config) }
+{
+    if line == "copy" { one_vote() } else { None }
+}
+
+fn tell(
+    rt: HostRuntime,
+    line: &str,
+    base: &Base,
+    firsts: &[Config],
+    entries: &[Entry],
+) -> io::Result<()> {
+    let started = entries.iter().filter(|entry| is_top(entry)).count();
     let ended = entries.iter().filter(|entry| is_end(entry)).count();
-    let word = match audit(base, &[], entries) {
+    let answers = entries.iter().filter(|entry| is_answer(entry)).count();
+    let word = match audit(base, firsts, entries) {
         Ok(()) => "legal",
         Err(_) => "not legal",
     };
     let all = entries.len();
-    println!(rt; "tops {tops}: {started} tops, {ended} ended, {all} entries, {word}")
+    println!(rt; "{line}: {started} tops, {ended} ended, {answers} answers, {all} entries, {word}")
 }
 
 fn tell_looks(rt: HostRuntime, told: &Told) -> io::Result<()> {
@@ -67,10 +98,15 @@ fn main(rt: HostRuntime) -> io::Result<()> {
             }
             continue;
         }
-        match tops_of(line.as_str()) {
-            Some(tops) => {
-                let (base, entries) = run(&rt, alloc, tops)?;
-                tell(rt, tops, &base, entries.as_slice())?;
+        if let Some(tops) = tops_of(line.as_str()) {
+            let (base, entries) = run(&rt, alloc, tops)?;
+            tell(rt, line.as_str(), &base, &[], entries.as_slice())?;
+            continue;
+        }
+        match config_of(line.as_str()) {
+            Some(config) => {
+                let (base, entries) = play_scene(&rt, alloc, &config)?;
+                tell(rt, line.as_str(), &base, &[config], entries.as_slice())?;
             }
             None => println!(rt; "{line}")?,
         }

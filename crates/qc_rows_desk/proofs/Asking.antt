@@ -1,0 +1,245 @@
+-- A manager that has just started may ask the one copy, through an access that has just started; and then no grant of
+-- it stands but that copy's.
+use Rattle.std.proofs.Common.{◌≡◌, ℕ, ◌+◌, ◌<◌, Bool, true, List, [], ◌∷◌, ◌++◌, length, refl, sym, ap, ap₂, ◌∙◌, subst, arith, append-nil}
+use Rattle.std.specs.Prelude.{Option, None, Some, MatchOption, IsTrue, find, is_some, is_none, if◌then◌else◌}
+use Rattle.std.specs.List.{AllByRecursion}
+use Rattle.std.specs.Option.{option_or, option_map}
+use Rattle.std.proofs.lemmas.Bool.{false_from_ne_true}
+use Rattle.qc_config.specs.declared.tuple.Op.TheVariants.{Get}
+use Rattle.qc_names.specs.Name as name
+use Rattle.qc_event.specs.declared.event.Ask.{Ask}
+use Rattle.qc_event.specs.declared.event.Event.{Event}
+use Rattle.qc_event.specs.declared.event.Event.TheVariants as event
+use Rattle.qc_event.specs.declared.event.Kind.{Kind}
+use Rattle.qc_event.specs.declared.event.Kind.TheVariants as kind
+use Rattle.qc_event.specs.Base.{Setting}
+use Rattle.qc_event.specs.History.{Past, Name, Asked, Begun, same, start, start_in, end, asked, ask_in, asks, granted, grant_in, children, is_child}
+use Rattle.qc_event.specs.Legal.{Legal, MayHappen}
+use Rattle.qc_event.specs.Manager.{stage, AtStage}
+use Rattle.qc_event.specs.Requests.{IsNextAsk, MayAsk}
+use Rattle.qc_event.specs.Seats.{is_client}
+use Rattle.qc_event.specs.Standing.{Started, IsManager}
+use Rattle.qc_event.specs.Starts.{Stands}
+use Rattle.qc_event.proofs.Absent.{same_is, same_itself, if_not}
+use Rattle.qc_event.proofs.LastNumber.{child_last, is_child-last, front_last, length_last}
+use Rattle.qc_event.proofs.Lawful.{lawful, started_some}
+use Rattle.qc_event.proofs.LegalOrderly.{legal_orderly}
+use Rattle.qc_event.proofs.Lineage.{IsFresh, fresh_child, fresh_below}
+use Rattle.qc_event.proofs.OneEntry.{some_or_none, start_is}
+use Rattle.qc_pass.specs.declared.refusal.DeskNo.{DeskNo}
+use Rattle.qc_pass.specs.declared.view.View.{View}
+use Rattle.qc_pass.specs.Calling.{Entered, EnteredAs}
+use Rattle.qc_pass.specs.Consulting.{HasAsked}
+use Rattle.qc_pass.specs.Entries.{IsOlder, IsSince, entry}
+use Rattle.qc_pass.specs.Refusing.{against_nothing, against_child, against_access}
+use Rattle.qc_pass.specs.Own.{IsMine, MayAskOwn}
+use Rattle.qc_pass.proofs.Lasting.{is_stays}
+use Rattle.qc_pass.proofs.Seers.{older_trans}
+use Rattle.qc_pass.proofs.OwnSince.{asks_same}
+use Rattle.qc_pass.proofs.Requests.{IsOwn, asks_own}
+use Rattle.qc_rows_desk.specs.OneCopy.{IsRequest}
+use Rattle.qc_rows_desk.proofs.OneCopy.{at_first}
+use Rattle.qc_rows_desk.proofs.OneCopy as one_copy
+use Rattle.qc_pass.proofs.AskedTops.{IsTop, top_started}
+
+-- WHAT WAS NOT STARTED
+
+before_none : {X : Type 0} (a b : Option X) → option_or a b ≡ None → a ≡ None
+before_none None b h = refl
+before_none (Some x) b h = absurd cc
+
+asked_none : (setting : Setting) (past : Past) (n : Name) → Legal setting past → start past n ≡ None → asked past n ≡ None
+asked_none setting [] n legal none = refl
+asked_none setting (e ∷ past) n legal none = ap₂ option_or (asked_none setting past n legal.0 was) (by_event e.event legal.1)
+  where
+    was : start past n ≡ None
+    was = before_none (start past n) (start_in n e.seat e.event) none
+
+    by_event : (ev : Event) → MayHappen setting past e.seat ev → ask_in n e.seat ev ≡ None
+    by_event (event.Ask ask) h = if_not (same ask.access n) _ (false_from_ne_true (same ask.access n) (λ is. some_or_none (start past n) (subst (λ x. is_some (start past x) ≡ true) (same_is ask.access n is) (started_some _ (start past ask.access) h.started)) was))
+    by_event _ h = refl
+
+granted_none : (setting : Setting) (past : Past) (n : Name) → Legal setting past → asked past n ≡ None → granted past n ≡ None
+granted_none setting [] n legal none = refl
+granted_none setting (e ∷ past) n legal none = ap₂ option_or (granted_none setting past n legal.0 was) (by_event e.event legal.1)
+  where
+    was : asked past n ≡ None
+    was = before_none (asked past n) (ask_in n e.seat e.event) none
+
+    some_match : {X : Type 0} (o : Option X) (P : X → Type 0) → MatchOption o ⊥ P → o ≡ None → ⊥
+    some_match None P h is = h
+    some_match (Some x) P h is = absurd cc
+
+    by_event : (ev : Event) → MayHappen setting past e.seat ev → grant_in n ev ≡ None
+    by_event (event.Granted c g) h = if_not (same g.access n) _ (false_from_ne_true (same g.access n) (λ is. some_match (asked past n) _ (subst (λ x. MatchOption (asked past x) ⊥ (λ (a : Asked). a.ask ≡ record { access = g.access; copy = c; rec = g.rec; op = g.op })) (same_is g.access n is) h.request) was))
+    by_event _ h = refl
+
+none_asked : (past : Past) (m : Name) (requests : List Ask) → AllByRecursion (IsOwn past m) requests → ((c : Name) → is_child m c ≡ true → start past c ≡ None) → requests ≡ []
+none_asked past m [] own none = refl
+none_asked past m (a ∷ rest) own none = absurd (some_or_none (start past a.access) own.0.started (none a.access own.0.child))
+
+-- CHILDREN
+
+-- A pass under this number has started this child.
+pub record IsChild (setting : Setting) (seat : ℕ) (p : Name) (k : Kind) (v w : View) (n : Name) : Type 0 where
+  pub before : Past
+  pub place : ℕ
+  pub named : n ≡ p ++ place ∷ []
+  pub since : IsSince seat v.seen before
+  pub seen : w.seen ≡ entry seat (event.Start n k) ∷ before
+  pub legal : Legal setting (entry seat (event.Start n k) ∷ before)
+  pub fresh : IsFresh before n
+
+abbrev pub IsNext : Name → Kind → Name → Past → Event → Type 0
+IsNext p k n past ev = (n ≡ p ++ (length (children past p) + 1) ∷ []) × (ev ≡ event.Start n k)
+
+pub child_of : (setting : Setting) (against : Past → Option DeskNo) (seat : ℕ) (p : Name) (k : Kind) (v w : View) (n : Name) → EnteredAs against (IsNext p k n) v w → Legal setting w.seen → v.number ≡ seat → 0 < length p → IsChild setting seat p k v w n
+child_of setting against seat p k v w n (before, ev, (named, is), since, none, same) legal number long = record {
+  before = before;
+  place = length (children before p) + 1;
+  named = named;
+  since = subst (λ s. IsSince s v.seen before) number since;
+  seen = seen;
+  legal = here;
+  fresh = subst (IsFresh before) (sym named) (fresh_child before p (length (children before p) + 1) [] (lawful before (legal_orderly setting before here.0)) long (omega arith));
+}
+  where
+    seen : w.seen ≡ entry seat (event.Start n k) ∷ before
+    seen = ap (λ (x : View). x.seen) same ∙ (λ i. entry (number i) (is i) ∷ before)
+
+    here : Legal setting (entry seat (event.Start n k) ∷ before)
+    here = subst (Legal setting) seen legal
+
+module _ (setting : Setting) (seat : ℕ) (p : Name) (k : Kind) (v w : View) (n : Name) (c : IsChild setting seat p k v w n) where
+  pub begun : start w.seen n ≡ Some (record { seat = seat; kind = k })
+  begun = ap (λ past. start past n) c.seen ∙ start_is (entry seat (event.Start n k)) c.before n k c.fresh.no_start refl
+
+  pub is_child_of : is_child p n ≡ true
+  is_child_of = ap (is_child p) c.named ∙ is_child-last p c.place
+
+  pub long : 0 < length n
+  long = omega (arith, ap length c.named, length_last p c.place)
+
+  pub still_open : end w.seen n ≡ None
+  still_open = ap (λ past. end past n) c.seen ∙ ap (λ o. option_or o None) c.fresh.no_end
+
+  pub not_asked : asked w.seen n ≡ None
+  not_asked = ap (λ past. asked past n) c.seen ∙ ap (λ o. option_or o None) (asked_none setting c.before n c.legal.0 c.fresh.no_start)
+
+  -- it has asked nothing
+  pub no_asks : asks w.seen n ≡ []
+  no_asks = ap (λ past. asks past n) c.seen ∙ append-nil (asks c.before n) ∙ none_asked c.before n (asks c.before n) (asks_own setting c.before n c.legal.0) unstarted
+    where
+      unstarted : (x : Name) → is_child n x ≡ true → start c.before x ≡ None
+      unstarted x is =
+          let l = child_last n x is in
+          ap (start c.before) l.1 ∙ (fresh_below c.before n (l.0 ∷ []) (lawful c.before (legal_orderly setting c.before c.legal.0)) long c.fresh.no_start).no_start
+
+-- THE REQUEST
+
+module _ (setting : Setting) (seat : ℕ) (p m a : Name) (rec : ℕ) (v w x : View)
+    (manager : IsChild setting seat p (kind.Read rec) v w m) (access : IsChild setting seat m kind.Access w x a) where
+  mine_then : IsMine w.seen seat m
+  mine_then = subst (λ o. MatchOption o ⊥ (λ (b : Begun). IsManager b.kind × (b.seat ≡ seat))) (sym (begun setting seat p (kind.Read rec) v w m manager)) (tt, refl)
+
+  older : x.seen ≡ (entry seat (event.Start a kind.Access) ∷ access.since.0) ++ w.seen
+  older = access.seen ∙ ap (λ past. entry seat (event.Start a kind.Access) ∷ past) access.since.1
+
+  no_asks_still : asks x.seen m ≡ []
+  no_asks_still =
+      ap (λ past. asks past m) access.seen ∙ append-nil (asks access.before m)
+      ∙ ap (λ past. asks past m) access.since.1
+      ∙ asks_same setting w.seen seat m mine_then access.since.0 (subst (Legal setting) access.since.1 access.legal.0) access.since.2
+      ∙ no_asks setting seat p (kind.Read rec) v w m manager
+
+  begun_still : start x.seen m ≡ Some (record { seat = seat; kind = kind.Read rec })
+  begun_still = ap (λ past. start past m) older ∙ is_stays (λ e. start_in m e.seat e.event) (entry seat (event.Start a kind.Access) ∷ access.since.0) w.seen (record { seat = seat; kind = kind.Read rec }) (begun setting seat p (kind.Read rec) v w m manager)
+
+  pub may_ask : (ask : Ask) → ask.access ≡ a → IsTrue (is_client seat) → (asks x.seen m ≡ [] → AtStage setting x.seen m (kind.Read rec) (IsNextAsk x.seen m (kind.Read rec) ask)) → MayAskOwn setting x.seen seat m ask
+  may_ask ask is client stage = record {
+    by_client = client;
+    child = ap (is_child m) is ∙ is_child_of setting seat m kind.Access w x a access;
+    mine = subst (λ o. MatchOption o ⊥ (λ (b : Begun). IsManager b.kind × (b.seat ≡ seat))) (sym begun_still) (tt, refl);
+    started = subst (λ o. MatchOption o ⊥ (λ (b : Begun). (b.seat ≡ seat) × (b.kind ≡ kind.Access))) (sym here) (refl, refl);
+    is_open = record { started = ap is_some here; not_ended = ap (end x.seen) is ∙ still_open setting seat m kind.Access w x a access };
+    not_asked = ap (asked x.seen) is ∙ not_asked setting seat m kind.Access w x a access;
+    nothing_open = ap (find (λ (r : Ask). is_none (end x.seen r.access))) no_asks_still;
+    of_stage = subst (λ o. MatchOption o ⊥ (λ (b : Begun). AtStage setting x.seen m b.kind (IsNextAsk x.seen m b.kind ask))) (sym begun_still) (stage no_asks_still);
+  }
+    where
+      here : start x.seen ask.access ≡ Some (record { seat = seat; kind = kind.Access })
+      here = ap (start x.seen) is ∙ begun setting seat m kind.Access w x a access
+
+-- what was asked stands, and was granted nothing
+pub has_asked : (setting : Setting) (against : Past → Option DeskNo) (v w : View) (ask : Ask) → Entered against (event.Ask ask) v w → Legal setting w.seen → HasAsked w.seen ask × (granted w.seen ask.access ≡ None)
+has_asked setting against v w ask (before, since, none, same) legal = (
+  ap (λ past. option_map (λ (a : Asked). a.ask) (asked past ask.access)) seen
+      ∙ ap (λ o. option_map (λ (a : Asked). a.ask) (option_or o (ask_in ask.access v.number (event.Ask ask)))) may.not_asked
+      ∙ ap (λ (b : Bool). option_map (λ (a : Asked). a.ask) (if b then Some (record { seat = v.number; ask = ask }) else None)) (same_itself ask.access),
+  ap (λ past. granted past ask.access) seen ∙ ap (λ o. option_or o None) (granted_none setting before ask.access here.0 may.not_asked),
+)
+  where
+    seen : w.seen ≡ entry v.number (event.Ask ask) ∷ before
+    seen = ap (λ (x : View). x.seen) same
+
+    here : Legal setting (entry v.number (event.Ask ask) ∷ before)
+    here = subst (Legal setting) seen legal
+
+    may : MayAsk setting before v.number ask
+    may = here.1
+
+-- A CLIENT'S WAY TO A REQUEST
+
+older_as : (against : Past → Option DeskNo) (Is : Past → Event → Type 0) (v w : View) → EnteredAs against Is v w → IsOlder v.seen w.seen
+older_as against Is v w (before, ev, is, since, none, same) = (entry v.number ev ∷ since.0, ap (λ (x : View). x.seen) same ∙ ap (λ p. entry v.number ev ∷ p) since.1)
+
+pub number_as : (against : Past → Option DeskNo) (Is : Past → Event → Type 0) (v w : View) → EnteredAs against Is v w → w.number ≡ v.number
+number_as against Is v w (before, ev, is, since, none, same) = ap (λ (x : View). x.number) same
+
+pub older_by : (against : Past → Option DeskNo) (ev : Event) (v w : View) → Entered against ev v w → IsOlder v.seen w.seen
+older_by against ev v w (before, since, none, same) = (entry v.number ev ∷ since.0, ap (λ (x : View). x.seen) same ∙ ap (λ p. entry v.number ev ∷ p) since.1)
+
+abbrev pub StartsManager : Name → Name → View → View → Type 0
+StartsManager top manager v w = EnteredAs (against_child top) (IsNext top (kind.Read 0) manager) v w
+
+abbrev pub StartsAccess : Name → Name → View → View → Type 0
+StartsAccess manager access w x = EnteredAs (against_child manager) (IsNext manager kind.Access access) w x
+
+abbrev pub request : Name → Ask
+request access = record { access = access; copy = 0; rec = 0; op = Get }
+
+module _ (s : Setting) (is : s ≡ one_copy.setting) (top manager : Name) (v w : View) (m : StartsManager top manager v w) (legal : Legal s w.seen) (long_top : 0 < length top) where
+  pub stands_below : Started w.seen manager (λ p. Stands s w.number p (length manager + 1) kind.Access)
+  stands_below =
+      let c = child_of s (against_child top) w.number top (kind.Read 0) v w manager m legal (sym (number_as _ _ v w m)) long_top in
+      subst (λ o. MatchOption o ⊥ (λ p. Stands s w.number p (length manager + 1) kind.Access)) (sym (begun s w.number top (kind.Read 0) v w manager c)) (tt, refl)
+
+  pub own_request : (access : Name) (x : View) → StartsAccess manager access w x → Legal s x.seen → IsTrue (is_client x.number) → MayAskOwn s x.seen x.number (name.front access) (request access)
+  own_request access x a legal_x client =
+      let at_w : w.number ≡ x.number = sym (number_as _ _ w x a) in
+      let c = child_of s (against_child top) x.number top (kind.Read 0) v w manager m legal (sym (number_as _ _ v w m) ∙ at_w) long_top in
+      let d = child_of s (against_child manager) x.number manager kind.Access w x access a legal_x at_w (long s x.number top (kind.Read 0) v w manager c) in
+      let front : name.front access ≡ manager = ap name.front d.named ∙ front_last manager d.place in
+      subst (λ y. MayAskOwn s x.seen x.number y (request access)) (sym front)
+      (may_ask s x.number top manager access 0 v w x c d (request access) refl client
+      (λ none. subst (λ t. AtStage t x.seen manager (kind.Read 0) (IsNextAsk x.seen manager (kind.Read 0) (request access))) (sym is) (at_first x.seen manager (request access) refl refl refl none)))
+
+-- what stands then
+pub is_request : (s : Setting) (epoch : ℕ) (top manager access : Name) (u v w x y : View) → EnteredAs against_nothing (IsTop epoch 0 0 top) u v → StartsManager top manager v w → StartsAccess manager access w x
+    → Entered (against_access access) (event.Ask (request access)) x y → Legal s v.seen → Legal s y.seen → IsRequest y.seen u.number top (request access) × IsOlder u.seen y.seen
+is_request s epoch top manager access u v w x y t m a q legal_v legal_y = (
+  record {
+    begun = ap (λ p. start p top) later.1 ∙ is_stays (λ e. start_in top e.seat e.event) later.0 v.seen (record { seat = u.number; kind = kind.User 0 0 }) (top_started s epoch 0 0 u v top t legal_v);
+    asked = asks.0;
+    to_copy = refl;
+    ungranted = asks.1;
+  },
+  older_trans u.seen v.seen y.seen (older_as against_nothing (IsTop epoch 0 0 top) u v t) later,
+)
+  where
+    later : IsOlder v.seen y.seen
+    later = older_trans v.seen w.seen y.seen (older_as (against_child top) (IsNext top (kind.Read 0) manager) v w m)
+        (older_trans w.seen x.seen y.seen (older_as (against_child manager) (IsNext manager kind.Access access) w x a) (older_by (against_access access) (event.Ask (request access)) x y q))
+
+    asks : HasAsked y.seen (request access) × (granted y.seen access ≡ None)
+    asks = has_asked s (against_access access) x y (request access) q legal_y

@@ -1,0 +1,32 @@
+-- What the scene of a copy runs over: one record at one copy, which has the one vote.
+use Rattle.std.specs.Prelude.{ℕ, ◌≡◌, List, [], ◌∷◌, None, Some}
+use Rattle.qc_config.specs.Config.{Voting}
+use Rattle.qc_config.specs.declared.tuple.Tuple.{Tuple}
+use Rattle.qc_event.specs.declared.event.Ask.{Ask}
+use Rattle.qc_event.specs.declared.event.Kind.TheVariants as kind
+use Rattle.qc_event.specs.declared.table.Table.{Table}
+use Rattle.qc_event.specs.History.{Past, Name, granted, start as start_of}
+use Rattle.qc_pass.specs.Consulting.{HasAsked}
+
+abbrev pub config : Voting
+config = record { votes = 1 ∷ []; read = 1; write = 1 }
+
+abbrev pub first : Tuple
+first = record { version = 0; value = 0; generation = 0; config = config }
+
+-- the copy's tuples as it starts
+abbrev pub start : List Tuple
+start = first ∷ []
+
+abbrev pub base : List (List Tuple)
+base = start ∷ []
+
+abbrev pub table : Table
+table = record { copies = 1; records = record { name = []; start = 0; config = config } ∷ [] }
+
+-- A top was started under this seat, and this request stands below it, to the copy, which has not granted it.
+pub record IsRequest (past : Past) (seat : ℕ) (top : Name) (ask : Ask) : Type 0 where
+  pub begun : start_of past top ≡ Some (record { seat = seat; kind = kind.User 0 0 })
+  pub asked : HasAsked past ask
+  pub to_copy : ask.copy ≡ 0
+  pub ungranted : granted past ask.access ≡ None
