@@ -1,19 +1,19 @@
 -- What a copy may enter of a request that stands in the history, at whatever time it comes.
-use Rattle.std.proofs.Common.{◌≡◌, ℕ, ◌+◌, length, refl, sym, ap, subst}
-use Rattle.std.specs.Prelude.{Option, None, Some, MatchOption, IfNone}
+use Rattle.std.proofs.Common.{◌≡◌, ℕ, length, refl, sym, subst}
+use Rattle.std.specs.Prelude.{None, Some, MatchOption, IfNone}
 use Rattle.qc_config.specs.declared.tuple.Op.{Op}
 use Rattle.qc_config.specs.declared.tuple.Op.TheVariants.{Get, PutData, PutConfig}
 use Rattle.qc_config.specs.declared.tuple.Tuple.{Tuple}
 use Rattle.qc_config.specs.Tuple.{after}
 use Rattle.qc_event.specs.declared.event.Ask.{Ask}
 use Rattle.qc_event.specs.declared.event.Refusal.{Refusal}
-use Rattle.qc_event.specs.Base.{Setting, start_tuple, IsProper}
+use Rattle.qc_event.specs.Base.{Setting, start_tuple}
 use Rattle.qc_event.specs.Dead.{dead}
 use Rattle.qc_event.specs.Grants.{Sets, IsServed, IsRefusal, MayGrant, MayRefuse}
 use Rattle.qc_event.specs.History.{Past, Asked, asked, granted}
 use Rattle.qc_event.specs.Legal.{Legal}
 use Rattle.qc_event.specs.Seats.{copy_seat}
-use Rattle.qc_event.specs.Seen.{seen, holder}
+use Rattle.qc_event.specs.Seen.{seen}
 use Rattle.qc_copy.specs.State.{grant_with}
 use Rattle.qc_copy.proofs.Sized.{IsSized, OpSized, after_sized, seen_sized}
 

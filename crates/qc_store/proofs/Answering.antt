@@ -1,24 +1,19 @@
 -- What a copy may answer to a request that stands in the history, at whatever time it comes: the entry may be made,
 -- and then tells what was answered.
-use Rattle.std.proofs.Common.{◌≡◌, ℕ, ◌+◌, Bool, ◌∷◌, length, refl, sym, ap, ◌∙◌, subst, arith}
-use Rattle.std.specs.Prelude.{None, Some, MatchOption, IfNone, if◌then◌else◌}
+use Rattle.std.proofs.Common.{◌≡◌, ℕ, Bool, ◌∷◌, length, refl, ap, ◌∙◌, arith}
+use Rattle.std.specs.Prelude.{None, Some, if◌then◌else◌}
 use Rattle.std.specs.Option.{option_or}
 use Rattle.std.specs.List.{Contains}
-use Rattle.qc_config.specs.declared.tuple.Op.{Op}
-use Rattle.qc_config.specs.declared.tuple.Op.TheVariants.{Get, PutData, PutConfig}
 use Rattle.qc_config.specs.declared.tuple.Tuple.{Tuple}
-use Rattle.qc_config.specs.Tuple.{after}
 use Rattle.qc_event.specs.declared.event.Answered.TheVariants as answered
 use Rattle.qc_event.specs.declared.event.Ask.{Ask}
-use Rattle.qc_event.specs.declared.event.Grant.{Grant}
 use Rattle.qc_event.specs.declared.event.Refusal.{Refusal}
 use Rattle.qc_event.specs.declared.event.Refusal.TheVariants.{Blocked, Dead}
 use Rattle.qc_event.specs.Base.{Setting, start_tuple}
 use Rattle.qc_event.specs.Dead.{dead}
-use Rattle.qc_event.specs.Grants.{Sets, IsServed, IsRefusal, MayGrant, MayRefuse}
-use Rattle.qc_event.specs.History.{Past, Name, Asked, Given, asked, granted, grant_in}
+use Rattle.qc_event.specs.History.{Past, Name, Given, asked, granted, grant_in}
 use Rattle.qc_event.specs.Legal.{Legal, Allowed}
-use Rattle.qc_event.specs.Seen.{seen, holder}
+use Rattle.qc_event.specs.Seen.{holder}
 use Rattle.qc_event.proofs.Absent.{same_itself}
 use Rattle.qc_copy.proofs.Allowing as allowing
 use Rattle.qc_store.specs.Served.{HasAnswered, grant_entry, refusal_entry}

@@ -11,9 +11,9 @@ returns-in-Held-clause-verdict g c = λ past given tells follows.
     let ask = c.args.ask.now in
     let settled = c.settle_by.ensures in
     sym (held_told past (state_of ask.copy c.args.locks.now given) ask c.settle_by.new.self c.in-Held.first
-        (record { follows = settled.follows past given tells follows; settled = settled.settled past tells; same_start = settled.start })
-        (sym (c.dead.ensures past tells) ∙ c.in_default.is)
-        (ap (test_of c.settle_by.new.self ask.access ask.rec) (sym c.is_write.ensures) ∙ sym c.test.ensures ∙ c.in-Held.is))
+    (record { follows = settled.follows past given tells follows; settled = settled.settled past tells; same_start = settled.start })
+    (sym (c.dead.ensures past tells) ∙ c.in_default.is)
+    (ap (test_of c.settle_by.new.self ask.access ask.rec) (sym c.is_write.ensures) ∙ sym c.test.ensures ∙ c.in-Held.is))
 
 pub returns-in-Free-clause-verdict : goal.returns-in-Free-clause-verdict
 returns-in-Free-clause-verdict g c = λ past given tells follows.
@@ -21,6 +21,6 @@ returns-in-Free-clause-verdict g c = λ past given tells follows.
     let settled = c.settle_by.ensures in
     ap (λ t. verdicts.Free t) (c.after.ensures ∙ ap (λ t. after t ask.op) c.seen_by.ensures)
     ∙ sym (free_told past (state_of ask.copy c.args.locks.now given) ask c.settle_by.new.self
-        (record { follows = settled.follows past given tells follows; settled = settled.settled past tells; same_start = settled.start })
-        (sym (c.dead.ensures past tells) ∙ c.in_default.is)
-        (ap (test_of c.settle_by.new.self ask.access ask.rec) (sym c.is_write.ensures) ∙ sym c.test.ensures ∙ c.in-Free.is))
+    (record { follows = settled.follows past given tells follows; settled = settled.settled past tells; same_start = settled.start })
+    (sym (c.dead.ensures past tells) ∙ c.in_default.is)
+    (ap (test_of c.settle_by.new.self ask.access ask.rec) (sym c.is_write.ensures) ∙ sym c.test.ensures ∙ c.in-Free.is))

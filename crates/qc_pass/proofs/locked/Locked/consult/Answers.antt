@@ -39,7 +39,7 @@ enter-requires-clause-allowed g c = λ none.
     let said = c.consult_locks-verdict.ensures.verdict h (grants h ask.copy) refl r.follows in
     refusal_allowed setting h ask r.has c.look.new.pass.number c.in-Some.refusal (ap (λ (x : View). x.number) r.is ∙ c.requires.copy.1)
     (has_reason setting h ask c.consult_locks-verdict.result c.in-Some.refusal (sym c.refusal_of.ensures ∙ c.in-Some.is)
-        (verdict_stands setting h ask r.has c.requires.proper r.legal c.args.locks.now c.requires.start c.consult_locks-verdict.result said))
+    (verdict_stands setting h ask r.has c.requires.proper r.legal c.args.locks.now c.requires.start c.consult_locks-verdict.result said))
 
 pub returns-in_err-enter-clause-follows : goal.returns-in_err-enter-clause-follows
 returns-in_err-enter-clause-follows g c =
