@@ -2,6 +2,7 @@
 #![tactic(auto)]
 
 mod program;
+mod start;
 mod status;
 mod words;
 

@@ -1,10 +1,9 @@
 //! The top call: all that the program does, over the streams that it is handed.
 ghost use Rattle.std.specs.Prelude.{ℕ, List, ⊤, ◌≡◌, ◌≤◌, ◌⊎◌, [], false, true, length, map, reverse, string_bytes, Some, IfSome, IfOk};
 ghost use Rattle.qc_event.specs.History.{limit};
-ghost use Rattle.qc_event.specs.Base.{IsProper as IsProperSetting};
 ghost use Rattle.qc_event.specs.Legal.{Legal};
 ghost use Rattle.qc_event.specs.Sound.{IsSound};
-ghost use Rattle.qc_event.specs.Tables.{base_of, first_configs, first_tuple, first_values, setting_of};
+ghost use Rattle.qc_event.specs.Tables.{base_of, first_values, setting_of};
 ghost use Rattle.qc_script.specs.Plan.{ScriptPlan};
 ghost use Rattle.qc_script.specs.Steps.{plan_of_script};
 ghost use Rattle.qc_run.specs.FaultLine.{fault_line};
@@ -14,55 +13,14 @@ ghost use Rattle.qc_run.specs.Run as terms;
 ghost use Rattle.qc_run.specs.Words as line;
 
 use crate::io::{Sink, Source, Untaken, take_all, write_all};
+use crate::start::open;
 use crate::status::{ROOM_LINE, Status, fault_line};
 use crate::words::is_command;
-use qc_client::{Client, LoneClient};
-use qc_event::{Base, CLIENT_SEAT, Config, Entry, Row, Short, Table, Tuple};
+use qc_client::LoneClient;
+use qc_event::{Base, Entry, Short, Table};
 use qc_report::{History, finals, report};
 use qc_script::{BadScript, MOST_BYTES, Script};
 use std::alloc::{AllocError, Global};
-
-fn first_tuples(alloc: Global, rows: &[Row]) -> Result<Vec<Tuple>, AllocError>
-    ensures { IfOk result (λ v. v.items ≡ map first_tuple rows.now) }
-{
-    rows.iter()
-        .map(|row| Tuple {
-            version: 0,
-            value: row.start,
-            generation: 0,
-            config: row.config,
-        })
-        .collect(alloc)
-}
-
-fn base_of(alloc: Global, table: &Table) -> Result<Base, AllocError>
-    ensures { IfOk result (λ b. b ≡ base_of table.now) }
-{
-    let mut copies = Vec::new(alloc);
-    for _ in 0..table.copies {
-        copies.push(first_tuples(alloc, table.records.as_slice())?)?;
-    }
-    Ok(Base::new(copies))
-}
-
-/// The client of the one session of a run, in the first epoch.
-const FIRST_CLIENT: Client = Client {
-    seat: CLIENT_SEAT,
-    session: 0,
-    epoch: 1,
-};
-
-// The first configuration of each record.
-fn configs_of(alloc: Global, table: &Table) -> Result<Vec<Config>, AllocError>
-    ensures { IfOk result (λ v. v.items ≡ first_configs table.now) }
-{
-    table
-        .records
-        .as_slice()
-        .iter()
-        .map(|row| row.config)
-        .collect(alloc)
-}
 
 /// What a run answers: how it ended, the tuples from which it started, and its history, the oldest
 /// entry first.
@@ -122,8 +80,10 @@ fn conclude<K: Sink>(alloc: Global, table: &Table, client: &LoneClient, sink: &m
     requires copies { length client.now.client.setting.base ≤ 16 }
     requires records { length table.now.records ≤ 64 }
     ensures answer { terms.IsConcluded result }
-    ensures done { result ≡ Status.Done → Appends (K.taken sink.old) (K.taken sink.new) (terms.page table.now client.now) }
-    ensures front { result ≡ Status.WriteFault → AppendsFront (K.taken sink.old) (K.taken sink.new) (terms.page table.now client.now) }
+    ensures done { result ≡ Status.Done
+        → Appends (K.taken sink.old) (K.taken sink.new) (terms.page table.now client.now) }
+    ensures front { result ≡ Status.WriteFault → AppendsFront (K.taken sink.old) (K.taken sink.new)
+        (terms.page table.now client.now) }
     ensures short { result ≡ Status.Memory → Keeps (K.taken sink.old) (K.taken sink.new) }
     ensures fault { result ≡ Status.WriteFault → Rose (K.faults sink.old) (K.faults sink.new) }
     ensures faults { K.faults sink.old ≤ K.faults sink.new }
@@ -135,19 +95,6 @@ fn conclude<K: Sink>(alloc: Global, table: &Table, client: &LoneClient, sink: &m
         },
         Err(AllocError) => Status::Memory,
     }
-}
-
-// The client of a script's session, over the first tuples of the script's table and the session's network.
-fn open(alloc: Global, script: &Script) -> Result<LoneClient, AllocError>
-    requires proper { IsProperSetting (setting_of script.now.table (base_of script.now.table)) }
-    requires hold { 1 ≤ script.now.session.hold }
-    ensures { IfOk result (λ client. client ≡ terms.fresh (plan_of_script script.now)) }
-{
-    let firsts = configs_of(alloc, &script.table)?;
-    let start = base_of(alloc, &script.table)?;
-    let fates = script.session.fates.clone()?;
-    let (hold, patience) = (script.session.hold, script.patience);
-    LoneClient::new(alloc, FIRST_CLIENT, firsts, start, fates, hold, patience)
 }
 
 // Ends a run that stopped since memory ran out or the history is full. To tell of the latter takes no memory.
@@ -178,12 +125,15 @@ fn proceed<K: Sink>(alloc: Global, script: &Script, mut client: LoneClient, sink
     ensures answer { terms.IsPerformed result.status }
     ensures done { result.status ≡ Status.Done → Appends (K.taken sink.old) (K.taken sink.new)
         (terms.report_of (plan_of_script script.now) result.start result.trail.items) }
-    ensures front { result.status ≡ Status.WriteFault → AppendsFront (K.taken sink.old) (K.taken sink.new)
+    ensures front { result.status ≡ Status.WriteFault
+        → AppendsFront (K.taken sink.old) (K.taken sink.new)
         (terms.report_of (plan_of_script script.now) result.start result.trail.items) }
-    ensures told { terms.IsTold result.status → terms.TellsFault (K.taken sink.old) (K.taken sink.new)
+    ensures told { terms.IsTold result.status
+        → terms.TellsFault (K.taken sink.old) (K.taken sink.new)
         (K.faults sink.old) (K.faults sink.new) result.status }
     ensures short { result.status ≡ Status.Memory → Keeps (K.taken sink.old) (K.taken sink.new) }
-    ensures fault { result.status ≡ Status.WriteFault → Rose (K.faults sink.old) (K.faults sink.new) }
+    ensures fault { result.status ≡ Status.WriteFault
+        → Rose (K.faults sink.old) (K.faults sink.new) }
     ensures room { result.status ≡ Status.Room → length result.trail.items ≡ limit }
     ensures faults { K.faults sink.old ≤ K.faults sink.new }
 {
@@ -211,12 +161,15 @@ fn perform<K: Sink>(alloc: Global, script: &Script, sink: &mut K) -> Ran
     ensures answer { terms.IsPerformed result.status }
     ensures done { result.status ≡ Status.Done → Appends (K.taken sink.old) (K.taken sink.new)
         (terms.report_of (plan_of_script script.now) result.start result.trail.items) }
-    ensures front { result.status ≡ Status.WriteFault → AppendsFront (K.taken sink.old) (K.taken sink.new)
+    ensures front { result.status ≡ Status.WriteFault
+        → AppendsFront (K.taken sink.old) (K.taken sink.new)
         (terms.report_of (plan_of_script script.now) result.start result.trail.items) }
-    ensures told { terms.IsTold result.status → terms.TellsFault (K.taken sink.old) (K.taken sink.new)
+    ensures told { terms.IsTold result.status
+        → terms.TellsFault (K.taken sink.old) (K.taken sink.new)
         (K.faults sink.old) (K.faults sink.new) result.status }
     ensures short { result.status ≡ Status.Memory → Keeps (K.taken sink.old) (K.taken sink.new) }
-    ensures fault { result.status ≡ Status.WriteFault → Rose (K.faults sink.old) (K.faults sink.new) }
+    ensures fault { result.status ≡ Status.WriteFault
+        → Rose (K.faults sink.old) (K.faults sink.new) }
     ensures room { result.status ≡ Status.Room → length result.trail.items ≡ limit }
     ensures faults { K.faults sink.old ≤ K.faults sink.new }
 {
@@ -232,7 +185,8 @@ fn refuse<K: Sink>(alloc: Global, status: Status, sink: &mut K) -> Ran
     ensures answer { terms.IsOrMemory status result.status }
     ensures start { result.start ≡ [] }
     ensures trail { result.trail.items ≡ [] }
-    ensures told { terms.IsTold result.status → terms.TellsFault (K.taken sink.old) (K.taken sink.new)
+    ensures told { terms.IsTold result.status
+        → terms.TellsFault (K.taken sink.old) (K.taken sink.new)
         (K.faults sink.old) (K.faults sink.new) result.status }
     ensures short { result.status ≡ Status.Memory → Keeps (K.taken sink.old) (K.taken sink.new) }
     ensures faults { K.faults sink.old ≤ K.faults sink.new }
@@ -253,13 +207,17 @@ fn over<K: Sink>(alloc: Global, bytes: &[u8], sink: &mut K) -> Ran
     ensures answer { terms.IsOver result.status }
     ensures refused { terms.IsScriptFault (Some bytes.now) result.status }
     ensures done { result.status ≡ Status.Done → terms.OfBytes bytes.now result.start
-        (λ s. Appends (K.taken sink.old) (K.taken sink.new) (terms.report_of s result.start result.trail.items)) }
+        (λ s. Appends (K.taken sink.old) (K.taken sink.new)
+        (terms.report_of s result.start result.trail.items)) }
     ensures front { result.status ≡ Status.WriteFault → terms.OfBytes bytes.now result.start
-        (λ s. AppendsFront (K.taken sink.old) (K.taken sink.new) (terms.report_of s result.start result.trail.items)) }
-    ensures told { terms.IsTold result.status → terms.TellsFault (K.taken sink.old) (K.taken sink.new)
+        (λ s. AppendsFront (K.taken sink.old) (K.taken sink.new)
+        (terms.report_of s result.start result.trail.items)) }
+    ensures told { terms.IsTold result.status
+        → terms.TellsFault (K.taken sink.old) (K.taken sink.new)
         (K.faults sink.old) (K.faults sink.new) result.status }
     ensures short { result.status ≡ Status.Memory → Keeps (K.taken sink.old) (K.taken sink.new) }
-    ensures fault { result.status ≡ Status.WriteFault → Rose (K.faults sink.old) (K.faults sink.new) }
+    ensures fault { result.status ≡ Status.WriteFault
+        → Rose (K.faults sink.old) (K.faults sink.new) }
     ensures room { result.status ≡ Status.Room → length result.trail.items ≡ limit }
     ensures faults { K.faults sink.old ≤ K.faults sink.new }
 {
@@ -283,19 +241,26 @@ fn answer<S: Source, K: Sink>(alloc: Global, words: &[String], source: &mut S, s
         (λ s. terms.Follows s result.trail.items) }
     ensures output { result.status ≡ Status.Done
         → terms.OfScript (S.left source.old) (S.left source.new) result.start
-        (λ s. Appends (K.taken sink.old) (K.taken sink.new) (terms.report_of s result.start result.trail.items)) }
+        (λ s. Appends (K.taken sink.old) (K.taken sink.new)
+        (terms.report_of s result.start result.trail.items)) }
     ensures output_front { result.status ≡ Status.WriteFault
         → terms.OfScript (S.left source.old) (S.left source.new) result.start
-        (λ s. AppendsFront (K.taken sink.old) (K.taken sink.new) (terms.report_of s result.start result.trail.items)) }
-    ensures output_line { terms.IsTold result.status → terms.TellsFault (K.taken sink.old) (K.taken sink.new)
+        (λ s. AppendsFront (K.taken sink.old) (K.taken sink.new)
+        (terms.report_of s result.start result.trail.items)) }
+    ensures output_line { terms.IsTold result.status
+        → terms.TellsFault (K.taken sink.old) (K.taken sink.new)
         (K.faults sink.old) (K.faults sink.new) result.status }
-    ensures output_none { result.status ≡ Status.Memory → Keeps (K.taken sink.old) (K.taken sink.new) }
-    ensures usage { result.status ≡ Status.Usage → line.is_command (map string_bytes words.now) ≡ false }
+    ensures output_none { result.status ≡ Status.Memory
+        → Keeps (K.taken sink.old) (K.taken sink.new) }
+    ensures usage { result.status ≡ Status.Usage
+        → line.is_command (map string_bytes words.now) ≡ false }
     ensures no_command { line.is_command (map string_bytes words.now) ≡ false
         → terms.IsOrMemory Status.Usage result.status × (source.new ≡ source.old) }
     ensures script_fault { terms.IsScriptFault (S.left source.old) result.status }
-    ensures read_fault { result.status ≡ Status.ReadFault → Rose (S.faults source.old) (S.faults source.new) }
-    ensures write_fault { result.status ≡ Status.WriteFault → Rose (K.faults sink.old) (K.faults sink.new) }
+    ensures read_fault { result.status ≡ Status.ReadFault
+        → Rose (S.faults source.old) (S.faults source.new) }
+    ensures write_fault { result.status ≡ Status.WriteFault
+        → Rose (K.faults sink.old) (K.faults sink.new) }
     ensures room { result.status ≡ Status.Room → length result.trail.items ≡ limit }
     ensures source_faults { S.faults source.old ≤ S.faults source.new }
     ensures sink_faults { K.faults sink.old ≤ K.faults sink.new }
@@ -327,20 +292,24 @@ fn answer<S: Source, K: Sink>(alloc: Global, words: &[String], source: &mut S, s
 pub fn run<S: Source, K: Sink>(alloc: Global, words: &[String], source: &mut S, sink: &mut K) -> Ran
     // Nothing was begun, or the source held a script, the run started from its table, and the history is legal over
     // the first configurations of that table.
-    ensures legal_history { terms.OfRun (S.left source.old) (S.left source.new) result.start result.trail.items
+    ensures legal_history { terms.OfRun (S.left source.old) (S.left source.new) result.start
+        result.trail.items
         (λ s. Legal (setting_of s.table result.start) (reverse result.trail.items)) }
     ensures nothing_begun { terms.BeganNothing result.status
         → (result.trail.items ≡ []) × (result.start ≡ []) }
 
     // At each moment of the history, each user transaction without an aborted ancestor has its serial order, from
     // each map of values for which the start is sound; it is for the start values of the table.
-    ensures serial_order { terms.OfRun (S.left source.old) (S.left source.new) result.start result.trail.items
+    ensures serial_order { terms.OfRun (S.left source.old) (S.left source.new) result.start
+        result.trail.items
         (λ s. terms.HasSerialOrders s.table result.start result.trail.items) }
-    ensures sound_start { terms.OfRun (S.left source.old) (S.left source.new) result.start result.trail.items
+    ensures sound_start { terms.OfRun (S.left source.old) (S.left source.new) result.start
+        result.trail.items
         (λ s. IsSound (setting_of s.table result.start) (first_values s.table)) }
 
     // The last values of the report, which go by versions, are then those of the serial machine.
-    ensures last_values { terms.OfRun (S.left source.old) (S.left source.new) result.start result.trail.items
+    ensures last_values { terms.OfRun (S.left source.old) (S.left source.new) result.start
+        result.trail.items
         (λ s. terms.HasSerialValues s.table result.start result.trail.items) }
 
     // Whatever cut the run off, the history is a beginning of one that follows the script, with requests that meet the
@@ -356,23 +325,31 @@ pub fn run<S: Source, K: Sink>(alloc: Global, words: &[String], source: &mut S, 
     // The bytes written are the report, a front of it, a fault's line, or none.
     ensures output { result.status ≡ Status.Done
         → terms.OfScript (S.left source.old) (S.left source.new) result.start
-        (λ s. Appends (K.taken sink.old) (K.taken sink.new) (terms.report_of s result.start result.trail.items)) }
+        (λ s. Appends (K.taken sink.old) (K.taken sink.new)
+        (terms.report_of s result.start result.trail.items)) }
     ensures output_front { result.status ≡ Status.WriteFault
         → terms.OfScript (S.left source.old) (S.left source.new) result.start
-        (λ s. AppendsFront (K.taken sink.old) (K.taken sink.new) (terms.report_of s result.start result.trail.items)) }
-    ensures output_line { terms.IsTold result.status → terms.TellsFault (K.taken sink.old) (K.taken sink.new)
+        (λ s. AppendsFront (K.taken sink.old) (K.taken sink.new)
+        (terms.report_of s result.start result.trail.items)) }
+    ensures output_line { terms.IsTold result.status
+        → terms.TellsFault (K.taken sink.old) (K.taken sink.new)
         (K.faults sink.old) (K.faults sink.new) result.status }
-    ensures output_none { result.status ≡ Status.Memory → Keeps (K.taken sink.old) (K.taken sink.new) }
+    ensures output_none { result.status ≡ Status.Memory
+        → Keeps (K.taken sink.old) (K.taken sink.new) }
 
     // When each status comes.
-    ensures usage { result.status ≡ Status.Usage → line.is_command (map string_bytes words.now) ≡ false }
+    ensures usage { result.status ≡ Status.Usage
+        → line.is_command (map string_bytes words.now) ≡ false }
     ensures no_command { line.is_command (map string_bytes words.now) ≡ false
         → terms.IsOrMemory Status.Usage result.status × (source.new ≡ source.old) }
     ensures script_fault { terms.IsScriptFault (S.left source.old) result.status }
-    ensures no_script { line.is_command (map string_bytes words.now) ≡ true → IfSome (S.left source.old)
+    ensures no_script { line.is_command (map string_bytes words.now) ≡ true
+        → IfSome (S.left source.old)
         (λ bytes. ((s : ScriptPlan) → IsScript bytes s → ⊥) → terms.IsNoRun result.status) }
-    ensures read_fault { result.status ≡ Status.ReadFault → Rose (S.faults source.old) (S.faults source.new) }
-    ensures write_fault { result.status ≡ Status.WriteFault → Rose (K.faults sink.old) (K.faults sink.new) }
+    ensures read_fault { result.status ≡ Status.ReadFault
+        → Rose (S.faults source.old) (S.faults source.new) }
+    ensures write_fault { result.status ≡ Status.WriteFault
+        → Rose (K.faults sink.old) (K.faults sink.new) }
     ensures room { result.status ≡ Status.Room → length result.trail.items ≡ limit }
     ensures source_faults { S.faults source.old ≤ S.faults source.new }
     ensures sink_faults { K.faults sink.old ≤ K.faults sink.new }
@@ -383,7 +360,8 @@ pub fn run<S: Source, K: Sink>(alloc: Global, words: &[String], source: &mut S, 
     ensures source_within { LosesWithin (S.left source.old) (S.left source.new) terms.most_taken }
 
     // A script is run, where neither stream fails, as far as there is memory and room.
-    ensures completes { (bytes : List ℕ) (s : ScriptPlan) → line.is_command (map string_bytes words.now) ≡ true
+    ensures completes { (bytes : List ℕ) (s : ScriptPlan)
+        → line.is_command (map string_bytes words.now) ≡ true
         → S.left source.old ≡ Some bytes → IsScript bytes s
         → (Rose (S.faults source.old) (S.faults source.new) → ⊥)
         → (Rose (K.faults sink.old) (K.faults sink.new) → ⊥) → terms.IsDoneOrShort result.status }

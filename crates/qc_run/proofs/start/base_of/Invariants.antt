@@ -3,7 +3,7 @@ use Rattle.std.specs.Prelude.{map, Vec}
 use Rattle.std.specs.declared.alloc.Global.{Global}
 use Rattle.qc_config.specs.declared.tuple.Tuple.{Tuple}
 use Rattle.qc_event.specs.Tables.{first_tuple}
-use Rattle.qc_run.proofs.program.base_of.Given as goal
+use Rattle.qc_run.proofs.start.base_of.Given as goal
 
 -- each copy so far has the first tuples
 abbrev pub invariant-loop : goal.invariant-loop
