@@ -179,6 +179,11 @@ lawful (e ∷ past) orderly = one_more e past (lawful past orderly.0) orderly.1
 
 -- WHO STANDS ABOVE
 
+-- who was started is not the root
+pub nonroot : (past : Past) (n : Name) → Lawful past → is_some (start past n) ≡ true → 0 < length n
+nonroot past [] law began = absurd (some_or_none (start past []) began law.no_root_start)
+nonroot past (x ∷ n) law began = omega arith
+
 -- a started child has a started parent
 pub parent_started : (past : Past) (p : Name) (j : ℕ) → Lawful past → 0 < length p → is_some (start past (p ++ j ∷ [])) ≡ true → is_some (start past p) ≡ true
 parent_started past p j law pos h = by_start (start past (p ++ j ∷ [])) (law.under p j pos h)

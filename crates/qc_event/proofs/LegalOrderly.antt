@@ -1,5 +1,5 @@
 -- Legal histories are orderly.
-use Rattle.std.proofs.Common.{◌≡◌, ℕ, ◌<◌, inl, inr, true, [], ◌∷◌, ◌++◌, length, refl, sym, ap, ◌∙◌, subst, arith}
+use Rattle.std.proofs.Common.{◌≡◌, ℕ, inl, inr, true, [], ◌∷◌, ◌++◌, length, refl, sym, ap, ◌∙◌, subst, arith}
 use mathlib.Core.Bool.{true≢false}
 use Rattle.std.specs.Prelude.{Option, None, Some, is_some, is_none, find, MatchOption}
 use Rattle.qc_names.specs.Name as name
@@ -21,8 +21,8 @@ use Rattle.qc_event.specs.Legal as legal
 use Rattle.qc_event.specs.Legal.{Legal}
 use Rattle.qc_event.proofs.Orderly.{Belongs, IsNewTop, IsNextChild, Begins, BecomesReady, Commits, Ends, KeepsOrder, Orderly}
 use Rattle.qc_event.proofs.LastNumber.{child_last}
-use Rattle.qc_event.proofs.OneEntry.{not_some, some_or_none, ready_step, childless}
-use Rattle.qc_event.proofs.Lawful.{Lawful, lawful, started_some, started_wider}
+use Rattle.qc_event.proofs.OneEntry.{not_some, ready_step, childless}
+use Rattle.qc_event.proofs.Lawful.{Lawful, lawful, started_some, started_wider, nonroot}
 
 new_top : (past : Past) (seat number : ℕ) (k : Kind) → MayStartTop past seat number k → IsNewTop past number k
 new_top past seat number k may = record { user = may.user; fresh = may.fresh }
@@ -70,10 +70,6 @@ none_belongs b (kind.Reconf rec config) is under = subst IsUser is under
 under_access : (past : Past) (n : Name) → Lawful past → Started past n (λ b. b.kind ≡ kind.Access) → open_child past n ≡ None
 under_access past n law access = ap (find (λ c. is_none (end past c))) (childless past n (λ c is. not_some (start past c) (unstarted c (child_last n c is))))
   where
-    no_root : (m : Name) → is_some (start past m) ≡ true → 0 < length m
-    no_root [] began = absurd (some_or_none (start past []) began law.no_root_start)
-    no_root (x ∷ m) began = omega arith
-
     by_parent : (k : Kind) (o : Option Begun) → MatchOption o ⊥ (λ b. b.kind ≡ kind.Access) → MatchOption o ⊥ (λ b. Belongs b k) → ⊥
     by_parent k None is under = is
     by_parent k (Some b) is under = none_belongs b k is under
@@ -84,7 +80,7 @@ under_access past n law access = ap (find (λ c. is_none (end past c))) (childle
 
     unstarted : (c : Name) → (j : ℕ) × (c ≡ n ++ j ∷ []) → is_some (start past c) ≡ true → ⊥
     unstarted c (j, is) h = by_child (start past (n ++ j ∷ []))
-        (law.under n j (no_root n (started_some (λ b. b.kind ≡ kind.Access) (start past n) access)) (ap (λ m. is_some (start past m)) (sym is) ∙ h))
+        (law.under n j (nonroot past n law (started_some (λ b. b.kind ≡ kind.Access) (start past n) access)) (ap (λ m. is_some (start past m)) (sym is) ∙ h))
 
 commits : (setting : Setting) (past : Past) (seat : ℕ) (n : Name) (b : Begun) (given : Answer) (k : Kind) → Lawful past → start past n ≡ Some b → b.kind ≡ k → MayCommit setting past seat n b given k → Commits past n
 commits setting past seat n b given (kind.User session body) law is of may = user_commits past seat n given may

@@ -11,6 +11,7 @@ pub mod Orderly
 pub mod Lawful
 pub mod LegalOrderly
 pub mod Lineage
+pub mod BelowTops
 pub mod RulesOnce
 pub mod LegalAgain
 pub mod Worked

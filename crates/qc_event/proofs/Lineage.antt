@@ -111,3 +111,8 @@ parent_open past p j law pos began going alive = record {
   started = parent_started past p j law pos began;
   not_ended = neither (end past p) (parent_not_committed past p j law pos began going) (alive_not_aborted past p (dead_parent past p j alive));
 }
+
+-- with the root, which never ends
+pub parent_going : (past : Past) (p : Name) (j : ℕ) → Lawful past → is_some (start past (p ++ j ∷ [])) ≡ true → end past (p ++ j ∷ []) ≡ None → dead past (p ++ j ∷ []) ≡ None → end past p ≡ None
+parent_going past [] j law began going alive = law.no_root_end
+parent_going past (x ∷ p) j law began going alive = (parent_open past (x ∷ p) j law (omega arith) began going alive).not_ended

@@ -2,6 +2,7 @@
 use Rattle.std.proofs.Common.{◌≡◌, ℕ, ◌≤◌, arith, ◌⊎◌, inl, inr, Bool, true, false, List, [], ◌∷◌, ◌++◌, length, refl, sym, ap, ◌∙◌}
 use mathlib.Core.Bool.{true≢false}
 use Rattle.std.specs.Prelude.{Option, None, Some, is_some, is_none, MatchOption, if◌then◌else◌, option_to_list, find}
+use Rattle.std.specs.List.{AllByRecursion}
 use Rattle.std.specs.Option.{option_or}
 use Rattle.std.proofs.lemmas.List.{length-append}
 use Rattle.std.proofs.lemmas.List.Folds.{find-append}
@@ -69,6 +70,10 @@ some_if_not_none (Some y) h = refl
 pub none_before : {Y : Type 0} (old new : Option Y) → option_or old new ≡ None → (old ≡ None) × (new ≡ None)
 none_before None new h = (refl, h)
 none_before (Some y) new h = absurd cc
+
+pub both_empty : {Y : Type 0} (xs ys : List Y) → xs ++ ys ≡ [] → (xs ≡ []) × (ys ≡ [])
+both_empty [] ys h = (refl, h)
+both_empty (x ∷ xs) ys h = absurd cc
 
 pub at_most_one : {Y : Type 0} (o : Option Y) → length (option_to_list o) ≤ 1
 at_most_one None = omega arith
@@ -189,3 +194,29 @@ childless (e ∷ past) n none =
     adds_none : (ev : Event) → ((c : Name) → is_child n c ≡ true → option_or (start past c) (start_in c e.seat ev) ≡ None) → child_in n ev ≡ None
     adds_none (event.Start m k) out = if_child (is_child n m) m (λ is. some_or_none _ (here_some (start past m) (start_in m e.seat (event.Start m k)) (starts_some m e.seat (event.Start m k) (k, refl))) (out m is))
     adds_none _ out = refl
+
+-- the children are children
+pub all_children : (h : Past) (n : Name) → AllByRecursion (λ c. is_child n c ≡ true) (children h n)
+all_children [] n = tt
+all_children (e ∷ h) n = by_event e.event (children h n) (all_children h n)
+  where
+    by_child : (c : Name) (b : Bool) → is_child n c ≡ b → (cs : List Name) → AllByRecursion (λ x. is_child n x ≡ true) cs → AllByRecursion (λ x. is_child n x ≡ true) (cs ++ option_to_list (if b then Some c else None))
+    by_child c true is [] all = (is, tt)
+    by_child c true is (x ∷ cs) all = (all.0, by_child c true is cs all.1)
+    by_child c false is [] all = tt
+    by_child c false is (x ∷ cs) all = (all.0, by_child c false is cs all.1)
+
+    none : (cs : List Name) → AllByRecursion (λ x. is_child n x ≡ true) cs → AllByRecursion (λ x. is_child n x ≡ true) (cs ++ [])
+    none [] all = tt
+    none (x ∷ cs) all = (all.0, none cs all.1)
+
+    by_event : (ev : Event) (cs : List Name) → AllByRecursion (λ x. is_child n x ≡ true) cs → AllByRecursion (λ x. is_child n x ≡ true) (cs ++ option_to_list (child_in n ev))
+    by_event (event.Start c k) cs all = by_child c (is_child n c) refl cs all
+    by_event (event.Ask ask) cs all = none cs all
+    by_event (event.Gone m why) cs all = none cs all
+    by_event (event.Granted copy grant) cs all = none cs all
+    by_event (event.Refused m copy refusal) cs all = none cs all
+    by_event (event.Unable m why) cs all = none cs all
+    by_event (event.Mark m session) cs all = none cs all
+    by_event (event.Ready m) cs all = none cs all
+    by_event (event.End m how) cs all = none cs all
