@@ -6,7 +6,7 @@ use Rattle.std.proofs.lemmas.List.Sums.{sum_by-cons}
 use Rattle.qc_config.specs.Copies as copies
 use Rattle.qc_config.specs.Config.{weight}
 
-nothing_held : (votes : List ℕ) → weight votes [] ≡ 0
+pub nothing_held : (votes : List ℕ) → weight votes [] ≡ 0
 nothing_held [] = refl
 nothing_held (v ∷ votes) = refl
 
@@ -18,7 +18,7 @@ weight_more (v ∷ votes) [] (suc c) h = refl
 weight_more (v ∷ votes) (b ∷ held) zero h = omega (arith)
 weight_more (v ∷ votes) (b ∷ held) (suc c) h = omega (arith, weight_more votes held c (omega arith))
 
-sum-cons : (v : ℕ) (votes : List ℕ) → sum (v ∷ votes) ≡ v + sum votes
+pub sum-cons : (v : ℕ) (votes : List ℕ) → sum (v ∷ votes) ≡ v + sum votes
 sum-cons v votes = sum_by-cons (λ x. x) v votes
 
 -- a set has no more than all votes

@@ -57,7 +57,7 @@ by_length values (kind.Read rec) = refl
 by_length values (kind.Reconf rec config) = refl
 by_length values kind.Access = refl
 
-after_length : (values : List ℕ) (ds : List Done) → length (values_after values ds) ≡ length values
+pub after_length : (values : List ℕ) (ds : List Done) → length (values_after values ds) ≡ length values
 after_length values [] = refl
 after_length values (d ∷ ds) = after_length (values_by values d.kind) ds ∙ by_length values d.kind
 

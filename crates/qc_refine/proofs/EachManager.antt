@@ -2,7 +2,6 @@
 use Rattle.std.proofs.Common.{◌≡◌, ℕ, List, [], ◌∷◌, ◌++◌, sym, ap, ◌∙◌, subst, append_assoc}
 use Rattle.std.specs.Prelude.{All, None}
 use Rattle.std.proofs.lemmas.Grind.{flat_map-append}
-use Rattle.std.proofs.lemmas.List.Elements.{All-head, All-tail, All-cons, All-nil}
 use Rattle.qc_config.specs.declared.tuple.Tuple.{Tuple}
 use Rattle.qc_event.specs.Base.{Setting}
 use Rattle.qc_event.specs.Dead.{dead}
@@ -15,14 +14,11 @@ use Rattle.qc_refine.specs.InTurn.{Done, IsDone, given_to, left_setting, values_
 use Rattle.qc_refine.specs.Turns.{dones_order}
 use Rattle.qc_refine.proofs.CopiesSerial.{done, there}
 use Rattle.qc_refine.proofs.InTurn.{reads_answer, left_sound}
+use Rattle.qc_refine.proofs.DonesWalk.{all_front}
 
 -- what finds as a whole finds at its front
 finds_front : (base : List (List Tuple)) (xs ys : List Given) → Finds base (xs ++ ys) → Finds base xs
 finds_front base xs ys h earlier later g is = h earlier (later ++ ys) g (ap (λ zs. zs ++ ys) is ∙ append_assoc earlier (g ∷ later) ys)
-
-all_front : {X : Type 0} (P : X → Type 0) (xs ys : List X) → All P (xs ++ ys) → All P xs
-all_front P [] ys all = All-nil P
-all_front P (x ∷ xs) ys all = All-cons P x xs (All-head P x (xs ++ ys) all) (all_front P xs ys (All-tail P x (xs ++ ys) all))
 
 -- among answers that are values each is
 answers_at : (values : List ℕ) (earlier later : List Done) (d : Done) → AnswerValues values (earlier ++ d ∷ later) → AnswersValue (values_after values earlier) d.kind d.answer

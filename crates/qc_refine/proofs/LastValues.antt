@@ -1,8 +1,7 @@
 -- The last values by the versions are those of the serial machine.
-use Rattle.std.proofs.Common.{◌≡◌, ℕ, ◌<◌, ◌≤◌, List, [], ◌∷◌, length, refl, sym, ap, ◌∙◌, subst, arith, map}
+use Rattle.std.proofs.Common.{◌≡◌, ℕ, ◌<◌, ◌≤◌, List, [], length, sym, ap, ◌∙◌, subst, arith, map}
 use Rattle.std.specs.Prelude.{All, Option, None, Some, MatchOption, slice_get}
 use Rattle.std.specs.List.{Contains, range_with_len}
-use Rattle.std.proofs.lemmas.List.{length-set}
 use Rattle.std.proofs.lemmas.List.Elements.{All-append, All-weaker, All-get_or, All-contains, All-contains_itself, Contains-append_left, Contains-append_right}
 use Rattle.std.proofs.lemmas.List.FromFn.{fill_by_all}
 use Rattle.std.proofs.lemmas.Option.{get_or_from_slice_get}
@@ -12,13 +11,11 @@ use Rattle.qc_event.specs.History.{Past, Given, every}
 use Rattle.qc_event.specs.Legal.{Legal}
 use Rattle.qc_event.specs.Manager.{greatest_among}
 use Rattle.qc_event.specs.Sound.{Carries, IsSound, column, greatest_version}
-use Rattle.qc_event.specs.declared.event.Kind.{Kind}
-use Rattle.qc_event.specs.declared.event.Kind.TheVariants as kind
 use Rattle.qc_simlock.specs.Serial.{final_values}
 use Rattle.qc_simlock.specs.Visible.{served_order}
 use Rattle.qc_refine.specs.Completed.{tuple_at}
 use Rattle.qc_refine.specs.Final.{put_for_good, last_tuples, final_value}
-use Rattle.qc_refine.specs.InTurn.{Done, given_to, values_by, values_after}
+use Rattle.qc_refine.specs.InTurn.{given_to}
 use Rattle.qc_refine.specs.Turns.{dones_order}
 use Rattle.qc_refine.proofs.Columns.{left_column, column_left}
 use Rattle.qc_refine.proofs.CopiesSerial.{done, there, root_alive, final_are, left_copies}
@@ -28,6 +25,7 @@ use Rattle.qc_refine.proofs.ForGood.{puts_are, puts_among}
 use Rattle.qc_refine.proofs.GivenDones.{given_order}
 use Rattle.qc_refine.proofs.Grown.{Top, top_copy}
 use Rattle.qc_refine.proofs.NoneAbove.{FitsOf, NoneAboveAt, none_above}
+use Rattle.qc_refine.proofs.DonesWalk.{after_length}
 
 -- the greatest of tuples that fit a version, one of which has it, has the value
 greatest_fits : (version value : ℕ) (tuples : List Tuple) (t : Tuple) → All (Fits version value) tuples → Contains tuples t → t.version ≡ version → (greatest_among tuples).value ≡ value
@@ -88,17 +86,9 @@ module _ (setting : Setting) (values : List ℕ) (past : Past) (rec : ℕ) (lega
 
 -- ALL RECORDS
 
-values_length : (values : List ℕ) (dones : List Done) → length (values_after values dones) ≡ length values
-values_length values [] = refl
-values_length values (d ∷ dones) = values_length (values_by values d.kind) dones ∙ one d.kind
-  where
-    one : (k : Kind) → length (values_by values k) ≡ length values
-    one (kind.Write rec value) = length-set values rec value
-    one _ = refl
-
 pub last_values : (setting : Setting) (values : List ℕ) (past : Past) → Legal setting past → IsSound setting values → length values ≡ length setting.firsts
     → final_values values past ≡ map (final_value setting.base past) (range_with_len 0 (length setting.firsts))
 last_values setting values past legal sound many =
     fill_by_all (final_value setting.base past) (final_values values past) (length setting.firsts) 0
-    (ap length (sym (final_are setting values past legal sound)) ∙ values_length values (dones_order past []) ∙ many)
+    (ap length (sym (final_are setting values past legal sound)) ∙ after_length values (dones_order past []) ∙ many)
     (λ rec here. get_or_from_slice_get (final_values values past) rec (final_value setting.base past rec) 0 (last_value setting values past rec legal sound here))

@@ -3,17 +3,9 @@ use mathlib.Core.Bool.{true≢false}
 use Rattle.std.proofs.Common.{◌≡◌, ℕ, zero, suc, ◌+◌, ◌<◌, ◌≤◌, Bool, true, false, List, [], ◌∷◌, length, refl, sym, ◌∙◌, arith, sum, map, get_or}
 use Rattle.std.proofs.lemmas.Bool.{leb-true, le-leb}
 use Rattle.std.proofs.lemmas.List.{get_or-map}
-use Rattle.std.proofs.lemmas.List.Sums.{sum_by-cons}
 use Rattle.qc_config.specs.Config.{Voting, IsLegal, weight, holds_read, holds_write}
 use Rattle.qc_config.specs.Copies.{has}
-use Rattle.qc_config.proofs.Weights.{weight_most}
-
-nothing_held : (votes : List ℕ) → weight votes [] ≡ 0
-nothing_held [] = refl
-nothing_held (v ∷ votes) = refl
-
-sum-cons : (v : ℕ) (votes : List ℕ) → sum (v ∷ votes) ≡ v + sum votes
-sum-cons v votes = sum_by-cons (λ x. x) v votes
+use Rattle.qc_config.proofs.Weights.{weight_most, nothing_held, sum-cons}
 
 -- a copy in both sets
 pub record Shared (r w : List Bool) : Type 0 where

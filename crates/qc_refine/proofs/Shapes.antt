@@ -57,10 +57,6 @@ LeadsTo first k given s = IsAtStage k (now_in first (in_phase Collect given)) (f
 abbrev pub ShapeAfter : Voting → Kind → List Given → List Ask → Type 0
 ShapeAfter first k given requests = Shape first k (in_phase Collect given) (in_phase Values given) requests
 
-both_empty : {Y : Type 0} (xs ys : List Y) → xs ++ ys ≡ [] → (xs ≡ []) × (ys ≡ [])
-both_empty [] ys h = (refl, h)
-both_empty (x ∷ xs) ys h = absurd cc
-
 unless : {A : Type 0} (b : Bool) → A ⊎ (b ≡ true) → b ≡ false → A
 unless b (inl a) short = a
 unless b (inr enough) short = absurd (true≢false (sym enough ∙ short))
