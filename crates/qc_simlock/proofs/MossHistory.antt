@@ -76,7 +76,7 @@ is_aborted-true Live e = cc
 is_aborted-true Committed e = cc
 is_aborted-true Aborted e = refl
 
-is_committed-true : (o : Outcome) → is_committed o ≡ true → o ≡ Committed
+pub is_committed-true : (o : Outcome) → is_committed o ≡ true → o ≡ Committed
 is_committed-true Live e = cc
 is_committed-true Committed e = refl
 is_committed-true Aborted e = cc

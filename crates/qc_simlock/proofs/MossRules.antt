@@ -24,7 +24,7 @@ use Rattle.qc_event.proofs.OneEntry.{some_or_none}
 use Rattle.qc_event.proofs.Orderly.{Orderly, KeepsOrder, Commits, Ends}
 use Rattle.qc_event.proofs.Lawful.{Lawful, lawful, started_some, parent_started}
 use Rattle.qc_event.proofs.LegalOrderly.{legal_orderly}
-use Rattle.qc_event.proofs.Lineage.{dead_last, dead_parent, alive_not_aborted, neither, parent_open}
+use Rattle.qc_event.proofs.Lineage.{dead_last, dead_parent, alive_not_aborted, neither, parent_going}
 use Rattle.qc_simlock.proofs.Accesses.{asked_access, grant_asked, committed_granted}
 use Rattle.qc_simlock.proofs.MossNames.{Line}
 use Rattle.qc_simlock.proofs.MossMoves as moss
@@ -52,10 +52,6 @@ pub started_above : (past : Past) (p : Name) (k : ℕ) → Lawful past → is_so
 started_above past [] k law began = tt
 started_above past (x ∷ p) k law began = parent_started past (x ∷ p) k law (omega arith) began
 
-open_above : (past : Past) (p : Name) (k : ℕ) → Lawful past → is_some (start past (p ++ k ∷ [])) ≡ true → end past (p ++ k ∷ []) ≡ None → dead past (p ++ k ∷ []) ≡ None → end past p ≡ None
-open_above past [] k law began going alive = law.no_root_end
-open_above past (x ∷ p) k law began going alive = (parent_open past (x ∷ p) k law (omega arith) began going alive).not_ended
-
 -- the ancestors of what is open and not dead are open
 pub all_open : (past : Past) → Orderly past → (d : Line) → StartedOrRoot past (reverse d) → end past (reverse d) ≡ None → dead past (reverse d) ≡ None → AllLive (moves past) d
 all_open past orderly [] began going alive = λ m a. subst (λ x. moss.outcome (moves past) x ≡ Live) (sym a) (live_moves past orderly [] going)
@@ -64,7 +60,7 @@ all_open past orderly (k ∷ p) began going alive =
     let began' : is_some (start past (reverse p ++ k ∷ [])) ≡ true = started_last past (reverse p) k (subst (StartedOrRoot past) (turn_last k p) began) in
     let going' : end past (reverse p ++ k ∷ []) ≡ None = subst (λ n. end past n ≡ None) (turn_last k p) going in
     let alive' : dead past (reverse p ++ k ∷ []) ≡ None = subst (λ n. dead past n ≡ None) (turn_last k p) alive in
-    let up = all_open past orderly p (started_above past (reverse p) k law began') (open_above past (reverse p) k law began' going' alive') (dead_parent past (reverse p) k alive') in
+    let up = all_open past orderly p (started_above past (reverse p) k law began') (parent_going past (reverse p) k law began' going' alive') (dead_parent past (reverse p) k alive') in
     λ m a. elim a [
       | inl is ↦ subst (λ x. moss.outcome (moves past) x ≡ Live) (sym is) (live_moves past orderly (k ∷ p) going)
       | inr above ↦ up m above

@@ -12,8 +12,7 @@ use Rattle.std.proofs.Math.Bool.{and-false}
 use Rattle.qc_names.specs.Name.{is_ancestor}
 use Rattle.qc_event.specs.declared.event.How.{How}
 use Rattle.qc_event.specs.declared.event.How.TheVariants as how
-use Rattle.qc_event.specs.declared.event.Outcome.{Outcome}
-use Rattle.qc_event.specs.declared.event.Outcome.TheVariants.{Live, Committed, Aborted}
+use Rattle.qc_event.specs.declared.event.Outcome.TheVariants.{Live, Committed}
 use Rattle.qc_event.specs.History.{Past, Name, start, end}
 use Rattle.qc_event.specs.Dead.{outcome, outcome_of, is_aborted, is_committed, ancestors, dead}
 use Rattle.qc_event.proofs.LastNumber.{ancestors-last}
@@ -26,11 +25,12 @@ use Rattle.qc_simlock.proofs.MossNames.{Line, IsAbove, above-refl, above-trans}
 use Rattle.qc_simlock.proofs.MossMoves as moss
 use Rattle.qc_simlock.proofs.MossLocks.{AllLive}
 use Rattle.qc_simlock.proofs.MossSerial.{walk, serial}
-use Rattle.qc_simlock.proofs.MossHistory.{Shown, shown-self, all_live-up}
+use Rattle.qc_simlock.proofs.MossHistory.{Shown, shown-self, all_live-up, is_committed-true}
 use Rattle.qc_simlock.proofs.MossTurned.{turn_last, above_ancestor, ancestor_above}
 use Rattle.qc_simlock.proofs.MossPast.{moves, served_moves}
 use Rattle.qc_simlock.proofs.MossStands.{outcome_moves, live_open}
 use Rattle.qc_simlock.proofs.MossRules.{StartedOrRoot, started_last, started_above, all_open}
+use Rattle.qc_simlock.proofs.OrderSteps.{open_next}
 
 -- THE ORDER, ONE ANCESTOR MORE
 
@@ -45,19 +45,15 @@ order_last past p k =
     by_test true = append-nil (served past (p ++ k ∷ []))
     by_test false = refl
 
-open_last : (past : Past) (p : Name) (k : ℕ) → is_open_or_root past (p ++ k ∷ []) ≡ (is_some (start past (p ++ k ∷ [])) && is_none (end past (p ++ k ∷ [])))
-open_last past [] k = refl
-open_last past (x ∷ p) k = refl
-
 order_open : (past : Past) (p : Name) (k : ℕ) → is_some (start past (p ++ k ∷ [])) ≡ true → end past (p ++ k ∷ []) ≡ None → served_order past (p ++ k ∷ []) ≡ served_order past p ++ served past (p ++ k ∷ [])
 order_open past p k began going =
     order_last past p k
-    ∙ ap (λ b. served_order past p ++ (if b then served past (p ++ k ∷ []) else [])) (open_last past p k ∙ ap₂ (λ b o. b && is_none o) began going)
+    ∙ ap (λ b. served_order past p ++ (if b then served past (p ++ k ∷ []) else [])) (open_next past p k ∙ ap₂ (λ b o. b && is_none o) began going)
 
 order_ended : (past : Past) (p : Name) (k : ℕ) (h : How) → end past (p ++ k ∷ []) ≡ Some h → served_order past (p ++ k ∷ []) ≡ served_order past p
 order_ended past p k h gone =
     order_last past p k
-    ∙ ap (λ b. served_order past p ++ (if b then served past (p ++ k ∷ []) else [])) (open_last past p k ∙ ap (λ o. is_some (start past (p ++ k ∷ [])) && is_none o) gone ∙ and-false (is_some (start past (p ++ k ∷ []))))
+    ∙ ap (λ b. served_order past p ++ (if b then served past (p ++ k ∷ []) else [])) (open_next past p k ∙ ap (λ o. is_some (start past (p ++ k ∷ [])) && is_none o) gone ∙ and-false (is_some (start past (p ++ k ∷ []))))
     ∙ append-nil (served_order past p)
 
 -- where all ancestors are open, it is theirs in turn
@@ -148,11 +144,6 @@ each_pass test (k ∷ p) each =
     ∙ and_from _ _ (each_pass test p (λ m up. each m (inr up)))
     (and_from (test (reverse p ++ k ∷ [])) true (ap test (sym (turn_last k p)) ∙ each (k ∷ p) (inl refl)) refl)
 
-committed_from : (o : Outcome) → is_committed o ≡ true → o ≡ Committed
-committed_from Live h = absurd (true≢false (sym h))
-committed_from Committed h = refl
-committed_from Aborted h = absurd (true≢false (sym h))
-
 -- an open name, or the root, is not committed
 open_live : (past : Past) → Lawful past → (n : Name) → is_open_or_root past n ≡ true → outcome past n ≡ Live
 open_live past law [] is = ap outcome_of law.no_root_end
@@ -176,7 +167,7 @@ started_up past orderly m (k ∷ p) (inr up) began = started_up past orderly m p
 module _ (past : Past) (orderly : Orderly past) (d : Line) (s : Seer past d) where
   one_visible : (m : Line) → (is_committed (outcome past (reverse m)) || (is_ancestor (reverse m) (reverse d) && is_open_or_root past (reverse m))) ≡ true → (moss.outcome (moves past) m ≡ Committed) ⊎ IsAbove m s.who
   one_visible m h = elim (or_cases (is_committed (outcome past (reverse m))) (is_ancestor (reverse m) (reverse d) && is_open_or_root past (reverse m)) h) [
-    | inl done ↦ inl (outcome_moves past orderly m ∙ committed_from _ done)
+    | inl done ↦ inl (outcome_moves past orderly m ∙ is_committed-true _ done)
     | inr both ↦
         let parts = and_parts (is_ancestor (reverse m) (reverse d)) (is_open_or_root past (reverse m)) both in
         let up : IsAbove m d = subst (λ x. IsAbove x d) (reverse-reverse m) (subst (IsAbove (reverse (reverse m))) (reverse-reverse d) (ancestor_above (reverse m) (reverse d) parts.0)) in

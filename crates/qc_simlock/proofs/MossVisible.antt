@@ -23,7 +23,7 @@ use Rattle.qc_event.specs.Legal.{Legal, Allowed, MayHappen}
 use Rattle.qc_event.proofs.LastNumber.{EndsIn, ends_in, front_last, rest_of, is_ancestor-append}
 use Rattle.qc_event.proofs.OneEntry.{some_or_none}
 use Rattle.qc_event.proofs.Orderly.{Orderly, Belongs}
-use Rattle.qc_event.proofs.Lawful.{Lawful, lawful, started_some, started_wider}
+use Rattle.qc_event.proofs.Lawful.{Lawful, lawful, started_some, started_wider, nonroot}
 use Rattle.qc_event.proofs.LegalOrderly.{legal_orderly}
 use Rattle.qc_event.proofs.Lineage.{above_user}
 use Rattle.qc_simlock.specs.Serial.{IsUserOf}
@@ -155,10 +155,6 @@ record HasManager (past : Past) (n : Name) : Type 0 where
 manager_of : (past : Past) (n : Name) → Lawful past → IsAccess past n → HasManager past n
 manager_of past n law access = by_parent (ends_in n)
   where
-    nonroot : (m : Name) → is_some (start past m) ≡ true → 0 < length m
-    nonroot [] began = absurd (some_or_none (start past []) began law.no_root_start)
-    nonroot (x ∷ m) began = omega arith
-
     by_start : (m : Name) (o : Option Begun) → MatchOption o ⊥ (λ c. c.kind ≡ kind.Access) → MatchOption o ⊥ (λ c. Started past m (λ b. Belongs b c.kind)) → Started past m (λ b. IsManager b.kind)
     by_start m None is under = absurd is
     by_start m (Some c) is under = subst (λ k. Started past m (λ b. Belongs b k)) is under
@@ -167,7 +163,7 @@ manager_of past n law access = by_parent (ends_in n)
     under m j is =
         let front : name.front n ≡ m = ap name.front is ∙ front_last m j in
         let there : Started past (m ++ j ∷ []) (λ c. c.kind ≡ kind.Access) = subst (λ x. Started past x (λ c. c.kind ≡ kind.Access)) is access.started in
-        let pos : 0 < length m = nonroot m (subst (λ x. is_some (start past x) ≡ true) front access.manager) in
+        let pos : 0 < length m = nonroot past m law (subst (λ x. is_some (start past x) ≡ true) front access.manager) in
         record {
           is_above = ap₂ is_ancestor front is ∙ is_ancestor-append m (j ∷ []);
           manager = subst (λ x. Started past x (λ b. IsManager b.kind)) (sym front)

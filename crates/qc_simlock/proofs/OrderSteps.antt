@@ -65,7 +65,7 @@ pub open_next : (past : Past) (p : Name) (j : ℕ) → is_open_or_root past (p +
 open_next past [] j = refl
 open_next past (x ∷ p) j = refl
 
-entering_next : (p : Name) (j : ℕ) → entering (p ++ j ∷ []) ≡ Enter (p ++ j ∷ []) ∷ []
+pub entering_next : (p : Name) (j : ℕ) → entering (p ++ j ∷ []) ≡ Enter (p ++ j ∷ []) ∷ []
 entering_next [] j = refl
 entering_next (x ∷ p) j = refl
 

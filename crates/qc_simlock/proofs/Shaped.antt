@@ -12,7 +12,7 @@ use Rattle.qc_event.proofs.Orderly.{Orderly}
 use Rattle.qc_event.proofs.LastNumber.{by_last, length_last, is_child-last}
 use Rattle.qc_event.proofs.OneEntry.{some_or_none}
 use Rattle.qc_event.proofs.Lawful.{Lawful, lawful, started_some, user_parent}
-use Rattle.qc_event.proofs.Lineage.{dead_parent, parent_open}
+use Rattle.qc_event.proofs.Lineage.{dead_parent, parent_going}
 use Rattle.qc_serial.specs.declared.event.SerialEvent.{SerialEvent}
 use Rattle.qc_serial.specs.declared.event.SerialEvent.TheVariants.{Enter}
 use Rattle.qc_serial.specs.Machine.{State, begin, top, next, run}
@@ -20,7 +20,7 @@ use Rattle.qc_serial.specs.Shape.{Shaped}
 use Rattle.qc_serial.proofs.Runs.{run-append}
 use Rattle.qc_serial.proofs.Shape.{shaped-append}
 use Rattle.qc_serial.proofs.Steps.{waiting, waits}
-use Rattle.qc_simlock.specs.Walk.{walk, serialise, entering}
+use Rattle.qc_simlock.specs.Walk.{walk, serialise}
 use Rattle.qc_simlock.specs.Serial.{IsUserOf}
 use Rattle.qc_simlock.proofs.OwnSerial.{serialise-last, visit_open, visit_ended}
 use Rattle.qc_simlock.proofs.Outside.{parent_last}
@@ -28,12 +28,9 @@ use Rattle.qc_simlock.proofs.Stage.{stage, stage_of}
 use Rattle.qc_simlock.proofs.Kept.{Clean, Kept, Walked}
 use Rattle.qc_simlock.proofs.Inside.{clean_inside}
 use Rattle.qc_simlock.proofs.WalkShape.{walk_shaped}
+use Rattle.qc_simlock.proofs.OrderSteps.{entering_next}
 
 -- THE ORDER, ONE ANCESTOR MORE
-
-entering_last : (p : Name) (j : ℕ) → entering (p ++ j ∷ []) ≡ Enter (p ++ j ∷ []) ∷ []
-entering_last [] j = refl
-entering_last (x ∷ p) j = refl
 
 longer : (p : Name) (j : ℕ) → 0 < length (p ++ j ∷ [])
 longer p j = omega (arith, length_last p j)
@@ -42,7 +39,7 @@ longer p j = omega (arith, length_last p j)
 order_open : (past : Past) (p : Name) (j : ℕ) → is_some (start past (p ++ j ∷ [])) ≡ true → end past (p ++ j ∷ []) ≡ None → serialise past (p ++ j ∷ []) ≡ serialise past p ++ Enter (p ++ j ∷ []) ∷ walk past (p ++ j ∷ [])
 order_open past p j began going =
     serialise-last past p j
-    ∙ ap (λ es. serialise past p ++ es) (visit_open past (p ++ j ∷ []) (longer p j) began going ∙ ap (λ es. es ++ walk past (p ++ j ∷ [])) (entering_last p j))
+    ∙ ap (λ es. serialise past p ++ es) (visit_open past (p ++ j ∷ []) (longer p j) began going ∙ ap (λ es. es ++ walk past (p ++ j ∷ [])) (entering_next p j))
 
 -- and is its parent's where the child has ended
 order_ended : (past : Past) (p : Name) (j : ℕ) (how : How) → is_some (start past (p ++ j ∷ [])) ≡ true → end past (p ++ j ∷ []) ≡ Some how → serialise past (p ++ j ∷ []) ≡ serialise past p
@@ -60,10 +57,6 @@ started_last past (x ∷ p) j user = user
 is_user_parent : (past : Past) (p : Name) (j : ℕ) → Lawful past → Started past (p ++ j ∷ []) (λ b. IsUser b.kind) → IsUserOf past p
 is_user_parent past [] j law user = tt
 is_user_parent past (x ∷ p) j law user = user_parent past (x ∷ p) j law (omega arith) user
-
-parent_going : (past : Past) (p : Name) (j : ℕ) → Lawful past → is_some (start past (p ++ j ∷ [])) ≡ true → end past (p ++ j ∷ []) ≡ None → dead past (p ++ j ∷ []) ≡ None → end past p ≡ None
-parent_going past [] j law began going alive = law.no_root_end
-parent_going past (x ∷ p) j law began going alive = (parent_open past (x ∷ p) j law (omega arith) began going alive).not_ended
 
 user_waits : (past : Past) (t : Name) → Started past t (λ b. IsUser b.kind) → end past t ≡ None → stage past t ≡ waiting
 user_waits past t user going = ap (stage_of (option_map (λ (b : Begun). b.kind) (start past t))) going ∙ by_start (start past t) user
