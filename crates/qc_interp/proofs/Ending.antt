@@ -100,10 +100,6 @@ running_runs s past n how unended unready (Plan.child_then number tries inner re
     no_tries (end past) _ (Stops Reach.cut_off past n how) (λ further. RunsPlan Reach.cut_off s past n rest further how) (running_stops past n how unended unready) (running_runs s past n how unended unready rest) tries
 running_runs s past n how unended unready (Plan.abort_then levels rest) = inr (running_unended past n how unended unready)
 
-pub stops_some : (n : Name) (how : Option How) → StopsEarly n how → is_some how ≡ true
-stops_some n None h = absurd h
-stops_some n (Some how) h = refl
-
 pub unended_some : (n : Name) (how : Option How) → IsUnended n how → is_some how ≡ true → WasAsked n how
 unended_some n how (inl is) h = absurd (some_or_none how h is)
 unended_some n how (inr s) h = s

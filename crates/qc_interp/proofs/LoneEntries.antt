@@ -12,11 +12,11 @@ use Rattle.qc_event.specs.History.{Past, Name, is_child, same}
 use Rattle.qc_event.proofs.Absent.{same_itself}
 use Rattle.qc_event.proofs.LastNumber.{child_last, rest_of}
 use Rattle.qc_event.proofs.Booleans.{all_wider}
+use Rattle.qc_event.proofs.OneEntry.{all_children}
 use Rattle.qc_names.specs.Name as name
 use Rattle.qc_script.specs.Client.{Client, mine, is_own, is_commit, concerns, AreOurs}
 use Rattle.qc_interp.specs.Alone.{is_lone, AreLone}
 use Rattle.qc_interp.specs.Session.{tops, AreAllOurs}
-use Rattle.qc_interp.proofs.Seen.{all_children}
 
 not_both : (a b : Bool) → a ≡ true → b ≡ true → not (a && b) ≡ false
 not_both true true h g = refl

@@ -22,7 +22,7 @@ use Rattle.qc_event.proofs.Orderly.{Belongs}
 use Rattle.qc_event.proofs.LastNumber.{ends_in, front_last}
 use Rattle.qc_event.specs.Standing.{Started, IsUser, IsManager}
 use Rattle.qc_event.proofs.LegalOrderly.{legal_orderly}
-use Rattle.qc_event.proofs.OneEntry.{ending, first_is, first_some, starting, some_or_none}
+use Rattle.qc_event.proofs.OneEntry.{ending, first_is, first_some, starting, some_or_none, all_children}
 use Rattle.qc_names.specs.Name as name
 use Rattle.qc_net.specs.Messages.{Net, meets_fates}
 use Rattle.qc_script.specs.Calls.{is_access, is_over, unable_in}
@@ -44,7 +44,6 @@ use Rattle.qc_interp.proofs.LoneSessions.{IsSingle, kind_at, one_more, only_of, 
 use Rattle.qc_interp.proofs.LoneTurns.{Answers, earliest_kept, every_kept}
 use Rattle.qc_interp.proofs.Mine.{kept_some}
 use Rattle.qc_interp.proofs.ReadyTops.{ready_is_top}
-use Rattle.qc_interp.proofs.Seen.{all_children}
 use Rattle.qc_interp.proofs.Still.{tries_wider, follows_runs}
 
 -- ALL STARTS ARE THE CLIENT'S

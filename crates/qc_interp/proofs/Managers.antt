@@ -1,5 +1,5 @@
 -- What a manager leaves that a client made: its transaction has one child more, and all else is as it was.
-use Rattle.std.proofs.Common.{◌≡◌, ◌<◌, ◌+◌, Bool, true, false, List, [], ◌∷◌, ◌++◌, length, take, refl, sym, ap, ◌∙◌, subst, append-nil, append_assoc, arith, length-append}
+use Rattle.std.proofs.Common.{◌≡◌, ◌<◌, ◌+◌, Bool, true, false, [], ◌∷◌, ◌++◌, length, take, refl, sym, ap, ◌∙◌, subst, append-nil, append_assoc, arith, length-append}
 use Rattle.std.specs.Prelude.{Option, None, Some, is_some, option_to_list, option_map, if◌then◌else◌, ◌&&◌}
 use Rattle.std.specs.List.{AllByRecursion, list_all}
 use Rattle.std.specs.Option.{option_or}
@@ -16,7 +16,7 @@ use Rattle.qc_event.proofs.LastNumber.{child_last, child_longer, no_child_length
 use Rattle.qc_event.proofs.Lawful.{lawful, child_starts, ends_open}
 use Rattle.qc_event.proofs.LegalOrderly.{legal_orderly}
 use Rattle.qc_event.proofs.Lineage.{fresh_child, IsFresh}
-use Rattle.qc_event.proofs.OneEntry.{start_is, end_now, stays_some, some_or_none, not_some, child_added}
+use Rattle.qc_event.proofs.OneEntry.{start_is, end_now, stays_some, some_or_none, not_some, child_added, both_empty}
 use Rattle.qc_event.proofs.Orderly.{KeepsOrder}
 use Rattle.qc_event.proofs.Later.{earlier_legal, start_still}
 use Rattle.qc_script.specs.Calls.{Ran, WasCut, IsOfAccess, AreOfAccesses, by_client}
@@ -87,17 +87,9 @@ grouped : (a mid b : Past) (e : Entry) → (a ++ e ∷ mid) ++ b ≡ a ++ (e ∷
 grouped [] mid b e = refl
 grouped (x ∷ a) mid b e = ap (λ l. x ∷ l) (grouped a mid b e)
 
-rest_none : {X : Type 0} (xs ys : List X) → xs ++ ys ≡ [] → xs ≡ []
-rest_none [] ys h = refl
-rest_none (x ∷ xs) ys h = absurd cc
-
-end_none : {X : Type 0} (xs ys : List X) → xs ++ ys ≡ [] → ys ≡ []
-end_none [] ys h = h
-end_none (x ∷ xs) ys h = absurd cc
-
 pub children_rest : (newer past : Past) (n : Name) → children (newer ++ past) n ≡ [] → children past n ≡ []
 children_rest [] past n h = h
-children_rest (e ∷ newer) past n h = children_rest newer past n (rest_none _ _ h)
+children_rest (e ∷ newer) past n h = children_rest newer past n (both_empty _ _ h).0
 
 module _ (c : Client) where
   pub absent : {Y : Type 0} (f : Entry → Option Y) (mid before : Past) → earliest f (mid ++ before) ≡ None → earliest f (mine c before) ≡ None
@@ -105,10 +97,10 @@ module _ (c : Client) where
 
   pub none_kept : (past : Past) (n : Name) → children past n ≡ [] → children (mine c past) n ≡ []
   none_kept [] n h = refl
-  none_kept (e ∷ past) n h = by_test (is_own c e.seat) (none_kept past n (rest_none _ _ h))
+  none_kept (e ∷ past) n h = by_test (is_own c e.seat) (none_kept past n (both_empty _ _ h).0)
     where
       none : option_to_list (child_in n e.event) ≡ []
-      none = end_none (children past n) _ h
+      none = (both_empty (children past n) _ h).1
 
       by_test : (b : Bool) → children (mine c past) n ≡ [] → children (if b then e ∷ mine c past else mine c past) n ≡ []
       by_test false was = was

@@ -15,7 +15,7 @@ use Rattle.qc_event.proofs.Lawful.{ends_open}
 use Rattle.qc_event.proofs.LegalOrderly.{legal_orderly}
 use Rattle.qc_event.proofs.Orderly.{KeepsOrder}
 use Rattle.qc_event.proofs.LastNumber.{child_last, child_longer, below_more}
-use Rattle.qc_event.proofs.OneEntry.{starting, ending, marking, some_or_none, not_some}
+use Rattle.qc_event.proofs.OneEntry.{starting, ending, marking, some_or_none, not_some, all_children}
 use Rattle.qc_names.specs.Name as name
 use Rattle.qc_script.specs.Client.{Client, mine, is_own, concerns, is_commit, AreOurs, all_ours}
 use Rattle.qc_interp.specs.Follows.{Stops, HasNotEnded, GoesOn, Commits, RunsPlan}
@@ -35,31 +35,6 @@ use Rattle.qc_event.proofs.Absent.{other_length}
 
 below_child : (a n c : Name) → name.is_ancestor a n ≡ true → is_child n c ≡ true → name.is_ancestor a c ≡ true
 below_child a n c h child = let l = child_last n c child in ap (name.is_ancestor a) l.1 ∙ below_more a n (l.0 ∷ []) h
-
-pub all_children : (h : Past) (n : Name) → AllByRecursion (λ c. is_child n c ≡ true) (children h n)
-all_children [] n = tt
-all_children (e ∷ h) n = by_event e.event (children h n) (all_children h n)
-  where
-    by_child : (c : Name) (b : Bool) → is_child n c ≡ b → (cs : List Name) → AllByRecursion (λ x. is_child n x ≡ true) cs → AllByRecursion (λ x. is_child n x ≡ true) (cs ++ option_to_list (if b then Some c else None))
-    by_child c true is [] all = (is, tt)
-    by_child c true is (x ∷ cs) all = (all.0, by_child c true is cs all.1)
-    by_child c false is [] all = tt
-    by_child c false is (x ∷ cs) all = (all.0, by_child c false is cs all.1)
-
-    none : (cs : List Name) → AllByRecursion (λ x. is_child n x ≡ true) cs → AllByRecursion (λ x. is_child n x ≡ true) (cs ++ [])
-    none [] all = tt
-    none (x ∷ cs) all = (all.0, none cs all.1)
-
-    by_event : (ev : Event) (cs : List Name) → AllByRecursion (λ x. is_child n x ≡ true) cs → AllByRecursion (λ x. is_child n x ≡ true) (cs ++ option_to_list (child_in n ev))
-    by_event (event.Start c k) cs all = by_child c (is_child n c) refl cs all
-    by_event (event.Ask ask) cs all = none cs all
-    by_event (event.Gone m why) cs all = none cs all
-    by_event (event.Granted copy grant) cs all = none cs all
-    by_event (event.Refused m copy refusal) cs all = none cs all
-    by_event (event.Unable m why) cs all = none cs all
-    by_event (event.Mark m session) cs all = none cs all
-    by_event (event.Ready m) cs all = none cs all
-    by_event (event.End m how) cs all = none cs all
 
 module _ (c : Client) (of : Name) (past : Past) (ours : AreOurs c of past) where
   abbrev top : Name

@@ -4,8 +4,10 @@ use mathlib.Core.Bool.{true≢false}
 use Rattle.std.specs.Prelude.{Option, None, Some, option_to_list, ◌&&◌, if◌then◌else◌}
 use Rattle.std.specs.List.{AllByRecursion, list_all}
 use Rattle.std.proofs.lemmas.List.Elements.{filter-append}
+use Rattle.std.proofs.lemmas.List.{append-nil}
 use Rattle.qc_event.specs.declared.event.Entry.{Entry}
 use Rattle.qc_event.specs.History.{Past, every}
+use Rattle.qc_event.proofs.OneEntry.{both_empty}
 use Rattle.qc_script.specs.Client.{Client, mine, is_own}
 use Rattle.qc_interp.specs.Sessions.{top_in, tops_of, is_of, part_of, after_others, keeps_seat, RunsInTurn}
 use Rattle.qc_script.specs.Numbers.{each}
@@ -16,21 +18,9 @@ pub record AreOthers (s : ℕ) (newer past : Past) : Type 0 where
   pub no_top : every (λ (e : Entry). top_in s e.event) newer ≡ []
   pub none_of : filter (is_of (tops_of s past)) newer ≡ []
 
-rest_nil : {X : Type 0} (xs ys : List X) → xs ++ ys ≡ [] → xs ≡ []
-rest_nil [] ys h = refl
-rest_nil (x ∷ xs) ys h = absurd cc
-
-last_nil : {X : Type 0} (xs ys : List X) → xs ++ ys ≡ [] → ys ≡ []
-last_nil [] ys h = h
-last_nil (x ∷ xs) ys h = absurd cc
-
 to_none : {X : Type 0} (o : Option X) → option_to_list o ≡ [] → o ≡ None
 to_none None h = refl
 to_none (Some x) h = absurd cc
-
-append_nil : {X : Type 0} (xs : List X) → xs ++ [] ≡ xs
-append_nil [] = refl
-append_nil (x ∷ xs) = ap (λ l. x ∷ l) (append_nil xs)
 
 and_true : (a b : Bool) → b ≡ true → (a && b) ≡ a
 and_true true b h = h
@@ -39,8 +29,8 @@ and_true false b h = refl
 pub tops_still : (s : ℕ) (newer past : Past) → every (λ (e : Entry). top_in s e.event) newer ≡ [] → tops_of s (newer ++ past) ≡ tops_of s past
 tops_still s [] past h = refl
 tops_still s (e ∷ newer) past h =
-    ap (λ l. tops_of s (newer ++ past) ++ l) (last_nil (tops_of s newer) (option_to_list (top_in s e.event)) h) ∙ append_nil _
-    ∙ tops_still s newer past (rest_nil (tops_of s newer) (option_to_list (top_in s e.event)) h)
+    ap (λ l. tops_of s (newer ++ past) ++ l) (both_empty (tops_of s newer) (option_to_list (top_in s e.event)) h).1 ∙ append-nil _
+    ∙ tops_still s newer past (both_empty (tops_of s newer) (option_to_list (top_in s e.event)) h).0
 
 -- the part of a session stays
 pub part_still : (s : ℕ) (newer past : Past) → AreOthers s newer past → part_of s (newer ++ past) ≡ part_of s past
@@ -52,9 +42,9 @@ part_still s newer past others =
 order_still : (s : ℕ) (newer past : Past) → every (λ (e : Entry). top_in s e.event) newer ≡ [] → each (after_others s) (newer ++ past) ≡ each (after_others s) past
 order_still s [] past h = refl
 order_still s (e ∷ newer) past h =
-    let none = to_none (top_in s e.event) (last_nil (tops_of s newer) (option_to_list (top_in s e.event)) h) in
+    let none = to_none (top_in s e.event) (both_empty (tops_of s newer) (option_to_list (top_in s e.event)) h).1 in
     and_true (each (after_others s) (newer ++ past)) (after_others s e (newer ++ past)) (ap (λ o. Rattle.std.specs.Option.option_map_or (λ t. list_all (Rattle.qc_script.specs.Calls.is_over (newer ++ past)) (tops_of s (newer ++ past))) o true) none)
-    ∙ order_still s newer past (rest_nil (tops_of s newer) (option_to_list (top_in s e.event)) h)
+    ∙ order_still s newer past (both_empty (tops_of s newer) (option_to_list (top_in s e.event)) h).0
 
 -- a session that ran in turn did so, whatever others enter after
 pub turns_still : (s : ℕ) (newer past : Past) → AreOthers s newer past → RunsInTurn s past → RunsInTurn s (newer ++ past)
