@@ -1,5 +1,5 @@
 -- A manager that has asked nothing may collect, and one that has done all its stages may commit.
-use Rattle.std.proofs.Common.{◌≡◌, ℕ, Bool, true, false, List, [], ◌∷◌, ◌++◌, refl, sym, ap, ◌∙◌, subst}
+use Rattle.std.proofs.Common.{◌≡◌, ℕ, Bool, true, false, [], ◌∷◌, ◌++◌, refl, sym, ap, ◌∙◌, subst}
 use Rattle.std.specs.Prelude.{◌&&◌, not, is_some, find, filter, filter_map, IsSome, All, option_to_list, Option, None, Some}
 use Rattle.std.proofs.lemmas.Bool.{true≢false, some_since, false_from_ne_true}
 use Rattle.std.proofs.lemmas.List.Elements.{All-nil}
@@ -18,7 +18,7 @@ use Rattle.qc_event.specs.Legal.{Legal, MayHappen}
 use Rattle.qc_event.specs.Manager.{Greatest, collecting, newest, is_enough, first_for, result, is_phase, phase_of, record_of}
 use Rattle.qc_event.specs.Standing.{IsManager}
 use Rattle.qc_event.proofs.Absent.{if_not}
-use Rattle.qc_event.proofs.OneEntry.{no_child_passes}
+use Rattle.qc_event.proofs.OneEntry.{no_child_passes, both_empty}
 use Rattle.qc_gather.specs.Carrying.{IsRunning}
 use Rattle.qc_gather.specs.Gathered.{Gathered}
 use Rattle.qc_gather.specs.Told.{greatest_in}
@@ -37,10 +37,6 @@ kind_at past m = kind_or (start past m)
 
 -- NOTHING ASKED
 
-nil_parts : {X : Type 0} (xs ys : List X) → xs ++ ys ≡ [] → (xs ≡ []) × (ys ≡ [])
-nil_parts [] ys is = (refl, is)
-nil_parts (x ∷ xs) ys is = absurd cc
-
 -- what was started below a name is among its children
 started_below : (past : Past) (m c : Name) → is_child m c ≡ true → is_some (start past c) ≡ true → children past m ≡ [] → ⊥
 started_below past m c child started none =
@@ -55,7 +51,7 @@ asks_nothing setting past seat m _ may none = refl
 pub nothing_asked : (setting : Setting) (past : Past) (m : Name) → Legal setting past → children past m ≡ [] → asks past m ≡ []
 nothing_asked setting [] m legal none = refl
 nothing_asked setting (e ∷ past) m legal none =
-    let before : children past m ≡ [] = (nil_parts (children past m) (option_to_list (child_in m e.event)) none).0 in
+    let before : children past m ≡ [] = (both_empty (children past m) (option_to_list (child_in m e.event)) none).0 in
     ap (λ old. old ++ option_to_list (ask_below m e.event)) (nothing_asked setting past m legal.0 before)
     ∙ ap option_to_list (asks_nothing setting past e.seat m e.event legal.1 before)
 
