@@ -20,13 +20,13 @@ use Rattle.qc_event.specs.History.{Past, Name, Begun, start, end, end_in, is_chi
 use Rattle.qc_event.specs.Legal.{Legal, MayEnd, MayHappen}
 use Rattle.qc_event.specs.Standing.{IsUser, IsManager, Started}
 use Rattle.qc_event.specs.Starts.{Stands, Starts}
-use Rattle.qc_event.specs.Users.{MayStartNext}
 use Rattle.qc_event.proofs.Absent.{if_not, told_apart}
 use Rattle.qc_event.proofs.Histories.{or_none}
 use Rattle.qc_event.proofs.LastNumber.{child_last, front_last, child_longer}
 use Rattle.qc_event.proofs.Lawful.{started_wider}
 use Rattle.qc_event.proofs.OneEntry.{start_step}
 use Rattle.qc_event.proofs.Later.{started_still}
+use Rattle.qc_event.proofs.BelowTops.{next_below}
 use Rattle.qc_client.proofs.Standing.{not_both, no_user_below}
 use Rattle.qc_gather.specs.Carrying.{name_of}
 use Rattle.qc_script.specs.Calls.{IsOfAccess, is_access, is_asked}
@@ -74,16 +74,11 @@ start_apart n m (e ∷ inner) past each began = elim (start_step e (inner ++ pas
 
 -- WHAT AN ACCESS DOES
 
-below_top : (setting : Setting) (past : Past) (seat : ℕ) (m : Name) (k : Kind) → 1 < length m → Starts setting past seat m k → MayStartNext (λ p. Stands setting seat p (length m) k) past seat m
-below_top setting past seat [] k long may = absurd may
-below_top setting past seat (x ∷ []) k long may = absurd (omega (arith, long))
-below_top setting past seat (x ∷ y ∷ r) k long may = may
-
 -- where a manager's child stands
 pub stands_there : (setting : Setting) (past : Past) (n m : Name) (seat : ℕ) (k : Kind) → 0 < length n → is_child n m ≡ true → Starts setting past seat m k → Started past n (λ b. Stands setting seat b (length m) k)
 stands_there setting past n m seat k pos is may =
     let last = child_last n m is in
-    let next = below_top setting past seat m k (omega (arith, pos, child_longer n m is)) may in
+    let next = next_below setting past seat m k (omega (arith, pos, child_longer n m is)) may in
     subst (λ q. Started past q (λ b. Stands setting seat b (length m) k)) (ap name.front last.1 ∙ front_last n last.0) next.stands
 
 under_manager : (setting : Setting) (past : Past) (n : Name) (seat depth : ℕ) (k : Kind) → Started past n (λ b. IsManager b.kind) → Started past n (λ b. Stands setting seat b depth k) → is_access k ≡ true

@@ -10,12 +10,12 @@ use Rattle.qc_event.specs.History.{Past, Name, Begun, start, is_ready, children}
 use Rattle.qc_event.specs.Legal.{Legal, Allowed}
 use Rattle.qc_event.specs.Seats.{is_client}
 use Rattle.qc_event.specs.Standing.{IsGoing, IsUser, Started}
-use Rattle.qc_event.specs.Starts.{Stands, Starts}
-use Rattle.qc_event.specs.Users.{MayStartNext}
+use Rattle.qc_event.specs.Starts.{Stands}
 use Rattle.qc_event.proofs.LastNumber.{front_last, length_last}
 use Rattle.qc_event.proofs.Lawful.{lawful, started_wider, started_some}
 use Rattle.qc_event.proofs.LegalOrderly.{legal_orderly}
 use Rattle.qc_event.proofs.OneEntry.{some_or_none}
+use Rattle.qc_event.proofs.BelowTops.{starts_below}
 use Rattle.qc_client.specs.Alone.{IsAlone}
 use Rattle.qc_client.specs.Entering.{MayEnter, IsClear, StandsBelow}
 use Rattle.qc_client.proofs.Made.{own_is}
@@ -67,13 +67,8 @@ manages_below setting depth kind.Access fits = absurd fits
 
 -- THE NEXT CHILD
 
-below_top_starts : (setting : Setting) (past : Past) (seat : ℕ) (n : Name) (k : Kind) → 1 < length n → MayStartNext (λ p. Stands setting seat p (length n) k) past seat n → Starts setting past seat n k
-below_top_starts setting past seat [] k long may = absurd (omega arith)
-below_top_starts setting past seat (x ∷ []) k long may = absurd (omega arith)
-below_top_starts setting past seat (x ∷ y ∷ r) k long may = may
-
 pub may_start_child : (setting : Setting) (seat : ℕ) (past : Past) (of : Name) (k : ℕ) (kd : Kind) → IsTrue (is_client seat) → 0 < length of → IsGoing past of → is_ready past of ≡ false → length (children past of) + 1 ≡ k → Started past of (λ b. Stands setting seat b (length (of ++ k ∷ [])) kd) → Allowed setting past (record { seat = seat; event = event.Start (of ++ k ∷ []) kd })
-may_start_child setting seat past of k kd client nonroot going unready next stands = below_top_starts setting past seat (of ++ k ∷ []) kd (omega (arith, length_last of k)) (record {
+may_start_child setting seat past of k kd client nonroot going unready next stands = starts_below setting past seat (of ++ k ∷ []) kd (omega (arith, length_last of k)) (record {
   by_client = client;
   parent_going = subst (IsGoing past) (sym (front_last of k)) going;
   parent_not_ready = subst (λ q. IsTrue (not (is_ready past q))) (sym (front_last of k)) (ap not unready);
