@@ -49,7 +49,8 @@ impl LoneClient {
         requires closed { open_child self.old.seen of.now ≡ None }
         ensures client { self.new.client ≡ self.old.client }
         ensures ok { OnOk result (Committed self.old.client of.now self.old.seen self.new.seen) }
-        ensures err { IfErr result (NotCommitted self.old.client of.now self.old.seen self.new.seen) }
+        ensures err { IfErr result (NotCommitted self.old.client of.now self.old.seen
+            self.new.seen) }
     {
         match self.act(Event::Ready { top: *of }) {
             Ok(()) => {}

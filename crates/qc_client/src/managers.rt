@@ -119,7 +119,8 @@ impl LoneClient {
     fn close(&mut self, name: &Name, came_to: &Result<Answer, MgrNo>) -> Result<Answer, TxNo>
         requires legal { Legal self.old.client.setting self.old.seen }
         requires may_end { (how : How) → ending_of came_to.now ≡ Some how
-            → MayEnter self.old.client self.old.seen (by_client self.old.client (event.End name.now how)) }
+            → MayEnter self.old.client self.old.seen
+            (by_client self.old.client (event.End name.now how)) }
         requires full { came_to.now ≡ Err MgrNo.Room → length self.old.seen ≡ limit }
         ensures ok { IfOk result (Closed self.old self.new name.now came_to.now) }
         ensures err { IfErr result (NotClosed self.old self.new name.now came_to.now) }
