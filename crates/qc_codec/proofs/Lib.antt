@@ -5,3 +5,4 @@ pub mod Loops
 pub mod Fits
 pub mod Puts
 pub mod Whole
+pub mod Order

@@ -1,9 +1,11 @@
 -- What a ledger's records tell, and which may stand behind which.
-use Rattle.std.specs.Prelude.{ℕ, length, ◌≡◌, ◌≢◌, ◌+◌, ◌/◌, ◌^◌, List, [], ◌∷◌, ◌++◌, All, Option, None, Some, MatchOption, unwrap_or}
+use Rattle.std.specs.Prelude.{ℕ, ◌≡◌, ◌≢◌, ◌<◌, ◌+◌, ◌/◌, ◌^◌, List, [], ◌∷◌, ◌++◌, All, Option, None, Some, MatchOption, unwrap_or}
 use Rattle.std.specs.List.{filter_map, last_or}
 use Rattle.qc_event.specs.declared.table.Table.{Table}
+use Rattle.qc_event.specs.History.{Name}
 use Rattle.qc_codec.specs.Bodies as body
 use Rattle.qc_codec.specs.Form.{Form, all_of}
+use Rattle.qc_codec.specs.Order.{EachMay, FirstMayNot}
 use Rattle.qc_codec.specs.declared.past.Logged.{Logged}
 use Rattle.qc_codec.specs.declared.past.Past.{Past}
 use Rattle.qc_codec.specs.declared.record.LedgerRecord.{LedgerRecord}
@@ -38,6 +40,11 @@ past_in bodies = record {
 abbrev pub epoch_in : ℕ → ℕ
 epoch_in number = number / 2 ^ 32
 
+-- a top of an earlier epoch, or a name below one
+abbrev pub IsOld : ℕ → Name → Type 0
+IsOld epoch [] = ⊥
+IsOld epoch (number ∷ n) = epoch_in number < epoch
+
 -- A record may stand behind others that tell a past: the next epoch, or a top of the last one that was not logged.
 abbrev pub MayFollow : Past → LedgerRecord → Type 0
 MayFollow past (ledger_record.Made made) = ⊥
@@ -57,14 +64,8 @@ MayStand (first ∷ bodies) bytes = MatchOption (all_of body.ledger bytes) ⊥ (
 
 -- each body may stand behind those before it
 abbrev pub AreInOrder : List (List ℕ) → Type 0
-AreInOrder bodies = (before after : List (List ℕ)) (bytes : List ℕ) → bodies ≡ before ++ bytes ∷ after → MayStand before bytes
+AreInOrder bodies = EachMay MayStand bodies
 
 -- The first body that may not stand behind those before it has this index.
-pub record IsOutOfOrder (index : ℕ) (bodies : List (List ℕ)) : Type 0 where
-  pub before : List (List ℕ)
-  pub after : List (List ℕ)
-  pub bytes : List ℕ
-  pub split : bodies ≡ before ++ bytes ∷ after
-  pub size : index ≡ length before
-  pub order : AreInOrder before
-  pub breaks : MayStand before bytes → ⊥
+abbrev pub IsOutOfOrder : ℕ → List (List ℕ) → Type 0
+IsOutOfOrder index bodies = FirstMayNot MayStand index bodies

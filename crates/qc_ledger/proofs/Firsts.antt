@@ -16,6 +16,7 @@ use Rattle.qc_codec.specs.declared.record.LedgerRecord.{LedgerRecord}
 use Rattle.qc_codec.specs.declared.record.LedgerRecord.TheVariants as ledger_record
 use Rattle.qc_codec.proofs.Bodies.{exact_ledger}
 use Rattle.qc_codec.proofs.Exact.{all_again}
+use Rattle.qc_codec.proofs.Order.{each_none, each_push}
 use Rattle.qc_journal.specs.Image.{bodies_of}
 use Rattle.qc_ledger.specs.Image.{made_body, AreMadeFor, IsFault}
 use Rattle.qc_ledger.specs.Reading.{IsFirstBad, IsLaterBad}
@@ -24,7 +25,7 @@ use Rattle.qc_ledger.specs.Refusing.{IsImage, IsOfBytes}
 use Rattle.qc_ledger.specs.declared.fault.LedgerNo.{LedgerNo}
 use Rattle.qc_ledger.specs.declared.fault.LedgerNo.TheVariants.{Disk, Image, Memory}
 use Rattle.qc_ledger.specs.declared.fault.LedgerNo.TheVariants as ledger_no
-use Rattle.qc_ledger.proofs.Told.{by_stands, order_none, order_push, past_push, stands_by}
+use Rattle.qc_ledger.proofs.Told.{by_stands, past_push, stands_by}
 
 -- HOW THE LEDGER WAS MADE
 
@@ -57,7 +58,7 @@ handed_on (Err e) fault P Q also same is = subst (IsOfBytes Q) (sym same) (bytes
 pub first_fault : (table : Table) (limit : ℕ) (first : List ℕ) (bodies rest : List (List ℕ)) → bodies ≡ first ∷ rest → (f : ImageFault) → IsFirstBad table first f → IsFault table limit bodies f
 first_fault table limit first bodies rest is (Broken place) bad = bad
 first_fault table limit first bodies rest is (Grammar index) bad = (
-  record { before = []; after = rest; bytes = first; split = is; size = bad.0; order = order_none; breaks = bad.1 },
+  record { before = []; after = rest; item = first; split = is; size = bad.0; order = each_none MayStand; breaks = bad.1 },
   λ other. absurd (other bad.0),
 )
 first_fault table limit first bodies rest is (Full place) bad = absurd bad
@@ -100,7 +101,7 @@ module _ (bodies : List (Vec ℕ Global)) where
       record {
         before = bodies_of (take i bodies);
         after = bodies_of (drop (i + 1) bodies);
-        bytes = v.items;
+        item = v.items;
         split = parted;
         size = so_many;
         order = order;
@@ -117,7 +118,7 @@ module _ (bodies : List (Vec ℕ Global)) where
         let stands = stands_by so_far bytes (omega (arith, some, so_many)) (subst (λ p. MatchOption (all_of body.ledger bytes) ⊥ (MayFollow p)) told may) in
         let all : so_far ++ bytes ∷ [] ≡ bodies_of (take (i + 1) bodies) = ap (λ (b : List ℕ). so_far ++ b ∷ []) same ∙ one in (
           ap (λ p. with_body p (all_of body.ledger bytes)) told ∙ sym (past_push so_far bytes) ∙ ap past_in all,
-          subst AreInOrder all (order_push so_far bytes order stands),
+          subst AreInOrder all (each_push MayStand so_far bytes order stands),
         )
 
 -- THE FIRST BODY ALONE
@@ -130,7 +131,7 @@ made_tells (Some (ledger_record.Top top aborted)) made = absurd made
 
 pub begun : (bodies : List (Vec ℕ Global)) → 0 < length bodies → MayStand [] (slice_index_or (bodies_of bodies) 0 []) → (past_in (bodies_of (take 1 bodies)) ≡ past_in []) × AreInOrder (bodies_of (take 1 bodies))
 begun [] some may = absurd (omega (arith, some))
-begun (v ∷ bodies) some may = (past_push [] v.items ∙ made_tells (all_of body.ledger v.items) may, order_push [] v.items order_none may)
+begun (v ∷ bodies) some may = (past_push [] v.items ∙ made_tells (all_of body.ledger v.items) may, each_push MayStand [] v.items (each_none MayStand) may)
 
 -- A FAULT OF BYTES IS HANDED ON BY A MOUNTING
 

@@ -1,7 +1,7 @@
 mod Told
 mod Numbers
-mod Firsts
-mod Writing
-mod Mounts
+pub mod Firsts
+pub mod Writing
+pub mod Mounts
 mod Logging
 mod Verdicts

@@ -5,7 +5,7 @@ use Rattle.std.specs.List.{cons_option, filter_map, last_or}
 use Rattle.std.proofs.lemmas.List.Elements.{filter_map-append}
 use Rattle.qc_codec.specs.Bodies as body
 use Rattle.qc_codec.specs.Form.{all_of}
-use Rattle.qc_codec.specs.Ledger.{AreInOrder, MayFollow, MayStand, logged_in, past_in, readings}
+use Rattle.qc_codec.specs.Ledger.{MayFollow, MayStand, logged_in, past_in, readings}
 use Rattle.qc_codec.specs.declared.past.Logged.{Logged}
 use Rattle.qc_codec.specs.declared.past.Past.{Past}
 use Rattle.qc_codec.specs.declared.record.LedgerRecord.{LedgerRecord}
@@ -46,31 +46,6 @@ tells_more rs (Some (Top t aborted)) = past_is _ _ _ _ (epoch_same rs (Top t abo
 -- what bodies tell with one more
 pub past_push : (bodies : List (List ℕ)) (bytes : List ℕ) → past_in (bodies ++ bytes ∷ []) ≡ with_body (past_in bodies) (all_of body.ledger bytes)
 past_push bodies bytes = ap tells (filter_map-append (all_of body.ledger) bodies (bytes ∷ [])) ∙ tells_more (readings body.ledger bodies) (all_of body.ledger bytes)
-
--- a list with one more, parted before an item: that item is the last, or one of the list
-snoc_cases : {A : Type 0} (xs : List A) (x : A) (before after : List A) (y : A) → xs ++ x ∷ [] ≡ before ++ y ∷ after → ((before ≡ xs) × (y ≡ x)) ⊎ ((rest : List A) × (xs ≡ before ++ y ∷ rest))
-snoc_cases [] x [] after y is = inl (refl, cc)
-snoc_cases [] x (b ∷ []) after y is = absurd cc
-snoc_cases [] x (b ∷ c ∷ before) after y is = absurd cc
-snoc_cases (z ∷ xs) x [] after y is = let same : z ≡ y = cc in inr (xs, ap (λ k. k ∷ xs) same)
-snoc_cases {A} (z ∷ xs) x (b ∷ before) after y is =
-    let head : z ≡ b = cc in
-    let tail : xs ++ x ∷ [] ≡ before ++ y ∷ after = cc in
-    ⊎_elim
-    (λ last. let one : z ∷ xs ≡ b ∷ before = ap₂ (λ k (l : List A). k ∷ l) head (sym last.0) in inl (sym one, last.1))
-    (λ more. inr (more.0, ap₂ (λ k (l : List A). k ∷ l) head more.1))
-    (snoc_cases xs x before after y tail)
-
-pub order_none : AreInOrder []
-order_none [] after bytes is = absurd cc
-order_none (b ∷ before) after bytes is = absurd cc
-
--- with one more that may stand behind them they are in order
-pub order_push : (bodies : List (List ℕ)) (bytes : List ℕ) → AreInOrder bodies → MayStand bodies bytes → AreInOrder (bodies ++ bytes ∷ [])
-order_push bodies bytes order may before after b is = ⊎_elim
-    (λ last. subst (λ (bs : List (List ℕ)). MayStand bs b) (sym last.0) (subst (MayStand bodies) (sym last.1) may))
-    (λ more. order before more.0 b more.1)
-    (snoc_cases bodies bytes before after b is)
 
 -- behind some bodies, the rule is that of the past that they tell
 pub stands_by : (bodies : List (List ℕ)) (bytes : List ℕ) → 0 < length bodies → MatchOption (all_of body.ledger bytes) ⊥ (MayFollow (past_in bodies)) → MayStand bodies bytes

@@ -55,10 +55,10 @@ IsFault table limit bodies (OtherTable kept asked) = (asked ≡ table) × (kept 
 IsFault table limit bodies (Epoch epoch) = AreLedgers table bodies × ((past_in bodies).epoch ≡ epoch) × (epoch ≡ LAST_EPOCH)
 IsFault table limit bodies (Full place) = AreLedgers table bodies × ((past_in bodies).epoch < LAST_EPOCH) × IsFull limit bodies (to_write table bodies) place
 
--- the first fault of an image
-abbrev pub IsFirstFault : Table → ℕ → ImageFault → List ℕ → Type 0
-IsFirstFault table limit (Broken place) image = IsBroken place image
-IsFirstFault table limit fault image = (bodies : List (List ℕ)) × HasRecords bodies image × IsFault table limit bodies fault
+-- the first fault of an image: it is broken, or its bodies have a fault
+abbrev pub IsFirstFault : (List (List ℕ) → ImageFault → Type 0) → ImageFault → List ℕ → Type 0
+IsFirstFault Has (Broken place) image = IsBroken place image
+IsFirstFault Has fault image = (bodies : List (List ℕ)) × HasRecords bodies image × Has bodies fault
 
 -- Bodies have no fault, and what a mounting writes fits behind them.
 pub record AreMountable (table : Table) (limit : ℕ) (bodies : List (List ℕ)) : Type 0 where

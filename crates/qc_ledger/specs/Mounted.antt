@@ -35,9 +35,9 @@ pub record Mounts (table : Table) (limit : ℕ) (told : Option (List ℕ)) (reco
   pub next : epoch ≡ past.epoch + 1
   pub all : records ≡ found ++ to_write table found
 
--- An image was left before, or it has the records that were found and some first ones of those that a mounting writes.
-abbrev pub MountLeaves : Table → (List ℕ → Type 0) → Option (List ℕ) → List ℕ → Type 0
-MountLeaves table left told image = left image ⊎ IfSome told (λ bytes. (found : List (List ℕ)) × HasRecords found bytes × HasSome found (to_write table found) image)
+-- An image was left before, or it has the records that were found and some first ones of those that are written behind.
+abbrev pub MountLeaves : (List (List ℕ) → List (List ℕ)) → (List ℕ → Type 0) → Option (List ℕ) → List ℕ → Type 0
+MountLeaves written left told image = left image ⊎ IfSome told (λ bytes. (found : List (List ℕ)) × HasRecords found bytes × HasSome found (written found) image)
 
 -- the disk of a ledger that was mounted, or that was handed back
 abbrev pub disk_after : {D : Type 0} {g : Ghosts D} → Result (Book D g × Past × ℕ) (D × LedgerNo) → D

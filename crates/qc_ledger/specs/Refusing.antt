@@ -5,7 +5,7 @@ use Rattle.qc_codec.specs.declared.image.ImageFault.TheVariants as image
 use Rattle.qc_event.specs.declared.table.Table.{Table}
 use Rattle.qc_journal.specs.declared.fault.Fault.{Fault}
 use Rattle.qc_journal.specs.declared.fault.Fault.TheVariants as fault
-use Rattle.qc_ledger.specs.Image.{IsFirstFault}
+use Rattle.qc_ledger.specs.Image.{IsFault, IsFirstFault}
 use Rattle.qc_ledger.specs.declared.fault.LedgerNo.{LedgerNo}
 use Rattle.qc_ledger.specs.declared.fault.LedgerNo.TheVariants.{Disk, Image, Full, Memory}
 
@@ -43,7 +43,7 @@ IsOfBytes P Memory = Unit {0}
 
 -- a mounting may be refused: for the first fault of the image that is told, for the disk, or for memory
 abbrev pub IsRefusal : Table → ℕ → Option (List ℕ) → LedgerNo → Type 0
-IsRefusal table limit told fault = IsImage (λ f. IfSome told (IsFirstFault table limit f)) fault
+IsRefusal table limit told fault = IsImage (λ f. IfSome told (IsFirstFault (IsFault table limit) f)) fault
 
 -- a fault of the disk, of want of room or of the memory
 abbrev pub IsOfWriting : Fault → Type 0

@@ -12,5 +12,5 @@ mod shelf;
 pub use book::Book;
 pub use fault::LedgerNo;
 pub use law::one_verdict;
-pub use mounting::mount;
+pub use mounting::{make, mount};
 pub use shelf::Shelf;

@@ -52,8 +52,12 @@ fn write<D: Disk>(journal: &mut Journal<D>, bodies: &mut Vec<Body>, next: Body) 
     Ok(())
 }
 
-// Writes how the ledger was made, where there are no records.
-fn make<D: Disk>(journal: &mut Journal<D>, bodies: &mut Vec<Body>, made: Body) -> Result<(), Fault>
+/// Writes how a disk was made behind its records, where there are none, and keeps its body.
+pub fn make<D: Disk>(
+    journal: &mut Journal<D>,
+    bodies: &mut Vec<Body>,
+    made: Body,
+) -> Result<(), Fault>
     requires up { IsUp journal.old }
     ensures up { OnOk result (IsUp journal.new) }
     ensures bodies { OnOk result (HasMore bodies.old bodies.new
@@ -202,7 +206,7 @@ pub fn mount<D: Disk>(
 
     ensures any_moment { IsSome (D.content disk)
         → LeavesOnly D.moment D.left_at disk (disk_after result)
-        (MountLeaves table.now (D.may_leave disk) (D.content disk)) }
+        (MountLeaves (to_write table.now) (D.may_leave disk) (D.content disk)) }
     ensures grows { IsSome (D.content disk) → (index : ℕ) (had : List ℕ)
         → Grows D.moment D.left_at disk (disk_after result) (HasAt index had) }
     ensures cause { HasCause (D.faults disk) (D.faults (disk_after result))

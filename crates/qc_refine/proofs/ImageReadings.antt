@@ -17,7 +17,8 @@ use Rattle.qc_event.specs.declared.event.Grant.{Grant}
 use Rattle.qc_event.specs.declared.table.Table.{Table}
 use Rattle.qc_journal.proofs.Readings.{records-same}
 use Rattle.qc_journal.specs.Image.{HasRecords}
-use Rattle.qc_refine.specs.Images.{IsCopyImage, IsLedgerImage, grant_form, ledger_records}
+use Rattle.qc_codec.specs.Copy.{grant_form}
+use Rattle.qc_refine.specs.Images.{IsCopyImage, IsLedgerImage, ledger_records}
 
 -- WHAT IS READ
 

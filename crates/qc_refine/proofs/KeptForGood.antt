@@ -21,7 +21,7 @@ use Rattle.qc_simlock.proofs.MossNames.{two_ways}
 use Rattle.qc_refine.specs.Final.{is_for_good}
 use Rattle.qc_refine.proofs.CopiesSerial.{root_alive}
 use Rattle.qc_codec.specs.declared.past.Logged.{Logged}
-use Rattle.qc_refine.specs.Restored.{keeps, is_kept}
+use Rattle.qc_codec.specs.Restored.{keeps, is_kept}
 use Rattle.qc_event.specs.Listed.{listed}
 use Rattle.qc_refine.specs.Listed.{logged}
 use Rattle.qc_refine.proofs.BelowReady.{IsSettledBelow, settled_below, committed_or}

@@ -19,7 +19,8 @@ use Rattle.qc_event.specs.Tables.{base_of, first_tuple, setting_of}
 use Rattle.qc_journal.proofs.Readings.{records-same}
 use Rattle.qc_journal.specs.Image.{HasRecords}
 use Rattle.qc_simlock.specs.Serial.{final_values}
-use Rattle.qc_refine.specs.Images.{AreFresh, CarryFinal, IsStanding, Restores, grant_form, kept_in}
+use Rattle.qc_codec.specs.Copy.{grant_form}
+use Rattle.qc_refine.specs.Images.{AreFresh, CarryFinal, IsStanding, Restores, kept_in}
 use Rattle.qc_refine.specs.Restored.{granted_at, restored, restored_setting}
 use Rattle.qc_refine.specs.Standing.{StandBeside, committed_too}
 use Rattle.qc_refine.proofs.Grids.{grid_is}

@@ -22,7 +22,8 @@ use Rattle.qc_refine.specs.InTurn.{left_base}
 use Rattle.qc_refine.proofs.CopiesSerial.{left_copies}
 use Rattle.qc_refine.proofs.Grids.{grid, grid_at, grid_copies, grids_agree}
 use Rattle.qc_codec.specs.declared.past.Logged.{Logged}
-use Rattle.qc_refine.specs.Restored.{Kept, granted_at, restored_tuple, restored, restored_setting}
+use Rattle.qc_codec.specs.Restored.{restored_tuple}
+use Rattle.qc_refine.specs.Restored.{Kept, granted_at, restored, restored_setting}
 use Rattle.qc_event.specs.Listed.{listed}
 use Rattle.qc_refine.specs.Listed.{logged, logged_as}
 use Rattle.qc_refine.specs.Standing.{commit_of, IsNext, AreNext, committed_too, IsUntold, StandBeside}

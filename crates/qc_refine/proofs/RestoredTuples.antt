@@ -31,11 +31,11 @@ use Rattle.qc_simlock.proofs.MossVisible.{leaves}
 use Rattle.qc_refine.specs.Final.{is_for_good}
 use Rattle.qc_refine.proofs.CopiesSerial.{root_alive}
 use Rattle.qc_refine.proofs.ForGood.{root_sees}
-use Rattle.qc_codec.specs.Ledger.{epoch_in}
+use Rattle.qc_codec.specs.Ledger.{IsOld, epoch_in}
 use Rattle.qc_codec.specs.declared.past.Logged.{Logged}
-use Rattle.qc_refine.specs.Restored.{keeps, is_kept, is_kept_at, restored_tuple}
+use Rattle.qc_codec.specs.Restored.{keeps, is_kept, is_kept_at, restored_tuple}
 use Rattle.qc_refine.specs.Listed.{logged}
-use Rattle.qc_refine.specs.Standing.{IsOld, IsOfEpoch, IsUntold}
+use Rattle.qc_refine.specs.Standing.{IsOfEpoch, IsUntold}
 use Rattle.qc_refine.proofs.KeptForGood.{good_committed, kept_is_good}
 use Rattle.qc_refine.proofs.LoggedTops.{IsLogged, logged_are}
 

@@ -16,10 +16,10 @@ use Rattle.qc_event.specs.Legal.{Legal}
 use Rattle.qc_event.specs.Seats.{number_in, top_name}
 use Rattle.qc_event.proofs.Worked.{setting, tuple, client, start, commit, abort, get, put, write, ends}
 use Rattle.qc_refine.specs.Listed.{logged}
-use Rattle.qc_codec.specs.Ledger.{epoch_in}
+use Rattle.qc_codec.specs.Ledger.{IsOld, epoch_in}
 use Rattle.qc_codec.specs.declared.past.Logged.{Logged}
 use Rattle.qc_refine.specs.Restored.{Kept, granted_at, restored}
-use Rattle.qc_refine.specs.Standing.{AreNext, IsOfEpoch, IsOld, StandBeside}
+use Rattle.qc_refine.specs.Standing.{AreNext, IsOfEpoch, StandBeside}
 
 abbrev nothing : Kept
 nothing = record { tops = []; granted = [] ∷ [] }

@@ -2,8 +2,7 @@
 use Rattle.std.specs.Prelude.{ℕ, ◌≡◌, ◌+◌, ◌<◌, List, [], ◌∷◌, ◌++◌, length, map, slice_get, slice_index_or, All, Some}
 use Rattle.std.specs.List.{filter_map, range_with_len}
 use Rattle.qc_codec.specs.Bodies as body
-use Rattle.qc_codec.specs.Fields.{format_1}
-use Rattle.qc_codec.specs.Form.{Form}
+use Rattle.qc_codec.specs.Copy.{grant_form}
 use Rattle.qc_codec.specs.Ledger.{logged_in, made_for, readings, record_of_top}
 use Rattle.qc_codec.specs.declared.past.Logged.{Logged}
 use Rattle.qc_codec.specs.declared.record.LedgerRecord.{LedgerRecord}
@@ -21,10 +20,6 @@ use Rattle.qc_refine.specs.Restored.{Kept, granted_at, restored, restored_value}
 use Rattle.qc_refine.specs.Standing.{StandBeside}
 
 -- WHAT STANDS IN BODIES
-
--- the form of what a table's copies granted
-abbrev pub grant_form : Table → Form Grant
-grant_form table = body.grant (format_1 table.copies)
 
 -- the ledger's records: how its disk was made, older ones, an epoch, and the tops since
 abbrev pub ledger_records : Table → List LedgerRecord → ℕ → List Logged → List LedgerRecord

@@ -1,6 +1,6 @@
 -- When disks stand beside a history: what they tell is what they told before it, and what it tells.
 use Rattle.std.specs.Prelude.{ℕ, ◌≡◌, ◌<◌, true, is_some, List, [], ◌∷◌, ◌++◌, length, All, None}
-use Rattle.qc_codec.specs.Ledger.{epoch_in}
+use Rattle.qc_codec.specs.Ledger.{IsOld, epoch_in}
 use Rattle.qc_codec.specs.declared.past.Logged.{Logged}
 use Rattle.qc_config.specs.declared.tuple.Tuple.{Tuple}
 use Rattle.qc_event.specs.declared.event.Answer.TheVariants.{Nothing}
@@ -45,11 +45,6 @@ pub record IsUntold (past : Past) (g : Grant) : Type 0 where
   pub not_granted : granted past g.access ≡ None
 
 -- EPOCHS
-
--- a top of an earlier epoch, or a name below one
-abbrev pub IsOld : ℕ → Name → Type 0
-IsOld epoch [] = ⊥
-IsOld epoch (number ∷ n) = epoch_in number < epoch
 
 -- each top of the history is of this epoch
 abbrev pub IsOfEpoch : ℕ → Past → Type 0

@@ -21,10 +21,10 @@ returns-in-Ok-begin-clause-any_moment g c = λ some.
     let left = g.D.Disk.may_leave c.args.disk in
     let mid = disk_of c.in-Ok.mounted.0 in
     let bodies = bodies_of c.in-Ok.mounted.1.items in
-    (continues g.D.Disk.moment g.D.Disk.left_at c.args.disk mid (disk_of c.begin.new.journal) _ (HasSome bodies (to_write c.args.table.now bodies)) (MountLeaves c.args.table.now left told)
+    (continues g.D.Disk.moment g.D.Disk.left_at c.args.disk mid (disk_of c.begin.new.journal) _ (HasSome bodies (to_write c.args.table.now bodies)) (MountLeaves (to_write c.args.table.now) left told)
     c.in-Ok.ensures.any_moment (c.begin.ensures.any_moment (c.in-Ok.ensures.keeps some))
-    (leaves_first c.args.table.now left told (g.met.D.Disk.reads_as_image c.args.disk))
-    (leaves_then c.args.table.now left told bodies c.in-Ok.ensures.records))
+    (leaves_first (to_write c.args.table.now) left told (g.met.D.Disk.reads_as_image c.args.disk))
+    (leaves_then (to_write c.args.table.now) left told bodies c.in-Ok.ensures.records))
 
 pub returns-in-Ok-begin-clause-grows : goal.returns-in-Ok-begin-clause-grows
 returns-in-Ok-begin-clause-grows g c = λ some index had.
@@ -39,11 +39,11 @@ returns-in-Err-begin-clause-any_moment g c = λ some.
     let left = g.D.Disk.may_leave c.args.disk in
     let mid = disk_of c.in-Ok.mounted.0 in
     let bodies = bodies_of c.in-Ok.mounted.1.items in
-    subst (λ d. LeavesOnly g.D.Disk.moment g.D.Disk.left_at c.args.disk d (MountLeaves c.args.table.now left told)) (sym c.into_disk.ensures)
-    (continues g.D.Disk.moment g.D.Disk.left_at c.args.disk mid (disk_of c.begin.new.journal) _ (HasSome bodies (to_write c.args.table.now bodies)) (MountLeaves c.args.table.now left told)
+    subst (λ d. LeavesOnly g.D.Disk.moment g.D.Disk.left_at c.args.disk d (MountLeaves (to_write c.args.table.now) left told)) (sym c.into_disk.ensures)
+    (continues g.D.Disk.moment g.D.Disk.left_at c.args.disk mid (disk_of c.begin.new.journal) _ (HasSome bodies (to_write c.args.table.now bodies)) (MountLeaves (to_write c.args.table.now) left told)
     c.in-Ok.ensures.any_moment (c.begin.ensures.any_moment (c.in-Ok.ensures.keeps some))
-    (leaves_first c.args.table.now left told (g.met.D.Disk.reads_as_image c.args.disk))
-    (leaves_then c.args.table.now left told bodies c.in-Ok.ensures.records))
+    (leaves_first (to_write c.args.table.now) left told (g.met.D.Disk.reads_as_image c.args.disk))
+    (leaves_then (to_write c.args.table.now) left told bodies c.in-Ok.ensures.records))
 
 pub returns-in-Err-begin-clause-grows : goal.returns-in-Err-begin-clause-grows
 returns-in-Err-begin-clause-grows g c = λ some index had.

@@ -1,0 +1,40 @@
+-- What a copy's records tell, and which may stand behind which.
+use Rattle.std.specs.Prelude.{ℕ, ◌≡◌, ◌≢◌, ◌<◌, ◌+◌, List, [], ◌∷◌, length, All, MatchOption}
+use Rattle.qc_event.specs.declared.event.Grant.{Grant}
+use Rattle.qc_event.specs.declared.table.Table.{Table}
+use Rattle.qc_codec.specs.Bodies as body
+use Rattle.qc_codec.specs.Fields.{format_1}
+use Rattle.qc_codec.specs.Form.{Form, all_of}
+use Rattle.qc_codec.specs.Ledger.{IsOld, readings}
+use Rattle.qc_codec.specs.Order.{EachMay, FirstMayNot}
+use Rattle.qc_codec.specs.declared.past.Past.{Past}
+use Rattle.qc_codec.specs.declared.record.Made.{Made}
+
+-- the form of what a table's copies granted
+abbrev pub grant_form : Table → Form Grant
+grant_form table = body.grant (format_1 table.copies)
+
+-- A grant may stand behind others: its top is of no later epoch than the ledger's last, its record is one of the
+-- table's, and its access is none of theirs.
+pub record MayFollow (table : Table) (past : Past) (before : List Grant) (g : Grant) : Type 0 where
+  pub old : IsOld (past.epoch + 1) g.access
+  pub known : g.rec < length table.records
+  pub new : All (λ (other : Grant). other.access ≢ g.access) before
+
+-- a made record tells that it is of this copy's disk
+abbrev pub IsMadeOf : ℕ → Made → Type 0
+IsMadeOf copy made = made.who ≡ copy + 1
+
+module _ (copy : ℕ) (table : Table) (past : Past) where
+  -- a body may stand behind others: the first tells how the disk was made, and each further one is a grant
+  abbrev pub MayStand : List (List ℕ) → List ℕ → Type 0
+  MayStand [] bytes = MatchOption (all_of body.made bytes) ⊥ (IsMadeOf copy)
+  MayStand (first ∷ bodies) bytes = MatchOption (all_of (grant_form table) bytes) ⊥ (MayFollow table past (readings (grant_form table) (first ∷ bodies)))
+
+  -- each body may stand behind those before it
+  abbrev pub AreInOrder : List (List ℕ) → Type 0
+  AreInOrder bodies = EachMay MayStand bodies
+
+  -- The first body that may not stand behind those before it has this index.
+  abbrev pub IsOutOfOrder : ℕ → List (List ℕ) → Type 0
+  IsOutOfOrder index bodies = FirstMayNot MayStand index bodies
