@@ -42,7 +42,7 @@ pub record IsSized (t : Table) : Type 0 where
   pub records : length t.records < 256
   pub rows : All (HasLengths t.copies) t.records
 
-table_sized : (t : Table) → (table 1).fits t → IsSized t
+pub table_sized : (t : Table) → (table 1).fits t → IsSized t
 unfolding table
 table_sized t fits = record {
   copies = most t.copies fits.0.0.0.1;

@@ -14,12 +14,10 @@ use Rattle.qc_codec.specs.declared.record.Made.{Made}
 abbrev pub grant_form : Table → Form Grant
 grant_form table = body.grant (format_1 table.copies)
 
--- A grant may stand behind others: its top is of no later epoch than the ledger's last, its record is one of the
--- table's, and its access is none of theirs.
-pub record MayFollow (table : Table) (past : Past) (before : List Grant) (g : Grant) : Type 0 where
-  pub old : IsOld (past.epoch + 1) g.access
-  pub known : g.rec < length table.records
-  pub new : All (λ (other : Grant). other.access ≢ g.access) before
+-- A grant may stand behind others: its record is one of the table's, its top is of no later epoch than the ledger's
+-- last, and its access is none of theirs.
+abbrev pub MayFollow : Table → Past → List Grant → Grant → Type 0
+MayFollow table past before g = (g.rec < length table.records) × IsOld (past.epoch + 1) g.access × All (λ (other : Grant). other.access ≢ g.access) before
 
 -- a made record tells that it is of this copy's disk
 abbrev pub IsMadeOf : ℕ → Made → Type 0

@@ -86,12 +86,12 @@ module _ (bodies : List (Vec ℕ Global)) where
     pub one_more : bodies_of (take (i + 1) bodies) ≡ bodies_of (take i bodies) ++ v.items ∷ []
     one_more = ap bodies_of (take_more bodies i v within ∙ ap (λ x. take i bodies ++ x ∷ []) (sym is)) ∙ map_push (λ (b : Vec ℕ Global). b.items) (take i bodies) v
 
-    parted : bodies_of bodies ≡ bodies_of (take i bodies) ++ v.items ∷ bodies_of (drop (i + 1) bodies)
+    pub parted : bodies_of bodies ≡ bodies_of (take i bodies) ++ v.items ∷ bodies_of (drop (i + 1) bodies)
     parted =
         ap bodies_of (sym (take-append-drop i bodies) ∙ ap (λ l. take i bodies ++ l) (drop_more bodies i v within ∙ ap (λ x. x ∷ drop (i + 1) bodies) (sym is)))
         ∙ map-append (λ (b : Vec ℕ Global). b.items) (take i bodies) (v ∷ drop (i + 1) bodies)
 
-    so_many : i ≡ length (bodies_of (take i bodies))
+    pub so_many : i ≡ length (bodies_of (take i bodies))
     so_many = omega (arith, within, length-map (take i bodies) (λ (b : Vec ℕ Global). b.items), length-take i bodies)
 
     -- a body that may not stand behind those before it is the first fault

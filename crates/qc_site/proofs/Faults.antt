@@ -1,0 +1,108 @@
+-- Which fault of bodies is the first, and that it is handed on.
+use Rattle.std.proofs.Common.{◌≡◌, ◌≢◌, ℕ, ◌+◌, ◌<◌, ◌≤◌, List, [], ◌∷◌, refl, sym, ◌∙◌, subst, arith}
+use Rattle.std.specs.Prelude.{Result, Ok, Err, IfErr, Option, None, Some, IfSome, IsSome}
+use Rattle.std.specs.Result.{IsErrAnd, IsErrOf}
+use Rattle.qc_event.specs.declared.table.Table.{Table}
+use Rattle.qc_codec.specs.Bodies as body
+use Rattle.qc_codec.specs.Copy.{MayStand}
+use Rattle.qc_codec.specs.Ledger.{made_for}
+use Rattle.qc_codec.specs.declared.image.ImageFault.{ImageFault}
+use Rattle.qc_codec.specs.declared.image.ImageFault.TheVariants.{Broken, Grammar, Full, Table as OtherTable, Epoch}
+use Rattle.qc_codec.specs.declared.past.Past.{Past}
+use Rattle.qc_codec.proofs.Fits.{table_sized}
+use Rattle.qc_codec.proofs.Order.{each_none}
+use Rattle.qc_journal.specs.Fault.{IsOfReading}
+use Rattle.qc_journal.specs.Image.{HasRecords, IsBroken}
+use Rattle.qc_journal.specs.declared.fault.Fault.{Fault}
+use Rattle.qc_journal.specs.declared.fault.Fault.TheVariants as journal
+use Rattle.qc_ledger.specs.Image.{IsFirstFault}
+use Rattle.qc_ledger.proofs.Mounts.{first_told}
+use Rattle.qc_site.specs.Image.{AreMadeFor, IsFault}
+use Rattle.qc_site.specs.Reading.{IsFirstBad, IsLaterBad}
+use Rattle.qc_site.specs.Refusing.{mount_no, IsImage, IsOfBytes, IsRefusal}
+use Rattle.qc_site.specs.declared.fault.SiteNo.{SiteNo}
+use Rattle.qc_site.specs.declared.fault.SiteNo.TheVariants.{Disk, Image, Strange, Memory}
+
+-- how a copy's disk was made has a body
+pub made_proper : (copy : ℕ) (table : Table) → copy < 16 → (body.table 1).fits table → body.made.fits (made_for (copy + 1) table)
+unfolding body.made body.making
+made_proper copy table few fits = ((omega (arith, few), fits), tt)
+
+-- a table has at most 16 copies
+pub few_copies : (table : Table) → (body.table 1).fits table → table.copies ≤ 16
+few_copies table fits = (table_sized table fits).copies
+
+module _ (copy : ℕ) where
+  -- HANDED ON
+
+  bytes_also : (P Q : ImageFault → Type 0) → ((f : ImageFault) → P f → Q f) → (fault : SiteNo) → IsOfBytes copy P fault → IsOfBytes copy Q fault
+  bytes_also P Q also Disk is = is
+  bytes_also P Q also (Image bad) is = (is.0, also bad.fault is.1)
+  bytes_also P Q also Strange is = is
+  bytes_also P Q also Memory is = tt
+
+  pub handed_on : {T : Type 0} (r : Result T SiteNo) (fault : SiteNo) (P Q : ImageFault → Type 0) → ((f : ImageFault) → P f → Q f) → IsErrAnd r (λ e. e ≡ fault) → IsOfBytes copy P fault → IfErr r (IsOfBytes copy Q)
+  handed_on (Ok x) fault P Q also same is = tt
+  handed_on (Err e) fault P Q also same is = subst (IsOfBytes copy Q) (sym same) (bytes_also P Q also fault is)
+
+  image_of_bytes : (P Q : ImageFault → Type 0) → ((f : ImageFault) → P f → Q f) → (fault : SiteNo) → IsOfBytes copy P fault → IsImage copy Q fault
+  image_of_bytes P Q also Disk is = tt
+  image_of_bytes P Q also (Image bad) is = (is.0, also bad.fault is.1)
+  image_of_bytes P Q also Strange is = is
+  image_of_bytes P Q also Memory is = tt
+
+  pub passed_on : {T : Type 0} (r : Result T SiteNo) (fault : SiteNo) (P Q : ImageFault → Type 0) → ((f : ImageFault) → P f → Q f) → IsErrAnd r (λ e. e ≡ fault) → IsOfBytes copy P fault → IfErr r (IsImage copy Q)
+  passed_on (Ok x) fault P Q also same is = tt
+  passed_on (Err e) fault P Q also same is = subst (IsImage copy Q) (sym same) (image_of_bytes P Q also fault is)
+
+  pub no_disk : {T : Type 0} (r : Result T SiteNo) (fault : SiteNo) (P : ImageFault → Type 0) → IsErrAnd r (λ e. e ≡ fault) → IsOfBytes copy P fault → IsErrOf r Disk → ⊥
+  no_disk (Ok x) fault P same is of = absurd cc
+  no_disk (Err e) fault P same is of = let one : e ≡ Disk = cc in subst (IsOfBytes copy P) (sym same ∙ one) is
+
+  image_also : (P Q : ImageFault → Type 0) → ((f : ImageFault) → P f → Q f) → (fault : SiteNo) → IsImage copy P fault → IsImage copy Q fault
+  image_also P Q also Disk is = tt
+  image_also P Q also (Image bad) is = (is.0, also bad.fault is.1)
+  image_also P Q also Strange is = is
+  image_also P Q also Memory is = tt
+
+  -- THE FIRST
+
+  module _ (table : Table) (past : Past) (limit : ℕ) where
+    pub first_fault : (first : List ℕ) (bodies rest : List (List ℕ)) → bodies ≡ first ∷ rest → (f : ImageFault) → IsFirstBad copy table past first f → IsFault copy table past limit bodies f
+    first_fault first bodies rest is (Broken place) bad = bad
+    first_fault first bodies rest is (Grammar index) bad = (
+      record { before = []; after = rest; item = first; split = is; size = bad.0; order = each_none (MayStand copy table past); breaks = bad.1 },
+      λ other. absurd (other bad.0),
+    )
+    first_fault first bodies rest is (Full place) bad = absurd bad
+    first_fault first bodies rest is (OtherTable kept asked) bad = (bad.0, bad.1, (λ none. let two : first ∷ rest ≡ [] = sym is ∙ none in absurd cc), subst (AreMadeFor copy kept) (sym is) bad.2)
+    first_fault first bodies rest is (Epoch epoch) bad = bad
+
+    pub later_fault : (bodies : List (List ℕ)) → AreMadeFor copy table bodies → (f : ImageFault) → IsLaterBad copy table past bodies f → IsFault copy table past limit bodies f
+    later_fault bodies made (Broken place) bad = bad
+    later_fault bodies made (Grammar index) bad = (bad.1, λ other. made)
+    later_fault bodies made (Full place) bad = absurd bad
+    later_fault bodies made (OtherTable kept asked) bad = absurd bad
+    later_fault bodies made (Epoch epoch) bad = bad
+
+    -- the journal's fault is the image's first
+    pub mount_refusal : (told : Option (List ℕ)) (fault : Fault) → IsOfReading fault → ((place : ℕ) → fault ≡ journal.Broken place → IfSome told (IsBroken place)) → IsRefusal copy table past limit told (mount_no copy fault)
+    mount_refusal told journal.Disk of broken = tt
+    mount_refusal told (journal.Broken place) of broken = (refl, also told (broken place refl))
+      where
+        also : (t : Option (List ℕ)) → IfSome t (IsBroken place) → IfSome t (λ image. IsBroken place image)
+        also t is = is
+    mount_refusal told (journal.Full place) of broken = absurd of
+    mount_refusal told journal.Memory of broken = tt
+
+    -- a fault of the bodies is the image's first
+    pub begin_refusal : (K : Type 0) (told : Option (List ℕ)) (kept : ℕ) (bodies : List (List ℕ)) → kept ≡ limit → IfSome told (HasRecords bodies) → (IsSome told → K) → (fault : SiteNo)
+        → IsImage copy (λ f. K → IsFault copy table past kept bodies f) fault → IsRefusal copy table past limit told fault
+    begin_refusal K told kept bodies same has keeps refused is =
+        image_also (λ f. K → IsFault copy table past kept bodies f) (λ f. IfSome told (IsFirstFault (IsFault copy table past limit) f))
+        (λ f at. first_told (IsFault copy table past limit) bodies (λ place broken. broken) told f has (λ some. subst (λ n. IsFault copy table past n bodies f) same (at (keeps some)))) refused is
+
+-- what is found is said of what a disk tells
+pub fine_told : (M : Type 0) (told : Option (List ℕ)) (found : List (List ℕ)) → IfSome told (HasRecords found) → (IsSome told → M) → IfSome told (λ bytes. HasRecords found bytes × M)
+fine_told M None found has also = tt
+fine_told M (Some bytes) found has also = (has, also refl)

@@ -1,0 +1,3 @@
+mod Accesses
+mod Rests
+mod Faults

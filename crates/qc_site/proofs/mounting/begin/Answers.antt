@@ -1,0 +1,44 @@
+-- What is wrong with the bodies is handed on.
+use Rattle.std.proofs.Common.{◌≤◌, arith, ap, subst, List, ℕ}
+use Rattle.qc_disk.specs.Disk.{HasCause}
+use Rattle.qc_journal.specs.Image.{bodies_of}
+use Rattle.qc_journal.specs.Journal.{Keeps, disk_of, limit_of}
+use Rattle.qc_journal.proofs.Moments.{started}
+use Rattle.qc_ledger.specs.Mounted.{HasSome}
+use Rattle.qc_ledger.proofs.Writing.{kept_has, some_of_none}
+use Rattle.qc_site.specs.Image.{IsFault, to_write}
+use Rattle.qc_site.proofs.Faults.{no_disk, passed_on}
+use Rattle.qc_site.proofs.mounting.begin.Goals as goal
+
+pub returns-in_err-grants-clause-refused : goal.returns-in_err-grants-clause-refused
+returns-in_err-grants-clause-refused g c =
+    let copy = c.args.copy in
+    let table = c.args.table.now in
+    let past = c.args.past.now in
+    let limit = limit_of c.args.journal.now in
+    let bodies = bodies_of c.args.bodies.now.items in
+    passed_on copy c.from_residual-in_err-grants.result c.in_err-grants.field-0.0 (IsFault copy table past limit (bodies_of c.deref-2.result.now)) (λ fault. Keeps c.args.journal.now bodies → IsFault copy table past limit bodies fault)
+    (λ f is k. subst (λ (b : List (List ℕ)). IsFault copy table past limit b f) (ap bodies_of c.deref-2.ensures.value) is)
+    c.from_residual-in_err-grants.ensures.1 (c.in_err-grants.ensures.fault limit)
+
+pub returns-in_err-grants-clause-cause : goal.returns-in_err-grants-clause-cause
+returns-in_err-grants-clause-cause g c = record {
+  later = omega arith;
+  failed = λ is. absurd (no_disk c.args.copy c.from_residual-in_err-grants.result c.in_err-grants.field-0.0 (IsFault c.args.copy c.args.table.now c.args.past.now 0 (bodies_of c.deref-2.result.now)) c.from_residual-in_err-grants.ensures.1 (c.in_err-grants.ensures.fault 0) is);
+}
+
+pub returns-in_err-made-clause-any_moment : goal.returns-in_err-made-clause-any_moment
+returns-in_err-made-clause-any_moment g c = λ k.
+    let disk = disk_of c.args.journal.now in
+    let bodies = bodies_of c.args.bodies.now.items in
+    let more = to_write c.args.copy c.args.table.now bodies in
+    started g.D.Disk.moment g.D.Disk.left_at disk (HasSome bodies more)
+    (λ image left. some_of_none bodies more image (kept_has c.args.journal.now bodies image c.requires.up k ((g.met.D.Disk.leaves_now disk image).0 left)))
+
+pub returns-in_err-grants-clause-any_moment : goal.returns-in_err-grants-clause-any_moment
+returns-in_err-grants-clause-any_moment g c = λ k.
+    let disk = disk_of c.args.journal.now in
+    let bodies = bodies_of c.args.bodies.now.items in
+    let more = to_write c.args.copy c.args.table.now bodies in
+    started g.D.Disk.moment g.D.Disk.left_at disk (HasSome bodies more)
+    (λ image left. some_of_none bodies more image (kept_has c.args.journal.now bodies image c.requires.up k ((g.met.D.Disk.leaves_now disk image).0 left)))

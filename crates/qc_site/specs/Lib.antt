@@ -1,0 +1,5 @@
+pub mod Granted
+pub mod Image
+pub mod Reading
+pub mod Refusing
+pub mod Mounted

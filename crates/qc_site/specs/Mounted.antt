@@ -1,0 +1,31 @@
+-- What a mounting gives.
+use Rattle.std.specs.Prelude.{ℕ, ◌≡◌, List, ◌++◌, Option, IfSome, Result, Ok, Err}
+use Rattle.qc_disk.specs.declared.disk.Disk.{Ghosts}
+use Rattle.qc_event.specs.declared.table.Table.{Table}
+use Rattle.qc_codec.specs.declared.past.Past.{Past}
+use Rattle.qc_journal.specs.Image.{HasRecords, bodies_of}
+use Rattle.qc_journal.specs.declared.journal.Journal.{Journal}
+use Rattle.qc_site.specs.Image.{AreGranted, AreMountable, to_write}
+use Rattle.qc_site.specs.declared.fault.SiteNo.{SiteNo}
+use Rattle.qc_site.specs.declared.mounted.Mounted.{Mounted}
+
+-- the journal
+abbrev pub journal_of : {D : Type 0} {g : Ghosts D} → Mounted D g → Journal D g
+journal_of site = site.journal
+
+-- the bodies of its records
+abbrev pub records_of : {D : Type 0} {g : Ghosts D} → Mounted D g → List (List ℕ)
+records_of site = bodies_of site.bodies.items
+
+-- Bodies were found, which are a copy's in order behind a past. A disk that tells its bytes has them, without a fault.
+-- What a mounting writes stands behind them.
+pub record Mounts (copy : ℕ) (table : Table) (past : Past) (limit : ℕ) (told : Option (List ℕ)) (records : List (List ℕ)) : Type 0 where
+  pub found : List (List ℕ)
+  pub granted : AreGranted copy table past found
+  pub fine : IfSome told (λ bytes. HasRecords found bytes × AreMountable copy table past limit found)
+  pub all : records ≡ found ++ to_write copy table found
+
+-- the disk of a copy that was mounted, or that was handed back
+abbrev pub disk_after : {D : Type 0} {g : Ghosts D} → Result (Mounted D g) (D × SiteNo) → D
+disk_after (Ok mounted) = mounted.journal.disk
+disk_after (Err refused) = refused.0

@@ -1,0 +1,66 @@
+//! Why a site did not do what it was asked.
+ghost use Rattle.std.specs.Prelude.{◌≡◌, ◌<◌};
+ghost use Rattle.qc_site.specs.Refusing.{image_no, mount_no};
+ghost use Rattle.qc_site.specs.declared.fault.SiteNo.TheVariants.{Memory};
+
+use qc_codec::{BadImage, ImageFault};
+use qc_journal::Fault;
+use std::alloc::{AllocError, AllocFailed};
+use thiserror::Error;
+
+/// Why a site did not do what it was asked.
+#[derive(Drop, Debug, Error)]
+pub enum SiteNo {
+    /// The disk failed. Its count of faults says that it was the disk.
+    #[error("the disk failed")]
+    Disk,
+    /// What stands on the disk is refused. Mounting alone says so.
+    #[error("{0}")]
+    Image(BadImage),
+    /// The disk does not say what the history says. Mounting never answers so.
+    #[error("the disk is strange")]
+    Strange,
+    /// There was no memory.
+    #[error("no memory")]
+    Memory,
+}
+
+impl From<AllocError> for SiteNo {
+    ghost from_gives = { λ _ e. e ≡ Memory };
+
+    fn from(_: AllocError) -> Self {
+        SiteNo::Memory
+    }
+}
+
+impl<T: Drop> From<AllocFailed<T>> for SiteNo {
+    ghost from_gives = { λ _ e. e ≡ Memory };
+
+    fn from(_: AllocFailed<T>) -> Self {
+        SiteNo::Memory
+    }
+}
+
+/// The image of a copy's disk is refused.
+pub(crate) fn image_no(copy: u8, fault: ImageFault) -> SiteNo
+    requires { copy < 16 }
+    ensures { result ≡ image_no copy fault }
+{
+    SiteNo::Image(BadImage {
+        disk: copy + 1,
+        fault,
+    })
+}
+
+/// What a fault of the journal is to the mounting of a copy.
+pub(crate) fn mount_no(copy: u8, fault: Fault) -> SiteNo
+    requires { copy < 16 }
+    ensures { result ≡ mount_no copy fault }
+{
+    match fault {
+        Fault::Disk => SiteNo::Disk,
+        Fault::Broken { place } => image_no(copy, ImageFault::Broken { place }),
+        Fault::Full { place } => image_no(copy, ImageFault::Full { place }),
+        Fault::Memory => SiteNo::Memory,
+    }
+}

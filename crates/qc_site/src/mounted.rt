@@ -1,0 +1,33 @@
+//! A copy that was mounted.
+ghost use Rattle.std.specs.Prelude.{◌≡◌};
+ghost use Rattle.qc_journal.specs.Journal.{disk_of, IsDown, IsUp};
+
+use qc_disk::Disk;
+use qc_journal::{Body, Journal};
+
+/// A copy that was mounted: its journal, which is up, and the bodies of its records.
+#[derive(Drop)]
+pub struct Mounted<D: Disk> {
+    pub(crate) journal: Journal<D>,
+    pub(crate) bodies: Vec<Body>,
+    ghost up: { IsDown journal → ⊥ },
+}
+
+impl<D: Disk> Mounted<D> {
+    ghost use Rattle.qc_journal.specs.Image.{bodies_of};
+    ghost use Rattle.qc_site.specs.Mounted.{journal_of, records_of};
+
+    /// The bodies of its records, the one that says how it was made first.
+    pub fn records(&self) -> &[Body]
+        ensures { bodies_of result.now ≡ records_of self.now }
+    {
+        self.bodies.as_slice()
+    }
+
+    /// The disk.
+    pub fn into_disk(self) -> D
+        ensures { result ≡ disk_of (journal_of self) }
+    {
+        self.journal.into_disk()
+    }
+}

@@ -1,0 +1,124 @@
+//! Mounting a copy's disk.
+ghost use Rattle.std.specs.Prelude.{ℕ, ◌≡◌, ◌<◌, ◌≤◌, [], ◌∷◌, ◌++◌, List, IfOk, IfErr, IsSome, OnOk, IsErrOf, IsErrAnd};
+ghost use Rattle.qc_disk.specs.Disk.{HasCause, LeavesOnly, Grows};
+ghost use Rattle.qc_codec.specs.Bodies as body;
+ghost use Rattle.qc_codec.specs.Copy.{grant_form};
+ghost use Rattle.qc_codec.specs.Ledger.{readings};
+ghost use Rattle.qc_journal.specs.Image.{HasAt, bodies_of};
+ghost use Rattle.qc_journal.specs.Journal.{disk_of, limit_of, IsUp, Keeps};
+ghost use Rattle.qc_ledger.specs.Mounted.{MountLeaves, HasSome};
+ghost use Rattle.qc_ledger.specs.Runs.{Costs, HasMore, KeepsAll, Leaves, LosesNone};
+ghost use Rattle.qc_site.specs.Image.{made_body, to_write, AreGranted, AreMountable, IsFault};
+ghost use Rattle.qc_site.specs.Refusing.{IsRefusal, IsImage};
+ghost use Rattle.qc_site.specs.Mounted.{Mounts, journal_of, records_of, disk_after};
+
+use crate::fault::{SiteNo, mount_no};
+use crate::mounted::Mounted;
+use crate::reading::grants_of;
+use qc_codec::{Made, Past, copy_table, write_made};
+use qc_disk::Disk;
+use qc_event::{Grant, Table};
+use qc_journal::{Body, Journal};
+use qc_ledger::make;
+use std::alloc::{AllocError, Global};
+
+// The body that says that a copy's disk was made for a table.
+fn made_of(alloc: Global, copy: u8, table: &Table) -> Result<Body, AllocError>
+    requires copy { copy < 16 }
+    requires proper { (body.table 1).fits table.now }
+    ensures { IfOk result (λ made. made.items ≡ made_body copy table.now) }
+{
+    let made = Made {
+        who: copy + 1,
+        table: copy_table(alloc, table)?,
+    };
+    write_made(alloc, &made)
+}
+
+// Reads what the bodies grant, and writes how the disk was made, where there are none.
+fn begin<D: Disk>(
+    alloc: Global,
+    journal: &mut Journal<D>,
+    bodies: &mut Vec<Body>,
+    copy: u8,
+    table: &Table,
+    past: &Past,
+) -> Result<Vec<Grant>, SiteNo>
+    requires up { IsUp journal.old }
+    requires copy { copy < 16 }
+    requires few { table.now.copies ≤ 16 }
+    requires proper { (body.table 1).fits table.now }
+    ensures up { OnOk result (IsUp journal.new) }
+    ensures told { IfOk result (λ grants. grants.items ≡ readings (grant_form table.now)
+        (bodies_of bodies.old.items)) }
+    ensures granted { OnOk result (AreGranted copy table.now past.now
+        (bodies_of bodies.old.items)) }
+    ensures fine { OnOk result (KeepsAll journal.old bodies.old
+        → AreMountable copy table.now past.now (limit_of journal.old) (bodies_of bodies.old.items)) }
+    ensures bodies { OnOk result (HasMore bodies.old bodies.new
+        (to_write copy table.now (bodies_of bodies.old.items))) }
+    ensures limit { limit_of journal.new ≡ limit_of journal.old }
+    ensures keeps { OnOk result (KeepsAll journal.old bodies.old
+        → KeepsAll journal.new bodies.new) }
+    ensures refused { IfErr result (IsImage copy (λ fault. KeepsAll journal.old bodies.old
+        → IsFault copy table.now past.now (limit_of journal.old) (bodies_of bodies.old.items)
+        fault)) }
+    ensures any_moment { KeepsAll journal.old bodies.old
+        → Leaves journal.old journal.new (HasSome (bodies_of bodies.old.items)
+        (to_write copy table.now (bodies_of bodies.old.items))) }
+    ensures grows { KeepsAll journal.old bodies.old → LosesNone journal.old journal.new }
+    ensures cause { Costs journal.old journal.new (IsErrOf result SiteNo.Disk) }
+{
+    let made = made_of(alloc, copy, table)?;
+    let grants = grants_of(alloc, copy, table, past, &made, bodies)?;
+    match make(journal, bodies, made) {
+        Ok(()) => Ok(grants),
+        Err(fault) => Err(mount_no(copy, fault)),
+    }
+}
+
+/// Reads what stands on a copy's disk, and writes how it was made, where nothing stands there. The past is what the
+/// ledger told before this mounting. It takes as many steps as there are bytes, and for each record a search among
+/// the names of those before it. A refusal hands the disk back.
+pub fn mount<D: Disk>(
+    alloc: Global,
+    copy: u8,
+    disk: D,
+    table: &Table,
+    past: &Past,
+    limit: u64,
+) -> Result<Mounted<D>, (D, SiteNo)>
+    requires copy { copy < table.now.copies }
+    requires proper { (body.table 1).fits table.now }
+
+    // Records were found, which are this copy's for this table, in order behind this past.
+    ensures mounts { IfOk result (λ mounted. Mounts copy table.now past.now limit (D.content disk)
+        (records_of mounted)) }
+    ensures limit { IfOk result (λ mounted. limit_of (journal_of mounted) ≡ limit) }
+    ensures up { IfOk result (λ mounted. IsUp (journal_of mounted)) }
+
+    // Where the disk tells its bytes, each image has these records from now on.
+    ensures keeps { IfOk result (λ mounted. IsSome (D.content disk)
+        → Keeps (journal_of mounted) (records_of mounted)) }
+
+    // It is refused for the image's first fault, where the disk tells its bytes.
+    ensures refused { IfErr result (λ refused. IsRefusal copy table.now past.now limit
+        (D.content disk) refused.1) }
+
+    ensures any_moment { IsSome (D.content disk)
+        → LeavesOnly D.moment D.left_at disk (disk_after result)
+        (MountLeaves (to_write copy table.now) (D.may_leave disk) (D.content disk)) }
+    ensures grows { IsSome (D.content disk) → (index : ℕ) (had : List ℕ)
+        → Grows D.moment D.left_at disk (disk_after result) (HasAt index had) }
+    ensures cause { HasCause (D.faults disk) (D.faults (disk_after result))
+        (IsErrAnd result (λ refused. refused.1 ≡ SiteNo.Disk)) }
+{
+    let (mut journal, mut bodies) = match Journal::mount(alloc, disk, limit) {
+        Ok(mounted) => mounted,
+        Err((disk, fault)) => return Err((disk, mount_no(copy, fault))),
+    };
+    match begin(alloc, &mut journal, &mut bodies, copy, table, past) {
+        Ok(_grants) => Ok(Mounted { journal, bodies }),
+        Err(no) => Err((journal.into_disk(), no)),
+    }
+}

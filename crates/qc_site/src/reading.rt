@@ -1,0 +1,128 @@
+//! What the bodies of a copy's journal tell, held to its grammar.
+ghost use Rattle.std.specs.Prelude.{ℕ, ◌≡◌, ◌+◌, ◌<◌, ◌≤◌, ◌↔◌, ◌++◌, ◌∷◌, [], IfOk, IfErr, OnOk, IsTrue, MatchOption, Some, length, slice_index_or};
+ghost use Rattle.std.specs.Bool.{OnTrue};
+ghost use Rattle.qc_codec.specs.Bodies as body;
+ghost use Rattle.qc_codec.specs.Copy.{grant_form, AreInOrder, MayFollow, MayStand};
+ghost use Rattle.qc_codec.specs.Form.{all_of};
+ghost use Rattle.qc_codec.specs.Ledger.{made_for, readings};
+ghost use Rattle.qc_codec.specs.declared.past.Past.{Past};
+ghost use Rattle.qc_journal.specs.Image.{bodies_of};
+ghost use Rattle.qc_site.specs.Granted.{given_by, HasAccesses};
+ghost use Rattle.qc_site.specs.Image.{made_body, AreGranted, IsFault};
+ghost use Rattle.qc_site.specs.Reading.{IsFirstBad, IsLaterBad};
+ghost use Rattle.qc_site.specs.Refusing.{IsOfBytes};
+
+use crate::fault::{SiteNo, image_no};
+use crate::granted::Granted;
+use qc_codec::{CodecNo, ImageFault, Past, copy_table, read_grant, read_made};
+use qc_event::{Grant, Table};
+use qc_journal::Body;
+use std::alloc::{AllocError, Global};
+
+// Holds the first body to how the disk was made, by its spelling.
+fn check_made(
+    alloc: Global,
+    copy: u8,
+    table: &Table,
+    first: &[u8],
+    spelled: &[u8],
+) -> Result<(), SiteNo>
+    requires copy { copy < 16 }
+    requires fits { (body.table 1).fits table.now }
+    requires spelled { spelled.now ≡ made_body copy table.now }
+    ensures made { OnOk result (all_of body.made first.now ≡ Some
+        (made_for (copy + 1) table.now)) }
+    ensures fault { (past : Past) → IfErr result (IsOfBytes copy
+        (IsFirstBad copy table.now past first.now)) }
+{
+    if first == spelled {
+        return Ok(());
+    }
+    match read_made(alloc, first) {
+        Ok(kept) if kept.who == copy + 1 => {
+            let asked = copy_table(alloc, table)?;
+            let kept = kept.table;
+            Err(image_no(copy, ImageFault::Table { kept, asked }))
+        }
+        Ok(_) | Err(CodecNo::Bad) => Err(image_no(copy, ImageFault::Grammar { index: 0 })),
+        Err(CodecNo::Memory) => Err(SiteNo::Memory),
+    }
+}
+
+// Takes in the grant that bytes are, where it is one that may stand behind those before it.
+fn take_next(
+    granted: &mut Granted,
+    table: &Table,
+    past: &Past,
+    bytes: &[u8],
+) -> Result<bool, AllocError>
+    requires accesses { HasAccesses granted.old }
+    requires few { table.now.copies ≤ 16 }
+    ensures tells { IfOk result (λ taken. IsTrue taken ↔ MatchOption
+        (all_of (grant_form table.now) bytes.now) ⊥
+        (MayFollow table.now past.now (given_by granted.old))) }
+    ensures taken { IfOk result (λ taken. OnTrue taken (given_by granted.new ≡ given_by granted.old
+        ++ readings (grant_form table.now) (bytes.now ∷ []))) }
+    ensures accesses { IfOk result (λ taken. OnTrue taken (HasAccesses granted.new)) }
+{
+    match read_grant(bytes, table.copies) {
+        Ok(grant) => granted.take(table, past, grant),
+        Err(_) => Ok(false),
+    }
+}
+
+// What the bodies behind the first grant, where each may stand behind those before it.
+fn read_rest(
+    alloc: Global,
+    copy: u8,
+    table: &Table,
+    past: &Past,
+    bodies: &[Body],
+) -> Result<Granted, SiteNo>
+    requires copy { copy < 16 }
+    requires few { table.now.copies ≤ 16 }
+    requires some { 0 < length bodies.now }
+    requires made { MayStand copy table.now past.now [] (slice_index_or (bodies_of bodies.now) 0
+        []) }
+    ensures told { IfOk result (λ granted. given_by granted ≡ readings (grant_form table.now)
+        (bodies_of bodies.now)) }
+    ensures order { OnOk result (AreInOrder copy table.now past.now (bodies_of bodies.now)) }
+    ensures fault { IfErr result (IsOfBytes copy
+        (IsLaterBad copy table.now past.now (bodies_of bodies.now))) }
+{
+    let mut granted = Granted::new(alloc);
+    for index in 1..bodies.len() {
+        if !take_next(&mut granted, table, past, bodies[index].as_slice())? {
+            let index = index as u64;
+            return Err(image_no(copy, ImageFault::Grammar { index }));
+        }
+    }
+    Ok(granted)
+}
+
+/// What bodies grant, where they are a copy's for a table, in order behind a past.
+pub(crate) fn grants_of(
+    alloc: Global,
+    copy: u8,
+    table: &Table,
+    past: &Past,
+    spelled: &[u8],
+    bodies: &[Body],
+) -> Result<Vec<Grant>, SiteNo>
+    requires copy { copy < 16 }
+    requires fits { (body.table 1).fits table.now }
+    requires few { table.now.copies ≤ 16 }
+    requires spelled { spelled.now ≡ made_body copy table.now }
+    ensures told { IfOk result (λ grants. grants.items ≡ readings (grant_form table.now)
+        (bodies_of bodies.now)) }
+    ensures granted { OnOk result (AreGranted copy table.now past.now (bodies_of bodies.now)) }
+    ensures fault { (limit : ℕ) → IfErr result (IsOfBytes copy
+        (IsFault copy table.now past.now limit (bodies_of bodies.now))) }
+{
+    if bodies.is_empty() {
+        return Ok(Vec::new(alloc));
+    }
+    check_made(alloc, copy, table, bodies[0].as_slice(), spelled)?;
+    let granted = read_rest(alloc, copy, table, past, bodies)?;
+    Ok(granted.into_grants())
+}
