@@ -1,3 +1,4 @@
 mod Accesses
 mod Rests
 mod Faults
+mod Rows

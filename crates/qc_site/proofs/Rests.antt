@@ -1,5 +1,5 @@
 -- What bodies behind the first grant, one by one.
-use Rattle.std.proofs.Common.{◌≡◌, ◌≢◌, ◌⊎◌, inl, inr, ⊎_elim, ℕ, ◌+◌, ◌<◌, ◌≤◌, List, [], ◌∷◌, ◌++◌, length, take, drop, get_or, refl, sym, ap, ◌∙◌, subst, arith}
+use Rattle.std.proofs.Common.{◌≡◌, ◌≢◌, ◌⊎◌, inl, inr, ⊎_elim, ℕ, ◌+◌, ◌<◌, ◌≤◌, List, [], ◌∷◌, ◌++◌, length, take, drop, get_or, refl, sym, ap, ◌∙◌, subst, arith, append-nil}
 use Rattle.std.specs.Prelude.{◌==◌, Bool, true, false, if◌then◌else◌, Option, None, Some, MatchOption, Vec, slice_index_or}
 use Rattle.std.specs.List.{cons_option, filter_map}
 use Rattle.std.specs.Option.{option_and_then}
@@ -12,13 +12,16 @@ use Rattle.qc_codec.specs.Bodies as body
 use Rattle.qc_codec.specs.Copy.{grant_form, AreInOrder, IsMadeOf, MayFollow, MayStand}
 use Rattle.qc_codec.specs.Fields.{format_1}
 use Rattle.qc_codec.specs.Form.{Form, all_of, marked}
-use Rattle.qc_codec.specs.Ledger.{readings}
+use Rattle.qc_codec.specs.Ledger.{made_for, readings}
 use Rattle.qc_codec.specs.declared.image.ImageFault.TheVariants.{Grammar}
 use Rattle.qc_codec.specs.declared.past.Past.{Past}
 use Rattle.qc_codec.specs.declared.record.Made.{Made}
+use Rattle.qc_codec.proofs.Bodies.{exact_made}
+use Rattle.qc_codec.proofs.Exact.{all_again}
 use Rattle.qc_codec.proofs.Order.{each_none, each_push}
 use Rattle.qc_journal.specs.Image.{bodies_of}
 use Rattle.qc_ledger.proofs.Firsts.{one_more, parted, so_many}
+use Rattle.qc_site.specs.Image.{made_body, to_write}
 use Rattle.qc_site.specs.Reading.{IsLaterBad}
 
 -- TWO TAGS
@@ -53,6 +56,11 @@ module _ (copy : ℕ) (table : Table) (past : Past) where
       → (readings (grant_form table) (bodies_of (take 1 bodies)) ≡ []) × AreInOrder copy table past (bodies_of (take 1 bodies))
   begun [] some may = absurd (omega (arith, some))
   begun (v ∷ bodies) some may = (made_tells_none v.items may, each_push (MayStand copy table past) [] v.items (each_none (MayStand copy table past)) may)
+
+  -- what a mounting writes grants nothing
+  pub written_none : (fits : body.made.fits (made_for (copy + 1) table)) (found : List (List ℕ)) → readings (grant_form table) (found ++ to_write copy table found) ≡ readings (grant_form table) found
+  written_none fits [] = made_tells_none (made_body copy table) (subst (λ (o : Option Made). MatchOption o ⊥ (IsMadeOf copy)) (sym (all_again body.made exact_made (made_for (copy + 1) table) fits)) refl)
+  written_none fits (first ∷ bodies) = ap (readings (grant_form table)) (append-nil (first ∷ bodies))
 
   -- BODIES BEHIND IT
 

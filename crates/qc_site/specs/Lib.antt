@@ -3,3 +3,4 @@ pub mod Image
 pub mod Reading
 pub mod Refusing
 pub mod Mounted
+pub mod Start

@@ -6,6 +6,7 @@ mod granted;
 mod mounted;
 mod mounting;
 mod reading;
+mod start;
 
 pub use fault::SiteNo;
 pub use mounted::Mounted;

@@ -1,9 +1,12 @@
 //! Mounting a copy's disk.
-ghost use Rattle.std.specs.Prelude.{ℕ, ◌≡◌, ◌<◌, ◌≤◌, [], ◌∷◌, ◌++◌, List, IfOk, IfErr, IsSome, OnOk, IsErrOf, IsErrAnd};
+ghost use Rattle.std.specs.Prelude.{ℕ, ◌≡◌, ◌<◌, ◌≤◌, List, length, map, IfOk, IfErr, IsSome, OnOk, IsErrOf, IsErrAnd};
 ghost use Rattle.qc_disk.specs.Disk.{HasCause, LeavesOnly, Grows};
 ghost use Rattle.qc_codec.specs.Bodies as body;
 ghost use Rattle.qc_codec.specs.Copy.{grant_form};
 ghost use Rattle.qc_codec.specs.Ledger.{readings};
+ghost use Rattle.qc_codec.specs.Restored.{restored_row};
+ghost use Rattle.qc_event.specs.Base.{start_tuple};
+ghost use Rattle.qc_event.specs.Tables.{base_of, first_tuple};
 ghost use Rattle.qc_journal.specs.Image.{HasAt, bodies_of};
 ghost use Rattle.qc_journal.specs.Journal.{disk_of, limit_of, IsUp, Keeps};
 ghost use Rattle.qc_ledger.specs.Mounted.{MountLeaves, HasSome};
@@ -11,13 +14,16 @@ ghost use Rattle.qc_ledger.specs.Runs.{Costs, HasMore, KeepsAll, Leaves, LosesNo
 ghost use Rattle.qc_site.specs.Image.{made_body, to_write, AreGranted, AreMountable, IsFault};
 ghost use Rattle.qc_site.specs.Refusing.{IsRefusal, IsImage};
 ghost use Rattle.qc_site.specs.Mounted.{Mounts, journal_of, records_of, disk_after};
+ghost use Rattle.qc_site.specs.Start.{from_row, start_of};
 
 use crate::fault::{SiteNo, mount_no};
 use crate::mounted::Mounted;
 use crate::reading::grants_of;
+use crate::start::restored_row;
 use qc_codec::{Made, Past, copy_table, write_made};
+use qc_config::Tuple;
 use qc_disk::Disk;
-use qc_event::{Grant, Table};
+use qc_event::Table;
 use qc_journal::{Body, Journal};
 use qc_ledger::make;
 use std::alloc::{AllocError, Global};
@@ -43,14 +49,15 @@ fn begin<D: Disk>(
     copy: u8,
     table: &Table,
     past: &Past,
-) -> Result<Vec<Grant>, SiteNo>
+) -> Result<Vec<Tuple>, SiteNo>
     requires up { IsUp journal.old }
     requires copy { copy < 16 }
     requires few { table.now.copies ≤ 16 }
     requires proper { (body.table 1).fits table.now }
     ensures up { OnOk result (IsUp journal.new) }
-    ensures told { IfOk result (λ grants. grants.items ≡ readings (grant_form table.now)
-        (bodies_of bodies.old.items)) }
+    ensures start { IfOk result (λ start. start.items ≡ restored_row past.now.tops
+        (length table.now.records) (from_row (map first_tuple table.now.records))
+        (readings (grant_form table.now) (bodies_of bodies.old.items))) }
     ensures granted { OnOk result (AreGranted copy table.now past.now
         (bodies_of bodies.old.items)) }
     ensures fine { OnOk result (KeepsAll journal.old bodies.old
@@ -71,15 +78,17 @@ fn begin<D: Disk>(
 {
     let made = made_of(alloc, copy, table)?;
     let grants = grants_of(alloc, copy, table, past, &made, bodies)?;
+    let start = restored_row(alloc, table, past.tops.as_slice(), &grants)?;
     match make(journal, bodies, made) {
-        Ok(()) => Ok(grants),
+        Ok(()) => Ok(start),
         Err(fault) => Err(mount_no(copy, fault)),
     }
 }
 
 /// Reads what stands on a copy's disk, and writes how it was made, where nothing stands there. The past is what the
-/// ledger told before this mounting. It takes as many steps as there are bytes, and for each record a search among
-/// the names of those before it. A refusal hands the disk back.
+/// ledger told before this mounting. Reading takes as many steps as there are bytes, and for each record a search among
+/// the names of those before it; the start tuples, for each grant as many as there are logged tops. A refusal hands
+/// the disk back.
 pub fn mount<D: Disk>(
     alloc: Global,
     copy: u8,
@@ -96,6 +105,11 @@ pub fn mount<D: Disk>(
         (records_of mounted)) }
     ensures limit { IfOk result (λ mounted. limit_of (journal_of mounted) ≡ limit) }
     ensures up { IfOk result (λ mounted. IsUp (journal_of mounted)) }
+
+    // It starts with what its records restore, by the tops that were logged.
+    ensures start { IfOk result (λ mounted. start_of mounted ≡ restored_row past.now.tops
+        (length table.now.records) (start_tuple (base_of table.now) copy)
+        (readings (grant_form table.now) (records_of mounted))) }
 
     // Where the disk tells its bytes, each image has these records from now on.
     ensures keeps { IfOk result (λ mounted. IsSome (D.content disk)
@@ -118,7 +132,11 @@ pub fn mount<D: Disk>(
         Err((disk, fault)) => return Err((disk, mount_no(copy, fault))),
     };
     match begin(alloc, &mut journal, &mut bodies, copy, table, past) {
-        Ok(_grants) => Ok(Mounted { journal, bodies }),
+        Ok(start) => Ok(Mounted {
+            journal,
+            bodies,
+            start,
+        }),
         Err(no) => Err((journal.into_disk(), no)),
     }
 }

@@ -1,5 +1,10 @@
-use Rattle.std.proofs.Common.{◌<◌, ◌≤◌, ℕ, arith, sym, subst}
+use Rattle.std.proofs.Common.{◌<◌, ◌≤◌, ◌∙◌, ℕ, length, ap, arith, sym, subst}
+use Rattle.qc_codec.specs.Copy.{grant_form}
+use Rattle.qc_codec.specs.Ledger.{readings}
+use Rattle.qc_codec.specs.Restored.{restored_row}
 use Rattle.qc_disk.specs.Disk.{Grows, LeavesOnly}
+use Rattle.qc_event.specs.Base.{start_tuple}
+use Rattle.qc_event.specs.Tables.{base_of}
 use Rattle.qc_journal.specs.Image.{HasAt, bodies_of}
 use Rattle.qc_journal.specs.Journal.{Keeps, disk_of, limit_of}
 use Rattle.qc_journal.proofs.Moments.{continues, grows_on}
@@ -7,7 +12,9 @@ use Rattle.qc_site.specs.Image.{to_write, AreMountable}
 use Rattle.qc_ledger.specs.Mounted.{HasSome, MountLeaves}
 use Rattle.qc_site.specs.Refusing.{IsRefusal}
 use Rattle.qc_ledger.proofs.Mounts.{leaves_first, leaves_then}
-use Rattle.qc_site.proofs.Faults.{begin_refusal, few_copies, fine_told, mount_refusal}
+use Rattle.qc_site.proofs.Faults.{begin_refusal, few_copies, fine_told, made_proper, mount_refusal}
+use Rattle.qc_site.proofs.Rests.{written_none}
+use Rattle.qc_site.proofs.Rows.{start_is}
 use Rattle.qc_site.proofs.mounting.mount.Goals as goal
 
 pub returns-in-Err-clause-refused : goal.returns-in-Err-clause-refused
@@ -83,3 +90,16 @@ returns-in-Ok-begin-clause-mounts g c =
           (λ some. subst (λ n. AreMountable c.args.copy c.args.table.now c.args.past.now n found) c.in-Ok.ensures.limit (one.fine (c.in-Ok.ensures.keeps some)));
       all = one.bodies;
     }
+
+pub returns-in-Ok-begin-clause-start : goal.returns-in-Ok-begin-clause-start
+returns-in-Ok-begin-clause-start g c =
+    let copy = c.args.copy in
+    let table = c.args.table.now in
+    let past = c.args.past.now in
+    let found = bodies_of c.in-Ok.mounted.1.items in
+    let form = grant_form table in
+    let fits = made_proper copy table (few copy table.copies c.requires.copy (few_copies table c.requires.proper)) c.requires.proper in
+    c.in-Ok-begin.ensures.start
+    ∙ start_is table copy past.tops (readings form found) c.requires.copy
+    ∙ ap (restored_row past.tops (length table.records) (start_tuple (base_of table) copy))
+    (sym (written_none copy table past fits found) ∙ ap (readings form) (sym c.in-Ok-begin.ensures.bodies))

@@ -1,0 +1,39 @@
+-- What the grants so far restore, with the next.
+use Rattle.std.proofs.Common.{◌≡◌, ◌∙◌, ◌+◌, ◌∷◌, ◌++◌, [], List, ap, sym, length, take}
+use Rattle.std.specs.Prelude.{map}
+use Rattle.std.proofs.lemmas.List.{length-map, take_more}
+use Rattle.qc_config.specs.declared.tuple.Tuple.{Tuple}
+use Rattle.qc_event.specs.declared.event.Grant.{Grant}
+use Rattle.qc_codec.specs.Restored.{restored_row}
+use Rattle.qc_event.specs.Tables.{first_tuple}
+use Rattle.qc_site.specs.Start.{from_row}
+use Rattle.qc_site.proofs.Rows.{row_more, row_none, row_same}
+use Rattle.qc_site.proofs.start.restored_row.Goals as goal
+use Rattle.qc_site.proofs.start.restored_row.Goals.{then-is_kept, else-is_kept}
+
+pub loop-grant-init : goal.loop-grant-init
+loop-grant-init c =
+    let firsts = map first_tuple c.args.table.now.records in
+    c.in_ok-tuples.ensures
+    ∙ sym (row_none c.args.tops.now firsts)
+    ∙ ap (λ n. restored_row c.args.tops.now n (from_row firsts) []) (length-map c.args.table.now.records first_tuple)
+
+pub loop-grant-preserved : goal.loop-grant-preserved
+loop-grant-preserved c =
+    let tops = c.args.tops.now in
+    let records = length c.args.table.now.records in
+    let start = from_row (map first_tuple c.args.table.now.records) in
+    let gs = take c.loop-grant.grant-index c.args.grants.now in
+    let g = c.grant-item.result in
+    let more : take (c.loop-grant.grant-index + 1) c.args.grants.now ≡ gs ++ g ∷ [] = take_more c.args.grants.now c.loop-grant.grant-index g c.loop-grant-test.true ∙ ap (λ (h : Grant). gs ++ h ∷ []) (sym c.grant-item.is) in
+    elim c.if-is_kept.branch [
+      | then-is_kept w ↦
+          ap (λ v. v.items) w.tuples-is
+          ∙ row_more tops records start gs g c.loop-grant.tuples.items w.change.new.tuples.items (sym c.is_kept.ensures ∙ w.if-is_kept.true) w.change.ensures.known w.change.ensures.past c.loop-grant.invariant
+          ∙ ap (restored_row tops records start) (sym more)
+      | else-is_kept w ↦
+          ap (λ v. v.items) w.tuples-is
+          ∙ c.loop-grant.invariant
+          ∙ sym (row_same tops records start gs g (sym c.is_kept.ensures ∙ w.if-is_kept.false))
+          ∙ ap (restored_row tops records start) (sym more)
+    ]

@@ -1,0 +1,105 @@
+//! The tuples with which a copy starts: what its grants restore that logged tops keep.
+ghost use Rattle.std.specs.Prelude.{ℕ, ◌≡◌, ◌<◌, ◌≤◌, ◌++◌, ◌∷◌, [], length, map, slice_set, IfOk, OnOk, OnErr};
+ghost use Rattle.std.specs.List.{list_any};
+ghost use Rattle.qc_codec.specs.Restored as kept;
+ghost use Rattle.qc_config.specs.Tuple.{after};
+ghost use Rattle.qc_event.specs.Tables.{first_tuple};
+ghost use Rattle.qc_names.specs.Name as name;
+ghost use Rattle.qc_site.specs.Start.{from_row};
+
+use qc_codec::Logged;
+use qc_config::{Op, Tuple};
+use qc_event::{Grant, Name, Table};
+use std::alloc::{AllocError, Global};
+
+// A generic push: one at the type of tuples may get no proof.
+fn append<T: Copy>(items: &mut Vec<T>, item: T) -> Result<(), AllocError>
+    ensures ok { OnOk result (items.new.items ≡ items.old.items ++ item ∷ []) }
+    ensures err { OnErr result (items.new.items ≡ items.old.items) }
+{
+    items.push(item)?;
+    Ok(())
+}
+
+// Whether one of the names is above an access.
+fn are_above(names: &[Name], access: &Name) -> bool
+    ensures { result ≡ list_any (λ n. name.is_ancestor n access.now) names.now }
+{
+    for name in names {
+        if name.is_ancestor(access) {
+            return true;
+        }
+    }
+    false
+}
+
+// Whether a logged top is above an access, and none of those listed is.
+fn keeps(logged: &Logged, access: &Name) -> bool
+    ensures { result ≡ kept.keeps access.now logged.now }
+{
+    logged.top.is_ancestor(access) && !are_above(logged.aborted.as_slice(), access)
+}
+
+// Whether a logged top keeps what an access did.
+fn is_kept(tops: &[Logged], access: &Name) -> bool
+    ensures { result ≡ kept.is_kept tops.now access.now }
+{
+    for logged in tops {
+        if keeps(logged, access) {
+            return true;
+        }
+    }
+    false
+}
+
+// The first tuples of a table's records.
+fn first_tuples(alloc: Global, table: &Table) -> Result<Vec<Tuple>, AllocError>
+    ensures { IfOk result (λ tuples. tuples.items ≡ map first_tuple table.now.records) }
+{
+    let mut tuples = Vec::new(alloc);
+    for row in table.records.as_slice() {
+        let first = Tuple {
+            version: 0,
+            value: row.start,
+            generation: 0,
+            config: row.config,
+        };
+        append(&mut tuples, first)?;
+    }
+    Ok(tuples)
+}
+
+// Changes the tuple of a grant's record, where there is one.
+fn change(tuples: &mut Vec<Tuple>, grant: &Grant)
+    ensures known { grant.now.rec < length tuples.old.items → tuples.new.items ≡ slice_set
+        tuples.old.items grant.now.rec (after (from_row tuples.old.items grant.now.rec) grant.now.op) }
+    ensures past { length tuples.old.items ≤ grant.now.rec → tuples.new.items ≡ tuples.old.items }
+{
+    let rec = usize::from(grant.rec);
+    if rec < tuples.len() {
+        tuples[rec] = tuples[rec].after(&grant.op);
+    }
+}
+
+// It makes the type known that a grant holds.
+fn is_op(_op: &Op) {}
+
+/// The tuples of a copy that its grants restore.
+pub(crate) fn restored_row(
+    alloc: Global,
+    table: &Table,
+    tops: &[Logged],
+    grants: &[Grant],
+) -> Result<Vec<Tuple>, AllocError>
+    ensures { IfOk result (λ tuples. tuples.items ≡ kept.restored_row tops.now
+        (length table.now.records) (from_row (map first_tuple table.now.records)) grants.now) }
+{
+    let mut tuples = first_tuples(alloc, table)?;
+    for grant in grants {
+        is_op(&grant.op);
+        if is_kept(tops, &grant.access) {
+            change(&mut tuples, grant);
+        }
+    }
+    Ok(tuples)
+}
