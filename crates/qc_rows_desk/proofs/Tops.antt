@@ -1,22 +1,23 @@
 -- Who may be aborted as it asked or made ready; and the first pass once its splits are joined back.
-use Rattle.std.proofs.Common.{◌≡◌, ℕ, ◌+◌, ◌<◌, ◌==◌, Bool, true, false, cond, nat_lt, ◌&&◌, List, [], ◌∷◌, length, refl, sym, ap, ap₂, ◌∙◌, subst, eq-eqb, MatchBool, append-nil}
+use Rattle.std.proofs.Common.{◌≡◌, ℕ, ◌+◌, ◌<◌, ◌==◌, Bool, true, false, cond, nat_lt, ◌&&◌, List, [], ◌∷◌, length, refl, sym, ap, ap₂, ◌∙◌, subst, eq-eqb, MatchBool}
 use Rattle.std.specs.Prelude.{Option, None, Some, MatchOption, IsTrue, is_some, if◌then◌else◌}
 use Rattle.std.specs.Option.{option_or}
 use Rattle.qc_event.specs.declared.event.Cause.TheVariants as cause
-use Rattle.qc_event.specs.declared.event.Event.{Event}
 use Rattle.qc_event.specs.declared.event.Event.TheVariants as event
 use Rattle.qc_event.specs.declared.event.Kind.TheVariants as kind
 use Rattle.qc_event.specs.Aborts.{Licensed}
 use Rattle.qc_event.specs.Base.{Setting}
-use Rattle.qc_event.specs.History.{Past, Name, Begun, start, is_ready, children}
+use Rattle.qc_event.specs.History.{Past, Name, Begun, start, is_ready}
+use Rattle.qc_event.specs.Legal.{Legal}
 use Rattle.qc_event.specs.Standing.{Started, IsUser}
 use Rattle.qc_event.proofs.Absent.{same_itself}
+use Rattle.qc_event.proofs.Lawful.{started_some}
 use Rattle.qc_pass.specs.declared.view.View.{View}
-use Rattle.qc_pass.specs.Calling.{Entered}
+use Rattle.qc_pass.specs.Calling.{Entered, EnteredAs}
 use Rattle.qc_pass.specs.declared.refusal.DeskNo.{DeskNo}
-use Rattle.qc_pass.specs.Entries.{entry}
+use Rattle.qc_pass.specs.Refusing.{against_nothing}
 use Rattle.qc_pass.specs.Rules.{IsSplit, IsClient, without, knows, joined, pass, counted}
-use Rattle.qc_pass.proofs.AskedTops.{may_ask_abort}
+use Rattle.qc_pass.proofs.AskedTops.{IsTop, top_begun, may_ask_abort}
 
 -- who stands so may be aborted as it asked
 pub asked_itself : (setting : Setting) (past : Past) (by seat session body : ℕ) (n : Name) → start past n ≡ Some (record { seat = by; kind = kind.User session body }) → Started past n (λ b. Licensed setting past seat n b b.kind (cause.Asked n))
@@ -66,7 +67,7 @@ closes v a b one two one' two' x y opened first second n1 n2 j1 j2 =
 
 -- a top that has just started may be made ready
 pub may_be_ready : (setting : Setting) (epoch session body : ℕ) (v w : View) (n : Name) → EnteredAs against_nothing (IsTop epoch session body n) v w → Legal setting w.seen → (length n ≡ 1) × (is_some (start w.seen n) ≡ true)
-may_be_ready setting epoch session body v w n (before, ev, (named, is), since, none, same) legal = (ap length named, ap is_some (top_begun setting epoch session body v w n (before, ev, (named, is), since, none, same) legal))
+may_be_ready setting epoch session body v w n (before, ev, (named, is), since, none, same) legal = (ap length named, started_some (λ b. IsUser b.kind) (start w.seen n) (top_begun setting epoch session body v w n (before, ev, (named, is), since, none, same) legal))
 
 -- it is ready then
 pub is_ready_now : (against : Past → Option DeskNo) (v w : View) (n : Name) → Entered against (event.Ready n) v w → IsTrue (is_ready w.seen n)
