@@ -31,8 +31,8 @@ earlier {A} (b ∷ b1) a1 (c ∷ b2) a2 x y is less =
 module _ (bodies : List (List ℕ)) where
   not_earlier : (i j : ℕ) → IsOutOfOrder i bodies → IsOutOfOrder j bodies → i < j → ⊥
   not_earlier i j one two less =
-      let more = earlier one.before one.after two.before two.after one.bytes two.bytes (sym one.split ∙ two.split) (omega (arith, less, one.size, two.size)) in
-      one.breaks (two.order one.before more.0 one.bytes more.1)
+      let more = earlier one.before one.after two.before two.after one.item two.item (sym one.split ∙ two.split) (omega (arith, less, one.size, two.size)) in
+      one.breaks (two.order one.before more.0 one.item more.1)
 
   same_index : (i j : ℕ) → IsOutOfOrder i bodies → IsOutOfOrder j bodies → j ≡ i
   same_index i j one two = elim (cases_lt i j) [
@@ -44,7 +44,7 @@ module _ (bodies : List (List ℕ)) where
   ]
 
   in_order : (i : ℕ) → IsOutOfOrder i bodies → AreInOrder bodies → ⊥
-  in_order i out order = out.breaks (order out.before out.after out.bytes out.split)
+  in_order i out order = out.breaks (order out.before out.after out.item out.split)
 
 -- HOW THE LEDGER WAS MADE
 
@@ -56,7 +56,7 @@ same_table (first ∷ bodies) t k some one two =
     ap (λ (m : Made). m.table) made
 
 first_stands : (bodies : List (List ℕ)) (k : Table) (i : ℕ) → AreMadeFor k bodies → IsOutOfOrder i bodies → i ≡ 0 → ⊥
-first_stands bodies k i made out none = by bodies out.before out.after out.bytes made out.split (sym out.size ∙ none) out.breaks
+first_stands bodies k i made out none = by bodies out.before out.after out.item made out.split (sym out.size ∙ none) out.breaks
   where
     by : (bs before after : List (List ℕ)) (bytes : List ℕ) → AreMadeFor k bs → bs ≡ before ++ bytes ∷ after → length before ≡ 0 → (MayStand before bytes → ⊥) → ⊥
     by [] [] after bytes m split size breaks = absurd cc
@@ -119,14 +119,14 @@ module _ (table : Table) (limit : ℕ) (bodies : List (List ℕ)) where
 
 module _ (table : Table) (limit : ℕ) (image : List ℕ) where
   -- a fault of an image is that of its records, or the journal's
-  apart : (f : ImageFault) → IsFirstFault table limit f image → ((p : ℕ) × (f ≡ Broken p) × IsBroken p image) ⊎ ((b : List (List ℕ)) × HasRecords b image × IsFault table limit b f)
+  apart : (f : ImageFault) → IsFirstFault (IsFault table limit) f image → ((p : ℕ) × (f ≡ Broken p) × IsBroken p image) ⊎ ((b : List (List ℕ)) × HasRecords b image × IsFault table limit b f)
   apart (Broken p) is = inl (p, refl, is)
   apart (Grammar i) is = inr is
   apart (OtherTable kept asked) is = inr is
   apart (Epoch e) is = inr is
   apart (Full p) is = inr is
 
-  pub one_first : (f other : ImageFault) → IsFirstFault table limit f image → IsFirstFault table limit other image → other ≡ f
+  pub one_first : (f other : ImageFault) → IsFirstFault (IsFault table limit) f image → IsFirstFault (IsFault table limit) other image → other ≡ f
   one_first f other one two = by (apart f one) (apart other two)
     where
       by : ((p : ℕ) × (f ≡ Broken p) × IsBroken p image) ⊎ ((b : List (List ℕ)) × HasRecords b image × IsFault table limit b f)
@@ -136,7 +136,7 @@ module _ (table : Table) (limit : ℕ) (image : List ℕ) where
       by (inr a) (inl b) = absurd (records_not_broken image a.0 b.0 a.1 b.2)
       by (inr a) (inr b) = one_fault table limit a.0 f other a.2 (subst (λ (l : List (List ℕ)). IsFault table limit l other) (records-same image a.0 b.0 a.1 b.1) b.2)
 
-  pub first_or_none : (f : ImageFault) (bodies : List (List ℕ)) → IsFirstFault table limit f image → HasRecords bodies image → AreMountable table limit bodies → ⊥
+  pub first_or_none : (f : ImageFault) (bodies : List (List ℕ)) → IsFirstFault (IsFault table limit) f image → HasRecords bodies image → AreMountable table limit bodies → ⊥
   first_or_none f bodies is has fine = by (apart f is)
     where
       by : ((p : ℕ) × (f ≡ Broken p) × IsBroken p image) ⊎ ((b : List (List ℕ)) × HasRecords b image × IsFault table limit b f) → ⊥

@@ -13,9 +13,9 @@ pub fn one_verdict()
     ensures not_both { (table : Table) (limit : ℕ) (bodies : List (List ℕ)) (fault : ImageFault)
         → IsFault table limit bodies fault → AreMountable table limit bodies → ⊥ }
     ensures one_image { (table : Table) (limit : ℕ) (image : List ℕ) (fault other : ImageFault)
-        → IsFirstFault table limit fault image → IsFirstFault table limit other image
+        → IsFirstFault (IsFault table limit) fault image → IsFirstFault (IsFault table limit) other image
         → other ≡ fault }
     ensures not_both_image { (table : Table) (limit : ℕ) (image : List ℕ) (fault : ImageFault)
-        → (bodies : List (List ℕ)) → IsFirstFault table limit fault image
+        → (bodies : List (List ℕ)) → IsFirstFault (IsFault table limit) fault image
         → HasRecords bodies image → AreMountable table limit bodies → ⊥ }
 {}
