@@ -1,7 +1,7 @@
 -- What bodies behind the first grant, one by one.
-use Rattle.std.proofs.Common.{◌≡◌, ◌≢◌, ◌⊎◌, inl, inr, ⊎_elim, ℕ, ◌+◌, ◌<◌, ◌≤◌, List, [], ◌∷◌, ◌++◌, length, take, drop, get_or, refl, sym, ap, ◌∙◌, subst, arith, append-nil}
+use Rattle.std.proofs.Common.{◌≡◌, ◌⊎◌, inl, inr, ⊎_elim, ℕ, ◌+◌, ◌<◌, ◌≤◌, List, [], ◌∷◌, ◌++◌, length, take, drop, get_or, refl, sym, ap, ◌∙◌, subst, arith, append-nil}
 use Rattle.std.specs.Prelude.{◌==◌, Bool, true, false, if◌then◌else◌, Option, None, Some, MatchOption, Vec, slice_index_or}
-use Rattle.std.specs.List.{cons_option, filter_map}
+use Rattle.std.specs.List.{cons_option}
 use Rattle.std.specs.Option.{option_and_then}
 use Rattle.std.specs.declared.alloc.Global.{Global}
 use Rattle.std.proofs.lemmas.Bool.{eqb-true}

@@ -1,9 +1,8 @@
 -- The tuples that grants restore, with one grant more, and those of a row of first tuples.
 use Rattle.std.proofs.Common.{◌≡◌, inl, inr, ℕ, ◌<◌, ◌≤◌, List, [], ◌∷◌, ◌++◌, length, get_or, set, refl, sym, ap, ◌∙◌, subst, arith, cond}
-use Rattle.std.specs.Prelude.{◌==◌, ◌&&◌, Bool, true, false, filter, map, slice_index_or, replicate}
-use Rattle.std.specs.List.{range_with_len}
+use Rattle.std.specs.Prelude.{◌==◌, ◌&&◌, Bool, true, false, filter, map}
 use Rattle.std.proofs.lemmas.Bool.{cases_lt, eqb-true, eqb-false, and_right}
-use Rattle.std.proofs.lemmas.List.{ext_get_or, length-map, get_or-set_same, get_or-set_other, length-set, get_or-replicate, get_or_past}
+use Rattle.std.proofs.lemmas.List.{ext_get_or, get_or-set_same, get_or-set_other, length-set, get_or-replicate}
 use Rattle.std.proofs.lemmas.List.Elements.{filter-append}
 use Rattle.std.proofs.lemmas.List.FromFn.{get_or-map-range_with_len, length-map-range_with_len}
 use Rattle.std.proofs.lemmas.List.Sums.{fold-append}

@@ -1,6 +1,5 @@
 -- What is wrong with the bodies is handed on.
-use Rattle.std.proofs.Common.{◌≤◌, arith, ap, subst, List, ℕ}
-use Rattle.qc_disk.specs.Disk.{HasCause}
+use Rattle.std.proofs.Common.{arith, ap, subst, List, ℕ}
 use Rattle.qc_journal.specs.Image.{bodies_of}
 use Rattle.qc_journal.specs.Journal.{Keeps, disk_of, limit_of}
 use Rattle.qc_journal.proofs.Moments.{started}

@@ -1,12 +1,11 @@
 -- The bodies so far with the next.
-use Rattle.std.proofs.Common.{◌≡◌, refl, sym, ap, ◌∙◌, subst, true, false, arith, List, ℕ}
+use Rattle.std.proofs.Common.{refl, sym, ◌∙◌, subst, arith, List, ℕ}
 use mathlib.Core.Bool.{true≢false}
 use Rattle.std.proofs.lemmas.Bool.{OnTrue_at}
-use Rattle.std.specs.Prelude.{MatchOption, take}
+use Rattle.std.specs.Prelude.{MatchOption}
 use Rattle.qc_event.specs.declared.event.Grant.{Grant}
 use Rattle.qc_codec.specs.Copy.{grant_form, MayFollow}
 use Rattle.qc_codec.specs.Form.{all_of}
-use Rattle.qc_codec.specs.Ledger.{readings}
 use Rattle.qc_journal.specs.Image.{bodies_of}
 use Rattle.qc_site.specs.Granted.{given_by}
 use Rattle.qc_site.specs.Reading.{IsLaterBad}

@@ -1,5 +1,5 @@
 -- A grant's access joins those of the grants.
-use Rattle.std.proofs.Common.{◌++◌, ◌∷◌, [], List, sym, subst}
+use Rattle.std.proofs.Common.{List, sym, subst}
 use Rattle.qc_event.specs.declared.event.Grant.{Grant}
 use Rattle.qc_site.specs.Granted.{AreAccesses}
 use Rattle.qc_site.proofs.Accesses.{accesses_more}
