@@ -1,8 +1,14 @@
 -- What a ledger's records tell, and which may stand behind which.
-use Rattle.std.specs.Prelude.{ℕ, ◌≡◌, ◌≢◌, ◌<◌, ◌+◌, ◌/◌, ◌^◌, List, [], ◌∷◌, ◌++◌, All, Option, None, Some, MatchOption, unwrap_or}
+use Rattle.std.specs.Prelude.{ℕ, ◌≡◌, ◌≢◌, ◌<◌, ◌+◌, ◌/◌, ◌^◌, List, [], ◌∷◌, All, Option, None, Some, MatchOption, unwrap_or}
 use Rattle.std.specs.List.{filter_map, last_or}
+use Rattle.qc_event.specs.declared.event.Answer.TheVariants.{Nothing}
+use Rattle.qc_event.specs.declared.event.Entry.{Entry}
+use Rattle.qc_event.specs.declared.event.Event.{Event}
+use Rattle.qc_event.specs.declared.event.Event.TheVariants as event
+use Rattle.qc_event.specs.declared.event.How.TheVariants.{Commit}
 use Rattle.qc_event.specs.declared.table.Table.{Table}
 use Rattle.qc_event.specs.History.{Name}
+use Rattle.qc_event.specs.Seats.{ledger_seat}
 use Rattle.qc_codec.specs.Bodies as body
 use Rattle.qc_codec.specs.Form.{Form, all_of}
 use Rattle.qc_codec.specs.Order.{EachMay, FirstMayNot}
@@ -24,6 +30,15 @@ record_of_top l = ledger_record.Top l.top l.aborted
 abbrev pub logged_in : LedgerRecord → Option Logged
 logged_in (ledger_record.Top top aborted) = Some (record { top = top; aborted = aborted })
 logged_in _ = None
+
+-- the commit of a top
+abbrev pub commit_of : Name → Entry
+commit_of top = record { seat = ledger_seat; event = event.End top (Commit Nothing) }
+
+-- the top that an event commits
+abbrev pub top_in : Event → Option Name
+top_in (event.End (number ∷ []) (Commit given)) = Some (number ∷ [])
+top_in _ = None
 
 -- the values that bodies are in a form, in order
 abbrev pub readings : {A : Type 0} → Form A → List (List ℕ) → List A

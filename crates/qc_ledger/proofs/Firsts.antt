@@ -23,7 +23,7 @@ use Rattle.qc_ledger.specs.Reading.{IsFirstBad, IsLaterBad}
 use Rattle.qc_ledger.specs.Seen.{with_body}
 use Rattle.qc_ledger.specs.Refusing.{IsImage, IsOfBytes}
 use Rattle.qc_ledger.specs.declared.fault.LedgerNo.{LedgerNo}
-use Rattle.qc_ledger.specs.declared.fault.LedgerNo.TheVariants.{Disk, Image, Memory}
+use Rattle.qc_ledger.specs.declared.fault.LedgerNo.TheVariants.{Disk, Image, Memory, Room}
 use Rattle.qc_ledger.specs.declared.fault.LedgerNo.TheVariants as ledger_no
 use Rattle.qc_ledger.proofs.Told.{by_stands, past_push, stands_by}
 
@@ -49,6 +49,7 @@ bytes_also P Q also Disk is = is
 bytes_also P Q also (Image bad) is = (is.0, also bad.fault is.1)
 bytes_also P Q also (ledger_no.Full place) is = is
 bytes_also P Q also Memory is = tt
+bytes_also P Q also Room is = is
 
 -- what is handed on
 pub handed_on : {T : Type 0} (r : Result T LedgerNo) (fault : LedgerNo) (P Q : ImageFault → Type 0) → ((f : ImageFault) → P f → Q f) → IsErrAnd r (λ e. e ≡ fault) → IsOfBytes P fault → IfErr r (IsOfBytes Q)
@@ -64,13 +65,6 @@ first_fault table limit first bodies rest is (Grammar index) bad = (
 first_fault table limit first bodies rest is (Full place) bad = absurd bad
 first_fault table limit first bodies rest is (OtherTable kept asked) bad = (bad.0, bad.1, (λ none. let two : first ∷ rest ≡ [] = sym is ∙ none in absurd cc), subst (AreMadeFor kept) (sym is) bad.2)
 first_fault table limit first bodies rest is (Epoch epoch) bad = absurd bad
-
-pub later_fault : (table : Table) (limit : ℕ) (bodies : List (List ℕ)) → AreMadeFor table bodies → (f : ImageFault) → IsLaterBad bodies f → IsFault table limit bodies f
-later_fault table limit bodies made (Broken place) bad = bad
-later_fault table limit bodies made (Grammar index) bad = (bad.1, λ other. made)
-later_fault table limit bodies made (Full place) bad = absurd bad
-later_fault table limit bodies made (OtherTable kept asked) bad = absurd bad
-later_fault table limit bodies made (Epoch epoch) bad = absurd bad
 
 -- BODIES ONE BY ONE
 
@@ -140,6 +134,7 @@ image_of_bytes P Q also Disk is = tt
 image_of_bytes P Q also (Image bad) is = (is.0, also bad.fault is.1)
 image_of_bytes P Q also (ledger_no.Full place) is = is
 image_of_bytes P Q also Memory is = tt
+image_of_bytes P Q also Room is = is
 
 pub passed_on : {T : Type 0} (r : Result T LedgerNo) (fault : LedgerNo) (P Q : ImageFault → Type 0) → ((f : ImageFault) → P f → Q f) → IsErrAnd r (λ e. e ≡ fault) → IsOfBytes P fault → IfErr r (IsImage Q)
 passed_on (Ok x) fault P Q also same is = tt

@@ -5,3 +5,4 @@ pub mod Writing
 pub mod Mounts
 mod Logging
 mod Verdicts
+mod Passes

@@ -32,6 +32,7 @@ image_also P Q also ledger_no.Disk is = tt
 image_also P Q also (ledger_no.Image bad) is = (is.0, also bad.fault is.1)
 image_also P Q also (ledger_no.Full place) is = is
 image_also P Q also ledger_no.Memory is = tt
+image_also P Q also ledger_no.Room is = is
 
 -- a fault of the records of an image is its first
 module _ (Has : List (List ℕ) → ImageFault → Type 0) (bodies : List (List ℕ)) (unbroken : (place : ℕ) → Has bodies (fault.Broken place) → ⊥) where

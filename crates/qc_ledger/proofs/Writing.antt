@@ -3,7 +3,7 @@ use Rattle.std.proofs.Common.{◌≡◌, ◌<◌, ◌⊎◌, inl, inr, ℕ, ◌+
 use mathlib.Core.Bool.{true≢false}
 use Rattle.std.proofs.lemmas.Bool.{lt-ltb}
 use Rattle.std.proofs.Math.Dec.{eqb-suc-zero}
-use Rattle.std.specs.Prelude.{◌==◌, true, false, Option, None, Result, Ok, Err, OnOk, Vec}
+use Rattle.std.specs.Prelude.{◌==◌, true, Option, None, Result, Ok, Err, OnOk, Vec}
 use Rattle.std.specs.Result.{IsErrAnd}
 use Rattle.std.specs.declared.alloc.Global.{Global}
 use Rattle.qc_disk.specs.Disk.{LeavesOnly}
@@ -15,14 +15,11 @@ use Rattle.qc_journal.specs.declared.journal.Journal.{Journal}
 use Rattle.qc_journal.specs.declared.journal.State.{State}
 use Rattle.qc_journal.specs.declared.journal.State.TheVariants.{Up, Down}
 use Rattle.qc_journal.proofs.Moments.{weakened}
-use Rattle.qc_event.specs.declared.table.Table.{Table}
 use Rattle.qc_codec.specs.Bodies as body
 use Rattle.qc_codec.specs.Fields.{word}
-use Rattle.qc_codec.specs.Ledger.{past_in}
-use Rattle.qc_codec.specs.declared.past.Past.{Past}
 use Rattle.qc_codec.specs.declared.record.Made.{Made}
 use Rattle.qc_codec.specs.declared.record.LedgerRecord.TheVariants as ledger_record
-use Rattle.qc_ledger.specs.Image.{LAST_EPOCH, IsFull, epoch_body, made_body, made_where_none, to_write}
+use Rattle.qc_ledger.specs.Image.{LAST_EPOCH, IsFull, made_where_none}
 use Rattle.qc_ledger.specs.Mounted.{HasSome}
 
 -- WHAT AN IMAGE HAS
@@ -76,10 +73,6 @@ pub none_made : (made : List ℕ) (bodies : List (Vec ℕ Global)) → (length b
 none_made made [] none = refl
 none_made made (b ∷ bodies) none = absurd (true≢false (sym none ∙ eqb-suc-zero (length bodies)))
 
-pub some_made : (made : List ℕ) (bodies : List (Vec ℕ Global)) → (length bodies == 0) ≡ false → made_where_none made (bodies_of bodies) ≡ []
-some_made made [] some = absurd cc
-some_made made (b ∷ bodies) some = refl
-
 -- THE DISK
 
 up_hand : (state : State) → IsUpState state → hand_of state ≡ None
@@ -113,12 +106,6 @@ same_err (Ok x) e f and is = absurd and
 same_err (Err y) e f and is = let one : y ≡ f = cc in sym and ∙ one
 
 -- WHAT A MOUNTING WRITES
-
-pub written_is : (table : Table) (bodies : List (List ℕ)) (made epoch : List ℕ) (past : Past) → made ≡ made_body table → epoch ≡ epoch_body (past.epoch + 1) → past ≡ past_in bodies
-    → made_where_none made bodies ++ epoch ∷ [] ≡ to_write table bodies
-written_is table bodies made epoch past is next told =
-    ap (λ (m : List ℕ). made_where_none m bodies ++ epoch ∷ []) is
-    ∙ ap (λ (e : List ℕ). made_where_none (made_body table) bodies ++ e ∷ []) (next ∙ ap (λ (p : Past). epoch_body (p.epoch + 1)) told)
 
 -- how a disk was made is spelled as a record of the ledger
 pub made_spelled : (m : Made) → body.made.spell m ≡ body.ledger.spell (ledger_record.Made m)

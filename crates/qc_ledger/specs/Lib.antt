@@ -5,3 +5,4 @@ pub mod Reading
 pub mod Mounted
 pub mod Runs
 pub mod Shelf
+pub mod Entered

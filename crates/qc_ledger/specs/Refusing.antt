@@ -5,9 +5,22 @@ use Rattle.qc_codec.specs.declared.image.ImageFault.TheVariants as image
 use Rattle.qc_event.specs.declared.table.Table.{Table}
 use Rattle.qc_journal.specs.declared.fault.Fault.{Fault}
 use Rattle.qc_journal.specs.declared.fault.Fault.TheVariants as fault
+use Rattle.qc_pass.specs.declared.refusal.DeskNo.{DeskNo}
+use Rattle.qc_pass.specs.declared.refusal.DeskNo.TheVariants as desk
 use Rattle.qc_ledger.specs.Image.{IsFault, IsFirstFault}
 use Rattle.qc_ledger.specs.declared.fault.LedgerNo.{LedgerNo}
-use Rattle.qc_ledger.specs.declared.fault.LedgerNo.TheVariants.{Disk, Image, Full, Memory}
+use Rattle.qc_ledger.specs.declared.fault.LedgerNo.TheVariants.{Disk, Image, Full, Memory, Room}
+
+-- why nothing was entered, where memory or room was wanting
+abbrev pub want_no : DeskNo → LedgerNo
+want_no desk.Room = Room
+want_no _ = Memory
+
+-- for want of memory or of room
+abbrev pub IsWant : LedgerNo → Type 0
+IsWant Memory = Unit {0}
+IsWant Room = Unit {0}
+IsWant _ = ⊥
 
 -- the ledger's image is refused
 abbrev pub image_no : ImageFault → LedgerNo
@@ -33,6 +46,7 @@ IsImage P Disk = Unit {0}
 IsImage P (Image bad) = (bad.disk ≡ 0) × P bad.fault
 IsImage P (Full place) = ⊥
 IsImage P Memory = Unit {0}
+IsImage P Room = ⊥
 
 -- a fault of the ledger's image, of which this holds; or of the memory
 abbrev pub IsOfBytes : (ImageFault → Type 0) → LedgerNo → Type 0
@@ -40,6 +54,7 @@ IsOfBytes P Disk = ⊥
 IsOfBytes P (Image bad) = (bad.disk ≡ 0) × P bad.fault
 IsOfBytes P (Full place) = ⊥
 IsOfBytes P Memory = Unit {0}
+IsOfBytes P Room = ⊥
 
 -- a mounting may be refused: for the first fault of the image that is told, for the disk, or for memory
 abbrev pub IsRefusal : Table → ℕ → Option (List ℕ) → LedgerNo → Type 0

@@ -7,7 +7,7 @@ use Rattle.qc_event.specs.History.{Name}
 use Rattle.qc_journal.specs.Journal.{IsDown, IsUp, in_hand, place_of}
 use Rattle.qc_journal.specs.declared.journal.Journal.{Journal}
 use Rattle.qc_ledger.specs.declared.fault.LedgerNo.{LedgerNo}
-use Rattle.qc_ledger.specs.declared.fault.LedgerNo.TheVariants.{Disk, Image, Full, Memory}
+use Rattle.qc_ledger.specs.declared.fault.LedgerNo.TheVariants.{Disk, Image, Full, Memory, Room}
 use Rattle.qc_ledger.specs.declared.shelf.Shelf.{Shelf}
 
 -- the journal
@@ -40,6 +40,7 @@ abbrev pub LogLeaves : {D : Type 0} {g : Ghosts D} → Shelf D g → Shelf D g �
 LogLeaves old new top body Disk = IsUnsure new (place_of old.journal) top body
 LogLeaves old new top body (Image bad) = ⊥
 LogLeaves old new top body (Full place) = (place ≡ place_of old.journal) × (new.journal ≡ old.journal) × (new.hand ≡ old.hand)
+LogLeaves old new top body Room = ⊥
 LogLeaves old new top body Memory = IsIdle new (place_of old.journal) ⊎ IsUnsure new (place_of old.journal) top body
 
 -- a refusal by the disk or for memory
@@ -48,6 +49,7 @@ IsDeviceNo Disk = Unit {0}
 IsDeviceNo (Image bad) = ⊥
 IsDeviceNo (Full place) = ⊥
 IsDeviceNo Memory = Unit {0}
+IsDeviceNo Room = ⊥
 
 -- this refusal, or for memory
 abbrev pub IsRefusedFor : {T : Type 0} → LedgerNo → Result T LedgerNo → Type 0

@@ -1,10 +1,13 @@
 //! A mounted ledger.
-ghost use Rattle.std.specs.Prelude.{◌≡◌, None};
-ghost use Rattle.qc_journal.specs.Journal.{disk_of, IsDown, IsUp};
+ghost use Rattle.std.specs.Prelude.{◌≡◌, ℕ, List, [], None, true};
+ghost use Rattle.qc_event.specs.Seats.{ledger_seat};
+ghost use Rattle.qc_journal.specs.Journal.{disk_of, IsDown, IsUp, Keeps};
 
+use crate::ledger::Ledger;
 use crate::shelf::Shelf;
 use qc_disk::Disk;
 use qc_journal::{Body, Journal};
+use qc_pass::{Pass, Store};
 use std::alloc::Global;
 
 /// A ledger that was mounted: its journal, which is up, and the bodies of its records.
@@ -20,6 +23,7 @@ impl<D: Disk> Book<D> {
     ghost use Rattle.qc_journal.specs.Image.{bodies_of};
     ghost use Rattle.qc_ledger.specs.Mounted.{journal_of, records_of};
     ghost use Rattle.qc_ledger.specs.Shelf.{journal_in, top_in};
+    ghost use Rattle.qc_ledger.specs.Entered.{tops_of, IsOver};
 
     /// The bodies of its records, the one that says how it was made and this mounting's epoch among them.
     pub fn records(&self) -> &[Body]
@@ -38,6 +42,22 @@ impl<D: Disk> Book<D> {
             alloc: self.alloc,
             journal: self.journal,
             hand: None,
+        }
+    }
+
+    /// The ledger of a desk, which a pass with the ledger's number enters.
+    pub fn enter<N: Store>(self, pass: Pass<N>) -> Ledger<D, N>
+        requires ledger { (pass.live ≡ true) × (pass.number ≡ ledger_seat) }
+        ensures journal { journal_in result.shelf ≡ journal_of self }
+        ensures none { top_in result.shelf ≡ None }
+        ensures pass { result.pass ≡ pass }
+        ensures over { (told : List ℕ → List (List ℕ)) → pass.mine ≡ []
+            → Keeps (journal_of self) (records_of self)
+            → IsOver told (records_of self) result.shelf (tops_of result.pass.mine) }
+    {
+        Ledger {
+            shelf: self.open(),
+            pass,
         }
     }
 

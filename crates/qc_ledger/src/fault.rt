@@ -23,6 +23,9 @@ pub enum LedgerNo {
     /// There was no memory.
     #[error("no memory")]
     Memory,
+    /// The history takes no more entries. Logging alone says so.
+    #[error("no room in the history")]
+    Room,
 }
 
 impl From<AllocError> for LedgerNo {

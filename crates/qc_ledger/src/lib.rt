@@ -4,6 +4,7 @@
 mod book;
 mod fault;
 mod law;
+mod ledger;
 mod mounting;
 mod reading;
 mod seen;
@@ -12,5 +13,6 @@ mod shelf;
 pub use book::Book;
 pub use fault::LedgerNo;
 pub use law::one_verdict;
+pub use ledger::Ledger;
 pub use mounting::{make, mount};
 pub use shelf::Shelf;

@@ -27,8 +27,9 @@ use Rattle.qc_event.proofs.Orderly.{Orderly}
 use Rattle.qc_event.proofs.Lawful.{lawful, committed_is, ends_open}
 use Rattle.qc_event.proofs.LegalOrderly.{legal_orderly}
 use Rattle.qc_codec.specs.declared.past.Logged.{Logged}
+use Rattle.qc_codec.specs.Ledger.{top_in}
 use Rattle.qc_event.specs.Listed.{aborted_in, aborted_below, listed}
-use Rattle.qc_refine.specs.Listed.{logged, logged_as, top_in}
+use Rattle.qc_refine.specs.Listed.{logged, logged_as}
 use Rattle.qc_refine.proofs.BelowReady.{same_end, still_aborted, not_again}
 
 -- TOPS

@@ -23,10 +23,11 @@ use Rattle.qc_refine.proofs.CopiesSerial.{left_copies}
 use Rattle.qc_refine.proofs.Grids.{grid, grid_at, grid_copies, grids_agree}
 use Rattle.qc_codec.specs.declared.past.Logged.{Logged}
 use Rattle.qc_codec.specs.Restored.{restored_tuple}
+use Rattle.qc_codec.specs.Ledger.{commit_of}
 use Rattle.qc_refine.specs.Restored.{Kept, granted_at, restored, restored_setting}
 use Rattle.qc_event.specs.Listed.{listed}
 use Rattle.qc_refine.specs.Listed.{logged, logged_as}
-use Rattle.qc_refine.specs.Standing.{commit_of, IsNext, AreNext, committed_too, IsUntold, StandBeside}
+use Rattle.qc_refine.specs.Standing.{IsNext, AreNext, committed_too, IsUntold, StandBeside}
 use Rattle.qc_refine.proofs.LoggedTops.{top_user}
 use Rattle.qc_refine.proofs.RestoredTuples.{restores}
 

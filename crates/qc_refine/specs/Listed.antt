@@ -1,17 +1,10 @@
 -- What a ledger writes of a history.
-use Rattle.std.specs.Prelude.{List, [], ◌∷◌, ◌++◌, Option, None, Some, option_to_list}
+use Rattle.std.specs.Prelude.{List, [], ◌∷◌, ◌++◌, option_to_list}
 use Rattle.std.specs.Option.{option_map}
-use Rattle.qc_event.specs.declared.event.Event.{Event}
-use Rattle.qc_event.specs.declared.event.Event.TheVariants as event
+use Rattle.qc_codec.specs.Ledger.{top_in}
 use Rattle.qc_codec.specs.declared.past.Logged.{Logged}
-use Rattle.qc_event.specs.declared.event.How.TheVariants.{Commit}
 use Rattle.qc_event.specs.History.{Past, Name}
 use Rattle.qc_event.specs.Listed.{listed}
-
--- the top that the event commits
-abbrev pub top_in : Event → Option Name
-top_in (event.End (number ∷ []) (Commit given)) = Some (number ∷ [])
-top_in _ = None
 
 -- a top with what is listed of it
 abbrev pub logged_as : Past → Name → Logged

@@ -1,25 +1,16 @@
 -- When disks stand beside a history: what they tell is what they told before it, and what it tells.
 use Rattle.std.specs.Prelude.{ℕ, ◌≡◌, ◌<◌, true, is_some, List, [], ◌∷◌, ◌++◌, length, All, None}
-use Rattle.qc_codec.specs.Ledger.{IsOld, epoch_in}
+use Rattle.qc_codec.specs.Ledger.{IsOld, commit_of, epoch_in}
 use Rattle.qc_codec.specs.declared.past.Logged.{Logged}
 use Rattle.qc_config.specs.declared.tuple.Tuple.{Tuple}
-use Rattle.qc_event.specs.declared.event.Answer.TheVariants.{Nothing}
-use Rattle.qc_event.specs.declared.event.Entry.{Entry}
-use Rattle.qc_event.specs.declared.event.Event.TheVariants as event
 use Rattle.qc_event.specs.declared.event.Grant.{Grant}
-use Rattle.qc_event.specs.declared.event.How.TheVariants.{Commit}
 use Rattle.qc_event.specs.Base.{Setting}
-use Rattle.qc_event.specs.History.{Past, Name, start, is_ready, asked, granted, grants, IsOpen}
-use Rattle.qc_event.specs.Seats.{ledger_seat}
+use Rattle.qc_event.specs.History.{Past, start, is_ready, asked, granted, grants, IsOpen}
 use Rattle.qc_refine.specs.Restored.{Kept, granted_at, restored}
 use Rattle.qc_event.specs.Listed.{listed}
 use Rattle.qc_refine.specs.Listed.{logged}
 
 -- WHAT THE HISTORY DOES NOT TELL YET
-
--- the commit of a top
-abbrev pub commit_of : Name → Entry
-commit_of top = record { seat = ledger_seat; event = event.End top (Commit Nothing) }
 
 -- A record that the ledger wrote and the history does not tell yet: of a top that is ready and open.
 pub record IsNext (past : Past) (l : Logged) : Type 0 where

@@ -1,4 +1,4 @@
-use Rattle.std.proofs.Common.{◌∷◌, ◌++◌, List, ℕ, ap, ◌∙◌, sym}
+use Rattle.std.proofs.Common.{◌++◌, List, ℕ, ap, ◌∙◌, sym}
 use Rattle.std.specs.Prelude.{slice_index}
 use Rattle.qc_codec.specs.Bodies.{top}
 use Rattle.qc_codec.proofs.Fits.{top_alone}

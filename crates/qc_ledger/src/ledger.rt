@@ -1,0 +1,333 @@
+//! The ledger over a desk: a top's record stands on the disk before its commit is entered.
+ghost use Rattle.std.specs.Prelude.{◌≡◌, ◌⊎◌, ◌∷◌, ◌++◌, ℕ, List, IfErr, OnOk, OnErr, IsErrOf, IsTrue, None, Some, Err, true, length, is_some};
+ghost use Rattle.std.specs.Bool.{OnFalse, OnTrue};
+ghost use Rattle.qc_codec.specs.Bodies as body;
+ghost use Rattle.qc_codec.specs.declared.record.LedgerRecord.TheVariants.{Top};
+ghost use Rattle.qc_event.specs.History.{end, is_ready};
+ghost use Rattle.qc_event.specs.Requests.{is_ledger_fault};
+ghost use Rattle.qc_event.specs.Seats.{ledger_seat};
+ghost use Rattle.qc_pass.specs.Calling.{Shown};
+ghost use Rattle.qc_pass.specs.Entries.{IsOlder};
+ghost use Rattle.qc_journal.specs.Journal.{disk_of, limit_of, place_of, IsTooLong, IsUp, Keeps};
+ghost use Rattle.qc_ledger.specs.Entered.{MayFinish, SeesMore};
+ghost use Rattle.qc_ledger.specs.Refusing.{want_no, IsWant};
+ghost use Rattle.qc_ledger.specs.Runs.{HasOrMore, Leaves, LosesNone, Falls, Costs, CostsTwo};
+ghost use Rattle.qc_ledger.specs.Shelf.{journal_in, top_in, top_body, LogLeaves, IsDeviceNo};
+ghost use Rattle.qc_ledger.specs.declared.fault.LedgerNo.TheVariants.{Disk, Full};
+
+use crate::fault::LedgerNo;
+use crate::shelf::Shelf;
+use qc_disk::Disk;
+use qc_event::{Name, Why};
+use qc_pass::{Desk, DeskNo, Pass, Store};
+use std::sync::Wait;
+
+/// The ledger of a desk, with its pass.
+#[derive(Drop)]
+pub struct Ledger<D: Disk, N: Store> {
+    pub shelf: Shelf<D>,
+    pub pass: Pass<N>,
+    ghost live: { pass.live ≡ true },
+    ghost number: { pass.number ≡ ledger_seat },
+    ghost may: { (top : List ℕ) → top_in shelf ≡ Some top → MayFinish pass top },
+}
+
+// Why nothing was entered, where memory or room was wanting.
+fn want_no(no: DeskNo) -> LedgerNo
+    ensures { result ≡ want_no no }
+{
+    match no {
+        DeskNo::Room => LedgerNo::Room,
+        _ => LedgerNo::Memory,
+    }
+}
+
+impl<D: Disk, N: Store> Ledger<D, N> {
+    ghost use Rattle.qc_ledger.specs.Entered.{commits_of, tops_of, unable_entry, EntersHand, EntersTop, GrowsBy, IsOver, IsLogNo, IsReviveNo, RefusalEnters};
+
+    // Commits the top in hand, whose record stands.
+    fn settle<R: Wait>(&mut self, rt: &R, desk: &Desk<N>) -> Result<(), LedgerNo>
+        requires up { IsUp (journal_in self.old.shelf) }
+        ensures journal { journal_in self.new.shelf ≡ journal_in self.old.shelf }
+        ensures none { OnOk result (top_in self.new.shelf ≡ None) }
+        ensures kept { OnErr result (top_in self.new.shelf ≡ top_in self.old.shelf) }
+        ensures ok { OnOk result
+            (self.new.pass.mine ≡ commits_of (top_in self.old.shelf) ++ self.old.pass.mine) }
+        ensures err { OnErr result (self.new.pass.mine ≡ self.old.pass.mine) }
+        ensures stands { OnOk result ((top : List ℕ) → top_in self.old.shelf ≡ Some top
+            → IsTrue (is_some (end self.new.pass.seen top))) }
+        ensures over { (told : List ℕ → List (List ℕ)) (before : List (List ℕ))
+            → IsOver told before self.old.shelf (tops_of self.old.pass.mine)
+            → IsOver told before self.new.shelf (tops_of self.new.pass.mine) }
+        ensures seen { IsOlder self.old.pass.seen self.new.pass.seen }
+        ensures want { IfErr result IsWant }
+    {
+        let Some(top) = self.shelf.hand() else {
+            return Ok(());
+        };
+        let mut seer = desk.note(&mut self.pass);
+        match desk.finish(rt, &mut self.pass, &mut seer, &top) {
+            Ok(()) => {
+                self.shelf.let_go();
+                Ok(())
+            }
+            Err(no) => Err(want_no(no)),
+        }
+    }
+
+    // Brings the journal up. A top in hand whose record does not stand is let go of.
+    fn rise(&mut self) -> Result<(), LedgerNo>
+        ensures up { OnOk result (IsUp (journal_in self.new.shelf)) }
+        ensures pass { self.new.pass ≡ self.old.pass }
+        ensures hand { (top_in self.new.shelf ≡ None)
+            ⊎ (top_in self.new.shelf ≡ top_in self.old.shelf) }
+        ensures over { (told : List ℕ → List (List ℕ)) (before tops : List (List ℕ))
+            → IsOver told before self.old.shelf tops → IsOver told before self.new.shelf tops }
+        ensures refused { IfErr result IsDeviceNo }
+        ensures limit { limit_of (journal_in self.new.shelf)
+            ≡ limit_of (journal_in self.old.shelf) }
+        ensures content { D.content (disk_of (journal_in self.new.shelf))
+            ≡ D.content (disk_of (journal_in self.old.shelf)) }
+        ensures any_moment { Leaves (journal_in self.old.shelf) (journal_in self.new.shelf)
+            (D.may_leave (disk_of (journal_in self.old.shelf))) }
+        ensures falls { Falls (journal_in self.old.shelf) (journal_in self.new.shelf) }
+        ensures cause { Costs (journal_in self.old.shelf) (journal_in self.new.shelf)
+            (IsErrOf result Disk) }
+        ensures was_down { IsUp (journal_in self.old.shelf) → IsErrOf result Disk → ⊥ }
+    {
+        if self.shelf.is_up() {
+            return Ok(());
+        }
+        self.shelf.revive()?;
+        Ok(())
+    }
+
+    // Writes a top's record.
+    fn write(&mut self, top: &Name, aborted: &[Name]) -> Result<(), LedgerNo>
+        requires up { IsUp (journal_in self.old.shelf) }
+        requires none { top_in self.old.shelf ≡ None }
+        requires proper { body.ledger.fits (Top top.now aborted.now) }
+        requires may { MayFinish self.old.pass top.now }
+        ensures pass { self.new.pass ≡ self.old.pass }
+        ensures up { OnOk result (IsUp (journal_in self.new.shelf)) }
+        ensures hand { OnOk result (top_in self.new.shelf ≡ Some top.now) }
+        ensures left { IfErr result
+            (LogLeaves self.old.shelf self.new.shelf top.now (top_body top.now aborted.now)) }
+        ensures over { (told : List ℕ → List (List ℕ)) (before tops : List (List ℕ))
+            → aborted.now ≡ told top.now → IsOver told before self.old.shelf tops
+            → IsOver told before self.new.shelf tops }
+        ensures limit { limit_of (journal_in self.new.shelf)
+            ≡ limit_of (journal_in self.old.shelf) }
+        ensures full { (place : ℕ) → result ≡ Err (Full place)
+            → IsTooLong (place_of (journal_in self.old.shelf)) (limit_of (journal_in self.old.shelf))
+            (top_body top.now aborted.now) }
+        ensures any_moment { (bodies : List (List ℕ)) → Keeps (journal_in self.old.shelf) bodies
+            → Leaves (journal_in self.old.shelf) (journal_in self.new.shelf)
+            (HasOrMore bodies (top_body top.now aborted.now)) }
+        ensures grows { (bodies : List (List ℕ)) → Keeps (journal_in self.old.shelf) bodies
+            → LosesNone (journal_in self.old.shelf) (journal_in self.new.shelf) }
+        ensures cause { Costs (journal_in self.old.shelf) (journal_in self.new.shelf)
+            (IsErrOf result Disk) }
+        ensures twice { IsErrOf result Disk
+            → CostsTwo (journal_in self.old.shelf) (journal_in self.new.shelf) }
+    {
+        self.shelf.log(top, aborted)
+    }
+
+    // Enters that a top was not logged.
+    fn unable<R: Wait>(
+        &mut self,
+        rt: &R,
+        desk: &Desk<N>,
+        seer: &mut Pass<N>,
+        top: &Name,
+        why: Why,
+    ) -> Result<(), LedgerNo>
+        requires is_top { length top.now ≡ 1 }
+        requires ready { IsTrue (is_ready seer.old.seen top.now) }
+        requires fault { IsTrue (is_ledger_fault why) }
+        ensures journal { journal_in self.new.shelf ≡ journal_in self.old.shelf }
+        ensures hand { top_in self.new.shelf ≡ top_in self.old.shelf }
+        ensures ok { OnOk result
+            (self.new.pass.mine ≡ unable_entry top.now why ∷ self.old.pass.mine) }
+        ensures err { OnErr result (self.new.pass.mine ≡ self.old.pass.mine) }
+        ensures over { (told : List ℕ → List (List ℕ)) (before : List (List ℕ))
+            → IsOver told before self.old.shelf (tops_of self.old.pass.mine)
+            → IsOver told before self.new.shelf (tops_of self.new.pass.mine) }
+        ensures seen { IsOlder self.old.pass.seen self.new.pass.seen }
+        ensures seer { SeesMore seer.old seer.new }
+        ensures want { IfErr result IsWant }
+    {
+        match desk.unable(rt, &mut self.pass, seer, top, why) {
+            Ok(()) => Ok(()),
+            Err(no) => Err(want_no(no)),
+        }
+    }
+
+    // Whether a top that the seer saw to be ready has ended; the pass has then seen it too.
+    fn has_ended<R: Wait>(&mut self, rt: &R, desk: &Desk<N>, seer: &mut Pass<N>, top: &Name) -> bool
+        requires is_top { length top.now ≡ 1 }
+        requires ready { IsTrue (is_ready seer.old.seen top.now) }
+        ensures shelf { (journal_in self.new.shelf ≡ journal_in self.old.shelf)
+            × (top_in self.new.shelf ≡ top_in self.old.shelf) }
+        ensures mine { self.new.pass.mine ≡ self.old.pass.mine }
+        ensures stands { OnTrue result (IsTrue (is_some (end self.new.pass.seen top.now))) }
+        ensures may { OnFalse result (MayFinish self.new.pass top.now) }
+        ensures seen { IsOlder self.old.pass.seen self.new.pass.seen }
+        ensures seer { SeesMore seer.old seer.new }
+    {
+        desk.show(rt, seer, &mut self.pass);
+        let how = desk.ended(rt, &mut self.pass, top);
+        self.pass.known();
+        how.is_some()
+    }
+
+    // Logs a top, and enters nothing where it fails but the commit of the top in hand.
+    fn try_log<R: Wait>(
+        &mut self,
+        rt: &R,
+        desk: &Desk<N>,
+        seer: &mut Pass<N>,
+        top: &Name,
+        aborted: &[Name],
+    ) -> Result<(), LedgerNo>
+        requires is_top { length top.now ≡ 1 }
+        requires ready { IsTrue (is_ready seer.old.seen top.now) }
+        requires proper { body.ledger.fits (Top top.now aborted.now) }
+        ensures stands { OnOk result (IsTrue (is_some (end self.new.pass.seen top.now))) }
+        ensures enters { OnOk result (EntersTop (top_in self.old.shelf) top.now
+            self.old.pass.mine self.new.pass.mine) }
+        ensures none { OnErr result (EntersHand (top_in self.old.shelf)
+            self.old.pass.mine self.new.pass.mine) }
+        ensures refused { IfErr result IsLogNo }
+
+        // Where the disk tells its bytes, each image has a record for each committed top, and behind them at most that of
+        // the top in hand. At each moment of the call an image has the records of some image from before, or these and
+        // this top's.
+        ensures over { (told : List ℕ → List (List ℕ)) (before : List (List ℕ))
+            → aborted.now ≡ told top.now
+            → IsOver told before self.old.shelf (tops_of self.old.pass.mine)
+            → IsOver told before self.new.shelf (tops_of self.new.pass.mine) }
+        ensures any_moment { (told : List ℕ → List (List ℕ)) (before : List (List ℕ))
+            → IsOver told before self.old.shelf (tops_of self.old.pass.mine)
+            → Leaves (journal_in self.old.shelf) (journal_in self.new.shelf)
+            (GrowsBy (top_body top.now aborted.now)
+            (D.may_leave (disk_of (journal_in self.old.shelf)))) }
+        ensures grows { (told : List ℕ → List (List ℕ)) (before : List (List ℕ))
+            → IsOver told before self.old.shelf (tops_of self.old.pass.mine)
+            → LosesNone (journal_in self.old.shelf) (journal_in self.new.shelf) }
+
+        // A fault of the disk is told only where its count of faults rose, by two where the ledger was up. Full comes only
+        // where the record would pass the limit.
+        ensures full { (place : ℕ) → result ≡ Err (Full place) → IsTooLong place
+            (limit_of (journal_in self.old.shelf)) (top_body top.now aborted.now) }
+        ensures cause { Costs (journal_in self.old.shelf) (journal_in self.new.shelf)
+            (IsErrOf result Disk) }
+        ensures twice { IsUp (journal_in self.old.shelf) → IsErrOf result Disk
+            → CostsTwo (journal_in self.old.shelf) (journal_in self.new.shelf) }
+        ensures seen { IsOlder self.old.pass.seen self.new.pass.seen }
+        ensures seer { SeesMore seer.old seer.new }
+    {
+        self.rise()?;
+        self.settle(rt, desk)?;
+        if self.has_ended(rt, desk, seer, top) {
+            return Ok(());
+        }
+        self.write(top, aborted)?;
+        self.settle(rt, desk)
+    }
+
+    /// Logs a ready top with the names that were aborted below it: its record stands on the disk before its commit is
+    /// entered. A top in hand comes first: its commit is entered where its record stands, and it is let go of where not.
+    /// After a fault of the disk there is one revival, and one second try. That the ledger is down, or full, is entered
+    /// before it is answered.
+    pub fn log<R: Wait>(
+        &mut self,
+        rt: &R,
+        desk: &Desk<N>,
+        seer: &mut Pass<N>,
+        top: &Name,
+        aborted: &[Name],
+    ) -> Result<(), LedgerNo>
+        requires is_top { length top.now ≡ 1 }
+        requires ready { IsTrue (is_ready seer.old.seen top.now) }
+        requires proper { body.ledger.fits (Top top.now aborted.now) }
+
+        // At `Ok` the top's commit stands. What was entered is at most the commit of the top in hand, and then at most this
+        // top's, or that it was not logged.
+        ensures stands { OnOk result (IsTrue (is_some (end self.new.pass.seen top.now))) }
+        ensures enters { OnOk result (EntersTop (top_in self.old.shelf) top.now
+            self.old.pass.mine self.new.pass.mine) }
+        ensures refused { IfErr result (λ refusal. RefusalEnters refusal
+            (top_in self.old.shelf) top.now self.old.pass.mine self.new.pass.mine) }
+
+        // Where the disk tells its bytes, each image has a record for each committed top, and behind them at most that of
+        // the top in hand. At each moment of the call an image has the records of some image from before, or these and
+        // this top's.
+        ensures over { (told : List ℕ → List (List ℕ)) (before : List (List ℕ))
+            → aborted.now ≡ told top.now
+            → IsOver told before self.old.shelf (tops_of self.old.pass.mine)
+            → IsOver told before self.new.shelf (tops_of self.new.pass.mine) }
+        ensures any_moment { (told : List ℕ → List (List ℕ)) (before : List (List ℕ))
+            → IsOver told before self.old.shelf (tops_of self.old.pass.mine)
+            → Leaves (journal_in self.old.shelf) (journal_in self.new.shelf)
+            (GrowsBy (top_body top.now aborted.now)
+            (D.may_leave (disk_of (journal_in self.old.shelf)))) }
+        ensures grows { (told : List ℕ → List (List ℕ)) (before : List (List ℕ))
+            → IsOver told before self.old.shelf (tops_of self.old.pass.mine)
+            → LosesNone (journal_in self.old.shelf) (journal_in self.new.shelf) }
+
+        // A fault of the disk is told only where its count of faults rose, by two where the ledger was up. Full comes only
+        // where the record would pass the limit.
+        ensures full { (place : ℕ) → result ≡ Err (Full place) → IsTooLong place
+            (limit_of (journal_in self.old.shelf)) (top_body top.now aborted.now) }
+        ensures cause { Costs (journal_in self.old.shelf) (journal_in self.new.shelf)
+            (IsErrOf result Disk) }
+        ensures twice { IsUp (journal_in self.old.shelf) → IsErrOf result Disk
+            → CostsTwo (journal_in self.old.shelf) (journal_in self.new.shelf) }
+        ensures seen { IsOlder self.old.pass.seen self.new.pass.seen }
+        ensures seer { SeesMore seer.old seer.new }
+    {
+        match self.try_log(rt, desk, seer, top, aborted) {
+            Err(LedgerNo::Disk) => {
+                self.unable(rt, desk, seer, top, Why::Down)?;
+                Err(LedgerNo::Disk)
+            }
+            Err(LedgerNo::Full { place }) => {
+                self.unable(rt, desk, seer, top, Why::Full)?;
+                Err(LedgerNo::Full { place })
+            }
+            answer => answer,
+        }
+    }
+
+    /// Brings the ledger up where it is down. The commit of the top in hand is entered where its record stands; one whose
+    /// record does not is let go of.
+    pub fn revive<R: Wait>(&mut self, rt: &R, desk: &Desk<N>) -> Result<(), LedgerNo>
+        ensures up { OnOk result (IsUp (journal_in self.new.shelf)) }
+        ensures none { OnOk result (top_in self.new.shelf ≡ None) }
+        ensures enters { EntersHand (top_in self.old.shelf)
+            self.old.pass.mine self.new.pass.mine }
+        ensures refused { IfErr result IsReviveNo }
+        ensures over { (told : List ℕ → List (List ℕ)) (before : List (List ℕ))
+            → IsOver told before self.old.shelf (tops_of self.old.pass.mine)
+            → IsOver told before self.new.shelf (tops_of self.new.pass.mine) }
+        ensures seen { IsOlder self.old.pass.seen self.new.pass.seen }
+        ensures any_moment { Leaves (journal_in self.old.shelf) (journal_in self.new.shelf)
+            (D.may_leave (disk_of (journal_in self.old.shelf))) }
+        ensures falls { Falls (journal_in self.old.shelf) (journal_in self.new.shelf) }
+        ensures cause { Costs (journal_in self.old.shelf) (journal_in self.new.shelf)
+            (IsErrOf result Disk) }
+    {
+        self.rise()?;
+        self.settle(rt, desk)
+    }
+
+    /// The disk and the pass.
+    pub fn into_parts(self) -> (D, Pass<N>)
+        ensures disk { result.0 ≡ disk_of (journal_in self.shelf) }
+        ensures pass { result.1 ≡ self.pass }
+    {
+        (self.shelf.into_disk(), self.pass)
+    }
+}
