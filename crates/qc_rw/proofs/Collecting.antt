@@ -19,14 +19,14 @@ use Rattle.qc_rw.specs.Told.{told_in}
 use Rattle.qc_rw.specs.Going.{MayGoOn, SameElsewhere, HasHeard, HasServed, MayCollect, HasCollected, Link}
 use Rattle.qc_rw.specs.declared.no.MgrNo.{MgrNo}
 use Rattle.qc_rw.specs.Managed.{IsRefused, no_of}
-use Rattle.qc_rw.specs.Undisturbed.{HasCause, IsUndisturbed, IsShortage}
+use Rattle.qc_rw.specs.Undisturbed.{HasCause, IsUndisturbed}
 use Rattle.qc_rw.proofs.Causes.{causes_none, causes_further}
 use Rattle.qc_rw.proofs.Known.{newest-told, replied-told}
 use Rattle.qc_rw.proofs.Nexts.{next_enough, next_short, next_copy_of}
 use Rattle.qc_rw.proofs.Served.{served_none, served_further}
 use Rattle.qc_rw.proofs.Short.{refused_short}
 use Rattle.qc_rw.proofs.Stages.{collects, may_carry}
-use Rattle.qc_rw.proofs.Undisturbed.{never_short, undisturbed_since}
+use Rattle.qc_rw.proofs.Undisturbed.{never_short}
 use Rattle.qc_rw.proofs.Unasked.{unasked, unasked_fewer, next_within}
 
 -- a manager that collects, between the carrier where it began and the carrier now
@@ -112,12 +112,3 @@ module _ (a now : Link) (m : Name) (k : Kind) (first : Voting) (kept : Gathered)
     fewer_left copy does its =
         let next = next_copy_of _ (newest_in first told).config told copy does in
         subst (λ ts. unasked ts < unasked told) (sym heard.here) (unasked_fewer (newest_in first told).config told t copy next.1 its)
-
-  -- where the next request is refused, the manager is
-  pub refused_on : (past : Past) (why : MgrNo) → IsRefused now.setting now.seat past m k why → IsRefused a.setting a.seat past m k why
-  refused_on past why refused =
-      subst (λ setting. IsRefused setting a.seat past m k why) h.served.setting (subst (λ seat. IsRefused now.setting seat past m k why) h.served.seat refused)
-
-  -- and where nothing disturbed the manager, memory or room was wanting
-  pub complete_on : (past : Past) (troubles : ℕ) (why : MgrNo) → (IsUndisturbed now.setting past m k now.troubles troubles → IsShortage why) → IsUndisturbed a.setting past m k a.troubles troubles → IsShortage why
-  complete_on past troubles why complete u = complete (undisturbed_since a.setting now.setting past m k a.troubles now.troubles troubles h.served.setting h.served.later u)

@@ -3,8 +3,6 @@ use Rattle.std.proofs.Common.{◌≡◌, ℕ, Bool, true, false, List, [], ◌�
 use Rattle.std.specs.Prelude.{◌&&◌, not, nat_lt, cond, fold, map, find, filter_map, is_some, is_none, Option, None, Some, IsSome}
 use Rattle.std.proofs.lemmas.List.Elements.{All-filter, filter_agree, recursion_from_All}
 use Rattle.qc_config.specs.Config.{Voting, votes_of}
-use Rattle.qc_config.specs.declared.tuple.Op.{Op}
-use Rattle.qc_config.specs.declared.tuple.Op.TheVariants.{Get, PutData, PutConfig}
 use Rattle.qc_event.specs.declared.event.Ask.{Ask}
 use Rattle.qc_event.specs.declared.event.How.{How}
 use Rattle.qc_event.specs.declared.event.Phase.{Phase}
@@ -14,6 +12,7 @@ use Rattle.qc_event.specs.declared.event.Why.{Why}
 use Rattle.qc_event.specs.Clear.{is_get}
 use Rattle.qc_event.specs.History.{Past, Name, asks, end}
 use Rattle.qc_event.specs.Manager.{Stage, result, result_by, reply_of, replies, newer, newest, greatest, greatest_among, is_phase, phase_of, asks_in, ask_at, all_copies, has_replied, replied, missing_at, first_blocked, next_copy, waiting}
+use Rattle.qc_event.proofs.OfPhases.{get_collects}
 use Rattle.qc_gather.specs.Told.{replies_in, newest_in, greatest_in, was_asked, replied_by, replied_in, missing_in, blocked_in, next_in}
 use Rattle.qc_rw.specs.Told.{told_in, EachTold}
 use Rattle.qc_rw.proofs.Lists.{EachHas, SameBlocked, filter_map-told, replied_by-told, was_asked-told, missing_in-told, blocked_in-told}
@@ -25,11 +24,6 @@ map_agree f g same (x ∷ xs) = ap (λ y. y ∷ map f xs) (same x) ∙ ap (λ ys
 pub find_agree : {X : Type 0} (p q : X → Bool) → ((x : X) → p x ≡ q x) → (xs : List X) → find p xs ≡ find q xs
 find_agree p q same [] = refl
 find_agree p q same (x ∷ xs) = ap (λ b. cond b (Some x) (find p xs)) (same x) ∙ ap (λ o. cond (q x) (Some x) o) (find_agree p q same xs)
-
-get_collects : (op : Op) → is_get op ≡ is_phase Collect (phase_of op)
-get_collects Get = refl
-get_collects (PutData version value) = refl
-get_collects (PutConfig generation config) = refl
 
 -- WHAT WAS COLLECTED
 

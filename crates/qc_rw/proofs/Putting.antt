@@ -6,7 +6,7 @@ use Rattle.qc_config.specs.declared.tuple.Op.{Op}
 use Rattle.qc_event.specs.declared.event.Kind.{Kind}
 use Rattle.qc_event.specs.declared.event.Phase.{Phase}
 use Rattle.qc_event.specs.Counts.{Rose}
-use Rattle.qc_event.specs.History.{Past, Name}
+use Rattle.qc_event.specs.History.{Name}
 use Rattle.qc_event.specs.Manager.{phase_of, stage, record_of, first_for}
 use Rattle.qc_gather.specs.Carrying.{MayCarry}
 use Rattle.qc_gather.specs.declared.next.Next.{Next}
@@ -19,13 +19,13 @@ use Rattle.qc_rw.specs.Told.{told_in}
 use Rattle.qc_rw.specs.Going.{MayGoOn, SameElsewhere, HasHeard, HasServed, MayPut, HasPut, putting, Link}
 use Rattle.qc_rw.specs.declared.no.MgrNo.{MgrNo}
 use Rattle.qc_rw.specs.Managed.{IsRefused, no_of}
-use Rattle.qc_rw.specs.Undisturbed.{HasCause, IsUndisturbed, IsShortage}
+use Rattle.qc_rw.specs.Undisturbed.{HasCause, IsUndisturbed}
 use Rattle.qc_rw.proofs.Causes.{causes_none, causes_further}
 use Rattle.qc_rw.proofs.Nexts.{next_enough, next_short, next_copy_of}
 use Rattle.qc_rw.proofs.Served.{served_none, served_further}
 use Rattle.qc_rw.proofs.Short.{refused_short}
 use Rattle.qc_rw.proofs.Stages.{is_enough-told, reached_stays, stage_at, may_carry}
-use Rattle.qc_rw.proofs.Undisturbed.{never_short, undisturbed_since}
+use Rattle.qc_rw.proofs.Undisturbed.{never_short}
 use Rattle.qc_rw.proofs.Unasked.{unasked, unasked_fewer, next_within}
 
 -- a manager that puts, between the carrier where it began and the carrier now
@@ -98,12 +98,3 @@ module _ (a now : Link) (m : Name) (k : Kind) (config : Voting) (phase : Phase) 
 
   pub may_go_on : MayGoOn now.seat now.seen m k
   may_go_on = subst (λ seat. MayGoOn seat now.seen m k) (sym h.served.seat) h.goes_on
-
-  -- where the next request is refused, the manager is
-  pub refused_on : (past : Past) (why : MgrNo) → IsRefused now.setting now.seat past m k why → IsRefused a.setting a.seat past m k why
-  refused_on past why refused =
-      subst (λ setting. IsRefused setting a.seat past m k why) h.served.setting (subst (λ seat. IsRefused now.setting seat past m k why) h.served.seat refused)
-
-  -- and where nothing disturbed the manager, memory or room was wanting
-  pub complete_on : (past : Past) (troubles : ℕ) (why : MgrNo) → (IsUndisturbed now.setting past m k now.troubles troubles → IsShortage why) → IsUndisturbed a.setting past m k a.troubles troubles → IsShortage why
-  complete_on past troubles why complete u = complete (undisturbed_since a.setting now.setting past m k a.troubles now.troubles troubles h.served.setting h.served.later u)

@@ -25,12 +25,14 @@ use Rattle.qc_gather.specs.declared.carrier.CarryNo.{CarryNo}
 use Rattle.qc_gather.specs.declared.carrier.CarryNo.TheVariants as carry
 use Rattle.qc_gather.specs.Told.{Told, why_in, missing_in, blocked_in, next_in, replied_in}
 use Rattle.qc_rw.specs.Told.{told_in}
-use Rattle.qc_rw.specs.Managed.{mgr_no}
+use Rattle.qc_rw.specs.Managed.{mgr_no, IsRefused}
 use Rattle.qc_rw.specs.Undisturbed.{HasCause, StandsOn, IsUndisturbed, IsShortage}
 use Rattle.qc_rw.proofs.Causes.{stands_on_nothing, rose_sooner}
 use Rattle.qc_rw.proofs.Lists.{told_all, told_then}
 use Rattle.qc_rw.proofs.Quorums.{hold_quorums}
 use Rattle.qc_rw.proofs.Stages.{enough_by}
+use Rattle.qc_rw.specs.Going.{Link, HasServed}
+use Rattle.qc_rw.specs.declared.no.MgrNo.{MgrNo}
 
 -- NOTHING IS BLOCKED
 
@@ -104,3 +106,15 @@ pub undisturbed_since : (setting then : Setting) (past : Past) (m : Name) (k : K
 undisturbed_since setting then past m k before later now same more u =
     subst (λ s. IsUndisturbed s past m k later now) (sym same)
     (record { quiet = λ rose. u.quiet (rose_sooner before later now more rose); able = u.able; free = u.free; alive = u.alive; not_last = u.not_last; legal = u.legal })
+
+-- WHAT IS TOLD SINCE A CARRIER BEGAN
+
+module _ (m : Name) (k : Kind) (a now : Link) (served : HasServed m a now) where
+  -- where the next request is refused, the manager is
+  pub refused_on : (past : Past) (why : MgrNo) → IsRefused now.setting now.seat past m k why → IsRefused a.setting a.seat past m k why
+  refused_on past why refused =
+      subst (λ setting. IsRefused setting a.seat past m k why) served.setting (subst (λ seat. IsRefused now.setting seat past m k why) served.seat refused)
+
+  -- and where nothing disturbed the manager, memory or room was wanting
+  pub complete_on : (past : Past) (troubles : ℕ) (why : MgrNo) → (IsUndisturbed now.setting past m k now.troubles troubles → IsShortage why) → IsUndisturbed a.setting past m k a.troubles troubles → IsShortage why
+  complete_on past troubles why complete u = complete (undisturbed_since a.setting now.setting past m k a.troubles now.troubles troubles served.setting served.later u)

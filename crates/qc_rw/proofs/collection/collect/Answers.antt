@@ -3,9 +3,10 @@ use Rattle.std.proofs.Common.{refl}
 use Rattle.std.proofs.lemmas.Result.{err_from_is_err_and}
 use Rattle.qc_event.specs.declared.event.Phase.TheVariants.{Collect}
 use Rattle.qc_rw.specs.Told.{told_in}
-use Rattle.qc_rw.proofs.Collecting.{collecting_begins, collected, asks_next, is_short, copy_within, may_go_on, collects_on, fewer_left, refused_on, short_disturbed, complete_on}
+use Rattle.qc_rw.proofs.Collecting.{collecting_begins, collected, asks_next, is_short, copy_within, may_go_on, collects_on, fewer_left, short_disturbed}
 use Rattle.qc_rw.proofs.Served.{served_further}
 use Rattle.qc_rw.proofs.collection.collect.Goals as goal
+use Rattle.qc_rw.proofs.Undisturbed.{refused_on, complete_on}
 
 pub loop-gather-init : goal.loop-gather-init
 loop-gather-init g c = record { met = collecting_begins _ c.args.manager.now g.kind c.args.rec c.args.first.now c.new-gather.result c.requires.1 c.new-gather.ensures; became = g.met.C.Carrier.became_itself c.args.carrier.now }
@@ -37,12 +38,12 @@ returns-in_err-carried-in-Copy-clause-served g c = served_further c.args.manager
 pub returns-in_err-carried-in-Copy-clause-refused : goal.returns-in_err-carried-in-Copy-clause-refused
 returns-in_err-carried-in-Copy-clause-refused g c =
     let p = err_from_is_err_and c.from_residual.result c.from_residual.ensures.1 in
-    rw (p.1, p.2) (refused_on _ _ _ _ _ _ c.loop-gather.invariant.met (g.C.Carrier.seen c.request.new.carrier) c.in_err-carried-in-Copy.field-0.0 c.in_err-carried-in-Copy.ensures.refused)
+    rw (p.1, p.2) (refused_on _ _ _ _ c.loop-gather.invariant.met.served (g.C.Carrier.seen c.request.new.carrier) c.in_err-carried-in-Copy.field-0.0 c.in_err-carried-in-Copy.ensures.refused)
 
 pub returns-in_err-carried-in-Copy-clause-complete : goal.returns-in_err-carried-in-Copy-clause-complete
 returns-in_err-carried-in-Copy-clause-complete g c =
     let p = err_from_is_err_and c.from_residual.result c.from_residual.ensures.1 in
-    rw (p.1, p.2) (complete_on _ _ _ _ _ _ c.loop-gather.invariant.met (g.C.Carrier.seen c.request.new.carrier) (g.C.Carrier.troubles c.request.new.carrier) c.in_err-carried-in-Copy.field-0.0 c.in_err-carried-in-Copy.ensures.complete)
+    rw (p.1, p.2) (complete_on _ _ _ _ c.loop-gather.invariant.met.served (g.C.Carrier.seen c.request.new.carrier) (g.C.Carrier.troubles c.request.new.carrier) c.in_err-carried-in-Copy.field-0.0 c.in_err-carried-in-Copy.ensures.complete)
 
 pub returns-in_err-carried-in-Copy-clause-became : goal.returns-in_err-carried-in-Copy-clause-became
 returns-in_err-carried-in-Copy-clause-became g c = g.met.C.Carrier.became_by_both _ _ _ c.loop-gather.invariant.became c.request.ensures.became

@@ -2,9 +2,10 @@
 use Rattle.std.proofs.Common.{refl}
 use Rattle.std.proofs.lemmas.Result.{err_from_is_err_and}
 use Rattle.qc_rw.specs.Told.{told_in}
-use Rattle.qc_rw.proofs.Putting.{putting_begins, has_put, asks_next, is_short, copy_within, may_go_on, puts_on, fewer_left, refused_on, short_disturbed, complete_on}
+use Rattle.qc_rw.proofs.Putting.{putting_begins, has_put, asks_next, is_short, copy_within, may_go_on, puts_on, fewer_left, short_disturbed}
 use Rattle.qc_rw.proofs.Served.{served_further}
 use Rattle.qc_rw.proofs.puts.put.Goals as goal
+use Rattle.qc_rw.proofs.Undisturbed.{refused_on, complete_on}
 
 pub loop-puts-init : goal.loop-puts-init
 loop-puts-init g c = record { met = putting_begins _ c.args.manager.now g.kind c.args.rec c.args.config.now c.args.phase c.args.op.now c.new-puts.result c.requires.1 c.new-puts.ensures; became = g.met.C.Carrier.became_itself c.args.carrier.now }
@@ -35,12 +36,12 @@ returns-in_err-carried-in-Copy-clause-served g c = served_further c.args.manager
 pub returns-in_err-carried-in-Copy-clause-refused : goal.returns-in_err-carried-in-Copy-clause-refused
 returns-in_err-carried-in-Copy-clause-refused g c =
     let p = err_from_is_err_and c.from_residual.result c.from_residual.ensures.1 in
-    rw (p.1, p.2) (refused_on _ _ _ _ _ _ _ c.loop-puts.invariant.met (g.C.Carrier.seen c.request.new.carrier) c.in_err-carried-in-Copy.field-0.0 c.in_err-carried-in-Copy.ensures.refused)
+    rw (p.1, p.2) (refused_on _ _ _ _ c.loop-puts.invariant.met.served (g.C.Carrier.seen c.request.new.carrier) c.in_err-carried-in-Copy.field-0.0 c.in_err-carried-in-Copy.ensures.refused)
 
 pub returns-in_err-carried-in-Copy-clause-complete : goal.returns-in_err-carried-in-Copy-clause-complete
 returns-in_err-carried-in-Copy-clause-complete g c =
     let p = err_from_is_err_and c.from_residual.result c.from_residual.ensures.1 in
-    rw (p.1, p.2) (complete_on _ _ _ _ _ _ _ c.loop-puts.invariant.met (g.C.Carrier.seen c.request.new.carrier) (g.C.Carrier.troubles c.request.new.carrier) c.in_err-carried-in-Copy.field-0.0 c.in_err-carried-in-Copy.ensures.complete)
+    rw (p.1, p.2) (complete_on _ _ _ _ c.loop-puts.invariant.met.served (g.C.Carrier.seen c.request.new.carrier) (g.C.Carrier.troubles c.request.new.carrier) c.in_err-carried-in-Copy.field-0.0 c.in_err-carried-in-Copy.ensures.complete)
 
 pub returns-in_err-carried-in-Copy-clause-became : goal.returns-in_err-carried-in-Copy-clause-became
 returns-in_err-carried-in-Copy-clause-became g c = g.met.C.Carrier.became_by_both _ _ _ c.loop-puts.invariant.became c.request.ensures.became
