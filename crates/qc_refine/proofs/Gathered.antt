@@ -5,8 +5,6 @@ use Rattle.std.specs.Option.{option_map}
 use Rattle.std.specs.List.{cons_option, list_any}
 use Rattle.std.proofs.Math.Path.{fun_ext}
 use Rattle.std.proofs.Math.Bool.{and-false, and-true}
-use Rattle.qc_config.specs.declared.tuple.Op.{Op}
-use Rattle.qc_config.specs.declared.tuple.Op.TheVariants.{Get, PutData, PutConfig}
 use Rattle.qc_config.specs.declared.tuple.Tuple.{Tuple}
 use Rattle.qc_event.specs.declared.event.Ask.{Ask}
 use Rattle.qc_event.specs.declared.event.Kind.{Kind}
@@ -18,16 +16,12 @@ use Rattle.qc_event.specs.History.{Past, Name, Given, asks}
 use Rattle.qc_event.specs.Standing.{IsManager}
 use Rattle.qc_event.specs.Manager.{phase_of, is_phase, reply, replies, replied, all_copies}
 use Rattle.qc_event.specs.Legal.{Legal}
+use Rattle.qc_event.proofs.OfPhases.{get_collects}
 use Rattle.qc_simlock.specs.Visible.{served}
 use Rattle.qc_refine.specs.Given.{in_phase, tuples_of, marks_of}
 use Rattle.qc_refine.proofs.KindsBelow.{HasKind}
 use Rattle.qc_refine.proofs.Replies.{given_as}
 use Rattle.qc_refine.proofs.ServedAsked.{given_to, served_asked}
-
-get_phase : (op : Op) → is_get op ≡ is_phase Collect (phase_of op)
-get_phase Get = refl
-get_phase (PutData version value) = refl
-get_phase (PutConfig generation config) = refl
 
 tuples_step : (past : Past) (x : Ask) (b : Bool) (o : Option Tuple) (rest : List Ask) (gs : List Given) → is_get x.op ≡ b → reply past x.access ≡ o → filter_map (λ (ask : Ask). reply past ask.access) rest ≡ tuples_of (in_phase Collect gs)
     → filter_map (λ (ask : Ask). reply past ask.access) (cond (is_get x.op) (x ∷ rest) rest) ≡ tuples_of (in_phase Collect (cons_option (option_map (given_as x) (reply past x.access)) gs))
@@ -40,7 +34,7 @@ tuples_step past x true (Some t) rest gs get told before =
     ap (λ b. filter_map (λ (ask : Ask). reply past ask.access) (cond b (x ∷ rest) rest)) get
     ∙ ap (λ o. cons_option o (filter_map (λ (ask : Ask). reply past ask.access) rest)) told
     ∙ ap (λ ts. t ∷ ts) before
-    ∙ ap (λ b. tuples_of (cond b (given_as x t ∷ in_phase Collect gs) (in_phase Collect gs))) (sym get ∙ get_phase x.op)
+    ∙ ap (λ b. tuples_of (cond b (given_as x t ∷ in_phase Collect gs) (in_phase Collect gs))) (sym get ∙ get_collects x.op)
     ∙ ap (λ o. tuples_of (in_phase Collect (cons_option (option_map (given_as x) o) gs))) (sym told)
 tuples_step past x false None rest gs get told before =
     ap (λ b. filter_map (λ (ask : Ask). reply past ask.access) (cond b (x ∷ rest) rest)) get
@@ -49,7 +43,7 @@ tuples_step past x false None rest gs get told before =
 tuples_step past x false (Some t) rest gs get told before =
     ap (λ b. filter_map (λ (ask : Ask). reply past ask.access) (cond b (x ∷ rest) rest)) get
     ∙ before
-    ∙ ap (λ b. tuples_of (cond b (given_as x t ∷ in_phase Collect gs) (in_phase Collect gs))) (sym get ∙ get_phase x.op)
+    ∙ ap (λ b. tuples_of (cond b (given_as x t ∷ in_phase Collect gs) (in_phase Collect gs))) (sym get ∙ get_collects x.op)
     ∙ ap (λ o. tuples_of (in_phase Collect (cons_option (option_map (given_as x) o) gs))) (sym told)
 
 tuples_given : (past : Past) (requests : List Ask) → filter_map (λ (ask : Ask). reply past ask.access) (filter (λ (ask : Ask). is_get ask.op) requests) ≡ tuples_of (in_phase Collect (given_to past requests))
