@@ -1,5 +1,6 @@
 pub mod Booleans
 pub mod KindsApart
+pub mod Found
 pub mod OfPhases
 pub mod Histories
 pub mod Granted
