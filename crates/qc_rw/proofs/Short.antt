@@ -12,6 +12,7 @@ use Rattle.qc_event.specs.declared.event.Kind.{Kind}
 use Rattle.qc_event.specs.History.{Past, Name}
 use Rattle.qc_event.specs.Manager.{Result, Replied, Missing, BlockedBy, Stage, HasFailed, result, reply_of, holder_of, missing_at, first_blocked, all_copies, stage, first_for}
 use Rattle.qc_event.proofs.OneEntry.{some_or_none}
+use Rattle.qc_event.proofs.Found.{found_passes}
 use Rattle.qc_gather.specs.Told.{Told, holder_in, why_in, was_asked, replied_by, missing_in, blocked_in, next_in, lack_in}
 use Rattle.qc_gather.specs.declared.shortage.Shortage.{Shortage}
 use Rattle.qc_gather.specs.declared.shortage.Shortage.TheVariants as shortage
@@ -21,7 +22,6 @@ use Rattle.qc_rw.specs.Managed.{IsRefused, no_of}
 use Rattle.qc_rw.specs.Going.{MayGoOn}
 use Rattle.qc_rw.proofs.Lists.{SameBlocked}
 use Rattle.qc_rw.proofs.Known.{map_agree, has_replied-told, replied-told, missing-told, next_copy-told, blocked-told, waiting-told}
-use Rattle.qc_rw.proofs.Unasked.{found_passes}
 use Rattle.qc_rw.proofs.Stages.{at_stage}
 
 -- EACH COPY IS KNOWN

@@ -1,10 +1,10 @@
 -- The copies that were not asked get fewer with each request.
-use Rattle.std.proofs.Common.{◌≡◌, ℕ, zero, suc, ◌+◌, ◌<◌, ◌≤◌, Bool, true, false, List, [], ◌∷◌, ◌++◌, refl, sym, ap, ◌∙◌, arith, ◌⊎◌, inl, inr}
-use Rattle.std.specs.Prelude.{◌==◌, ◌&&◌, ◌||◌, not, nat_lt, cond, find, Option, Some}
-use Rattle.std.specs.List.{range_with_len}
+use Rattle.std.proofs.Common.{◌≡◌, ℕ, ◌+◌, ◌<◌, ◌≤◌, Bool, true, false, List, [], ◌∷◌, ◌++◌, refl, sym, ap, ◌∙◌, arith, inl, inr}
+use Rattle.std.specs.Prelude.{◌==◌, ◌&&◌, ◌||◌, not, nat_lt, cond, find, Some}
 use Rattle.std.proofs.lemmas.Bool.{true≢false, and_parts, eq-eqb, or_right}
 use Rattle.qc_config.specs.Config.{Voting, votes_of}
 use Rattle.qc_event.specs.Manager.{all_copies}
+use Rattle.qc_event.proofs.Found.{found_cases, found_passes, found_within}
 use Rattle.qc_gather.specs.Told.{Told, was_asked, next_in}
 use Rattle.qc_gather.proofs.OneMore.{asked_more}
 
@@ -21,24 +21,6 @@ unfoldable pub unasked : List Told → ℕ
 unasked told = count (λ copy. not (was_asked told copy)) all_copies
 
 -- WHAT IS FOUND
-
-found_cases : {X : Type 0} (b : Bool) (x c : X) (rest : Option X) → cond b (Some x) rest ≡ Some c → ((b ≡ true) × (x ≡ c)) ⊎ ((b ≡ false) × (rest ≡ Some c))
-found_cases true x c rest is = inl (refl, cc)
-found_cases false x c rest is = inr (refl, is)
-
-pub found_passes : {X : Type 0} (p : X → Bool) (xs : List X) (c : X) → find p xs ≡ Some c → p c ≡ true
-found_passes p [] c is = absurd cc
-found_passes p (x ∷ xs) c is = elim (found_cases (p x) x c (find p xs) is) [
-  | inl here ↦ ap p (sym here.1) ∙ here.0
-  | inr below ↦ found_passes p xs c below.1
-]
-
-pub found_within : (p : ℕ → Bool) (a n c : ℕ) → find p (range_with_len a n) ≡ Some c → c < a + n
-found_within p a zero c is = absurd cc
-found_within p a (suc n) c is = elim (found_cases (p a) a c (find p (range_with_len (a + 1) n)) is) [
-  | inl here ↦ let same : a ≡ c = here.1 in omega arith
-  | inr below ↦ let lt : c < a + 1 + n = found_within p (a + 1) n c below.1 in omega arith
-]
 
 -- a copy that is asked next is one of sixteen
 pub next_within : (config : Voting) (told : List Told) (copy : ℕ) → next_in config told ≡ Some copy → copy < 16
