@@ -26,6 +26,7 @@ use Rattle.qc_event.proofs.LastNumber.{length_last, child_last, child_front}
 use Rattle.qc_event.proofs.LegalOrderly.{legal_orderly}
 use Rattle.qc_event.proofs.OneEntry.{first_is, if_is}
 use Rattle.qc_event.proofs.Orderly.{Commits, KeepsOrder}
+use Rattle.qc_event.proofs.Found.{has_place}
 use Rattle.qc_simlock.specs.Visible.{served}
 use Rattle.qc_simlock.proofs.Accesses.{granted_step}
 use Rattle.qc_refine.specs.Given.{in_phase, tuples_of}
@@ -40,7 +41,7 @@ use Rattle.qc_refine.proofs.LiveGrants.{Every, every_more, every_weaker, every_o
 use Rattle.qc_refine.proofs.ServedAsked.{served_more, served_same}
 use Rattle.qc_refine.proofs.Shapes.{marks_in}
 use Rattle.qc_refine.proofs.Stages.{newest_among, IsMoving}
-use Rattle.qc_refine.proofs.Within.{served_sized, sized_phase, has_place, next_has_votes}
+use Rattle.qc_refine.proofs.Within.{served_sized, sized_phase, next_has_votes}
 
 -- what was given in a phase
 given_first : (setting : Setting) (k : Kind) (phase : Phase) (gs : List Given) → Every (IsThere setting k) gs → Every (OfFirst (first_for setting k)) (tuples_of (in_phase phase gs))

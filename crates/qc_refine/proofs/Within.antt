@@ -1,10 +1,9 @@
 -- Each grant that a manager was given is of its record, and from a copy that there is.
-use Rattle.std.proofs.Common.{◌≡◌, ℕ, zero, suc, ◌+◌, ◌<◌, Bool, true, false, List, [], ◌∷◌, ◌++◌, length, sym, ap, ◌∙◌, subst, inl, inr, arith}
-use Rattle.std.specs.Prelude.{Option, None, Some, cond, find, nat_lt, slice_index_or, is_none, ◌&&◌}
+use Rattle.std.proofs.Common.{◌≡◌, ℕ, ◌<◌, Bool, true, false, List, [], ◌∷◌, ◌++◌, length, sym, subst, inl, inr, arith}
+use Rattle.std.specs.Prelude.{Option, None, Some, cond, nat_lt, is_none, ◌&&◌}
 use Rattle.std.specs.Option.{option_map}
-use Rattle.std.specs.List.{cons_option, range_with_len}
-use Rattle.std.proofs.lemmas.Bool.{cases_Bool, and_parts, ltb-true}
-use Rattle.std.proofs.lemmas.Option.{same_Some}
+use Rattle.std.specs.List.{cons_option}
+use Rattle.std.proofs.lemmas.Bool.{and_parts, ltb-true}
 use Rattle.qc_config.specs.Config.{votes_of}
 use Rattle.qc_config.specs.declared.tuple.Tuple.{Tuple}
 use Rattle.qc_event.specs.declared.event.Ask.{Ask}
@@ -18,6 +17,7 @@ use Rattle.qc_event.specs.History.{Past, Name, Given, granted, asks}
 use Rattle.qc_event.specs.Standing.{IsManager}
 use Rattle.qc_event.specs.Manager.{Stage, next_copy, ask_at, record_of, first_for, phase_of, is_phase, reply}
 use Rattle.qc_event.specs.Legal.{Legal, MayHappen}
+use Rattle.qc_event.proofs.Found.{found_range, has_place}
 use Rattle.qc_simlock.specs.Visible.{served}
 use Rattle.qc_simlock.proofs.Accesses.{granted_step}
 use Rattle.qc_refine.specs.Given.{in_phase, tuples_of}
@@ -65,22 +65,6 @@ served_sized setting (e ∷ past) m k legal pos has manager =
     ]
 
 -- COPIES
-
-found_range : (p : ℕ → Bool) (a n c : ℕ) → find p (range_with_len a n) ≡ Some c → (c < a + n) × (p c ≡ true)
-found_range p a zero c is = absurd cc
-found_range p a (suc n) c is = elim (cases_Bool (p a)) [
-  | inl here ↦
-      let same : a ≡ c = same_Some a c (sym (ap (λ b. cond b (Some a) (find p (range_with_len (a + 1) n))) here) ∙ is) in
-      (omega arith, ap p (sym same) ∙ here)
-  | inr other ↦
-      let rest = found_range p (a + 1) n c (sym (ap (λ b. cond b (Some a) (find p (range_with_len (a + 1) n))) other) ∙ is) in
-      (omega (arith, rest.0), rest.1)
-]
-
-pub has_place : (votes : List ℕ) (c : ℕ) → 0 < slice_index_or votes c 0 → c < length votes
-has_place [] c some = absurd (omega arith)
-has_place (v ∷ votes) zero some = omega arith
-has_place (v ∷ votes) (suc c) some = omega (arith, has_place votes c some)
 
 -- a request fits its manager
 pub record Fits (setting : Setting) (k : Kind) (ask : Ask) : Type 0 where
