@@ -2,3 +2,4 @@ mod Accesses
 mod Rests
 mod Faults
 mod Rows
+mod Backs

@@ -4,3 +4,4 @@ pub mod Reading
 pub mod Refusing
 pub mod Mounted
 pub mod Start
+pub mod Back

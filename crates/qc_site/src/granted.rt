@@ -4,6 +4,7 @@ ghost use Rattle.std.specs.Bool.{OnTrue};
 ghost use Rattle.qc_codec.specs.Copy.{MayFollow};
 ghost use Rattle.qc_codec.specs.Ledger.{IsOld};
 
+use crate::lists::append;
 use qc_codec::Past;
 use qc_event::{Grant, Name, Table};
 use std::alloc::{AllocError, Global};
@@ -17,15 +18,6 @@ const EPOCH: u64 = 0x1_0000_0000;
 pub(crate) struct Granted {
     grants: Vec<Grant>,
     accesses: BTreeSet<Name>,
-}
-
-// A generic push: one at the type of grants may get no proof.
-fn append<T: Copy>(items: &mut Vec<T>, item: T) -> Result<(), AllocError>
-    ensures ok { OnOk result (items.new.items ≡ items.old.items ++ item ∷ []) }
-    ensures err { OnErr result (items.new.items ≡ items.old.items) }
-{
-    items.push(item)?;
-    Ok(())
 }
 
 // Whether an access is below a top of an epoch that is at most the last.

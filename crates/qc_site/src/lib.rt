@@ -1,13 +1,17 @@
 //! A copy of a store with its disk: a journal of what the copy granted.
 #![tactic(auto)]
 
+mod back;
+mod compare;
 mod fault;
 mod granted;
+mod lists;
 mod mounted;
 mod mounting;
 mod reading;
 mod start;
 
+pub use back::{BackNo, Strange, read_back};
 pub use fault::SiteNo;
 pub use mounted::Mounted;
 pub use mounting::mount;

@@ -7,19 +7,11 @@ ghost use Rattle.qc_event.specs.Tables.{first_tuple};
 ghost use Rattle.qc_names.specs.Name as name;
 ghost use Rattle.qc_site.specs.Start.{from_row};
 
+use crate::lists::append;
 use qc_codec::Logged;
 use qc_config::{Op, Tuple};
 use qc_event::{Grant, Name, Table};
 use std::alloc::{AllocError, Global};
-
-// A generic push: one at the type of tuples may get no proof.
-fn append<T: Copy>(items: &mut Vec<T>, item: T) -> Result<(), AllocError>
-    ensures ok { OnOk result (items.new.items ≡ items.old.items ++ item ∷ []) }
-    ensures err { OnErr result (items.new.items ≡ items.old.items) }
-{
-    items.push(item)?;
-    Ok(())
-}
 
 // Whether one of the names is above an access.
 fn are_above(names: &[Name], access: &Name) -> bool

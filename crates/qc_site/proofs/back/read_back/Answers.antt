@@ -1,0 +1,21 @@
+-- What was found is what the disk tells.
+use Rattle.std.proofs.Common.{Err, ap, sym, subst}
+use Rattle.std.specs.Prelude.{IfSome}
+use Rattle.qc_journal.specs.Image.{bodies_of}
+use Rattle.qc_journal.specs.Journal.{disk_of, Keeps}
+use Rattle.qc_site.specs.Back.{IsAnswer}
+use Rattle.qc_site.specs.declared.back.BackNo.{BackNo}
+use Rattle.qc_site.proofs.Backs.{fault_told, on_err}
+use Rattle.qc_site.proofs.back.read_back.Goals as goal
+
+pub returns-in-Ok-clause-kept : goal.returns-in-Ok-clause-kept
+returns-in-Ok-clause-kept g c = on_err c.said.result (λ bodies k. (bodies_of c.in-Ok.found.items, c.in-Ok.ensures.tells bodies k))
+
+pub returns-in-Err-clause-says : goal.returns-in-Err-clause-says
+returns-in-Err-clause-says g c =
+    let told = g.D.Disk.content (disk_of c.args.journal.now) in
+    subst (λ (e : BackNo). IfSome told (IsAnswer c.args.copies c.args.old c.args.given.now c.args.hand.now (Err e))) (sym c.back_no.ensures)
+    (fault_told c.args.copies c.args.old c.args.given.now c.args.hand.now told c.in-Err.fault c.in-Err.ensures.fault (λ place is. c.in-Err.ensures.broken place (ap Err is)))
+
+pub returns-in-Err-clause-kept : goal.returns-in-Err-clause-kept
+returns-in-Err-clause-kept g c = λ bodies k. (bodies, c.in-Err.ensures.kept bodies k)
