@@ -2,7 +2,7 @@
 use Rattle.std.proofs.Common.{Err, ap, sym, subst}
 use Rattle.std.specs.Prelude.{IfSome}
 use Rattle.qc_journal.specs.Image.{bodies_of}
-use Rattle.qc_journal.specs.Journal.{disk_of, Keeps}
+use Rattle.qc_journal.specs.Journal.{disk_of}
 use Rattle.qc_site.specs.Back.{IsAnswer}
 use Rattle.qc_site.specs.declared.back.BackNo.{BackNo}
 use Rattle.qc_site.proofs.Backs.{fault_told, on_err}

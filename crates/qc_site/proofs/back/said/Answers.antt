@@ -1,5 +1,5 @@
 -- What stands behind the older records.
-use Rattle.std.proofs.Common.{Ok, List, true, false, ap, sym, subst, ◌∙◌}
+use Rattle.std.proofs.Common.{Ok, List, ap, sym, subst, ◌∙◌}
 use Rattle.std.specs.Prelude.{slice_get}
 use Rattle.qc_event.specs.declared.event.Grant.{Grant}
 use Rattle.qc_journal.specs.Image.{bodies_of}

@@ -1,5 +1,5 @@
 -- The bodies so far are the grants so far.
-use Rattle.std.proofs.Common.{◌≡◌, take}
+use Rattle.std.proofs.Common.{take}
 use Rattle.qc_journal.specs.Image.{bodies_of}
 use Rattle.qc_site.specs.Back.{AreGrants}
 use Rattle.qc_site.proofs.compare.grants_in.Given as goal
