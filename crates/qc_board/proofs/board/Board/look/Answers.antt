@@ -7,8 +7,7 @@ use Rattle.qc_board.proofs.board.Board.look.Goals as goal
 
 pub load-word-requires : goal.load-word-requires
 load-word-requires c =
-    let low : c.from.result < 16 = is_low c.self.inside.sessions c.args.session c.from.result c.args.self.now _ c.self.view_is c.self.invariant.1 c.from.ensures c.requires.session in
-    (
+    let low : c.from.result < 16 = is_low c.self.inside.sessions c.args.session c.from.result c.args.self.now _ c.self.view_is c.self.invariant.1 c.from.ensures c.requires.session in (
       same_table _ _ _ c.args.self.now _ c.args.seat.now c.self.view_is c.seat.view_is refl c.requires.of,
       omega (arith, c.self.invariant.0, low),
       looks _ _ _ _ _ _ low c.seat.invariant.1,
