@@ -92,28 +92,28 @@ impl<D: Disk> Shelf<D> {
     }
 
     // Writes a record. Its top is in hand then, unless nothing was done.
-    fn write(&mut self, top: &Name, record: &[u8]) -> Result<(), LedgerNo>
+    fn write(&mut self, top: &Name, bytes: &[u8]) -> Result<(), LedgerNo>
         requires up { IsUp (journal_in self.old) }
         requires none { top_in self.old ≡ None }
         ensures up { OnOk result (IsUp (journal_in self.new)) }
         ensures hand { OnOk result (top_in self.new ≡ Some top.now) }
         ensures place { OnOk result (place_of (journal_in self.new) ≡ place_of (journal_in self.old)
-            + 5 + length record.now) }
+            + 5 + length bytes.now) }
         ensures logged { OnOk result ((bodies : List (List ℕ)) → Keeps (journal_in self.old) bodies
-            → Keeps (journal_in self.new) (bodies ++ record.now ∷ [])) }
-        ensures left { IfErr result (LogLeaves self.old self.new top.now record.now) }
+            → Keeps (journal_in self.new) (bodies ++ bytes.now ∷ [])) }
+        ensures left { IfErr result (LogLeaves self.old self.new top.now bytes.now) }
         ensures full { (result ≡ Err (Full (place_of (journal_in self.old)))) ↔ IsTooLong
-            (place_of (journal_in self.old)) (limit_of (journal_in self.old)) record.now }
+            (place_of (journal_in self.old)) (limit_of (journal_in self.old)) bytes.now }
         ensures kept { OnErr result ((bodies : List (List ℕ)) → Keeps (journal_in self.old) bodies
             → Keeps (journal_in self.new) bodies) }
         ensures limit { limit_of (journal_in self.new) ≡ limit_of (journal_in self.old) }
         ensures any_moment { (bodies : List (List ℕ)) → Keeps (journal_in self.old) bodies
-            → Leaves (journal_in self.old) (journal_in self.new) (HasOrMore bodies record.now) }
+            → Leaves (journal_in self.old) (journal_in self.new) (HasOrMore bodies bytes.now) }
         ensures grows { (bodies : List (List ℕ)) → Keeps (journal_in self.old) bodies
             → LosesNone (journal_in self.old) (journal_in self.new) }
         ensures cause { Costs (journal_in self.old) (journal_in self.new) (IsErrOf result Disk) }
     {
-        match self.journal.append(record) {
+        match self.journal.append(bytes) {
             Ok(()) => {
                 self.hand = Some(*top);
                 Ok(())
@@ -128,23 +128,23 @@ impl<D: Disk> Shelf<D> {
     }
 
     // After a fault: the record stands, or it is written once more.
-    fn write_again(&mut self, top: &Name, record: &[u8]) -> Result<(), LedgerNo>
-        requires unsure { IsUnsure self.old (place_of (journal_in self.old)) top.now record.now }
+    fn write_again(&mut self, top: &Name, bytes: &[u8]) -> Result<(), LedgerNo>
+        requires unsure { IsUnsure self.old (place_of (journal_in self.old)) top.now bytes.now }
         requires short { IsTooLong (place_of (journal_in self.old)) (limit_of (journal_in self.old))
-            record.now → ⊥ }
+            bytes.now → ⊥ }
         ensures up { OnOk result (IsUp (journal_in self.new)) }
         ensures hand { OnOk result (top_in self.new ≡ Some top.now) }
         ensures place { OnOk result (place_of (journal_in self.new) ≡ place_of (journal_in self.old)
-            + 5 + length record.now) }
+            + 5 + length bytes.now) }
         ensures logged { OnOk result ((bodies : List (List ℕ)) → Keeps (journal_in self.old) bodies
-            → Keeps (journal_in self.new) (bodies ++ record.now ∷ [])) }
-        ensures left { IfErr result (LogLeaves self.old self.new top.now record.now) }
+            → Keeps (journal_in self.new) (bodies ++ bytes.now ∷ [])) }
+        ensures left { IfErr result (LogLeaves self.old self.new top.now bytes.now) }
         ensures full { (place : ℕ) → result ≡ Err (Full place) → ⊥ }
         ensures kept { OnErr result ((bodies : List (List ℕ)) → Keeps (journal_in self.old) bodies
             → Keeps (journal_in self.new) bodies) }
         ensures limit { limit_of (journal_in self.new) ≡ limit_of (journal_in self.old) }
         ensures any_moment { (bodies : List (List ℕ)) → Keeps (journal_in self.old) bodies
-            → Leaves (journal_in self.old) (journal_in self.new) (HasOrMore bodies record.now) }
+            → Leaves (journal_in self.old) (journal_in self.new) (HasOrMore bodies bytes.now) }
         ensures grows { (bodies : List (List ℕ)) → Keeps (journal_in self.old) bodies
             → LosesNone (journal_in self.old) (journal_in self.new) }
         ensures cause { Costs (journal_in self.old) (journal_in self.new) (IsErrOf result Disk) }
@@ -152,34 +152,34 @@ impl<D: Disk> Shelf<D> {
         if self.revive()? {
             return Ok(());
         }
-        self.write(top, record)
+        self.write(top, bytes)
     }
 
     // Writes a record, with one revival and one second try after a fault of the disk.
-    fn write_twice(&mut self, top: &Name, record: &[u8]) -> Result<(), LedgerNo>
+    fn write_twice(&mut self, top: &Name, bytes: &[u8]) -> Result<(), LedgerNo>
         requires up { IsUp (journal_in self.old) }
         requires none { top_in self.old ≡ None }
         ensures up { OnOk result (IsUp (journal_in self.new)) }
         ensures hand { OnOk result (top_in self.new ≡ Some top.now) }
         ensures place { OnOk result (place_of (journal_in self.new) ≡ place_of (journal_in self.old)
-            + 5 + length record.now) }
+            + 5 + length bytes.now) }
         ensures logged { OnOk result ((bodies : List (List ℕ)) → Keeps (journal_in self.old) bodies
-            → Keeps (journal_in self.new) (bodies ++ record.now ∷ [])) }
-        ensures left { IfErr result (LogLeaves self.old self.new top.now record.now) }
+            → Keeps (journal_in self.new) (bodies ++ bytes.now ∷ [])) }
+        ensures left { IfErr result (LogLeaves self.old self.new top.now bytes.now) }
         ensures full { (result ≡ Err (Full (place_of (journal_in self.old)))) ↔ IsTooLong
-            (place_of (journal_in self.old)) (limit_of (journal_in self.old)) record.now }
+            (place_of (journal_in self.old)) (limit_of (journal_in self.old)) bytes.now }
         ensures kept { OnErr result ((bodies : List (List ℕ)) → Keeps (journal_in self.old) bodies
             → Keeps (journal_in self.new) bodies) }
         ensures limit { limit_of (journal_in self.new) ≡ limit_of (journal_in self.old) }
         ensures any_moment { (bodies : List (List ℕ)) → Keeps (journal_in self.old) bodies
-            → Leaves (journal_in self.old) (journal_in self.new) (HasOrMore bodies record.now) }
+            → Leaves (journal_in self.old) (journal_in self.new) (HasOrMore bodies bytes.now) }
         ensures grows { (bodies : List (List ℕ)) → Keeps (journal_in self.old) bodies
             → LosesNone (journal_in self.old) (journal_in self.new) }
         ensures cause { Costs (journal_in self.old) (journal_in self.new) (IsErrOf result Disk) }
         ensures twice { IsErrOf result Disk → CostsTwo (journal_in self.old) (journal_in self.new) }
     {
-        match self.write(top, record) {
-            Err(LedgerNo::Disk) => self.write_again(top, record),
+        match self.write(top, bytes) {
+            Err(LedgerNo::Disk) => self.write_again(top, bytes),
             first => first,
         }
     }

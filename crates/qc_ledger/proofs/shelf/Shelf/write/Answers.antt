@@ -18,8 +18,8 @@ returns-after-not-is_up-clause-left g c =
       | then-not-is_up w ↦ ap (λ (s : Shelf g.row.D.Denot g.D.Disk). s.journal) w.self-is
       | else-not-is_up w ↦ ap (λ (s : Shelf g.row.D.Denot g.D.Disk). s.journal) w.self-is
     ] in
-    subst (LogLeaves c.args.self.now new c.args.top.now c.args.record.now) (sym c.log_no.ensures)
-    (write_left c.args.self.now new c.args.top.now c.args.record.now c.requires.up c.requires.none
+    subst (LogLeaves c.args.self.now new c.args.top.now c.args.bytes.now) (sym c.log_no.ensures)
+    (write_left c.args.self.now new c.args.top.now c.args.bytes.now c.requires.up c.requires.none
     (λ up. elim c.if-not-is_up.branch [
       | then-not-is_up w ↦ absurd (true≢false (sym (c.is_up.ensures.1 (subst IsUp same up)) ∙ w.if-not-is_up.true))
       | else-not-is_up w ↦ ap (λ (s : Shelf g.row.D.Denot g.D.Disk). s.hand) w.self-is
@@ -28,7 +28,7 @@ returns-after-not-is_up-clause-left g c =
       | then-not-is_up w ↦ ap (λ (s : Shelf g.row.D.Denot g.D.Disk). s.hand) w.self-is
       | else-not-is_up w ↦ absurd (down (subst IsUp (sym same) (c.is_up.ensures.0 w.if-not-is_up.false)))
     ])
-    c.in-Err.fault (subst (λ j. AppendLeaves c.args.self.now.journal j c.args.record.now c.in-Err.fault) (sym same) c.in-Err.ensures.left))
+    c.in-Err.fault (subst (λ j. AppendLeaves c.args.self.now.journal j c.args.bytes.now c.in-Err.fault) (sym same) c.in-Err.ensures.left))
 
 pub returns-after-not-is_up-clause-any_moment : goal.returns-after-not-is_up-clause-any_moment
 returns-after-not-is_up-clause-any_moment g c = λ bodies k.
@@ -36,7 +36,7 @@ returns-after-not-is_up-clause-any_moment g c = λ bodies k.
       | then-not-is_up w ↦ ap (λ (s : Shelf g.row.D.Denot g.D.Disk). s.journal) w.self-is
       | else-not-is_up w ↦ ap (λ (s : Shelf g.row.D.Denot g.D.Disk). s.journal) w.self-is
     ] in
-    subst (λ j. LeavesOnly g.D.Disk.moment g.D.Disk.left_at (disk_of (journal_in c.args.self.now)) (disk_of j) (HasOrMore bodies c.args.record.now)) (sym same) (c.append.ensures.any_moment bodies k)
+    subst (λ j. LeavesOnly g.D.Disk.moment g.D.Disk.left_at (disk_of (journal_in c.args.self.now)) (disk_of j) (HasOrMore bodies c.args.bytes.now)) (sym same) (c.append.ensures.any_moment bodies k)
 
 pub returns-after-not-is_up-clause-grows : goal.returns-after-not-is_up-clause-grows
 returns-after-not-is_up-clause-grows g c = λ bodies k index had.

@@ -13,8 +13,8 @@ returns-clause-any_moment g c = λ bodies k.
     let old = journal_in c.args.self.now in
     let mid = journal_in c.revive.new.self in
     let kept : Keeps mid bodies = subst (λ b. Keeps mid (if b then with_hand bodies (in_hand old) else bodies)) c.if-branch.false (c.in_ok-revive.ensures.tells bodies k) in
-    continues g.D.Disk.moment g.D.Disk.left_at (disk_of old) (disk_of mid) (disk_of (journal_in c.write.new.self)) _ _ (HasOrMore bodies c.args.record.now) c.revive.ensures.any_moment (c.write.ensures.any_moment bodies kept)
-    (λ image left. stands_more old.place bodies (in_hand old) c.args.record.now image c.requires.unsure.in_journal (k.each image left)) (λ image has. has)
+    continues g.D.Disk.moment g.D.Disk.left_at (disk_of old) (disk_of mid) (disk_of (journal_in c.write.new.self)) _ _ (HasOrMore bodies c.args.bytes.now) c.revive.ensures.any_moment (c.write.ensures.any_moment bodies kept)
+    (λ image left. stands_more old.place bodies (in_hand old) c.args.bytes.now image c.requires.unsure.in_journal (k.each image left)) (λ image has. has)
 
 pub returns-clause-grows : goal.returns-clause-grows
 returns-clause-grows g c = λ bodies k index had.
