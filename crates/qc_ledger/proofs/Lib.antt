@@ -1,5 +1,5 @@
 mod Told
-mod Numbers
+pub mod Numbers
 pub mod Firsts
 pub mod Writing
 pub mod Mounts

@@ -14,10 +14,10 @@ use Rattle.std.proofs.lemmas.Bool.{cases_eq, cases_lt}
 use Rattle.qc_codec.specs.declared.past.Logged.{Logged}
 use Rattle.qc_ledger.specs.Seen.{AreNumbers}
 
-is_at_same : (n : ℕ) → is_at (nat_cmp n) n ≡ true
+pub is_at_same : (n : ℕ) → is_at (nat_cmp n) n ≡ true
 is_at_same n = ap is_eq (sym (nat_cmp_is n n Equal refl))
 
-is_at_apart : (n q : ℕ) → (n ≡ q → ⊥) → is_at (nat_cmp n) q ≡ false
+pub is_at_apart : (n q : ℕ) → (n ≡ q → ⊥) → is_at (nat_cmp n) q ≡ false
 is_at_apart n q apart = elim (cases_lt n q) [
   | inl less ↦ ap is_eq (sym (nat_cmp_is n q Less less))
   | inr more ↦ ap is_eq (sym (nat_cmp_is n q Greater (below more)))

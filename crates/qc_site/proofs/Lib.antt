@@ -3,3 +3,4 @@ mod Rests
 mod Faults
 mod Rows
 mod Backs
+mod Places

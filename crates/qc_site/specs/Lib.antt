@@ -5,3 +5,4 @@ pub mod Refusing
 pub mod Mounted
 pub mod Start
 pub mod Back
+pub mod Places

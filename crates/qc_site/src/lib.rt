@@ -10,6 +10,7 @@ mod mounted;
 mod mounting;
 mod reading;
 mod start;
+mod tops;
 
 pub use back::{BackNo, Strange, read_back};
 pub use fault::SiteNo;

@@ -86,9 +86,9 @@ fn begin<D: Disk>(
 }
 
 /// Reads what stands on a copy's disk, and writes how it was made, where nothing stands there. The past is what the
-/// ledger told before this mounting. Reading takes as many steps as there are bytes, and for each record a search among
-/// the names of those before it; the start tuples, for each grant as many as there are logged tops. A refusal hands
-/// the disk back.
+/// ledger told before this mounting. It takes as many steps as there are bytes, for each grant a search among the names
+/// of those before it and one among the numbers of logged tops, and a look at the names that were aborted below the one
+/// found. A refusal hands the disk back.
 pub fn mount<D: Disk>(
     alloc: Global,
     copy: u8,

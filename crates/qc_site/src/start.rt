@@ -1,48 +1,16 @@
 //! The tuples with which a copy starts: what its grants restore that logged tops keep.
 ghost use Rattle.std.specs.Prelude.{ℕ, ◌≡◌, ◌<◌, ◌≤◌, ◌++◌, ◌∷◌, [], length, map, slice_set, IfOk, OnOk, OnErr};
-ghost use Rattle.std.specs.List.{list_any};
 ghost use Rattle.qc_codec.specs.Restored as kept;
 ghost use Rattle.qc_config.specs.Tuple.{after};
 ghost use Rattle.qc_event.specs.Tables.{first_tuple};
-ghost use Rattle.qc_names.specs.Name as name;
 ghost use Rattle.qc_site.specs.Start.{from_row};
 
 use crate::lists::append;
+use crate::tops::{is_kept, places_of};
 use qc_codec::Logged;
 use qc_config::{Op, Tuple};
-use qc_event::{Grant, Name, Table};
+use qc_event::{Grant, Table};
 use std::alloc::{AllocError, Global};
-
-// Whether one of the names is above an access.
-fn are_above(names: &[Name], access: &Name) -> bool
-    ensures { result ≡ list_any (λ n. name.is_ancestor n access.now) names.now }
-{
-    for name in names {
-        if name.is_ancestor(access) {
-            return true;
-        }
-    }
-    false
-}
-
-// Whether a logged top is above an access, and none of those listed is.
-fn keeps(logged: &Logged, access: &Name) -> bool
-    ensures { result ≡ kept.keeps access.now logged.now }
-{
-    logged.top.is_ancestor(access) && !are_above(logged.aborted.as_slice(), access)
-}
-
-// Whether a logged top keeps what an access did.
-fn is_kept(tops: &[Logged], access: &Name) -> bool
-    ensures { result ≡ kept.is_kept tops.now access.now }
-{
-    for logged in tops {
-        if keeps(logged, access) {
-            return true;
-        }
-    }
-    false
-}
 
 // The first tuples of a table's records.
 fn first_tuples(alloc: Global, table: &Table) -> Result<Vec<Tuple>, AllocError>
@@ -86,10 +54,11 @@ pub(crate) fn restored_row(
     ensures { IfOk result (λ tuples. tuples.items ≡ kept.restored_row tops.now
         (length table.now.records) (from_row (map first_tuple table.now.records)) grants.now) }
 {
+    let places = places_of(alloc, tops)?;
     let mut tuples = first_tuples(alloc, table)?;
     for grant in grants {
         is_op(&grant.op);
-        if is_kept(tops, &grant.access) {
+        if is_kept(tops, &places, &grant.access) {
             change(&mut tuples, grant);
         }
     }
