@@ -1,6 +1,7 @@
 //! A case: what it stands on.
 
 use crate::answer::{Answer, records, tuples};
+use crate::back::back;
 use crate::image::image;
 use crate::site::mounted;
 use crate::state::State;
@@ -60,6 +61,7 @@ impl Case {
         let mut there = disk.bytes().to_vec(self.alloc)?;
         match step.name {
             "mount" => mounted(self.alloc, disk, step),
+            "back" => back(self.alloc, disk, step),
             "fail" => self.made(there, step),
             "cut" => {
                 let size = usize::try_from(step.number()).unwrap_or(usize::MAX);

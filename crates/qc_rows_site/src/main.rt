@@ -8,9 +8,12 @@
 //! - `mount LIMIT MADE EPOCH TOP ..`: mounts the copy of which MADE tells, over the table of which it tells, behind a
 //!   ledger with this last epoch and these tops; MADE and each TOP are bodies.
 //! - `records`, `start`: of a mounted copy.
+//! - `back MADE OLD HAND GRANT ..`: mounts a journal on a disk, and reads it back: behind so many older records stand
+//!   these grants, and maybe the one in hand; `-` is none.
 #![tactic(auto)]
 
 mod answer;
+mod back;
 mod case;
 mod image;
 mod site;

@@ -16,8 +16,8 @@ fn append<T: Drop>(items: &mut Vec<T>, item: T) -> Result<(), AllocError> {
     Ok(())
 }
 
-// How a disk was made, by the body of that record.
-fn made_by(alloc: Global, word: &str) -> Result<Option<Made>, AllocError>
+/// How a disk was made, by the body of that record.
+pub(crate) fn made_by(alloc: Global, word: &str) -> Result<Option<Made>, AllocError>
     ensures { IfOk result (λ made. IfSome made (λ m. (body.table 1).fits m.table)) }
 {
     let spelled = bytes(alloc, word)?;

@@ -47,7 +47,7 @@ impl<'a> Step<'a> {
 }
 
 /// A number; what is none is taken for the greatest.
-fn number(word: &str) -> u64 {
+pub(crate) fn number(word: &str) -> u64 {
     word.parse::<u64>().unwrap_or(u64::MAX)
 }
 

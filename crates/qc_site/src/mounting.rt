@@ -61,7 +61,8 @@ fn begin<D: Disk>(
     ensures granted { OnOk result (AreGranted copy table.now past.now
         (bodies_of bodies.old.items)) }
     ensures fine { OnOk result (KeepsAll journal.old bodies.old
-        → AreMountable copy table.now past.now (limit_of journal.old) (bodies_of bodies.old.items)) }
+        → AreMountable copy table.now past.now (limit_of journal.old)
+        (bodies_of bodies.old.items)) }
     ensures bodies { OnOk result (HasMore bodies.old bodies.new
         (to_write copy table.now (bodies_of bodies.old.items))) }
     ensures limit { limit_of journal.new ≡ limit_of journal.old }

@@ -32,7 +32,8 @@ fn first_tuples(alloc: Global, table: &Table) -> Result<Vec<Tuple>, AllocError>
 // Changes the tuple of a grant's record, where there is one.
 fn change(tuples: &mut Vec<Tuple>, grant: &Grant)
     ensures known { grant.now.rec < length tuples.old.items → tuples.new.items ≡ slice_set
-        tuples.old.items grant.now.rec (after (from_row tuples.old.items grant.now.rec) grant.now.op) }
+        tuples.old.items grant.now.rec
+        (after (from_row tuples.old.items grant.now.rec) grant.now.op) }
     ensures past { length tuples.old.items ≤ grant.now.rec → tuples.new.items ≡ tuples.old.items }
 {
     let rec = usize::from(grant.rec);
