@@ -3,7 +3,7 @@ ghost use Rattle.std.specs.Prelude.{◌≡◌, ◌⊎◌, ◌∷◌, ◌++◌, �
 ghost use Rattle.std.specs.Bool.{OnFalse, OnTrue};
 ghost use Rattle.qc_codec.specs.Bodies as body;
 ghost use Rattle.qc_codec.specs.declared.record.LedgerRecord.TheVariants.{Top};
-ghost use Rattle.qc_event.specs.History.{end, is_ready};
+ghost use Rattle.qc_event.specs.History.{end, is_ready, limit};
 ghost use Rattle.qc_event.specs.Requests.{is_ledger_fault};
 ghost use Rattle.qc_event.specs.Seats.{ledger_seat};
 ghost use Rattle.qc_pass.specs.Calling.{Shown};
@@ -13,7 +13,7 @@ ghost use Rattle.qc_ledger.specs.Entered.{MayFinish, SeesMore};
 ghost use Rattle.qc_ledger.specs.Refusing.{want_no, IsWant};
 ghost use Rattle.qc_ledger.specs.Runs.{HasOrMore, Leaves, LosesNone, Falls, Costs, CostsTwo};
 ghost use Rattle.qc_ledger.specs.Shelf.{journal_in, top_in, top_body, LogLeaves, IsDeviceNo};
-ghost use Rattle.qc_ledger.specs.declared.fault.LedgerNo.TheVariants.{Disk, Full};
+ghost use Rattle.qc_ledger.specs.declared.fault.LedgerNo.TheVariants.{Disk, Full, Room};
 
 use crate::fault::LedgerNo;
 use crate::shelf::Shelf;
@@ -61,6 +61,7 @@ impl<D: Disk, N: Store> Ledger<D, N> {
             → IsOver told before self.new.shelf (tops_of self.new.pass.mine) }
         ensures seen { IsOlder self.old.pass.seen self.new.pass.seen }
         ensures want { IfErr result IsWant }
+        ensures room { IsErrOf result Room → length self.new.pass.seen ≡ limit }
     {
         let Some(top) = self.shelf.hand() else {
             return Ok(());
@@ -157,6 +158,7 @@ impl<D: Disk, N: Store> Ledger<D, N> {
         ensures seen { IsOlder self.old.pass.seen self.new.pass.seen }
         ensures seer { SeesMore seer.old seer.new }
         ensures want { IfErr result IsWant }
+        ensures room { IsErrOf result Room → length self.new.pass.seen ≡ limit }
     {
         match desk.unable(rt, &mut self.pass, seer, top, why) {
             Ok(()) => Ok(()),
@@ -200,6 +202,7 @@ impl<D: Disk, N: Store> Ledger<D, N> {
         ensures none { OnErr result (EntersHand (top_in self.old.shelf)
             self.old.pass.mine self.new.pass.mine) }
         ensures refused { IfErr result IsLogNo }
+        ensures room { IsErrOf result Room → length self.new.pass.seen ≡ limit }
 
         // Where the disk tells its bytes, each image has a record for each committed top, and behind them at most that of
         // the top in hand. At each moment of the call an image has the records of some image from before, or these and
@@ -260,6 +263,7 @@ impl<D: Disk, N: Store> Ledger<D, N> {
             self.old.pass.mine self.new.pass.mine) }
         ensures refused { IfErr result (λ refusal. RefusalEnters refusal
             (top_in self.old.shelf) top.now self.old.pass.mine self.new.pass.mine) }
+        ensures room { IsErrOf result Room → length self.new.pass.seen ≡ limit }
 
         // Where the disk tells its bytes, each image has a record for each committed top, and behind them at most that of
         // the top in hand. At each moment of the call an image has the records of some image from before, or these and
@@ -309,6 +313,7 @@ impl<D: Disk, N: Store> Ledger<D, N> {
         ensures enters { EntersHand (top_in self.old.shelf)
             self.old.pass.mine self.new.pass.mine }
         ensures refused { IfErr result IsReviveNo }
+        ensures room { IsErrOf result Room → length self.new.pass.seen ≡ limit }
         ensures over { (told : List ℕ → List (List ℕ)) (before : List (List ℕ))
             → IsOver told before self.old.shelf (tops_of self.old.pass.mine)
             → IsOver told before self.new.shelf (tops_of self.new.pass.mine) }
