@@ -4,5 +4,5 @@ pub mod Firsts
 pub mod Writing
 pub mod Mounts
 mod Logging
-mod Verdicts
+pub mod Verdicts
 mod Passes

@@ -1,50 +1,20 @@
 -- Bodies of a ledger's records have one verdict.
-use Rattle.std.proofs.Common.{◌≡◌, ◌≢◌, ◌⊎◌, inl, inr, ℕ, ◌<◌, List, [], ◌∷◌, ◌++◌, length, refl, sym, ap, ap₂, ◌∙◌, subst, arith}
+use Rattle.std.proofs.Common.{◌≡◌, ◌≢◌, ◌⊎◌, inl, inr, ℕ, List, [], ◌∷◌, ◌++◌, length, refl, sym, ap, ap₂, ◌∙◌, subst, arith}
 use Rattle.std.specs.Prelude.{MatchOption, Some}
-use Rattle.std.proofs.lemmas.Bool.{cases_eq, cases_lt}
+use Rattle.std.proofs.lemmas.Bool.{cases_eq}
 use Rattle.qc_event.specs.declared.table.Table.{Table}
 use Rattle.qc_codec.specs.Bodies as body
 use Rattle.qc_codec.specs.Form.{all_of}
-use Rattle.qc_codec.specs.Ledger.{AreInOrder, IsMade, IsOutOfOrder, MayStand, made_for}
+use Rattle.qc_codec.specs.Ledger.{IsMade, IsOutOfOrder, MayStand, made_for}
 use Rattle.qc_codec.specs.declared.image.ImageFault.{ImageFault}
 use Rattle.qc_codec.specs.declared.image.ImageFault.TheVariants.{Broken, Grammar, Full, Table as OtherTable, Epoch}
 use Rattle.qc_codec.specs.declared.record.Made.{Made}
 use Rattle.qc_codec.specs.declared.record.LedgerRecord.TheVariants as ledger_record
+use Rattle.qc_codec.proofs.Order.{in_order, same_index}
 use Rattle.qc_journal.specs.Image.{HasRecords, IsBroken}
 use Rattle.qc_journal.proofs.Readings.{broken-same, records-same, records_not_broken}
 use Rattle.qc_journal.specs.Journal.{IsTooLong}
 use Rattle.qc_ledger.specs.Image.{AreMadeFor, AreMountable, IsFault, IsFirstFault, IsFull}
-
--- THE FIRST OUT OF ORDER
-
--- of two partings of a list, the later has the earlier's item in front
-earlier : {A : Type 0} (b1 a1 b2 a2 : List A) (x y : A) → b1 ++ x ∷ a1 ≡ b2 ++ y ∷ a2 → length b1 < length b2 → (rest : List A) × (b2 ≡ b1 ++ x ∷ rest)
-earlier [] a1 [] a2 x y is less = absurd (omega (arith, less))
-earlier [] a1 (c ∷ b2) a2 x y is less = let same : x ≡ c = cc in (b2, ap (λ k. k ∷ b2) (sym same))
-earlier (b ∷ b1) a1 [] a2 x y is less = absurd (omega (arith, less))
-earlier {A} (b ∷ b1) a1 (c ∷ b2) a2 x y is less =
-    let head : b ≡ c = cc in
-    let tail : b1 ++ x ∷ a1 ≡ b2 ++ y ∷ a2 = cc in
-    let more = earlier b1 a1 b2 a2 x y tail (omega (arith, less)) in
-    (more.0, ap₂ (λ k (l : List A). k ∷ l) (sym head) more.1)
-
-module _ (bodies : List (List ℕ)) where
-  not_earlier : (i j : ℕ) → IsOutOfOrder i bodies → IsOutOfOrder j bodies → i < j → ⊥
-  not_earlier i j one two less =
-      let more = earlier one.before one.after two.before two.after one.item two.item (sym one.split ∙ two.split) (omega (arith, less, one.size, two.size)) in
-      one.breaks (two.order one.before more.0 one.item more.1)
-
-  same_index : (i j : ℕ) → IsOutOfOrder i bodies → IsOutOfOrder j bodies → j ≡ i
-  same_index i j one two = elim (cases_lt i j) [
-    | inl less ↦ absurd (not_earlier i j one two less)
-    | inr more ↦ elim (cases_eq j i) [
-      | inl same ↦ same
-      | inr other ↦ absurd (not_earlier j i two one (omega (arith, more, other)))
-    ]
-  ]
-
-  in_order : (i : ℕ) → IsOutOfOrder i bodies → AreInOrder bodies → ⊥
-  in_order i out order = out.breaks (order out.before out.after out.item out.split)
 
 -- HOW THE LEDGER WAS MADE
 
@@ -69,7 +39,7 @@ first_stands bodies k i made out none = by bodies out.before out.after out.item 
 
 -- WANT OF ROOM
 
-same_place : (limit : ℕ) (bodies more : List (List ℕ)) (p q : ℕ) → IsFull limit bodies more p → IsFull limit bodies more q → q ≡ p
+pub same_place : (limit : ℕ) (bodies more : List (List ℕ)) (p q : ℕ) → IsFull limit bodies more p → IsFull limit bodies more q → q ≡ p
 same_place limit bodies [] p q one two = absurd one
 same_place limit bodies (next ∷ more) p q (inl one) (inl two) = two.0 ∙ sym one.0
 same_place limit bodies (next ∷ more) p q (inl one) (inr two) = absurd (two.0 (subst (λ n. IsTooLong n limit next) one.0 one.1))
@@ -88,57 +58,64 @@ module _ (table : Table) (limit : ℕ) (bodies : List (List ℕ)) where
   pub one_fault : (f other : ImageFault) → IsFault table limit bodies f → IsFault table limit bodies other → other ≡ f
   one_fault (Broken p) other one two = absurd one
   one_fault (Grammar i) (Broken p) one two = absurd two
-  one_fault (Grammar i) (Grammar j) one two = ap Grammar (same_index bodies i j one.0 two.0)
+  one_fault (Grammar i) (Grammar j) one two = ap Grammar (same_index MayStand bodies i j one.0 two.0)
   one_fault (Grammar i) (OtherTable kept asked) one two = absurd (grammar_or_table i kept one.0 one.1 two.1 two.2 two.3)
-  one_fault (Grammar i) (Epoch e) one two = absurd (in_order bodies i one.0 two.0.order)
-  one_fault (Grammar i) (Full p) one two = absurd (in_order bodies i one.0 two.0.order)
+  one_fault (Grammar i) (Epoch e) one two = absurd (in_order MayStand bodies i one.0 two.0.order)
+  one_fault (Grammar i) (Full p) one two = absurd (in_order MayStand bodies i one.0 two.0.order)
   one_fault (OtherTable kept asked) (Broken p) one two = absurd two
   one_fault (OtherTable kept asked) (Grammar j) one two = absurd (grammar_or_table j kept two.0 two.1 one.1 one.2 one.3)
   one_fault (OtherTable kept asked) (OtherTable other asks) one two = ap₂ OtherTable (same_table bodies kept other one.2 one.3 two.3) (two.0 ∙ sym one.0)
   one_fault (OtherTable kept asked) (Epoch e) one two = absurd (one.1 (same_table bodies table kept one.2 two.0.made one.3))
   one_fault (OtherTable kept asked) (Full p) one two = absurd (one.1 (same_table bodies table kept one.2 two.0.made one.3))
   one_fault (Epoch e) (Broken p) one two = absurd two
-  one_fault (Epoch e) (Grammar j) one two = absurd (in_order bodies j two.0 one.0.order)
+  one_fault (Epoch e) (Grammar j) one two = absurd (in_order MayStand bodies j two.0 one.0.order)
   one_fault (Epoch e) (OtherTable kept asked) one two = absurd (two.1 (same_table bodies table kept two.2 one.0.made two.3))
   one_fault (Epoch e) (Epoch n) one two = ap Epoch (sym two.1 ∙ one.1)
   one_fault (Epoch e) (Full p) one two = absurd (omega (arith, one.1, one.2, two.1))
   one_fault (Full p) (Broken q) one two = absurd two
-  one_fault (Full p) (Grammar j) one two = absurd (in_order bodies j two.0 one.0.order)
+  one_fault (Full p) (Grammar j) one two = absurd (in_order MayStand bodies j two.0 one.0.order)
   one_fault (Full p) (OtherTable kept asked) one two = absurd (two.1 (same_table bodies table kept two.2 one.0.made two.3))
   one_fault (Full p) (Epoch e) one two = absurd (omega (arith, two.1, two.2, one.1))
   one_fault (Full p) (Full q) one two = ap Full (same_place limit bodies _ p q one.2 two.2)
 
   pub fault_or_none : (f : ImageFault) → IsFault table limit bodies f → AreMountable table limit bodies → ⊥
   fault_or_none (Broken p) one fine = one
-  fault_or_none (Grammar i) one fine = in_order bodies i one.0 fine.ledgers.order
+  fault_or_none (Grammar i) one fine = in_order MayStand bodies i one.0 fine.ledgers.order
   fault_or_none (OtherTable kept asked) one fine = one.1 (same_table bodies table kept one.2 fine.ledgers.made one.3)
   fault_or_none (Epoch e) one fine = omega (arith, one.1, one.2, fine.epoch)
   fault_or_none (Full p) one fine = fine.room p one.2
 
 -- OF IMAGES
 
-module _ (table : Table) (limit : ℕ) (image : List ℕ) where
+module _ (Has : List (List ℕ) → ImageFault → Type 0) (image : List ℕ) where
   -- a fault of an image is that of its records, or the journal's
-  apart : (f : ImageFault) → IsFirstFault (IsFault table limit) f image → ((p : ℕ) × (f ≡ Broken p) × IsBroken p image) ⊎ ((b : List (List ℕ)) × HasRecords b image × IsFault table limit b f)
+  apart : (f : ImageFault) → IsFirstFault Has f image → ((p : ℕ) × (f ≡ Broken p) × IsBroken p image) ⊎ ((b : List (List ℕ)) × HasRecords b image × Has b f)
   apart (Broken p) is = inl (p, refl, is)
   apart (Grammar i) is = inr is
   apart (OtherTable kept asked) is = inr is
   apart (Epoch e) is = inr is
   apart (Full p) is = inr is
 
-  pub one_first : (f other : ImageFault) → IsFirstFault (IsFault table limit) f image → IsFirstFault (IsFault table limit) other image → other ≡ f
-  one_first f other one two = by (apart f one) (apart other two)
+  pub first_is_one : ((b : List (List ℕ)) (f other : ImageFault) → Has b f → Has b other → other ≡ f) → (f other : ImageFault) → IsFirstFault Has f image → IsFirstFault Has other image → other ≡ f
+  first_is_one only f other one two = by (apart f one) (apart other two)
     where
-      by : ((p : ℕ) × (f ≡ Broken p) × IsBroken p image) ⊎ ((b : List (List ℕ)) × HasRecords b image × IsFault table limit b f)
-          → ((p : ℕ) × (other ≡ Broken p) × IsBroken p image) ⊎ ((b : List (List ℕ)) × HasRecords b image × IsFault table limit b other) → other ≡ f
+      by : ((p : ℕ) × (f ≡ Broken p) × IsBroken p image) ⊎ ((b : List (List ℕ)) × HasRecords b image × Has b f)
+          → ((p : ℕ) × (other ≡ Broken p) × IsBroken p image) ⊎ ((b : List (List ℕ)) × HasRecords b image × Has b other) → other ≡ f
       by (inl a) (inl b) = b.1 ∙ ap Broken (broken-same image a.0 b.0 a.2 b.2) ∙ sym a.1
       by (inl a) (inr b) = absurd (records_not_broken image b.0 a.0 b.1 a.2)
       by (inr a) (inl b) = absurd (records_not_broken image a.0 b.0 a.1 b.2)
-      by (inr a) (inr b) = one_fault table limit a.0 f other a.2 (subst (λ (l : List (List ℕ)). IsFault table limit l other) (records-same image a.0 b.0 a.1 b.1) b.2)
+      by (inr a) (inr b) = only a.0 f other a.2 (subst (λ (l : List (List ℕ)). Has l other) (records-same image a.0 b.0 a.1 b.1) b.2)
+
+  pub first_or_else : (bodies : List (List ℕ)) (f : ImageFault) → HasRecords bodies image → (Has bodies f → ⊥) → IsFirstFault Has f image → ⊥
+  first_or_else bodies f has none is = by (apart f is)
+    where
+      by : ((p : ℕ) × (f ≡ Broken p) × IsBroken p image) ⊎ ((b : List (List ℕ)) × HasRecords b image × Has b f) → ⊥
+      by (inl a) = records_not_broken image bodies a.0 has a.2
+      by (inr a) = none (subst (λ (l : List (List ℕ)). Has l f) (records-same image bodies a.0 has a.1) a.2)
+
+module _ (table : Table) (limit : ℕ) (image : List ℕ) where
+  pub one_first : (f other : ImageFault) → IsFirstFault (IsFault table limit) f image → IsFirstFault (IsFault table limit) other image → other ≡ f
+  one_first f other one two = first_is_one (IsFault table limit) image (one_fault table limit) f other one two
 
   pub first_or_none : (f : ImageFault) (bodies : List (List ℕ)) → IsFirstFault (IsFault table limit) f image → HasRecords bodies image → AreMountable table limit bodies → ⊥
-  first_or_none f bodies is has fine = by (apart f is)
-    where
-      by : ((p : ℕ) × (f ≡ Broken p) × IsBroken p image) ⊎ ((b : List (List ℕ)) × HasRecords b image × IsFault table limit b f) → ⊥
-      by (inl a) = records_not_broken image bodies a.0 has a.2
-      by (inr a) = fault_or_none table limit bodies f (subst (λ (l : List (List ℕ)). IsFault table limit l f) (records-same image bodies a.0 has a.1) a.2) fine
+  first_or_none f bodies is has fine = first_or_else (IsFault table limit) image bodies f has (λ fault. fault_or_none table limit bodies f fault fine) is

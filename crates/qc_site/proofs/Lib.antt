@@ -4,3 +4,4 @@ mod Faults
 mod Rows
 mod Backs
 mod Places
+mod Verdicts

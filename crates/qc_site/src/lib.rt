@@ -5,6 +5,7 @@ mod back;
 mod compare;
 mod fault;
 mod granted;
+mod law;
 mod lists;
 mod mounted;
 mod mounting;
@@ -14,5 +15,6 @@ mod tops;
 
 pub use back::{BackNo, Strange, read_back};
 pub use fault::SiteNo;
+pub use law::one_verdict;
 pub use mounted::Mounted;
 pub use mounting::mount;
