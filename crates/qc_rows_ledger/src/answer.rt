@@ -17,6 +17,7 @@ pub(crate) enum Answer {
     Mounted(u32, Past),
     Hand(Option<Name>),
     Refused(LedgerNo),
+    Text(String),
     NotNow,
     NoSuch,
 }
@@ -33,6 +34,7 @@ impl Answer {
             Answer::Mounted(epoch, past) => mounted(alloc, *epoch, past),
             Answer::Hand(hand) => hand_text(alloc, hand),
             Answer::Refused(no) => no.to_string(alloc),
+            Answer::Text(text) => String::from_str(alloc, text.as_str()),
             Answer::NotNow => String::from_str(alloc, "not now"),
             Answer::NoSuch => String::from_str(alloc, "no such step here"),
         }

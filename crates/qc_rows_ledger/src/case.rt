@@ -1,6 +1,7 @@
 //! A case: what it stands on.
 
 use crate::answer::Answer;
+use crate::desk::over_desk;
 use crate::image::image;
 use crate::ledger::{mounted, on_shelf, records};
 use crate::state::State;
@@ -8,6 +9,7 @@ use crate::step::{Step, bytes};
 use qc_disk::MemDisk;
 use std::alloc::{AllocError, Global};
 use std::mem;
+use std::sync::Wait;
 
 /// A case.
 #[derive(Drop)]
@@ -26,7 +28,7 @@ impl Case {
     }
 
     /// Makes a step.
-    pub(crate) fn step(&mut self, step: &Step<'_>) -> Result<Answer, AllocError> {
+    pub(crate) fn step<R: Wait>(&mut self, rt: &R, step: &Step<'_>) -> Result<Answer, AllocError> {
         let state = mem::replace(&mut self.state, State::Nothing);
         let (state, answer) = match step.name {
             "mem" => self.made(Vec::new(self.alloc), step)?,
@@ -35,7 +37,7 @@ impl Case {
                 (self.plain(bytes), Answer::Done)
             }
             "mount" | "cut" | "add" | "fail" | "bytes" | "calls" => self.on_disk(state, step)?,
-            _ => self.on_ledger(state, step)?,
+            _ => self.on_ledger(rt, state, step)?,
         };
         self.state = state;
         Ok(answer)
@@ -79,15 +81,24 @@ impl Case {
     }
 
     // Makes a step on a ledger.
-    fn on_ledger(&self, state: State, step: &Step<'_>) -> Result<(State, Answer), AllocError> {
+    fn on_ledger<R: Wait>(
+        &self,
+        rt: &R,
+        state: State,
+        step: &Step<'_>,
+    ) -> Result<(State, Answer), AllocError> {
         match state {
-            State::Book(book) if step.name == "open" => Ok((
+            State::Book(book, _) if step.name == "open" => Ok((
                 State::Shelf(book.open()),
                 Answer::Done,
             )),
-            State::Book(book) => {
+            State::Book(book, epoch) if step.name == "desk" => {
+                let (disk, told) = over_desk(rt, self.alloc, book, epoch, &step.words)?;
+                Ok((State::Disk(disk), Answer::Text(told)))
+            }
+            State::Book(book, epoch) => {
                 let answer = records(self.alloc, &book)?;
-                Ok((State::Book(book), answer))
+                Ok((State::Book(book, epoch), answer))
             }
             State::Shelf(mut shelf) => {
                 let answer = on_shelf(self.alloc, &mut shelf, step)?;

@@ -37,13 +37,13 @@ pub(crate) fn mounted(
         return Ok((State::Disk(disk), Answer::NoSuch));
     };
     match mount(alloc, disk, &made.table, step.number()) {
-        Ok((book, past, epoch)) => Ok((State::Book(book), Answer::Mounted(epoch, past))),
+        Ok((book, past, epoch)) => Ok((State::Book(book, epoch), Answer::Mounted(epoch, past))),
         Err((disk, no)) => Ok((State::Disk(disk), Answer::Refused(no))),
     }
 }
 
 // What a step on an open ledger answers that gives nothing.
-fn done(answer: Result<(), LedgerNo>) -> Answer {
+pub(crate) fn done(answer: Result<(), LedgerNo>) -> Answer {
     match answer {
         Ok(()) => Answer::Done,
         Err(no) => Answer::Refused(no),

@@ -7,29 +7,41 @@
 //! - `image BODY ..`: a disk in memory with a journal of these records.
 //! - `cut N`, `add HEX`, `fail CALL done ..`, `bytes`, `calls`: of a disk. They make a new disk of its bytes.
 //! - `mount LIMIT TABLE`: mounts a ledger. `records`: of one that is mounted.
+//! - `desk BODY ..`: of one that is mounted. Over a desk of its own, tops are started and made ready in turn, each is
+//!   logged by its record, and `revive` among them revives the ledger. Its disk stays.
 //! - `open`: opens it. `log BODY`, `let`, `revive`, `hand`, `up`: of one that is open.
 #![tactic(auto)]
 
 mod answer;
 mod case;
+mod desk;
 mod image;
 mod ledger;
 mod state;
 mod step;
 
 use case::Case;
-use std::alloc::Global;
+use std::alloc::{AllocError, Global};
 use std::io;
+use std::sync::Wait;
 use step::Step;
 
-// Goes through the steps of one case.
-fn go(rt: HostRuntime, alloc: Global, line: &str) -> io::Result<()> {
+// What each step of a case answered, one behind another.
+fn answers<R: Wait>(rt: &R, alloc: Global, line: &str) -> Result<Vec<String>, AllocError> {
     let mut case = Case::new(alloc);
+    let mut lines = Vec::new(alloc);
     for text in line.split(';') {
         let text = text.trim_ascii();
         let step = Step::of(alloc, text)?;
-        let answer = case.step(&step)?.text(alloc)?;
-        println!(rt; "{text}: {answer}")?;
+        let answer = case.step(rt, &step)?.text(alloc)?;
+        lines.push(format!(in alloc; "{text}: {answer}")?)?;
+    }
+    Ok(lines)
+}
+
+fn print(rt: HostRuntime, lines: &[String]) -> io::Result<()> {
+    for line in lines {
+        println!(rt; "{line}")?;
     }
     Ok(())
 }
@@ -41,7 +53,8 @@ fn main(rt: HostRuntime) -> io::Result<()> {
         if line.is_empty() || line.as_bytes()[0] == b'#' {
             println!(rt; "{line}")?;
         } else {
-            go(rt, alloc, line.as_str())?;
+            let lines = answers(&rt, alloc, line.as_str())?;
+            print(rt, lines.as_slice())?;
         }
     }
     Ok(())

@@ -8,7 +8,8 @@ use qc_ledger::{Book, Shelf};
 pub(crate) enum State {
     Nothing,
     Disk(MemDisk),
-    Book(Book<MemDisk>),
+    /// A mounted ledger, with its epoch.
+    Book(Book<MemDisk>, u32),
     Shelf(Shelf<MemDisk>),
 }
 
@@ -18,7 +19,7 @@ impl State {
         match self {
             State::Nothing => None,
             State::Disk(disk) => Some(disk),
-            State::Book(book) => Some(book.into_disk()),
+            State::Book(book, _) => Some(book.into_disk()),
             State::Shelf(shelf) => Some(shelf.into_disk()),
         }
     }
