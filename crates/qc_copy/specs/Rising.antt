@@ -1,4 +1,5 @@
 -- A list in order of accesses of what each was granted first.
+use Rattle.std.proofs.Props.{props}
 use Rattle.std.specs.Prelude.{◌≡◌, Bool, true, List, [], ◌∷◌, All, Option, None, Some, find, if◌then◌else◌}
 use Rattle.std.specs.Option.{option_map, option_or}
 use Rattle.std.specs.Ordering.{nat_cmp, is_lt}
@@ -15,6 +16,11 @@ is_below a b = is_lt (slice_cmp nat_cmp a b)
 abbrev pub IsRising : List First → Type 0
 IsRising [] = Unit {0}
 IsRising (f ∷ firsts) = All (λ (g : First). is_below f.access g.access ≡ true) firsts × IsRising firsts
+
+-- of that there is one proof at most
+pub rising_once : (firsts : List First) → IsProp (IsRising firsts)
+rising_once [] = hlevel
+rising_once (f ∷ firsts) = let rest = rising_once firsts in hlevel (props, rest)
 
 -- the tuple of an access
 abbrev pub first_of : List First → Name → Option Tuple

@@ -2,8 +2,10 @@
 #![tactic(auto)]
 
 mod firsts;
+mod repeats;
 mod sources;
 mod state;
 
+pub use repeats::Repeats;
 pub use sources::{Entries, Indexed};
-pub use state::{CopyState, Verdict, consult_locks};
+pub use state::{CopyState, Verdict, consult_locks, replay_locks};

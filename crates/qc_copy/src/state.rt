@@ -1,11 +1,11 @@
-ghost use Rattle.std.specs.Prelude.{ℕ, List, ◌≡◌, ◌<◌, true, IsTrue, not, IfOk, OnOk, OnErr, is_some, Ok, Some, All, length, reverse};
+ghost use Rattle.std.specs.Prelude.{ℕ, List, ◌≡◌, ◌<◌, true, false, IsTrue, not, IfOk, OnOk, OnErr, is_some, Ok, Some, All, length, reverse};
 ghost use Rattle.qc_event.specs.Clear.{is_get};
 ghost use Rattle.qc_event.specs.History.{Past};
 ghost use Rattle.qc_event.specs.declared.event.Answered.TheVariants.{Granted};
 ghost use Rattle.qc_config.specs.declared.tuple.Tuple.{Tuple};
 ghost use Rattle.qc_event.specs.declared.event.Grant.{Grant};
 ghost use Rattle.qc_moss.specs.Follows.{Follows, IsSettled};
-ghost use Rattle.qc_moss.specs.Locks.{StaysAt};
+ghost use Rattle.qc_moss.specs.Locks.{unheld, StaysAt};
 ghost use Rattle.qc_copy.specs.State as words;
 ghost use Rattle.qc_copy.specs.declared.state.Verdict.TheVariants.{Free};
 
@@ -94,6 +94,23 @@ pub fn consult_locks<S: Source>(locks: &mut Locks, ask: &Ask, source: &S) -> Ver
     }
 }
 
+/// The locks of a copy that starts with these tuples, record by record, and granted all this, where each access still
+/// holds its own lock. They follow any history.
+pub fn replay_locks(alloc: Global, start: Vec<Tuple>, grants: &[Grant]) -> Result<Locks, AllocError>
+    requires { All (λ g. g.rec < length start.items) grants.now }
+    ensures locks { IfOk result (λ l. l ≡ words.all_granted (unheld start.items) grants.now) }
+    ensures start { IfOk result (λ l. l.start ≡ start.items) }
+    ensures reserved { IfOk result (λ l. l.reserved ≡ false) }
+    ensures follows { IfOk result (λ l. (past : Past) → Follows past grants.now l) }
+{
+    let mut locks = Locks::new(alloc, start)?;
+    for grant in grants {
+        locks.reserve()?;
+        locks.grant(&grant.access, grant.rec, &grant.op);
+    }
+    Ok(locks)
+}
+
 impl CopyState {
     /// A copy that starts with these tuples, record by record, and granted all this, where each access still
     /// holds its own lock. That follows any history.
@@ -108,11 +125,7 @@ impl CopyState {
         ensures start { IfOk result (λ s. s.table.start ≡ start.items) }
         ensures follows { IfOk result (λ s. (past : Past) → Follows past grants.now s.table) }
     {
-        let mut locks = Locks::new(alloc, start)?;
-        for grant in grants {
-            locks.reserve()?;
-            locks.grant(&grant.access, grant.rec, &grant.op);
-        }
+        let locks = replay_locks(alloc, start, grants)?;
         Ok(CopyState {
             copy,
             locks,

@@ -1,9 +1,10 @@
 -- The grants of a copy, one entry after another, and back along them.
-use Rattle.std.proofs.Common.{◌≡◌, ℕ, zero, suc, ◌+◌, ◌-◌, ◌<◌, ◌≤◌, ◌⊎◌, inl, inr, Bool, true, false, List, [], ◌∷◌, ◌++◌, length, take, reverse, refl, sym, ap, ◌∙◌, subst, arith, append-nil, append_assoc}
+use Rattle.std.proofs.Common.{◌≡◌, ℕ, zero, suc, ◌+◌, ◌-◌, ◌<◌, ◌≤◌, ◌⊎◌, inl, inr, Bool, true, false, List, [], ◌∷◌, ◌++◌, length, take, drop, get_or, reverse, refl, sym, ap, ◌∙◌, subst, arith, append-nil, append_assoc}
+use Rattle.std.specs.Option.{option_map}
 use Rattle.std.specs.Prelude.{Option, None, Some, ◌==◌, nat_lt, if◌then◌else◌, option_to_list, slice_get, slice_index, slice_set}
 use Rattle.std.proofs.lemmas.Bool.{eqb-true, eq-eqb, false_from_ne_true, lt-ltb, ltb-true}
-use Rattle.std.proofs.lemmas.List.{length-append, length-set, length-reverse, get_or-set_same, get_or-set_other}
-use Rattle.std.proofs.lemmas.Option.{same_Some, slice_get_within}
+use Rattle.std.proofs.lemmas.List.{drop_all, drop_more, length-append, length-set, length-reverse, reverse-append, get_or-set_same, get_or-set_other}
+use Rattle.std.proofs.lemmas.Option.{same_Some, slice_get_within, slice_get-get_or}
 use Rattle.qc_event.specs.declared.event.Entry.{Entry}
 use Rattle.qc_event.specs.declared.event.Event.{Event}
 use Rattle.qc_event.specs.declared.event.Event.TheVariants as event
@@ -174,6 +175,7 @@ pub record GoesOn (past : Past) (copy : ℕ) (given : List Grant) (before : List
   pub inside : i < length past
   pub some_left : 1 ≤ index
   pub smaller : slice_index before i ≤ i
+  pub some_grant : (e : Entry) → slice_get (reverse past) i ≡ Some e → (g : Grant) × (grant_of e.event ≡ Some g)
   pub goes_on : (e : Entry) (g : Option Grant) (now : Option (ℕ × Grant)) → slice_get (reverse past) i ≡ Some e → g ≡ grant_of e.event
       → ((x : Grant) → g ≡ Some x → ((slice_get given (index - 1) ≡ Some x) × (now ≡ found)) ⊎ ((slice_get given (index - 1) ≡ Some x → ⊥) × (now ≡ Some (index - 1, x))))
       → IsMidway past copy given (slice_index before i) (index - 1) now
@@ -200,6 +202,7 @@ one_grant_back past copy given counts lasts before next i index found was small 
       inside = omega (arith, slice_get_within (reverse past) i s.here there, length-reverse past);
       some_left = omega (arith, long);
       smaller = omega (arith, back, few, s.place);
+      some_grant = λ e here. (g, ap (λ (x : Entry). grant_of x.event) (same_Some e s.here (sym here ∙ there)) ∙ own.1);
       goes_on = λ e o now here given_by choose. record {
         newer = (m.newer ++ s.newer) ++ s.here ∷ [];
         older = s.older;
@@ -222,3 +225,60 @@ all_read past copy given next index found small m last =
     let none = none_left granted_at (λ e. grant_at copy e.event) copy (λ e other. no_grant copy small e.event other) m.older (sym m.comes ∙ last) in
     let first : index ≡ 0 = m.before ∙ ap length none in
     from_first given (grants past copy) found (subst (λ n. DiffersFrom n given (grants past copy) found) first m.differs)
+
+-- THE LIST OF THEM
+
+-- where nothing comes next, none is left
+pub none_before : (past : Past) (copy : ℕ) (given : List Grant) (next index : ℕ) (found : Option (ℕ × Grant)) → copy < 16 → IsMidway past copy given next index found → next ≡ 0 → index ≡ 0
+none_before past copy given next index found small m last = m.before ∙ ap length (none_left granted_at (λ e. grant_at copy e.event) copy (λ e other. no_grant copy small e.event other) m.older (sym m.comes ∙ last))
+
+-- So far those from an index on were read, the last one first.
+pub record IsRead (past : Past) (copy next index : ℕ) (read : List Grant) : Type 0 where
+  pub found : Option (ℕ × Grant)
+  pub midway : IsMidway past copy [] next index found
+  pub back : reverse read ≡ drop index (grants past copy)
+
+pub read_none : (past : Past) (copy next index : ℕ) → next ≡ last_of granted_at copy past → index ≡ length (grants past copy) → IsRead past copy next index []
+read_none past copy next index comes many = record {
+  found = None;
+  midway = midway_last past copy [] next index comes many;
+  back = sym (drop_all index (grants past copy) (omega (arith, many)));
+}
+
+drop_from : (xs : List Grant) (i : ℕ) (x : Grant) → slice_get xs i ≡ Some x → drop i xs ≡ x ∷ drop (i + 1) xs
+drop_from xs i x is =
+    let within = slice_get_within xs i x is in
+    drop_more xs i x within ∙ ap (λ z. z ∷ drop (i + 1) xs) (same_Some (get_or xs i x) x (sym (slice_get-get_or xs i x within) ∙ is))
+
+-- one more was read
+pub record ReadsOn (past : Past) (copy : ℕ) (before : List ℕ) (i index : ℕ) (read : List Grant) : Type 0 where
+  pub inside : i < length past
+  pub some_left : 1 ≤ index
+  pub smaller : slice_index before i ≤ i
+  pub goes_on : (e : Entry) (g : Option Grant) → slice_get (reverse past) i ≡ Some e → g ≡ grant_of e.event
+      → IsRead past copy (slice_index before i) (index - 1) (read ++ option_to_list g)
+
+pub read_one : (past : Past) (copy : ℕ) (counts lasts before : List ℕ) (next i index : ℕ) (read : List Grant) → AreGrantsOf past counts lasts before → copy < 16
+    → IsRead past copy next index read → next ≡ i + 1 → ReadsOn past copy before i index read
+read_one past copy counts lasts before next i index read was small m is =
+    let on = one_grant_back past copy [] counts lasts before next i index m.found was small m.midway is in
+    record {
+      inside = on.inside;
+      some_left = on.some_left;
+      smaller = on.smaller;
+      goes_on = λ e o here given_by.
+          let some = on.some_grant e here in
+          let x = some.0 in
+          let now = Some (index - 1, x) in
+          let further : IsMidway past copy [] (slice_index before i) (index - 1) now = on.goes_on e (Some x) now here (sym some.1) (λ y same. inr ((λ h. cc), ap (option_map (λ z. (index - 1, z))) same)) in
+          let lower : index - 1 + 1 ≡ index = omega (arith, on.some_left) in
+          record {
+            found = now;
+            midway = further;
+            back = ap (λ z. reverse (read ++ option_to_list z)) (given_by ∙ some.1)
+                ∙ reverse-append read (x ∷ [])
+                ∙ ap (λ (r : List Grant). x ∷ r) m.back
+                ∙ ap (λ n. x ∷ drop n (grants past copy)) (sym lower)
+                ∙ sym (drop_from (grants past copy) (index - 1) x further.differs.1);
+          };
+    }

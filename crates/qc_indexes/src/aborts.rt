@@ -11,6 +11,7 @@ ghost use Rattle.qc_desk.specs.Index.{IsOf};
 ghost use Rattle.qc_desk.specs.Standing.{OfEach};
 ghost use Rattle.qc_indexes.specs.Aborts.{AreAborts, abort_top, last_abort};
 
+use crate::lists::{append, turn};
 use crate::slots::{set_slot, slot, widen};
 use qc_desk::{Index, Outcomes};
 use qc_event::{Entry, Event, How, Name};
@@ -51,22 +52,6 @@ fn aborted_in(names: &Index, entry: &Entry, top: &Name) -> Option<Name>
             Some(*name),
         _ => None,
     }
-}
-
-// Generic: a push at the type of names gets no proof today.
-fn append<T: Copy>(items: &mut Vec<T>, item: Option<T>) -> Result<(), AllocError>
-    ensures { OnOk result (items.new.items ≡ items.old.items ++ option_to_list item) }
-{
-    if let Some(item) = item {
-        items.push(item)?;
-    }
-    Ok(())
-}
-
-fn turn<T: Copy>(items: &mut Vec<T>)
-    ensures { items.new.items ≡ reverse items.old.items }
-{
-    items.reverse();
 }
 
 /// Who was aborted below each top: beside the place of the top's name, one more than the place of the last such entry,

@@ -1,5 +1,5 @@
 //! What each copy granted.
-ghost use Rattle.std.specs.Prelude.{◌≡◌, ◌↔◌, ◌⊎◌, ◌<◌, [], ◌∷◌, OnOk, IsTrue, Some, length, reverse, slice_get};
+ghost use Rattle.std.specs.Prelude.{◌≡◌, ◌↔◌, ◌⊎◌, ◌<◌, [], ◌∷◌, IfOk, OnOk, IsTrue, Some, length, reverse, slice_get};
 ghost use Rattle.qc_event.specs.declared.event.Grant.{Grant};
 ghost use Rattle.qc_event.specs.Base.{Setting};
 ghost use Rattle.qc_event.specs.History.{Past, limit, grants};
@@ -8,6 +8,7 @@ ghost use Rattle.qc_indexes.specs.Growing.{CanFollow};
 ghost use Rattle.qc_indexes.specs.Grants as words;
 ghost use Rattle.qc_indexes.specs.Grants.{AreGrants, Differs, granted_at};
 
+use crate::lists::{append, turn};
 use crate::slots::{set_slot, slot, widen};
 use qc_event::{Entry, Event, Grant};
 use qc_scan::{same_name, same_op, same_tuple};
@@ -110,6 +111,30 @@ impl Grants {
         set_slot(&mut self.before, at as usize, self.last[copy]);
         self.last[copy] = at + 1;
         self.count[copy] += 1;
+    }
+
+    /// A copy's grants, in order. It reads each of them once. The only error is want of memory for the list.
+    pub(crate) fn of_copy(
+        &self,
+        alloc: Global,
+        entries: &[Entry],
+        copy: u8,
+    ) -> Result<Vec<Grant>, AllocError>
+        requires kept { AreGrants self.now (reverse entries.now) }
+        requires small { copy < 16 }
+        ensures { IfOk result (λ given. given.items ≡ grants (reverse entries.now) copy) }
+    {
+        let mut given = Vec::new(alloc);
+        let mut index = self.count[copy as usize];
+        let mut next = self.last[copy as usize];
+        while next > 0 {
+            let at = next as usize - 1;
+            index -= 1;
+            append(&mut given, grant_of(&entries[at]))?;
+            next = slot(&self.before, at);
+        }
+        turn(&mut given);
+        Ok(given)
     }
 
     /// The first of a copy's grants where another or none was given, with its index. It reads each grant of the copy

@@ -114,6 +114,15 @@ impl Indexes {
         self.aborts.below(self.alloc, names, entries, top)
     }
 
+    /// A copy's grants, in order. It reads each of them once. The only error is want of memory for the list.
+    pub fn of_copy(&self, entries: &[Entry], copy: u8) -> Result<Vec<Grant>, AllocError>
+        requires kept { AreOf self.now (reverse entries.now) }
+        requires small { copy < 16 }
+        ensures { IfOk result (λ given. given.items ≡ grants (reverse entries.now) copy) }
+    {
+        self.grants.of_copy(self.alloc, entries, copy)
+    }
+
     /// The first of a copy's grants where another or none was given, with its index. It reads each grant of the copy
     /// once.
     pub fn differ(&self, entries: &[Entry], copy: u8, given: &[Grant]) -> Option<(usize, Grant)>

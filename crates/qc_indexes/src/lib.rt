@@ -4,6 +4,7 @@
 mod aborts;
 mod grants;
 mod indexes;
+mod lists;
 mod marks;
 mod opens;
 mod refusals;

@@ -12,7 +12,7 @@ ghost use Rattle.qc_journal.specs.Journal.{disk_of, limit_of, place_of, IsTooLon
 ghost use Rattle.qc_ledger.specs.Entered.{MayFinish, SeesMore};
 ghost use Rattle.qc_ledger.specs.Refusing.{want_no, IsWant};
 ghost use Rattle.qc_ledger.specs.Runs.{HasOrMore, Leaves, LosesNone, Falls, Costs, CostsTwo};
-ghost use Rattle.qc_ledger.specs.Shelf.{journal_in, top_in, top_body, LogLeaves, IsDeviceNo};
+ghost use Rattle.qc_ledger.specs.Shelf.{journal_in, top_in, top_body, LogLeaves, IsDeviceNo, IsIdle};
 ghost use Rattle.qc_ledger.specs.declared.fault.LedgerNo.TheVariants.{Disk, Full, Room};
 
 use crate::fault::LedgerNo;
@@ -197,6 +197,8 @@ impl<D: Disk, N: Store> Ledger<D, N> {
         requires ready { IsTrue (is_ready seer.old.seen top.now) }
         requires proper { body.ledger.fits (Top top.now aborted.now) }
         ensures stands { OnOk result (IsTrue (is_some (end self.new.pass.seen top.now))) }
+        ensures idle { OnOk result (IsUp (journal_in self.new.shelf)
+            × (top_in self.new.shelf ≡ None)) }
         ensures enters { OnOk result (EntersTop (top_in self.old.shelf) top.now
             self.old.pass.mine self.new.pass.mine) }
         ensures none { OnErr result (EntersHand (top_in self.old.shelf)
@@ -221,9 +223,10 @@ impl<D: Disk, N: Store> Ledger<D, N> {
             → LosesNone (journal_in self.old.shelf) (journal_in self.new.shelf) }
 
         // A fault of the disk is told only where its count of faults rose, by two where the ledger was up. Full comes only
-        // where the record would pass the limit.
-        ensures full { (place : ℕ) → result ≡ Err (Full place) → IsTooLong place
-            (limit_of (journal_in self.old.shelf)) (top_body top.now aborted.now) }
+        // where the record would pass the limit at its place; the ledger is up then, with nothing in hand.
+        ensures full { (place : ℕ) → result ≡ Err (Full place) → IsIdle self.new.shelf place
+            × IsTooLong place (limit_of (journal_in self.old.shelf))
+            (top_body top.now aborted.now) }
         ensures cause { Costs (journal_in self.old.shelf) (journal_in self.new.shelf)
             (IsErrOf result Disk) }
         ensures twice { IsUp (journal_in self.old.shelf) → IsErrOf result Disk
@@ -256,9 +259,11 @@ impl<D: Disk, N: Store> Ledger<D, N> {
         requires ready { IsTrue (is_ready seer.old.seen top.now) }
         requires proper { body.ledger.fits (Top top.now aborted.now) }
 
-        // At `Ok` the top's commit stands. What was entered is at most the commit of the top in hand, and then at most this
+        // At `Ok` the top's commit stands, and the ledger is up with nothing in hand. What was entered is at most the commit of the top in hand, and then at most this
         // top's, or that it was not logged.
         ensures stands { OnOk result (IsTrue (is_some (end self.new.pass.seen top.now))) }
+        ensures idle { OnOk result (IsUp (journal_in self.new.shelf)
+            × (top_in self.new.shelf ≡ None)) }
         ensures enters { OnOk result (EntersTop (top_in self.old.shelf) top.now
             self.old.pass.mine self.new.pass.mine) }
         ensures refused { IfErr result (λ refusal. RefusalEnters refusal
@@ -282,9 +287,10 @@ impl<D: Disk, N: Store> Ledger<D, N> {
             → LosesNone (journal_in self.old.shelf) (journal_in self.new.shelf) }
 
         // A fault of the disk is told only where its count of faults rose, by two where the ledger was up. Full comes only
-        // where the record would pass the limit.
-        ensures full { (place : ℕ) → result ≡ Err (Full place) → IsTooLong place
-            (limit_of (journal_in self.old.shelf)) (top_body top.now aborted.now) }
+        // where the record would pass the limit at its place; the ledger is up then, with nothing in hand.
+        ensures full { (place : ℕ) → result ≡ Err (Full place) → IsIdle self.new.shelf place
+            × IsTooLong place (limit_of (journal_in self.old.shelf))
+            (top_body top.now aborted.now) }
         ensures cause { Costs (journal_in self.old.shelf) (journal_in self.new.shelf)
             (IsErrOf result Disk) }
         ensures twice { IsUp (journal_in self.old.shelf) → IsErrOf result Disk

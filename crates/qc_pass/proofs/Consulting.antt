@@ -31,7 +31,7 @@ use Rattle.qc_pass.specs.Consulting.{HasAsked, IsFree, IsRefused, IsTold, refusa
 use Rattle.qc_pass.specs.Entries.{IsOlder, IsSince, entry}
 use Rattle.qc_pass.specs.Refusing.{against_nothing}
 use Rattle.qc_pass.specs.Rules.{knows, extends}
-use Rattle.qc_pass.proofs.Granting.{grants_same}
+use Rattle.qc_pass.proofs.NoGrants.{grants_kept, others_grant_none}
 use Rattle.qc_pass.proofs.Lasting.{is_stays}
 
 -- REQUESTS
@@ -58,7 +58,7 @@ pub follows_since : (setting : Setting) (past now : Past) (copy : ℕ) (table : 
 follows_since setting past now copy table legal s f =
     let here = subst (Legal setting) s.1 legal in
     subst (λ p. Follows p (grants p copy) table) (sym s.1)
-    (subst (λ gs. Follows (s.0 ++ past) gs table) (sym (grants_same setting past copy s.0 here s.2)) (follows_more s.0 past (grants past copy) table f))
+    (subst (λ gs. Follows (s.0 ++ past) gs table) (sym (grants_kept setting past copy s.0 (others_grant_none setting past copy s.0 here s.2))) (follows_more s.0 past (grants past copy) table f))
 
 -- and the refusal that is entered then, which changes no grant
 pub follows_refused : (past : Past) (seat copy : ℕ) (ask : Ask) (r : Refusal) (table : Table) → Follows past (grants past copy) table

@@ -15,6 +15,7 @@ pub mod OwnEnding
 pub mod OwnAsking
 pub mod OwnEntering
 pub mod Granting
+pub mod NoGrants
 pub mod OwnFailing
 pub mod Aborting
 pub mod Seers

@@ -1,11 +1,9 @@
 -- What a pass and a seer know while the history goes on.
 use Rattle.std.proofs.Common.{◌≡◌, ℕ, true, [], ◌∷◌, ◌++◌, sym, ap, ◌∙◌, append_assoc, subst, inl, inr}
-use Rattle.std.specs.Prelude.{None}
 use Rattle.qc_event.specs.Base.{Setting}
 use Rattle.qc_event.specs.declared.event.Event.TheVariants as event
 use Rattle.qc_event.specs.declared.event.Grant.{Grant}
 use Rattle.qc_event.specs.declared.event.Why.{Why}
-use Rattle.qc_event.specs.Dead.{dead}
 use Rattle.qc_event.specs.Grants.{MayGrant}
 use Rattle.qc_event.specs.History.{Past, Name, ask_in, ready_in}
 use Rattle.qc_event.specs.Legal.{Legal, Allowed}
@@ -14,7 +12,7 @@ use Rattle.qc_pass.specs.declared.view.View.{View}
 use Rattle.qc_pass.specs.Calling.{IsLook, Shown}
 use Rattle.qc_pass.specs.Entries.{AreOthers, IsOlder, IsSince, entry}
 use Rattle.qc_pass.specs.Rules.{knows}
-use Rattle.qc_pass.proofs.Granting.{grant_still_allowed}
+use Rattle.qc_pass.proofs.NoGrants.{grant_still_allowed, others_grant_none}
 use Rattle.qc_pass.proofs.Lasting.{match_stays, some_stays}
 
 pub older_trans : (a b c : Past) → IsOlder a b → IsOlder b c → IsOlder a c
@@ -49,8 +47,8 @@ unable_later seen now seat n why older may = subst (λ p. MayBeUnable p seat n w
     by_who (inl copy) = inl record { asked_there = match_stays (λ e. ask_in n e.seat e.event) older.0 seen _ copy.asked_there; fault = copy.fault }
     by_who (inr ledger) = inr record { ledger = ledger.ledger; is_top = ledger.is_top; ready = some_stays (λ e. ready_in n e.event) older.0 seen ledger.ready; fault = ledger.fault }
 
-pub grant_enters : (setting : Setting) (seat copy : ℕ) (seen now : Past) (grant : Grant) → Legal setting now → IsSince seat seen now → MayGrant setting seen seat copy grant → dead seen grant.access ≡ None → Allowed setting now (entry seat (event.Granted copy grant))
-grant_enters setting seat copy seen now grant legal s may alive =
+pub grant_enters : (setting : Setting) (seat copy : ℕ) (seen now : Past) (grant : Grant) → Legal setting now → IsSince seat seen now → MayGrant setting seen seat copy grant → Allowed setting now (entry seat (event.Granted copy grant))
+grant_enters setting seat copy seen now grant legal s may =
+    let here = subst (Legal setting) s.1 legal in
     subst (λ p. MayGrant setting p seat copy grant) (sym s.1)
-    (subst (λ n. MayGrant setting (s.0 ++ seen) n copy grant) (sym may.by_copy)
-    (grant_still_allowed setting seen s.0 copy grant (subst (Legal setting) s.1 legal) (subst (λ n. AreOthers n s.0) may.by_copy s.2) (subst (λ n. MayGrant setting seen n copy grant) may.by_copy may) alive))
+    (grant_still_allowed setting seen s.0 seat copy grant here (others_grant_none setting seen copy s.0 here (subst (λ n. AreOthers n s.0) may.by_copy s.2)) may)

@@ -1,6 +1,5 @@
 //! Calls with the passes of copies and of the ledger, each with a seer: the pass of who asked.
-ghost use Rattle.std.specs.Prelude.{◌≡◌, true, None, OnOk, IfErr};
-ghost use Rattle.qc_event.specs.Dead.{dead};
+ghost use Rattle.std.specs.Prelude.{◌≡◌, true, OnOk, IfErr};
 ghost use Rattle.qc_event.specs.declared.event.Event.TheVariants as event;
 ghost use Rattle.qc_event.specs.Grants.{MayGrant};
 ghost use Rattle.qc_event.specs.Requests.{MayBeUnable};
@@ -43,7 +42,7 @@ impl<N: Store> Desk<N> {
         answer
     }
 
-    /// Appends a grant that was free in what the copy's pass has seen: it still is, whatever others entered since.
+    /// Appends a grant that may be made by what the copy's pass has seen: it still may, whatever others entered since.
     /// Both passes have then seen the history at this step.
     pub fn append<R: Wait>(
         &self,
@@ -56,7 +55,6 @@ impl<N: Store> Desk<N> {
         requires live { pass.old.live ≡ true }
         requires free { MayGrant (setting_of N.table N.base) pass.old.seen pass.old.number copy
             grant.now }
-        requires alive { dead pass.old.seen grant.now.access ≡ None }
         ensures ok { OnOk result
             (Entered against_nothing (event.Granted copy grant.now) pass.old pass.new) }
         ensures err { IfErr result (Refused against_nothing pass.old pass.new) }

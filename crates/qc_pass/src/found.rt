@@ -58,6 +58,14 @@ impl History {
             .aborted_below(&self.index, self.entries.as_slice(), top)
     }
 
+    /// A copy's grants, in order.
+    pub fn of_copy(&self, copy: u8) -> Result<Vec<Grant>, AllocError>
+        requires { copy < 16 }
+        ensures { IfOk result (λ given. given.items ≡ grants self.now copy) }
+    {
+        self.beside.of_copy(self.entries.as_slice(), copy)
+    }
+
     /// The first of a copy's grants where another or none was given, with its index.
     pub fn differ(&self, copy: u8, given: &[Grant]) -> Option<(usize, Grant)>
         requires { copy < 16 }
@@ -95,6 +103,14 @@ impl<N: Store> Locked<N> {
         ensures { IfOk result (λ found. found.items ≡ aborted_below self.now top.now) }
     {
         self.history.aborted_below(top)
+    }
+
+    /// A copy's grants, in order.
+    pub(crate) fn of_copy(&self, copy: u8) -> Result<Vec<Grant>, AllocError>
+        requires { copy < 16 }
+        ensures { IfOk result (λ given. given.items ≡ grants self.now copy) }
+    {
+        self.history.of_copy(copy)
     }
 
     /// The first of a copy's grants where another or none was given, with its index.

@@ -1,5 +1,5 @@
 //! Calls that look something up in the history at their step, and append nothing.
-ghost use Rattle.std.specs.Prelude.{◌≡◌, ◌<◌, [], is_none};
+ghost use Rattle.std.specs.Prelude.{◌≡◌, ◌<◌, [], is_none, IfOk};
 ghost use Rattle.qc_event.specs.History.{grants, refused};
 ghost use Rattle.qc_event.specs.Standing.{open_child};
 ghost use Rattle.qc_indexes.specs.Grants.{Differs};
@@ -10,6 +10,7 @@ use crate::desk::Desk;
 use crate::pass::Pass;
 use crate::store::Store;
 use qc_event::{Grant, Name, Refusal};
+use std::alloc::AllocError;
 use std::sync::Wait;
 
 impl<N: Store> Desk<N> {
@@ -62,5 +63,22 @@ impl<N: Store> Desk<N> {
         let mut locked = self.locked.lock(rt);
         locked.look(&self.room, pass);
         locked.differ(copy, given)
+    }
+
+    /// What a copy granted, in order, in the history at this step. It reads each grant of the copy once. The only error
+    /// is want of memory for the list.
+    pub fn grants<R: Wait>(
+        &self,
+        rt: &R,
+        pass: &mut Pass<N>,
+        copy: u8,
+    ) -> Result<Vec<Grant>, AllocError>
+        requires { copy < 16 }
+        ensures looked { Shown pass.old pass.new }
+        ensures given { IfOk result (λ given. given.items ≡ grants pass.new.seen copy) }
+    {
+        let mut locked = self.locked.lock(rt);
+        locked.look(&self.room, pass);
+        locked.of_copy(copy)
     }
 }

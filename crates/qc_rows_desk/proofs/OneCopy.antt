@@ -22,7 +22,7 @@ use Rattle.qc_pass.specs.declared.view.View.{View}
 use Rattle.qc_pass.specs.Calling.{Looked}
 use Rattle.qc_pass.specs.Consulting.{HasAsked, IsFree, IsTold}
 use Rattle.qc_pass.proofs.Consulting.{stands}
-use Rattle.qc_pass.proofs.Granting.{ungranted}
+use Rattle.qc_pass.proofs.NoGrants.{others_grant_none, ungranted}
 use Rattle.qc_event.specs.Manager.{Stage, result, stage, collecting, is_phase, phase_of, all_copies, AtStage}
 use Rattle.qc_event.specs.Requests.{IsNextAsk}
 use Rattle.qc_event.specs.Tables.{setting_of}
@@ -122,4 +122,4 @@ may_append s v w made ask tuple number copy has none first then legal looked fre
     since = since_later 2 v.seen made w.seen first then (subst (λ n. IsSince n v.seen w.seen) number looked.0)
 
     ungranted_now : granted w.seen ask.access ≡ None
-    ungranted_now = ap (λ p. granted p ask.access) since.1 ∙ ungranted s made 0 since.0 ask.access (record { seat = request.0; ask = ask }) request.1 copy none (subst (Legal s) since.1 legal) since.2
+    ungranted_now = ap (λ p. granted p ask.access) since.1 ∙ ungranted s made 0 since.0 ask.access (record { seat = request.0; ask = ask }) request.1 copy none (subst (Legal s) since.1 legal) (others_grant_none s made 0 since.0 (subst (Legal s) since.1 legal) since.2)

@@ -15,7 +15,7 @@ enter-answer-requires-clause-allowed g c none =
     let k = c.look-2.ensures in
     let same = k.same.0 ∙ c.deref_mut-2.ensures.value in
     after_look setting (event.Granted c.args.copy c.args.grant.now) against_nothing _ _ c.look.new.self _ c.args.pass.now _ None l.same refl (c.deref_mut-3.ensures.value ∙ same) refl
-    (λ _. grant_enters setting c.args.pass.now.number c.args.copy c.args.pass.now.seen _ c.args.grant.now (subst (Legal setting) (c.deref.ensures ∙ same ∙ l.same.0) c.known.ensures.legal) (l.since c.requires.live) c.requires.free c.requires.alive) none
+    (λ _. grant_enters setting c.args.pass.now.number c.args.copy c.args.pass.now.seen _ c.args.grant.now (subst (Legal setting) (c.deref.ensures ∙ same ∙ l.same.0) c.known.ensures.legal) (l.since c.requires.live) c.requires.free) none
 
 pub returns-clause-shown : goal.returns-clause-shown
 returns-clause-shown g c =

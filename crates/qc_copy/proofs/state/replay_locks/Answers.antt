@@ -4,9 +4,9 @@ use Rattle.qc_moss.specs.Follows.{Follows}
 use Rattle.qc_moss.specs.Locks.{unheld}
 use Rattle.qc_copy.specs.State.{all_granted}
 use Rattle.qc_copy.proofs.Replaying.{replay_follows}
-use Rattle.qc_copy.proofs.state.CopyState.replay.Goals as goal
+use Rattle.qc_copy.proofs.state.replay_locks.Goals as goal
 
 pub returns-clause-follows : goal.returns-clause-follows
 returns-clause-follows c = λ past.
     let all = take_all c.loop-grant.grant-index c.args.grants.now (omega arith) in
-    subst (Follows past c.args.grants.now) (sym (c.locks-2.view_is ∙ c.loop-grant.invariant.table ∙ ap (all_granted (unheld c.args.start.items)) all)) (replay_follows past c.args.start.items c.args.grants.now c.requires)
+    subst (Follows past c.args.grants.now) (sym (c.loop-grant.invariant.table ∙ ap (all_granted (unheld c.args.start.items)) all)) (replay_follows past c.args.start.items c.args.grants.now c.requires)
