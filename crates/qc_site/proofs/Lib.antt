@@ -5,3 +5,4 @@ mod Rows
 mod Backs
 mod Places
 mod Verdicts
+mod Replicas

@@ -6,3 +6,5 @@ pub mod Mounted
 pub mod Start
 pub mod Back
 pub mod Places
+pub mod Replica
+pub mod AtDesk

@@ -7,9 +7,12 @@ mod fault;
 mod granted;
 mod law;
 mod lists;
+mod lock_table;
 mod mounted;
 mod mounting;
 mod reading;
+mod replica;
+mod replica_desk;
 mod start;
 mod tops;
 

@@ -1,0 +1,130 @@
+//! A copy at its desk: its pass, its locks, and the grant in hand.
+ghost use Rattle.std.specs.Prelude.{ℕ, ◌≡◌, ◌<◌, ◌++◌, List, [], true, false, All, IfOk, IfErr, IfSome, OnOk, OnErr, IsErrOf, Option, None, Some, Ok, length, slice_index_or, is_some};
+ghost use Rattle.qc_config.specs.declared.tuple.Tuple.{Tuple};
+ghost use Rattle.qc_copy.specs.declared.state.Verdict.TheVariants.{Free};
+ghost use Rattle.qc_copy.specs.State.{again, grant_with};
+ghost use Rattle.qc_event.specs.declared.event.Event.TheVariants as event;
+ghost use Rattle.qc_event.specs.Base.{IsProper};
+ghost use Rattle.qc_event.specs.Grants.{MayGrant};
+ghost use Rattle.qc_event.specs.History.{grants};
+ghost use Rattle.qc_event.specs.Requests.{is_fault};
+ghost use Rattle.qc_event.specs.Seats.{copy_seat};
+ghost use Rattle.qc_event.specs.Tables.{setting_of};
+ghost use Rattle.qc_pass.specs.Calling.{Entered, Looked, Refused, Shown};
+ghost use Rattle.qc_pass.specs.Consulting.{HasAsked, IsTold};
+ghost use Rattle.qc_pass.specs.Refusing.{against_nothing};
+ghost use Rattle.qc_site.specs.Replica.{IsTableOf};
+
+use crate::lock_table::LockTable;
+use qc_config::Tuple;
+use qc_copy::Verdict;
+use qc_event::{Ask, Grant, Name, Why};
+use qc_pass::{Desk, DeskNo, Pass, Store};
+use std::alloc::{AllocError, Global};
+use std::marker::Model;
+use std::sync::Wait;
+
+/// A copy at its desk. It is up where it has its locks. A grant may be in hand, which is not entered in the history yet.
+#[derive(Drop)]
+pub struct Replica<N: Store, const C: u8> {
+    pub(crate) pass: Pass<N>,
+    pub(crate) start: Vec<Tuple>,
+    pub(crate) table: Option<LockTable>,
+    pub(crate) hand: Option<Grant>,
+}
+
+impl<N: Store, const C: u8> Model for Replica<N, C> {
+    ghost use Rattle.std.specs.Prelude.{is_some};
+    ghost use Rattle.qc_event.specs.Tables.{setting_of};
+    ghost use Rattle.qc_site.specs.Replica.{IsKept, Standing};
+
+    ghost Value = { Standing };
+
+    ghost view = { λ r. record { pass = r.pass; hand = r.hand; up = is_some r.table } };
+
+    ghost invariant = { λ r.
+        IsKept (setting_of N.table N.base) C r.pass r.start.items r.table r.hand };
+}
+
+/// The grant of a request, with a tuple.
+pub(crate) fn grant_of(ask: &Ask, tuple: &Tuple) -> Grant
+    ensures { result ≡ grant_with ask.now tuple.now }
+{
+    Grant {
+        access: ask.access,
+        rec: ask.rec,
+        op: ask.op,
+        tuple: *tuple,
+    }
+}
+
+impl<N: Store, const C: u8> Replica<N, C> {
+    /// A copy that is up and has granted nothing.
+    pub(crate) fn new(pass: Pass<N>, start: Vec<Tuple>, table: LockTable) -> Self
+        requires small { C < 16 }
+        requires pass { (pass.live ≡ true) × (pass.number ≡ copy_seat C) }
+        requires nothing { grants pass.seen C ≡ [] }
+        requires starts { start.items ≡ slice_index_or N.base C [] }
+        requires table { IsTableOf start.items pass.seen C table }
+        ensures up { result.up ≡ true }
+        ensures none { result.hand ≡ None }
+        ensures pass { result.pass ≡ pass }
+    {
+        Replica {
+            pass,
+            start,
+            table: Some(table),
+            hand: None,
+        }
+    }
+
+    /// Whether it is up.
+    pub(crate) fn is_up(&self) -> bool
+        ensures { result ≡ self.now.up }
+    {
+        self.table.is_some()
+    }
+
+    /// The grant in hand.
+    pub(crate) fn hand(&self) -> Option<Grant>
+        ensures { result ≡ self.now.hand }
+    {
+        self.hand
+    }
+
+    /// What an access was granted, where it was granted something.
+    pub(crate) fn repeated(&self, access: &Name) -> Option<Tuple>
+        requires { self.now.up ≡ true }
+        ensures { result ≡ again (grants self.now.pass.seen C) access.now }
+    {
+        match &self.table {
+            Some(table) => table.repeated(access),
+            None => unreachable!(),
+        }
+    }
+
+    /// Lets go of the grant in hand.
+    pub(crate) fn drop_hand(&mut self)
+        ensures none { self.new.hand ≡ None }
+        ensures pass { self.new.pass ≡ self.old.pass }
+        ensures up { self.new.up ≡ self.old.up }
+    {
+        self.hand = None;
+    }
+
+    /// Forgets its locks. The grant in hand stays.
+    pub(crate) fn forget(&mut self)
+        ensures down { self.new.up ≡ false }
+        ensures hand { self.new.hand ≡ self.old.hand }
+        ensures pass { self.new.pass ≡ self.old.pass }
+    {
+        self.table = None;
+    }
+
+    /// Its pass.
+    pub(crate) fn into_pass(self) -> Pass<N>
+        ensures { result ≡ self.pass }
+    {
+        self.pass
+    }
+}

@@ -1,0 +1,162 @@
+//! What a copy does at its desk: it looks, asks, and enters.
+ghost use Rattle.std.specs.Prelude.{ℕ, ◌≡◌, ◌<◌, ◌⊎◌, List, true, false, IfOk, IfErr, OnOk, OnErr, None, Some};
+ghost use Rattle.qc_config.specs.declared.tuple.Tuple.{Tuple};
+ghost use Rattle.qc_copy.specs.State.{again};
+ghost use Rattle.qc_event.specs.declared.event.Event.TheVariants as event;
+ghost use Rattle.qc_event.specs.Base.{IsProper};
+ghost use Rattle.qc_event.specs.History.{grants, limit};
+ghost use Rattle.qc_event.specs.History.{grants as past_grants};
+ghost use Rattle.qc_event.specs.Requests.{is_fault};
+ghost use Rattle.qc_event.specs.Tables.{setting_of};
+ghost use Rattle.qc_pass.specs.Calling.{Entered, Looked, Refused, Shown};
+ghost use Rattle.qc_pass.specs.Consulting.{HasAsked, IsTold};
+ghost use Rattle.qc_pass.specs.Refusing.{against_nothing};
+ghost use Rattle.qc_site.specs.AtDesk.{hand_after, AppendsHand, SeesOnly, IsWantAt};
+
+use crate::lock_table::LockTable;
+use crate::replica::{Replica, grant_of};
+use qc_copy::Verdict;
+use qc_event::{Ask, Grant, Name, Why};
+use qc_pass::{Desk, DeskNo, Pass, Store};
+use std::alloc::{AllocError, Global};
+use std::sync::Wait;
+
+impl<N: Store, const C: u8> Replica<N, C> {
+    /// What the copy granted, in the history at this step.
+    pub(crate) fn given<R: Wait>(
+        &mut self,
+        rt: &R,
+        desk: &Desk<N>,
+    ) -> Result<Vec<Grant>, AllocError>
+        ensures given { IfOk result (λ g. g.items ≡ grants self.new.pass.seen C) }
+        ensures looked { Looked self.old.pass self.new.pass }
+        ensures hand { self.new.hand ≡ self.old.hand }
+        ensures up { self.new.up ≡ self.old.up }
+    {
+        let given = desk.grants(rt, &mut self.pass, C);
+        self.pass.known();
+        given
+    }
+
+    /// Asks the desk whether a request that the seer saw may be granted. A grant that may be made is in hand then.
+    pub(crate) fn consult<R: Wait>(
+        &mut self,
+        rt: &R,
+        desk: &Desk<N>,
+        seer: &mut Pass<N>,
+        ask: &Ask,
+    ) -> Result<Verdict, DeskNo>
+        requires up { self.old.up ≡ true }
+        requires none { self.old.hand ≡ None }
+        requires copy { ask.now.copy ≡ C }
+        requires asked { HasAsked seer.old.seen ask.now }
+        requires proper { IsProper (setting_of N.table N.base) }
+        requires first { again (grants self.old.pass.seen C) ask.now.access ≡ None }
+        ensures told { IfOk result
+            (IsTold (setting_of N.table N.base) ask.now self.old.pass self.new.pass) }
+        ensures asked { OnOk result (HasAsked self.new.pass.seen ask.now) }
+        ensures hand { IfOk result (λ verdict. self.new.hand ≡ hand_after ask.now verdict) }
+        ensures none { OnErr result (self.new.hand ≡ None) }
+        ensures err { OnErr result (SeesOnly self.old.pass self.new.pass) }
+        ensures want { IfErr result (IsWantAt self.new.pass) }
+        ensures up { self.new.up ≡ true }
+        ensures shown { Shown seer.old seer.new }
+        ensures same { OnOk result (seer.new.seen ≡ self.new.pass.seen) }
+    {
+        let Some(table) = &mut self.table else {
+            unreachable!();
+        };
+        if table.reserve().is_err() {
+            return Err(DeskNo::Memory);
+        }
+        let verdict = desk.consult(rt, &mut self.pass, seer, ask, &mut table.locks)?;
+        self.pass.known();
+        if let Verdict::Free(tuple) = &verdict {
+            self.hand = Some(grant_of(ask, tuple));
+        }
+        Ok(verdict)
+    }
+
+    /// Enters the grant in hand, where there is one, which the seer has then seen.
+    pub(crate) fn append<R: Wait>(
+        &mut self,
+        rt: &R,
+        desk: &Desk<N>,
+        seer: &mut Pass<N>,
+    ) -> Result<(), DeskNo>
+        ensures ok { OnOk result
+            (AppendsHand C self.old.hand self.old.pass self.new.pass) }
+        ensures none { OnOk result (self.new.hand ≡ None) }
+        ensures err { OnErr result (SeesOnly self.old.pass self.new.pass) }
+        ensures kept { OnErr result (self.new.hand ≡ self.old.hand) }
+        ensures want { IfErr result (IsWantAt self.new.pass) }
+        ensures up { self.new.up ≡ self.old.up }
+        ensures shown { Shown seer.old seer.new }
+        ensures same { (self.old.hand ≡ None) ⊎ (seer.new.seen ≡ self.new.pass.seen) }
+    {
+        let Some(grant) = self.hand else {
+            return Ok(());
+        };
+        desk.append(rt, &mut self.pass, seer, C, &grant)?;
+        self.pass.known();
+        self.hand = None;
+        if let Some(table) = &mut self.table {
+            table.admit(&grant);
+        }
+        Ok(())
+    }
+
+    /// Enters that the copy was unable to serve an access that the seer saw ask.
+    pub(crate) fn unable<R: Wait>(
+        &mut self,
+        rt: &R,
+        desk: &Desk<N>,
+        seer: &mut Pass<N>,
+        ask: &Ask,
+        why: Why,
+    ) -> Result<(), DeskNo>
+        requires copy { ask.now.copy ≡ C }
+        requires asked { HasAsked seer.old.seen ask.now }
+        requires fault { is_fault why ≡ true }
+        ensures ok { OnOk result (Entered against_nothing (event.Unable ask.now.access why)
+            self.old.pass self.new.pass) }
+        ensures err { OnErr result (SeesOnly self.old.pass self.new.pass) }
+        ensures want { IfErr result (IsWantAt self.new.pass) }
+        ensures hand { self.new.hand ≡ self.old.hand }
+        ensures up { self.new.up ≡ self.old.up }
+        ensures shown { Shown seer.old seer.new }
+        ensures same { seer.new.seen ≡ self.new.pass.seen }
+    {
+        let answer = desk.unable(rt, &mut self.pass, seer, &ask.access, why);
+        self.pass.known();
+        answer
+    }
+
+    /// The seer has then seen what the copy has.
+    pub(crate) fn show<R: Wait>(&mut self, rt: &R, desk: &Desk<N>, seer: &mut Pass<N>)
+        ensures looked { Looked self.old.pass self.new.pass }
+        ensures hand { self.new.hand ≡ self.old.hand }
+        ensures up { self.new.up ≡ self.old.up }
+        ensures shown { Shown seer.old seer.new }
+        ensures same { seer.new.seen ≡ self.new.pass.seen }
+    {
+        desk.show(rt, &mut self.pass, seer);
+        self.pass.known();
+    }
+
+    /// Has its locks again, by what it granted.
+    pub(crate) fn restore(&mut self, alloc: Global, grants: &[Grant]) -> Result<(), AllocError>
+        requires proper { IsProper (setting_of N.table N.base) }
+        requires none { self.old.hand ≡ None }
+        requires given { grants.now ≡ past_grants self.old.pass.seen C }
+        ensures up { OnOk result (self.new.up ≡ true) }
+        ensures kept { OnErr result (self.new.up ≡ self.old.up) }
+        ensures hand { self.new.hand ≡ None }
+        ensures pass { self.new.pass ≡ self.old.pass }
+    {
+        self.pass.known();
+        let table = LockTable::of(alloc, self.start.as_slice(), grants)?;
+        self.table = Some(table);
+        Ok(())
+    }
+}
