@@ -1,6 +1,6 @@
 -- Every configuration that a legal history tells of is for as many copies as there are.
-use Rattle.std.proofs.Common.{◌≡◌, ℕ, Bool, true, false, List, [], ◌∷◌, ◌++◌, length, refl, sym, ap, ◌∙◌, subst, inl, inr}
-use Rattle.std.specs.Prelude.{Option, None, Some, MatchOption, option_to_list, cond, if◌then◌else◌, nat_lt, filter, filter_map, fold}
+use Rattle.std.proofs.Common.{◌≡◌, ℕ, Bool, true, false, List, [], ◌∷◌, length, refl, sym, ap, ◌∙◌, subst, inl, inr}
+use Rattle.std.specs.Prelude.{Option, None, Some, MatchOption, if◌then◌else◌, nat_lt, filter, filter_map, fold}
 use Rattle.std.specs.List.{AllByRecursion, cons_option}
 use Rattle.qc_config.specs.Config.{Voting}
 use Rattle.qc_config.specs.declared.tuple.Op.{Op}
@@ -11,7 +11,6 @@ use Rattle.qc_event.specs.declared.event.Answer.TheVariants as answer
 use Rattle.qc_event.specs.declared.event.Ask.{Ask}
 use Rattle.qc_event.specs.declared.event.Event.{Event}
 use Rattle.qc_event.specs.declared.event.Event.TheVariants as event
-use Rattle.qc_event.specs.declared.event.Grant.{Grant}
 use Rattle.qc_event.specs.declared.event.How.{How}
 use Rattle.qc_event.specs.declared.event.How.TheVariants.{Commit, Abort}
 use Rattle.qc_event.specs.declared.event.Kind.{Kind}
@@ -23,10 +22,10 @@ use Rattle.qc_event.specs.Base.{Setting, start_tuple}
 use Rattle.qc_event.specs.Clear.{is_get}
 use Rattle.qc_event.specs.Commits.{MayCommit, manager_answer}
 use Rattle.qc_event.specs.Grants.{MayGrant, Sets}
-use Rattle.qc_event.specs.History.{Past, Name, Begun, Given, same, start, end, granted, grant_in, grant_at, grants, gone, refused, asks}
+use Rattle.qc_event.specs.History.{Past, Name, Begun, Given, same, start, end, granted, grant_in, gone, refused, asks}
 use Rattle.qc_event.specs.Legal.{Legal, MayHappen, MayEnd}
 use Rattle.qc_event.specs.Manager.{result_by, reply_of, reply, replies, newer, Newest, newest}
-use Rattle.qc_event.specs.Seen.{is_live_at, changed_by, seen}
+use Rattle.qc_event.specs.Seen.{seen}
 use Rattle.qc_event.proofs.OneEntry.{if_is, first_is, end_step}
 use Rattle.qc_copy.proofs.PutConfigs.{OpHas, after_has, seen_has}
 
