@@ -17,7 +17,7 @@ use Rattle.qc_event.specs.Seen.{seen}
 use Rattle.qc_copy.specs.State.{grant_with}
 use Rattle.qc_copy.proofs.Sized.{IsSized, OpSized, after_sized, seen_sized}
 
-sets_after : (op : Op) (t : Tuple) → Sets op (after t op)
+pub sets_after : (op : Op) (t : Tuple) → Sets op (after t op)
 sets_after Get t = tt
 sets_after (PutData version value) t = (refl, refl)
 sets_after (PutConfig generation config) t = (refl, refl)

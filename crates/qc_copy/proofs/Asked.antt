@@ -57,7 +57,7 @@ asked_access (e ∷ past) n a is = elim (first_is (asked past n) (ask_in n e.sea
 ]
 
 -- who asked was started as an access, under a manager
-managed : (setting : Setting) (past : Past) (seat : ℕ) (ask : Ask) → Legal setting past → MayAsk setting past seat ask → IsManaged past ask.access
+pub managed : (setting : Setting) (past : Past) (seat : ℕ) (ask : Ask) → Legal setting past → MayAsk setting past seat ask → IsManaged past ask.access
 managed setting past seat ask legal may = by_start (start past ask.access) refl may.started
   where
     by_start : (o : Option Begun) → start past ask.access ≡ o → MatchOption o ⊥ (λ b. (b.seat ≡ seat) × (b.kind ≡ kind.Access)) → IsManaged past ask.access

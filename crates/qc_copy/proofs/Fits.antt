@@ -4,7 +4,7 @@ use Rattle.std.proofs.Common.{◌≡◌, ℕ, zero, suc, ◌<◌, Bool, true, fa
 use Rattle.std.specs.Prelude.{Option, None, Some, MatchOption, if◌then◌else◌, not, ◌&&◌, nat_lt, is_none, slice_index_or}
 use Rattle.std.specs.List.{AllByRecursion}
 use Rattle.std.proofs.lemmas.Bool.{and_parts, ltb-true}
-use Rattle.qc_config.specs.Config.{votes_of, no_config}
+use Rattle.qc_config.specs.Config.{Voting, votes_of, no_config}
 use Rattle.qc_event.specs.declared.event.Ask.{Ask}
 use Rattle.qc_event.specs.declared.event.Kind.{Kind}
 use Rattle.qc_event.specs.declared.event.Kind.TheVariants as kind
@@ -40,11 +40,14 @@ not_last : {X : Type 0} (b : Bool) (o : Option X) (x : X) → (if b then None el
 not_last true o x is = absurd cc
 not_last false o x is = is
 
+-- what holds of each stage of a manager holds of the one at which it is
+pub stage_holds : (P : Stage → Type 0) (past : Past) (first : Voting) (m : Name) (k : Kind) (s : Stage) → AllByRecursion P (stages past first m k) → stage past first m k ≡ Some s → P s
+stage_holds P past first m k s all is = found_holds P (λ x. not (is_enough past m x)) (stages past first m k) s all (not_last (at_last_number past first m k) _ s is)
+
 stage_sized : (setting : Setting) (past : Past) (m : Name) (k : Kind) (s : Stage) → Legal setting past → KindFits setting k → length (first_for setting k).votes ≡ length setting.base → stage past (first_for setting k) m k ≡ Some s → StageSized (length setting.base) s
-stage_sized setting past m k s legal fits here is =
-    found_holds (StageSized (length setting.base)) (λ x. not (is_enough past m x)) (stages past (first_for setting k) m k) s
+stage_sized setting past m k s legal fits here =
+    stage_holds (StageSized (length setting.base)) past (first_for setting k) m k s
     (stages_sized setting k (newest past (first_for setting k) m) (greatest past m) fits (newest_sized setting past (first_for setting k) m legal here))
-    (not_last (at_last_number past (first_for setting k) m k) _ s is)
 
 -- A request fits the table.
 pub record AskFits (setting : Setting) (ask : Ask) : Type 0 where

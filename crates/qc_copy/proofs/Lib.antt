@@ -2,8 +2,11 @@ pub mod Halving
 pub mod Replaying
 pub mod Serving
 pub mod Begun
+pub mod PutConfigs
 pub mod Sized
 pub mod Found
 pub mod Fits
 pub mod Asked
 pub mod Allowing
+pub mod LegalConfigs
+pub mod AccessNames

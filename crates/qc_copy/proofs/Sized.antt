@@ -1,6 +1,6 @@
 -- Every configuration that a legal history tells of is for as many copies as there are.
-use Rattle.std.proofs.Common.{◌≡◌, ℕ, Bool, true, false, List, [], ◌∷◌, ◌++◌, length, refl, sym, ap, ◌∙◌, subst, inl, inr}
-use Rattle.std.specs.Prelude.{Option, None, Some, MatchOption, option_to_list, cond, if◌then◌else◌, nat_lt, filter, filter_map, fold}
+use Rattle.std.proofs.Common.{◌≡◌, ℕ, Bool, true, false, List, [], ◌∷◌, length, refl, sym, ap, ◌∙◌, subst, inl, inr}
+use Rattle.std.specs.Prelude.{Option, None, Some, MatchOption, if◌then◌else◌, nat_lt, filter, filter_map, fold}
 use Rattle.std.specs.List.{AllByRecursion, cons_option}
 use Rattle.qc_config.specs.Config.{Voting}
 use Rattle.qc_config.specs.declared.tuple.Op.{Op}
@@ -11,7 +11,6 @@ use Rattle.qc_event.specs.declared.event.Answer.TheVariants as answer
 use Rattle.qc_event.specs.declared.event.Ask.{Ask}
 use Rattle.qc_event.specs.declared.event.Event.{Event}
 use Rattle.qc_event.specs.declared.event.Event.TheVariants as event
-use Rattle.qc_event.specs.declared.event.Grant.{Grant}
 use Rattle.qc_event.specs.declared.event.How.{How}
 use Rattle.qc_event.specs.declared.event.How.TheVariants.{Commit, Abort}
 use Rattle.qc_event.specs.declared.event.Kind.{Kind}
@@ -23,11 +22,12 @@ use Rattle.qc_event.specs.Base.{Setting, start_tuple}
 use Rattle.qc_event.specs.Clear.{is_get}
 use Rattle.qc_event.specs.Commits.{MayCommit, manager_answer}
 use Rattle.qc_event.specs.Grants.{MayGrant, Sets}
-use Rattle.qc_event.specs.History.{Past, Name, Begun, Given, same, start, end, granted, grant_in, grant_at, grants, gone, refused, asks}
+use Rattle.qc_event.specs.History.{Past, Name, Begun, Given, same, start, end, granted, grant_in, gone, refused, asks}
 use Rattle.qc_event.specs.Legal.{Legal, MayHappen, MayEnd}
 use Rattle.qc_event.specs.Manager.{result_by, reply_of, reply, replies, newer, Newest, newest}
-use Rattle.qc_event.specs.Seen.{is_live_at, changed_by, seen}
+use Rattle.qc_event.specs.Seen.{seen}
 use Rattle.qc_event.proofs.OneEntry.{if_is, first_is, end_step}
+use Rattle.qc_copy.proofs.PutConfigs.{OpHas, after_has, seen_has}
 
 -- a tuple's configuration is for this many copies
 abbrev pub IsSized : ℕ → Tuple → Type 0
@@ -35,14 +35,10 @@ IsSized size t = length t.config.votes ≡ size
 
 -- and that of an operation, where it has one
 abbrev pub OpSized : ℕ → Op → Type 0
-OpSized size Get = Unit {0}
-OpSized size (PutData version value) = Unit {0}
-OpSized size (PutConfig generation config) = length config.votes ≡ size
+OpSized size = OpHas (λ (c : Voting). length c.votes ≡ size)
 
 pub after_sized : (size : ℕ) (t : Tuple) (op : Op) → IsSized size t → OpSized size op → IsSized size (after t op)
-after_sized size t Get here sized = here
-after_sized size t (PutData version value) here sized = here
-after_sized size t (PutConfig generation config) here sized = sized
+after_sized size = after_has (λ (c : Voting). length c.votes ≡ size)
 
 -- GRANTS
 
@@ -62,45 +58,12 @@ set_sized size Get t sets here = tt
 set_sized size (PutData version value) t sets here = tt
 set_sized size (PutConfig generation config) t sets here = ap (λ (c : Voting). length c.votes) (sym sets.1) ∙ here
 
-abbrev pub GrantSized : ℕ → Grant → Type 0
-GrantSized size g = OpSized size g.op
-
-all_append : (size : ℕ) (xs ys : List Grant) → AllByRecursion (GrantSized size) xs → AllByRecursion (GrantSized size) ys → AllByRecursion (GrantSized size) (xs ++ ys)
-all_append size [] ys all more = more
-all_append size (x ∷ xs) ys all more = (all.0, all_append size xs ys all.1 more)
-
--- what was put in a grant is for as many copies
-pub grants_sized : (setting : Setting) (past : Past) (copy : ℕ) → Legal setting past → AllByRecursion (GrantSized (length setting.base)) (grants past copy)
-grants_sized setting [] copy legal = tt
-grants_sized setting (e ∷ past) copy legal = all_append (length setting.base) (grants past copy) _ (grants_sized setting past copy legal.0) (by_event e.event legal.1)
-  where
-    by_test : (g : Grant) (b : Bool) → OpSized (length setting.base) g.op → AllByRecursion (GrantSized (length setting.base)) (option_to_list (if b then Some g else None))
-    by_test g true sized = (sized, tt)
-    by_test g false sized = tt
-
-    by_event : (ev : Event) → MayHappen setting past e.seat ev → AllByRecursion (GrantSized (length setting.base)) (option_to_list (grant_at copy ev))
-    by_event (event.Granted c g) may = by_test g _ (set_sized (length setting.base) g.op g.tuple may.sets may.for_copies)
-    by_event _ may = tt
-
 -- WHAT A COPY HOLDS
-
-changed_sized : (size : ℕ) (t : Tuple) (given : List Grant) → IsSized size t → AllByRecursion (GrantSized size) given → IsSized size (changed_by t given)
-changed_sized size t [] here all = here
-changed_sized size t (g ∷ given) here all = changed_sized size (after t g.op) given (after_sized size t g.op here all.0) all.1
-
-all_filter : (size : ℕ) (p : Grant → Bool) (given : List Grant) → AllByRecursion (GrantSized size) given → AllByRecursion (GrantSized size) (filter p given)
-all_filter size p [] all = tt
-all_filter size p (g ∷ given) all = by_test (p g) (all_filter size p given all.1)
-  where
-    by_test : (b : Bool) → AllByRecursion (GrantSized size) (filter p given) → AllByRecursion (GrantSized size) (cond b (g ∷ filter p given) (filter p given))
-    by_test true rest = (all.0, rest)
-    by_test false rest = rest
 
 -- what a copy has of a record is for as many copies, where its start tuple is
 pub seen_sized : (setting : Setting) (past : Past) (copy rec : ℕ) → Legal setting past → IsSized (length setting.base) (start_tuple setting.base copy rec) → IsSized (length setting.base) (seen setting.base past copy rec)
-seen_sized setting past copy rec legal here =
-    changed_sized (length setting.base) (start_tuple setting.base copy rec) (filter (is_live_at past rec) (grants past copy)) here
-    (all_filter (length setting.base) (is_live_at past rec) (grants past copy) (grants_sized setting past copy legal))
+seen_sized setting past copy rec =
+    seen_has (λ (c : Voting). length c.votes ≡ length setting.base) setting past copy rec (λ older seat c g legal may. set_sized (length setting.base) g.op g.tuple may.sets may.for_copies)
 
 -- REPLIES
 

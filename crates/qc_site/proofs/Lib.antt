@@ -1,4 +1,5 @@
 mod Accesses
+mod GrantFits
 mod Rests
 mod Faults
 mod Rows

@@ -4,6 +4,7 @@
 mod back;
 mod compare;
 mod fault;
+mod fits;
 mod granted;
 mod law;
 mod lists;

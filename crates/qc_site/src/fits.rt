@@ -1,0 +1,55 @@
+//! Why what a copy grants fits the form in which it is written.
+ghost use Rattle.std.specs.Prelude.{ℕ, ◌≡◌, ◌<◌, ◌^◌, length, slice_index};
+ghost use Rattle.qc_config.specs.Config.{votes_of};
+ghost use Rattle.qc_config.specs.Tuple.{after};
+ghost use Rattle.qc_event.specs.Base.{IsProper};
+ghost use Rattle.qc_event.specs.Seen.{seen};
+ghost use Rattle.qc_event.specs.Tables.{setting_of};
+ghost use Rattle.qc_copy.specs.State.{grant_with};
+ghost use Rattle.qc_pass.specs.Consulting.{HasAsked};
+ghost use Rattle.qc_codec.specs.Bodies as body;
+ghost use Rattle.qc_codec.specs.Fields.{format_1};
+
+use qc_config::{Config, Tuple};
+use qc_event::{Ask, Name};
+use qc_pass::{Pass, Store};
+
+// The numbers of a name are in range.
+fn name_in_range(name: &Name)
+    ensures first { slice_index name.now 0 < 2 ^ 64 }
+    ensures rest { (k : ℕ) → 0 < k → slice_index name.now k < 2 ^ 32 }
+{
+    let numbers = name.as_slice();
+    if !numbers.is_empty() {
+        let _top = numbers[0];
+    }
+}
+
+// The votes and thresholds of a configuration are in range. Each vote is read, since its range is known only then.
+fn config_in_range(config: &Config)
+    ensures votes { (c : ℕ) → c < length config.now.votes → votes_of config.now c < 256 }
+    ensures read { config.now.read < 2 ^ 16 }
+    ensures write { config.now.write < 2 ^ 16 }
+{
+    let (_read, _write) = (config.read(), config.write());
+    for copy in 0..config.count() {
+        let _votes = config.votes(copy as u8);
+    }
+}
+
+/// What was asked, granted with the tuple that the copy has after it, fits the form in which grants are written. This
+/// reads, and does nothing else.
+pub(crate) fn known_to_fit<N: Store>(pass: &Pass<N>, copies: u8, ask: &Ask, tuple: &Tuple)
+    requires proper { IsProper (setting_of N.table N.base) }
+    requires copies { copies ≡ length N.base }
+    requires asked { HasAsked pass.now.seen ask.now }
+    requires tuple { tuple.now ≡ after (seen N.base pass.now.seen ask.now.copy ask.now.rec)
+        ask.now.op }
+    ensures fits { (body.grant (format_1 copies)).fits (grant_with ask.now tuple.now) }
+{
+    pass.known();
+    name_in_range(&ask.access);
+    config_in_range(&tuple.config);
+    let _rec = ask.rec;
+    let (_version, _value, _generation) = (tuple.version, tuple.value, tuple.generation);
+}
