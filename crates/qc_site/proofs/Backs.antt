@@ -1,6 +1,6 @@
 -- Bodies that are grants, and what a journal's fault is to a reading back.
 use Rattle.std.proofs.Common.{◌≡◌, ℕ, ◌+◌, ◌<◌, ◌≤◌, List, [], ◌∷◌, ◌++◌, length, get_or, take, drop, refl, sym, ap, ap₂, ◌∙◌, subst, arith}
-use Rattle.std.specs.Prelude.{Bool, true, false, Option, None, Some, IfErr, IfOk, IfSome, Result, Ok, Err, OnErr, Vec, map, slice_get}
+use Rattle.std.specs.Prelude.{Bool, true, false, Option, None, Some, IfErr, IfOk, IfSome, Result, Ok, Err, OnOk, OnErr, Vec, map, slice_get}
 use Rattle.std.specs.declared.alloc.Global.{Global}
 use Rattle.std.proofs.lemmas.List.{drop-map, get_or-map, length-map, map_push, take-map}
 use Rattle.qc_event.specs.declared.event.Grant.{Grant}
@@ -93,3 +93,7 @@ module _ (copies old : ℕ) (given : List Grant) (hand : Option Grant) (bodies :
 
   pub says_apart : (index : ℕ) (disk desk : Option Grant) → IsFirstApart index gs given → disk ≡ slice_get gs index → desk ≡ slice_get given index → (IsWithHand given hand gs → ⊥) → Says copies old given hand bodies (Err (no_back.Strange (strange.Differs index disk desk)))
   says_apart index disk desk apart here there neither = (gs, stand, apart, here, there, neither)
+
+pub on_ok : {T E P : Type 0} (r : Result T E) → P → OnOk r P
+on_ok (Ok x) p = p
+on_ok (Err e) p = tt

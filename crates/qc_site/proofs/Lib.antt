@@ -7,3 +7,4 @@ mod Backs
 mod Places
 mod Verdicts
 mod Replicas
+mod Again

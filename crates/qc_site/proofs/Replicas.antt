@@ -1,20 +1,35 @@
 -- What a copy goes on to know at its desk.
-use Rattle.std.proofs.Common.{◌≡◌, ℕ, ◌<◌, true, List, [], ◌∷◌, ◌++◌, length, refl, sym, ap, ◌∙◌, subst, arith, append_assoc}
-use Rattle.std.specs.Prelude.{Option, None, Some, IfSome, slice_index_or}
+use Rattle.std.proofs.Common.{◌≡◌, ◌⊎◌, inl, inr, ℕ, ◌<◌, Bool, true, List, [], ◌∷◌, ◌++◌, length, refl, sym, ap, ◌∙◌, subst, arith, append_assoc}
+use Rattle.std.specs.Prelude.{Option, None, Some, IfSome, Result, Ok, Err, OnOk, IfOk, IfErr, cond, option_to_list, slice_index_or}
+use Rattle.std.proofs.lemmas.Bool.{eq-eqb}
+use Rattle.qc_copy.specs.declared.state.Verdict.{Verdict}
+use Rattle.qc_copy.specs.declared.state.Verdict.TheVariants as verdict
+use Rattle.qc_event.specs.declared.event.Ask.{Ask}
+use Rattle.qc_event.specs.declared.event.Event.{Event}
+use Rattle.qc_event.specs.declared.event.Event.TheVariants as event
+use Rattle.qc_event.specs.declared.event.Why.{Why}
+use Rattle.qc_ledger.specs.Entered.{SeesMore}
+use Rattle.qc_pass.specs.declared.refusal.DeskNo.{DeskNo}
+use Rattle.qc_pass.specs.Consulting.{HasAsked, IsTold}
+use Rattle.qc_copy.specs.State.{again, grant_with}
+use Rattle.qc_site.proofs.Again.{none_granted}
+use Rattle.qc_pass.specs.Refusing.{against_nothing}
+use Rattle.qc_pass.specs.Rules.{knows, extends}
+use Rattle.qc_site.specs.AtDesk.{MayHaveLooked}
 use Rattle.qc_config.specs.declared.tuple.Tuple.{Tuple}
 use Rattle.qc_copy.specs.Repeats.{AreOf}
 use Rattle.qc_event.specs.declared.event.Entry.{Entry}
 use Rattle.qc_event.specs.declared.event.Grant.{Grant}
 use Rattle.qc_event.specs.Base.{Setting}
 use Rattle.qc_event.specs.Grants.{MayGrant}
-use Rattle.qc_event.specs.History.{Past, grants}
+use Rattle.qc_event.specs.History.{Past, Name, grants, grant_at}
 use Rattle.qc_event.specs.Legal.{Legal}
 use Rattle.qc_event.specs.Seats.{copy_seat}
 use Rattle.qc_moss.specs.Follows.{Follows}
 use Rattle.qc_moss.proofs.Tables.{grows}
 use Rattle.qc_pass.specs.declared.view.View.{View}
-use Rattle.qc_pass.specs.Calling.{Looked, Shown}
-use Rattle.qc_pass.specs.Entries.{AreOthers, IsOlder, IsSince}
+use Rattle.qc_pass.specs.Calling.{Entered, Looked, Refused, Shown}
+use Rattle.qc_pass.specs.Entries.{AreOthers, IsOlder, IsSince, entry}
 use Rattle.qc_pass.proofs.NoGrants.{AreNoGrants, grants_kept, grant_still_allowed, others_grant_none}
 use Rattle.qc_site.specs.declared.lock_table.LockTable.{LockTable}
 use Rattle.qc_site.specs.Replica.{IsKept, IsTableOf, HasRoomFor}
@@ -83,3 +98,154 @@ looked_none setting copy v w number legal looked =
 
 pub shown_looked : (v w : View) → v.live ≡ true → Shown v w → Looked v w
 shown_looked v w live shown = (shown.2 live, shown.1)
+
+pub left_none : (setting : Setting) (copy : ℕ) (v w : View) → v.number ≡ copy_seat copy → Legal setting w.seen → MayHaveLooked v w → HasNoGrant copy v w
+left_none setting copy v w number legal (inl is) = record {
+  newer = [];
+  seen = ap (λ (x : View). x.seen) is;
+  none = tt;
+  live = ap (λ (x : View). x.live) is;
+  number = ap (λ (x : View). x.number) is;
+}
+left_none setting copy v w number legal (inr looked) = looked_none setting copy v w number legal looked
+
+-- nor is an entry of its own that grants nothing
+pub entered_none : (setting : Setting) (copy : ℕ) (v w : View) (ev : Event) (before : Past) → v.number ≡ copy_seat copy → Legal setting w.seen → grant_at copy ev ≡ None → IsSince v.number v.seen before → w ≡ extends (entry v.number ev) before v → HasNoGrant copy v w
+entered_none setting copy v w ev before number legal nothing since is =
+    let seen : w.seen ≡ entry v.number ev ∷ since.0 ++ v.seen = ap (λ (x : View). x.seen) is ∙ ap (λ (p : Past). entry v.number ev ∷ p) since.1 in
+    record {
+      newer = entry v.number ev ∷ since.0;
+      seen = seen;
+      none = (nothing, others_grant_none setting v.seen copy since.0 (subst (Legal setting) seen legal).0 (subst (λ n. AreOthers n since.0) number since.2));
+      live = ap (λ (x : View). x.live) is;
+      number = ap (λ (x : View). x.number) is;
+    }
+
+pub told_none : (setting : Setting) (copy : ℕ) (v w : View) (ask : Ask) (said : Verdict) → v.number ≡ copy_seat copy → Legal setting w.seen → IsTold setting ask v w said → HasNoGrant copy v w
+told_none setting copy v w ask (verdict.Free tuple) number legal told = looked_none setting copy v w number legal told.0
+told_none setting copy v w ask (verdict.Blocked holder) number legal (before, ev, is, since, against, same) =
+    entered_none setting copy v w ev before number legal (ap (grant_at copy) is.1) since same
+told_none setting copy v w ask (verdict.Dead ancestor) number legal (before, ev, is, since, against, same) =
+    entered_none setting copy v w ev before number legal (ap (grant_at copy) is.1) since same
+
+pub unable_none : {T : Type 0} (setting : Setting) (copy : ℕ) (v w : View) (n : Name) (why : Why) (r : Result T DeskNo) → v.number ≡ copy_seat copy → Legal setting w.seen
+    → OnOk r (Entered against_nothing (event.Unable n why) v w) → IfErr r (Refused against_nothing v w) → HasNoGrant copy v w
+unable_none setting copy v w n why (Ok x) number legal (before, since, against, same) err = entered_none setting copy v w (event.Unable n why) before number legal refl since same
+unable_none setting copy v w n why (Err refusal) number legal ok err = looked_none setting copy v w number legal err.0
+
+-- A GRANT OF THE COPY
+
+granted_here : (past : Past) (seat copy : ℕ) (g : Grant) → grants (entry seat (event.Granted copy g) ∷ past) copy ≡ grants past copy ++ g ∷ []
+granted_here past seat copy g = ap (λ (b : Bool). grants past copy ++ option_to_list (cond b (Some g) None)) (eq-eqb copy copy refl)
+
+module _ (setting : Setting) (copy : ℕ) (v w : View) (g : Grant) (start : List Tuple) (number : v.number ≡ copy_seat copy) (legal : Legal setting w.seen) (enters : Entered against_nothing (event.Granted copy g) v w) where
+  abbrev e : Entry
+  e = entry v.number (event.Granted copy g)
+
+  seen : w.seen ≡ e ∷ enters.0
+  seen = ap (λ (x : View). x.seen) enters.3
+
+  -- what was seen as it was entered
+  abbrev mid : View
+  mid = knows enters.0 v
+
+  first : HasNoGrant copy v mid
+  first = looked_none setting copy v mid number (subst (Legal setting) seen legal).0 (enters.1, refl)
+
+  now_grants : grants w.seen copy ≡ grants enters.0 copy ++ g ∷ []
+  now_grants = ap (λ p. grants p copy) seen ∙ granted_here enters.0 v.number copy g
+
+  pub table_granted : (t new : LockTable) → new.locks.start ≡ t.locks.start
+      → ((past : Past) (given : List Grant) → Follows past given t.locks → Follows past (given ++ g ∷ []) new.locks)
+      → ((given : List Grant) → AreOf t.repeats given → AreOf new.repeats (given ++ g ∷ []))
+      → IsTableOf start v.seen copy t → IsTableOf start w.seen copy new
+  table_granted t new same follows repeats was =
+      let on = table_on setting copy v mid (subst (Legal setting) seen legal).0 first start t was in
+      record {
+        same_start = same ∙ was.same_start;
+        follows = subst (λ gs. Follows w.seen gs new.locks) (sym now_grants)
+            (follows w.seen (grants enters.0 copy) (subst (λ p. Follows p (grants enters.0 copy) t.locks) (sym seen) (grows enters.0 e (grants enters.0 copy) t.locks on.follows)));
+        repeats = subst (AreOf new.repeats) (sym now_grants) (repeats (grants enters.0 copy) on.repeats);
+      }
+
+  pub kept_granted : (table new : Option LockTable) → IfSome new (IsTableOf start w.seen copy) → IsKept setting copy v start table (Some g) → IsKept setting copy w start new None
+  kept_granted table new is was = record {
+    small = was.small;
+    live = ap (λ (x : View). x.live) enters.3 ∙ was.live;
+    number = ap (λ (x : View). x.number) enters.3 ∙ was.number;
+    starts = was.starts;
+    kept = is;
+    may = tt;
+    room = nothing new;
+  }
+    where
+      nothing : (o : Option LockTable) → IfSome o (λ t. IfSome None (HasRoomFor t))
+      nothing None = tt
+      nothing (Some t) = tt
+
+-- what a consultation leaves
+pub kept_asked : (setting : Setting) (copy : ℕ) (v w : View) (start : List Tuple) (table new : Option LockTable) (hand now : Option Grant) → HasNoGrant copy v w
+    → IfSome new (IsTableOf start w.seen copy) → IfSome now (MayGrant setting w.seen (copy_seat copy) copy) → IfSome new (λ t. IfSome now (HasRoomFor t))
+    → IsKept setting copy v start table hand → IsKept setting copy w start new now
+kept_asked setting copy v w start table new hand now more kept may room was = record {
+  small = was.small;
+  live = more.live ∙ was.live;
+  number = more.number ∙ was.number;
+  starts = was.starts;
+  kept = kept;
+  may = may;
+  room = room;
+}
+
+pub shown_sees : (v w : View) → Shown v w → SeesMore v w
+shown_sees v w shown = record {
+  older = shown.0;
+  mine = ap (λ (x : View). x.mine) shown.1;
+  number = ap (λ (x : View). x.number) shown.1;
+  live = ap (λ (x : View). x.live) shown.1;
+  out = ap (λ (x : View). x.out) shown.1;
+  kin = ap (λ (x : View). x.kin) shown.1;
+}
+
+-- A TABLE AND ITS DESK
+
+pub table_reserved : (start : List Tuple) (past : Past) (copy : ℕ) (t new : LockTable) → new.locks.start ≡ t.locks.start
+    → ((p : Past) (given : List Grant) → Follows p given t.locks → Follows p given new.locks) → ((given : List Grant) → AreOf t.repeats given → AreOf new.repeats given)
+    → IsTableOf start past copy t → IsTableOf start past copy new
+table_reserved start past copy t new same follows repeats was = record {
+  same_start = same ∙ was.same_start;
+  follows = follows past (grants past copy) was.follows;
+  repeats = repeats (grants past copy) was.repeats;
+}
+
+pub consulted_none : (setting : Setting) (copy : ℕ) (v w : View) (ask : Ask) (r : Result Verdict DeskNo) → v.number ≡ copy_seat copy → Legal setting w.seen
+    → IfOk r (IsTold setting ask v w) → IfErr r (Refused against_nothing v w) → HasNoGrant copy v w
+consulted_none setting copy v w ask (Ok said) number legal told err = told_none setting copy v w ask said number legal told
+consulted_none setting copy v w ask (Err refusal) number legal told err = looked_none setting copy v w number legal err.0
+
+-- a free request may be granted what it is told, where it was granted nothing before
+pub may_be_granted : (setting : Setting) (copy : ℕ) (v w : View) (ask : Ask) (tuple : Tuple) → ask.copy ≡ copy → v.number ≡ copy_seat copy → Legal setting w.seen → HasAsked w.seen ask
+    → again (grants v.seen copy) ask.access ≡ None → IsTold setting ask v w (verdict.Free tuple) → MayGrant setting w.seen (copy_seat copy) copy (grant_with ask tuple)
+may_be_granted setting copy v w ask tuple is number legal has first told =
+    let none = same_grants setting copy v w legal (looked_none setting copy v w number legal told.0) in
+    let nothing : again (grants w.seen ask.copy) ask.access ≡ None = ap (λ c. again (grants w.seen c) ask.access) is ∙ ap (λ gs. again gs ask.access) none ∙ first in
+    subst (λ c. MayGrant setting w.seen (copy_seat c) c (grant_with ask tuple)) is (told.1.may (none_granted setting w.seen ask legal has nothing))
+
+-- a copy has its locks again
+pub kept_restored : (setting : Setting) (copy : ℕ) (v : View) (start : List Tuple) (table : Option LockTable) (hand : Option Grant) (new : LockTable) → hand ≡ None
+    → IsTableOf start v.seen copy new → IsKept setting copy v start table hand → IsKept setting copy v start (Some new) hand
+kept_restored setting copy v start table hand new none is was = record {
+  small = was.small;
+  live = was.live;
+  number = was.number;
+  starts = was.starts;
+  kept = is;
+  may = was.may;
+  room = subst (λ (o : Option Grant). IfSome o (HasRoomFor new)) (sym none) tt;
+}
+
+-- the table of the copy that is asked
+pub table_at : (base : List (List Tuple)) (start : List Tuple) (past : Past) (asked copy : ℕ) (t : LockTable) → asked ≡ copy → start ≡ slice_index_or base copy []
+    → IsTableOf (slice_index_or base asked []) past asked t → IsTableOf start past copy t
+table_at base start past asked copy t is starts was =
+    subst (λ (row : List Tuple). IsTableOf row past copy t) (sym starts) (subst (λ c. IsTableOf (slice_index_or base c []) past c t) is was)

@@ -1,16 +1,14 @@
 -- What a copy makes of its pass at its desk.
-use Rattle.std.specs.Prelude.{ℕ, ◌≡◌, length, Option, None, Some}
+use Rattle.std.specs.Prelude.{ℕ, ◌≡◌, ◌⊎◌, Option, None, Some}
 use Rattle.qc_copy.specs.declared.state.Verdict.{Verdict}
 use Rattle.qc_copy.specs.declared.state.Verdict.TheVariants as verdict
 use Rattle.qc_copy.specs.State.{grant_with}
 use Rattle.qc_event.specs.declared.event.Ask.{Ask}
 use Rattle.qc_event.specs.declared.event.Event.TheVariants as event
 use Rattle.qc_event.specs.declared.event.Grant.{Grant}
-use Rattle.qc_event.specs.History.{limit}
 use Rattle.qc_pass.specs.declared.refusal.DeskNo.{DeskNo}
 use Rattle.qc_pass.specs.declared.view.View.{View}
-use Rattle.qc_pass.specs.Calling.{Entered}
-use Rattle.qc_pass.specs.Entries.{IsOlder}
+use Rattle.qc_pass.specs.Calling.{Entered, Looked}
 use Rattle.qc_pass.specs.Refusing.{against_nothing, IsWant}
 
 -- what is in hand after a consultation: the grant of a free request
@@ -24,10 +22,9 @@ abbrev pub AppendsHand : ℕ → Option Grant → View → View → Type 0
 AppendsHand copy None v w = w ≡ v
 AppendsHand copy (Some grant) v w = Entered against_nothing (event.Granted copy grant) v w
 
--- A pass has seen more, and entered nothing.
-pub record SeesOnly (v w : View) : Type 0 where
-  pub older : IsOlder v.seen w.seen
-  pub mine : w.mine ≡ v.mine
+-- the pass is as it was, or has looked
+abbrev pub MayHaveLooked : View → View → Type 0
+MayHaveLooked v w = (w ≡ v) ⊎ Looked v w
 
 -- memory was wanting, or the history takes no more entries
 abbrev pub IsWantAt : View → DeskNo → Type 0

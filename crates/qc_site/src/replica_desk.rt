@@ -1,17 +1,20 @@
 //! What a copy does at its desk: it looks, asks, and enters.
-ghost use Rattle.std.specs.Prelude.{ℕ, ◌≡◌, ◌<◌, ◌⊎◌, List, true, false, IfOk, IfErr, OnOk, OnErr, None, Some};
-ghost use Rattle.qc_config.specs.declared.tuple.Tuple.{Tuple};
+ghost use Rattle.std.specs.Prelude.{ℕ, ◌≡◌, ◌<◌, ◌⊎◌, List, [], true, false, IfOk, IfErr, OnOk, OnErr, None, Some, slice_index_or};
+ghost use Rattle.qc_copy.specs.Repeats.{HasRoom};
 ghost use Rattle.qc_copy.specs.State.{again};
 ghost use Rattle.qc_event.specs.declared.event.Event.TheVariants as event;
 ghost use Rattle.qc_event.specs.Base.{IsProper};
 ghost use Rattle.qc_event.specs.History.{grants, limit};
 ghost use Rattle.qc_event.specs.History.{grants as past_grants};
 ghost use Rattle.qc_event.specs.Requests.{is_fault};
+ghost use Rattle.qc_event.specs.Seats.{copy_seat};
 ghost use Rattle.qc_event.specs.Tables.{setting_of};
-ghost use Rattle.qc_pass.specs.Calling.{Entered, Looked, Refused, Shown};
+ghost use Rattle.qc_pass.specs.Calling.{Entered, Looked};
 ghost use Rattle.qc_pass.specs.Consulting.{HasAsked, IsTold};
 ghost use Rattle.qc_pass.specs.Refusing.{against_nothing};
-ghost use Rattle.qc_site.specs.AtDesk.{hand_after, AppendsHand, SeesOnly, IsWantAt};
+ghost use Rattle.qc_ledger.specs.Entered.{SeesMore};
+ghost use Rattle.qc_site.specs.AtDesk.{hand_after, AppendsHand, MayHaveLooked, IsWantAt};
+ghost use Rattle.qc_site.specs.Replica.{IsTableOf};
 
 use crate::lock_table::LockTable;
 use crate::replica::{Replica, grant_of};
@@ -20,6 +23,38 @@ use qc_event::{Ask, Grant, Name, Why};
 use qc_pass::{Desk, DeskNo, Pass, Store};
 use std::alloc::{AllocError, Global};
 use std::sync::Wait;
+
+// Makes room in a copy's table, and asks the desk by it whether a request may be granted.
+fn ask_desk<N: Store, R: Wait>(
+    rt: &R,
+    desk: &Desk<N>,
+    pass: &mut Pass<N>,
+    seer: &mut Pass<N>,
+    ask: &Ask,
+    table: &mut LockTable,
+) -> Result<Verdict, DeskNo>
+    requires copy { (pass.old.live ≡ true) × (pass.old.number ≡ copy_seat ask.now.copy) }
+    requires asked { HasAsked seer.old.seen ask.now }
+    requires proper { IsProper (setting_of N.table N.base) }
+    requires table { IsTableOf (slice_index_or N.base ask.now.copy []) pass.old.seen ask.now.copy
+        table.old }
+    ensures told { IfOk result (IsTold (setting_of N.table N.base) ask.now pass.old pass.new) }
+    ensures asked { OnOk result (HasAsked pass.new.seen ask.now) }
+    ensures err { OnErr result (MayHaveLooked pass.old pass.new) }
+    ensures want { IfErr result (IsWantAt pass.new) }
+    ensures table { IsTableOf (slice_index_or N.base ask.now.copy []) pass.new.seen ask.now.copy
+        table.new }
+    ensures room { OnOk result ((table.new.locks.reserved ≡ true) × HasRoom table.new.repeats) }
+    ensures seer { SeesMore seer.old seer.new }
+    ensures same { OnOk result (seer.new.seen ≡ pass.new.seen) }
+{
+    if table.reserve().is_err() {
+        return Err(DeskNo::Memory);
+    }
+    let verdict = desk.consult(rt, pass, seer, ask, &mut table.locks);
+    pass.known();
+    verdict
+}
 
 impl<N: Store, const C: u8> Replica<N, C> {
     /// What the copy granted, in the history at this step.
@@ -57,20 +92,19 @@ impl<N: Store, const C: u8> Replica<N, C> {
         ensures asked { OnOk result (HasAsked self.new.pass.seen ask.now) }
         ensures hand { IfOk result (λ verdict. self.new.hand ≡ hand_after ask.now verdict) }
         ensures none { OnErr result (self.new.hand ≡ None) }
-        ensures err { OnErr result (SeesOnly self.old.pass self.new.pass) }
+        ensures err { OnErr result (MayHaveLooked self.old.pass self.new.pass) }
         ensures want { IfErr result (IsWantAt self.new.pass) }
         ensures up { self.new.up ≡ true }
-        ensures shown { Shown seer.old seer.new }
+        ensures seer { SeesMore seer.old seer.new }
         ensures same { OnOk result (seer.new.seen ≡ self.new.pass.seen) }
     {
-        let Some(table) = &mut self.table else {
+        let Some(mut table) = self.table.take() else {
             unreachable!();
         };
-        if table.reserve().is_err() {
-            return Err(DeskNo::Memory);
-        }
-        let verdict = desk.consult(rt, &mut self.pass, seer, ask, &mut table.locks)?;
+        let answer = ask_desk(rt, desk, &mut self.pass, seer, ask, &mut table);
+        self.table = Some(table);
         self.pass.known();
+        let verdict = answer?;
         if let Verdict::Free(tuple) = &verdict {
             self.hand = Some(grant_of(ask, tuple));
         }
@@ -87,21 +121,23 @@ impl<N: Store, const C: u8> Replica<N, C> {
         ensures ok { OnOk result
             (AppendsHand C self.old.hand self.old.pass self.new.pass) }
         ensures none { OnOk result (self.new.hand ≡ None) }
-        ensures err { OnErr result (SeesOnly self.old.pass self.new.pass) }
+        ensures err { OnErr result (MayHaveLooked self.old.pass self.new.pass) }
         ensures kept { OnErr result (self.new.hand ≡ self.old.hand) }
         ensures want { IfErr result (IsWantAt self.new.pass) }
         ensures up { self.new.up ≡ self.old.up }
-        ensures shown { Shown seer.old seer.new }
+        ensures seer { SeesMore seer.old seer.new }
         ensures same { (self.old.hand ≡ None) ⊎ (seer.new.seen ≡ self.new.pass.seen) }
     {
         let Some(grant) = self.hand else {
             return Ok(());
         };
-        desk.append(rt, &mut self.pass, seer, C, &grant)?;
+        let answer = desk.append(rt, &mut self.pass, seer, C, &grant);
         self.pass.known();
+        answer?;
         self.hand = None;
-        if let Some(table) = &mut self.table {
+        if let Some(mut table) = self.table.take() {
             table.admit(&grant);
+            self.table = Some(table);
         }
         Ok(())
     }
@@ -120,11 +156,11 @@ impl<N: Store, const C: u8> Replica<N, C> {
         requires fault { is_fault why ≡ true }
         ensures ok { OnOk result (Entered against_nothing (event.Unable ask.now.access why)
             self.old.pass self.new.pass) }
-        ensures err { OnErr result (SeesOnly self.old.pass self.new.pass) }
+        ensures err { OnErr result (MayHaveLooked self.old.pass self.new.pass) }
         ensures want { IfErr result (IsWantAt self.new.pass) }
         ensures hand { self.new.hand ≡ self.old.hand }
         ensures up { self.new.up ≡ self.old.up }
-        ensures shown { Shown seer.old seer.new }
+        ensures seer { SeesMore seer.old seer.new }
         ensures same { seer.new.seen ≡ self.new.pass.seen }
     {
         let answer = desk.unable(rt, &mut self.pass, seer, &ask.access, why);
@@ -137,7 +173,7 @@ impl<N: Store, const C: u8> Replica<N, C> {
         ensures looked { Looked self.old.pass self.new.pass }
         ensures hand { self.new.hand ≡ self.old.hand }
         ensures up { self.new.up ≡ self.old.up }
-        ensures shown { Shown seer.old seer.new }
+        ensures seer { SeesMore seer.old seer.new }
         ensures same { seer.new.seen ≡ self.new.pass.seen }
     {
         desk.show(rt, &mut self.pass, seer);
