@@ -62,15 +62,23 @@ pub record IsOver {D : Type 0} {g : Ghosts D} (told : Name → List Name) (befor
   pub keeps : Keeps (journal_in shelf) (before ++ map (told_body told) (tops ++ pending_by (journal_in shelf).state (top_in shelf)))
   pub hand : in_hand (journal_in shelf) ≡ option_map (told_body told) (unsure_by (journal_in shelf).state (top_in shelf))
 
+-- nothing was entered, or all of these
+abbrev pub AtMost : Past → Past → Past → Type 0
+AtMost these old new = (new ≡ old) ⊎ (new ≡ these ++ old)
+
+-- At most the first were entered, and then these.
+pub record IsBehind (first these old new : Past) : Type 0 where
+  pub mid : Past
+  pub first_of_all : AtMost first old mid
+  pub all : new ≡ these ++ mid
+
 -- at most the commit of the top in hand was entered
 abbrev pub EntersHand : Option Name → Past → Past → Type 0
-EntersHand hand old new = (new ≡ old) ⊎ (new ≡ commits_of hand ++ old)
+EntersHand hand old new = AtMost (commits_of hand) old new
 
 -- at most the commit of the top in hand was entered, and then these
-pub record EntersBehind (hand : Option Name) (more old new : Past) : Type 0 where
-  pub mid : Past
-  pub first : EntersHand hand old mid
-  pub all : new ≡ more ++ mid
+abbrev pub EntersBehind : Option Name → Past → Past → Past → Type 0
+EntersBehind hand these old new = IsBehind (commits_of hand) these old new
 
 -- at most the commit of the top in hand was entered, and then at most that of this top
 abbrev pub EntersTop : Option Name → Name → Past → Past → Type 0

@@ -8,3 +8,5 @@ mod Places
 mod Verdicts
 mod Replicas
 mod Again
+mod Found
+mod Logs

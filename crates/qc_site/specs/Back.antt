@@ -1,15 +1,22 @@
 -- What reading a copy's disk back answers.
-use Rattle.std.specs.Prelude.{ℕ, ◌≡◌, ◌≢◌, ◌+◌, ◌<◌, ◌≤◌, Bool, true, false, List, [], ◌∷◌, ◌++◌, length, map, take, drop, slice_get, slice_index_or, Option, None, Some, Result, Ok, Err}
+use Rattle.std.specs.Prelude.{ℕ, ◌≡◌, ◌≢◌, ◌+◌, ◌<◌, ◌≤◌, ◌⊎◌, Bool, true, false, List, [], ◌∷◌, ◌++◌, length, map, take, drop, slice_get, slice_index_or, Option, None, Some, Result, Ok, Err}
 use Rattle.qc_event.specs.declared.event.Grant.{Grant}
 use Rattle.qc_codec.specs.Bodies as body
 use Rattle.qc_codec.specs.Fields.{format_1}
 use Rattle.qc_codec.specs.Form.{all_of}
 use Rattle.qc_journal.specs.Image.{HasRecords, IsBroken}
+use Rattle.qc_disk.specs.declared.disk.Disk.{Ghosts}
+use Rattle.qc_journal.specs.Journal.{in_hand, with_hand, Keeps}
+use Rattle.qc_journal.specs.declared.journal.Journal.{Journal}
 use Rattle.qc_journal.specs.declared.fault.Fault.{Fault}
 use Rattle.qc_journal.specs.declared.fault.Fault.TheVariants as fault
 use Rattle.qc_site.specs.declared.back.BackNo.{BackNo}
 use Rattle.qc_site.specs.declared.back.BackNo.TheVariants as no_back
 use Rattle.qc_site.specs.declared.back.Strange.TheVariants.{Broken, Grammar, Short, Differs}
+
+-- the body of a grant's record, in a store of so many copies
+abbrev pub grant_body : ℕ → Grant → List ℕ
+grant_body copies g = (body.grant (format_1 copies)).spell g
 
 -- each body is a grant, and together they are these
 abbrev pub AreGrants : ℕ → List Grant → List (List ℕ) → Type 0
@@ -57,3 +64,19 @@ module _ (copies old : ℕ) (given : List Grant) (hand : Option Grant) where
   IsAnswer (Err no_back.Memory) image = Unit {0}
   IsAnswer (Err (no_back.Strange (Broken place))) image = IsBroken place image
   IsAnswer answer image = (bodies : List (List ℕ)) × HasRecords bodies image × Says bodies answer
+
+-- nothing is strange
+abbrev pub IsPlain : BackNo → Type 0
+IsPlain (no_back.Strange strange) = ⊥
+IsPlain _ = Unit {0}
+
+-- what was found is what was kept, or that and what was in hand
+abbrev pub IsFound : List (List ℕ) → Option (List ℕ) → List (List ℕ) → Type 0
+IsFound bodies hand found = (found ≡ bodies) ⊎ (found ≡ with_hand bodies hand)
+
+-- A reading back leaves the records that it found. Something goes on to be in hand only where nothing changed.
+pub record IsLeft {D : Type 0} {g : Ghosts D} (old new : Journal D g) (bodies : List (List ℕ)) : Type 0 where
+  pub found : List (List ℕ)
+  pub is : IsFound bodies (in_hand old) found
+  pub keeps : Keeps new found
+  pub hand : (in_hand new ≡ None) ⊎ ((in_hand new ≡ in_hand old) × (found ≡ bodies))

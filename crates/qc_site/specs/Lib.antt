@@ -8,3 +8,5 @@ pub mod Back
 pub mod Places
 pub mod Replica
 pub mod AtDesk
+pub mod Log
+pub mod Sites

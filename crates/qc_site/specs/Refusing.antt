@@ -6,10 +6,17 @@ use Rattle.qc_codec.specs.declared.past.Past.{Past}
 use Rattle.qc_event.specs.declared.table.Table.{Table}
 use Rattle.qc_journal.specs.declared.fault.Fault.{Fault}
 use Rattle.qc_journal.specs.declared.fault.Fault.TheVariants as fault
+use Rattle.qc_pass.specs.declared.refusal.DeskNo.{DeskNo}
+use Rattle.qc_pass.specs.declared.refusal.DeskNo.TheVariants as desk
 use Rattle.qc_ledger.specs.Image.{IsFirstFault}
 use Rattle.qc_site.specs.Image.{IsFault}
 use Rattle.qc_site.specs.declared.fault.SiteNo.{SiteNo}
-use Rattle.qc_site.specs.declared.fault.SiteNo.TheVariants.{Disk, Image, Strange, Memory}
+use Rattle.qc_site.specs.declared.fault.SiteNo.TheVariants.{Disk, Image, Strange, Memory, Room}
+
+-- what a refusal of the desk is to a site
+abbrev pub desk_no : DeskNo → SiteNo
+desk_no desk.Room = Room
+desk_no _ = Memory
 
 module _ (copy : ℕ) where
   -- the image of a copy's disk is refused
@@ -29,6 +36,7 @@ module _ (copy : ℕ) where
   IsImage P (Image bad) = (bad.disk ≡ copy + 1) × P bad.fault
   IsImage P Strange = ⊥
   IsImage P Memory = Unit {0}
+  IsImage P Room = ⊥
 
   -- a fault of the image of the copy's disk, of which this holds; or of the memory
   abbrev pub IsOfBytes : (ImageFault → Type 0) → SiteNo → Type 0
@@ -36,6 +44,7 @@ module _ (copy : ℕ) where
   IsOfBytes P (Image bad) = (bad.disk ≡ copy + 1) × P bad.fault
   IsOfBytes P Strange = ⊥
   IsOfBytes P Memory = Unit {0}
+  IsOfBytes P Room = ⊥
 
 -- a mounting may be refused: for the first fault of the image that is told, for the disk, or for memory
 abbrev pub IsRefusal : ℕ → Table → Past → ℕ → Option (List ℕ) → SiteNo → Type 0

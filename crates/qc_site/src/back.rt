@@ -1,9 +1,9 @@
 //! Reading a copy's disk back.
-ghost use Rattle.std.specs.Prelude.{◌≡◌, ◌≤◌, ◌++◌, List, ℕ, IfOk, IfErr, IfSome, OnOk, OnErr, IsErrOf, Ok};
+ghost use Rattle.std.specs.Prelude.{◌≡◌, ◌≤◌, ◌++◌, List, ℕ, IfOk, IfErr, IfSome, OnOk, OnErr, IsErrOf, None, Ok, true};
 ghost use Rattle.qc_journal.specs.Image.{bodies_of};
 ghost use Rattle.qc_journal.specs.Journal.{disk_of, limit_of, IsUp, Keeps};
 ghost use Rattle.qc_ledger.specs.Runs.{Costs, Falls, Leaves};
-ghost use Rattle.qc_site.specs.Back.{back_no, IsAnswer, Says};
+ghost use Rattle.qc_site.specs.Back.{back_no, IsAnswer, IsLeft, Says};
 ghost use Rattle.qc_site.specs.declared.back.BackNo.TheVariants.{Memory};
 
 use crate::compare::{compare, grant_at, grants_in};
@@ -120,15 +120,16 @@ pub fn read_back<D: Disk>(
     ensures says { IfSome (D.content (disk_of journal.old))
         (IsAnswer copies old given.now hand.now result) }
     ensures up { OnOk result (IsUp journal.new) }
+    ensures hand { result ≡ Ok true → hand.now ≡ None → ⊥ }
     ensures limit { limit_of journal.new ≡ limit_of journal.old }
     ensures content { D.content (disk_of journal.new) ≡ D.content (disk_of journal.old) }
 
-    // Each image goes on to have the records that were found.
+    // Each image goes on to have the records that were found: those that were kept, and maybe what was in hand.
     ensures keeps { IfOk result (λ stands. (bodies : List (List ℕ)) → Keeps journal.old bodies
-        → (found : List (List ℕ)) × Keeps journal.new found
-        × Says copies old given.now hand.now found (Ok stands)) }
+        → (left : IsLeft journal.old journal.new bodies)
+        × Says copies old given.now hand.now left.found (Ok stands)) }
     ensures kept { OnErr result ((bodies : List (List ℕ)) → Keeps journal.old bodies
-        → (found : List (List ℕ)) × Keeps journal.new found) }
+        → IsLeft journal.old journal.new bodies) }
 
     ensures any_moment { Leaves journal.old journal.new (D.may_leave (disk_of journal.old)) }
     ensures falls { Falls journal.old journal.new }

@@ -1,10 +1,11 @@
 //! Why a site did not do what it was asked.
 ghost use Rattle.std.specs.Prelude.{◌≡◌, ◌<◌};
-ghost use Rattle.qc_site.specs.Refusing.{image_no, mount_no};
+ghost use Rattle.qc_site.specs.Refusing.{desk_no, image_no, mount_no};
 ghost use Rattle.qc_site.specs.declared.fault.SiteNo.TheVariants.{Memory};
 
 use qc_codec::{BadImage, ImageFault};
 use qc_journal::Fault;
+use qc_pass::DeskNo;
 use std::alloc::{AllocError, AllocFailed};
 use thiserror::Error;
 
@@ -23,6 +24,19 @@ pub enum SiteNo {
     /// There was no memory.
     #[error("no memory")]
     Memory,
+    /// The history takes no more entries. Mounting never answers so.
+    #[error("no room for another entry")]
+    Room,
+}
+
+/// What a refusal of the desk is to a site.
+pub(crate) fn desk_no(no: DeskNo) -> SiteNo
+    ensures { result ≡ desk_no no }
+{
+    match no {
+        DeskNo::Room => SiteNo::Room,
+        _ => SiteNo::Memory,
+    }
 }
 
 impl From<AllocError> for SiteNo {

@@ -1,0 +1,86 @@
+-- A site: what it has in hand, what it enters, and what its disk keeps.
+use Rattle.std.specs.Prelude.{ℕ, ◌≡◌, ◌⊎◌, true, false, List, [], ◌∷◌, Option, None, Some, Result, Ok, Err, is_some}
+use Rattle.qc_config.specs.declared.tuple.Tuple.{Tuple}
+use Rattle.qc_copy.specs.State.{grant_with}
+use Rattle.qc_disk.specs.declared.disk.Disk.{Ghosts}
+use Rattle.qc_event.specs.declared.event.Answered.{Answered}
+use Rattle.qc_event.specs.declared.event.Answered.TheVariants as answer
+use Rattle.qc_event.specs.declared.event.Ask.{Ask}
+use Rattle.qc_event.specs.declared.event.Entry.{Entry}
+use Rattle.qc_event.specs.declared.event.Event.TheVariants as event
+use Rattle.qc_event.specs.declared.event.Grant.{Grant}
+use Rattle.qc_event.specs.declared.event.Refusal.{Refusal}
+use Rattle.qc_event.specs.declared.event.Refusal.TheVariants as refusal
+use Rattle.qc_event.specs.declared.event.Why.{Why}
+use Rattle.qc_event.specs.declared.event.Why.TheVariants as why
+use Rattle.qc_event.specs.History.{Past, grants}
+use Rattle.qc_event.specs.Seats.{copy_seat}
+use Rattle.qc_ledger.specs.Entered.{AtMost, GrowsBy, IsBehind}
+use Rattle.qc_pass.specs.Entries.{entry}
+use Rattle.qc_site.specs.Back.{grant_body}
+use Rattle.qc_site.specs.Log.{IsOver}
+use Rattle.qc_site.specs.Replica.{Standing}
+use Rattle.qc_site.specs.declared.fault.SiteNo.{SiteNo}
+use Rattle.qc_site.specs.declared.fault.SiteNo.TheVariants as no_site
+use Rattle.qc_site.specs.declared.log.GrantLog.{GrantLog}
+use Rattle.qc_site.specs.declared.serve.ServeNo.{ServeNo}
+use Rattle.qc_site.specs.declared.serve.ServeNo.TheVariants as no_serve
+
+module _ (copy : ℕ) where
+  -- the entry of the grant in hand
+  abbrev pub hand_entries : Option Grant → Past
+  hand_entries None = []
+  hand_entries (Some grant) = entry (copy_seat copy) (event.Granted copy grant) ∷ []
+
+  -- The disk keeps what the copy granted, by what it has seen, and maybe the grant in hand.
+  abbrev pub KeepsGranted : {D : Type 0} {g : Ghosts D} → List (List ℕ) → GrantLog D g → Standing → Type 0
+  KeepsGranted before log standing = IsOver before log (grants standing.pass.seen copy) standing.hand
+
+  -- at most the grant in hand was entered
+  abbrev pub EntersHand : Standing → Standing → Type 0
+  EntersHand old new = AtMost (hand_entries old.hand) old.pass.mine new.pass.mine
+
+  -- at most the grant in hand was entered, and then this
+  abbrev pub EntersThen : Standing → Standing → Entry → Type 0
+  EntersThen old new e = IsBehind (hand_entries old.hand) (e ∷ []) old.pass.mine new.pass.mine
+
+  -- that the copy refused a request, was unable to serve it, or granted it
+  abbrev pub refused_entry : Ask → Refusal → Entry
+  refused_entry ask r = entry (copy_seat copy) (event.Refused ask.access copy r)
+
+  abbrev pub unable_entry : Ask → Why → Entry
+  unable_entry ask why = entry (copy_seat copy) (event.Unable ask.access why)
+
+  abbrev pub granted_entry : Ask → Tuple → Entry
+  granted_entry ask tuple = entry (copy_seat copy) (event.Granted copy (grant_with ask tuple))
+
+  -- what each answer enters: a repeat nothing
+  abbrev pub AnswerEnters : Ask → Answered → Standing → Standing → Type 0
+  AnswerEnters ask (answer.Granted tuple) old new = EntersHand old new ⊎ EntersThen old new (granted_entry ask tuple)
+  AnswerEnters ask (answer.Blocked holder) old new = EntersThen old new (refused_entry ask (refusal.Blocked holder))
+  AnswerEnters ask (answer.Dead ancestor) old new = EntersThen old new (refused_entry ask (refusal.Dead ancestor))
+  AnswerEnters ask answer.Down old new = EntersThen old new (unable_entry ask why.Down)
+  AnswerEnters ask answer.Full old new = EntersThen old new (unable_entry ask why.Full)
+  AnswerEnters ask answer.Strange old new = EntersThen old new (unable_entry ask why.Strange)
+
+-- A request was answered by the locks.
+abbrev pub IsByLocks : Answered → Type 0
+IsByLocks (answer.Granted tuple) = Unit {0}
+IsByLocks (answer.Blocked holder) = Unit {0}
+IsByLocks (answer.Dead ancestor) = Unit {0}
+IsByLocks _ = ⊥
+
+-- a revival may be refused for this
+abbrev pub IsReviveNo : SiteNo → Type 0
+IsReviveNo (no_site.Image bad) = ⊥
+IsReviveNo _ = Unit {0}
+
+-- memory was wanting, or the history takes no more entries
+abbrev pub IsWantNo : SiteNo → Type 0
+IsWantNo no_site.Memory = Unit {0}
+IsWantNo no_site.Room = Unit {0}
+IsWantNo _ = ⊥
+
+-- An image has the records that some image had when the call began, or these and that of one grant of a request.
+abbrev pub GrowsByGrant : ℕ → Ask → (List ℕ → Type 0) → List ℕ → Type 0
+GrowsByGrant copies ask left image = (tuple : Tuple) × GrowsBy (grant_body copies (grant_with ask tuple)) left image

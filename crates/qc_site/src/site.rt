@@ -1,0 +1,190 @@
+//! A copy over its desk and its disk: what it granted stands in each image.
+ghost use Rattle.std.specs.Prelude.{◌≡◌, ◌≤◌, ◌⊎◌, ℕ, List, [], ◌∷◌, true, false, IfOk, IfErr, OnOk, OnErr, IsErrOf, IsTrue, Option, None, Some, Ok, length, is_some};
+ghost use Rattle.qc_event.specs.Base.{IsProper};
+ghost use Rattle.qc_event.specs.History.{grants, limit};
+ghost use Rattle.qc_event.specs.Tables.{setting_of};
+ghost use Rattle.qc_journal.specs.Journal.{disk_of, limit_of, IsDown, IsUp};
+ghost use Rattle.qc_ledger.specs.Runs.{Costs, Falls, Leaves};
+ghost use Rattle.qc_pass.specs.Entries.{IsOlder};
+ghost use Rattle.qc_site.specs.Log.{copies_of, journal_in};
+ghost use Rattle.qc_site.specs.declared.fault.SiteNo.TheVariants.{Disk, Strange, Room};
+
+use crate::back::{BackNo, Strange};
+use crate::fault::{SiteNo, desk_no};
+use crate::lists::append;
+use crate::log::GrantLog;
+use crate::replica::Replica;
+use qc_disk::Disk;
+use qc_event::Grant;
+use qc_pass::{Desk, DeskNo, Pass, Store};
+use std::alloc::Global;
+use std::sync::Wait;
+
+/// A copy of a store, of a number, over its desk and its disk. It is up, down, or strange for good.
+#[derive(Drop)]
+pub struct Site<D: Disk, N: Store, const C: u8> {
+    pub(crate) alloc: Global,
+    pub(crate) log: GrantLog<D>,
+    pub(crate) replica: Replica<N, C>,
+    pub(crate) strange: Option<Strange>,
+    ghost journal: { replica.up ≡ true → IsDown (journal_in log) → ⊥ },
+    ghost sound: { is_some strange ≡ true → replica.up ≡ false },
+    ghost copies: { copies_of log ≡ length N.base },
+}
+
+impl<D: Disk, N: Store, const C: u8> Site<D, N, C> {
+    ghost use Rattle.qc_site.specs.Sites.{EntersHand, IsReviveNo, IsWantNo, KeepsGranted};
+
+    /// Whether it is up.
+    pub fn is_up(&self) -> bool
+        ensures { result ≡ self.now.replica.up }
+    {
+        self.replica.is_up()
+    }
+
+    /// Why it is strange, where it is.
+    pub fn strange(&self) -> Option<&Strange>
+        ensures { is_some result ≡ is_some self.now.strange }
+    {
+        self.strange.as_ref()
+    }
+
+    /// A crash: it forgets its locks, and is down. The grant in hand stays. It takes no memory.
+    pub fn crash(&mut self)
+        ensures down { self.new.replica.up ≡ false }
+        ensures hand { self.new.replica.hand ≡ self.old.replica.hand }
+        ensures pass { self.new.replica.pass ≡ self.old.replica.pass }
+        ensures over { (before : List (List ℕ))
+            → KeepsGranted C before self.old.log self.old.replica
+            → KeepsGranted C before self.new.log self.new.replica }
+        ensures disk { disk_of (journal_in self.new.log) ≡ disk_of (journal_in self.old.log) }
+        ensures limit { limit_of (journal_in self.new.log) ≡ limit_of (journal_in self.old.log) }
+        ensures strange { self.new.strange ≡ self.old.strange }
+    {
+        self.replica.forget();
+        self.log.close();
+    }
+
+    // Compares what the disk keeps of this run with what the history tells, and keeps or lets go of the grant in hand.
+    fn compare(&mut self, given: &[Grant]) -> Result<(), SiteNo>
+        requires given { given.now ≡ grants self.old.replica.pass.seen C }
+        requires down { self.old.replica.up ≡ false }
+        ensures pass { self.new.replica.pass ≡ self.old.replica.pass }
+        ensures down { self.new.replica.up ≡ false }
+        ensures up { OnOk result (IsUp (journal_in self.new.log)) }
+        ensures hand { (self.new.replica.hand ≡ None)
+            ⊎ (self.new.replica.hand ≡ self.old.replica.hand) }
+        ensures over { (before : List (List ℕ))
+            → KeepsGranted C before self.old.log self.old.replica
+            → KeepsGranted C before self.new.log self.new.replica }
+        ensures strange { IsErrOf result SiteNo.Strange → is_some self.new.strange ≡ true }
+        ensures plain { (before : List (List ℕ))
+            → KeepsGranted C before self.old.log self.old.replica
+            → is_some self.new.strange ≡ is_some self.old.strange }
+        ensures sound { OnOk result (is_some self.new.strange ≡ is_some self.old.strange) }
+        ensures refused { IfErr result IsReviveNo }
+        ensures room { IsErrOf result Room → ⊥ }
+        ensures limit { limit_of (journal_in self.new.log) ≡ limit_of (journal_in self.old.log) }
+        ensures content { D.content (disk_of (journal_in self.new.log))
+            ≡ D.content (disk_of (journal_in self.old.log)) }
+        ensures any_moment { Leaves (journal_in self.old.log) (journal_in self.new.log)
+            (D.may_leave (disk_of (journal_in self.old.log))) }
+        ensures falls { Falls (journal_in self.old.log) (journal_in self.new.log) }
+        ensures cause { Costs (journal_in self.old.log) (journal_in self.new.log)
+            (IsErrOf result SiteNo.Disk) }
+    {
+        match self.log.read_back(given, &self.replica.hand()) {
+            Ok(true) => Ok(()),
+            Ok(false) => {
+                self.replica.drop_hand();
+                Ok(())
+            }
+            Err(BackNo::Disk) => Err(SiteNo::Disk),
+            Err(BackNo::Memory) => Err(SiteNo::Memory),
+            Err(BackNo::Strange(strange)) => {
+                self.strange = Some(strange);
+                Err(SiteNo::Strange)
+            }
+        }
+    }
+
+    // Enters the grant in hand, where there is one, and has the locks again.
+    fn restore<R: Wait>(
+        &mut self,
+        rt: &R,
+        desk: &Desk<N>,
+        mut given: Vec<Grant>,
+    ) -> Result<(), SiteNo>
+        requires proper { IsProper (setting_of N.table N.base) }
+        requires given { given.items ≡ grants self.old.replica.pass.seen C }
+        requires up { IsUp (journal_in self.old.log) }
+        requires sound { is_some self.old.strange ≡ false }
+        ensures log { journal_in self.new.log ≡ journal_in self.old.log }
+        ensures strange { is_some self.new.strange ≡ false }
+        ensures up { OnOk result (self.new.replica.up ≡ true) }
+        ensures none { OnOk result (self.new.replica.hand ≡ None) }
+        ensures enters { EntersHand C self.old.replica self.new.replica }
+        ensures over { (before : List (List ℕ))
+            → KeepsGranted C before self.old.log self.old.replica
+            → KeepsGranted C before self.new.log self.new.replica }
+        ensures refused { IfErr result IsWantNo }
+        ensures room { IsErrOf result Room → length self.new.replica.pass.seen ≡ limit }
+        ensures seen { IsOlder self.old.replica.pass.seen self.new.replica.pass.seen }
+    {
+        if let Some(grant) = self.replica.hand() {
+            append(&mut given, grant)?;
+            let mut seer = desk.note(&mut self.replica.pass);
+            self.replica.append(rt, desk, &mut seer).map_err(desk_no)?;
+        }
+        self.replica.restore(self.alloc, &given)?;
+        Ok(())
+    }
+
+    /// Reads the disk back. What it keeps of this run must be what the history tells of the copy, or that and the grant
+    /// in hand, which is then entered; else the copy is strange for good.
+    pub fn revive<R: Wait>(&mut self, rt: &R, desk: &Desk<N>) -> Result<(), SiteNo>
+        requires proper { IsProper (setting_of N.table N.base) }
+        requires down { self.old.replica.up ≡ false }
+
+        // At `Ok` it is up, with nothing in hand. What was entered is at most the grant in hand.
+        ensures up { OnOk result (self.new.replica.up ≡ true) }
+        ensures none { OnOk result (self.new.replica.hand ≡ None) }
+        ensures enters { EntersHand C self.old.replica self.new.replica }
+        ensures refused { IfErr result IsReviveNo }
+        ensures room { IsErrOf result Room → length self.new.replica.pass.seen ≡ limit }
+
+        // Where the disk tells its bytes, each image keeps what the copy granted, and nothing is strange; and no call
+        // leaves what was not there.
+        ensures over { (before : List (List ℕ))
+            → KeepsGranted C before self.old.log self.old.replica
+            → KeepsGranted C before self.new.log self.new.replica }
+        ensures strange { IsErrOf result SiteNo.Strange → is_some self.new.strange ≡ true }
+        ensures plain { (before : List (List ℕ))
+            → KeepsGranted C before self.old.log self.old.replica
+            → is_some self.new.strange ≡ is_some self.old.strange }
+        ensures seen { IsOlder self.old.replica.pass.seen self.new.replica.pass.seen }
+        ensures limit { limit_of (journal_in self.new.log) ≡ limit_of (journal_in self.old.log) }
+        ensures content { D.content (disk_of (journal_in self.new.log))
+            ≡ D.content (disk_of (journal_in self.old.log)) }
+        ensures any_moment { Leaves (journal_in self.old.log) (journal_in self.new.log)
+            (D.may_leave (disk_of (journal_in self.old.log))) }
+        ensures falls { Falls (journal_in self.old.log) (journal_in self.new.log) }
+        ensures cause { Costs (journal_in self.old.log) (journal_in self.new.log)
+            (IsErrOf result SiteNo.Disk) }
+    {
+        if self.strange.is_some() {
+            return Err(SiteNo::Strange);
+        }
+        let given = self.replica.given(rt, desk)?;
+        self.compare(&given)?;
+        self.restore(rt, desk, given)
+    }
+
+    /// The disk and the pass.
+    pub fn into_parts(self) -> (D, Pass<N>)
+        ensures disk { result.0 ≡ disk_of (journal_in self.log) }
+        ensures pass { result.1 ≡ self.replica.pass }
+    {
+        (self.log.into_disk(), self.replica.into_pass())
+    }
+}
