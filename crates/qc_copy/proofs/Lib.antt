@@ -3,7 +3,6 @@ pub mod Replaying
 pub mod Serving
 pub mod Begun
 pub mod Sized
-pub mod Found
 pub mod Fits
 pub mod Asked
 pub mod Allowing
