@@ -15,6 +15,7 @@ use Rattle.qc_event.specs.Base.{Setting}
 use Rattle.qc_event.specs.History.{Past, Name, Begun, start, end, gone}
 use Rattle.qc_event.specs.Legal.{Legal}
 use Rattle.qc_event.specs.Requests.{is_why}
+use Rattle.qc_event.proofs.Options.{still}
 use Rattle.qc_gather.specs.Carrying.{entry, began}
 use Rattle.qc_gather.specs.declared.carrier.Carried.{Carried}
 use Rattle.qc_gather.specs.declared.carrier.Carried.TheVariants.{Reply, Blocked, Gone}
@@ -29,11 +30,10 @@ use Rattle.qc_line.proofs.Ending as endings
 use Rattle.qc_line.proofs.Meeting.{IsLeft, met_unended, met_told, are_met_still, are_met_more, sendings_more}
 use Rattle.qc_line.proofs.OwnEntries.{own_request}
 use Rattle.qc_line.proofs.Pushing.{met_still}
-use Rattle.qc_line.proofs.Stays.{still}
 use Rattle.qc_net.specs.Given.{Given}
 use Rattle.qc_net.specs.Plan.{Plan, starting, anew}
 use Rattle.qc_net.specs.Sending as net
-use Rattle.qc_net.specs.Sending.{Outcome, Sending, Way, sending, IsSending}
+use Rattle.qc_net.specs.Sending.{Outcome, Sending, Way, sending}
 use Rattle.qc_net.specs.declared.courier.Sent.{Sent}
 use Rattle.qc_net.specs.declared.courier.Sent.TheVariants as sent
 use Rattle.qc_store.specs.Served.{MayServe, HasAnswered}

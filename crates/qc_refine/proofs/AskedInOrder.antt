@@ -22,6 +22,7 @@ use Rattle.qc_event.specs.Legal.{Legal}
 use Rattle.qc_event.proofs.Absent.{same_is}
 use Rattle.qc_event.proofs.OneEntry.{end_now, open_before}
 use Rattle.qc_event.proofs.LastNumber.{child_front}
+use Rattle.qc_event.proofs.SameEvents.{same_ask}
 use Rattle.qc_simlock.specs.Visible.{given_in, served}
 use Rattle.qc_simlock.proofs.OneAsked.{one_asked}
 use Rattle.qc_refine.specs.Given.{in_phase, tuples_of}
@@ -124,9 +125,6 @@ module _ (setting : Setting) (past : Past) (e : Entry) (m : Name) (k : Kind) (le
     where
       of : OfStage setting past m k new.ask
       of = of_stage new
-
-      same_ask : (x y : Ask) → event.Ask x ≡ event.Ask y → x ≡ y
-      same_ask x y is = cc
 
   -- no child asks now
   old_ask : ask_below m e.event ≡ None → (n : Name) (ask : Ask) → is_child m n ≡ true → AskedAs (e ∷ past) n ask → AskedAs past n ask

@@ -9,7 +9,6 @@ use Rattle.qc_event.specs.declared.event.Answer.TheVariants as answer
 use Rattle.qc_event.specs.declared.event.Ask.{Ask}
 use Rattle.qc_event.specs.declared.event.Entry.{Entry}
 use Rattle.qc_event.specs.declared.event.Event.TheVariants as event
-use Rattle.qc_event.specs.declared.event.How.{How}
 use Rattle.qc_event.specs.declared.event.How.TheVariants.{Commit}
 use Rattle.qc_event.specs.declared.event.Kind.{Kind}
 use Rattle.qc_event.specs.Base.{Setting}
@@ -19,6 +18,7 @@ use Rattle.qc_event.specs.Manager.{reply}
 use Rattle.qc_event.specs.Legal.{Legal}
 use Rattle.qc_event.proofs.Absent.{same_itself}
 use Rattle.qc_event.proofs.OneEntry.{end_now}
+use Rattle.qc_event.proofs.SameEvents.{same_end}
 use Rattle.qc_simlock.specs.Visible.{served}
 use Rattle.qc_simlock.proofs.Accesses.{grant_stays}
 use Rattle.qc_refine.proofs.KindsBelow.{HasKind, kind_before}
@@ -168,6 +168,3 @@ reply_granted setting (e ∷ past) m n k t legal pos has manager child is = elim
     | inr quiet ↦ absurd (quiet.no_commit n _ new.1.1 child)
   ]
 ]
-  where
-    same_end : (a b : Name) (x y : How) → event.End a x ≡ event.End b y → a ≡ b
-    same_end a b x y h = cc
