@@ -4,6 +4,7 @@ use Rattle.std.specs.Prelude.{Option, None, Some, IsTrue, not, ◌&&◌, All}
 use Rattle.std.specs.List.{AllByRecursion, list_all}
 use Rattle.std.specs.Option.{option_map, option_map_or}
 use Rattle.std.proofs.lemmas.List.Elements.{All-weaker, recursion_from_All}
+use Rattle.std.proofs.lemmas.Option.{same_Some}
 use Rattle.qc_event.specs.declared.event.Answered.{Answered}
 use Rattle.qc_event.specs.declared.event.Answered.TheVariants as answered
 use Rattle.qc_event.specs.declared.event.Ask.{Ask}
@@ -195,10 +196,7 @@ module _ (setting : Setting) {seat : ℕ} (past : Past) (m : Name) (ask : Ask) (
       in_step_ended plan' held' Trouble was serves =
           let ways : way_of seat net (ending seat ask c ++ mid) ≡ (sending (way_of seat net past).plan (way_of seat net past).held ask net.patience).way = ap (sendings net.patience first) (ended_asks c) ∙ sendings_more net.patience first (asked_under seat past) ask in
           record {
-            same_plan = some_same _ _ was.is_sending.plan_after ∙ ap (λ w. w.plan) (sym ways);
+            same_plan = same_Some _ _ was.is_sending.plan_after ∙ ap (λ w. w.plan) (sym ways);
             same_held = was.is_sending.held_after ∙ ap (λ w. w.held) (sym ways);
             may_serve = All-weaker (MayServe mid) (MayServe (ending seat ask c ++ mid)) (λ a h. serves_still (ending seat ask c) mid a h) held' serves;
           }
-        where
-          some_same : (a b : Plan) → Some a ≡ Some b → a ≡ b
-          some_same a b h = cc

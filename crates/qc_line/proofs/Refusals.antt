@@ -5,6 +5,7 @@ use Rattle.std.specs.Prelude.{Option, None, Some, MatchOption, Contains, ◌==�
 use Rattle.std.specs.List.{list_all}
 use Rattle.std.specs.Option.{option_or}
 use Rattle.std.proofs.lemmas.List.Folds.{find-append}
+use Rattle.std.proofs.lemmas.Option.{same_Some}
 use Rattle.qc_config.specs.declared.tuple.Op.{Op}
 use Rattle.qc_names.specs.Name as name
 use Rattle.qc_event.specs.declared.event.Ask.{Ask}
@@ -99,10 +100,7 @@ module _ (setting : Setting) (ask : Ask) (told : Past) (seat : ℕ) (asks : aske
       by_event _ may here = absurd cc
 
   same_holder : (past : Past) (r x : Refusal) → NamesHolder past ask r → NamesHolder past ask x → r ≡ x
-  same_holder past r x (h, is, held) (h', is', held') = is ∙ ap Blocked (some_same h h' (sym held ∙ held')) ∙ sym is'
-    where
-      some_same : (a b : Name) → Some a ≡ Some b → a ≡ b
-      some_same a b both = cc
+  same_holder past r x (h, is, held) (h', is', held') = is ∙ ap Blocked (same_Some h h' (sym held ∙ held')) ∙ sym is'
 
   -- a refusal that stands is the first one
   pub refused_first : (newer : Past) (r : Refusal) → AreAnswers newer → Legal setting (newer ++ told) → Contains (newer ++ told) (refusal_entry ask r) → refused (newer ++ told) ask.access ≡ Some r
