@@ -3,7 +3,6 @@ use Rattle.std.proofs.Common.{◌≡◌, ℕ, [], ◌∷◌, refl, subst, inl, i
 use Rattle.std.specs.Prelude.{Option, None, Some, MatchOption}
 use Rattle.qc_names.specs.Name as name
 use Rattle.qc_event.specs.declared.event.Ask.{Ask}
-use Rattle.qc_event.specs.declared.event.Event.TheVariants as event
 use Rattle.qc_event.specs.declared.event.Kind.TheVariants as kind
 use Rattle.qc_event.specs.Base.{Setting, IsProper}
 use Rattle.qc_event.specs.History.{Past, Name, Asked, Begun, start, asked, ask_in}

@@ -6,7 +6,6 @@ use Rattle.std.proofs.lemmas.List.Folds.{find-append}
 use Rattle.qc_names.specs.Name as name
 use Rattle.qc_event.specs.declared.event.Ask.{Ask}
 use Rattle.qc_event.specs.declared.event.Entry.{Entry}
-use Rattle.qc_event.specs.declared.event.Event.TheVariants as event
 use Rattle.qc_event.specs.Base.{Setting}
 use Rattle.qc_event.specs.History.{Past, Name, end, asked, asks, ask_below, is_child}
 use Rattle.qc_event.specs.Manager.{waiting}
