@@ -9,6 +9,12 @@ use Rattle.qc_board.specs.declared.view.Known.{Known}
 use Rattle.qc_board.specs.Boards.{Mark}
 use Rattle.qc_board.specs.Marks.{Has, AllReach, IsMark, IsBoard, known, nobody, Dooms, Looks, both_marks}
 
+-- what was written stands at its place
+at_here : {A : Type 0} (views : List A) (id : ℕ) (v w : A) → get_elem? views id ≡ some v → get_elem? (set views id w) id ≡ some w
+at_here [] id v w e = absurd (some-ne-none v (sym e))
+at_here (x ∷ xs) zero v w e = refl
+at_here (x ∷ xs) (suc id) v w e = at_here xs id v w e
+
 -- a view stays, or it was the one that changed
 pub at_kept : {A : Type 0} (views : List A) (id by : ℕ) (v w u : A) → get_elem? views id ≡ some v → get_elem? views by ≡ some u
     → (u' : A) × (get_elem? (set views id w) by ≡ some u') × (((u' ≡ w) × (u ≡ v)) ⊎ (u' ≡ u))
@@ -144,11 +150,6 @@ dooms may slots id v c session upto low live may_be s h few at range =
     le_of : {m n : ℕ} → m ≡ n → n ≤ m
     le_of e = omega (arith, e)
 
-    at_here : (views : List Known) (id : ℕ) (v w : Known) → get_elem? views id ≡ some v → get_elem? (set views id w) id ≡ some w
-    at_here [] id v w e = absurd (some-ne-none v (sym e))
-    at_here (x ∷ xs) zero v w e = refl
-    at_here (x ∷ xs) (suc id) v w e = at_here xs id v w e
-
 pub looks : (may slots id : ℕ) (v : Known) (c : List (ℕ × ℕ)) (session : ℕ) → session < 16 → v.live ≡ true
     → Allows (IsBoard may) slots id (v, c) session (λ n. n) (Looks (step slots session 0 0 none) (v, c))
 looks may slots id v c session low live s h few at range =
@@ -198,18 +199,13 @@ joins may id v other w live s h at apart there =
           (h.2 session l),
     )
   where
-    here : (views : List Known) (id : ℕ) (v w : Known) → get_elem? views id ≡ some v → get_elem? (set views id w) id ≡ some w
-    here [] id v w e = absurd (some-ne-none v (sym e))
-    here (x ∷ xs) zero v w e = refl
-    here (x ∷ xs) (suc id) v w e = here xs id v w e
-
     -- the joined seat has the mark if one of the two had it
     moved : (views : List Known) (id : ℕ) (v : Known) (other : ℕ) (w : Known) → get_elem? views id ≡ some v → ¬ (other ≡ id) → get_elem? (set views id (both_marks v w)) other ≡ some w
         → (session word by : ℕ) (u : Known) → get_elem? views by ≡ some u → Has u.marks (session, word) → IsMark (set (set views id (both_marks v w)) other nobody) session word
     moved views id v other w at apart there session word by u e has =
         let both = both_marks v w in
-        let kept = at_kept (set views id both) other id w nobody both there (here views id v both at) in
-        let stays : get_elem? (set (set views id both) other nobody) id ≡ some both = set_else (set views id both) other id nobody (λ e. apart (sym e)) ∙ here views id v both at in
+        let kept = at_kept (set views id both) other id w nobody both there (at_here views id v both at) in
+        let stays : get_elem? (set (set views id both) other nobody) id ≡ some both = set_else (set views id both) other id nobody (λ e. apart (sym e)) ∙ at_here views id v both at in
         let k = at_kept views id by v both u at e in
         ⊎_elim
         (λ (p : (k.0 ≡ both) × (u ≡ v)). inr (id, both, stays, has_left v.marks w.marks (session, word) (subst (λ (x : Known). Has x.marks (session, word)) p.1 has)))

@@ -1,5 +1,5 @@
 -- Boards and their seats, as contracts see them.
-use Rattle.std.specs.Prelude.{ℕ, List, [], ◌∷◌}
+use Rattle.std.specs.Prelude.{ℕ, List, []}
 use Rattle.atomic_table.specs.Seated.{TableId}
 
 -- a mark: the session, and up to which top it is marked

@@ -1,7 +1,7 @@
 -- That a user transaction may be aborted, made ready or committed, and what is made then.
 use Rattle.std.proofs.Common.{◌≡◌, ℕ, ◌<◌, ◌⊎◌, inl, inr, Bool, true, false, [], ◌∷◌, length, refl, sym, ap, ◌∙◌, subst, arith}
 use mathlib.Core.Bool.{true≢false}
-use Rattle.std.specs.Prelude.{Option, None, Some, MatchOption, Result, Ok, Err, OnOk, IfErr, is_some, not, IsTrue, ◌==◌, ◌||◌, ◌&&◌, if◌then◌else◌}
+use Rattle.std.specs.Prelude.{Option, None, Some, MatchOption, Result, Ok, Err, OnOk, IfErr, is_some, not, ◌==◌, ◌||◌, ◌&&◌, if◌then◌else◌}
 use Rattle.std.specs.Option.{option_map, option_or}
 use Rattle.std.proofs.lemmas.Bool.{eq-eqb}
 use Rattle.qc_event.specs.Aborts.{Licensed}

@@ -1,16 +1,14 @@
 -- Which ancestor of a name is the shortest aborted one.
 use Rattle.std.proofs.Common.{◌≡◌, Bool, true, false, [], ◌∷◌, ◌++◌, refl, sym, ap, ◌∙◌}
-use mathlib.Core.Bool.{true≢false}
-use Rattle.std.specs.Prelude.{Option, None, Some, MatchOption, find, map, cond}
+use Rattle.std.specs.Prelude.{Option, None, Some, find, map, cond}
 use Rattle.std.specs.Option.{option_map}
-use Rattle.qc_event.specs.declared.event.How.{How}
-use Rattle.qc_event.specs.declared.event.How.TheVariants.{Commit, Abort}
 use Rattle.qc_event.specs.Dead.{outcome, outcome_of, is_aborted, ancestors, dead}
 use Rattle.qc_event.specs.History.{Past, Name, end}
-use Rattle.qc_event.specs.Standing.{IsAbort, IsOrphanOf}
+use Rattle.qc_event.specs.Standing.{IsOrphanOf}
 use Rattle.qc_event.proofs.Ancestors.{find-map}
 use Rattle.qc_event.proofs.LastNumber.{rest_of}
 use Rattle.qc_event.proofs.Lineage.{alive_above, alive_not_aborted}
+use Rattle.qc_event.proofs.Outcomes.{abort_or_alive}
 
 find_same : (p q : Name → Bool) (n : Name) → ((a r : Name) → n ≡ a ++ r → p a ≡ q a) → find p (ancestors n) ≡ find q (ancestors n)
 find_same p q [] h = ap (λ b. cond b (Some []) None) (h [] [] refl)
@@ -52,9 +50,4 @@ dead_same older newer n same = find_same _ _ n (λ a r is. ap (λ o. is_aborted 
 pub no_orphan : (past : Past) (n a : Name) → dead past n ≡ None → IsOrphanOf past n a → ⊥
 no_orphan past n a alive orphan =
     let rest = rest_of a n orphan.above in
-    by_end (end past a) orphan.aborted (alive_not_aborted past a (alive_above past a rest.0 (ap (dead past) (sym rest.1) ∙ alive)))
-  where
-    by_end : (o : Option How) → MatchOption o ⊥ IsAbort → is_aborted (outcome_of o) ≡ false → ⊥
-    by_end None is not_aborted = is
-    by_end (Some (Commit given)) is not_aborted = is
-    by_end (Some (Abort cause)) is not_aborted = true≢false not_aborted
+    abort_or_alive (end past a) orphan.aborted (alive_not_aborted past a (alive_above past a rest.0 (ap (dead past) (sym rest.1) ∙ alive)))

@@ -40,7 +40,7 @@ use Rattle.qc_script.specs.declared.tx.TxNo.{TxNo}
 use Rattle.qc_script.specs.declared.tx.TxNo.TheVariants as tx_no
 use Rattle.qc_store.specs.Served.{is_answer}
 use Rattle.qc_client.specs.Alone.{IsAlone}
-use Rattle.qc_client.specs.Entering.{MayEnter, IsClear, HasStarted, ending_of, aborting, told, ended, Closed, NotClosed, WasAborted}
+use Rattle.qc_client.specs.Entering.{MayEnter, IsClear, HasStarted, ending_of, aborting, told, ended, Closed, NotClosed}
 use Rattle.qc_client.specs.Entering as entering
 use Rattle.qc_client.proofs.Alone.{own_lone}
 use Rattle.qc_client.proofs.Fallen.{dead_same, no_orphan}

@@ -31,7 +31,7 @@ use Rattle.qc_client.proofs.Standing.{not_both, no_user_below}
 use Rattle.qc_gather.specs.Carrying.{name_of}
 use Rattle.qc_script.specs.Calls.{IsOfAccess, is_access, is_asked}
 use Rattle.qc_store.specs.Served.{is_reply, is_answer}
-use Rattle.qc_line.proofs.AnswersLeave.{reply_of_answer}
+use Rattle.qc_line.proofs.AnswersLeave.{no_end, reply_of_answer}
 
 -- the entry is of a child of the name, or a copy's answer
 abbrev pub OfManager : Name → Entry → Type 0
@@ -43,13 +43,9 @@ end_in_access : (n m : Name) (ev : Event) → is_child n (name_of ev) ≡ true �
 end_in_access n m (event.End c how) is out = if_not _ _ (told_apart (is_child n) c m is out)
 end_in_access n m _ is out = refl
 
-end_in_reply : (m : Name) (ev : Event) → is_reply ev ≡ true → end_in m ev ≡ None
-end_in_reply m (event.End c how) is = absurd (true≢false (sym is))
-end_in_reply m _ is = refl
-
 end_in_apart : (n m : Name) (e : Entry) → OfManager n e → is_child n m ≡ false → end_in m e.event ≡ None
 end_in_apart n m e (inl access) out = end_in_access n m e.event access out
-end_in_apart n m e (inr answer) out = end_in_reply m e.event (reply_of_answer e answer)
+end_in_apart n m e (inr answer) out = no_end m e.event (reply_of_answer e answer)
 
 -- they end no other name
 pub end_apart : (n m : Name) (inner past : Past) → All (OfManager n) inner → is_child n m ≡ false → end (inner ++ past) m ≡ end past m

@@ -1,18 +1,19 @@
 -- What stands in the way of a name, as a refusal tells it.
 use Rattle.std.proofs.Common.{◌≡◌, Bool, true, false, [], ◌∷◌, refl, sym, ap, ◌∙◌, subst}
 use mathlib.Core.Bool.{true≢false}
-use Rattle.std.specs.Prelude.{Option, None, Some, MatchOption, is_some, is_none, find, cond, option_to_list, IsTrue, if◌then◌else◌}
+use Rattle.std.specs.Prelude.{Option, None, Some, is_some, is_none, find, cond, option_to_list, IsTrue, if◌then◌else◌}
 use Rattle.std.specs.Option.{option_or}
 use Rattle.std.proofs.lemmas.List.Folds.{find-append}
+use Rattle.std.proofs.lemmas.Option.{none-some, same_Some}
 use Rattle.qc_event.specs.declared.event.Entry.{Entry}
 use Rattle.qc_event.specs.declared.event.Event.{Event}
 use Rattle.qc_event.specs.declared.event.Event.TheVariants as event
 use Rattle.qc_event.specs.declared.event.How.{How}
-use Rattle.qc_event.specs.declared.event.How.TheVariants.{Commit, Abort}
-use Rattle.qc_event.specs.Dead.{outcome_of, is_aborted, dead}
+use Rattle.qc_event.specs.Dead.{dead}
 use Rattle.qc_event.specs.History.{Past, Name, start, end, is_child, child_in, children}
-use Rattle.qc_event.specs.Standing.{IsAbort, open_child}
+use Rattle.qc_event.specs.Standing.{open_child}
 use Rattle.qc_event.proofs.OneEntry.{start_stays, start_now}
+use Rattle.qc_event.proofs.Outcomes.{aborted_is_abort}
 use Rattle.qc_client.specs.Entering.{StopsOrShort}
 use Rattle.qc_client.proofs.Fallen.{dead_is}
 use Rattle.qc_client.proofs.Names.{begins_ancestor}
@@ -21,19 +22,8 @@ use Rattle.qc_script.specs.Client.{Client, Made}
 use Rattle.qc_script.specs.declared.tx.TxNo.{TxNo}
 use Rattle.qc_script.specs.declared.tx.TxNo.TheVariants as tx_no
 
-none_some : {Y : Type 0} {y : Y} → None ≡ Some y → ⊥
-none_some h = absurd cc
-
-Some-injective : {Y : Type 0} {x y : Y} → Some x ≡ Some y → x ≡ y
-Some-injective h = cc
-
-aborted_is : (o : Option How) → is_aborted (outcome_of o) ≡ true → MatchOption o ⊥ IsAbort
-aborted_is None t = absurd (true≢false (sym t))
-aborted_is (Some (Commit given)) t = absurd (true≢false (sym t))
-aborted_is (Some (Abort cause)) t = tt
-
 pub dead_refuses : (past : Past) (n a : Name) → dead past n ≡ Some a → Refuses past n (tx_no.Orphan a)
-dead_refuses past n a fallen = let found = dead_is past n a fallen in (begins_ancestor n a found.1.0 found.1.1, aborted_is (end past a) found.0)
+dead_refuses past n a fallen = let found = dead_is past n a fallen in (begins_ancestor n a found.1.0 found.1.1, aborted_is_abort (end past a) found.0)
 
 pub was_refused : (c : Client) (n : Name) (before now : Past) (why : TxNo) → Made c [] before now → now ≡ before → StopsOrShort before n why → WasRefused c n before now why
 was_refused c n before now why made same stops = by_why why (subst (λ p. StopsOrShort p n why) (sym same) stops)
@@ -61,14 +51,14 @@ found_now test e past of c (event.Start m k) is h = by_child (is_child of m) (te
   where
     by_child : (b d : Bool) → is_child of m ≡ b → test m ≡ d → find test (option_to_list (if b then Some m else None)) ≡ Some c → IsFound test (e ∷ past) of c
     by_child true true child passes found =
-        let here : m ≡ c = Some-injective (sym (ap (λ x. cond x (Some m) None) passes) ∙ found) in
+        let here : m ≡ c = same_Some m c (sym (ap (λ x. cond x (Some m) None) passes) ∙ found) in
         (subst (λ x. IsTrue (is_child of x)) here child, start_now e past c (k, is ∙ ap (λ x. event.Start x k) here), subst (λ x. IsTrue (test x)) here passes)
-    by_child true false child passes found = absurd (none_some (sym (ap (λ x. cond x (Some m) None) passes) ∙ found))
-    by_child false d child passes found = absurd (none_some found)
-found_now test e past of c _ is h = absurd (none_some h)
+    by_child true false child passes found = absurd (none-some c (sym (ap (λ x. cond x (Some m) None) passes) ∙ found))
+    by_child false d child passes found = absurd (none-some c found)
+found_now test e past of c _ is h = absurd (none-some c h)
 
 open_found : (test : Name → Bool) (past : Past) (of c : Name) → find test (children past of) ≡ Some c → IsFound test past of c
-open_found test [] of c found = absurd (none_some found)
+open_found test [] of c found = absurd (none-some c found)
 open_found test (e ∷ past) of c found = by_first (find test (children past of)) refl (λ is. open_found test past of c is) (sym (find-append test (children past of) (option_to_list (child_in of e.event))) ∙ found)
   where
     by_first : (o : Option Name) → find test (children past of) ≡ o → (find test (children past of) ≡ Some c → IsFound test past of c) → option_or o (find test (option_to_list (child_in of e.event))) ≡ Some c → IsFound test (e ∷ past) of c

@@ -36,6 +36,9 @@ row_lengths : (layout : Layout) (r : Row) → (row layout).fits r → HasLengths
 unfolding row
 row_lengths layout r fits = record { short = label_short r.name fits.0.0; votes = config_votes layout r.config fits.0.1.1 }
 
+pub most : (n : ℕ) → is_between 1 16 n ≡ true → n ≤ 16
+most n is = leb-true n 16 (and_parts (nat_le 1 n) _ is).1
+
 -- what a table that fits has
 pub record IsSized (t : Table) : Type 0 where
   pub copies : t.copies ≤ 16
@@ -49,9 +52,6 @@ table_sized t fits = record {
   records = fits.0.0.1.0.0.0;
   rows = λ k d lt. row_lengths (format_1 t.copies) _ (fits.0.0.1.0.1.1 k d lt);
 }
-  where
-    most : (n : ℕ) → is_between 1 16 n ≡ true → n ≤ 16
-    most n is = leb-true n 16 (and_parts (nat_le 1 n) _ is).1
 
 pub making_sized : (m : Made) → making.fits m → IsSized m.table
 unfolding making

@@ -1,20 +1,19 @@
 -- A request that stands in a legal history was allowed when it was made, so it fits the table.
-use Rattle.std.proofs.Common.{◌≡◌, ℕ, [], ◌∷◌, refl, sym, ap, ◌∙◌, subst, inl, inr}
+use Rattle.std.proofs.Common.{◌≡◌, ℕ, [], ◌∷◌, refl, subst, inl, inr}
 use Rattle.std.specs.Prelude.{Option, None, Some, MatchOption}
 use Rattle.qc_names.specs.Name as name
 use Rattle.qc_event.specs.declared.event.Ask.{Ask}
-use Rattle.qc_event.specs.declared.event.Event.{Event}
-use Rattle.qc_event.specs.declared.event.Event.TheVariants as event
 use Rattle.qc_event.specs.declared.event.Kind.TheVariants as kind
 use Rattle.qc_event.specs.Base.{Setting, IsProper}
-use Rattle.qc_event.specs.History.{Past, Name, Asked, Begun, same, start, asked, ask_in}
+use Rattle.qc_event.specs.History.{Past, Name, Asked, Begun, start, asked, ask_in}
 use Rattle.qc_event.specs.Legal.{Legal, MayHappen}
 use Rattle.qc_event.specs.Manager.{record_of, AtStage}
 use Rattle.qc_event.specs.Requests.{IsNextAsk, MayAsk}
 use Rattle.qc_event.specs.Standing.{IsManager}
-use Rattle.qc_event.proofs.Absent.{same_is}
-use Rattle.qc_event.proofs.OneEntry.{if_is, first_is}
-use Rattle.qc_copy.proofs.Begun.{KindFits, IsManaged, kind_fits, record_fits, access_managed}
+use Rattle.qc_event.proofs.AskedAccess.{asking}
+use Rattle.qc_event.proofs.OneEntry.{first_is}
+use Rattle.qc_event.proofs.KindFits.{KindFits, kind_fits, record_fits}
+use Rattle.qc_copy.proofs.Begun.{IsManaged, access_managed}
 use Rattle.qc_copy.proofs.Fits.{AskFits, ask_fits, first_sized}
 
 -- the moment at which an access asked
@@ -23,22 +22,6 @@ pub record WasAsked (setting : Setting) (a : Asked) : Type 0 where
   pub legal : Legal setting before
   pub may : MayAsk setting before a.seat a.ask
 
--- An entry is this request, of this name.
-record IsAsk (n : Name) (seat : ℕ) (ev : Event) (a : Asked) : Type 0 where
-  same_seat : seat ≡ a.seat
-  asks : ev ≡ event.Ask a.ask
-  of_name : a.ask.access ≡ n
-
-asking : (n : Name) (seat : ℕ) (ev : Event) (a : Asked) → ask_in n seat ev ≡ Some a → IsAsk n seat ev a
-asking n seat (event.Ask ask) a is =
-    let parts = if_is (same ask.access n) (record { seat = seat; ask = ask }) a is in
-    record {
-      same_seat = ap (λ (x : Asked). x.seat) parts.1;
-      asks = ap (λ (x : Asked). event.Ask x.ask) parts.1;
-      of_name = sym (ap (λ (x : Asked). x.ask.access) parts.1) ∙ same_is ask.access n parts.0;
-    }
-asking n seat _ a is = absurd cc
-
 pub was_asked : (setting : Setting) (past : Past) (n : Name) (a : Asked) → Legal setting past → asked past n ≡ Some a → WasAsked setting a
 was_asked setting [] n a legal is = absurd cc
 was_asked setting (e ∷ past) n a legal is = elim (first_is (asked past n) (ask_in n e.seat e.event) a is) [
@@ -46,14 +29,6 @@ was_asked setting (e ∷ past) n a legal is = elim (first_is (asked past n) (ask
   | inr new ↦
       let at = asking n e.seat e.event a new.1 in
       record { before = past; legal = legal.0; may = subst (λ seat. MayAsk setting past seat a.ask) at.same_seat (subst (MayHappen setting past e.seat) at.asks legal.1) }
-]
-
--- the request of a name is of its access
-pub asked_access : (past : Past) (n : Name) (a : Asked) → asked past n ≡ Some a → a.ask.access ≡ n
-asked_access [] n a is = absurd cc
-asked_access (e ∷ past) n a is = elim (first_is (asked past n) (ask_in n e.seat e.event) a is) [
-  | inl old ↦ asked_access past n a old
-  | inr new ↦ (asking n e.seat e.event a new.1).of_name
 ]
 
 -- who asked was started as an access, under a manager

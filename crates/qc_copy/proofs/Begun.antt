@@ -1,23 +1,20 @@
--- What the start of a name tells: how long it is, that the kind fits the table, and that an access stands under a
--- manager. No manager is ever ready.
-use Rattle.std.proofs.Common.{◌≡◌, ℕ, ◌-◌, ◌<◌, ◌≤◌, true, [], ◌∷◌, length, refl, sym, ap, ◌∙◌, subst, inl, inr, arith}
-use mathlib.Core.Bool.{true≢false}
+-- What the start of a name tells: how long it is, and that an access stands under a manager.
+use Rattle.std.proofs.Common.{◌≡◌, ℕ, ◌-◌, ◌≤◌, [], ◌∷◌, length, refl, sym, ap, ◌∙◌, subst, inl, inr, arith}
 use Rattle.std.specs.Prelude.{Option, None, Some, is_some, MatchOption}
-use Rattle.std.proofs.lemmas.Bool.{ltb-true, leb-true}
+use Rattle.std.proofs.lemmas.Bool.{leb-true}
 use Rattle.std.proofs.lemmas.List.{length-take-le}
 use Rattle.qc_names.specs.Name as name
 use Rattle.qc_event.specs.declared.event.Entry.{Entry}
 use Rattle.qc_event.specs.declared.event.Kind.{Kind}
 use Rattle.qc_event.specs.declared.event.Kind.TheVariants as kind
 use Rattle.qc_event.specs.Base.{Setting}
-use Rattle.qc_event.specs.History.{Past, Name, Begun, start, start_in, is_ready}
+use Rattle.qc_event.specs.History.{Past, Name, Begun, start, start_in}
 use Rattle.qc_event.specs.Legal.{Legal, MayHappen}
-use Rattle.qc_event.specs.Manager.{record_of}
 use Rattle.qc_event.specs.Standing.{IsUser, IsManager, Started}
 use Rattle.qc_event.specs.Starts.{Stands, Starts}
-use Rattle.qc_event.specs.Users.{MayReady}
+use Rattle.qc_event.proofs.KindsApart.{user_or_manager}
 use Rattle.qc_event.proofs.Lawful.{started_wider}
-use Rattle.qc_event.proofs.OneEntry.{Starting, first_is, start_is, starting, started_stays, ready_step}
+use Rattle.qc_event.proofs.OneEntry.{Starting, first_is, start_is, starting, started_stays}
 
 -- THE MOMENT
 
@@ -44,10 +41,6 @@ was_begun setting (e ∷ past) n b legal is = elim (first_is (start past n) (sta
 ]
 
 -- LENGTHS
-
-user_or_manager : (k : Kind) → IsUser k → IsManager k → ⊥
-user_or_manager (kind.User session body) user manager = manager
-user_or_manager _ user manager = user
 
 -- a user transaction nests no deeper than 16
 pub user_short : (setting : Setting) (past : Past) (n : Name) (b : Begun) → Legal setting past → start past n ≡ Some b → IsUser b.kind → length n ≤ 16
@@ -95,57 +88,6 @@ manager_name setting past n b legal is manager = let was = was_begun setting pas
         let front = by_parent older k (name.front (x ∷ y ∷ r)) (length (x ∷ y ∷ r)) (start older (name.front (x ∷ y ∷ r))) legal refl manager may.stands in
         let l = length-take-le (length (x ∷ y ∷ r) - 1) (x ∷ y ∷ r) (omega arith) in
         record { below_a_top = omega arith; short = omega arith }
-
--- only tops are ready
-pub ready_top : (setting : Setting) (past : Past) (n : Name) → Legal setting past → is_ready past n ≡ true → length n ≡ 1
-ready_top setting [] n legal h = absurd (true≢false (sym h))
-ready_top setting (e ∷ past) n legal h = elim (ready_step e past n h) [
-  | inl old ↦ ready_top setting past n legal.0 old
-  | inr now ↦ let may : MayReady past e.seat n = subst (MayHappen setting past e.seat) now legal.1 in may.is_top
-]
-
--- KINDS
-
--- what a kind's start asks of it: its record is in the table, and a new configuration is for every copy
-abbrev pub KindFits : Setting → Kind → Type 0
-KindFits setting (kind.Read rec) = rec < length setting.firsts
-KindFits setting (kind.Write rec value) = rec < length setting.firsts
-KindFits setting (kind.Reconf rec config) = (rec < length setting.firsts) × (length config.votes ≡ length setting.base)
-KindFits setting _ = Unit {0}
-
-stands_fits : (setting : Setting) (seat : ℕ) (parent : Begun) (depth : ℕ) (k : Kind) → Stands setting seat parent depth k → KindFits setting k
-stands_fits setting seat parent depth (kind.User session body) h = tt
-stands_fits setting seat parent depth (kind.Read rec) h = ltb-true rec (length setting.firsts) h.1
-stands_fits setting seat parent depth (kind.Write rec value) h = ltb-true rec (length setting.firsts) h.1
-stands_fits setting seat parent depth (kind.Reconf rec config) h = (ltb-true rec (length setting.firsts) h.1, h.2)
-stands_fits setting seat parent depth kind.Access h = tt
-
-user_fits : (setting : Setting) (k : Kind) → IsUser k → KindFits setting k
-user_fits setting (kind.User session body) user = tt
-user_fits setting (kind.Read rec) user = absurd user
-user_fits setting (kind.Write rec value) user = absurd user
-user_fits setting (kind.Reconf rec config) user = absurd user
-user_fits setting kind.Access user = tt
-
-pub kind_fits : (setting : Setting) (past : Past) (n : Name) (b : Begun) → Legal setting past → start past n ≡ Some b → KindFits setting b.kind
-kind_fits setting past n b legal is = let was = was_begun setting past n b legal is in by_name n b.kind was.before was.may
-  where
-    by_parent : (k : Kind) (d : ℕ) (o : Option Begun) → MatchOption o ⊥ (λ p. Stands setting b.seat p d k) → KindFits setting k
-    by_parent k d None h = absurd h
-    by_parent k d (Some p) h = stands_fits setting b.seat p d k h
-
-    by_name : (m : Name) (k : Kind) (older : Past) → Starts setting older b.seat m k → KindFits setting k
-    by_name [] k older may = absurd may
-    by_name (x ∷ []) k older may = user_fits setting k may.user
-    by_name (x ∷ y ∷ r) k older may = by_parent k (length (x ∷ y ∷ r)) (start older (name.front (x ∷ y ∷ r))) may.stands
-
--- a manager's record is in the table
-pub record_fits : (setting : Setting) (k : Kind) → IsManager k → KindFits setting k → record_of k < length setting.firsts
-record_fits setting (kind.Read rec) manager fits = fits
-record_fits setting (kind.Write rec value) manager fits = fits
-record_fits setting (kind.Reconf rec config) manager fits = fits.0
-record_fits setting (kind.User session body) manager fits = absurd manager
-record_fits setting kind.Access manager fits = absurd manager
 
 -- ACCESSES
 

@@ -1,7 +1,7 @@
 -- What a manager asks next goes to a copy that there is, for a record of the table, and puts a configuration for
 -- as many copies.
-use Rattle.std.proofs.Common.{◌≡◌, ℕ, zero, suc, ◌<◌, Bool, true, false, List, [], ◌∷◌, length, refl, sym, subst, arith}
-use Rattle.std.specs.Prelude.{Option, None, Some, MatchOption, if◌then◌else◌, not, ◌&&◌, nat_lt, is_none, slice_index_or}
+use Rattle.std.proofs.Common.{◌≡◌, ℕ, ◌<◌, Bool, true, false, [], length, refl, sym, subst, arith}
+use Rattle.std.specs.Prelude.{Option, None, Some, MatchOption, if◌then◌else◌, not, ◌&&◌, nat_lt, is_none}
 use Rattle.std.specs.List.{AllByRecursion}
 use Rattle.std.proofs.lemmas.Bool.{and_parts, ltb-true}
 use Rattle.qc_config.specs.Config.{Voting, votes_of, no_config}
@@ -14,14 +14,9 @@ use Rattle.qc_event.specs.Legal.{Legal}
 use Rattle.qc_event.specs.Manager.{Stage, Newest, Greatest, stages_by, stages, stage, is_enough, at_last_number, newest, greatest, ask_at, first_for, AtStage}
 use Rattle.qc_event.specs.Requests.{IsNextAsk}
 use Rattle.qc_event.specs.Standing.{IsManager}
-use Rattle.qc_copy.proofs.Found.{found_holds, found_range}
-use Rattle.qc_copy.proofs.Begun.{KindFits, record_fits}
+use Rattle.qc_event.proofs.Found.{found_holds, found_range, has_place}
+use Rattle.qc_event.proofs.KindFits.{KindFits, record_fits}
 use Rattle.qc_copy.proofs.Sized.{IsSized, OpSized, newest_sized}
-
-has_place : (votes : List ℕ) (c : ℕ) → 0 < slice_index_or votes c 0 → c < length votes
-has_place [] c some = absurd (omega arith)
-has_place (v ∷ votes) zero some = omega arith
-has_place (v ∷ votes) (suc c) some = omega (arith, has_place votes c some)
 
 -- STAGES
 

@@ -16,6 +16,7 @@ use Rattle.std.proofs.lemmas.List.Elements.{All-nil, All-cons, All-head, All-tai
 use Rattle.qc_config.specs.declared.tuple.Tuple.{Tuple}
 use Rattle.qc_event.specs.History.{Name, same}
 use Rattle.qc_event.proofs.Absent.{same_is}
+use Rattle.qc_event.proofs.Options.{still}
 use Rattle.qc_copy.specs.declared.firsts.First.{First}
 use Rattle.qc_copy.specs.Rising.{is_below, IsRising, first_of, first_with}
 
@@ -142,14 +143,6 @@ insert_other (f ∷ firsts) (suc n) new asked is = by_test (same f.access asked)
     by_test true rest = refl
     by_test false rest = rest
 
-pub none_if : {Y : Type 0} (o : Option Y) → is_some o ≡ false → o ≡ None
-none_if None h = refl
-none_if (Some y) h = absurd (true≢false h)
-
-or_none : {Y : Type 0} (o : Option Y) → option_or o None ≡ o
-or_none None = refl
-or_none (Some y) = refl
-
 pub entered_new : (firsts : List First) (n : ℕ) (new : First) (asked : Name) → first_of firsts new.access ≡ None
     → first_of (insert firsts n new) asked ≡ first_with (first_of firsts asked) new.access new.tuple asked
 entered_new firsts n new asked none = by_test (same new.access asked) refl
@@ -158,7 +151,7 @@ entered_new firsts n new asked none = by_test (same new.access asked) refl
     by_test true is =
         let nothing : first_of firsts asked ≡ None = ap (first_of firsts) (sym (same_is new.access asked is)) ∙ none in
         insert_new firsts n new asked is nothing ∙ ap (λ o. option_or o (Some new.tuple)) (sym nothing)
-    by_test false is = insert_other firsts n new asked is ∙ sym (or_none (first_of firsts asked))
+    by_test false is = insert_other firsts n new asked is ∙ sym (still (first_of firsts asked))
 
 pub entered_again : (firsts : List First) (access : Name) (tuple : Tuple) (asked : Name) → is_some (first_of firsts access) ≡ true
     → first_of firsts asked ≡ first_with (first_of firsts asked) access tuple asked
@@ -170,4 +163,4 @@ entered_again firsts access tuple asked there = by_test (same access asked) refl
 
     by_test : (b : Bool) → same access asked ≡ b → first_of firsts asked ≡ option_or (first_of firsts asked) (if b then Some tuple else None)
     by_test true is = keeps (first_of firsts asked) (ap (λ n. is_some (first_of firsts n)) (sym (same_is access asked is)) ∙ there)
-    by_test false is = sym (or_none (first_of firsts asked))
+    by_test false is = sym (still (first_of firsts asked))

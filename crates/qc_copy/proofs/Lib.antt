@@ -4,7 +4,6 @@ pub mod Serving
 pub mod Begun
 pub mod PutConfigs
 pub mod Sized
-pub mod Found
 pub mod Fits
 pub mod Asked
 pub mod Allowing

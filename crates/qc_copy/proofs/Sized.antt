@@ -1,6 +1,6 @@
 -- Every configuration that a legal history tells of is for as many copies as there are.
-use Rattle.std.proofs.Common.{◌≡◌, ℕ, Bool, true, false, List, [], ◌∷◌, length, refl, sym, ap, ◌∙◌, subst, inl, inr}
-use Rattle.std.specs.Prelude.{Option, None, Some, MatchOption, if◌then◌else◌, nat_lt, filter, filter_map, fold}
+use Rattle.std.proofs.Common.{◌≡◌, ℕ, Bool, true, false, List, [], ◌∷◌, length, refl, sym, ap, ◌∙◌, subst, inl, inr, ◌++◌}
+use Rattle.std.specs.Prelude.{Option, None, Some, MatchOption, if◌then◌else◌, nat_lt, filter, filter_map, fold, option_to_list, cond}
 use Rattle.std.specs.List.{AllByRecursion, cons_option}
 use Rattle.qc_config.specs.Config.{Voting}
 use Rattle.qc_config.specs.declared.tuple.Op.{Op}
@@ -25,9 +25,10 @@ use Rattle.qc_event.specs.Grants.{MayGrant, Sets}
 use Rattle.qc_event.specs.History.{Past, Name, Begun, Given, same, start, end, granted, grant_in, gone, refused, asks}
 use Rattle.qc_event.specs.Legal.{Legal, MayHappen, MayEnd}
 use Rattle.qc_event.specs.Manager.{result_by, reply_of, reply, replies, newer, Newest, newest}
-use Rattle.qc_event.specs.Seen.{seen}
+use Rattle.qc_event.specs.Seen.{seen, is_live_at, changed_by}
 use Rattle.qc_event.proofs.OneEntry.{if_is, first_is, end_step}
 use Rattle.qc_copy.proofs.PutConfigs.{OpHas, after_has, seen_has}
+use Rattle.qc_event.proofs.Sizes as sizes
 
 -- a tuple's configuration is for this many copies
 abbrev pub IsSized : ℕ → Tuple → Type 0
@@ -129,14 +130,6 @@ replies_sized setting past legal (a ∷ rest) = by_reply (reply past a.access) (
     by_reply None sized below = below
     by_reply (Some t) sized below = (sized t refl, below)
 
-fold_sized : (size : ℕ) (best : Newest) (tuples : List Tuple) → length best.config.votes ≡ size → AllByRecursion (IsSized size) tuples → length (fold newer best tuples).config.votes ≡ size
-fold_sized size best [] here all = here
-fold_sized size best (t ∷ tuples) here all = fold_sized size (newer best t) tuples (next (nat_lt best.generation t.generation)) all.1
-  where
-    next : (b : Bool) → length (if b then record { generation = t.generation; config = t.config } else best).config.votes ≡ size
-    next true = all.0
-    next false = here
-
 -- a manager's newest configuration is for as many copies, where its record's first one is
 pub newest_sized : (setting : Setting) (past : Past) (first : Voting) (m : Name) → Legal setting past → length first.votes ≡ length setting.base → length (newest past first m).config.votes ≡ length setting.base
-newest_sized setting past first m legal here = fold_sized (length setting.base) (record { generation = 0; config = first }) (replies past m) here (replies_sized setting past legal (filter (λ (ask : Ask). is_get ask.op) (asks past m)))
+newest_sized setting past first m legal here = sizes.newest_sized (length setting.base) (record { generation = 0; config = first }) (replies past m) here (replies_sized setting past legal (filter (λ (ask : Ask). is_get ask.op) (asks past m)))

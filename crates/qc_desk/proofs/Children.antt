@@ -19,7 +19,8 @@ use Rattle.qc_desk.specs.Spots.{Spot}
 use Rattle.qc_desk.specs.Places.{child_places}
 use Rattle.qc_desk.specs.Index.{Shape, IsIndexOf}
 use Rattle.qc_desk.proofs.Finding.{spot_is}
-use Rattle.qc_desk.proofs.Placing.{get_last, get_other, child_place, counted, as_many_children}
+use Rattle.qc_event.proofs.Lists.{get_last}
+use Rattle.qc_desk.proofs.Placing.{get_other, child_place, counted, as_many_children}
 use Rattle.qc_desk.proofs.Spots.{one_of}
 
 -- the child at a place has the next number

@@ -100,9 +100,6 @@ pub one_root : (setting : Setting) (past : Past) (n : Name) → Legal setting pa
 one_root setting past n legal zero h = root_not_aborted setting past legal
 one_root setting past n legal (suc j) h = absurd (omega arith)
 
-pub root_dead : (setting : Setting) (past : Past) → Legal setting past → dead past [] ≡ None
-root_dead setting past legal = find_no_ancestor (λ a. is_aborted (outcome past a)) [] (one_root setting past [] legal)
-
 pub take_first : (n : Name) (t : ℕ) → slice_get n 0 ≡ Some t → take 1 n ≡ t ∷ []
 take_first [] t h = absurd cc
 take_first (x ∷ n) t h = ap (λ y. y ∷ []) (same_Some x t h)

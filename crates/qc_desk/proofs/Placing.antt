@@ -13,6 +13,7 @@ use Rattle.qc_event.specs.declared.event.Kind.{Kind}
 use Rattle.qc_event.specs.History.{Past, Name, earliest, same, start, start_in, is_child, child_in, children}
 use Rattle.qc_event.proofs.Absent.{same_is, same_itself}
 use Rattle.qc_event.proofs.LastNumber.{child_last, is_child-last, same_last}
+use Rattle.qc_event.proofs.Lists.{get_last}
 use Rattle.qc_event.proofs.OneEntry.{Starting, starting, first_is, not_some, some_or_none}
 use Rattle.qc_event.proofs.Orderly.{KeepsOrder, Orderly}
 use Rattle.qc_event.proofs.Lawful.{Lawful, lawful, child_starts}
@@ -20,17 +21,6 @@ use Rattle.qc_desk.specs.Spots.{child_at}
 use Rattle.qc_desk.specs.Places.{IsWhere, starts_in, started, before_first, place, child_places}
 
 -- LISTS
-
-pub get_first : {X : Type 0} (xs ys : List X) (i : ℕ) (x : X) → slice_get xs i ≡ Some x → slice_get (xs ++ ys) i ≡ Some x
-get_first [] ys i x h = absurd cc
-get_first (y ∷ xs) ys zero x h = h
-get_first (y ∷ xs) ys (suc i) x h = get_first xs ys i x h
-
-pub get_last : {X : Type 0} (xs : List X) (y : X) (i : ℕ) → i ≡ length xs → slice_get (xs ++ y ∷ []) i ≡ Some y
-get_last [] y zero h = refl
-get_last [] y (suc i) h = absurd (omega arith)
-get_last (x ∷ xs) y zero h = absurd (omega arith)
-get_last (x ∷ xs) y (suc i) h = get_last xs y i (omega arith)
 
 pub get_other : {X : Type 0} (xs : List X) (y : X) (i : ℕ) → (i ≡ length xs → ⊥) → slice_get (xs ++ y ∷ []) i ≡ slice_get xs i
 get_other [] y zero h = absurd (h refl)

@@ -4,7 +4,6 @@ use mathlib.Core.Bool.{true≢false}
 use Rattle.std.specs.Prelude.{None, Some, is_some, slice_get, option_to_list, if◌then◌else◌, IsTrue, not}
 use Rattle.std.specs.Option.{option_or, option_map}
 use Rattle.std.specs.Ordering.{nat_cmp, is_eq}
-use Rattle.std.specs.Cmp.{nat_cmp_is}
 use Rattle.std.specs.declared.cmp.Ordering.{Ordering}
 use Rattle.std.specs.declared.cmp.Ordering.TheVariants.{Less, Equal, Greater}
 use Rattle.std.proofs.lemmas.Map.Lookups.{exact_unsigned}
@@ -22,14 +21,16 @@ use Rattle.qc_event.specs.Dead.{outcome_of}
 use Rattle.qc_event.proofs.Absent.{same_is, same_itself}
 use Rattle.qc_event.proofs.LastNumber.{child_last, same_last, length_last, front_last, EndsIn, ends_in}
 use Rattle.qc_event.proofs.Lineage.{IsFresh, fresh_below, fresh_child}
+use Rattle.qc_event.proofs.Lists.{get_first, get_last}
+use Rattle.qc_event.proofs.Numbers.{is_at_itself}
 use Rattle.qc_event.proofs.OneEntry.{some_or_none, child_added}
 use Rattle.qc_event.proofs.Orderly.{KeepsOrder, Orderly, BecomesReady, IsNewTop}
-use Rattle.qc_event.proofs.Lawful.{Lawful, lawful, child_starts, ends_open}
+use Rattle.qc_event.proofs.Lawful.{lawful, child_starts, ends_open, nonroot}
 use Rattle.qc_desk.specs.Spots.{Spot, new_spot, at, changed, with_child, with_end, with_ready}
 use Rattle.qc_desk.specs.Places.{starts_in, started, place, spot_of}
 use Rattle.qc_desk.specs.Index.{Shape, IsIndexOf, top_at}
 use Rattle.qc_desk.proofs.Changing.{if_not, spot_stays, other_stays, new_is_new, only_new, not_new, child_spot, end_spot, ready_spot}
-use Rattle.qc_desk.proofs.Placing.{get_first, get_last, or_nothing, count_stays, placed, no_place, has_start, place_step, place_once}
+use Rattle.qc_desk.proofs.Placing.{or_nothing, count_stays, placed, no_place, has_start, place_step, place_once}
 use Rattle.qc_desk.proofs.Spots.{length_changed, get_changed, get_unchanged, length_last_spot, one_of}
 
 -- CHILDREN OF THE ROOT
@@ -48,15 +49,8 @@ is_at_same t q h = exact_unsigned t q (equal (nat_cmp t q) h)
     equal Equal h = refl
     equal Greater h = absurd (true≢false (sym h))
 
-at_itself : (t : ℕ) → is_at (nat_cmp t) t ≡ true
-at_itself t = ap is_eq (sym (nat_cmp_is t t Equal refl))
-
 top_no_child : (n : Name) (t : ℕ) → 0 < length n → is_child n (t ∷ []) ≡ true → ⊥
 top_no_child n t pos h = let last = child_last n (t ∷ []) h in omega (arith, ap length last.1, length_last n last.0)
-
-started_pos : (past : Past) (n : Name) → Lawful past → is_some (start past n) ≡ true → 0 < length n
-started_pos past [] law h = absurd (some_or_none (start past []) h law.no_root_start)
-started_pos past (x ∷ n) law h = omega arith
 
 top_other : (t q : ℕ) → same (t ∷ []) (q ∷ []) ≡ true → t ≡ q
 top_other t q h = let is = same_is (t ∷ []) (q ∷ []) h in cc
@@ -78,7 +72,7 @@ top_started e past t k index tops is orderly keeps was adds longer = record {
   at_place = λ n i here. elim (place_step e past n i here) [
     | inl old ↦ get_first index.spots (new_spot (Some index.count) ∷ []) i _ (was.at_place n i old)
         ∙ ap Some (let h = has_start past n i old in
-        other_stays e past (t ∷ []) k is fresh orderly n (not_new e past (t ∷ []) k is fresh orderly n h) (top_no_child n t (started_pos past n (lawful past orderly) h)))
+        other_stays e past (t ∷ []) k is fresh orderly n (not_new e past (t ∷ []) k is fresh orderly n h) (top_no_child n t (nonroot past n (lawful past orderly) h)))
     | inr new ↦
         let same_name = only_new e past (t ∷ []) k is fresh orderly n new.1 in
         get_last index.spots (new_spot (Some index.count)) i (new.2 ∙ sym was.as_many)
@@ -107,7 +101,7 @@ top_started e past t k index tops is orderly keeps was adds longer = record {
         ∙ ap (λ x. place (e ∷ past) (x ∷ [])) same_number
     by_test q false other =
         was.by_number q
-        ∙ sym (or_nothing (place past (q ∷ [])) (λ _. started past) _ (if_not (same (t ∷ []) (q ∷ [])) _ (λ h. true≢false (sym (at_itself t) ∙ ap (is_at (nat_cmp t)) (top_other t q h) ∙ other))))
+        ∙ sym (or_nothing (place past (q ∷ [])) (λ _. started past) _ (if_not (same (t ∷ []) (q ∷ [])) _ (λ h. true≢false (sym (is_at_itself t) ∙ ap (is_at (nat_cmp t)) (top_other t q h) ∙ other))))
         ∙ sym (after q)
 
 -- A NEXT CHILD

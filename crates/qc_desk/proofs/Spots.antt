@@ -7,7 +7,8 @@ use Rattle.std.proofs.lemmas.List.{length-append, set-get_or}
 use Rattle.std.proofs.lemmas.Option.{slice_get-get_or, same_Some, none-some}
 use Rattle.qc_desk.specs.declared.nodes.Node.{Node}
 use Rattle.qc_desk.specs.Spots.{Spot, spot, spots, new_spot, at, changed, with_child, AreWithin, AreFewer}
-use Rattle.qc_desk.proofs.Placing.{get_last, get_other}
+use Rattle.qc_event.proofs.Lists.{get_last}
+use Rattle.qc_desk.proofs.Placing.{get_other}
 
 pub spots_set : (nodes : List Node) (i : ℕ) (n : Node) → spots (slice_set nodes i n) ≡ slice_set (spots nodes) i (spot n)
 spots_set [] i n = refl

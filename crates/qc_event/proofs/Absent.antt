@@ -3,6 +3,7 @@ use Rattle.std.proofs.Common.{◌≡◌, ℕ, Bool, true, false, List, [], ◌�
 use mathlib.Core.Bool.{true≢false}
 use Rattle.std.specs.Prelude.{Option, None, Some, is_some, if◌then◌else◌, option_to_list, find}
 use Rattle.std.specs.Option.{option_or}
+use Rattle.std.proofs.lemmas.Bool.{false_from_ne_true}
 use Rattle.std.proofs.lemmas.Slice.Eq.{bytes_eq-Decides}
 use Rattle.qc_event.specs.declared.event.Event.{Event}
 use Rattle.qc_event.specs.declared.event.Event.TheVariants as event
@@ -29,17 +30,13 @@ same_is m n h = (bytes_eq-Decides m n).0 h
 pub same_itself : (n : Name) → same n n ≡ true
 same_itself n = (bytes_eq-Decides n n).1 refl
 
-not_true : (b : Bool) → (b ≡ true → ⊥) → b ≡ false
-not_true true h = absurd (h refl)
-not_true false h = refl
-
 -- names that a test tells apart are not the same
 pub told_apart : (test : Name → Bool) (m n : Name) → test m ≡ true → test n ≡ false → same m n ≡ false
-told_apart test m n here out = not_true (same m n) (λ h. true≢false (sym here ∙ ap test (same_is m n h) ∙ out))
+told_apart test m n here out = false_from_ne_true (same m n) (λ h. true≢false (sym here ∙ ap test (same_is m n h) ∙ out))
 
 -- names of different lengths are not the same
 pub other_length : (m n : Name) → (length m ≡ length n → ⊥) → same m n ≡ false
-other_length m n differ = not_true (same m n) (λ h. differ (ap length (same_is m n h)))
+other_length m n differ = false_from_ne_true (same m n) (λ h. differ (ap length (same_is m n h)))
 
 pub both_none : {Y : Type 0} (a b : Option Y) → a ≡ None → b ≡ None → option_or a b ≡ None
 both_none a b p q = ap (λ o. option_or o b) p ∙ q
@@ -75,7 +72,7 @@ pub ready_absent : (test : Name → Bool) (past : Past) (n : Name) → AllNames 
 ready_absent test past n all out = ap is_some (first_ready_absent test past n all out)
 
 child_in_absent : (test : Name → Bool) (n : Name) (ev : Event) → test (name_in ev) ≡ true → ((c : Name) → is_child n c ≡ true → test c ≡ false) → child_in n ev ≡ None
-child_in_absent test n (event.Start m k) here out = if_not (is_child n m) _ (not_true (is_child n m) (λ h. true≢false (sym here ∙ out m h)))
+child_in_absent test n (event.Start m k) here out = if_not (is_child n m) _ (false_from_ne_true (is_child n m) (λ h. true≢false (sym here ∙ out m h)))
 child_in_absent test n _ here out = refl
 
 pub children_absent : (test : Name → Bool) (past : Past) (n : Name) → AllNames test past → ((c : Name) → is_child n c ≡ true → test c ≡ false) → children past n ≡ []

@@ -59,6 +59,12 @@ rest_of (x ∷ a) (y ∷ n) h =
 pub is_child-last : (p : Name) (j : ℕ) → is_child p (p ++ j ∷ []) ≡ true
 is_child-last p j = and_from _ (name.is_ancestor p (p ++ j ∷ [])) (eq-eqb (length (p ++ j ∷ [])) (length p + 1) (length_last p j)) (is_ancestor-append p (j ∷ []))
 
+-- a name of length one is its number
+pub single_number : (r : Name) → length r ≡ 1 → (j : ℕ) × (r ≡ j ∷ [])
+single_number [] l = absurd (omega arith)
+single_number (j ∷ []) l = (j, refl)
+single_number (j ∷ k ∷ r) l = absurd (omega arith)
+
 -- a child is its parent and one number more
 pub child_last : (p c : Name) → is_child p c ≡ true → (j : ℕ) × (c ≡ p ++ j ∷ [])
 child_last p c h =
@@ -66,15 +72,10 @@ child_last p c h =
     let below = rest_of p c parts.1 in
     let l : length c ≡ length p + 1 = eqb-true (length c) (length p + 1) parts.0 in
     let one : length below.0 ≡ 1 = omega (arith, ap length below.1, length-append p below.0) in
-    one_more below.0 below.1 (only below.0 one)
+    one_more below.0 below.1 (single_number below.0 one)
   where
     one_more : (r : Name) → c ≡ p ++ r → (j : ℕ) × (r ≡ j ∷ []) → (j : ℕ) × (c ≡ p ++ j ∷ [])
     one_more r is (j, only_one) = (j, is ∙ ap (λ s. p ++ s) only_one)
-
-    only : (r : Name) → length r ≡ 1 → (j : ℕ) × (r ≡ j ∷ [])
-    only [] l = absurd (omega arith)
-    only (j ∷ []) l = (j, refl)
-    only (j ∷ k ∷ r) l = absurd (omega arith)
 
 pub ancestors-last : (p : Name) (j : ℕ) → ancestors (p ++ j ∷ []) ≡ ancestors p ++ (p ++ j ∷ []) ∷ []
 ancestors-last [] j = refl

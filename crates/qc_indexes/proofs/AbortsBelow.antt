@@ -5,7 +5,7 @@ use Rattle.std.specs.Prelude.{Option, None, Some, is_some, ◌==◌, ◌&&◌, n
 use Rattle.std.specs.Option.{option_map}
 use Rattle.std.proofs.lemmas.Bool.{eqb-true, false_from_ne_true}
 use Rattle.std.proofs.lemmas.List.{length-set, reverse-append, length-reverse}
-use Rattle.std.proofs.lemmas.Option.{same_Some, slice_get_within}
+use Rattle.std.proofs.lemmas.Option.{none-some, same_Some, slice_get_within}
 use Rattle.qc_names.specs.Name as name
 use Rattle.qc_event.specs.Base.{Setting}
 use Rattle.qc_event.specs.declared.event.Entry.{Entry}
@@ -31,11 +31,6 @@ use Rattle.qc_indexes.proofs.Linking.{entry_there, last_here, last_stays, last_f
 
 one_number : (m : Name) (x y : ℕ) → x ∷ [] ≡ y ∷ [] → x ≡ y
 one_number m x y h = cc
-
-pub is_top : (n : Name) → length n ≡ 1 → (x : ℕ) × (n ≡ x ∷ [])
-is_top [] h = absurd (omega (arith, h))
-is_top (x ∷ []) h = (x, refl)
-is_top (x ∷ y ∷ r) h = absurd (omega (arith, h))
 
 abort_no_start : (ev : Event) (x : ℕ) → abort_top ev ≡ Some x → starts_in ev ≡ 0
 abort_no_start (event.Start n k) x is = absurd cc
@@ -74,24 +69,18 @@ unplaced_none setting past (x ∷ []) legal none = none_below setting past x leg
 unplaced_none setting past (x ∷ y ∷ r) legal none = refl
 
 no_key : (ev : Event) (n : Name) (x : ℕ) → Starting n ev → abort_top ev ≡ Some x → ⊥
-no_key ev n x s is = nothing (sym (ap abort_top s.1) ∙ is)
-  where
-    nothing : None ≡ Some x → ⊥
-    nothing h = cc
+no_key ev n x s is = none-some x (sym (ap abort_top s.1) ∙ is)
 
 module _ (setting : Setting) (e : Entry) (past : Past) (lasts before : List ℕ) (was : AreAbortsOf past lasts before) (wide : length past < length lasts) (roomy : length past < length before) (legal : Legal setting (e ∷ past)) where
   -- no one is aborted below a top
   pub none_aborted : abort_top e.event ≡ None → AreAbortsOf (e ∷ past) lasts before
   none_aborted none = record {
     last = beside_stays last_abort e past lasts was.last wide
-        (λ n began. abort_stays e past n (λ x is top. differ x (sym none ∙ top)))
-        (λ n unplaced starting. sym (abort_stays e past n (λ x is top. differ x (sym none ∙ top))) ∙ unplaced_none setting past n legal.0 unplaced);
+        (λ n began. abort_stays e past n (λ x is top. none-some x (sym none ∙ top)))
+        (λ n unplaced starting. sym (abort_stays e past n (λ x is top. none-some x (sym none ∙ top))) ∙ unplaced_none setting past n legal.0 unplaced);
     linked = linked_stays abort_top e past before none was.linked;
     room = omega (arith, roomy);
   }
-    where
-      differ : (x : ℕ) → None ≡ Some x → ⊥
-      differ x h = cc
 
   module _ (x : ℕ) (is : abort_top e.event ≡ Some x) where
     pub top_before : (at : ℕ) → place (e ∷ past) (x ∷ []) ≡ Some at → place past (x ∷ []) ≡ Some at

@@ -2,6 +2,7 @@
 use Rattle.std.proofs.Common.{◌≡◌, ℕ, zero, suc, ◌+◌, ◌<◌, ◌≤◌, inl, inr, true, List, [], ◌∷◌, ◌++◌, length, refl, sym, ap, ◌∙◌, arith}
 use Rattle.std.specs.Prelude.{Option, None, Some, is_some, slice_index, slice_set}
 use Rattle.std.proofs.lemmas.List.{length-set, get_or-set_same, get_or-set_other}
+use Rattle.std.proofs.lemmas.Option.{same_Some}
 use Rattle.qc_event.specs.declared.event.Entry.{Entry}
 use Rattle.qc_event.specs.declared.event.Event.{Event}
 use Rattle.qc_event.specs.declared.event.Event.TheVariants as event
@@ -91,14 +92,11 @@ beside_set number e past xs m at value was wide calm here is same = record {
     | inl there ↦
         let this : n ≡ m = place_once past n m i old (here ∙ ap (λ k. Some k) (sym there)) in
         ap (slice_index (slice_set xs at value)) there ∙ get_or-set_same xs at value 0 inside ∙ is ∙ ap (number (e ∷ past)) (sym this)
-    | inr other ↦ get_or-set_other xs at i value 0 other ∙ was.at_place n i old ∙ same n (λ this. other (some_same i at (sym old ∙ ap (place past) this ∙ here)))
+    | inr other ↦ get_or-set_other xs at i value 0 other ∙ was.at_place n i old ∙ same n (λ this. other (same_Some i at (sym old ∙ ap (place past) this ∙ here)))
   ];
   beyond = λ i more. get_or-set_other xs at i value 0 (λ there. let within = place_within past m at here in absurd (omega (arith, within, more, there, calm))) ∙ was.beyond i (omega (arith, more));
   room = omega (arith, wide, length-set xs at value);
 }
   where
-    some_same : (i j : ℕ) → Some i ≡ Some j → i ≡ j
-    some_same i j h = cc
-
     inside : at < length xs
     inside = let within = place_within past m at here in let few = started_few past in omega (arith, within, few, wide)

@@ -1,9 +1,9 @@
 -- First refusals, one entry after another.
 use Rattle.std.proofs.Common.{◌≡◌, ℕ, ◌+◌, ◌<◌, Bool, true, false, [], ◌∷◌, length, refl, sym, ap, ◌∙◌, subst, ◌⊎◌, inl, inr, List}
 use mathlib.Core.Bool.{true≢false}
-use Rattle.std.specs.Prelude.{Option, None, Some, is_some, if◌then◌else◌, MatchOption, slice_index, slice_set}
+use Rattle.std.specs.Prelude.{Option, None, Some, is_some, if◌then◌else◌, slice_index, slice_set}
 use Rattle.std.specs.Option.{option_or, option_map}
-use Rattle.std.proofs.lemmas.Option.{same_Some}
+use Rattle.std.proofs.lemmas.Option.{none-some, same_Some}
 use Rattle.std.proofs.lemmas.Bool.{cases_Bool}
 use Rattle.qc_event.specs.declared.event.Ask.{Ask}
 use Rattle.qc_event.specs.declared.event.Entry.{Entry}
@@ -11,11 +11,12 @@ use Rattle.qc_event.specs.declared.event.Event.{Event}
 use Rattle.qc_event.specs.declared.event.Event.TheVariants as event
 use Rattle.qc_event.specs.declared.event.Refusal.{Refusal}
 use Rattle.qc_event.specs.Base.{Setting}
-use Rattle.qc_event.specs.History.{Past, Name, Asked, same, start, asked, ask_in, refused, refusal_in}
+use Rattle.qc_event.specs.History.{Past, Name, same, start, asked, ask_in, refused, refusal_in}
 use Rattle.qc_event.specs.Legal.{Legal, Allowed, MayHappen}
 use Rattle.qc_event.specs.Requests.{MayAsk}
 use Rattle.qc_event.proofs.Absent.{same_is, same_itself}
 use Rattle.qc_event.proofs.Lawful.{started_some}
+use Rattle.qc_event.proofs.Options.{some_match}
 use Rattle.qc_event.proofs.OneEntry.{Starting, first_some, if_some, not_some, some_or_none, start_stays}
 use Rattle.qc_desk.specs.Places.{IsWhere, starts_in, place, before_first}
 use Rattle.qc_desk.proofs.Looking.{unstarted}
@@ -45,10 +46,6 @@ asked_started setting (e ∷ past) n legal h = start_stays e past n (elim (first
         let asks : MayAsk setting past e.seat is.0 = subst (λ x. MayHappen setting past e.seat x) is.1 may in
         ap (λ m. is_some (start past m)) (sym is.2) ∙ started_some _ (start past is.0.access) asks.started
 
-one_asked : (o : Option Asked) (P : Asked → Type 0) → MatchOption o ⊥ P → is_some o ≡ true
-one_asked None P h = absurd h
-one_asked (Some a) P h = refl
-
 refusing : (n : Name) (ev : Event) → is_some (refusal_in n ev) ≡ true → refused_name ev ≡ Some n
 refusing n (event.Refused m copy refusal) h = ap (λ x. Some x) (same_is m n (if_some (same m n) _ h))
 refusing n _ h = absurd (true≢false (sym h))
@@ -60,7 +57,7 @@ refuses_started setting past e m legal is = by_event e.event legal.1 is
     by_event : (ev : Event) → MayHappen setting past e.seat ev → refused_name ev ≡ Some m → is_some (start past m) ≡ true
     by_event (event.Refused n copy refusal) may same_name =
         let this : n ≡ m = same_Some n m same_name in
-        ap (λ x. is_some (start past x)) (sym this) ∙ asked_started setting past n legal.0 (one_asked (asked past n) _ may.request)
+        ap (λ x. is_some (start past x)) (sym this) ∙ asked_started setting past n legal.0 (some_match (asked past n) _ may.request)
     by_event _ may same_name = absurd cc
 
 pub refused_started : (setting : Setting) (past : Past) (n : Name) → Legal setting past → is_some (refused past n) ≡ true → is_some (start past n) ≡ true
@@ -82,10 +79,7 @@ unrefused setting past n legal none =
     ap code (uncounted length (λ e. refusal_in n e.event) past (not_some (refused past n) (λ h. some_or_none (start past n) (refused_started setting past n legal h) (unstarted past n none))))
 
 starts_not : (ev : Event) (n m : Name) → Starting n ev → refused_name ev ≡ Some m → ⊥
-starts_not ev n m s is = absurd (nothing (sym (ap refused_name s.1) ∙ is))
-  where
-    nothing : None ≡ Some m → ⊥
-    nothing h = cc
+starts_not ev n m s is = none-some m (sym (ap refused_name s.1) ∙ is)
 
 refusal_no_start : (ev : Event) (m : Name) → refused_name ev ≡ Some m → starts_in ev ≡ 0
 refusal_no_start (event.Start n k) m is = absurd cc
@@ -96,11 +90,8 @@ module _ (setting : Setting) (e : Entry) (past : Past) (xs : List ℕ) (was : Is
   pub none_refused : refused_name e.event ≡ None → IsBeside first_refusal (e ∷ past) xs
   none_refused none =
       beside_stays first_refusal e past xs was wide
-      (λ n began. number_stays e past n (λ is. absurd (differ n (sym none ∙ is))))
-      (λ n unplaced starting. sym (number_stays e past n (λ is. absurd (differ n (sym none ∙ is)))) ∙ unrefused setting past n legal.0 unplaced)
-    where
-      differ : (n : Name) → None ≡ Some n → ⊥
-      differ n h = cc
+      (λ n began. number_stays e past n (λ is. none-some n (sym none ∙ is)))
+      (λ n unplaced starting. sym (number_stays e past n (λ is. none-some n (sym none ∙ is))) ∙ unrefused setting past n legal.0 unplaced)
 
   module _ (m : Name) (is : refused_name e.event ≡ Some m) where
     others : (n : Name) → (n ≡ m → ⊥) → first_refusal past n ≡ first_refusal (e ∷ past) n

@@ -4,13 +4,14 @@ use Rattle.std.specs.Option.{option_map}
 use Rattle.std.specs.Prelude.{Option, None, Some, ◌==◌, nat_lt, if◌then◌else◌, option_to_list, slice_get, slice_index, slice_set}
 use Rattle.std.proofs.lemmas.Bool.{eqb-true, eq-eqb, false_from_ne_true, lt-ltb, ltb-true}
 use Rattle.std.proofs.lemmas.List.{drop_all, drop_more, length-append, length-set, length-reverse, reverse-append, get_or-set_same, get_or-set_other}
-use Rattle.std.proofs.lemmas.Option.{same_Some, slice_get_within, slice_get-get_or}
+use Rattle.std.proofs.lemmas.Option.{same_Some, slice_get_within, slice_get-get_or, none-some}
 use Rattle.qc_event.specs.declared.event.Entry.{Entry}
 use Rattle.qc_event.specs.declared.event.Event.{Event}
 use Rattle.qc_event.specs.declared.event.Event.TheVariants as event
 use Rattle.qc_event.specs.declared.event.Grant.{Grant}
 use Rattle.qc_event.specs.History.{Past, grants, grant_at}
-use Rattle.qc_desk.proofs.Placing.{get_first, get_last}
+use Rattle.qc_event.proofs.Lists.{get_first, get_last}
+use Rattle.qc_event.proofs.OneEntry.{at_most_one}
 use Rattle.qc_desk.proofs.Spots.{one_of}
 use Rattle.qc_indexes.specs.Chains.{last_of, AreLinked}
 use Rattle.qc_indexes.specs.Grants.{AreGrantsOf, Differs, granted_at, grant_of}
@@ -53,12 +54,8 @@ pub grants_few : (past : Past) (copy : ℕ) → length (grants past copy) ≤ le
 grants_few [] copy = omega arith
 grants_few (e ∷ past) copy =
     let before = grants_few past copy in
-    let here = one (grant_at copy e.event) in
+    let here = at_most_one (grant_at copy e.event) in
     omega (arith, before, here, length-append (grants past copy) (option_to_list (grant_at copy e.event)))
-  where
-    one : (o : Option Grant) → length (option_to_list o) ≤ 1
-    one None = omega arith
-    one (Some g) = omega arith
 
 module _ (e : Entry) (past : Past) (counts lasts before : List ℕ) (was : AreGrantsOf past counts lasts before) (roomy : length past < length before) where
   same_grants : (copy : ℕ) → copy < 16 → (granted_at e.event ≡ Some copy → ⊥) → grants past copy ≡ grants (e ∷ past) copy
@@ -67,15 +64,12 @@ module _ (e : Entry) (past : Past) (counts lasts before : List ℕ) (was : AreGr
   -- no copy grants
   pub none_granted : granted_at e.event ≡ None → AreGrantsOf (e ∷ past) counts lasts before
   none_granted none = record {
-    count = λ copy small. was.count copy small ∙ ap length (same_grants copy small (λ is. differ copy (sym none ∙ is)));
-    last = λ copy small. was.last copy small ∙ last_stays granted_at e past copy (λ is. differ copy (sym none ∙ is));
+    count = λ copy small. was.count copy small ∙ ap length (same_grants copy small (λ is. none-some copy (sym none ∙ is)));
+    last = λ copy small. was.last copy small ∙ last_stays granted_at e past copy (λ is. none-some copy (sym none ∙ is));
     linked = linked_stays granted_at e past before none was.linked;
     room = omega (arith, roomy);
     for_each = was.for_each;
   }
-    where
-      differ : (copy : ℕ) → None ≡ Some copy → ⊥
-      differ copy h = cc
 
   -- a copy does
   pub one_granted : (copy now : ℕ) → granted_at e.event ≡ Some copy → now ≡ length past
@@ -121,26 +115,23 @@ pub from_first : (given theirs : List Grant) (o : Option (ℕ × Grant)) → Dif
 from_first given theirs None h = agree (length theirs) given theirs (λ j less. h j (omega arith) less) ∙ take_all theirs
 from_first given theirs (Some d) h = (agree d.0 given theirs (λ j less. h.0 j (omega arith) less), h.1, h.2)
 
+above_it : (i j : ℕ) → i ≤ j → (j ≡ i → ⊥) → i + 1 ≤ j
+above_it i j more other = omega (arith, more, other)
+
 -- one index earlier
 pub earlier_same : (i : ℕ) (given theirs : List Grant) (o : Option (ℕ × Grant)) → slice_get given i ≡ slice_get theirs i → DiffersFrom (i + 1) given theirs o → DiffersFrom i given theirs o
 earlier_same i given theirs None same h = λ j more less. elim (one_of j i) [
   | inl here ↦ ap (slice_get given) here ∙ same ∙ ap (slice_get theirs) (sym here)
-  | inr other ↦ h j (lower j more other) less
+  | inr other ↦ h j (above_it i j more other) less
 ]
-  where
-    lower : (j : ℕ) → i ≤ j → (j ≡ i → ⊥) → i + 1 ≤ j
-    lower j more other = omega (arith, more, other)
 earlier_same i given theirs (Some d) same h = (
   (λ j more less. elim (one_of j i) [
     | inl here ↦ ap (slice_get given) here ∙ same ∙ ap (slice_get theirs) (sym here)
-    | inr other ↦ h.0 j (lower j more other) less
+    | inr other ↦ h.0 j (above_it i j more other) less
   ]),
   h.1,
   h.2,
 )
-  where
-    lower : (j : ℕ) → i ≤ j → (j ≡ i → ⊥) → i + 1 ≤ j
-    lower j more other = omega (arith, more, other)
 
 pub earlier_other : (i : ℕ) (given theirs : List Grant) (g : Grant) → slice_get theirs i ≡ Some g → (slice_get given i ≡ Some g → ⊥) → DiffersFrom i given theirs (Some (i, g))
 earlier_other i given theirs g there other = ((λ j more less. absurd (omega (arith, more, less))), there, other)

@@ -4,10 +4,11 @@ use mathlib.Core.Bool.{true≢false}
 use Rattle.std.specs.Prelude.{Option, None, Some, if◌then◌else◌, option_to_list, slice_get, slice_index, slice_set}
 use Rattle.std.proofs.lemmas.Bool.{eq-eqb, eqb-true, false_from_ne_true}
 use Rattle.std.proofs.lemmas.List.{get_or-set_same, get_or-set_other, length-reverse, reverse-append}
+use Rattle.std.proofs.lemmas.Option.{none-some, same_Some}
 use Rattle.qc_event.specs.declared.event.Entry.{Entry}
 use Rattle.qc_event.specs.declared.event.Event.{Event}
 use Rattle.qc_event.specs.History.{Past, every}
-use Rattle.qc_desk.proofs.Placing.{get_first, get_last}
+use Rattle.qc_event.proofs.Lists.{get_first, get_last}
 use Rattle.qc_indexes.specs.Chains.{is_key, last_of, AreLinked}
 
 -- PLACES
@@ -56,19 +57,13 @@ module _ (key : Event → Option ℕ) where
   )
 
   pub linked_stays : (e : Entry) (past : Past) (xs : List ℕ) → key e.event ≡ None → AreLinked key past xs → AreLinked key (e ∷ past) xs
-  linked_stays e past xs none was = (was, λ k is. absurd (differ k (sym none ∙ is)))
-    where
-      differ : (k : ℕ) → None ≡ Some k → ⊥
-      differ k h = cc
+  linked_stays e past xs none was = (was, λ k is. absurd (none-some k (sym none ∙ is)))
 
   pub linked_set : (e : Entry) (past : Past) (xs : List ℕ) (k at value : ℕ) → AreLinked key past xs → key e.event ≡ Some k → length past < length xs → at ≡ length past → value ≡ last_of key k past → AreLinked key (e ∷ past) (slice_set xs at value)
   linked_set e past xs k at value was is wide here last = (
     linked_same past xs (slice_set xs at value) (λ i less. get_or-set_other xs at i value 0 (λ there. absurd (omega (arith, there, here, less)))) was,
-    λ j also. ap (slice_index (slice_set xs at value)) (sym here) ∙ get_or-set_same xs at value 0 (omega (arith, here, wide)) ∙ last ∙ ap (λ i. last_of key i past) (number k j (sym is ∙ also)),
+    λ j also. ap (slice_index (slice_set xs at value)) (sym here) ∙ get_or-set_same xs at value 0 (omega (arith, here, wide)) ∙ last ∙ ap (λ i. last_of key i past) (same_Some k j (sym is ∙ also)),
   )
-    where
-      number : (i j : ℕ) → Some i ≡ Some j → i ≡ j
-      number i j h = cc
 
   -- THE WAY BACK
 

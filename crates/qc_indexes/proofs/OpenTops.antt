@@ -3,9 +3,9 @@ use Rattle.std.proofs.Common.{◌≡◌, ℕ, ◌+◌, ◌≤◌, Bool, true, fa
 use mathlib.Core.Bool.{true≢false}
 use Rattle.std.specs.Prelude.{Option, None, Some, is_some, is_none, find, count_by, ◌&&◌, ◌==◌, option_to_list, if◌then◌else◌}
 use Rattle.std.specs.Option.{option_or}
-use Rattle.std.proofs.lemmas.List.{length-append}
 use Rattle.std.proofs.lemmas.List.Sums.{sum_by-cons, sum_by-append, count_by-le-length}
 use Rattle.std.proofs.lemmas.Bool.{eqb-true, false_from_ne_true}
+use Rattle.std.proofs.lemmas.Option.{none-some}
 use Rattle.qc_event.specs.declared.event.Entry.{Entry}
 use Rattle.qc_event.specs.declared.event.Event.{Event}
 use Rattle.qc_event.specs.declared.event.Event.TheVariants as event
@@ -13,7 +13,9 @@ use Rattle.qc_event.specs.declared.event.How.{How}
 use Rattle.qc_event.specs.declared.event.Kind.{Kind}
 use Rattle.qc_event.specs.History.{Past, Name, Begun, same, start, start_in, end, end_in, is_child, child_in, children}
 use Rattle.qc_event.proofs.Absent.{same_is, same_itself}
+use Rattle.qc_event.proofs.FewerChildren.{fewer}
 use Rattle.qc_event.proofs.OneEntry.{some_or_none, not_some}
+use Rattle.qc_event.proofs.Options.{still}
 use Rattle.qc_event.proofs.Orderly.{KeepsOrder, Orderly, IsNewTop}
 use Rattle.qc_event.proofs.Lawful.{lawful, ends_open}
 use Rattle.qc_indexes.specs.Opens.{open_tops, ends_top}
@@ -63,12 +65,9 @@ ended_less ends m how (c ∷ cs) none =
       count_cons (same m) c cs,
     )
   where
-    not_none : (x : How) → Some x ≡ None → ⊥
-    not_none x h = cc
-
     one : (b : Bool) (o : Option How) → (b ≡ true → o ≡ None) → cond (is_none o) 1 0 ≡ cond (is_none (option_or o (if b then Some how else None))) 1 0 + cond b 1 0
     one true None h = refl
-    one true (Some x) h = absurd (not_none x (h refl))
+    one true (Some x) h = absurd (none-some x (sym (h refl)))
     one false None h = refl
     one false (Some x) h = refl
 
@@ -127,12 +126,8 @@ one_top (e ∷ past) x orderly = count_child past (x ∷ []) e.event ∙ step e.
         → count_by (same (x ∷ [])) (children past []) ≡ flag (is_some (start past (x ∷ []))) → After ev
     unchanged ev adds none before =
         let same_start = ap (λ o. flag (is_some (option_or (start past (x ∷ [])) o))) none in
-        let kept = nothing (start past (x ∷ [])) in
+        let kept = ap (λ o. flag (is_some o)) (still (start past (x ∷ []))) in
         omega (arith, before, adds, same_start, kept)
-      where
-        nothing : {Y : Type 0} (o : Option Y) → flag (is_some (option_or o None)) ≡ flag (is_some o)
-        nothing None = refl
-        nothing (Some y) = refl
 
     starts : (n : Name) (k : Kind) (s : Bool) → same n (x ∷ []) ≡ s → e.event ≡ event.Start n k → count_by (same (x ∷ [])) (children past []) ≡ flag (is_some (start past (x ∷ []))) → After (event.Start n k)
     starts n k true is ev before =
@@ -166,26 +161,11 @@ one_top (e ∷ past) x orderly = count_child past (x ∷ []) e.event ∙ step e.
 pub open_few : (past : Past) → open_tops past ≤ length past
 open_few past =
     let some = count_by-le-length (λ c. is_none (end past c)) (children past []) in
-    let all = few_children past in
+    let all = fewer past [] in
     omega (arith, some, all)
-  where
-    one : (o : Option Name) → length (option_to_list o) ≤ 1
-    one None = omega arith
-    one (Some c) = omega arith
-
-    few_children : (past : Past) → length (children past []) ≤ length past
-    few_children [] = omega arith
-    few_children (e ∷ past) =
-        let before = few_children past in
-        let here = one (child_in [] e.event) in
-        omega (arith, before, here, length-append (children past []) (option_to_list (child_in [] e.event)))
 
 no_end_more : (past : Past) (c : Name) → is_none (option_or (end past c) None) ≡ is_none (end past c)
-no_end_more past c = by_end (end past c)
-  where
-    by_end : (o : Option How) → is_none (option_or o None) ≡ is_none o
-    by_end None = refl
-    by_end (Some how) = refl
+no_end_more past c = ap is_none (still (end past c))
 
 module _ (e : Entry) (past : Past) where
   -- an entry that ends nothing adds what it starts

@@ -20,7 +20,7 @@ use Rattle.qc_event.proofs.Later.{started_still}
 use Rattle.qc_names.specs.Name as name
 use Rattle.qc_script.specs.Calls.{by_client, NotAborted, Committed, MadeReady, NotCommitted}
 use Rattle.qc_script.specs.Client.{Client, mine, is_own, Made}
-use Rattle.qc_interp.specs.Follows.{StopsEarly, WasAsked, IsUnended, FollowsPlan, asked_end, above}
+use Rattle.qc_interp.specs.Follows.{WasAsked, IsUnended, FollowsPlan, asked_end, above}
 use Rattle.qc_script.specs.Plan.{Plan}
 use Rattle.qc_interp.specs.Reach.{Reach, AtTheEnd}
 use Rattle.qc_interp.specs.Running.{Runs, LeavesAt, Leaves, CutOff, Quit, WhyStop, Stopped, Ended}

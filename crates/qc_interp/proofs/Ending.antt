@@ -15,7 +15,7 @@ use Rattle.qc_event.specs.declared.event.Kind.{Kind}
 use Rattle.qc_event.specs.declared.event.Kind.TheVariants as kind
 use Rattle.qc_event.specs.Base.{Setting}
 use Rattle.qc_event.specs.Dead.{outcome, outcome_of, is_committed}
-use Rattle.qc_event.specs.History.{Past, Name, Begun, earliest, start, end, end_in, ready_in, child_in, is_ready, children, is_child, same}
+use Rattle.qc_event.specs.History.{Past, Name, Begun, earliest, start, end, end_in, ready_in, is_ready, children, same}
 use Rattle.qc_event.specs.Legal.{Legal, MayHappen, MayEnd}
 use Rattle.qc_event.specs.Commits.{MayCommit}
 use Rattle.qc_event.specs.Standing.{Started, IsUser, open_child}
@@ -28,7 +28,7 @@ use Rattle.qc_event.proofs.Orderly.{KeepsOrder, Begins}
 use Rattle.qc_event.proofs.Later.{started_still}
 use Rattle.qc_names.specs.Name as name
 use Rattle.qc_script.specs.Calls.{by_client, NotAborted, IsGrounded, IsNone}
-use Rattle.qc_script.specs.Client.{Client, mine, is_own, concerns, Made, IsLater, AreOurs}
+use Rattle.qc_script.specs.Client.{Client, mine, concerns, Made, AreOurs}
 use Rattle.qc_interp.specs.Follows.{StopsEarly, WasAsked, IsUnended, Stops, HasNotEnded, RunsPlan}
 use Rattle.qc_script.specs.Plan.{Plan}
 use Rattle.qc_interp.proofs.TriesAlike.{no_tries}

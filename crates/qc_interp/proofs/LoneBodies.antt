@@ -6,7 +6,7 @@ use Rattle.qc_event.specs.declared.event.Answer.{Answer}
 use Rattle.qc_event.specs.declared.event.Entry.{Entry}
 use Rattle.qc_event.specs.declared.event.How.{How}
 use Rattle.qc_event.specs.declared.event.How.TheVariants.{Commit, Abort}
-use Rattle.qc_event.specs.History.{Past, Name, end, end_in, is_ready, children, is_child, same}
+use Rattle.qc_event.specs.History.{Past, Name, end, is_ready, children, is_child}
 use Rattle.qc_event.specs.Legal.{Legal}
 use Rattle.qc_event.proofs.OneEntry.{some_or_none, not_some}
 use Rattle.qc_script.specs.Client.{Client, mine, is_own, AreOurs}

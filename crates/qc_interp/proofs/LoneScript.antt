@@ -16,7 +16,6 @@ use Rattle.qc_event.specs.declared.event.Kind.TheVariants as kind
 use Rattle.qc_event.specs.Base.{Setting}
 use Rattle.qc_event.specs.History.{Past, Name, Begun, every, start, start_in, end, end_in, is_ready, children, child_in, is_child, kind_of, same}
 use Rattle.qc_event.specs.Legal.{Legal}
-use Rattle.qc_event.proofs.Absent.{if_not}
 use Rattle.qc_event.proofs.Lawful.{lawful}
 use Rattle.qc_event.proofs.Orderly.{Belongs}
 use Rattle.qc_event.proofs.LastNumber.{ends_in, front_last}

@@ -8,6 +8,7 @@ use Rattle.qc_event.specs.declared.event.Entry.{Entry}
 use Rattle.qc_event.specs.declared.event.Event.{Event}
 use Rattle.qc_event.specs.declared.event.Event.TheVariants as event
 use Rattle.qc_event.specs.History.{Past, Name, earliest, every, end, end_in, is_ready, ready_in}
+use Rattle.qc_event.proofs.Histories.{or_none}
 use Rattle.qc_names.specs.Name as name
 use Rattle.qc_script.specs.Client.{about}
 use Rattle.qc_script.specs.Numbers.{each}
@@ -25,11 +26,7 @@ earliest_kept {Y = Y} keep f (e ∷ h) all = by_test (keep e) refl (earliest_kep
   where
     by_test : (b : Bool) → keep e ≡ b → earliest f (filter keep h) ≡ earliest f h → earliest f (if b then e ∷ filter keep h else filter keep h) ≡ option_or (earliest f h) (f e)
     by_test true is rest = ap (λ o. option_or o (f e)) rest
-    by_test false is rest = rest ∙ none (earliest f h) ∙ sym (ap (λ o. option_or (earliest f h) o) (all.0 is))
-      where
-        none : (o : Option Y) → o ≡ option_or o None
-        none None = refl
-        none (Some y) = refl
+    by_test false is rest = rest ∙ or_none (earliest f h) ∙ sym (ap (λ o. option_or (earliest f h) o) (all.0 is))
 
 pub every_kept : {Y : Type 0} (keep : Entry → Bool) (f : Entry → Option Y) (h : Past) → Answers keep f h → every f (filter keep h) ≡ every f h
 every_kept keep f [] all = refl

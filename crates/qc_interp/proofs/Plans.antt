@@ -1,5 +1,5 @@
 -- The plans of bodies and of steps, one step at a time.
-use Rattle.std.proofs.Common.{◌≡◌, ℕ, zero, suc, ◌+◌, ◌<◌, ◌≤◌, arith, drop, List, [], ◌∷◌, map, length, get_or, refl, sym, ap, ◌∙◌, subst, add-one, drop-cons}
+use Rattle.std.proofs.Common.{◌≡◌, ℕ, zero, suc, ◌+◌, ◌<◌, ◌≤◌, arith, drop, List, [], ◌∷◌, length, get_or, sym, ap, ◌∙◌, subst, add-one, drop-cons}
 use Rattle.qc_config.specs.Config.{Voting}
 use Rattle.qc_event.specs.declared.event.Kind.TheVariants as kind
 use Rattle.qc_event.specs.Base.{Setting}
@@ -7,17 +7,14 @@ use Rattle.qc_script.specs.declared.script.Body.{Body, out-Body, fold_out-Body}
 use Rattle.qc_script.specs.declared.script.Step.{Step, Step-F, map-Step, out-Step, fold-roll-Step, fold_out-Step}
 use Rattle.qc_script.specs.declared.script.Step.TheVariants as step
 use Rattle.qc_script.specs.Plan.{Plan, Numbered, PlanFits}
-use Rattle.qc_script.specs.Steps.{before, layer, all_before, numbered, put, plan_of}
-
-plan_of_all : (steps : List Step) → all_before (map put steps) ≡ plan_of steps
-plan_of_all [] = refl
-plan_of_all (s ∷ steps) = ap (put s) (plan_of_all steps)
+use Rattle.qc_script.proofs.Plans.{all_before-map}
+use Rattle.qc_script.specs.Steps.{before, layer, numbered, put, plan_of}
 
 -- a body's plan is the plan of its steps
 pub numbered_is : (b : Body) → numbered b ≡ record { number = (out-Body b).number; tries = (out-Body b).tries; plan = plan_of (out-Body b).steps.items }
 numbered_is b =
     fold_out-Body (Plan → Plan) Numbered before layer b ∙
-    ap (λ p. let n : Numbered = record { number = (out-Body b).number; tries = (out-Body b).tries; plan = p } in n) (plan_of_all (out-Body b).steps.items)
+    ap (λ p. let n : Numbered = record { number = (out-Body b).number; tries = (out-Body b).tries; plan = p } in n) (all_before-map (out-Body b).steps.items)
 
 pub plan_is : (b : Body) (steps : List Step) → steps ≡ (out-Body b).steps.items → plan_of steps ≡ (numbered b).plan
 plan_is b steps taken = ap plan_of taken ∙ sym (ap (λ (n : Numbered). n.plan) (numbered_is b))

@@ -9,13 +9,13 @@ use Rattle.qc_event.specs.declared.event.How.TheVariants.{Commit, Abort}
 use Rattle.qc_event.specs.declared.event.Kind.{Kind}
 use Rattle.qc_event.specs.declared.event.Kind.TheVariants as kind
 use Rattle.qc_event.specs.Base.{Setting}
-use Rattle.qc_event.specs.History.{Past, Name, Begun, start, end, end_in, ready_in, child_in, is_ready, children, is_child, same, kind_of}
+use Rattle.qc_event.specs.History.{Past, Name, Begun, start, end, is_ready, children, kind_of}
 use Rattle.qc_event.specs.Standing.{Started, IsUser, IsManager, IsAbort, open_child}
-use Rattle.qc_event.specs.Users.{UserCause}
 use Rattle.qc_event.proofs.LastNumber.{child_last, below_more}
 use Rattle.qc_event.proofs.Lawful.{no_open_child}
 use Rattle.qc_event.proofs.OneEntry.{some_or_none, starting, some_not_none, some_if_not_none}
 use Rattle.qc_event.proofs.Later.{started_still}
+use Rattle.qc_event.proofs.Options.{some_match}
 use Rattle.qc_names.specs.Name as name
 use Rattle.qc_script.specs.Calls.{HasRun, Refuses, GaveNone, WasCut}
 use Rattle.qc_script.specs.Client.{Client, mine, is_own, concerns, Made, IsLater, AreOurs}
@@ -300,12 +300,8 @@ module _ (c : Client) (of : Name) where
     ended = early;
   }
 
-  aborted_some : (o : Option How) → MatchOption o ⊥ IsAbort → is_some o ≡ true
-  aborted_some None h = absurd h
-  aborted_some (Some how) h = refl
-
   pub stop_itself : (now : Past) (a : Name) → Runs c of now → Refuses now of (tx_no.Orphan a) → a ≡ of → Stopped c of (tx_no.Orphan a) now now false
-  stop_itself now a runs why is = stop_here now (tx_no.Orphan a) runs (λ ours. inr (ended_early c of now runs ours (subst (λ n. is_some (end now n) ≡ true) is (aborted_some _ why.1))))
+  stop_itself now a runs why is = stop_here now (tx_no.Orphan a) runs (λ ours. inr (ended_early c of now runs ours (subst (λ n. is_some (end now n) ≡ true) is (some_match _ IsAbort why.1))))
 
   open_not : (now : Past) (child : Name) → Runs c of now → AreOurs c of now → Refuses now of (tx_no.ChildrenOpen child) → ⊥
   open_not now child runs ours why =

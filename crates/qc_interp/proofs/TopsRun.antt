@@ -1,14 +1,13 @@
 -- What the tries of a body leave that run as tops, and what the tops of all bodies leave.
 use Rattle.std.proofs.Common.{◌≡◌, inl, inr, ℕ, suc, ◌<◌, ◌+◌, ◌≤◌, Bool, true, false, List, [], ◌∷◌, ◌++◌, length, drop, map, get_or, refl, sym, ap, ◌∙◌, subst, append-nil, append_assoc, arith, length-append, add-one, drop-cons, take}
 use mathlib.Core.Bool.{true≢false}
-use Rattle.std.specs.Prelude.{Option, None, Some, MatchOption, MatchBool, is_some, is_none, IsTrue, find, option_map, if◌then◌else◌, ◌&&◌, ◌||◌}
+use Rattle.std.specs.Prelude.{None, Some, MatchOption, MatchBool, is_some, is_none, find, option_map, ◌&&◌, ◌||◌}
 use Rattle.std.specs.List.{AllByRecursion, list_all}
 use Rattle.std.proofs.lemmas.Bool.{false_from_ne_true}
 use Rattle.std.proofs.lemmas.List.{drop_all}
 use Rattle.qc_event.specs.declared.event.Entry.{Entry}
 use Rattle.qc_event.specs.declared.event.Event.TheVariants as event
 use Rattle.qc_event.specs.declared.event.Kind.TheVariants as kind
-use Rattle.qc_event.specs.Base.{Setting}
 use Rattle.qc_event.specs.History.{Past, Name, Begun, start, end, is_ready, children, is_child, kind_of}
 use Rattle.qc_event.specs.Legal.{Legal}
 use Rattle.qc_event.specs.Standing.{IsUser}
@@ -16,9 +15,10 @@ use Rattle.qc_event.proofs.LastNumber.{child_last, child_longer, no_child_length
 use Rattle.qc_event.proofs.Lawful.{lawful}
 use Rattle.qc_event.proofs.LegalOrderly.{legal_orderly}
 use Rattle.qc_event.proofs.Lineage.{IsFresh, fresh_below}
-use Rattle.qc_event.proofs.OneEntry.{child_added, start_is, start_stays, ready_step, stays_some, some_or_none}
-use Rattle.qc_event.proofs.Orderly.{KeepsOrder, Begins}
+use Rattle.qc_event.proofs.OneEntry.{child_added, start_is, stays_some, some_or_none}
+use Rattle.qc_event.proofs.Orderly.{Begins}
 use Rattle.qc_event.proofs.Later.{start_still}
+use Rattle.qc_event.proofs.RootAndTops.{ready_started}
 use Rattle.qc_script.specs.declared.script.Body.{Body}
 use Rattle.qc_script.specs.Calls.{by_client}
 use Rattle.qc_script.specs.Client.{Client, mine, is_own, Made, IsLater, AreOurs}
@@ -47,13 +47,6 @@ use Rattle.qc_script.specs.Calls.{is_over}
 use Rattle.qc_interp.specs.Asking.{Asks, BodiesAsk, AllAsked}
 use Rattle.qc_interp.proofs.Asked.{asked_made, asked_wider, asked_trans, asks_still}
 use Rattle.qc_interp.proofs.Tried.{match_true, match_false}
-
-ready_started : (setting : Setting) (past : Past) (n : Name) → Legal setting past → is_ready past n ≡ true → is_some (start past n) ≡ true
-ready_started setting [] n legal h = absurd (true≢false (sym h))
-ready_started setting (e ∷ past) n legal h = elim (ready_step e past n h) [
-  | inl old ↦ start_stays e past n (ready_started setting past n legal.0 old)
-  | inr is ↦ start_stays e past n (subst (KeepsOrder past) is (legal_orderly setting (e ∷ past) legal).1).is_open.started
-]
 
 -- A TOP THAT BEGINS
 

@@ -1,8 +1,7 @@
 -- What the tries of a child leave, what `abort` leaves, and how a transaction commits.
 use Rattle.std.proofs.Common.{◌≡◌, inl, inr, ℕ, suc, ◌<◌, ◌+◌, Bool, true, false, List, [], ◌∷◌, ◌++◌, length, take, refl, sym, ap, ◌∙◌, subst, append-nil, append_assoc, arith, length-append}
 use mathlib.Core.Bool.{true≢false}
-use Rattle.std.specs.Prelude.{Option, None, Some, MatchOption, MatchBool, is_some, is_none, IsTrue, not, find, option_map, option_to_list, if◌then◌else◌, ◌&&◌}
-use Rattle.std.specs.Option.{option_or}
+use Rattle.std.specs.Prelude.{Some, MatchOption, MatchBool, is_some, is_none, IsTrue, not, find, option_map, ◌&&◌}
 use Rattle.std.proofs.lemmas.Bool.{false_from_ne_true}
 use Rattle.qc_event.specs.declared.event.Entry.{Entry}
 use Rattle.qc_event.specs.declared.event.Event.TheVariants as event
@@ -11,7 +10,7 @@ use Rattle.qc_event.specs.History.{Past, Name, Begun, end, is_ready, children, i
 use Rattle.qc_event.specs.Legal.{Legal}
 use Rattle.qc_event.specs.Standing.{Started, IsUser}
 use Rattle.qc_event.proofs.Absent.{if_not}
-use Rattle.qc_event.proofs.LastNumber.{child_last, length_last, is_ancestor-append, child_longer, no_child_length}
+use Rattle.qc_event.proofs.LastNumber.{child_last, length_last, child_longer, no_child_length}
 use Rattle.qc_event.proofs.OneEntry.{child_added, start_is}
 use Rattle.qc_event.proofs.Later.{started_still}
 use Rattle.qc_event.proofs.LegalOrderly.{ready_top}
@@ -30,8 +29,8 @@ use Rattle.qc_interp.proofs.Mine.{kept_some}
 use Rattle.qc_interp.proofs.Still.{follows_runs, follows_still, followed_done, done_closed, again_still}
 use Rattle.qc_interp.proofs.Growth.{made_is, made_later, later_trans, ours_before}
 use Rattle.qc_interp.proofs.Managers.{children_quiet, found_quiet, NewChild, new_child}
-use Rattle.qc_interp.proofs.Ending.{unended_again, running_stops, running_runs, not_ready, leaves_trans, leaves_cut, still, leaves_still, runs_still, leaves_end, children_end, ends_so}
-use Rattle.qc_interp.proofs.StepsLeave.{kind_later, closed_more, stop_here}
+use Rattle.qc_interp.proofs.Ending.{unended_again, running_stops, running_runs, leaves_trans, leaves_cut, still, leaves_still, runs_still}
+use Rattle.qc_interp.proofs.StepsLeave.{kind_later, closed_more}
 use Rattle.std.specs.List.{list_all}
 use Rattle.qc_interp.specs.Adding.{stays_in, AllStayIn}
 use Rattle.qc_interp.specs.Asking.{Asks, AllAsked}

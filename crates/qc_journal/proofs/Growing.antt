@@ -1,7 +1,7 @@
 -- What records an image has, it has behind one record more.
-use Rattle.std.proofs.Common.{◌≡◌, ◌<◌, ◌≤◌, ◌⊎◌, ⊎_elim, inl, inr, ℕ, ◌+◌, List, [], ◌∷◌, ◌++◌, length, refl, ◌∙◌, subst, arith, length-append, get_or}
+use Rattle.std.proofs.Common.{◌≡◌, ◌<◌, ◌⊎◌, ⊎_elim, ℕ, List, [], ◌∷◌, ◌++◌, length, ◌∙◌, subst, arith, length-append, get_or}
 use Rattle.std.proofs.lemmas.List.{get_or_append_left}
-use Rattle.qc_journal.specs.Image.{EndsAt, HasRecords, HasAt}
+use Rattle.qc_journal.specs.Image.{HasRecords, HasAt}
 use Rattle.qc_journal.proofs.Readings.{records-same}
 
 -- an image that has a record has it among the records that it has

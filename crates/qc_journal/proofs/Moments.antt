@@ -1,5 +1,5 @@
 -- How a run of device calls goes on: what it leaves at each moment, and what is never lost.
-use Rattle.std.proofs.Common.{◌≡◌, ◌<◌, ◌≤◌, ◌⊎◌, inl, inr, ⊎_elim, ℕ, List, subst, arith}
+use Rattle.std.proofs.Common.{◌≡◌, ◌≤◌, inl, inr, ⊎_elim, ℕ, List, subst, arith}
 use Rattle.std.specs.Prelude.{◌↔◌}
 use Rattle.std.proofs.lemmas.Bool.{cases_lt}
 use Rattle.qc_disk.specs.Disk.{Elapses, LeavesOnly, AllAt, Grows, FallsAway, ChangesOnce, Within}

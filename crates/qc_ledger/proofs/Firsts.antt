@@ -1,6 +1,6 @@
 -- Which fault of bodies is the first.
-use Rattle.std.proofs.Common.{◌≡◌, ℕ, zero, suc, ◌+◌, ◌<◌, ◌≤◌, List, [], ◌∷◌, ◌++◌, length, take, drop, get_or, refl, sym, ap, ◌∙◌, subst, arith, take-append-drop, length-take}
-use Rattle.std.specs.Prelude.{◌==◌, false, Result, Ok, Err, IfErr, Option, None, Some, MatchOption, Vec, slice_index_or}
+use Rattle.std.proofs.Common.{◌≡◌, ℕ, ◌+◌, ◌<◌, ◌≤◌, List, [], ◌∷◌, ◌++◌, length, take, drop, get_or, refl, sym, ap, ◌∙◌, subst, arith, take-append-drop, length-take}
+use Rattle.std.specs.Prelude.{Result, Ok, Err, IfErr, Option, None, Some, MatchOption, Vec, slice_index_or}
 use Rattle.std.specs.Result.{IsErrAnd, IsErrOf}
 use Rattle.std.specs.declared.alloc.Global.{Global}
 use Rattle.std.proofs.lemmas.List.{drop_more, length-map, map-append, map_push, take_more}
@@ -67,10 +67,6 @@ first_fault table limit first bodies rest is (OtherTable kept asked) bad = (bad.
 first_fault table limit first bodies rest is (Epoch epoch) bad = absurd bad
 
 -- BODIES ONE BY ONE
-
-pub some_by : (n : ℕ) → (n == 0) ≡ false → 0 < n
-some_by zero none = absurd cc
-some_by (suc n) none = omega arith
 
 module _ (bodies : List (Vec ℕ Global)) where
   pub with_first : (v : Vec ℕ Global) → 0 < length bodies → v ≡ get_or bodies 0 v → bodies_of bodies ≡ v.items ∷ bodies_of (drop 1 bodies)

@@ -20,10 +20,7 @@ use Rattle.qc_ledger.proofs.Writing.{some_of_none}
 -- the journal's fault is the image's first
 pub mount_refusal : (table : Table) (limit : ℕ) (told : Option (List ℕ)) (fault : Fault) → IsOfReading fault → ((place : ℕ) → fault ≡ Broken place → IfSome told (IsBroken place)) → IsRefusal table limit told (mount_no fault)
 mount_refusal table limit told Disk of broken = tt
-mount_refusal table limit told (Broken place) of broken = (refl, also told (broken place refl))
-  where
-    also : (t : Option (List ℕ)) → IfSome t (IsBroken place) → IfSome t (λ image. IsBroken place image)
-    also t is = is
+mount_refusal table limit told (Broken place) of broken = (refl, broken place refl)
 mount_refusal table limit told (Full place) of broken = absurd of
 mount_refusal table limit told Memory of broken = tt
 

@@ -4,18 +4,16 @@ use mathlib.Core.Bool.{true≢false}
 use Rattle.std.specs.Prelude.{All, true, false, slice_index}
 use Rattle.std.specs.Ordering.{is_eq, nat_cmp}
 use Rattle.std.specs.Cmp.{nat_cmp_is}
-use Rattle.std.specs.declared.cmp.Ordering.TheVariants.{Less, Equal, Greater}
+use Rattle.std.specs.declared.cmp.Ordering.TheVariants.{Less, Greater}
 use Rattle.std.specs.BTreeMap.{is_at}
 use Rattle.std.specs.BTreeSet.{BTreeSet, Updates, contains}
 use Rattle.std.proofs.Math.Seq.{get_or-append_seam}
 use Rattle.std.proofs.lemmas.List.{get_or_append_left}
 use Rattle.std.proofs.lemmas.List.Elements.{All-push}
 use Rattle.std.proofs.lemmas.Bool.{cases_eq, cases_lt}
+use Rattle.qc_event.proofs.Numbers.{is_at_itself}
 use Rattle.qc_codec.specs.declared.past.Logged.{Logged}
 use Rattle.qc_ledger.specs.Seen.{AreNumbers}
-
-pub is_at_same : (n : ℕ) → is_at (nat_cmp n) n ≡ true
-is_at_same n = ap is_eq (sym (nat_cmp_is n n Equal refl))
 
 pub is_at_apart : (n q : ℕ) → (n ≡ q → ⊥) → is_at (nat_cmp n) q ≡ false
 is_at_apart n q apart = elim (cases_lt n q) [
@@ -39,7 +37,7 @@ all_last P tops l all = subst P (get_or-append_seam tops l [] l) (all (length to
 pub numbers_more : (old new : BTreeSet ℕ) (tops : List Logged) (n : ℕ) (l : Logged) → l.top ≡ n ∷ [] → Updates nat_cmp old new n true → AreNumbers old tops → AreNumbers new (tops ++ l ∷ [])
 numbers_more old new tops n l is updates numbers q = elim (cases_eq n q) [
   | inl same ↦ (
-    λ absent. absurd (true≢false (sym (updates.0 q ∙ ap (λ b. cond b true (contains nat_cmp old q)) (subst (λ k. is_at (nat_cmp n) k ≡ true) same (is_at_same n))) ∙ absent)),
+    λ absent. absurd (true≢false (sym (updates.0 q ∙ ap (λ b. cond b true (contains nat_cmp old q)) (subst (λ k. is_at (nat_cmp n) k ≡ true) same (is_at_itself n))) ∙ absent)),
     λ all. absurd (all_last (λ (t : Logged). t.top ≢ q ∷ []) tops l all (is ∙ ap (λ k. k ∷ []) same)),
   )
   | inr apart ↦

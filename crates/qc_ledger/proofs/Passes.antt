@@ -1,9 +1,8 @@
 -- What the ledger's pass goes on to know.
-use Rattle.std.proofs.Common.{◌≡◌, ℕ, [], ◌∷◌, ◌++◌, Bool, true, false, refl, sym, ap, ap₂, ◌∙◌, subst, append_assoc, cond}
-use Rattle.std.specs.Prelude.{IsTrue, is_some, Option, None, Some, Result, Ok, Err, OnOk, IfErr, ◌==◌, length}
+use Rattle.std.proofs.Common.{◌≡◌, ℕ, [], ◌∷◌, Bool, true, false, refl, sym, ap, ap₂, ◌∙◌, subst, cond}
+use Rattle.std.specs.Prelude.{IsTrue, is_some, Option, None, Result, Ok, Err, OnOk, IfErr, ◌==◌, length}
 use Rattle.std.specs.Bool.{OnFalse}
 use Rattle.std.specs.Option.{option_or}
-use mathlib.Core.Bool.{true≢false}
 use Rattle.qc_event.specs.declared.event.Entry.{Entry}
 use Rattle.qc_event.specs.declared.event.Event.TheVariants as event
 use Rattle.qc_event.specs.declared.event.Why.{Why}
@@ -13,7 +12,9 @@ use Rattle.qc_pass.specs.declared.view.View.{View}
 use Rattle.qc_pass.specs.Calling.{Entered, Refused, Shown}
 use Rattle.qc_pass.specs.Entries.{IsOlder, entries_of, entry}
 use Rattle.qc_pass.specs.Refusing.{against_nothing}
-use Rattle.qc_pass.proofs.Lasting.{some_stays}
+use Rattle.qc_event.proofs.OneEntry.{no_some, none_before}
+use Rattle.qc_event.proofs.StillTold.{some_stays}
+use Rattle.qc_pass.proofs.Seers.{older_trans}
 use Rattle.qc_ledger.specs.Entered.{MayFinish, SeesMore}
 
 pub ready_stays : (before now : Past) (top : Name) → IsOlder before now → IsTrue (is_ready before top) → IsTrue (is_ready now top)
@@ -34,14 +35,11 @@ pub record IsKept (old new : View) : Type 0 where
   pub older : IsOlder old.seen new.seen
   pub still : (top : Name) → MayFinish old top → MayFinish new top
 
-pub older_on : (a b c : Past) → IsOlder a b → IsOlder b c → IsOlder a c
-older_on a b c one two = (two.0 ++ one.0, two.1 ∙ ap (λ (l : Past). two.0 ++ l) one.1 ∙ sym (append_assoc two.0 one.0 a))
-
 pub kept_on : (a b c : View) → IsKept a b → IsKept b c → IsKept a c
 kept_on a b c one two = record {
   live = two.live ∙ one.live;
   number = two.number ∙ one.number;
-  older = older_on a.seen b.seen c.seen one.older two.older;
+  older = older_trans a.seen b.seen c.seen one.older two.older;
   still = λ top may. two.still top (one.still top may);
 }
 
@@ -82,15 +80,10 @@ unable_kept (Err refused) old new top why ok err =
     }
 
 -- what no entry ends, no entry of one pass ends
-or_none : {Y : Type 0} (a b : Option Y) → option_or a b ≡ None → (a ≡ None) × (b ≡ None)
-or_none None None is = (refl, refl)
-or_none None (Some y) is = absurd cc
-or_none (Some y) b is = absurd cc
-
 none_of : {Y : Type 0} (f : Entry → Option Y) (n : ℕ) (past : Past) → earliest f past ≡ None → earliest f (entries_of n past) ≡ None
 none_of f n [] none = refl
 none_of {Y} f n (e ∷ past) none =
-    let parts = or_none (earliest f past) (f e) none in
+    let parts = none_before (earliest f past) (f e) none in
     by (e.seat == n) (none_of f n past parts.0) parts.1
   where
     by : (b : Bool) → earliest f (entries_of n past) ≡ None → f e ≡ None → earliest f (cond b (e ∷ entries_of n past) (entries_of n past)) ≡ None
@@ -102,17 +95,13 @@ may_first view top true is_top ready mine is = tt
 may_first view top false is_top ready mine is = record {
   is_top = is_top;
   ready = ready;
-  first = ap (λ (p : Past). end p top) mine ∙ none_of (λ e. end_in top e.event) view.number view.seen (not_some (end view.seen top) (sym is));
+  first = ap (λ (p : Past). end p top) mine ∙ none_of (λ e. end_in top e.event) view.number view.seen (no_some (end view.seen top) (sym is));
 }
-  where
-    not_some : {Y : Type 0} (o : Option Y) → is_some o ≡ false → o ≡ None
-    not_some None none = refl
-    not_some (Some y) none = absurd (true≢false none)
 
 -- a pass has seen more, twice
 pub sees_on : (a b c : View) → SeesMore a b → SeesMore b c → SeesMore a c
 sees_on a b c one two = record {
-  older = older_on a.seen b.seen c.seen one.older two.older;
+  older = older_trans a.seen b.seen c.seen one.older two.older;
   mine = two.mine ∙ one.mine;
   number = two.number ∙ one.number;
   live = two.live ∙ one.live;

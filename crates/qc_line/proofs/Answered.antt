@@ -1,10 +1,9 @@
 -- Which requests were answered, and that they stay so; and of which names a client's requests are.
-use Rattle.std.proofs.Common.{◌≡◌, ℕ, Bool, true, false, List, [], ◌∷◌, ◌++◌, refl, ap, ◌∙◌, inl, inr}
-use Rattle.std.specs.Prelude.{Option, None, Some, Contains, ◌||◌, ◌==◌, map, is_some, if◌then◌else◌, option_map, option_to_list}
-use Rattle.std.specs.List.{AllByRecursion, list_all, list_any}
-use Rattle.std.specs.Option.{option_or, option_map_or}
-use Rattle.std.proofs.lemmas.Bool.{and_from, and_parts, or_cases, or_left, or_right}
-use Rattle.std.proofs.lemmas.List.Folds.{list_any-append}
+use Rattle.std.proofs.Common.{◌≡◌, ℕ, Bool, true, false, List, [], ◌∷◌, ◌++◌, refl, ap, ◌∙◌}
+use Rattle.std.specs.Prelude.{None, Some, Contains, ◌||◌, ◌==◌, map, is_some, if◌then◌else◌, option_map, option_to_list}
+use Rattle.std.specs.List.{AllByRecursion, list_all}
+use Rattle.std.specs.Option.{option_map_or}
+use Rattle.std.proofs.lemmas.Bool.{and_from, and_parts, or_left, or_right}
 use Rattle.qc_event.specs.declared.event.Answered.{Answered}
 use Rattle.qc_event.specs.declared.event.Answered.TheVariants as answered
 use Rattle.qc_event.specs.declared.event.Ask.{Ask}
@@ -18,45 +17,31 @@ use Rattle.qc_event.specs.declared.event.Refusal.TheVariants as refusal
 use Rattle.qc_event.specs.declared.event.Why.{Why}
 use Rattle.qc_event.specs.declared.event.Why.TheVariants.{Down, Full, Strange}
 use Rattle.qc_event.specs.Base.{Setting}
-use Rattle.qc_event.specs.History.{Past, Name, Begun, earliest, start, start_in, kind_of, ask_in, granted, grant_in, refused, refusal_in}
+use Rattle.qc_event.specs.History.{Past, Name, Begun, start, start_in, kind_of, ask_in, granted, grant_in, refused, refusal_in}
 use Rattle.qc_event.specs.Legal.{Legal, MayHappen}
 use Rattle.qc_event.specs.Requests.{is_why, unable_in, was_unable}
-use Rattle.qc_event.proofs.Histories.{earliest-append}
-use Rattle.qc_event.proofs.OneEntry.{stays_some}
+use Rattle.qc_event.proofs.Booleans.{any_right, or_wider}
+use Rattle.qc_event.proofs.Options.{some_there, still_mapped}
+use Rattle.qc_event.proofs.StillTold.{is_stays, some_stays}
 use Rattle.qc_net.specs.Messages.{was_answered, ask_of, ask_under, asked_under}
-use Rattle.qc_line.proofs.AnswersLeave.{some_there}
 use Rattle.qc_line.proofs.Refusals.{contained_tells, refusal_told}
 use Rattle.qc_net.specs.Given.{Given}
 use Rattle.qc_store.specs.Served.{MayServe, HasAnswered, refusal_entry}
 
 -- ANSWERS
 
-tells_still : {Y : Type 0} (f : Entry → Option Y) (newer past : Past) → is_some (earliest f past) ≡ true → is_some (earliest f (newer ++ past)) ≡ true
-tells_still f newer past h = ap is_some (earliest-append f newer past) ∙ stays_some (earliest f past) (earliest f newer) h
-
 unable_still : (newer past : Past) (n : Name) (why : Why) → was_unable past n why ≡ true → was_unable (newer ++ past) n why ≡ true
 unable_still newer past n why h =
-    let test = λ (e : Entry). option_map_or (is_why why) (unable_in n e.event) false in
-    list_any-append test newer past ∙ or_right (list_any test newer) (list_any test past) h
-
--- each part of a choice that goes on
-abbrev Keeps : Bool → Bool → Type 0
-Keeps a b = a ≡ true → b ≡ true
-
-or_keeps : (a a' b b' : Bool) → Keeps a a' → Keeps b b' → Keeps (a || b) (a' || b')
-or_keeps a a' b b' left right h = elim (or_cases a b h) [
-  | inl x ↦ or_left a' b' (left x)
-  | inr y ↦ or_right a' b' (right y)
-]
+    any_right (λ (e : Entry). option_map_or (is_why why) (unable_in n e.event) false) newer past h
 
 -- what was answered is answered for ever
 pub answered_still : (newer past : Past) (n : Name) → was_answered past n ≡ true → was_answered (newer ++ past) n ≡ true
-answered_still newer past n = or_keeps _ _ _ _
-    (or_keeps _ _ _ _
-    (or_keeps _ _ _ _
-    (or_keeps _ _ _ _
-    (tells_still (λ e. grant_in n e.event) newer past)
-    (tells_still (λ e. refusal_in n e.event) newer past))
+answered_still newer past n = or_wider _ _ _ _
+    (or_wider _ _ _ _
+    (or_wider _ _ _ _
+    (or_wider _ _ _ _
+    (some_stays (λ e. grant_in n e.event) newer past)
+    (some_stays (λ e. refusal_in n e.event) newer past))
     (unable_still newer past n Down))
     (unable_still newer past n Full))
     (unable_still newer past n Strange)
@@ -87,7 +72,7 @@ delivered_answered past (g ∷ made) all =
 
 -- a request that was made was made for ever
 pub serves_still : (newer past : Past) (ask : Ask) → MayServe past ask → MayServe (newer ++ past) ask
-serves_still newer past ask (seat, is) = (seat, earliest-append (λ e. ask_in ask.access e.seat e.event) newer past ∙ ap (λ o. option_or o (earliest (λ e. ask_in ask.access e.seat e.event) newer)) is)
+serves_still newer past ask (seat, is) = (seat, is_stays (λ e. ask_in ask.access e.seat e.event) newer past (record { seat = seat; ask = ask }) is)
 
 -- WHOSE REQUESTS THEY ARE
 
@@ -96,11 +81,7 @@ abbrev pub IsAccess : Past → Ask → Type 0
 IsAccess past ask = kind_of past ask.access ≡ Some kind.Access
 
 kind_still : (e : Entry) (past : Past) (n : Name) (k : Kind) → kind_of past n ≡ Some k → kind_of (e ∷ past) n ≡ Some k
-kind_still e past n k is = by_start (start past n) (start_in n e.seat e.event) is
-  where
-    by_start : (old new : Option Begun) → option_map (λ (b : Begun). b.kind) old ≡ Some k → option_map (λ (b : Begun). b.kind) (option_or old new) ≡ Some k
-    by_start None new h = absurd cc
-    by_start (Some b) new h = h
+kind_still e past n k is = still_mapped (λ (b : Begun). b.kind) (start past n) (start_in n e.seat e.event) k is
 
 kinds_still : (e : Entry) (past : Past) (requests : List Ask) → AllByRecursion (IsAccess past) requests → AllByRecursion (IsAccess (e ∷ past)) requests
 kinds_still e past [] all = tt

@@ -1,6 +1,6 @@
 -- A manager that is not dead may start its next access, which may ask; and what stands then.
 use Rattle.std.proofs.Common.{◌≡◌, ℕ, ◌+◌, ◌<◌, Bool, true, false, [], ◌∷◌, ◌++◌, length, refl, sym, ap, ◌∙◌, subst, arith, append-nil}
-use Rattle.std.specs.Prelude.{Option, None, Some, MatchOption, not, is_some, if◌then◌else◌}
+use Rattle.std.specs.Prelude.{Option, None, Some, not, is_some, if◌then◌else◌}
 use Rattle.std.specs.Option.{option_or}
 use Rattle.std.proofs.lemmas.Bool.{false_from_ne_true}
 use Rattle.qc_names.specs.Name as name
@@ -21,16 +21,14 @@ use Rattle.qc_event.specs.Users.{MayStartNext}
 use Rattle.qc_event.proofs.Absent.{same_itself}
 use Rattle.qc_event.proofs.LastNumber.{front_last, is_child-last, last_longer}
 use Rattle.qc_event.proofs.Lawful.{Lawful, lawful}
-use Rattle.qc_event.proofs.LegalOrderly.{legal_orderly}
+use Rattle.qc_event.proofs.LegalOrderly.{legal_orderly, ready_top}
 use Rattle.qc_event.proofs.Lineage.{IsFresh, fresh_child, dead_child}
+use Rattle.qc_event.proofs.Options.{match_some, still}
 use Rattle.qc_gather.specs.Carrying.{entry, next_ask}
 use Rattle.qc_line.specs.Access.{MayAccess}
-use Rattle.qc_copy.proofs.Begun.{IsManagerName, manager_name, ready_top}
-use Rattle.qc_line.proofs.Stays.{still, dead_same, result_same, waiting_same, at_stage_same, waits_for_none}
+use Rattle.qc_copy.proofs.Begun.{IsManagerName, manager_name}
+use Rattle.qc_line.proofs.Stays.{dead_same, result_same, waiting_same, at_stage_same, waits_for_none}
 use Rattle.qc_line.proofs.Unheard as unheard
-
-some_matches : {X : Type 0} (o : Option X) (P : X → Type 0) (x : X) → o ≡ Some x → P x → MatchOption o ⊥ P
-some_matches o P x is h = subst (λ y. MatchOption y ⊥ P) (sym is) h
 
 -- a name below a top starts as its parent's next child
 below_top : (setting : Setting) (past : Past) (seat : ℕ) (m : Name) (j : ℕ) (k : Kind) → 0 < length m
@@ -111,7 +109,7 @@ module _ (setting : Setting) {seat : ℕ} (past : Past) (m : Name) (ask : Ask) (
     parent_not_ready = ap (λ x. not (is_ready past x)) front ∙ ap not not_ready;
     next_child = may.next ∙ ap (λ x. x ++ (length (children past x) + 1) ∷ []) (sym front);
     stands = subst (λ x. Started past x (λ p. IsManager p.kind × (seat ≡ p.seat))) (sym front)
-        (some_matches (start past m) (λ p. IsManager p.kind × (seat ≡ p.seat)) _ may.carries.running.started (may.carries.manages, refl));
+        (match_some (start past m) (λ p. IsManager p.kind × (seat ≡ p.seat)) _ may.carries.running.started (may.carries.manages, refl));
   }
 
   pub start_allowed : Allowed setting past (entry seat (event.Start ask.access kind.Access))
@@ -144,8 +142,8 @@ module _ (setting : Setting) {seat : ℕ} (past : Past) (m : Name) (ask : Ask) (
   asks_allowed : MayAsk setting begun seat ask
   asks_allowed = record {
     by_client = may.client;
-    started = some_matches (start begun ask.access) _ _ start_begun (refl, refl);
-    manager_started = subst (λ x. Started begun x (λ p. p.seat ≡ seat)) (sym front) (some_matches (start begun m) (λ p. p.seat ≡ seat) _ manager_begun refl);
+    started = match_some (start begun ask.access) _ _ start_begun (refl, refl);
+    manager_started = subst (λ x. Started begun x (λ p. p.seat ≡ seat)) (sym front) (match_some (start begun m) (λ p. p.seat ≡ seat) _ manager_begun refl);
     going = record {
       is_open = record { started = ap is_some start_begun; not_ended = still (end past ask.access) ∙ not_ended };
       alive = dead_same past begun (λ x. still (end past x)) ask.access ∙ access_alive;
@@ -153,7 +151,7 @@ module _ (setting : Setting) {seat : ℕ} (past : Past) (m : Name) (ask : Ask) (
     not_asked = still (asked past ask.access) ∙ not_asked;
     nothing_open = ap (waiting begun) front ∙ waiting_same past begun m asks_begun (λ x. still (end past x)) ∙ waits_for_none setting past m legal may.carries.running.children_ended;
     of_stage = subst (λ x. Started begun x (λ p. AtStage setting begun x p.kind (IsNextAsk begun x p.kind ask))) (sym front)
-        (some_matches (start begun m) (λ p. AtStage setting begun m p.kind (IsNextAsk begun m p.kind ask)) _ manager_begun
+        (match_some (start begun m) (λ p. AtStage setting begun m p.kind (IsNextAsk begun m p.kind ask)) _ manager_begun
         (at_stage_same setting past begun m may.carries.kind ask asks_begun results_begun of_stage));
   }
 

@@ -17,6 +17,7 @@ use Rattle.qc_event.specs.History.{Past, Name, end, gone, refused}
 use Rattle.qc_event.specs.Legal.{Legal, Allowed}
 use Rattle.qc_event.specs.Manager.{result, result_by}
 use Rattle.qc_event.specs.Seats.{is_client}
+use Rattle.qc_event.proofs.Options.{still}
 use Rattle.qc_gather.specs.Carrying.{Carriage, entry, began, access_entries, made_by, name_of, became, HasGrown, WasCarried, WasCutOff}
 use Rattle.qc_gather.specs.declared.carrier.Carried.{Carried}
 use Rattle.qc_gather.specs.declared.carrier.Carried.TheVariants.{Reply, Blocked, Gone}
@@ -25,7 +26,6 @@ use Rattle.qc_line.proofs.AnswersLeave.{AreAnswers, own_stay}
 use Rattle.qc_line.proofs.Ending as endings
 use Rattle.qc_line.proofs.Heard.{IsHeard, heard, not_gone_yet}
 use Rattle.qc_line.proofs.OwnEntries.{own_entry, own_began}
-use Rattle.qc_line.proofs.Stays.{still}
 use Rattle.qc_store.specs.Served.{is_answer}
 
 -- an access of a manager, from one history to the next

@@ -1,7 +1,6 @@
 -- An access that waits may be given up and may end, and its manager knows the result then.
 use Rattle.std.proofs.Common.{ℕ, ◌≡◌, ◌+◌, Bool, true, false, List, [], ◌∷◌, length, refl, sym, ap, ◌∙◌, subst, arith, append-nil}
-use mathlib.Core.Bool.{true≢false}
-use Rattle.std.specs.Prelude.{Option, None, Some, MatchOption, IsTrue, ◌||◌, not, cond, if◌then◌else◌, is_some, is_none, find}
+use Rattle.std.specs.Prelude.{Option, None, Some, IsTrue, ◌||◌, not, cond, if◌then◌else◌, is_some, is_none, find}
 use Rattle.std.specs.List.{AllByRecursion}
 use Rattle.std.specs.Option.{option_or}
 use Rattle.std.proofs.lemmas.Bool.{false_from_ne_true}
@@ -27,13 +26,15 @@ use Rattle.qc_event.specs.Standing.{Started, open_child, IsGoing}
 use Rattle.qc_event.specs.Users.{MayAbort}
 use Rattle.qc_event.proofs.Absent.{same_itself, same_is}
 use Rattle.qc_event.proofs.LastNumber.{length_last}
-use Rattle.qc_event.proofs.OneEntry.{no_child_passes, some_or_none}
+use Rattle.qc_event.proofs.LegalOrderly.{ready_top}
+use Rattle.qc_event.proofs.OneEntry.{no_child_passes, some_if_not_none, some_or_none}
+use Rattle.qc_event.proofs.Options.{match_some, or_new, still, still_not_none}
+use Rattle.qc_event.proofs.OwnRequests.{IsOwn, asks_own}
 use Rattle.qc_gather.specs.Carrying.{entry, IsTold}
 use Rattle.qc_line.specs.Access.{MayAccess}
 use Rattle.qc_line.proofs.Asking as asking
-use Rattle.qc_line.proofs.Heard.{IsHeard, none_or}
-use Rattle.qc_line.proofs.Stays.{IsOwn, asks_own, still, dead_same, result_same}
-use Rattle.qc_copy.proofs.Begun.{ready_top}
+use Rattle.qc_line.proofs.Heard.{IsHeard}
+use Rattle.qc_line.proofs.Stays.{dead_same, result_same}
 
 -- what passes neither test before passes none after
 none_passes : (p q : Name → Bool) → ((x : Name) → p x ≡ false → q x ≡ false) → (xs : List Name) → find p xs ≡ None → find q xs ≡ None
@@ -46,14 +47,6 @@ none_passes p q step (x ∷ xs) none =
     not_found true h = absurd cc
     not_found false h = (refl, h)
 
-ended_stays : (old new : Option How) → is_none old ≡ false → is_none (option_or old new) ≡ false
-ended_stays None new h = absurd (true≢false h)
-ended_stays (Some how) new h = refl
-
-not_none : (o : Option How) → is_none o ≡ false → is_some o ≡ true
-not_none None h = absurd (true≢false h)
-not_none (Some how) h = refl
-
 module _ (setting : Setting) {seat : ℕ} (past now : Past) (m : Name) (ask : Ask) (legal : Legal setting past) (may : MayAccess setting seat past m ask) (now_legal : Legal setting now) (heard : IsHeard seat past now m may.carries.kind ask) where
   pub waiting_still : end now ask.access ≡ None
   waiting_still = heard.ends ask.access ∙ asking.not_ended setting past m ask legal may
@@ -64,30 +57,27 @@ module _ (setting : Setting) {seat : ℕ} (past now : Past) (m : Name) (ask : As
     alive = dead_same past now heard.ends ask.access ∙ asking.access_alive setting past m ask legal may;
   }
 
-  matches : {X : Type 0} (o : Option X) (P : X → Type 0) (x : X) → o ≡ Some x → P x → MatchOption o ⊥ P
-  matches o P x is h = subst (λ y. MatchOption y ⊥ P) (sym is) h
-
   pub give_up_allowed : (why : Why) → gone now ask.access ≡ None → IsTrue (not (is_fault why) || was_unable now ask.access why) → Allowed setting now (entry seat (event.Gone ask.access why))
   give_up_allowed why none told = gives_up
     where
       gives_up : MayGiveUp now seat ask.access why
       gives_up = record {
         by_client = may.client;
-        asked_here = matches (asked now ask.access) (λ a. a.seat ≡ seat) _ heard.asks_it refl;
+        asked_here = match_some (asked now ask.access) (λ a. a.seat ≡ seat) _ heard.asks_it refl;
         is_open = going.is_open;
         first_time = none;
         told = told;
       }
 
   pub commit_allowed : (g : Given) → granted now ask.access ≡ Some g → Allowed setting now (entry seat (event.End ask.access (Commit (Reply g.grant.tuple))))
-  commit_allowed g is = matches (start now ask.access) (MayEnd setting now seat ask.access (Commit (Reply g.grant.tuple))) _ heard.started may_commit
+  commit_allowed g is = match_some (start now ask.access) (MayEnd setting now seat ask.access (Commit (Reply g.grant.tuple))) _ heard.started may_commit
     where
       may_commit : MayCommitAccess now seat ask.access (Reply g.grant.tuple)
       may_commit = record {
         by_client = may.client;
-        asked_here = matches (asked now ask.access) (λ a. a.seat ≡ seat) _ heard.asks_it refl;
+        asked_here = match_some (asked now ask.access) (λ a. a.seat ≡ seat) _ heard.asks_it refl;
         going = going;
-        reply = matches (granted now ask.access) (λ x. Reply g.grant.tuple ≡ Reply x.grant.tuple) g is refl;
+        reply = match_some (granted now ask.access) (λ x. Reply g.grant.tuple ≡ Reply x.grant.tuple) g is refl;
       }
 
   not_ready : is_ready now ask.access ≡ false
@@ -97,10 +87,10 @@ module _ (setting : Setting) {seat : ℕ} (past now : Past) (m : Name) (ask : As
       omega (arith, named.below_a_top, ap length may.next, length_last m (length (children past m) + 1)))
 
   pub abort_allowed : IsTrue (is_some (gone now ask.access) || is_some (refused now ask.access)) → Allowed setting now (entry seat (event.End ask.access (Abort Missed)))
-  abort_allowed missed = matches (start now ask.access) (MayEnd setting now seat ask.access (Abort Missed)) _ heard.started may_abort
+  abort_allowed missed = match_some (start now ask.access) (MayEnd setting now seat ask.access (Abort Missed)) _ heard.started may_abort
     where
       licence : IsTrue (is_some (gone now ask.access) || is_some (refused now ask.access)) × Started now (name.front ask.access) (λ p. seat ≡ p.seat)
-      licence = (missed, subst (λ x. Started now x (λ p. seat ≡ p.seat)) (sym (asking.front setting past m ask legal may)) (matches (start now m) (λ p. seat ≡ p.seat) _ heard.manager refl))
+      licence = (missed, subst (λ x. Started now x (λ p. seat ≡ p.seat)) (sym (asking.front setting past m ask legal may)) (match_some (start now m) (λ p. seat ≡ p.seat) _ heard.manager refl))
 
       may_abort : MayAbort (Licensed setting now seat ask.access (record { seat = seat; kind = kind.Access }) kind.Access Missed) now seat ask.access
       may_abort = record { by_client = may.client; is_open = going.is_open; not_ready = ap not not_ready; licensed = licence }
@@ -131,7 +121,7 @@ module _ (setting : Setting) {seat : ℕ} (past now : Past) (m : Name) (ask : As
   }
 
   pub gone_so : (why : Why) → gone now ask.access ≡ None → gone (given_up why) ask.access ≡ Some why
-  gone_so why none = none_or (gone now ask.access) _ none ∙ ap (λ (b : Bool). if b then Some why else None) (same_itself ask.access)
+  gone_so why none = or_new (gone now ask.access) _ none ∙ ap (λ (b : Bool). if b then Some why else None) (same_itself ask.access)
 
   -- AFTER THE END
 
@@ -140,7 +130,7 @@ module _ (setting : Setting) {seat : ℕ} (past now : Past) (m : Name) (ask : As
     ended = entry seat (event.End ask.access how) ∷ now
 
     pub end_is : end ended ask.access ≡ Some how
-    end_is = none_or _ _ waiting_still ∙ ap (λ (b : Bool). if b then Some how else None) (same_itself ask.access)
+    end_is = or_new _ _ waiting_still ∙ ap (λ (b : Bool). if b then Some how else None) (same_itself ask.access)
 
     pub other_end : (x : Name) → (ask.access ≡ x → ⊥) → end ended x ≡ end past x
     other_end x other =
@@ -154,8 +144,8 @@ module _ (setting : Setting) {seat : ℕ} (past now : Past) (m : Name) (ask : As
     manager_closed =
         ap (find (λ c. is_none (end ended c))) (append-nil _ ∙ heard.begun)
         ∙ find-append (λ c. is_none (end ended c)) (children past m) (ask.access ∷ [])
-        ∙ none_or _ _ (none_passes (λ c. is_none (end past c)) (λ c. is_none (end ended c))
-        (λ x h. ended_stays (end now x) _ (ap is_none (heard.ends x) ∙ h)) (children past m) may.carries.running.children_ended)
+        ∙ or_new _ _ (none_passes (λ c. is_none (end past c)) (λ c. is_none (end ended c))
+        (λ x h. still_not_none (end now x) _ (ap is_none (heard.ends x) ∙ h)) (children past m) may.carries.running.children_ended)
         ∙ ap (λ o. cond (is_none o) (Some ask.access) None) end_is
 
     as_before : (x : Name) → is_some (end past x) ≡ true → result ended x ≡ result past x
@@ -165,7 +155,7 @@ module _ (setting : Setting) {seat : ℕ} (past now : Past) (m : Name) (ask : As
     each_as_before : (requests : List Ask) → AllByRecursion (IsOwn past m) requests → AllByRecursion (λ (a : Ask). result ended a.access ≡ result past a.access) requests
     each_as_before [] all = tt
     each_as_before (a ∷ rest) all = (
-      as_before a.access (not_none (end past a.access) (no_child_passes (λ c. is_none (end past c)) past m a.access all.0.child all.0.started may.carries.running.children_ended)),
+      as_before a.access (some_if_not_none (end past a.access) (no_child_passes (λ c. is_none (end past c)) past m a.access all.0.child all.0.started may.carries.running.children_ended)),
       each_as_before rest all.1,
     )
 

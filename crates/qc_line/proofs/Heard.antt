@@ -1,6 +1,6 @@
 -- What stands of a manager and its access once it has asked and copies have answered since.
 use Rattle.std.proofs.Common.{ℕ, ◌≡◌, Bool, true, [], ◌∷◌, ◌++◌, ap, ◌∙◌, append-nil}
-use Rattle.std.specs.Prelude.{Option, None, Some, if◌then◌else◌, is_some, option_to_list}
+use Rattle.std.specs.Prelude.{None, Some, if◌then◌else◌, is_some, option_to_list}
 use Rattle.std.specs.Option.{option_or}
 use Rattle.qc_event.specs.declared.event.Ask.{Ask}
 use Rattle.qc_event.specs.declared.event.Kind.{Kind}
@@ -11,11 +11,12 @@ use Rattle.qc_event.specs.History.{Past, Name, start, end, asked, gone, refused,
 use Rattle.qc_event.specs.Legal.{Legal}
 use Rattle.qc_event.specs.Manager.{result}
 use Rattle.qc_event.proofs.Absent.{same_itself}
+use Rattle.qc_event.proofs.Options.{or_new, still}
 use Rattle.qc_gather.specs.Carrying.{began}
 use Rattle.qc_line.specs.Access.{MayAccess}
 use Rattle.qc_line.proofs.AnswersLeave.{AreAnswers, starts_stay, ends_stay, reasons_stay, requests_stay, children_stay, asks_stay, results_stay}
 use Rattle.qc_line.proofs.Asking as asking
-use Rattle.qc_line.proofs.Stays.{still, dead_same, result_same}
+use Rattle.qc_line.proofs.Stays.{dead_same, result_same}
 
 -- What stands of a manager and its access once it has asked, by what stood before it started.
 pub record IsHeard (seat : ℕ) (past now : Past) (m : Name) (k : Kind) (ask : Ask) : Type 0 where
@@ -27,9 +28,6 @@ pub record IsHeard (seat : ℕ) (past now : Past) (m : Name) (k : Kind) (ask : A
   pub results : (x : Name) → is_some (end past x) ≡ true → result now x ≡ result past x
   pub requests : asks now m ≡ asks past m ++ ask ∷ []
   pub begun : children now m ≡ children past m ++ ask.access ∷ []
-
-pub none_or : {Y : Type 0} (o new : Option Y) → o ≡ None → option_or o new ≡ new
-none_or o new none = ap (λ x. option_or x new) none
 
 one_more : {X : Type 0} (b : Bool) (x : X) → b ≡ true → option_to_list (if b then Some x else None) ≡ x ∷ []
 one_more b x h = ap (λ c. option_to_list (if c then Some x else None)) h
@@ -49,7 +47,7 @@ module _ (setting : Setting) {seat : ℕ} (past : Past) (m : Name) (ask : Ask) (
   told_heard = record {
     started = ap (λ o. option_or o None) (asking.start_begun setting past m ask legal may);
     manager = ap (λ o. option_or o None) (asking.manager_begun setting past m ask legal may);
-    asks_it = none_or _ _ (still (asked past ask.access) ∙ asking.not_asked setting past m ask legal may)
+    asks_it = or_new _ _ (still (asked past ask.access) ∙ asking.not_asked setting past m ask legal may)
         ∙ ap (λ (b : Bool). if b then Some (record { seat = seat; ask = ask }) else None) (same_itself ask.access);
     ends = told_ends;
     goes = λ x other. told_goes x;

@@ -4,6 +4,7 @@ use Rattle.std.specs.Prelude.{Option, None, Some, IsTrue, not, ◌&&◌, All}
 use Rattle.std.specs.List.{AllByRecursion, list_all}
 use Rattle.std.specs.Option.{option_map, option_map_or}
 use Rattle.std.proofs.lemmas.List.Elements.{All-weaker, recursion_from_All}
+use Rattle.std.proofs.lemmas.Option.{same_Some}
 use Rattle.qc_event.specs.declared.event.Answered.{Answered}
 use Rattle.qc_event.specs.declared.event.Answered.TheVariants as answered
 use Rattle.qc_event.specs.declared.event.Ask.{Ask}
@@ -15,6 +16,7 @@ use Rattle.qc_event.specs.Base.{Setting}
 use Rattle.qc_event.specs.History.{Past, Name, Begun, start, end, gone}
 use Rattle.qc_event.specs.Legal.{Legal}
 use Rattle.qc_event.specs.Requests.{is_why}
+use Rattle.qc_event.proofs.Options.{still}
 use Rattle.qc_gather.specs.Carrying.{entry, began}
 use Rattle.qc_gather.specs.declared.carrier.Carried.{Carried}
 use Rattle.qc_gather.specs.declared.carrier.Carried.TheVariants.{Reply, Blocked, Gone}
@@ -29,11 +31,10 @@ use Rattle.qc_line.proofs.Ending as endings
 use Rattle.qc_line.proofs.Meeting.{IsLeft, met_unended, met_told, are_met_still, are_met_more, sendings_more}
 use Rattle.qc_line.proofs.OwnEntries.{own_request}
 use Rattle.qc_line.proofs.Pushing.{met_still}
-use Rattle.qc_line.proofs.Stays.{still}
 use Rattle.qc_net.specs.Given.{Given}
 use Rattle.qc_net.specs.Plan.{Plan, starting, anew}
 use Rattle.qc_net.specs.Sending as net
-use Rattle.qc_net.specs.Sending.{Outcome, Sending, Way, sending, IsSending}
+use Rattle.qc_net.specs.Sending.{Outcome, Sending, Way, sending}
 use Rattle.qc_net.specs.declared.courier.Sent.{Sent}
 use Rattle.qc_net.specs.declared.courier.Sent.TheVariants as sent
 use Rattle.qc_store.specs.Served.{MayServe, HasAnswered}
@@ -195,10 +196,7 @@ module _ (setting : Setting) {seat : ℕ} (past : Past) (m : Name) (ask : Ask) (
       in_step_ended plan' held' Trouble was serves =
           let ways : way_of seat net (ending seat ask c ++ mid) ≡ (sending (way_of seat net past).plan (way_of seat net past).held ask net.patience).way = ap (sendings net.patience first) (ended_asks c) ∙ sendings_more net.patience first (asked_under seat past) ask in
           record {
-            same_plan = some_same _ _ was.is_sending.plan_after ∙ ap (λ w. w.plan) (sym ways);
+            same_plan = same_Some _ _ was.is_sending.plan_after ∙ ap (λ w. w.plan) (sym ways);
             same_held = was.is_sending.held_after ∙ ap (λ w. w.held) (sym ways);
             may_serve = All-weaker (MayServe mid) (MayServe (ending seat ask c ++ mid)) (λ a h. serves_still (ending seat ask c) mid a h) held' serves;
           }
-        where
-          some_same : (a b : Plan) → Some a ≡ Some b → a ≡ b
-          some_same a b h = cc

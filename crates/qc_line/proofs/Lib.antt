@@ -2,7 +2,6 @@ pub mod Unheard
 pub mod Stays
 pub mod Asking
 pub mod Orphans
-pub mod Children
 pub mod AnswersLeave
 pub mod OwnEntries
 pub mod Refusals

@@ -1,10 +1,11 @@
 -- An entry of a user transaction or a manager leaves what a line keeps.
-use Rattle.std.proofs.Common.{◌≡◌, ℕ, Bool, true, false, List, [], ◌∷◌, ◌++◌, refl, sym, ap, ◌∙◌, subst, append-nil, inr}
-use Rattle.std.specs.Prelude.{Option, None, Some, Result, Ok, Err, OnOk, OnErr, IsTrue, not, ◌==◌, if◌then◌else◌, option_to_list}
+use Rattle.std.proofs.Common.{◌≡◌, ℕ, Bool, List, [], ◌∷◌, ◌++◌, refl, sym, ap, ◌∙◌, subst, append-nil, inr}
+use Rattle.std.specs.Prelude.{None, Some, Result, Ok, Err, OnOk, OnErr, IsTrue, not, ◌==◌, if◌then◌else◌, option_to_list}
 use Rattle.std.specs.List.{AllByRecursion}
 use Rattle.std.specs.Option.{option_or}
 use Rattle.std.proofs.lemmas.Bool.{false_from_ne_true}
 use Rattle.std.proofs.lemmas.List.Elements.{All-weaker}
+use Rattle.std.proofs.lemmas.Option.{same_Some}
 use Rattle.qc_event.specs.declared.event.Ask.{Ask}
 use Rattle.qc_event.specs.declared.event.Entry.{Entry}
 use Rattle.qc_event.specs.declared.event.Event.{Event}
@@ -15,12 +16,12 @@ use Rattle.qc_event.specs.Base.{Setting}
 use Rattle.qc_event.specs.History.{Past, Name, same, end, end_in, gone, gone_in, kind_of}
 use Rattle.qc_event.specs.Legal.{Legal}
 use Rattle.qc_event.proofs.Absent.{same_is}
+use Rattle.qc_event.proofs.Options.{none_either, still}
 use Rattle.qc_line.specs.Kept.{IsInStep, IsKept, net_of, sendings}
 use Rattle.qc_line.specs.Lined.{IsNoAccess, IsOfTransaction}
 use Rattle.qc_net.specs.Messages.{Net, ask_of, asked_under, are_met, meets_fates}
 use Rattle.qc_line.proofs.Answered.{IsAccess, asks_of_accesses, serves_still}
 use Rattle.qc_line.proofs.Meeting.{IsLeft, are_met_still}
-use Rattle.qc_line.proofs.Stays.{still}
 use Rattle.qc_net.specs.Plan.{Plan, starting}
 use Rattle.qc_store.specs.Served.{MayServe}
 use Rattle.qc_store.specs.Sites.{is_grant}
@@ -54,18 +55,11 @@ nothing_asked past (event.Ask ask) h = absurd h
 nothing_asked past _ h = refl
 
 asked_same : (seat : ℕ) (past : Past) (e : Entry) → IsOfTransaction past e.event → asked_under seat (e ∷ past) ≡ asked_under seat past
-asked_same seat past e of = ap (λ o. asked_under seat past ++ option_to_list (if e.seat == seat then o else None)) (nothing_asked past e.event of) ∙ ap (λ o. asked_under seat past ++ option_to_list o) (either (e.seat == seat)) ∙ append-nil (asked_under seat past)
-  where
-    either : (b : Bool) → ◌≡◌ {A = Option Ask} (if b then None else None) None
-    either true = refl
-    either false = refl
+asked_same seat past e of = ap (λ o. asked_under seat past ++ option_to_list (if e.seat == seat then o else None)) (nothing_asked past e.event of) ∙ ap (λ o. asked_under seat past ++ option_to_list o) (none_either (e.seat == seat)) ∙ append-nil (asked_under seat past)
 
 not_access : (past : Past) (n x : Name) (k : Kind) → kind_of past n ≡ Some k → IsNoAccess k → kind_of past x ≡ Some kind.Access → n ≡ x → ⊥
-not_access past n x k is none access at = by_kind k none (some_same k kind.Access (sym is ∙ ap (kind_of past) at ∙ access))
+not_access past n x k is none access at = by_kind k none (same_Some k kind.Access (sym is ∙ ap (kind_of past) at ∙ access))
   where
-    some_same : (a b : Kind) → Some a ≡ Some b → a ≡ b
-    some_same a b h = cc
-
     by_kind : (y : Kind) → IsNoAccess y → y ≡ kind.Access → ⊥
     by_kind y none h = subst IsNoAccess h none
 

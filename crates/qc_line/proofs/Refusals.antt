@@ -5,6 +5,7 @@ use Rattle.std.specs.Prelude.{Option, None, Some, MatchOption, Contains, ◌==�
 use Rattle.std.specs.List.{list_all}
 use Rattle.std.specs.Option.{option_or}
 use Rattle.std.proofs.lemmas.List.Folds.{find-append}
+use Rattle.std.proofs.lemmas.Option.{same_Some}
 use Rattle.qc_config.specs.declared.tuple.Op.{Op}
 use Rattle.qc_names.specs.Name as name
 use Rattle.qc_event.specs.declared.event.Ask.{Ask}
@@ -23,7 +24,8 @@ use Rattle.qc_event.specs.History.{Past, Name, same, earliest, end, asked, refus
 use Rattle.qc_event.specs.Legal.{Legal, MayHappen}
 use Rattle.qc_event.specs.Seen.{holder}
 use Rattle.qc_event.proofs.Absent.{same_is, same_itself}
-use Rattle.qc_event.proofs.OneEntry.{first_is, if_is, some_or_none, stays_some}
+use Rattle.qc_event.proofs.OneEntry.{first_is, here_some, if_is, some_or_none, stays_some}
+use Rattle.qc_event.proofs.Options.{still_mapped}
 use Rattle.qc_line.proofs.AnswersLeave.{AreAnswers, ends_stay, requests_stay}
 use Rattle.qc_line.proofs.Stays.{dead_same}
 use Rattle.qc_store.specs.Served.{is_answer, refusal_entry}
@@ -39,26 +41,18 @@ in_way_by ends rec op access g =
 abbrev holder_by : (Name → Option How) → List Grant → ℕ → Op → Name → Option Name
 holder_by ends given rec op access = option_map (λ (g : Grant). g.access) (find (in_way_by ends rec op access) given)
 
-first_mapped : (old new : Option Grant) (h : Name) → option_map (λ (g : Grant). g.access) old ≡ Some h → option_map (λ (g : Grant). g.access) (option_or old new) ≡ Some h
-first_mapped None new h is = absurd cc
-first_mapped (Some g) new h is = is
-
 -- a grant that comes later does not change who is in the way first
 holder_stays : (e : Entry) (past : Past) (copy rec : ℕ) (op : Op) (access h : Name) → is_answer e ≡ true → holder past copy rec op access ≡ Some h → holder (e ∷ past) copy rec op access ≡ Some h
 holder_stays e past copy rec op access h answer is =
     ap (λ (ends : Name → Option How). holder_by ends (grants (e ∷ past) copy) rec op access) (fun_ext (ends_stay (e ∷ []) past (answer, tt)))
     ∙ ap (option_map (λ (g : Grant). g.access)) (find-append (in_way_by (end past) rec op access) (grants past copy) (option_to_list (grant_at copy e.event)))
-    ∙ first_mapped (find (in_way_by (end past) rec op access) (grants past copy)) (find (in_way_by (end past) rec op access) (option_to_list (grant_at copy e.event))) h is
+    ∙ still_mapped (λ (g : Grant). g.access) (find (in_way_by (end past) rec op access) (grants past copy)) (find (in_way_by (end past) rec op access) (option_to_list (grant_at copy e.event))) h is
 
 -- ENTRIES THAT STAND
 
 pub cons_cases : {X : Type 0} (x y : X) (xs : List X) → Contains (x ∷ xs) y → (x ≡ y) ⊎ Contains xs y
 cons_cases x y xs (zero, lt, is) = inl is
 cons_cases x y xs (suc k, lt, is) = inr (k, omega arith, is)
-
-here_some : {Y : Type 0} (old new : Option Y) → is_some new ≡ true → is_some (option_or old new) ≡ true
-here_some None new h = h
-here_some (Some y) new h = refl
 
 -- what an entry that stands tells, the history does
 pub contained_tells : {Y : Type 0} (f : Entry → Option Y) (past : Past) (x : Entry) → Contains past x → is_some (f x) ≡ true → is_some (earliest f past) ≡ true
@@ -106,10 +100,7 @@ module _ (setting : Setting) (ask : Ask) (told : Past) (seat : ℕ) (asks : aske
       by_event _ may here = absurd cc
 
   same_holder : (past : Past) (r x : Refusal) → NamesHolder past ask r → NamesHolder past ask x → r ≡ x
-  same_holder past r x (h, is, held) (h', is', held') = is ∙ ap Blocked (some_same h h' (sym held ∙ held')) ∙ sym is'
-    where
-      some_same : (a b : Name) → Some a ≡ Some b → a ≡ b
-      some_same a b both = cc
+  same_holder past r x (h, is, held) (h', is', held') = is ∙ ap Blocked (same_Some h h' (sym held ∙ held')) ∙ sym is'
 
   -- a refusal that stands is the first one
   pub refused_first : (newer : Past) (r : Refusal) → AreAnswers newer → Legal setting (newer ++ told) → Contains (newer ++ told) (refusal_entry ask r) → refused (newer ++ told) ask.access ≡ Some r

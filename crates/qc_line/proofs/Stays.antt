@@ -1,33 +1,25 @@
 -- What stays of a history where no end and no request of a manager comes to it.
-use Rattle.std.proofs.Common.{◌≡◌, ℕ, Bool, true, false, List, [], ◌∷◌, ◌++◌, refl, sym, ap, ap₂, ◌∙◌, subst}
+use Rattle.std.proofs.Common.{◌≡◌, ℕ, Bool, false, List, [], ◌∷◌, refl, sym, ap, ap₂, ◌∙◌, subst}
 use Rattle.std.proofs.Math.Path.{fun_ext}
-use Rattle.std.specs.Prelude.{Option, None, Some, MatchOption, cond, if◌then◌else◌, find, not, ◌&&◌, ◌==◌, nat_lt, is_some, is_none, filter, filter_map, fold, map, option_to_list}
+use Rattle.std.specs.Prelude.{Option, None, Some, MatchOption, cond, if◌then◌else◌, find, not, ◌&&◌, ◌==◌, nat_lt, is_some, is_none, filter, filter_map, fold, map}
 use Rattle.std.specs.List.{AllByRecursion, list_any}
-use Rattle.std.specs.Option.{option_or}
 use Rattle.qc_config.specs.Config.{Voting, votes_of, holds_read, holds_write}
 use Rattle.qc_config.specs.declared.tuple.Tuple.{Tuple}
 use Rattle.qc_event.specs.declared.event.Ask.{Ask}
-use Rattle.qc_event.specs.declared.event.Entry.{Entry}
-use Rattle.qc_event.specs.declared.event.Event.{Event}
-use Rattle.qc_event.specs.declared.event.Event.TheVariants as event
 use Rattle.qc_event.specs.declared.event.How.{How}
 use Rattle.qc_event.specs.declared.event.Kind.{Kind}
 use Rattle.qc_event.specs.declared.event.Phase.{Phase}
 use Rattle.qc_event.specs.Base.{Setting}
 use Rattle.qc_event.specs.Clear.{is_get}
 use Rattle.qc_event.specs.Dead.{outcome_of, is_aborted, ancestors, dead}
-use Rattle.qc_event.specs.History.{Past, Name, start, end, gone, refused, is_child, asks, ask_below}
-use Rattle.qc_event.specs.Legal.{Legal, MayHappen}
+use Rattle.qc_event.specs.History.{Past, Name, end, gone, refused, asks}
+use Rattle.qc_event.specs.Legal.{Legal}
 use Rattle.qc_event.specs.Manager.{Result, result, result_by, reply_of, Stage, Newest, newer, greatest_among, collecting, stages_by, is_last, is_phase, phase_of, all_copies, stage, first_for, AtStage, waiting}
 use Rattle.qc_event.specs.Requests.{IsNextAsk}
 use Rattle.qc_event.specs.Standing.{open_child}
-use Rattle.qc_event.proofs.Lawful.{started_some}
-use Rattle.qc_event.proofs.OneEntry.{no_child_passes, start_stays}
-
--- nothing comes to an answer
-pub still : {Y : Type 0} (o : Option Y) → option_or o None ≡ o
-still None = refl
-still (Some y) = refl
+use Rattle.qc_event.proofs.OneEntry.{no_child_passes}
+use Rattle.qc_event.proofs.Options.{match_wider}
+use Rattle.qc_event.proofs.OwnRequests.{IsOwn, asks_own}
 
 -- DEATH
 
@@ -69,10 +61,6 @@ module _ (requests : List Ask) (results : Name → Option Result) where
   abbrev next_by : Stage → Option ℕ
   next_by s = find (λ copy. nat_lt 0 (votes_of s.config copy) && is_none (find (λ (ask : Ask). ask.copy == copy) (filter (λ (ask : Ask). is_phase s.phase (phase_of ask.op)) requests))) all_copies
 
-wider : {X : Type 0} (o : Option X) (P Q : X → Type 0) → ((x : X) → P x → Q x) → MatchOption o ⊥ P → MatchOption o ⊥ Q
-wider None P Q step h = absurd h
-wider (Some x) P Q step h = step x h
-
 -- a manager whose requests and results are the same asks the same next
 pub at_stage_same : (setting : Setting) (before now : Past) (m : Name) (k : Kind) (ask : Ask) → asks now m ≡ asks before m → ((x : Name) → result now x ≡ result before x)
     → AtStage setting before m k (IsNextAsk before m k ask) → AtStage setting now m k (IsNextAsk now m k ask)
@@ -80,36 +68,10 @@ at_stage_same setting before now m k ask same results at =
     let stages : stage now (first_for setting k) m k ≡ stage before (first_for setting k) m k =
     ap₂ (λ (requests : List Ask) (r : Name → Option Result). stage_by requests r (first_for setting k) k) same (fun_ext results) in
     subst (λ o. MatchOption o ⊥ (IsNextAsk now m k ask)) (sym stages)
-    (wider (stage before (first_for setting k) m k) (IsNextAsk before m k ask) (IsNextAsk now m k ask)
+    (match_wider (stage before (first_for setting k) m k) (IsNextAsk before m k ask) (IsNextAsk now m k ask)
     (λ s next. record { next = ap (λ requests. next_by requests (result before) s) same ∙ next.next; same_record = next.same_record; same_op = next.same_op }) at)
 
 -- REQUESTS
-
--- a request is of a started child
-pub record IsOwn (past : Past) (m : Name) (ask : Ask) : Type 0 where
-  pub child : is_child m ask.access ≡ true
-  pub started : is_some (start past ask.access) ≡ true
-
-own_still : (e : Entry) (past : Past) (m : Name) (requests : List Ask) → AllByRecursion (IsOwn past m) requests → AllByRecursion (IsOwn (e ∷ past) m) requests
-own_still e past m [] all = tt
-own_still e past m (a ∷ rest) all = (record { child = all.0.child; started = start_stays e past a.access all.0.started }, own_still e past m rest all.1)
-
-own_more : (past : Past) (m : Name) (requests more : List Ask) → AllByRecursion (IsOwn past m) requests → AllByRecursion (IsOwn past m) more → AllByRecursion (IsOwn past m) (requests ++ more)
-own_more past m [] more all here = here
-own_more past m (a ∷ rest) more all here = (all.0, own_more past m rest more all.1 here)
-
--- each request of a manager is a started child's
-pub asks_own : (setting : Setting) (past : Past) (m : Name) → Legal setting past → AllByRecursion (IsOwn past m) (asks past m)
-asks_own setting [] m legal = tt
-asks_own setting (e ∷ past) m legal = own_more (e ∷ past) m (asks past m) _ (own_still e past m (asks past m) (asks_own setting past m legal.0)) (by_event e.event legal.1)
-  where
-    by_test : (ask : Ask) (b : Bool) → is_child m ask.access ≡ b → is_some (start past ask.access) ≡ true → AllByRecursion (IsOwn (e ∷ past) m) (option_to_list (if b then Some ask else None))
-    by_test ask true child began = (record { child = child; started = start_stays e past ask.access began }, tt)
-    by_test ask false child began = tt
-
-    by_event : (ev : Event) → MayHappen setting past e.seat ev → AllByRecursion (IsOwn (e ∷ past) m) (option_to_list (ask_below m ev))
-    by_event (event.Ask ask) may = by_test ask (is_child m ask.access) refl (started_some _ (start past ask.access) may.started)
-    by_event _ may = tt
 
 none_found : {X : Type 0} (p : X → Bool) (xs : List X) → AllByRecursion (λ x. p x ≡ false) xs → find p xs ≡ None
 none_found p [] all = refl

@@ -1,7 +1,7 @@
 -- Of an access that has not started, a legal history tells nothing: no request, grant, refusal or giving up.
-use Rattle.std.proofs.Common.{◌≡◌, true, [], ◌∷◌, refl, sym, ap, ◌∙◌, inl, inr}
+use Rattle.std.proofs.Common.{◌≡◌, true, [], ◌∷◌, sym, ap, ◌∙◌, inl, inr}
 use mathlib.Core.Bool.{true≢false}
-use Rattle.std.specs.Prelude.{Option, None, Some, is_some, MatchOption}
+use Rattle.std.specs.Prelude.{Option, None, is_some}
 use Rattle.qc_event.specs.declared.event.Entry.{Entry}
 use Rattle.qc_event.specs.declared.event.Event.{Event}
 use Rattle.qc_event.specs.declared.event.Event.TheVariants as event
@@ -13,6 +13,7 @@ use Rattle.qc_event.specs.Requests.{MayAsk, MayGiveUp}
 use Rattle.qc_event.proofs.Absent.{same_is}
 use Rattle.qc_event.proofs.Lawful.{started_some}
 use Rattle.qc_event.proofs.OneEntry.{if_some, first_some, start_stays, not_some, some_or_none}
+use Rattle.qc_event.proofs.Options.{some_match}
 
 -- what each entry tells of a started name alone, the whole history does
 heard_started : {Y : Type 0} (setting : Setting) (f : Entry → Option Y) (n : Name)
@@ -23,10 +24,6 @@ heard_started setting f n step (e ∷ past) legal h = start_stays e past n (elim
   | inl old ↦ heard_started setting f n step past legal.0 old
   | inr new ↦ step past e legal.0 legal.1 new.1
 ])
-
-some_match : {Y : Type 0} (o : Option Y) (P : Y → Type 0) → MatchOption o ⊥ P → is_some o ≡ true
-some_match None P h = absurd h
-some_match (Some y) P h = refl
 
 module _ (setting : Setting) (n : Name) where
   asks : (past : Past) (e : Entry) → Legal setting past → Allowed setting past e → is_some (ask_in n e.seat e.event) ≡ true → is_some (start past n) ≡ true

@@ -1,5 +1,5 @@
 -- An access that waits: what it may enter, and that what came back of it stands in the history.
-use Rattle.std.proofs.Common.{◌≡◌, ℕ, ◌<◌, true, [], ◌∷◌, ◌++◌, refl, sym, ap, ◌∙◌, subst, arith, append_assoc}
+use Rattle.std.proofs.Common.{◌≡◌, ℕ, ◌<◌, true, [], ◌++◌, refl, sym, ap, ◌∙◌, subst, arith, append_assoc}
 use Rattle.std.specs.Prelude.{Some, IsTrue, Contains}
 use Rattle.std.proofs.lemmas.List.Elements.{recursion_from_All, All-append}
 use Rattle.qc_event.specs.declared.event.Answered.{Answered}
@@ -13,6 +13,7 @@ use Rattle.qc_event.specs.declared.event.Why.{Why}
 use Rattle.qc_event.specs.Base.{Setting}
 use Rattle.qc_event.specs.History.{Past, Name, asked, refused}
 use Rattle.qc_event.specs.Legal.{Legal, Allowed}
+use Rattle.qc_event.proofs.Later.{earlier_legal}
 use Rattle.qc_gather.specs.Carrying.{entry, began}
 use Rattle.qc_gather.specs.declared.carrier.Carried.{Carried}
 use Rattle.qc_gather.specs.declared.carrier.Carried.TheVariants as carried
@@ -30,10 +31,6 @@ use Rattle.qc_store.specs.Stored.{Stored}
 -- what is allowed stays so where the setting and the history are the same
 pub moved : (setting setting' : Setting) (past past' : Past) (e : Entry) → setting ≡ setting' → past ≡ past' → Allowed setting' past' e → Allowed setting past e
 moved setting setting' past past' e same at may = subst (λ x. Allowed x past e) (sym same) (subst (λ p. Allowed setting' p e) (sym at) may)
-
-pub legal_older : (setting : Setting) (newer past : Past) → Legal setting (newer ++ past) → Legal setting past
-legal_older setting [] past legal = legal
-legal_older setting (e ∷ newer) past legal = legal_older setting newer past legal.0
 
 -- a manager's next access that has just asked waits
 pub waits_now : (setting : Setting) (seat : ℕ) (past : Past) (m : Name) (ask : Ask) → MayAccess setting seat past m ask → Waits setting seat (began seat ask ++ past) ask
@@ -53,7 +50,7 @@ module _ (setting : Setting) {seat : ℕ} (past : Past) (ask : Ask) (legal : Leg
   there = subst (Legal setting) w.grown legal
 
   pub older : Legal setting w.before
-  older = (legal_older setting w.newer told there).0.0
+  older = (earlier_legal setting w.newer told there).0.0
 
   -- ENTRIES
 

@@ -16,9 +16,12 @@ use Rattle.qc_event.specs.Standing.{Started, IsManager}
 use Rattle.qc_event.specs.Users.{MayAbort}
 use Rattle.qc_pass.specs.Entries.{AreOthers, IsSince, entry}
 use Rattle.qc_pass.specs.Refusing.{if_ended, if_ready, against_abort}
-use Rattle.qc_pass.proofs.Begun.{started_at}
-use Rattle.qc_pass.proofs.Entering.{neither, not_ended, unready, started_since}
-use Rattle.qc_pass.proofs.Lasting.{is_stays, access_cause_stays, user_cause_stays}
+use Rattle.qc_event.proofs.Later.{started_still}
+use Rattle.qc_event.proofs.OneEntry.{none_before}
+use Rattle.qc_event.proofs.Options.{some_there}
+use Rattle.qc_event.proofs.StillTold.{is_stays}
+use Rattle.qc_pass.proofs.Entering.{not_ended, unready}
+use Rattle.qc_pass.proofs.Lasting.{access_cause_stays, user_cause_stays}
 use Rattle.qc_pass.proofs.OwnFailing.{cause_stays}
 
 -- what was licensed still is
@@ -34,7 +37,7 @@ licence_stays setting past newer seat n b c legal all begun licensed = by_kind b
 
     by_kind : (k : Kind) → b.kind ≡ k → Licensed setting past seat n b k c → Licensed setting (newer ++ past) seat n b k c
     by_kind (kind.User session body) of h = user_cause_stays newer past n session c h
-    by_kind kind.Access of h = (access_cause_stays newer past n c h.0, started_since newer past (name.front n) (λ m. seat ≡ m.seat) h.1)
+    by_kind kind.Access of h = (access_cause_stays newer past n c h.0, started_still newer past (name.front n) (λ m. seat ≡ m.seat) h.1)
     by_kind (kind.Read rec) of h = manager (kind.Read rec) of tt h
     by_kind (kind.Write rec value) of h = manager (kind.Write rec value) of tt h
     by_kind (kind.Reconf rec config) of h = manager (kind.Reconf rec config) of tt h
@@ -45,13 +48,13 @@ abort_allowed setting seat seen now n c legal s client licensed none =
     subst (λ o. MatchOption o ⊥ (MayEnd setting now seat n (Abort c))) (sym begun) may
   where
     there : (b : Begun) × (start seen n ≡ Some b) × Licensed setting seen seat n b b.kind c
-    there = started_at (start seen n) (λ b. Licensed setting seen seat n b b.kind c) licensed
+    there = some_there (start seen n) (λ b. Licensed setting seen seat n b b.kind c) licensed
 
     begun : start now n ≡ Some there.0
     begun = ap (λ p. start p n) s.1 ∙ is_stays (λ e. start_in n e.seat e.event) s.0 seen there.0 there.1
 
     tests : (if_ended now n ≡ None) × (if_ready now n ≡ None)
-    tests = neither (if_ended now n) (if_ready now n) none
+    tests = none_before (if_ended now n) (if_ready now n) none
 
     may : MayAbort (Licensed setting now seat n there.0 there.0.kind c) now seat n
     may = record {

@@ -1,6 +1,6 @@
 -- A top that was started is a user transaction, and may be aborted as it asked.
-use Rattle.std.proofs.Common.{◌≡◌, ℕ, ◌+◌, [], ◌∷◌, length, refl, sym, ap, ◌∙◌, subst, append-nil}
-use Rattle.std.specs.Prelude.{Option, None, Some, MatchOption, IsTrue, Result, Ok, Err, OnOk}
+use Rattle.std.proofs.Common.{◌≡◌, ℕ, Bool, true, ◌+◌, [], ◌∷◌, length, refl, sym, ap, ◌∙◌, subst, append-nil}
+use Rattle.std.specs.Prelude.{Option, None, Some, MatchOption, IsTrue, if◌then◌else◌, is_some, Result, Ok, Err, OnOk}
 use Rattle.qc_names.specs.Name as name
 use Rattle.qc_event.specs.declared.event.Cause.TheVariants as cause
 use Rattle.qc_event.specs.declared.event.Event.{Event}
@@ -9,12 +9,14 @@ use Rattle.qc_event.specs.declared.event.Kind.{Kind}
 use Rattle.qc_event.specs.declared.event.Kind.TheVariants as kind
 use Rattle.qc_event.specs.Aborts.{Licensed}
 use Rattle.qc_event.specs.Base.{Setting}
-use Rattle.qc_event.specs.History.{Past, Name, Begun, start, children}
+use Rattle.qc_event.specs.History.{Past, Name, Begun, start, children, is_ready}
 use Rattle.qc_event.specs.Legal.{Legal}
 use Rattle.qc_event.specs.Seats.{top_name}
 use Rattle.qc_event.specs.Standing.{Started, IsUser}
 use Rattle.qc_event.proofs.LastNumber.{is_ancestor-append}
-use Rattle.qc_event.proofs.OneEntry.{start_is}
+use Rattle.qc_event.proofs.Absent.{same_itself}
+use Rattle.qc_event.proofs.Lawful.{started_some}
+use Rattle.qc_event.proofs.OneEntry.{here_some, start_is}
 use Rattle.qc_pass.specs.declared.refusal.DeskNo.{DeskNo}
 use Rattle.qc_pass.specs.declared.view.View.{View}
 use Rattle.qc_pass.specs.Calling.{Entered, EnteredAs}
@@ -59,6 +61,17 @@ may_ask_abort setting past seat n user = by_start (start past n) user
     by_start : (o : Option Begun) → MatchOption o ⊥ (λ b. IsUser b.kind) → MatchOption o ⊥ (λ b. Licensed setting past seat n b b.kind (cause.Asked n))
     by_start None is = is
     by_start (Some b) is = by_kind b b.kind is
+
+-- READY TOPS
+
+-- a top that has just started may be made ready
+pub may_be_ready : (setting : Setting) (epoch session body : ℕ) (v w : View) (n : Name) → EnteredAs against_nothing (IsTop epoch session body n) v w → Legal setting w.seen → (length n ≡ 1) × (is_some (start w.seen n) ≡ true)
+may_be_ready setting epoch session body v w n (before, ev, (named, is), since, none, same) legal = (ap length named, started_some (λ b. IsUser b.kind) (start w.seen n) (top_begun setting epoch session body v w n (before, ev, (named, is), since, none, same) legal))
+
+-- and is ready once it was
+pub is_ready_now : (against : Past → Option DeskNo) (v w : View) (n : Name) → Entered against (event.Ready n) v w → IsTrue (is_ready w.seen n)
+is_ready_now against v w n (before, since, none, same) =
+    ap (λ (x : View). is_ready x.seen n) same ∙ here_some _ _ (ap (λ (b : Bool). is_some {T = Unit {0}} (if b then Some tt else None)) (same_itself n))
 
 -- WHAT A CALL HAS SEEN
 

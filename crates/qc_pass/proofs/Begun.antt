@@ -1,6 +1,6 @@
 -- What the start of a name tells: how long the name is, that it is not the root, and whether there is room below it.
-use Rattle.std.proofs.Common.{◌≡◌, ℕ, ◌+◌, ◌<◌, ◌≤◌, [], ◌∷◌, length, refl, arith}
-use Rattle.std.specs.Prelude.{Option, None, Some, MatchOption}
+use Rattle.std.proofs.Common.{◌≡◌, ℕ, ◌+◌, ◌<◌, ◌≤◌, [], ◌∷◌, length, arith}
+use Rattle.std.specs.Prelude.{Some}
 use Rattle.qc_event.specs.declared.event.Kind.{Kind}
 use Rattle.qc_event.specs.declared.event.Kind.TheVariants as kind
 use Rattle.qc_event.specs.Base.{Setting}
@@ -8,7 +8,8 @@ use Rattle.qc_event.specs.History.{Past, Name, Begun, start}
 use Rattle.qc_event.specs.Legal.{Legal}
 use Rattle.qc_event.specs.Standing.{IsUser, Started}
 use Rattle.qc_event.specs.Starts.{Stands, Starts}
-pub use Rattle.qc_copy.proofs.Begun.{was_begun, user_short, IsManagerName, manager_name, ready_top}
+use Rattle.qc_event.proofs.Options.{some_there}
+use Rattle.qc_copy.proofs.Begun.{was_begun, user_short, manager_name}
 
 -- the root is never started
 pub not_root : (setting : Setting) (past : Past) (n : Name) (b : Begun) → Legal setting past → start past n ≡ Some b → 0 < length n
@@ -18,11 +19,6 @@ not_root setting past n b legal is = let was = was_begun setting past n b legal 
     by_name [] older may = absurd may
     by_name (x ∷ r) older may = omega arith
 
--- what is started has a start
-pub started_at : {X : Type 0} (o : Option X) (P : X → Type 0) → MatchOption o ⊥ P → (x : X) × (o ≡ Some x) × P x
-started_at None P h = absurd h
-started_at (Some x) P h = (x, refl, h)
-
 -- a name under which a child may stand is not the root, and has room for a further number
 pub record HasRoom (n : Name) : Type 0 where
   pub below_a_top : 0 < length n
@@ -30,7 +26,7 @@ pub record HasRoom (n : Name) : Type 0 where
 
 pub has_room : (setting : Setting) (past : Past) (seat : ℕ) (n : Name) (k : Kind) → Legal setting past → Started past n (λ p. Stands setting seat p (length n + 1) k) → HasRoom n
 has_room setting past seat n k legal h =
-    let there = started_at (start past n) (λ p. Stands setting seat p (length n + 1) k) h in
+    let there = some_there (start past n) (λ p. Stands setting seat p (length n + 1) k) h in
     record { below_a_top = not_root setting past n there.0 legal there.1; room = by_kind k there.0 there.1 there.2 }
   where
     short : (b : Begun) → start past n ≡ Some b → IsUser b.kind → length n ≤ 17

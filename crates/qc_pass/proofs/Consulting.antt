@@ -32,7 +32,7 @@ use Rattle.qc_pass.specs.Entries.{IsOlder, IsSince, entry}
 use Rattle.qc_pass.specs.Refusing.{against_nothing}
 use Rattle.qc_pass.specs.Rules.{knows, extends}
 use Rattle.qc_pass.proofs.NoGrants.{grants_kept, others_grant_none}
-use Rattle.qc_pass.proofs.Lasting.{is_stays}
+use Rattle.qc_event.proofs.StillTold.{is_stays}
 
 -- REQUESTS
 

@@ -13,23 +13,22 @@ use Rattle.qc_event.specs.History.{Past, Name, Begun, start, end, is_ready, chil
 use Rattle.qc_event.specs.Legal.{Legal, Allowed}
 use Rattle.qc_event.specs.Seats.{is_client}
 use Rattle.qc_event.specs.Standing.{Started, IsGoing, open_child}
-use Rattle.qc_event.specs.Starts.{Stands, Starts}
+use Rattle.qc_event.specs.Starts.{Stands}
 use Rattle.qc_event.specs.Users.{MayStartNext, MayReady}
+use Rattle.qc_event.proofs.BelowTops.{starts_below}
+use Rattle.qc_event.proofs.FewerChildren.{children_fewer}
 use Rattle.qc_event.proofs.LastNumber.{front_last, length_last}
+use Rattle.qc_event.proofs.Later.{started_still}
 use Rattle.qc_event.proofs.Lawful.{started_some}
 use Rattle.qc_event.proofs.Lineage.{alive_not_aborted}
-use Rattle.qc_event.proofs.OneEntry.{started_stays, start_stays}
+use Rattle.qc_event.proofs.OneEntry.{none_before}
+use Rattle.qc_event.proofs.StillTold.{begun_still}
 use Rattle.qc_pass.specs.declared.refusal.DeskNo.TheVariants as no
 use Rattle.qc_pass.specs.Entries.{IsOlder, entry}
 use Rattle.qc_pass.specs.Refusing.{if_ended, if_committed, if_dead, if_ready, if_open, against_child, against_ready}
 use Rattle.qc_pass.proofs.Begun.{HasRoom, has_room}
-use Rattle.qc_pass.proofs.Fewer.{children_fewer}
 
 -- WHERE A TEST DID NOT FAIL
-
-pub neither : {X : Type 0} (a b : Option X) → option_or a b ≡ None → (a ≡ None) × (b ≡ None)
-neither None b h = (refl, h)
-neither (Some x) b h = absurd cc
 
 unmapped : {X Y : Type 0} (f : X → Y) (o : Option X) → option_map f o ≡ None → o ≡ None
 unmapped f None h = refl
@@ -67,19 +66,11 @@ still_open past n h living = by_end (end past n) h (alive_not_aborted past n liv
 
 -- WHAT WAS SEEN STAYS
 
-pub started_since : (newer past : Past) (n : Name) (P : Begun → Type 0) → Started past n P → Started (newer ++ past) n P
-started_since [] past n P h = h
-started_since (e ∷ newer) past n P h = started_stays e (newer ++ past) n P (started_since newer past n P h)
-
 pub started_later : (before now : Past) (n : Name) (P : Begun → Type 0) → IsOlder before now → Started before n P → Started now n P
-started_later before now n P older h = subst (λ p. Started p n P) (sym older.1) (started_since older.0 before n P h)
-
-begun_since : (newer past : Past) (n : Name) → is_some (start past n) ≡ true → is_some (start (newer ++ past) n) ≡ true
-begun_since [] past n h = h
-begun_since (e ∷ newer) past n h = start_stays e (newer ++ past) n (begun_since newer past n h)
+started_later before now n P older h = subst (λ p. Started p n P) (sym older.1) (started_still older.0 before n P h)
 
 pub begun_later : (before now : Past) (n : Name) → IsOlder before now → is_some (start before n) ≡ true → is_some (start now n) ≡ true
-begun_later before now n older h = subst (λ p. is_some (start p n) ≡ true) (sym older.1) (begun_since older.0 before n h)
+begun_later before now n older h = subst (λ p. is_some (start p n) ≡ true) (sym older.1) (begun_still older.0 before n h)
 
 -- READY
 
@@ -87,13 +78,13 @@ pub ready_allowed : (setting : Setting) (seat : ℕ) (seen now : Past) (top : Na
 ready_allowed setting seat seen now top older client one started none = may
   where
     first : (if_ended now top ≡ None) × (option_or (if_dead now top) (option_or (if_ready now top) (if_open now top)) ≡ None)
-    first = neither (if_ended now top) (option_or (if_dead now top) (option_or (if_ready now top) (if_open now top))) none
+    first = none_before (if_ended now top) (option_or (if_dead now top) (option_or (if_ready now top) (if_open now top))) none
 
     second : (if_dead now top ≡ None) × (option_or (if_ready now top) (if_open now top) ≡ None)
-    second = neither (if_dead now top) (option_or (if_ready now top) (if_open now top)) first.1
+    second = none_before (if_dead now top) (option_or (if_ready now top) (if_open now top)) first.1
 
     third : (if_ready now top ≡ None) × (if_open now top ≡ None)
-    third = neither (if_ready now top) (if_open now top) second.1
+    third = none_before (if_ready now top) (if_open now top) second.1
 
     may : MayReady now seat top
     may = record {
@@ -109,21 +100,16 @@ ready_allowed setting seat seen now top older client one started none = may
 abbrev pub next_child : Past → Name → Name
 next_child past parent = parent ++ (length (children past parent) + 1) ∷ []
 
-to_starts : (setting : Setting) (past : Past) (seat : ℕ) (n : Name) (k : Kind) → 1 < length n → MayStartNext (λ p. Stands setting seat p (length n) k) past seat n → Starts setting past seat n k
-to_starts setting past seat [] k long h = absurd (omega arith)
-to_starts setting past seat (x ∷ []) k long h = absurd (omega arith)
-to_starts setting past seat (x ∷ y ∷ r) k long h = h
-
 pub child_allowed : (setting : Setting) (seat : ℕ) (seen now : Past) (parent : Name) (k : Kind) → IsOlder seen now → 0 < length parent → IsTrue (is_client seat)
     → Started seen parent (λ p. Stands setting seat p (length parent + 1) k) → against_child parent now ≡ None → Allowed setting now (entry seat (event.Start (next_child now parent) k))
 child_allowed setting seat seen now parent k older long client stands none =
-    to_starts setting now seat (next_child now parent) k (omega (arith, length_last parent (length (children now parent) + 1))) may
+    starts_below setting now seat (next_child now parent) k (omega (arith, length_last parent (length (children now parent) + 1))) may
   where
     first : (if_committed now parent ≡ None) × (option_or (if_dead now parent) (if_ready now parent) ≡ None)
-    first = neither (if_committed now parent) (option_or (if_dead now parent) (if_ready now parent)) none
+    first = none_before (if_committed now parent) (option_or (if_dead now parent) (if_ready now parent)) none
 
     second : (if_dead now parent ≡ None) × (if_ready now parent ≡ None)
-    second = neither (if_dead now parent) (if_ready now parent) first.1
+    second = none_before (if_dead now parent) (if_ready now parent) first.1
 
     front : name.front (next_child now parent) ≡ parent
     front = front_last parent (length (children now parent) + 1)

@@ -1,7 +1,7 @@
 -- A ready top is not aborted: the ledger may commit it, unless it has done so.
 use Rattle.std.proofs.Common.{◌≡◌, ℕ, Bool, true, false, cond, ◌==◌, [], ◌∷◌, length, refl, sym, ap, ◌∙◌, subst, arith, eq-eqb, inl, inr}
 use mathlib.Core.Bool.{true≢false}
-use Rattle.std.specs.Prelude.{Option, None, Some, MatchOption, IsTrue, not, is_some}
+use Rattle.std.specs.Prelude.{Option, None, Some, MatchOption, is_some}
 use Rattle.std.specs.Option.{option_or}
 use Rattle.qc_event.specs.declared.event.Answer.{Answer}
 use Rattle.qc_event.specs.declared.event.Answer.TheVariants as answer
@@ -18,11 +18,15 @@ use Rattle.qc_event.specs.Seats.{ledger_seat}
 use Rattle.qc_event.specs.Standing.{IsUser, Started}
 use Rattle.qc_event.specs.Starts.{Starts}
 use Rattle.qc_event.specs.Users.{MayReady, MayCommitTop, MayCommitUserOrTop}
+use Rattle.qc_event.proofs.Booleans.{not_both}
 use Rattle.qc_event.proofs.Lawful.{some_how}
-use Rattle.qc_event.proofs.OneEntry.{first_some, some_or_none, not_some, start_stays, end_stays, ending, ready_step}
+use Rattle.qc_event.proofs.LegalOrderly.{ready_top}
+use Rattle.qc_event.proofs.OneEntry.{first_some, here_some, some_or_none, not_some, end_stays, ending, ready_step}
+use Rattle.qc_event.proofs.Options.{some_there}
+use Rattle.qc_event.proofs.RootAndTops.{ready_started}
+use Rattle.qc_event.proofs.StillTold.{some_stays}
 use Rattle.qc_pass.specs.Entries.{IsOlder, entries_of, entry}
-use Rattle.qc_pass.proofs.Begun.{was_begun, started_at, ready_top}
-use Rattle.qc_pass.proofs.Lasting.{some_stays}
+use Rattle.qc_copy.proofs.Begun.{was_begun}
 
 -- READY TOPS
 
@@ -34,13 +38,6 @@ top_user setting past n b legal is one = let was = was_begun setting past n b le
     by_name [] older may one = absurd may
     by_name (x ∷ []) older may one = may.user
     by_name (x ∷ y ∷ r) older may one = absurd (omega arith)
-
-ready_started : (setting : Setting) (past : Past) (n : Name) → Legal setting past → is_ready past n ≡ true → is_some (start past n) ≡ true
-ready_started setting [] n legal ready = absurd (true≢false (sym ready))
-ready_started setting (e ∷ past) n legal ready = start_stays e past n (elim (ready_step e past n ready) [
-  | inl was ↦ ready_started setting past n legal.0 was
-  | inr now ↦ let may : MayReady past e.seat n = subst (MayHappen setting past e.seat) now legal.1 in may.is_open.started
-])
 
 -- WHO ENDS THEM
 
@@ -56,23 +53,15 @@ user_commit setting past seat n b given (kind.Write rec value) user may = absurd
 user_commit setting past seat n b given (kind.Reconf rec config) user may = absurd user
 user_commit setting past seat n b given kind.Access user may = absurd user
 
-not_both : (b : Bool) → IsTrue (not b) → b ≡ true → ⊥
-not_both true h t = true≢false (sym h)
-not_both false h t = true≢false (sym t)
-
 -- a ready top is ended under the ledger's seat
 ender : (setting : Setting) (past : Past) (seat : ℕ) (top : Name) (how : How) → Legal setting past → is_ready past top ≡ true → Started past top (MayEnd setting past seat top how) → seat ≡ ledger_seat
 ender setting past seat top (Commit given) legal ready may =
-    let there = started_at (start past top) (MayEnd setting past seat top (Commit given)) may in
+    let there = some_there (start past top) (MayEnd setting past seat top (Commit given)) may in
     let one = ready_top setting past top legal ready in
     by_ledger past seat top given one (user_commit setting past seat top there.0 given there.0.kind (top_user setting past top there.0 legal there.1 one) there.2)
 ender setting past seat top (Abort c) legal ready may =
-    let there = started_at (start past top) (MayEnd setting past seat top (Abort c)) may in
+    let there = some_there (start past top) (MayEnd setting past seat top (Abort c)) may in
     absurd (not_both (is_ready past top) there.2.not_ready ready)
-
-last_some : {X : Type 0} (o new : Option X) → is_some new ≡ true → is_some (option_or o new) ≡ true
-last_some None new h = h
-last_some (Some x) new h = refl
 
 -- where a ready top has ended, its end stands under the ledger's seat
 ended_by_ledger : (setting : Setting) (past : Past) (top : Name) → Legal setting past → is_ready past top ≡ true → is_some (end past top) ≡ true → is_some (end (entries_of ledger_seat past) top) ≡ true
@@ -88,7 +77,7 @@ ended_by_ledger setting (e ∷ past) top legal ready ended = elim (ready_step e 
         let ends = ending top e.event how.0 how.1 in
         let seat = ender setting past e.seat top how.0 legal.0 was (subst (MayHappen setting past e.seat) ends legal.1) in
         ap (λ (b : Bool). is_some (end (cond b (e ∷ entries_of ledger_seat past) (entries_of ledger_seat past)) top)) (eq-eqb e.seat ledger_seat seat)
-        ∙ last_some (end (entries_of ledger_seat past) top) (end_in top e.event) new.1
+        ∙ here_some (end (entries_of ledger_seat past) top) (end_in top e.event) new.1
   ]
 ]
   where

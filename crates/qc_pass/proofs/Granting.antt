@@ -15,19 +15,28 @@ use Rattle.qc_event.specs.declared.event.How.{How}
 use Rattle.qc_event.specs.declared.event.How.TheVariants.{Commit, Abort}
 use Rattle.qc_event.specs.Clear.{clear, conflict}
 use Rattle.qc_event.specs.Dead.{outcome, outcome_of, is_aborted, is_committed, ancestors, dead}
-use Rattle.qc_event.specs.History.{Past, Name, Asked, end, asked}
+use Rattle.qc_event.specs.History.{Past, Name, Asked, end, asked, same, end_in, ask_in, granted, grant_in, grants, grant_at}
 use Rattle.qc_event.specs.Seen.{is_in_way, is_live_at, changed_by}
 use Rattle.qc_event.proofs.Histories.{earliest-append}
+use Rattle.qc_event.specs.Grants.{MayGrant, IsServed}
+use Rattle.qc_event.specs.Legal.{Legal, Allowed, MayHappen}
+use Rattle.qc_event.proofs.Absent.{same_is, if_not}
+use Rattle.qc_event.proofs.Booleans.{all_wider, or_wider}
 use Rattle.qc_event.proofs.LastNumber.{rest_of}
+use Rattle.qc_event.proofs.Later.{committed_still}
 use Rattle.qc_event.proofs.Lineage.{alive_above, alive_not_aborted}
+use Rattle.qc_event.proofs.OneEntry.{some_not_none}
+use Rattle.qc_event.proofs.Options.{some_there}
+use Rattle.qc_event.proofs.StillTold.{is_stays}
+use Rattle.qc_pass.specs.Entries.{AreOthers}
 
 -- WHAT ONLY GROWS
 
 end_stays : (newer past : Past) (n : Name) (how : How) → end past n ≡ Some how → end (newer ++ past) n ≡ Some how
-end_stays newer past n how is = earliest-append _ newer past ∙ ap (λ o. option_or o (end newer n)) is
+end_stays newer past n how is = is_stays (λ e. end_in n e.event) newer past how is
 
 pub asked_stays : (newer past : Past) (n : Name) (a : Asked) → asked past n ≡ Some a → asked (newer ++ past) n ≡ Some a
-asked_stays newer past n a is = earliest-append _ newer past ∙ ap (λ o. option_or o (asked newer n)) is
+asked_stays newer past n a is = is_stays (λ e. ask_in n e.seat e.event) newer past a is
 
 aborted_how : (o : Option How) → is_aborted (outcome_of o) ≡ true → (how : How) × (o ≡ Some how) × (is_aborted (outcome_of (Some how)) ≡ true)
 aborted_how None h = absurd (true≢false (sym h))
@@ -38,15 +47,8 @@ committed_how None h = absurd (true≢false (sym h))
 committed_how (Some (Commit given)) h = (Commit given, refl, refl)
 committed_how (Some (Abort c)) h = absurd (true≢false (sym h))
 
-committed_some : (o : Option How) → is_committed (outcome_of o) ≡ true → (how : How) × (o ≡ Some how) × (is_committed (outcome_of (Some how)) ≡ true)
-committed_some None h = absurd (true≢false (sym h))
-committed_some (Some how) h = (how, refl, h)
-
 aborted_stays : (newer past : Past) (n : Name) → is_aborted (outcome past n) ≡ true → is_aborted (outcome (newer ++ past) n) ≡ true
 aborted_stays newer past n h = let how = aborted_how (end past n) h in ap (λ o. is_aborted (outcome_of o)) (end_stays newer past n how.0 how.1) ∙ how.2
-
-committed_stays : (newer past : Past) (n : Name) → is_committed (outcome past n) ≡ true → is_committed (outcome (newer ++ past) n) ≡ true
-committed_stays newer past n h = let how = committed_some (end past n) h in ap (λ o. is_committed (outcome_of o)) (end_stays newer past n how.0 how.1) ∙ how.2
 
 found_wider : (p q : Name → Bool) → ((n : Name) → p n ≡ true → q n ≡ true) → (ns : List Name) → is_some (find p ns) ≡ true → is_some (find q ns) ≡ true
 found_wider p q step [] h = h
@@ -60,19 +62,10 @@ found_wider p q step (n ∷ ns) h = by_test (p n) (q n) (step n) h (found_wider 
 pub dead_stays : (newer past : Past) (n : Name) → is_some (dead past n) ≡ true → is_some (dead (newer ++ past) n) ≡ true
 dead_stays newer past n = found_wider (λ a. is_aborted (outcome past a)) (λ a. is_aborted (outcome (newer ++ past) a)) (aborted_stays newer past) (ancestors n)
 
-all_wider : (p q : Name → Bool) → ((n : Name) → p n ≡ true → q n ≡ true) → (ns : List Name) → list_all p ns ≡ true → list_all q ns ≡ true
-all_wider p q step [] h = refl
-all_wider p q step (n ∷ ns) h = let parts = and_parts (p n) (list_all p ns) h in ap₂ ◌&&◌ (step n parts.0) (all_wider p q step ns parts.1)
-
-or_wider : (a b c d : Bool) → (a ≡ true → c ≡ true) → (b ≡ true → d ≡ true) → (a || b) ≡ true → (c || d) ≡ true
-or_wider true b c d f g h = ap (λ x. x || d) (f refl)
-or_wider false b true d f g h = refl
-or_wider false b false d f g h = g h
-
 clear_stays : (newer past : Past) (b a : Name) → clear past b a ≡ true → clear (newer ++ past) b a ≡ true
 clear_stays newer past b a = or_wider (is_some (dead past b)) _ (is_some (dead (newer ++ past) b)) _ (dead_stays newer past b)
-    (all_wider (λ c. name.is_ancestor c a || is_committed (outcome past c)) (λ c. name.is_ancestor c a || is_committed (outcome (newer ++ past) c))
-    (λ c. or_wider (name.is_ancestor c a) (is_committed (outcome past c)) (name.is_ancestor c a) (is_committed (outcome (newer ++ past) c)) (λ h. h) (committed_stays newer past c)) (ancestors b))
+    (all_wider (λ c. name.is_ancestor c a || is_committed (outcome past c)) (λ c. name.is_ancestor c a || is_committed (outcome (newer ++ past) c)) (ancestors b)
+    (λ c. or_wider (name.is_ancestor c a) (is_committed (outcome past c)) (name.is_ancestor c a) (is_committed (outcome (newer ++ past) c)) (λ h. h) (committed_still newer past c)))
 
 -- WHO LIVES ON
 
@@ -94,19 +87,15 @@ not_aborted newer past a c alive h = elim (or_cases (name.is_ancestor c a) (is_c
 lives_on : (newer past : Past) (b a : Name) → dead (newer ++ past) a ≡ None → clear past b a ≡ true → is_none (dead (newer ++ past) b) ≡ is_none (dead past b)
 lives_on newer past b a alive h = by_death (dead past b) refl
   where
-    some_none : {X : Type 0} (o : Option X) → is_some o ≡ true → is_none o ≡ false
-    some_none None h = absurd (true≢false (sym h))
-    some_none (Some x) h = refl
-
     by_death : (o : Option Name) → dead past b ≡ o → is_none (dead (newer ++ past) b) ≡ is_none (dead past b)
-    by_death (Some x) is = some_none (dead (newer ++ past) b) (dead_stays newer past b (ap is_some is)) ∙ sym (ap is_none is)
+    by_death (Some x) is = some_not_none (dead (newer ++ past) b) (dead_stays newer past b (ap is_some is)) ∙ sym (ap is_none is)
     by_death None is =
         let each = ap (λ o. is_some o || list_all (λ c. name.is_ancestor c a || is_committed (outcome past c)) (ancestors b)) (sym is) ∙ h in
         ap is_none (none_found (λ c. is_aborted (outcome (newer ++ past) c)) (ancestors b)
-        (all_wider (λ c. name.is_ancestor c a || is_committed (outcome past c)) (λ c. not (is_aborted (outcome (newer ++ past) c))) (λ c. not_aborted newer past a c alive) (ancestors b) each))
+        (all_wider (λ c. name.is_ancestor c a || is_committed (outcome past c)) (λ c. not (is_aborted (outcome (newer ++ past) c))) (ancestors b) (λ c. not_aborted newer past a c alive) each))
         ∙ sym (ap is_none is)
 
--- FREE GRANTS
+pub -- FREE GRANTS
 
 pub free_parts : (p : Grant → Bool) (gs : List Grant) → option_map (λ (g : Grant). g.access) (find p gs) ≡ None → AllByRecursion (λ g. p g ≡ false) gs
 free_parts p [] h = tt
@@ -136,26 +125,18 @@ none_in_way newer past rec op a (g ∷ gs) all = (not_in_way newer past rec op a
 
 -- what a copy holds is what it held: a put that is not in the way lives on or was dead, and a read changes nothing
 module _ (newer past : Past) (rec : ℕ) (op : Op) (a : Name) (alive : dead (newer ++ past) a ≡ None) where
+  live_same : (g : Grant) → is_in_way past rec op a g ≡ false → conflict g.op op ≡ true → is_live_at (newer ++ past) rec g ≡ is_live_at past rec g
+  live_same g h con = by_test (g.rec == rec) (clear past g.access a) (is_none (dead (newer ++ past) g.access)) (is_none (dead past g.access)) (λ c. lives_on newer past g.access a alive c) (ap (λ c. (g.rec == rec) && c && not (clear past g.access a)) (sym con) ∙ h)
+    where
+      by_test : (r c x y : Bool) → (c ≡ true → x ≡ y) → (r && true && not c) ≡ false → (r && x) ≡ (r && y)
+      by_test false c x y s h = refl
+      by_test true true x y s h = s refl
+      by_test true false x y s h = absurd (true≢false h)
+
   same_change : (g : Grant) → is_in_way past rec op a g ≡ false → (o : Op) → g.op ≡ o → (is_live_at (newer ++ past) rec g ≡ is_live_at past rec g) ⊎ ((t : Tuple) → after t o ≡ t)
   same_change g h Get is = inr (λ t. refl)
   same_change g h (PutData version value) is = inl (live_same g h (ap (λ o. conflict o op) is))
-    where
-      live_same : (g : Grant) → is_in_way past rec op a g ≡ false → conflict g.op op ≡ true → is_live_at (newer ++ past) rec g ≡ is_live_at past rec g
-      live_same g h con = by_test (g.rec == rec) (clear past g.access a) (is_none (dead (newer ++ past) g.access)) (is_none (dead past g.access)) (λ c. lives_on newer past g.access a alive c) (ap (λ c. (g.rec == rec) && c && not (clear past g.access a)) (sym con) ∙ h)
-        where
-          by_test : (r c x y : Bool) → (c ≡ true → x ≡ y) → (r && true && not c) ≡ false → (r && x) ≡ (r && y)
-          by_test false c x y s h = refl
-          by_test true true x y s h = s refl
-          by_test true false x y s h = absurd (true≢false h)
   same_change g h (PutConfig generation config) is = inl (live_same g h (ap (λ o. conflict o op) is))
-    where
-      live_same : (g : Grant) → is_in_way past rec op a g ≡ false → conflict g.op op ≡ true → is_live_at (newer ++ past) rec g ≡ is_live_at past rec g
-      live_same g h con = by_test (g.rec == rec) (clear past g.access a) (is_none (dead (newer ++ past) g.access)) (is_none (dead past g.access)) (λ c. lives_on newer past g.access a alive c) (ap (λ c. (g.rec == rec) && c && not (clear past g.access a)) (sym con) ∙ h)
-        where
-          by_test : (r c x y : Bool) → (c ≡ true → x ≡ y) → (r && true && not c) ≡ false → (r && x) ≡ (r && y)
-          by_test false c x y s h = refl
-          by_test true true x y s h = s refl
-          by_test true false x y s h = absurd (true≢false h)
 
   pub changed_same : (t : Tuple) (gs : List Grant) → AllByRecursion (λ g. is_in_way past rec op a g ≡ false) gs → changed_by t (filter (is_live_at (newer ++ past) rec) gs) ≡ changed_by t (filter (is_live_at past rec) gs)
   changed_same t [] all = refl

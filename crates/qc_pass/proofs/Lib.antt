@@ -3,12 +3,10 @@ pub mod Moves
 pub mod Numbers
 pub mod Since
 pub mod Begun
-pub mod Fewer
 pub mod Counting
 pub mod Calls
 pub mod Entering
 pub mod Lasting
-pub mod Requests
 pub mod Others
 pub mod OwnSince
 pub mod OwnEnding

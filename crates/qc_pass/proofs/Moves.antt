@@ -323,6 +323,9 @@ notes id v s h at =
       },
     )
 
+same_cells : (ws : List ℕ) (n next : ℕ) → ws ≡ n ∷ next ∷ [] → slice_set ws 0 (slice_index ws 0) ≡ n ∷ next ∷ []
+same_cells ws n next cells = rw cells refl
+
 -- the pass with the right looks at the history
 pub looks : (slots id : ℕ) (v : View) (c : List (ℕ × Entry)) → v.rules ≡ true → Allows Kept slots id (v, c) 0 (λ n. n) (Looks (step slots 0 0 0 none) (v, c))
 looks slots id v c rules s h few at range =
@@ -352,9 +355,6 @@ looks slots id v c rules s h few at range =
       ),
       (refl, subst (λ (x : List Entry). IsOlder v.seen x) (sym whole) mine.prefix, λ l. ap (entries_of v.number) whole ∙ mine.mine l),
     )
-  where
-    same_cells : (ws : List ℕ) (n next : ℕ) → ws ≡ n ∷ next ∷ [] → slice_set ws 0 (slice_index ws 0) ≡ n ∷ next ∷ []
-    same_cells ws n next cells = rw cells refl
 
 -- the moves, at a view that is known
 pub cuts_as : (id : ℕ) (v : View) (log : List Entry) → v ≡ ruler log → Splits Kept id v spent v
@@ -396,9 +396,6 @@ takes slots id v c rules s h few at range =
       ),
       refl,
     )
-  where
-    same_cells : (ws : List ℕ) (n next : ℕ) → ws ≡ n ∷ next ∷ [] → slice_set ws 0 (slice_index ws 0) ≡ n ∷ next ∷ []
-    same_cells ws n next cells = rw cells refl
 
 -- what a push leaves
 pub held_after : (setting : Setting) (log log' : List Entry) (v v' : View) (e : Entry) (r : Result (Unit {0}) Short) → e.seat ≡ v.number → Allowed (setting) log e

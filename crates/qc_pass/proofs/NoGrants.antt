@@ -19,7 +19,7 @@ use Rattle.qc_event.specs.Seats.{copy_seat}
 use Rattle.qc_event.specs.Seen.{is_in_way, is_live_at, changed_by}
 use Rattle.qc_event.proofs.Absent.{same_is, if_not}
 use Rattle.qc_pass.specs.Entries.{AreOthers}
-use Rattle.qc_pass.proofs.Begun.{started_at}
+use Rattle.qc_event.proofs.Options.{some_there}
 use Rattle.qc_pass.proofs.Granting.{asked_stays, dead_stays, free_parts, free_again, none_in_way, changed_same}
 
 -- none of these entries is a grant of the copy
@@ -53,7 +53,7 @@ module _ (setting : Setting) (past : Past) (copy : ℕ) where
     where
       of_copy : (c : ℕ) (g : Grant) → MayGrant setting (newer ++ past) e.seat c g → same g.access n ≡ true → c ≡ copy
       of_copy c g h here =
-          let there = started_at (asked (newer ++ past) g.access) _ h.request in
+          let there = some_there (asked (newer ++ past) g.access) _ h.request in
           let one : Some there.0 ≡ Some a = sym there.1 ∙ ap (asked (newer ++ past)) (same_is g.access n here) ∙ asked_stays newer past n a is in
           let same_ask : there.0 ≡ a = cc in
           ap (λ (x : Ask). x.copy) (sym there.2) ∙ ap (λ (x : Asked). x.ask.copy) same_ask ∙ at
@@ -79,7 +79,7 @@ grant_still_allowed setting past newer seat copy grant legal all may =
     }
   where
     there : (a : Asked) × (asked past grant.access ≡ Some a) × (a.ask ≡ record { access = grant.access; copy = copy; rec = grant.rec; op = grant.op })
-    there = started_at (asked past grant.access) (λ a. a.ask ≡ record { access = grant.access; copy = copy; rec = grant.rec; op = grant.op }) may.request
+    there = some_there (asked past grant.access) (λ a. a.ask ≡ record { access = grant.access; copy = copy; rec = grant.rec; op = grant.op }) may.request
 
     -- who lives now lived then
     lived : dead (newer ++ past) grant.access ≡ None → dead past grant.access ≡ None

@@ -6,7 +6,7 @@ use native.Mathlib.Decide.{ℕ_discrete, dec_le}
 use mathlib.Core.Logic.{dite}
 use lib.ListN.{get_elem?}
 use prog.Atomic.{either}
-use Rattle.atomic_table.specs.Table.{State, Step, Me, step, keeps, Allows, Splits, Joins}
+use Rattle.atomic_table.specs.Table.{State, Me, step, keeps, Allows, Splits, Joins}
 use Rattle.atomic_table.proofs.Lists.{at_set, at_last, at_longer, set_again, set_else}
 use Rattle.qc_event.specs.Base.{Setting}
 use Rattle.qc_event.specs.declared.event.Entry.{Entry}
@@ -358,6 +358,9 @@ settled s id v h at rules live zero_is out clear =
         (λ (nz : u.number ≢ 0). absurd (has_none (n, g.3) (subst (λ (o : List (ℕ × List Entry)). Has o (n, g.3)) (f.low g.2 (pos u.number nz) low).1 g.4))))
         (λ (high : ¬ (u.number ≤ 17)). absurd (deeper (lt_of_not-le high) by (f.holds g.2)))
 
+kept_length : (ws : List ℕ) (m next : ℕ) → ws ≡ m ∷ next ∷ [] → slice_set ws 0 (slice_index ws 0) ≡ ws
+kept_length ws m next cells = rw cells refl
+
 pub settles : (slots id : ℕ) (v : View) (c : List (ℕ × Entry)) → v.rules ≡ true → v.live ≡ true → v.number ≡ 0 → v.out ≡ [] → v.flight ≡ [] → Allows Kept slots id (v, c) 0 (λ n. n) (Settles (step slots 0 0 0 none) (v, c))
 settles slots id v c rules live zero_is out clear s h few at range =
     let k = h.4 in
@@ -369,9 +372,6 @@ settles slots id v c rules live zero_is out clear s h few at range =
       (h.0, h.1, h.2, h.3, subst (λ (x : List ℕ × List View). IsKept x.0 x.1 h.0 h.1 h.2 h.3) (λ i. (sym words i, sym views i)) k),
       (refl, settled s id v h at rules live zero_is out clear),
     )
-  where
-    kept_length : (ws : List ℕ) (m next : ℕ) → ws ≡ m ∷ next ∷ [] → slice_set ws 0 (slice_index ws 0) ≡ ws
-    kept_length ws m next cells = rw cells refl
 
 -- the kin of one pass become another's
 abbrev redirect : ℕ → ℕ → Role → Role
@@ -556,9 +556,6 @@ unused slots id v c live zero_is less s h few at range =
       (h.0, h.1, h.2, h.3, subst (λ (x : List ℕ × List View). IsKept x.0 x.1 h.0 h.1 h.2 h.3) (λ i. (sym words i, sym views i)) k),
       (refl, entries_none (v.count + 1) v.seen h.0 mine.prefix (k.quiet (v.count + 1) (mine.count live zero_is (v.count + 1) (omega arith) (omega (arith, less))))),
     )
-  where
-    kept_length : (ws : List ℕ) (m next : ℕ) → ws ≡ m ∷ next ∷ [] → slice_set ws 0 (slice_index ws 0) ≡ ws
-    kept_length ws m next cells = rw cells refl
 
 -- a new pass
 pub new_rest : (setting : Setting) (n : ℕ) (seen : List Entry) (w : View) → w ≡ pass n seen → IsLegal setting seen → entries_of n seen ≡ [] → IsAtRest setting w

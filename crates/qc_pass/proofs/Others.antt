@@ -1,12 +1,10 @@
 -- What an entry under another seat leaves of a manager and of its accesses.
-use Rattle.std.proofs.Common.{◌≡◌, ℕ, Bool, true, false, [], ◌∷◌, ◌<◌, ◌≤◌, length, arith, refl, sym, ap, ◌∙◌, subst, inl, inr}
-use mathlib.Core.Bool.{true≢false}
-use Rattle.std.specs.Prelude.{Option, None, Some, MatchOption, if◌then◌else◌, is_some}
+use Rattle.std.proofs.Common.{◌≡◌, ℕ, true, [], ◌∷◌, ◌≤◌, length, arith, refl, sym, ap, ◌∙◌, subst, inl, inr}
+use Rattle.std.specs.Prelude.{Option, None, Some, MatchOption, is_some}
 use Rattle.std.specs.Option.{option_or}
 use Rattle.std.proofs.lemmas.Bool.{false_from_ne_true}
 use Rattle.qc_names.specs.Name as name
 use Rattle.qc_event.specs.declared.event.Answer.{Answer}
-use Rattle.qc_event.specs.declared.event.Answer.TheVariants.{Reply}
 use Rattle.qc_event.specs.declared.event.Cause.{Cause}
 use Rattle.qc_event.specs.declared.event.Entry.{Entry}
 use Rattle.qc_event.specs.declared.event.Event.{Event}
@@ -15,38 +13,30 @@ use Rattle.qc_event.specs.declared.event.How.{How}
 use Rattle.qc_event.specs.declared.event.How.TheVariants.{Commit, Abort}
 use Rattle.qc_event.specs.declared.event.Kind.{Kind}
 use Rattle.qc_event.specs.declared.event.Kind.TheVariants as kind
-use Rattle.qc_event.specs.declared.event.Refusal.{Refusal}
-use Rattle.qc_event.specs.declared.event.Refusal.TheVariants.{Blocked, Dead}
-use Rattle.qc_event.specs.declared.event.Why.{Why}
 use Rattle.qc_event.specs.Aborts.{Licensed, AccessCause}
 use Rattle.qc_event.specs.Base.{Setting}
 use Rattle.qc_event.specs.Commits.{MayCommit, MayCommitAccess}
-use Rattle.qc_event.specs.Dead.{outcome_of, is_aborted, dead}
-use Rattle.qc_event.specs.Grants.{IsRefusal, MayRefuse}
-use Rattle.qc_event.specs.History.{Past, Name, Begun, Asked, same, start, end, end_in, child_in, ask_below, ask_in, asked, gone_in, gone, refused, refusal_in, is_child}
+use Rattle.qc_event.specs.History.{Past, Name, Begun, Asked, same, start, end, end_in, child_in, ask_below, ask_in, asked, gone_in, gone, is_child}
 use Rattle.qc_event.specs.Legal.{Legal, Allowed, MayHappen, MayEnd}
-use Rattle.qc_event.specs.Manager.{result, result_by}
+use Rattle.qc_event.specs.Manager.{result}
 use Rattle.qc_event.specs.Requests.{MayAsk}
-use Rattle.qc_event.specs.Standing.{IsUser, IsManager, Started}
+use Rattle.qc_event.specs.Standing.{IsManager, Started}
 use Rattle.qc_event.specs.Starts.{Stands, Starts}
-use Rattle.qc_event.specs.Users.{MayStartNext}
 use Rattle.qc_event.proofs.Absent.{same_is, if_not}
-use Rattle.qc_event.proofs.LastNumber.{child_last, front_last, length_last}
-use Rattle.qc_event.proofs.Lawful.{Lawful, lawful, started_wider, some_how}
+use Rattle.qc_event.proofs.AskedAccess.{asking}
+use Rattle.qc_event.proofs.BelowTops.{next_below}
+use Rattle.qc_event.proofs.KindsApart.{user_or_manager}
+use Rattle.qc_event.proofs.LastNumber.{child_front, child_last, length_last}
+use Rattle.qc_event.proofs.LateRefusals as late
+use Rattle.qc_event.proofs.Lawful.{Lawful, lawful, started_wider}
 use Rattle.qc_event.proofs.LegalOrderly.{legal_orderly}
-use Rattle.qc_event.proofs.Lineage.{alive_not_aborted}
-use Rattle.qc_event.proofs.OneEntry.{if_is, first_is, started_stays}
+use Rattle.qc_event.proofs.OneEntry.{first_is, started_stays}
+use Rattle.qc_event.proofs.Options.{some_there, still}
 use Rattle.qc_event.proofs.Orderly.{Belongs}
-use Rattle.qc_pass.proofs.Begun.{manager_name, started_at}
-use Rattle.qc_copy.proofs.Asked.{asked_access}
-use Rattle.qc_pass.proofs.Requests.{still}
+use Rattle.qc_copy.proofs.Begun.{manager_name}
 use Rattle.qc_pass.specs.Own.{IsMine}
 
 -- WHO ENDS A MANAGER
-
-user_or_manager : (k : Kind) → IsUser k → IsManager k → ⊥
-user_or_manager (kind.User session body) user manager = manager
-user_or_manager _ user manager = user
 
 commit_seat : (setting : Setting) (past : Past) (seat : ℕ) (n : Name) (b : Begun) (given : Answer) (k : Kind) → IsManager k → MayCommit setting past seat n b given k → seat ≡ b.seat
 commit_seat setting past seat n b given (kind.Read rec) manager may = may.own_seat
@@ -73,21 +63,6 @@ both P Q (Some x) apart p q = apart x p q
 -- WHO ASKED
 
 -- the manager of an access that asked was started under the seat of the request
-record IsAsk (n : Name) (seat : ℕ) (ev : Event) (a : Asked) : Type 0 where
-  same_seat : seat ≡ a.seat
-  asks : ev ≡ event.Ask a.ask
-  of_name : a.ask.access ≡ n
-
-asking : (n : Name) (seat : ℕ) (ev : Event) (a : Asked) → ask_in n seat ev ≡ Some a → IsAsk n seat ev a
-asking n seat (event.Ask ask) a is =
-    let parts = if_is (same ask.access n) (record { seat = seat; ask = ask }) a is in
-    record {
-      same_seat = ap (λ (x : Asked). x.seat) parts.1;
-      asks = ap (λ (x : Asked). event.Ask x.ask) parts.1;
-      of_name = sym (ap (λ (x : Asked). x.ask.access) parts.1) ∙ same_is ask.access n parts.0;
-    }
-asking n seat _ a is = absurd cc
-
 pub asked_seat : (setting : Setting) (past : Past) (n : Name) (a : Asked) → Legal setting past → asked past n ≡ Some a → Started past (name.front n) (λ m. m.seat ≡ a.seat)
 asked_seat setting [] n a legal is = absurd cc
 asked_seat setting (e ∷ past) n a legal is = started_stays e past (name.front n) (λ m. m.seat ≡ a.seat) (elim (first_is (asked past n) (ask_in n e.seat e.event) a is) [
@@ -100,11 +75,6 @@ asked_seat setting (e ∷ past) n a legal is = started_stays e past (name.front 
 
 -- WHAT ANOTHER'S ENTRY LEAVES
 
-below_top : (setting : Setting) (past : Past) (seat : ℕ) (n : Name) (k : Kind) → 1 < length n → Starts setting past seat n k → MayStartNext (λ p. Stands setting seat p (length n) k) past seat n
-below_top setting past seat [] k long h = absurd h
-below_top setting past seat (x ∷ []) k long h = absurd (omega arith)
-below_top setting past seat (x ∷ y ∷ r) k long h = h
-
 under_manager : (setting : Setting) (seat : ℕ) (p : Begun) (d : ℕ) (k : Kind) → IsManager p.kind → Stands setting seat p d k → seat ≡ p.seat
 under_manager setting seat p d kind.Access manager h = h.1
 under_manager setting seat p d (kind.User session body) manager h = absurd (user_or_manager p.kind h.0 manager)
@@ -112,39 +82,13 @@ under_manager setting seat p d (kind.Read rec) manager h = absurd (user_or_manag
 under_manager setting seat p d (kind.Write rec value) manager h = absurd (user_or_manager p.kind h.0 manager)
 under_manager setting seat p d (kind.Reconf rec config) manager h = absurd (user_or_manager p.kind h.0 manager)
 
--- a refusal that blocks nobody
-abbrev IsNoBlock : Option Refusal → Type 0
-IsNoBlock (Some (Blocked holder)) = ⊥
-IsNoBlock _ = Unit {0}
-
-committed : (given : Answer) (why : Option Why) (refusal : Option Refusal) → result_by (Some (Commit given)) why refusal ≡ result_by (Some (Commit given)) why None
-committed (Reply tuple) why refusal = refl
-committed _ why refusal = refl
-
-later_refusal : (how : How) (why : Option Why) (old new : Option Refusal) → ((c : Cause) → how ≡ Abort c → IsNoBlock new) → result_by (Some how) why (option_or old new) ≡ result_by (Some how) why old
-later_refusal how why (Some r) new h = refl
-later_refusal how why None None h = refl
-later_refusal (Commit given) why None (Some r) h = committed given why (Some r)
-later_refusal (Abort c) (Some w) None (Some r) h = refl
-later_refusal (Abort c) None None (Some (Dead a)) h = refl
-later_refusal (Abort c) None None (Some (Blocked b)) h = absurd (h c refl)
-
-aborted_unblocked : (past : Past) (seat : ℕ) (n : Name) (copy : ℕ) (h : Name) (c : Cause) → MayRefuse past seat n copy (Blocked h) → end past n ≡ Some (Abort c) → ⊥
-aborted_unblocked past seat n copy h c may is =
-    let there = started_at (asked past n) (λ a. IsRefusal past a.ask (Blocked h)) may.reason in
-    let alive : dead past n ≡ None = ap (dead past) (sym (asked_access past n there.0 there.1)) ∙ there.2.0 in
-    true≢false (ap (λ o. is_aborted (outcome_of o)) (sym is) ∙ alive_not_aborted past n alive)
-
 module _ (setting : Setting) (e : Entry) (past : Past) (seat : ℕ) (m : Name) (other : e.seat ≡ seat → ⊥) (legal : Legal setting past) (may : Allowed setting past e) (mine : IsMine past seat m) where
   long : 2 ≤ length m
-  long = let there = started_at (start past m) (λ b. IsManager b.kind × (b.seat ≡ seat)) mine in (manager_name setting past m there.0 legal there.1 there.2.0).below_a_top
+  long = let there = some_there (start past m) (λ b. IsManager b.kind × (b.seat ≡ seat)) mine in (manager_name setting past m there.0 legal there.1 there.2.0).below_a_top
 
   -- who started under the entry's seat is not this manager
   not_by : (n : Name) → n ≡ m → Started past n (λ b. b.seat ≡ e.seat) → ⊥
   not_by n is at = both (λ b. b.seat ≡ e.seat) (λ b. IsManager b.kind × (b.seat ≡ seat)) (start past m) (λ b x y. other (sym x ∙ y.1)) (subst (λ x. Started past x (λ b. b.seat ≡ e.seat)) is at) mine
-
-  child_front : (c : Name) → is_child m c ≡ true → name.front c ≡ m
-  child_front c is = let l = child_last m c is in ap name.front l.1 ∙ front_last m l.0
 
   pub no_end : end_in m e.event ≡ None
   no_end = by_event e.event may
@@ -162,9 +106,9 @@ module _ (setting : Setting) (e : Entry) (past : Past) (seat : ℕ) (m : Name) (
       clash : (c : Name) (k : Kind) → is_child m c ≡ true → Starts setting past e.seat c k → ⊥
       clash c k is h =
           let l = child_last m c is in
-          let next = below_top setting past e.seat c k (omega (arith, long, ap length l.1, length_last m l.0)) h in
+          let next = next_below setting past e.seat c k (omega (arith, long, ap length l.1, length_last m l.0)) h in
           both (λ p. Stands setting e.seat p (length c) k) (λ b. IsManager b.kind × (b.seat ≡ seat)) (start past m) (λ b x y. other (under_manager setting e.seat b (length c) k y.0 x ∙ y.1))
-          (subst (λ x. Started past x (λ p. Stands setting e.seat p (length c) k)) (child_front c is) next.stands) mine
+          (subst (λ x. Started past x (λ p. Stands setting e.seat p (length c) k)) (child_front m c is) next.stands) mine
 
       by_event : (ev : Event) → MayHappen setting past e.seat ev → child_in m ev ≡ None
       by_event (event.Start c k) h = if_not (is_child m c) (Some c) (false_from_ne_true (is_child m c) (λ is. clash c k is h))
@@ -174,7 +118,7 @@ module _ (setting : Setting) (e : Entry) (past : Past) (seat : ℕ) (m : Name) (
   no_ask = by_event e.event may
     where
       by_event : (ev : Event) → MayHappen setting past e.seat ev → ask_below m ev ≡ None
-      by_event (event.Ask ask) h = if_not (is_child m ask.access) (Some ask) (false_from_ne_true (is_child m ask.access) (λ is. not_by (name.front ask.access) (child_front ask.access is) h.manager_started))
+      by_event (event.Ask ask) h = if_not (is_child m ask.access) (Some ask) (false_from_ne_true (is_child m ask.access) (λ is. not_by (name.front ask.access) (child_front m ask.access is) h.manager_started))
       by_event _ h = refl
 
   module _ (c : Name) (child : is_child m c ≡ true) where
@@ -182,14 +126,14 @@ module _ (setting : Setting) (e : Entry) (past : Past) (seat : ℕ) (m : Name) (
     no_request = by_event e.event may
       where
         by_event : (ev : Event) → MayHappen setting past e.seat ev → ask_in c e.seat ev ≡ None
-        by_event (event.Ask ask) h = if_not (same ask.access c) _ (false_from_ne_true (same ask.access c) (λ is. not_by (name.front ask.access) (ap name.front (same_is ask.access c is) ∙ child_front c child) h.manager_started))
+        by_event (event.Ask ask) h = if_not (same ask.access c) _ (false_from_ne_true (same ask.access c) (λ is. not_by (name.front ask.access) (ap name.front (same_is ask.access c is) ∙ child_front m c child) h.manager_started))
         by_event _ h = refl
 
     -- a request of the access is not the entry's client's
     not_asked_by : MatchOption (asked past c) ⊥ (λ a. a.seat ≡ e.seat) → ⊥
     not_asked_by at =
-        let there = started_at (asked past c) (λ a. a.seat ≡ e.seat) at in
-        not_by (name.front c) (child_front c child) (started_wider (λ b. b.seat ≡ there.0.seat) (λ b. b.seat ≡ e.seat) (start past (name.front c)) (λ b x. x ∙ there.2) (asked_seat setting past c there.0 legal there.1))
+        let there = some_there (asked past c) (λ a. a.seat ≡ e.seat) at in
+        not_by (name.front c) (child_front m c child) (started_wider (λ b. b.seat ≡ there.0.seat) (λ b. b.seat ≡ e.seat) (start past (name.front c)) (λ b x. x ∙ there.2) (asked_seat setting past c there.0 legal there.1))
 
     pub no_giving_up : gone_in c e.event ≡ None
     no_giving_up = by_event e.event may
@@ -205,7 +149,7 @@ module _ (setting : Setting) (e : Entry) (past : Past) (seat : ℕ) (m : Name) (
         law = lawful past (legal_orderly setting past legal)
 
         front_is : name.front c ≡ m
-        front_is = child_front c child
+        front_is = child_front m c child
 
         by_parent : (p : Begun) (k : Kind) → IsManager p.kind → Belongs p k → k ≡ kind.Access
         by_parent p kind.Access manager h = refl
@@ -236,7 +180,7 @@ module _ (setting : Setting) (e : Entry) (past : Past) (seat : ℕ) (m : Name) (
 
         clash : (how : How) → Started past c (MayEnd setting past e.seat c how) → ⊥
         clash how ends =
-            let there = started_at (start past c) (MayEnd setting past e.seat c how) ends in
+            let there = some_there (start past c) (MayEnd setting past e.seat c how) ends in
             by_kind how there.0 there.0.kind (access there.0 there.1) refl there.2
 
         by_event : (ev : Event) → MayHappen setting past e.seat ev → end_in c ev ≡ None
@@ -245,19 +189,5 @@ module _ (setting : Setting) (e : Entry) (past : Past) (seat : ℕ) (m : Name) (
 
     -- the result of an access that has ended stays, whoever the entry is of
     pub result_stays : is_some (end past c) ≡ true → result (e ∷ past) c ≡ result past c
-    result_stays ended =
-        let how = some_how (end past c) ended in
-        ap (λ o. result_by o (gone (e ∷ past) c) (refused (e ∷ past) c)) (ap (option_or (end past c)) no_access_end ∙ still (end past c))
-        ∙ ap (λ o. result_by (end past c) o (refused (e ∷ past) c)) (ap (option_or (gone past c)) no_giving_up ∙ still (gone past c))
-        ∙ ap (λ o. result_by o (gone past c) (refused (e ∷ past) c)) how.1
-        ∙ later_refusal how.0 (gone past c) (refused past c) (refusal_in c e.event) (λ x is. by_event e.event may x (how.1 ∙ ap (λ y. Some y) is))
-        ∙ ap (λ o. result_by o (gone past c) (refused past c)) (sym how.1)
-      where
-        by_refusal : (r : Refusal) (n : Name) (copy : ℕ) (b : Bool) → same n c ≡ b → MayRefuse past e.seat n copy r → (x : Cause) → end past c ≡ Some (Abort x) → IsNoBlock (if b then Some r else None)
-        by_refusal r n copy false is h x at = tt
-        by_refusal (Dead a) n copy true is h x at = tt
-        by_refusal (Blocked b) n copy true is h x at = aborted_unblocked past e.seat n copy b x h (ap (end past) (same_is n c is) ∙ at)
-
-        by_event : (ev : Event) → MayHappen setting past e.seat ev → (x : Cause) → end past c ≡ Some (Abort x) → IsNoBlock (refusal_in c ev)
-        by_event (event.Refused n copy r) h x at = by_refusal r n copy (same n c) refl h x at
-        by_event _ h x at = tt
+    result_stays ended = late.result_stays setting e past c may
+        (ap (option_or (end past c)) no_access_end ∙ still (end past c)) (ap (option_or (gone past c)) no_giving_up ∙ still (gone past c)) ended

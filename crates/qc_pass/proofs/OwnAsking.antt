@@ -1,7 +1,7 @@
 -- What an access may ask by its client's own entries, it may ask after all that others entered, unless it is dead.
 use Rattle.std.proofs.Common.{◌≡◌, ℕ, Bool, List, ◌++◌, sym, ap, ap₂, ◌∙◌, subst}
 use Rattle.std.proofs.Math.Path.{fun_ext}
-use Rattle.std.specs.Prelude.{Option, None, Some, MatchOption, ◌&&◌, ◌==◌, nat_lt, find, filter, is_none}
+use Rattle.std.specs.Prelude.{Option, None, MatchOption, ◌&&◌, ◌==◌, nat_lt, find, filter, is_none}
 use Rattle.std.specs.List.{AllByRecursion}
 use Rattle.qc_config.specs.Config.{votes_of}
 use Rattle.qc_config.specs.declared.tuple.Tuple.{Tuple}
@@ -19,15 +19,13 @@ use Rattle.qc_event.specs.Manager.{result, Stage, is_phase, phase_of, all_copies
 use Rattle.qc_event.specs.Requests.{IsNextAsk, MayAsk}
 use Rattle.qc_event.specs.Standing.{IsManager, Started}
 use Rattle.qc_event.proofs.LastNumber.{child_last, front_last}
+use Rattle.qc_event.proofs.Later.{started_still}
 use Rattle.qc_event.proofs.Lawful.{started_wider, started_some}
+use Rattle.qc_event.proofs.Options.{match_wider}
 use Rattle.qc_pass.specs.Entries.{AreOthers, entry}
 use Rattle.qc_pass.specs.Own.{MayAskOwn}
 use Rattle.qc_pass.proofs.OwnSince as since
-use Rattle.qc_pass.proofs.OwnSince.{started_since, stage_of, replies_by, has_by, replies_agree, has_agree}
-
-wider : {X : Type 0} (o : Option X) (P Q : X → Type 0) → ((x : X) → P x → Q x) → MatchOption o ⊥ P → MatchOption o ⊥ Q
-wider None P Q step h = absurd h
-wider (Some x) P Q step h = step x h
+use Rattle.qc_pass.proofs.OwnSince.{stage_of, replies_by, has_by, replies_agree, has_agree}
 
 abbrev next_by : List Ask → Stage → Option ℕ
 next_by requests s = find (λ copy. nat_lt 0 (votes_of s.config copy) && is_none (find (λ (ask : Ask). ask.copy == copy) (filter (λ (ask : Ask). is_phase s.phase (phase_of ask.op)) requests))) all_copies
@@ -44,7 +42,7 @@ at_stage_same setting before now m k ask same results at =
     let stages : stage now (first_for setting k) m k ≡ stage before (first_for setting k) m k =
     ap₂ (λ (t : List Tuple) (h : Phase → ℕ → Bool). stage_of t h (first_for setting k) k) tuples has in
     subst (λ o. MatchOption o ⊥ (IsNextAsk now m k ask)) (sym stages)
-    (wider (stage before (first_for setting k) m k) (IsNextAsk before m k ask) (IsNextAsk now m k ask)
+    (match_wider (stage before (first_for setting k) m k) (IsNextAsk before m k ask) (IsNextAsk now m k ask)
     (λ s next. record { next = ap (λ requests. next_by requests s) same ∙ next.next; same_record = next.same_record; same_op = next.same_op }) at)
 
 module _ (setting : Setting) (past newer : Past) (seat : ℕ) (legal : Legal setting (newer ++ past)) (all : AreOthers seat newer) where
@@ -62,11 +60,11 @@ module _ (setting : Setting) (past newer : Past) (seat : ℕ) (legal : Legal set
       asks_so : MayAsk setting now seat ask
       asks_so = record {
         by_client = may.by_client;
-        started = started_since newer past ask.access (λ a. (a.seat ≡ seat) × (a.kind ≡ kind.Access)) may.started;
-        manager_started = subst (λ x. Started now x (λ p. p.seat ≡ seat)) (sym front) (started_since newer past m (λ p. p.seat ≡ seat) (started_wider (λ p. IsManager p.kind × (p.seat ≡ seat)) (λ p. p.seat ≡ seat) (start past m) (λ p h. h.1) may.mine));
+        started = started_still newer past ask.access (λ a. (a.seat ≡ seat) × (a.kind ≡ kind.Access)) may.started;
+        manager_started = subst (λ x. Started now x (λ p. p.seat ≡ seat)) (sym front) (started_still newer past m (λ p. p.seat ≡ seat) (started_wider (λ p. IsManager p.kind × (p.seat ≡ seat)) (λ p. p.seat ≡ seat) (start past m) (λ p h. h.1) may.mine));
         going = record {
           is_open = record {
-            started = started_some (λ a. (a.seat ≡ seat) × (a.kind ≡ kind.Access)) (start now ask.access) (started_since newer past ask.access (λ a. (a.seat ≡ seat) × (a.kind ≡ kind.Access)) may.started);
+            started = started_some (λ a. (a.seat ≡ seat) × (a.kind ≡ kind.Access)) (start now ask.access) (started_still newer past ask.access (λ a. (a.seat ≡ seat) × (a.kind ≡ kind.Access)) may.started);
             not_ended = since.access_end_same setting past seat m may.mine newer legal all ask.access may.child ∙ may.is_open.not_ended;
           };
           alive = alive;
@@ -74,7 +72,7 @@ module _ (setting : Setting) (past newer : Past) (seat : ℕ) (legal : Legal set
         not_asked = since.asked_same setting past seat m may.mine newer legal all ask.access may.child ∙ may.not_asked;
         nothing_open = ap (waiting now) front ∙ since.waiting_same setting past seat m may.mine newer legal all ∙ may.nothing_open;
         of_stage = subst (λ x. Started now x (λ p. AtStage setting now x p.kind (IsNextAsk now x p.kind ask))) (sym front)
-            (started_since newer past m (λ p. AtStage setting now m p.kind (IsNextAsk now m p.kind ask))
-            (wider (start past m) (λ p. AtStage setting past m p.kind (IsNextAsk past m p.kind ask)) (λ p. AtStage setting now m p.kind (IsNextAsk now m p.kind ask))
+            (started_still newer past m (λ p. AtStage setting now m p.kind (IsNextAsk now m p.kind ask))
+            (match_wider (start past m) (λ p. AtStage setting past m p.kind (IsNextAsk past m p.kind ask)) (λ p. AtStage setting now m p.kind (IsNextAsk now m p.kind ask))
             (λ p h. at_stage_same setting past now m p.kind ask (since.asks_same setting past seat m may.mine newer legal all) (since.results_same setting past seat m may.mine newer legal all) h) may.of_stage));
       }

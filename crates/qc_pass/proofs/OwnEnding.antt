@@ -1,8 +1,8 @@
 -- What ends an access or commits a manager by what was seen does so after all that others entered, unless it has died.
-use Rattle.std.proofs.Common.{◌≡◌, inl, inr, ℕ, ◌+◌, Bool, true, false, List, [], ◌∷◌, ◌++◌, refl, sym, ap, ap₂, ◌∙◌, subst}
-use Rattle.std.specs.Prelude.{Option, None, Some, MatchOption, IsTrue, ◌&&◌, not, is_some}
+use Rattle.std.proofs.Common.{◌≡◌, inl, inr, ℕ, ◌+◌, Bool, true, false, List, ◌++◌, refl, sym, ap, ap₂, ◌∙◌, subst}
+use Rattle.std.specs.Prelude.{None, MatchOption, IsTrue, ◌&&◌, not, is_some}
 use Rattle.std.specs.List.{list_any, list_all}
-use Rattle.std.specs.Option.{option_or, option_map_or}
+use Rattle.std.specs.Option.{option_map_or}
 use Rattle.std.proofs.lemmas.Bool.{or_cases, or_left, or_right}
 use Rattle.std.proofs.lemmas.List.Folds.{list_any-append}
 use Rattle.qc_config.specs.Config.{Voting}
@@ -17,26 +17,19 @@ use Rattle.qc_event.specs.declared.event.Why.{Why}
 use Rattle.qc_event.specs.Base.{Setting}
 use Rattle.qc_event.specs.Commits.{MayCommitAccess, MayCommitManager, manager_answer}
 use Rattle.qc_event.specs.Dead.{dead}
-use Rattle.qc_event.specs.History.{Past, Name, Begun, Asked, Given, IsOpen, start, end, asked, granted, asks, is_child}
+use Rattle.qc_event.specs.History.{Past, Name, Begun, Asked, Given, IsOpen, start, end, asked, granted, is_child}
 use Rattle.qc_event.specs.Legal.{Legal}
-use Rattle.qc_event.specs.Manager.{result, stages_by, collecting, is_last, greatest_among, is_complete, first_for}
+use Rattle.qc_event.specs.Manager.{stages_by, collecting, is_last, greatest_among, is_complete, first_for}
 use Rattle.qc_event.specs.Requests.{MayGiveUp, is_fault, is_why, unable_in, was_unable}
 use Rattle.qc_event.specs.Seats.{is_client}
 use Rattle.qc_event.specs.Standing.{open_child}
 use Rattle.qc_event.proofs.Histories.{earliest-append}
-use Rattle.qc_event.proofs.OneEntry.{start_stays}
+use Rattle.qc_event.proofs.Options.{still_matches}
+use Rattle.qc_event.proofs.StillTold.{begun_still}
 use Rattle.qc_pass.specs.Entries.{AreOthers}
 use Rattle.qc_pass.specs.Own.{IsMine, IsComplete}
 use Rattle.qc_pass.proofs.OwnSince as since
-use Rattle.qc_pass.proofs.OwnSince.{replies_by, has_by, enough_of, newest_of, replies_agree, has_agree}
-
-still_there : {X : Type 0} (o new : Option X) (P : X → Type 0) → MatchOption o ⊥ P → MatchOption (option_or o new) ⊥ P
-still_there None new P h = absurd h
-still_there (Some x) new P h = h
-
-started_still : (newer past : Past) (n : Name) → is_some (start past n) ≡ true → is_some (start (newer ++ past) n) ≡ true
-started_still [] past n h = h
-started_still (e ∷ newer) past n h = start_stays e (newer ++ past) n (started_still newer past n h)
+use Rattle.qc_pass.proofs.OwnSince.{enough_of, newest_of}
 
 -- whether a manager is complete, by the replies to its reads and by who replied in each phase
 abbrev complete_of : List Tuple → (Phase → ℕ → Bool) → Voting → Kind → Bool
@@ -55,7 +48,7 @@ module _ (setting : Setting) (past newer : Past) (seat : ℕ) (m : Name) (mine :
 
   module _ (c : Name) (child : is_child m c ≡ true) where
     open_now : IsOpen past c → IsOpen now c
-    open_now was = record { started = started_still newer past c was.started; not_ended = since.access_end_same setting past seat m mine newer legal all c child ∙ was.not_ended }
+    open_now was = record { started = begun_still newer past c was.started; not_ended = since.access_end_same setting past seat m mine newer legal all c child ∙ was.not_ended }
 
     asked_now : MatchOption (asked past c) ⊥ (λ a. a.seat ≡ seat) → MatchOption (asked now c) ⊥ (λ a. a.seat ≡ seat)
     asked_now h = subst (λ o. MatchOption o ⊥ (λ (a : Asked). a.seat ≡ seat)) (sym (since.asked_same setting past seat m mine newer legal all c child)) h
@@ -81,20 +74,17 @@ module _ (setting : Setting) (past newer : Past) (seat : ℕ) (m : Name) (mine :
       asked_here = asked_now may.asked_here;
       going = record { is_open = open_now may.going.is_open; alive = alive };
       reply = subst (λ o. MatchOption o ⊥ (λ (g : Given). given ≡ answer.Reply g.grant.tuple)) (sym (earliest-append _ newer past))
-          (still_there (granted past c) (granted newer c) (λ g. given ≡ answer.Reply g.grant.tuple) may.reply);
+          (still_matches (granted past c) (granted newer c) (λ g. given ≡ answer.Reply g.grant.tuple) may.reply);
     }
 
   -- THE MANAGER
 
-  tuples_same : replies_by (asks now m) (result now) ≡ replies_by (asks past m) (result past)
-  tuples_same = since.tuples_same setting past newer seat m mine legal all
-
   complete_same : (first : Voting) (k : Kind) → is_complete now first m k ≡ is_complete past first m k
-  complete_same first k = ap₂ (λ (t : List Tuple) (h : Phase → ℕ → Bool). complete_of t h first k) tuples_same (since.has_same setting past newer seat m mine legal all)
+  complete_same first k = ap₂ (λ (t : List Tuple) (h : Phase → ℕ → Bool). complete_of t h first k) (since.tuples_same setting past newer seat m mine legal all) (since.has_same setting past newer seat m mine legal all)
 
   answer_same : (first : Voting) (k : Kind) → manager_answer now first m k ≡ manager_answer past first m k
-  answer_same first (kind.Read rec) = ap (λ t. answer.Value (greatest_among t).value) tuples_same
-  answer_same first (kind.Reconf rec config) = ap (λ t. answer.Generation ((newest_of t first).generation + 1)) tuples_same
+  answer_same first (kind.Read rec) = ap (λ t. answer.Value (greatest_among t).value) (since.tuples_same setting past newer seat m mine legal all)
+  answer_same first (kind.Reconf rec config) = ap (λ t. answer.Generation ((newest_of t first).generation + 1)) (since.tuples_same setting past newer seat m mine legal all)
   answer_same first (kind.Write rec value) = refl
   answer_same first (kind.User session body) = refl
   answer_same first kind.Access = refl
@@ -104,7 +94,7 @@ module _ (setting : Setting) (past newer : Past) (seat : ℕ) (m : Name) (mine :
   commits_now b given client own started not_ended alive closed = record {
     by_client = client;
     own_seat = own.own_seat;
-    going = record { is_open = record { started = started_still newer past m started; not_ended = not_ended }; alive = alive };
+    going = record { is_open = record { started = begun_still newer past m started; not_ended = not_ended }; alive = alive };
     complete = complete_same (first_for setting b.kind) b.kind ∙ own.complete;
     children_ended = closed;
     answers = own.answers ∙ sym (answer_same (first_for setting b.kind) b.kind);

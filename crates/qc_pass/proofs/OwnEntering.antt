@@ -25,9 +25,13 @@ use Rattle.qc_event.specs.Users.{MayCommitUser, MayCommitUserOrTop}
 use Rattle.qc_pass.specs.Entries.{AreOthers, IsSince, entry}
 use Rattle.qc_pass.specs.Own.{IsOwnAccess, MayReplyOwn, MayAskOwn, CommitsOwn, IsComplete}
 use Rattle.qc_pass.specs.Refusing.{if_ended, if_dead, if_open, against_commit, against_access}
-use Rattle.qc_pass.proofs.Begun.{HasRoom, user_short, manager_name, not_root, started_at}
-use Rattle.qc_pass.proofs.Entering.{neither, not_ended, alive, closed}
-use Rattle.qc_pass.proofs.Lasting.{match_stays, some_stays, is_stays, map_match}
+use Rattle.qc_event.proofs.Later.{started_still}
+use Rattle.qc_event.proofs.OneEntry.{none_before}
+use Rattle.qc_event.proofs.Options.{match_wider, some_there}
+use Rattle.qc_event.proofs.StillTold.{match_stays, some_stays, is_stays}
+use Rattle.qc_copy.proofs.Begun.{manager_name, user_short}
+use Rattle.qc_pass.proofs.Begun.{HasRoom, not_root}
+use Rattle.qc_pass.proofs.Entering.{not_ended, alive, closed}
 use Rattle.qc_pass.proofs.OwnAsking as asking
 use Rattle.qc_pass.proofs.OwnEnding as ending
 use Rattle.qc_pass.proofs.OwnSince as since
@@ -40,7 +44,7 @@ module _ (setting : Setting) (past newer : Past) (seat : ℕ) (n : Name) (own : 
   IsAccess a = (a.seat ≡ seat) × (a.kind ≡ kind.Access)
 
   there : (b : Begun) × (start later n ≡ Some b) × IsAccess b
-  there = started_at (start later n) IsAccess (since.started_since newer past n IsAccess own.started)
+  there = some_there (start later n) IsAccess (started_still newer past n IsAccess own.started)
 
   open_now : IsOpen later n
   open_now = record { started = some_stays _ newer past own.is_open.started; not_ended = since.access_end_same setting past seat own.manager own.mine newer legal all n own.child ∙ own.is_open.not_ended }
@@ -64,7 +68,7 @@ module _ (setting : Setting) (past newer : Past) (seat : ℕ) (n : Name) (own : 
         by_client = own.by_client;
         asked_here = match_stays _ newer past (λ a. a.seat ≡ seat) may.asked_here;
         going = record { is_open = open_now; alive = alive };
-        reply = map_match (granted later n) (λ g. g.grant.tuple ≡ tuple) (λ g. answer.Reply tuple ≡ answer.Reply g.grant.tuple) (λ g same. ap answer.Reply (sym same)) (match_stays _ newer past (λ g. g.grant.tuple ≡ tuple) may.reply);
+        reply = match_wider (granted later n) (λ g. g.grant.tuple ≡ tuple) (λ g. answer.Reply tuple ≡ answer.Reply g.grant.tuple) (λ g same. ap answer.Reply (sym same)) (match_stays _ newer past (λ g. g.grant.tuple ≡ tuple) may.reply);
       }
 
 -- AFTER THE LOOK
@@ -94,7 +98,7 @@ commits_user past seat (x ∷ y ∷ r) given long may = may
 
 pub commit_room : (setting : Setting) (seat : ℕ) (seen now : Past) (n : Name) (given : Answer) → Legal setting now → IsSince seat seen now → Started seen n (λ b. CommitsOwn setting seen seat n given b b.kind) → HasRoom n
 commit_room setting seat seen now n given legal s may =
-    let there = started_at (start seen n) (λ b. CommitsOwn setting seen seat n given b b.kind) may in
+    let there = some_there (start seen n) (λ b. CommitsOwn setting seen seat n given b b.kind) may in
     let begun : start now n ≡ Some there.0 = ap (λ p. start p n) s.1 ∙ is_stays (λ e. start_in n e.seat e.event) s.0 seen there.0 there.1 in
     record { below_a_top = not_root setting now n there.0 legal begun; room = by_kind there.0 there.0.kind refl begun there.2 }
   where
@@ -111,16 +115,16 @@ commit_enters setting seat seen now n given legal s client may none =
     subst (λ o. MatchOption o ⊥ (MayEnd setting now seat n (Commit given))) (sym begun) (by_kind there.0 there.0.kind refl there.1 there.2)
   where
     there : (b : Begun) × (start seen n ≡ Some b) × CommitsOwn setting seen seat n given b b.kind
-    there = started_at (start seen n) (λ b. CommitsOwn setting seen seat n given b b.kind) may
+    there = some_there (start seen n) (λ b. CommitsOwn setting seen seat n given b b.kind) may
 
     begun : start now n ≡ Some there.0
     begun = ap (λ p. start p n) s.1 ∙ is_stays (λ e. start_in n e.seat e.event) s.0 seen there.0 there.1
 
     first : (if_ended now n ≡ None) × (option_or (if_dead now n) (if_open now n) ≡ None)
-    first = neither (if_ended now n) (option_or (if_dead now n) (if_open now n)) none
+    first = none_before (if_ended now n) (option_or (if_dead now n) (if_open now n)) none
 
     second : (if_dead now n ≡ None) × (if_open now n ≡ None)
-    second = neither (if_dead now n) (if_open now n) first.1
+    second = none_before (if_dead now n) (if_open now n) first.1
 
     going : IsGoing now n
     going = record { is_open = record { started = ap is_some begun; not_ended = not_ended now n first.0 }; alive = alive now n second.0 }

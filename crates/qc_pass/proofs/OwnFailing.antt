@@ -20,7 +20,8 @@ use Rattle.qc_event.specs.Legal.{Legal}
 use Rattle.qc_event.specs.Manager.{Result, result, Stage, HasFailed, AtStage, stage, collecting, is_last, greatest_among, at_last_number, first_for, first_blocked, holder_of, why_of, is_phase, phase_of, all_copies}
 use Rattle.qc_pass.specs.Entries.{AreOthers}
 use Rattle.qc_pass.specs.Own.{IsMine}
-use Rattle.qc_pass.proofs.Lasting.{map_match, orphan_stays}
+use Rattle.qc_event.proofs.Options.{match_wider}
+use Rattle.qc_pass.proofs.Lasting.{orphan_stays}
 use Rattle.qc_pass.proofs.OwnSince as since
 use Rattle.qc_pass.proofs.OwnSince.{Agree, kept, find_same, stage_of, enough_of, newest_of}
 
@@ -101,10 +102,10 @@ module _ (setting : Setting) (past newer : Past) (seat : ℕ) (m : Name) (mine :
   conflict_still copy h s f = record { failed = failed_still s f.failed; first = subst (λ o. MatchOption o ⊥ (IsBlockedThere now copy h)) (sym (first_same s.phase)) there }
     where
       pairs : MatchOption (first_blocked past m s.phase) ⊥ (λ (ask : Ask). (ask.copy ≡ copy) × (holder_of (result past ask.access) ≡ Some h))
-      pairs = map_match (first_blocked past m s.phase) (IsBlockedThere past copy h) (λ (ask : Ask). (ask.copy ≡ copy) × (holder_of (result past ask.access) ≡ Some h)) (λ ask b. (b.there, b.holder)) f.first
+      pairs = match_wider (first_blocked past m s.phase) (IsBlockedThere past copy h) (λ (ask : Ask). (ask.copy ≡ copy) × (holder_of (result past ask.access) ≡ Some h)) (λ ask b. (b.there, b.holder)) f.first
 
       there : MatchOption (first_blocked past m s.phase) ⊥ (IsBlockedThere now copy h)
-      there = map_match (first_blocked past m s.phase) (λ (ask : Ask). (ask.copy ≡ copy) × (holder_of (result now ask.access) ≡ Some h)) (IsBlockedThere now copy h) (λ ask b. record { there = b.0; holder = b.1 })
+      there = match_wider (first_blocked past m s.phase) (λ (ask : Ask). (ask.copy ≡ copy) × (holder_of (result now ask.access) ≡ Some h)) (IsBlockedThere now copy h) (λ ask b. record { there = b.0; holder = b.1 })
           (found_there (result now) (result past) copy h (λ (ask : Ask). is_some (holder_of (result past ask.access))) (of_phase s.phase (asks past m)) (agree s.phase) pairs)
 
   lack_still : (lack : Lack) (s : Stage) → FailedByLack past m lack s → FailedByLack now m lack s
@@ -118,7 +119,7 @@ module _ (setting : Setting) (past newer : Past) (seat : ℕ) (m : Name) (mine :
   }
 
   at_stage : (k : Kind) (P Q : Stage → Type 0) → ((s : Stage) → P s → Q s) → AtStage setting past m k P → AtStage setting now m k Q
-  at_stage k P Q step h = subst (λ o. MatchOption o ⊥ Q) (sym (stage_same k)) (map_match (stage past (first_for setting k) m k) P Q step h)
+  at_stage k P Q step h = subst (λ o. MatchOption o ⊥ Q) (sym (stage_same k)) (match_wider (stage past (first_for setting k) m k) P Q step h)
 
   pub cause_stays : (k : Kind) (c : Cause) → ManagerCause setting past m k c → ManagerCause setting now m k c
   cause_stays k (cause.Conflict copy h) licensed = at_stage k (FailedByConflict past m copy h) (FailedByConflict now m copy h) (conflict_still copy h) licensed

@@ -13,20 +13,16 @@ use Rattle.qc_event.specs.declared.event.Kind.{Kind}
 use Rattle.qc_event.specs.declared.event.Phase.{Phase}
 use Rattle.qc_event.specs.Base.{Setting}
 use Rattle.qc_event.specs.Clear.{is_get}
-use Rattle.qc_event.specs.History.{Past, Name, Begun, earliest, every, end, end_in, children, child_in, asks, ask_below, asked, ask_in, gone, gone_in, refused, is_child}
+use Rattle.qc_event.specs.History.{Past, Name, earliest, every, end, end_in, children, child_in, asks, ask_below, asked, ask_in, gone, gone_in, refused, is_child}
 use Rattle.qc_event.specs.Legal.{Legal, Allowed}
 use Rattle.qc_event.specs.Manager.{Result, result, result_by, reply_of, Stage, Newest, newer as newer_of, greatest_among, collecting, stages_by, is_last, is_phase, phase_of, all_copies, waiting}
-use Rattle.qc_event.specs.Standing.{IsManager, Started}
-use Rattle.qc_event.proofs.OneEntry.{started_stays}
-use Rattle.qc_pass.proofs.Requests.{IsOwn, asks_own, still}
+use Rattle.qc_event.specs.Standing.{IsManager}
+use Rattle.qc_event.proofs.Later.{started_still}
+use Rattle.qc_event.proofs.Options.{still}
+use Rattle.qc_event.proofs.OwnRequests.{IsOwn, asks_own}
 use Rattle.qc_pass.specs.Entries.{AreOthers}
 use Rattle.qc_pass.specs.Own.{IsMine}
 use Rattle.qc_pass.proofs.Others as others
-
--- who started stays so
-pub started_since : (newer past : Past) (n : Name) (P : Begun → Type 0) → Started past n P → Started (newer ++ past) n P
-started_since [] past n P h = h
-started_since (e ∷ newer) past n P h = started_stays e (newer ++ past) n P (started_since newer past n P h)
 
 pub find_same : {X : Type 0} (p q : X → Bool) (xs : List X) → AllByRecursion (λ x. p x ≡ q x) xs → find p xs ≡ find q xs
 find_same p q [] all = refl
@@ -39,7 +35,7 @@ module _ (setting : Setting) (past : Past) (seat : ℕ) (m : Name) (mine : IsMin
       → (newer : Past) → Legal setting (newer ++ past) → AreOthers seat newer → earliest f (newer ++ past) ≡ earliest f past
   earliest_since f none [] legal all = refl
   earliest_since f none (e ∷ newer) legal all =
-      ap (option_or (earliest f (newer ++ past))) (none e (newer ++ past) all.0 legal.0 legal.1 (started_since newer past m (λ b. IsManager b.kind × (b.seat ≡ seat)) mine))
+      ap (option_or (earliest f (newer ++ past))) (none e (newer ++ past) all.0 legal.0 legal.1 (started_still newer past m (λ b. IsManager b.kind × (b.seat ≡ seat)) mine))
       ∙ still (earliest f (newer ++ past)) ∙ earliest_since f none newer legal.0 all.1
 
   every_since : {Y : Type 0} (f : Entry → Option Y)
@@ -47,12 +43,12 @@ module _ (setting : Setting) (past : Past) (seat : ℕ) (m : Name) (mine : IsMin
       → (newer : Past) → Legal setting (newer ++ past) → AreOthers seat newer → every f (newer ++ past) ≡ every f past
   every_since f none [] legal all = refl
   every_since f none (e ∷ newer) legal all =
-      ap (λ o. every f (newer ++ past) ++ option_to_list o) (none e (newer ++ past) all.0 legal.0 legal.1 (started_since newer past m (λ b. IsManager b.kind × (b.seat ≡ seat)) mine))
+      ap (λ o. every f (newer ++ past) ++ option_to_list o) (none e (newer ++ past) all.0 legal.0 legal.1 (started_still newer past m (λ b. IsManager b.kind × (b.seat ≡ seat)) mine))
       ∙ append-nil (every f (newer ++ past)) ∙ every_since f none newer legal.0 all.1
 
   module _ (newer : Past) (legal : Legal setting (newer ++ past)) (all : AreOthers seat newer) where
     pub still_mine : IsMine (newer ++ past) seat m
-    still_mine = started_since newer past m (λ b. IsManager b.kind × (b.seat ≡ seat)) mine
+    still_mine = started_still newer past m (λ b. IsManager b.kind × (b.seat ≡ seat)) mine
 
     pub end_same : end (newer ++ past) m ≡ end past m
     end_same = earliest_since (λ e. end_in m e.event) (λ e before other law may own. others.no_end setting e before seat m other law may own) newer legal all
@@ -79,7 +75,7 @@ module _ (setting : Setting) (past : Past) (seat : ℕ) (m : Name) (mine : IsMin
   result_same (e ∷ newer) legal all c child = by_end (end (newer ++ past) c) refl ∙ result_same newer legal.0 all.1 c child
     where
       still_own : IsMine (newer ++ past) seat m
-      still_own = started_since newer past m (λ b. IsManager b.kind × (b.seat ≡ seat)) mine
+      still_own = started_still newer past m (λ b. IsManager b.kind × (b.seat ≡ seat)) mine
 
       by_end : (o : Option How) → end (newer ++ past) c ≡ o → result (e ∷ newer ++ past) c ≡ result (newer ++ past) c
       by_end (Some how) is = others.result_stays setting e (newer ++ past) seat m all.0 legal.0 legal.1 still_own c child (ap is_some is)

@@ -13,7 +13,7 @@ use Rattle.qc_pass.specs.Calling.{IsLook, Shown}
 use Rattle.qc_pass.specs.Entries.{AreOthers, IsOlder, IsSince, entry}
 use Rattle.qc_pass.specs.Rules.{knows}
 use Rattle.qc_pass.proofs.NoGrants.{grant_still_allowed, others_grant_none}
-use Rattle.qc_pass.proofs.Lasting.{match_stays, some_stays}
+use Rattle.qc_event.proofs.StillTold.{match_stays, some_stays}
 
 pub older_trans : (a b c : Past) → IsOlder a b → IsOlder b c → IsOlder a c
 older_trans a b c p q = (q.0 ++ p.0, q.1 ∙ ap (λ x. q.0 ++ x) p.1 ∙ sym (append_assoc q.0 p.0 a))

@@ -17,15 +17,14 @@ use Rattle.qc_event.specs.Dead.{ancestors}
 use Rattle.qc_event.specs.History.{Past, Name, Begun, start, is_child, kind_of}
 use Rattle.qc_event.specs.Legal.{Legal, MayHappen, MayEnd}
 use Rattle.qc_event.specs.Standing.{IsManager}
+use Rattle.qc_event.proofs.KindFits.{kind_fits, record_fits}
 use Rattle.qc_simlock.specs.Visible.{served}
 use Rattle.qc_simlock.specs.Walk.{is_open_or_root}
 use Rattle.qc_refine.specs.InTurn.{Done, IsDone}
 use Rattle.qc_refine.specs.Turns.{done_by, done_in, dones, dones_order}
-use Rattle.qc_refine.proofs.Begun.{record_fits}
 use Rattle.qc_refine.proofs.CompleteDone.{complete_done}
 use Rattle.qc_refine.proofs.Finished.{committing_done, is_started}
 use Rattle.qc_refine.proofs.Grounded.{IsGrounded}
-use Rattle.qc_refine.proofs.KindFits.{kind_fits}
 use Rattle.qc_refine.proofs.ServedThere.{served_at}
 
 -- a manager that commits is complete at its record

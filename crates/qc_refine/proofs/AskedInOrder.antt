@@ -22,6 +22,8 @@ use Rattle.qc_event.specs.Legal.{Legal}
 use Rattle.qc_event.proofs.Absent.{same_is}
 use Rattle.qc_event.proofs.OneEntry.{end_now, open_before}
 use Rattle.qc_event.proofs.LastNumber.{child_front}
+use Rattle.qc_event.proofs.Options.{some_match}
+use Rattle.qc_event.proofs.SameEvents.{same_ask}
 use Rattle.qc_simlock.specs.Visible.{given_in, served}
 use Rattle.qc_simlock.proofs.OneAsked.{one_asked}
 use Rattle.qc_refine.specs.Given.{in_phase, tuples_of}
@@ -38,11 +40,7 @@ abbrev pub AskedAs : Past → Name → Ask → Type 0
 AskedAs past n ask = MatchOption (asked past n) ⊥ (λ a. a.ask ≡ ask)
 
 asked_as_some : (past : Past) (n : Name) (ask : Ask) → AskedAs past n ask → is_some (asked past n) ≡ true
-asked_as_some past n ask h = some (asked past n) h
-  where
-    some : (o : Option Asked) → MatchOption o ⊥ (λ a. a.ask ≡ ask) → is_some o ≡ true
-    some None h = absurd h
-    some (Some a) h = refl
+asked_as_some past n ask h = some_match (asked past n) (λ a. a.ask ≡ ask) h
 
 -- what a name asked it asked before, or asks now
 asked_back : (e : Entry) (past : Past) (m n : Name) (ask : Ask) → is_child m n ≡ true → AskedAs (e ∷ past) n ask → AskedAs past n ask ⊎ ((e.event ≡ event.Ask ask) × (ask_below m e.event ≡ Some ask))
@@ -124,9 +122,6 @@ module _ (setting : Setting) (past : Past) (e : Entry) (m : Name) (k : Kind) (le
     where
       of : OfStage setting past m k new.ask
       of = of_stage new
-
-      same_ask : (x y : Ask) → event.Ask x ≡ event.Ask y → x ≡ y
-      same_ask x y is = cc
 
   -- no child asks now
   old_ask : ask_below m e.event ≡ None → (n : Name) (ask : Ask) → is_child m n ≡ true → AskedAs (e ∷ past) n ask → AskedAs past n ask

@@ -1,7 +1,7 @@
 -- Each request of a manager is what its access asked, and each grant that a manager was given is the committed
 -- access's own, as it was asked for.
 use Rattle.std.proofs.Common.{◌≡◌, ◌<◌, Bool, true, List, [], ◌∷◌, ◌++◌, length, refl, sym, ap, ◌∙◌, subst, inl, inr}
-use Rattle.std.specs.Prelude.{Option, None, Some, MatchOption, if◌then◌else◌}
+use Rattle.std.specs.Prelude.{None, Some, MatchOption, if◌then◌else◌}
 use Rattle.std.specs.Option.{option_or}
 use Rattle.std.proofs.lemmas.Option.{same_Some}
 use Rattle.qc_config.specs.declared.tuple.Tuple.{Tuple}
@@ -9,7 +9,6 @@ use Rattle.qc_event.specs.declared.event.Answer.TheVariants as answer
 use Rattle.qc_event.specs.declared.event.Ask.{Ask}
 use Rattle.qc_event.specs.declared.event.Entry.{Entry}
 use Rattle.qc_event.specs.declared.event.Event.TheVariants as event
-use Rattle.qc_event.specs.declared.event.How.{How}
 use Rattle.qc_event.specs.declared.event.How.TheVariants.{Commit}
 use Rattle.qc_event.specs.declared.event.Kind.{Kind}
 use Rattle.qc_event.specs.Base.{Setting}
@@ -19,6 +18,8 @@ use Rattle.qc_event.specs.Manager.{reply}
 use Rattle.qc_event.specs.Legal.{Legal}
 use Rattle.qc_event.proofs.Absent.{same_itself}
 use Rattle.qc_event.proofs.OneEntry.{end_now}
+use Rattle.qc_event.proofs.Options.{still_matches}
+use Rattle.qc_event.proofs.SameEvents.{same_end}
 use Rattle.qc_simlock.specs.Visible.{served}
 use Rattle.qc_simlock.proofs.Accesses.{grant_stays}
 use Rattle.qc_refine.proofs.KindsBelow.{HasKind, kind_before}
@@ -29,11 +30,7 @@ use Rattle.qc_refine.proofs.ServedAsked.{served_more, served_same}
 use Rattle.qc_refine.proofs.AskedInOrder.{AskedAs}
 
 asked_as_still : (e : Entry) (past : Past) (n : Name) (ask : Ask) → AskedAs past n ask → AskedAs (e ∷ past) n ask
-asked_as_still e past n ask h = still (asked past n) (ask_in n e.seat e.event) h
-  where
-    still : (old new : Option Asked) → MatchOption old ⊥ (λ a. a.ask ≡ ask) → MatchOption (option_or old new) ⊥ (λ a. a.ask ≡ ask)
-    still None new h = absurd h
-    still (Some a) new h = h
+asked_as_still e past n ask h = still_matches (asked past n) (ask_in n e.seat e.event) (λ a. a.ask ≡ ask) h
 
 -- each request is what its access asked
 abbrev pub AllAsked : Past → Name → List Ask → Type 0
@@ -168,6 +165,3 @@ reply_granted setting (e ∷ past) m n k t legal pos has manager child is = elim
     | inr quiet ↦ absurd (quiet.no_commit n _ new.1.1 child)
   ]
 ]
-  where
-    same_end : (a b : Name) (x y : How) → event.End a x ≡ event.End b y → a ≡ b
-    same_end a b x y h = cc

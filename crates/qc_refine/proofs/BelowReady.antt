@@ -17,13 +17,12 @@ use Rattle.qc_event.specs.declared.event.How.TheVariants.{Commit, Abort}
 use Rattle.qc_event.specs.History.{Past, Name, same, start, end, is_ready, ready_in, every}
 use Rattle.qc_event.specs.Dead.{dead, outcome, outcome_of, is_aborted, is_committed}
 use Rattle.qc_event.specs.Standing.{open_child}
-use Rattle.qc_event.proofs.Absent.{same_itself}
+use Rattle.qc_event.proofs.Absent.{other_length, same_itself}
 use Rattle.qc_event.proofs.LastNumber.{EndsIn, ends_in, by_last, is_ancestor-append, front_last, length_last}
 use Rattle.qc_event.proofs.OneEntry.{Starting, some_or_none, start_step, end_step, end_stays, ready_step, marking}
 use Rattle.qc_event.proofs.Orderly.{Orderly, KeepsOrder, BecomesReady}
 use Rattle.qc_event.proofs.Lawful.{Lawful, lawful, ChildStart, child_starts, no_open_child, parent_started}
 use Rattle.qc_event.proofs.Lineage.{dead_parent, alive_not_aborted}
-use Rattle.qc_simlock.proofs.Above.{other_length}
 use Rattle.qc_event.specs.Listed.{aborted_in, aborted_below, listed}
 use Rattle.qc_refine.proofs.LiveGrants.{alive_before}
 

@@ -12,13 +12,13 @@ use Rattle.qc_event.specs.declared.event.Phase.TheVariants.{Values, Configs}
 use Rattle.qc_event.specs.Base.{Setting, first_of}
 use Rattle.qc_event.specs.History.{Past, Name, Given}
 use Rattle.qc_event.specs.Manager.{Newest, Greatest, newer, newest, greatest, greatest_among, replied, first_for}
+use Rattle.qc_event.proofs.KindFits.{KindFits}
 use Rattle.qc_simlock.specs.Visible.{served}
 use Rattle.qc_refine.specs.Given as given
 use Rattle.qc_refine.specs.Given.{AllDo}
 use Rattle.qc_refine.specs.Complete.{HasCollected, HasRead, HasWritten, HasMoved, HasDone}
 use Rattle.qc_refine.specs.Completed.{Each, Collected, Stored, newest_of, greatest_of}
 use Rattle.qc_refine.specs.InTurn.{Complete}
-use Rattle.qc_refine.proofs.KindFits.{KindFits}
 
 each : (op : Op) (gs : List Given) → AllDo op gs → Each op gs
 each op [] all = All-nil (λ (g : Given). g.grant.op ≡ op)

@@ -1,15 +1,15 @@
 -- From locks and copies to the serial order of every live transaction, and to the copies that are left.
-use Rattle.std.proofs.Common.{◌≡◌, ℕ, zero, suc, ◌<◌, ◌≤◌, List, [], ◌∷◌, length, refl, sym, ap, ◌∙◌, subst, arith}
-use Rattle.std.specs.Prelude.{All, Option, None, Some, MatchOption, find, slice_get}
+use Rattle.std.proofs.Common.{◌≡◌, ℕ, zero, suc, ◌<◌, ◌≤◌, List, [], length, refl, sym, ap, ◌∙◌, subst, arith}
+use Rattle.std.specs.Prelude.{All, Option, None, Some, MatchOption, slice_get}
 use Rattle.std.proofs.lemmas.Option.{slice_get_within}
 use Rattle.std.proofs.lemmas.List.Elements.{All-weaker}
 use Rattle.qc_event.specs.Base.{Setting, first_of}
-use Rattle.qc_event.specs.Dead.{dead, is_aborted, outcome_of}
+use Rattle.qc_event.specs.Dead.{dead}
 use Rattle.qc_event.specs.History.{Past, Name}
 use Rattle.qc_event.specs.Legal.{Legal}
 use Rattle.qc_event.specs.Sound.{Carries, IsSound, column}
-use Rattle.qc_event.proofs.Lawful.{lawful}
 use Rattle.qc_event.proofs.LegalOrderly.{legal_orderly}
+use Rattle.qc_event.proofs.RootAndTops.{root_alive}
 use Rattle.qc_serial.specs.Machine as machine
 use Rattle.qc_serial.proofs.Shape as shape
 use Rattle.qc_simlock.specs.Serial.{IsSerialFor, IsUserOf, final_values}
@@ -67,9 +67,6 @@ module _ (setting : Setting) (values : List ℕ) (past : Past) (t : Name) (legal
 
 pub serial_order : (setting : Setting) (values : List ℕ) (past : Past) (t : Name) → Legal setting past → IsSound setting values → IsUserOf past t → dead past t ≡ None → IsSerialFor values past t
 serial_order setting values past t legal sound user alive = serial setting values past t legal sound user alive
-
-pub root_alive : (setting : Setting) (past : Past) → Legal setting past → dead past [] ≡ None
-root_alive setting past legal = ap (λ o. find (λ (a : Name). is_aborted (outcome_of o)) ([] ∷ [])) (lawful past (legal_orderly setting past legal)).no_root_end
 
 -- the values after the root's order are the final ones
 root_values : (values : List ℕ) (past : Past) → after values (serialise past []) ≡ final_values values past

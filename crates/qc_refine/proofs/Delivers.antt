@@ -2,7 +2,6 @@
 use Rattle.std.proofs.Common.{◌≡◌, ℕ, ◌<◌, true, [], ◌∷◌, length, refl, sym, ap, ◌∙◌, subst, inl, inr, ◌⊎◌}
 use mathlib.Core.Bool.{true≢false}
 use Rattle.std.specs.Prelude.{Option, None, Some, is_some, MatchOption, if◌then◌else◌}
-use Rattle.std.specs.Option.{option_or}
 use Rattle.std.proofs.lemmas.Bool.{cases_Bool}
 use Rattle.qc_event.specs.declared.event.Answer.{Answer}
 use Rattle.qc_event.specs.declared.event.Answer.TheVariants as answer
@@ -15,7 +14,7 @@ use Rattle.qc_event.specs.declared.event.How.TheVariants.{Commit, Abort}
 use Rattle.qc_event.specs.declared.event.Kind.{Kind}
 use Rattle.qc_event.specs.declared.event.Kind.TheVariants as kind
 use Rattle.qc_event.specs.Base.{Setting}
-use Rattle.qc_event.specs.History.{Past, Name, Begun, Given, Asked, start, end, asked, ask_in, granted, is_child, same}
+use Rattle.qc_event.specs.History.{Past, Name, Begun, Given, start, end, asked, ask_in, granted, is_child, same}
 use Rattle.qc_event.specs.Standing.{IsManager, Started}
 use Rattle.qc_event.specs.Grants.{MayGrant}
 use Rattle.qc_event.specs.Commits.{MayCommit, MayCommitAccess}
@@ -23,6 +22,7 @@ use Rattle.qc_event.specs.Legal.{Legal, MayHappen, MayEnd}
 use Rattle.qc_event.proofs.Absent.{same_is}
 use Rattle.qc_event.proofs.Lawful.{lawful}
 use Rattle.qc_event.proofs.LegalOrderly.{legal_orderly}
+use Rattle.qc_event.proofs.Options.{still_matches}
 use Rattle.qc_simlock.specs.Visible.{given_in, served}
 use Rattle.qc_simlock.proofs.Accesses.{granted_step, grant_asked, asked_access}
 use Rattle.qc_refine.proofs.KindsBelow.{HasKind, child_access}
@@ -37,11 +37,7 @@ abbrev pub AskedFor : Past → Name → Given → Type 0
 AskedFor past n g = MatchOption (asked past n) ⊥ (λ a. a.ask ≡ ask_of g)
 
 pub asked_for_still : (e : Entry) (past : Past) (n : Name) (g : Given) → AskedFor past n g → AskedFor (e ∷ past) n g
-asked_for_still e past n g h = still (asked past n) (ask_in n e.seat e.event) h
-  where
-    still : (old new : Option Asked) → MatchOption old ⊥ (λ a. a.ask ≡ ask_of g) → MatchOption (option_or old new) ⊥ (λ a. a.ask ≡ ask_of g)
-    still None new h = absurd h
-    still (Some a) new h = h
+asked_for_still e past n g h = still_matches (asked past n) (ask_in n e.seat e.event) (λ a. a.ask ≡ ask_of g) h
 
 -- a grant is its access's, and was asked for as it is
 pub granted_as : (setting : Setting) (past : Past) (n : Name) (g : Given) → Legal setting past → granted past n ≡ Some g → (g.grant.access ≡ n) × AskedFor past n g

@@ -15,14 +15,15 @@ use Rattle.qc_event.specs.Standing.{IsManager}
 use Rattle.qc_event.specs.Manager.{stages, is_enough, is_complete, first_for, at_last_number}
 use Rattle.qc_event.specs.Commits.{MayCommitManager}
 use Rattle.qc_event.specs.Legal.{Legal}
+use Rattle.qc_event.proofs.KindFits.{kind_fits}
 use Rattle.qc_event.proofs.Lawful.{lawful}
 use Rattle.qc_event.proofs.LegalOrderly.{legal_orderly}
 use Rattle.qc_simlock.specs.Visible.{served}
 use Rattle.qc_refine.specs.Complete.{HasCollected, HasRead, HasWritten, HasMoved, HasDone, AllWithin}
+use Rattle.qc_refine.proofs.Stages.{kind_sized}
 use Rattle.qc_refine.proofs.KindsBelow.{HasKind}
 use Rattle.qc_refine.proofs.Parted.{IsParted, parted}
 use Rattle.qc_refine.proofs.Steady.{IsThrough, through}
-use Rattle.qc_refine.proofs.KindFits.{kind_fits, kind_sized}
 use Rattle.qc_refine.proofs.Within.{served_within}
 
 unless_kind : {A B : Type 0} → A ⊎ B → (B → ⊥) → A

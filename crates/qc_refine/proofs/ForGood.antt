@@ -17,12 +17,12 @@ use Rattle.qc_event.specs.Grants.{MayGrant}
 use Rattle.qc_event.specs.History.{Past, Name, Given, every, granted}
 use Rattle.qc_event.specs.Legal.{Legal, MayHappen}
 use Rattle.qc_event.proofs.OneEntry.{if_is}
+use Rattle.qc_event.proofs.RootAndTops.{root_alive}
 use Rattle.qc_simlock.specs.Visible.{is_visible, served_order}
 use Rattle.qc_simlock.specs.Walk.{is_open_or_root}
 use Rattle.qc_simlock.proofs.Accesses.{granted_step, grant_stays, grant_now}
 use Rattle.qc_simlock.proofs.MossVisible.{visible, all, sees}
 use Rattle.qc_refine.specs.Final.{is_for_good, put_for_good}
-use Rattle.qc_refine.proofs.CopiesSerial.{root_alive}
 
 -- WHAT THE ROOT SEES
 

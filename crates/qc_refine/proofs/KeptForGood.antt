@@ -17,9 +17,9 @@ use Rattle.qc_event.proofs.LastNumber.{ends_in, EndsIn, by_last, is_ancestor-app
 use Rattle.qc_event.proofs.Lawful.{Lawful, lawful, parent_started}
 use Rattle.qc_event.proofs.LegalOrderly.{legal_orderly}
 use Rattle.qc_event.proofs.Lineage.{dead_child}
+use Rattle.qc_event.proofs.RootAndTops.{root_alive}
 use Rattle.qc_simlock.proofs.MossNames.{two_ways}
 use Rattle.qc_refine.specs.Final.{is_for_good}
-use Rattle.qc_refine.proofs.CopiesSerial.{root_alive}
 use Rattle.qc_codec.specs.declared.past.Logged.{Logged}
 use Rattle.qc_codec.specs.Restored.{keeps, is_kept}
 use Rattle.qc_event.specs.Listed.{listed}

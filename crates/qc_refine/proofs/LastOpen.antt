@@ -16,6 +16,7 @@ use Rattle.qc_event.specs.Requests.{MayAsk}
 use Rattle.qc_event.specs.Legal.{Legal, MayHappen}
 use Rattle.qc_event.proofs.Absent.{same_itself}
 use Rattle.qc_event.proofs.LastNumber.{child_front}
+use Rattle.qc_event.proofs.Options.{still, still_is, still_not_none}
 use Rattle.qc_simlock.proofs.OneAsked.{no_ask_passes}
 
 -- the entry is a request of a child of the manager
@@ -43,11 +44,7 @@ may_ask setting past e ask legal is = subst (MayHappen setting past e.seat) is l
 
 -- a request ends nothing
 pub ask_ends_none : (e : Entry) (past : Past) (n : Name) (ask : Ask) → e.event ≡ event.Ask ask → end (e ∷ past) n ≡ end past n
-ask_ends_none e past n ask is = ap (λ ev. option_or (end past n) (end_in n ev)) is ∙ or_nothing (end past n)
-  where
-    or_nothing : (o : Option How) → option_or o None ≡ o
-    or_nothing None = refl
-    or_nothing (Some how) = refl
+ask_ends_none e past n ask is = ap (λ ev. option_or (end past n) (end_in n ev)) is ∙ still (end past n)
 
 -- all requests of the list have ended
 abbrev pub AllEnded : Past → List Ask → Type 0
@@ -55,11 +52,7 @@ AllEnded past [] = Unit {0}
 AllEnded past (a ∷ rest) = (is_none (end past a.access) ≡ false) × AllEnded past rest
 
 pub ended_stays : (e : Entry) (past : Past) (n : Name) → is_none (end past n) ≡ false → is_none (end (e ∷ past) n) ≡ false
-ended_stays e past n h = stays (end past n) (end_in n e.event) h
-  where
-    stays : (old new : Option How) → is_none old ≡ false → is_none (option_or old new) ≡ false
-    stays None new h = absurd (true≢false h)
-    stays (Some how) new h = refl
+ended_stays e past n h = still_not_none (end past n) (end_in n e.event) h
 
 pub all_ended_stays : (e : Entry) (past : Past) (rest : List Ask) → AllEnded past rest → AllEnded (e ∷ past) rest
 all_ended_stays e past [] all = tt
@@ -95,7 +88,7 @@ asked_now e past ask is none =
     ∙ ap (λ (b : Bool). if b then Some (record { seat = e.seat; ask = ask }) else None) (same_itself ask.access)
 
 pub asked_still : (e : Entry) (past : Past) (n : Name) (a : Asked) → asked past n ≡ Some a → asked (e ∷ past) n ≡ Some a
-asked_still e past n a is = ap (λ o. option_or o (ask_in n e.seat e.event)) is
+asked_still e past n a is = still_is (asked past n) (ask_in n e.seat e.event) a is
 
 -- who asks finds all ended
 pub ended_before : (setting : Setting) (past : Past) (e : Entry) (m : Name) → Legal setting (e ∷ past) → Asks m e.event → AllEnded past (asks past m)

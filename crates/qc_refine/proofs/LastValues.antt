@@ -11,6 +11,7 @@ use Rattle.qc_event.specs.History.{Past, Given, every}
 use Rattle.qc_event.specs.Legal.{Legal}
 use Rattle.qc_event.specs.Manager.{greatest_among}
 use Rattle.qc_event.specs.Sound.{Carries, IsSound, column, greatest_version}
+use Rattle.qc_event.proofs.RootAndTops.{root_alive}
 use Rattle.qc_simlock.specs.Serial.{final_values}
 use Rattle.qc_simlock.specs.Visible.{served_order}
 use Rattle.qc_refine.specs.Completed.{tuple_at}
@@ -18,7 +19,7 @@ use Rattle.qc_refine.specs.Final.{put_for_good, last_tuples, final_value}
 use Rattle.qc_refine.specs.InTurn.{given_to}
 use Rattle.qc_refine.specs.Turns.{dones_order}
 use Rattle.qc_refine.proofs.Columns.{left_column, column_left}
-use Rattle.qc_refine.proofs.CopiesSerial.{done, there, root_alive, final_are, left_copies}
+use Rattle.qc_refine.proofs.CopiesSerial.{done, there, final_are, left_copies}
 use Rattle.qc_refine.proofs.Fits.{Fits}
 use Rattle.qc_refine.proofs.Folds.{greatest_one, greatest_above}
 use Rattle.qc_refine.proofs.ForGood.{puts_are, puts_among}

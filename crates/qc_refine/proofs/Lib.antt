@@ -20,14 +20,12 @@ pub mod Shapes
 pub mod AskedInOrder
 pub mod AskedOnce
 pub mod Parted
-pub mod KindFits
 pub mod Within
 pub mod DonesWalk
 pub mod CompleteDone
 pub mod AllDone
 pub mod GivenDones
 pub mod CopiesSerial
-pub mod Begun
 pub mod Grounded
 pub mod LiveGrants
 pub mod ServedThere

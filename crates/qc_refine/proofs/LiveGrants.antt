@@ -35,6 +35,7 @@ use Rattle.qc_event.proofs.Lineage.{dead_last, dead_parent, alive_not_aborted}
 use Rattle.qc_event.proofs.OneEntry.{if_is}
 use Rattle.qc_event.proofs.Orderly.{Belongs}
 use Rattle.qc_event.proofs.Later.{aborted_first}
+use Rattle.qc_event.proofs.Sizes.{AllSized, newest_sized}
 use Rattle.qc_simlock.specs.Visible.{served}
 use Rattle.qc_refine.specs.Given.{tuples_of, marks_of}
 use Rattle.qc_refine.proofs.AskedInOrder.{OfStage, of_stage}
@@ -42,7 +43,7 @@ use Rattle.qc_refine.proofs.Finished.{is_started}
 use Rattle.qc_refine.proofs.Grounded.{OfFirst}
 use Rattle.qc_refine.proofs.KindsBelow.{HasKind, Below, below}
 use Rattle.qc_refine.proofs.LastOpen.{Asks, may_ask}
-use Rattle.qc_refine.proofs.Stages.{AllSized, newest_among, newest_sized, put_op, move_op, Moves}
+use Rattle.qc_refine.proofs.Stages.{newest_among, put_op, move_op, Moves}
 
 -- LISTS
 

@@ -22,7 +22,9 @@ use Rattle.qc_event.specs.History.{Past, Name, Begun, start, end, end_in, is_rea
 use Rattle.qc_event.specs.Legal.{Legal, MayHappen, MayEnd}
 use Rattle.qc_event.specs.Standing.{IsUser, Started}
 use Rattle.qc_event.specs.Users.{MayStartTop}
+use Rattle.qc_event.proofs.Later.{committed_stays}
 use Rattle.qc_event.proofs.OneEntry.{if_is, start_step, start_is, started_stays, end_step, stays_some, end_now}
+use Rattle.qc_event.proofs.Options.{some_match}
 use Rattle.qc_event.proofs.Orderly.{Orderly}
 use Rattle.qc_event.proofs.Lawful.{lawful, committed_is, ends_open}
 use Rattle.qc_event.proofs.LegalOrderly.{legal_orderly}
@@ -30,7 +32,7 @@ use Rattle.qc_codec.specs.declared.past.Logged.{Logged}
 use Rattle.qc_codec.specs.Ledger.{top_in}
 use Rattle.qc_event.specs.Listed.{aborted_in, aborted_below, listed}
 use Rattle.qc_refine.specs.Listed.{logged, logged_as}
-use Rattle.qc_refine.proofs.BelowReady.{same_end, still_aborted, not_again}
+use Rattle.qc_refine.proofs.BelowReady.{still_aborted, not_again}
 
 -- TOPS
 
@@ -59,11 +61,7 @@ end_ready setting past seat x given (Some b) user may = commit_ready setting pas
 ready_before : (setting : Setting) (past : Past) (e : Entry) (x : ℕ) (given : Answer) → Legal setting (e ∷ past) → e.event ≡ event.End (x ∷ []) (Commit given) → is_ready past (x ∷ []) ≡ true
 ready_before setting past e x given legal is =
     let may : MayHappen setting past e.seat (event.End (x ∷ []) (Commit given)) = subst (MayHappen setting past e.seat) is legal.1 in
-    end_ready setting past e.seat x given (start past (x ∷ [])) (top_user setting past x legal.0 (started (start past (x ∷ [])) may)) may
-  where
-    started : (o : Option Begun) → MatchOption o ⊥ (MayEnd setting past e.seat (x ∷ []) (Commit given)) → is_some o ≡ true
-    started None h = absurd h
-    started (Some b) h = refl
+    end_ready setting past e.seat x given (start past (x ∷ [])) (top_user setting past x legal.0 (some_match (start past (x ∷ [])) (MayEnd setting past e.seat (x ∷ []) (Commit given)) may)) may
 
 pub committed_ready : (setting : Setting) (past : Past) (x : ℕ) → Legal setting past → is_committed (outcome past (x ∷ [])) ≡ true → is_ready past (x ∷ []) ≡ true
 committed_ready setting [] x legal done = absurd (true≢false (sym done))
@@ -124,9 +122,6 @@ pub record IsLogged (past : Past) (l : Logged) : Type 0 where
   pub committed : is_committed (outcome past (number ∷ [])) ≡ true
   pub same_list : l.aborted ≡ listed past (number ∷ [])
 
-still_committed : (e : Entry) (past : Past) (n : Name) → is_committed (outcome past n) ≡ true → is_committed (outcome (e ∷ past) n) ≡ true
-still_committed e past n h = let was = committed_is (end past n) h in ap (λ o. is_committed (outcome_of o)) (same_end e past n (ap is_some was.1)) ∙ h
-
 top_event : (ev : Event) (t : Name) → top_in ev ≡ Some t → (x : ℕ) × (given : Answer) × (t ≡ x ∷ []) × (ev ≡ event.End (x ∷ []) (Commit given))
 top_event (event.End (x ∷ []) (Commit given)) t is = (x, given, cc, refl)
 top_event (event.End (x ∷ []) (Abort c)) t is = absurd cc
@@ -154,7 +149,7 @@ logged_are setting (e ∷ past) legal =
     onward l is = record {
       number = is.number;
       is_top = is.is_top;
-      committed = still_committed e past (is.number ∷ []) is.committed;
+      committed = committed_stays e past (is.number ∷ []) is.committed;
       same_list = is.same_list ∙ sym (same_listed is.number (committed_ready setting past is.number legal.0 is.committed));
     }
 

@@ -13,11 +13,12 @@ use Rattle.qc_config.specs.declared.tuple.Tuple.{Tuple}
 use Rattle.qc_event.specs.Base.{no_tuple}
 use Rattle.qc_event.specs.History.{Given}
 use Rattle.qc_event.specs.Sound.{Carries, HasValue, IsPassedOn, greatest_version}
+use Rattle.qc_event.proofs.Lists.{get_first, get_last, last_push}
 use Rattle.qc_refine.specs.Completed.{FindsThere, Within, has_given, marks_of, newest_of, greatest_of, Stored, MoveDone, CarriesMore, tuple_at, after_one, after_all}
 use Rattle.qc_refine.proofs.Meet.{writer_holds, more_writes, marked, marks}
 use Rattle.qc_refine.proofs.Grants.{marked_given, given_within, back_within, front_within, Changed, puts_change, field_stays}
 use Rattle.qc_refine.proofs.Folds.{version_bounds, version_is}
-use Rattle.qc_refine.proofs.Configs.{last_is, get_longer, get_last, config_at}
+use Rattle.qc_refine.proofs.Configs.{config_at}
 use Rattle.qc_refine.proofs.Collections.{Seen}
 use Rattle.qc_refine.proofs.Writes.{still_passed, put_holds, put_greatest, collected_first, sees_first}
 
@@ -119,8 +120,8 @@ move_on first config tuples middle later value gets moves carried seen legal cop
   record {
     configs = configs;
     newest = config;
-    begins = get_longer carried.configs (config ∷ []) 0 first carried.begins;
-    ends = last_is None carried.configs config;
+    begins = get_first carried.configs (config ∷ []) 0 first carried.begins;
+    ends = last_push None carried.configs config;
     legal = All-push IsLegal carried.configs config carried.legal legal;
     each_listed = All-from_get_or (λ (t : Tuple). slice_get configs t.generation ≡ Some t.config) later no_tuple (λ c lt. listed c (omega (arith, lt, same)));
     passed_on = passed;
@@ -168,11 +169,11 @@ move_on first config tuples middle later value gets moves carried seen legal cop
     listed c lt = elim (cases_Bool (has_given moves c)) [
       | inl h ↦
           ap (slice_get configs) (moved c lt h)
-          ∙ get_last carried.configs config
+          ∙ get_last carried.configs config (length carried.configs) refl
           ∙ ap (λ g. Some g) (sym (ap (λ (t : Tuple). t.config) (changed.inside c (longer c lt) h)))
       | inr none ↦
           subst (λ (t : Tuple). slice_get configs t.generation ≡ Some t.config) (sym (changed.outside c none))
-          (get_longer carried.configs (config ∷ []) (tuple_at middle c).generation (tuple_at middle c).config (copy.listed carried.configs c lt (was_listed c lt)))
+          (get_first carried.configs (config ∷ []) (tuple_at middle c).generation (tuple_at middle c).config (copy.listed carried.configs c lt (was_listed c lt)))
     ]
 
     grows : (c : ℕ) → c < length tuples → (g : ℕ) → g < length carried.configs → g < (tuple_at tuples c).generation → g < (tuple_at later c).generation

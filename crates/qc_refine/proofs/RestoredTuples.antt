@@ -25,11 +25,11 @@ use Rattle.qc_event.proofs.LastNumber.{ends_in, EndsIn}
 use Rattle.qc_event.proofs.Lawful.{lawful, started_some}
 use Rattle.qc_event.proofs.LegalOrderly.{legal_orderly}
 use Rattle.qc_event.proofs.Lineage.{above_started}
+use Rattle.qc_event.proofs.RootAndTops.{root_alive}
 use Rattle.qc_simlock.specs.Visible.{is_visible, served_order, left_at}
 use Rattle.qc_simlock.proofs.Accesses.{asked_stays, asked_access, grant_asked, committed_granted}
 use Rattle.qc_simlock.proofs.MossVisible.{leaves}
 use Rattle.qc_refine.specs.Final.{is_for_good}
-use Rattle.qc_refine.proofs.CopiesSerial.{root_alive}
 use Rattle.qc_refine.proofs.ForGood.{root_sees}
 use Rattle.qc_codec.specs.Ledger.{IsOld, epoch_in}
 use Rattle.qc_codec.specs.declared.past.Logged.{Logged}

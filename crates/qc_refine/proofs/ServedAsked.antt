@@ -11,7 +11,7 @@ use Rattle.qc_event.specs.declared.event.Event.TheVariants as event
 use Rattle.qc_event.specs.declared.event.How.TheVariants.{Commit}
 use Rattle.qc_event.specs.declared.event.Kind.{Kind}
 use Rattle.qc_event.specs.Base.{Setting}
-use Rattle.qc_event.specs.History.{Past, Name, Given, Asked, asked, asks, ask_below, is_child}
+use Rattle.qc_event.specs.History.{Past, Name, Given, asked, asks, ask_below, is_child}
 use Rattle.qc_event.specs.Standing.{IsManager}
 use Rattle.qc_event.specs.Manager.{reply}
 use Rattle.qc_event.specs.Legal.{Legal}
@@ -19,6 +19,7 @@ use Rattle.qc_event.proofs.Lawful.{lawful}
 use Rattle.qc_event.proofs.LegalOrderly.{legal_orderly}
 use Rattle.qc_event.proofs.LastNumber.{child_last, length_last}
 use Rattle.qc_event.proofs.OneEntry.{end_now}
+use Rattle.qc_event.proofs.Options.{some_match}
 use Rattle.qc_simlock.specs.Visible.{given_in, served}
 use Rattle.qc_simlock.proofs.OneAsked.{one_asked}
 use Rattle.qc_refine.proofs.Replies.{given_as, given_for, open_silent, reply_step, reply_now, ended_still}
@@ -50,11 +51,7 @@ given_open : (past : Past) (before : List Ask) (ask : Ask) → reply past ask.ac
 given_open past before ask none = given_last past before ask ∙ ap (λ o. given_to past before ++ option_to_list o) (silent past ask none) ∙ append-nil (given_to past before)
 
 asked_some : (past : Past) (n : Name) (g : Given) → AskedFor past n g → is_some (asked past n) ≡ true
-asked_some past n g h = some (asked past n) h
-  where
-    some : (o : Option Asked) → MatchOption o ⊥ (λ a. a.ask ≡ ask_of g) → is_some o ≡ true
-    some None h = absurd h
-    some (Some a) h = refl
+asked_some past n g h = some_match (asked past n) (λ a. a.ask ≡ ask_of g) h
 
 long : (c m : Name) → is_child m c ≡ true → 0 < length c
 long c m is = let (j, last) = child_last m c is in omega (arith, length_last m j, ap length last)

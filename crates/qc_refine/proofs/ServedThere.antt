@@ -22,6 +22,7 @@ use Rattle.qc_event.specs.Legal.{Legal, MayHappen}
 use Rattle.qc_event.specs.Manager.{Stage, record_of, first_for, phase_of, is_phase}
 use Rattle.qc_event.specs.Seen.{seen}
 use Rattle.qc_event.specs.Standing.{IsManager}
+use Rattle.qc_event.proofs.KindFits.{kind_fits, record_fits}
 use Rattle.qc_event.proofs.LastNumber.{length_last, child_last, child_front}
 use Rattle.qc_event.proofs.LegalOrderly.{legal_orderly}
 use Rattle.qc_event.proofs.OneEntry.{first_is, if_is}
@@ -31,11 +32,9 @@ use Rattle.qc_simlock.specs.Visible.{served}
 use Rattle.qc_simlock.proofs.Accesses.{granted_step}
 use Rattle.qc_refine.specs.Given.{in_phase, tuples_of}
 use Rattle.qc_refine.specs.InTurn.{IsAt}
-use Rattle.qc_refine.proofs.Begun.{record_fits}
 use Rattle.qc_refine.proofs.Delivers.{Delivers, ask_of, delivers_or_not}
 use Rattle.qc_refine.proofs.Finished.{is_started}
 use Rattle.qc_refine.proofs.Grounded.{OfFirst, IsGrounded}
-use Rattle.qc_refine.proofs.KindFits.{kind_fits}
 use Rattle.qc_refine.proofs.KindsBelow.{HasKind, kind_before}
 use Rattle.qc_refine.proofs.LiveGrants.{Every, every_more, every_weaker, every_option, newest_known, some_got, AskFits, new_generation, put_fits, move_fits, after_first, no_place, alive_before, LiveAt, seen_first, seen_none, nothing_there, IsThere, Kept, IsAskedBy, asking, asked_by}
 use Rattle.qc_refine.proofs.ServedAsked.{served_more, served_same}

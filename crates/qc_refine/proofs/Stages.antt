@@ -1,6 +1,7 @@
 -- The stage at which a manager is, by the tuples and the copies that replied: collecting, putting or moving.
-use Rattle.std.proofs.Common.{◌≡◌, ℕ, ◌+◌, Bool, true, false, List, [], ◌∷◌, length, refl, sym, ap, ◌∙◌, inl, inr, ◌⊎◌}
-use Rattle.std.specs.Prelude.{Option, None, Some, find, fold, cond, not, ◌&&◌, if◌then◌else◌, nat_lt}
+use Rattle.std.proofs.Common.{◌≡◌, ℕ, ◌+◌, Bool, true, false, List, length, refl, sym, ap, ◌∙◌, inl, inr, ◌⊎◌}
+use Rattle.std.specs.Prelude.{Option, None, Some, find, fold, cond, not, ◌&&◌, if◌then◌else◌}
+use Rattle.std.proofs.lemmas.Option.{none-some}
 use Rattle.qc_config.specs.Config.{Voting, no_config, holds_read, holds_write}
 use Rattle.qc_config.specs.declared.tuple.Op.{Op}
 use Rattle.qc_config.specs.declared.tuple.Op.TheVariants.{PutData, PutConfig}
@@ -9,8 +10,11 @@ use Rattle.qc_event.specs.declared.event.Kind.{Kind}
 use Rattle.qc_event.specs.declared.event.Kind.TheVariants as kind
 use Rattle.qc_event.specs.declared.event.Phase.{Phase}
 use Rattle.qc_event.specs.declared.event.Phase.TheVariants.{Collect, Values, Configs}
+use Rattle.qc_event.specs.Base.{Setting}
 use Rattle.qc_event.specs.Standing.{IsManager}
 use Rattle.qc_event.specs.Manager.{Stage, Newest, Greatest, phase_of, newer, greatest_among, collecting, stages_by, is_last}
+use Rattle.qc_event.proofs.KindFits.{KindFits}
+use Rattle.qc_event.proofs.Sizes.{AllSized, newest_sized}
 
 -- the newest configuration among tuples
 abbrev pub newest_among : Voting → List Tuple → Newest
@@ -95,9 +99,6 @@ first_short : (b : Bool) (a s : Stage) (rest : Option Stage) → cond (not b) (S
 first_short true a s rest is = inr (refl, is)
 first_short false a s rest is = inl (refl, cc)
 
-none_some : (s : Stage) → None ≡ Some s → ⊥
-none_some s is = cc
-
 module _ (first : Voting) (tuples : List Tuple) (marks : Phase → List Bool) (s : Stage) where
   abbrev now : Newest
   now = newest_among first tuples
@@ -111,13 +112,13 @@ module _ (first : Voting) (tuples : List Tuple) (marks : Phase → List Bool) (s
   pub finds : (k : Kind) → IsManager k → stage_by first k tuples marks ≡ Some s → IsAtStage k now found marks s
   finds (kind.Read rec) manager is = elim (first_short got _ s _ (not_last got false _ s is)) [
     | inl short ↦ inl (record { is = short.1; short = short.0 })
-    | inr enough ↦ absurd (none_some s enough.1)
+    | inr enough ↦ absurd (none-some s enough.1)
   ]
   finds (kind.Write rec value) manager is = elim (first_short got _ s _ (not_last got _ _ s is)) [
     | inl short ↦ inl (record { is = short.1; short = short.0 })
     | inr enough ↦ elim (first_short (holds_write now.config (marks Values)) (putting (kind.Write rec value) now found) s None enough.1) [
       | inl short ↦ inr (inl (record { is = short.1; puts = tt; enough = enough.0; short = short.0 }))
-      | inr written ↦ absurd (none_some s written.1)
+      | inr written ↦ absurd (none-some s written.1)
     ]
   ]
   finds (kind.Reconf rec config) manager is = elim (first_short got _ s _ (not_last got _ _ s is)) [
@@ -126,7 +127,7 @@ module _ (first : Voting) (tuples : List Tuple) (marks : Phase → List Bool) (s
       | inl short ↦ inr (inl (record { is = short.1; puts = tt; enough = enough.0; short = short.0 }))
       | inr written ↦ elim (first_short (holds_write now.config (marks Configs)) (moving (kind.Reconf rec config) now) s None written.1) [
         | inl short ↦ inr (inr (record { is = short.1; moves = tt; enough = enough.0; written = written.0 }))
-        | inr all ↦ absurd (none_some s all.1)
+        | inr all ↦ absurd (none-some s all.1)
       ]
     ]
   ]
@@ -134,23 +135,18 @@ module _ (first : Voting) (tuples : List Tuple) (marks : Phase → List Bool) (s
 
 -- SIZES
 
--- the configurations of tuples are for this many copies
-abbrev pub AllSized : ℕ → List Tuple → Type 0
-AllSized size [] = Unit {0}
-AllSized size (t ∷ tuples) = (length t.config.votes ≡ size) × AllSized size tuples
-
 -- the configuration of a reconfiguration is for this many copies
 abbrev pub KindSized : ℕ → Kind → Type 0
 KindSized size (kind.Reconf rec config) = length config.votes ≡ size
 KindSized size _ = Unit {0}
 
-pub newest_sized : (size : ℕ) (best : Newest) (tuples : List Tuple) → length best.config.votes ≡ size → AllSized size tuples → length (fold newer best tuples).config.votes ≡ size
-newest_sized size best [] here all = here
-newest_sized size best (t ∷ tuples) here all = newest_sized size (newer best t) tuples (next (nat_lt best.generation t.generation)) all.1
-  where
-    next : (b : Bool) → length (if b then record { generation = t.generation; config = t.config } else best).config.votes ≡ size
-    next true = all.0
-    next false = here
+-- a kind that fits the table has one for every copy
+pub kind_sized : (setting : Setting) (k : Kind) → KindFits setting k → KindSized (length setting.base) k
+kind_sized setting (kind.Reconf rec config) fits = fits.1
+kind_sized setting (kind.User session body) fits = tt
+kind_sized setting (kind.Read rec) fits = tt
+kind_sized setting (kind.Write rec value) fits = tt
+kind_sized setting kind.Access fits = tt
 
 put_sized : (size : ℕ) (k : Kind) (best : Newest) → KindSized size k → length best.config.votes ≡ size → length (put_config k best).votes ≡ size
 put_sized size (kind.Reconf rec config) best sized here = sized

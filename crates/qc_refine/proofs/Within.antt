@@ -18,6 +18,7 @@ use Rattle.qc_event.specs.Standing.{IsManager}
 use Rattle.qc_event.specs.Manager.{Stage, next_copy, ask_at, record_of, first_for, phase_of, is_phase, reply}
 use Rattle.qc_event.specs.Legal.{Legal, MayHappen}
 use Rattle.qc_event.proofs.Found.{found_range, has_place}
+use Rattle.qc_event.proofs.Sizes.{AllSized}
 use Rattle.qc_simlock.specs.Visible.{served}
 use Rattle.qc_simlock.proofs.Accesses.{granted_step}
 use Rattle.qc_refine.specs.Given.{in_phase, tuples_of}
@@ -27,7 +28,7 @@ use Rattle.qc_refine.proofs.KindsBelow.{HasKind, kind_before}
 use Rattle.qc_refine.proofs.LastOpen.{Asks, asks_or_not, asks_more, asks_same}
 use Rattle.qc_refine.proofs.Delivers.{delivers_or_not}
 use Rattle.qc_refine.proofs.ServedAsked.{given_to, served_asked, served_more, served_same}
-use Rattle.qc_refine.proofs.Stages.{AllSized, KindSized, stage_sized}
+use Rattle.qc_refine.proofs.Stages.{KindSized, stage_sized}
 use Rattle.qc_refine.proofs.Shapes.{marks_in}
 use Rattle.qc_refine.proofs.AskedInOrder.{OfStage, of_stage}
 

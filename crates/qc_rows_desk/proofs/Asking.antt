@@ -25,7 +25,10 @@ use Rattle.qc_event.proofs.LastNumber.{child_last, is_child-last, front_last, le
 use Rattle.qc_event.proofs.Lawful.{lawful, started_some}
 use Rattle.qc_event.proofs.LegalOrderly.{legal_orderly}
 use Rattle.qc_event.proofs.Lineage.{IsFresh, fresh_child, fresh_below}
-use Rattle.qc_event.proofs.OneEntry.{some_or_none, start_is}
+use Rattle.qc_event.proofs.OneEntry.{none_before, some_or_none, start_is}
+use Rattle.qc_event.proofs.Options.{some_match}
+use Rattle.qc_event.proofs.OwnRequests.{IsOwn, asks_own}
+use Rattle.qc_event.proofs.StillTold.{is_stays}
 use Rattle.qc_pass.specs.declared.refusal.DeskNo.{DeskNo}
 use Rattle.qc_pass.specs.declared.view.View.{View}
 use Rattle.qc_pass.specs.Calling.{Entered, EnteredAs}
@@ -33,27 +36,21 @@ use Rattle.qc_pass.specs.Consulting.{HasAsked}
 use Rattle.qc_pass.specs.Entries.{IsOlder, IsSince, entry}
 use Rattle.qc_pass.specs.Refusing.{against_nothing, against_child, against_access}
 use Rattle.qc_pass.specs.Own.{IsMine, MayAskOwn}
-use Rattle.qc_pass.proofs.Lasting.{is_stays}
 use Rattle.qc_pass.proofs.Seers.{older_trans}
 use Rattle.qc_pass.proofs.OwnSince.{asks_same}
-use Rattle.qc_pass.proofs.Requests.{IsOwn, asks_own}
 use Rattle.qc_rows_desk.specs.OneCopy.{IsRequest}
 use Rattle.qc_rows_desk.proofs.OneCopy.{at_first}
 use Rattle.qc_rows_desk.proofs.OneCopy as one_copy
-use Rattle.qc_pass.proofs.AskedTops.{IsTop, top_started}
+use Rattle.qc_pass.proofs.AskedTops.{IsTop, entered_as_later, entered_later, top_started}
 
 -- WHAT WAS NOT STARTED
-
-before_none : {X : Type 0} (a b : Option X) → option_or a b ≡ None → a ≡ None
-before_none None b h = refl
-before_none (Some x) b h = absurd cc
 
 asked_none : (setting : Setting) (past : Past) (n : Name) → Legal setting past → start past n ≡ None → asked past n ≡ None
 asked_none setting [] n legal none = refl
 asked_none setting (e ∷ past) n legal none = ap₂ option_or (asked_none setting past n legal.0 was) (by_event e.event legal.1)
   where
     was : start past n ≡ None
-    was = before_none (start past n) (start_in n e.seat e.event) none
+    was = (none_before (start past n) (start_in n e.seat e.event) none).0
 
     by_event : (ev : Event) → MayHappen setting past e.seat ev → ask_in n e.seat ev ≡ None
     by_event (event.Ask ask) h = if_not (same ask.access n) _ (false_from_ne_true (same ask.access n) (λ is. some_or_none (start past n) (subst (λ x. is_some (start past x) ≡ true) (same_is ask.access n is) (started_some _ (start past ask.access) h.started)) was))
@@ -64,14 +61,10 @@ granted_none setting [] n legal none = refl
 granted_none setting (e ∷ past) n legal none = ap₂ option_or (granted_none setting past n legal.0 was) (by_event e.event legal.1)
   where
     was : asked past n ≡ None
-    was = before_none (asked past n) (ask_in n e.seat e.event) none
-
-    some_match : {X : Type 0} (o : Option X) (P : X → Type 0) → MatchOption o ⊥ P → o ≡ None → ⊥
-    some_match None P h is = h
-    some_match (Some x) P h is = absurd cc
+    was = (none_before (asked past n) (ask_in n e.seat e.event) none).0
 
     by_event : (ev : Event) → MayHappen setting past e.seat ev → grant_in n ev ≡ None
-    by_event (event.Granted c g) h = if_not (same g.access n) _ (false_from_ne_true (same g.access n) (λ is. some_match (asked past n) _ (subst (λ x. MatchOption (asked past x) ⊥ (λ (a : Asked). a.ask ≡ record { access = g.access; copy = c; rec = g.rec; op = g.op })) (same_is g.access n is) h.request) was))
+    by_event (event.Granted c g) h = if_not (same g.access n) _ (false_from_ne_true (same g.access n) (λ is. some_or_none (asked past n) (some_match (asked past n) _ (subst (λ x. MatchOption (asked past x) ⊥ (λ (a : Asked). a.ask ≡ record { access = g.access; copy = c; rec = g.rec; op = g.op })) (same_is g.access n is) h.request)) was))
     by_event _ h = refl
 
 none_asked : (past : Past) (m : Name) (requests : List Ask) → AllByRecursion (IsOwn past m) requests → ((c : Name) → is_child m c ≡ true → start past c ≡ None) → requests ≡ []
@@ -190,14 +183,8 @@ has_asked setting against v w ask (before, since, none, same) legal = (
 
 -- A CLIENT'S WAY TO A REQUEST
 
-older_as : (against : Past → Option DeskNo) (Is : Past → Event → Type 0) (v w : View) → EnteredAs against Is v w → IsOlder v.seen w.seen
-older_as against Is v w (before, ev, is, since, none, same) = (entry v.number ev ∷ since.0, ap (λ (x : View). x.seen) same ∙ ap (λ p. entry v.number ev ∷ p) since.1)
-
 pub number_as : (against : Past → Option DeskNo) (Is : Past → Event → Type 0) (v w : View) → EnteredAs against Is v w → w.number ≡ v.number
 number_as against Is v w (before, ev, is, since, none, same) = ap (λ (x : View). x.number) same
-
-pub older_by : (against : Past → Option DeskNo) (ev : Event) (v w : View) → Entered against ev v w → IsOlder v.seen w.seen
-older_by against ev v w (before, since, none, same) = (entry v.number ev ∷ since.0, ap (λ (x : View). x.seen) same ∙ ap (λ p. entry v.number ev ∷ p) since.1)
 
 abbrev pub StartsManager : Name → Name → View → View → Type 0
 StartsManager top manager v w = EnteredAs (against_child top) (IsNext top (kind.Read 0) manager) v w
@@ -234,12 +221,12 @@ is_request s epoch top manager access u v w x y t m a q legal_v legal_y = (
     to_copy = refl;
     ungranted = asks.1;
   },
-  older_trans u.seen v.seen y.seen (older_as against_nothing (IsTop epoch 0 0 top) u v t) later,
+  older_trans u.seen v.seen y.seen (entered_as_later against_nothing (IsTop epoch 0 0 top) u v t) later,
 )
   where
     later : IsOlder v.seen y.seen
-    later = older_trans v.seen w.seen y.seen (older_as (against_child top) (IsNext top (kind.Read 0) manager) v w m)
-        (older_trans w.seen x.seen y.seen (older_as (against_child manager) (IsNext manager kind.Access access) w x a) (older_by (against_access access) (event.Ask (request access)) x y q))
+    later = older_trans v.seen w.seen y.seen (entered_as_later (against_child top) (IsNext top (kind.Read 0) manager) v w m)
+        (older_trans w.seen x.seen y.seen (entered_as_later (against_child manager) (IsNext manager kind.Access access) w x a) (entered_later (against_access access) (event.Ask (request access)) x y q))
 
     asks : HasAsked y.seen (request access) × (granted y.seen access ≡ None)
     asks = has_asked s (against_access access) x y (request access) q legal_y

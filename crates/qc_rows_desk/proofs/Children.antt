@@ -15,12 +15,12 @@ use Rattle.qc_event.specs.Starts.{Stands}
 use Rattle.qc_event.proofs.Lawful.{lawful, child_starts}
 use Rattle.qc_event.proofs.LegalOrderly.{legal_orderly}
 use Rattle.qc_event.proofs.OneEntry.{not_some, start_is}
+use Rattle.qc_event.proofs.Options.{match_wider}
 use Rattle.qc_pass.specs.declared.view.View.{View}
 use Rattle.qc_pass.specs.Calling.{EnteredAs}
 use Rattle.qc_pass.specs.Entries.{IsOlder, entry}
 use Rattle.qc_pass.specs.Refusing.{against_child}
 use Rattle.qc_pass.proofs.Entering.{started_later}
-use Rattle.qc_pass.proofs.Lasting.{map_match}
 use Rattle.qc_rows_desk.specs.Tops.{IsUserTop}
 
 abbrev pub IsChild : Name → ℕ → ℕ → Name → Past → Event → Type 0
@@ -45,7 +45,7 @@ child_begun setting parent session body v w n pos (before, ev, (named, is), sinc
 -- a user transaction may stand below a top
 pub stands_below : (setting : Setting) (past : Past) (seat : ℕ) (top : Name) (session body : ℕ) → IsUserTop past top → Started past top (λ p. Stands setting seat p (length top + 1) (kind.User session body))
 stands_below setting past seat top session body (one, user) =
-    map_match (start past top) (λ b. IsUser b.kind) (λ p. Stands setting seat p (length top + 1) (kind.User session body)) (λ b is. (is, le-leb (length top + 1) 16 (omega (arith, one)))) user
+    match_wider (start past top) (λ b. IsUser b.kind) (λ p. Stands setting seat p (length top + 1) (kind.User session body)) (λ b is. (is, le-leb (length top + 1) 16 (omega (arith, one)))) user
 
 pub still_top : (before now : Past) (n : Name) → IsOlder before now → IsUserTop before n → IsUserTop now n
 still_top before now n older (one, user) = (one, started_later before now n (λ b. IsUser b.kind) older user)

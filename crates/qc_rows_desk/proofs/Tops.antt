@@ -1,23 +1,15 @@
 -- Who may be aborted as it asked or made ready; and the first pass once its splits are joined back.
-use Rattle.std.proofs.Common.{◌≡◌, ℕ, ◌+◌, ◌<◌, ◌==◌, Bool, true, false, cond, nat_lt, ◌&&◌, List, [], ◌∷◌, length, refl, sym, ap, ap₂, ◌∙◌, subst, eq-eqb, MatchBool}
-use Rattle.std.specs.Prelude.{Option, None, Some, MatchOption, IsTrue, is_some, if◌then◌else◌}
-use Rattle.std.specs.Option.{option_or}
+use Rattle.std.proofs.Common.{◌≡◌, ℕ, ◌+◌, ◌<◌, ◌==◌, Bool, true, false, cond, nat_lt, ◌&&◌, List, [], ◌∷◌, refl, sym, ap, ap₂, ◌∙◌, subst, eq-eqb, MatchBool}
+use Rattle.std.specs.Prelude.{Some, MatchOption}
 use Rattle.qc_event.specs.declared.event.Cause.TheVariants as cause
-use Rattle.qc_event.specs.declared.event.Event.TheVariants as event
 use Rattle.qc_event.specs.declared.event.Kind.TheVariants as kind
 use Rattle.qc_event.specs.Aborts.{Licensed}
 use Rattle.qc_event.specs.Base.{Setting}
-use Rattle.qc_event.specs.History.{Past, Name, Begun, start, is_ready}
-use Rattle.qc_event.specs.Legal.{Legal}
+use Rattle.qc_event.specs.History.{Past, Name, Begun, start}
 use Rattle.qc_event.specs.Standing.{Started, IsUser}
-use Rattle.qc_event.proofs.Absent.{same_itself}
-use Rattle.qc_event.proofs.Lawful.{started_some}
 use Rattle.qc_pass.specs.declared.view.View.{View}
-use Rattle.qc_pass.specs.Calling.{Entered, EnteredAs}
-use Rattle.qc_pass.specs.declared.refusal.DeskNo.{DeskNo}
-use Rattle.qc_pass.specs.Refusing.{against_nothing}
 use Rattle.qc_pass.specs.Rules.{IsSplit, IsClient, without, knows, joined, pass, counted}
-use Rattle.qc_pass.proofs.AskedTops.{IsTop, top_begun, may_ask_abort}
+use Rattle.qc_pass.proofs.AskedTops.{may_ask_abort}
 
 -- who stands so may be aborted as it asked
 pub asked_itself : (setting : Setting) (past : Past) (by seat session body : ℕ) (n : Name) → start past n ≡ Some (record { seat = by; kind = kind.User session body }) → Started past n (λ b. Licensed setting past seat n b b.kind (cause.Asked n))
@@ -62,21 +54,6 @@ closes v a b one two one' two' x y opened first second n1 n2 j1 j2 =
       ap (λ (u : View). u.number) j2 ∙ ap (λ (u : View). u.number) j1 ∙ ap (λ (u : View). u.number) k.2 ∙ a_number,
       ap (λ (u : View). u.out) j2 ∙ ap₂ without n2 (ap (λ (u : View). u.out) j1 ∙ ap₂ without n1 out_b) ∙ without_both one.number two.number,
     )
-
--- READY TOPS
-
--- a top that has just started may be made ready
-pub may_be_ready : (setting : Setting) (epoch session body : ℕ) (v w : View) (n : Name) → EnteredAs against_nothing (IsTop epoch session body n) v w → Legal setting w.seen → (length n ≡ 1) × (is_some (start w.seen n) ≡ true)
-may_be_ready setting epoch session body v w n (before, ev, (named, is), since, none, same) legal = (ap length named, started_some (λ b. IsUser b.kind) (start w.seen n) (top_begun setting epoch session body v w n (before, ev, (named, is), since, none, same) legal))
-
--- it is ready then
-pub is_ready_now : (against : Past → Option DeskNo) (v w : View) (n : Name) → Entered against (event.Ready n) v w → IsTrue (is_ready w.seen n)
-is_ready_now against v w n (before, since, none, same) =
-    ap (λ (x : View). is_ready x.seen n) same ∙ last_some _ _ (ap (λ (b : Bool). is_some {T = Unit {0}} (if b then Some tt else None)) (same_itself n))
-  where
-    last_some : {X : Type 0} (o new : Option X) → is_some new ≡ true → is_some (option_or o new) ≡ true
-    last_some None new h = h
-    last_some (Some x) new h = refl
 
 -- the first number that is given is the ledger's
 pub low : (v w new : View) → v ≡ pass 0 [] → IsSplit v w new → (w ≡ counted (pass 0 [])) × (new ≡ pass 1 [])

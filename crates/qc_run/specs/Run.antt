@@ -1,5 +1,5 @@
 -- What a run answers: words for the clauses of the top call.
-use Rattle.std.specs.Prelude.{ℕ, ◌+◌, ◌^◌, ◌≡◌, ◌≢◌, ◌⊎◌, List, [], length, map, reverse, Option, None, Some, IfSome}
+use Rattle.std.specs.Prelude.{ℕ, ◌+◌, ◌^◌, ◌≡◌, ◌≢◌, ◌⊎◌, List, [], length, reverse, Option, Some, IfSome}
 use Rattle.qc_event.specs.Legal.{Legal}
 use Rattle.qc_event.specs.Seats.{client_seat}
 use Rattle.qc_event.specs.Sound.{IsSound}

@@ -8,18 +8,17 @@ use Rattle.std.proofs.lemmas.List.Elements.{All-filter, recursion_from_All}
 use Rattle.qc_config.specs.Config.{IsLegal}
 use Rattle.qc_event.specs.Base.{Setting}
 use Rattle.qc_event.specs.Counts.{Rose}
-use Rattle.qc_event.specs.Dead.{dead, outcome_of, is_aborted}
+use Rattle.qc_event.specs.Dead.{dead}
 use Rattle.qc_event.specs.declared.event.Ask.{Ask}
-use Rattle.qc_event.specs.declared.event.How.{How}
-use Rattle.qc_event.specs.declared.event.How.TheVariants.{Commit, Abort}
 use Rattle.qc_event.specs.declared.event.Kind.{Kind}
 use Rattle.qc_event.specs.declared.event.Phase.{Phase}
 use Rattle.qc_event.specs.declared.event.Why.{Why}
 use Rattle.qc_event.specs.History.{Past, Name, end, asks}
 use Rattle.qc_event.specs.Manager.{Result, Stage, result, blocked_by, holder_of, asks_in, is_phase, phase_of, stage, first_for, at_last_number}
-use Rattle.qc_event.specs.Standing.{IsAbort, IsOrphanOf}
+use Rattle.qc_event.specs.Standing.{IsOrphanOf}
 use Rattle.qc_event.proofs.LastNumber.{rest_of}
 use Rattle.qc_event.proofs.Lineage.{alive_above, alive_not_aborted}
+use Rattle.qc_event.proofs.Outcomes.{abort_or_alive}
 use Rattle.qc_gather.specs.Carrying.{Carriage, WasNotCarried}
 use Rattle.qc_gather.specs.declared.carrier.CarryNo.{CarryNo}
 use Rattle.qc_gather.specs.declared.carrier.CarryNo.TheVariants as carry
@@ -61,12 +60,7 @@ module _ (setting : Setting) (past : Past) (m : Name) (k : Kind) (before now : �
   pub never_orphan : (a : Name) → IsOrphanOf past m a → ⊥
   never_orphan a orphan =
       let rest = rest_of a m orphan.above in
-      of_end (end past a) orphan.aborted (alive_not_aborted past a (alive_above past a rest.0 (sym (ap (dead past) rest.1) ∙ u.alive)))
-    where
-      of_end : (o : Option How) → MatchOption o ⊥ IsAbort → is_aborted (outcome_of o) ≡ false → ⊥
-      of_end None aborted alive = aborted
-      of_end (Some (Commit given)) aborted alive = aborted
-      of_end (Some (Abort cause)) aborted alive = true≢false alive
+      abort_or_alive (end past a) orphan.aborted (alive_not_aborted past a (alive_above past a rest.0 (sym (ap (dead past) rest.1) ∙ u.alive)))
 
   pub never_last : IsTrue (at_last_number past (first_for setting k) m k) → ⊥
   never_last last = true≢false (sym last ∙ u.not_last)

@@ -13,7 +13,7 @@ use Rattle.qc_script.specs.ScriptText.{Counted, Front, followed, ◌>>=◌, step
 use Rattle.qc_script.specs.Steps.{before, all_before, layer, numbered, put, plan_of}
 use Rattle.qc_script.proofs.Parts.{put_all, with_steps}
 
-all_before-map : (steps : List Step) → all_before (map put steps) ≡ plan_of steps
+pub all_before-map : (steps : List Step) → all_before (map put steps) ≡ plan_of steps
 all_before-map [] = refl
 all_before-map (s ∷ steps) = ap (put s) (all_before-map steps)
 

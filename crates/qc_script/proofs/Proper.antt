@@ -4,12 +4,13 @@ use Rattle.std.proofs.Common.{◌≡◌, ℕ, zero, suc, ◌+◌, ◌-◌, ◌*�
 use Rattle.std.specs.Prelude.{◌==◌, ◌||◌, ◌&&◌, nat_lt, nat_le, sum, IfOk, IfSome, ok_or, if◌then◌else◌, codes}
 use Rattle.std.specs.List.{AllByRecursion, position}
 use Rattle.std.specs.Str.{bytes_eq}
-use Rattle.std.proofs.lemmas.Bool.{eqb-true, eqb-false, leb-true, leb-false, ltb-true, ltb-false, or_parts, and_parts}
+use Rattle.std.proofs.lemmas.Bool.{eqb-true, leb-true, leb-false, ltb-true, ltb-false, or_parts, and_parts}
 use Rattle.std.proofs.lemmas.List.{length-map}
 use Rattle.std.proofs.lemmas.List.Quantifiers.{position-Some}
 use Rattle.std.proofs.lemmas.Result.{IfOk-at_ok, IfOk-weaker}
 use Rattle.serde_json.specs.Data.{Data}
 use Rattle.serde_json.specs.Find.{get}
+use Rattle.qc_event.proofs.Numbers.{nonzero}
 use Rattle.qc_event.specs.Base.{IsConfigFor}
 use Rattle.qc_config.specs.Config.{IsLegal, fault}
 use Rattle.qc_config.specs.declared.config.BadConfig.{BadConfig}
@@ -73,11 +74,8 @@ not_first : (b : Bool) (e : BadConfig) (o : Option BadConfig) → cond b (Some e
 not_first true e o h = absurd cc
 not_first false e o h = (refl, h)
 
-positive : (n : ℕ) → (n == 0) ≡ false → 0 < n
-positive n h = let other = eqb-false n 0 h in omega arith
-
 possible : (n total : ℕ) → ((n == 0) || nat_lt total n) ≡ false → (0 < n) × (n ≤ total)
-possible n total h = let p = or_parts (n == 0) (nat_lt total n) h in (positive n p.0, ltb-false total n p.1)
+possible n total h = let p = or_parts (n == 0) (nat_lt total n) h in (nonzero n p.0, ltb-false total n p.1)
 
 legal_unless_fault : (votes : List ℕ) (read write : ℕ) → fault votes read write ≡ None → IsLegal (record { votes = votes; read = read; write = write })
 legal_unless_fault votes read write h =
@@ -88,7 +86,7 @@ legal_unless_fault votes read write h =
     let e = not_first _ _ _ d.1 in
     let r = possible read (sum votes) c.0 in
     let w = possible write (sum votes) d.0 in
-    record { some_votes = positive (sum votes) b.0; some_read = r.0; read_possible = r.1; some_write = w.0; write_possible = w.1; overlap = leb-false (read + write) (sum votes) e.0 }
+    record { some_votes = nonzero (sum votes) b.0; some_read = r.0; read_possible = r.1; some_write = w.0; write_possible = w.1; overlap = leb-false (read + write) (sum votes) e.0 }
 
 no_fault : {A : Type 0} (P : A → Type 0) (o : Option BadConfig) (x : A) → (o ≡ None → P x) → IfOk (elim o [ None ↦ Ok x | Some e ↦ Err (Config e) ]) P
 no_fault P None x h = h refl

@@ -6,7 +6,6 @@ use Rattle.std.proofs.lemmas.List.{length-append, map-append}
 use Rattle.qc_names.specs.Name.{is_ancestor}
 use Rattle.qc_event.specs.History.{Name, is_child}
 use Rattle.qc_event.specs.Dead.{ancestors}
-pub use Rattle.qc_event.proofs.Absent.{other_length}
 use Rattle.qc_event.proofs.LastNumber.{same_last, is_ancestor-append, rest_of, child_last}
 
 -- the ancestors of a name other than itself, the shortest first

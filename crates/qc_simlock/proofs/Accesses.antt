@@ -26,6 +26,7 @@ use Rattle.qc_event.specs.Legal.{Legal, Allowed, MayHappen, MayEnd}
 use Rattle.qc_event.proofs.Absent.{same_is, same_itself}
 use Rattle.qc_event.proofs.OneEntry.{if_some, if_is, first_some, first_is, stays_some, some_or_none, start_stays, started_stays, end_step}
 use Rattle.qc_event.proofs.Lawful.{started_wider, started_some, committed_is}
+use Rattle.qc_event.proofs.Options.{some_match}
 
 -- REQUESTS
 
@@ -97,10 +98,6 @@ grant_now e past g is none =
     ap (λ o. option_or o (grant_in g.grant.access e.event)) none
     ∙ ap (grant_in g.grant.access) is
     ∙ ap (λ (b : Bool). if b then Some g else None) (same_itself g.grant.access)
-
-some_match : {Y : Type 0} (o : Option Y) (P : Y → Type 0) → MatchOption o ⊥ P → is_some o ≡ true
-some_match None P h = absurd h
-some_match (Some y) P h = refl
 
 -- who is granted had asked
 pub grant_asked : (setting : Setting) (past : Past) (seat copy : ℕ) (g : Grant) → MayGrant setting past seat copy g → is_some (asked past g.access) ≡ true

@@ -22,7 +22,7 @@ use Rattle.qc_event.proofs.OneEntry.{none_before}
 use Rattle.qc_simlock.specs.Visible.{given_in, served}
 use Rattle.qc_simlock.proofs.MossNames.{Line}
 use Rattle.qc_simlock.proofs.MossMoves as moss
-use Rattle.qc_simlock.proofs.MossMoves.{Move, Granted, Commit, Abort, Place, same_place, left_by}
+use Rattle.qc_simlock.proofs.MossMoves.{Move, Granted, Commit, Abort, Place, left_by}
 use Rattle.qc_simlock.proofs.MossLocks.{In}
 use Rattle.qc_simlock.proofs.MossSerial.{walk}
 use Rattle.qc_simlock.proofs.MossTurned.{turn_back, same_turned, child_turned}

@@ -28,7 +28,7 @@ use Rattle.qc_event.proofs.Lineage.{dead_last, dead_parent, alive_not_aborted, n
 use Rattle.qc_simlock.proofs.Accesses.{asked_access, grant_asked, committed_granted}
 use Rattle.qc_simlock.proofs.MossNames.{Line}
 use Rattle.qc_simlock.proofs.MossMoves as moss
-use Rattle.qc_simlock.proofs.MossMoves.{Move, Granted, Commit, Abort, is_put, is_dead, is_shown, place_of}
+use Rattle.qc_simlock.proofs.MossMoves.{Granted, Commit, Abort, is_put, is_dead, is_shown, place_of}
 use Rattle.qc_simlock.proofs.MossLocks.{In, AllLive, Conflict, Free, Follows}
 use Rattle.qc_simlock.proofs.MossTurned.{turn_last, turn_back}
 use Rattle.qc_simlock.proofs.MossPast.{end_move, move_in, moves, start_at, left_moves, none_found}

@@ -23,7 +23,7 @@ use Rattle.qc_event.proofs.Lawful.{Lawful, lawful, ends_open}
 use Rattle.qc_event.proofs.Lineage.{dead_last}
 use Rattle.qc_simlock.proofs.MossNames.{Line, is_above}
 use Rattle.qc_simlock.proofs.MossMoves as moss
-use Rattle.qc_simlock.proofs.MossMoves.{Move, Granted, Commit, Abort, is_dead, is_shown}
+use Rattle.qc_simlock.proofs.MossMoves.{Granted, Commit, Abort, is_dead, is_shown}
 use Rattle.qc_simlock.proofs.MossPast.{end_move, move_in, moves}
 use Rattle.qc_simlock.proofs.MossTurned.{turn_last, turn_back, same_turned, above_turned}
 

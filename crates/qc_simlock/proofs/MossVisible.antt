@@ -31,7 +31,7 @@ use Rattle.qc_simlock.specs.Visible.{served_order, left_at, Finds, is_visible, I
 use Rattle.qc_simlock.proofs.Accesses.{IsAccess, asked_access, granted_asked, granted_step, grant_stays, grant_now}
 use Rattle.qc_simlock.proofs.MossNames.{Line, IsAbove, two_ways, above-trans}
 use Rattle.qc_simlock.proofs.MossMoves as moss
-use Rattle.qc_simlock.proofs.MossMoves.{access_of, is_shown}
+use Rattle.qc_simlock.proofs.MossMoves.{is_shown}
 use Rattle.qc_simlock.proofs.MossLocks.{In, AllLive}
 use Rattle.qc_simlock.proofs.MossSerial.{serial}
 use Rattle.qc_simlock.proofs.MossHistory.{Shown, shown-all, shown-from}

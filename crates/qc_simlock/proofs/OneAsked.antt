@@ -6,7 +6,6 @@ use Rattle.std.proofs.lemmas.List.Folds.{find-append}
 use Rattle.qc_names.specs.Name as name
 use Rattle.qc_event.specs.declared.event.Ask.{Ask}
 use Rattle.qc_event.specs.declared.event.Entry.{Entry}
-use Rattle.qc_event.specs.declared.event.Event.TheVariants as event
 use Rattle.qc_event.specs.Base.{Setting}
 use Rattle.qc_event.specs.History.{Past, Name, end, asked, asks, ask_below, is_child}
 use Rattle.qc_event.specs.Manager.{waiting}
@@ -14,6 +13,7 @@ use Rattle.qc_event.specs.Requests.{MayAsk}
 use Rattle.qc_event.specs.Legal.{Legal}
 use Rattle.qc_event.proofs.LastNumber.{child_front}
 use Rattle.qc_event.proofs.OneEntry.{open_before, none_before}
+use Rattle.qc_event.proofs.SameEvents.{same_ask}
 use Rattle.qc_simlock.proofs.Accesses.{Asking, asked_step, may_ask}
 
 -- what every request of a manager fails, each access that asked fails
@@ -52,6 +52,3 @@ one_asked setting (e ∷ past) m a b legal is_a is_b asked_a asked_b open_a open
     | inr new_b ↦ sym new_a.2 ∙ ap (λ (x : Ask). x.access) (same_ask new_a.0 new_b.0 (sym new_a.1 ∙ new_b.1)) ∙ new_b.2
   ]
 ]
-  where
-    same_ask : (x y : Ask) → event.Ask x ≡ event.Ask y → x ≡ y
-    same_ask x y is = cc

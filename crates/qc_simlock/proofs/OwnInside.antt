@@ -7,7 +7,6 @@ use Rattle.std.proofs.lemmas.List.Elements.{filter-append}
 use Rattle.std.proofs.lemmas.List.{length-append}
 use Rattle.std.proofs.lemmas.Bool.{and_parts, false_from_ne_true}
 use Rattle.qc_event.specs.declared.event.Entry.{Entry}
-use Rattle.qc_event.specs.declared.event.Event.TheVariants as event
 use Rattle.qc_event.specs.declared.event.How.{How}
 use Rattle.qc_event.specs.declared.event.How.TheVariants.{Commit, Abort}
 use Rattle.qc_event.specs.declared.event.Kind.{Kind}
@@ -22,6 +21,7 @@ use Rattle.qc_event.proofs.Histories.{or_none}
 use Rattle.qc_event.proofs.LastNumber.{length_last, same_rest, last_longer, is_child-last, child_last, rest_of, append_next}
 use Rattle.qc_event.proofs.OneEntry.{Ending, some_or_none, unless_some, ending, end_now, start_or_end}
 use Rattle.qc_event.proofs.Lawful.{Lawful, lawful, ends_open}
+use Rattle.qc_event.proofs.SameEvents.{same_end}
 use Rattle.qc_serial.specs.declared.event.SerialEvent.{SerialEvent}
 use Rattle.qc_simlock.specs.Walk.{walk, added, ended}
 use Rattle.qc_simlock.specs.Own.{is_own, own, own_past, own_in}
@@ -64,9 +64,6 @@ settle k (Commit given) b mine none = by_test (enters k (Commit given)) refl
     by_test : (c : Bool) → enters k (Commit given) ≡ c → (if enters k (Commit given) then (if b then mine else []) else []) ≡ (if b then mine else [])
     by_test true is = ap (λ (c : Bool). if c then (if b then mine else []) else []) is
     by_test false is = ap (λ (c : Bool). if c then (if b then mine else []) else []) is ∙ empty b (none given is)
-
-one_end : (m n : Name) (h how : How) → event.End m h ≡ event.End n how → m ≡ n
-one_end m n h how is = cc
 
 module _ (e : Entry) (past : Past) (law : Lawful past) (keeps : KeepsOrder past e.event) where
   same_outcome : (n : Name) → end_in n e.event ≡ None → outcome (e ∷ past) n ≡ outcome past n
@@ -146,7 +143,7 @@ module _ (e : Entry) (past : Past) (law : Lawful past) (keeps : KeepsOrder past 
     same_mine : (how : How) → Ending lower e.event how → own_past t (e ∷ past) ≡ own_past t past
     same_mine how here = ap (λ es. own_past t past ++ es) (own_in_elsewhere past t e.event
         (λ c starting is. start_or_end c lower starting.0 how (sym starting.1 ∙ here))
-        (λ c other ending is. true≢false (sym is ∙ ap (is_child t) (one_end c lower other how (sym ending ∙ here)) ∙ not_own_child lower line))) ∙ append-nil (own_past t past)
+        (λ c other ending is. true≢false (sym is ∙ ap (is_child t) (same_end c lower other how (sym ending ∙ here)) ∙ not_own_child lower line))) ∙ append-nil (own_past t past)
 
     same_rest_committed : (how : How) → Ending lower e.event how → (s : Name) → all_committed (e ∷ past) lower s ≡ all_committed past lower s
     same_rest_committed how here [] = refl

@@ -13,6 +13,7 @@ use Rattle.qc_event.specs.declared.event.Kind.TheVariants as kind
 use Rattle.qc_event.specs.History.{Past, Name, Begun, same, start, start_in, end, end_in, kind_of}
 use Rattle.qc_event.proofs.Absent.{same_itself, if_not}
 use Rattle.qc_event.proofs.Histories.{or_none}
+use Rattle.qc_event.proofs.Options.{or_new}
 use Rattle.qc_serial.proofs.Known.{Known}
 use Rattle.qc_serial.proofs.Steps.{waiting}
 
@@ -51,9 +52,6 @@ pub stage_started : (past : Past) (x : Name) → (stage past x).started ≡ true
 stage_started past x h = has_kind (start past x) (end past x) h
 
 -- ONE ENTRY MORE
-
-or_new : {Y : Type 0} (old new : Option Y) → old ≡ None → option_or old new ≡ new
-or_new old new none = ap (λ o. option_or o new) none
 
 abbrev kind_in : Option Begun → Option Kind
 kind_in o = option_map (λ (b : Begun). b.kind) o

@@ -23,7 +23,7 @@ use Rattle.qc_event.specs.Legal.{Legal, Allowed, MayHappen}
 use Rattle.qc_event.proofs.Absent.{same_is, same_itself, if_not}
 use Rattle.qc_event.proofs.OneEntry.{if_is, first_is}
 use Rattle.qc_pass.specs.Consulting.{HasAsked}
-use Rattle.qc_pass.proofs.Begun.{started_at}
+use Rattle.qc_event.proofs.Options.{some_there}
 use Rattle.qc_pass.proofs.Consulting.{stands}
 use Rattle.qc_pass.proofs.Granting.{asked_stays}
 
@@ -35,7 +35,7 @@ grants_within setting past copy proper = each_granted (λ c g. g.rec < length (s
   where
     within : (before : Past) (seat c : ℕ) (g : Grant) → Legal setting before → MayGrant setting before seat c g → g.rec < length (slice_index_or setting.base c [])
     within before seat c g legal may =
-        let there = started_at (asked before g.access) _ may.request in
+        let there = some_there (asked before g.access) _ may.request in
         let fits = asked_fits setting before g.access there.0 proper legal there.1 in
         let is_copy : c < length setting.base = subst (λ (x : Ask). x.copy < length setting.base) there.2 fits.is_copy in
         let is_record : g.rec < length setting.firsts = subst (λ (x : Ask). x.rec < length setting.firsts) there.2 fits.is_record in
@@ -61,7 +61,7 @@ granted_asked setting (e ∷ past) n x legal is = elim (first_is (granted past n
     by_event (event.Granted c g) may h =
         let parts = if_is (same g.access n) (record { copy = c; grant = g }) x h in
         let name : g.access ≡ n = same_is g.access n parts.0 in
-        let there = started_at (asked past g.access) _ may.request in
+        let there = some_there (asked past g.access) _ may.request in
         subst (WasAskedFor (e ∷ past) n) parts.1
         record {
           of_name = name;

@@ -91,10 +91,7 @@ module _ (copy : ℕ) where
     -- the journal's fault is the image's first
     pub mount_refusal : (told : Option (List ℕ)) (fault : Fault) → IsOfReading fault → ((place : ℕ) → fault ≡ journal.Broken place → IfSome told (IsBroken place)) → IsRefusal copy table past limit told (mount_no copy fault)
     mount_refusal told journal.Disk of broken = tt
-    mount_refusal told (journal.Broken place) of broken = (refl, also told (broken place refl))
-      where
-        also : (t : Option (List ℕ)) → IfSome t (IsBroken place) → IfSome t (λ image. IsBroken place image)
-        also t is = is
+    mount_refusal told (journal.Broken place) of broken = (refl, broken place refl)
     mount_refusal told (journal.Full place) of broken = absurd of
     mount_refusal told journal.Memory of broken = tt
 

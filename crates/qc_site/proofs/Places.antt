@@ -1,15 +1,16 @@
 -- The places of logged tops, with one more; and what they keep, by their places.
 use Rattle.std.proofs.Common.{◌≡◌, inl, inr, ℕ, ◌+◌, ◌<◌, ◌≤◌, List, [], ◌∷◌, ◌++◌, length, get_or, drop, take, refl, sym, ap, ◌∙◌, subst, arith, length-append}
 use mathlib.Core.Bool.{true≢false}
-use Rattle.std.specs.Prelude.{◌==◌, ◌&&◌, Bool, true, false, not, Option, None, Some, is_some, slice_index}
+use Rattle.std.specs.Prelude.{◌==◌, ◌&&◌, Bool, true, false, not, None, Some, slice_index}
 use Rattle.std.specs.List.{list_any}
 use Rattle.std.specs.BTreeMap.{BTreeMap, Updates, get, is_at}
 use Rattle.std.specs.Ordering.{nat_cmp}
 use Rattle.std.proofs.Math.Seq.{get_or-append_seam}
-use Rattle.std.proofs.lemmas.Bool.{and_parts, cases_eq, cases_lt, eqb-true}
+use Rattle.std.proofs.lemmas.Bool.{and_parts, cases_eq, cases_lt, eqb-true, false_from_ne_true}
 use Rattle.std.proofs.lemmas.List.{get_or_append_left, get_or_default, length-take-le, take_more}
 use Rattle.std.proofs.lemmas.List.Elements.{All-push}
 use Rattle.std.proofs.lemmas.List.Folds.{list_any_at, list_any_none}
+use Rattle.std.proofs.lemmas.Option.{none-some, same_Some}
 use Rattle.std.specs.Map.{lookup}
 use Rattle.qc_ledger.proofs.Numbers.{is_at_apart}
 use Rattle.qc_names.specs.Name as name
@@ -35,10 +36,6 @@ bool_is : (b c : Bool) → (b ≡ true → c ≡ true) → (b ≡ false → c �
 bool_is true c when unless = when refl
 bool_is false c when unless = unless refl
 
-never : (b : Bool) → (b ≡ true → ⊥) → b ≡ false
-never true not_so = absurd (not_so refl)
-never false not_so = refl
-
 module _ (places : BTreeMap ℕ ℕ) (tops : List Logged) (are : ArePlaces places tops) where
   pub kept_root : is_kept tops [] ≡ false
   kept_root = list_any_none (keeps []) tops (λ k d within. ap (λ b. b && not (list_any (λ a. name.is_ancestor a []) (get_or tops k d).aborted)) (not_above_root (get_or tops k d).top (are.single k d within)))
@@ -48,20 +45,14 @@ module _ (places : BTreeMap ℕ ℕ) (tops : List Logged) (are : ArePlaces place
   number_of n rest k d within kept = are.each n k d within (above_is (get_or tops k d).top n rest (are.single k d within) (and_parts (name.is_ancestor (get_or tops k d).top (n ∷ rest)) (not (list_any (λ a. name.is_ancestor a (n ∷ rest)) (get_or tops k d).aborted)) kept).0)
 
   pub kept_nowhere : (n : ℕ) (rest : Name) → get nat_cmp places n ≡ None → is_kept tops (n ∷ rest) ≡ false
-  kept_nowhere n rest none = list_any_none (keeps (n ∷ rest)) tops (λ k d within. never (keeps (n ∷ rest) (get_or tops k d)) (λ kept. some_none k (sym (number_of n rest k d within kept) ∙ none)))
-    where
-      some_none : (k : ℕ) → Some k ≡ None → ⊥
-      some_none k is = cc
+  kept_nowhere n rest none = list_any_none (keeps (n ∷ rest)) tops (λ k d within. false_from_ne_true (keeps (n ∷ rest) (get_or tops k d)) (λ kept. none-some k (sym none ∙ number_of n rest k d within kept)))
 
   pub kept_there : (n : ℕ) (rest : Name) (p : ℕ) (l : Logged) → get nat_cmp places n ≡ Some p → l ≡ get_or tops p l → is_kept tops (n ∷ rest) ≡ keeps (n ∷ rest) l
   kept_there n rest p l found is = bool_is (keeps (n ∷ rest) l) (is_kept tops (n ∷ rest))
       (λ kept. list_any_at (keeps (n ∷ rest)) tops p l (are.within n p found) (ap (keeps (n ∷ rest)) (sym is) ∙ kept))
-      (λ dropped. list_any_none (keeps (n ∷ rest)) tops (λ k d within. never (keeps (n ∷ rest) (get_or tops k d)) (λ kept.
-      let same : k ≡ p = some_same k p (sym (number_of n rest k d within kept) ∙ found) in
+      (λ dropped. list_any_none (keeps (n ∷ rest)) tops (λ k d within. false_from_ne_true (keeps (n ∷ rest) (get_or tops k d)) (λ kept.
+      let same : k ≡ p = same_Some k p (sym (number_of n rest k d within kept) ∙ found) in
       true≢false (sym kept ∙ ap (keeps (n ∷ rest)) (ap (λ i. get_or tops i d) same ∙ get_or_default tops p d l (are.within n p found) ∙ sym is) ∙ dropped))))
-    where
-      some_same : (a b : ℕ) → Some a ≡ Some b → a ≡ b
-      some_same a b both = cc
 
 -- an access, by its first number
 first_of : (xs : List ℕ) → 1 ≤ length xs → xs ≡ slice_index xs 0 ∷ drop 1 xs
@@ -87,10 +78,6 @@ module _ (places : BTreeMap ℕ ℕ) (tops : List Logged) (are : ArePlaces place
 
 -- ONE MORE
 
-pub none_by : (o : Option ℕ) → is_some o ≡ false → o ≡ None
-none_by None none = refl
-none_by (Some x) none = absurd (true≢false none)
-
 pub no_places : (places : BTreeMap ℕ ℕ) → places.entries ≡ [] → ArePlaces places []
 no_places places none = record {
   single = λ k d within. absurd (omega (arith, within));
@@ -102,9 +89,6 @@ no_places places none = record {
     nothing : (n p : ℕ) → get nat_cmp places n ≡ Some p → ⊥
     nothing n p found = let empty : get nat_cmp places n ≡ None = ap (λ es. lookup (is_at (nat_cmp n)) es) none in let both : None ≡ Some p = sym empty ∙ found in cc
 
-some_is : (a b : ℕ) → Some a ≡ Some b → a ≡ b
-some_is a b both = cc
-
 head_is : (a b : ℕ) → a ∷ [] ≡ b ∷ [] → a ≡ b
 head_is a b both = cc
 
@@ -113,7 +97,7 @@ module _ (old new : BTreeMap ℕ ℕ) (tops : List Logged) (l : Logged) (n : ℕ
   longer = length-append tops (l ∷ [])
 
   last_of : (p : ℕ) → get nat_cmp new n ≡ Some p → p ≡ length tops
-  last_of p found = some_is p (length tops) (sym found ∙ updates.1)
+  last_of p found = same_Some p (length tops) (sym found ∙ updates.1)
 
   other_of : (m : ℕ) → (n ≡ m → ⊥) → get nat_cmp new m ≡ get nat_cmp old m
   other_of m apart = updates.2 m (is_at_apart n m apart)
@@ -139,15 +123,12 @@ module _ (old new : BTreeMap ℕ ℕ) (tops : List Logged) (l : Logged) (n : ℕ
   each_more m p d within is = elim (cases_lt p (length tops)) [
     | inl below ↦
         let before = are.each m p d below (sym (ap (λ (t : Logged). t.top) (get_or_append_left tops (l ∷ []) d p below)) ∙ is) in
-        other_of m (λ same. none_some p (sym absent ∙ ap (get nat_cmp old) same ∙ before)) ∙ before
+        other_of m (λ same. none-some p (sym absent ∙ ap (get nat_cmp old) same ∙ before)) ∙ before
     | inr past ↦
         let at : p ≡ length tops = omega (arith, past, within, longer) in
         let same : m ≡ n = head_is m n (sym is ∙ ap (λ (t : Logged). t.top) (ap (λ i. get_or (tops ++ l ∷ []) i d) at ∙ last_top d) ∙ top) in
         ap (get nat_cmp new) same ∙ updates.1 ∙ ap Some (sym at)
   ]
-    where
-      none_some : (k : ℕ) → None ≡ Some k → ⊥
-      none_some k is = cc
 
   pub places_more : ArePlaces new (tops ++ l ∷ [])
   places_more = record {

@@ -2,7 +2,7 @@
 use Rattle.std.proofs.Common.{ap, arith}
 use Rattle.std.specs.Prelude.{is_some}
 use Rattle.qc_event.proofs.LegalAgain.{legal_again}
-use Rattle.qc_line.proofs.Children.{children_fewer}
+use Rattle.qc_event.proofs.FewerChildren.{children_fewer}
 use Rattle.qc_line.proofs.access.request.Goals as goal
 use Rattle.qc_copy.proofs.Begun.{IsManagerName, manager_name}
 

@@ -1,6 +1,6 @@
 use Rattle.qc_event.specs.Tables.{setting_of}
 use Rattle.qc_pass.proofs.Consulting.{asked_later}
-use Rattle.qc_rows_desk.proofs.Asking.{older_by}
+use Rattle.qc_pass.proofs.AskedTops.{entered_later}
 use Rattle.qc_rows_desk.proofs.Tops.{asked_itself}
 use Rattle.qc_rows_desk.proofs.scene.dead_request.Goals as goal
 
@@ -12,4 +12,4 @@ abort-requires-clause-licensed g c =
 pub returns-clause-asked : goal.returns-clause-asked
 returns-clause-asked g c =
     let r = c.in_ok-top.ensures.asked in
-    (asked_later c.one_request.new.pass.seen c.abort.new.pass.seen c.in_ok-top.ask (older_by _ _ c.one_request.new.pass c.abort.new.pass c.in_ok-abort.ensures.ok) r.asked, r.to_copy)
+    (asked_later c.one_request.new.pass.seen c.abort.new.pass.seen c.in_ok-top.ask (entered_later _ _ c.one_request.new.pass c.abort.new.pass c.in_ok-abort.ensures.ok) r.asked, r.to_copy)

@@ -4,7 +4,7 @@ use Rattle.qc_event.specs.Seats.{is_client}
 use Rattle.qc_event.specs.Tables.{setting_of}
 use Rattle.qc_pass.proofs.Calls.{client}
 use Rattle.qc_rows_desk.proofs.Asking.{stands_below, own_request, is_request, number_as}
-use Rattle.qc_rows_desk.proofs.Tops.{may_be_ready}
+use Rattle.qc_pass.proofs.AskedTops.{may_be_ready}
 use Rattle.qc_rows_desk.proofs.scene.one_request.Goals as goal
 
 pub start-requires-2-clause-stands : goal.start-requires-2-clause-stands

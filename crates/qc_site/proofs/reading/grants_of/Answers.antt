@@ -1,7 +1,8 @@
 -- What is wrong with the first body is the first fault of all.
 use Rattle.std.proofs.Common.{◌∷◌, ◌∙◌, ap, sym, length, drop, List, ℕ}
 use Rattle.qc_journal.specs.Image.{bodies_of}
-use Rattle.qc_ledger.proofs.Firsts.{some_by, with_first}
+use Rattle.qc_event.proofs.Numbers.{nonzero}
+use Rattle.qc_ledger.proofs.Firsts.{with_first}
 use Rattle.qc_site.specs.Image.{IsFault}
 use Rattle.qc_site.specs.Reading.{IsFirstBad}
 use Rattle.qc_site.proofs.Faults.{first_fault, handed_on}
@@ -15,5 +16,5 @@ returns-in_err-check_made-clause-fault c = λ limit.
     let bodies = c.args.bodies.now in
     let v = c.index-bodies-0.result in
     handed_on copy c.from_residual.result c.in_err-check_made.field-0.0 (IsFirstBad copy table past c.as_slice.result.now) (IsFault copy table past limit (bodies_of bodies))
-    (first_fault copy table past limit c.as_slice.result.now (bodies_of bodies) (bodies_of (drop 1 bodies)) (with_first bodies v (some_by (length bodies) (sym c.is_empty.ensures ∙ c.if-is_empty.false)) c.index-bodies-0.is ∙ ap (λ (b : List ℕ). b ∷ bodies_of (drop 1 bodies)) (sym c.as_slice.ensures.value)))
+    (first_fault copy table past limit c.as_slice.result.now (bodies_of bodies) (bodies_of (drop 1 bodies)) (with_first bodies v (nonzero (length bodies) (sym c.is_empty.ensures ∙ c.if-is_empty.false)) c.index-bodies-0.is ∙ ap (λ (b : List ℕ). b ∷ bodies_of (drop 1 bodies)) (sym c.as_slice.ensures.value)))
     c.from_residual.ensures.1 (c.in_err-check_made.ensures.fault past)

@@ -1,4 +1,4 @@
-use Rattle.std.proofs.Common.{refl, sym, ap, subst, arith, IsBitSet, ◌<◌}
+use Rattle.std.proofs.Common.{refl, sym, subst, arith, IsBitSet, ◌<◌}
 use Rattle.qc_board.specs.Boards.{Seated}
 use Rattle.qc_board.proofs.Moves.{dooms}
 use Rattle.qc_board.proofs.Seating.{same_table, is_low}

@@ -2,7 +2,7 @@ use Rattle.std.proofs.Common.{◌+◌, ap, sym, subst, arith}
 use Rattle.qc_event.specs.declared.event.Event.TheVariants as event
 use Rattle.qc_event.specs.History.{start}
 use Rattle.qc_event.proofs.Lawful.{started_some}
-use Rattle.qc_line.proofs.Children.{children_fewer}
+use Rattle.qc_event.proofs.FewerChildren.{children_fewer}
 use Rattle.qc_client.specs.Entering.{MayEnter}
 use Rattle.qc_script.specs.Calls.{by_client}
 use Rattle.qc_client.proofs.Starting.{user_depth, user_nonroot, may_enter_child}

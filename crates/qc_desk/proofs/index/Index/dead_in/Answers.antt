@@ -7,12 +7,13 @@ use Rattle.qc_event.proofs.Ancestors.{find_no_ancestor}
 use Rattle.qc_desk.specs.Spots.{spot, child_at}
 use Rattle.qc_desk.specs.Places.{place}
 use Rattle.qc_desk.specs.Index.{Shape, top_at}
-use Rattle.qc_desk.proofs.Finding.{only_root, next_place, child_within, root_dead, one_root, stands_so, no_dead, dead_here, alive_more, take_first, has_number}
+use Rattle.qc_event.proofs.RootAndTops.{root_alive}
+use Rattle.qc_desk.proofs.Finding.{only_root, next_place, child_within, one_root, stands_so, no_dead, dead_here, alive_more, take_first, has_number}
 use Rattle.qc_desk.proofs.index.Index.dead_in.Goals as goal
 
 pub returns-in_default-clause-dead : goal.returns-in_default-clause-dead
 returns-in_default-clause-dead g c = λ setting past is legal.
-    sym (ap (dead past) (only_root c.args.name.now (sym c.number.ensures ∙ c.in_default.is)) ∙ root_dead setting past legal)
+    sym (ap (dead past) (only_root c.args.name.now (sym c.number.ensures ∙ c.in_default.is)) ∙ root_alive setting past legal)
 
 pub returns-in_default-get-clause-dead : goal.returns-in_default-get-clause-dead
 returns-in_default-get-clause-dead g c = λ setting past is legal.

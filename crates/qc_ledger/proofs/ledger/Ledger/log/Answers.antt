@@ -2,7 +2,8 @@
 use Rattle.std.proofs.Common.{sym, subst}
 use Rattle.qc_ledger.specs.Runs.{LosesNone}
 use Rattle.qc_ledger.specs.Shelf.{journal_in}
-use Rattle.qc_ledger.proofs.Passes.{older_on, ready_stays, sees_on}
+use Rattle.qc_ledger.proofs.Passes.{ready_stays, sees_on}
+use Rattle.qc_pass.proofs.Seers.{older_trans}
 use Rattle.qc_ledger.proofs.ledger.Ledger.log.Goals as goal
 
 pub unable-requires-clause-ready : goal.unable-requires-clause-ready
@@ -16,7 +17,7 @@ returns-in_err-unable-in-Err-Disk-clause-grows g c = λ told before over.
     subst (λ j. LosesNone (journal_in c.args.self.now.shelf) j) (sym c.unable.ensures.journal) (c.try_log.ensures.grows told before over)
 
 pub returns-in_err-unable-in-Err-Disk-clause-seen : goal.returns-in_err-unable-in-Err-Disk-clause-seen
-returns-in_err-unable-in-Err-Disk-clause-seen g c = older_on c.args.self.now.pass.seen c.try_log.new.self.pass.seen c.unable.new.self.pass.seen c.try_log.ensures.seen c.unable.ensures.seen
+returns-in_err-unable-in-Err-Disk-clause-seen g c = older_trans c.args.self.now.pass.seen c.try_log.new.self.pass.seen c.unable.new.self.pass.seen c.try_log.ensures.seen c.unable.ensures.seen
 
 pub returns-in_err-unable-in-Err-Disk-clause-seer : goal.returns-in_err-unable-in-Err-Disk-clause-seer
 returns-in_err-unable-in-Err-Disk-clause-seer g c = sees_on c.args.seer.now c.try_log.new.seer c.unable.new.seer c.try_log.ensures.seer c.unable.ensures.seer
@@ -26,7 +27,7 @@ returns-in_err-unable-in-Err-Full-clause-grows g c = λ told before over.
     subst (λ j. LosesNone (journal_in c.args.self.now.shelf) j) (sym c.unable-in-Err-Full.ensures.journal) (c.try_log.ensures.grows told before over)
 
 pub returns-in_err-unable-in-Err-Full-clause-seen : goal.returns-in_err-unable-in-Err-Full-clause-seen
-returns-in_err-unable-in-Err-Full-clause-seen g c = older_on c.args.self.now.pass.seen c.try_log.new.self.pass.seen c.unable-in-Err-Full.new.self.pass.seen c.try_log.ensures.seen c.unable-in-Err-Full.ensures.seen
+returns-in_err-unable-in-Err-Full-clause-seen g c = older_trans c.args.self.now.pass.seen c.try_log.new.self.pass.seen c.unable-in-Err-Full.new.self.pass.seen c.try_log.ensures.seen c.unable-in-Err-Full.ensures.seen
 
 pub returns-in_err-unable-in-Err-Full-clause-seer : goal.returns-in_err-unable-in-Err-Full-clause-seer
 returns-in_err-unable-in-Err-Full-clause-seer g c = sees_on c.args.seer.now c.try_log.new.seer c.unable-in-Err-Full.new.seer c.try_log.ensures.seer c.unable-in-Err-Full.ensures.seer
@@ -36,7 +37,7 @@ returns-in_ok-unable-in-Err-Disk-clause-grows g c = λ told before over.
     subst (λ j. LosesNone (journal_in c.args.self.now.shelf) j) (sym c.unable.ensures.journal) (c.try_log.ensures.grows told before over)
 
 pub returns-in_ok-unable-in-Err-Disk-clause-seen : goal.returns-in_ok-unable-in-Err-Disk-clause-seen
-returns-in_ok-unable-in-Err-Disk-clause-seen g c = older_on c.args.self.now.pass.seen c.try_log.new.self.pass.seen c.unable.new.self.pass.seen c.try_log.ensures.seen c.unable.ensures.seen
+returns-in_ok-unable-in-Err-Disk-clause-seen g c = older_trans c.args.self.now.pass.seen c.try_log.new.self.pass.seen c.unable.new.self.pass.seen c.try_log.ensures.seen c.unable.ensures.seen
 
 pub returns-in_ok-unable-in-Err-Disk-clause-seer : goal.returns-in_ok-unable-in-Err-Disk-clause-seer
 returns-in_ok-unable-in-Err-Disk-clause-seer g c = sees_on c.args.seer.now c.try_log.new.seer c.unable.new.seer c.try_log.ensures.seer c.unable.ensures.seer
@@ -46,7 +47,7 @@ returns-in_ok-unable-in-Err-Full-clause-grows g c = λ told before over.
     subst (λ j. LosesNone (journal_in c.args.self.now.shelf) j) (sym c.unable-in-Err-Full.ensures.journal) (c.try_log.ensures.grows told before over)
 
 pub returns-in_ok-unable-in-Err-Full-clause-seen : goal.returns-in_ok-unable-in-Err-Full-clause-seen
-returns-in_ok-unable-in-Err-Full-clause-seen g c = older_on c.args.self.now.pass.seen c.try_log.new.self.pass.seen c.unable-in-Err-Full.new.self.pass.seen c.try_log.ensures.seen c.unable-in-Err-Full.ensures.seen
+returns-in_ok-unable-in-Err-Full-clause-seen g c = older_trans c.args.self.now.pass.seen c.try_log.new.self.pass.seen c.unable-in-Err-Full.new.self.pass.seen c.try_log.ensures.seen c.unable-in-Err-Full.ensures.seen
 
 pub returns-in_ok-unable-in-Err-Full-clause-seer : goal.returns-in_ok-unable-in-Err-Full-clause-seer
 returns-in_ok-unable-in-Err-Full-clause-seer g c = sees_on c.args.seer.now c.try_log.new.seer c.unable-in-Err-Full.new.seer c.try_log.ensures.seer c.unable-in-Err-Full.ensures.seer

@@ -8,7 +8,7 @@ use Rattle.qc_ledger.specs.Entered.{GrowsBy, pending_by, told_body, tops_of}
 use Rattle.qc_ledger.specs.Runs.{HasOrMore, Leaves, LosesNone}
 use Rattle.qc_ledger.specs.Shelf.{journal_in, top_body, top_in}
 use Rattle.qc_ledger.proofs.Logging.{log_grows, log_moments, same_moments}
-use Rattle.qc_ledger.proofs.Passes.{older_on}
+use Rattle.qc_pass.proofs.Seers.{older_trans}
 use Rattle.qc_ledger.proofs.ledger.Ledger.try_log.Goals as goal
 
 pub returns-in_err-rise-clause-any_moment : goal.returns-in_err-rise-clause-any_moment
@@ -38,7 +38,7 @@ returns-then-has_ended-clause-seen g c =
     let mid = c.settle.new.self.pass.seen in
     let now = c.has_ended.new.self.pass.seen in
     let first : IsOlder old mid = subst (λ (v : View). IsOlder v.seen mid) c.rise.ensures.pass c.settle.ensures.seen in
-    let then : IsOlder old now = older_on old mid now first c.has_ended.ensures.seen in
+    let then : IsOlder old now = older_trans old mid now first c.has_ended.ensures.seen in
     then
 
 pub returns-in_err-write-clause-seen : goal.returns-in_err-write-clause-seen
@@ -47,7 +47,7 @@ returns-in_err-write-clause-seen g c =
     let mid = c.settle.new.self.pass.seen in
     let now = c.has_ended.new.self.pass.seen in
     let first : IsOlder old mid = subst (λ (v : View). IsOlder v.seen mid) c.rise.ensures.pass c.settle.ensures.seen in
-    let then : IsOlder old now = older_on old mid now first c.has_ended.ensures.seen in
+    let then : IsOlder old now = older_trans old mid now first c.has_ended.ensures.seen in
     subst (λ (v : View). IsOlder old v.seen) (sym c.write.ensures.pass) then
 
 pub returns-clause-seen : goal.returns-clause-seen
@@ -56,9 +56,9 @@ returns-clause-seen g c =
     let mid = c.settle.new.self.pass.seen in
     let now = c.has_ended.new.self.pass.seen in
     let first : IsOlder old mid = subst (λ (v : View). IsOlder v.seen mid) c.rise.ensures.pass c.settle.ensures.seen in
-    let then : IsOlder old now = older_on old mid now first c.has_ended.ensures.seen in
+    let then : IsOlder old now = older_trans old mid now first c.has_ended.ensures.seen in
     let wrote : IsOlder old c.write.new.self.pass.seen = subst (λ (v : View). IsOlder old v.seen) (sym c.write.ensures.pass) then in
-    older_on old c.write.new.self.pass.seen c.settle-2.new.self.pass.seen wrote c.settle-2.ensures.seen
+    older_trans old c.write.new.self.pass.seen c.settle-2.new.self.pass.seen wrote c.settle-2.ensures.seen
 
 pub returns-in_err-write-clause-any_moment : goal.returns-in_err-write-clause-any_moment
 returns-in_err-write-clause-any_moment g c = λ told before over.

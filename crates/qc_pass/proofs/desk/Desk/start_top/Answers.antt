@@ -10,7 +10,7 @@ use Rattle.qc_pass.specs.Entries.{AreCounted, entry}
 use Rattle.qc_pass.specs.Refusing.{against_nothing}
 use Rattle.qc_pass.proofs.Calls.{client, after_look}
 use Rattle.qc_pass.proofs.Counting.{top_allowed, next_top}
-use Rattle.qc_pass.proofs.Fewer.{fewer}
+use Rattle.qc_event.proofs.FewerChildren.{fewer}
 use Rattle.qc_pass.proofs.desk.Desk.start_top.Goals as goal
 
 pub overflow_cast-tops : goal.overflow_cast-tops

@@ -1,8 +1,7 @@
 -- Each request of a manager is of a started child.
 use Rattle.std.proofs.Common.{◌≡◌, Bool, true, false, List, [], ◌∷◌, ◌++◌, refl}
-use Rattle.std.specs.Prelude.{Option, None, Some, if◌then◌else◌, is_some, option_to_list}
+use Rattle.std.specs.Prelude.{None, Some, if◌then◌else◌, is_some, option_to_list}
 use Rattle.std.specs.List.{AllByRecursion}
-use Rattle.std.specs.Option.{option_or}
 use Rattle.qc_event.specs.declared.event.Ask.{Ask}
 use Rattle.qc_event.specs.declared.event.Entry.{Entry}
 use Rattle.qc_event.specs.declared.event.Event.{Event}
@@ -12,11 +11,6 @@ use Rattle.qc_event.specs.History.{Past, Name, start, is_child, asks, ask_below}
 use Rattle.qc_event.specs.Legal.{Legal, MayHappen}
 use Rattle.qc_event.proofs.Lawful.{started_some}
 use Rattle.qc_event.proofs.OneEntry.{start_stays}
-
--- nothing comes to an answer
-pub still : {Y : Type 0} (o : Option Y) → option_or o None ≡ o
-still None = refl
-still (Some y) = refl
 
 -- a request is of a started child
 pub record IsOwn (past : Past) (m : Name) (ask : Ask) : Type 0 where

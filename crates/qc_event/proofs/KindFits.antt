@@ -1,17 +1,18 @@
 -- What a start asks of the kind: its record is in the table, and a new configuration is legal and for every copy.
-use Rattle.std.proofs.Common.{◌≡◌, ℕ, [], ◌∷◌, length, sym, ap, ◌∙◌, subst, inl, inr}
+use Rattle.std.proofs.Common.{◌≡◌, ℕ, ◌<◌, [], ◌∷◌, length, sym, ap, ◌∙◌, subst, inl, inr}
 use Rattle.std.specs.Prelude.{Option, None, Some, is_some, MatchOption, IsTrue, nat_lt}
+use Rattle.std.proofs.lemmas.Bool.{ltb-true}
 use Rattle.qc_names.specs.Name as name
 use Rattle.qc_config.specs.Config.{IsLegal}
 use Rattle.qc_event.specs.declared.event.Kind.{Kind}
 use Rattle.qc_event.specs.declared.event.Kind.TheVariants as kind
 use Rattle.qc_event.specs.Base.{Setting}
 use Rattle.qc_event.specs.History.{Past, Name, Begun, start, start_in}
-use Rattle.qc_event.specs.Standing.{IsUser}
+use Rattle.qc_event.specs.Manager.{record_of}
+use Rattle.qc_event.specs.Standing.{IsUser, IsManager}
 use Rattle.qc_event.specs.Starts.{Stands, Starts}
 use Rattle.qc_event.specs.Users.{MayStartNext}
 use Rattle.qc_event.specs.Legal.{Legal, MayHappen}
-use Rattle.qc_refine.proofs.Stages.{KindSized}
 use Rattle.qc_event.proofs.OneEntry.{Starting, first_is, start_is, starting}
 
 -- what a kind's start asks of it
@@ -62,10 +63,10 @@ kind_fits setting (e ∷ past) n b legal is = elim (first_is (start past n) (sta
         subst (KindFits setting) (some_kind (record { seat = e.seat; kind = k }) b (sym (start_is e past n k none at) ∙ is))
         (starts_fits setting past e.seat n k (subst (MayHappen setting past e.seat) at legal.1))
 
--- so a new configuration is for every copy
-pub kind_sized : (setting : Setting) (k : Kind) → KindFits setting k → KindSized (length setting.base) k
-kind_sized setting (kind.Reconf rec config) fits = fits.1
-kind_sized setting (kind.User session body) fits = tt
-kind_sized setting (kind.Read rec) fits = tt
-kind_sized setting (kind.Write rec value) fits = tt
-kind_sized setting kind.Access fits = tt
+-- the record of a manager that fits is in the table
+pub record_fits : (setting : Setting) (k : Kind) → IsManager k → KindFits setting k → record_of k < length setting.firsts
+record_fits setting (kind.Read rec) manager fits = ltb-true rec (length setting.firsts) fits
+record_fits setting (kind.Write rec value) manager fits = ltb-true rec (length setting.firsts) fits
+record_fits setting (kind.Reconf rec config) manager fits = ltb-true rec (length setting.firsts) fits.0
+record_fits setting (kind.User session body) manager fits = absurd manager
+record_fits setting kind.Access manager fits = absurd manager

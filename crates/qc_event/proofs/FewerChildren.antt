@@ -1,19 +1,16 @@
--- There is room for one more child.
+-- How many children of a name have started: there is room for one more.
 use Rattle.std.proofs.Common.{◌≡◌, ◌<◌, ◌≤◌, Bool, true, [], ◌∷◌, length, sym, ap, ◌∙◌, inl, inr, arith}
 use mathlib.Core.Bool.{true≢false}
-use Rattle.std.specs.Prelude.{Option, None, Some, is_some, option_to_list, if◌then◌else◌}
+use Rattle.std.specs.Prelude.{None, Some, is_some, option_to_list, if◌then◌else◌}
 use Rattle.std.proofs.lemmas.Bool.{false_from_ne_true}
 use Rattle.std.proofs.lemmas.List.{length-append}
 use Rattle.qc_event.specs.declared.event.Event.{Event}
 use Rattle.qc_event.specs.History.{Past, Name, start, is_child, child_in, children}
 use Rattle.qc_event.proofs.LastNumber.{child_last, last_longer}
-use Rattle.qc_event.proofs.OneEntry.{Starting, start_step}
+use Rattle.qc_event.proofs.OneEntry.{Starting, at_most_one, start_step}
 
-at_most_one : {Y : Type 0} (o : Option Y) → length (option_to_list o) ≤ 1
-at_most_one None = omega arith
-at_most_one (Some y) = omega arith
-
-fewer : (past : Past) (n : Name) → length (children past n) ≤ length past
+-- no more children than entries
+pub fewer : (past : Past) (n : Name) → length (children past n) ≤ length past
 fewer [] n = omega arith
 fewer (e ∷ past) n =
     let one = at_most_one (child_in n e.event) in
