@@ -71,7 +71,7 @@ fn turn<T: Copy>(items: &mut Vec<T>)
 
 /// Who was aborted below each top: beside the place of the top's name, one more than the place of the last such entry,
 /// and beside each such entry the same of the one before it.
-#[derive(Drop)]
+#[derive(Debug, Drop)]
 pub struct Aborts {
     last: Vec<u32>,
     before: Vec<u32>,
