@@ -78,7 +78,8 @@ pub fn begins()
         trails.set_then_read
         (trails.top ∷ []) }
     ensures between_turns { RunsInTurn 0 (reverse (trails.first_cut trails.set_ended)) }
-    ensures ready { RunsBodies Reach.cut_off 0 (reverse (trails.first_cut trails.top_ready)) trails.set_then_read
+    ensures ready { RunsBodies Reach.cut_off 0 (reverse (trails.first_cut trails.top_ready))
+        trails.set_then_read
         (trails.top ∷ []) }
     ensures not_begun { RunsBodies Reach.cut_off 0 [] trails.set_then_read [] }
 {}
