@@ -16,7 +16,7 @@ use qc_names::{LONGEST, Name};
 const EPOCH: u64 = 0x1_0000_0000;
 
 /// Bytes that are taken from the front. Behind a refusal nothing is known of them.
-#[derive(Drop)]
+#[derive(Debug, Drop)]
 pub struct Cursor<'a> {
     pub rest: &'a [u8],
 }

@@ -1,10 +1,9 @@
 //! Why the image of a disk was refused.
 use qc_event::Table;
-use std::fmt;
 use thiserror::Error;
 
 /// What is wrong with the image of a journal.
-#[derive(Drop, Error)]
+#[derive(Drop, Debug, Error)]
 pub enum ImageFault {
     /// The record whose gate is open at this place does not stand there whole.
     #[error("broken at {place}")]
@@ -21,13 +20,6 @@ pub enum ImageFault {
     /// The last epoch is `2^32 - 1`, and none comes after it.
     #[error("epoch {0}")]
     Epoch(u32),
-}
-
-// Tables have no `Debug`.
-impl fmt::Debug for ImageFault {
-    fn fmt<W: fmt::Write>(&self, f: &mut fmt::Formatter<W>) -> fmt::Result {
-        write!(f, "{self}")
-    }
 }
 
 /// A disk whose image was refused, and why.

@@ -6,14 +6,14 @@ use qc_event::Name;
 use std::marker::Model;
 
 /// A top that the ledger logged, with its aborted descendants whose parents are not aborted.
-#[derive(Drop)]
+#[derive(Debug, Drop)]
 pub struct Logged {
     pub top: Name,
     pub aborted: Names,
 }
 
 /// Logged tops, in the order of their records.
-#[derive(Drop)]
+#[derive(Debug, Drop)]
 pub struct Tops {
     tops: Vec<Logged>,
 }
@@ -45,7 +45,7 @@ impl Tops {
 
 /// What the image of a ledger told before a mounting: its last epoch, 0 where there is none, and the tops that it
 /// logged.
-#[derive(Drop)]
+#[derive(Debug, Drop)]
 pub struct Past {
     pub epoch: u32,
     pub tops: Tops,

@@ -5,14 +5,14 @@ use qc_event::{Name, Table};
 use std::marker::Model;
 
 /// The first record of a journal: the number of its disk, and the table of its store.
-#[derive(Drop)]
+#[derive(Debug, Drop)]
 pub struct Made {
     pub who: u8,
     pub table: Table,
 }
 
 /// Names in order.
-#[derive(Drop)]
+#[derive(Debug, Drop)]
 pub struct Names {
     names: Vec<Name>,
 }
@@ -43,7 +43,7 @@ impl Names {
 
 /// A record of the ledger: how it was made, the epoch of a mounting, or a top that committed, with its aborted
 /// descendants whose parents are not aborted.
-#[derive(Drop)]
+#[derive(Debug, Drop)]
 pub enum LedgerRecord {
     Made(Made),
     Epoch(u32),

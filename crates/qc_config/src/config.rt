@@ -3,6 +3,7 @@ ghost use Rattle.qc_config.specs.Copies as copies;
 ghost use Rattle.qc_config.specs.Config as config;
 
 use crate::copies::Copies;
+use std::fmt;
 use std::marker::Model;
 use thiserror::Error;
 
@@ -49,6 +50,16 @@ impl Model for Config {
     ghost inverse = { λ v. record { votes = v.votes ++ replicate (16 - length v.votes) 0; count = length v.votes; read = v.read; write = v.write } };
 
     ghost inverse_ok = { λ a h. λ i. record { votes = front_padded a.count a.votes h.0 h.1 h.2 i; count = front_length a.count a.votes h.0 h.1 i; read = a.read; write = a.write } };
+}
+
+impl fmt::Debug for Config {
+    fn fmt<W: fmt::Write>(&self, f: &mut fmt::Formatter<W>) -> fmt::Result {
+        f.debug_struct("Config")
+            .field("votes", &&self.votes[..self.count])
+            .field("read", &self.read)
+            .field("write", &self.write)
+            .finish()
+    }
 }
 
 fn total_of(votes: &[u8]) -> u16

@@ -10,7 +10,7 @@ use qc_event::{Grant, Name};
 use std::alloc::{AllocError, Global};
 
 /// An access and the tuple that it was granted first.
-#[derive(Clone, Copy)]
+#[derive(Clone, Copy, Debug)]
 pub(crate) struct First {
     pub access: Name,
     pub tuple: Tuple,

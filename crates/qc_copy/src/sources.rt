@@ -9,7 +9,7 @@ use qc_event::{Entry, Name, Outcome, dead, outcome};
 use qc_moss::Source;
 
 /// The entries of a history, the oldest first. Each answer goes over all of them. The history need not be legal.
-#[derive(Clone, Copy)]
+#[derive(Clone, Copy, Debug)]
 pub struct Entries<'a> {
     pub entries: &'a [Entry],
 }
@@ -27,7 +27,7 @@ impl<'a> Source for Entries<'a> {
 }
 
 /// The index of a history, which tells of it where it is legal. An answer takes a step for each number of the name.
-#[derive(Clone, Copy)]
+#[derive(Clone, Copy, Debug)]
 pub struct Indexed<'a> {
     pub index: &'a Index,
 }

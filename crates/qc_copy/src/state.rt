@@ -19,7 +19,7 @@ use std::marker::Model;
 
 /// Whether a request may be granted: with this tuple after its operation; or whose lock is in its way, or the
 /// shortest aborted ancestor of its access.
-#[derive(Clone, Copy)]
+#[derive(Clone, Copy, Debug)]
 pub enum Verdict {
     Free(Tuple),
     Blocked(Name),
@@ -27,7 +27,7 @@ pub enum Verdict {
 }
 
 /// A copy: its number, its locks, what it granted, in order, and what each access was granted first.
-#[derive(Drop)]
+#[derive(Debug, Drop)]
 pub struct CopyState {
     copy: u8,
     locks: Locks,

@@ -5,7 +5,7 @@ use qc_config::{Config, Tuple};
 use std::marker::Model;
 
 /// The tuples with which a run starts, for each copy and record.
-#[derive(Drop)]
+#[derive(Debug, Drop)]
 pub struct Base {
     copies: Vec<Vec<Tuple>>,
 }

@@ -1,5 +1,7 @@
 use qc_config::{Config, Copies, Op, Tuple, Val};
 use qc_names::Name;
+use std::{error, fmt};
+use thiserror::Error;
 
 /// How a transaction stands.
 #[derive(Clone, Copy, PartialEq, Eq, Debug)]
@@ -46,7 +48,7 @@ impl Outcome {
 
 /// What a transaction is for: a user transaction runs a body for a session, a manager serves one user
 /// read, write or reconfiguration, and an access of a manager goes to one copy.
-#[derive(Clone, Copy)]
+#[derive(Clone, Copy, Debug)]
 pub enum Kind {
     User { session: u8, body: u32 },
     Read { rec: u8 },
@@ -56,7 +58,7 @@ pub enum Kind {
 }
 
 /// A request to a copy.
-#[derive(Clone, Copy)]
+#[derive(Clone, Copy, Debug)]
 pub struct Ask {
     pub access: Name,
     pub copy: u8,
@@ -65,7 +67,7 @@ pub struct Ask {
 }
 
 /// A grant at a copy, with the tuple after the operation.
-#[derive(Clone, Copy)]
+#[derive(Clone, Copy, Debug)]
 pub struct Grant {
     pub access: Name,
     pub rec: u8,
@@ -74,19 +76,26 @@ pub struct Grant {
 }
 
 /// Why no answer came.
-#[derive(Clone, Copy, PartialEq, Eq, Debug)]
+#[derive(Clone, Copy, PartialEq, Eq, Debug, Error)]
 pub enum Why {
+    #[error("lost")]
     Lost,
+    #[error("late")]
     Late,
+    #[error("down")]
     Down,
+    #[error("full")]
     Full,
+    #[error("strange")]
     Strange,
 }
 
 /// Why a copy refused.
-#[derive(Clone, Copy)]
+#[derive(Clone, Copy, Debug, Error)]
 pub enum Refusal {
+    #[error("blocked by {0}")]
     Blocked(Name),
+    #[error("{0} is aborted")]
     Dead(Name),
 }
 
@@ -99,30 +108,56 @@ pub enum Phase {
 }
 
 /// Who replied in a phase, and why others did not.
-#[derive(Clone, Copy)]
+#[derive(Clone, Copy, Debug)]
 pub struct Lack {
     pub phase: Phase,
     pub replied: Copies,
     pub missing: [Option<Why>; 16],
 }
 
+impl fmt::Display for Lack {
+    fn fmt<W: fmt::Write>(&self, f: &mut fmt::Formatter<W>) -> fmt::Result {
+        let (phase, replied) = (self.phase, self.replied);
+        write!(
+            f,
+            "too few copies in phase {phase:?}: replied {replied:?}, missing"
+        )?;
+        for (copy, missing) in self.missing.iter().enumerate() {
+            if let Some(why) = missing {
+                write!(f, " {copy}:{why}")?;
+            }
+        }
+        Ok(())
+    }
+}
+
+impl error::Error for Lack {}
+
 /// Why a transaction was aborted: it was asked to be, a copy's lock stood in the way, too few copies
 /// answered, a number was at its last value, an ancestor was aborted, its session was killed, a child
 /// that had to commit did not, or its access got no answer.
-#[derive(Clone, Copy)]
+#[derive(Clone, Copy, Debug, Error)]
 pub enum Cause {
+    #[error("asked by {by}")]
     Asked { by: Name },
+    #[error("copy {copy} is blocked by {holder}")]
     Conflict { copy: u8, holder: Name },
+    #[error("{0}")]
     NoQuorum(Lack),
+    #[error("a number is at its last value")]
     Last,
+    #[error("{0} is aborted")]
     Orphan(Name),
+    #[error("the session is killed")]
     Killed,
+    #[error("child {0} did not commit")]
     Child(Name),
+    #[error("no answer")]
     Missed,
 }
 
 /// What a committed transaction answered.
-#[derive(Clone, Copy)]
+#[derive(Clone, Copy, Debug)]
 pub enum Answer {
     Nothing,
     Value(Val),
@@ -131,14 +166,14 @@ pub enum Answer {
 }
 
 /// How a transaction ended.
-#[derive(Clone, Copy)]
+#[derive(Clone, Copy, Debug)]
 pub enum How {
     Commit(Answer),
     Abort(Cause),
 }
 
 /// One step of a run.
-#[derive(Clone, Copy)]
+#[derive(Clone, Copy, Debug)]
 pub enum Event {
     Start {
         name: Name,
@@ -176,14 +211,14 @@ pub enum Event {
 }
 
 /// A step, and the seat under which it was made.
-#[derive(Clone, Copy)]
+#[derive(Clone, Copy, Debug)]
 pub struct Entry {
     pub seat: u32,
     pub event: Event,
 }
 
 /// What a copy answers a request.
-#[derive(Clone, Copy)]
+#[derive(Clone, Copy, Debug)]
 pub enum Answered {
     Granted(Tuple),
     Blocked(Name),

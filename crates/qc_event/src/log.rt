@@ -30,7 +30,7 @@ fn append<T: Copy>(items: &mut Vec<T>, item: T) -> Result<(), AllocError>
 }
 
 /// A history that grows. Contracts see it with its latest entry first.
-#[derive(Drop)]
+#[derive(Debug, Drop)]
 pub struct Log {
     entries: Vec<Entry>,
 }

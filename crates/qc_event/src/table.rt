@@ -3,6 +3,7 @@ ghost use Rattle.std.specs.Prelude.{◌≡◌, List, length, IfOk};
 use qc_config::{Config, Val};
 use std::alloc::{AllocError, Global};
 use std::marker::Model;
+use std::{fmt, str};
 
 /// The name of a record, as its bytes.
 #[derive(Debug, Drop)]
@@ -16,6 +17,17 @@ impl Model for Label {
     ghost Value = { List ℕ };
 
     ghost view = { λ l. l.bytes.items };
+}
+
+// In quotes, on one line; bytes that are no text by their numbers.
+impl fmt::Display for Label {
+    fn fmt<W: fmt::Write>(&self, f: &mut fmt::Formatter<W>) -> fmt::Result {
+        let bytes = self.as_bytes();
+        match str::from_utf8(bytes) {
+            Ok(text) => write!(f, "{text:?}"),
+            Err(_) => write!(f, "{bytes:?}"),
+        }
+    }
 }
 
 impl Label {
@@ -37,7 +49,7 @@ impl Label {
 }
 
 /// A record of a table: its name, the value with which it starts, and its first configuration.
-#[derive(Drop)]
+#[derive(Debug, Drop)]
 pub struct Row {
     pub name: Label,
     pub start: Val,
@@ -45,7 +57,7 @@ pub struct Row {
 }
 
 /// The records of a table, in order. A record's number is its place.
-#[derive(Drop)]
+#[derive(Debug, Drop)]
 pub struct Rows {
     rows: Vec<Row>,
 }
@@ -76,7 +88,7 @@ impl Rows {
 }
 
 /// The records of a store, and at how many copies each is kept.
-#[derive(Drop)]
+#[derive(Debug, Drop)]
 pub struct Table {
     pub copies: u8,
     pub records: Rows,

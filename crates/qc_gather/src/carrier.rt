@@ -9,9 +9,10 @@ ghost use Rattle.qc_gather.specs.Carrying.{MayCarry, next_ask, made_by, HasGrown
 
 use qc_config::{Op, Tuple};
 use qc_event::{Name, Why};
+use thiserror::Error;
 
 /// What became of an access that ended.
-#[derive(Clone, Copy)]
+#[derive(Clone, Copy, Debug)]
 pub enum Carried {
     /// The copy granted it: the tuple there after the operation. The access is committed.
     Reply(Tuple),
@@ -22,13 +23,16 @@ pub enum Carried {
 }
 
 /// Why an access was not carried to an answer.
-#[derive(Clone, Copy)]
+#[derive(Clone, Copy, Debug, Error)]
 pub enum CarryNo {
     /// An ancestor of the manager is aborted. The access, where it started, ended as its orphan.
+    #[error("{0} is aborted")]
     Orphan(Name),
     /// There was no memory. The steps done before stand.
+    #[error("no memory")]
     Memory,
     /// The history takes no more entries. The steps done before stand.
+    #[error("no room in the history")]
     Room,
 }
 

@@ -14,7 +14,7 @@ use std::marker::Model;
 
 /// What a manager has collected: who replied, the newest configuration, and the value of the greatest
 /// version (Gifford).
-#[derive(Drop)]
+#[derive(Debug, Drop)]
 pub struct Gather {
     heard: Heard,
     generation: u64,

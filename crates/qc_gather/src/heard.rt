@@ -10,7 +10,7 @@ use qc_config::{Config, Copies};
 use qc_event::{Lack, Name, Phase, Why};
 
 /// What is kept of each copy that was asked in a phase, whatever it replied.
-#[derive(Clone, Copy)]
+#[derive(Clone, Copy, Debug)]
 pub struct Heard {
     asked: Copies,
     replied: Copies,

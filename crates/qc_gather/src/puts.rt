@@ -14,7 +14,7 @@ use qc_event::{Name, Phase, Why};
 use std::marker::Model;
 
 /// One phase of puts of a manager: who replied, and the configuration whose write quorum is needed.
-#[derive(Drop)]
+#[derive(Debug, Drop)]
 pub struct Puts {
     heard: Heard,
     config: Config,

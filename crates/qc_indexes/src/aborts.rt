@@ -56,7 +56,7 @@ fn aborted_in(names: &Index, entry: &Entry, top: &Name) -> Option<Name>
 
 /// Who was aborted below each top: beside the place of the top's name, one more than the place of the last such entry,
 /// and beside each such entry the same of the one before it.
-#[derive(Drop)]
+#[derive(Debug, Drop)]
 pub struct Aborts {
     last: Vec<u32>,
     before: Vec<u32>,

@@ -68,7 +68,7 @@ fn earlier(
 
 /// What each copy granted: how much, one more than the place of the last such entry, and beside each such entry the
 /// same of the one before it.
-#[derive(Drop)]
+#[derive(Debug, Drop)]
 pub struct Grants {
     count: [u32; COPIES],
     last: [u32; COPIES],

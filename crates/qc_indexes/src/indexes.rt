@@ -22,7 +22,7 @@ use qc_event::{Entry, Grant, Name, Refusal};
 use std::alloc::{AllocError, Global};
 
 /// What is kept beside a history and the index of its names, so that no look goes over the entries.
-#[derive(Drop)]
+#[derive(Debug, Drop)]
 pub struct Indexes {
     alloc: Global,
     pub(crate) opens: Opens,

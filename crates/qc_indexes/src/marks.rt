@@ -42,7 +42,7 @@ fn greater(old: Option<u64>, number: u64) -> u64
 }
 
 /// For each session that may be marked, the greatest number of a top that marked it.
-#[derive(Drop)]
+#[derive(Debug, Drop)]
 pub struct Marks {
     greatest: [Option<u64>; SESSIONS],
 }

@@ -43,7 +43,7 @@ fn count_after(count: u32, entry: &Entry) -> u32
 }
 
 /// How many tops of a history have no end.
-#[derive(Drop)]
+#[derive(Debug, Drop)]
 pub struct Opens {
     count: u32,
 }

@@ -37,7 +37,7 @@ fn refusal_in(entry: &Entry, n: &Name) -> Option<Refusal>
 }
 
 /// Where each access was first refused: beside the place of its name, one more than the place of that entry.
-#[derive(Drop)]
+#[derive(Debug, Drop)]
 pub struct Refusals {
     firsts: Vec<u32>,
 }

@@ -5,16 +5,19 @@ ghost use Rattle.qc_io.specs.declared.whole.Untaken.TheVariants.{Failed, Memory}
 
 use super::{Failed, Sink, Source};
 use std::alloc::{AllocError, Global};
+use thiserror::Error;
 
 /// The most bytes that one read is asked for.
 const PIECE: usize = 4096;
 
 /// Why bytes were not taken.
-#[derive(Clone, Copy, PartialEq, Eq, Debug)]
+#[derive(Clone, Copy, PartialEq, Eq, Debug, Error)]
 pub enum Untaken {
     /// The source failed.
+    #[error("the source failed")]
     Failed,
     /// There was no memory.
+    #[error("no memory")]
     Memory,
 }
 

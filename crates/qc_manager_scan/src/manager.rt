@@ -9,7 +9,7 @@ use qc_scan::is_manager;
 use std::marker::Model;
 
 /// A configuration and its generation.
-#[derive(Clone, Copy)]
+#[derive(Clone, Copy, Debug)]
 pub struct NewestConfig {
     generation: u64,
     config: Config,
@@ -51,7 +51,7 @@ impl NewestConfig {
 }
 
 /// A value and its version.
-#[derive(Clone, Copy)]
+#[derive(Clone, Copy, Debug)]
 pub struct GreatestValue {
     version: u64,
     value: u64,
@@ -135,7 +135,7 @@ fn reply_in(h: &[Entry], m: &Name, e: &Entry) -> Option<Tuple>
 
 /// A stage of a manager: its phase, the configuration that counts there, what is asked, and whether a
 /// write quorum is needed and not a read quorum.
-#[derive(Clone, Copy)]
+#[derive(Clone, Copy, Debug)]
 pub struct Stage {
     phase: Phase,
     config: Config,

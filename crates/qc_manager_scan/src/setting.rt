@@ -2,7 +2,7 @@ use qc_event::{Base, Config, Tuple};
 use std::marker::Model;
 
 /// What a run starts from: the tuples of each copy, and each record's first configuration.
-#[derive(Drop)]
+#[derive(Debug, Drop)]
 pub struct Setting<'a> {
     base: &'a Base,
     firsts: &'a [Config],

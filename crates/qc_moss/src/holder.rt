@@ -5,14 +5,14 @@ use qc_config::{Config, Op, Tuple, Val};
 use qc_names::Name;
 
 /// A version and its value.
-#[derive(Clone, Copy)]
+#[derive(Clone, Copy, Debug)]
 pub struct Put {
     pub version: u64,
     pub value: Val,
 }
 
 /// A generation and its configuration.
-#[derive(Clone, Copy)]
+#[derive(Clone, Copy, Debug)]
 pub struct Change {
     pub generation: u64,
     pub config: Config,
@@ -20,7 +20,7 @@ pub struct Change {
 
 /// A lock: the first access to which it was granted, who holds it now, the first access that writes under it,
 /// and what was put under it last.
-#[derive(Clone, Copy)]
+#[derive(Clone, Copy, Debug)]
 pub struct Holder {
     pub first: Name,
     pub at: Name,

@@ -16,7 +16,7 @@ use std::alloc::{AllocError, Global};
 use std::marker::Model;
 
 /// Whether an access may have a lock.
-#[derive(Clone, Copy)]
+#[derive(Clone, Copy, Debug)]
 pub enum Test {
     /// No lock is in its way.
     Free,
@@ -28,7 +28,7 @@ pub enum Test {
 /// inherits its locks and what was done under them; when it aborts they go, and what was there before stands
 /// (Moss). All this is done to a record's locks when they are asked for, by `settle_by`. What has come to the root
 /// first is folded into the record's tuple.
-#[derive(Drop)]
+#[derive(Debug, Drop)]
 pub struct Locks {
     start: Vec<Tuple>,
     base: Vec<Tuple>,

@@ -12,7 +12,7 @@ use qc_event::{Answered, Ask};
 use std::alloc::{AllocError, Global};
 
 /// What came back of a request.
-#[derive(Clone, Copy)]
+#[derive(Clone, Copy, Debug)]
 pub enum Sent {
     /// The answer that the port gave.
     Answer(Answered),

@@ -10,6 +10,7 @@ use Rattle.atomic_table.proofs.Lists.{at_set, at_longer, set_again}
 use Rattle.qc_event.specs.Base.{Setting}
 use Rattle.qc_event.specs.declared.event.Entry.{Entry}
 use Rattle.qc_event.specs.Legal.{Allowed}
+use Rattle.qc_event.specs.Seats.{client_seat}
 use Rattle.qc_pass.specs.declared.view.View.{View}
 use Rattle.qc_pass.specs.Entries.{entries_of, IsLegal, IsOlder}
 use Rattle.qc_pass.specs.Rules.{Role, nobody_yet, held, kin_of, ruler, note, spent, with_right, first_of_all, lent, returned, right_of, looked, posted, taken, noted, Has, IsHolder, IsKinHolder, Fits, Kept, Posts, Takes, Looks, IsAtRest, IsHeld, extends}
@@ -111,21 +112,14 @@ fits_ruler log role by = record { prefix = prefix_nil log; whole = λ _. refl; h
 pub fits_right : (log all : List Entry) (role : ℕ → Role) (by : ℕ) (rules : Bool) (v : View) → (rules ≡ true → all ≡ log) → (rules ≡ false → v.flight ≡ []) → Fits log role by v → Fits log role by (with_right rules all v)
 fits_right log all role by rules v q n f = record { prefix = f.prefix; whole = q; holds = f.holds; mine = f.mine; landed = n; draws = f.draws; kin = f.kin; low = f.low; count = f.count }
 
-abbrev pub FirstWords : List ℕ
-FirstWords = 0 ∷ 18 ∷ []
-
-first_role : ℕ → Role
-first_role zero = held 0
-first_role (suc k) = nobody_yet
-
-pub begins : Kept record { words = 0 ∷ 18 ∷ []; homes = []; views = first_of_all ∷ [] }
-begins = ([], role, 0, 18, record { cells = refl; each = one; one = only; quiet = λ k e. refl; undrawn = λ k by e. refl; holder = holders; kin_holder = kins; fresh = fresh; high = omega arith })
+pub begins : Kept record { words = 0 ∷ client_seat ∷ []; homes = []; views = first_of_all ∷ [] }
+begins = ([], role, 0, client_seat, record { cells = refl; each = one; one = only; quiet = λ k e. refl; undrawn = λ k by e. refl; holder = holders; kin_holder = kins; fresh = fresh; high = omega arith })
   where
     role : ℕ → Role
     role zero = held 0
     role (suc k) = nobody_yet
 
-    fresh : (k : ℕ) → 18 ≤ k → 17 < k → role k ≡ nobody_yet
+    fresh : (k : ℕ) → client_seat ≤ k → 17 < k → role k ≡ nobody_yet
     fresh zero h l = absurd (omega arith)
     fresh (suc k) h l = refl
 

@@ -45,7 +45,7 @@ fn end_in(entry: &Entry, n: &Name) -> Option<How>
 
 /// A legal history with its indexes. Contracts see it with its latest entry first. How a name stands is found by the
 /// index of names, in a step for each of the name's numbers, however long the history is; no other look scans it either.
-#[derive(Drop)]
+#[derive(Debug, Drop)]
 pub struct History {
     pub(crate) entries: Vec<Entry>,
     pub(crate) index: Index,

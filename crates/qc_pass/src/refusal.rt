@@ -3,21 +3,28 @@ ghost use Rattle.std.specs.Prelude.{◌≡◌};
 ghost use Rattle.qc_pass.specs.Refusing as words;
 
 use qc_event::{Name, Short};
+use thiserror::Error;
 
 /// Why a call appended nothing.
-#[derive(Clone, Copy)]
+#[derive(Clone, Copy, Debug, Error)]
 pub enum DeskNo {
     /// The shortest aborted ancestor of the name in question.
+    #[error("{0} is aborted")]
     Orphan(Name),
     /// The name has ended.
+    #[error("the name has ended")]
     Ended,
     /// The first started child without an end.
+    #[error("{0} has not ended")]
     ChildrenOpen(Name),
     /// The top is ready.
+    #[error("the top is ready")]
     Ready,
     /// There was no memory.
+    #[error("no memory")]
     Memory,
     /// The history takes no more entries.
+    #[error("no room in the history")]
     Room,
 }
 

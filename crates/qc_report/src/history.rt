@@ -14,7 +14,7 @@ use std::marker::Model;
 
 /// The entries of a history, the oldest first. A legal one may have an index beside it: then a name is found in a
 /// step for each of its numbers. Without one, each look-up goes over all entries.
-#[derive(Drop)]
+#[derive(Debug, Drop)]
 pub struct History<'a> {
     entries: &'a [Entry],
     index: Option<&'a Index>,

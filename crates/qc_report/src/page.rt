@@ -6,7 +6,7 @@ use std::fmt::Display;
 use std::marker::Model;
 
 /// Bytes that are written one text after another.
-#[derive(Drop)]
+#[derive(Debug, Drop)]
 pub struct Page {
     bytes: Vec<u8>,
 }

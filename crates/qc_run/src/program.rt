@@ -24,7 +24,7 @@ use std::alloc::{AllocError, Global};
 
 /// What a run answers: how it ended, the tuples from which it started, and its history, the oldest
 /// entry first.
-#[derive(Drop)]
+#[derive(Debug, Drop)]
 pub struct Ran {
     pub status: Status,
     pub start: Base,

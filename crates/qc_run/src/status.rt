@@ -7,7 +7,7 @@ use qc_script::{BadScript, Member};
 use std::alloc::{AllocError, Global};
 
 /// How a run ended.
-#[derive(Drop)]
+#[derive(Debug, Drop)]
 pub enum Status {
     /// There is a report, and it was written.
     Done,

@@ -3,21 +3,28 @@ ghost use Rattle.qc_rw.specs.Managed.{cause_of};
 
 use qc_event::{Cause, Lack, Name};
 use qc_gather::{CarryNo, Shortage};
+use thiserror::Error;
 
 /// Why a manager has no answer.
-#[derive(Clone, Copy)]
+#[derive(Clone, Copy, Debug, Error)]
 pub enum MgrNo {
     /// An ancestor of the manager is aborted.
+    #[error("{0} is aborted")]
     Orphan(Name),
     /// The access of the manager that was the first to be blocked was blocked at this copy by this access (Moss).
+    #[error("copy {copy} is blocked by {holder}")]
     Conflict { copy: u8, holder: Name },
     /// Too few copies replied (Gifford).
+    #[error("{0}")]
     NoQuorum(Lack),
     /// The number to raise is at `2^64 - 1`.
+    #[error("a number is at its last value")]
     Last,
     /// There was no memory. The steps done before stand.
+    #[error("no memory")]
     Memory,
     /// The history takes no more entries. The steps done before stand.
+    #[error("no room in the history")]
     Room,
 }
 

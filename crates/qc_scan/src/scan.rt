@@ -6,7 +6,7 @@ use qc_event::{Ask, Entry, Event, Grant, How, Kind, Name, Refusal, Why};
 use std::marker::Model;
 
 /// The start of a name: the seat under which it was made, and the kind.
-#[derive(Clone, Copy)]
+#[derive(Clone, Copy, Debug)]
 pub struct Begun {
     seat: u32,
     kind: Kind,
@@ -41,7 +41,7 @@ impl Begun {
 }
 
 /// A request, and the seat under which it was made.
-#[derive(Clone, Copy)]
+#[derive(Clone, Copy, Debug)]
 pub struct Request {
     seat: u32,
     ask: Ask,
@@ -76,7 +76,7 @@ impl Request {
 }
 
 /// A grant, and the copy that gave it.
-#[derive(Clone, Copy)]
+#[derive(Clone, Copy, Debug)]
 pub struct Given {
     copy: u8,
     grant: Grant,

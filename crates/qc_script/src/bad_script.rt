@@ -42,22 +42,22 @@ pub enum BadScript {
     #[error("the bytes are no JSON")]
     NotJson,
     /// A part of the script has not the form that it must have.
-    #[error("a part of the script has another form")]
+    #[error("a part of the script has another form: {0:?}")]
     Shape(Member),
     /// A number, or the length of a list or a text, is beyond a limit.
-    #[error("a number or a length is beyond its limit")]
+    #[error("a number or a length is beyond its limit: {0:?} {1}")]
     Limit(Member, u64),
     /// Votes and thresholds are no configuration.
-    #[error("votes and thresholds are no configuration")]
+    #[error("votes and thresholds are no configuration: {0}")]
     Config(BadConfig),
     /// A step names a record that is not in the table.
-    #[error("a step names a record that is not in the table")]
+    #[error("a step names a record that is not in the table: {0}")]
     Unknown(Label),
     /// There are more than `2^20` bytes.
     #[error("the script is too long")]
     TooLong,
     /// Two records have one name.
-    #[error("two records have one name")]
+    #[error("two records have one name: {0}")]
     Twice(Label),
     /// There was no memory. It says nothing of the bytes.
     #[error("no memory")]

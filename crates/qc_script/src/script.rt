@@ -3,7 +3,7 @@ use qc_net::Fate;
 
 /// One step of a body.
 #[cycle(script)]
-#[derive(Drop)]
+#[derive(Debug, Drop)]
 pub enum Step {
     /// Reads a record.
     Read { rec: u8 },
@@ -20,7 +20,7 @@ pub enum Step {
 /// What a transaction does: its steps in order, and how often it is tried at most. Bodies are numbered from 0
 /// in the order in which they begin in a script.
 #[cycle(script)]
-#[derive(Drop)]
+#[derive(Debug, Drop)]
 pub struct Body {
     pub number: u32,
     pub tries: u32,
@@ -29,7 +29,7 @@ pub struct Body {
 
 /// A session: the fates of its requests, over and over; after how many due steps a held one is delivered; and
 /// the bodies of its tops, in order.
-#[derive(Drop)]
+#[derive(Debug, Drop)]
 pub struct Session {
     pub fates: Vec<Fate>,
     pub hold: u64,
@@ -37,7 +37,7 @@ pub struct Session {
 }
 
 /// A script: a table of records, how many due steps the sender of a held request waits, and its one session.
-#[derive(Drop)]
+#[derive(Debug, Drop)]
 pub struct Script {
     pub table: Table,
     pub patience: u32,

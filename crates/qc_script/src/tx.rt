@@ -3,32 +3,43 @@ ghost use Rattle.std.specs.Prelude.{◌≡◌};
 ghost use Rattle.qc_script.specs.Client.{View};
 
 use qc_event::{Cause, Config, Lack, Name};
+use thiserror::Error;
 
 /// Why a call was refused.
 ///
 /// After `Orphan`, `Conflict`, `NoQuorum` and `Last` a manager that the call started has ended, aborted for that cause,
 /// and the transaction has not ended by the call. After `Ledger` the top stays ready.
-#[derive(Clone, Copy)]
+#[derive(Clone, Copy, Debug, Error)]
 pub enum TxNo {
     /// This ancestor, or the transaction itself, is aborted.
+    #[error("{0} is aborted")]
     Orphan(Name),
     /// Another transaction holds the record at a copy.
+    #[error("copy {copy} is blocked by {holder}")]
     Conflict { copy: u8, holder: Name },
     /// No quorum of copies answered.
+    #[error("{0}")]
     NoQuorum(Lack),
     /// The record has its last version or generation.
+    #[error("a number is at its last value")]
     Last,
     /// The transaction has ended.
+    #[error("the transaction has ended")]
     Ended,
     /// This child of it has not ended.
+    #[error("{0} has not ended")]
     ChildrenOpen(Name),
     /// It is a top that is ready.
+    #[error("the top is ready")]
     Ready,
     /// The ledger could not log the top.
+    #[error("the ledger did not log the top")]
     Ledger,
     /// Memory ran out.
+    #[error("no memory")]
     Memory,
     /// The history is full.
+    #[error("no room in the history")]
     Room,
 }
 

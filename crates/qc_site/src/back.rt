@@ -11,24 +11,29 @@ use qc_disk::Disk;
 use qc_event::Grant;
 use qc_journal::{Body, Fault, Journal};
 use std::alloc::{AllocError, Global};
+use thiserror::Error;
 
 /// How a copy's disk differs from what the copy granted.
-#[derive(Clone, Copy)]
+#[derive(Clone, Copy, Debug, Error)]
 pub enum Strange {
     /// The record whose gate is open at this place does not stand there whole.
+    #[error("broken at {place}")]
     Broken {
         place: u64,
     },
     /// The record of this index, counted from 0 in the whole journal, is no grant.
+    #[error("record {index} grammar")]
     Grammar {
         index: u64,
     },
     /// There are fewer records than there were before this run.
+    #[error("{records} records of {old}")]
     Short {
         records: u64,
         old: u64,
     },
     /// At this index of the records of this run the disk has another grant than the history, or one of them has none.
+    #[error("grant {index}: the disk has {disk:?}, the history {desk:?}")]
     Differs {
         index: u64,
         disk: Option<Grant>,
@@ -37,13 +42,16 @@ pub enum Strange {
 }
 
 /// Why a copy's disk was not read back.
-#[derive(Clone, Copy)]
+#[derive(Clone, Copy, Debug, Error)]
 pub enum BackNo {
     /// The disk failed. Its count of faults says that it was the disk.
+    #[error("the disk failed")]
     Disk,
     /// It does not say what the copy granted.
+    #[error("{0}")]
     Strange(Strange),
     /// There was no memory.
+    #[error("no memory")]
     Memory,
 }
 

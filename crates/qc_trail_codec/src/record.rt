@@ -5,7 +5,7 @@ use qc_event::{Base, Entry};
 use std::marker::Model;
 
 /// Entries in order.
-#[derive(Drop)]
+#[derive(Debug, Drop)]
 pub struct Entries {
     entries: Vec<Entry>,
 }
@@ -36,7 +36,7 @@ impl Entries {
 }
 
 /// What a run started from, and its entries.
-#[derive(Drop)]
+#[derive(Debug, Drop)]
 pub struct Trail {
     pub base: Base,
     pub entries: Entries,

@@ -1,7 +1,7 @@
 //! Laws that tell by example what it is to follow a script: trails that do, and trails that only seem to.
 #![tactic(auto)]
 
-ghost use Rattle.std.specs.Prelude.{◌≡◌, false, [], ◌∷◌, IsTrue, map, reverse, take};
+ghost use Rattle.std.specs.Prelude.{◌≡◌, false, [], ◌∷◌, IsTrue, map, reverse};
 ghost use Rattle.qc_event.specs.History.{children};
 ghost use Rattle.qc_interp.specs.Asking.{Asks};
 ghost use Rattle.qc_interp.specs.Follows.{FollowsBody};
@@ -70,15 +70,16 @@ pub fn names_no_other()
 /// The first run, cut off within a manager, between two steps, or as its top is ready, is a beginning of what follows its
 /// script.
 pub fn begins()
-    ensures in_manager { RunsBodies Reach.cut_off 0 (reverse (trails.first_cut 14))
+    ensures in_manager { RunsBodies Reach.cut_off 0 (reverse (trails.first_cut trails.read_asked))
         trails.set_then_read
         (trails.top ∷ []) }
-    ensures in_manager_turns { RunsInTurn 0 (reverse (trails.first_cut 14)) }
-    ensures between_steps { RunsBodies Reach.cut_off 0 (reverse (trails.first_cut 11))
+    ensures in_manager_turns { RunsInTurn 0 (reverse (trails.first_cut trails.read_asked)) }
+    ensures between_steps { RunsBodies Reach.cut_off 0 (reverse (trails.first_cut trails.set_ended))
         trails.set_then_read
         (trails.top ∷ []) }
-    ensures between_turns { RunsInTurn 0 (reverse (trails.first_cut 11)) }
-    ensures ready { RunsBodies Reach.cut_off 0 (reverse (trails.first_cut 18)) trails.set_then_read
+    ensures between_turns { RunsInTurn 0 (reverse (trails.first_cut trails.set_ended)) }
+    ensures ready { RunsBodies Reach.cut_off 0 (reverse (trails.first_cut trails.top_ready))
+        trails.set_then_read
         (trails.top ∷ []) }
     ensures not_begun { RunsBodies Reach.cut_off 0 [] trails.set_then_read [] }
 {}
@@ -92,7 +93,7 @@ pub fn begins_otherwise()
     ensures set_skipped { BeginsScript 0 1 trails.net trails.set_then_read
         (reverse trails.set_skipped) → ⊥ }
     ensures read_before_set { BeginsScript 0 1 trails.net trails.set_then_read
-        (reverse (take 3 trails.read_before_set)) → ⊥ }
+        (reverse trails.both_started) → ⊥ }
     ensures cut_off { FollowsScript 0 1 trails.net trails.set_then_read
-        (reverse (trails.first_cut 14)) → ⊥ }
+        (reverse (trails.first_cut trails.read_asked)) → ⊥ }
 {}

@@ -3,7 +3,7 @@ use qc_event::{Config, Kind, Tuple};
 use std::fmt;
 
 /// A configuration, printed as `1,1,1 r2 w2`, or as `none` where it has no votes.
-#[derive(Clone, Copy)]
+#[derive(Clone, Copy, Debug)]
 pub struct ConfigText(pub Config);
 
 impl fmt::Display for ConfigText {
@@ -23,7 +23,7 @@ impl fmt::Display for ConfigText {
 }
 
 /// A tuple, printed as its version, value, generation and configuration.
-#[derive(Clone, Copy)]
+#[derive(Clone, Copy, Debug)]
 pub struct TupleText(pub Tuple);
 
 impl fmt::Display for TupleText {
@@ -40,7 +40,7 @@ impl fmt::Display for TupleText {
 }
 
 /// What a transaction is for, printed as in its start.
-#[derive(Clone, Copy)]
+#[derive(Clone, Copy, Debug)]
 pub struct KindText(pub Kind);
 
 impl fmt::Display for KindText {

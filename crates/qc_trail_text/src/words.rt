@@ -32,7 +32,7 @@ pub enum BadLine {
 }
 
 /// The words of a line that are still to be read.
-#[derive(Drop)]
+#[derive(Debug, Drop)]
 pub struct Words<'a> {
     rest: SplitWhitespace<'a>,
 }
