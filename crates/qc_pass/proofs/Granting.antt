@@ -95,7 +95,7 @@ lives_on newer past b a alive h = by_death (dead past b) refl
         (all_wider (λ c. name.is_ancestor c a || is_committed (outcome past c)) (λ c. not (is_aborted (outcome (newer ++ past) c))) (ancestors b) (λ c. not_aborted newer past a c alive) each))
         ∙ sym (ap is_none is)
 
-pub -- FREE GRANTS
+-- FREE GRANTS
 
 pub free_parts : (p : Grant → Bool) (gs : List Grant) → option_map (λ (g : Grant). g.access) (find p gs) ≡ None → AllByRecursion (λ g. p g ≡ false) gs
 free_parts p [] h = tt
