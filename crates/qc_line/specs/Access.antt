@@ -18,7 +18,7 @@ use Rattle.qc_event.specs.Dead.{dead}
 use Rattle.qc_event.specs.History.{Past, Name, Given, limit, children, granted, refused}
 use Rattle.qc_event.specs.Requests.{is_fault, was_unable}
 use Rattle.qc_event.specs.Seats.{is_client}
-use Rattle.qc_gather.specs.Carrying.{MayCarry, Carriage, entry, began, made_by, carriage, next_ask}
+use Rattle.qc_gather.specs.Carrying.{MayCarry, Carriage, entry, began, carriage, next_ask}
 use Rattle.qc_gather.specs.declared.carrier.Carried.{Carried}
 use Rattle.qc_gather.specs.declared.carrier.Carried.TheVariants.{Reply, Blocked, Gone}
 use Rattle.qc_gather.specs.declared.carrier.CarryNo.{CarryNo}

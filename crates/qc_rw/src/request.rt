@@ -1,5 +1,5 @@
 //! One request of a manager, carried to a copy and back.
-ghost use Rattle.std.specs.Prelude.{◌≡◌, IfOk, IfErr, [], ◌∷◌};
+ghost use Rattle.std.specs.Prelude.{IfOk, IfErr, [], ◌∷◌};
 ghost use Rattle.qc_event.specs.declared.event.Kind.{Kind};
 ghost use Rattle.qc_event.specs.Counts.{Rose};
 ghost use Rattle.qc_event.specs.Manager.{phase_of};
