@@ -23,7 +23,7 @@ pub(crate) struct Times {
 
 // A disk on which nothing stands.
 fn empty<D: Disk + Drop>(disk: D) -> Result<D, Trouble>
-    ensures { IfOk result (λ d. D.size d ≡ 0) }
+    ensures { IfOk result (λ d. (D.view d).size ≡ 0) }
 {
     let mut disk = disk;
     if disk.len()? > 0 {
@@ -44,7 +44,7 @@ fn mounted<D: Disk + Drop>(alloc: Global, disk: D) -> Result<Journal<D>, Trouble
 
 // Makes the one byte on an empty disk that a mount makes.
 fn with_gate<D: Disk + Drop>(disk: D) -> Result<D, Trouble>
-    ensures { IfOk result (λ d. D.size d ≡ 1) }
+    ensures { IfOk result (λ d. (D.view d).size ≡ 1) }
 {
     let mut disk = empty(disk)?;
     disk.write_at(0, &[0])?;
@@ -54,8 +54,8 @@ fn with_gate<D: Disk + Drop>(disk: D) -> Result<D, Trouble>
 
 // The writes and syncs of an append behind a number of others.
 fn write_both<D: Disk>(disk: &mut D, turn: u32) -> Result<(), DiskNo>
-    requires { 37 * turn + 1 ≤ D.size disk.old }
-    ensures { OnOk result (D.size disk.new ≡ max (D.size disk.old) (37 * turn + 38)) }
+    requires { 37 * turn + 1 ≤ (D.view disk.old).size }
+    ensures { OnOk result ((D.view disk.new).size ≡ max (D.view disk.old).size (37 * turn + 38)) }
 {
     let place = 37 * u64::from(turn);
     disk.write_at(place + 1, &BLOCK)?;
@@ -82,8 +82,8 @@ fn journal_time<D: Disk>(
 
 // The time of the writes and syncs of a number of appends.
 fn bare_time<D: Disk>(clock: &impl Clock, disk: &mut D, count: u32) -> Result<Duration, Trouble>
-    requires { D.size disk.old ≡ 1 }
-    ensures { OnOk result (D.size disk.new ≡ 1 + 37 * count) }
+    requires { (D.view disk.old).size ≡ 1 }
+    ensures { OnOk result ((D.view disk.new).size ≡ 1 + 37 * count) }
 {
     let start = Instant::now(clock)?;
     for turn in 0..count {

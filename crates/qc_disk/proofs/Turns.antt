@@ -1,16 +1,16 @@
 -- What a call of a disk in memory does, seen as a disk.
 use Rattle.std.proofs.Common.{◌≡◌, ◌<◌, ◌^◌, ℕ, ◌+◌, List, [], ◌∷◌, ◌++◌, length, Bool, true, false, if◌then◌else◌, Some, Result, Ok, Err, refl, sym, ◌∙◌, ap, subst, arith}
 use Rattle.std.specs.Result.{IsErrOf, OnOk}
-use Rattle.qc_disk.specs.Disk.{next, Rose, HasCause, Torn, Cut, Follows, Within, Only, Steps, Elapses, Stays}
-use Rattle.qc_disk.specs.Replay.{Act, nothing, wrote, cut_to, synced, does, leaves, replayed, images, images_at, syncs_in}
+use Rattle.qc_disk.specs.Disk.{View, next, Rose, HasCause, Torn, Cut, Follows, Within, Only, Steps, Elapses, Stays}
+use Rattle.qc_disk.specs.Replay.{Act, nothing, wrote, cut_to, synced, does, leaves, replayed, images, syncs_in}
 use Rattle.qc_disk.specs.Laws.{torn_same, torn-written, cut_same, cut-taken, image_now}
 use Rattle.qc_disk.specs.Tape.{tape_first, tape_acts, tape_bytes, Applied, Untouched}
 use Rattle.qc_disk.specs.declared.record.Tape.{Tape}
 use Rattle.qc_disk.specs.declared.disk.DiskNo.{DiskNo}
 use Rattle.qc_disk.specs.declared.disk.DiskNo.TheVariants.{Failed, Memory}
 use Rattle.qc_disk.specs.declared.memory.MemDisk.{MemDisk}
-use Rattle.qc_disk.specs.MemDisk.{mem_first, mem_acts, mem_bytes, mem_faults, mem_syncs, Turned, Failing, Unmade}
-use Rattle.qc_disk.proofs.Moments.{elapses-applied, elapses-same, leaves-applied}
+use Rattle.qc_disk.specs.MemDisk.{mem_first, mem_acts, mem_bytes, mem_faults, mem_syncs, mem_view, Turned, Failing, Unmade}
+use Rattle.qc_disk.proofs.Moments.{Passes, elapses-applied, elapses-same, leaves-applied}
 
 abbrev images_of : MemDisk → List ℕ → Type 0
 images_of disk c = images (mem_first disk) (mem_acts disk) c
@@ -38,11 +38,15 @@ pub turned-err : (T U : Type 0) (old new : MemDisk) (act : Act) (e : DiskNo) →
 turned-err T U old new act Failed turned = turned
 turned-err T U old new act Memory turned = turned
 
+-- time goes on for a disk as it does for its record
+pub elapsed : (before now : View) → Passes before.moment now.moment before.left_at now.left_at before.may_leave now.may_leave → Elapses before now
+elapsed before now time = record { later = time.later; earlier = time.earlier; inside = time.inside; until = time.until }
+
 pub turn-time : {T : Type 0} (old new : MemDisk) (act : Act) (result : Result T DiskNo) → Turned old new act result
-    → Elapses (length (mem_acts old)) (length (mem_acts new)) (images_at (mem_first old) (mem_acts old)) (images_at (mem_first new) (mem_acts new)) (images_of old) (images_of new)
-turn-time old new act (Ok answer) turned = elapses-applied _ _ _ _ _ turned.tape.first turned.tape.acts
-turn-time old new act (Err Failed) turned = elapses-applied _ _ _ _ _ turned.tape.first turned.tape.acts
-turn-time old new act (Err Memory) turned = elapses-same _ _ _ _ turned.tape.first turned.tape.acts
+    → Elapses (mem_view old) (mem_view new)
+turn-time old new act (Ok answer) turned = elapsed (mem_view old) (mem_view new) (elapses-applied _ _ _ _ _ turned.tape.first turned.tape.acts)
+turn-time old new act (Err Failed) turned = elapsed (mem_view old) (mem_view new) (elapses-applied _ _ _ _ _ turned.tape.first turned.tape.acts)
+turn-time old new act (Err Memory) turned = elapsed (mem_view old) (mem_view new) (elapses-same _ _ _ _ turned.tape.first turned.tape.acts)
 
 -- a count that stays, or that rises
 stays-cause : (before now : ℕ) (P : Type 0) → now ≡ before → (P → ⊥) → HasCause before now P
@@ -56,7 +60,7 @@ turn-cause old new act (Ok answer) small turned = stays-cause _ _ _ turned.fault
 turn-cause old new act (Err Failed) small turned = rises-cause _ _ _ small turned.faults
 turn-cause old new act (Err Memory) small turned = stays-cause _ _ _ turned.faults (λ is. cc)
 
-unmade-stays : (old new : MemDisk) → Unmade old new → Stays (Some (mem_bytes old)) (Some (mem_bytes new)) (length (mem_bytes old)) (length (mem_bytes new)) (images_of old) (images_of new) (mem_faults old) (mem_faults new)
+unmade-stays : (old new : MemDisk) → Unmade old new → Stays (mem_view old) (mem_view new)
 unmade-stays old new unmade = record {
   content = ap Some unmade.tape.bytes;
   size = ap length unmade.tape.bytes;
@@ -65,7 +69,7 @@ unmade-stays old new unmade = record {
 }
 
 pub turn-memory : {T : Type 0} (old new : MemDisk) (act : Act) (result : Result T DiskNo) → Turned old new act result → IsErrOf result Memory
-    → Stays (Some (mem_bytes old)) (Some (mem_bytes new)) (length (mem_bytes old)) (length (mem_bytes new)) (images_of old) (images_of new) (mem_faults old) (mem_faults new)
+    → Stays (mem_view old) (mem_view new)
 turn-memory old new act (Ok answer) turned is = absurd (cc)
 turn-memory old new act (Err Failed) turned is = absurd (cc)
 turn-memory old new act (Err Memory) turned is = unmade-stays old new turned

@@ -1,6 +1,23 @@
 -- What a call of a disk does to its content, to what a crash may leave of it, to its clock and to its count of faults.
 use Rattle.std.specs.Prelude.{◌≡◌, ◌<◌, ◌≤◌, ◌⊎◌, ◌↔◌, ℕ, ◌+◌, ◌-◌, ◌^◌, min, max, List, ◌++◌, length, take, drop, slice_index, Option, Some, None}
 
+-- A disk at a moment.
+pub record View : Type 1 where
+  -- the bytes that a read returns, where the disk tells
+  pub content : Option (List ℕ)
+  -- how many bytes there are: as a disk that does not tell its bytes last knew it
+  pub size : ℕ
+  -- what a crash at this moment may leave
+  pub may_leave : List ℕ → Type 0
+  -- the moment, on a clock that never falls; each call advances it, up to `2^64 - 1` at least, and one that answers want of memory may leave it
+  pub moment : ℕ
+  -- what a crash at a moment up to this one might have left, during a call or between two
+  pub left_at : ℕ → List ℕ → Type 0
+  -- how often the disk has failed, up to `2^64 - 1`
+  pub faults : ℕ
+  -- how often it was synced, up to `2^64 - 1`
+  pub syncs : ℕ
+
 -- one more, up to the end of a count's range
 abbrev pub next : ℕ → ℕ
 next n = min (n + 1) (2 ^ 64 - 1)
@@ -65,44 +82,44 @@ Holds None at bytes = Unit {0}
 Holds (Some content) at bytes = bytes ≡ take (length bytes) (drop at content)
 
 -- Time goes on: what a crash left at earlier moments stays, at a moment of the call it leaves what it left before or what it leaves now, and until the call has ended all that it left before.
-pub record Elapses (before now : ℕ) (past at : ℕ → List ℕ → Type 0) (left leaves : List ℕ → Type 0) : Type 0 where
-  pub later : before ≤ now
-  pub earlier : (t : ℕ) (c : List ℕ) → t < before → at t c ↔ past t c
-  pub inside : (t : ℕ) (c : List ℕ) → before ≤ t → t ≤ now → at t c → left c ⊎ leaves c
-  pub until : (t : ℕ) (c : List ℕ) → before ≤ t → t < now → left c → at t c
+pub record Elapses (before now : View) : Type 0 where
+  pub later : before.moment ≤ now.moment
+  pub earlier : (t : ℕ) (c : List ℕ) → t < before.moment → now.left_at t c ↔ before.left_at t c
+  pub inside : (t : ℕ) (c : List ℕ) → before.moment ≤ t → t ≤ now.moment → now.left_at t c → before.may_leave c ⊎ now.may_leave c
+  pub until : (t : ℕ) (c : List ℕ) → before.moment ≤ t → t < now.moment → before.may_leave c → now.left_at t c
 
 -- the clock rose, unless there was no memory for the call
 abbrev pub Advances : ℕ → ℕ → Type 0 → Type 0
 Advances before now NoMemory = NoMemory ⊎ Rose before now
 
 -- All but the clock is as before.
-pub record Stays (told tells : Option (List ℕ)) (had has : ℕ) (left leaves : List ℕ → Type 0) (before now : ℕ) : Type 0 where
-  pub content : tells ≡ told
-  pub size : has ≡ had
-  pub images : (c : List ℕ) → leaves c ↔ left c
-  pub faults : now ≡ before
+pub record Stays (before now : View) : Type 0 where
+  pub content : now.content ≡ before.content
+  pub size : now.size ≡ before.size
+  pub images : (c : List ℕ) → now.may_leave c ↔ before.may_leave c
+  pub faults : now.faults ≡ before.faults
 
 -- A crash at any moment since old leaves what has P; earlier moments are as they were.
-pub record LeavesOnly {D : Type 0} (moment : D → ℕ) (left_at : D → ℕ → List ℕ → Type 0) (old new : D) (P : List ℕ → Type 0) : Type 0 where
-  pub later : moment old ≤ moment new
-  pub each : (t : ℕ) (c : List ℕ) → moment old ≤ t → t ≤ moment new → left_at new t c → P c
-  pub earlier : (t : ℕ) (c : List ℕ) → t < moment old → left_at new t c ↔ left_at old t c
+pub record LeavesOnly {D : Type 0} (view : D → View) (old new : D) (P : List ℕ → Type 0) : Type 0 where
+  pub later : (view old).moment ≤ (view new).moment
+  pub each : (t : ℕ) (c : List ℕ) → (view old).moment ≤ t → t ≤ (view new).moment → (view new).left_at t c → P c
+  pub earlier : (t : ℕ) (c : List ℕ) → t < (view old).moment → (view new).left_at t c ↔ (view old).left_at t c
 
 -- All that a crash leaves at a moment has P.
-abbrev pub AllAt : {D : Type 0} → (D → ℕ → List ℕ → Type 0) → D → ℕ → (List ℕ → Type 0) → Type 0
-AllAt left_at disk t P = (c : List ℕ) → left_at disk t c → P c
+abbrev pub AllAt : {D : Type 0} → (D → View) → D → ℕ → (List ℕ → Type 0) → Type 0
+AllAt view disk t P = (c : List ℕ) → (view disk).left_at t c → P c
 
 -- Since old, what all images at a moment have, all have later; and all have what all had when the run began.
-pub record Grows {D : Type 0} (moment : D → ℕ) (left_at : D → ℕ → List ℕ → Type 0) (old new : D) (P : List ℕ → Type 0) : Type 0 where
-  pub from_before : (t : ℕ) → moment old ≤ t → t ≤ moment new → AllAt left_at old (moment old) P → AllAt left_at new t P
-  pub within : (t u : ℕ) → moment old ≤ t → t ≤ u → u ≤ moment new → AllAt left_at new t P → AllAt left_at new u P
+pub record Grows {D : Type 0} (view : D → View) (old new : D) (P : List ℕ → Type 0) : Type 0 where
+  pub from_before : (t : ℕ) → (view old).moment ≤ t → t ≤ (view new).moment → AllAt view old (view old).moment P → AllAt view new t P
+  pub within : (t u : ℕ) → (view old).moment ≤ t → t ≤ u → u ≤ (view new).moment → AllAt view new t P → AllAt view new u P
 
 -- Since old images only fall away: each at a later moment is one at an earlier.
-pub record FallsAway {D : Type 0} (moment : D → ℕ) (left_at : D → ℕ → List ℕ → Type 0) (old new : D) : Type 0 where
-  pub from_before : (t : ℕ) (c : List ℕ) → moment old ≤ t → t ≤ moment new → left_at new t c → left_at old (moment old) c
-  pub within : (t u : ℕ) (c : List ℕ) → moment old ≤ t → t ≤ u → u ≤ moment new → left_at new u c → left_at new t c
+pub record FallsAway {D : Type 0} (view : D → View) (old new : D) : Type 0 where
+  pub from_before : (t : ℕ) (c : List ℕ) → (view old).moment ≤ t → t ≤ (view new).moment → (view new).left_at t c → (view old).left_at (view old).moment c
+  pub within : (t u : ℕ) (c : List ℕ) → (view old).moment ≤ t → t ≤ u → u ≤ (view new).moment → (view new).left_at u c → (view new).left_at t c
 
 -- Since old there was one change: from each moment on images only fall away, or at it all are still left that were when the run began.
-abbrev pub ChangesOnce : {D : Type 0} → (D → ℕ) → (D → ℕ → List ℕ → Type 0) → D → D → Type 0
-ChangesOnce moment left_at old new = (t u : ℕ) → moment old ≤ t → t ≤ u → u ≤ moment new
-    → ((c : List ℕ) → left_at new u c → left_at new t c) ⊎ ((c : List ℕ) → left_at old (moment old) c → left_at new t c)
+abbrev pub ChangesOnce : {D : Type 0} → (D → View) → D → D → Type 0
+ChangesOnce view old new = (t u : ℕ) → (view old).moment ≤ t → t ≤ u → u ≤ (view new).moment
+    → ((c : List ℕ) → (view new).left_at u c → (view new).left_at t c) ⊎ ((c : List ℕ) → (view old).left_at (view old).moment c → (view new).left_at t c)

@@ -1,6 +1,6 @@
 -- The parts of a disk in memory, and what a call may do to it.
 use Rattle.std.specs.Prelude.{◌≡◌, ℕ, ◌+◌, List, [], length, Option, Some, None, Bool, if◌then◌else◌, Result, Ok, Err}
-use Rattle.qc_disk.specs.Disk.{next}
+use Rattle.qc_disk.specs.Disk.{View, next}
 use Rattle.qc_disk.specs.Replay.{Act, nothing, fault_at, syncs_in, images, images_at}
 use Rattle.qc_disk.specs.Tape.{tape_first, tape_acts, tape_bytes, Applied, Untouched}
 use Rattle.qc_disk.specs.declared.disk.DiskNo.{DiskNo}
@@ -39,6 +39,18 @@ mem_faults disk = disk.faults
 -- how often it was synced
 abbrev pub mem_syncs : MemDisk → ℕ
 mem_syncs disk = syncs_in (mem_acts disk)
+
+-- what it is, seen as a disk
+abbrev pub mem_view : MemDisk → View
+mem_view disk = record {
+  content = Some (mem_bytes disk);
+  size = length (mem_bytes disk);
+  may_leave = mem_images disk;
+  moment = length (mem_acts disk);
+  left_at = mem_at disk;
+  faults = mem_faults disk;
+  syncs = mem_syncs disk;
+}
 
 -- whether the next call is listed, and whether it does its work then
 abbrev pub next_fault : MemDisk → Option Bool

@@ -1,6 +1,13 @@
 -- What a shop that gives disks says of the disk that it gives.
 use Rattle.std.specs.Prelude.{◌≡◌, ℕ, List, Option, Some, None}
 
+-- A shop at a moment.
+pub record View : Type 0 where
+  -- the bytes of the disk that it would give, by its place and number, where it tells
+  pub offers : List ℕ → ℕ → Option (List ℕ)
+  -- how often it has failed, up to `2^64 - 1`
+  pub faults : ℕ
+
 -- where a content is told, this tells the same
 abbrev pub Tells : Option (List ℕ) → Option (List ℕ) → Type 0
 Tells None told = Unit {0}

@@ -67,19 +67,15 @@ impl FileDisk {
 }
 
 impl Disk for FileDisk {
-    ghost content = { λ _. None };
-
-    ghost size = { λ disk. disk.size };
-
-    ghost may_leave = { λ _ _. Unit {0} };
-
-    ghost moment = { λ disk. disk.calls };
-
-    ghost left_at = { λ _ _ _. Unit {0} };
-
-    ghost faults = { λ disk. disk.faults };
-
-    ghost syncs = { λ disk. disk.syncs.count };
+    ghost view = { λ disk. record {
+      content = None;
+      size = disk.size;
+      may_leave = λ _. Unit {0};
+      moment = disk.calls;
+      left_at = λ _ _. Unit {0};
+      faults = disk.faults;
+      syncs = disk.syncs.count;
+    } };
 
     ghost reads_as_image = { λ _. tt };
 

@@ -17,19 +17,15 @@ pub enum HomeDisk {
 impl Disk for HomeDisk {
     ghost use Rattle.qc_disk.specs.Home.{home_content, home_size, home_images, home_moment, home_at, home_faults, home_syncs, home_image, home_length, home_now};
 
-    ghost content = { home_content };
-
-    ghost size = { home_size };
-
-    ghost may_leave = { home_images };
-
-    ghost moment = { home_moment };
-
-    ghost left_at = { home_at };
-
-    ghost faults = { home_faults };
-
-    ghost syncs = { home_syncs };
+    ghost view = { λ disk. record {
+      content = home_content disk;
+      size = home_size disk;
+      may_leave = home_images disk;
+      moment = home_moment disk;
+      left_at = home_at disk;
+      faults = home_faults disk;
+      syncs = home_syncs disk;
+    } };
 
     ghost reads_as_image = { home_image };
 
@@ -98,9 +94,10 @@ impl Shop for HomeShop {
     ghost use Rattle.qc_disk.specs.Shop.{Tells};
     ghost use Rattle.qc_disk.specs.Home.{home_content, home_offers, HomeGives};
 
-    ghost offers = { λ shop place which. home_offers place };
-
-    ghost faults = { λ shop. shop.faults };
+    ghost view = { λ shop. record {
+      offers = λ place which. home_offers place;
+      faults = shop.faults;
+    } };
 
     fn obtain(&mut self, alloc: Global, place: &str, which: u8) -> Result<HomeDisk, DiskNo>
         ensures given { IfOk result (λ disk. Tells (home_offers place.now) (home_content disk)) }

@@ -20,7 +20,7 @@ impl MemDisk {
     ghost use Rattle.std.specs.Prelude.{◌≤◌, ◌+◌, ◌-◌, take, Some, IfOk, IsErrOf};
     ghost use Rattle.qc_disk.specs.Disk.{HasCause, Elapses, Advances, Stays};
     ghost use Rattle.qc_disk.specs.Replay.{act_of, image_after};
-    ghost use Rattle.qc_disk.specs.MemDisk.{mem_first, mem_acts, mem_bytes, mem_fails, mem_faults, mem_images, mem_at, next_fault, Turned};
+    ghost use Rattle.qc_disk.specs.MemDisk.{mem_first, mem_acts, mem_bytes, mem_fails, mem_faults, mem_at, mem_view, next_fault, Turned};
 
     /// A disk of these bytes, all of them synced, which fails at the listed calls.
     pub fn new(bytes: Vec<u8>, fails: Vec<FailAt>) -> Self
@@ -72,16 +72,13 @@ impl MemDisk {
 
     // Makes a call whose work is a deed.
     fn turn(&mut self, deed: Deed) -> Result<(), DiskNo>
-        ensures time { Elapses (length (mem_acts self.old)) (length (mem_acts self.new))
-            (mem_at self.old) (mem_at self.new) (mem_images self.old) (mem_images self.new) }
+        ensures time { Elapses (mem_view self.old) (mem_view self.new) }
         ensures advances { Advances (length (mem_acts self.old)) (length (mem_acts self.new))
             (IsErrOf result DiskNo.Memory) }
         ensures cause { HasCause (mem_faults self.old) (mem_faults self.new)
             (IsErrOf result DiskNo.Failed) }
         ensures memory { IsErrOf result DiskNo.Memory
-            → Stays (Some (mem_bytes self.old)) (Some (mem_bytes self.new))
-            (length (mem_bytes self.old)) (length (mem_bytes self.new)) (mem_images self.old)
-            (mem_images self.new) (mem_faults self.old) (mem_faults self.new) }
+            → Stays (mem_view self.old) (mem_view self.new) }
         ensures turned { Turned self.old self.new (act_of deed) result }
     {
         let fault = self.next_fault();
@@ -104,21 +101,9 @@ impl Disk for MemDisk {
     ghost use Rattle.qc_disk.specs.Disk.{HasCause, Rose, written, Torn, Cut, Follows, Within, Only, Steps, Holds, Elapses, Advances, Stays};
     ghost use Rattle.qc_disk.specs.Replay.{nothing, wrote, cut_to, synced};
     ghost use Rattle.qc_disk.specs.Laws.{image_now, at_end};
-    ghost use Rattle.qc_disk.specs.MemDisk.{mem_first, mem_acts, mem_bytes, mem_faults, mem_syncs, mem_images, mem_at, Turned};
+    ghost use Rattle.qc_disk.specs.MemDisk.{mem_first, mem_acts, mem_bytes, mem_faults, mem_syncs, mem_images, mem_view, Turned};
 
-    ghost content = { λ disk. Some (mem_bytes disk) };
-
-    ghost size = { λ disk. length (mem_bytes disk) };
-
-    ghost may_leave = { mem_images };
-
-    ghost moment = { λ disk. length (mem_acts disk) };
-
-    ghost left_at = { mem_at };
-
-    ghost faults = { mem_faults };
-
-    ghost syncs = { mem_syncs };
+    ghost view = { mem_view };
 
     ghost reads_as_image = { λ disk. image_now (mem_first disk) (mem_acts disk) (mem_bytes disk) disk.replays };
 
@@ -131,16 +116,13 @@ impl Disk for MemDisk {
         ensures content { Some (mem_bytes self.new) ≡ Some (mem_bytes self.old) }
         ensures size { OnErr result (length (mem_bytes self.new) ≡ length (mem_bytes self.old)) }
         ensures crash { Within (mem_images self.old) (mem_images self.new) }
-        ensures time { Elapses (length (mem_acts self.old)) (length (mem_acts self.new))
-            (mem_at self.old) (mem_at self.new) (mem_images self.old) (mem_images self.new) }
+        ensures time { Elapses (mem_view self.old) (mem_view self.new) }
         ensures advances { Advances (length (mem_acts self.old)) (length (mem_acts self.new))
             (IsErrOf result DiskNo.Memory) }
         ensures cause { HasCause (mem_faults self.old) (mem_faults self.new)
             (IsErrOf result DiskNo.Failed) }
         ensures memory { IsErrOf result DiskNo.Memory
-            → Stays (Some (mem_bytes self.old)) (Some (mem_bytes self.new))
-            (length (mem_bytes self.old)) (length (mem_bytes self.new)) (mem_images self.old)
-            (mem_images self.new) (mem_faults self.old) (mem_faults self.new) }
+            → Stays (mem_view self.old) (mem_view self.new) }
         ensures turned { Turned self.old self.new nothing result }
     {
         self.turn(Deed::Nothing)?;
@@ -153,16 +135,13 @@ impl Disk for MemDisk {
         ensures content { Some (mem_bytes self.new) ≡ Some (mem_bytes self.old) }
         ensures size { length (mem_bytes self.new) ≡ length (mem_bytes self.old) }
         ensures crash { Within (mem_images self.old) (mem_images self.new) }
-        ensures time { Elapses (length (mem_acts self.old)) (length (mem_acts self.new))
-            (mem_at self.old) (mem_at self.new) (mem_images self.old) (mem_images self.new) }
+        ensures time { Elapses (mem_view self.old) (mem_view self.new) }
         ensures advances { Advances (length (mem_acts self.old)) (length (mem_acts self.new))
             (IsErrOf result DiskNo.Memory) }
         ensures cause { HasCause (mem_faults self.old) (mem_faults self.new)
             (IsErrOf result DiskNo.Failed) }
         ensures memory { IsErrOf result DiskNo.Memory
-            → Stays (Some (mem_bytes self.old)) (Some (mem_bytes self.new))
-            (length (mem_bytes self.old)) (length (mem_bytes self.new)) (mem_images self.old)
-            (mem_images self.new) (mem_faults self.old) (mem_faults self.new) }
+            → Stays (mem_view self.old) (mem_view self.new) }
         ensures turned { Turned self.old self.new nothing result }
     {
         self.turn(Deed::Nothing)?;
@@ -182,16 +161,13 @@ impl Disk for MemDisk {
             (Some (mem_bytes self.new)) }
         ensures crash { Follows (Torn at (length bytes.now)) (mem_images self.old)
             (mem_images self.new) }
-        ensures time { Elapses (length (mem_acts self.old)) (length (mem_acts self.new))
-            (mem_at self.old) (mem_at self.new) (mem_images self.old) (mem_images self.new) }
+        ensures time { Elapses (mem_view self.old) (mem_view self.new) }
         ensures advances { Advances (length (mem_acts self.old)) (length (mem_acts self.new))
             (IsErrOf result DiskNo.Memory) }
         ensures cause { HasCause (mem_faults self.old) (mem_faults self.new)
             (IsErrOf result DiskNo.Failed) }
         ensures memory { IsErrOf result DiskNo.Memory
-            → Stays (Some (mem_bytes self.old)) (Some (mem_bytes self.new))
-            (length (mem_bytes self.old)) (length (mem_bytes self.new)) (mem_images self.old)
-            (mem_images self.new) (mem_faults self.old) (mem_faults self.new) }
+            → Stays (mem_view self.old) (mem_view self.new) }
         ensures turned { Turned self.old self.new (wrote at bytes.now) result }
     {
         let bytes = bytes.to_vec(self.tape.allocator())?;
@@ -209,16 +185,13 @@ impl Disk for MemDisk {
         ensures failed { IsErrOf result DiskNo.Failed
             → Steps (Cut to) (Some (mem_bytes self.old)) (Some (mem_bytes self.new)) }
         ensures crash { Follows (Cut to) (mem_images self.old) (mem_images self.new) }
-        ensures time { Elapses (length (mem_acts self.old)) (length (mem_acts self.new))
-            (mem_at self.old) (mem_at self.new) (mem_images self.old) (mem_images self.new) }
+        ensures time { Elapses (mem_view self.old) (mem_view self.new) }
         ensures advances { Advances (length (mem_acts self.old)) (length (mem_acts self.new))
             (IsErrOf result DiskNo.Memory) }
         ensures cause { HasCause (mem_faults self.old) (mem_faults self.new)
             (IsErrOf result DiskNo.Failed) }
         ensures memory { IsErrOf result DiskNo.Memory
-            → Stays (Some (mem_bytes self.old)) (Some (mem_bytes self.new))
-            (length (mem_bytes self.old)) (length (mem_bytes self.new)) (mem_images self.old)
-            (mem_images self.new) (mem_faults self.old) (mem_faults self.new) }
+            → Stays (mem_view self.old) (mem_view self.new) }
         ensures turned { Turned self.old self.new (cut_to to) result }
     {
         self.turn(Deed::Cut(to as usize))
@@ -230,16 +203,13 @@ impl Disk for MemDisk {
         ensures content { Some (mem_bytes self.new) ≡ Some (mem_bytes self.old) }
         ensures size { length (mem_bytes self.new) ≡ length (mem_bytes self.old) }
         ensures crash { Within (mem_images self.old) (mem_images self.new) }
-        ensures time { Elapses (length (mem_acts self.old)) (length (mem_acts self.new))
-            (mem_at self.old) (mem_at self.new) (mem_images self.old) (mem_images self.new) }
+        ensures time { Elapses (mem_view self.old) (mem_view self.new) }
         ensures advances { Advances (length (mem_acts self.old)) (length (mem_acts self.new))
             (IsErrOf result DiskNo.Memory) }
         ensures cause { HasCause (mem_faults self.old) (mem_faults self.new)
             (IsErrOf result DiskNo.Failed) }
         ensures memory { IsErrOf result DiskNo.Memory
-            → Stays (Some (mem_bytes self.old)) (Some (mem_bytes self.new))
-            (length (mem_bytes self.old)) (length (mem_bytes self.new)) (mem_images self.old)
-            (mem_images self.new) (mem_faults self.old) (mem_faults self.new) }
+            → Stays (mem_view self.old) (mem_view self.new) }
         ensures turned { Turned self.old self.new synced result }
     {
         self.turn(Deed::Synced)

@@ -1,7 +1,7 @@
 //! Where disks come from.
-ghost use Rattle.std.specs.Prelude.{◌≡◌, ◌≢◌, ℕ, List, Option, IfOk, OnErr, IsErrOf};
+ghost use Rattle.std.specs.Prelude.{◌≡◌, ◌≢◌, ℕ, List, IfOk, OnErr, IsErrOf};
 ghost use Rattle.qc_disk.specs.Disk.{HasCause};
-ghost use Rattle.qc_disk.specs.Shop.{Tells};
+ghost use Rattle.qc_disk.specs.Shop.{View, Tells};
 
 mod memory;
 
@@ -13,20 +13,17 @@ use std::alloc::Global;
 pub trait Shop {
     type D: Disk + Send;
 
-    /// The bytes of the disk that it would give, by its place and number, where it tells.
-    ghost offers: { Self → List ℕ → ℕ → Option (List ℕ) };
-
-    /// How often the shop has failed, up to `2^64 - 1`.
-    ghost faults: { Self → ℕ };
+    /// The bytes of the disks that it would give, where it tells, and its faults.
+    ghost view: { Self → View };
 
     /// Gives a disk. The others are as before, and so is each where it fails.
     fn obtain(&mut self, alloc: Global, place: &str, which: u8) -> Result<Self::D, DiskNo>
-        ensures given { IfOk result (λ disk. Tells (offers self.old place.now which)
-            (Self.D.content disk)) }
+        ensures given { IfOk result (λ disk. Tells ((view self.old).offers place.now which)
+            (Self.D.view disk).content) }
         ensures others { (p : List ℕ) (n : ℕ) → n ≢ which
-            → offers self.new p n ≡ offers self.old p n }
-        ensures kept { OnErr result ((p : List ℕ) (n : ℕ) → offers self.new p n ≡ offers
-            self.old p n) }
-        ensures cause { HasCause (faults self.old) (faults self.new)
+            → (view self.new).offers p n ≡ (view self.old).offers p n }
+        ensures kept { OnErr result ((p : List ℕ) (n : ℕ) → (view self.new).offers p n
+            ≡ (view self.old).offers p n) }
+        ensures cause { HasCause (view self.old).faults (view self.new).faults
             (IsErrOf result DiskNo.Failed) };
 }

@@ -43,11 +43,30 @@ pub record MayCarry (setting : Setting) (seat : ℕ) (past : Past) (m : Name) (c
   pub running : IsRunning seat past m kind
   pub of_stage : AtStage setting past m kind (IsNextAsk past m kind (next_ask past m copy rec op))
 
--- THE ENTRIES OF ONE ACCESS
+-- THE CARRIER
 
 -- the entries made under a seat
 abbrev pub made_by : ℕ → Past → Past
 made_by seat past = filter (λ (e : Entry). e.seat == seat) past
+
+-- A carrier at a moment.
+pub record View : Type 0 where
+  -- the start tuples and the records' first configurations
+  pub setting : Setting
+  -- the seat under which it makes entries
+  pub seat : ℕ
+  -- the history that it has seen, the latest entry first
+  pub seen : Past
+  -- which entries others may make while it carries
+  pub others : Entry → Bool
+  -- how often its link gave trouble, up to `2^64 - 1`
+  pub troubles : ℕ
+
+-- the entries that it made, the latest first
+abbrev pub own_entries : View → Past
+own_entries view = made_by view.seat view.seen
+
+-- THE ENTRIES OF ONE ACCESS
 
 abbrev pub entry : ℕ → Event → Entry
 entry seat event = record { seat = seat; event = event }
@@ -105,21 +124,25 @@ pub record IsTold (before now : Past) (m : Name) (ask : Ask) (became : Result) :
   pub newest : result now ask.access ≡ Some became
   pub as_before : All (λ (a : Ask). result now a.access ≡ result before a.access) (asks before m)
 
--- One access of a manager: the seat under which it is carried, the history seen before and after, and the
--- carrier's own entries before and after.
+-- One access of a manager: the seat under which it is carried, and the history seen before and after.
 pub record Carriage : Type 0 where
   pub seat : ℕ
   pub before : Past
   pub now : Past
-  pub own : Past
-  pub owned : Past
   pub manager : Name
   pub ask : Ask
 
 -- what is carried for a manager, to a copy, for a record and an operation
-abbrev pub carriage : ℕ → Past → Past → Past → Past → Name → ℕ → ℕ → Op → Carriage
-carriage seat before now own owned m copy rec op =
-    record { seat = seat; before = before; now = now; own = own; owned = owned; manager = m; ask = next_ask before m copy rec op }
+abbrev pub carriage : ℕ → Past → Past → Name → ℕ → ℕ → Op → Carriage
+carriage seat before now m copy rec op =
+    record { seat = seat; before = before; now = now; manager = m; ask = next_ask before m copy rec op }
+
+-- the entries that were made under its seat before, and after
+abbrev pub own_before : Carriage → Past
+own_before way = made_by way.seat way.before
+
+abbrev pub own_now : Carriage → Past
+own_now way = made_by way.seat way.now
 
 -- the result that the carrier answers
 abbrev pub became : Carried → Result
@@ -129,7 +152,7 @@ became (carried.Gone why) = Missing why
 
 -- The access was carried to its end, with this result, and the manager may go on.
 pub record WasCarried (way : Carriage) (r : Result) : Type 0 where
-  pub made : way.owned ≡ access_entries way.seat way.ask r ++ way.own
+  pub made : own_now way ≡ access_entries way.seat way.ask r ++ own_before way
   pub told : IsTold way.before way.now way.manager way.ask r
   pub not_ended : end way.now way.manager ≡ None
   pub children_ended : open_child way.now way.manager ≡ None
@@ -138,7 +161,7 @@ pub record WasCarried (way : Carriage) (r : Result) : Type 0 where
 pub record WasOrphaned (way : Carriage) (a : Name) : Type 0 where
   pub made : Past
   pub stopped : WasStopped way.seat way.ask a made
-  pub added : way.owned ≡ made ++ way.own
+  pub added : own_now way ≡ made ++ own_before way
   pub orphan : IsOrphanOf way.now way.manager a
   pub not_ended : end way.now way.manager ≡ None
   pub children_ended : open_child way.now way.manager ≡ None
@@ -147,7 +170,7 @@ pub record WasOrphaned (way : Carriage) (a : Name) : Type 0 where
 pub record WasCutOff (way : Carriage) : Type 0 where
   pub made : Past
   pub part : IsBegun way.seat way.ask made
-  pub added : way.owned ≡ made ++ way.own
+  pub added : own_now way ≡ made ++ own_before way
 
 -- what stands where an access was not carried to an answer
 abbrev pub WasNotCarried : Carriage → CarryNo → Type 0

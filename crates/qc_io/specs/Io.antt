@@ -5,6 +5,20 @@ use Rattle.qc_io.specs.declared.memory.MemSink.{MemSink}
 use Rattle.qc_io.specs.declared.memory.MemSource.{MemSource}
 use Rattle.qc_io.specs.declared.memory.Schedule.{Schedule}
 
+-- A source at a moment.
+pub record SourceView : Type 0 where
+  -- the bytes that are left to be read, where the source tells
+  pub left : Option (List ℕ)
+  -- how often it has failed, up to `2^64 - 1`
+  pub faults : ℕ
+
+-- A sink at a moment.
+pub record SinkView : Type 0 where
+  -- the bytes that it has taken, where it tells
+  pub taken : Option (List ℕ)
+  -- how often it has failed, up to `2^64 - 1`
+  pub faults : ℕ
+
 -- one more, up to the end of a count's range
 abbrev pub next : ℕ → ℕ
 next n = min (n + 1) (2 ^ 64 - 1)

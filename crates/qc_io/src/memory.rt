@@ -85,9 +85,10 @@ impl MemSource {
 impl Source for MemSource {
     ghost use Rattle.qc_io.specs.Io.{HasCause, Keeps, Reads, FailsNext, after, source_left, source_schedule};
 
-    ghost left = { λ source. Some (source_left source) };
-
-    ghost faults = { λ source. (source_schedule source).faults };
+    ghost view = { λ source. record {
+      left = Some (source_left source);
+      faults = (source_schedule source).faults;
+    } };
 
     fn read(&mut self, into: &mut [u8]) -> Result<usize, Failed>
         requires { 0 < length into.old }
@@ -145,9 +146,10 @@ impl MemSink {
 impl Sink for MemSink {
     ghost use Rattle.qc_io.specs.Io.{HasCause, Keeps, Writes, FailsNext, after, sink_taken, sink_schedule};
 
-    ghost taken = { λ sink. Some (sink_taken sink) };
-
-    ghost faults = { λ sink. (sink_schedule sink).faults };
+    ghost view = { λ sink. record {
+      taken = Some (sink_taken sink);
+      faults = (sink_schedule sink).faults;
+    } };
 
     fn write(&mut self, bytes: &[u8]) -> Result<usize, Failed>
         requires { 0 < length bytes.now }

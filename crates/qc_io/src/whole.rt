@@ -41,9 +41,11 @@ impl From<AllocError> for Untaken {
 fn take_piece<S: Source>(source: &mut S, bytes: &mut Vec<u8>, most: usize) -> Result<usize, Untaken>
     requires { 0 < most }
     ensures taken { IfOk result
-        (Takes (S.left source.old) (S.left source.new) bytes.old.items bytes.new.items most) }
-    ensures lost { OnErr result (LosesWithin (S.left source.old) (S.left source.new) most) }
-    ensures cause { HasCause (S.faults source.old) (S.faults source.new)
+        (Takes (S.view source.old).left (S.view source.new).left bytes.old.items bytes.new.items
+        most) }
+    ensures lost { OnErr result (LosesWithin (S.view source.old).left (S.view source.new).left
+        most) }
+    ensures cause { HasCause (S.view source.old).faults (S.view source.new).faults
         (IsErrOf result Untaken.Failed) }
 {
     let mut buffer = [0; PIECE];
@@ -57,13 +59,15 @@ fn take_piece<S: Source>(source: &mut S, bytes: &mut Vec<u8>, most: usize) -> Re
 pub fn take_all<S: Source>(alloc: Global, source: &mut S, limit: usize) -> Result<Vec<u8>, Untaken>
     requires { limit < 2 ^ 32 }
     ensures bytes { IfOk result
-        (λ all. IfSome (S.left source.old) (λ left. all.items ≡ take (limit + 1) left)) }
-    ensures left { OnOk result (Drops (S.left source.old) (S.left source.new) (limit + 1)) }
-    ensures ended { OnOk result (IfSome (S.left source.old)
-        (λ left. length left ≤ limit → S.left source.new ≡ Some [])) }
+        (λ all. IfSome (S.view source.old).left (λ left. all.items ≡ take (limit + 1) left)) }
+    ensures left { OnOk result (Drops (S.view source.old).left (S.view source.new).left
+        (limit + 1)) }
+    ensures ended { OnOk result (IfSome (S.view source.old).left
+        (λ left. length left ≤ limit → (S.view source.new).left ≡ Some [])) }
     ensures within { IfOk result (λ all. length all.items ≤ limit + 1) }
-    ensures lost { OnErr result (LosesWithin (S.left source.old) (S.left source.new) (limit + 1)) }
-    ensures cause { HasCause (S.faults source.old) (S.faults source.new)
+    ensures lost { OnErr result (LosesWithin (S.view source.old).left (S.view source.new).left
+        (limit + 1)) }
+    ensures cause { HasCause (S.view source.old).faults (S.view source.new).faults
         (IsErrOf result Untaken.Failed) }
 {
     let mut bytes = Vec::new(alloc);
@@ -78,9 +82,10 @@ pub fn take_all<S: Source>(alloc: Global, source: &mut S, limit: usize) -> Resul
 
 /// Writes all of the bytes. It makes no call where there are none.
 pub fn write_all<K: Sink>(sink: &mut K, bytes: &[u8]) -> Result<(), Failed>
-    ensures ok { OnOk result (Appends (K.taken sink.old) (K.taken sink.new) bytes.now) }
-    ensures failed { OnErr result (AppendsFront (K.taken sink.old) (K.taken sink.new) bytes.now) }
-    ensures cause { HasCause (K.faults sink.old) (K.faults sink.new) (IsErr result) }
+    ensures ok { OnOk result (Appends (K.view sink.old).taken (K.view sink.new).taken bytes.now) }
+    ensures failed { OnErr result (AppendsFront (K.view sink.old).taken (K.view sink.new).taken
+        bytes.now) }
+    ensures cause { HasCause (K.view sink.old).faults (K.view sink.new).faults (IsErr result) }
     ensures none { bytes.now ≡ [] → IsOk result × (sink.new ≡ sink.old) }
 {
     let mut done = 0;

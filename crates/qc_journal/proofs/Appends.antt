@@ -38,25 +38,25 @@ module _ {D : Type 0} {g : Ghosts D} (old : Journal D g) (bodies : List (List �
   start : old.place + 1 - missing ≡ old.place + 1
   start = omega (arith, none)
 
-  ends : (c : List ℕ) → g.may_leave old.disk c → EndsAt old.place bodies c
+  ends : (c : List ℕ) → (g.view old.disk).may_leave c → EndsAt old.place bodies c
   ends c left = ends_up old.place bodies old.state c up (k.each c left)
 
   -- the first write leaves the records
-  pub behind : (n : ℕ) (image : List ℕ) → Touched (Torn (old.place + 1 - missing) n) (g.may_leave old.disk) image → EndsAt old.place bodies image
+  pub behind : (n : ℕ) (image : List ℕ) → Touched (Torn (old.place + 1 - missing) n) (g.view old.disk).may_leave image → EndsAt old.place bodies image
   behind n image from = torn_behind old.place bodies n from.0 image (ends from.0 from.1) (subst (λ at. Torn at n from.0 image) start from.2)
 
   -- nor loses any
-  pub behind_lost : (mid : D) (n : ℕ) → IsImage (g.content old.disk) (g.may_leave old.disk) → LeavesOnly g.moment g.left_at old.disk mid (Touched (Torn (old.place + 1 - missing) n) (g.may_leave old.disk)) → ChangesOnce g.moment g.left_at old.disk mid
-      → ((c : List ℕ) → g.left_at old.disk (g.moment old.disk) c ↔ g.may_leave old.disk c) → (index : ℕ) (had : List ℕ) → Grows g.moment g.left_at old.disk mid (HasAt index had)
+  pub behind_lost : (mid : D) (n : ℕ) → IsImage (g.view old.disk).content (g.view old.disk).may_leave → LeavesOnly g.view old.disk mid (Touched (Torn (old.place + 1 - missing) n) (g.view old.disk).may_leave) → ChangesOnce g.view old.disk mid
+      → ((c : List ℕ) → (g.view old.disk).left_at (g.view old.disk).moment c ↔ (g.view old.disk).may_leave c) → (index : ℕ) (had : List ℕ) → Grows g.view old.disk mid (HasAt index had)
   behind_lost mid n here first one now index had =
-      let left = told_image (g.may_leave old.disk) _ k.bytes k.told here in
-      grows_once g.moment g.left_at old.disk mid (HasAt index had) _ first one
+      let left = told_image (g.view old.disk).may_leave _ k.bytes k.told here in
+      grows_once g.view old.disk mid (HasAt index had) _ first one
       (λ all c from. has_still index had k.bytes c bodies body (inr (old.place, ends k.bytes left)) (all k.bytes ((now k.bytes).1 left)) (inl (inr (old.place, behind n c from))))
 
-  module _ (mid : D) (block : List ℕ) (fits : IsShort body) (here : IsImage (g.content old.disk) (g.may_leave old.disk)) (block_is : block ≡ replicate missing 0 ++ behind_gate body)
-      (wrote : g.content mid ≡ option_map (written (old.place + 1 - missing) block) (g.content old.disk)) (only : Only (g.content mid) (g.may_leave mid)) where
+  module _ (mid : D) (block : List ℕ) (fits : IsShort body) (here : IsImage (g.view old.disk).content (g.view old.disk).may_leave) (block_is : block ≡ replicate missing 0 ++ behind_gate body)
+      (wrote : (g.view mid).content ≡ option_map (written (old.place + 1 - missing) block) (g.view old.disk).content) (only : Only (g.view mid).content (g.view mid).may_leave) where
     -- what the disk then tells
-    pub told_mid : g.content mid ≡ Some (written (old.place + 1) (behind_gate body) k.bytes)
+    pub told_mid : (g.view mid).content ≡ Some (written (old.place + 1) (behind_gate body) k.bytes)
     told_mid =
         wrote
         ∙ ap (option_map (written (old.place + 1 - missing) block)) k.told
@@ -64,38 +64,38 @@ module _ {D : Type 0} {g : Ghosts D} (old : Journal D g) (bodies : List (List �
         ∙ ap (λ (b : List ℕ). Some (written (old.place + 1) b k.bytes)) (block_is ∙ ap (λ n. replicate n 0 ++ behind_gate body) none)
 
     staged_bytes : Staged old.place bodies body (written (old.place + 1) (behind_gate body) k.bytes)
-    staged_bytes = written_behind old.place bodies body k.bytes (ends k.bytes (told_image (g.may_leave old.disk) _ k.bytes k.told here)) fits
+    staged_bytes = written_behind old.place bodies body k.bytes (ends k.bytes (told_image (g.view old.disk).may_leave _ k.bytes k.told here)) fits
 
     -- once it is synced, the record stands behind a closed gate
-    staged : (c : List ℕ) → g.may_leave mid c → Staged old.place bodies body c
-    staged c left = subst (Staged old.place bodies body) (sym (subst (λ t. Only t (g.may_leave mid)) told_mid only c left)) staged_bytes
+    staged : (c : List ℕ) → (g.view mid).may_leave c → Staged old.place bodies body c
+    staged c left = subst (Staged old.place bodies body) (sym (subst (λ t. Only t (g.view mid).may_leave) told_mid only c left)) staged_bytes
 
     -- the second write leaves the records, with the new one or without
-    pub gate : (image : List ℕ) → Touched (Torn old.place 1) (g.may_leave mid) image → EndsAt old.place bodies image ⊎ EndsAt (old.place + 5 + length body) (bodies ++ body ∷ []) image
+    pub gate : (image : List ℕ) → Touched (Torn old.place 1) (g.view mid).may_leave image → EndsAt old.place bodies image ⊎ EndsAt (old.place + 5 + length body) (bodies ++ body ∷ []) image
     gate image from = torn_gate old.place bodies body from.0 (staged from.0 from.1) image from.2
 
     -- once it is synced, the record counts
-    pub opened : (now : Option (List ℕ)) (images : List ℕ → Type 0) → now ≡ option_map (written old.place (1 ∷ [])) (g.content mid) → Only now images → (c : List ℕ) → images c → EndsAt (old.place + 5 + length body) (bodies ++ body ∷ []) c
+    pub opened : (now : Option (List ℕ)) (images : List ℕ → Type 0) → now ≡ option_map (written old.place (1 ∷ [])) (g.view mid).content → Only now images → (c : List ℕ) → images c → EndsAt (old.place + 5 + length body) (bodies ++ body ∷ []) c
     opened now images opens kept c left =
         let now_is = subst (λ t. Only t images) (opens ∙ ap (option_map (written old.place (1 ∷ []))) told_mid) kept c left in
         subst (EndsAt (old.place + 5 + length body) (bodies ++ body ∷ [])) (sym now_is) (written_gate old.place bodies body _ staged_bytes)
 
     -- at every moment of both the records stand, with the new one or without
-    pub any_moment : (new : D) (n : ℕ) → LeavesOnly g.moment g.left_at old.disk mid (Touched (Torn (old.place + 1 - missing) n) (g.may_leave old.disk)) → LeavesOnly g.moment g.left_at mid new (Touched (Torn old.place 1) (g.may_leave mid))
-        → LeavesOnly g.moment g.left_at old.disk new (λ image. HasRecords bodies image ⊎ HasRecords (bodies ++ body ∷ []) image)
+    pub any_moment : (new : D) (n : ℕ) → LeavesOnly g.view old.disk mid (Touched (Torn (old.place + 1 - missing) n) (g.view old.disk).may_leave) → LeavesOnly g.view mid new (Touched (Torn old.place 1) (g.view mid).may_leave)
+        → LeavesOnly g.view old.disk new (λ image. HasRecords bodies image ⊎ HasRecords (bodies ++ body ∷ []) image)
     any_moment new n first then =
-        continues g.moment g.left_at old.disk mid new _ _ (λ image. HasRecords bodies image ⊎ HasRecords (bodies ++ body ∷ []) image) first then
+        continues g.view old.disk mid new _ _ (λ image. HasRecords bodies image ⊎ HasRecords (bodies ++ body ∷ []) image) first then
         (λ image from. inl (inr (old.place, behind n image from))) (λ image from. as_records _ _ bodies _ image (gate image from))
 
     -- and no record is lost
-    pub nothing_lost : (new : D) (n : ℕ) → LeavesOnly g.moment g.left_at old.disk mid (Touched (Torn (old.place + 1 - missing) n) (g.may_leave old.disk)) → ChangesOnce g.moment g.left_at old.disk mid
-        → LeavesOnly g.moment g.left_at mid new (Touched (Torn old.place 1) (g.may_leave mid)) → ChangesOnce g.moment g.left_at mid new
-        → ((c : List ℕ) → g.left_at old.disk (g.moment old.disk) c ↔ g.may_leave old.disk c) → ((c : List ℕ) → g.left_at mid (g.moment mid) c ↔ g.may_leave mid c)
-        → IsImage (g.content mid) (g.may_leave mid) → ((c : List ℕ) → g.may_leave mid c → Touched (Torn (old.place + 1 - missing) n) (g.may_leave old.disk) c)
-        → (index : ℕ) (had : List ℕ) → Grows g.moment g.left_at old.disk new (HasAt index had)
+    pub nothing_lost : (new : D) (n : ℕ) → LeavesOnly g.view old.disk mid (Touched (Torn (old.place + 1 - missing) n) (g.view old.disk).may_leave) → ChangesOnce g.view old.disk mid
+        → LeavesOnly g.view mid new (Touched (Torn old.place 1) (g.view mid).may_leave) → ChangesOnce g.view mid new
+        → ((c : List ℕ) → (g.view old.disk).left_at (g.view old.disk).moment c ↔ (g.view old.disk).may_leave c) → ((c : List ℕ) → (g.view mid).left_at (g.view mid).moment c ↔ (g.view mid).may_leave c)
+        → IsImage (g.view mid).content (g.view mid).may_leave → ((c : List ℕ) → (g.view mid).may_leave c → Touched (Torn (old.place + 1 - missing) n) (g.view old.disk).may_leave c)
+        → (index : ℕ) (had : List ℕ) → Grows g.view old.disk new (HasAt index had)
     nothing_lost new n first one then two now now_mid here_mid crash index had =
         let w = written (old.place + 1) (behind_gate body) k.bytes in
-        let left : g.may_leave mid w = told_image (g.may_leave mid) _ w told_mid here_mid in
+        let left : (g.view mid).may_leave w = told_image (g.view mid).may_leave _ w told_mid here_mid in
         let has : HasRecords bodies w = inr (old.place, behind n w (crash w left)) in
-        grows_on g.moment g.left_at old.disk mid new (HasAt index had) _ first.later (behind_lost mid n here first one now index had) then
-        (grows_once g.moment g.left_at mid new (HasAt index had) _ then two (λ all c from. has_still index had w c bodies body has (all w ((now_mid w).1 left)) (as_records _ _ bodies _ c (gate c from))))
+        grows_on g.view old.disk mid new (HasAt index had) _ first.later (behind_lost mid n here first one now index had) then
+        (grows_once g.view mid new (HasAt index had) _ then two (λ all c from. has_still index had w c bodies body has (all w ((now_mid w).1 left)) (as_records _ _ bodies _ c (gate c from))))

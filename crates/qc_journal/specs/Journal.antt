@@ -54,8 +54,8 @@ Stands place bodies (Some body) image = EndsAt place bodies image ⊎ EndsAt (pl
 -- The disk tells its bytes, and whatever a crash may leave of it has these records, or these and the one in hand.
 pub record Keeps {D : Type 0} {g : Ghosts D} (journal : Journal D g) (bodies : List (List ℕ)) : Type 0 where
   pub bytes : List ℕ
-  pub told : g.content journal.disk ≡ Some bytes
-  pub each : (c : List ℕ) → g.may_leave journal.disk c → Stands journal.place bodies (in_hand journal) c
+  pub told : (g.view journal.disk).content ≡ Some bytes
+  pub each : (c : List ℕ) → (g.view journal.disk).may_leave c → Stands journal.place bodies (in_hand journal) c
   pub whole : IsUp journal → missing_at journal.place journal.state ≡ 0
 
 -- It is down, with this body in hand, at the same place.

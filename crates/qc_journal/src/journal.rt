@@ -34,7 +34,7 @@ pub struct Journal<D: Disk> {
     place: u64,
     limit: u64,
     state: State,
-    ghost gate_within: { place + 1 ≤ D.size disk + missing_at place state },
+    ghost gate_within: { place + 1 ≤ (D.view disk).size + missing_at place state },
     ghost gap_within: { missing_at place state ≤ place + 1 },
     ghost hand_fits: { hand_end place (hand_of state) ≤ limit },
     ghost hand_short: { hand_size (hand_of state) < 2 ^ 32 },
@@ -49,25 +49,25 @@ impl<D: Disk> Journal<D> {
         ensures limit { IfOk result (λ mounted. limit_of mounted.0 ≡ limit) }
 
         // Where the disk tells its bytes, they have these records, and from now on each image has.
-        ensures records { IfOk result (λ mounted. IfSome (D.content disk)
+        ensures records { IfOk result (λ mounted. IfSome (D.view disk).content
             (HasRecords (bodies_of mounted.1.items))) }
-        ensures keeps { IfOk result (λ mounted. IsSome (D.content disk) → Keeps mounted.0
+        ensures keeps { IfOk result (λ mounted. IsSome (D.view disk).content → Keeps mounted.0
             (bodies_of mounted.1.items)) }
-        ensures content { IfOk result (λ mounted. D.content (disk_of mounted.0) ≡ option_map
-            made_ready (D.content disk)) }
+        ensures content { IfOk result (λ mounted. (D.view (disk_of mounted.0)).content ≡ option_map
+            made_ready (D.view disk).content) }
 
         // Broken comes where the bytes are broken, and Full never.
         ensures broken { IfErr result (λ refused. (place : ℕ) → refused.1 ≡ Broken place
-            → IfSome (D.content disk) (IsBroken place)) }
+            → IfSome (D.view disk).content (IsBroken place)) }
         ensures fault { IfErr result (λ refused. IsOfReading refused.1) }
-        ensures left { IfErr result (λ refused. Steps IsAlike (D.content disk)
-            (D.content refused.0)) }
+        ensures left { IfErr result (λ refused. Steps IsAlike (D.view disk).content
+            (D.view refused.0).content) }
 
-        ensures any_moment { LeavesOnly D.moment D.left_at disk (disk_after result)
-            (LeftOrAlike (D.may_leave disk) (D.content disk)) }
-        ensures grows { IsSome (D.content disk) → (index : ℕ) (body : List ℕ)
-            → Grows D.moment D.left_at disk (disk_after result) (HasAt index body) }
-        ensures cause { HasCause (D.faults disk) (D.faults (disk_after result))
+        ensures any_moment { LeavesOnly D.view disk (disk_after result)
+            (LeftOrAlike (D.view disk).may_leave (D.view disk).content) }
+        ensures grows { IsSome (D.view disk).content → (index : ℕ) (body : List ℕ)
+            → Grows D.view disk (disk_after result) (HasAt index body) }
+        ensures cause { HasCause (D.view disk).faults (D.view (disk_after result)).faults
             (IsErrAnd result (λ refused. refused.1 ≡ Fault.Disk)) }
     {
         let mut disk = disk;
@@ -125,23 +125,23 @@ impl<D: Disk> Journal<D> {
         ensures acknowledged { OnOk result ((bodies : List (List ℕ)) → Keeps self.old bodies
             → Keeps self.new (bodies ++ body.now ∷ [])) }
         ensures content { OnOk result ((bodies : List (List ℕ)) → Keeps self.old bodies
-            → D.content (disk_of self.new) ≡ option_map
+            → (D.view (disk_of self.new)).content ≡ option_map
             (written (place_of self.old) (1 ∷ behind_gate body.now))
-            (D.content (disk_of self.old))) }
+            (D.view (disk_of self.old)).content) }
         ensures kept { OnErr result ((bodies : List (List ℕ)) → Keeps self.old bodies
             → Keeps self.new bodies) }
 
         // A crash at any moment of the call leaves the records from before it, with the new one or without.
         ensures any_moment { (bodies : List (List ℕ)) → Keeps self.old bodies
-            → LeavesOnly D.moment D.left_at (disk_of self.old) (disk_of self.new)
+            → LeavesOnly D.view (disk_of self.old) (disk_of self.new)
             (λ image. HasRecords bodies image ⊎ HasRecords (bodies ++ body.now ∷ []) image) }
 
         // Of two moments of the call each image of the later has every record that all images of the earlier have.
         ensures grows { (bodies : List (List ℕ)) → Keeps self.old bodies
             → (index : ℕ) (had : List ℕ)
-            → Grows D.moment D.left_at (disk_of self.old) (disk_of self.new) (HasAt index had) }
-        ensures cause { HasCause (D.faults (disk_of self.old)) (D.faults (disk_of self.new))
-            (IsErrOf result Fault.Disk) }
+            → Grows D.view (disk_of self.old) (disk_of self.new) (HasAt index had) }
+        ensures cause { HasCause (D.view (disk_of self.old)).faults
+            (D.view (disk_of self.new)).faults (IsErrOf result Fault.Disk) }
     {
         if !self.has_room(body) {
             return Err(Fault::Full { place: self.place });
@@ -187,13 +187,14 @@ impl<D: Disk> Journal<D> {
             → Keeps self.new (if stands then with_hand bodies (in_hand self.old) else bodies)) }
         ensures kept { OnErr result ((bodies : List (List ℕ)) → Keeps self.old bodies
             → Keeps self.new bodies) }
-        ensures content { D.content (disk_of self.new) ≡ D.content (disk_of self.old) }
+        ensures content { (D.view (disk_of self.new)).content
+            ≡ (D.view (disk_of self.old)).content }
 
-        ensures any_moment { LeavesOnly D.moment D.left_at (disk_of self.old) (disk_of self.new)
-            (D.may_leave (disk_of self.old)) }
-        ensures falls { FallsAway D.moment D.left_at (disk_of self.old) (disk_of self.new) }
-        ensures cause { HasCause (D.faults (disk_of self.old)) (D.faults (disk_of self.new))
-            (IsErrOf result Fault.Disk) }
+        ensures any_moment { LeavesOnly D.view (disk_of self.old) (disk_of self.new)
+            (D.view (disk_of self.old)).may_leave }
+        ensures falls { FallsAway D.view (disk_of self.old) (disk_of self.new) }
+        ensures cause { HasCause (D.view (disk_of self.old)).faults
+            (D.view (disk_of self.new)).faults (IsErrOf result Fault.Disk) }
     {
         let behind = self.behind_hand();
         let size = synced_len(&mut self.disk)?;
@@ -228,24 +229,25 @@ impl<D: Disk> Journal<D> {
         ensures limit { limit_of self.new ≡ limit_of self.old }
 
         // Where the disk tells its bytes, they have these records.
-        ensures records { IfOk result (λ found. IfSome (D.content (disk_of self.old))
+        ensures records { IfOk result (λ found. IfSome (D.view (disk_of self.old)).content
             (HasRecords (bodies_of found.items))) }
         ensures tells { IfOk result (λ found. (bodies : List (List ℕ)) → Keeps self.old bodies
             → Keeps self.new (bodies_of found.items)) }
         ensures kept { OnErr result ((bodies : List (List ℕ)) → Keeps self.old bodies
             → Keeps self.new bodies) }
-        ensures content { D.content (disk_of self.new) ≡ D.content (disk_of self.old) }
+        ensures content { (D.view (disk_of self.new)).content
+            ≡ (D.view (disk_of self.old)).content }
 
         // Broken comes where the bytes are broken, and Full never.
         ensures broken { (place : ℕ) → result ≡ Err (Broken place)
-            → IfSome (D.content (disk_of self.old)) (IsBroken place) }
+            → IfSome (D.view (disk_of self.old)).content (IsBroken place) }
         ensures fault { IfErr result IsOfReading }
 
-        ensures any_moment { LeavesOnly D.moment D.left_at (disk_of self.old) (disk_of self.new)
-            (D.may_leave (disk_of self.old)) }
-        ensures falls { FallsAway D.moment D.left_at (disk_of self.old) (disk_of self.new) }
-        ensures cause { HasCause (D.faults (disk_of self.old)) (D.faults (disk_of self.new))
-            (IsErrOf result Fault.Disk) }
+        ensures any_moment { LeavesOnly D.view (disk_of self.old) (disk_of self.new)
+            (D.view (disk_of self.old)).may_leave }
+        ensures falls { FallsAway D.view (disk_of self.old) (disk_of self.new) }
+        ensures cause { HasCause (D.view (disk_of self.old)).faults
+            (D.view (disk_of self.new)).faults (IsErrOf result Fault.Disk) }
     {
         self.close();
         let found = read_records(self.alloc, &mut self.disk)?;

@@ -15,16 +15,17 @@ use std::alloc::Global;
 
 /// Syncs, and reads the records. At most one byte has none.
 pub(crate) fn read_records<D: Disk>(alloc: Global, disk: &mut D) -> Result<Found, Fault>
-    ensures found { IfOk result (Finds (D.content disk.old) (D.size disk.new)) }
-    ensures durable { OnOk result (Only (D.content disk.new) (D.may_leave disk.new)) }
+    ensures found { IfOk result (Finds (D.view disk.old).content (D.view disk.new).size) }
+    ensures durable { OnOk result (Only (D.view disk.new).content (D.view disk.new).may_leave) }
     ensures broken { (place : ℕ) → result ≡ Err (Broken place)
-        → IfSome (D.content disk.old) (IsBroken place) }
+        → IfSome (D.view disk.old).content (IsBroken place) }
     ensures fault { IfErr result IsOfReading }
-    ensures content { D.content disk.new ≡ D.content disk.old }
-    ensures crash { Within (D.may_leave disk.old) (D.may_leave disk.new) }
-    ensures any_moment { LeavesOnly D.moment D.left_at disk.old disk.new (D.may_leave disk.old) }
-    ensures falls { FallsAway D.moment D.left_at disk.old disk.new }
-    ensures cause { HasCause (D.faults disk.old) (D.faults disk.new) (IsErrOf result Fault.Disk) }
+    ensures content { (D.view disk.new).content ≡ (D.view disk.old).content }
+    ensures crash { Within (D.view disk.old).may_leave (D.view disk.new).may_leave }
+    ensures any_moment { LeavesOnly D.view disk.old disk.new (D.view disk.old).may_leave }
+    ensures falls { FallsAway D.view disk.old disk.new }
+    ensures cause { HasCause (D.view disk.old).faults (D.view disk.new).faults
+        (IsErrOf result Fault.Disk) }
 {
     let size = synced_len(disk)?;
     if size <= 1 {
@@ -41,22 +42,24 @@ pub(crate) fn read_records<D: Disk>(alloc: Global, disk: &mut D) -> Result<Found
 
 /// Reads the records, and writes a closed gate where there is at most one byte.
 pub(crate) fn prepare<D: Disk>(alloc: Global, disk: &mut D) -> Result<Found, Fault>
-    ensures records { IfOk result (λ found. IfSome (D.content disk.old)
+    ensures records { IfOk result (λ found. IfSome (D.view disk.old).content
         (HasRecords (found_bodies found))) }
-    ensures ready { IfOk result (λ found. IfSome (D.content disk.new)
+    ensures ready { IfOk result (λ found. IfSome (D.view disk.new).content
         (EndsAt found.place (found_bodies found))) }
-    ensures within { IfOk result (λ found. found.place + 1 ≤ D.size disk.new) }
-    ensures durable { OnOk result (Only (D.content disk.new) (D.may_leave disk.new)) }
+    ensures within { IfOk result (λ found. found.place + 1 ≤ (D.view disk.new).size) }
+    ensures durable { OnOk result (Only (D.view disk.new).content (D.view disk.new).may_leave) }
     ensures broken { (place : ℕ) → result ≡ Err (Broken place)
-        → IfSome (D.content disk.old) (IsBroken place) }
+        → IfSome (D.view disk.old).content (IsBroken place) }
     ensures fault { IfErr result IsOfReading }
-    ensures made { OnOk result (D.content disk.new ≡ option_map made_ready (D.content disk.old)) }
-    ensures content { Steps IsAlike (D.content disk.old) (D.content disk.new) }
-    ensures any_moment { LeavesOnly D.moment D.left_at disk.old disk.new
-        (LeftOrAlike (D.may_leave disk.old) (D.content disk.old)) }
-    ensures grows { IsSome (D.content disk.old) → (index : ℕ) (body : List ℕ)
-        → Grows D.moment D.left_at disk.old disk.new (HasAt index body) }
-    ensures cause { HasCause (D.faults disk.old) (D.faults disk.new) (IsErrOf result Fault.Disk) }
+    ensures made { OnOk result ((D.view disk.new).content ≡ option_map made_ready
+        (D.view disk.old).content) }
+    ensures content { Steps IsAlike (D.view disk.old).content (D.view disk.new).content }
+    ensures any_moment { LeavesOnly D.view disk.old disk.new
+        (LeftOrAlike (D.view disk.old).may_leave (D.view disk.old).content) }
+    ensures grows { IsSome (D.view disk.old).content → (index : ℕ) (body : List ℕ)
+        → Grows D.view disk.old disk.new (HasAt index body) }
+    ensures cause { HasCause (D.view disk.old).faults (D.view disk.new).faults
+        (IsErrOf result Fault.Disk) }
 {
     let found = read_records(alloc, disk)?;
     if found.size <= 1 {

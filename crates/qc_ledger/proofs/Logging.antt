@@ -59,32 +59,32 @@ stands_has place bodies (Some body) c (inr ends) = inr (inr (_, ends))
 
 module _ {D : Type 0} {g : Ghosts D} where
   -- an image from before has grown by nothing
-  pub not_grown : (old : Journal D g) (bodies : List (List ℕ)) (body image : List ℕ) → Keeps old bodies → g.may_leave (disk_of old) image → GrowsBy body (g.may_leave (disk_of old)) image
+  pub not_grown : (old : Journal D g) (bodies : List (List ℕ)) (body image : List ℕ) → Keeps old bodies → (g.view (disk_of old)).may_leave image → GrowsBy body (g.view (disk_of old)).may_leave image
   not_grown old bodies body image k left = ⊎_elim
       (λ has. record { earlier = image; was_left = left; bodies = bodies; had = has; has = inl has })
       (λ has. record { earlier = image; was_left = left; bodies = with_hand bodies (in_hand old); had = has; has = inl has })
       (stands_has old.place bodies (in_hand old) image (k.each image left))
 
   -- calls that leave nothing new, and one record more
-  pub log_moments : (old mid new : Journal D g) (body : List ℕ) (bodies found : List (List ℕ)) → Keeps old bodies → Keeps mid found → IsUp mid → g.content (disk_of mid) ≡ g.content (disk_of old)
-      → IsImage (g.content (disk_of old)) (g.may_leave (disk_of old)) → IsImage (g.content (disk_of mid)) (g.may_leave (disk_of mid))
-      → Leaves old mid (g.may_leave (disk_of old)) → Leaves mid new (HasOrMore found body) → Leaves old new (GrowsBy body (g.may_leave (disk_of old)))
+  pub log_moments : (old mid new : Journal D g) (body : List ℕ) (bodies found : List (List ℕ)) → Keeps old bodies → Keeps mid found → IsUp mid → (g.view (disk_of mid)).content ≡ (g.view (disk_of old)).content
+      → IsImage (g.view (disk_of old)).content (g.view (disk_of old)).may_leave → IsImage (g.view (disk_of mid)).content (g.view (disk_of mid)).may_leave
+      → Leaves old mid (g.view (disk_of old)).may_leave → Leaves mid new (HasOrMore found body) → Leaves old new (GrowsBy body (g.view (disk_of old)).may_leave)
   log_moments old mid new body bodies found k now up same here there first then =
-      continues g.moment g.left_at (disk_of old) (disk_of mid) (disk_of new) (g.may_leave (disk_of old)) (HasOrMore found body) (GrowsBy body (g.may_leave (disk_of old))) first then
+      continues g.view (disk_of old) (disk_of mid) (disk_of new) (g.view (disk_of old)).may_leave (HasOrMore found body) (GrowsBy body (g.view (disk_of old)).may_leave) first then
       (λ image left. not_grown old bodies body image k left)
       (λ image has. record {
         earlier = now.bytes;
-        was_left = told_image (g.content (disk_of old)) (g.may_leave (disk_of old)) now.bytes (sym same ∙ now.told) here;
+        was_left = told_image (g.view (disk_of old)).content (g.view (disk_of old)).may_leave now.bytes (sym same ∙ now.told) here;
         bodies = found;
-        had = kept_has mid found now.bytes up now (told_image (g.content (disk_of mid)) (g.may_leave (disk_of mid)) now.bytes now.told there);
+        had = kept_has mid found now.bytes up now (told_image (g.view (disk_of mid)).content (g.view (disk_of mid)).may_leave now.bytes now.told there);
         has = has;
       })
 
-  pub log_grows : (old mid new : Journal D g) (body : List ℕ) (found : List (List ℕ)) → Leaves old mid (g.may_leave (disk_of old)) → Falls old mid → Leaves mid new (HasOrMore found body) → LosesNone mid new → LosesNone old new
+  pub log_grows : (old mid new : Journal D g) (body : List ℕ) (found : List (List ℕ)) → Leaves old mid (g.view (disk_of old)).may_leave → Falls old mid → Leaves mid new (HasOrMore found body) → LosesNone mid new → LosesNone old new
   log_grows old mid new body found first falls then grows index had =
-      grows_on g.moment g.left_at (disk_of old) (disk_of mid) (disk_of new) (HasAt index had) (HasOrMore found body) first.later
-      (grows_by_falls g.moment g.left_at (disk_of old) (disk_of mid) (HasAt index had) falls) then (grows index had)
+      grows_on g.view (disk_of old) (disk_of mid) (disk_of new) (HasAt index had) (HasOrMore found body) first.later
+      (grows_by_falls g.view (disk_of old) (disk_of mid) (HasAt index had) falls) then (grows index had)
 
-  pub same_moments : (old mid : Journal D g) (body : List ℕ) (bodies : List (List ℕ)) → Keeps old bodies → Leaves old mid (g.may_leave (disk_of old)) → Leaves old mid (GrowsBy body (g.may_leave (disk_of old)))
+  pub same_moments : (old mid : Journal D g) (body : List ℕ) (bodies : List (List ℕ)) → Keeps old bodies → Leaves old mid (g.view (disk_of old)).may_leave → Leaves old mid (GrowsBy body (g.view (disk_of old)).may_leave)
   same_moments old mid body bodies k first =
-      weakened g.moment g.left_at (disk_of old) (disk_of mid) (g.may_leave (disk_of old)) (GrowsBy body (g.may_leave (disk_of old))) first (λ image left. not_grown old bodies body image k left)
+      weakened g.view (disk_of old) (disk_of mid) (g.view (disk_of old)).may_leave (GrowsBy body (g.view (disk_of old)).may_leave) first (λ image left. not_grown old bodies body image k left)

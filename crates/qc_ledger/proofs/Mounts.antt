@@ -51,6 +51,11 @@ begin_refusal K told table limit kept bodies same has keeps refused is =
     image_also (λ f. K → IsFault table kept bodies f) (λ f. IfSome told (IsFirstFault (IsFault table limit) f))
     (λ f at. first_told (IsFault table limit) bodies (λ place broken. broken) told f has (λ some. subst (λ n. IsFault table n bodies f) same (at (keeps some)))) refused is
 
+-- what the bytes have, and what holds where they are told
+pub fine_told : (Fine : Type 0) (told : Option (List ℕ)) (found : List (List ℕ)) → IfSome told (HasRecords found) → (IsSome told → Fine) → IfSome told (λ bytes. HasRecords found bytes × Fine)
+fine_told Fine None found has fine = tt
+fine_told Fine (Some bytes) found has fine = (has, fine refl)
+
 module _ (written : List (List ℕ) → List (List ℕ)) (left : List ℕ → Type 0) where
   alike_left : (bytes c : List ℕ) → left bytes → IsAlike bytes c → MountLeaves written left (Some bytes) c
   alike_left bytes c was (inl same) = inl (subst left (sym same) was)

@@ -6,7 +6,7 @@ use Rattle.std.proofs.Math.Dec.{eqb-suc-zero}
 use Rattle.std.specs.Prelude.{◌==◌, true, Option, None, Result, Ok, Err, OnOk, Vec}
 use Rattle.std.specs.Result.{IsErrAnd}
 use Rattle.std.specs.declared.alloc.Global.{Global}
-use Rattle.qc_disk.specs.Disk.{LeavesOnly}
+use Rattle.qc_disk.specs.Disk.{View, LeavesOnly}
 use Rattle.qc_disk.specs.declared.disk.Disk.{Ghosts}
 use Rattle.qc_journal.specs.Image.{row, EndsAt, HasRecords, bodies_of}
 use Rattle.qc_journal.specs.Journal.{IsUp, Keeps, Stands, disk_of, in_hand, place_of}
@@ -84,15 +84,15 @@ ends_here place bodies hand image none stands = subst (λ (h : Option (List ℕ)
 
 module _ {D : Type 0} {g : Ghosts D} where
   -- each image of a journal that is up has the records that it keeps
-  pub kept_ends : (journal : Journal D g) (bodies : List (List ℕ)) (image : List ℕ) → IsUp journal → Keeps journal bodies → g.may_leave (disk_of journal) image → EndsAt (place_of journal) bodies image
+  pub kept_ends : (journal : Journal D g) (bodies : List (List ℕ)) (image : List ℕ) → IsUp journal → Keeps journal bodies → (g.view (disk_of journal)).may_leave image → EndsAt (place_of journal) bodies image
   kept_ends journal bodies image up k left = ends_here journal.place bodies (in_hand journal) image (up_hand journal.state up) (k.each image left)
 
-  pub kept_has : (journal : Journal D g) (bodies : List (List ℕ)) (image : List ℕ) → IsUp journal → Keeps journal bodies → g.may_leave (disk_of journal) image → HasRecords bodies image
+  pub kept_has : (journal : Journal D g) (bodies : List (List ℕ)) (image : List ℕ) → IsUp journal → Keeps journal bodies → (g.view (disk_of journal)).may_leave image → HasRecords bodies image
   kept_has journal bodies image up k left = inr (place_of journal, kept_ends journal bodies image up k left)
 
-pub one_written : {D : Type 0} (moment : D → ℕ) (left_at : D → ℕ → List ℕ → Type 0) (old new : D) (bodies : List (List ℕ)) (spelled next : List ℕ) → spelled ≡ next
-    → LeavesOnly moment left_at old new (λ image. HasRecords bodies image ⊎ HasRecords (bodies ++ spelled ∷ []) image) → LeavesOnly moment left_at old new (HasSome bodies (next ∷ []))
-one_written moment left_at old new bodies spelled next is run = weakened moment left_at old new _ (HasSome bodies (next ∷ [])) run
+pub one_written : {D : Type 0} (view : D → View) (old new : D) (bodies : List (List ℕ)) (spelled next : List ℕ) → spelled ≡ next
+    → LeavesOnly view old new (λ image. HasRecords bodies image ⊎ HasRecords (bodies ++ spelled ∷ []) image) → LeavesOnly view old new (HasSome bodies (next ∷ []))
+one_written view old new bodies spelled next is run = weakened view old new _ (HasSome bodies (next ∷ [])) run
     (λ image has. some_of_one bodies next image (subst (λ (b : List ℕ). HasRecords bodies image ⊎ HasRecords (bodies ++ b ∷ []) image) is has))
 
 -- ANSWERS

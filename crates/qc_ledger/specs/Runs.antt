@@ -36,20 +36,20 @@ HasMore old new more = bodies_of new.items ≡ bodies_of old.items ++ more
 module _ {D : Type 0} {g : Ghosts D} (old new : Journal D g) where
   -- a crash at any moment of the run leaves what has P
   abbrev pub Leaves : (List ℕ → Type 0) → Type 0
-  Leaves P = LeavesOnly g.moment g.left_at (disk_of old) (disk_of new) P
+  Leaves P = LeavesOnly g.view (disk_of old) (disk_of new) P
 
   -- of two moments of the run, each image of the later has every record that all images of the earlier have
   abbrev pub LosesNone : Type 0
-  LosesNone = (index : ℕ) (had : List ℕ) → Grows g.moment g.left_at (disk_of old) (disk_of new) (HasAt index had)
+  LosesNone = (index : ℕ) (had : List ℕ) → Grows g.view (disk_of old) (disk_of new) (HasAt index had)
 
   -- images only fall away
   abbrev pub Falls : Type 0
-  Falls = FallsAway g.moment g.left_at (disk_of old) (disk_of new)
+  Falls = FallsAway g.view (disk_of old) (disk_of new)
 
   -- the disk's count of faults never falls, and it rose where this failed
   abbrev pub Costs : Type 0 → Type 0
-  Costs Failed = HasCause (g.faults (disk_of old)) (g.faults (disk_of new)) Failed
+  Costs Failed = HasCause (g.view (disk_of old)).faults (g.view (disk_of new)).faults Failed
 
   -- the disk's count of faults rose twice
   abbrev pub CostsTwo : Type 0
-  CostsTwo = RoseTwice (g.faults (disk_of old)) (g.faults (disk_of new))
+  CostsTwo = RoseTwice (g.view (disk_of old)).faults (g.view (disk_of new)).faults

@@ -87,10 +87,10 @@ impl<D: Disk, N: Store> Ledger<D, N> {
         ensures refused { IfErr result IsDeviceNo }
         ensures limit { limit_of (journal_in self.new.shelf)
             ≡ limit_of (journal_in self.old.shelf) }
-        ensures content { D.content (disk_of (journal_in self.new.shelf))
-            ≡ D.content (disk_of (journal_in self.old.shelf)) }
+        ensures content { (D.view (disk_of (journal_in self.new.shelf))).content
+            ≡ (D.view (disk_of (journal_in self.old.shelf))).content }
         ensures any_moment { Leaves (journal_in self.old.shelf) (journal_in self.new.shelf)
-            (D.may_leave (disk_of (journal_in self.old.shelf))) }
+            (D.view (disk_of (journal_in self.old.shelf))).may_leave }
         ensures falls { Falls (journal_in self.old.shelf) (journal_in self.new.shelf) }
         ensures cause { Costs (journal_in self.old.shelf) (journal_in self.new.shelf)
             (IsErrOf result Disk) }
@@ -217,7 +217,7 @@ impl<D: Disk, N: Store> Ledger<D, N> {
             → IsOver told before self.old.shelf (tops_of self.old.pass.mine)
             → Leaves (journal_in self.old.shelf) (journal_in self.new.shelf)
             (GrowsBy (top_body top.now aborted.now)
-            (D.may_leave (disk_of (journal_in self.old.shelf)))) }
+            (D.view (disk_of (journal_in self.old.shelf))).may_leave) }
         ensures grows { (told : List ℕ → List (List ℕ)) (before : List (List ℕ))
             → IsOver told before self.old.shelf (tops_of self.old.pass.mine)
             → LosesNone (journal_in self.old.shelf) (journal_in self.new.shelf) }
@@ -281,7 +281,7 @@ impl<D: Disk, N: Store> Ledger<D, N> {
             → IsOver told before self.old.shelf (tops_of self.old.pass.mine)
             → Leaves (journal_in self.old.shelf) (journal_in self.new.shelf)
             (GrowsBy (top_body top.now aborted.now)
-            (D.may_leave (disk_of (journal_in self.old.shelf)))) }
+            (D.view (disk_of (journal_in self.old.shelf))).may_leave) }
         ensures grows { (told : List ℕ → List (List ℕ)) (before : List (List ℕ))
             → IsOver told before self.old.shelf (tops_of self.old.pass.mine)
             → LosesNone (journal_in self.old.shelf) (journal_in self.new.shelf) }
@@ -325,7 +325,7 @@ impl<D: Disk, N: Store> Ledger<D, N> {
             → IsOver told before self.new.shelf (tops_of self.new.pass.mine) }
         ensures seen { IsOlder self.old.pass.seen self.new.pass.seen }
         ensures any_moment { Leaves (journal_in self.old.shelf) (journal_in self.new.shelf)
-            (D.may_leave (disk_of (journal_in self.old.shelf))) }
+            (D.view (disk_of (journal_in self.old.shelf))).may_leave }
         ensures falls { Falls (journal_in self.old.shelf) (journal_in self.new.shelf) }
         ensures cause { Costs (journal_in self.old.shelf) (journal_in self.new.shelf)
             (IsErrOf result Disk) }

@@ -193,23 +193,24 @@ pub fn mount<D: Disk>(
     requires proper { (body.table 1).fits table.now }
 
     // The past is what the records tell that were found, and the epoch, which stands behind them, is the next.
-    ensures mounts { IfOk result (λ mounted. Mounts table.now limit (D.content disk)
+    ensures mounts { IfOk result (λ mounted. Mounts table.now limit (D.view disk).content
         (records_of mounted.0) mounted.1 mounted.2) }
     ensures limit { IfOk result (λ mounted. limit_of (journal_of mounted.0) ≡ limit) }
 
     // Where the disk tells its bytes, each image has these records from now on.
-    ensures keeps { IfOk result (λ mounted. IsSome (D.content disk)
+    ensures keeps { IfOk result (λ mounted. IsSome (D.view disk).content
         → Keeps (journal_of mounted.0) (records_of mounted.0)) }
 
     // It is refused for the image's first fault, where the disk tells its bytes.
-    ensures refused { IfErr result (λ refused. IsRefusal table.now limit (D.content disk) refused.1) }
+    ensures refused { IfErr result (λ refused. IsRefusal table.now limit (D.view disk).content
+        refused.1) }
 
-    ensures any_moment { IsSome (D.content disk)
-        → LeavesOnly D.moment D.left_at disk (disk_after result)
-        (MountLeaves (to_write table.now) (D.may_leave disk) (D.content disk)) }
-    ensures grows { IsSome (D.content disk) → (index : ℕ) (had : List ℕ)
-        → Grows D.moment D.left_at disk (disk_after result) (HasAt index had) }
-    ensures cause { HasCause (D.faults disk) (D.faults (disk_after result))
+    ensures any_moment { IsSome (D.view disk).content
+        → LeavesOnly D.view disk (disk_after result)
+        (MountLeaves (to_write table.now) (D.view disk).may_leave (D.view disk).content) }
+    ensures grows { IsSome (D.view disk).content → (index : ℕ) (had : List ℕ)
+        → Grows D.view disk (disk_after result) (HasAt index had) }
+    ensures cause { HasCause (D.view disk).faults (D.view (disk_after result)).faults
         (IsErrAnd result (λ refused. refused.1 ≡ LedgerNo.Disk)) }
 {
     let (mut journal, mut bodies) = match Journal::mount(alloc, disk, limit) {

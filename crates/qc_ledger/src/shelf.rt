@@ -73,11 +73,11 @@ impl<D: Disk> Shelf<D> {
         ensures kept { OnErr result ((bodies : List (List ℕ)) → Keeps (journal_in self.old) bodies
             → Keeps (journal_in self.new) bodies) }
         ensures limit { limit_of (journal_in self.new) ≡ limit_of (journal_in self.old) }
-        ensures content { D.content (disk_of (journal_in self.new)) ≡ D.content
-            (disk_of (journal_in self.old)) }
+        ensures content { (D.view (disk_of (journal_in self.new))).content
+            ≡ (D.view (disk_of (journal_in self.old))).content }
 
         ensures any_moment { Leaves (journal_in self.old) (journal_in self.new)
-            (D.may_leave (disk_of (journal_in self.old))) }
+            (D.view (disk_of (journal_in self.old))).may_leave }
         ensures falls { Falls (journal_in self.old) (journal_in self.new) }
         ensures cause { Costs (journal_in self.old) (journal_in self.new) (IsErrOf result Disk) }
     {

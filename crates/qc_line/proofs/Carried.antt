@@ -30,7 +30,7 @@ use Rattle.qc_store.specs.Served.{is_answer}
 
 -- an access of a manager, from one history to the next
 abbrev pub way : ℕ → Past → Name → Ask → Past → Carriage
-way seat past m q now = record { seat = seat; before = past; now = now; own = made_by seat past; owned = made_by seat now; manager = m; ask = q }
+way seat past m q now = record { seat = seat; before = past; now = now; manager = m; ask = q }
 
 abbrev pub Of : Name → Name → Type 0
 Of n x = x ≡ n

@@ -18,7 +18,7 @@ use Rattle.qc_event.specs.Dead.{dead}
 use Rattle.qc_event.specs.History.{Past, Name, Given, limit, children, granted, refused}
 use Rattle.qc_event.specs.Requests.{is_fault, was_unable}
 use Rattle.qc_event.specs.Seats.{is_client}
-use Rattle.qc_gather.specs.Carrying.{MayCarry, Carriage, entry, began, made_by, carriage, next_ask}
+use Rattle.qc_gather.specs.Carrying.{MayCarry, Carriage, entry, began, carriage, next_ask}
 use Rattle.qc_gather.specs.declared.carrier.Carried.{Carried}
 use Rattle.qc_gather.specs.declared.carrier.Carried.TheVariants.{Reply, Blocked, Gone}
 use Rattle.qc_gather.specs.declared.carrier.CarryNo.{CarryNo}
@@ -41,8 +41,7 @@ request past next = next_ask past next.manager next.copy next.rec next.op
 
 -- an access, from one history to the next
 abbrev pub way : Past → Past → NextAccess → Carriage
-way before now next =
-    carriage next.seat before now (made_by next.seat before) (made_by next.seat now) next.manager next.copy next.rec next.op
+way before now next = carriage next.seat before now next.manager next.copy next.rec next.op
 
 -- A manager that is not dead may make its next access under its client's seat, which asks this.
 pub record MayAccess (setting : Setting) (seat : ℕ) (past : Past) (m : Name) (ask : Ask) : Type 0 where

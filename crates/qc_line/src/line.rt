@@ -211,21 +211,16 @@ impl Carrier for Line {
     ghost use Rattle.std.specs.Prelude.{refl};
     ghost use Rattle.std.proofs.Common.{◌∙◌};
     ghost use Rattle.qc_event.proofs.LegalAgain.{legal_again};
-    ghost use Rattle.qc_gather.specs.Carrying.{made_by};
     ghost use Rattle.qc_line.specs.Lined.{HasCarried};
     ghost use Rattle.qc_store.specs.Served.{is_answer};
 
-    ghost setting = { λ line. line.setting };
-
-    ghost seat = { λ line. line.seat };
-
-    ghost own = { λ line. made_by line.seat line.past };
-
-    ghost seen = { λ line. line.past };
-
-    ghost others = { λ _ e. is_answer e };
-
-    ghost troubles = { λ line. line.troubles };
+    ghost view = { λ line. record {
+      setting = line.setting;
+      seat = line.seat;
+      seen = line.past;
+      others = is_answer;
+      troubles = line.troubles;
+    } };
 
     ghost became = { HasCarried };
 
@@ -237,8 +232,6 @@ impl Carrier for Line {
     } };
 
     ghost is_legal = { λ line. legal_again line.setting line.past line.is_legal };
-
-    ghost own_are_seen = { λ line. refl };
 
     fn carry(&mut self, manager: &Name, copy: u8, rec: u8, op: Op) -> Result<Carried, CarryNo> {
         if self.torn {

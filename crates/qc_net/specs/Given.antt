@@ -11,6 +11,15 @@ pub record Given : Type 0 where
 abbrev pub given : Ask → Answered → Given
 given ask answer = record { ask = ask; answer = answer }
 
+-- A port at a moment.
+pub record View : Type 1 where
+  -- which requests it may be given
+  pub may : Ask → Type 0
+  -- whether it has given an answer to a request
+  pub gave : Ask → Answered → Type 0
+  -- its deliveries, the latest first, where it tells them
+  pub made : Option (List Given)
+
 -- a request was delivered two times, and this is the first answer
 abbrev pub GaveTwice : (Ask → Answered → Type 0) → Option (List Given) → Option (List Given) → Ask → Answered → Type 0
 GaveTwice Gave before now ask first =

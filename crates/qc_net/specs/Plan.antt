@@ -25,6 +25,13 @@ pub record Plan : Type 0 where
   pub hold : ℕ
   pub waited : ℕ
 
+-- A link at a moment.
+pub record View : Type 0 where
+  -- how often it gave trouble, up to `2^64 - 1`; the count never falls
+  pub troubles : ℕ
+  -- its fates and its hold, from here on, where it tells them
+  pub plan : Option Plan
+
 -- a plan at its start
 abbrev pub starting : List Fate → ℕ → Plan
 starting fates hold = record { first = fates; coming = fates; hold = hold; waited = 0 }

@@ -55,19 +55,21 @@ impl<L: Link> Courier<L> {
     // One due step: the place of the request that was delivered, and its answer. A request that finds no memory
     // stays held.
     fn due_step<P: Port>(&mut self, port: &mut P) -> Result<Option<(usize, Answered)>, AllocError>
-        requires { All (P.may port.old) (held_of self.old) }
-        ensures stepped { IfOk result (Stepped (P.gave port.new) (held_of self.old)
-            (held_of self.new) (P.made port.old) (P.made port.new)) }
+        requires { All (P.view port.old).may (held_of self.old) }
+        ensures stepped { IfOk result (Stepped (P.view port.new).gave (held_of self.old)
+            (held_of self.new) (P.view port.old).made (P.view port.new).made) }
         ensures held_err { OnErr result (held_of self.new ≡ held_of self.old) }
-        ensures made_err { OnErr result (P.made port.new ≡ P.made port.old) }
-        ensures place { IfSome (L.plan (link_of self.old))
+        ensures made_err { OnErr result ((P.view port.new).made ≡ (P.view port.old).made) }
+        ensures place { IfSome (L.view (link_of self.old)).plan
             (λ plan. IfOk result (λ step. option_map (λ s. s.0) step ≡ due_in plan
             (length (held_of self.old)))) }
-        ensures plan { L.plan (link_of self.new) ≡ option_map passed (L.plan (link_of self.old)) }
-        ensures counts { L.troubles (link_of self.new) ≡ L.troubles (link_of self.old) }
-        ensures may { (other : Ask) → P.may port.old other → P.may port.new other }
-        ensures gave { (other : Ask) (answer : Answered) → P.gave port.old other answer
-            → P.gave port.new other answer }
+        ensures plan { (L.view (link_of self.new)).plan ≡ option_map passed
+            (L.view (link_of self.old)).plan }
+        ensures counts { (L.view (link_of self.new)).troubles
+            ≡ (L.view (link_of self.old)).troubles }
+        ensures may { (other : Ask) → (P.view port.old).may other → (P.view port.new).may other }
+        ensures gave { (other : Ask) (answer : Answered) → (P.view port.old).gave other answer
+            → (P.view port.new).gave other answer }
         ensures became { P.became port.old port.new }
     {
         let Some(place) = self.link.due(self.held.len()) else {
@@ -81,24 +83,25 @@ impl<L: Link> Courier<L> {
 
     // Holds a request last, and waits for its delivery.
     fn hold<P: Port>(&mut self, ask: &Ask, port: &mut P, patience: u32) -> Result<Sent, AllocError>
-        requires ask { P.may port.old ask.now }
-        requires held { All (P.may port.old) (held_of self.old) }
-        ensures told { IfSome (L.plan (link_of self.old))
+        requires ask { (P.view port.old).may ask.now }
+        requires held { All (P.view port.old).may (held_of self.old) }
+        ensures told { IfSome (L.view (link_of self.old)).plan
             (λ plan. IfOk result (IsSending (waiting patience
             (record { plan = plan; held = held_of self.old ++ ask.now ∷ []; delivered = [] }))
-            (L.plan (link_of self.new)) (held_of self.new) (P.gave port.new) (P.made port.old)
-            (P.made port.new))) }
-        ensures answered { IfOk result (IsAnswered (P.gave port.new) ask.now) }
-        ensures held { HeldAfter (P.gave port.new) (held_of self.old) ask.now
+            (L.view (link_of self.new)).plan (held_of self.new) (P.view port.new).gave
+            (P.view port.old).made (P.view port.new).made)) }
+        ensures answered { IfOk result (IsAnswered (P.view port.new).gave ask.now) }
+        ensures held { HeldAfter (P.view port.new).gave (held_of self.old) ask.now
             (held_of self.new) result }
-        ensures allowed { All (P.may port.new) (held_of self.new) }
-        ensures may { (other : Ask) → P.may port.old other → P.may port.new other }
-        ensures gave { (other : Ask) (answer : Answered) → P.gave port.old other answer
-            → P.gave port.new other answer }
+        ensures allowed { All (P.view port.new).may (held_of self.new) }
+        ensures may { (other : Ask) → (P.view port.old).may other → (P.view port.new).may other }
+        ensures gave { (other : Ask) (answer : Answered) → (P.view port.old).gave other answer
+            → (P.view port.new).gave other answer }
         ensures became { P.became port.old port.new }
-        ensures plan { option_map anew (L.plan (link_of self.new)) ≡ option_map anew
-            (L.plan (link_of self.old)) }
-        ensures counts { L.troubles (link_of self.new) ≡ L.troubles (link_of self.old) }
+        ensures plan { option_map anew (L.view (link_of self.new)).plan ≡ option_map anew
+            (L.view (link_of self.old)).plan }
+        ensures counts { (L.view (link_of self.new)).troubles
+            ≡ (L.view (link_of self.old)).troubles }
     {
         append(&mut self.held, *ask)?;
         for _ in 0..patience {
@@ -120,25 +123,26 @@ impl<L: Link> Courier<L> {
         port: &mut P,
         patience: u32,
     ) -> Result<Sent, AllocError>
-        requires ask { P.may port.old ask.now }
-        requires held { All (P.may port.old) (held_of self.old) }
-        ensures told { IfSome (L.plan (link_of self.old))
+        requires ask { (P.view port.old).may ask.now }
+        requires held { All (P.view port.old).may (held_of self.old) }
+        ensures told { IfSome (L.view (link_of self.old)).plan
             (λ plan. IfOk result (IsSending (meeting fate ask.now patience
             (record { plan = plan; held = held_of self.old; delivered = [] }))
-            (L.plan (link_of self.new)) (held_of self.new) (P.gave port.new) (P.made port.old)
-            (P.made port.new))) }
-        ensures answered { IfOk result (IsAnswered (P.gave port.new) ask.now) }
-        ensures held { HeldAfter (P.gave port.new) (held_of self.old) ask.now
+            (L.view (link_of self.new)).plan (held_of self.new) (P.view port.new).gave
+            (P.view port.old).made (P.view port.new).made)) }
+        ensures answered { IfOk result (IsAnswered (P.view port.new).gave ask.now) }
+        ensures held { HeldAfter (P.view port.new).gave (held_of self.old) ask.now
             (held_of self.new) result }
-        ensures allowed { All (P.may port.new) (held_of self.new) }
+        ensures allowed { All (P.view port.new).may (held_of self.new) }
         ensures cause { IfOk result (HasCause (IsTrue (is_trouble fate))) }
-        ensures may { (other : Ask) → P.may port.old other → P.may port.new other }
-        ensures gave { (other : Ask) (answer : Answered) → P.gave port.old other answer
-            → P.gave port.new other answer }
+        ensures may { (other : Ask) → (P.view port.old).may other → (P.view port.new).may other }
+        ensures gave { (other : Ask) (answer : Answered) → (P.view port.old).gave other answer
+            → (P.view port.new).gave other answer }
         ensures became { P.became port.old port.new }
-        ensures plan { option_map anew (L.plan (link_of self.new)) ≡ option_map anew
-            (L.plan (link_of self.old)) }
-        ensures counts { L.troubles (link_of self.new) ≡ L.troubles (link_of self.old) }
+        ensures plan { option_map anew (L.view (link_of self.new)).plan ≡ option_map anew
+            (L.view (link_of self.old)).plan }
+        ensures counts { (L.view (link_of self.new)).troubles
+            ≡ (L.view (link_of self.old)).troubles }
     {
         match fate {
             Fate::Deliver => Ok(Sent::Answer(port.deliver(ask)?)),
@@ -164,28 +168,29 @@ impl<L: Link> Courier<L> {
         port: &mut P,
         patience: u32,
     ) -> Result<Sent, AllocError>
-        requires ask { P.may port.old ask.now }
-        requires held { All (P.may port.old) (held_of self.old) }
-        ensures told { IfSome (L.plan (link_of self.old))
+        requires ask { (P.view port.old).may ask.now }
+        requires held { All (P.view port.old).may (held_of self.old) }
+        ensures told { IfSome (L.view (link_of self.old)).plan
             (λ plan. IfOk result (IsSending (sending plan (held_of self.old) ask.now patience)
-            (L.plan (link_of self.new)) (held_of self.new) (P.gave port.new) (P.made port.old)
-            (P.made port.new))) }
-        ensures answered { IfOk result (IsAnswered (P.gave port.new) ask.now) }
-        ensures held { HeldAfter (P.gave port.new) (held_of self.old) ask.now
+            (L.view (link_of self.new)).plan (held_of self.new) (P.view port.new).gave
+            (P.view port.old).made (P.view port.new).made)) }
+        ensures answered { IfOk result (IsAnswered (P.view port.new).gave ask.now) }
+        ensures held { HeldAfter (P.view port.new).gave (held_of self.old) ask.now
             (held_of self.new) result }
-        ensures allowed { All (P.may port.new) (held_of self.new) }
+        ensures allowed { All (P.view port.new).may (held_of self.new) }
         ensures cause { IfOk result (HasCause
-            (Rose (L.troubles (link_of self.old)) (L.troubles (link_of self.new)))) }
-        ensures counts { IfSome (L.plan (link_of self.old))
-            (λ plan. OnOk result (Counts (next_fate plan.coming) (L.troubles (link_of self.old))
-            (L.troubles (link_of self.new)))) }
-        ensures later { L.troubles (link_of self.old) ≤ L.troubles (link_of self.new) }
-        ensures may { (other : Ask) → P.may port.old other → P.may port.new other }
-        ensures gave { (other : Ask) (answer : Answered) → P.gave port.old other answer
-            → P.gave port.new other answer }
+            (Rose (L.view (link_of self.old)).troubles (L.view (link_of self.new)).troubles)) }
+        ensures counts { IfSome (L.view (link_of self.old)).plan
+            (λ plan. OnOk result (Counts (next_fate plan.coming)
+            (L.view (link_of self.old)).troubles (L.view (link_of self.new)).troubles)) }
+        ensures later { (L.view (link_of self.old)).troubles
+            ≤ (L.view (link_of self.new)).troubles }
+        ensures may { (other : Ask) → (P.view port.old).may other → (P.view port.new).may other }
+        ensures gave { (other : Ask) (answer : Answered) → (P.view port.old).gave other answer
+            → (P.view port.new).gave other answer }
         ensures became { P.became port.old port.new }
-        ensures plan { option_map anew (L.plan (link_of self.new)) ≡ option_map anew
-            (L.plan (link_of self.old)) }
+        ensures plan { option_map anew (L.view (link_of self.new)).plan ≡ option_map anew
+            (L.view (link_of self.old)).plan }
     {
         self.due_step(port)?;
         let fate = self.link.fate(ask.copy);

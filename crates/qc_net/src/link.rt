@@ -1,7 +1,7 @@
 //! What may become of a request on its way.
-ghost use Rattle.std.specs.Prelude.{◌≡◌, ◌<◌, ℕ, Option, option_map, IfSome, IfOk};
+ghost use Rattle.std.specs.Prelude.{◌≡◌, ◌<◌, option_map, IfSome, IfOk};
 ghost use Rattle.qc_net.specs.Plan as words;
-ghost use Rattle.qc_net.specs.Plan.{Plan, Counts, next_fate, asked, due_in, passed, anew};
+ghost use Rattle.qc_net.specs.Plan.{View, Counts, next_fate, asked, due_in, passed, anew};
 
 use std::alloc::AllocError;
 
@@ -34,28 +34,26 @@ impl Fate {
 
 /// Says what becomes of requests, and when those that are held are delivered.
 pub trait Link: Sized {
-    /// How often it gave trouble, up to `2^64 - 1`. The count never falls.
-    ghost troubles: { Self → ℕ };
-
-    /// Its fates and its hold, from here on, where it tells them.
-    ghost plan: { Self → Option Plan };
+    /// Its troubles so far, and its plan from here on, where it tells one.
+    ghost view: { Self → View };
 
     /// What becomes of the next request, which goes to this copy.
     fn fate(&mut self, to: u8) -> Fate
-        ensures told { IfSome (plan self.old) (λ p. result ≡ next_fate p.coming) }
-        ensures plan { plan self.new ≡ option_map asked (plan self.old) }
-        ensures counts { Counts result (troubles self.old) (troubles self.new) };
+        ensures told { IfSome (view self.old).plan (λ p. result ≡ next_fate p.coming) }
+        ensures plan { (view self.new).plan ≡ option_map asked (view self.old).plan }
+        ensures counts { Counts result (view self.old).troubles (view self.new).troubles };
 
     /// The place of the held request that is delivered now, of `held`, if one is.
     fn due(&mut self, held: usize) -> Option<usize>
         ensures within { IfSome result (λ place. place < held) }
-        ensures told { IfSome (plan self.old) (λ p. result ≡ due_in p held) }
-        ensures plan { plan self.new ≡ option_map passed (plan self.old) }
-        ensures counts { troubles self.new ≡ troubles self.old };
+        ensures told { IfSome (view self.old).plan (λ p. result ≡ due_in p held) }
+        ensures plan { (view self.new).plan ≡ option_map passed (view self.old).plan }
+        ensures counts { (view self.new).troubles ≡ (view self.old).troubles };
 
     /// A link with the same fates and hold from the start on, which gave no trouble yet. The only error is
     /// want of memory.
     fn fresh(&self) -> Result<Self, AllocError>
-        ensures plan { IfOk result (λ link. plan link ≡ option_map anew (plan self.now)) }
-        ensures counts { IfOk result (λ link. troubles link ≡ 0) };
+        ensures plan { IfOk result (λ link. (view link).plan ≡ option_map anew
+            (view self.now).plan) }
+        ensures counts { IfOk result (λ link. (view link).troubles ≡ 0) };
 }

@@ -59,9 +59,7 @@ impl Link for PlanLink {
     ghost use Rattle.qc_net.specs.Plan.{Counts, is_trouble, next_fate, asked, due_in, passed, anew};
     ghost use Rattle.qc_net.specs.PlanLink.{plan_of, troubles_of};
 
-    ghost troubles = { troubles_of };
-
-    ghost plan = { λ link. Some (plan_of link) };
+    ghost view = { λ link. record { troubles = troubles_of link; plan = Some (plan_of link) } };
 
     fn fate(&mut self, _to: u8) -> Fate
         ensures told { result ≡ next_fate (plan_of self.old).coming }

@@ -1,36 +1,30 @@
 //! Where requests arrive.
-ghost use Rattle.std.specs.Prelude.{◌≡◌, ◌∷◌, List, Option, None, option_map, IfOk, OnErr};
+ghost use Rattle.std.specs.Prelude.{◌≡◌, ◌∷◌, option_map, IfOk, OnErr};
 ghost use Rattle.qc_event.specs.declared.event.Ask.{Ask};
 ghost use Rattle.qc_event.specs.declared.event.Answered.{Answered};
-ghost use Rattle.qc_net.specs.Given.{Given, given, GaveTwice};
+ghost use Rattle.qc_net.specs.Given.{View, given, GaveTwice};
 
 use qc_event::{Answered, Ask};
 use std::alloc::AllocError;
 
 /// Takes requests to the copies.
 pub trait Port {
-    /// Which requests it may be given.
-    ghost may: { Self → Ask → Type 0 };
-
-    /// Whether it has given an answer to a request.
-    ghost gave: { Self → Ask → Answered → Type 0 };
-
-    /// Its deliveries, the latest first, where it tells them.
-    ghost made: { Self → Option (List Given) } = { λ _. None };
+    /// Which requests it may be given, which answers it has given, and its deliveries, where it tells them.
+    ghost view: { Self → View };
 
     /// Whether deliveries alone have made the second of the first.
     ghost became: { Self → Self → Type 0 };
 
     /// Delivers a request. The only error is want of memory.
     fn deliver(&mut self, ask: &Ask) -> Result<Answered, AllocError>
-        requires { may self.old ask.now }
-        ensures answered { IfOk result (λ answer. gave self.new ask.now answer) }
-        ensures told { IfOk result (λ answer. made self.new ≡ option_map
-            (λ earlier. given ask.now answer ∷ earlier) (made self.old)) }
-        ensures told_err { OnErr result (made self.new ≡ made self.old) }
-        ensures may { (other : Ask) → may self.old other → may self.new other }
-        ensures gave { (other : Ask) (answer : Answered) → gave self.old other answer
-            → gave self.new other answer }
+        requires { (view self.old).may ask.now }
+        ensures answered { IfOk result (λ answer. (view self.new).gave ask.now answer) }
+        ensures told { IfOk result (λ answer. (view self.new).made ≡ option_map
+            (λ earlier. given ask.now answer ∷ earlier) (view self.old).made) }
+        ensures told_err { OnErr result ((view self.new).made ≡ (view self.old).made) }
+        ensures may { (other : Ask) → (view self.old).may other → (view self.new).may other }
+        ensures gave { (other : Ask) (answer : Answered) → (view self.old).gave other answer
+            → (view self.new).gave other answer }
         ensures became { became self.old self.new };
 
     /// Without a delivery it is as it was.
@@ -42,13 +36,13 @@ pub trait Port {
 
 /// Delivers a request two times. The answer is that of the first delivery.
 pub(crate) fn deliver_twice<P: Port>(port: &mut P, ask: &Ask) -> Result<Answered, AllocError>
-    requires { P.may port.old ask.now }
-    ensures answered { IfOk result (λ answer. P.gave port.new ask.now answer) }
-    ensures told { IfOk result (λ answer. GaveTwice (P.gave port.new) (P.made port.old)
-        (P.made port.new) ask.now answer) }
-    ensures may { (other : Ask) → P.may port.old other → P.may port.new other }
-    ensures gave { (other : Ask) (answer : Answered) → P.gave port.old other answer
-        → P.gave port.new other answer }
+    requires { (P.view port.old).may ask.now }
+    ensures answered { IfOk result (λ answer. (P.view port.new).gave ask.now answer) }
+    ensures told { IfOk result (λ answer. GaveTwice (P.view port.new).gave (P.view port.old).made
+        (P.view port.new).made ask.now answer) }
+    ensures may { (other : Ask) → (P.view port.old).may other → (P.view port.new).may other }
+    ensures gave { (other : Ask) (answer : Answered) → (P.view port.old).gave other answer
+        → (P.view port.new).gave other answer }
     ensures became { P.became port.old port.new }
 {
     let first = port.deliver(ask)?;

@@ -6,7 +6,7 @@ ghost use Rattle.qc_event.specs.declared.event.Kind.TheVariants as kind;
 ghost use Rattle.qc_event.specs.declared.event.Phase.TheVariants.{Values, Configs};
 ghost use Rattle.qc_event.specs.History.{children, is_child};
 ghost use Rattle.qc_event.specs.Manager.{newest, replied};
-ghost use Rattle.qc_gather.specs.Carrying.{IsRunning, HasGrown};
+ghost use Rattle.qc_gather.specs.Carrying.{own_entries, IsRunning, HasGrown};
 ghost use Rattle.qc_rw.specs.Going.{HasMade};
 ghost use Rattle.qc_rw.specs.Managed.{IsAnswered, IsRefused};
 ghost use Rattle.qc_rw.specs.Undisturbed.{IsUndisturbed, IsShortage};
@@ -34,33 +34,33 @@ pub fn reconfigure<C: Carrier>(
     first: &Config,
     new: &Config,
 ) -> Result<u64, MgrNo>
-    requires manager { IsRunning (C.seat carrier.old) (C.seen carrier.old) manager.now
+    requires manager { IsRunning (C.view carrier.old).seat (C.view carrier.old).seen manager.now
         (kind.Reconf rec new.now) }
-    requires no_child { children (C.seen carrier.old) manager.now ≡ [] }
-    requires first { first.now ≡ first_of (C.setting carrier.old) rec }
-    ensures setting { C.setting carrier.new ≡ C.setting carrier.old }
-    ensures seat { C.seat carrier.new ≡ C.seat carrier.old }
-    ensures others { C.others carrier.new ≡ C.others carrier.old }
-    ensures grown { HasGrown (C.others carrier.old) (λ n. IsTrue (is_child manager.now n))
-        (C.seen carrier.old) (C.seen carrier.new) }
-    ensures own { HasMade manager.now (C.own carrier.old) (C.own carrier.new) }
-    ensures answered { IfOk result (λ generation. IsAnswered (C.setting carrier.old)
-        (C.seat carrier.old) (C.seen carrier.new) manager.now (kind.Reconf rec new.now)
+    requires no_child { children (C.view carrier.old).seen manager.now ≡ [] }
+    requires first { first.now ≡ first_of (C.view carrier.old).setting rec }
+    ensures setting { (C.view carrier.new).setting ≡ (C.view carrier.old).setting }
+    ensures seat { (C.view carrier.new).seat ≡ (C.view carrier.old).seat }
+    ensures others { (C.view carrier.new).others ≡ (C.view carrier.old).others }
+    ensures grown { HasGrown (C.view carrier.old).others (λ n. IsTrue (is_child manager.now n))
+        (C.view carrier.old).seen (C.view carrier.new).seen }
+    ensures own { HasMade manager.now (own_entries (C.view carrier.old))
+        (own_entries (C.view carrier.new)) }
+    ensures answered { IfOk result (λ generation. IsAnswered (C.view carrier.old).setting
+        (C.view carrier.old).seat (C.view carrier.new).seen manager.now (kind.Reconf rec new.now)
         (answer.Generation generation)) }
-    ensures generation { IfOk result (λ generation. generation
-        ≡ (newest (C.seen carrier.new) first.now manager.now).generation + 1) }
-    ensures value_moved { IfOk result (λ _. IsTrue
-        (holds_write new.now (replied (C.seen carrier.new) manager.now Values))) }
-    ensures config_moved { IfOk result (λ _. IsTrue
-        (holds_write (newest (C.seen carrier.new) first.now manager.now).config
-        (replied (C.seen carrier.new) manager.now Configs))) }
-    ensures refused { IfErr result (IsRefused (C.setting carrier.old) (C.seat carrier.old)
-        (C.seen carrier.new) manager.now (kind.Reconf rec new.now)) }
-    ensures complete { IfErr result (λ why. IsUndisturbed (C.setting carrier.old)
-        (C.seen carrier.new) manager.now (kind.Reconf rec new.now) (C.troubles carrier.old)
-        (C.troubles carrier.new) → IsShortage why) }
+    ensures generation { IfOk result (λ generation. generation ≡ (newest (C.view carrier.new).seen
+        first.now manager.now).generation + 1) }
+    ensures value_moved { IfOk result (λ _. IsTrue (holds_write new.now (replied
+        (C.view carrier.new).seen manager.now Values))) }
+    ensures config_moved { IfOk result (λ _. IsTrue (holds_write (newest (C.view carrier.new).seen
+        first.now manager.now).config (replied (C.view carrier.new).seen manager.now Configs))) }
+    ensures refused { IfErr result (IsRefused (C.view carrier.old).setting (C.view carrier.old).seat
+        (C.view carrier.new).seen manager.now (kind.Reconf rec new.now)) }
+    ensures complete { IfErr result (λ why. IsUndisturbed (C.view carrier.old).setting
+        (C.view carrier.new).seen manager.now (kind.Reconf rec new.now)
+        (C.view carrier.old).troubles (C.view carrier.new).troubles → IsShortage why) }
     ensures became { C.became carrier.old carrier.new }
-    ensures later { C.troubles carrier.old ≤ C.troubles carrier.new }
+    ensures later { (C.view carrier.old).troubles ≤ (C.view carrier.new).troubles }
 {
     let gather = collect(carrier, manager, rec, first)?;
     let (generation, old) = gather.newest();

@@ -16,9 +16,13 @@ struct Counting {
 }
 
 impl Port for Counting {
-    ghost may = { λ port ask. Unit {0} };
+    ghost use Rattle.std.specs.Prelude.{None};
 
-    ghost gave = { λ port ask answer. Unit {0} };
+    ghost view = { λ port. record {
+      may = λ ask. Unit {0};
+      gave = λ ask answer. Unit {0};
+      made = None;
+    } };
 
     ghost became = { λ before now. Unit {0} };
 

@@ -48,10 +48,11 @@ fn nothing(alloc: Global, status: Status) -> Ran
 fn tell<K: Sink>(alloc: Global, status: Status, sink: &mut K) -> Status
     requires { terms.IsTold status }
     ensures answer { terms.IsOrMemory status result }
-    ensures told { terms.IsTold result → terms.TellsFault (K.taken sink.old) (K.taken sink.new)
-        (K.faults sink.old) (K.faults sink.new) result }
-    ensures short { result ≡ Status.Memory → Keeps (K.taken sink.old) (K.taken sink.new) }
-    ensures faults { K.faults sink.old ≤ K.faults sink.new }
+    ensures told { terms.IsTold result
+        → terms.TellsFault (K.view sink.old).taken (K.view sink.new).taken
+        (K.view sink.old).faults (K.view sink.new).faults result }
+    ensures short { result ≡ Status.Memory → Keeps (K.view sink.old).taken (K.view sink.new).taken }
+    ensures faults { (K.view sink.old).faults ≤ (K.view sink.new).faults }
 {
     match fault_line(alloc, &status) {
         Ok(line) => {
@@ -81,12 +82,15 @@ fn conclude<K: Sink>(alloc: Global, table: &Table, client: &LoneClient, sink: &m
     requires records { length table.now.records ≤ 64 }
     ensures answer { terms.IsConcluded result }
     ensures done { result ≡ Status.Done
-        → Appends (K.taken sink.old) (K.taken sink.new) (terms.page table.now client.now) }
-    ensures front { result ≡ Status.WriteFault → AppendsFront (K.taken sink.old) (K.taken sink.new)
+        → Appends (K.view sink.old).taken (K.view sink.new).taken
         (terms.page table.now client.now) }
-    ensures short { result ≡ Status.Memory → Keeps (K.taken sink.old) (K.taken sink.new) }
-    ensures fault { result ≡ Status.WriteFault → Rose (K.faults sink.old) (K.faults sink.new) }
-    ensures faults { K.faults sink.old ≤ K.faults sink.new }
+    ensures front { result ≡ Status.WriteFault
+        → AppendsFront (K.view sink.old).taken (K.view sink.new).taken
+        (terms.page table.now client.now) }
+    ensures short { result ≡ Status.Memory → Keeps (K.view sink.old).taken (K.view sink.new).taken }
+    ensures fault { result ≡ Status.WriteFault
+        → Rose (K.view sink.old).faults (K.view sink.new).faults }
+    ensures faults { (K.view sink.old).faults ≤ (K.view sink.new).faults }
 {
     match page_of(alloc, table, client) {
         Ok(text) => match write_all(sink, text.as_slice()) {
@@ -100,10 +104,11 @@ fn conclude<K: Sink>(alloc: Global, table: &Table, client: &LoneClient, sink: &m
 // Ends a run that stopped since memory ran out or the history is full. To tell of the latter takes no memory.
 fn halt<K: Sink>(short: Short, sink: &mut K) -> Status
     ensures answer { terms.IsHalted short result }
-    ensures told { terms.IsTold result → terms.TellsFault (K.taken sink.old) (K.taken sink.new)
-        (K.faults sink.old) (K.faults sink.new) result }
-    ensures short { result ≡ Status.Memory → Keeps (K.taken sink.old) (K.taken sink.new) }
-    ensures faults { K.faults sink.old ≤ K.faults sink.new }
+    ensures told { terms.IsTold result
+        → terms.TellsFault (K.view sink.old).taken (K.view sink.new).taken
+        (K.view sink.old).faults (K.view sink.new).faults result }
+    ensures short { result ≡ Status.Memory → Keeps (K.view sink.old).taken (K.view sink.new).taken }
+    ensures faults { (K.view sink.old).faults ≤ (K.view sink.new).faults }
 {
     match short {
         Short::Memory => Status::Memory,
@@ -123,19 +128,21 @@ fn proceed<K: Sink>(alloc: Global, script: &Script, mut client: LoneClient, sink
     ensures follows { terms.RanToEnd result.status
         → terms.Follows (plan_of_script script.now) result.trail.items }
     ensures answer { terms.IsPerformed result.status }
-    ensures done { result.status ≡ Status.Done → Appends (K.taken sink.old) (K.taken sink.new)
+    ensures done { result.status ≡ Status.Done
+        → Appends (K.view sink.old).taken (K.view sink.new).taken
         (terms.report_of (plan_of_script script.now) result.start result.trail.items) }
     ensures front { result.status ≡ Status.WriteFault
-        → AppendsFront (K.taken sink.old) (K.taken sink.new)
+        → AppendsFront (K.view sink.old).taken (K.view sink.new).taken
         (terms.report_of (plan_of_script script.now) result.start result.trail.items) }
     ensures told { terms.IsTold result.status
-        → terms.TellsFault (K.taken sink.old) (K.taken sink.new)
-        (K.faults sink.old) (K.faults sink.new) result.status }
-    ensures short { result.status ≡ Status.Memory → Keeps (K.taken sink.old) (K.taken sink.new) }
+        → terms.TellsFault (K.view sink.old).taken (K.view sink.new).taken
+        (K.view sink.old).faults (K.view sink.new).faults result.status }
+    ensures short { result.status ≡ Status.Memory
+        → Keeps (K.view sink.old).taken (K.view sink.new).taken }
     ensures fault { result.status ≡ Status.WriteFault
-        → Rose (K.faults sink.old) (K.faults sink.new) }
+        → Rose (K.view sink.old).faults (K.view sink.new).faults }
     ensures room { result.status ≡ Status.Room → length result.trail.items ≡ limit }
-    ensures faults { K.faults sink.old ≤ K.faults sink.new }
+    ensures faults { (K.view sink.old).faults ≤ (K.view sink.new).faults }
 {
     let status = match client.run(script.session.tops.as_slice()) {
         Ok(()) => conclude(alloc, &script.table, &client, sink),
@@ -159,19 +166,21 @@ fn perform<K: Sink>(alloc: Global, script: &Script, sink: &mut K) -> Ran
     ensures follows { terms.RanToEnd result.status
         → terms.Follows (plan_of_script script.now) result.trail.items }
     ensures answer { terms.IsPerformed result.status }
-    ensures done { result.status ≡ Status.Done → Appends (K.taken sink.old) (K.taken sink.new)
+    ensures done { result.status ≡ Status.Done
+        → Appends (K.view sink.old).taken (K.view sink.new).taken
         (terms.report_of (plan_of_script script.now) result.start result.trail.items) }
     ensures front { result.status ≡ Status.WriteFault
-        → AppendsFront (K.taken sink.old) (K.taken sink.new)
+        → AppendsFront (K.view sink.old).taken (K.view sink.new).taken
         (terms.report_of (plan_of_script script.now) result.start result.trail.items) }
     ensures told { terms.IsTold result.status
-        → terms.TellsFault (K.taken sink.old) (K.taken sink.new)
-        (K.faults sink.old) (K.faults sink.new) result.status }
-    ensures short { result.status ≡ Status.Memory → Keeps (K.taken sink.old) (K.taken sink.new) }
+        → terms.TellsFault (K.view sink.old).taken (K.view sink.new).taken
+        (K.view sink.old).faults (K.view sink.new).faults result.status }
+    ensures short { result.status ≡ Status.Memory
+        → Keeps (K.view sink.old).taken (K.view sink.new).taken }
     ensures fault { result.status ≡ Status.WriteFault
-        → Rose (K.faults sink.old) (K.faults sink.new) }
+        → Rose (K.view sink.old).faults (K.view sink.new).faults }
     ensures room { result.status ≡ Status.Room → length result.trail.items ≡ limit }
-    ensures faults { K.faults sink.old ≤ K.faults sink.new }
+    ensures faults { (K.view sink.old).faults ≤ (K.view sink.new).faults }
 {
     match open(alloc, script) {
         Ok(client) => proceed(alloc, script, client, sink),
@@ -186,10 +195,11 @@ fn refuse<K: Sink>(alloc: Global, status: Status, sink: &mut K) -> Ran
     ensures start { result.start ≡ [] }
     ensures trail { result.trail.items ≡ [] }
     ensures told { terms.IsTold result.status
-        → terms.TellsFault (K.taken sink.old) (K.taken sink.new)
-        (K.faults sink.old) (K.faults sink.new) result.status }
-    ensures short { result.status ≡ Status.Memory → Keeps (K.taken sink.old) (K.taken sink.new) }
-    ensures faults { K.faults sink.old ≤ K.faults sink.new }
+        → terms.TellsFault (K.view sink.old).taken (K.view sink.new).taken
+        (K.view sink.old).faults (K.view sink.new).faults result.status }
+    ensures short { result.status ≡ Status.Memory
+        → Keeps (K.view sink.old).taken (K.view sink.new).taken }
+    ensures faults { (K.view sink.old).faults ≤ (K.view sink.new).faults }
 {
     let status = tell(alloc, status, sink);
     nothing(alloc, status)
@@ -207,19 +217,20 @@ fn over<K: Sink>(alloc: Global, bytes: &[u8], sink: &mut K) -> Ran
     ensures answer { terms.IsOver result.status }
     ensures refused { terms.IsScriptFault (Some bytes.now) result.status }
     ensures done { result.status ≡ Status.Done → terms.OfBytes bytes.now result.start
-        (λ s. Appends (K.taken sink.old) (K.taken sink.new)
+        (λ s. Appends (K.view sink.old).taken (K.view sink.new).taken
         (terms.report_of s result.start result.trail.items)) }
     ensures front { result.status ≡ Status.WriteFault → terms.OfBytes bytes.now result.start
-        (λ s. AppendsFront (K.taken sink.old) (K.taken sink.new)
+        (λ s. AppendsFront (K.view sink.old).taken (K.view sink.new).taken
         (terms.report_of s result.start result.trail.items)) }
     ensures told { terms.IsTold result.status
-        → terms.TellsFault (K.taken sink.old) (K.taken sink.new)
-        (K.faults sink.old) (K.faults sink.new) result.status }
-    ensures short { result.status ≡ Status.Memory → Keeps (K.taken sink.old) (K.taken sink.new) }
+        → terms.TellsFault (K.view sink.old).taken (K.view sink.new).taken
+        (K.view sink.old).faults (K.view sink.new).faults result.status }
+    ensures short { result.status ≡ Status.Memory
+        → Keeps (K.view sink.old).taken (K.view sink.new).taken }
     ensures fault { result.status ≡ Status.WriteFault
-        → Rose (K.faults sink.old) (K.faults sink.new) }
+        → Rose (K.view sink.old).faults (K.view sink.new).faults }
     ensures room { result.status ≡ Status.Room → length result.trail.items ≡ limit }
-    ensures faults { K.faults sink.old ≤ K.faults sink.new }
+    ensures faults { (K.view sink.old).faults ≤ (K.view sink.new).faults }
 {
     match Script::read(alloc, bytes) {
         Ok(script) => perform(alloc, &script, sink),
@@ -230,43 +241,44 @@ fn over<K: Sink>(alloc: Global, bytes: &[u8], sink: &mut K) -> Ran
 
 // Does what the words say.
 fn answer<S: Source, K: Sink>(alloc: Global, words: &[String], source: &mut S, sink: &mut K) -> Ran
-    ensures history { terms.OfRun (S.left source.old) (S.left source.new) result.start
+    ensures history { terms.OfRun (S.view source.old).left (S.view source.new).left result.start
         result.trail.items (terms.HasHistory result.start result.trail.items) }
     ensures nothing_begun { terms.BeganNothing result.status
         → (result.trail.items ≡ []) × (result.start ≡ []) }
     ensures started { terms.ReadIt result.status
-        → terms.OfScript (S.left source.old) (S.left source.new) result.start (λ _. ⊤) }
+        → terms.OfScript (S.view source.old).left (S.view source.new).left result.start (λ _. ⊤) }
     ensures follows_script { terms.RanToEnd result.status
-        → terms.OfScript (S.left source.old) (S.left source.new) result.start
+        → terms.OfScript (S.view source.old).left (S.view source.new).left result.start
         (λ s. terms.Follows s result.trail.items) }
     ensures output { result.status ≡ Status.Done
-        → terms.OfScript (S.left source.old) (S.left source.new) result.start
-        (λ s. Appends (K.taken sink.old) (K.taken sink.new)
+        → terms.OfScript (S.view source.old).left (S.view source.new).left result.start
+        (λ s. Appends (K.view sink.old).taken (K.view sink.new).taken
         (terms.report_of s result.start result.trail.items)) }
     ensures output_front { result.status ≡ Status.WriteFault
-        → terms.OfScript (S.left source.old) (S.left source.new) result.start
-        (λ s. AppendsFront (K.taken sink.old) (K.taken sink.new)
+        → terms.OfScript (S.view source.old).left (S.view source.new).left result.start
+        (λ s. AppendsFront (K.view sink.old).taken (K.view sink.new).taken
         (terms.report_of s result.start result.trail.items)) }
     ensures output_line { terms.IsTold result.status
-        → terms.TellsFault (K.taken sink.old) (K.taken sink.new)
-        (K.faults sink.old) (K.faults sink.new) result.status }
+        → terms.TellsFault (K.view sink.old).taken (K.view sink.new).taken
+        (K.view sink.old).faults (K.view sink.new).faults result.status }
     ensures output_none { result.status ≡ Status.Memory
-        → Keeps (K.taken sink.old) (K.taken sink.new) }
+        → Keeps (K.view sink.old).taken (K.view sink.new).taken }
     ensures usage { result.status ≡ Status.Usage
         → line.is_command (map string_bytes words.now) ≡ false }
     ensures no_command { line.is_command (map string_bytes words.now) ≡ false
         → terms.IsOrMemory Status.Usage result.status × (source.new ≡ source.old) }
-    ensures script_fault { terms.IsScriptFault (S.left source.old) result.status }
+    ensures script_fault { terms.IsScriptFault (S.view source.old).left result.status }
     ensures read_fault { result.status ≡ Status.ReadFault
-        → Rose (S.faults source.old) (S.faults source.new) }
+        → Rose (S.view source.old).faults (S.view source.new).faults }
     ensures write_fault { result.status ≡ Status.WriteFault
-        → Rose (K.faults sink.old) (K.faults sink.new) }
+        → Rose (K.view sink.old).faults (K.view sink.new).faults }
     ensures room { result.status ≡ Status.Room → length result.trail.items ≡ limit }
-    ensures source_faults { S.faults source.old ≤ S.faults source.new }
-    ensures sink_faults { K.faults sink.old ≤ K.faults sink.new }
+    ensures source_faults { (S.view source.old).faults ≤ (S.view source.new).faults }
+    ensures sink_faults { (K.view sink.old).faults ≤ (K.view sink.new).faults }
     ensures source_taken { terms.ReadWhole result.status
-        → Drops (S.left source.old) (S.left source.new) terms.most_taken }
-    ensures source_within { LosesWithin (S.left source.old) (S.left source.new) terms.most_taken }
+        → Drops (S.view source.old).left (S.view source.new).left terms.most_taken }
+    ensures source_within { LosesWithin (S.view source.old).left (S.view source.new).left
+        terms.most_taken }
 {
     if !is_command(words) {
         return refuse(alloc, Status::Usage, sink);
@@ -292,79 +304,81 @@ fn answer<S: Source, K: Sink>(alloc: Global, words: &[String], source: &mut S, s
 pub fn run<S: Source, K: Sink>(alloc: Global, words: &[String], source: &mut S, sink: &mut K) -> Ran
     // Nothing was begun, or the source held a script, the run started from its table, and the history is legal over
     // the first configurations of that table.
-    ensures legal_history { terms.OfRun (S.left source.old) (S.left source.new) result.start
-        result.trail.items
+    ensures legal_history { terms.OfRun (S.view source.old).left (S.view source.new).left
+        result.start result.trail.items
         (λ s. Legal (setting_of s.table result.start) (reverse result.trail.items)) }
     ensures nothing_begun { terms.BeganNothing result.status
         → (result.trail.items ≡ []) × (result.start ≡ []) }
 
     // At each moment of the history, each user transaction without an aborted ancestor has its serial order, from
     // each map of values for which the start is sound; it is for the start values of the table.
-    ensures serial_order { terms.OfRun (S.left source.old) (S.left source.new) result.start
-        result.trail.items
+    ensures serial_order { terms.OfRun (S.view source.old).left (S.view source.new).left
+        result.start result.trail.items
         (λ s. terms.HasSerialOrders s.table result.start result.trail.items) }
-    ensures sound_start { terms.OfRun (S.left source.old) (S.left source.new) result.start
+    ensures sound_start { terms.OfRun (S.view source.old).left (S.view source.new).left result.start
         result.trail.items
         (λ s. IsSound (setting_of s.table result.start) (first_values s.table)) }
 
     // The last values of the report, which go by versions, are then those of the serial machine.
-    ensures last_values { terms.OfRun (S.left source.old) (S.left source.new) result.start
+    ensures last_values { terms.OfRun (S.view source.old).left (S.view source.new).left result.start
         result.trail.items
         (λ s. terms.HasSerialValues s.table result.start result.trail.items) }
 
     // Whatever cut the run off, the history is a beginning of one that follows the script, with requests that meet the
     // fates of its network; what ran to its end follows it.
-    ensures begins_script { terms.OfRun (S.left source.old) (S.left source.new) result.start
-        result.trail.items (λ s. terms.Begins s result.trail.items) }
+    ensures begins_script { terms.OfRun (S.view source.old).left (S.view source.new).left
+        result.start result.trail.items (λ s. terms.Begins s result.trail.items) }
     ensures follows_script { terms.RanToEnd result.status
-        → terms.OfScript (S.left source.old) (S.left source.new) result.start
+        → terms.OfScript (S.view source.old).left (S.view source.new).left result.start
         (λ s. terms.Follows s result.trail.items) }
     ensures started { terms.ReadIt result.status
-        → terms.OfScript (S.left source.old) (S.left source.new) result.start (λ _. ⊤) }
+        → terms.OfScript (S.view source.old).left (S.view source.new).left result.start (λ _. ⊤) }
 
     // The bytes written are the report, a front of it, a fault's line, or none.
     ensures output { result.status ≡ Status.Done
-        → terms.OfScript (S.left source.old) (S.left source.new) result.start
-        (λ s. Appends (K.taken sink.old) (K.taken sink.new)
+        → terms.OfScript (S.view source.old).left (S.view source.new).left result.start
+        (λ s. Appends (K.view sink.old).taken (K.view sink.new).taken
         (terms.report_of s result.start result.trail.items)) }
     ensures output_front { result.status ≡ Status.WriteFault
-        → terms.OfScript (S.left source.old) (S.left source.new) result.start
-        (λ s. AppendsFront (K.taken sink.old) (K.taken sink.new)
+        → terms.OfScript (S.view source.old).left (S.view source.new).left result.start
+        (λ s. AppendsFront (K.view sink.old).taken (K.view sink.new).taken
         (terms.report_of s result.start result.trail.items)) }
     ensures output_line { terms.IsTold result.status
-        → terms.TellsFault (K.taken sink.old) (K.taken sink.new)
-        (K.faults sink.old) (K.faults sink.new) result.status }
+        → terms.TellsFault (K.view sink.old).taken (K.view sink.new).taken
+        (K.view sink.old).faults (K.view sink.new).faults result.status }
     ensures output_none { result.status ≡ Status.Memory
-        → Keeps (K.taken sink.old) (K.taken sink.new) }
+        → Keeps (K.view sink.old).taken (K.view sink.new).taken }
 
     // When each status comes.
     ensures usage { result.status ≡ Status.Usage
         → line.is_command (map string_bytes words.now) ≡ false }
     ensures no_command { line.is_command (map string_bytes words.now) ≡ false
         → terms.IsOrMemory Status.Usage result.status × (source.new ≡ source.old) }
-    ensures script_fault { terms.IsScriptFault (S.left source.old) result.status }
+    ensures script_fault { terms.IsScriptFault (S.view source.old).left result.status }
     ensures no_script { line.is_command (map string_bytes words.now) ≡ true
-        → IfSome (S.left source.old)
+        → IfSome (S.view source.old).left
         (λ bytes. ((s : ScriptPlan) → IsScript bytes s → ⊥) → terms.IsNoRun result.status) }
     ensures read_fault { result.status ≡ Status.ReadFault
-        → Rose (S.faults source.old) (S.faults source.new) }
+        → Rose (S.view source.old).faults (S.view source.new).faults }
     ensures write_fault { result.status ≡ Status.WriteFault
-        → Rose (K.faults sink.old) (K.faults sink.new) }
+        → Rose (K.view sink.old).faults (K.view sink.new).faults }
     ensures room { result.status ≡ Status.Room → length result.trail.items ≡ limit }
-    ensures source_faults { S.faults source.old ≤ S.faults source.new }
-    ensures sink_faults { K.faults sink.old ≤ K.faults sink.new }
+    ensures source_faults { (S.view source.old).faults ≤ (S.view source.new).faults }
+    ensures sink_faults { (K.view sink.old).faults ≤ (K.view sink.new).faults }
 
     // The source is taken to its end, or one byte past the longest script; never further.
     ensures source_taken { terms.ReadWhole result.status
-        → Drops (S.left source.old) (S.left source.new) terms.most_taken }
-    ensures source_within { LosesWithin (S.left source.old) (S.left source.new) terms.most_taken }
+        → Drops (S.view source.old).left (S.view source.new).left terms.most_taken }
+    ensures source_within { LosesWithin (S.view source.old).left (S.view source.new).left
+        terms.most_taken }
 
     // A script is run, where neither stream fails, as far as there is memory and room.
     ensures completes { (bytes : List ℕ) (s : ScriptPlan)
         → line.is_command (map string_bytes words.now) ≡ true
-        → S.left source.old ≡ Some bytes → IsScript bytes s
-        → (Rose (S.faults source.old) (S.faults source.new) → ⊥)
-        → (Rose (K.faults sink.old) (K.faults sink.new) → ⊥) → terms.IsDoneOrShort result.status }
+        → (S.view source.old).left ≡ Some bytes → IsScript bytes s
+        → (Rose (S.view source.old).faults (S.view source.new).faults → ⊥)
+        → (Rose (K.view sink.old).faults (K.view sink.new).faults → ⊥)
+        → terms.IsDoneOrShort result.status }
 {
     answer(alloc, words, source, sink)
 }

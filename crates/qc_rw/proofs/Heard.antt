@@ -14,7 +14,7 @@ use Rattle.qc_event.specs.History.{Past, Name, Begun, start, start_in, end, asks
 use Rattle.qc_event.specs.Standing.{IsOrphanOf, open_child}
 use Rattle.qc_event.specs.Manager.{Result, result, is_phase, phase_of, asks_in}
 use Rattle.qc_event.proofs.Histories.{earliest-append}
-use Rattle.qc_gather.specs.Carrying.{IsRunning, HasGrown, IsTold, Carriage, WasCarried, WasNotCarried, access_entries}
+use Rattle.qc_gather.specs.Carrying.{IsRunning, HasGrown, IsTold, Carriage, own_before, own_now, WasCarried, WasNotCarried, access_entries}
 use Rattle.qc_gather.specs.declared.carrier.CarryNo.{CarryNo}
 use Rattle.qc_gather.specs.declared.carrier.CarryNo.TheVariants as carry
 use Rattle.qc_rw.specs.Told.{told_of, told_in, EachTold}
@@ -122,10 +122,10 @@ refused_of setting others Names seat m k way carry.Memory one cut = tt
 refused_of setting others Names seat m k way carry.Room one cut = cut.1
 
 -- what a carrier made for an access that was carried, and for one that was not
-pub made_carried : (m : Name) (way : Carriage) (r : Result) → is_child m way.ask.access ≡ true → WasCarried way r → HasMade m way.own way.owned
+pub made_carried : (m : Name) (way : Carriage) (r : Result) → is_child m way.ask.access ≡ true → WasCarried way r → HasMade m (own_before way) (own_now way)
 made_carried m way r child carried = record { made = access_entries way.seat way.ask r; added = carried.made; each = carried_by m way.seat way.ask child r }
 
-pub made_not_carried : (m : Name) (way : Carriage) (why : CarryNo) → is_child m way.ask.access ≡ true → WasNotCarried way why → HasMade m way.own way.owned
+pub made_not_carried : (m : Name) (way : Carriage) (why : CarryNo) → is_child m way.ask.access ≡ true → WasNotCarried way why → HasMade m (own_before way) (own_now way)
 made_not_carried m way (carry.Orphan a) child stopped = record { made = stopped.made; added = stopped.added; each = stopped_by m way.seat way.ask child a stopped.made stopped.stopped }
 made_not_carried m way carry.Memory child cut = record { made = cut.made; added = cut.added; each = begun_by m way.seat way.ask child cut.made cut.part }
 made_not_carried m way carry.Room child cut = record { made = cut.0.made; added = cut.0.added; each = begun_by m way.seat way.ask child cut.0.made cut.0.part }

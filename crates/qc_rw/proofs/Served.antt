@@ -11,8 +11,8 @@ use Rattle.qc_event.specs.declared.event.How.TheVariants.{Abort}
 use Rattle.qc_event.specs.declared.event.Kind.TheVariants as kind
 use Rattle.qc_event.specs.History.{Past, Name, is_child}
 use Rattle.qc_event.specs.Manager.{Result, Replied, Missing, BlockedBy}
-use Rattle.qc_gather.specs.Carrying.{name_of, entry, began, HasGrown, WasStopped, IsBegun, access_entries}
-use Rattle.qc_rw.specs.Going.{HasMade, Link, HasServed}
+use Rattle.qc_gather.specs.Carrying.{own_entries, made_by, View, name_of, entry, began, HasGrown, WasStopped, IsBegun, access_entries}
+use Rattle.qc_rw.specs.Going.{HasMade, HasServed}
 
 -- GROWTH
 
@@ -81,29 +81,29 @@ module _ (m : Name) (seat : ℕ) (ask : Ask) (child : is_child m ask.access ≡ 
 
 -- THE CARRIER
 
-pub served_none : (m : Name) (l : Link) → HasServed m l l
+pub served_none : (m : Name) (l : View) → HasServed m l l
 served_none m l =
-    record { setting = refl; seat = refl; others = refl; grown = grown_none _ _ l.seen; own = made_none m l.own; later = omega arith }
+    record { setting = refl; seat = refl; others = refl; grown = grown_none _ _ l.seen; own = made_none m (own_entries l); later = omega arith }
 
-pub served_further : (m : Name) (a b c : Link) → HasServed m a b → HasServed m b c → HasServed m a c
+pub served_further : (m : Name) (a b c : View) → HasServed m a b → HasServed m b c → HasServed m a c
 served_further m a b c first then =
     record {
       setting = then.setting ∙ first.setting;
       seat = then.seat ∙ first.seat;
       others = then.others ∙ first.others;
       grown = grown_further a.others (λ n. IsTrue (is_child m n)) a.seen b.seen c.seen first.grown (subst (λ o. HasGrown o (λ n. IsTrue (is_child m n)) b.seen c.seen) first.others then.grown);
-      own = made_further m a.own b.own c.own first.own then.own;
+      own = made_further m (own_entries a) (own_entries b) (own_entries c) first.own then.own;
       later = omega arith;
     }
 
 -- one access of a carrier for a manager
-pub served_once : (m : Name) (a b : Link) (n : Name) → is_child m n ≡ true → b.setting ≡ a.setting → b.seat ≡ a.seat → b.others ≡ a.others → HasGrown a.others (λ x. x ≡ n) a.seen b.seen → HasMade m a.own b.own → a.troubles ≤ b.troubles → HasServed m a b
-served_once m a b n child setting seat others grown own later =
+pub served_once : (m : Name) (a b : View) (n : Name) → is_child m n ≡ true → b.setting ≡ a.setting → b.seat ≡ a.seat → b.others ≡ a.others → HasGrown a.others (λ x. x ≡ n) a.seen b.seen → HasMade m (own_entries a) (made_by a.seat b.seen) → a.troubles ≤ b.troubles → HasServed m a b
+served_once m a b n child setting seat others grown made later =
     record {
       setting = setting;
       seat = seat;
       others = others;
       grown = grown_wider a.others (λ x. x ≡ n) (λ x. IsTrue (is_child m x)) a.seen b.seen (λ x is. ap (is_child m) is ∙ child) grown;
-      own = own;
+      own = subst (λ s. HasMade m (own_entries a) (made_by s b.seen)) (sym seat) made;
       later = later;
     }

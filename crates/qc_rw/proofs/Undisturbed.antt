@@ -19,7 +19,7 @@ use Rattle.qc_event.specs.Standing.{IsOrphanOf}
 use Rattle.qc_event.proofs.LastNumber.{rest_of}
 use Rattle.qc_event.proofs.Lineage.{alive_above, alive_not_aborted}
 use Rattle.qc_event.proofs.Outcomes.{abort_or_alive}
-use Rattle.qc_gather.specs.Carrying.{Carriage, WasNotCarried}
+use Rattle.qc_gather.specs.Carrying.{Carriage, WasNotCarried, View}
 use Rattle.qc_gather.specs.declared.carrier.CarryNo.{CarryNo}
 use Rattle.qc_gather.specs.declared.carrier.CarryNo.TheVariants as carry
 use Rattle.qc_gather.specs.Told.{Told, why_in, missing_in, blocked_in, next_in, replied_in}
@@ -30,7 +30,7 @@ use Rattle.qc_rw.proofs.Causes.{stands_on_nothing, rose_sooner}
 use Rattle.qc_rw.proofs.Lists.{told_all, told_then}
 use Rattle.qc_rw.proofs.Quorums.{hold_quorums}
 use Rattle.qc_rw.proofs.Stages.{enough_by}
-use Rattle.qc_rw.specs.Going.{Link, HasServed}
+use Rattle.qc_rw.specs.Going.{HasServed}
 use Rattle.qc_rw.specs.declared.no.MgrNo.{MgrNo}
 
 -- NOTHING IS BLOCKED
@@ -103,7 +103,7 @@ undisturbed_since setting then past m k before later now same more u =
 
 -- WHAT IS TOLD SINCE A CARRIER BEGAN
 
-module _ (m : Name) (k : Kind) (a now : Link) (served : HasServed m a now) where
+module _ (m : Name) (k : Kind) (a now : View) (served : HasServed m a now) where
   -- where the next request is refused, the manager is
   pub refused_on : (past : Past) (why : MgrNo) → IsRefused now.setting now.seat past m k why → IsRefused a.setting a.seat past m k why
   refused_on past why refused =

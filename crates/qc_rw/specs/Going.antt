@@ -1,16 +1,15 @@
 -- How a manager goes on: what it hears, and what its accesses leave of the carrier.
-use Rattle.std.specs.Prelude.{ℕ, ◌≡◌, ◌≤◌, Bool, true, false, IsTrue, List, [], ◌∷◌, ◌++◌, All}
+use Rattle.std.specs.Prelude.{ℕ, ◌≡◌, ◌≤◌, true, false, IsTrue, List, [], ◌∷◌, ◌++◌, All}
 use Rattle.qc_config.specs.Config.{Voting}
 use Rattle.qc_config.specs.declared.tuple.Op.{Op}
 use Rattle.qc_event.specs.Base.{Setting}
-use Rattle.qc_event.specs.declared.event.Entry.{Entry}
 use Rattle.qc_event.specs.declared.event.Kind.{Kind}
 use Rattle.qc_event.specs.declared.event.Phase.{Phase}
 use Rattle.qc_event.specs.declared.event.Phase.TheVariants.{Collect}
 use Rattle.qc_event.specs.History.{Past, Name, is_child}
 use Rattle.qc_event.specs.Manager.{Stage, is_phase, phase_of, is_enough, newest, collecting, stages, at_last_number, record_of, first_for}
 use Rattle.qc_event.specs.Standing.{IsManager}
-use Rattle.qc_gather.specs.Carrying.{IsRunning, HasGrown, name_of}
+use Rattle.qc_gather.specs.Carrying.{View, own_entries, IsRunning, HasGrown, name_of}
 use Rattle.qc_gather.specs.Gathered.{Gathered, gathered}
 use Rattle.qc_gather.specs.Told.{Told}
 use Rattle.qc_rw.specs.Told.{told_in, EachTold}
@@ -40,27 +39,14 @@ pub record HasMade (m : Name) (before now : Past) : Type 0 where
   pub added : now ≡ made ++ before
   pub each : All (λ e. IsTrue (is_child m (name_of e.event))) made
 
--- a carrier at a moment
-pub record Link : Type 0 where
-  pub setting : Setting
-  pub seat : ℕ
-  pub own : Past
-  pub seen : Past
-  pub others : Entry → Bool
-  pub troubles : ℕ
-
-abbrev pub link : Setting → ℕ → Past → Past → (Entry → Bool) → ℕ → Link
-link setting seat own seen others troubles =
-    record { setting = setting; seat = seat; own = own; seen = seen; others = others; troubles = troubles }
-
 -- A carrier has carried for a manager: what it saw and made are entries of the manager's accesses, or such
 -- as others may make.
-pub record HasServed (m : Name) (before now : Link) : Type 0 where
+pub record HasServed (m : Name) (before now : View) : Type 0 where
   pub setting : now.setting ≡ before.setting
   pub seat : now.seat ≡ before.seat
   pub others : now.others ≡ before.others
   pub grown : HasGrown before.others (λ n. IsTrue (is_child m n)) before.seen now.seen
-  pub own : HasMade m before.own now.own
+  pub own : HasMade m (own_entries before) (own_entries now)
   pub later : before.troubles ≤ now.troubles
 
 -- STAGES

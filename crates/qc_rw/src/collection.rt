@@ -5,7 +5,7 @@ ghost use Rattle.qc_event.specs.declared.event.Kind.{Kind};
 ghost use Rattle.qc_gather.specs.Carrying.{became};
 ghost use Rattle.qc_gather.specs.Gathered.{gathered};
 ghost use Rattle.qc_gather.specs.Told.{Told};
-ghost use Rattle.qc_rw.specs.Going.{MayCollect, HasServed, HasCollected, link};
+ghost use Rattle.qc_rw.specs.Going.{MayCollect, HasServed, HasCollected};
 ghost use Rattle.qc_rw.specs.Managed.{IsRefused};
 ghost use Rattle.qc_rw.specs.Undisturbed.{IsUndisturbed, IsShortage};
 
@@ -40,19 +40,16 @@ pub fn collect<C: Carrier>(
     first: &Config,
 ) -> Result<Gather, MgrNo>
     ghost kind: { Kind }
-    requires { MayCollect (C.setting carrier.old) (C.seat carrier.old) (C.seen carrier.old)
-        manager.now kind rec first.now }
-    ensures served { HasServed manager.now (link (C.setting carrier.old) (C.seat carrier.old)
-        (C.own carrier.old) (C.seen carrier.old) (C.others carrier.old) (C.troubles carrier.old))
-        (link (C.setting carrier.new) (C.seat carrier.new) (C.own carrier.new) (C.seen carrier.new)
-        (C.others carrier.new) (C.troubles carrier.new)) }
-    ensures collected { IfOk result (HasCollected (C.seat carrier.old) (C.seen carrier.old)
-        (C.seen carrier.new) manager.now kind first.now) }
-    ensures refused { IfErr result (IsRefused (C.setting carrier.old) (C.seat carrier.old)
-        (C.seen carrier.new) manager.now kind) }
-    ensures complete { IfErr result (λ why. IsUndisturbed (C.setting carrier.old)
-        (C.seen carrier.new) manager.now kind (C.troubles carrier.old) (C.troubles carrier.new)
-        → IsShortage why) }
+    requires { MayCollect (C.view carrier.old).setting (C.view carrier.old).seat
+        (C.view carrier.old).seen manager.now kind rec first.now }
+    ensures served { HasServed manager.now (C.view carrier.old) (C.view carrier.new) }
+    ensures collected { IfOk result (HasCollected (C.view carrier.old).seat
+        (C.view carrier.old).seen (C.view carrier.new).seen manager.now kind first.now) }
+    ensures refused { IfErr result (IsRefused (C.view carrier.old).setting (C.view carrier.old).seat
+        (C.view carrier.new).seen manager.now kind) }
+    ensures complete { IfErr result (λ why. IsUndisturbed (C.view carrier.old).setting
+        (C.view carrier.new).seen manager.now kind (C.view carrier.old).troubles
+        (C.view carrier.new).troubles → IsShortage why) }
     ensures became { C.became carrier.old carrier.new }
 {
     let mut gather = Gather::new(first);

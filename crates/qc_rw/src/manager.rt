@@ -4,7 +4,7 @@ ghost use Rattle.qc_event.specs.declared.event.Answer.TheVariants as answer;
 ghost use Rattle.qc_event.specs.declared.event.Kind.TheVariants as kind;
 ghost use Rattle.qc_event.specs.History.{children, is_child};
 ghost use Rattle.qc_event.specs.Manager.{greatest};
-ghost use Rattle.qc_gather.specs.Carrying.{IsRunning, HasGrown};
+ghost use Rattle.qc_gather.specs.Carrying.{own_entries, IsRunning, HasGrown};
 ghost use Rattle.qc_rw.specs.Going.{HasMade};
 ghost use Rattle.qc_rw.specs.Managed.{IsAnswered, IsRefused};
 ghost use Rattle.qc_rw.specs.Undisturbed.{IsUndisturbed, IsShortage};
@@ -26,25 +26,27 @@ pub fn read<C: Carrier>(
     rec: u8,
     first: &Config,
 ) -> Result<Val, MgrNo>
-    requires manager { IsRunning (C.seat carrier.old) (C.seen carrier.old) manager.now
+    requires manager { IsRunning (C.view carrier.old).seat (C.view carrier.old).seen manager.now
         (kind.Read rec) }
-    requires no_child { children (C.seen carrier.old) manager.now ≡ [] }
-    requires first { first.now ≡ first_of (C.setting carrier.old) rec }
-    ensures setting { C.setting carrier.new ≡ C.setting carrier.old }
-    ensures seat { C.seat carrier.new ≡ C.seat carrier.old }
-    ensures others { C.others carrier.new ≡ C.others carrier.old }
-    ensures grown { HasGrown (C.others carrier.old) (λ n. IsTrue (is_child manager.now n))
-        (C.seen carrier.old) (C.seen carrier.new) }
-    ensures own { HasMade manager.now (C.own carrier.old) (C.own carrier.new) }
-    ensures answered { IfOk result (λ value. IsAnswered (C.setting carrier.old) (C.seat carrier.old)
-        (C.seen carrier.new) manager.now (kind.Read rec) (answer.Value value)) }
-    ensures refused { IfErr result (IsRefused (C.setting carrier.old) (C.seat carrier.old)
-        (C.seen carrier.new) manager.now (kind.Read rec)) }
-    ensures complete { IfErr result (λ why. IsUndisturbed (C.setting carrier.old)
-        (C.seen carrier.new) manager.now (kind.Read rec) (C.troubles carrier.old)
-        (C.troubles carrier.new) → IsShortage why) }
+    requires no_child { children (C.view carrier.old).seen manager.now ≡ [] }
+    requires first { first.now ≡ first_of (C.view carrier.old).setting rec }
+    ensures setting { (C.view carrier.new).setting ≡ (C.view carrier.old).setting }
+    ensures seat { (C.view carrier.new).seat ≡ (C.view carrier.old).seat }
+    ensures others { (C.view carrier.new).others ≡ (C.view carrier.old).others }
+    ensures grown { HasGrown (C.view carrier.old).others (λ n. IsTrue (is_child manager.now n))
+        (C.view carrier.old).seen (C.view carrier.new).seen }
+    ensures own { HasMade manager.now (own_entries (C.view carrier.old))
+        (own_entries (C.view carrier.new)) }
+    ensures answered { IfOk result (λ value. IsAnswered (C.view carrier.old).setting
+        (C.view carrier.old).seat (C.view carrier.new).seen manager.now (kind.Read rec)
+        (answer.Value value)) }
+    ensures refused { IfErr result (IsRefused (C.view carrier.old).setting (C.view carrier.old).seat
+        (C.view carrier.new).seen manager.now (kind.Read rec)) }
+    ensures complete { IfErr result (λ why. IsUndisturbed (C.view carrier.old).setting
+        (C.view carrier.new).seen manager.now (kind.Read rec) (C.view carrier.old).troubles
+        (C.view carrier.new).troubles → IsShortage why) }
     ensures became { C.became carrier.old carrier.new }
-    ensures later { C.troubles carrier.old ≤ C.troubles carrier.new }
+    ensures later { (C.view carrier.old).troubles ≤ (C.view carrier.new).troubles }
 {
     let gather = collect(carrier, manager, rec, first)?;
     let (_, value) = gather.greatest();
@@ -63,28 +65,29 @@ pub fn write<C: Carrier>(
     first: &Config,
     value: Val,
 ) -> Result<u64, MgrNo>
-    requires manager { IsRunning (C.seat carrier.old) (C.seen carrier.old) manager.now
+    requires manager { IsRunning (C.view carrier.old).seat (C.view carrier.old).seen manager.now
         (kind.Write rec value) }
-    requires no_child { children (C.seen carrier.old) manager.now ≡ [] }
-    requires first { first.now ≡ first_of (C.setting carrier.old) rec }
-    ensures setting { C.setting carrier.new ≡ C.setting carrier.old }
-    ensures seat { C.seat carrier.new ≡ C.seat carrier.old }
-    ensures others { C.others carrier.new ≡ C.others carrier.old }
-    ensures grown { HasGrown (C.others carrier.old) (λ n. IsTrue (is_child manager.now n))
-        (C.seen carrier.old) (C.seen carrier.new) }
-    ensures own { HasMade manager.now (C.own carrier.old) (C.own carrier.new) }
-    ensures answered { IfOk result (λ version. IsAnswered (C.setting carrier.old)
-        (C.seat carrier.old) (C.seen carrier.new) manager.now (kind.Write rec value)
+    requires no_child { children (C.view carrier.old).seen manager.now ≡ [] }
+    requires first { first.now ≡ first_of (C.view carrier.old).setting rec }
+    ensures setting { (C.view carrier.new).setting ≡ (C.view carrier.old).setting }
+    ensures seat { (C.view carrier.new).seat ≡ (C.view carrier.old).seat }
+    ensures others { (C.view carrier.new).others ≡ (C.view carrier.old).others }
+    ensures grown { HasGrown (C.view carrier.old).others (λ n. IsTrue (is_child manager.now n))
+        (C.view carrier.old).seen (C.view carrier.new).seen }
+    ensures own { HasMade manager.now (own_entries (C.view carrier.old))
+        (own_entries (C.view carrier.new)) }
+    ensures answered { IfOk result (λ version. IsAnswered (C.view carrier.old).setting
+        (C.view carrier.old).seat (C.view carrier.new).seen manager.now (kind.Write rec value)
         answer.Nothing) }
-    ensures version { IfOk result (λ version. version
-        ≡ (greatest (C.seen carrier.new) manager.now).version + 1) }
-    ensures refused { IfErr result (IsRefused (C.setting carrier.old) (C.seat carrier.old)
-        (C.seen carrier.new) manager.now (kind.Write rec value)) }
-    ensures complete { IfErr result (λ why. IsUndisturbed (C.setting carrier.old)
-        (C.seen carrier.new) manager.now (kind.Write rec value) (C.troubles carrier.old)
-        (C.troubles carrier.new) → IsShortage why) }
+    ensures version { IfOk result (λ version. version ≡ (greatest (C.view carrier.new).seen
+        manager.now).version + 1) }
+    ensures refused { IfErr result (IsRefused (C.view carrier.old).setting (C.view carrier.old).seat
+        (C.view carrier.new).seen manager.now (kind.Write rec value)) }
+    ensures complete { IfErr result (λ why. IsUndisturbed (C.view carrier.old).setting
+        (C.view carrier.new).seen manager.now (kind.Write rec value) (C.view carrier.old).troubles
+        (C.view carrier.new).troubles → IsShortage why) }
     ensures became { C.became carrier.old carrier.new }
-    ensures later { C.troubles carrier.old ≤ C.troubles carrier.new }
+    ensures later { (C.view carrier.old).troubles ≤ (C.view carrier.new).troubles }
 {
     let gather = collect(carrier, manager, rec, first)?;
     let (greatest, _) = gather.greatest();

@@ -6,7 +6,7 @@ ghost use Rattle.qc_event.specs.declared.event.Phase.{Phase};
 ghost use Rattle.qc_gather.specs.Carrying.{became};
 ghost use Rattle.qc_gather.specs.Gathered as gathered_words;
 ghost use Rattle.qc_gather.specs.Told.{Told};
-ghost use Rattle.qc_rw.specs.Going.{MayPut, HasServed, HasPut, putting, link};
+ghost use Rattle.qc_rw.specs.Going.{MayPut, HasServed, HasPut, putting};
 ghost use Rattle.qc_rw.specs.Managed.{IsRefused};
 ghost use Rattle.qc_rw.specs.Undisturbed.{IsUndisturbed, IsShortage};
 
@@ -43,19 +43,16 @@ pub fn put<C: Carrier>(
     op: &Op,
 ) -> Result<(), MgrNo>
     ghost kind: { Kind }
-    requires { MayPut (C.setting carrier.old) (C.seat carrier.old) (C.seen carrier.old) manager.now
-        kind rec (putting config.now phase op.now) }
-    ensures served { HasServed manager.now (link (C.setting carrier.old) (C.seat carrier.old)
-        (C.own carrier.old) (C.seen carrier.old) (C.others carrier.old) (C.troubles carrier.old))
-        (link (C.setting carrier.new) (C.seat carrier.new) (C.own carrier.new) (C.seen carrier.new)
-        (C.others carrier.new) (C.troubles carrier.new)) }
-    ensures put { OnOk result (HasPut (C.seat carrier.old) (C.seen carrier.old) (C.seen carrier.new)
-        manager.now kind (putting config.now phase op.now)) }
-    ensures refused { IfErr result (IsRefused (C.setting carrier.old) (C.seat carrier.old)
-        (C.seen carrier.new) manager.now kind) }
-    ensures complete { IfErr result (λ why. IsUndisturbed (C.setting carrier.old)
-        (C.seen carrier.new) manager.now kind (C.troubles carrier.old) (C.troubles carrier.new)
-        → IsShortage why) }
+    requires { MayPut (C.view carrier.old).setting (C.view carrier.old).seat
+        (C.view carrier.old).seen manager.now kind rec (putting config.now phase op.now) }
+    ensures served { HasServed manager.now (C.view carrier.old) (C.view carrier.new) }
+    ensures put { OnOk result (HasPut (C.view carrier.old).seat (C.view carrier.old).seen
+        (C.view carrier.new).seen manager.now kind (putting config.now phase op.now)) }
+    ensures refused { IfErr result (IsRefused (C.view carrier.old).setting (C.view carrier.old).seat
+        (C.view carrier.new).seen manager.now kind) }
+    ensures complete { IfErr result (λ why. IsUndisturbed (C.view carrier.old).setting
+        (C.view carrier.new).seen manager.now kind (C.view carrier.old).troubles
+        (C.view carrier.new).troubles → IsShortage why) }
     ensures became { C.became carrier.old carrier.new }
 {
     let mut puts = Puts::new(config, phase);

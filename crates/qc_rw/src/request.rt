@@ -1,10 +1,10 @@
 //! One request of a manager, carried to a copy and back.
-ghost use Rattle.std.specs.Prelude.{◌≡◌, IfOk, IfErr, [], ◌∷◌};
+ghost use Rattle.std.specs.Prelude.{IfOk, IfErr, [], ◌∷◌};
 ghost use Rattle.qc_event.specs.declared.event.Kind.{Kind};
 ghost use Rattle.qc_event.specs.Counts.{Rose};
 ghost use Rattle.qc_event.specs.Manager.{phase_of};
 ghost use Rattle.qc_gather.specs.Carrying.{MayCarry, became};
-ghost use Rattle.qc_rw.specs.Going.{MayGoOn, HasHeard, HasServed, link};
+ghost use Rattle.qc_rw.specs.Going.{MayGoOn, HasHeard, HasServed};
 ghost use Rattle.qc_rw.specs.Managed.{IsRefused};
 ghost use Rattle.qc_rw.specs.Undisturbed.{HasCause, IsUndisturbed, IsShortage};
 
@@ -23,24 +23,22 @@ pub(crate) fn request<C: Carrier>(
     op: Op,
 ) -> Result<Carried, MgrNo>
     ghost kind: { Kind }
-    requires goes_on { MayGoOn (C.seat carrier.old) (C.seen carrier.old) manager.now kind }
-    requires may_ask { MayCarry (C.setting carrier.old) (C.seat carrier.old) (C.seen carrier.old)
-        manager.now copy rec op }
-    ensures served { HasServed manager.now (link (C.setting carrier.old) (C.seat carrier.old)
-        (C.own carrier.old) (C.seen carrier.old) (C.others carrier.old) (C.troubles carrier.old))
-        (link (C.setting carrier.new) (C.seat carrier.new) (C.own carrier.new) (C.seen carrier.new)
-        (C.others carrier.new) (C.troubles carrier.new)) }
-    ensures heard { IfOk result (λ c. HasHeard (C.seat carrier.old) (C.seen carrier.old)
-        (C.seen carrier.new) manager.now kind (phase_of op)
+    requires goes_on { MayGoOn (C.view carrier.old).seat (C.view carrier.old).seen manager.now
+        kind }
+    requires may_ask { MayCarry (C.view carrier.old).setting (C.view carrier.old).seat
+        (C.view carrier.old).seen manager.now copy rec op }
+    ensures served { HasServed manager.now (C.view carrier.old) (C.view carrier.new) }
+    ensures heard { IfOk result (λ c. HasHeard (C.view carrier.old).seat (C.view carrier.old).seen
+        (C.view carrier.new).seen manager.now kind (phase_of op)
         (record { copy = copy; result = became c } ∷ [])) }
-    ensures cause { IfOk result (λ c. HasCause (C.seen carrier.new) manager.now
-        (Rose (C.troubles carrier.old) (C.troubles carrier.new))
+    ensures cause { IfOk result (λ c. HasCause (C.view carrier.new).seen manager.now
+        (Rose (C.view carrier.old).troubles (C.view carrier.new).troubles)
         (record { copy = copy; result = became c })) }
-    ensures refused { IfErr result (IsRefused (C.setting carrier.old) (C.seat carrier.old)
-        (C.seen carrier.new) manager.now kind) }
-    ensures complete { IfErr result (λ why. IsUndisturbed (C.setting carrier.old)
-        (C.seen carrier.new) manager.now kind (C.troubles carrier.old) (C.troubles carrier.new)
-        → IsShortage why) }
+    ensures refused { IfErr result (IsRefused (C.view carrier.old).setting (C.view carrier.old).seat
+        (C.view carrier.new).seen manager.now kind) }
+    ensures complete { IfErr result (λ why. IsUndisturbed (C.view carrier.old).setting
+        (C.view carrier.new).seen manager.now kind (C.view carrier.old).troubles
+        (C.view carrier.new).troubles → IsShortage why) }
     ensures became { C.became carrier.old carrier.new }
 {
     Ok(carrier.carry(manager, copy, rec, op)?)

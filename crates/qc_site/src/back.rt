@@ -125,12 +125,13 @@ pub fn read_back<D: Disk>(
     requires { copies ≤ 16 }
 
     // Where the disk tells its bytes, the answer is the one that they give.
-    ensures says { IfSome (D.content (disk_of journal.old))
+    ensures says { IfSome (D.view (disk_of journal.old)).content
         (IsAnswer copies old given.now hand.now result) }
     ensures up { OnOk result (IsUp journal.new) }
     ensures hand { result ≡ Ok true → hand.now ≡ None → ⊥ }
     ensures limit { limit_of journal.new ≡ limit_of journal.old }
-    ensures content { D.content (disk_of journal.new) ≡ D.content (disk_of journal.old) }
+    ensures content { (D.view (disk_of journal.new)).content
+        ≡ (D.view (disk_of journal.old)).content }
 
     // Each image goes on to have the records that were found: those that were kept, and maybe what was in hand.
     ensures keeps { IfOk result (λ stands. (bodies : List (List ℕ)) → Keeps journal.old bodies
@@ -139,7 +140,7 @@ pub fn read_back<D: Disk>(
     ensures kept { OnErr result ((bodies : List (List ℕ)) → Keeps journal.old bodies
         → IsLeft journal.old journal.new bodies) }
 
-    ensures any_moment { Leaves journal.old journal.new (D.may_leave (disk_of journal.old)) }
+    ensures any_moment { Leaves journal.old journal.new (D.view (disk_of journal.old)).may_leave }
     ensures falls { Falls journal.old journal.new }
     ensures cause { Costs journal.old journal.new (IsErrOf result BackNo.Disk) }
 {

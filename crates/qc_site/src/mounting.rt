@@ -102,8 +102,8 @@ pub fn mount<D: Disk>(
     requires proper { (body.table 1).fits table.now }
 
     // Records were found, which are this copy's for this table, in order behind this past.
-    ensures mounts { IfOk result (λ mounted. Mounts copy table.now past.now limit (D.content disk)
-        (records_of mounted)) }
+    ensures mounts { IfOk result (λ mounted. Mounts copy table.now past.now limit
+        (D.view disk).content (records_of mounted)) }
     ensures limit { IfOk result (λ mounted. limit_of (journal_of mounted) ≡ limit) }
     ensures up { IfOk result (λ mounted. IsUp (journal_of mounted)) }
 
@@ -113,19 +113,19 @@ pub fn mount<D: Disk>(
         (readings (grant_form table.now) (records_of mounted))) }
 
     // Where the disk tells its bytes, each image has these records from now on.
-    ensures keeps { IfOk result (λ mounted. IsSome (D.content disk)
+    ensures keeps { IfOk result (λ mounted. IsSome (D.view disk).content
         → Keeps (journal_of mounted) (records_of mounted)) }
 
     // It is refused for the image's first fault, where the disk tells its bytes.
     ensures refused { IfErr result (λ refused. IsRefusal copy table.now past.now limit
-        (D.content disk) refused.1) }
+        (D.view disk).content refused.1) }
 
-    ensures any_moment { IsSome (D.content disk)
-        → LeavesOnly D.moment D.left_at disk (disk_after result)
-        (MountLeaves (to_write copy table.now) (D.may_leave disk) (D.content disk)) }
-    ensures grows { IsSome (D.content disk) → (index : ℕ) (had : List ℕ)
-        → Grows D.moment D.left_at disk (disk_after result) (HasAt index had) }
-    ensures cause { HasCause (D.faults disk) (D.faults (disk_after result))
+    ensures any_moment { IsSome (D.view disk).content
+        → LeavesOnly D.view disk (disk_after result)
+        (MountLeaves (to_write copy table.now) (D.view disk).may_leave (D.view disk).content) }
+    ensures grows { IsSome (D.view disk).content → (index : ℕ) (had : List ℕ)
+        → Grows D.view disk (disk_after result) (HasAt index had) }
+    ensures cause { HasCause (D.view disk).faults (D.view (disk_after result)).faults
         (IsErrAnd result (λ refused. refused.1 ≡ SiteNo.Disk)) }
 {
     let (mut journal, mut bodies) = match Journal::mount(alloc, disk, limit) {

@@ -240,12 +240,15 @@ impl Store {
 }
 
 impl Port for Store {
+    ghost use Rattle.std.specs.Prelude.{None};
     ghost use Rattle.qc_store.specs.Served.{MayServe, HasAnswered, HasServed};
     ghost use Rattle.qc_store.specs.Laws.{served_itself, served_by_both};
 
-    ghost may = { λ store ask. MayServe store.past ask };
-
-    ghost gave = { λ store ask answer. HasAnswered store.past ask answer };
+    ghost view = { λ store. record {
+      may = λ ask. MayServe store.past ask;
+      gave = λ ask answer. HasAnswered store.past ask answer;
+      made = None;
+    } };
 
     ghost became = { HasServed };
 

@@ -52,9 +52,10 @@ impl Shop for MemShop {
     ghost use Rattle.qc_disk.specs.MemDisk.{mem_bytes};
     ghost use Rattle.qc_disk.specs.MemShop.{shop_bytes, shop_disks, shop_fails, shop_faults, Gives};
 
-    ghost offers = { λ shop place which. Some (shop_bytes shop which) };
-
-    ghost faults = { shop_faults };
+    ghost view = { λ shop. record {
+      offers = λ place which. Some (shop_bytes shop which);
+      faults = shop_faults shop;
+    } };
 
     fn obtain(&mut self, alloc: Global, place: &str, which: u8) -> Result<MemDisk, DiskNo>
         ensures given { IfOk result (λ disk. Tells (Some (shop_bytes self.old which))

@@ -3,4 +3,4 @@ use Rattle.std.proofs.Common.{◌≡◌, ◌+◌, ◌*◌}
 use Rattle.qc_bench.proofs.measure.bare_time.Given as goal
 
 abbrev pub invariant-loop-turn : goal.invariant-loop-turn
-invariant-loop-turn g l = g.D.Disk.size l.disk ≡ 1 + 37 * l.turn
+invariant-loop-turn g l = (g.D.Disk.view l.disk).size ≡ 1 + 37 * l.turn

@@ -7,8 +7,8 @@ use Rattle.qc_io.proofs.whole.take_all.Given as goal
 abbrev pub invariant-loop-bytes : goal.invariant-loop-bytes
 invariant-loop-bytes g l = record {
   within : length l.bytes.items ≤ l.limit + 1;
-  bytes : Gave (g.S.Source.left l.fn.source) (g.S.Source.left l.source) l.bytes.items;
-  later : g.S.Source.faults l.fn.source ≤ g.S.Source.faults l.source;
+  bytes : Gave (g.S.Source.view l.fn.source).left (g.S.Source.view l.source).left l.bytes.items;
+  later : (g.S.Source.view l.fn.source).faults ≤ (g.S.Source.view l.source).faults;
 }
 
 abbrev pub decreases-loop-bytes : goal.decreases-loop-bytes

@@ -7,8 +7,8 @@ use Rattle.qc_io.proofs.whole.write_all.Given as goal
 abbrev pub invariant-loop-done : goal.invariant-loop-done
 invariant-loop-done g l = record {
   within : l.done ≤ length l.bytes;
-  taken : Appends (g.K.Sink.taken l.fn.sink) (g.K.Sink.taken l.sink) (take l.done l.bytes);
-  later : g.K.Sink.faults l.fn.sink ≤ g.K.Sink.faults l.sink;
+  taken : Appends (g.K.Sink.view l.fn.sink).taken (g.K.Sink.view l.sink).taken (take l.done l.bytes);
+  later : (g.K.Sink.view l.fn.sink).faults ≤ (g.K.Sink.view l.sink).faults;
   none : l.bytes ≡ [] → l.sink ≡ l.fn.sink;
 }
 

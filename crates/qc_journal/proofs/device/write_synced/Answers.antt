@@ -9,15 +9,15 @@ use Rattle.qc_journal.proofs.device.write_synced.Goals as goal
 
 pub returns-in_err-write_at-clause-any_moment : goal.returns-in_err-write_at-clause-any_moment
 returns-in_err-write_at-clause-any_moment g c =
-    let P = Touched (Torn c.args.at (length c.args.bytes.now)) (g.D.Disk.may_leave c.args.disk.now) in
-    let at_start = started g.D.Disk.moment g.D.Disk.left_at c.args.disk.now P (λ d left. (d, (g.met.D.Disk.leaves_now c.args.disk.now d).0 left, torn_same _ _ d)) in
-    goes_on g.D.Disk.moment g.D.Disk.left_at c.args.disk.now c.args.disk.now c.write_at.new.self P _ _ at_start c.write_at.ensures.time (λ d now. (d, now, torn_same _ _ d)) (λ d now. c.write_at.ensures.crash d now)
+    let P = Touched (Torn c.args.at (length c.args.bytes.now)) (g.D.Disk.view c.args.disk.now).may_leave in
+    let at_start = started g.D.Disk.view c.args.disk.now P (λ d left. (d, (g.met.D.Disk.leaves_now c.args.disk.now d).0 left, torn_same _ _ d)) in
+    goes_on g.D.Disk.view c.args.disk.now c.args.disk.now c.write_at.new.self P at_start c.write_at.ensures.time (λ d now. (d, now, torn_same _ _ d)) (λ d now. c.write_at.ensures.crash d now)
 
 pub returns-in_err-write_at-clause-once : goal.returns-in_err-write_at-clause-once
 returns-in_err-write_at-clause-once g c =
     let new = c.write_at.new.self in
-    once_on g.D.Disk.moment g.D.Disk.left_at c.args.disk.now new new _ _ (g.D.Disk.left_at new (g.D.Disk.moment new)) (g.met.D.Disk.leaves_now c.args.disk.now) c.write_at.ensures.time
-    (started g.D.Disk.moment g.D.Disk.left_at new _ (λ d left. left)) (falls_none g.D.Disk.moment g.D.Disk.left_at new)
+    once_on g.D.Disk.view c.args.disk.now new new ((g.D.Disk.view new).left_at (g.D.Disk.view new).moment) (g.met.D.Disk.leaves_now c.args.disk.now) c.write_at.ensures.time
+    (started g.D.Disk.view new _ (λ d left. left)) (falls_none g.D.Disk.view new)
 
 steps_written : (at : ℕ) (bytes : List ℕ) (told now : Option (List ℕ)) → now ≡ option_map (written at bytes) told → Steps (Torn at (length bytes)) told now
 steps_written at bytes None now is = is
@@ -28,17 +28,17 @@ returns-clause-torn g c = steps_written c.args.at c.args.bytes.now _ _ (c.sync.e
 
 pub returns-clause-any_moment : goal.returns-clause-any_moment
 returns-clause-any_moment g c =
-    let P = Touched (Torn c.args.at (length c.args.bytes.now)) (g.D.Disk.may_leave c.args.disk.now) in
-    let at_start = started g.D.Disk.moment g.D.Disk.left_at c.args.disk.now P (λ d left. (d, (g.met.D.Disk.leaves_now c.args.disk.now d).0 left, torn_same _ _ d)) in
-    let wrote = goes_on g.D.Disk.moment g.D.Disk.left_at c.args.disk.now c.args.disk.now c.write_at.new.self P _ _ at_start c.write_at.ensures.time (λ d now. (d, now, torn_same _ _ d)) (λ d now. c.write_at.ensures.crash d now) in
-    goes_on g.D.Disk.moment g.D.Disk.left_at c.args.disk.now c.write_at.new.self c.sync.new.self P _ _ wrote c.sync.ensures.time (λ d now. c.write_at.ensures.crash d now) (λ d now. c.write_at.ensures.crash d (c.sync.ensures.crash d now))
+    let P = Touched (Torn c.args.at (length c.args.bytes.now)) (g.D.Disk.view c.args.disk.now).may_leave in
+    let at_start = started g.D.Disk.view c.args.disk.now P (λ d left. (d, (g.met.D.Disk.leaves_now c.args.disk.now d).0 left, torn_same _ _ d)) in
+    let wrote = goes_on g.D.Disk.view c.args.disk.now c.args.disk.now c.write_at.new.self P at_start c.write_at.ensures.time (λ d now. (d, now, torn_same _ _ d)) (λ d now. c.write_at.ensures.crash d now) in
+    goes_on g.D.Disk.view c.args.disk.now c.write_at.new.self c.sync.new.self P wrote c.sync.ensures.time (λ d now. c.write_at.ensures.crash d now) (λ d now. c.write_at.ensures.crash d (c.sync.ensures.crash d now))
 
 pub returns-clause-once : goal.returns-clause-once
 returns-clause-once g c =
     let mid = c.write_at.new.self in
     let new = c.sync.new.self in
-    let Q = g.D.Disk.may_leave mid in
-    let at_mid = started g.D.Disk.moment g.D.Disk.left_at mid Q (λ d left. (g.met.D.Disk.leaves_now mid d).0 left) in
-    let run = goes_on g.D.Disk.moment g.D.Disk.left_at mid mid new Q _ _ at_mid c.sync.ensures.time (λ d now. now) (λ d now. c.sync.ensures.crash d now) in
-    once_on g.D.Disk.moment g.D.Disk.left_at c.args.disk.now mid new _ _ Q (g.met.D.Disk.leaves_now c.args.disk.now) c.write_at.ensures.time run
-    (falls_by_call g.D.Disk.moment g.D.Disk.left_at mid new _ _ (g.met.D.Disk.leaves_now mid) c.sync.ensures.time c.sync.ensures.crash)
+    let Q = (g.D.Disk.view mid).may_leave in
+    let at_mid = started g.D.Disk.view mid Q (λ d left. (g.met.D.Disk.leaves_now mid d).0 left) in
+    let run = goes_on g.D.Disk.view mid mid new Q at_mid c.sync.ensures.time (λ d now. now) (λ d now. c.sync.ensures.crash d now) in
+    once_on g.D.Disk.view c.args.disk.now mid new Q (g.met.D.Disk.leaves_now c.args.disk.now) c.write_at.ensures.time run
+    (falls_by_call g.D.Disk.view mid new (g.met.D.Disk.leaves_now mid) c.sync.ensures.time c.sync.ensures.crash)

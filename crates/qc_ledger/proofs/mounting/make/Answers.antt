@@ -19,5 +19,5 @@ pub returns-clause-any_moment : goal.returns-clause-any_moment
 returns-clause-any_moment g c = λ k.
     let disk = disk_of c.args.journal.now in
     let bodies = bodies_of c.args.bodies.now.items in
-    started g.D.Disk.moment g.D.Disk.left_at disk (HasSome bodies (made_where_none c.args.made.items bodies))
+    started g.D.Disk.view disk (HasSome bodies (made_where_none c.args.made.items bodies))
     (λ image left. some_of_none bodies (made_where_none c.args.made.items bodies) image (kept_has c.args.journal.now bodies image c.requires.up k ((g.met.D.Disk.leaves_now disk image).0 left)))

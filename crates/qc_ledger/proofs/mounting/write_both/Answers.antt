@@ -46,7 +46,7 @@ returns-clause-any_moment g c = λ k.
     let next = c.args.epoch.items ∷ [] in
     let mid = c.make.new.journal in
     let one = c.in_ok-make.ensures in
-    continues g.D.Disk.moment g.D.Disk.left_at (disk_of c.args.journal.now) (disk_of mid) (disk_of c.write.new.journal) (HasSome bodies made) (HasSome (bodies_of c.make.new.bodies.items) next) (HasSome bodies (made ++ next))
+    continues g.D.Disk.view (disk_of c.args.journal.now) (disk_of mid) (disk_of c.write.new.journal) (HasSome bodies made) (HasSome (bodies_of c.make.new.bodies.items) next) (HasSome bodies (made ++ next))
     (one.any_moment k) (c.write.ensures.any_moment (one.keeps k))
     (some_front bodies made next)
     (λ image has. some_back bodies made next image (subst (λ (b : List (List ℕ)). HasSome b next image) one.bodies has))
@@ -56,5 +56,5 @@ returns-clause-grows g c = λ k index had.
     let mid = c.make.new.journal in
     let one = c.in_ok-make.ensures in
     let now = one.keeps k in
-    grows_on g.D.Disk.moment g.D.Disk.left_at (disk_of c.args.journal.now) (disk_of mid) (disk_of c.write.new.journal) (HasAt index had) _ (one.any_moment k).later
+    grows_on g.D.Disk.view (disk_of c.args.journal.now) (disk_of mid) (disk_of c.write.new.journal) (HasAt index had) _ (one.any_moment k).later
     (one.grows k index had) (c.write.ensures.any_moment now) (c.write.ensures.grows now index had)

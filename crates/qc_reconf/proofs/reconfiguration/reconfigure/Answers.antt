@@ -8,7 +8,7 @@ use Rattle.qc_event.specs.declared.event.Kind.TheVariants as kind
 use Rattle.qc_event.specs.declared.event.Phase.TheVariants.{Collect, Configs}
 use Rattle.qc_event.specs.Manager.{newest, replied}
 use Rattle.qc_rw.specs.Told.{told_in}
-use Rattle.qc_rw.specs.Going.{MayCollect, link}
+use Rattle.qc_rw.specs.Going.{MayCollect}
 use Rattle.qc_rw.proofs.Answered.{may_collect}
 use Rattle.qc_rw.proofs.Onwards.{kind_is, has_gathered, may_put, complete_there}
 use Rattle.qc_rw.proofs.Served.{served_further}
@@ -22,8 +22,8 @@ collect-requires g c κs within =
     let before = c.args.carrier.now in
     let m = c.args.manager.now in
     let reconf = kind.Reconf c.args.rec c.args.new.now in
-    let may = may_collect (carrier.setting before) (carrier.seat before) (carrier.seen before) m reconf c.args.rec c.args.first.now (g.met.C.Carrier.is_legal before) tt c.requires.manager c.requires.no_child refl c.requires.first in
-    (within, subst (λ k. MayCollect (carrier.setting before) (carrier.seat before) (carrier.seen before) m k c.args.rec c.args.first.now) (sym (kind_is (carrier.seat before) (carrier.seen before) m reconf c.requires.manager)) may)
+    let may = may_collect (carrier.view before).setting (carrier.view before).seat (carrier.view before).seen m reconf c.args.rec c.args.first.now (g.met.C.Carrier.is_legal before) tt c.requires.manager c.requires.no_child refl c.requires.first in
+    (within, subst (λ k. MayCollect (carrier.view before).setting (carrier.view before).seat (carrier.view before).seen m k c.args.rec c.args.first.now) (sym (kind_is (carrier.view before).seat (carrier.view before).seen m reconf c.requires.manager)) may)
 
 pub returns-then-generation-clause-refused : goal.returns-then-generation-clause-refused
 returns-then-generation-clause-refused g c =
@@ -31,10 +31,10 @@ returns-then-generation-clause-refused g c =
     let before = c.args.carrier.now in
     let m = c.args.manager.now in
     let now = c.collect.new.carrier in
-    let a = link (carrier.setting before) (carrier.seat before) (carrier.own before) (carrier.seen before) (carrier.others before) (carrier.troubles before) in
-    let l = link (carrier.setting now) (carrier.seat now) (carrier.own now) (carrier.seen now) (carrier.others now) (carrier.troubles now) in
-    let first = first_of (carrier.setting before) c.args.rec in
-    let told = told_in (carrier.seen now) m Collect in
+    let a = carrier.view before in
+    let l = carrier.view now in
+    let first = first_of (carrier.view before).setting c.args.rec in
+    let told = told_in (carrier.view now).seen m Collect in
     let h = has_gathered a l m (kind.Reconf c.args.rec c.args.new.now) c.args.first.now c.in_ok-gather.gather (g.met.C.Carrier.is_legal before) tt c.requires.manager c.requires.no_child c.requires.first c.collect.ensures.served c.in_ok-gather.ensures.collected in
     at_last_generation a l m c.args.rec c.args.new.now c.in_ok-gather.gather h c.newest-generation.result.0 (c.newest-generation.ensures.generation first told h.collected.kept) c.if-generation.true
 
@@ -47,10 +47,10 @@ put-requires g c κs within =
     let before = c.args.carrier.now in
     let m = c.args.manager.now in
     let now = c.collect.new.carrier in
-    let a = link (carrier.setting before) (carrier.seat before) (carrier.own before) (carrier.seen before) (carrier.others before) (carrier.troubles before) in
-    let l = link (carrier.setting now) (carrier.seat now) (carrier.own now) (carrier.seen now) (carrier.others now) (carrier.troubles now) in
-    let first = first_of (carrier.setting before) c.args.rec in
-    let told = told_in (carrier.seen now) m Collect in
+    let a = carrier.view before in
+    let l = carrier.view now in
+    let first = first_of (carrier.view before).setting c.args.rec in
+    let told = told_in (carrier.view now).seen m Collect in
     let h = has_gathered a l m (kind.Reconf c.args.rec c.args.new.now) c.args.first.now c.in_ok-gather.gather (g.met.C.Carrier.is_legal before) tt c.requires.manager c.requires.no_child c.requires.first c.collect.ensures.served c.in_ok-gather.ensures.collected in
     (within, may_put a l m (kind.Reconf c.args.rec c.args.new.now) _ _ _ (comes_to_move a l m c.args.rec c.args.new.now c.in_ok-gather.gather h c.newest-generation.result.0 c.newest-generation.result.1 c.greatest-version.result.0 c.greatest-version.result.1 (c.newest-generation.ensures.generation first told h.collected.kept) (c.newest-generation.ensures.config first told h.collected.kept) (c.greatest-version.ensures.version first told h.collected.kept) (c.greatest-version.ensures.value first told h.collected.kept) c.if-generation.false))
 
@@ -60,13 +60,13 @@ put-requires-2 g c κs within =
     let before = c.args.carrier.now in
     let m = c.args.manager.now in
     let now = c.collect.new.carrier in
-    let a = link (carrier.setting before) (carrier.seat before) (carrier.own before) (carrier.seen before) (carrier.others before) (carrier.troubles before) in
-    let l = link (carrier.setting now) (carrier.seat now) (carrier.own now) (carrier.seen now) (carrier.others now) (carrier.troubles now) in
-    let first = first_of (carrier.setting before) c.args.rec in
-    let told = told_in (carrier.seen now) m Collect in
+    let a = carrier.view before in
+    let l = carrier.view now in
+    let first = first_of (carrier.view before).setting c.args.rec in
+    let told = told_in (carrier.view now).seen m Collect in
     let h = has_gathered a l m (kind.Reconf c.args.rec c.args.new.now) c.args.first.now c.in_ok-gather.gather (g.met.C.Carrier.is_legal before) tt c.requires.manager c.requires.no_child c.requires.first c.collect.ensures.served c.in_ok-gather.ensures.collected in
     let mid = c.put.new.carrier in
-    let l2 = link (carrier.setting mid) (carrier.seat mid) (carrier.own mid) (carrier.seen mid) (carrier.others mid) (carrier.troubles mid) in
+    let l2 = carrier.view mid in
     (within, may_put a l2 m (kind.Reconf c.args.rec c.args.new.now) _ _ _ (comes_to_teach a l m c.args.rec c.args.new.now c.in_ok-gather.gather h c.newest-generation.result.0 c.newest-generation.result.1 c.greatest-version.result.0 c.greatest-version.result.1 (c.newest-generation.ensures.generation first told h.collected.kept) (c.newest-generation.ensures.config first told h.collected.kept) (c.greatest-version.ensures.version first told h.collected.kept) (c.greatest-version.ensures.value first told h.collected.kept) c.if-generation.false l2 c.put.ensures.served c.in_ok-put.ensures.put))
 
 pub returns-in_err-put-clause-complete : goal.returns-in_err-put-clause-complete
@@ -75,13 +75,13 @@ returns-in_err-put-clause-complete g c =
     let before = c.args.carrier.now in
     let m = c.args.manager.now in
     let now = c.collect.new.carrier in
-    let a = link (carrier.setting before) (carrier.seat before) (carrier.own before) (carrier.seen before) (carrier.others before) (carrier.troubles before) in
-    let l = link (carrier.setting now) (carrier.seat now) (carrier.own now) (carrier.seen now) (carrier.others now) (carrier.troubles now) in
-    let first = first_of (carrier.setting before) c.args.rec in
-    let told = told_in (carrier.seen now) m Collect in
+    let a = carrier.view before in
+    let l = carrier.view now in
+    let first = first_of (carrier.view before).setting c.args.rec in
+    let told = told_in (carrier.view now).seen m Collect in
     let h = has_gathered a l m (kind.Reconf c.args.rec c.args.new.now) c.args.first.now c.in_ok-gather.gather (g.met.C.Carrier.is_legal before) tt c.requires.manager c.requires.no_child c.requires.first c.collect.ensures.served c.in_ok-gather.ensures.collected in
     let p = err_from_is_err_and c.from_residual-in_err-put.result c.from_residual-in_err-put.ensures.1 in
-    rw (p.1, p.2) (complete_there a l m (kind.Reconf c.args.rec c.args.new.now) _ _ _ (comes_to_move a l m c.args.rec c.args.new.now c.in_ok-gather.gather h c.newest-generation.result.0 c.newest-generation.result.1 c.greatest-version.result.0 c.greatest-version.result.1 (c.newest-generation.ensures.generation first told h.collected.kept) (c.newest-generation.ensures.config first told h.collected.kept) (c.greatest-version.ensures.version first told h.collected.kept) (c.greatest-version.ensures.value first told h.collected.kept) c.if-generation.false) (carrier.seen c.put.new.carrier) (carrier.troubles c.put.new.carrier) c.in_err-put.field-0.0 c.in_err-put.ensures.complete)
+    rw (p.1, p.2) (complete_there a l m (kind.Reconf c.args.rec c.args.new.now) _ _ _ (comes_to_move a l m c.args.rec c.args.new.now c.in_ok-gather.gather h c.newest-generation.result.0 c.newest-generation.result.1 c.greatest-version.result.0 c.greatest-version.result.1 (c.newest-generation.ensures.generation first told h.collected.kept) (c.newest-generation.ensures.config first told h.collected.kept) (c.greatest-version.ensures.version first told h.collected.kept) (c.greatest-version.ensures.value first told h.collected.kept) c.if-generation.false) (carrier.view c.put.new.carrier).seen (carrier.view c.put.new.carrier).troubles c.in_err-put.field-0.0 c.in_err-put.ensures.complete)
 
 pub returns-in_err-put-2-clause-complete : goal.returns-in_err-put-2-clause-complete
 returns-in_err-put-2-clause-complete g c =
@@ -89,15 +89,15 @@ returns-in_err-put-2-clause-complete g c =
     let before = c.args.carrier.now in
     let m = c.args.manager.now in
     let now = c.collect.new.carrier in
-    let a = link (carrier.setting before) (carrier.seat before) (carrier.own before) (carrier.seen before) (carrier.others before) (carrier.troubles before) in
-    let l = link (carrier.setting now) (carrier.seat now) (carrier.own now) (carrier.seen now) (carrier.others now) (carrier.troubles now) in
-    let first = first_of (carrier.setting before) c.args.rec in
-    let told = told_in (carrier.seen now) m Collect in
+    let a = carrier.view before in
+    let l = carrier.view now in
+    let first = first_of (carrier.view before).setting c.args.rec in
+    let told = told_in (carrier.view now).seen m Collect in
     let h = has_gathered a l m (kind.Reconf c.args.rec c.args.new.now) c.args.first.now c.in_ok-gather.gather (g.met.C.Carrier.is_legal before) tt c.requires.manager c.requires.no_child c.requires.first c.collect.ensures.served c.in_ok-gather.ensures.collected in
     let mid = c.put.new.carrier in
-    let l2 = link (carrier.setting mid) (carrier.seat mid) (carrier.own mid) (carrier.seen mid) (carrier.others mid) (carrier.troubles mid) in
+    let l2 = carrier.view mid in
     let p = err_from_is_err_and c.from_residual-in_err-put-2.result c.from_residual-in_err-put-2.ensures.1 in
-    rw (p.1, p.2) (complete_there a l2 m (kind.Reconf c.args.rec c.args.new.now) _ _ _ (comes_to_teach a l m c.args.rec c.args.new.now c.in_ok-gather.gather h c.newest-generation.result.0 c.newest-generation.result.1 c.greatest-version.result.0 c.greatest-version.result.1 (c.newest-generation.ensures.generation first told h.collected.kept) (c.newest-generation.ensures.config first told h.collected.kept) (c.greatest-version.ensures.version first told h.collected.kept) (c.greatest-version.ensures.value first told h.collected.kept) c.if-generation.false l2 c.put.ensures.served c.in_ok-put.ensures.put) (carrier.seen c.put-2.new.carrier) (carrier.troubles c.put-2.new.carrier) c.in_err-put-2.field-0.0 c.in_err-put-2.ensures.complete)
+    rw (p.1, p.2) (complete_there a l2 m (kind.Reconf c.args.rec c.args.new.now) _ _ _ (comes_to_teach a l m c.args.rec c.args.new.now c.in_ok-gather.gather h c.newest-generation.result.0 c.newest-generation.result.1 c.greatest-version.result.0 c.greatest-version.result.1 (c.newest-generation.ensures.generation first told h.collected.kept) (c.newest-generation.ensures.config first told h.collected.kept) (c.greatest-version.ensures.version first told h.collected.kept) (c.greatest-version.ensures.value first told h.collected.kept) c.if-generation.false l2 c.put.ensures.served c.in_ok-put.ensures.put) (carrier.view c.put-2.new.carrier).seen (carrier.view c.put-2.new.carrier).troubles c.in_err-put-2.field-0.0 c.in_err-put-2.ensures.complete)
 
 pub returns-in_err-put-clause-grown : goal.returns-in_err-put-clause-grown
 returns-in_err-put-clause-grown g c = (served_further c.args.manager.now _ _ _ c.collect.ensures.served c.put.ensures.served).grown
@@ -123,15 +123,15 @@ returns-clause-answered g c =
     let before = c.args.carrier.now in
     let m = c.args.manager.now in
     let now = c.collect.new.carrier in
-    let a = link (carrier.setting before) (carrier.seat before) (carrier.own before) (carrier.seen before) (carrier.others before) (carrier.troubles before) in
-    let l = link (carrier.setting now) (carrier.seat now) (carrier.own now) (carrier.seen now) (carrier.others now) (carrier.troubles now) in
-    let first = first_of (carrier.setting before) c.args.rec in
-    let told = told_in (carrier.seen now) m Collect in
+    let a = carrier.view before in
+    let l = carrier.view now in
+    let first = first_of (carrier.view before).setting c.args.rec in
+    let told = told_in (carrier.view now).seen m Collect in
     let h = has_gathered a l m (kind.Reconf c.args.rec c.args.new.now) c.args.first.now c.in_ok-gather.gather (g.met.C.Carrier.is_legal before) tt c.requires.manager c.requires.no_child c.requires.first c.collect.ensures.served c.in_ok-gather.ensures.collected in
     let mid = c.put.new.carrier in
-    let l2 = link (carrier.setting mid) (carrier.seat mid) (carrier.own mid) (carrier.seen mid) (carrier.others mid) (carrier.troubles mid) in
+    let l2 = carrier.view mid in
     let after = c.put-2.new.carrier in
-    let l3 = link (carrier.setting after) (carrier.seat after) (carrier.own after) (carrier.seen after) (carrier.others after) (carrier.troubles after) in
+    let l3 = carrier.view after in
     has_reconfigured a l m c.args.rec c.args.new.now c.in_ok-gather.gather h c.newest-generation.result.0 c.newest-generation.result.1 c.greatest-version.result.0 c.greatest-version.result.1 (c.newest-generation.ensures.generation first told h.collected.kept) (c.newest-generation.ensures.config first told h.collected.kept) (c.greatest-version.ensures.version first told h.collected.kept) (c.greatest-version.ensures.value first told h.collected.kept) c.if-generation.false l2 c.put.ensures.served c.in_ok-put.ensures.put l3 c.in_ok-put-2.ensures.put
 
 pub returns-clause-value_moved : goal.returns-clause-value_moved
@@ -140,15 +140,15 @@ returns-clause-value_moved g c =
     let before = c.args.carrier.now in
     let m = c.args.manager.now in
     let now = c.collect.new.carrier in
-    let a = link (carrier.setting before) (carrier.seat before) (carrier.own before) (carrier.seen before) (carrier.others before) (carrier.troubles before) in
-    let l = link (carrier.setting now) (carrier.seat now) (carrier.own now) (carrier.seen now) (carrier.others now) (carrier.troubles now) in
-    let first = first_of (carrier.setting before) c.args.rec in
-    let told = told_in (carrier.seen now) m Collect in
+    let a = carrier.view before in
+    let l = carrier.view now in
+    let first = first_of (carrier.view before).setting c.args.rec in
+    let told = told_in (carrier.view now).seen m Collect in
     let h = has_gathered a l m (kind.Reconf c.args.rec c.args.new.now) c.args.first.now c.in_ok-gather.gather (g.met.C.Carrier.is_legal before) tt c.requires.manager c.requires.no_child c.requires.first c.collect.ensures.served c.in_ok-gather.ensures.collected in
     let mid = c.put.new.carrier in
-    let l2 = link (carrier.setting mid) (carrier.seat mid) (carrier.own mid) (carrier.seen mid) (carrier.others mid) (carrier.troubles mid) in
+    let l2 = carrier.view mid in
     let after = c.put-2.new.carrier in
-    let l3 = link (carrier.setting after) (carrier.seat after) (carrier.own after) (carrier.seen after) (carrier.others after) (carrier.troubles after) in
+    let l3 = carrier.view after in
     has_moved a l m c.args.rec c.args.new.now c.in_ok-gather.gather h c.newest-generation.result.0 c.newest-generation.result.1 c.greatest-version.result.0 c.greatest-version.result.1 (c.newest-generation.ensures.generation first told h.collected.kept) (c.newest-generation.ensures.config first told h.collected.kept) (c.greatest-version.ensures.version first told h.collected.kept) (c.greatest-version.ensures.value first told h.collected.kept) c.if-generation.false l2 c.put.ensures.served c.in_ok-put.ensures.put l3 c.in_ok-put-2.ensures.put
 
 pub returns-clause-generation : goal.returns-clause-generation
@@ -157,16 +157,16 @@ returns-clause-generation g c =
     let before = c.args.carrier.now in
     let m = c.args.manager.now in
     let now = c.collect.new.carrier in
-    let a = link (carrier.setting before) (carrier.seat before) (carrier.own before) (carrier.seen before) (carrier.others before) (carrier.troubles before) in
-    let l = link (carrier.setting now) (carrier.seat now) (carrier.own now) (carrier.seen now) (carrier.others now) (carrier.troubles now) in
-    let first = first_of (carrier.setting before) c.args.rec in
-    let told = told_in (carrier.seen now) m Collect in
+    let a = carrier.view before in
+    let l = carrier.view now in
+    let first = first_of (carrier.view before).setting c.args.rec in
+    let told = told_in (carrier.view now).seen m Collect in
     let h = has_gathered a l m (kind.Reconf c.args.rec c.args.new.now) c.args.first.now c.in_ok-gather.gather (g.met.C.Carrier.is_legal before) tt c.requires.manager c.requires.no_child c.requires.first c.collect.ensures.served c.in_ok-gather.ensures.collected in
     let mid = c.put.new.carrier in
-    let l2 = link (carrier.setting mid) (carrier.seat mid) (carrier.own mid) (carrier.seen mid) (carrier.others mid) (carrier.troubles mid) in
+    let l2 = carrier.view mid in
     let after = c.put-2.new.carrier in
-    let l3 = link (carrier.setting after) (carrier.seat after) (carrier.own after) (carrier.seen after) (carrier.others after) (carrier.troubles after) in
-    subst (λ f. c.newest-generation.result.0 + 1 ≡ (newest (carrier.seen after) f m).generation + 1) (sym c.requires.first)
+    let l3 = carrier.view after in
+    subst (λ f. c.newest-generation.result.0 + 1 ≡ (newest (carrier.view after).seen f m).generation + 1) (sym c.requires.first)
     (is_next a l m c.args.rec c.args.new.now c.in_ok-gather.gather h c.newest-generation.result.0 c.newest-generation.result.1 c.greatest-version.result.0 c.greatest-version.result.1 (c.newest-generation.ensures.generation first told h.collected.kept) (c.newest-generation.ensures.config first told h.collected.kept) (c.greatest-version.ensures.version first told h.collected.kept) (c.greatest-version.ensures.value first told h.collected.kept) c.if-generation.false l2 c.put.ensures.served c.in_ok-put.ensures.put l3 c.in_ok-put-2.ensures.put)
 
 pub returns-clause-config_moved : goal.returns-clause-config_moved
@@ -175,14 +175,14 @@ returns-clause-config_moved g c =
     let before = c.args.carrier.now in
     let m = c.args.manager.now in
     let now = c.collect.new.carrier in
-    let a = link (carrier.setting before) (carrier.seat before) (carrier.own before) (carrier.seen before) (carrier.others before) (carrier.troubles before) in
-    let l = link (carrier.setting now) (carrier.seat now) (carrier.own now) (carrier.seen now) (carrier.others now) (carrier.troubles now) in
-    let first = first_of (carrier.setting before) c.args.rec in
-    let told = told_in (carrier.seen now) m Collect in
+    let a = carrier.view before in
+    let l = carrier.view now in
+    let first = first_of (carrier.view before).setting c.args.rec in
+    let told = told_in (carrier.view now).seen m Collect in
     let h = has_gathered a l m (kind.Reconf c.args.rec c.args.new.now) c.args.first.now c.in_ok-gather.gather (g.met.C.Carrier.is_legal before) tt c.requires.manager c.requires.no_child c.requires.first c.collect.ensures.served c.in_ok-gather.ensures.collected in
     let mid = c.put.new.carrier in
-    let l2 = link (carrier.setting mid) (carrier.seat mid) (carrier.own mid) (carrier.seen mid) (carrier.others mid) (carrier.troubles mid) in
+    let l2 = carrier.view mid in
     let after = c.put-2.new.carrier in
-    let l3 = link (carrier.setting after) (carrier.seat after) (carrier.own after) (carrier.seen after) (carrier.others after) (carrier.troubles after) in
-    subst (λ f. IsTrue (holds_write (newest (carrier.seen after) f m).config (replied (carrier.seen after) m Configs))) (sym c.requires.first)
+    let l3 = carrier.view after in
+    subst (λ f. IsTrue (holds_write (newest (carrier.view after).seen f m).config (replied (carrier.view after).seen m Configs))) (sym c.requires.first)
     (has_taught a l m c.args.rec c.args.new.now c.in_ok-gather.gather h c.newest-generation.result.0 c.newest-generation.result.1 c.greatest-version.result.0 c.greatest-version.result.1 (c.newest-generation.ensures.generation first told h.collected.kept) (c.newest-generation.ensures.config first told h.collected.kept) (c.greatest-version.ensures.version first told h.collected.kept) (c.greatest-version.ensures.value first told h.collected.kept) c.if-generation.false l2 c.put.ensures.served c.in_ok-put.ensures.put l3 c.in_ok-put-2.ensures.put)

@@ -30,8 +30,8 @@ returns-clause-done g c = λ done.
       | in-Ok w ↦
           let back = gave_back s start trail c.args.client c.run.new.self c.requires.client c.run.ensures.client parts.base parts.entries parts.legal in
           let text = page_is_report s start trail c.run.new.self back in
-          subst (λ k. Appends (g.K.Sink.taken c.args.sink.now) (g.K.Sink.taken k) (terms.report_of s start trail)) (sym w.sink-is)
-          (subst (λ t. Appends (g.K.Sink.taken c.args.sink.now) (g.K.Sink.taken w.conclude-status.new.sink) t) text (w.conclude-status.ensures.done (sym w.status-is ∙ done)))
+          subst (λ k. Appends (g.K.Sink.view c.args.sink.now).taken (g.K.Sink.view k).taken (terms.report_of s start trail)) (sym w.sink-is)
+          (subst (λ t. Appends (g.K.Sink.view c.args.sink.now).taken (g.K.Sink.view w.conclude-status.new.sink).taken t) text (w.conclude-status.ensures.done (sym w.status-is ∙ done)))
       | in-Err w ↦ absurd (halted_not_ended w.in-Err.short w.halt-status.result w.halt-status.ensures.answer (subst terms.RanToEnd (sym done ∙ w.status-is) tt))
     ]
 
@@ -45,7 +45,7 @@ returns-clause-front g c = λ failed.
       | in-Ok w ↦
           let back = gave_back s start trail c.args.client c.run.new.self c.requires.client c.run.ensures.client parts.base parts.entries parts.legal in
           let text = page_is_report s start trail c.run.new.self back in
-          subst (λ k. AppendsFront (g.K.Sink.taken c.args.sink.now) (g.K.Sink.taken k) (terms.report_of s start trail)) (sym w.sink-is)
-          (subst (λ t. AppendsFront (g.K.Sink.taken c.args.sink.now) (g.K.Sink.taken w.conclude-status.new.sink) t) text (w.conclude-status.ensures.front (sym w.status-is ∙ failed)))
+          subst (λ k. AppendsFront (g.K.Sink.view c.args.sink.now).taken (g.K.Sink.view k).taken (terms.report_of s start trail)) (sym w.sink-is)
+          (subst (λ t. AppendsFront (g.K.Sink.view c.args.sink.now).taken (g.K.Sink.view w.conclude-status.new.sink).taken t) text (w.conclude-status.ensures.front (sym w.status-is ∙ failed)))
       | in-Err w ↦ absurd (halted_not_ended w.in-Err.short w.halt-status.result w.halt-status.ensures.answer (subst terms.RanToEnd (sym failed ∙ w.status-is) tt))
     ]

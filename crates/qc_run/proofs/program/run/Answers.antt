@@ -27,7 +27,7 @@ returns-clause-last_values g c =
 
 pub returns-clause-no_script : goal.returns-clause-no_script
 returns-clause-no_script g c = λ command.
-    none_was_run (g.S.Source.left c.args.source.now) (g.S.Source.left c.answer.new.source) c.answer.result.status
+    none_was_run (g.S.Source.view c.args.source.now).left (g.S.Source.view c.answer.new.source).left c.answer.result.status
     (λ is. true≢false (sym command ∙ c.answer.ensures.usage is))
     (λ it. let run = c.answer.ensures.started it in (run.0, run.1))
 

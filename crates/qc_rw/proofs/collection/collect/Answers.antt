@@ -15,22 +15,22 @@ pub returns-in-Enough-clause-served : goal.returns-in-Enough-clause-served
 returns-in-Enough-clause-served g c = c.loop-gather.invariant.met.served
 
 pub returns-in-Enough-clause-collected : goal.returns-in-Enough-clause-collected
-returns-in-Enough-clause-collected g c = collected _ _ _ _ _ _ c.loop-gather.invariant.met (c.in-Enough.ensures.next c.args.first.now (told_in (g.C.Carrier.seen c.loop-gather.carrier) c.args.manager.now Collect) c.loop-gather.invariant.met.kept_is)
+returns-in-Enough-clause-collected g c = collected _ _ _ _ _ _ c.loop-gather.invariant.met (c.in-Enough.ensures.next c.args.first.now (told_in (g.C.Carrier.view c.loop-gather.carrier).seen c.args.manager.now Collect) c.loop-gather.invariant.met.kept_is)
 
 pub returns-in-Short-clause-served : goal.returns-in-Short-clause-served
 returns-in-Short-clause-served g c = c.loop-gather.invariant.met.served
 
 pub returns-in-Short-clause-refused : goal.returns-in-Short-clause-refused
 returns-in-Short-clause-refused g c =
-    let told = told_in (g.C.Carrier.seen c.loop-gather.carrier) c.args.manager.now Collect in
+    let told = told_in (g.C.Carrier.view c.loop-gather.carrier).seen c.args.manager.now Collect in
     is_short _ _ _ _ _ _ c.loop-gather.invariant.met c.args.rec c.requires.1 c.lack.result c.from.result c.from.ensures (c.lack.ensures c.args.first.now told c.loop-gather.invariant.met.kept_is) (c.in-Short.ensures.next c.args.first.now told c.loop-gather.invariant.met.kept_is)
 
 pub returns-in-Short-clause-complete : goal.returns-in-Short-clause-complete
-returns-in-Short-clause-complete g c = λ u. absurd (short_disturbed _ _ _ _ _ _ c.loop-gather.invariant.met c.args.rec c.requires.1 (c.in-Short.ensures.within refl) (c.in-Short.ensures.next c.args.first.now (told_in (g.C.Carrier.seen c.loop-gather.carrier) c.args.manager.now Collect) c.loop-gather.invariant.met.kept_is) u)
+returns-in-Short-clause-complete g c = λ u. absurd (short_disturbed _ _ _ _ _ _ c.loop-gather.invariant.met c.args.rec c.requires.1 (c.in-Short.ensures.within refl) (c.in-Short.ensures.next c.args.first.now (told_in (g.C.Carrier.view c.loop-gather.carrier).seen c.args.manager.now Collect) c.loop-gather.invariant.met.kept_is) u)
 
 pub request-requires : goal.request-requires
 request-requires g c κs within =
-    (within, (may_go_on _ _ _ _ _ _ c.loop-gather.invariant.met, asks_next _ _ _ _ _ _ c.loop-gather.invariant.met c.args.rec c.requires.1 c.in-Copy.copy (c.in-Copy.ensures.next c.args.first.now (told_in (g.C.Carrier.seen c.loop-gather.carrier) c.args.manager.now Collect) c.loop-gather.invariant.met.kept_is)))
+    (within, (may_go_on _ _ _ _ _ _ c.loop-gather.invariant.met, asks_next _ _ _ _ _ _ c.loop-gather.invariant.met c.args.rec c.requires.1 c.in-Copy.copy (c.in-Copy.ensures.next c.args.first.now (told_in (g.C.Carrier.view c.loop-gather.carrier).seen c.args.manager.now Collect) c.loop-gather.invariant.met.kept_is)))
 
 pub returns-in_err-carried-in-Copy-clause-served : goal.returns-in_err-carried-in-Copy-clause-served
 returns-in_err-carried-in-Copy-clause-served g c = served_further c.args.manager.now _ _ _ c.loop-gather.invariant.met.served c.request.ensures.served
@@ -38,25 +38,25 @@ returns-in_err-carried-in-Copy-clause-served g c = served_further c.args.manager
 pub returns-in_err-carried-in-Copy-clause-refused : goal.returns-in_err-carried-in-Copy-clause-refused
 returns-in_err-carried-in-Copy-clause-refused g c =
     let p = err_from_is_err_and c.from_residual.result c.from_residual.ensures.1 in
-    rw (p.1, p.2) (refused_on _ _ _ _ c.loop-gather.invariant.met.served (g.C.Carrier.seen c.request.new.carrier) c.in_err-carried-in-Copy.field-0.0 c.in_err-carried-in-Copy.ensures.refused)
+    rw (p.1, p.2) (refused_on _ _ _ _ c.loop-gather.invariant.met.served (g.C.Carrier.view c.request.new.carrier).seen c.in_err-carried-in-Copy.field-0.0 c.in_err-carried-in-Copy.ensures.refused)
 
 pub returns-in_err-carried-in-Copy-clause-complete : goal.returns-in_err-carried-in-Copy-clause-complete
 returns-in_err-carried-in-Copy-clause-complete g c =
     let p = err_from_is_err_and c.from_residual.result c.from_residual.ensures.1 in
-    rw (p.1, p.2) (complete_on _ _ _ _ c.loop-gather.invariant.met.served (g.C.Carrier.seen c.request.new.carrier) (g.C.Carrier.troubles c.request.new.carrier) c.in_err-carried-in-Copy.field-0.0 c.in_err-carried-in-Copy.ensures.complete)
+    rw (p.1, p.2) (complete_on _ _ _ _ c.loop-gather.invariant.met.served (g.C.Carrier.view c.request.new.carrier).seen (g.C.Carrier.view c.request.new.carrier).troubles c.in_err-carried-in-Copy.field-0.0 c.in_err-carried-in-Copy.ensures.complete)
 
 pub returns-in_err-carried-in-Copy-clause-became : goal.returns-in_err-carried-in-Copy-clause-became
 returns-in_err-carried-in-Copy-clause-became g c = g.met.C.Carrier.became_by_both _ _ _ c.loop-gather.invariant.became c.request.ensures.became
 
 pub hear-requires : goal.hear-requires
-hear-requires g c = copy_within _ _ _ _ _ _ c.loop-gather.invariant.met c.in-Copy.copy (c.in-Copy.ensures.next c.args.first.now (told_in (g.C.Carrier.seen c.loop-gather.carrier) c.args.manager.now Collect) c.loop-gather.invariant.met.kept_is)
+hear-requires g c = copy_within _ _ _ _ _ _ c.loop-gather.invariant.met c.in-Copy.copy (c.in-Copy.ensures.next c.args.first.now (told_in (g.C.Carrier.view c.loop-gather.carrier).seen c.args.manager.now Collect) c.loop-gather.invariant.met.kept_is)
 
 pub loop-gather-smaller : goal.loop-gather-smaller
-loop-gather-smaller g c = fewer_left _ _ _ _ _ _ c.loop-gather.invariant.met _ _ c.request.ensures.served c.in_ok-carried-in-Copy.ensures.heard c.in-Copy.copy (c.in-Copy.ensures.next c.args.first.now (told_in (g.C.Carrier.seen c.loop-gather.carrier) c.args.manager.now Collect) c.loop-gather.invariant.met.kept_is) refl
+loop-gather-smaller g c = fewer_left _ _ _ _ _ _ c.loop-gather.invariant.met _ _ c.request.ensures.served c.in_ok-carried-in-Copy.ensures.heard c.in-Copy.copy (c.in-Copy.ensures.next c.args.first.now (told_in (g.C.Carrier.view c.loop-gather.carrier).seen c.args.manager.now Collect) c.loop-gather.invariant.met.kept_is) refl
 
 pub loop-gather-preserved : goal.loop-gather-preserved
 loop-gather-preserved g c =
     record {
-      met = collects_on _ _ _ _ _ _ c.loop-gather.invariant.met _ _ c.request.ensures.served c.in_ok-carried-in-Copy.ensures.heard c.in_ok-carried-in-Copy.ensures.cause c.hear.new.gather (c.hear.ensures c.args.first.now (told_in (g.C.Carrier.seen c.loop-gather.carrier) c.args.manager.now Collect) c.loop-gather.invariant.met.kept_is);
+      met = collects_on _ _ _ _ _ _ c.loop-gather.invariant.met _ _ c.request.ensures.served c.in_ok-carried-in-Copy.ensures.heard c.in_ok-carried-in-Copy.ensures.cause c.hear.new.gather (c.hear.ensures c.args.first.now (told_in (g.C.Carrier.view c.loop-gather.carrier).seen c.args.manager.now Collect) c.loop-gather.invariant.met.kept_is);
       became = g.met.C.Carrier.became_by_both _ _ _ c.loop-gather.invariant.became c.request.ensures.became;
     }

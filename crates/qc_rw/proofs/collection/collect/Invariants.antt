@@ -1,7 +1,6 @@
 -- While a manager collects it may go on, and what it was told is gathered.
 use Rattle.qc_event.specs.declared.event.Phase.TheVariants.{Collect}
 use Rattle.qc_rw.specs.Told.{told_in}
-use Rattle.qc_rw.specs.Going.{link}
 use Rattle.qc_rw.proofs.Collecting.{IsCollecting}
 use Rattle.qc_rw.proofs.Unasked.{unasked}
 use Rattle.qc_rw.proofs.collection.collect.Given as goal
@@ -14,11 +13,11 @@ invariant-loop-gather g l =
     record {
       met :
           IsCollecting
-          (link (g.C.Carrier.setting l.fn.carrier) (g.C.Carrier.seat l.fn.carrier) (g.C.Carrier.own l.fn.carrier) (g.C.Carrier.seen l.fn.carrier) (g.C.Carrier.others l.fn.carrier) (g.C.Carrier.troubles l.fn.carrier))
-          (link (g.C.Carrier.setting l.carrier) (g.C.Carrier.seat l.carrier) (g.C.Carrier.own l.carrier) (g.C.Carrier.seen l.carrier) (g.C.Carrier.others l.carrier) (g.C.Carrier.troubles l.carrier))
+          (g.C.Carrier.view l.fn.carrier)
+          (g.C.Carrier.view l.carrier)
           l.manager g.kind l.first l.gather;
       became : g.C.Carrier.became l.fn.carrier l.carrier;
     }
 
 abbrev pub decreases-loop-gather : goal.decreases-loop-gather
-decreases-loop-gather g l = unasked (told_in (g.C.Carrier.seen l.carrier) l.manager Collect)
+decreases-loop-gather g l = unasked (told_in (g.C.Carrier.view l.carrier).seen l.manager Collect)

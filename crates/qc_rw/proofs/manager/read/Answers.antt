@@ -11,7 +11,7 @@ use Rattle.qc_rw.proofs.manager.read.Goals as goal
 pub collect-requires : goal.collect-requires
 collect-requires g c κs within =
     let before = c.args.carrier.now in
-    (within, may_collect (g.C.Carrier.setting before) (g.C.Carrier.seat before) (g.C.Carrier.seen before) c.args.manager.now (kind.Read c.args.rec) c.args.rec c.args.first.now (g.met.C.Carrier.is_legal before) tt c.requires.manager c.requires.no_child refl c.requires.first)
+    (within, may_collect (g.C.Carrier.view before).setting (g.C.Carrier.view before).seat (g.C.Carrier.view before).seen c.args.manager.now (kind.Read c.args.rec) c.args.rec c.args.first.now (g.met.C.Carrier.is_legal before) tt c.requires.manager c.requires.no_child refl c.requires.first)
 
 pub returns-clause-answered : goal.returns-clause-answered
 returns-clause-answered g c =
@@ -19,5 +19,5 @@ returns-clause-answered g c =
     let before = c.args.carrier.now in
     let now = c.collect.new.carrier in
     let read = kind.Read c.args.rec in
-    let collected = collected_by (carrier.seat before) (carrier.seen before) (carrier.seen now) c.args.manager.now read c.args.first.now (first_of (carrier.setting before) c.args.rec) c.in_ok-gather.gather c.requires.first c.in_ok-gather.ensures.collected in
-    read_answered (carrier.setting before) (carrier.seat before) (carrier.seen before) (carrier.seen now) c.args.manager.now c.args.rec c.in_ok-gather.gather c.greatest-value.result.1 collected (c.greatest-value.ensures.value (first_of (carrier.setting before) c.args.rec) (told_in (carrier.seen now) c.args.manager.now Collect) collected.kept)
+    let collected = collected_by (carrier.view before).seat (carrier.view before).seen (carrier.view now).seen c.args.manager.now read c.args.first.now (first_of (carrier.view before).setting c.args.rec) c.in_ok-gather.gather c.requires.first c.in_ok-gather.ensures.collected in
+    read_answered (carrier.view before).setting (carrier.view before).seat (carrier.view before).seen (carrier.view now).seen c.args.manager.now c.args.rec c.in_ok-gather.gather c.greatest-value.result.1 collected (c.greatest-value.ensures.value (first_of (carrier.view before).setting c.args.rec) (told_in (carrier.view now).seen c.args.manager.now Collect) collected.kept)

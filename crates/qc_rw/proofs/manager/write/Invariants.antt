@@ -3,7 +3,7 @@ use Rattle.qc_rw.proofs.Answered.{kind_at}
 use Rattle.qc_rw.proofs.manager.write.Given as goal
 
 abbrev pub ghost-collect : goal.ghost-collect
-ghost-collect g a = kind_at (g.C.Carrier.seen a.carrier.now) a.manager.now
+ghost-collect g a = kind_at (g.C.Carrier.view a.carrier.now).seen a.manager.now
 
 abbrev pub ghost-put : goal.ghost-put
-ghost-put g a = kind_at (g.C.Carrier.seen a.carrier.now) a.manager.now
+ghost-put g a = kind_at (g.C.Carrier.view a.carrier.now).seen a.manager.now

@@ -20,7 +20,7 @@ returns-in-Ok-clause-kept g c = on_err c.said.result (λ bodies k. left_found c.
 
 pub returns-in-Err-clause-says : goal.returns-in-Err-clause-says
 returns-in-Err-clause-says g c =
-    let told = g.D.Disk.content (disk_of c.args.journal.now) in
+    let told = (g.D.Disk.view (disk_of c.args.journal.now)).content in
     subst (λ (e : BackNo). IfSome told (IsAnswer c.args.copies c.args.old c.args.given.now c.args.hand.now (Err e))) (sym c.back_no.ensures)
     (fault_told c.args.copies c.args.old c.args.given.now c.args.hand.now told c.in-Err.fault c.in-Err.ensures.fault (λ place is. c.in-Err.ensures.broken place (ap Err is)))
 

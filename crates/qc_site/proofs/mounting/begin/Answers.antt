@@ -31,7 +31,7 @@ returns-in_err-made-clause-any_moment g c = λ k.
     let disk = disk_of c.args.journal.now in
     let bodies = bodies_of c.args.bodies.now.items in
     let more = to_write c.args.copy c.args.table.now bodies in
-    started g.D.Disk.moment g.D.Disk.left_at disk (HasSome bodies more)
+    started g.D.Disk.view disk (HasSome bodies more)
     (λ image left. some_of_none bodies more image (kept_has c.args.journal.now bodies image c.requires.up k ((g.met.D.Disk.leaves_now disk image).0 left)))
 
 pub returns-in_err-grants-clause-any_moment : goal.returns-in_err-grants-clause-any_moment
@@ -39,7 +39,7 @@ returns-in_err-grants-clause-any_moment g c = λ k.
     let disk = disk_of c.args.journal.now in
     let bodies = bodies_of c.args.bodies.now.items in
     let more = to_write c.args.copy c.args.table.now bodies in
-    started g.D.Disk.moment g.D.Disk.left_at disk (HasSome bodies more)
+    started g.D.Disk.view disk (HasSome bodies more)
     (λ image left. some_of_none bodies more image (kept_has c.args.journal.now bodies image c.requires.up k ((g.met.D.Disk.leaves_now disk image).0 left)))
 
 pub returns-in_err-start-clause-any_moment : goal.returns-in_err-start-clause-any_moment
@@ -47,5 +47,5 @@ returns-in_err-start-clause-any_moment g c = λ k.
     let disk = disk_of c.args.journal.now in
     let bodies = bodies_of c.args.bodies.now.items in
     let more = to_write c.args.copy c.args.table.now bodies in
-    started g.D.Disk.moment g.D.Disk.left_at disk (HasSome bodies more)
+    started g.D.Disk.view disk (HasSome bodies more)
     (λ image left. some_of_none bodies more image (kept_has c.args.journal.now bodies image c.requires.up k ((g.met.D.Disk.leaves_now disk image).0 left)))

@@ -19,17 +19,17 @@ use Rattle.qc_site.proofs.mounting.mount.Goals as goal
 
 pub returns-in-Err-clause-refused : goal.returns-in-Err-clause-refused
 returns-in-Err-clause-refused g c =
-    let told = g.D.Disk.content c.args.disk in
+    let told = (g.D.Disk.view c.args.disk).content in
     subst (IsRefusal c.args.copy c.args.table.now c.args.past.now c.args.limit told) (sym c.mount_no.ensures)
     (mount_refusal c.args.copy c.args.table.now c.args.past.now c.args.limit told c.in-Err.fault c.in-Err.ensures.fault c.in-Err.ensures.broken)
 
 pub returns-in-Ok-begin-clause-any_moment : goal.returns-in-Ok-begin-clause-any_moment
 returns-in-Ok-begin-clause-any_moment g c = λ some.
-    let told = g.D.Disk.content c.args.disk in
-    let left = g.D.Disk.may_leave c.args.disk in
+    let told = (g.D.Disk.view c.args.disk).content in
+    let left = (g.D.Disk.view c.args.disk).may_leave in
     let mid = disk_of c.in-Ok.mounted.0 in
     let bodies = bodies_of c.in-Ok.mounted.1.items in
-    (continues g.D.Disk.moment g.D.Disk.left_at c.args.disk mid (disk_of c.begin.new.journal) _ (HasSome bodies (to_write c.args.copy c.args.table.now bodies)) (MountLeaves (to_write c.args.copy c.args.table.now) left told)
+    (continues g.D.Disk.view c.args.disk mid (disk_of c.begin.new.journal) _ (HasSome bodies (to_write c.args.copy c.args.table.now bodies)) (MountLeaves (to_write c.args.copy c.args.table.now) left told)
     c.in-Ok.ensures.any_moment (c.begin.ensures.any_moment (c.in-Ok.ensures.keeps some))
     (leaves_first (to_write c.args.copy c.args.table.now) left told (g.met.D.Disk.reads_as_image c.args.disk))
     (leaves_then (to_write c.args.copy c.args.table.now) left told bodies c.in-Ok.ensures.records))
@@ -38,17 +38,17 @@ pub returns-in-Ok-begin-clause-grows : goal.returns-in-Ok-begin-clause-grows
 returns-in-Ok-begin-clause-grows g c = λ some index had.
     let mid = disk_of c.in-Ok.mounted.0 in
     let k = c.in-Ok.ensures.keeps some in
-    (grows_on g.D.Disk.moment g.D.Disk.left_at c.args.disk mid (disk_of c.begin.new.journal) (HasAt index had) _ c.in-Ok.ensures.any_moment.later
+    (grows_on g.D.Disk.view c.args.disk mid (disk_of c.begin.new.journal) (HasAt index had) _ c.in-Ok.ensures.any_moment.later
     (c.in-Ok.ensures.grows some index had) (c.begin.ensures.any_moment k) (c.begin.ensures.grows k index had))
 
 pub returns-in-Err-begin-clause-any_moment : goal.returns-in-Err-begin-clause-any_moment
 returns-in-Err-begin-clause-any_moment g c = λ some.
-    let told = g.D.Disk.content c.args.disk in
-    let left = g.D.Disk.may_leave c.args.disk in
+    let told = (g.D.Disk.view c.args.disk).content in
+    let left = (g.D.Disk.view c.args.disk).may_leave in
     let mid = disk_of c.in-Ok.mounted.0 in
     let bodies = bodies_of c.in-Ok.mounted.1.items in
-    subst (λ d. LeavesOnly g.D.Disk.moment g.D.Disk.left_at c.args.disk d (MountLeaves (to_write c.args.copy c.args.table.now) left told)) (sym c.into_disk.ensures)
-    (continues g.D.Disk.moment g.D.Disk.left_at c.args.disk mid (disk_of c.begin.new.journal) _ (HasSome bodies (to_write c.args.copy c.args.table.now bodies)) (MountLeaves (to_write c.args.copy c.args.table.now) left told)
+    subst (λ d. LeavesOnly g.D.Disk.view c.args.disk d (MountLeaves (to_write c.args.copy c.args.table.now) left told)) (sym c.into_disk.ensures)
+    (continues g.D.Disk.view c.args.disk mid (disk_of c.begin.new.journal) _ (HasSome bodies (to_write c.args.copy c.args.table.now bodies)) (MountLeaves (to_write c.args.copy c.args.table.now) left told)
     c.in-Ok.ensures.any_moment (c.begin.ensures.any_moment (c.in-Ok.ensures.keeps some))
     (leaves_first (to_write c.args.copy c.args.table.now) left told (g.met.D.Disk.reads_as_image c.args.disk))
     (leaves_then (to_write c.args.copy c.args.table.now) left told bodies c.in-Ok.ensures.records))
@@ -57,14 +57,14 @@ pub returns-in-Err-begin-clause-grows : goal.returns-in-Err-begin-clause-grows
 returns-in-Err-begin-clause-grows g c = λ some index had.
     let mid = disk_of c.in-Ok.mounted.0 in
     let k = c.in-Ok.ensures.keeps some in
-    subst (λ d. Grows g.D.Disk.moment g.D.Disk.left_at c.args.disk d (HasAt index had)) (sym c.into_disk.ensures)
-    (grows_on g.D.Disk.moment g.D.Disk.left_at c.args.disk mid (disk_of c.begin.new.journal) (HasAt index had) _ c.in-Ok.ensures.any_moment.later
+    subst (λ d. Grows g.D.Disk.view c.args.disk d (HasAt index had)) (sym c.into_disk.ensures)
+    (grows_on g.D.Disk.view c.args.disk mid (disk_of c.begin.new.journal) (HasAt index had) _ c.in-Ok.ensures.any_moment.later
     (c.in-Ok.ensures.grows some index had) (c.begin.ensures.any_moment k) (c.begin.ensures.grows k index had))
 
 pub returns-in-Err-begin-clause-refused : goal.returns-in-Err-begin-clause-refused
 returns-in-Err-begin-clause-refused g c =
     let bodies = bodies_of c.in-Ok.mounted.1.items in
-    begin_refusal c.args.copy c.args.table.now c.args.past.now c.args.limit (Keeps c.in-Ok.mounted.0 bodies) (g.D.Disk.content c.args.disk) (limit_of c.in-Ok.mounted.0) bodies c.in-Ok.ensures.limit c.in-Ok.ensures.records c.in-Ok.ensures.keeps
+    begin_refusal c.args.copy c.args.table.now c.args.past.now c.args.limit (Keeps c.in-Ok.mounted.0 bodies) (g.D.Disk.view c.args.disk).content (limit_of c.in-Ok.mounted.0) bodies c.in-Ok.ensures.limit c.in-Ok.ensures.records c.in-Ok.ensures.keeps
     c.in-Err-begin.no c.in-Err-begin.ensures.refused
 
 few : (copy copies : ℕ) → copy < copies → copies ≤ 16 → copy < 16
@@ -86,7 +86,7 @@ returns-in-Ok-begin-clause-mounts g c =
     record {
       found = found;
       granted = one.granted;
-      fine = fine_told (AreMountable c.args.copy c.args.table.now c.args.past.now c.args.limit found) (g.D.Disk.content c.args.disk) found c.in-Ok.ensures.records
+      fine = fine_told (AreMountable c.args.copy c.args.table.now c.args.past.now c.args.limit found) (g.D.Disk.view c.args.disk).content found c.in-Ok.ensures.records
           (λ some. subst (λ n. AreMountable c.args.copy c.args.table.now c.args.past.now n found) c.in-Ok.ensures.limit (one.fine (c.in-Ok.ensures.keeps some)));
       all = one.bodies;
     }

@@ -26,7 +26,7 @@ returns-in_err-write_synced-clause-kept g c =
 pub returns-in_err-write_synced-clause-any_moment : goal.returns-in_err-write_synced-clause-any_moment
 returns-in_err-write_synced-clause-any_moment g c = λ bodies k.
     let old = c.args.self.now in
-    weakened g.D.Disk.moment g.D.Disk.left_at (disk_of old) c.write_synced.new.disk _ _ c.write_synced.ensures.any_moment
+    weakened g.D.Disk.view (disk_of old) c.write_synced.new.disk _ _ c.write_synced.ensures.any_moment
     (λ image from. inl (inr (old.place, behind old bodies c.args.body.now _ c.requires k c.missing-missing.ensures _ image from)))
 
 pub returns-in_err-write_synced-clause-grows : goal.returns-in_err-write_synced-clause-grows

@@ -28,5 +28,5 @@ returns-clause-tells g c = λ bodies k.
       bytes = k.bytes;
       told = told;
       each = λ image left. only_told _ k.bytes _ (EndsAt c.if-stands.place (if stands then with_hand bodies hand else bodies)) synced c.in_ok-size.ensures.durable ends image (c.gate_is_open.ensures.crash image left);
-      whole = λ up. c.saturating_sub-missing.ensures ∙ none_missing c.if-stands.place _ _ k.bytes c.in_ok-size.size ends synced (subst (HasLength (g.D.Disk.content c.synced_len.new.disk)) (sym c.in_ok-size.ensures.size) (g.met.D.Disk.has_size c.synced_len.new.disk));
+      whole = λ up. c.saturating_sub-missing.ensures ∙ none_missing c.if-stands.place _ _ k.bytes c.in_ok-size.size ends synced (subst (HasLength (g.D.Disk.view c.synced_len.new.disk).content) (sym c.in_ok-size.ensures.size) (g.met.D.Disk.has_size c.synced_len.new.disk));
     }

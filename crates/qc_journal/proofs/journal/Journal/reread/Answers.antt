@@ -13,16 +13,16 @@ returns-clause-tells g c = λ bodies k.
     let old = c.args.self.now in
     let found = c.in_ok-found.found in
     let disk = c.read_records.new.disk in
-    let same : g.D.Disk.content c.close.new.self.disk ≡ g.D.Disk.content old.disk = ap g.D.Disk.content c.close.ensures.disk in
+    let same : (g.D.Disk.view c.close.new.self.disk).content ≡ (g.D.Disk.view old.disk).content = ap (λ d. (g.D.Disk.view d).content) c.close.ensures.disk in
     let was = same ∙ k.told in
     let told = c.read_records.ensures.content ∙ was in
     let here = k.each k.bytes (told_image _ _ k.bytes k.told (g.met.D.Disk.reads_as_image old.disk)) in
     let has = g.met.D.Disk.has_size disk in
-    let has_was = subst (λ t. HasLength t (g.D.Disk.size disk)) c.read_records.ensures.content has in
+    let has_was = subst (λ t. HasLength t (g.D.Disk.view disk).size) c.read_records.ensures.content has in
     let ends = found_ends old.place bodies (in_hand old) _ k.bytes _ found was has_was here c.in_ok-found.ensures.found in
     record {
       bytes = k.bytes;
       told = told;
       each = λ image left. only_told _ k.bytes _ (EndsAt found.place (found_bodies found)) told c.in_ok-found.ensures.durable ends image left;
-      whole = λ up. c.saturating_sub-missing.ensures ∙ none_missing found.place _ _ k.bytes found.size ends told (subst (HasLength (g.D.Disk.content disk)) (sym c.in_ok-found.ensures.found.size_is) has);
+      whole = λ up. c.saturating_sub-missing.ensures ∙ none_missing found.place _ _ k.bytes found.size ends told (subst (HasLength (g.D.Disk.view disk).content) (sym c.in_ok-found.ensures.found.size_is) has);
     }

@@ -23,14 +23,14 @@ returns-in_err-settle-clause-any_moment g c = λ told before over.
     let old = journal_in c.args.self.now.shelf in
     let mid = journal_in c.rise.new.self.shelf in
     let bytes = top_body c.args.top.now c.args.aborted.now in
-    subst (λ j. Leaves old j (GrowsBy bytes (g.D.Disk.may_leave (disk_of old)))) (sym c.settle.ensures.journal) (same_moments old mid bytes _ over.keeps c.rise.ensures.any_moment)
+    subst (λ j. Leaves old j (GrowsBy bytes (g.D.Disk.view (disk_of old)).may_leave)) (sym c.settle.ensures.journal) (same_moments old mid bytes _ over.keeps c.rise.ensures.any_moment)
 
 pub returns-then-has_ended-clause-any_moment : goal.returns-then-has_ended-clause-any_moment
 returns-then-has_ended-clause-any_moment g c = λ told before over.
     let old = journal_in c.args.self.now.shelf in
     let mid = journal_in c.rise.new.self.shelf in
     let bytes = top_body c.args.top.now c.args.aborted.now in
-    subst (λ j. Leaves old j (GrowsBy bytes (g.D.Disk.may_leave (disk_of old)))) (sym (c.has_ended.ensures.shelf.0 ∙ c.settle.ensures.journal)) (same_moments old mid bytes _ over.keeps c.rise.ensures.any_moment)
+    subst (λ j. Leaves old j (GrowsBy bytes (g.D.Disk.view (disk_of old)).may_leave)) (sym (c.has_ended.ensures.shelf.0 ∙ c.settle.ensures.journal)) (same_moments old mid bytes _ over.keeps c.rise.ensures.any_moment)
 
 pub returns-then-has_ended-clause-seen : goal.returns-then-has_ended-clause-seen
 returns-then-has_ended-clause-seen g c =
@@ -98,7 +98,7 @@ returns-clause-any_moment g c = λ told before over.
     let risen = c.rise.ensures.over told before _ over in
     let found = before ++ map (told_body told) (tops_of c.args.self.now.pass.mine ++ pending_by mid.state (top_in c.rise.new.self.shelf)) in
     let kept = subst (λ j. Keeps j found) (sym same) risen.keeps in
-    subst (λ j. Leaves old j (GrowsBy bytes (g.D.Disk.may_leave (disk_of old)))) (sym c.settle-2.ensures.journal)
+    subst (λ j. Leaves old j (GrowsBy bytes (g.D.Disk.view (disk_of old)).may_leave)) (sym c.settle-2.ensures.journal)
     (log_moments old mid (journal_in c.write.new.self.shelf) bytes _ found over.keeps risen.keeps c.in_ok-rise.ensures.up c.rise.ensures.content
     (g.met.D.Disk.reads_as_image (disk_of old)) (g.met.D.Disk.reads_as_image (disk_of mid)) c.rise.ensures.any_moment
     (subst (λ j. Leaves j (journal_in c.write.new.self.shelf) (HasOrMore found bytes)) same (c.write.ensures.any_moment found kept)))

@@ -36,7 +36,7 @@ returns-after-not-is_up-clause-any_moment g c = λ bodies k.
       | then-not-is_up w ↦ ap (λ (s : Shelf g.row.D.Denot g.D.Disk). s.journal) w.self-is
       | else-not-is_up w ↦ ap (λ (s : Shelf g.row.D.Denot g.D.Disk). s.journal) w.self-is
     ] in
-    subst (λ j. LeavesOnly g.D.Disk.moment g.D.Disk.left_at (disk_of (journal_in c.args.self.now)) (disk_of j) (HasOrMore bodies c.args.bytes.now)) (sym same) (c.append.ensures.any_moment bodies k)
+    subst (λ j. LeavesOnly g.D.Disk.view (disk_of (journal_in c.args.self.now)) (disk_of j) (HasOrMore bodies c.args.bytes.now)) (sym same) (c.append.ensures.any_moment bodies k)
 
 pub returns-after-not-is_up-clause-grows : goal.returns-after-not-is_up-clause-grows
 returns-after-not-is_up-clause-grows g c = λ bodies k index had.
@@ -44,4 +44,4 @@ returns-after-not-is_up-clause-grows g c = λ bodies k index had.
       | then-not-is_up w ↦ ap (λ (s : Shelf g.row.D.Denot g.D.Disk). s.journal) w.self-is
       | else-not-is_up w ↦ ap (λ (s : Shelf g.row.D.Denot g.D.Disk). s.journal) w.self-is
     ] in
-    subst (λ j. Grows g.D.Disk.moment g.D.Disk.left_at (disk_of (journal_in c.args.self.now)) (disk_of j) (HasAt index had)) (sym same) (c.append.ensures.grows bodies k index had)
+    subst (λ j. Grows g.D.Disk.view (disk_of (journal_in c.args.self.now)) (disk_of j) (HasAt index had)) (sym same) (c.append.ensures.grows bodies k index had)

@@ -16,12 +16,12 @@ returns-in_err-append-clause-held g c =
     let p = err_from_is_err_and c.from_residual.result c.from_residual.ensures.1 in
     let held = c.args.self.now.held.items in
     let same : c.append.new.items.items ≡ held = c.in_err-append.ensures.err in
-    rw (p.1) (inl (subst (λ (now : List Ask). IsLeft (g.P.Port.gave c.args.port.now) held now) (sym same) (left-same (g.P.Port.gave c.args.port.now) held)))
+    rw (p.1) (inl (subst (λ (now : List Ask). IsLeft (g.P.Port.view c.args.port.now).gave held now) (sym same) (left-same (g.P.Port.view c.args.port.now).gave held)))
 
 pub loop-init : goal.loop-init
 loop-init g c =
-    let Gave = g.P.Port.gave c.args.port.now in
-    let May = g.P.Port.may c.args.port.now in
+    let Gave = (g.P.Port.view c.args.port.now).gave in
+    let May = (g.P.Port.view c.args.port.now).may in
     let held = c.args.self.now.held.items in
     let mine = c.args.ask.now in
     let pushed : c.append.new.items.items ≡ held ++ mine ∷ [] = c.in_ok-append.ensures.ok in
@@ -49,13 +49,13 @@ pub returns-in_err-place-clause-held : goal.returns-in_err-place-clause-held
 returns-in_err-place-clause-held g c =
     let p = err_from_is_err_and c.from_residual-in_err-place.result c.from_residual-in_err-place.ensures.1 in
     let same : c.due_step.new.self.held.items ≡ c.loop.self.held.items = c.in_err-place.ensures.held_err in
-    rw (p.1) (inr (behind-same (g.P.Port.gave c.loop.port) (g.P.Port.gave c.due_step.new.port) c.due_step.ensures.gave _ _ c.loop.self.held.items _ same c.loop.invariant.behind))
+    rw (p.1) (inr (behind-same (g.P.Port.view c.loop.port).gave (g.P.Port.view c.due_step.new.port).gave c.due_step.ensures.gave _ _ c.loop.self.held.items _ same c.loop.invariant.behind))
 
 pub returns-in_err-place-clause-allowed : goal.returns-in_err-place-clause-allowed
 returns-in_err-place-clause-allowed g c =
-    let Mays = g.P.Port.may c.due_step.new.port in
+    let Mays = (g.P.Port.view c.due_step.new.port).may in
     let same : c.due_step.new.self.held.items ≡ c.loop.self.held.items = c.in_err-place.ensures.held_err in
-    All-same Mays _ _ same (All-weaker (g.P.Port.may c.loop.port) Mays c.due_step.ensures.may c.loop.self.held.items c.loop.invariant.allowed)
+    All-same Mays _ _ same (All-weaker (g.P.Port.view c.loop.port).may Mays c.due_step.ensures.may c.loop.self.held.items c.loop.invariant.allowed)
 
 pub returns-in_err-place-clause-may : goal.returns-in_err-place-clause-may
 returns-in_err-place-clause-may g c = λ other is. c.due_step.ensures.may other (c.loop.invariant.may other is)
@@ -86,20 +86,20 @@ returns-then-place-last-clause-answered g c =
     let last : c.in-Some.place ≡ length c.loop.self.held.items - 1 = omega (arith, c.if-place-last.true, c.len-last.ensures) in
     let stepped = rw c.in-Some.is at c.in_ok-place.ensures.stepped in
     let mine = behind-mine _ _ c.args.ask.now c.loop.self.held.items c.in-Some.place stepped.0 c.loop.invariant.behind stepped.1 last in
-    subst (λ (a : Ask). g.P.Port.gave c.due_step.new.port a c.in-Some.answer) mine.0 stepped.3
+    subst (λ (a : Ask). (g.P.Port.view c.due_step.new.port).gave a c.in-Some.answer) mine.0 stepped.3
 
 pub returns-then-place-last-clause-held : goal.returns-then-place-last-clause-held
 returns-then-place-last-clause-held g c =
-    let Gives = g.P.Port.gave c.due_step.new.port in
+    let Gives = (g.P.Port.view c.due_step.new.port).gave in
     let held = c.args.self.now.held.items in
     let last : c.in-Some.place ≡ length c.loop.self.held.items - 1 = omega (arith, c.if-place-last.true, c.len-last.ensures) in
     let stepped = rw c.in-Some.is at c.in_ok-place.ensures.stepped in
     let mine = behind-mine _ _ c.args.ask.now c.loop.self.held.items c.in-Some.place stepped.0 c.loop.invariant.behind stepped.1 last in
-    subst (λ (now : List Ask). IsLeft Gives held now) (sym stepped.2) (left-wider (g.P.Port.gave c.loop.port) Gives c.due_step.ensures.gave held _ mine.1)
+    subst (λ (now : List Ask). IsLeft Gives held now) (sym stepped.2) (left-wider (g.P.Port.view c.loop.port).gave Gives c.due_step.ensures.gave held _ mine.1)
 
 pub returns-then-place-last-clause-allowed : goal.returns-then-place-last-clause-allowed
 returns-then-place-last-clause-allowed g c =
-    all-stepped (g.P.Port.gave c.due_step.new.port) (g.P.Port.may c.loop.port) (g.P.Port.may c.due_step.new.port) c.due_step.ensures.may c.loop.self.held.items c.due_step.new.self.held.items _ _ c.in_ok-place.field-0 c.in_ok-place.ensures.stepped c.loop.invariant.allowed
+    all-stepped (g.P.Port.view c.due_step.new.port).gave (g.P.Port.view c.loop.port).may (g.P.Port.view c.due_step.new.port).may c.due_step.ensures.may c.loop.self.held.items c.due_step.new.self.held.items _ _ c.in_ok-place.field-0 c.in_ok-place.ensures.stepped c.loop.invariant.allowed
 
 pub returns-then-place-last-clause-may : goal.returns-then-place-last-clause-may
 returns-then-place-last-clause-may g c = λ other is. c.due_step.ensures.may other (c.loop.invariant.may other is)
@@ -122,7 +122,7 @@ place_in None = 0
 
 pub loop-preserved : goal.loop-preserved
 loop-preserved g c =
-    let Gives = g.P.Port.gave c.due_step.new.port in
+    let Gives = (g.P.Port.view c.due_step.new.port).gave in
     let step = c.in_ok-place.field-0 in
     let stepped = c.in_ok-place.ensures.stepped in
     let other : (place : ℕ) (answer : Answered) → step ≡ Some (place, answer) → place ≢ length c.loop.self.held.items - 1 = elim c.match-branch-3.branch [
@@ -131,10 +131,10 @@ loop-preserved g c =
           w.if-place-last.false (omega (arith, same, last, c.len-last.ensures))
       | in_default w ↦ λ place answer is last. w.in_default.not-Some (place, answer) is
     ] in
-    let behind = behind-stepped (g.P.Port.gave c.loop.port) Gives c.due_step.ensures.gave _ c.args.ask.now c.loop.self.held.items c.due_step.new.self.held.items _ _ c.loop.invariant.behind step stepped other in
+    let behind = behind-stepped (g.P.Port.view c.loop.port).gave Gives c.due_step.ensures.gave _ c.args.ask.now c.loop.self.held.items c.due_step.new.self.held.items _ _ c.loop.invariant.behind step stepped other in
     record {
       behind = behind;
-      allowed = all-stepped Gives (g.P.Port.may c.loop.port) (g.P.Port.may c.due_step.new.port) c.due_step.ensures.may _ _ _ _ step stepped c.loop.invariant.allowed;
+      allowed = all-stepped Gives (g.P.Port.view c.loop.port).may (g.P.Port.view c.due_step.new.port).may c.due_step.ensures.may _ _ _ _ step stepped c.loop.invariant.allowed;
       may = λ ask is. c.due_step.ensures.may ask (c.loop.invariant.may ask is);
       gave = λ ask answer is. c.due_step.ensures.gave ask answer (c.loop.invariant.gave ask answer is);
       became = g.met.P.Port.became_by_both _ _ _ c.loop.invariant.became c.due_step.ensures.became;

@@ -10,12 +10,12 @@ use Rattle.qc_net.proofs.courier.Courier.hold.Given as goal
 
 abbrev pub invariant-loop : goal.invariant-loop
 invariant-loop g l = record {
-  behind : IsHeldBehind (g.P.Port.gave l.port) l.fn.self.held.items l.ask l.self.held.items;
-  allowed : All (g.P.Port.may l.port) l.self.held.items;
-  may : (other : Ask) → g.P.Port.may l.fn.port other → g.P.Port.may l.port other;
-  gave : (other : Ask) (answer : Answered) → g.P.Port.gave l.fn.port other answer → g.P.Port.gave l.port other answer;
-  plan : option_map anew (g.L.Link.plan l.self.link) ≡ option_map anew (g.L.Link.plan l.fn.self.link);
+  behind : IsHeldBehind (g.P.Port.view l.port).gave l.fn.self.held.items l.ask l.self.held.items;
+  allowed : All (g.P.Port.view l.port).may l.self.held.items;
+  may : (other : Ask) → (g.P.Port.view l.fn.port).may other → (g.P.Port.view l.port).may other;
+  gave : (other : Ask) (answer : Answered) → (g.P.Port.view l.fn.port).gave other answer → (g.P.Port.view l.port).gave other answer;
+  plan : option_map anew (g.L.Link.view l.self.link).plan ≡ option_map anew (g.L.Link.view l.fn.self.link).plan;
   became : g.P.Port.became l.fn.port l.port;
-  counts : g.L.Link.troubles l.self.link ≡ g.L.Link.troubles l.fn.self.link;
-  told : (first : Plan) → g.L.Link.plan l.fn.self.link ≡ Some first → Waits (g.P.Port.gave l.port) (waiting l.patience (record { plan = first; held = l.fn.self.held.items ++ l.ask ∷ []; delivered = [] })) (l.patience - l.counter) (g.L.Link.plan l.self.link) l.self.held.items (g.P.Port.made l.fn.port) (g.P.Port.made l.port);
+  counts : (g.L.Link.view l.self.link).troubles ≡ (g.L.Link.view l.fn.self.link).troubles;
+  told : (first : Plan) → (g.L.Link.view l.fn.self.link).plan ≡ Some first → Waits (g.P.Port.view l.port).gave (waiting l.patience (record { plan = first; held = l.fn.self.held.items ++ l.ask ∷ []; delivered = [] })) (l.patience - l.counter) (g.L.Link.view l.self.link).plan l.self.held.items (g.P.Port.view l.fn.port).made (g.P.Port.view l.port).made;
 }

@@ -29,17 +29,17 @@ returns-in_ok-deliver_twice-in-Twice-clause-held g c = left-same _ c.args.self.n
 pub returns-in_ok-deliver-in-Deliver-clause-told : goal.returns-in_ok-deliver-in-Deliver-clause-told
 returns-in_ok-deliver-in-Deliver-clause-told g c =
     let arm = c.in_ok-deliver-in-Deliver in
-    rw (c.in-Deliver.is) (met-deliver (g.P.Port.gave c.deliver.new.self) (g.L.Link.plan c.args.self.now.link) c.args.self.now.held.items _ _ c.args.ask.now arm.field-0 c.args.patience (made-one _ _ _ c.args.ask.now arm.field-0 arm.ensures.answered arm.ensures.told))
+    rw (c.in-Deliver.is) (met-deliver (g.P.Port.view c.deliver.new.self).gave (g.L.Link.view c.args.self.now.link).plan c.args.self.now.held.items _ _ c.args.ask.now arm.field-0 c.args.patience (made-one _ _ _ c.args.ask.now arm.field-0 arm.ensures.answered arm.ensures.told))
 
 pub returns-in_ok-deliver-in-LoseReply-clause-told : goal.returns-in_ok-deliver-in-LoseReply-clause-told
 returns-in_ok-deliver-in-LoseReply-clause-told g c =
     let arm = c.in_ok-deliver-in-LoseReply in
-    rw (c.in-LoseReply.is) (met-lose_reply (g.P.Port.gave c.deliver-in-LoseReply.new.self) (g.L.Link.plan c.args.self.now.link) c.args.self.now.held.items _ _ c.args.ask.now arm.field-0 c.args.patience (made-one _ _ _ c.args.ask.now arm.field-0 arm.ensures.answered arm.ensures.told))
+    rw (c.in-LoseReply.is) (met-lose_reply (g.P.Port.view c.deliver-in-LoseReply.new.self).gave (g.L.Link.view c.args.self.now.link).plan c.args.self.now.held.items _ _ c.args.ask.now arm.field-0 c.args.patience (made-one _ _ _ c.args.ask.now arm.field-0 arm.ensures.answered arm.ensures.told))
 
 pub returns-in_ok-deliver_twice-in-Twice-clause-told : goal.returns-in_ok-deliver_twice-in-Twice-clause-told
 returns-in_ok-deliver_twice-in-Twice-clause-told g c =
     let arm = c.in_ok-deliver_twice-in-Twice in
     let told = arm.ensures.told in
     rw (c.in-Twice.is)
-    (met-twice (g.P.Port.gave c.deliver_twice.new.port) (g.L.Link.plan c.args.self.now.link) c.args.self.now.held.items _ _ c.args.ask.now arm.field-0 told.0 c.args.patience
+    (met-twice (g.P.Port.view c.deliver_twice.new.port).gave (g.L.Link.view c.args.self.now.link).plan c.args.self.now.held.items _ _ c.args.ask.now arm.field-0 told.0 c.args.patience
     (made-two _ _ _ c.args.ask.now arm.field-0 told.0 arm.ensures.answered told.1 told.2))

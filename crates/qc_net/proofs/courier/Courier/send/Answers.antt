@@ -11,19 +11,19 @@ use Rattle.qc_net.proofs.courier.Courier.send.Goals as goal
 
 pub returns-in_err-due_step-clause-held : goal.returns-in_err-due_step-clause-held
 returns-in_err-due_step-clause-held g c =
-    let Gives = g.P.Port.gave c.due_step.new.port in
+    let Gives = (g.P.Port.view c.due_step.new.port).gave in
     let held = c.args.self.now.held.items in
     let same : c.due_step.new.self.held.items ≡ held = c.in_err-due_step.ensures.held_err in
     left-err _ _ _ _ _ _ c.from_residual.ensures.1 (inl (subst (λ (now : List Ask). IsLeft Gives held now) (sym same) (left-same Gives held)))
 
 pub meet-requires-clause-held : goal.meet-requires-clause-held
 meet-requires-clause-held g c =
-    all-stepped (g.P.Port.gave c.due_step.new.port) (g.P.Port.may c.args.port.now) (g.P.Port.may c.due_step.new.port) c.due_step.ensures.may _ _ _ _ c.in_ok-due_step.field-0 c.in_ok-due_step.ensures.stepped c.requires.held
+    all-stepped (g.P.Port.view c.due_step.new.port).gave (g.P.Port.view c.args.port.now).may (g.P.Port.view c.due_step.new.port).may c.due_step.ensures.may _ _ _ _ c.in_ok-due_step.field-0 c.in_ok-due_step.ensures.stepped c.requires.held
 
 pub returns-clause-held : goal.returns-clause-held
 returns-clause-held g c =
     let held = c.args.self.now.held.items in
-    let left = left-stepped (g.P.Port.gave c.due_step.new.port) held c.due_step.new.self.held.items _ _ c.in_ok-due_step.field-0 c.in_ok-due_step.ensures.stepped in
+    let left = left-stepped (g.P.Port.view c.due_step.new.port).gave held c.due_step.new.self.held.items _ _ c.in_ok-due_step.field-0 c.in_ok-due_step.ensures.stepped in
     held-after _ held _ _ _ _ (left-wider _ _ c.meet.ensures.gave held _ left) c.meet.ensures.held
 
 pub returns-clause-told : goal.returns-clause-told
