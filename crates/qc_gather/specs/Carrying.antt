@@ -13,7 +13,7 @@ use Rattle.qc_event.specs.declared.event.Kind.TheVariants as kind
 use Rattle.qc_event.specs.declared.event.Why.{Why}
 use Rattle.qc_event.specs.declared.event.Why.TheVariants.{Lost, Late}
 use Rattle.qc_event.specs.Base.{Setting}
-pub use Rattle.qc_event.specs.Counts.{Rose}
+use Rattle.qc_event.specs.Counts.{Rose}
 use Rattle.qc_event.specs.History.{Past, Name, limit, start, end, children, asks}
 use Rattle.qc_event.specs.Manager.{Result, Replied, Missing, BlockedBy, result, AtStage}
 use Rattle.qc_event.specs.Requests.{IsNextAsk, was_unable}

@@ -1,9 +1,10 @@
 //! One access of a manager: started, sent, and ended by what comes back.
 ghost use Rattle.std.specs.Prelude.{◌≡◌, ◌≤◌, ◌++◌, ◌∷◌, false, not, IsTrue, IsErrOf, All, IfOk, IfErr, OnOk, OnErr, length};
+ghost use Rattle.qc_event.specs.Counts.{Rose};
 ghost use Rattle.qc_event.specs.History.{limit};
 ghost use Rattle.qc_event.specs.Legal.{Allowed};
 ghost use Rattle.qc_event.specs.Seats.{is_client};
-ghost use Rattle.qc_gather.specs.Carrying.{HasGrown, WasCarried, WasNotCarried, HasReason, Rose, entry, began, became};
+ghost use Rattle.qc_gather.specs.Carrying.{HasGrown, WasCarried, WasNotCarried, HasReason, entry, began, became};
 ghost use Rattle.qc_line.specs.Access as words;
 ghost use Rattle.qc_line.specs.Kept.{IsInStep, net_of};
 ghost use Rattle.qc_line.specs.Lined.{all_able};

@@ -27,12 +27,12 @@ found_by place bodies found None image stands has = inl (records-same image bodi
 found_by place bodies found (Some body) image (inl stands) has = inl (records-same image bodies found (inr (place, stands)) has)
 found_by place bodies found (Some body) image (inr stands) has = inr (records-same image (bodies ++ body ∷ []) found (inr (_, stands)) has)
 
-module _ {D : Type 0} {g : Ghosts D} (old : Journal D g) (bodies : List (List ℕ)) (k : Keeps old bodies) (law : IsImage (g.content old.disk) (g.may_leave old.disk)) where
+module _ {D : Type 0} {g : Ghosts D} (old : Journal D g) (bodies : List (List ℕ)) (k : Keeps old bodies) (law : IsImage (g.view old.disk).content (g.view old.disk).may_leave) where
   -- the bytes that are told stand as each image does
   pub told_stands : Stands old.place bodies (in_hand old) k.bytes
-  told_stands = k.each k.bytes (subst (λ o. IsImage o (g.may_leave old.disk)) k.told law)
+  told_stands = k.each k.bytes (subst (λ o. IsImage o (g.view old.disk).may_leave) k.told law)
 
-  abbrev pub left_found : (new : Journal D g) (found : List (List ℕ)) → IfSome (g.content old.disk) (HasRecords found) → IsUp new → Keeps new found → IsLeft old new bodies
+  abbrev pub left_found : (new : Journal D g) (found : List (List ℕ)) → IfSome (g.view old.disk).content (HasRecords found) → IsUp new → Keeps new found → IsLeft old new bodies
   left_found new found has up keeps = record {
     found = found;
     is = found_by old.place bodies found (in_hand old) k.bytes told_stands (subst (λ o. IfSome o (HasRecords found)) k.told has);
@@ -46,7 +46,7 @@ stands_records place bodies (Some body) image (inl stands) = (bodies, inr (place
 stands_records place bodies (Some body) image (inr stands) = (bodies ++ body ∷ [], inr (_, stands))
 
 -- the bytes that are told are not broken
-pub never_broken : {D : Type 0} {g : Ghosts D} (old : Journal D g) (bodies : List (List ℕ)) (k : Keeps old bodies) (law : IsImage (g.content old.disk) (g.may_leave old.disk)) (place : ℕ) → IsBroken place k.bytes → ⊥
+pub never_broken : {D : Type 0} {g : Ghosts D} (old : Journal D g) (bodies : List (List ℕ)) (k : Keeps old bodies) (law : IsImage (g.view old.disk).content (g.view old.disk).may_leave) (place : ℕ) → IsBroken place k.bytes → ⊥
 never_broken old bodies k law place broken =
     let has = stands_records old.place bodies (in_hand old) k.bytes (told_stands old bodies k law) in
     records_not_broken k.bytes has.0 place has.1 broken

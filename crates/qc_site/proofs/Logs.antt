@@ -248,8 +248,8 @@ failed_each old new mid given hand (Ok stands) same size down closed kept left =
 failed_each old new mid given hand (Err e) same size down closed kept left = λ before k. failed_over before old new given hand k same size mid (left _ k.keeps) down closed kept
 
 -- over a disk that tells, nothing is strange
-pub plain_each : {D : Type 0} {g : Ghosts D} (old : GrantLog D g) (before : List (List ℕ)) (given : List Grant) (hand : Option Grant) (law : IsImage (g.content old.journal.disk) (g.may_leave old.journal.disk)) (r : Result Bool BackNo)
-    → IsOver before old given hand → IfSome (g.content old.journal.disk) (IsAnswer old.copies old.earlier given hand r) → IfErr r IsPlain
+pub plain_each : {D : Type 0} {g : Ghosts D} (old : GrantLog D g) (before : List (List ℕ)) (given : List Grant) (hand : Option Grant) (law : IsImage (g.view old.journal.disk).content (g.view old.journal.disk).may_leave) (r : Result Bool BackNo)
+    → IsOver before old given hand → IfSome (g.view old.journal.disk).content (IsAnswer old.copies old.earlier given hand r) → IfErr r IsPlain
 plain_each old before given hand law (Ok stands) k says = tt
 plain_each {D} {g} old before given hand law (Err refusal) k says = by_answer refusal (subst (λ o. IfSome o (IsAnswer old.copies old.earlier given hand (Err refusal))) k.keeps.told says)
   where
@@ -274,7 +274,7 @@ module _ {D : Type 0} {g : Ghosts D} (old new : GrantLog D g) (grant : Grant) (s
   longer before given rest nil = ap (λ (r : List Grant). (before ++ map (grant_body old.copies) (given ++ r)) ++ grant_body old.copies grant ∷ []) nil ∙ one_more old.copies before given grant
 
   nothing : (before : List (List ℕ)) (given : List Grant) (k : IsOver before old given None) → k.rest ≡ []
-  nothing before given k = elim k.is_hand [ | inl nil ↦ nil | inr nil ↦ nil ]
+  nothing before given k = elim k.is_hand [ inl nil ↦ nil | inr nil ↦ nil ]
 
   all_fit : (before : List (List ℕ)) (given : List Grant) (k : IsOver before old given None) → All (Fit new.copies) (given ++ grant ∷ [])
   all_fit before given k = subst (λ c. All (Fit c) (given ++ grant ∷ [])) (sym same)

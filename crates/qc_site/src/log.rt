@@ -103,22 +103,29 @@ impl<D: Disk> GrantLog<D> {
             → IsOver before self.new given.now hand.now) }
         ensures plain { (before : List (List ℕ)) → IsOver before self.old given.now hand.now
             → IfErr result IsPlain }
-        ensures says { IfSome (D.content (disk_of (journal_in self.old)))
+        ensures says { IfSome (D.view (disk_of (journal_in self.old))).content
             (IsAnswer (copies_of self.old) (earlier_in self.old) given.now hand.now result) }
         ensures none { result ≡ Ok true → hand.now ≡ None → ⊥ }
-        ensures content { D.content (disk_of (journal_in self.new))
-            ≡ D.content (disk_of (journal_in self.old)) }
+        ensures content { (D.view (disk_of (journal_in self.new))).content
+            ≡ (D.view (disk_of (journal_in self.old))).content }
 
         ensures limit { limit_of (journal_in self.new) ≡ limit_of (journal_in self.old) }
         ensures copies { copies_of self.new ≡ copies_of self.old }
         ensures any_moment { Leaves (journal_in self.old) (journal_in self.new)
-            (D.may_leave (disk_of (journal_in self.old))) }
+            (D.view (disk_of (journal_in self.old))).may_leave }
         ensures falls { Falls (journal_in self.old) (journal_in self.new) }
         ensures cause { Costs (journal_in self.old) (journal_in self.new)
             (IsErrOf result BackNo.Disk) }
     {
         let copies = self.copies;
-        let answer = read_back(self.alloc, &mut self.journal, copies, self.earlier, given, hand);
+        let answer = read_back(
+            self.alloc,
+            &mut self.journal,
+            copies,
+            self.earlier,
+            given,
+            hand,
+        );
         if answer.is_err() {
             self.journal.close();
         }

@@ -85,10 +85,10 @@ impl<D: Disk, N: Store, const C: u8> Site<D, N, C> {
         ensures refused { IfErr result IsReviveNo }
         ensures room { IsErrOf result Room → ⊥ }
         ensures limit { limit_of (journal_in self.new.log) ≡ limit_of (journal_in self.old.log) }
-        ensures content { D.content (disk_of (journal_in self.new.log))
-            ≡ D.content (disk_of (journal_in self.old.log)) }
+        ensures content { (D.view (disk_of (journal_in self.new.log))).content
+            ≡ (D.view (disk_of (journal_in self.old.log))).content }
         ensures any_moment { Leaves (journal_in self.old.log) (journal_in self.new.log)
-            (D.may_leave (disk_of (journal_in self.old.log))) }
+            (D.view (disk_of (journal_in self.old.log))).may_leave }
         ensures falls { Falls (journal_in self.old.log) (journal_in self.new.log) }
         ensures cause { Costs (journal_in self.old.log) (journal_in self.new.log)
             (IsErrOf result SiteNo.Disk) }
@@ -164,10 +164,10 @@ impl<D: Disk, N: Store, const C: u8> Site<D, N, C> {
             → is_some self.new.strange ≡ is_some self.old.strange }
         ensures seen { IsOlder self.old.replica.pass.seen self.new.replica.pass.seen }
         ensures limit { limit_of (journal_in self.new.log) ≡ limit_of (journal_in self.old.log) }
-        ensures content { D.content (disk_of (journal_in self.new.log))
-            ≡ D.content (disk_of (journal_in self.old.log)) }
+        ensures content { (D.view (disk_of (journal_in self.new.log))).content
+            ≡ (D.view (disk_of (journal_in self.old.log))).content }
         ensures any_moment { Leaves (journal_in self.old.log) (journal_in self.new.log)
-            (D.may_leave (disk_of (journal_in self.old.log))) }
+            (D.view (disk_of (journal_in self.old.log))).may_leave }
         ensures falls { Falls (journal_in self.old.log) (journal_in self.new.log) }
         ensures cause { Costs (journal_in self.old.log) (journal_in self.new.log)
             (IsErrOf result SiteNo.Disk) }
