@@ -10,3 +10,5 @@ mod Replicas
 mod Again
 mod Found
 mod Logs
+mod Refusals
+mod Borrowed
