@@ -1,26 +1,23 @@
 -- What an access was granted is found among the grants of the copy that it asked.
-use Rattle.std.proofs.Common.{◌≡◌, ℕ, ◌<◌, Bool, true, false, List, [], ◌∷◌, ◌++◌, length, refl, sym, ap, ap₂, ◌∙◌, subst, arith, append-nil, inl, inr}
-use mathlib.Core.Bool.{true≢false}
-use Rattle.std.specs.Prelude.{Option, None, Some, MatchOption, ◌==◌, if◌then◌else◌, option_to_list, option_and_then, slice_index_or}
+use Rattle.std.proofs.Common.{◌≡◌, ℕ, ◌<◌, Bool, true, false, [], ◌∷◌, ◌++◌, length, refl, sym, ap, ◌∙◌, subst, arith, append-nil, inl, inr}
+use Rattle.std.specs.Prelude.{Option, None, Some, ◌==◌, if◌then◌else◌, option_to_list, option_and_then, slice_index_or}
 use Rattle.std.specs.List.{All}
-use Rattle.std.specs.Option.{option_or, option_map}
-use Rattle.std.proofs.lemmas.Bool.{false_from_ne_true, eqb-true, eq-eqb}
+use Rattle.std.specs.Option.{option_or}
+use Rattle.std.proofs.lemmas.Bool.{eq-eqb}
 use Rattle.qc_config.specs.declared.tuple.Tuple.{Tuple}
-use Rattle.qc_copy.specs.Rising.{first_with}
 use Rattle.qc_copy.specs.State.{again, grant_with}
 use Rattle.qc_copy.proofs.Asked.{asked_fits}
 use Rattle.qc_copy.proofs.PutConfigs.{each_granted}
 use Rattle.qc_copy.proofs.Serving.{again_more}
 use Rattle.qc_event.specs.declared.event.Ask.{Ask}
-use Rattle.qc_event.specs.declared.event.Entry.{Entry}
 use Rattle.qc_event.specs.declared.event.Event.{Event}
 use Rattle.qc_event.specs.declared.event.Event.TheVariants as event
 use Rattle.qc_event.specs.declared.event.Grant.{Grant}
 use Rattle.qc_event.specs.Base.{Setting, IsProper}
 use Rattle.qc_event.specs.Grants.{MayGrant}
 use Rattle.qc_event.specs.History.{Past, Name, Asked, Given, same, asked, granted, grant_in, grant_at, grants}
-use Rattle.qc_event.specs.Legal.{Legal, Allowed, MayHappen}
-use Rattle.qc_event.proofs.Absent.{same_is, same_itself, if_not}
+use Rattle.qc_event.specs.Legal.{Legal, MayHappen}
+use Rattle.qc_event.proofs.Absent.{same_is}
 use Rattle.qc_event.proofs.OneEntry.{if_is, first_is}
 use Rattle.qc_pass.specs.Consulting.{HasAsked}
 use Rattle.qc_pass.proofs.Begun.{started_at}

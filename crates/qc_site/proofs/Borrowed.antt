@@ -3,22 +3,16 @@ use Rattle.std.proofs.Common.{◌≡◌, ◌⊎◌, inl, inr, ⊎_elim, ℕ, Lis
 use Rattle.std.specs.Prelude.{Option, None, Some}
 use Rattle.qc_disk.specs.Disk.{IsImage}
 use Rattle.qc_disk.specs.declared.disk.Disk.{Ghosts}
-use Rattle.qc_event.specs.History.{Name}
 use Rattle.qc_journal.specs.Image.{HasAt, HasRecords}
-use Rattle.qc_journal.specs.Journal.{AppendLeaves, IsDown, IsUp, Keeps, Stands, TakesInHand, disk_of, in_hand, place_of, with_hand}
+use Rattle.qc_journal.specs.Journal.{IsUp, Keeps, Stands, disk_of, in_hand, with_hand}
 use Rattle.qc_journal.specs.State.{IsUpState}
 use Rattle.qc_journal.specs.declared.journal.State.{State}
 use Rattle.qc_journal.specs.declared.journal.State.TheVariants.{Up, Down}
-use Rattle.qc_journal.specs.declared.fault.Fault.{Fault}
-use Rattle.qc_journal.specs.declared.fault.Fault.TheVariants.{Disk, Broken, Full, Memory}
-use Rattle.qc_ledger.specs.Refusing.{log_no}
 use Rattle.qc_journal.specs.declared.journal.Journal.{Journal}
 use Rattle.qc_journal.proofs.Moments.{continues, grows_by_falls, grows_on, weakened}
 use Rattle.qc_ledger.specs.Entered.{GrowsBy}
 use Rattle.qc_ledger.specs.Runs.{Falls, HasOrMore, Leaves, LosesNone}
 use Rattle.qc_ledger.proofs.Writing.{kept_has}
-use Rattle.qc_ledger.specs.Shelf.{IsIdle, IsUnsure, LogLeaves}
-use Rattle.qc_ledger.specs.declared.shelf.Shelf.{Shelf}
 
 use Rattle.std.proofs.Common.{append_assoc, ◌++◌}
 use Rattle.qc_event.specs.History.{Past}

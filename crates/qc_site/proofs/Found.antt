@@ -1,12 +1,12 @@
 -- What reading a journal back finds.
-use Rattle.std.proofs.Common.{◌≡◌, ◌⊎◌, inl, inr, ℕ, List, [], ◌∷◌, ◌++◌, refl, ap, sym, subst}
+use Rattle.std.proofs.Common.{◌≡◌, inl, inr, ℕ, List, [], ◌∷◌, ◌++◌, refl, sym, subst}
 use Rattle.std.specs.Prelude.{Bool, Option, None, Some, IfSome, IfOk, Result, Ok, Err}
 use Rattle.qc_event.specs.declared.event.Grant.{Grant}
 use Rattle.qc_site.specs.declared.back.BackNo.{BackNo}
 use Rattle.qc_disk.specs.Disk.{IsImage}
 use Rattle.qc_disk.specs.declared.disk.Disk.{Ghosts}
-use Rattle.qc_journal.specs.Image.{EndsAt, HasRecords, IsBroken}
-use Rattle.qc_journal.specs.Journal.{in_hand, place_of, with_hand, IsUp, Keeps, Stands}
+use Rattle.qc_journal.specs.Image.{HasRecords, IsBroken}
+use Rattle.qc_journal.specs.Journal.{in_hand, IsUp, Keeps, Stands}
 use Rattle.qc_journal.specs.State.{IsUpState, hand_of}
 use Rattle.qc_journal.specs.declared.journal.Journal.{Journal}
 use Rattle.qc_journal.specs.declared.journal.State.{State}

@@ -1,10 +1,10 @@
 -- What a copy's disk goes on to keep of its grants.
-use Rattle.std.proofs.Common.{◌≡◌, ◌⊎◌, inl, inr, ℕ, zero, suc, ◌+◌, ◌<◌, ◌≤◌, Bool, true, false, List, [], ◌∷◌, ◌++◌, length, map, drop, refl, sym, ap, ap₂, ◌∙◌, subst, arith, append_assoc, append-nil}
+use Rattle.std.proofs.Common.{◌≡◌, ◌⊎◌, inl, inr, ℕ, zero, suc, ◌<◌, ◌≤◌, Bool, true, false, List, [], ◌∷◌, ◌++◌, length, map, drop, refl, sym, ap, ap₂, ◌∙◌, subst, arith, append_assoc, append-nil}
 use Rattle.std.specs.Prelude.{◌↔◌, Option, None, Some, IfSome, IfOk, IfErr, OnOk, OnErr, Result, Ok, Err, option_to_list, slice_get, slice_index_or, if◌then◌else◌}
 use Rattle.std.specs.List.{All}
 use Rattle.std.specs.Option.{option_map}
 use Rattle.std.proofs.lemmas.List.{drop_at, map-append, length-append, length-map}
-use Rattle.std.proofs.lemmas.List.Elements.{All-nil, All-cons, All-head, All-tail, All-append, All-get_or}
+use Rattle.std.proofs.lemmas.List.Elements.{All-nil, All-cons, All-head, All-tail, All-append}
 use Rattle.qc_codec.specs.Bodies as body
 use Rattle.qc_codec.specs.Fields.{format_1}
 use Rattle.qc_codec.specs.Form.{all_of}
@@ -14,13 +14,12 @@ use Rattle.std.proofs.lemmas.Option.{same_Some}
 use Rattle.qc_disk.specs.declared.disk.Disk.{Ghosts}
 use Rattle.qc_event.specs.declared.event.Grant.{Grant}
 use Rattle.qc_journal.specs.Image.{HasAt, HasRecords}
-use Rattle.qc_disk.specs.Disk.{HasCause, IsImage, Rose, next}
+use Rattle.qc_disk.specs.Disk.{HasCause, IsImage}
 use Rattle.qc_journal.specs.declared.fault.Fault.{Fault}
 use Rattle.qc_journal.specs.declared.fault.Fault.TheVariants as fault
 use Rattle.qc_journal.specs.Journal.{disk_of, in_hand, with_hand, AppendLeaves, IsDown, IsUp, Keeps, TakesInHand}
 use Rattle.qc_journal.specs.declared.journal.Journal.{Journal}
 use Rattle.qc_site.specs.Back.{grant_body, AreGrants, IsAnswer, IsFirstApart, IsFirstUnread, IsFound, IsLeft, IsPlain, IsWithHand, Says, Stand}
-use Rattle.qc_config.specs.declared.tuple.Tuple.{Tuple}
 use Rattle.qc_copy.specs.State.{grant_with}
 use Rattle.qc_event.specs.declared.event.Ask.{Ask}
 use Rattle.qc_event.specs.Base.{no_tuple}
@@ -365,4 +364,16 @@ pub cause_on : (a b c : ℕ) (First Then : Type 0) → HasCause a b First → Ha
 cause_on a b c First Then one two = record {
   later = omega (arith, one.later, two.later);
   failed = λ failed. let rose = two.failed failed in omega (arith, one.later, rose);
+}
+
+-- at first nothing was granted
+pub first_over : {D : Type 0} {g : Ghosts D} (before : List (List ℕ)) (log : GrantLog D g) → (IsDown log.journal → ⊥) → Keeps log.journal before → log.earlier ≡ length before → IsOver before log [] None
+first_over before log never keeps size = record {
+  rest = [];
+  is_hand = inl refl;
+  up = λ _. refl;
+  keeps = subst (Keeps log.journal) (sym (append-nil before)) keeps;
+  in_journal = inl (nothing_in_hand log.journal (up_by log.journal.state never));
+  size = size;
+  fits = All-nil (Fit log.copies);
 }

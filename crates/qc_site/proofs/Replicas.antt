@@ -1,6 +1,6 @@
 -- What a copy goes on to know at its desk.
-use Rattle.std.proofs.Common.{◌≡◌, ◌⊎◌, inl, inr, ℕ, ◌<◌, Bool, true, List, [], ◌∷◌, ◌++◌, length, refl, sym, ap, ◌∙◌, subst, arith, append_assoc}
-use Rattle.std.specs.Prelude.{Option, None, Some, IfSome, Result, Ok, Err, OnOk, IfOk, IfErr, cond, if◌then◌else◌, option_and_then, option_to_list, slice_index_or}
+use Rattle.std.proofs.Common.{◌≡◌, inl, inr, ℕ, Bool, true, false, List, [], ◌∷◌, ◌++◌, refl, sym, ap, ◌∙◌, subst, append-nil}
+use Rattle.std.specs.Prelude.{◌==◌, Option, None, Some, IfSome, Result, Ok, Err, OnOk, IfOk, IfErr, cond, if◌then◌else◌, option_and_then, option_to_list, slice_index_or}
 use Rattle.std.specs.Option.{option_or}
 use Rattle.std.proofs.lemmas.Bool.{eq-eqb}
 use Rattle.qc_copy.specs.declared.state.Verdict.{Verdict}
@@ -31,7 +31,8 @@ use Rattle.qc_moss.specs.Follows.{Follows}
 use Rattle.qc_moss.proofs.Tables.{grows}
 use Rattle.qc_pass.specs.declared.view.View.{View}
 use Rattle.qc_pass.specs.Calling.{Entered, Looked, Refused, Shown}
-use Rattle.qc_pass.specs.Entries.{AreOthers, IsOlder, IsSince, entry}
+use mathlib.Core.Bool.{true≢false}
+use Rattle.qc_pass.specs.Entries.{entries_of, AreOthers, IsOlder, IsSince, entry}
 use Rattle.qc_pass.proofs.NoGrants.{AreNoGrants, grants_kept, grant_still_allowed, others_grant_none}
 use Rattle.qc_site.specs.declared.lock_table.LockTable.{LockTable}
 use Rattle.qc_site.specs.Replica.{IsKept, IsTableOf, HasRoomFor, Standing}
@@ -292,3 +293,20 @@ again_told setting copy past ask tuple is legal has there =
 pub told_again : (setting : Setting) (copy : ℕ) (past : Past) (ask : Ask) (tuple : Tuple) → Legal setting past → IsGranted copy past (grant_with ask tuple) → again (grants past copy) ask.access ≡ Some tuple
 told_again setting copy past ask tuple legal told =
     again_is setting past copy ask.access legal ∙ ap (option_and_then (tuple_at copy)) told ∙ ap (λ (b : Bool). if b then Some tuple else None) (eq-eqb copy copy refl)
+
+-- AT FIRST
+
+none_of_number : (n : ℕ) (past : Past) → entries_of n past ≡ [] → AreOthers n past
+none_of_number n [] none = tt
+none_of_number n (e ∷ past) none = by_test (e.seat == n) refl none (none_of_number n past)
+  where
+    by_test : (b : Bool) → (e.seat == n) ≡ b → cond b (e ∷ entries_of n past) (entries_of n past) ≡ [] → (entries_of n past ≡ [] → AreOthers n past) → AreOthers n (e ∷ past)
+    by_test true is h rest = absurd cc
+    by_test false apart h rest = ((λ same. true≢false (sym (eq-eqb e.seat n same) ∙ apart)), rest h)
+
+-- a copy whose pass has entered nothing has granted nothing
+pub nothing_granted : (setting : Setting) (copy : ℕ) (v : View) → v.number ≡ copy_seat copy → Legal setting v.seen → v.mine ≡ entries_of v.number v.seen → v.mine ≡ [] → grants v.seen copy ≡ []
+nothing_granted setting copy v number legal mine fresh =
+    let others = none_of_number (copy_seat copy) v.seen (subst (λ n. entries_of n v.seen ≡ []) number (sym mine ∙ fresh)) in
+    let all : v.seen ++ [] ≡ v.seen = append-nil v.seen in
+    ap (λ p. grants p copy) (sym all) ∙ grants_kept setting [] copy v.seen (others_grant_none setting [] copy v.seen (subst (Legal setting) (sym all) legal) others)

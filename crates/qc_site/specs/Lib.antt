@@ -11,3 +11,4 @@ pub mod AtDesk
 pub mod Log
 pub mod Sites
 pub mod Serving
+pub mod Beginning

@@ -1,5 +1,4 @@
 -- Why a request was not answered by the desk.
-use Rattle.std.specs.Prelude.{◌≡◌}
 use Rattle.qc_event.specs.declared.log.Short.TheVariants as short
 use Rattle.qc_journal.specs.declared.fault.Fault.{Fault}
 use Rattle.qc_journal.specs.declared.fault.Fault.TheVariants as fault

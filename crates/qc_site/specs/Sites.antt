@@ -1,5 +1,5 @@
 -- A site: what it has in hand, what it enters, and what its disk keeps.
-use Rattle.std.specs.Prelude.{ℕ, ◌≡◌, ◌⊎◌, true, false, List, [], ◌∷◌, Option, None, Some, Result, Ok, Err, is_some}
+use Rattle.std.specs.Prelude.{ℕ, ◌⊎◌, List, [], ◌∷◌}
 use Rattle.qc_config.specs.declared.tuple.Tuple.{Tuple}
 use Rattle.qc_copy.specs.State.{grant_with}
 use Rattle.qc_disk.specs.declared.disk.Disk.{Ghosts}
@@ -8,10 +8,7 @@ use Rattle.qc_event.specs.declared.event.Answered.TheVariants as answer
 use Rattle.qc_event.specs.declared.event.Ask.{Ask}
 use Rattle.qc_event.specs.declared.event.Entry.{Entry}
 use Rattle.qc_event.specs.declared.event.Event.TheVariants as event
-use Rattle.qc_event.specs.declared.event.Grant.{Grant}
-use Rattle.qc_event.specs.declared.event.Refusal.{Refusal}
 use Rattle.qc_event.specs.declared.event.Refusal.TheVariants as refusal
-use Rattle.qc_event.specs.declared.event.Why.{Why}
 use Rattle.qc_event.specs.declared.event.Why.TheVariants as why
 use Rattle.qc_event.specs.History.{Past, grants}
 use Rattle.qc_event.specs.Seats.{copy_seat}

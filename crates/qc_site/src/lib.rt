@@ -2,6 +2,7 @@
 #![tactic(auto)]
 
 mod back;
+mod beginning;
 mod compare;
 mod fault;
 mod fits;

@@ -103,3 +103,9 @@ returns-in-Ok-begin-clause-start g c =
     ∙ start_is table copy past.tops (readings form found) c.requires.copy
     ∙ ap (restored_row past.tops (length table.records) (start_tuple (base_of table) copy))
     (sym (written_none copy table past fits found) ∙ ap (readings form) (sym c.in-Ok-begin.ensures.bodies))
+
+pub invariant_of-result : goal.invariant_of-result
+invariant_of-result g c = record {
+  up = λ down. down c.in-Ok-begin.ensures.up;
+  few = few_copies c.args.table.now c.requires.proper;
+}

@@ -1,12 +1,11 @@
 use Rattle.std.proofs.Common.{◌≡◌, ap, sym, ◌∙◌, subst}
 use Rattle.std.specs.Prelude.{Some}
-use Rattle.qc_copy.specs.State.{again, grant_with}
+use Rattle.qc_copy.specs.State.{again}
 use Rattle.qc_event.specs.History.{grants}
 use Rattle.qc_event.specs.Legal.{Legal}
 use Rattle.qc_event.specs.Tables.{setting_of}
 use Rattle.qc_pass.specs.Consulting.{HasAsked}
 use Rattle.qc_pass.proofs.Consulting.{asked_later}
-use Rattle.qc_site.specs.AtDesk.{IsGranted}
 use Rattle.qc_site.specs.Replica.{Standing}
 use Rattle.qc_site.proofs.Replicas.{again_told, told_again}
 use Rattle.qc_site.proofs.replica.Replica.again.Goals as goal

@@ -1,13 +1,10 @@
-use Rattle.std.proofs.Common.{◌≡◌, ◌++◌, sym, ap, ◌∙◌, subst}
+use Rattle.std.proofs.Common.{◌++◌, sym, ap, ◌∙◌, subst}
 use Rattle.std.specs.Prelude.{Some, IfSome, option_to_list}
 use Rattle.qc_event.specs.History.{grants}
 use Rattle.qc_pass.specs.declared.view.View.{View}
 use Rattle.qc_pass.specs.Entries.{IsOlder}
 use Rattle.qc_site.proofs.Backs.{on_err}
-use Rattle.qc_event.specs.declared.event.Event.TheVariants as event
-use Rattle.qc_event.specs.declared.event.Grant.{Grant}
 use Rattle.qc_event.specs.Tables.{setting_of}
-use Rattle.qc_site.specs.declared.lock_table.LockTable.{LockTable}
 use Rattle.qc_site.specs.Replica.{IsKept, IsTableOf, Standing}
 use Rattle.qc_site.proofs.Replicas.{granted_last, kept_on, looked_none, kept_granted, older_entered, only_looks, table_granted}
 use Rattle.qc_site.proofs.replica.Replica.append.Goals as goal

@@ -1,5 +1,5 @@
-use Rattle.std.proofs.Common.{◌≡◌, ◌<◌, ◌++◌, [], length, sym, ap, ◌∙◌, subst, arith}
-use Rattle.std.specs.Prelude.{None, Some, slice_index_or}
+use Rattle.std.proofs.Common.{◌≡◌, ◌<◌, ◌++◌, length, sym, ap, ◌∙◌, subst}
+use Rattle.std.specs.Prelude.{None, Some}
 use Rattle.qc_copy.specs.declared.state.Verdict.TheVariants as verdict
 use Rattle.qc_copy.specs.State.{again}
 use Rattle.qc_event.specs.Grants.{MayGrant}

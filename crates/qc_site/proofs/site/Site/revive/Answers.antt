@@ -1,4 +1,4 @@
-use Rattle.std.proofs.Common.{sym, ap, ◌∙◌, subst}
+use Rattle.std.proofs.Common.{sym, subst}
 use Rattle.std.specs.Prelude.{IsErrOf}
 use Rattle.qc_site.specs.declared.fault.SiteNo.TheVariants.{Disk}
 use Rattle.qc_pass.specs.declared.view.View.{View}
@@ -6,7 +6,6 @@ use Rattle.qc_pass.specs.Entries.{IsOlder}
 use Rattle.qc_pass.proofs.Seers.{older_trans}
 use Rattle.qc_ledger.specs.Runs.{Costs}
 use Rattle.qc_site.specs.Log.{journal_in}
-use Rattle.qc_site.specs.Replica.{Standing}
 use Rattle.qc_site.proofs.Logs.{same_over}
 use Rattle.qc_site.proofs.Refusals.{no_disk_no, want_is_revive}
 use Rattle.qc_site.proofs.site.Site.revive.Goals as goal
