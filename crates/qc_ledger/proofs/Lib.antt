@@ -3,6 +3,6 @@ pub mod Numbers
 pub mod Firsts
 pub mod Writing
 pub mod Mounts
-mod Logging
+pub mod Logging
 pub mod Verdicts
-mod Passes
+pub mod Passes

@@ -75,7 +75,8 @@ none_made made (b ∷ bodies) none = absurd (true≢false (sym none ∙ eqb-suc-
 
 -- THE DISK
 
-up_hand : (state : State) → IsUpState state → hand_of state ≡ None
+-- one that is up has nothing in hand
+pub up_hand : (state : State) → IsUpState state → hand_of state ≡ None
 up_hand (Up missing) up = refl
 up_hand (Down held) up = absurd up
 

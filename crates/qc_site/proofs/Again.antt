@@ -1,29 +1,26 @@
 -- What an access was granted is found among the grants of the copy that it asked.
-use Rattle.std.proofs.Common.{◌≡◌, ℕ, ◌<◌, Bool, true, false, List, [], ◌∷◌, ◌++◌, length, refl, sym, ap, ap₂, ◌∙◌, subst, arith, append-nil, inl, inr}
-use mathlib.Core.Bool.{true≢false}
-use Rattle.std.specs.Prelude.{Option, None, Some, MatchOption, ◌==◌, if◌then◌else◌, option_to_list, option_and_then, slice_index_or}
+use Rattle.std.proofs.Common.{◌≡◌, ℕ, ◌<◌, Bool, true, false, [], ◌∷◌, ◌++◌, length, refl, sym, ap, ◌∙◌, subst, arith, append-nil, inl, inr}
+use Rattle.std.specs.Prelude.{Option, None, Some, ◌==◌, if◌then◌else◌, option_to_list, option_and_then, slice_index_or}
 use Rattle.std.specs.List.{All}
-use Rattle.std.specs.Option.{option_or, option_map}
-use Rattle.std.proofs.lemmas.Bool.{false_from_ne_true, eqb-true, eq-eqb}
+use Rattle.std.specs.Option.{option_or}
+use Rattle.std.proofs.lemmas.Bool.{eq-eqb}
 use Rattle.qc_config.specs.declared.tuple.Tuple.{Tuple}
-use Rattle.qc_copy.specs.Rising.{first_with}
 use Rattle.qc_copy.specs.State.{again, grant_with}
 use Rattle.qc_copy.proofs.Asked.{asked_fits}
 use Rattle.qc_copy.proofs.PutConfigs.{each_granted}
 use Rattle.qc_copy.proofs.Serving.{again_more}
 use Rattle.qc_event.specs.declared.event.Ask.{Ask}
-use Rattle.qc_event.specs.declared.event.Entry.{Entry}
 use Rattle.qc_event.specs.declared.event.Event.{Event}
 use Rattle.qc_event.specs.declared.event.Event.TheVariants as event
 use Rattle.qc_event.specs.declared.event.Grant.{Grant}
 use Rattle.qc_event.specs.Base.{Setting, IsProper}
 use Rattle.qc_event.specs.Grants.{MayGrant}
 use Rattle.qc_event.specs.History.{Past, Name, Asked, Given, same, asked, granted, grant_in, grant_at, grants}
-use Rattle.qc_event.specs.Legal.{Legal, Allowed, MayHappen}
-use Rattle.qc_event.proofs.Absent.{same_is, same_itself, if_not}
+use Rattle.qc_event.specs.Legal.{Legal, MayHappen}
+use Rattle.qc_event.proofs.Absent.{same_is}
 use Rattle.qc_event.proofs.OneEntry.{if_is, first_is}
 use Rattle.qc_pass.specs.Consulting.{HasAsked}
-use Rattle.qc_event.proofs.Options.{some_there}
+use Rattle.qc_event.proofs.Options.{some_there, still}
 use Rattle.qc_pass.proofs.Consulting.{stands}
 use Rattle.qc_pass.proofs.Granting.{asked_stays}
 
@@ -75,23 +72,19 @@ granted_asked setting (e ∷ past) n x legal is = elim (first_is (granted past n
 abbrev pub tuple_at : ℕ → Given → Option Tuple
 tuple_at copy x = if x.copy == copy then Some x.grant.tuple else None
 
-or_none : {Y : Type 0} (o : Option Y) → option_or o None ≡ o
-or_none None = refl
-or_none (Some y) = refl
-
 -- what the copy's grants tell is what the history does, of an access that the copy granted
 module _ (setting : Setting) (past : Past) (copy : ℕ) (n : Name) (seat : ℕ) (before : again (grants past copy) n ≡ option_and_then (tuple_at copy) (granted past n)) where
   unchanged : (ev : Event) → grant_at copy ev ≡ None → grant_in n ev ≡ None → again (grants past copy ++ option_to_list (grant_at copy ev)) n ≡ option_and_then (tuple_at copy) (option_or (granted past n) (grant_in n ev))
   unchanged ev at here =
       ap (λ o. again (grants past copy ++ option_to_list o) n) at ∙ ap (λ gs. again gs n) (append-nil (grants past copy)) ∙ before
-      ∙ ap (option_and_then (tuple_at copy)) (sym (or_none (granted past n)) ∙ ap (option_or (granted past n)) (sym here))
+      ∙ ap (option_and_then (tuple_at copy)) (sym (still (granted past n)) ∙ ap (option_or (granted past n)) (sym here))
 
   -- another access was granted
   other : (c : ℕ) (g : Grant) → same g.access n ≡ false → (b : Bool) → again (grants past copy ++ option_to_list (if b then Some g else None)) n ≡ option_and_then (tuple_at copy) (option_or (granted past n) (if same g.access n then Some (record { copy = c; grant = g }) else None))
-  other c g apart b = by_test b ∙ before ∙ ap (option_and_then (tuple_at copy)) (sym (or_none (granted past n)) ∙ ap (λ (x : Bool). option_or (granted past n) (if x then Some (record { copy = c; grant = g }) else None)) (sym apart))
+  other c g apart b = by_test b ∙ before ∙ ap (option_and_then (tuple_at copy)) (sym (still (granted past n)) ∙ ap (λ (x : Bool). option_or (granted past n) (if x then Some (record { copy = c; grant = g }) else None)) (sym apart))
     where
       by_test : (x : Bool) → again (grants past copy ++ option_to_list (if x then Some g else None)) n ≡ again (grants past copy) n
-      by_test true = again_more (grants past copy) g n ∙ ap (λ (x : Bool). option_or (again (grants past copy) n) (if x then Some g.tuple else None)) apart ∙ or_none (again (grants past copy) n)
+      by_test true = again_more (grants past copy) g n ∙ ap (λ (x : Bool). option_or (again (grants past copy) n) (if x then Some g.tuple else None)) apart ∙ still (again (grants past copy) n)
       by_test false = ap (λ gs. again gs n) (append-nil (grants past copy))
 
   -- this access was granted, for the first time
@@ -131,13 +124,11 @@ again_is setting (e ∷ past) copy n legal = one_more setting past copy n e.seat
 -- A REQUEST OF THIS COPY
 
 module _ (setting : Setting) (past : Past) (ask : Ask) (legal : Legal setting past) (has : HasAsked past ask) where
-  request : (seat : ℕ) × (asked past ask.access ≡ Some (record { seat = seat; ask = ask }))
-  request = stands (asked past ask.access) ask has
-
   -- what it was granted is what it asked for
   pub granted_is : (x : Given) → granted past ask.access ≡ Some x → x ≡ record { copy = ask.copy; grant = grant_with ask x.grant.tuple }
   granted_is x is =
       let was = granted_asked setting past ask.access x legal is in
+      let request = stands (asked past ask.access) ask has in
       let one : Some was.request.0 ≡ Some (record { seat = request.0; ask = ask }) = sym was.request.1 ∙ request.1 in
       let same_ask : was.request.0 ≡ record { seat = request.0; ask = ask } = cc in
       let told : record { access = x.grant.access; copy = x.copy; rec = x.grant.rec; op = x.grant.op } ≡ ask = sym was.request.2 ∙ ap (λ (a : Asked). a.ask) same_ask in

@@ -101,8 +101,3 @@ module _ (copy : ℕ) where
     begin_refusal K told kept bodies same has keeps refused is =
         image_also (λ f. K → IsFault copy table past kept bodies f) (λ f. IfSome told (IsFirstFault (IsFault copy table past limit) f))
         (λ f at. first_told (IsFault copy table past limit) bodies (λ place broken. broken) told f has (λ some. subst (λ n. IsFault copy table past n bodies f) same (at (keeps some)))) refused is
-
--- what is found is said of what a disk tells
-pub fine_told : (M : Type 0) (told : Option (List ℕ)) (found : List (List ℕ)) → IfSome told (HasRecords found) → (IsSome told → M) → IfSome told (λ bytes. HasRecords found bytes × M)
-fine_told M None found has also = tt
-fine_told M (Some bytes) found has also = (has, also refl)

@@ -1,26 +1,20 @@
 -- What reading a journal back finds.
-use Rattle.std.proofs.Common.{◌≡◌, ◌⊎◌, inl, inr, ℕ, List, [], ◌∷◌, ◌++◌, refl, ap, sym, subst}
+use Rattle.std.proofs.Common.{◌≡◌, inl, inr, ℕ, List, [], ◌∷◌, ◌++◌, refl, sym, subst}
 use Rattle.std.specs.Prelude.{Bool, Option, None, Some, IfSome, IfOk, Result, Ok, Err}
 use Rattle.qc_event.specs.declared.event.Grant.{Grant}
 use Rattle.qc_site.specs.declared.back.BackNo.{BackNo}
 use Rattle.qc_disk.specs.Disk.{IsImage}
 use Rattle.qc_disk.specs.declared.disk.Disk.{Ghosts}
-use Rattle.qc_journal.specs.Image.{EndsAt, HasRecords, IsBroken}
-use Rattle.qc_journal.specs.Journal.{in_hand, place_of, with_hand, IsUp, Keeps, Stands}
-use Rattle.qc_journal.specs.State.{IsUpState, hand_of}
+use Rattle.qc_journal.specs.Image.{HasRecords, IsBroken}
+use Rattle.qc_journal.specs.Journal.{in_hand, IsUp, Keeps, Stands}
 use Rattle.qc_journal.specs.declared.journal.Journal.{Journal}
-use Rattle.qc_journal.specs.declared.journal.State.{State}
-use Rattle.qc_journal.specs.declared.journal.State.TheVariants.{Up, Down}
 use Rattle.qc_journal.proofs.Readings.{records-same, records_not_broken}
+use Rattle.qc_ledger.proofs.Writing.{up_hand}
 use Rattle.qc_site.specs.Back.{IsFound, IsLeft, Says}
 
 -- one that is up has nothing in hand
-up_empty : (s : State) → IsUpState s → hand_of s ≡ None
-up_empty (Up missing) up = refl
-up_empty (Down held) up = absurd up
-
 pub nothing_in_hand : {D : Type 0} {g : Ghosts D} (journal : Journal D g) → IsUp journal → in_hand journal ≡ None
-nothing_in_hand journal up = up_empty journal.state up
+nothing_in_hand journal up = up_hand journal.state up
 
 pub found_by : (place : ℕ) (bodies found : List (List ℕ)) (hand : Option (List ℕ)) (image : List ℕ) → Stands place bodies hand image → HasRecords found image → IsFound bodies hand found
 found_by place bodies found None image stands has = inl (records-same image bodies found (inr (place, stands)) has)

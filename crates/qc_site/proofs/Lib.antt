@@ -10,3 +10,4 @@ mod Replicas
 mod Again
 mod Found
 mod Logs
+mod Refusals

@@ -1,24 +1,33 @@
 -- What a copy's disk goes on to keep of its grants.
-use Rattle.std.proofs.Common.{◌≡◌, ◌⊎◌, inl, inr, ℕ, zero, suc, ◌+◌, ◌<◌, ◌≤◌, Bool, true, false, List, [], ◌∷◌, ◌++◌, length, map, drop, refl, sym, ap, ap₂, ◌∙◌, subst, arith, append_assoc, append-nil}
-use Rattle.std.specs.Prelude.{Option, None, Some, IfSome, IfOk, IfErr, OnOk, OnErr, Result, Ok, Err, option_to_list, slice_get, slice_index_or, if◌then◌else◌}
+use Rattle.std.proofs.Common.{◌≡◌, ◌⊎◌, inl, inr, ℕ, zero, suc, ◌<◌, ◌≤◌, Bool, true, false, List, [], ◌∷◌, ◌++◌, length, map, drop, refl, sym, ap, ap₂, ◌∙◌, subst, arith, append_assoc, append-nil}
+use Rattle.std.specs.Prelude.{◌↔◌, Option, None, Some, IfSome, IfOk, IfErr, OnOk, OnErr, Result, Ok, Err, option_to_list, slice_get, slice_index_or, if◌then◌else◌}
 use Rattle.std.specs.List.{All}
 use Rattle.std.specs.Option.{option_map}
 use Rattle.std.proofs.lemmas.List.{drop_at, map-append, length-append, length-map}
-use Rattle.std.proofs.lemmas.List.Elements.{All-nil, All-cons, All-head, All-tail, All-append, All-get_or}
+use Rattle.std.proofs.lemmas.List.Elements.{All-nil, All-cons, All-head, All-tail, All-append}
 use Rattle.qc_codec.specs.Bodies as body
 use Rattle.qc_codec.specs.Fields.{format_1}
 use Rattle.qc_codec.specs.Form.{all_of}
 use Rattle.qc_codec.proofs.Bodies.{exact_grant}
-use Rattle.qc_codec.proofs.Exact.{all_again, some_is}
+use Rattle.qc_codec.proofs.Exact.{all_again}
+use Rattle.std.proofs.lemmas.Option.{same_Some}
 use Rattle.qc_disk.specs.declared.disk.Disk.{Ghosts}
 use Rattle.qc_event.specs.declared.event.Grant.{Grant}
-use Rattle.qc_journal.specs.Image.{HasRecords}
-use Rattle.qc_disk.specs.Disk.{IsImage}
+use Rattle.qc_journal.specs.Image.{HasAt, HasRecords}
+use Rattle.qc_disk.specs.Disk.{HasCause, IsImage}
 use Rattle.qc_journal.specs.declared.fault.Fault.{Fault}
 use Rattle.qc_journal.specs.declared.fault.Fault.TheVariants as fault
-use Rattle.qc_journal.specs.Journal.{in_hand, with_hand, AppendLeaves, IsDown, IsUp, Keeps, TakesInHand}
+use Rattle.qc_journal.specs.Journal.{disk_of, in_hand, with_hand, AppendLeaves, IsDown, IsUp, Keeps, TakesInHand}
 use Rattle.qc_journal.specs.declared.journal.Journal.{Journal}
 use Rattle.qc_site.specs.Back.{grant_body, AreGrants, IsAnswer, IsFirstApart, IsFirstUnread, IsFound, IsLeft, IsPlain, IsWithHand, Says, Stand}
+use Rattle.qc_copy.specs.State.{grant_with}
+use Rattle.qc_event.specs.declared.event.Ask.{Ask}
+use Rattle.qc_event.specs.Base.{no_tuple}
+use Rattle.qc_journal.proofs.Moments.{grows_by_falls, started}
+use Rattle.qc_ledger.proofs.Writing.{kept_has}
+use Rattle.qc_ledger.proofs.Logging.{up_by}
+use Rattle.qc_ledger.specs.Runs.{Falls, HasOrMore, LosesNone}
+use Rattle.qc_site.specs.Sites.{LeavesGrant}
 use Rattle.qc_site.specs.Log.{IsOver}
 use Rattle.qc_site.specs.declared.back.BackNo.{BackNo}
 use Rattle.qc_site.specs.declared.back.BackNo.TheVariants as no_back
@@ -43,7 +52,7 @@ map_is [] (x ∷ xs) is = absurd cc
 map_is (g ∷ gs) (x ∷ xs) is =
     let heads : Some x ≡ Some g = cc in
     let rests : map Some xs ≡ map Some gs = cc in
-    ap₂ (λ (y : Grant) (ys : List Grant). y ∷ ys) (sym (some_is x g heads)) (map_is gs xs rests)
+    ap₂ (λ (y : Grant) (ys : List Grant). y ∷ ys) (sym (same_Some x g heads)) (map_is gs xs rests)
 
 -- GRANTS THAT ARE READ AGAIN
 
@@ -320,3 +329,51 @@ module _ {D : Type 0} {g : Ghosts D} (old new : GrantLog D g) (grant : Grant) (s
     | inl is ↦ absurd (down (subst (λ (j : Journal D g). IsUp j) (sym is) up))
     | inr takes ↦ unsure_over takes kept
   ]
+
+-- THE GRANT IN HAND IS ENTERED
+
+pub entered_over : {D : Type 0} {g : Ghosts D} (before : List (List ℕ)) (log : GrantLog D g) (given : List Grant) (hand : Option Grant) → IsUp log.journal → IsOver before log given hand → IsOver before log (given ++ option_to_list hand) None
+entered_over before log given hand up k =
+    let all : given ++ k.rest ≡ (given ++ option_to_list hand) ++ [] = ap (λ (r : List Grant). given ++ r) (k.up up) ∙ sym (append-nil (given ++ option_to_list hand)) in
+    record {
+      rest = [];
+      is_hand = inl refl;
+      up = λ _. refl;
+      keeps = subst (λ (gs : List Grant). Keeps log.journal (before ++ map (grant_body log.copies) gs)) all k.keeps;
+      in_journal = inl (nothing_in_hand log.journal up);
+      size = k.size;
+      fits = subst (All (Fit log.copies)) (sym (append-nil (given ++ option_to_list hand))) k.fits;
+    }
+
+-- the same grants and the same grant in hand
+pub same_over : {D : Type 0} {g : Ghosts D} (before : List (List ℕ)) (log : GrantLog D g) (given now : List Grant) (hand held : Option Grant) → now ≡ given → held ≡ hand → IsOver before log given hand → IsOver before log now held
+same_over before log given now hand held same is k = subst (λ (x : List Grant × Option Grant). IsOver before log x.0 x.1) (λ i. (sym same i, sym is i)) k
+
+-- where nothing is written
+pub unchanged : {D : Type 0} {g : Ghosts D} (copies : ℕ) (ask : Ask) (j : Journal D g) (bodies : List (List ℕ)) → ((c : List ℕ) → (g.view (disk_of j)).left_at (g.view (disk_of j)).moment c ↔ (g.view (disk_of j)).may_leave c) → (IsDown j → ⊥) → Keeps j bodies
+    → LeavesGrant copies ask j j bodies
+unchanged {D} {g} copies ask j bodies law never k =
+    (no_tuple, started g.view (disk_of j) (HasOrMore bodies (grant_body copies (grant_with ask no_tuple))) (λ c at. inl (kept_has j bodies c (up_by j.state never) k ((law c).0 at))))
+
+-- where images only fall away, none loses a record
+pub falls_grow : {D : Type 0} {g : Ghosts D} (old new : Journal D g) → Falls old new → LosesNone old new
+falls_grow {D} {g} old new falls index had = grows_by_falls g.view (disk_of old) (disk_of new) (HasAt index had) falls
+
+-- a count of faults over two runs
+pub cause_on : (a b c : ℕ) (First Then : Type 0) → HasCause a b First → HasCause b c Then → HasCause a c Then
+cause_on a b c First Then one two = record {
+  later = omega (arith, one.later, two.later);
+  failed = λ failed. let rose = two.failed failed in omega (arith, one.later, rose);
+}
+
+-- at first nothing was granted
+pub first_over : {D : Type 0} {g : Ghosts D} (before : List (List ℕ)) (log : GrantLog D g) → (IsDown log.journal → ⊥) → Keeps log.journal before → log.earlier ≡ length before → IsOver before log [] None
+first_over before log never keeps size = record {
+  rest = [];
+  is_hand = inl refl;
+  up = λ _. refl;
+  keeps = subst (Keeps log.journal) (sym (append-nil before)) keeps;
+  in_journal = inl (nothing_in_hand log.journal (up_by log.journal.state never));
+  size = size;
+  fits = All-nil (Fit log.copies);
+}

@@ -1,6 +1,7 @@
 -- What a copy goes on to know at its desk.
-use Rattle.std.proofs.Common.{◌≡◌, ◌⊎◌, inl, inr, ℕ, ◌<◌, Bool, true, List, [], ◌∷◌, ◌++◌, length, refl, sym, ap, ◌∙◌, subst, arith, append_assoc}
-use Rattle.std.specs.Prelude.{Option, None, Some, IfSome, Result, Ok, Err, OnOk, IfOk, IfErr, cond, option_to_list, slice_index_or}
+use Rattle.std.proofs.Common.{◌≡◌, inl, inr, ℕ, Bool, true, false, List, [], ◌∷◌, ◌++◌, refl, sym, ap, ◌∙◌, subst, append-nil}
+use Rattle.std.specs.Prelude.{◌==◌, Option, None, Some, IfSome, Result, Ok, Err, OnOk, IfOk, IfErr, cond, if◌then◌else◌, option_and_then, option_to_list, slice_index_or}
+use Rattle.std.specs.Option.{option_or}
 use Rattle.std.proofs.lemmas.Bool.{eq-eqb}
 use Rattle.qc_copy.specs.declared.state.Verdict.{Verdict}
 use Rattle.qc_copy.specs.declared.state.Verdict.TheVariants as verdict
@@ -12,27 +13,29 @@ use Rattle.qc_ledger.specs.Entered.{SeesMore}
 use Rattle.qc_pass.specs.declared.refusal.DeskNo.{DeskNo}
 use Rattle.qc_pass.specs.Consulting.{HasAsked, IsTold}
 use Rattle.qc_copy.specs.State.{again, grant_with}
-use Rattle.qc_site.proofs.Again.{none_granted}
+use Rattle.qc_site.proofs.Again.{again_granted, again_is, none_granted, tuple_at}
+use Rattle.qc_event.proofs.Absent.{same_itself}
 use Rattle.qc_pass.specs.Refusing.{against_nothing}
 use Rattle.qc_pass.specs.Rules.{knows, extends}
-use Rattle.qc_site.specs.AtDesk.{MayHaveLooked}
+use Rattle.qc_site.specs.AtDesk.{IsGranted, MayHaveLooked, OnlyLooks}
 use Rattle.qc_config.specs.declared.tuple.Tuple.{Tuple}
 use Rattle.qc_copy.specs.Repeats.{AreOf}
 use Rattle.qc_event.specs.declared.event.Entry.{Entry}
 use Rattle.qc_event.specs.declared.event.Grant.{Grant}
 use Rattle.qc_event.specs.Base.{Setting}
 use Rattle.qc_event.specs.Grants.{MayGrant}
-use Rattle.qc_event.specs.History.{Past, Name, grants, grant_at}
+use Rattle.qc_event.specs.History.{Past, Name, grants, grant_at, grant_in}
 use Rattle.qc_event.specs.Legal.{Legal}
 use Rattle.qc_event.specs.Seats.{copy_seat}
 use Rattle.qc_moss.specs.Follows.{Follows}
 use Rattle.qc_moss.proofs.Tables.{grows}
 use Rattle.qc_pass.specs.declared.view.View.{View}
 use Rattle.qc_pass.specs.Calling.{Entered, Looked, Refused, Shown}
-use Rattle.qc_pass.specs.Entries.{AreOthers, IsOlder, IsSince, entry}
+use mathlib.Core.Bool.{true≢false}
+use Rattle.qc_pass.specs.Entries.{entries_of, AreOthers, IsOlder, IsSince, entry}
 use Rattle.qc_pass.proofs.NoGrants.{AreNoGrants, grants_kept, grant_still_allowed, others_grant_none}
 use Rattle.qc_site.specs.declared.lock_table.LockTable.{LockTable}
-use Rattle.qc_site.specs.Replica.{IsKept, IsTableOf, HasRoomFor}
+use Rattle.qc_site.specs.Replica.{IsKept, IsTableOf, HasRoomFor, Standing}
 
 follows_more : (newer past : Past) (given : List Grant) (t : LockTable) → Follows past given t.locks → Follows (newer ++ past) given t.locks
 follows_more [] past given t f = f
@@ -249,3 +252,61 @@ pub table_at : (base : List (List Tuple)) (start : List Tuple) (past : Past) (as
     → IsTableOf (slice_index_or base asked []) past asked t → IsTableOf start past copy t
 table_at base start past asked copy t is starts was =
     subst (λ (row : List Tuple). IsTableOf row past copy t) (sym starts) (subst (λ c. IsTableOf (slice_index_or base c []) past c t) is was)
+
+-- WHAT IS TOLD OF A CALL
+
+pub only_looks : (setting : Setting) (copy : ℕ) (old new : Standing) (v : View) → v ≡ old.pass → Legal setting new.pass.seen → HasNoGrant copy v new.pass → new.pass.mine ≡ v.mine → OnlyLooks copy old new
+only_looks setting copy old new v is legal more mine = record {
+  mine = mine ∙ ap (λ (x : View). x.mine) is;
+  same_grants = same_grants setting copy v new.pass legal more ∙ ap (λ (x : View). grants x.seen copy) is;
+  older = (more.newer, more.seen ∙ ap (λ (x : View). more.newer ++ x.seen) is);
+}
+
+-- a grant that is entered is the last of the copy's, and the history tells it
+pub granted_last : (setting : Setting) (copy : ℕ) (v w : View) (g : Grant) → v.number ≡ copy_seat copy → Legal setting w.seen → Entered against_nothing (event.Granted copy g) v w → grants w.seen copy ≡ grants v.seen copy ++ g ∷ []
+granted_last setting copy v w g number legal enters =
+    let e = entry v.number (event.Granted copy g) in
+    let seen : w.seen ≡ e ∷ enters.0 = ap (λ (x : View). x.seen) enters.3 in
+    let before : Legal setting enters.0 = (subst (Legal setting) seen legal).0 in
+    ap (λ p. grants p copy) seen ∙ granted_here enters.0 v.number copy g
+    ∙ ap (λ gs. gs ++ g ∷ []) (same_grants setting copy v (knows enters.0 v) before (looked_none setting copy v (knows enters.0 v) number before (enters.1, refl)))
+
+pub granted_told : (setting : Setting) (copy : ℕ) (v w : View) (g : Grant) → Legal setting w.seen → Entered against_nothing (event.Granted copy g) v w → IsGranted copy w.seen g
+granted_told setting copy v w g legal enters =
+    let e = entry v.number (event.Granted copy g) in
+    let seen : w.seen ≡ e ∷ enters.0 = ap (λ (x : View). x.seen) enters.3 in
+    let may : MayGrant setting enters.0 v.number copy g = (subst (Legal setting) seen legal).1 in
+    subst (λ p. IsGranted copy p g) (sym seen)
+    (ap (λ o. option_or o (grant_in g.access (event.Granted copy g))) may.first_time
+    ∙ ap (λ (b : Bool). if b then Some (record { copy = copy; grant = g }) else None) (same_itself g.access))
+
+pub older_entered : (v w : View) (ev : Event) → Entered against_nothing ev v w → IsOlder v.seen w.seen
+older_entered v w ev enters =
+    (entry v.number ev ∷ enters.1.0, ap (λ (x : View). x.seen) enters.3 ∙ ap (λ (p : Past). entry v.number ev ∷ p) enters.1.1)
+
+-- what the copy's grants have of a request is what it was granted
+pub again_told : (setting : Setting) (copy : ℕ) (past : Past) (ask : Ask) (tuple : Tuple) → ask.copy ≡ copy → Legal setting past → HasAsked past ask → again (grants past copy) ask.access ≡ Some tuple → IsGranted copy past (grant_with ask tuple)
+again_told setting copy past ask tuple is legal has there =
+    subst (λ c. IsGranted c past (grant_with ask tuple)) is (again_granted setting past ask legal has tuple (ap (λ c. again (grants past c) ask.access) is ∙ there))
+
+-- and what it was granted they have
+pub told_again : (setting : Setting) (copy : ℕ) (past : Past) (ask : Ask) (tuple : Tuple) → Legal setting past → IsGranted copy past (grant_with ask tuple) → again (grants past copy) ask.access ≡ Some tuple
+told_again setting copy past ask tuple legal told =
+    again_is setting past copy ask.access legal ∙ ap (option_and_then (tuple_at copy)) told ∙ ap (λ (b : Bool). if b then Some tuple else None) (eq-eqb copy copy refl)
+
+-- AT FIRST
+
+none_of_number : (n : ℕ) (past : Past) → entries_of n past ≡ [] → AreOthers n past
+none_of_number n [] none = tt
+none_of_number n (e ∷ past) none = by_test (e.seat == n) refl none (none_of_number n past)
+  where
+    by_test : (b : Bool) → (e.seat == n) ≡ b → cond b (e ∷ entries_of n past) (entries_of n past) ≡ [] → (entries_of n past ≡ [] → AreOthers n past) → AreOthers n (e ∷ past)
+    by_test true is h rest = absurd cc
+    by_test false apart h rest = ((λ same. true≢false (sym (eq-eqb e.seat n same) ∙ apart)), rest h)
+
+-- a copy whose pass has entered nothing has granted nothing
+pub nothing_granted : (setting : Setting) (copy : ℕ) (v : View) → v.number ≡ copy_seat copy → Legal setting v.seen → v.mine ≡ entries_of v.number v.seen → v.mine ≡ [] → grants v.seen copy ≡ []
+nothing_granted setting copy v number legal mine fresh =
+    let others = none_of_number (copy_seat copy) v.seen (subst (λ n. entries_of n v.seen ≡ []) number (sym mine ∙ fresh)) in
+    let all : v.seen ++ [] ≡ v.seen = append-nil v.seen in
+    ap (λ p. grants p copy) (sym all) ∙ grants_kept setting [] copy v.seen (others_grant_none setting [] copy v.seen (subst (Legal setting) (sym all) legal) others)

@@ -1,26 +1,29 @@
 -- What a copy makes of its pass at its desk.
-use Rattle.std.specs.Prelude.{ℕ, ◌≡◌, ◌⊎◌, Option, None, Some}
+use Rattle.std.specs.Prelude.{ℕ, ◌≡◌, ◌⊎◌, [], ◌∷◌, Option, None, Some}
 use Rattle.qc_copy.specs.declared.state.Verdict.{Verdict}
 use Rattle.qc_copy.specs.declared.state.Verdict.TheVariants as verdict
 use Rattle.qc_copy.specs.State.{grant_with}
 use Rattle.qc_event.specs.declared.event.Ask.{Ask}
+use Rattle.qc_event.specs.declared.event.Entry.{Entry}
 use Rattle.qc_event.specs.declared.event.Event.TheVariants as event
 use Rattle.qc_event.specs.declared.event.Grant.{Grant}
+use Rattle.qc_event.specs.declared.event.Refusal.{Refusal}
+use Rattle.qc_event.specs.declared.event.Refusal.TheVariants as refusal
+use Rattle.qc_event.specs.declared.event.Why.{Why}
+use Rattle.qc_event.specs.History.{Past, granted, grants}
+use Rattle.qc_event.specs.Seats.{copy_seat}
 use Rattle.qc_pass.specs.declared.refusal.DeskNo.{DeskNo}
 use Rattle.qc_pass.specs.declared.view.View.{View}
-use Rattle.qc_pass.specs.Calling.{Entered, Looked}
-use Rattle.qc_pass.specs.Refusing.{against_nothing, IsWant}
+use Rattle.qc_pass.specs.Calling.{Looked}
+use Rattle.qc_pass.specs.Entries.{IsOlder, entry}
+use Rattle.qc_pass.specs.Refusing.{IsWant}
+use Rattle.qc_site.specs.Replica.{Standing}
 
 -- what is in hand after a consultation: the grant of a free request
 abbrev pub hand_after : Ask → Verdict → Option Grant
 hand_after ask (verdict.Free tuple) = Some (grant_with ask tuple)
 hand_after ask (verdict.Blocked holder) = None
 hand_after ask (verdict.Dead ancestor) = None
-
--- the grant in hand is entered, where there is one
-abbrev pub AppendsHand : ℕ → Option Grant → View → View → Type 0
-AppendsHand copy None v w = w ≡ v
-AppendsHand copy (Some grant) v w = Entered against_nothing (event.Granted copy grant) v w
 
 -- the pass is as it was, or has looked
 abbrev pub MayHaveLooked : View → View → Type 0
@@ -29,3 +32,33 @@ MayHaveLooked v w = (w ≡ v) ⊎ Looked v w
 -- memory was wanting, or the history takes no more entries
 abbrev pub IsWantAt : View → DeskNo → Type 0
 IsWantAt v refusal = IsWant v.seen refusal
+
+module _ (copy : ℕ) where
+  -- the entry of the grant in hand
+  abbrev pub hand_entries : Option Grant → Past
+  hand_entries None = []
+  hand_entries (Some grant) = entry (copy_seat copy) (event.Granted copy grant) ∷ []
+
+  -- that the copy refused a request
+  abbrev pub refused_entry : Ask → Refusal → Entry
+  refused_entry ask r = entry (copy_seat copy) (event.Refused ask.access copy r)
+
+  -- that it was unable to serve it
+  abbrev pub unable_entry : Ask → Why → Entry
+  unable_entry ask why = entry (copy_seat copy) (event.Unable ask.access why)
+
+  -- what a verdict enters: a refusal
+  abbrev pub verdict_entries : Ask → Verdict → Past
+  verdict_entries ask (verdict.Free tuple) = []
+  verdict_entries ask (verdict.Blocked holder) = refused_entry ask (refusal.Blocked holder) ∷ []
+  verdict_entries ask (verdict.Dead ancestor) = refused_entry ask (refusal.Dead ancestor) ∷ []
+
+  -- the history tells that the copy gave this grant
+  abbrev pub IsGranted : Past → Grant → Type 0
+  IsGranted past grant = granted past grant.access ≡ Some (record { copy = copy; grant = grant })
+
+  -- A copy has at most seen more, and entered nothing.
+  pub record OnlyLooks (old new : Standing) : Type 0 where
+    pub mine : new.pass.mine ≡ old.pass.mine
+    pub same_grants : grants new.pass.seen copy ≡ grants old.pass.seen copy
+    pub older : IsOlder old.pass.seen new.pass.seen

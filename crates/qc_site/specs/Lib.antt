@@ -10,3 +10,5 @@ pub mod Replica
 pub mod AtDesk
 pub mod Log
 pub mod Sites
+pub mod Serving
+pub mod Beginning

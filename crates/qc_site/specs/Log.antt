@@ -1,5 +1,5 @@
 -- What a copy's disk keeps of its grants.
-use Rattle.std.specs.Prelude.{ℕ, ◌≡◌, ◌⊎◌, List, [], ◌∷◌, ◌++◌, length, map, option_to_list, All, Option, None, Some}
+use Rattle.std.specs.Prelude.{ℕ, ◌≡◌, ◌⊎◌, List, [], ◌++◌, length, map, option_to_list, All, Option, None}
 use Rattle.std.specs.Option.{option_map}
 use Rattle.qc_codec.specs.Bodies as body
 use Rattle.qc_codec.specs.Fields.{format_1}

@@ -9,6 +9,13 @@ use Rattle.qc_site.specs.Image.{AreGranted, AreMountable, to_write}
 use Rattle.qc_site.specs.declared.fault.SiteNo.{SiteNo}
 use Rattle.qc_site.specs.declared.mounted.Mounted.{Mounted}
 
+-- which copy it is, and of how many
+abbrev pub copy_of : {D : Type 0} {g : Ghosts D} → Mounted D g → ℕ
+copy_of site = site.copy
+
+abbrev pub copies_of : {D : Type 0} {g : Ghosts D} → Mounted D g → ℕ
+copies_of site = site.copies
+
 -- the journal
 abbrev pub journal_of : {D : Type 0} {g : Ghosts D} → Mounted D g → Journal D g
 journal_of site = site.journal

@@ -1,5 +1,5 @@
 -- What a copy knows at its desk.
-use Rattle.std.specs.Prelude.{ℕ, ◌≡◌, ◌<◌, Bool, true, List, [], length, slice_index_or, Option, None, Some, IfSome, is_some}
+use Rattle.std.specs.Prelude.{ℕ, ◌≡◌, ◌<◌, Bool, true, List, [], length, slice_index_or, Option, IfSome}
 use Rattle.qc_config.specs.declared.tuple.Tuple.{Tuple}
 use Rattle.qc_copy.specs.Repeats.{AreOf, HasRoom}
 use Rattle.qc_event.specs.declared.event.Grant.{Grant}

@@ -1,5 +1,5 @@
 -- A site: what it has in hand, what it enters, and what its disk keeps.
-use Rattle.std.specs.Prelude.{ℕ, ◌≡◌, ◌⊎◌, true, false, List, [], ◌∷◌, Option, None, Some, Result, Ok, Err, is_some}
+use Rattle.std.specs.Prelude.{ℕ, ◌⊎◌, List, [], ◌∷◌}
 use Rattle.qc_config.specs.declared.tuple.Tuple.{Tuple}
 use Rattle.qc_copy.specs.State.{grant_with}
 use Rattle.qc_disk.specs.declared.disk.Disk.{Ghosts}
@@ -8,48 +8,35 @@ use Rattle.qc_event.specs.declared.event.Answered.TheVariants as answer
 use Rattle.qc_event.specs.declared.event.Ask.{Ask}
 use Rattle.qc_event.specs.declared.event.Entry.{Entry}
 use Rattle.qc_event.specs.declared.event.Event.TheVariants as event
-use Rattle.qc_event.specs.declared.event.Grant.{Grant}
-use Rattle.qc_event.specs.declared.event.Refusal.{Refusal}
 use Rattle.qc_event.specs.declared.event.Refusal.TheVariants as refusal
-use Rattle.qc_event.specs.declared.event.Why.{Why}
 use Rattle.qc_event.specs.declared.event.Why.TheVariants as why
 use Rattle.qc_event.specs.History.{Past, grants}
 use Rattle.qc_event.specs.Seats.{copy_seat}
+use Rattle.qc_journal.specs.Journal.{disk_of, limit_of, place_of, IsTooLong}
+use Rattle.qc_journal.specs.declared.journal.Journal.{Journal}
 use Rattle.qc_ledger.specs.Entered.{AtMost, GrowsBy, IsBehind}
+use Rattle.qc_ledger.specs.Runs.{HasOrMore, Leaves}
 use Rattle.qc_pass.specs.Entries.{entry}
+use Rattle.qc_site.specs.AtDesk.{hand_entries, refused_entry, unable_entry}
 use Rattle.qc_site.specs.Back.{grant_body}
 use Rattle.qc_site.specs.Log.{IsOver}
 use Rattle.qc_site.specs.Replica.{Standing}
 use Rattle.qc_site.specs.declared.fault.SiteNo.{SiteNo}
 use Rattle.qc_site.specs.declared.fault.SiteNo.TheVariants as no_site
 use Rattle.qc_site.specs.declared.log.GrantLog.{GrantLog}
-use Rattle.qc_site.specs.declared.serve.ServeNo.{ServeNo}
-use Rattle.qc_site.specs.declared.serve.ServeNo.TheVariants as no_serve
 
 module _ (copy : ℕ) where
-  -- the entry of the grant in hand
-  abbrev pub hand_entries : Option Grant → Past
-  hand_entries None = []
-  hand_entries (Some grant) = entry (copy_seat copy) (event.Granted copy grant) ∷ []
-
   -- The disk keeps what the copy granted, by what it has seen, and maybe the grant in hand.
   abbrev pub KeepsGranted : {D : Type 0} {g : Ghosts D} → List (List ℕ) → GrantLog D g → Standing → Type 0
   KeepsGranted before log standing = IsOver before log (grants standing.pass.seen copy) standing.hand
 
   -- at most the grant in hand was entered
   abbrev pub EntersHand : Standing → Standing → Type 0
-  EntersHand old new = AtMost (hand_entries old.hand) old.pass.mine new.pass.mine
+  EntersHand old new = AtMost (hand_entries copy old.hand) old.pass.mine new.pass.mine
 
   -- at most the grant in hand was entered, and then this
   abbrev pub EntersThen : Standing → Standing → Entry → Type 0
-  EntersThen old new e = IsBehind (hand_entries old.hand) (e ∷ []) old.pass.mine new.pass.mine
-
-  -- that the copy refused a request, was unable to serve it, or granted it
-  abbrev pub refused_entry : Ask → Refusal → Entry
-  refused_entry ask r = entry (copy_seat copy) (event.Refused ask.access copy r)
-
-  abbrev pub unable_entry : Ask → Why → Entry
-  unable_entry ask why = entry (copy_seat copy) (event.Unable ask.access why)
+  EntersThen old new e = IsBehind (hand_entries copy old.hand) (e ∷ []) old.pass.mine new.pass.mine
 
   abbrev pub granted_entry : Ask → Tuple → Entry
   granted_entry ask tuple = entry (copy_seat copy) (event.Granted copy (grant_with ask tuple))
@@ -57,11 +44,11 @@ module _ (copy : ℕ) where
   -- what each answer enters: a repeat nothing
   abbrev pub AnswerEnters : Ask → Answered → Standing → Standing → Type 0
   AnswerEnters ask (answer.Granted tuple) old new = EntersHand old new ⊎ EntersThen old new (granted_entry ask tuple)
-  AnswerEnters ask (answer.Blocked holder) old new = EntersThen old new (refused_entry ask (refusal.Blocked holder))
-  AnswerEnters ask (answer.Dead ancestor) old new = EntersThen old new (refused_entry ask (refusal.Dead ancestor))
-  AnswerEnters ask answer.Down old new = EntersThen old new (unable_entry ask why.Down)
-  AnswerEnters ask answer.Full old new = EntersThen old new (unable_entry ask why.Full)
-  AnswerEnters ask answer.Strange old new = EntersThen old new (unable_entry ask why.Strange)
+  AnswerEnters ask (answer.Blocked holder) old new = EntersThen old new (refused_entry copy ask (refusal.Blocked holder))
+  AnswerEnters ask (answer.Dead ancestor) old new = EntersThen old new (refused_entry copy ask (refusal.Dead ancestor))
+  AnswerEnters ask answer.Down old new = EntersThen old new (unable_entry copy ask why.Down)
+  AnswerEnters ask answer.Full old new = EntersThen old new (unable_entry copy ask why.Full)
+  AnswerEnters ask answer.Strange old new = EntersThen old new (unable_entry copy ask why.Strange)
 
 -- A request was answered by the locks.
 abbrev pub IsByLocks : Answered → Type 0
@@ -81,6 +68,22 @@ IsWantNo no_site.Memory = Unit {0}
 IsWantNo no_site.Room = Unit {0}
 IsWantNo _ = ⊥
 
--- An image has the records that some image had when the call began, or these and that of one grant of a request.
-abbrev pub GrowsByGrant : ℕ → Ask → (List ℕ → Type 0) → List ℕ → Type 0
-GrowsByGrant copies ask left image = (tuple : Tuple) × GrowsBy (grant_body copies (grant_with ask tuple)) left image
+-- the record of a grant of this request would pass the limit
+abbrev pub IsFullFor : {D : Type 0} {g : Ghosts D} → Ask → GrantLog D g → Type 0
+IsFullFor ask log = (tuple : Tuple) × IsTooLong (place_of log.journal) (limit_of log.journal) (grant_body log.copies (grant_with ask tuple))
+
+module _ {D : Type 0} {g : Ghosts D} (copies : ℕ) (ask : Ask) (old new : Journal D g) where
+  -- a crash at any moment leaves these records, or these and that of a grant of this request
+  abbrev pub LeavesGrant : List (List ℕ) → Type 0
+  LeavesGrant bodies = (tuple : Tuple) × Leaves old new (HasOrMore bodies (grant_body copies (grant_with ask tuple)))
+
+  -- it leaves the records that some image had when the call began, or these and that of a grant of this request
+  abbrev pub GrowsByGrant : Type 0
+  GrowsByGrant = (tuple : Tuple) × Leaves old new (GrowsBy (grant_body copies (grant_with ask tuple)) (g.view (disk_of old)).may_leave)
+
+-- what a request that the locks answer enters
+abbrev pub locks_enter : ℕ → Ask → Answered → Past
+locks_enter copy ask (answer.Granted tuple) = granted_entry copy ask tuple ∷ []
+locks_enter copy ask (answer.Blocked holder) = refused_entry copy ask (refusal.Blocked holder) ∷ []
+locks_enter copy ask (answer.Dead ancestor) = refused_entry copy ask (refusal.Dead ancestor) ∷ []
+locks_enter copy ask _ = []

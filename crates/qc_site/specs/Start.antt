@@ -11,4 +11,4 @@ from_row row rec = slice_index_or row rec no_tuple
 
 -- the tuples with which a mounted copy starts
 abbrev pub start_of : {D : Type 0} {g : Ghosts D} → Mounted D g → List Tuple
-start_of site = site.start.items
+start_of site = site.start

@@ -2,10 +2,12 @@
 #![tactic(auto)]
 
 mod back;
+mod beginning;
 mod compare;
 mod fault;
 mod fits;
 mod granted;
+mod granting;
 mod law;
 mod lists;
 mod lock_table;

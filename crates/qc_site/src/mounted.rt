@@ -1,23 +1,37 @@
 //! A copy that was mounted.
-ghost use Rattle.std.specs.Prelude.{◌≡◌};
-ghost use Rattle.qc_journal.specs.Journal.{disk_of, IsDown, IsUp};
+ghost use Rattle.std.specs.Prelude.{◌≡◌, ◌≤◌, ◌<◌, [], true, false, None, length, slice_index_or, is_some};
+ghost use Rattle.qc_event.specs.Seats.{copy_seat};
+ghost use Rattle.qc_journal.specs.Journal.{disk_of, IsDown, Keeps};
+ghost use Rattle.qc_site.specs.Log.{journal_in};
 
+use crate::beginning::Beginning;
+use crate::log::GrantLog;
+use crate::replica::Replica;
+use crate::site::Site;
 use qc_config::Tuple;
 use qc_disk::Disk;
 use qc_journal::{Body, Journal};
+use qc_pass::{Pass, Store};
+use std::alloc::Global;
 
-/// A copy that was mounted: its journal, which is up, the bodies of its records, and the tuples with which it starts.
+/// A copy that was mounted: its number, of so many copies, its journal, which is up, the bodies of its records, and what
+/// it starts with.
 #[derive(Drop)]
 pub struct Mounted<D: Disk> {
+    pub(crate) alloc: Global,
+    pub(crate) copy: u8,
+    pub(crate) copies: u8,
     pub(crate) journal: Journal<D>,
     pub(crate) bodies: Vec<Body>,
-    pub(crate) start: Vec<Tuple>,
+    pub(crate) start: Beginning,
     ghost up: { IsDown journal → ⊥ },
+    ghost few: { copies ≤ 16 },
 }
 
 impl<D: Disk> Mounted<D> {
     ghost use Rattle.qc_journal.specs.Image.{bodies_of};
-    ghost use Rattle.qc_site.specs.Mounted.{journal_of, records_of};
+    ghost use Rattle.qc_site.specs.Mounted.{copies_of, copy_of, journal_of, records_of};
+    ghost use Rattle.qc_site.specs.Sites.{KeepsGranted};
     ghost use Rattle.qc_site.specs.Start.{start_of};
 
     /// The bodies of its records, the one that says how it was made first.
@@ -31,7 +45,39 @@ impl<D: Disk> Mounted<D> {
     pub fn start(&self) -> &[Tuple]
         ensures { result.now ≡ start_of self.now }
     {
-        self.start.as_slice()
+        self.start.tuples()
+    }
+
+    /// The site of a desk, which a pass with the copy's number enters that has entered nothing. Where each image has the
+    /// records, it keeps what the copy granted in this run, which is nothing.
+    pub fn enter<N: Store, const C: u8>(self, pass: Pass<N>) -> Site<D, N, C>
+        requires copy { copy_of self ≡ C }
+        requires small { C < 16 }
+        requires copies { copies_of self ≡ length N.base }
+        requires pass { (pass.live ≡ true) × (pass.number ≡ copy_seat C) }
+        requires fresh { pass.mine ≡ [] }
+        requires start { start_of self ≡ slice_index_or N.base C [] }
+        ensures up { result.replica.up ≡ true }
+        ensures none { result.replica.hand ≡ None }
+        ensures pass { result.replica.pass ≡ pass }
+        ensures strange { is_some result.strange ≡ false }
+        ensures journal { journal_in result.log ≡ journal_of self }
+        ensures over { Keeps (journal_of self) (records_of self)
+            → KeepsGranted C (records_of self) result.log result.replica }
+    {
+        let (start, table) = self.start.into_parts();
+        pass.known();
+        Site {
+            alloc: self.alloc,
+            log: GrantLog {
+                alloc: self.alloc,
+                journal: self.journal,
+                copies: self.copies,
+                earlier: self.bodies.as_slice().len(),
+            },
+            replica: Replica::new(pass, start, table),
+            strange: None,
+        }
     }
 
     /// The disk.

@@ -13,15 +13,15 @@ ghost use Rattle.qc_ledger.specs.Mounted.{MountLeaves, HasSome};
 ghost use Rattle.qc_ledger.specs.Runs.{Costs, HasMore, KeepsAll, Leaves, LosesNone};
 ghost use Rattle.qc_site.specs.Image.{made_body, to_write, AreGranted, AreMountable, IsFault};
 ghost use Rattle.qc_site.specs.Refusing.{IsRefusal, IsImage};
-ghost use Rattle.qc_site.specs.Mounted.{Mounts, journal_of, records_of, disk_after};
+ghost use Rattle.qc_site.specs.Mounted.{Mounts, copies_of, copy_of, journal_of, records_of, disk_after};
 ghost use Rattle.qc_site.specs.Start.{from_row, start_of};
 
+use crate::beginning::Beginning;
 use crate::fault::{SiteNo, mount_no};
 use crate::mounted::Mounted;
 use crate::reading::grants_of;
-use crate::start::restored_row;
+use crate::start::restored_beginning;
 use qc_codec::{Made, Past, copy_table, write_made};
-use qc_config::Tuple;
 use qc_disk::Disk;
 use qc_event::Table;
 use qc_journal::{Body, Journal};
@@ -49,13 +49,13 @@ fn begin<D: Disk>(
     copy: u8,
     table: &Table,
     past: &Past,
-) -> Result<Vec<Tuple>, SiteNo>
+) -> Result<Beginning, SiteNo>
     requires up { IsUp journal.old }
     requires copy { copy < 16 }
     requires few { table.now.copies ≤ 16 }
     requires proper { (body.table 1).fits table.now }
     ensures up { OnOk result (IsUp journal.new) }
-    ensures start { IfOk result (λ start. start.items ≡ restored_row past.now.tops
+    ensures start { IfOk result (λ start. start ≡ restored_row past.now.tops
         (length table.now.records) (from_row (map first_tuple table.now.records))
         (readings (grant_form table.now) (bodies_of bodies.old.items))) }
     ensures granted { OnOk result (AreGranted copy table.now past.now
@@ -79,7 +79,7 @@ fn begin<D: Disk>(
 {
     let made = made_of(alloc, copy, table)?;
     let grants = grants_of(alloc, copy, table, past, &made, bodies)?;
-    let start = restored_row(alloc, table, past.tops.as_slice(), &grants)?;
+    let start = restored_beginning(alloc, table, past.tops.as_slice(), &grants)?;
     match make(journal, bodies, made) {
         Ok(()) => Ok(start),
         Err(fault) => Err(mount_no(copy, fault)),
@@ -104,6 +104,8 @@ pub fn mount<D: Disk>(
     // Records were found, which are this copy's for this table, in order behind this past.
     ensures mounts { IfOk result (λ mounted. Mounts copy table.now past.now limit
         (D.view disk).content (records_of mounted)) }
+    ensures copy { IfOk result (λ mounted. (copy_of mounted ≡ copy)
+        × (copies_of mounted ≡ table.now.copies)) }
     ensures limit { IfOk result (λ mounted. limit_of (journal_of mounted) ≡ limit) }
     ensures up { IfOk result (λ mounted. IsUp (journal_of mounted)) }
 
@@ -134,6 +136,9 @@ pub fn mount<D: Disk>(
     };
     match begin(alloc, &mut journal, &mut bodies, copy, table, past) {
         Ok(start) => Ok(Mounted {
+            alloc,
+            copy,
+            copies: table.copies,
             journal,
             bodies,
             start,

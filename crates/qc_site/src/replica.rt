@@ -1,28 +1,17 @@
 //! A copy at its desk: its pass, its locks, and the grant in hand.
-ghost use Rattle.std.specs.Prelude.{ℕ, ◌≡◌, ◌<◌, ◌++◌, List, [], true, false, All, IfOk, IfErr, IfSome, OnOk, OnErr, IsErrOf, Option, None, Some, Ok, length, slice_index_or, is_some};
+ghost use Rattle.std.specs.Prelude.{◌≡◌, ◌<◌, [], true, false, Option, None, Some, slice_index_or, is_some};
 ghost use Rattle.qc_config.specs.declared.tuple.Tuple.{Tuple};
-ghost use Rattle.qc_copy.specs.declared.state.Verdict.TheVariants.{Free};
 ghost use Rattle.qc_copy.specs.State.{again, grant_with};
-ghost use Rattle.qc_event.specs.declared.event.Event.TheVariants as event;
-ghost use Rattle.qc_event.specs.Base.{IsProper};
-ghost use Rattle.qc_event.specs.Grants.{MayGrant};
 ghost use Rattle.qc_event.specs.History.{grants};
-ghost use Rattle.qc_event.specs.Requests.{is_fault};
 ghost use Rattle.qc_event.specs.Seats.{copy_seat};
 ghost use Rattle.qc_event.specs.Tables.{setting_of};
-ghost use Rattle.qc_pass.specs.Calling.{Entered, Looked, Refused, Shown};
-ghost use Rattle.qc_pass.specs.Consulting.{HasAsked, IsTold};
-ghost use Rattle.qc_pass.specs.Refusing.{against_nothing};
 ghost use Rattle.qc_site.specs.Replica.{IsTableOf};
 
 use crate::lock_table::LockTable;
 use qc_config::Tuple;
-use qc_copy::Verdict;
-use qc_event::{Ask, Grant, Name, Why};
-use qc_pass::{Desk, DeskNo, Pass, Store};
-use std::alloc::{AllocError, Global};
+use qc_event::{Ask, Grant, Name};
+use qc_pass::{Pass, Store};
 use std::marker::Model;
-use std::sync::Wait;
 
 /// A copy at its desk. It is up where it has its locks. A grant may be in hand, which is not entered in the history yet.
 #[derive(Drop)]

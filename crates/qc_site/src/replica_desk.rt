@@ -1,25 +1,31 @@
 //! What a copy does at its desk: it looks, asks, and enters.
-ghost use Rattle.std.specs.Prelude.{ℕ, ◌≡◌, ◌<◌, ◌⊎◌, List, [], true, false, IfOk, IfErr, OnOk, OnErr, None, Some, slice_index_or};
+ghost use Rattle.std.specs.Prelude.{◌≡◌, ◌<◌, ◌⊎◌, ◌++◌, ◌∷◌, [], true, IfOk, IfErr, IfSome, OnOk, OnErr, None, Some, length, option_to_list, slice_index_or};
+ghost use Rattle.qc_config.specs.declared.tuple.Tuple.{Tuple};
+ghost use Rattle.qc_codec.specs.Bodies as body;
+ghost use Rattle.qc_codec.specs.Fields.{format_1};
+ghost use Rattle.qc_config.specs.Tuple.{after};
+ghost use Rattle.qc_event.specs.Seen.{seen};
 ghost use Rattle.qc_copy.specs.Repeats.{HasRoom};
-ghost use Rattle.qc_copy.specs.State.{again};
-ghost use Rattle.qc_event.specs.declared.event.Event.TheVariants as event;
+ghost use Rattle.qc_copy.specs.State.{again, grant_with};
+ghost use Rattle.qc_copy.specs.State.{again as again_in};
 ghost use Rattle.qc_event.specs.Base.{IsProper};
-ghost use Rattle.qc_event.specs.History.{grants, limit};
+ghost use Rattle.qc_event.specs.History.{grants};
 ghost use Rattle.qc_event.specs.History.{grants as past_grants};
 ghost use Rattle.qc_event.specs.Requests.{is_fault};
 ghost use Rattle.qc_event.specs.Seats.{copy_seat};
 ghost use Rattle.qc_event.specs.Tables.{setting_of};
-ghost use Rattle.qc_pass.specs.Calling.{Entered, Looked};
+ghost use Rattle.qc_pass.specs.Entries.{IsOlder};
 ghost use Rattle.qc_pass.specs.Consulting.{HasAsked, IsTold};
-ghost use Rattle.qc_pass.specs.Refusing.{against_nothing};
 ghost use Rattle.qc_ledger.specs.Entered.{SeesMore};
-ghost use Rattle.qc_site.specs.AtDesk.{hand_after, AppendsHand, MayHaveLooked, IsWantAt};
+ghost use Rattle.qc_site.specs.AtDesk.{hand_after, hand_entries, unable_entry, verdict_entries, IsGranted, IsWantAt, MayHaveLooked, OnlyLooks};
 ghost use Rattle.qc_site.specs.Replica.{IsTableOf};
 
+use crate::fits::known_to_fit;
 use crate::lock_table::LockTable;
 use crate::replica::{Replica, grant_of};
+use qc_config::Tuple;
 use qc_copy::Verdict;
-use qc_event::{Ask, Grant, Name, Why};
+use qc_event::{Ask, Grant, Why};
 use qc_pass::{Desk, DeskNo, Pass, Store};
 use std::alloc::{AllocError, Global};
 use std::sync::Wait;
@@ -64,7 +70,7 @@ impl<N: Store, const C: u8> Replica<N, C> {
         desk: &Desk<N>,
     ) -> Result<Vec<Grant>, AllocError>
         ensures given { IfOk result (λ g. g.items ≡ grants self.new.pass.seen C) }
-        ensures looked { Looked self.old.pass self.new.pass }
+        ensures looks { OnlyLooks C self.old self.new }
         ensures hand { self.new.hand ≡ self.old.hand }
         ensures up { self.new.up ≡ self.old.up }
     {
@@ -92,7 +98,11 @@ impl<N: Store, const C: u8> Replica<N, C> {
         ensures asked { OnOk result (HasAsked self.new.pass.seen ask.now) }
         ensures hand { IfOk result (λ verdict. self.new.hand ≡ hand_after ask.now verdict) }
         ensures none { OnErr result (self.new.hand ≡ None) }
-        ensures err { OnErr result (MayHaveLooked self.old.pass self.new.pass) }
+        ensures enters { IfOk result (λ verdict. self.new.pass.mine
+            ≡ verdict_entries C ask.now verdict ++ self.old.pass.mine) }
+        ensures err { OnErr result (self.new.pass.mine ≡ self.old.pass.mine) }
+        ensures grants { grants self.new.pass.seen C ≡ grants self.old.pass.seen C }
+        ensures seen { IsOlder self.old.pass.seen self.new.pass.seen }
         ensures want { IfErr result (IsWantAt self.new.pass) }
         ensures up { self.new.up ≡ true }
         ensures seer { SeesMore seer.old seer.new }
@@ -118,11 +128,17 @@ impl<N: Store, const C: u8> Replica<N, C> {
         desk: &Desk<N>,
         seer: &mut Pass<N>,
     ) -> Result<(), DeskNo>
-        ensures ok { OnOk result
-            (AppendsHand C self.old.hand self.old.pass self.new.pass) }
+        ensures enters { OnOk result
+            (self.new.pass.mine ≡ hand_entries C self.old.hand ++ self.old.pass.mine) }
+        ensures granted { OnOk result (IfSome self.old.hand (IsGranted C self.new.pass.seen)) }
+        ensures grants { OnOk result (grants self.new.pass.seen C
+            ≡ grants self.old.pass.seen C ++ option_to_list self.old.hand) }
         ensures none { OnOk result (self.new.hand ≡ None) }
-        ensures err { OnErr result (MayHaveLooked self.old.pass self.new.pass) }
+        ensures idle { self.old.hand ≡ None → self.new ≡ self.old }
+        ensures calm { self.old.hand ≡ None → OnErr result ⊥ }
+        ensures err { OnErr result (OnlyLooks C self.old self.new) }
         ensures kept { OnErr result (self.new.hand ≡ self.old.hand) }
+        ensures seen { IsOlder self.old.pass.seen self.new.pass.seen }
         ensures want { IfErr result (IsWantAt self.new.pass) }
         ensures up { self.new.up ≡ self.old.up }
         ensures seer { SeesMore seer.old seer.new }
@@ -154,9 +170,11 @@ impl<N: Store, const C: u8> Replica<N, C> {
         requires copy { ask.now.copy ≡ C }
         requires asked { HasAsked seer.old.seen ask.now }
         requires fault { is_fault why ≡ true }
-        ensures ok { OnOk result (Entered against_nothing (event.Unable ask.now.access why)
-            self.old.pass self.new.pass) }
-        ensures err { OnErr result (MayHaveLooked self.old.pass self.new.pass) }
+        ensures enters { OnOk result
+            (self.new.pass.mine ≡ unable_entry C ask.now why ∷ self.old.pass.mine) }
+        ensures err { OnErr result (self.new.pass.mine ≡ self.old.pass.mine) }
+        ensures grants { grants self.new.pass.seen C ≡ grants self.old.pass.seen C }
+        ensures seen { IsOlder self.old.pass.seen self.new.pass.seen }
         ensures want { IfErr result (IsWantAt self.new.pass) }
         ensures hand { self.new.hand ≡ self.old.hand }
         ensures up { self.new.up ≡ self.old.up }
@@ -168,9 +186,9 @@ impl<N: Store, const C: u8> Replica<N, C> {
         answer
     }
 
-    /// The seer has then seen what the copy has.
-    pub(crate) fn show<R: Wait>(&mut self, rt: &R, desk: &Desk<N>, seer: &mut Pass<N>)
-        ensures looked { Looked self.old.pass self.new.pass }
+    // The seer has then seen what the copy has.
+    fn show<R: Wait>(&mut self, rt: &R, desk: &Desk<N>, seer: &mut Pass<N>)
+        ensures looks { OnlyLooks C self.old self.new }
         ensures hand { self.new.hand ≡ self.old.hand }
         ensures up { self.new.up ≡ self.old.up }
         ensures seer { SeesMore seer.old seer.new }
@@ -178,6 +196,69 @@ impl<N: Store, const C: u8> Replica<N, C> {
     {
         desk.show(rt, &mut self.pass, seer);
         self.pass.known();
+    }
+
+    /// What an access that the seer saw ask was granted, where it was granted something, which the seer has then seen.
+    pub(crate) fn again<R: Wait>(
+        &mut self,
+        rt: &R,
+        desk: &Desk<N>,
+        seer: &mut Pass<N>,
+        ask: &Ask,
+    ) -> Option<Tuple>
+        requires up { self.old.up ≡ true }
+        requires copy { ask.now.copy ≡ C }
+        requires asked { HasAsked seer.old.seen ask.now }
+        ensures granted { IfSome result (λ tuple.
+            IsGranted C self.new.pass.seen (grant_with ask.now tuple)) }
+        ensures none { result ≡ None
+            → again_in (grants self.new.pass.seen C) ask.now.access ≡ None }
+        ensures first { (tuple : Tuple)
+            → IsGranted C self.old.pass.seen (grant_with ask.now tuple)
+            → result ≡ Some tuple }
+        ensures asked { HasAsked seer.new.seen ask.now }
+        ensures looks { OnlyLooks C self.old self.new }
+        ensures hand { self.new.hand ≡ self.old.hand }
+        ensures up { self.new.up ≡ self.old.up }
+        ensures seer { SeesMore seer.old seer.new }
+        ensures same { IfSome result (λ _. seer.new.seen ≡ self.new.pass.seen) }
+    {
+        self.pass.known();
+        let tuple = self.repeated(&ask.access)?;
+        self.show(rt, desk, seer);
+        self.pass.known();
+        Some(tuple)
+    }
+
+    /// Enters the grant in hand, where there is one, for no one.
+    pub(crate) fn enter<R: Wait>(&mut self, rt: &R, desk: &Desk<N>) -> Result<(), DeskNo>
+        ensures enters { OnOk result
+            (self.new.pass.mine ≡ hand_entries C self.old.hand ++ self.old.pass.mine) }
+        ensures grants { OnOk result (grants self.new.pass.seen C
+            ≡ grants self.old.pass.seen C ++ option_to_list self.old.hand) }
+        ensures none { OnOk result (self.new.hand ≡ None) }
+        ensures idle { self.old.hand ≡ None → self.new ≡ self.old }
+        ensures calm { self.old.hand ≡ None → OnErr result ⊥ }
+        ensures err { OnErr result (OnlyLooks C self.old self.new) }
+        ensures kept { OnErr result (self.new.hand ≡ self.old.hand) }
+        ensures seen { IsOlder self.old.pass.seen self.new.pass.seen }
+        ensures want { IfErr result (IsWantAt self.new.pass) }
+        ensures up { self.new.up ≡ self.old.up }
+    {
+        let mut seer = desk.note(&mut self.pass);
+        self.append(rt, desk, &mut seer)
+    }
+
+    /// A grant of what was asked, with the tuple that the copy has after it, fits the form in which grants are written.
+    pub(crate) fn fits(&self, copies: u8, ask: &Ask, tuple: &Tuple)
+        requires proper { IsProper (setting_of N.table N.base) }
+        requires copies { copies ≡ length N.base }
+        requires asked { HasAsked self.now.pass.seen ask.now }
+        requires tuple { tuple.now ≡ after (seen N.base self.now.pass.seen ask.now.copy ask.now.rec)
+            ask.now.op }
+        ensures fits { (body.grant (format_1 copies)).fits (grant_with ask.now tuple.now) }
+    {
+        known_to_fit(&self.pass, copies, ask, tuple);
     }
 
     /// Has its locks again, by what it granted.

@@ -1,5 +1,5 @@
 //! A copy over its desk and its disk: what it granted stands in each image.
-ghost use Rattle.std.specs.Prelude.{◌≡◌, ◌≤◌, ◌⊎◌, ℕ, List, [], ◌∷◌, true, false, IfOk, IfErr, OnOk, OnErr, IsErrOf, IsTrue, Option, None, Some, Ok, length, is_some};
+ghost use Rattle.std.specs.Prelude.{◌≡◌, ◌⊎◌, ◌++◌, ℕ, List, true, false, IfOk, IfErr, OnOk, OnErr, IsErrOf, Option, None, Some, Ok, length, is_some, option_to_list};
 ghost use Rattle.qc_event.specs.Base.{IsProper};
 ghost use Rattle.qc_event.specs.History.{grants, limit};
 ghost use Rattle.qc_event.specs.Tables.{setting_of};
@@ -16,8 +16,8 @@ use crate::log::GrantLog;
 use crate::replica::Replica;
 use qc_disk::Disk;
 use qc_event::Grant;
-use qc_pass::{Desk, DeskNo, Pass, Store};
-use std::alloc::Global;
+use qc_pass::{Desk, Pass, Store};
+use std::alloc::{AllocError, Global};
 use std::sync::Wait;
 
 /// A copy of a store, of a number, over its desk and its disk. It is up, down, or strange for good.
@@ -30,6 +30,16 @@ pub struct Site<D: Disk, N: Store, const C: u8> {
     ghost journal: { replica.up ≡ true → IsDown (journal_in log) → ⊥ },
     ghost sound: { is_some strange ≡ true → replica.up ≡ false },
     ghost copies: { copies_of log ≡ length N.base },
+}
+
+// What a copy granted, and the grant in hand.
+fn with_hand(mut given: Vec<Grant>, hand: Option<Grant>) -> Result<Vec<Grant>, AllocError>
+    ensures { IfOk result (λ all. all.items ≡ given.items ++ option_to_list hand) }
+{
+    if let Some(grant) = hand {
+        append(&mut given, grant)?;
+    }
+    Ok(given)
 }
 
 impl<D: Disk, N: Store, const C: u8> Site<D, N, C> {
@@ -108,19 +118,41 @@ impl<D: Disk, N: Store, const C: u8> Site<D, N, C> {
         }
     }
 
+    /// Enters the grant in hand, where there is one.
+    pub(crate) fn enter_hand<R: Wait>(&mut self, rt: &R, desk: &Desk<N>) -> Result<(), SiteNo>
+        requires up { IsUp (journal_in self.old.log) }
+        requires sound { is_some self.old.strange ≡ false }
+        ensures log { journal_in self.new.log ≡ journal_in self.old.log }
+        ensures strange { self.new.strange ≡ self.old.strange }
+        ensures none { OnOk result (self.new.replica.hand ≡ None) }
+        ensures idle { self.old.replica.hand ≡ None
+            → (self.new.log ≡ self.old.log) × (self.new.replica ≡ self.old.replica) }
+        ensures calm { self.old.replica.hand ≡ None → OnErr result ⊥ }
+        ensures grants { OnOk result (grants self.new.replica.pass.seen C
+            ≡ grants self.old.replica.pass.seen C ++ option_to_list self.old.replica.hand) }
+        ensures up { self.new.replica.up ≡ self.old.replica.up }
+        ensures enters { EntersHand C self.old.replica self.new.replica }
+        ensures over { (before : List (List ℕ))
+            → KeepsGranted C before self.old.log self.old.replica
+            → KeepsGranted C before self.new.log self.new.replica }
+        ensures refused { IfErr result IsWantNo }
+        ensures room { IsErrOf result Room → length self.new.replica.pass.seen ≡ limit }
+        ensures seen { IsOlder self.old.replica.pass.seen self.new.replica.pass.seen }
+    {
+        match self.replica.enter(rt, desk) {
+            Ok(()) => Ok(()),
+            Err(no) => Err(desk_no(no)),
+        }
+    }
+
     // Enters the grant in hand, where there is one, and has the locks again.
-    fn restore<R: Wait>(
-        &mut self,
-        rt: &R,
-        desk: &Desk<N>,
-        mut given: Vec<Grant>,
-    ) -> Result<(), SiteNo>
+    fn restore<R: Wait>(&mut self, rt: &R, desk: &Desk<N>, given: Vec<Grant>) -> Result<(), SiteNo>
         requires proper { IsProper (setting_of N.table N.base) }
         requires given { given.items ≡ grants self.old.replica.pass.seen C }
         requires up { IsUp (journal_in self.old.log) }
         requires sound { is_some self.old.strange ≡ false }
         ensures log { journal_in self.new.log ≡ journal_in self.old.log }
-        ensures strange { is_some self.new.strange ≡ false }
+        ensures strange { self.new.strange ≡ self.old.strange }
         ensures up { OnOk result (self.new.replica.up ≡ true) }
         ensures none { OnOk result (self.new.replica.hand ≡ None) }
         ensures enters { EntersHand C self.old.replica self.new.replica }
@@ -131,11 +163,8 @@ impl<D: Disk, N: Store, const C: u8> Site<D, N, C> {
         ensures room { IsErrOf result Room → length self.new.replica.pass.seen ≡ limit }
         ensures seen { IsOlder self.old.replica.pass.seen self.new.replica.pass.seen }
     {
-        if let Some(grant) = self.replica.hand() {
-            append(&mut given, grant)?;
-            let mut seer = desk.note(&mut self.replica.pass);
-            self.replica.append(rt, desk, &mut seer).map_err(desk_no)?;
-        }
+        let given = with_hand(given, self.replica.hand())?;
+        self.enter_hand(rt, desk)?;
         self.replica.restore(self.alloc, &given)?;
         Ok(())
     }

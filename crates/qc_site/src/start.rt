@@ -5,6 +5,7 @@ ghost use Rattle.qc_config.specs.Tuple.{after};
 ghost use Rattle.qc_event.specs.Tables.{first_tuple};
 ghost use Rattle.qc_site.specs.Start.{from_row};
 
+use crate::beginning::Beginning;
 use crate::lists::append;
 use crate::tops::{is_kept, places_of};
 use qc_codec::Logged;
@@ -45,8 +46,8 @@ fn change(tuples: &mut Vec<Tuple>, grant: &Grant)
 // It makes the type known that a grant holds.
 fn is_op(_op: &Op) {}
 
-/// The tuples of a copy that its grants restore.
-pub(crate) fn restored_row(
+// The tuples of a copy that its grants restore.
+fn restored_row(
     alloc: Global,
     table: &Table,
     tops: &[Logged],
@@ -64,4 +65,18 @@ pub(crate) fn restored_row(
         }
     }
     Ok(tuples)
+}
+
+/// What a copy starts with that its grants restore.
+pub(crate) fn restored_beginning(
+    alloc: Global,
+    table: &Table,
+    tops: &[Logged],
+    grants: &[Grant],
+) -> Result<Beginning, AllocError>
+    ensures { IfOk result (λ b. b ≡ kept.restored_row tops.now
+        (length table.now.records) (from_row (map first_tuple table.now.records)) grants.now) }
+{
+    let tuples = restored_row(alloc, table, tops, grants)?;
+    Beginning::new(alloc, tuples)
 }

@@ -12,7 +12,8 @@ use Rattle.qc_site.specs.Image.{to_write, AreMountable}
 use Rattle.qc_ledger.specs.Mounted.{HasSome, MountLeaves}
 use Rattle.qc_site.specs.Refusing.{IsRefusal}
 use Rattle.qc_ledger.proofs.Mounts.{leaves_first, leaves_then}
-use Rattle.qc_site.proofs.Faults.{begin_refusal, few_copies, fine_told, made_proper, mount_refusal}
+use Rattle.qc_ledger.proofs.Mounts.{fine_told}
+use Rattle.qc_site.proofs.Faults.{begin_refusal, few_copies, made_proper, mount_refusal}
 use Rattle.qc_site.proofs.Rests.{written_none}
 use Rattle.qc_site.proofs.Rows.{start_is}
 use Rattle.qc_site.proofs.mounting.mount.Goals as goal
@@ -103,3 +104,9 @@ returns-in-Ok-begin-clause-start g c =
     ∙ start_is table copy past.tops (readings form found) c.requires.copy
     ∙ ap (restored_row past.tops (length table.records) (start_tuple (base_of table) copy))
     (sym (written_none copy table past fits found) ∙ ap (readings form) (sym c.in-Ok-begin.ensures.bodies))
+
+pub invariant_of-result : goal.invariant_of-result
+invariant_of-result g c = record {
+  up = λ down. down c.in-Ok-begin.ensures.up;
+  few = few_copies c.args.table.now c.requires.proper;
+}

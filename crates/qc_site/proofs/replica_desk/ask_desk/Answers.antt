@@ -1,4 +1,4 @@
-use Rattle.std.proofs.Common.{[], ap, sym, ◌∙◌, subst}
+use Rattle.std.proofs.Common.{[], sym, ◌∙◌, subst}
 use Rattle.std.specs.Prelude.{slice_index_or}
 use Rattle.qc_copy.specs.Repeats.{AreOf}
 use Rattle.qc_event.specs.History.{grants}
@@ -6,7 +6,7 @@ use Rattle.qc_event.specs.Tables.{setting_of}
 use Rattle.qc_pass.specs.Consulting.{HasAsked}
 use Rattle.qc_pass.proofs.Consulting.{asked_later}
 use Rattle.qc_site.proofs.Backs.{on_ok}
-use Rattle.qc_site.proofs.Replicas.{consulted_none, same_grants, shown_sees, table_reserved}
+use Rattle.qc_site.proofs.Replicas.{consulted_none, same_grants, table_reserved}
 use Rattle.qc_site.proofs.replica_desk.ask_desk.Goals as goal
 
 pub returns-then-is_err-clause-table : goal.returns-then-is_err-clause-table

@@ -1,5 +1,4 @@
 use Rattle.std.proofs.Common.{refl}
-use Rattle.std.specs.Prelude.{Ok}
 use Rattle.qc_journal.specs.Journal.{disk_of}
 use Rattle.qc_site.specs.Log.{journal_in}
 use Rattle.qc_site.proofs.Logs.{failed_each, plain_each, read_each}

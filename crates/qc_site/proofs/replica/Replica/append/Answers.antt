@@ -1,12 +1,14 @@
-use Rattle.std.proofs.Common.{◌≡◌, sym, ap, ◌∙◌, subst}
-use Rattle.std.specs.Prelude.{Some, IfSome}
-use Rattle.qc_event.specs.declared.event.Event.TheVariants as event
-use Rattle.qc_event.specs.declared.event.Grant.{Grant}
+use Rattle.std.proofs.Common.{◌++◌, sym, ap, ◌∙◌, subst}
+use Rattle.std.specs.Prelude.{Some, IfSome, option_to_list}
+use Rattle.qc_event.specs.History.{grants}
+use Rattle.qc_pass.specs.declared.view.View.{View}
+use Rattle.qc_pass.specs.Entries.{IsOlder}
+use Rattle.qc_site.proofs.Backs.{on_err}
 use Rattle.qc_event.specs.Tables.{setting_of}
-use Rattle.qc_site.specs.declared.lock_table.LockTable.{LockTable}
-use Rattle.qc_site.specs.Replica.{IsKept, IsTableOf}
-use Rattle.qc_site.proofs.Replicas.{kept_on, looked_none, kept_granted, table_granted}
+use Rattle.qc_site.specs.Replica.{IsKept, IsTableOf, Standing}
+use Rattle.qc_site.proofs.Replicas.{granted_last, kept_on, looked_none, kept_granted, older_entered, only_looks, table_granted}
 use Rattle.qc_site.proofs.replica.Replica.append.Goals as goal
+use Rattle.qc_site.proofs.replica.Replica.append.Goals.{in-Some-take+in-Some-1, in-Some-take+in-None-1, in_default-take}
 
 pub invariant_of-self : goal.invariant_of-self
 invariant_of-self g c =
@@ -29,3 +31,33 @@ invariant_of-self-in-Some-take-2 g c =
     kept_granted setting g.row.C v w grant start was.number c.known.ensures.legal c.in_ok-answer.ensures.ok c.self.inside.table (Some c.admit.new.self)
     (table_granted setting g.row.C v w grant start was.number c.known.ensures.legal c.in_ok-answer.ensures.ok t c.admit.new.self c.admit.ensures.start c.admit.ensures.follows c.admit.ensures.repeats had)
     was
+
+pub returns-in_err-answer-clause-err : goal.returns-in_err-answer-clause-err
+returns-in_err-answer-clause-err g c =
+    let setting = setting_of g.N.Store.table g.N.Store.base in
+    let was = c.self.invariant in
+    let looked = c.in_err-answer.ensures.err.0 in
+    on_err c.from_residual.result (only_looks setting g.row.C c.args.self.now _ c.self.inside.pass (ap (λ (x : Standing). x.pass) c.self.view_is) c.known.ensures.legal
+    (looked_none setting g.row.C c.self.inside.pass _ was.number c.known.ensures.legal looked) (ap (λ (x : View). x.mine) looked.1))
+
+pub returns-clause-grants : goal.returns-clause-grants
+returns-clause-grants g c =
+    let setting = setting_of g.N.Store.table g.N.Store.base in
+    let now = λ (x : Standing). grants x.pass.seen g.row.C in
+    let last = granted_last setting g.row.C c.self.inside.pass c.append-answer.new.pass c.in-Some.grant c.self.invariant.number c.known.ensures.legal c.in_ok-answer.ensures.ok
+    ∙ (λ i. now (c.self.view_is i) ++ option_to_list ((sym c.in-Some.is ∙ ap (λ (x : Standing). x.hand) c.self.view_is) i)) in
+    elim c.match-take.branch [
+      | in-Some-take+in-Some-1 w ↦ ap now w.self-is ∙ last
+      | in-Some-take+in-None-1 w ↦ ap now w.self-is ∙ last
+      | in_default-take w ↦ ap now w.self-is ∙ last
+    ]
+
+pub returns-clause-seen : goal.returns-clause-seen
+returns-clause-seen g c =
+    let old = subst (λ (x : Standing). IsOlder x.pass.seen c.append-answer.new.pass.seen) c.self.view_is (older_entered c.self.inside.pass c.append-answer.new.pass _ c.in_ok-answer.ensures.ok) in
+    let on = λ (x : Standing). IsOlder c.args.self.now.pass.seen x.pass.seen in
+    elim c.match-take.branch [
+      | in-Some-take+in-Some-1 w ↦ subst on (sym w.self-is) old
+      | in-Some-take+in-None-1 w ↦ subst on (sym w.self-is) old
+      | in_default-take w ↦ subst on (sym w.self-is) old
+    ]

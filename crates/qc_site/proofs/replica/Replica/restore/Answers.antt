@@ -1,4 +1,4 @@
-use Rattle.std.proofs.Common.{◌<◌, List, [], length, sym, ap, ◌∙◌, subst}
+use Rattle.std.proofs.Common.{◌<◌, List, length, sym, ap, ◌∙◌, subst}
 use Rattle.std.specs.List.{All}
 use Rattle.qc_config.specs.declared.tuple.Tuple.{Tuple}
 use Rattle.qc_copy.specs.Repeats.{AreOf}

@@ -1,5 +1,8 @@
+use Rattle.std.proofs.Common.{◌++◌, ◌∙◌, ap}
+use Rattle.qc_event.specs.History.{grants}
+use Rattle.qc_site.specs.Replica.{Standing}
 use Rattle.qc_event.specs.Tables.{setting_of}
-use Rattle.qc_site.proofs.Replicas.{kept_on, unable_none}
+use Rattle.qc_site.proofs.Replicas.{kept_on, same_grants, unable_none}
 use Rattle.qc_site.proofs.replica.Replica.unable.Goals as goal
 
 pub invariant_of-self : goal.invariant_of-self
@@ -9,3 +12,18 @@ invariant_of-self g c =
     kept_on setting g.row.C c.self.inside.pass _ c.known.ensures.legal
     (unable_none setting g.row.C c.self.inside.pass _ c.args.ask.now.access c.args.why c.unable-answer.result was.number c.known.ensures.legal c.unable-answer.ensures.ok c.unable-answer.ensures.err)
     c.self.inside.start.items c.self.inside.table c.self.inside.hand was
+
+pub returns-clause-grants : goal.returns-clause-grants
+returns-clause-grants g c =
+    let setting = setting_of g.N.Store.table g.N.Store.base in
+    let v = c.self.inside.pass in
+    same_grants setting g.row.C v _ c.known.ensures.legal
+    (unable_none setting g.row.C v _ c.args.ask.now.access c.args.why c.unable-answer.result c.self.invariant.number c.known.ensures.legal c.unable-answer.ensures.ok c.unable-answer.ensures.err)
+    ∙ ap (λ (x : Standing). grants x.pass.seen g.row.C) c.self.view_is
+
+pub returns-clause-seen : goal.returns-clause-seen
+returns-clause-seen g c =
+    let setting = setting_of g.N.Store.table g.N.Store.base in
+    let v = c.self.inside.pass in
+    let more = unable_none setting g.row.C v c.unable-answer.new.pass c.args.ask.now.access c.args.why c.unable-answer.result c.self.invariant.number c.known.ensures.legal c.unable-answer.ensures.ok c.unable-answer.ensures.err in
+    (more.newer, more.seen ∙ ap (λ (x : Standing). more.newer ++ x.pass.seen) c.self.view_is)
