@@ -1,6 +1,6 @@
 -- Which fault of bodies is the first, and that it is handed on.
 use Rattle.std.proofs.Common.{◌≡◌, ℕ, ◌+◌, ◌<◌, ◌≤◌, List, [], ◌∷◌, refl, sym, ◌∙◌, subst, arith}
-use Rattle.std.specs.Prelude.{Result, Ok, Err, IfErr, Option, None, Some, IfSome, IsSome}
+use Rattle.std.specs.Prelude.{Result, Ok, Err, IfErr, Option, IfSome, IsSome}
 use Rattle.std.specs.Result.{IsErrAnd, IsErrOf}
 use Rattle.qc_event.specs.declared.table.Table.{Table}
 use Rattle.qc_codec.specs.Bodies as body

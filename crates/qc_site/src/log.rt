@@ -1,5 +1,5 @@
 //! The journal of what a copy grants.
-ghost use Rattle.std.specs.Prelude.{◌≡◌, ◌≤◌, ◌↔◌, ℕ, List, IfOk, IfErr, IfSome, IsErrOf, IsTrue, OnOk, OnErr, Option, None, Some, Ok, Err, true};
+ghost use Rattle.std.specs.Prelude.{◌≡◌, ◌≤◌, ◌↔◌, ℕ, List, IfOk, IfErr, IfSome, IsErrOf, IsTrue, OnOk, OnErr, Option, None, Some, Ok, Err, true, if◌then◌else◌};
 ghost use Rattle.qc_codec.specs.Bodies as body;
 ghost use Rattle.qc_codec.specs.Fields.{format_1};
 ghost use Rattle.qc_event.specs.declared.event.Grant.{Grant};
