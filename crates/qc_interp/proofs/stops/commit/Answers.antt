@@ -6,7 +6,7 @@ use Rattle.qc_interp.proofs.Results.{if_ok, if_err}
 use Rattle.qc_interp.proofs.Asking.{commit_ok, commit_ledger, commit_stops, commit_short, commit_over}
 use Rattle.qc_interp.proofs.Ending.{cut_still}
 use Rattle.qc_interp.proofs.Growth.{made_both}
-use Rattle.qc_interp.proofs.body.commit.Goals as goal
+use Rattle.qc_interp.proofs.stops.commit.Goals as goal
 
 pub stop-requires : goal.stop-requires
 stop-requires g c =

@@ -13,7 +13,7 @@ use Rattle.qc_interp.proofs.Ending.{runs_still, leaves_still, still, cut_still}
 use Rattle.qc_interp.proofs.Asked.{asked_made}
 use Rattle.qc_interp.proofs.Asking.{above_is, user_above, asked_orphan, runs_asked, leaves_asked, asked_one, same_asked, ended_asked, ask_no, ask_ended, asked_itself, asked_cut, not_aborted_made}
 use Rattle.qc_event.specs.History.{children}
-use Rattle.qc_interp.proofs.body.ask.Goals as goal
+use Rattle.qc_interp.proofs.stops.ask.Goals as goal
 
 pub quit-requires-clause-grounded : goal.quit-requires-clause-grounded
 quit-requires-clause-grounded g c session = (c.requires.runs.user, ap (name.is_ancestor c.args.of.now) (sym (append-nil c.args.of.now)) ∙ is_ancestor-append c.args.of.now [])

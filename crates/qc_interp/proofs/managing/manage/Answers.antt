@@ -3,7 +3,7 @@ use Rattle.qc_script.specs.Client.{Made}
 use Rattle.qc_interp.specs.Running.{Runs, Stopped, WhyStop}
 use Rattle.qc_interp.proofs.StepsLeave.{manage_on, manage_stops, manage_over, manage_short, manage_cut}
 use Rattle.qc_interp.proofs.Results.{any_err}
-use Rattle.qc_interp.proofs.body.manage.Goals as goal
+use Rattle.qc_interp.proofs.managing.manage.Goals as goal
 
 pub stop-requires : goal.stop-requires
 stop-requires g c =
@@ -29,7 +29,7 @@ returns-in_ok-again-in_default g c =
       met = c.stop.ensures.met;
       client = c.stop.ensures.client ∙ c.call.ensures.client;
       ok = λ rest.
-          manage_over v.client c.args.of.now c.args.kind.now v.seen w.seen (g.T.Tx.view c.stop.new.tx).seen c.in-Err.why c.in_ok-again-in_default.again rest c.requires.runs c.in-Err.ensures.err c.in_default.not-Memory c.in_default.not-Room
+          manage_over v.client c.args.of.now c.args.kind.now v.seen w.seen (g.T.Tx.view c.stop.new.tx).seen c.in-Err.why c.in_ok-again-in_default.again (λ given. rest) c.requires.runs c.in-Err.ensures.err c.in_default.not-Memory c.in_default.not-Room
           (subst (λ d. Stopped d c.args.of.now c.in-Err.why w.seen (g.T.Tx.view c.stop.new.tx).seen c.in_ok-again-in_default.again) c.call.ensures.client c.in_ok-again-in_default.ensures.ok);
       cut = tt;
       room = tt;
@@ -38,12 +38,12 @@ returns-in_ok-again-in_default g c =
 pub returns-in-Memory-clause-cut : goal.returns-in-Memory-clause-cut
 returns-in-Memory-clause-cut g c rest =
     let v = g.T.Tx.view c.args.tx.now in
-    manage_short v.client c.args.of.now c.args.kind.now v.seen (g.T.Tx.view c.call.new.tx).seen c.in-Err.why rest (inl c.in-Memory.is) c.requires.runs c.in-Err.ensures.err
+    manage_short v.client c.args.of.now c.args.kind.now v.seen (g.T.Tx.view c.call.new.tx).seen c.in-Err.why (λ given. rest) (inl c.in-Memory.is) c.requires.runs c.in-Err.ensures.err
 
 pub returns-in-Room-clause-cut : goal.returns-in-Room-clause-cut
 returns-in-Room-clause-cut g c rest =
     let v = g.T.Tx.view c.args.tx.now in
-    manage_short v.client c.args.of.now c.args.kind.now v.seen (g.T.Tx.view c.call.new.tx).seen c.in-Err.why rest (inr c.in-Room.is) c.requires.runs c.in-Err.ensures.err
+    manage_short v.client c.args.of.now c.args.kind.now v.seen (g.T.Tx.view c.call.new.tx).seen c.in-Err.why (λ given. rest) (inr c.in-Room.is) c.requires.runs c.in-Err.ensures.err
 
 pub returns-in_err-again-in_default : goal.returns-in_err-again-in_default
 returns-in_err-again-in_default g c =
@@ -55,7 +55,7 @@ returns-in_err-again-in_default g c =
       client = c.stop.ensures.client ∙ c.call.ensures.client;
       ok = search rules;
       cut = any_err _ c.from_residual.result
-          (λ rest. manage_cut v.client c.args.of.now c.args.kind.now v.seen w.seen x.seen c.in-Err.why rest c.requires.runs c.in-Err.ensures.err c.in_default.not-Memory c.in_default.not-Room
+          (λ rest. manage_cut v.client c.args.of.now c.args.kind.now v.seen w.seen x.seen c.in-Err.why (λ given. rest) c.requires.runs c.in-Err.ensures.err c.in_default.not-Memory c.in_default.not-Room
           (subst (λ d. Made d [] w.seen x.seen) c.call.ensures.client c.in_err-again-in_default.ensures.cut));
       room = search rules;
     }
