@@ -9,3 +9,5 @@ pub mod LedgerImages
 pub mod Choices
 pub mod Stands
 pub mod Restarts
+pub mod OneImage
+pub mod CutOff

@@ -1,5 +1,5 @@
 -- What the mountings of a store's disks found: disk 0 is the ledger's, disk c + 1 copy c's.
-use Rattle.std.specs.Prelude.{ℕ, ◌≡◌, ◌+◌, ◌<◌, ◌≤◌, ◌^◌, ◌⊎◌, List, [], length, slice_index_or, All, Option, IfSome, IsSome}
+use Rattle.std.specs.Prelude.{ℕ, ◌≡◌, ◌+◌, ◌<◌, ◌≤◌, ◌^◌, ◌⊎◌, List, [], ◌∷◌, length, slice_index_or, All, Option, IfSome, IsSome}
 use Rattle.qc_codec.specs.Bodies as body
 use Rattle.qc_codec.specs.Copy.{grant_form}
 use Rattle.qc_codec.specs.Ledger.{readings}
@@ -12,9 +12,11 @@ use Rattle.qc_event.specs.Base.{start_tuple}
 use Rattle.qc_event.specs.History.{Past}
 use Rattle.qc_event.specs.Tables.{base_of, setting_of}
 use Rattle.qc_journal.specs.Image.{HasRecords}
+use Rattle.qc_ledger.specs.Image as tops
 use Rattle.qc_ledger.specs.Mounted as ledger
 use Rattle.qc_refine.specs.Images.{CarryFinal, IsCopyImage}
 use Rattle.qc_refine.specs.Standing.{AreNext, committed_too}
+use Rattle.qc_site.specs.Image as grants
 use Rattle.qc_site.specs.Mounted as copies
 use Rattle.qc_standing.specs.Left.{KeepsGrants, KeepsTops}
 
@@ -53,3 +55,21 @@ pub record CarryNext (table : Table) (values : List ℕ) (past : Past) (tuples :
   pub more : List Logged
   pub next : AreNext past more
   pub carry : CarryFinal table values (committed_too past more) tuples
+
+-- An image is left of another by a mounting that was cut off: it has the same records, and some first ones of those that
+-- a mounting writes behind them.
+pub record IsCutOff (written : List (List ℕ) → List (List ℕ)) (image later : List ℕ) : Type 0 where
+  pub found : List (List ℕ)
+  pub had : HasRecords found image
+  pub has : ledger.HasSome found (written found) later
+
+-- So is each image of a store's disks.
+pub record AreCutOff (table : Table) (images later : List (List ℕ)) : Type 0 where
+  pub as_many : length later ≡ table.copies + 1
+  pub ledger : IsCutOff (tops.to_write table) (slice_index_or images 0 []) (slice_index_or later 0 [])
+  pub copies : (copy : ℕ) → copy < table.copies → IsCutOff (grants.to_write copy table) (slice_index_or images (copy + 1) []) (slice_index_or later (copy + 1) [])
+
+-- Mountings one after another were cut off, which left these images in turn, and then the last ones.
+abbrev pub AreLeft : Table → List (List ℕ) → List (List (List ℕ)) → List (List ℕ) → Type 0
+AreLeft table images [] last = last ≡ images
+AreLeft table images (next ∷ later) last = AreCutOff table images next × AreLeft table next later last
