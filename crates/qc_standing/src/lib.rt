@@ -1,6 +1,8 @@
 //! What the disks of a store keep stands beside its history, as a law.
 #![tactic(auto)]
 
+mod bytes;
+
 ghost use Rattle.std.specs.Prelude.{ℕ, ◌≡◌, ◌+◌, ◌≤◌, List, [], length, slice_index_or, Option, Some};
 ghost use Rattle.qc_config.specs.declared.tuple.Tuple.{Tuple};
 ghost use Rattle.qc_event.specs.declared.table.Table.{Table};
@@ -11,6 +13,8 @@ ghost use Rattle.qc_event.specs.Tables.{base_of, setting_of};
 ghost use Rattle.qc_refine.specs.Images.{IsStanding, Restores};
 ghost use Rattle.qc_refine.specs.Standing.{IsOfEpoch};
 ghost use Rattle.qc_standing.specs.Mountings.{AreCutOff, AreKept, AreLeft, CarryNext, HaveNoGrants, IsMounted};
+
+pub use bytes::are_bytes;
 
 /// A store is mounted, and runs from what its disks restore. Its history is legal, is no longer than a desk's may be, and
 /// has tops of the mounting's epoch alone. Each disk keeps, behind the records of the mounting, what the history tells.
