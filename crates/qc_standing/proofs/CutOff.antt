@@ -69,7 +69,7 @@ all_no_top (b ∷ bodies) none =
     ∙ ap₂ (λ (x y : List Logged). x ++ y) (All-head TellsNoTop b bodies none) (all_no_top bodies (All-tail TellsNoTop b bodies none))
 
 -- behind bodies, some first ones of what a mounting writes tell no top
-same_tops : (table : Table) (found first rest : List (List ℕ)) → tops.to_write table found ≡ first ++ rest → tops_in (found ++ first) ≡ tops_in found
+pub same_tops : (table : Table) (found first rest : List (List ℕ)) → tops.to_write table found ≡ first ++ rest → tops_in (found ++ first) ≡ tops_in found
 same_tops table found first rest split =
     ap (filter_map logged_in) (filter_map-append (all_of body.ledger) found first)
     ∙ filter_map-append logged_in (readings body.ledger found) (readings body.ledger first)
