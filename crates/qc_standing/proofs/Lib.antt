@@ -11,3 +11,4 @@ pub mod Stands
 pub mod Restarts
 pub mod OneImage
 pub mod CutOff
+mod Worked
