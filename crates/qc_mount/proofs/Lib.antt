@@ -1,0 +1,5 @@
+mod Numbered
+mod Disks
+mod InTurn
+mod Stores
+mod Verdicts
