@@ -1,0 +1,17 @@
+pub mod Walks
+pub mod Walking
+pub mod Unheard
+pub mod Orphans
+pub mod AfterStart
+pub mod OwnRequests
+pub mod OwnAccesses
+pub mod OwnStays
+pub mod Carries
+pub mod Refusing
+pub mod Beginning
+pub mod Course
+pub mod Ending
+pub mod Answered
+pub mod Meeting
+pub mod Keeping
+pub mod KeepsOn
