@@ -76,7 +76,7 @@ module _ (setting : Setting) (v u w : View) (m : Name) (copy rec : ℕ) (op : Op
   course (Err (no.Orphan a)) (walk, orphan) =
       let all = go_on v u w _ (λ k. orphaning k q.access a) first walk in
       let freed = beginning.freed_at setting v w m copy rec op client may legal _ all
-          (carries.orphaned_asked setting v.number v.seen m copy rec op (calls.client v client) may all.newer (subst (Legal setting) all.grown legal) a all.own) in
+      (carries.orphaned_asked setting v.number v.seen m copy rec op (calls.client v client) may all.newer (subst (Legal setting) all.grown legal) a all.own) in
       (orphaning v.number q.access a ++ began v.number q, all, (inr (inr refl), beginning.managers_orphan setting v w m copy rec op client may legal a orphan freed.0, freed.0, freed.1))
   course (Err no.Memory) ends = left no.Memory (λ made begun. begun) ends
   course (Err no.Room) (ends, full) = left no.Room (λ made begun. (begun, full)) ends

@@ -93,3 +93,15 @@ ends_on v u w ask (Err no.Room) first (left, full) = (left_on v u w ask.access f
 pub want_short : (v w : View) (full : Bool) → Walk v w [] → (full ≡ true → length w.seen ≡ limit) → IsShort v w (want full)
 want_short v w true walk found = (walk, found refl)
 want_short v w false walk found = walk
+
+-- THE ENTRIES OF ITS END
+
+left_walk : (v w : View) (n : Name) → IsLeft v w n → (made : Past) × Walk v w made
+left_walk v w n (inl walk) = ([], walk)
+left_walk v w n (inr (why, walk)) = (entry v.number (event.Gone n why) ∷ [], walk)
+
+pub ends_walk : (v w : View) (ask : Ask) (result : Result Carried CarryNo) → Ends v w ask result → (made : Past) × Walk v w made
+ends_walk v w ask (Ok told) (walk, stands) = (ending v.number ask (became told), walk)
+ends_walk v w ask (Err (no.Orphan a)) (walk, orphan) = (orphaning v.number ask.access a, walk)
+ends_walk v w ask (Err no.Memory) left = left_walk v w ask.access left
+ends_walk v w ask (Err no.Room) (left, full) = left_walk v w ask.access left

@@ -35,7 +35,7 @@ use Rattle.qc_carry.specs.Walk.{Walk}
 use Rattle.qc_carry.proofs.Answered.{all_answered_still, delivered_answered}
 use Rattle.qc_carry.proofs.Carries as carries
 use Rattle.qc_carry.proofs.Meeting.{IsLeft, met_unended, met_told, are_met_still, are_met_more, sendings_more}
-use Rattle.qc_carry.proofs.OwnAccesses.{IsOwnRequest, asks_own}
+use Rattle.qc_carry.proofs.OwnAccesses.{IsOwnRequest, asks_own, own_started}
 use Rattle.qc_carry.proofs.OwnRequests.{requests_more}
 use Rattle.qc_carry.proofs.Walks as walks
 use Rattle.qc_carry.proofs.Walks.{IsOf}
@@ -48,6 +48,22 @@ sent_told past n (net.answered later) made s reason (g, there, is) tells same =
 sent_told past n net.lost made s reason is tells same = ap (is_loss Lost) (same ∙ subst (λ x. TellsLoss x reason) is tells)
 sent_told past n net.late made s reason is tells same = ap (is_loss Late) (same ∙ subst (λ x. TellsLoss x reason) is tells)
 
+-- NO REQUEST
+
+-- where its requests are the same, and stay as they were, what a line keeps stays
+module _ (seat : ℕ) (past newer : Past) (left : AllByRecursion (λ (a : Ask). IsLeft past (newer ++ past) a.access) (asked_under seat past)) (none : asked_under seat (made_by seat newer) ≡ []) where
+  same_requests : asked_under seat (newer ++ past) ≡ asked_under seat past
+  same_requests = requests_more seat newer past ∙ ap (λ asks. asked_under seat past ++ asks) none ∙ append-nil (asked_under seat past)
+
+  pub no_request_kept : (plan : Plan) (held : List Ask) (patience : ℕ) (was torn : Bool) → (torn ≡ false → was ≡ false) → IsKept seat plan held patience past was → IsKept seat plan held patience (newer ++ past) torn
+  no_request_kept plan held patience was torn whole kept = record {
+    met = ap (are_met patience (newer ++ past) (at_start (net_of plan patience)).plan []) same_requests ∙ are_met_still patience newer past (at_start (net_of plan patience)).plan [] (asked_under seat past) left kept.met;
+    in_step = λ now.
+        let same = ap (sendings patience (at_start (net_of plan patience))) (sym same_requests) in
+        let step = kept.in_step (whole now) in
+        record { same_plan = step.same_plan ∙ ap (λ (w : Way). w.plan) same; same_held = step.same_held ∙ ap (λ (w : Way). w.held) same };
+  }
+
 -- ONE ACCESS, AND NO OTHER
 
 module _ (setting : Setting) (seat : ℕ) (past newer : Past) (legal : Legal setting (newer ++ past)) (n : Name) (unstarted : start past n ≡ None) (of : AllByRecursion (IsOf n) (made_by seat newer)) where
@@ -58,7 +74,7 @@ module _ (setting : Setting) (seat : ℕ) (past newer : Past) (legal : Legal set
   each_left [] all = tt
   each_left (a ∷ rest) all =
       let own = all.0 in
-      let none = walks.none_elsewhere (made_by seat newer) n a.access of (λ is. some_or_none (start past a.access) own.started (ap (start past) (sym is) ∙ unstarted)) in (
+      let none = walks.none_elsewhere (made_by seat newer) n a.access of (λ is. some_or_none (start past a.access) (own_started past seat a own) (ap (start past) (sym is) ∙ unstarted)) in (
         record {
           ends = walks.end_c setting past seat own.manager own.mine newer legal a.access own.child ∙ ap (option_or (end past a.access)) none.0 ∙ still (end past a.access);
           goes = inr (walks.gone_c setting past seat own.manager own.mine newer legal a.access own.child ∙ ap (option_or (gone past a.access)) none.1 ∙ still (gone past a.access));
@@ -66,22 +82,8 @@ module _ (setting : Setting) (seat : ℕ) (past newer : Past) (legal : Legal set
         each_left rest all.1,
       )
 
-  all_left : AllByRecursion (λ (a : Ask). IsLeft past now a.access) (asked_under seat past)
+  pub all_left : AllByRecursion (λ (a : Ask). IsLeft past now a.access) (asked_under seat past)
   all_left = each_left (asked_under seat past) (asks_own setting past seat (earlier_legal setting newer past legal))
-
-  module _ (none : asked_under seat (made_by seat newer) ≡ []) where
-    same_requests : asked_under seat now ≡ asked_under seat past
-    same_requests = requests_more seat newer past ∙ ap (λ asks. asked_under seat past ++ asks) none ∙ append-nil (asked_under seat past)
-
-    -- it has not asked
-    unasked : (plan : Plan) (held : List Ask) (patience : ℕ) (torn : Bool) → IsKept seat plan held patience past false → IsKept seat plan held patience now torn
-    unasked plan held patience torn kept = record {
-      met = ap (are_met patience now (at_start (net_of plan patience)).plan []) same_requests ∙ are_met_still patience newer past (at_start (net_of plan patience)).plan [] (asked_under seat past) all_left kept.met;
-      in_step = λ whole.
-          let same = ap (sendings patience (at_start (net_of plan patience))) (sym same_requests) in
-          let step = kept.in_step refl in
-          record { same_plan = step.same_plan ∙ ap (λ (w : Way). w.plan) same; same_held = step.same_held ∙ ap (λ (w : Way). w.held) same };
-    }
 
   module _ (q : Ask) (one : asked_under seat (made_by seat newer) ≡ q ∷ []) where
     more_requests : asked_under seat now ≡ asked_under seat past ++ q ∷ []
@@ -133,7 +135,7 @@ module _ (setting : Setting) (v w : View) (m : Name) (copy rec : ℕ) (op : Op) 
     pub kept_unasked : (plan : Plan) (held : List Ask) (patience : ℕ) (torn : Bool) → asked_under v.number made ≡ [] → IsKept v.number plan held patience v.seen false → IsKept w.number plan held patience w.seen torn
     kept_unasked plan held patience torn none kept =
         at_pass (λ k p. IsKept k plan held patience p torn)
-        (unasked setting v.number v.seen walk.newer now_legal n unstarted of_walk (ap (asked_under v.number) walk.own ∙ none) plan held patience torn kept)
+        (no_request_kept v.number v.seen walk.newer (all_left setting v.number v.seen walk.newer now_legal n unstarted of_walk) (ap (asked_under v.number) walk.own ∙ none) plan held patience false torn (λ whole. refl) kept)
 
     module _ (one : asked_under v.number made ≡ q ∷ []) where
       abbrev sending_of : Net → Sending
@@ -158,7 +160,7 @@ module _ (setting : Setting) (v w : View) (m : Name) (copy rec : ℕ) (op : Op) 
 
       -- it has ended, and is told as it was sent
       module _ (plan plan' : Plan) (held held' : List Ask) (patience : ℕ) (same : anew plan' ≡ anew plan) (kept : IsKept v.number plan held patience v.seen false)
-        (seen : Past) (older : IsOlder seen w.seen) (what : Sent) (reason : Option Why) (is_sent : IsSending (sending plan held q patience) (Some plan') held' (λ (a : Ask). HasAnswered a.copy seen a) None None what) (tells : TellsLoss what reason) (given_up : gone made n ≡ reason) where
+          (seen : Past) (older : IsOlder seen w.seen) (what : Sent) (reason : Option Why) (is_sent : IsSending (sending plan held q patience) (Some plan') held' (λ (a : Ask). HasAnswered a.copy seen a) None None what) (tells : TellsLoss what reason) (given_up : gone made n ≡ reason) where
         step : IsInStep v.number (net_of plan patience) v.seen plan held
         step = kept.in_step refl
 

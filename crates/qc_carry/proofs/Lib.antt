@@ -13,5 +13,7 @@ pub mod Course
 pub mod Ending
 pub mod Answered
 pub mod Meeting
+pub mod Held
 pub mod Keeping
 pub mod KeepsOn
+pub mod KeepsStill

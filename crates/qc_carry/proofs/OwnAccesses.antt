@@ -1,6 +1,6 @@
 -- A client's requests are of accesses of managers that it started.
 use Rattle.std.proofs.Common.{◌≡◌, ◌⊎◌, ℕ, ◌<◌, Bool, true, false, List, [], ◌∷◌, ◌++◌, length, inl, inr, eqb-true, refl, sym, ap, ◌∙◌, subst, arith}
-use Rattle.std.specs.Prelude.{Option, None, Some, MatchOption, ◌==◌, is_some, if◌then◌else◌, option_to_list}
+use Rattle.std.specs.Prelude.{Option, None, Some, MatchOption, ◌==◌, is_some, if◌then◌else◌, option_map, option_to_list}
 use Rattle.std.specs.List.{AllByRecursion}
 use Rattle.qc_names.specs.Name as name
 use Rattle.qc_event.specs.declared.event.Ask.{Ask}
@@ -9,13 +9,13 @@ use Rattle.qc_event.specs.declared.event.Event.{Event}
 use Rattle.qc_event.specs.declared.event.Event.TheVariants as event
 use Rattle.qc_event.specs.declared.event.Kind.TheVariants as kind
 use Rattle.qc_event.specs.Base.{Setting}
-use Rattle.qc_event.specs.History.{Past, Name, Begun, start, is_child}
+use Rattle.qc_event.specs.History.{Past, Name, Begun, start, start_in, kind_of, is_child}
 use Rattle.qc_event.specs.Legal.{Legal, MayHappen}
 use Rattle.qc_event.specs.Requests.{MayAsk}
 use Rattle.qc_event.specs.Standing.{IsManager}
 use Rattle.qc_event.proofs.LastNumber.{ends_in, front_last, is_child-last, EndsIn}
-use Rattle.qc_event.proofs.OneEntry.{start_stays, started_stays}
-use Rattle.qc_event.proofs.Options.{some_there}
+use Rattle.qc_event.proofs.OneEntry.{started_stays}
+use Rattle.qc_event.proofs.Options.{some_there, still_mapped}
 use Rattle.qc_copy.proofs.Begun.{access_managed}
 use Rattle.qc_net.specs.Messages.{ask_of, ask_under, asked_under}
 use Rattle.qc_pass.specs.Own.{IsMine}
@@ -26,7 +26,15 @@ pub record IsOwnRequest (past : Past) (seat : ℕ) (ask : Ask) : Type 0 where
   pub manager : Name
   pub child : is_child manager ask.access ≡ true
   pub mine : IsMine past seat manager
-  pub started : is_some (start past ask.access) ≡ true
+  pub access : kind_of past ask.access ≡ Some kind.Access
+
+-- it has started
+pub own_started : (past : Past) (seat : ℕ) (ask : Ask) → IsOwnRequest past seat ask → is_some (start past ask.access) ≡ true
+own_started past seat ask own = there (start past ask.access) own.access
+  where
+    there : (o : Option Begun) → option_map (λ (b : Begun). b.kind) o ≡ Some kind.Access → is_some o ≡ true
+    there (Some b) is = refl
+    there None is = absurd cc
 
 own_still : (e : Entry) (past : Past) (seat : ℕ) (requests : List Ask) → AllByRecursion (IsOwnRequest past seat) requests → AllByRecursion (IsOwnRequest (e ∷ past) seat) requests
 own_still e past seat [] all = tt
@@ -35,7 +43,7 @@ own_still e past seat (a ∷ rest) all = (
     manager = all.0.manager;
     child = all.0.child;
     mine = started_stays e past all.0.manager (λ b. IsManager b.kind × (b.seat ≡ seat)) all.0.mine;
-    started = start_stays e past a.access all.0.started;
+    access = still_mapped (λ (b : Begun). b.kind) (start past a.access) (start_in a.access e.seat e.event) kind.Access all.0.access;
   },
   own_still e past seat rest all.1,
 )
@@ -57,11 +65,11 @@ own_ask : (setting : Setting) (past : Past) (seat : ℕ) (ask : Ask) → Legal s
 own_ask setting past seat ask legal may =
     let there = some_there (start past ask.access) (λ a. (a.seat ≡ seat) × (a.kind ≡ kind.Access)) may.started in
     record {
-  manager = name.front ask.access;
-  child = front_child ask.access (not_root setting past ask.access there.0 legal there.1) (ends_in ask.access);
-  mine = both (start past (name.front ask.access)) seat may.manager_started (access_managed setting past ask.access there.0 legal there.1 there.2.1);
-  started = ap is_some there.1;
-}
+      manager = name.front ask.access;
+      child = front_child ask.access (not_root setting past ask.access there.0 legal there.1) (ends_in ask.access);
+      mine = both (start past (name.front ask.access)) seat may.manager_started (access_managed setting past ask.access there.0 legal there.1 there.2.1);
+      access = ap (option_map (λ (b : Begun). b.kind)) there.1 ∙ ap (λ k. Some k) there.2.1;
+    }
 
 pub asks_own : (setting : Setting) (past : Past) (seat : ℕ) → Legal setting past → AllByRecursion (IsOwnRequest past seat) (asked_under seat past)
 asks_own setting [] seat legal = tt
