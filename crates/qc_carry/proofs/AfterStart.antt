@@ -1,6 +1,6 @@
 -- Once a manager's next access has started, it may ask by its client's own entries, whatever others entered before the start.
-use Rattle.std.proofs.Common.{◌≡◌, ℕ, ◌+◌, Bool, true, false, List, [], ◌∷◌, ◌++◌, ◌<◌, ◌≤◌, length, arith, refl, sym, ap, ◌∙◌, subst, append-nil}
-use Rattle.std.specs.Prelude.{Option, None, Some, MatchOption, IsTrue, cond, is_some, is_none, find, if◌then◌else◌}
+use Rattle.std.proofs.Common.{◌≡◌, ℕ, ◌+◌, Bool, true, false, List, [], ◌∷◌, ◌++◌, ◌<◌, length, arith, refl, sym, ap, ◌∙◌, subst, append-nil}
+use Rattle.std.specs.Prelude.{None, Some, IsTrue, cond, is_some, is_none, find, if◌then◌else◌}
 use Rattle.std.specs.List.{AllByRecursion}
 use Rattle.std.specs.Option.{option_or}
 use Rattle.qc_config.specs.declared.tuple.Op.{Op}
@@ -9,7 +9,7 @@ use Rattle.qc_event.specs.declared.event.Ask.{Ask}
 use Rattle.qc_event.specs.declared.event.Event.TheVariants as event
 use Rattle.qc_event.specs.declared.event.Kind.TheVariants as kind
 use Rattle.qc_event.specs.Base.{Setting}
-use Rattle.qc_event.specs.History.{Past, Name, Begun, same, start, end, asked, gone, refused, asks, children, is_child}
+use Rattle.qc_event.specs.History.{Past, Name, same, start, end, asked, gone, refused, asks, children, is_child}
 use Rattle.qc_event.specs.Legal.{Legal}
 use Rattle.qc_event.specs.Manager.{result, AtStage, waiting}
 use Rattle.qc_event.specs.Requests.{IsNextAsk}
@@ -25,7 +25,7 @@ use Rattle.qc_event.proofs.OneEntry.{no_child_passes}
 use Rattle.qc_event.proofs.Options.{match_some, still}
 use Rattle.qc_event.proofs.OwnRequests.{IsOwn, asks_own}
 use Rattle.qc_gather.specs.Carrying.{MayCarry, next_ask, entry}
-use Rattle.qc_copy.proofs.Begun.{IsManagerName, manager_name}
+use Rattle.qc_copy.proofs.Begun.{manager_name}
 use Rattle.qc_pass.specs.Entries.{AreOthers}
 use Rattle.qc_pass.specs.Own.{IsMine, MayAskOwn}
 use Rattle.qc_pass.proofs.OwnAsking.{at_stage_same}

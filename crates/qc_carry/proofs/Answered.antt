@@ -1,5 +1,5 @@
 -- Which requests were answered, and that they stay so.
-use Rattle.std.proofs.Common.{◌≡◌, ◌⊎◌, ℕ, zero, suc, ◌+◌, Bool, true, false, List, [], ◌∷◌, ◌++◌, inl, inr, refl, sym, ap, ◌∙◌, subst, arith}
+use Rattle.std.proofs.Common.{◌≡◌, ◌⊎◌, zero, suc, Bool, true, false, List, [], ◌∷◌, ◌++◌, inl, inr, refl, sym, ap, ◌∙◌, subst, arith}
 use Rattle.std.specs.Prelude.{None, Some, Contains, ◌||◌, map, is_some, if◌then◌else◌}
 use Rattle.std.specs.List.{AllByRecursion, list_all}
 use Rattle.std.specs.Option.{option_map_or}
@@ -14,7 +14,7 @@ use Rattle.qc_event.specs.declared.event.Refusal.{Refusal}
 use Rattle.qc_event.specs.declared.event.Refusal.TheVariants as refusal
 use Rattle.qc_event.specs.declared.event.Why.{Why}
 use Rattle.qc_event.specs.declared.event.Why.TheVariants.{Down, Full, Strange}
-use Rattle.qc_event.specs.History.{Past, Name, earliest, granted, grant_in, refused, refusal_in}
+use Rattle.qc_event.specs.History.{Past, Name, granted, grant_in, refused, refusal_in}
 use Rattle.qc_event.specs.Requests.{is_why, unable_in, was_unable}
 use Rattle.qc_event.proofs.Absent.{same_itself}
 use Rattle.qc_event.proofs.Booleans.{any_right, or_wider}

@@ -1,7 +1,6 @@
 -- A manager's next access starts and asks, or is cut off before it asks.
-use Rattle.std.proofs.Common.{◌≡◌, ℕ, ◌+◌, [], ◌∷◌, ◌++◌, length, refl, sym, ap, ◌∙◌, subst, append-nil, inl, inr}
-use Rattle.std.specs.Prelude.{Option, None, Some, IsTrue, if◌then◌else◌, is_some, option_to_list}
-use Rattle.std.specs.Option.{option_map}
+use Rattle.std.proofs.Common.{◌≡◌, ℕ, ◌+◌, [], ◌∷◌, ◌++◌, length, refl, sym, ap, ◌∙◌, subst, inl, inr}
+use Rattle.std.specs.Prelude.{None, IsTrue}
 use Rattle.qc_config.specs.declared.tuple.Op.{Op}
 use Rattle.qc_names.specs.Name as name
 use Rattle.qc_event.specs.declared.event.Ask.{Ask}
@@ -11,27 +10,22 @@ use Rattle.qc_event.specs.declared.event.Event.TheVariants as event
 use Rattle.qc_event.specs.declared.event.How.TheVariants.{Abort}
 use Rattle.qc_event.specs.declared.event.Kind.TheVariants as kind
 use Rattle.qc_event.specs.Base.{Setting}
-use Rattle.qc_event.specs.Dead.{dead}
-use Rattle.qc_event.specs.History.{Past, Name, Asked, Begun, same, start, end, asked, children, is_child}
+use Rattle.qc_event.specs.History.{Past, Name, end, children}
 use Rattle.qc_event.specs.Legal.{Legal}
 use Rattle.qc_event.specs.Seats.{is_client}
-use Rattle.qc_event.specs.Standing.{IsManager, IsOrphanOf, Started, open_child}
-use Rattle.qc_event.proofs.Absent.{same_itself}
-use Rattle.qc_event.proofs.Later.{started_still}
-use Rattle.qc_event.proofs.Options.{match_some}
+use Rattle.qc_event.specs.Standing.{IsOrphanOf, open_child}
 use Rattle.qc_gather.specs.Carrying.{MayCarry, next_ask, entry, began}
 use Rattle.qc_gather.specs.declared.carrier.CarryNo.{CarryNo}
 use Rattle.qc_gather.specs.declared.carrier.CarryNo.TheVariants as carry
-use Rattle.qc_net.specs.Messages.{asked_under}
 use Rattle.qc_pass.specs.declared.refusal.DeskNo.{DeskNo}
 use Rattle.qc_pass.specs.declared.refusal.DeskNo.TheVariants as no
 use Rattle.qc_pass.specs.declared.view.View.{View}
 use Rattle.qc_pass.specs.Calling.{EnteredAs, Refused}
 use Rattle.qc_pass.specs.Own.{IsOwnAccess, MayAskOwn}
-use Rattle.qc_pass.specs.Refusing.{against_child, Refuses}
+use Rattle.qc_pass.specs.Refusing.{against_child}
 use Rattle.qc_pass.specs.Rules.{IsClient}
 use Rattle.qc_pass.proofs.Calls as calls
-use Rattle.qc_carry.specs.Access.{CutUnasked, IsPart, IsStopped, Waits, no_of, orphaning}
+use Rattle.qc_carry.specs.Access.{CutUnasked, IsStopped, Waits, no_of, orphaning}
 use Rattle.qc_carry.specs.Walk.{Walk}
 use Rattle.qc_carry.proofs.AfterStart as after
 use Rattle.qc_carry.proofs.Carries as carries

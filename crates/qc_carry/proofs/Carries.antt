@@ -1,7 +1,6 @@
 -- A manager's next access, by its client's own entries alone: what it may do once it has asked, and what its manager knows once it has ended.
 use Rattle.std.proofs.Common.{◌≡◌, ℕ, ◌+◌, ◌≤◌, ◌==◌, ◌⊎◌, inl, inr, Bool, true, false, cond, List, [], ◌∷◌, ◌++◌, length, refl, sym, ap, ◌∙◌, subst, arith, not, append-nil}
-use mathlib.Core.Bool.{true≢false}
-use Rattle.std.specs.Prelude.{Option, None, Some, MatchOption, IsTrue, if◌then◌else◌, is_some, is_none, find, option_to_list}
+use Rattle.std.specs.Prelude.{None, Some, MatchOption, IsTrue, if◌then◌else◌, is_some, is_none, find, option_to_list}
 use Rattle.std.specs.List.{AllByRecursion}
 use Rattle.std.specs.Option.{option_or}
 use Rattle.std.proofs.lemmas.Bool.{false_from_ne_true}
@@ -22,11 +21,11 @@ use Rattle.qc_event.specs.History.{Past, Name, Begun, same, start, end, asked, g
 use Rattle.qc_event.specs.Legal.{Legal}
 use Rattle.qc_event.specs.Manager.{Result, Replied, Missing, BlockedBy, result, result_by}
 use Rattle.qc_event.specs.Seats.{is_client}
-use Rattle.qc_event.specs.Standing.{open_child, IsManager}
+use Rattle.qc_event.specs.Standing.{open_child}
 use Rattle.qc_event.proofs.Absent.{same_itself, same_is}
 use Rattle.qc_event.proofs.LastNumber.{is_child-last, length_last}
 use Rattle.qc_event.proofs.Later.{earlier_legal}
-use Rattle.qc_event.proofs.Lawful.{Lawful, lawful}
+use Rattle.qc_event.proofs.Lawful.{lawful}
 use Rattle.qc_event.proofs.LegalOrderly.{legal_orderly}
 use Rattle.qc_event.proofs.Lineage.{IsFresh, fresh_child}
 use Rattle.qc_event.proofs.OneEntry.{no_child_passes, some_or_none, stays_some, some_not_none, some_if_not_none, all_children}

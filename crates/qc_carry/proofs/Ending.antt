@@ -1,9 +1,8 @@
 -- How an access that waits ends, by what each call entered.
-use Rattle.std.proofs.Common.{◌≡◌, ℕ, Bool, true, false, [], ◌∷◌, ◌++◌, length, refl, sym, ap, ◌∙◌, subst, inl, inr, append-nil}
+use Rattle.std.proofs.Common.{◌≡◌, ℕ, Bool, true, false, [], ◌∷◌, length, refl, sym, ap, ◌∙◌, subst, inl, inr, append-nil}
 use Rattle.std.specs.Prelude.{None, Some, IsTrue, not, ◌||◌, is_some, if◌then◌else◌, Result, Ok, Err}
 use Rattle.std.specs.Option.{option_or}
 use Rattle.std.proofs.lemmas.Bool.{or_left, or_right}
-use Rattle.qc_event.specs.declared.event.Answered.TheVariants as answered
 use Rattle.qc_event.specs.declared.event.Ask.{Ask}
 use Rattle.qc_event.specs.declared.event.Cause.TheVariants as cause
 use Rattle.qc_event.specs.declared.event.Event.TheVariants as event
@@ -11,7 +10,7 @@ use Rattle.qc_event.specs.declared.event.Refusal.{Refusal}
 use Rattle.qc_event.specs.declared.event.Why.{Why}
 use Rattle.qc_event.specs.Aborts.{AccessCause}
 use Rattle.qc_event.specs.Base.{Setting}
-use Rattle.qc_event.specs.History.{Past, Name, limit, same, end, gone, refused, refusal_in}
+use Rattle.qc_event.specs.History.{Past, Name, limit, same, gone, refused, refusal_in}
 use Rattle.qc_event.specs.Legal.{Legal}
 use Rattle.qc_event.specs.Requests.{is_fault, was_unable}
 use Rattle.qc_event.specs.Standing.{IsOrphanOf}

@@ -1,7 +1,7 @@
 -- What a line keeps of its link while an access is carried, or is cut off.
 use Rattle.std.proofs.Common.{◌≡◌, ℕ, Bool, true, false, List, [], ◌∷◌, ◌++◌, refl, sym, ap, ◌∙◌, subst, append-nil, inr}
 use mathlib.Core.Bool.{true≢false}
-use Rattle.std.specs.Prelude.{Option, None, Some, IfSome, IsTrue, not, ◌&&◌, map}
+use Rattle.std.specs.Prelude.{Option, None, Some, IfSome, IsTrue, not, ◌&&◌}
 use Rattle.std.specs.List.{AllByRecursion, list_all}
 use Rattle.std.specs.Option.{option_map, option_or}
 use Rattle.std.proofs.lemmas.List.Elements.{recursion_from_All}
@@ -13,7 +13,6 @@ use Rattle.qc_event.specs.declared.event.Why.TheVariants.{Lost, Late}
 use Rattle.qc_event.specs.Base.{Setting}
 use Rattle.qc_event.specs.History.{Past, Name, start, end, gone}
 use Rattle.qc_event.specs.Legal.{Legal}
-use Rattle.qc_event.specs.Seats.{is_client}
 use Rattle.qc_event.proofs.Later.{earlier_legal}
 use Rattle.qc_event.proofs.OneEntry.{some_or_none}
 use Rattle.qc_event.proofs.Options.{still}
@@ -24,7 +23,6 @@ use Rattle.qc_net.specs.Plan.{Plan, anew}
 use Rattle.qc_net.specs.Sending as net
 use Rattle.qc_net.specs.Sending.{Outcome, Sending, Way, IsSending, sending}
 use Rattle.qc_net.specs.declared.courier.Sent.{Sent}
-use Rattle.qc_net.specs.declared.courier.Sent.TheVariants as sent
 use Rattle.qc_pass.specs.declared.view.View.{View}
 use Rattle.qc_pass.specs.Entries.{IsOlder}
 use Rattle.qc_pass.specs.Rules.{IsClient}

@@ -1,7 +1,7 @@
 -- Who is an orphan: a dead name that has not ended, one that was refused as dead, and its manager with it.
 use Rattle.std.proofs.Common.{◌≡◌, ℕ, ◌⊎◌, Bool, true, false, List, [], ◌∷◌, ◌++◌, map, inl, inr, refl, sym, ap, ◌∙◌, subst, append_assoc, append-nil}
 use mathlib.Core.Bool.{true≢false}
-use Rattle.std.specs.Prelude.{None, Some, MatchOption, IsTrue, not, ◌==◌}
+use Rattle.std.specs.Prelude.{None, Some, MatchOption, not, ◌==◌}
 use Rattle.std.specs.List.{AllByRecursion}
 use Rattle.std.proofs.lemmas.Bool.{and_from, eq-eqb, false_from_ne_true}
 use Rattle.qc_names.specs.Name as name
@@ -12,7 +12,7 @@ use Rattle.qc_event.specs.declared.event.Refusal.TheVariants.{Dead}
 use Rattle.qc_event.specs.Base.{Setting}
 use Rattle.qc_event.specs.Dead.{outcome, outcome_of, is_aborted, ancestors, dead}
 use Rattle.qc_event.specs.Grants.{IsRefusal}
-use Rattle.qc_event.specs.History.{Past, Name, same, end, end_in, asked, refused, refusal_in}
+use Rattle.qc_event.specs.History.{Past, Name, same, end, asked, refused, refusal_in}
 use Rattle.qc_event.specs.Legal.{Legal, MayHappen}
 use Rattle.qc_event.specs.Standing.{IsOrphanOf, IsAbort}
 use Rattle.qc_event.proofs.Absent.{same_is, same_itself}

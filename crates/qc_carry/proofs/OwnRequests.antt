@@ -3,13 +3,12 @@ use Rattle.std.proofs.Common.{◌≡◌, ℕ, ◌==◌, Bool, true, false, cond,
 use Rattle.std.specs.Prelude.{None, if◌then◌else◌, option_to_list}
 use Rattle.std.proofs.lemmas.Bool.{eq-eqb}
 use Rattle.qc_event.specs.declared.event.Ask.{Ask}
-use Rattle.qc_event.specs.declared.event.Entry.{Entry}
 use Rattle.qc_event.specs.declared.event.Event.{Event}
 use Rattle.qc_event.specs.declared.event.Event.TheVariants as event
 use Rattle.qc_event.specs.declared.event.Kind.TheVariants as kind
 use Rattle.qc_event.specs.History.{Past}
 use Rattle.qc_gather.specs.Carrying.{entry, began, made_by}
-use Rattle.qc_net.specs.Messages.{ask_of, ask_under, asked_under}
+use Rattle.qc_net.specs.Messages.{ask_of, asked_under}
 
 pub own_request : (seat : ℕ) (ev : Event) (past : Past) → asked_under seat (entry seat ev ∷ past) ≡ asked_under seat past ++ option_to_list (ask_of ev)
 own_request seat ev past = ap (λ (b : Bool). asked_under seat past ++ option_to_list (if b then ask_of ev else None)) (eq-eqb seat seat refl)

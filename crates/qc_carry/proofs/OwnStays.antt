@@ -1,6 +1,6 @@
 -- What stays of an access of one's own while its pass goes on, and for what it may be ended.
-use Rattle.std.proofs.Common.{◌≡◌, ℕ, [], ◌∷◌, ◌++◌, refl, sym, ap, ◌∙◌, subst}
-use Rattle.std.specs.Prelude.{Option, None, Some, MatchOption, IsTrue, not, ◌||◌, is_some, if◌then◌else◌, Bool, true}
+use Rattle.std.proofs.Common.{◌≡◌, ℕ, ◌++◌, refl, sym, ap, ◌∙◌, subst}
+use Rattle.std.specs.Prelude.{None, IsTrue, not, ◌||◌}
 use Rattle.std.specs.Option.{option_or}
 use Rattle.qc_names.specs.Name as name
 use Rattle.qc_event.specs.declared.event.Ask.{Ask}

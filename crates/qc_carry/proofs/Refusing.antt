@@ -1,8 +1,7 @@
 -- What a desk's refusal of a call tells, by the tests of the call.
-use Rattle.std.proofs.Common.{◌≡◌, Bool, true, false, [], inl, inr, refl, ap, ◌∙◌}
+use Rattle.std.proofs.Common.{◌≡◌, Bool, true, false, inl, inr}
 use Rattle.std.specs.Prelude.{Option, None, Some, if◌then◌else◌}
 use Rattle.std.specs.Option.{option_or, option_map}
-use Rattle.std.proofs.lemmas.Option.{same_Some}
 use Rattle.qc_event.specs.Dead.{dead, outcome, is_live, is_committed}
 use Rattle.qc_event.specs.History.{Past, Name, is_ready}
 use Rattle.qc_pass.specs.declared.refusal.DeskNo.{DeskNo}
@@ -11,7 +10,6 @@ use Rattle.qc_pass.specs.declared.view.View.{View}
 use Rattle.qc_pass.specs.Calling.{Refused}
 use Rattle.qc_pass.specs.Refusing.{against_child, against_access, against_abort, against_nothing, Refuses, IsWant}
 use Rattle.qc_carry.specs.Access.{IsShort, no_of}
-use Rattle.qc_carry.specs.Walk.{Walk}
 use Rattle.qc_carry.proofs.Walking as walking
 
 same_orphan : (x a : Name) → Some (no.Orphan x) ≡ Some (no.Orphan a) → Some x ≡ Some a

@@ -1,8 +1,7 @@
 -- How a pass goes on, from what each call says of it.
-use Rattle.std.proofs.Common.{◌≡◌, ℕ, ◌==◌, Bool, true, false, cond, [], ◌∷◌, ◌++◌, refl, sym, ap, ◌∙◌, subst, append_assoc, eqb-true, eq-eqb}
+use Rattle.std.proofs.Common.{◌≡◌, ℕ, ◌==◌, Bool, true, cond, [], ◌∷◌, ◌++◌, refl, sym, ap, ◌∙◌, subst, append_assoc, eqb-true, eq-eqb}
 use Rattle.std.specs.Prelude.{◌<◌, ◌≤◌, Option}
 use Rattle.std.proofs.lemmas.Bool.{false_from_ne_true}
-use Rattle.qc_event.specs.declared.event.Entry.{Entry}
 use Rattle.qc_event.specs.declared.event.Event.{Event}
 use Rattle.qc_event.specs.History.{Past}
 use Rattle.qc_gather.specs.Carrying.{made_by, entry}

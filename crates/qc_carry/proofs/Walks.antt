@@ -1,17 +1,15 @@
 -- A manager's next access by its client's own entries, whatever others enter between them.
-use Rattle.std.proofs.Common.{◌≡◌, ℕ, ◌+◌, ◌<◌, ◌≤◌, ◌==◌, Bool, true, false, cond, List, [], ◌∷◌, ◌++◌, length, refl, sym, ap, ◌∙◌, subst, arith, eqb-true, eq-eqb, append-nil, append_assoc}
+use Rattle.std.proofs.Common.{◌≡◌, ℕ, ◌==◌, Bool, true, false, cond, [], ◌∷◌, ◌++◌, refl, sym, ap, ◌∙◌, subst, eqb-true, eq-eqb, append-nil, append_assoc}
 use mathlib.Core.Bool.{true≢false}
-use Rattle.std.specs.Prelude.{Option, None, Some, MatchOption, IsTrue, if◌then◌else◌, filter, option_to_list, is_some, is_none, find}
+use Rattle.std.specs.Prelude.{Option, None, Some, if◌then◌else◌, option_to_list, is_some}
 use Rattle.std.specs.List.{AllByRecursion}
 use Rattle.std.specs.Option.{option_or}
 use Rattle.std.proofs.lemmas.Bool.{false_from_ne_true}
-use Rattle.qc_event.specs.declared.event.Ask.{Ask}
 use Rattle.qc_event.specs.declared.event.Entry.{Entry}
 use Rattle.qc_event.specs.declared.event.Event.{Event}
 use Rattle.qc_event.specs.declared.event.Event.TheVariants as event
-use Rattle.qc_event.specs.declared.event.Kind.TheVariants as kind
 use Rattle.qc_event.specs.Base.{Setting}
-use Rattle.qc_event.specs.History.{Past, Name, Begun, earliest, every, same, start, start_in, end, end_in, asked, ask_in, gone, gone_in, refused, refusal_in, asks, ask_below, children, child_in, is_child}
+use Rattle.qc_event.specs.History.{Past, Name, earliest, every, same, start, start_in, end, end_in, asked, ask_in, gone, gone_in, refused, refusal_in, asks, ask_below, children, child_in, is_child}
 use Rattle.qc_event.specs.Legal.{Legal, Allowed}
 use Rattle.qc_event.specs.Manager.{result, result_by}
 use Rattle.qc_event.specs.Standing.{IsManager}

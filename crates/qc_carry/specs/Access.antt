@@ -11,7 +11,7 @@ use Rattle.qc_event.specs.History.{Past, Name, limit, asked, gone, refused, end}
 use Rattle.qc_event.specs.Manager.{Replied, Missing, BlockedBy, Result as Became}
 use Rattle.qc_event.specs.Requests.{is_fault, was_unable}
 use Rattle.qc_event.specs.Standing.{IsOrphanOf, open_child}
-use Rattle.qc_gather.specs.Carrying.{entry, began, access_entries, became, IsBegun, WasStopped}
+use Rattle.qc_gather.specs.Carrying.{entry, access_entries, became, IsBegun, WasStopped}
 use Rattle.qc_gather.specs.declared.carrier.Carried.{Carried}
 use Rattle.qc_gather.specs.declared.carrier.Carried.TheVariants.{Reply, Blocked, Gone}
 use Rattle.qc_gather.specs.declared.carrier.CarryNo.{CarryNo}
