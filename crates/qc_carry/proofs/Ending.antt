@@ -1,5 +1,5 @@
 -- How an access that waits ends, by what each call entered.
-use Rattle.std.proofs.Common.{◌≡◌, ℕ, Bool, true, false, [], ◌∷◌, length, refl, sym, ap, ◌∙◌, subst, inl, inr, append-nil}
+use Rattle.std.proofs.Common.{◌≡◌, ℕ, Bool, [], ◌∷◌, length, refl, sym, ap, ◌∙◌, subst, inl, inr, append-nil}
 use Rattle.std.specs.Prelude.{None, Some, IsTrue, not, ◌||◌, is_some, if◌then◌else◌, Result, Ok, Err}
 use Rattle.std.specs.Option.{option_or}
 use Rattle.std.proofs.lemmas.Bool.{or_left, or_right}
@@ -15,6 +15,8 @@ use Rattle.qc_event.specs.Legal.{Legal}
 use Rattle.qc_event.specs.Requests.{is_fault, was_unable}
 use Rattle.qc_event.specs.Standing.{IsOrphanOf}
 use Rattle.qc_event.proofs.Absent.{same_itself}
+use Rattle.qc_event.specs.declared.log.Short.{Short}
+use Rattle.qc_event.specs.declared.log.Short.TheVariants as short
 use Rattle.qc_event.proofs.Booleans.{or_wider}
 use Rattle.qc_event.proofs.StillTold.{is_stays}
 use Rattle.qc_gather.specs.Carrying.{entry, became}
@@ -23,7 +25,7 @@ use Rattle.qc_gather.specs.declared.carrier.CarryNo.{CarryNo}
 use Rattle.qc_gather.specs.declared.carrier.CarryNo.TheVariants as no
 use Rattle.qc_pass.specs.declared.view.View.{View}
 use Rattle.qc_pass.proofs.Lasting.{orphan_stays}
-use Rattle.qc_carry.specs.Access.{Ends, IsLeft, IsShort, IsStopped, Waits, ending, orphaning, want}
+use Rattle.qc_carry.specs.Access.{Ends, IsLeft, IsShort, IsStopped, Waits, ending, orphaning, want_of}
 use Rattle.qc_carry.specs.Walk.{Walk}
 use Rattle.qc_carry.proofs.Answered.{unable_still}
 use Rattle.qc_carry.proofs.Course.{go_on}
@@ -89,9 +91,9 @@ ends_on v u w ask (Err no.Memory) first left = left_on v u w ask.access first le
 ends_on v u w ask (Err no.Room) first (left, full) = (left_on v u w ask.access first left, full)
 
 -- what was wanting for an answer
-pub want_short : (v w : View) (full : Bool) → Walk v w [] → (full ≡ true → length w.seen ≡ limit) → IsShort v w (want full)
-want_short v w true walk found = (walk, found refl)
-want_short v w false walk found = walk
+pub want_short : (v w : View) (want : Short) → Walk v w [] → (want ≡ short.Room → length w.seen ≡ limit) → IsShort v w (want_of want)
+want_short v w short.Room walk full = (walk, full refl)
+want_short v w short.Memory walk full = walk
 
 -- THE ENTRIES OF ITS END
 

@@ -1,5 +1,5 @@
 -- One access of a manager, by the entries of its client alone: what it waits for, how it ends, and what is left where it is cut off.
-use Rattle.std.specs.Prelude.{ℕ, Bool, true, false, ◌≡◌, ◌⊎◌, ◌||◌, not, IsTrue, [], ◌∷◌, length, None, Some, Result, Ok, Err}
+use Rattle.std.specs.Prelude.{ℕ, ◌≡◌, ◌⊎◌, ◌||◌, not, IsTrue, [], ◌∷◌, length, None, Some, Result, Ok, Err}
 use Rattle.qc_event.specs.declared.event.Answer.TheVariants as answer
 use Rattle.qc_event.specs.declared.event.Ask.{Ask}
 use Rattle.qc_event.specs.declared.event.Cause.TheVariants.{Missed, Orphan as OrphanOf}
@@ -7,6 +7,8 @@ use Rattle.qc_event.specs.declared.event.Event.TheVariants as event
 use Rattle.qc_event.specs.declared.event.How.TheVariants.{Commit, Abort}
 use Rattle.qc_event.specs.declared.event.Refusal.TheVariants as refusal
 use Rattle.qc_event.specs.declared.event.Why.{Why}
+use Rattle.qc_event.specs.declared.log.Short.{Short}
+use Rattle.qc_event.specs.declared.log.Short.TheVariants as short
 use Rattle.qc_event.specs.History.{Past, Name, limit, asked, gone, refused, end}
 use Rattle.qc_event.specs.Manager.{Replied, Missing, BlockedBy, Result as Became}
 use Rattle.qc_event.specs.Requests.{is_fault, was_unable}
@@ -51,10 +53,10 @@ no_of (desk_no.Orphan a) = no.Orphan a
 no_of desk_no.Room = no.Room
 no_of _ = no.Memory
 
--- what was wanting: room where the history is full, and else memory
-abbrev pub want : Bool → CarryNo
-want true = no.Room
-want false = no.Memory
+-- why an access is not carried on for want of memory or of room
+abbrev pub want_of : Short → CarryNo
+want_of short.Room = no.Room
+want_of short.Memory = no.Memory
 
 -- nothing was entered, for want of memory or of room
 abbrev pub IsShort : View → View → CarryNo → Type 0

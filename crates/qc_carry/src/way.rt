@@ -22,7 +22,6 @@ use qc_gather::CarryNo;
 use qc_net::{Courier, Link, Port, Sent};
 use qc_pass::Pass;
 use qc_system::{Boxed, Mounting, System};
-use std::alloc::AllocError;
 use std::mem::replace;
 use std::sync::Wait;
 
@@ -42,7 +41,8 @@ where
 
 // Whether a request was not served since the history is full.
 fn is_full(served: &Result<Answered, Short>) -> bool
-    ensures { result ≡ true → IsErrOf served.now Room }
+    ensures room { result ≡ true → IsErrOf served.now Room }
+    ensures full { IsErrOf served.now Room → result ≡ true }
 {
     match served {
         Err(Short::Room) => true,
@@ -50,15 +50,18 @@ fn is_full(served: &Result<Answered, Short>) -> bool
     }
 }
 
-// What was wanting for an answer.
-fn want(full: bool) -> CarryNo
-    ensures { result ≡ words.want full }
+// Why an access is not carried on where its copy did not answer.
+fn want_of(short: Short) -> CarryNo
+    ensures { result ≡ words.want_of short }
 {
-    if full { CarryNo::Room } else { CarryNo::Memory }
+    match short {
+        Short::Room => CarryNo::Room,
+        Short::Memory => CarryNo::Memory,
+    }
 }
 
 impl<'a, R: Wait, D: Disk + Drop, N: Mounting> Port for Way<'a, R, D, N> {
-    ghost use Rattle.std.specs.Prelude.{None};
+    ghost use Rattle.std.specs.Prelude.{◌≡◌, true, None};
     ghost use Rattle.qc_ledger.specs.Entered.{SeesMore};
     ghost use Rattle.qc_pass.specs.Consulting.{HasAsked};
     ghost use Rattle.qc_site.specs.Answers.{HasAnswered};
@@ -68,6 +71,7 @@ impl<'a, R: Wait, D: Disk + Drop, N: Mounting> Port for Way<'a, R, D, N> {
       may = λ ask. HasAsked way.pass.seen ask;
       gave = λ ask answer. HasAnswered ask.copy way.pass.seen ask answer;
       made = None;
+      full = way.full ≡ true;
     } };
 
     ghost became = { λ before now. SeesMore before.pass now.pass };
@@ -76,13 +80,13 @@ impl<'a, R: Wait, D: Disk + Drop, N: Mounting> Port for Way<'a, R, D, N> {
 
     ghost became_by_both = { λ a b c first second. sees_by_both a.pass b.pass c.pass first second };
 
-    fn deliver(&mut self, ask: &Ask) -> Result<Answered, AllocError> {
+    fn deliver(&mut self, ask: &Ask) -> Result<Answered, Short> {
         self.pass.known();
         let served = self.system.serve(self.rt, &mut self.pass, ask);
         self.full = is_full(&served);
         match served {
             Ok(answer) => Ok(answer),
-            Err(_) => Err(AllocError),
+            Err(short) => Err(short),
         }
     }
 }
@@ -124,15 +128,11 @@ pub(crate) fn send<R: Wait, D: Disk + Drop, L: Link, N: Mounting>(
         full: false,
     };
     let sent = courier.send(ask, &mut way, patience);
-    let Way {
-        pass: own,
-        full,
-        ..
-    } = way;
+    let Way { pass: own, .. } = way;
     own.known();
     *pass = own;
     match sent {
         Ok(sent) => Ok(sent),
-        Err(AllocError) => Err(want(full)),
+        Err(short) => Err(want_of(short)),
     }
 }

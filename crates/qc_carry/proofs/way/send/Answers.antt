@@ -1,11 +1,11 @@
 -- A pass is lent to its way, and has then seen what its port has.
-use Rattle.std.proofs.Common.{◌≡◌, Bool, true, false, [], refl, sym, ap, ◌∙◌, subst}
-use Rattle.std.specs.Prelude.{All}
+use Rattle.std.proofs.Common.{sym, ap, ◌∙◌, subst}
+use Rattle.std.specs.Prelude.{All, Err}
 use Rattle.qc_net.specs.Courier.{held_of}
 use Rattle.qc_ledger.specs.Entered.{SeesMore}
 use Rattle.qc_pass.specs.Consulting.{HasAsked}
 use Rattle.qc_pass.specs.declared.view.View.{View}
-use Rattle.qc_carry.specs.Access.{IsShort, want}
+use Rattle.qc_carry.specs.Access.{IsShort}
 use Rattle.qc_carry.proofs.Ending.{want_short}
 use Rattle.qc_carry.proofs.Walking as walking
 use Rattle.qc_carry.proofs.way.send.Goals as goal
@@ -31,4 +31,4 @@ returns-in-Err-clause-walk g c =
 pub returns-in-Err-clause-err : goal.returns-in-Err-clause-err
 returns-in-Err-clause-err g c =
     let w = c.send-sent.new.port.pass in
-    subst (IsShort c.args.pass.now w) (sym c.want.ensures) (want_short c.args.pass.now w c.send-sent.new.port.full (returns-in-Err-clause-walk g c) c.send-sent.new.port.found)
+    subst (IsShort c.args.pass.now w) (sym c.want_of.ensures) (want_short c.args.pass.now w c.in-Err.short (returns-in-Err-clause-walk g c) (λ is. c.send-sent.new.port.found (c.in-Err.ensures.room (ap Err is))))
