@@ -140,7 +140,8 @@ fn put_ledger(out: &mut Vec<u8>, logged: &LedgerRecord) -> Result<(), AllocError
 /// The bytes of a top's record, with the names that were aborted below it.
 pub fn write_top(alloc: Global, top: &Name, aborted: &[Name]) -> Result<Vec<u8>, AllocError>
     requires proper { body.ledger.fits (LedgerRecord.Top top.now aborted.now) }
-    ensures { IfOk result (λ bytes. Spells body.ledger bytes.items (LedgerRecord.Top top.now aborted.now)) }
+    ensures { IfOk result (λ bytes. Spells body.ledger bytes.items
+        (LedgerRecord.Top top.now aborted.now)) }
 {
     let mut out = vec![in alloc; 3]?;
     put_top(&mut out, top, aborted)?;

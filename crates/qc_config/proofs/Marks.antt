@@ -1,8 +1,8 @@
 -- Sixteen marks are a set of numbers below 16: they are the same where they have the same members.
-use Rattle.std.proofs.Common.{◌≡◌, ℕ, zero, suc, ◌<◌, Bool, true, false, List, [], ◌∷◌, length, refl, sym, ap, ap₂, ◌∙◌, arith, ne_eqb}
+use Rattle.std.proofs.Common.{◌≡◌, ℕ, zero, suc, ◌<◌, Bool, false, List, [], ◌∷◌, length, refl, sym, ap, ap₂, ◌∙◌, arith, ne_eqb}
 use Rattle.std.proofs.lemmas.Bool.Decides.{nat_tests}
-use Rattle.std.specs.Prelude.{replicate, slice_set, ◌==◌, ◌||◌}
-use Rattle.qc_config.specs.Copies.{none, has, with}
+use Rattle.std.specs.Prelude.{replicate, ◌==◌, ◌||◌}
+use Rattle.qc_config.specs.Copies.{has, with}
 
 pub same_members : (a b : List Bool) → length a ≡ length b → ((c : ℕ) → c < length a → has a c ≡ has b c) → a ≡ b
 same_members [] [] same h = refl

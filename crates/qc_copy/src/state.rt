@@ -273,10 +273,13 @@ impl CopyState {
         ensures follows { Follows (reverse h.now) self.new.grants self.new.table }
 
         // A repeat gets what the first request got.
-        ensures repeat { (tuple : Tuple) → words.again self.old.grants ask.now.access ≡ Some tuple → result ≡ Ok (Granted tuple) }
-        ensures repeated { IsTrue (is_some (words.again self.old.grants ask.now.access)) → self.new ≡ self.old }
+        ensures repeat { (tuple : Tuple) → words.again self.old.grants ask.now.access ≡ Some tuple
+            → result ≡ Ok (Granted tuple) }
+        ensures repeated { IsTrue (is_some (words.again self.old.grants ask.now.access))
+            → self.new ≡ self.old }
         ensures answer { IfOk result (λ a. a ≡ words.answer (reverse h.now) self.old ask.now) }
-        ensures grants { OnOk result (self.new.grants ≡ words.grants_after (reverse h.now) self.old ask.now) }
+        ensures grants { OnOk result
+            (self.new.grants ≡ words.grants_after (reverse h.now) self.old ask.now) }
         ensures err { OnErr result (self.new ≡ self.old) }
     {
         self.serve_by(ask, &Entries { entries: h })

@@ -3,6 +3,7 @@ use Rattle.std.proofs.Common.{◌≡◌, inl, inr, ℕ, zero, suc, Bool, true, f
 use mathlib.Core.Bool.{true≢false}
 use Rattle.std.specs.Prelude.{Option, None, Some, MatchBool, IsTrue, not}
 use Rattle.std.specs.List.{AllByRecursion}
+use Rattle.qc_event.specs.declared.event.Answer.{Answer}
 use Rattle.qc_event.specs.declared.event.Cause.{Cause}
 use Rattle.qc_event.specs.declared.event.Cause.TheVariants as cause
 use Rattle.qc_event.specs.declared.event.Entry.{Entry}
@@ -116,10 +117,10 @@ module _ (s : ℕ) (p : Entry → Bool) (setting : Setting) (newer past : Past) 
   abbrev now : Past
   now = filter p (newer ++ past)
 
-  does_still : (n c : Name) (Follows Does DoesNow : Type 0) (further : List Name) (how : Option How) → (Follows → Does → DoesNow) → (o : Option How) → end old c ≡ o → GoesOn Reach.to_the_end old n o Follows further how → DoesOn o Does → DoesOn (end now c) DoesNow
+  does_still : (n c : Name) (Follows Does DoesNow : Answer → Type 0) (further : List Name) (how : Option How) → ((given : Answer) → Follows given → Does given → DoesNow given) → (o : Option How) → end old c ≡ o → GoesOn Reach.to_the_end old n o Follows further how → DoesOn o Does → DoesOn (end now c) DoesNow
   does_still n c Follows Does DoesNow further how step None is follows h = absurd h
   does_still n c Follows Does DoesNow further how step (Some (Abort x)) is follows h = absurd h
-  does_still n c Follows Does DoesNow further how step (Some (Commit given)) is follows h = subst (λ o. DoesOn o DoesNow) (sym (end_some p setting newer past c (Commit given) is)) (step follows h)
+  does_still n c Follows Does DoesNow further how step (Some (Commit given)) is follows h = subst (λ o. DoesOn o DoesNow) (sym (end_some p setting newer past c (Commit given) is)) (step given follows h)
 
   tries_do_still : (IsTry Does DoesNow : Name → Type 0) (Stopped : Type 0) (Rest RestDoes RestDoesNow : List Name → Type 0)
       → ((c : Name) → IsTry c → Closed old c × (Does c → DoesNow c)) → ((cs : List Name) → Rest cs → RestDoes cs → RestDoesNow cs)
@@ -139,8 +140,10 @@ module _ (s : ℕ) (p : Entry → Bool) (setting : Setting) (newer past : Past) 
 
   plan_asks_still : (n : Name) (plan : Plan) (cs : List Name) (how : Option How) → FollowsPlan s old n plan cs how → Asks old n plan cs by target → Asks now n plan cs by target
   plan_asks_still n Plan.done cs how h d = absurd d
-  plan_asks_still n (Plan.manage_then k rest) [] how h d = absurd d
-  plan_asks_still n (Plan.manage_then k rest) (c ∷ cs) how h d = does_still n c _ _ _ cs how (plan_asks_still n rest cs how) (end old c) refl h.1 d
+  plan_asks_still n (Plan.manage_by k next) [] how h d = absurd d
+  plan_asks_still n (Plan.manage_by k next) (c ∷ cs) how h d =
+      does_still n c (λ given. FollowsPlan s old n (next given) cs how) (λ given. Asks old n (next given) cs by target) (λ given. Asks now n (next given) cs by target) cs how
+      (λ given. plan_asks_still n (next given) cs how) (end old c) refl h.1 d
   plan_asks_still n (Plan.child_then number tries inner rest) cs how h d =
       tries_do_still _ (λ c. Asks old c inner (children old c) by target) (λ c. Asks now c inner (children now c) by target) (StopsEarly n how) _ (λ further. Asks old n rest further by target) (λ further. Asks now n rest further by target)
       (λ c t.

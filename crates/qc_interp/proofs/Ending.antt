@@ -95,7 +95,7 @@ running_unended past n how (inr asked) unready = inl asked
 -- and with no child it has come as far with any plan
 pub running_runs : (s : ℕ) (past : Past) (n : Name) (how : Option How) → IsUnended n how → is_ready past n ≡ false → (plan : Plan) → RunsPlan Reach.cut_off s past n plan [] how
 running_runs s past n how unended unready Plan.done = inr (running_stops past n how unended unready)
-running_runs s past n how unended unready (Plan.manage_then k rest) = running_stops past n how unended unready
+running_runs s past n how unended unready (Plan.manage_by k next) = running_stops past n how unended unready
 running_runs s past n how unended unready (Plan.child_then number tries inner rest) =
     no_tries (end past) _ (Stops Reach.cut_off past n how) (λ further. RunsPlan Reach.cut_off s past n rest further how) (running_stops past n how unended unready) (running_runs s past n how unended unready rest) tries
 running_runs s past n how unended unready (Plan.abort_then levels rest) = inr (running_unended past n how unended unready)

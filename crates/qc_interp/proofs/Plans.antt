@@ -1,12 +1,14 @@
 -- The plans of bodies and of steps, one step at a time.
-use Rattle.std.proofs.Common.{◌≡◌, ℕ, zero, suc, ◌+◌, ◌<◌, ◌≤◌, arith, drop, List, [], ◌∷◌, length, get_or, sym, ap, ◌∙◌, subst, add-one, drop-cons}
+use Rattle.std.proofs.Common.{◌≡◌, ℕ, zero, suc, ◌+◌, ◌<◌, ◌≤◌, arith, Bool, true, false, drop, List, [], ◌∷◌, length, get_or, refl, sym, ap, ◌∙◌, subst, add-one, drop-cons}
+use Rattle.std.specs.Prelude.{nat_lt, if◌then◌else◌}
 use Rattle.qc_config.specs.Config.{Voting}
+use Rattle.qc_event.specs.declared.event.Answer.TheVariants as answer
 use Rattle.qc_event.specs.declared.event.Kind.TheVariants as kind
 use Rattle.qc_event.specs.Base.{Setting}
 use Rattle.qc_script.specs.declared.script.Body.{Body, out-Body, fold_out-Body}
 use Rattle.qc_script.specs.declared.script.Step.{Step, Step-F, map-Step, out-Step, fold-roll-Step, fold_out-Step}
 use Rattle.qc_script.specs.declared.script.Step.TheVariants as step
-use Rattle.qc_script.specs.Plan.{Plan, Numbered, PlanFits}
+use Rattle.qc_script.specs.Plan.{Plan, Numbered, PlanFits, manage_then, change_then, need_then, value_of, plus, minus}
 use Rattle.qc_script.proofs.Plans.{all_before-map}
 use Rattle.qc_script.specs.Steps.{before, layer, numbered, put, plan_of}
 
@@ -26,13 +28,22 @@ pub number_of : (b : Body) → (numbered b).number ≡ (out-Body b).number
 number_of b = ap (λ (n : Numbered). n.number) (numbered_is b)
 
 -- what each step is
-pub put_read : (rec : ℕ) → put (step.Read rec) ≡ Plan.manage_then (kind.Read rec)
+pub put_read : (rec : ℕ) → put (step.Read rec) ≡ manage_then (kind.Read rec)
 put_read rec = ap put (sym (step.rolls-Read rec)) ∙ fold-roll-Step (Plan → Plan) Numbered before layer (Step-F.Read rec)
 
-pub put_set : (rec value : ℕ) → put (step.Set rec value) ≡ Plan.manage_then (kind.Write rec value)
+pub put_set : (rec value : ℕ) → put (step.Set rec value) ≡ manage_then (kind.Write rec value)
 put_set rec value = ap put (sym (step.rolls-Set rec value)) ∙ fold-roll-Step (Plan → Plan) Numbered before layer (Step-F.Set rec value)
 
-pub put_reconf : (rec : ℕ) (config : Voting) → put (step.Reconf rec config) ≡ Plan.manage_then (kind.Reconf rec config)
+pub put_add : (rec value : ℕ) → put (step.Add rec value) ≡ change_then rec (λ old. plus old value)
+put_add rec value = ap put (sym (step.rolls-Add rec value)) ∙ fold-roll-Step (Plan → Plan) Numbered before layer (Step-F.Add rec value)
+
+pub put_sub : (rec value : ℕ) → put (step.Sub rec value) ≡ change_then rec (λ old. minus old value)
+put_sub rec value = ap put (sym (step.rolls-Sub rec value)) ∙ fold-roll-Step (Plan → Plan) Numbered before layer (Step-F.Sub rec value)
+
+pub put_need : (rec value : ℕ) → put (step.Need rec value) ≡ need_then rec value
+put_need rec value = ap put (sym (step.rolls-Need rec value)) ∙ fold-roll-Step (Plan → Plan) Numbered before layer (Step-F.Need rec value)
+
+pub put_reconf : (rec : ℕ) (config : Voting) → put (step.Reconf rec config) ≡ manage_then (kind.Reconf rec config)
 put_reconf rec config = ap put (sym (step.rolls-Reconf rec config)) ∙ fold-roll-Step (Plan → Plan) Numbered before layer (Step-F.Reconf rec config)
 
 pub put_child : (b : Body) → put (step.Child b) ≡ Plan.child_then (numbered b).number (numbered b).tries (numbered b).plan
@@ -44,7 +55,7 @@ put_abort levels = ap put (sym (step.rolls-Abort levels)) ∙ fold-roll-Step (Pl
 -- a number that falls from the tries of a child to each of them, from a body to its steps, and from steps to each
 abbrev pub weight : Plan → ℕ
 weight Plan.done = 0
-weight (Plan.manage_then k rest) = weight rest
+weight (Plan.manage_by k next) = weight (next answer.Nothing)
 weight (Plan.child_then number tries inner rest) = weight inner + weight rest + 4
 weight (Plan.abort_then levels rest) = weight rest
 
@@ -52,9 +63,17 @@ weight (Plan.abort_then levels rest) = weight rest
 layered : (s : Step) → put s ≡ before (map-Step Step Body (Plan → Plan) Numbered put numbered (out-Step s))
 layered s = fold_out-Step (Plan → Plan) Numbered before layer s
 
+-- whether a value was enough or not
+either_weight : (less : Bool) (rest : Plan) → weight (if less then Plan.abort_then 0 rest else rest) ≡ weight rest
+either_weight true rest = refl
+either_weight false rest = refl
+
 lighter : (s : Step-F (Plan → Plan) Numbered) (rest : Plan) → weight rest ≤ weight (before s rest)
 lighter (Step-F.Read rec) rest = omega arith
 lighter (Step-F.Set rec value) rest = omega arith
+lighter (Step-F.Add rec value) rest = omega arith
+lighter (Step-F.Sub rec value) rest = omega arith
+lighter (Step-F.Need rec value) rest = omega (arith, either_weight (nat_lt 0 value) rest)
 lighter (Step-F.Reconf rec config) rest = omega arith
 lighter (Step-F.Child body) rest = omega arith
 lighter (Step-F.Abort levels) rest = omega arith
@@ -62,6 +81,9 @@ lighter (Step-F.Abort levels) rest = omega arith
 alone : (s : Step-F (Plan → Plan) Numbered) (rest : Plan) → weight (before s Plan.done) ≤ weight (before s rest)
 alone (Step-F.Read rec) rest = omega arith
 alone (Step-F.Set rec value) rest = omega arith
+alone (Step-F.Add rec value) rest = omega arith
+alone (Step-F.Sub rec value) rest = omega arith
+alone (Step-F.Need rec value) rest = omega (arith, either_weight (nat_lt 0 value) rest, either_weight (nat_lt 0 value) Plan.done)
 alone (Step-F.Reconf rec config) rest = omega arith
 alone (Step-F.Child body) rest = omega arith
 alone (Step-F.Abort levels) rest = omega arith
@@ -85,10 +107,25 @@ step_lighter steps i s below is =
     let rest = plan_of (drop (i + 1) steps) in
     omega (arith, rest_lighter i steps, ap weight (plan_at steps i s below is), ap (λ f. weight (f rest)) (layered s), ap (λ f. weight (f Plan.done)) (layered s), alone l rest)
 
+-- what fits whether a value was enough or not
+either_alone : (setting : Setting) (depth : ℕ) (less : Bool) (rest : Plan) → PlanFits setting depth (if less then Plan.abort_then 0 rest else rest) → PlanFits setting depth (if less then Plan.abort_then 0 Plan.done else Plan.done)
+either_alone setting depth true rest h = (h.0, tt)
+either_alone setting depth false rest h = tt
+
+either_fits : (setting : Setting) (depth : ℕ) (less : Bool) (rest : Plan) → PlanFits setting depth (if less then Plan.abort_then 0 rest else rest) → PlanFits setting depth rest
+either_fits setting depth true rest h = h.1
+either_fits setting depth false rest h = h
+
 fits_layer : (setting : Setting) (depth : ℕ) (s : Step-F (Plan → Plan) Numbered) (rest : Plan) → PlanFits setting depth (before s rest) → PlanFits setting depth (before s Plan.done) × PlanFits setting depth rest
-fits_layer setting depth (Step-F.Read rec) rest h = ((h.0, tt), h.1)
-fits_layer setting depth (Step-F.Set rec value) rest h = ((h.0, tt), h.1)
-fits_layer setting depth (Step-F.Reconf rec config) rest h = ((h.0, tt), h.1)
+fits_layer setting depth (Step-F.Read rec) rest h = ((h.0, λ given. tt), h.1 answer.Nothing)
+fits_layer setting depth (Step-F.Set rec value) rest h = ((h.0, λ given. tt), h.1 answer.Nothing)
+fits_layer setting depth (Step-F.Add rec value) rest h = ((h.0, λ given. ((h.1 given).0, λ done. tt)), (h.1 answer.Nothing).1 answer.Nothing)
+fits_layer setting depth (Step-F.Sub rec value) rest h = ((h.0, λ given. ((h.1 given).0, λ done. tt)), (h.1 answer.Nothing).1 answer.Nothing)
+fits_layer setting depth (Step-F.Need rec value) rest h = (
+  (h.0, λ given. either_alone setting depth (nat_lt (value_of given) value) rest (h.1 given)),
+  either_fits setting depth (nat_lt 0 value) rest (h.1 answer.Nothing),
+)
+fits_layer setting depth (Step-F.Reconf rec config) rest h = ((h.0, λ given. tt), h.1 answer.Nothing)
 fits_layer setting depth (Step-F.Child body) rest h = ((h.0, h.1, h.2, tt), h.3)
 fits_layer setting depth (Step-F.Abort levels) rest h = ((h.0, tt), h.1)
 

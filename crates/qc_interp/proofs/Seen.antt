@@ -4,6 +4,7 @@ use mathlib.Core.Bool.{true≢false}
 use Rattle.std.specs.Prelude.{Option, None, Some, is_some, not, ◌&&◌, ◌||◌, if◌then◌else◌, option_map, option_to_list}
 use Rattle.std.specs.List.{AllByRecursion}
 use Rattle.std.specs.Option.{option_or}
+use Rattle.qc_event.specs.declared.event.Answer.{Answer}
 use Rattle.qc_event.specs.declared.event.Entry.{Entry}
 use Rattle.qc_event.specs.declared.event.Event.{Event}
 use Rattle.qc_event.specs.declared.event.Event.TheVariants as event
@@ -125,10 +126,10 @@ module _ (c : Client) (of : Name) (past : Past) (ours : AreOurs c of past) where
   unended_seen Reach.cut_off n how low (inl h) = inl h
   unended_seen Reach.cut_off n how low (inr h) = inr (h.0, sym (same_ready n low) ∙ h.1)
 
-  goes_seen : (reach : Reach) (n : Name) (o : Option How) (Rest RestToo : Type 0) (further : List Name) (how : Option How) → name.is_ancestor (take 1 of) n ≡ true → (Rest → RestToo) → GoesOn reach made n o Rest further how → GoesOn reach past n o RestToo further how
+  goes_seen : (reach : Reach) (n : Name) (o : Option How) (Rest RestToo : Answer → Type 0) (further : List Name) (how : Option How) → name.is_ancestor (take 1 of) n ≡ true → ((given : Answer) → Rest given → RestToo given) → GoesOn reach made n o Rest further how → GoesOn reach past n o RestToo further how
   goes_seen Reach.to_the_end n None Rest RestToo further how low step h = h
   goes_seen Reach.cut_off n None Rest RestToo further how low step h = (h.0, unended_seen Reach.cut_off n how low h.1)
-  goes_seen reach n (Some (Commit given)) Rest RestToo further how low step h = step h
+  goes_seen reach n (Some (Commit given)) Rest RestToo further how low step h = step given h
   goes_seen reach n (Some (Abort y)) Rest RestToo further how low step h = (
     h.0,
     elim h.1 [
@@ -146,10 +147,11 @@ module _ (c : Client) (of : Name) (past : Past) (ours : AreOurs c of past) where
       by_how (Some (Abort x)) h = h
   plan_seen reach s n Plan.done [] how low all (inr x) = inr (stops_seen reach n how low x)
   plan_seen reach s n Plan.done (x ∷ cs) how low all h = absurd h
-  plan_seen reach s n (Plan.manage_then k rest) [] how low all h = stops_seen reach n how low h
-  plan_seen reach s n (Plan.manage_then k rest) (x ∷ cs) how low all h = (
+  plan_seen reach s n (Plan.manage_by k next) [] how low all h = stops_seen reach n how low h
+  plan_seen reach s n (Plan.manage_by k next) (x ∷ cs) how low all h = (
     sym (same_kind x all.0.0) ∙ h.0,
-    subst (λ o. GoesOn reach past n o (RunsPlan reach s past n rest cs how) cs how) (same_end x all.0.0 all.0.1) (goes_seen reach n (end made x) _ _ cs how low (plan_seen reach s n rest cs how low all.1) h.1),
+    subst (λ o. GoesOn reach past n o (λ given. RunsPlan reach s past n (next given) cs how) cs how) (same_end x all.0.0 all.0.1)
+        (goes_seen reach n (end made x) (λ given. RunsPlan reach s made n (next given) cs how) (λ given. RunsPlan reach s past n (next given) cs how) cs how low (λ given. plan_seen reach s n (next given) cs how low all.1) h.1),
   )
   plan_seen reach s n (Plan.child_then number tries inner rest) cs how low all h =
       tries_alike (end made) (end past) _ _ (Stops reach made n how) (Stops reach past n how) (λ further. RunsPlan reach s made n rest further how) (λ further. RunsPlan reach s past n rest further how) Low again_low (stops_seen reach n how low)
@@ -166,13 +168,14 @@ module _ (c : Client) (of : Name) (past : Past) (ours : AreOurs c of past) where
 
   plan_asks_seen : (by target n : Name) (plan : Plan) (cs : List Name) → AllByRecursion Low cs → Asks made n plan cs by target → Asks past n plan cs by target
   plan_asks_seen by target n Plan.done cs all h = absurd h
-  plan_asks_seen by target n (Plan.manage_then k rest) [] all h = absurd h
-  plan_asks_seen by target n (Plan.manage_then k rest) (x ∷ cs) all h =
-      subst (λ o. DoesOn o (Asks past n rest cs by target)) (same_end x all.0.0 all.0.1) (by_end (end made x) (plan_asks_seen by target n rest cs all.1) h)
+  plan_asks_seen by target n (Plan.manage_by k next) [] all h = absurd h
+  plan_asks_seen by target n (Plan.manage_by k next) (x ∷ cs) all h =
+      subst (λ o. DoesOn o (λ given. Asks past n (next given) cs by target)) (same_end x all.0.0 all.0.1) (by_end (end made x) (λ given. plan_asks_seen by target n (next given) cs all.1) h)
     where
-      by_end : (o : Option How) → (Asks made n rest cs by target → Asks past n rest cs by target) → DoesOn o (Asks made n rest cs by target) → DoesOn o (Asks past n rest cs by target)
+      by_end : (o : Option How) → ((given : Answer) → Asks made n (next given) cs by target → Asks past n (next given) cs by target)
+          → DoesOn o (λ given. Asks made n (next given) cs by target) → DoesOn o (λ given. Asks past n (next given) cs by target)
       by_end None step g = g
-      by_end (Some (Commit given)) step g = step g
+      by_end (Some (Commit given)) step g = step given g
       by_end (Some (Abort y)) step g = g
   plan_asks_seen by target n (Plan.child_then number tries inner rest) cs all h =
       tries_do_alike (end made) (end past) (λ x. Asks made x inner (children made x) by target) (λ x. Asks past x inner (children past x) by target) (λ further. Asks made n rest further by target) (λ further. Asks past n rest further by target) Low again_low
@@ -208,14 +211,14 @@ own_abort c n past x ours is =
     own_found c (λ e. end_in n e.event) (Abort x) n past (λ e g. subst (λ ev. concerns (take 1 n) ev ≡ true) (sym (ending n e.event (Abort x) g)) (ap (λ b. name.is_ancestor (take 1 n) n && not b) (and-false (same n (take 1 n))) ∙ ap (λ b. b && true) (at_top n))) ours is
 
 -- A transaction that does its plan by what a client made does so by what was seen, where it is ready if it has committed.
-pub runs_seen : (reach : Reach) (c : Client) (s : ℕ) (of : Name) (past : Past) (plan : Plan) → Legal c.setting past → 0 < length of → AreOurs c of past → ((given : Rattle.qc_event.specs.declared.event.Answer.Answer) → end past of ≡ Some (Commit given) → is_ready past of ≡ true)
+pub runs_seen : (reach : Reach) (c : Client) (s : ℕ) (of : Name) (past : Past) (plan : Plan) → Legal c.setting past → 0 < length of → AreOurs c of past → ((given : Answer) → end past of ≡ Some (Commit given) → is_ready past of ≡ true)
     → RunsPlan reach s (mine c past) of plan (children (mine c past) of) (end (mine c past) of) → RunsPlan reach s past of plan (children past of) (end past of)
 runs_seen reach c s of past plan legal far ours ready h =
     let low : name.is_ancestor (take 1 of) of ≡ true = at_top of in
     let f = plan_seen c of past ours reach s of plan (children (mine c past) of) (end (mine c past) of) low (low_children c of past ours of low far (children (mine c past) of) (all_children (mine c past) of)) h in
     subst (λ cs. RunsPlan reach s past of plan cs (end past of)) (same_children c of past ours of low) (by_end (end past of) refl f)
   where
-    with_how : (given : Rattle.qc_event.specs.declared.event.Answer.Answer) (o : Option How) → is_ready past of ≡ true → (is_some o ≡ true → o ≡ Some (Commit given)) → RunsPlan reach s past of plan (children (mine c past) of) o → RunsPlan reach s past of plan (children (mine c past) of) (Some (Commit given))
+    with_how : (given : Answer) (o : Option How) → is_ready past of ≡ true → (is_some o ≡ true → o ≡ Some (Commit given)) → RunsPlan reach s past of plan (children (mine c past) of) o → RunsPlan reach s past of plan (children (mine c past) of) (Some (Commit given))
     with_how given None is_so agrees f = plan_committed reach s past of plan (children (mine c past) of) given is_so f
     with_how given (Some how) is_so agrees f = subst (λ o. RunsPlan reach s past of plan (children (mine c past) of) o) (agrees refl) f
 

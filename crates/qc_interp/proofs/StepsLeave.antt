@@ -1,6 +1,7 @@
 -- What each step of a transaction leaves.
 use Rattle.std.proofs.Common.{◌≡◌, ◌⊎◌, inl, inr, ℕ, Bool, true, false, List, [], ◌∷◌, ◌++◌, take, refl, sym, ap, ◌∙◌, subst, append-nil, append_assoc}
 use Rattle.std.specs.Prelude.{Option, None, Some, MatchOption, is_some, is_none, find, if◌then◌else◌}
+use Rattle.qc_event.specs.declared.event.Answer.{Answer}
 use Rattle.qc_event.specs.declared.event.Cause.{Cause}
 use Rattle.qc_event.specs.declared.event.Cause.TheVariants as cause
 use Rattle.qc_event.specs.declared.event.Entry.{Entry}
@@ -21,9 +22,9 @@ use Rattle.qc_script.specs.Calls.{HasRun, Refuses, GaveNone, WasCut}
 use Rattle.qc_script.specs.Client.{Client, mine, is_own, concerns, Made, IsLater, AreOurs}
 use Rattle.qc_interp.specs.Follows.{StopsEarly, WasAsked, IsUnended, RunsPlan, FollowsPlan, GoesOn, is_handed_on}
 use Rattle.qc_interp.specs.Reach.{Reach}
-use Rattle.qc_script.specs.Plan.{Plan}
+use Rattle.qc_script.specs.Plan.{Plan, manage_then}
 use Rattle.qc_script.specs.Plan.{KindFits}
-use Rattle.qc_interp.specs.Running.{Runs, Leaves, WhyStop, StopsBy, Stopped, Ended, CutOff, WentOn}
+use Rattle.qc_interp.specs.Running.{Runs, Leaves, WhyStop, StopsBy, Stopped, Ended, CutOff, WentOn, WentBy}
 use Rattle.qc_script.specs.declared.tx.TxNo.{TxNo}
 use Rattle.qc_script.specs.declared.tx.TxNo.TheVariants as tx_no
 use Rattle.qc_interp.proofs.Mine.{end_some, kind_still, kept_some, some_is}
@@ -119,23 +120,30 @@ module _ (c : Client) (of : Name) where
     ended = ran.ended;
   }
 
-  pub manage_on : (k : Kind) (before now : Past) → Runs c of before → HasRun c of k before now → WentOn c of before now (Plan.manage_then k)
-  manage_on k before now runs has =
+  -- a manager that committed, whatever follows by its answer
+  pub manage_by_on : (k : Kind) (before now : Past) → Runs c of before → (has : HasRun c of k before now) → WentBy c of before now k has.given
+  manage_by_on k before now runs has =
       let ran = managed c of k (Commit has.given) before now runs.nonroot has.ran in
       record {
         leaves = leaves_managed k _ _ before now ran;
         runs = runs_managed k _ _ before now ran runs;
-        follows = λ reach x later rest ends ours.
+        follows = λ reach x later next ends ours.
+            let rest = next has.given in
             let h = more_follows k _ _ before now ran x (λ further. RunsPlan reach c.session (mine c x) of rest further (end (mine c x) of)) (λ further. AllAsked c now x (λ by t. Asks (mine c x) of rest further by t)) later (ends ours) in (
               has.ran.manager ∷ h.0,
               h.1,
               (
                 kind_later now x later _ k ran.kind,
-                subst (λ o. GoesOn reach (mine c x) of o (RunsPlan reach c.session (mine c x) of rest h.0 (end (mine c x) of)) h.0 (end (mine c x) of)) (sym (end_later now x later _ _ ran.end)) h.2,
+                subst (λ o. GoesOn reach (mine c x) of o (λ given. RunsPlan reach c.session (mine c x) of (next given) h.0 (end (mine c x) of)) h.0 (end (mine c x) of)) (sym (end_later now x later _ _ ran.end)) h.2,
               ),
-              asked_trans c before now x _ (asked_none c before now _ ran.asked) (asked_wider _ _ (λ by t a. subst (λ o. DoesOn o (Asks (mine c x) of rest h.0 by t)) (sym (end_later now x later _ _ ran.end)) a) c now x h.3),
+              asked_trans c before now x _ (asked_none c before now _ ran.asked) (asked_wider _ _ (λ by t a. subst (λ o. DoesOn o (λ given. Asks (mine c x) of (next given) h.0 by t)) (sym (end_later now x later _ _ ran.end)) a) c now x h.3),
             );
       }
+
+  pub manage_on : (k : Kind) (before now : Past) → Runs c of before → HasRun c of k before now → WentOn c of before now (manage_then k)
+  manage_on k before now runs has =
+      let by = manage_by_on k before now runs has in
+      record { leaves = by.leaves; runs = by.runs; follows = λ reach x later rest ends. by.follows reach x later (λ given. rest) ends }
 
   -- why a transaction stops whose manager gave no answer
   pub manage_stops : (k : Kind) (before mid : Past) (why : TxNo) → KindFits c.setting k → Runs c of before → GaveNone c of k before mid why → (why ≡ tx_no.Memory → ⊥) → (why ≡ tx_no.Room → ⊥) → Runs c of mid × WhyStop c mid of why
@@ -169,9 +177,9 @@ module _ (c : Client) (of : Name) where
   }
 
   -- it stops with the manager as its last child
-  stopped_managed : (k : Kind) (x : Cause) (m : Name) (before mid now : Past) (why : TxNo) (again : Bool) (rest : Plan) → Managed c of k (Abort x) m before mid → Stopped c of why mid now again
-      → (StopsBy of why (end (mine c now) of) → ((is_handed_on x ≡ true) × (end (mine c now) of ≡ Some (Abort x))) ⊎ StopsEarly of (end (mine c now) of)) → Ended c of before now (Plan.manage_then k rest) again
-  stopped_managed k x m before mid now why again rest ran stopped handed = record {
+  stopped_managed : (k : Kind) (x : Cause) (m : Name) (before mid now : Past) (why : TxNo) (again : Bool) (next : Answer → Plan) → Managed c of k (Abort x) m before mid → Stopped c of why mid now again
+      → (StopsBy of why (end (mine c now) of) → ((is_handed_on x ≡ true) × (end (mine c now) of ≡ Some (Abort x))) ⊎ StopsEarly of (end (mine c now) of)) → Ended c of before now (Plan.manage_by k next) again
+  stopped_managed k x m before mid now why again next ran stopped handed = record {
     leaves = leaves_trans c of before mid now (leaves_managed k _ m before mid ran) stopped.leaves;
     tried = stopped.tried;
     ends = λ ours. (
@@ -179,7 +187,7 @@ module _ (c : Client) (of : Name) where
       stopped.children ∙ ran.children,
       (
         kind_later mid now stopped.leaves.later m k ran.kind,
-        subst (λ o. GoesOn Reach.to_the_end (mine c now) of o (FollowsPlan c.session (mine c now) of rest [] (end (mine c now) of)) [] (end (mine c now) of)) (sym (end_later mid now stopped.leaves.later m _ ran.end)) (refl, handed (stopped.ended ours)),
+        subst (λ o. GoesOn Reach.to_the_end (mine c now) of o (λ given. FollowsPlan c.session (mine c now) of (next given) [] (end (mine c now) of)) [] (end (mine c now) of)) (sym (end_later mid now stopped.leaves.later m _ ran.end)) (refl, handed (stopped.ended ours)),
       ),
       asked_none c before now _ (asked_trans c before mid now NoOne ran.asked stopped.asked),
     );
@@ -194,29 +202,29 @@ module _ (c : Client) (of : Name) where
   orphan_early a how (inl e) = subst (StopsEarly of) (sym e) tt
   orphan_early a how (inr s) = asked_early of how s
 
-  pub manage_over : (k : Kind) (before mid now : Past) (why : TxNo) (again : Bool) (rest : Plan) → Runs c of before → GaveNone c of k before mid why → (why ≡ tx_no.Memory → ⊥) → (why ≡ tx_no.Room → ⊥) → Stopped c of why mid now again → Ended c of before now (Plan.manage_then k rest) again
-  manage_over k before mid now tx_no.Memory again rest runs none other full stopped = absurd (other refl)
-  manage_over k before mid now tx_no.Room again rest runs none other full stopped = absurd (full refl)
-  manage_over k before mid now (tx_no.Orphan a) again rest runs none other full stopped = elim none.1 [
+  pub manage_over : (k : Kind) (before mid now : Past) (why : TxNo) (again : Bool) (next : Answer → Plan) → Runs c of before → GaveNone c of k before mid why → (why ≡ tx_no.Memory → ⊥) → (why ≡ tx_no.Room → ⊥) → Stopped c of why mid now again → Ended c of before now (Plan.manage_by k next) again
+  manage_over k before mid now tx_no.Memory again next runs none other full stopped = absurd (other refl)
+  manage_over k before mid now tx_no.Room again next runs none other full stopped = absurd (full refl)
+  manage_over k before mid now (tx_no.Orphan a) again next runs none other full stopped = elim none.1 [
     | inl m ↦ stopped_still before mid now _ again _ m stopped (λ s. orphan_early a _ s)
-    | inr ran ↦ stopped_managed k _ _ before mid now _ again rest (managed c of k _ before mid runs.nonroot ran) stopped (λ s. inr (orphan_early a _ s))
+    | inr ran ↦ stopped_managed k _ _ before mid now _ again next (managed c of k _ before mid runs.nonroot ran) stopped (λ s. inr (orphan_early a _ s))
   ]
-  manage_over k before mid now (tx_no.Conflict copy holder) again rest runs ran other full stopped =
-      stopped_managed k _ _ before mid now _ again rest (managed c of k _ before mid runs.nonroot ran) stopped (λ s. handed_on (cause.Conflict copy holder) _ refl s)
-  manage_over k before mid now (tx_no.NoQuorum lack) again rest runs ran other full stopped =
-      stopped_managed k _ _ before mid now _ again rest (managed c of k _ before mid runs.nonroot ran) stopped (λ s. handed_on (cause.NoQuorum lack) _ refl s)
-  manage_over k before mid now tx_no.Last again rest runs ran other full stopped =
-      stopped_managed k _ _ before mid now _ again rest (managed c of k _ before mid runs.nonroot ran) stopped (λ s. handed_on cause.Last _ refl s)
-  manage_over k before mid now tx_no.Ended again rest runs none other full stopped = stopped_still before mid now _ again _ none.0 stopped (λ s. asked_early of _ s)
-  manage_over k before mid now tx_no.Ready again rest runs none other full stopped = stopped_still before mid now _ again _ none.0 stopped (λ s. asked_early of _ s)
-  manage_over k before mid now (tx_no.ChildrenOpen child) again rest runs none other full stopped = absurd none
-  manage_over k before mid now tx_no.Ledger again rest runs none other full stopped = absurd none.1
+  manage_over k before mid now (tx_no.Conflict copy holder) again next runs ran other full stopped =
+      stopped_managed k _ _ before mid now _ again next (managed c of k _ before mid runs.nonroot ran) stopped (λ s. handed_on (cause.Conflict copy holder) _ refl s)
+  manage_over k before mid now (tx_no.NoQuorum lack) again next runs ran other full stopped =
+      stopped_managed k _ _ before mid now _ again next (managed c of k _ before mid runs.nonroot ran) stopped (λ s. handed_on (cause.NoQuorum lack) _ refl s)
+  manage_over k before mid now tx_no.Last again next runs ran other full stopped =
+      stopped_managed k _ _ before mid now _ again next (managed c of k _ before mid runs.nonroot ran) stopped (λ s. handed_on cause.Last _ refl s)
+  manage_over k before mid now tx_no.Ended again next runs none other full stopped = stopped_still before mid now _ again _ none.0 stopped (λ s. asked_early of _ s)
+  manage_over k before mid now tx_no.Ready again next runs none other full stopped = stopped_still before mid now _ again _ none.0 stopped (λ s. asked_early of _ s)
+  manage_over k before mid now (tx_no.ChildrenOpen child) again next runs none other full stopped = absurd none
+  manage_over k before mid now tx_no.Ledger again next runs none other full stopped = absurd none.1
 
   -- A MANAGER THAT WAS CUT OFF, OR AFTER WHICH ITS TRANSACTION WAS
 
   -- nothing was made after a manager that was aborted
-  cut_managed : (k : Kind) (x : Cause) (m : Name) (before mid now : Past) (rest : Plan) → Runs c of before → Managed c of k (Abort x) m before mid → Made c [] mid now → CutOff c of before now (Plan.manage_then k rest)
-  cut_managed k x m before mid now rest runs ran made =
+  cut_managed : (k : Kind) (x : Cause) (m : Name) (before mid now : Past) (next : Answer → Plan) → Runs c of before → Managed c of k (Abort x) m before mid → Made c [] mid now → CutOff c of before now (Plan.manage_by k next)
+  cut_managed k x m before mid now next runs ran made =
       let at = (runs_still c of mid now made (runs_managed k _ m before mid ran runs)).above of [] (sym (append-nil of)) runs.nonroot in
       let later = (leaves_still c of mid now made).later in
       record {
@@ -227,14 +235,14 @@ module _ (c : Client) (of : Name) where
           ap (λ h. children h of) (still c of mid now made) ∙ ran.children,
           (
             kind_later mid now later m k ran.kind,
-            subst (λ o. GoesOn Reach.cut_off (mine c now) of o (RunsPlan Reach.cut_off c.session (mine c now) of rest [] (end (mine c now) of)) [] (end (mine c now) of)) (sym (end_later mid now later m _ ran.end)) (refl, inr (running_stops (mine c now) of _ at.0 at.1)),
+            subst (λ o. GoesOn Reach.cut_off (mine c now) of o (λ given. RunsPlan Reach.cut_off c.session (mine c now) of (next given) [] (end (mine c now) of)) [] (end (mine c now) of)) (sym (end_later mid now later m _ ran.end)) (refl, inr (running_stops (mine c now) of _ at.0 at.1)),
           ),
           asked_none c before now _ (asked_trans c before mid now NoOne ran.asked (asked_made c [] mid now NoOne made tt)),
         );
       }
 
-  cut_interrupted : (k : Kind) (m : Name) (before now : Past) (rest : Plan) → Runs c of before → Interrupted c of k m before now → CutOff c of before now (Plan.manage_then k rest)
-  cut_interrupted k m before now rest runs ran =
+  cut_interrupted : (k : Kind) (m : Name) (before now : Past) (next : Answer → Plan) → Runs c of before → Interrupted c of k m before now → CutOff c of before now (Plan.manage_by k next)
+  cut_interrupted k m before now next runs ran =
       let at = runs.above of [] (sym (append-nil of)) runs.nonroot in
       let unready : is_ready (mine c now) of ≡ false = ran.same_ready of [] (sym (append-nil of)) ∙ at.1 in
       let unended : IsUnended of (end (mine c now) of) = subst (λ o. IsUnended of o) (sym (ran.same_end of [] (sym (append-nil of)))) at.0 in
@@ -256,38 +264,38 @@ module _ (c : Client) (of : Name) where
           ran.children,
           (
             ran.kind,
-            subst (λ o. GoesOn Reach.cut_off (mine c now) of o (RunsPlan Reach.cut_off c.session (mine c now) of rest [] (end (mine c now) of)) [] (end (mine c now) of)) (sym ran.end) (refl, running_unended (mine c now) of _ unended unready),
+            subst (λ o. GoesOn Reach.cut_off (mine c now) of o (λ given. RunsPlan Reach.cut_off c.session (mine c now) of (next given) [] (end (mine c now) of)) [] (end (mine c now) of)) (sym ran.end) (refl, running_unended (mine c now) of _ unended unready),
           ),
           asked_none c before now _ ran.asked,
         );
       }
 
   -- a manager gave no answer for want of memory or room
-  pub manage_short : (k : Kind) (before now : Past) (why : TxNo) (rest : Plan) → (why ≡ tx_no.Memory) ⊎ (why ≡ tx_no.Room) → Runs c of before → GaveNone c of k before now why → CutOff c of before now (Plan.manage_then k rest)
-  manage_short k before now why rest short runs none = elim short [
+  pub manage_short : (k : Kind) (before now : Past) (why : TxNo) (next : Answer → Plan) → (why ≡ tx_no.Memory) ⊎ (why ≡ tx_no.Room) → Runs c of before → GaveNone c of k before now why → CutOff c of before now (Plan.manage_by k next)
+  manage_short k before now why next short runs none = elim short [
     | inl is ↦ either (subst (GaveNone c of k before now) is none)
     | inr is ↦ either (subst (GaveNone c of k before now) is none).0
   ]
     where
-      either : Made c [] before now ⊎ WasCut c of k before now → CutOff c of before now (Plan.manage_then k rest)
-      either (inl m) = cut_still c of before now runs m (Plan.manage_then k rest)
-      either (inr cut) = cut_interrupted k cut.manager before now rest runs (interrupted c of k before now runs.nonroot cut)
+      either : Made c [] before now ⊎ WasCut c of k before now → CutOff c of before now (Plan.manage_by k next)
+      either (inl m) = cut_still c of before now runs m (Plan.manage_by k next)
+      either (inr cut) = cut_interrupted k cut.manager before now next runs (interrupted c of k before now runs.nonroot cut)
 
   -- a manager gave no answer for another reason, and nothing was made after it
-  pub manage_cut : (k : Kind) (before mid now : Past) (why : TxNo) (rest : Plan) → Runs c of before → GaveNone c of k before mid why → (why ≡ tx_no.Memory → ⊥) → (why ≡ tx_no.Room → ⊥) → Made c [] mid now → CutOff c of before now (Plan.manage_then k rest)
-  manage_cut k before mid now tx_no.Memory rest runs none other full made = absurd (other refl)
-  manage_cut k before mid now tx_no.Room rest runs none other full made = absurd (full refl)
-  manage_cut k before mid now (tx_no.Orphan a) rest runs none other full made = elim none.1 [
-    | inl m ↦ cut_still c of before now runs (made_both c before mid now m made) (Plan.manage_then k rest)
-    | inr ran ↦ cut_managed k _ _ before mid now rest runs (managed c of k _ before mid runs.nonroot ran) made
+  pub manage_cut : (k : Kind) (before mid now : Past) (why : TxNo) (next : Answer → Plan) → Runs c of before → GaveNone c of k before mid why → (why ≡ tx_no.Memory → ⊥) → (why ≡ tx_no.Room → ⊥) → Made c [] mid now → CutOff c of before now (Plan.manage_by k next)
+  manage_cut k before mid now tx_no.Memory next runs none other full made = absurd (other refl)
+  manage_cut k before mid now tx_no.Room next runs none other full made = absurd (full refl)
+  manage_cut k before mid now (tx_no.Orphan a) next runs none other full made = elim none.1 [
+    | inl m ↦ cut_still c of before now runs (made_both c before mid now m made) (Plan.manage_by k next)
+    | inr ran ↦ cut_managed k _ _ before mid now next runs (managed c of k _ before mid runs.nonroot ran) made
   ]
-  manage_cut k before mid now (tx_no.Conflict copy holder) rest runs ran other full made = cut_managed k _ _ before mid now rest runs (managed c of k _ before mid runs.nonroot ran) made
-  manage_cut k before mid now (tx_no.NoQuorum lack) rest runs ran other full made = cut_managed k _ _ before mid now rest runs (managed c of k _ before mid runs.nonroot ran) made
-  manage_cut k before mid now tx_no.Last rest runs ran other full made = cut_managed k _ _ before mid now rest runs (managed c of k _ before mid runs.nonroot ran) made
-  manage_cut k before mid now tx_no.Ended rest runs none other full made = cut_still c of before now runs (made_both c before mid now none.0 made) (Plan.manage_then k rest)
-  manage_cut k before mid now tx_no.Ready rest runs none other full made = cut_still c of before now runs (made_both c before mid now none.0 made) (Plan.manage_then k rest)
-  manage_cut k before mid now (tx_no.ChildrenOpen child) rest runs none other full made = absurd none
-  manage_cut k before mid now tx_no.Ledger rest runs none other full made = absurd none.1
+  manage_cut k before mid now (tx_no.Conflict copy holder) next runs ran other full made = cut_managed k _ _ before mid now next runs (managed c of k _ before mid runs.nonroot ran) made
+  manage_cut k before mid now (tx_no.NoQuorum lack) next runs ran other full made = cut_managed k _ _ before mid now next runs (managed c of k _ before mid runs.nonroot ran) made
+  manage_cut k before mid now tx_no.Last next runs ran other full made = cut_managed k _ _ before mid now next runs (managed c of k _ before mid runs.nonroot ran) made
+  manage_cut k before mid now tx_no.Ended next runs none other full made = cut_still c of before now runs (made_both c before mid now none.0 made) (Plan.manage_by k next)
+  manage_cut k before mid now tx_no.Ready next runs none other full made = cut_still c of before now runs (made_both c before mid now none.0 made) (Plan.manage_by k next)
+  manage_cut k before mid now (tx_no.ChildrenOpen child) next runs none other full made = absurd none
+  manage_cut k before mid now tx_no.Ledger next runs none other full made = absurd none.1
 
   -- STOPPING AT ONCE
 

@@ -2,6 +2,7 @@
 use Rattle.std.proofs.Common.{◌≡◌, ◌⊎◌, inl, inr, ℕ, zero, suc, Bool, true, false, List, [], ◌∷◌, ◌++◌, refl, sym, ap, ◌∙◌, subst, filter}
 use mathlib.Core.Bool.{true≢false}
 use Rattle.std.specs.Prelude.{Option, None, Some, MatchBool, is_some}
+use Rattle.qc_event.specs.declared.event.Answer.{Answer}
 use Rattle.qc_event.specs.declared.event.Entry.{Entry}
 use Rattle.qc_event.specs.declared.event.How.{How}
 use Rattle.qc_event.specs.declared.event.How.TheVariants.{Commit, Abort}
@@ -35,9 +36,9 @@ committed_done past n None h = inr (refl, h)
 committed_done past n (Some (Abort c)) h = absurd h
 committed_done past n (Some (Commit given)) h = inl refl
 
-goes_done : (past : Past) (n : Name) (o : Option How) (Rest : Type 0) (further : List Name) (how : Option How) → (Rest → Done past n how) → GoesOn Reach.to_the_end past n o Rest further how → Done past n how
+goes_done : (past : Past) (n : Name) (o : Option How) (Rest : Answer → Type 0) (further : List Name) (how : Option How) → ((given : Answer) → Rest given → Done past n how) → GoesOn Reach.to_the_end past n o Rest further how → Done past n how
 goes_done past n None Rest further how rest h = absurd h
-goes_done past n (Some (Commit given)) Rest further how rest h = rest h
+goes_done past n (Some (Commit given)) Rest further how rest h = rest given h
 goes_done past n (Some (Abort c)) Rest further how rest h = elim h.1 [
   | inl is ↦ inl (ap is_some is.1)
   | inr s ↦ inl (stopped_some n how s)
@@ -56,8 +57,9 @@ pub followed_done : (s : ℕ) (past : Past) (n : Name) (plan : Plan) (cs : List 
 followed_done s past n Plan.done [] how (inl is) = committed_done past n how is
 followed_done s past n Plan.done [] how (inr x) = inl (stopped_some n how x)
 followed_done s past n Plan.done (c ∷ cs) how h = absurd h
-followed_done s past n (Plan.manage_then k rest) [] how h = inl (stopped_some n how h)
-followed_done s past n (Plan.manage_then k rest) (c ∷ cs) how h = goes_done past n (end past c) _ cs how (followed_done s past n rest cs how) h.1
+followed_done s past n (Plan.manage_by k next) [] how h = inl (stopped_some n how h)
+followed_done s past n (Plan.manage_by k next) (c ∷ cs) how h =
+    goes_done past n (end past c) (λ given. FollowsPlan s past n (next given) cs how) cs how (λ given. followed_done s past n (next given) cs how) h.1
 followed_done s past n (Plan.child_then number tries inner rest) cs how h =
     tries_done (end past) _ (StopsEarly n how) (λ further. FollowsPlan s past n rest further how) (Done past n how) (λ x. inl (stopped_some n how x)) (λ further f. followed_done s past n rest further how f) tries cs h
 followed_done s past n (Plan.abort_then levels rest) [] how (inl is) = inl (by_levels levels is)
@@ -85,10 +87,10 @@ unended_not Reach.to_the_end past n ready h = h
 unended_not Reach.cut_off past n ready (inl h) = h
 unended_not Reach.cut_off past n ready (inr h) = true≢false (sym ready ∙ h.1)
 
-goes_committed : (reach : Reach) (past : Past) (n : Name) (o : Option How) (Rest Rest2 : Type 0) (further : List Name) (how : How) → is_ready past n ≡ true → (Rest → Rest2) → GoesOn reach past n o Rest further None → GoesOn reach past n o Rest2 further (Some how)
+goes_committed : (reach : Reach) (past : Past) (n : Name) (o : Option How) (Rest Rest2 : Answer → Type 0) (further : List Name) (how : How) → is_ready past n ≡ true → ((given : Answer) → Rest given → Rest2 given) → GoesOn reach past n o Rest further None → GoesOn reach past n o Rest2 further (Some how)
 goes_committed Reach.to_the_end past n None Rest Rest2 further how ready step h = absurd h
 goes_committed Reach.cut_off past n None Rest Rest2 further how ready step h = absurd (unended_not Reach.cut_off past n ready h.1)
-goes_committed reach past n (Some (Commit given)) Rest Rest2 further how ready step h = step h
+goes_committed reach past n (Some (Commit given)) Rest Rest2 further how ready step h = step given h
 goes_committed reach past n (Some (Abort c)) Rest Rest2 further how ready step h = elim h.1 [
   | inl is ↦ absurd cc
   | inr x ↦ absurd (ready_not reach past n ready x)
@@ -103,12 +105,16 @@ tries_wider ended IsTry IsTry2 Stopped Stopped2 Rest Rest2 try stop rest (suc le
     by_test true more x = more x
     by_test false more x = rest cs x
 
-pub plan_committed : (reach : Reach) (s : ℕ) (past : Past) (n : Name) (plan : Plan) (cs : List Name) (given : Rattle.qc_event.specs.declared.event.Answer.Answer) → is_ready past n ≡ true → RunsPlan reach s past n plan cs None → RunsPlan reach s past n plan cs (Some (Commit given))
+pub plan_committed : (reach : Reach) (s : ℕ) (past : Past) (n : Name) (plan : Plan) (cs : List Name) (given : Answer) → is_ready past n ≡ true → RunsPlan reach s past n plan cs None → RunsPlan reach s past n plan cs (Some (Commit given))
 plan_committed reach s past n Plan.done [] given ready (inl is) = inl tt
 plan_committed reach s past n Plan.done [] given ready (inr x) = absurd (ready_not reach past n ready x)
 plan_committed reach s past n Plan.done (c ∷ cs) given ready h = absurd h
-plan_committed reach s past n (Plan.manage_then k rest) [] given ready h = absurd (ready_not reach past n ready h)
-plan_committed reach s past n (Plan.manage_then k rest) (c ∷ cs) given ready h = (h.0, goes_committed reach past n (end past c) _ _ cs (Commit given) ready (plan_committed reach s past n rest cs given ready) h.1)
+plan_committed reach s past n (Plan.manage_by k next) [] given ready h = absurd (ready_not reach past n ready h)
+plan_committed reach s past n (Plan.manage_by k next) (c ∷ cs) given ready h = (
+  h.0,
+  goes_committed reach past n (end past c) (λ told. RunsPlan reach s past n (next told) cs None) (λ told. RunsPlan reach s past n (next told) cs (Some (Commit given))) cs (Commit given) ready
+      (λ told. plan_committed reach s past n (next told) cs given ready) h.1,
+)
 plan_committed reach s past n (Plan.child_then number tries inner rest) cs given ready h =
     tries_wider (end past) _ _ (Stops reach past n None) (Stops reach past n (Some (Commit given))) (λ further. RunsPlan reach s past n rest further None) (λ further. RunsPlan reach s past n rest further (Some (Commit given)))
     (λ c t. t) (λ x. absurd (ready_not reach past n ready x)) (λ further f. plan_committed reach s past n rest further given ready f) tries cs h
@@ -137,9 +143,9 @@ asked_unended : (reach : Reach) (past : Past) (n : Name) (how : Option How) → 
 asked_unended Reach.to_the_end past n how h = h
 asked_unended Reach.cut_off past n how h = inl h
 
-goes_any : (reach : Reach) (past : Past) (n : Name) (o : Option How) (Rest Rest2 : Type 0) (further : List Name) (how : Option How) → (Rest → Rest2) → GoesOn Reach.to_the_end past n o Rest further how → GoesOn reach past n o Rest2 further how
+goes_any : (reach : Reach) (past : Past) (n : Name) (o : Option How) (Rest Rest2 : Answer → Type 0) (further : List Name) (how : Option How) → ((given : Answer) → Rest given → Rest2 given) → GoesOn Reach.to_the_end past n o Rest further how → GoesOn reach past n o Rest2 further how
 goes_any reach past n None Rest Rest2 further how step h = absurd h
-goes_any reach past n (Some (Commit given)) Rest Rest2 further how step h = step h
+goes_any reach past n (Some (Commit given)) Rest Rest2 further how step h = step given h
 goes_any reach past n (Some (Abort c)) Rest Rest2 further how step h = (
   h.0,
   elim h.1 [
@@ -152,8 +158,11 @@ pub follows_runs : (reach : Reach) (s : ℕ) (past : Past) (n : Name) (plan : Pl
 follows_runs reach s past n Plan.done [] how (inl is) = inl is
 follows_runs reach s past n Plan.done [] how (inr x) = inr (stops_early reach past n how x)
 follows_runs reach s past n Plan.done (c ∷ cs) how h = absurd h
-follows_runs reach s past n (Plan.manage_then k rest) [] how h = stops_early reach past n how h
-follows_runs reach s past n (Plan.manage_then k rest) (c ∷ cs) how h = (h.0, goes_any reach past n (end past c) _ _ cs how (follows_runs reach s past n rest cs how) h.1)
+follows_runs reach s past n (Plan.manage_by k next) [] how h = stops_early reach past n how h
+follows_runs reach s past n (Plan.manage_by k next) (c ∷ cs) how h = (
+  h.0,
+  goes_any reach past n (end past c) (λ given. FollowsPlan s past n (next given) cs how) (λ given. RunsPlan reach s past n (next given) cs how) cs how (λ given. follows_runs reach s past n (next given) cs how) h.1,
+)
 follows_runs reach s past n (Plan.child_then number tries inner rest) cs how h =
     tries_wider (end past) _ _ (StopsEarly n how) (Stops reach past n how) (λ further. FollowsPlan s past n rest further how) (λ further. RunsPlan reach s past n rest further how)
     (λ c t. (t.0, follows_runs reach s past c inner (children past c) (end past c) t.1)) (stops_early reach past n how) (λ further f. follows_runs reach s past n rest further how f) tries cs h
@@ -175,9 +184,9 @@ module _ (s : ℕ) (p : Entry → Bool) (setting : Setting) (newer past : Past) 
   commits_still n (Some (Commit given)) h = tt
   commits_still n (Some (Abort c)) h = absurd h
 
-  goes_still : (n c : Name) (Rest RestNow : Type 0) (further : List Name) (how : Option How) → (Rest → RestNow) → (o : Option How) → end old c ≡ o → GoesOn Reach.to_the_end old n o Rest further how → GoesOn Reach.to_the_end now n (end now c) RestNow further how
+  goes_still : (n c : Name) (Rest RestNow : Answer → Type 0) (further : List Name) (how : Option How) → ((given : Answer) → Rest given → RestNow given) → (o : Option How) → end old c ≡ o → GoesOn Reach.to_the_end old n o Rest further how → GoesOn Reach.to_the_end now n (end now c) RestNow further how
   goes_still n c Rest RestNow further how step None is h = absurd h
-  goes_still n c Rest RestNow further how step (Some (Commit given)) is h = subst (λ o. GoesOn Reach.to_the_end now n o RestNow further how) (sym (end_some p setting newer past c (Commit given) is)) (step h)
+  goes_still n c Rest RestNow further how step (Some (Commit given)) is h = subst (λ o. GoesOn Reach.to_the_end now n o RestNow further how) (sym (end_some p setting newer past c (Commit given) is)) (step given h)
   goes_still n c Rest RestNow further how step (Some (Abort x)) is h = subst (λ o. GoesOn Reach.to_the_end now n o RestNow further how) (sym (end_some p setting newer past c (Abort x) is)) h
 
   pub again_still : (c : Name) → Closed old c → is_tried_again (end now c) ≡ is_tried_again (end old c)
@@ -232,8 +241,11 @@ module _ (s : ℕ) (p : Entry → Bool) (setting : Setting) (newer past : Past) 
   plan_still n Plan.done [] how (inl is) = inl (commits_still n how is)
   plan_still n Plan.done [] how (inr x) = inr x
   plan_still n Plan.done (c ∷ cs) how h = absurd h
-  plan_still n (Plan.manage_then k rest) [] how h = h
-  plan_still n (Plan.manage_then k rest) (c ∷ cs) how h = (kind_still p setting newer past c k h.0, goes_still n c _ _ cs how (plan_still n rest cs how) (end old c) refl h.1)
+  plan_still n (Plan.manage_by k next) [] how h = h
+  plan_still n (Plan.manage_by k next) (c ∷ cs) how h = (
+    kind_still p setting newer past c k h.0,
+    goes_still n c (λ given. FollowsPlan s old n (next given) cs how) (λ given. FollowsPlan s now n (next given) cs how) cs how (λ given. plan_still n (next given) cs how) (end old c) refl h.1,
+  )
   plan_still n (Plan.child_then number tries inner rest) cs how h =
       tries_still _ _ (StopsEarly n how) (StopsEarly n how) (λ further. FollowsPlan s old n rest further how) (λ further. FollowsPlan s now n rest further how)
       (λ c t. let one = child_still c inner (plan_still c inner) t.1 in ((kind_still p setting newer past c _ t.0, one.0), one.1)) (λ x. x) (λ further f. plan_still n rest further how f) tries cs h

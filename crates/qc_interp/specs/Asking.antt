@@ -1,6 +1,7 @@
 -- Who is aborted as another asked, and by which step.
 use Rattle.std.specs.Prelude.{◌≡◌, ◌⊎◌, List, [], ◌∷◌, ◌++◌, Option, Some}
 use Rattle.std.specs.List.{AllByRecursion}
+use Rattle.qc_event.specs.declared.event.Answer.{Answer}
 use Rattle.qc_event.specs.declared.event.Cause.{Cause}
 use Rattle.qc_event.specs.declared.event.Cause.TheVariants as cause
 use Rattle.qc_event.specs.declared.event.Entry.{Entry}
@@ -14,17 +15,17 @@ use Rattle.qc_interp.specs.Follows.{above}
 use Rattle.qc_script.specs.Plan.{Plan, Numbered}
 use Rattle.qc_interp.specs.Tries.{TriesDo}
 
--- a step is done after one whose manager committed
-abbrev pub DoesOn : Option How → Type 0 → Type 0
-DoesOn (Some (Commit given)) rest = rest
+-- it is done after a manager that committed, by its answer
+abbrev pub DoesOn : Option How → (Answer → Type 0) → Type 0
+DoesOn (Some (Commit given)) rest = rest given
 DoesOn _ rest = ⊥
 
 -- As a transaction with these children follows its plan, one of its body or below, `by`, comes to a step `abort` that
 -- names its ancestor `target`.
 abbrev pub Asks : Past → Name → Plan → List Name → Name → Name → Type 0
 Asks past n Plan.done cs by target = ⊥
-Asks past n (Plan.manage_then k rest) [] by target = ⊥
-Asks past n (Plan.manage_then k rest) (c ∷ further) by target = DoesOn (end past c) (Asks past n rest further by target)
+Asks past n (Plan.manage_by k next) [] by target = ⊥
+Asks past n (Plan.manage_by k next) (c ∷ further) by target = DoesOn (end past c) (λ given. Asks past n (next given) further by target)
 Asks past n (Plan.child_then number tries inner rest) cs by target =
     TriesDo (end past) (λ c. Asks past c inner (children past c) by target) (λ further. Asks past n rest further by target) tries cs
 Asks past n (Plan.abort_then levels rest) [] by target = (by ≡ n) × (target ≡ above n levels)

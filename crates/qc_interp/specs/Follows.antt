@@ -2,6 +2,7 @@
 -- of entries: the history, or those of it that one client made.
 use Rattle.std.specs.Prelude.{ℕ, ◌≡◌, ◌-◌, ◌⊎◌, Bool, true, false, not, IsTrue, List, [], ◌∷◌, length, take, Option, None, Some}
 use Rattle.std.proofs.Common.{zero, suc}
+use Rattle.qc_event.specs.declared.event.Answer.{Answer}
 use Rattle.qc_event.specs.declared.event.Cause.{Cause}
 use Rattle.qc_event.specs.declared.event.Cause.TheVariants as cause
 use Rattle.qc_event.specs.declared.event.How.{How}
@@ -58,10 +59,10 @@ is_handed_on (cause.NoQuorum lack) = true
 is_handed_on cause.Last = true
 is_handed_on _ = false
 
--- A step goes on where its manager committed. Where that was aborted, the transaction has no further child, and is aborted
--- with the same cause where that is handed on, unless it stops early.
-abbrev pub GoesOn : Reach → Past → Name → Option How → Type 0 → List Name → Option How → Type 0
-GoesOn reach past n (Some (Commit given)) rest further how = rest
+-- A transaction goes on where a manager committed, by its answer. Where that was aborted, the transaction has no further
+-- child, and is aborted with the same cause where that is handed on, unless it stops early.
+abbrev pub GoesOn : Reach → Past → Name → Option How → (Answer → Type 0) → List Name → Option How → Type 0
+GoesOn reach past n (Some (Commit given)) rest further how = rest given
 GoesOn reach past n (Some (Abort c)) rest further how = (further ≡ []) × (((is_handed_on c ≡ true) × (how ≡ Some (Abort c))) ⊎ Stops reach past n how)
 GoesOn reach past n None rest further how = IsCutShort reach past n further how
 
@@ -81,9 +82,9 @@ asked_end n (suc below) = Some (Abort (cause.Orphan (above n (suc below))))
 abbrev pub RunsPlan : Reach → ℕ → Past → Name → Plan → List Name → Option How → Type 0
 RunsPlan reach s past n Plan.done [] how = Commits past n how ⊎ Stops reach past n how
 RunsPlan reach s past n Plan.done (c ∷ further) how = ⊥
-RunsPlan reach s past n (Plan.manage_then k rest) [] how = Stops reach past n how
-RunsPlan reach s past n (Plan.manage_then k rest) (c ∷ further) how =
-    (kind_of past c ≡ Some k) × GoesOn reach past n (end past c) (RunsPlan reach s past n rest further how) further how
+RunsPlan reach s past n (Plan.manage_by k next) [] how = Stops reach past n how
+RunsPlan reach s past n (Plan.manage_by k next) (c ∷ further) how =
+    (kind_of past c ≡ Some k) × GoesOn reach past n (end past c) (λ given. RunsPlan reach s past n (next given) further how) further how
 RunsPlan reach s past n (Plan.child_then number tries inner rest) cs how =
     Tries (end past) (λ c. (kind_of past c ≡ Some (kind.User s number)) × RunsPlan reach s past c inner (children past c) (end past c))
     (Stops reach past n how) (λ further. RunsPlan reach s past n rest further how) tries cs

@@ -1,3 +1,4 @@
+pub mod Change
 pub mod Adding
 pub mod Alone
 pub mod Asking

@@ -1,5 +1,7 @@
 -- What holds of a transaction between two of its steps, and what a step leaves.
 use Rattle.std.specs.Prelude.{ℕ, ◌≡◌, ◌<◌, ◌⊎◌, Bool, true, false, List, ◌++◌, length, take, Option, None, Some}
+use Rattle.qc_event.specs.declared.event.Answer.{Answer}
+use Rattle.qc_event.specs.declared.event.Answer.TheVariants as answer
 use Rattle.qc_event.specs.declared.event.Cause.TheVariants as cause
 use Rattle.qc_event.specs.Users.{UserCause}
 use Rattle.qc_script.specs.declared.tx.TxNo.{TxNo}
@@ -7,6 +9,7 @@ use Rattle.qc_script.specs.declared.tx.TxNo.TheVariants as tx_no
 use Rattle.qc_script.specs.Calls.{Refuses}
 use Rattle.qc_event.specs.declared.event.How.{How}
 use Rattle.qc_event.specs.declared.event.How.TheVariants.{Abort}
+use Rattle.qc_event.specs.declared.event.Kind.{Kind}
 use Rattle.qc_event.specs.declared.event.Kind.TheVariants as kind
 use Rattle.qc_event.specs.History.{Past, Name, end, is_ready, children, kind_of}
 use Rattle.qc_event.specs.Legal.{Legal}
@@ -15,6 +18,8 @@ use Rattle.qc_interp.specs.Adding.{AllStayIn}
 use Rattle.qc_script.specs.Calls.{is_over}
 use Rattle.qc_script.specs.Client.{Client, mine, IsLater, AreOurs}
 use Rattle.qc_interp.specs.Follows.{Stops, WasAsked, IsUnended, RunsPlan}
+use Rattle.qc_interp.specs.declared.managing.Look.{Look}
+use Rattle.qc_interp.specs.declared.managing.Look.TheVariants as look
 use Rattle.qc_interp.specs.Reach.{Reach, AtTheEnd}
 use Rattle.qc_script.specs.Plan.{Plan, Numbered}
 use Rattle.qc_script.specs.Numbers.{each}
@@ -112,6 +117,17 @@ pub record WentOn (c : Client) (of : Name) (before now : Past) (front : Plan →
   pub leaves : Leaves c of before now
   pub runs : Runs c of now
   pub follows : FrontFollows c of before now front
+
+-- A transaction goes on after a manager that committed, and does what follows by its answer.
+pub record WentBy (c : Client) (of : Name) (before now : Past) (k : Kind) (given : Answer) : Type 0 where
+  pub leaves : Leaves c of before now
+  pub runs : Runs c of now
+  pub follows : (reach : Reach) (x : Past) → IsLater c now x → (next : Answer → Plan) → EndsAt reach c of now x (next given) → EndsAt reach c of before x (Plan.manage_by k next)
+
+-- A step's read gave a value, or the transaction stopped there.
+abbrev pub Looked : Client → Name → Past → Past → ℕ → Look → Type 0
+Looked c of before now rec (look.Value value) = WentBy c of before now (kind.Read rec) (answer.Value value)
+Looked c of before now rec (look.Stopped again) = (next : Answer → Plan) → Ended c of before now (Plan.manage_by (kind.Read rec) next) again
 
 -- A step was done, and the transaction goes on, or has ended so that its body is tried again, or not.
 abbrev pub Stepped : Client → Name → Past → Past → (Plan → Plan) → Option Bool → Type 0

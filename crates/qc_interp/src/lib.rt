@@ -2,6 +2,8 @@
 #![tactic(auto)]
 
 mod body;
+mod managing;
+mod stops;
 mod tops;
 
 pub use body::steps;

@@ -32,6 +32,7 @@ may_still old new top same older may = record {
 pub record IsKept (old new : View) : Type 0 where
   pub live : new.live ≡ old.live
   pub number : new.number ≡ old.number
+  pub out : new.out ≡ old.out
   pub older : IsOlder old.seen new.seen
   pub still : (top : Name) → MayFinish old top → MayFinish new top
 
@@ -39,6 +40,7 @@ pub kept_on : (a b c : View) → IsKept a b → IsKept b c → IsKept a c
 kept_on a b c one two = record {
   live = two.live ∙ one.live;
   number = two.number ∙ one.number;
+  out = two.out ∙ one.out;
   older = older_trans a.seen b.seen c.seen one.older two.older;
   still = λ top may. two.still top (one.still top may);
 }
@@ -50,6 +52,7 @@ shown_kept old new shown =
     record {
       live = ap (λ (v : View). v.live) shown.1;
       number = ap (λ (v : View). v.number) shown.1;
+      out = ap (λ (v : View). v.out) shown.1;
       older = older;
       still = λ top may. may_still old new top (ap (λ (v : View). v.mine) shown.1) older may;
     }
@@ -63,6 +66,7 @@ unable_kept (Ok x) old new top why ok err =
     record {
       live = ap (λ (v : View). v.live) is;
       number = ap (λ (v : View). v.number) is;
+      out = ap (λ (v : View). v.out) is;
       older = older;
       still = λ t may. record {
         is_top = may.is_top;
@@ -75,6 +79,7 @@ unable_kept (Err refused) old new top why ok err =
     record {
       live = ap (λ (v : View). v.live) err.0.1;
       number = ap (λ (v : View). v.number) err.0.1;
+      out = ap (λ (v : View). v.out) err.0.1;
       older = older;
       still = λ t may. may_still old new t (ap (λ (v : View). v.mine) err.0.1) older may;
     }

@@ -1,5 +1,5 @@
 //! The ledger over a desk: a top's record stands on the disk before its commit is entered.
-ghost use Rattle.std.specs.Prelude.{◌≡◌, ◌⊎◌, ◌∷◌, ◌++◌, ℕ, List, IfErr, OnOk, OnErr, IsErrOf, IsTrue, None, Some, Err, true, length, is_some};
+ghost use Rattle.std.specs.Prelude.{◌≡◌, ◌≤◌, ◌⊎◌, ◌∷◌, ◌++◌, ℕ, List, [], IfErr, OnOk, OnErr, IsErrOf, IsTrue, None, Some, Err, true, length, is_some};
 ghost use Rattle.std.specs.Bool.{OnFalse, OnTrue};
 ghost use Rattle.qc_codec.specs.Bodies as body;
 ghost use Rattle.qc_codec.specs.declared.record.LedgerRecord.TheVariants.{Top};
@@ -29,6 +29,7 @@ pub struct Ledger<D: Disk, N: Store> {
     pub pass: Pass<N>,
     ghost live: { pass.live ≡ true },
     ghost number: { pass.number ≡ ledger_seat },
+    ghost out: { pass.out ≡ [] },
     ghost may: { (top : List ℕ) → top_in shelf ≡ Some top → MayFinish pass top },
 }
 
@@ -166,6 +167,18 @@ impl<D: Disk, N: Store> Ledger<D, N> {
         }
     }
 
+    /// The seer is shown the history at this step, which the pass has then seen too.
+    pub fn show<R: Wait>(&mut self, rt: &R, desk: &Desk<N>, seer: &mut Pass<N>)
+        ensures shelf { self.new.shelf ≡ self.old.shelf }
+        ensures mine { self.new.pass.mine ≡ self.old.pass.mine }
+        ensures seen { IsOlder self.old.pass.seen self.new.pass.seen }
+        ensures seer { SeesMore seer.old seer.new }
+        ensures same { seer.new.seen ≡ self.new.pass.seen }
+        ensures bounded { length seer.new.seen ≤ limit }
+    {
+        desk.show(rt, seer, &mut self.pass);
+    }
+
     // Whether a top that the seer saw to be ready has ended; the pass has then seen it too.
     fn has_ended<R: Wait>(&mut self, rt: &R, desk: &Desk<N>, seer: &mut Pass<N>, top: &Name) -> bool
         requires is_top { length top.now ≡ 1 }
@@ -259,8 +272,8 @@ impl<D: Disk, N: Store> Ledger<D, N> {
         requires ready { IsTrue (is_ready seer.old.seen top.now) }
         requires proper { body.ledger.fits (Top top.now aborted.now) }
 
-        // At `Ok` the top's commit stands, and the ledger is up with nothing in hand. What was entered is at most the commit of the top in hand, and then at most this
-        // top's, or that it was not logged.
+        // At `Ok` the top's commit stands, and the ledger is up with nothing in hand. What was entered is at most the
+        // commit of the top in hand, and then at most this top's, or that it was not logged.
         ensures stands { OnOk result (IsTrue (is_some (end self.new.pass.seen top.now))) }
         ensures idle { OnOk result (IsUp (journal_in self.new.shelf)
             × (top_in self.new.shelf ≡ None)) }
@@ -338,6 +351,9 @@ impl<D: Disk, N: Store> Ledger<D, N> {
     pub fn into_parts(self) -> (D, Pass<N>)
         ensures disk { result.0 ≡ disk_of (journal_in self.shelf) }
         ensures pass { result.1 ≡ self.pass }
+        ensures ledger { (result.1.live ≡ true) × (result.1.number ≡ ledger_seat)
+            × (result.1.out ≡ []) }
+        ensures may { (top : List ℕ) → top_in self.shelf ≡ Some top → MayFinish result.1 top }
     {
         (self.shelf.into_disk(), self.pass)
     }

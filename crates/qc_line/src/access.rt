@@ -22,7 +22,6 @@ use qc_event::{Answer, Answered, Ask, Cause, Entry, Event, How, Kind, Name, Shor
 use qc_gather::{Carried, CarryNo};
 use qc_net::{Courier, PlanLink, Sent};
 use qc_store::Store;
-use std::alloc::AllocError;
 
 /// What a manager's next access is to be, under its client's seat.
 #[derive(Clone, Copy)]
@@ -107,7 +106,7 @@ fn told(answered: &Answered) -> Carried
     }
 }
 
-// Sends a request through the courier, and tells what came back.
+// Sends a request through the courier, and tells what came back. Where the history is full nothing is sent.
 fn send(
     store: &mut Store,
     courier: &mut Courier<PlanLink>,
@@ -126,12 +125,14 @@ fn send(
     ensures plan { anew (plan_of (link_of courier.new)) ≡ anew (plan_of (link_of courier.old)) }
     ensures short { IfErr result (words.IsShort store.new.past) }
 {
+    if store.is_full() {
+        return Err(CarryNo::Room);
+    }
     match courier.send(ask, store, patience) {
         Ok(Sent::Answer(answered)) => Ok(told(&answered)),
         Ok(Sent::Lost) => Ok(Carried::Gone(Why::Lost)),
         Ok(Sent::Late) => Ok(Carried::Gone(Why::Late)),
-        Err(AllocError) if store.is_full() => Err(CarryNo::Room),
-        Err(AllocError) => Err(CarryNo::Memory),
+        Err(short) => Err(no_of(short)),
     }
 }
 

@@ -1,6 +1,5 @@
 -- What is left of the requests that were held, as they are answered one by one.
 use Rattle.std.proofs.Common.{◌≡◌, ◌≢◌, ◌<◌, ℕ, zero, suc, ◌-◌, ◌⊎◌, inl, inr, List, [], ◌∷◌, ◌++◌, length, refl, sym, subst, ap, ◌∙◌, Option, Some, None, Result, Ok, Err, arith, length-append}
-use Rattle.std.specs.declared.alloc.AllocError.{AllocError}
 use Rattle.std.specs.Result.{IsErrAnd}
 use Rattle.std.specs.Prelude.{All, slice_get, remove}
 use Rattle.std.proofs.lemmas.List.Edits.{remove-append_left, remove-append_right}
@@ -9,6 +8,7 @@ use Rattle.std.proofs.lemmas.List.{append-nil}
 use Rattle.std.proofs.lemmas.Option.{slice_get_within}
 use Rattle.qc_event.specs.declared.event.Ask.{Ask}
 use Rattle.qc_event.specs.declared.event.Answered.{Answered}
+use Rattle.qc_event.specs.declared.log.Short.{Short}
 use Rattle.qc_net.specs.Given.{Given}
 use Rattle.qc_net.specs.Courier.{WasAnswered, IsLeft, IsHeldBehind, HeldAfter, Stepped}
 use Rattle.qc_net.specs.declared.courier.Sent.{Sent}
@@ -102,7 +102,7 @@ behind-stepped Gave Gives wider before mine held now made after behind (Some (pl
     rw (stepped.2) (behind-other Gives before mine held place stepped.0 wide stepped.1 (other place answer refl) (answer, stepped.3))
 
 -- what is left after an error
-pub left-err : (Gave : Ask → Answered → Type 0) (before : List Ask) (mine : Ask) (now : List Ask) (r : Result Sent AllocError) (Q : AllocError → Type 0) → IsErrAnd r Q → IsLeft Gave before now ⊎ IsHeldBehind Gave before mine now → HeldAfter Gave before mine now r
+pub left-err : (Gave : Ask → Answered → Type 0) (before : List Ask) (mine : Ask) (now : List Ask) (r : Result Sent Short) (Q : Short → Type 0) → IsErrAnd r Q → IsLeft Gave before now ⊎ IsHeldBehind Gave before mine now → HeldAfter Gave before mine now r
 left-err Gave before mine now (Ok sent) Q is left = absurd is
 left-err Gave before mine now (Err e) Q is left = left
 
@@ -120,7 +120,7 @@ left-left Gave (ask ∷ before) mid now (inl (rest, is, first)) next =
     kept-left Gave ask before rest now then_next (λ later left. left-left Gave before rest later first left)
 
 -- and after a whole call
-pub held-after : (Gave : Ask → Answered → Type 0) (before mid : List Ask) (mine : Ask) (now : List Ask) (r : Result Sent AllocError) → IsLeft Gave before mid → HeldAfter Gave mid mine now r → HeldAfter Gave before mine now r
+pub held-after : (Gave : Ask → Answered → Type 0) (before mid : List Ask) (mine : Ask) (now : List Ask) (r : Result Sent Short) → IsLeft Gave before mid → HeldAfter Gave mid mine now r → HeldAfter Gave before mine now r
 held-after Gave before mid mine now (Ok (Answer answer)) first next = left-left Gave before mid now first next
 held-after Gave before mid mine now (Ok Lost) first next = left-left Gave before mid now first next
 held-after Gave before mid mine now (Ok Late) first (rest, is, left) = (rest, is, left-left Gave before mid rest first left)

@@ -1,8 +1,8 @@
 -- The parts of a courier, and what is left of what it holds.
-use Rattle.std.specs.Prelude.{◌≡◌, ◌⊎◌, ℕ, List, [], ◌∷◌, ◌++◌, Option, Some, None, Result, Ok, Err, slice_get, remove, option_map}
-use Rattle.std.specs.declared.alloc.AllocError.{AllocError}
+use Rattle.std.specs.Prelude.{◌≡◌, ◌<◌, ◌⊎◌, ℕ, List, [], ◌∷◌, ◌++◌, Option, Some, None, Result, Ok, Err, slice_get, remove, option_map, vec_len, vec_capacity}
 use Rattle.qc_event.specs.declared.event.Ask.{Ask}
 use Rattle.qc_event.specs.declared.event.Answered.{Answered}
+use Rattle.qc_event.specs.declared.log.Short.{Short}
 use Rattle.qc_net.specs.Given.{Given, given}
 use Rattle.qc_net.specs.declared.courier.Courier.{Courier}
 use Rattle.qc_net.specs.declared.courier.Sent.{Sent}
@@ -15,6 +15,10 @@ link_of courier = courier.link
 -- the requests that it holds, the first held first
 abbrev pub held_of : {L : Type 0} → Courier L → List Ask
 held_of courier = courier.held.items
+
+-- it has room to hold one more request
+abbrev pub HasRoom : {L : Type 0} → Courier L → Type 0
+HasRoom courier = vec_len courier.held < vec_capacity courier.held
 
 -- some answer was given to a request
 abbrev pub WasAnswered : (Ask → Answered → Type 0) → Ask → Type 0
@@ -31,7 +35,7 @@ abbrev pub IsHeldBehind : (Ask → Answered → Type 0) → List Ask → Ask →
 IsHeldBehind Gave before ask now = (rest : List Ask) × (now ≡ rest ++ ask ∷ []) × IsLeft Gave before rest
 
 -- what is held after a call, by its answer
-abbrev pub HeldAfter : (Ask → Answered → Type 0) → List Ask → Ask → List Ask → Result Sent AllocError → Type 0
+abbrev pub HeldAfter : (Ask → Answered → Type 0) → List Ask → Ask → List Ask → Result Sent Short → Type 0
 HeldAfter Gave before ask now (Ok (Answer answer)) = IsLeft Gave before now
 HeldAfter Gave before ask now (Ok Lost) = IsLeft Gave before now
 HeldAfter Gave before ask now (Ok Late) = IsHeldBehind Gave before ask now

@@ -2,6 +2,8 @@
 use Rattle.std.specs.Prelude.{◌≡◌, List, ◌∷◌, Option, option_map}
 use Rattle.qc_event.specs.declared.event.Ask.{Ask}
 use Rattle.qc_event.specs.declared.event.Answered.{Answered}
+use Rattle.qc_event.specs.declared.log.Short.{Short}
+use Rattle.qc_event.specs.declared.log.Short.TheVariants.{Memory, Room}
 
 -- a request, and the answer that was given to it
 pub record Given : Type 0 where
@@ -19,6 +21,13 @@ pub record View : Type 1 where
   pub gave : Ask → Answered → Type 0
   -- its deliveries, the latest first, where it tells them
   pub made : Option (List Given)
+  -- whether its history takes no more entries, as far as it knows
+  pub full : Type 0
+
+-- why a port did not answer: for want of room exactly where its history is full
+abbrev pub IsWant : Type 0 → Short → Type 0
+IsWant Full Memory = Full → ⊥
+IsWant Full Room = Full
 
 -- a request was delivered two times, and this is the first answer
 abbrev pub GaveTwice : (Ask → Answered → Type 0) → Option (List Given) → Option (List Given) → Ask → Answered → Type 0

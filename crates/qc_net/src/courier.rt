@@ -1,15 +1,16 @@
 //! Carries requests over a link to a port.
-ghost use Rattle.std.specs.Prelude.{◌≡◌, ◌≤◌, [], ◌∷◌, ◌++◌, length, option_map, All, IfOk, OnOk, OnErr, IfSome, IsTrue};
+ghost use Rattle.std.specs.Prelude.{◌≡◌, ◌≤◌, ◌<◌, [], ◌∷◌, ◌++◌, length, option_map, vec_len, vec_capacity, All, IfOk, IfErr, IsErrOf, OnOk, OnErr, IfSome, IsTrue};
 ghost use Rattle.qc_event.specs.declared.event.Ask.{Ask};
 ghost use Rattle.qc_event.specs.declared.event.Answered.{Answered};
 ghost use Rattle.qc_event.specs.Counts.{Rose};
+ghost use Rattle.qc_net.specs.Given.{IsWant};
 ghost use Rattle.qc_net.specs.Plan.{Counts, is_trouble, next_fate, passed, anew, due_in};
 ghost use Rattle.qc_net.specs.Sending.{waiting, meeting, sending, IsSending};
 
 use crate::link::{Fate, Link};
 use crate::port::{Port, deliver_twice};
-use qc_event::{Answered, Ask};
-use std::alloc::{AllocError, Global};
+use qc_event::{Answered, Ask, Short};
+use std::alloc::Global;
 
 /// What came back of a request.
 #[derive(Clone, Copy, Debug)]
@@ -23,12 +24,11 @@ pub enum Sent {
 }
 
 // A generic push: one at the type of requests gets no proof today.
-fn append<T: Copy>(items: &mut Vec<T>, item: T) -> Result<(), AllocError>
-    ensures ok { OnOk result (items.new.items ≡ items.old.items ++ item ∷ []) }
-    ensures err { OnErr result (items.new.items ≡ items.old.items) }
+fn add<T: Copy>(items: &mut Vec<T>, item: T)
+    requires { vec_len items.old < vec_capacity items.old }
+    ensures { items.new.items ≡ items.old.items ++ item ∷ [] }
 {
-    items.push(item)?;
-    Ok(())
+    items.push_reserved(item);
 }
 
 /// Carries requests over a link, and holds those that are delivered later.
@@ -39,7 +39,7 @@ pub struct Courier<L> {
 }
 
 impl<L: Link> Courier<L> {
-    ghost use Rattle.qc_net.specs.Courier.{link_of, held_of, IsLeft, IsHeldBehind, HeldAfter, IsAnswered, HasCause, Stepped};
+    ghost use Rattle.qc_net.specs.Courier.{link_of, held_of, HasRoom, IsLeft, IsHeldBehind, HeldAfter, IsAnswered, HasCause, Stepped};
 
     /// A courier that holds nothing.
     pub fn new(alloc: Global, link: L) -> Self
@@ -52,14 +52,16 @@ impl<L: Link> Courier<L> {
         }
     }
 
-    // One due step: the place of the request that was delivered, and its answer. A request that finds no memory
-    // stays held.
-    fn due_step<P: Port>(&mut self, port: &mut P) -> Result<Option<(usize, Answered)>, AllocError>
+    // One due step: the place of the request that was delivered, and its answer. A request that the port does not
+    // answer stays held.
+    fn due_step<P: Port>(&mut self, port: &mut P) -> Result<Option<(usize, Answered)>, Short>
         requires { All (P.view port.old).may (held_of self.old) }
         ensures stepped { IfOk result (Stepped (P.view port.new).gave (held_of self.old)
             (held_of self.new) (P.view port.old).made (P.view port.new).made) }
         ensures held_err { OnErr result (held_of self.new ≡ held_of self.old) }
         ensures made_err { OnErr result ((P.view port.new).made ≡ (P.view port.old).made) }
+        ensures short { IfErr result (IsWant (P.view port.new).full) }
+        ensures room { HasRoom self.old → HasRoom self.new }
         ensures place { IfSome (L.view (link_of self.old)).plan
             (λ plan. IfOk result (λ step. option_map (λ s. s.0) step ≡ due_in plan
             (length (held_of self.old)))) }
@@ -81,10 +83,11 @@ impl<L: Link> Courier<L> {
         Ok(Some((place, answer)))
     }
 
-    // Holds a request last, and waits for its delivery.
-    fn hold<P: Port>(&mut self, ask: &Ask, port: &mut P, patience: u32) -> Result<Sent, AllocError>
+    // Holds a request last, where there is room for it, and waits for its delivery.
+    fn hold<P: Port>(&mut self, ask: &Ask, port: &mut P, patience: u32) -> Result<Sent, Short>
         requires ask { (P.view port.old).may ask.now }
         requires held { All (P.view port.old).may (held_of self.old) }
+        requires room { HasRoom self.old }
         ensures told { IfSome (L.view (link_of self.old)).plan
             (λ plan. IfOk result (IsSending (waiting patience
             (record { plan = plan; held = held_of self.old ++ ask.now ∷ []; delivered = [] }))
@@ -93,6 +96,7 @@ impl<L: Link> Courier<L> {
         ensures answered { IfOk result (IsAnswered (P.view port.new).gave ask.now) }
         ensures held { HeldAfter (P.view port.new).gave (held_of self.old) ask.now
             (held_of self.new) result }
+        ensures short { IfErr result (IsWant (P.view port.new).full) }
         ensures allowed { All (P.view port.new).may (held_of self.new) }
         ensures may { (other : Ask) → (P.view port.old).may other → (P.view port.new).may other }
         ensures gave { (other : Ask) (answer : Answered) → (P.view port.old).gave other answer
@@ -103,7 +107,7 @@ impl<L: Link> Courier<L> {
         ensures counts { (L.view (link_of self.new)).troubles
             ≡ (L.view (link_of self.old)).troubles }
     {
-        append(&mut self.held, *ask)?;
+        add(&mut self.held, *ask);
         for _ in 0..patience {
             let last = self.held.len() - 1;
             if let Some((place, answer)) = self.due_step(port)? {
@@ -122,9 +126,10 @@ impl<L: Link> Courier<L> {
         ask: &Ask,
         port: &mut P,
         patience: u32,
-    ) -> Result<Sent, AllocError>
+    ) -> Result<Sent, Short>
         requires ask { (P.view port.old).may ask.now }
         requires held { All (P.view port.old).may (held_of self.old) }
+        requires room { HasRoom self.old }
         ensures told { IfSome (L.view (link_of self.old)).plan
             (λ plan. IfOk result (IsSending (meeting fate ask.now patience
             (record { plan = plan; held = held_of self.old; delivered = [] }))
@@ -133,6 +138,7 @@ impl<L: Link> Courier<L> {
         ensures answered { IfOk result (IsAnswered (P.view port.new).gave ask.now) }
         ensures held { HeldAfter (P.view port.new).gave (held_of self.old) ask.now
             (held_of self.new) result }
+        ensures short { IfErr result (IsWant (P.view port.new).full) }
         ensures allowed { All (P.view port.new).may (held_of self.new) }
         ensures cause { IfOk result (HasCause (IsTrue (is_trouble fate))) }
         ensures may { (other : Ask) → (P.view port.old).may other → (P.view port.new).may other }
@@ -160,14 +166,10 @@ impl<L: Link> Courier<L> {
     /// drops its answer. Then the request meets its fate. One that is held waits for at most `patience` due
     /// steps, and is answered where one of them delivers it.
     ///
-    /// The only error is want of memory. A request that found none is not delivered: of what was held all is
-    /// left that was not answered, and this request behind it where it was held already.
-    pub fn send<P: Port>(
-        &mut self,
-        ask: &Ask,
-        port: &mut P,
-        patience: u32,
-    ) -> Result<Sent, AllocError>
+    /// An error is the port's, or want of memory to hold the request, before anything is done. Of what was held all is
+    /// left then that was not answered, and this request behind it where it was held already. `Room` comes only where
+    /// the port is full, and `Memory` only where it is not, or was full before.
+    pub fn send<P: Port>(&mut self, ask: &Ask, port: &mut P, patience: u32) -> Result<Sent, Short>
         requires ask { (P.view port.old).may ask.now }
         requires held { All (P.view port.old).may (held_of self.old) }
         ensures told { IfSome (L.view (link_of self.old)).plan
@@ -177,6 +179,9 @@ impl<L: Link> Courier<L> {
         ensures answered { IfOk result (IsAnswered (P.view port.new).gave ask.now) }
         ensures held { HeldAfter (P.view port.new).gave (held_of self.old) ask.now
             (held_of self.new) result }
+        ensures room { IsErrOf result Short.Room → (P.view port.new).full }
+        ensures memory { IsErrOf result Short.Memory → (P.view port.new).full
+            → (P.view port.old).full }
         ensures allowed { All (P.view port.new).may (held_of self.new) }
         ensures cause { IfOk result (HasCause
             (Rose (L.view (link_of self.old)).troubles (L.view (link_of self.new)).troubles)) }
@@ -192,6 +197,9 @@ impl<L: Link> Courier<L> {
         ensures plan { option_map anew (L.view (link_of self.new)).plan ≡ option_map anew
             (L.view (link_of self.old)).plan }
     {
+        if self.held.reserve(1).is_err() {
+            return Err(Short::Memory);
+        }
         self.due_step(port)?;
         let fate = self.link.fate(ask.copy);
         self.meet(fate, ask, port, patience)

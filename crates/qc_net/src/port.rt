@@ -1,27 +1,28 @@
 //! Where requests arrive.
-ghost use Rattle.std.specs.Prelude.{◌≡◌, ◌∷◌, option_map, IfOk, OnErr};
+ghost use Rattle.std.specs.Prelude.{◌≡◌, ◌∷◌, option_map, IfOk, IfErr, OnErr};
 ghost use Rattle.qc_event.specs.declared.event.Ask.{Ask};
 ghost use Rattle.qc_event.specs.declared.event.Answered.{Answered};
-ghost use Rattle.qc_net.specs.Given.{View, given, GaveTwice};
+ghost use Rattle.qc_net.specs.Given.{View, IsWant, given, GaveTwice};
 
-use qc_event::{Answered, Ask};
-use std::alloc::AllocError;
+use qc_event::{Answered, Ask, Short};
 
 /// Takes requests to the copies.
 pub trait Port {
-    /// Which requests it may be given, which answers it has given, and its deliveries, where it tells them.
+    /// Which requests it may be given, which answers it has given, its deliveries, where it tells them, and whether
+    /// its history is full.
     ghost view: { Self → View };
 
     /// Whether deliveries alone have made the second of the first.
     ghost became: { Self → Self → Type 0 };
 
-    /// Delivers a request. The only error is want of memory.
-    fn deliver(&mut self, ask: &Ask) -> Result<Answered, AllocError>
+    /// Delivers a request. `Room` comes exactly where its history is full, now that the call is over.
+    fn deliver(&mut self, ask: &Ask) -> Result<Answered, Short>
         requires { (view self.old).may ask.now }
         ensures answered { IfOk result (λ answer. (view self.new).gave ask.now answer) }
         ensures told { IfOk result (λ answer. (view self.new).made ≡ option_map
             (λ earlier. given ask.now answer ∷ earlier) (view self.old).made) }
         ensures told_err { OnErr result ((view self.new).made ≡ (view self.old).made) }
+        ensures short { IfErr result (IsWant (view self.new).full) }
         ensures may { (other : Ask) → (view self.old).may other → (view self.new).may other }
         ensures gave { (other : Ask) (answer : Answered) → (view self.old).gave other answer
             → (view self.new).gave other answer }
@@ -35,11 +36,12 @@ pub trait Port {
 }
 
 /// Delivers a request two times. The answer is that of the first delivery.
-pub(crate) fn deliver_twice<P: Port>(port: &mut P, ask: &Ask) -> Result<Answered, AllocError>
+pub(crate) fn deliver_twice<P: Port>(port: &mut P, ask: &Ask) -> Result<Answered, Short>
     requires { (P.view port.old).may ask.now }
     ensures answered { IfOk result (λ answer. (P.view port.new).gave ask.now answer) }
     ensures told { IfOk result (λ answer. GaveTwice (P.view port.new).gave (P.view port.old).made
         (P.view port.new).made ask.now answer) }
+    ensures short { IfErr result (IsWant (P.view port.new).full) }
     ensures may { (other : Ask) → (P.view port.old).may other → (P.view port.new).may other }
     ensures gave { (other : Ask) (answer : Answered) → (P.view port.old).gave other answer
         → (P.view port.new).gave other answer }

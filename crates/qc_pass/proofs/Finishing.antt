@@ -63,8 +63,14 @@ ender setting past seat top (Abort c) legal ready may =
     let there = some_there (start past top) (MayEnd setting past seat top (Abort c)) may in
     absurd (not_both (is_ready past top) there.2.not_ready ready)
 
+-- a top that commits was ready
+pub commit_ready : (setting : Setting) (past : Past) (seat number : ℕ) (given : Answer) → Legal setting past → MayHappen setting past seat (event.End (number ∷ []) (Commit given)) → is_ready past (number ∷ []) ≡ true
+commit_ready setting past seat number given legal may =
+    let there = some_there (start past (number ∷ [])) (MayEnd setting past seat (number ∷ []) (Commit given)) may in
+    (user_commit setting past seat (number ∷ []) there.0 given there.0.kind (top_user setting past (number ∷ []) there.0 legal there.1 refl) there.2).ready
+
 -- where a ready top has ended, its end stands under the ledger's seat
-ended_by_ledger : (setting : Setting) (past : Past) (top : Name) → Legal setting past → is_ready past top ≡ true → is_some (end past top) ≡ true → is_some (end (entries_of ledger_seat past) top) ≡ true
+pub ended_by_ledger : (setting : Setting) (past : Past) (top : Name) → Legal setting past → is_ready past top ≡ true → is_some (end past top) ≡ true → is_some (end (entries_of ledger_seat past) top) ≡ true
 ended_by_ledger setting [] top legal ready ended = absurd (true≢false (sym ended))
 ended_by_ledger setting (e ∷ past) top legal ready ended = elim (ready_step e past top ready) [
   | inr now ↦

@@ -6,9 +6,10 @@ use Rattle.qc_pass.specs.Entries.{AreOthers}
 use Rattle.qc_pass.specs.Entries.{entries_of, IsOlder, IsSince}
 use Rattle.qc_pass.proofs.Lists.{entries_append}
 
-none_of : (n : ℕ) (newer : Past) → entries_of n newer ≡ [] → AreOthers n newer
-none_of n [] none = tt
-none_of n (e ∷ newer) none = let parts = by_test (e.seat == n) refl none in (parts.0, none_of n newer parts.1)
+-- where a number has no entry, all entries are others'
+pub others_where_none : (n : ℕ) (newer : Past) → entries_of n newer ≡ [] → AreOthers n newer
+others_where_none n [] none = tt
+others_where_none n (e ∷ newer) none = let parts = by_test (e.seat == n) refl none in (parts.0, others_where_none n newer parts.1)
   where
     by_test : (b : Bool) → (e.seat == n) ≡ b → cond b (e ∷ entries_of n newer) (entries_of n newer) ≡ [] → (e.seat ≡ n → ⊥) × (entries_of n newer ≡ [])
     by_test true is h = absurd cc
@@ -22,5 +23,5 @@ pub since : (n : ℕ) (before now : Past) → IsOlder before now → entries_of 
 since n before now older same = (
   older.0,
   older.1,
-  none_of n older.0 (empty (entries_of n older.0) (entries_of n before) (sym (entries_append n older.0 before) ∙ sym (ap (entries_of n) older.1) ∙ same)),
+  others_where_none n older.0 (empty (entries_of n older.0) (entries_of n before) (sym (entries_append n older.0 before) ∙ sym (ap (entries_of n) older.1) ∙ same)),
 )

@@ -1,6 +1,7 @@
 //! The desk: one history behind a lock.
-ghost use Rattle.std.specs.Prelude.{◌≡◌, ◌≤◌, [], true, reverse, IfOk};
+ghost use Rattle.std.specs.Prelude.{◌≡◌, ◌≤◌, [], true, length, reverse, IfOk};
 ghost use Rattle.qc_event.specs.Tables.{setting_of};
+ghost use Rattle.qc_event.specs.History.{limit};
 ghost use Rattle.qc_event.specs.Legal.{Legal};
 ghost use Rattle.qc_pass.specs.Calling.{Shown};
 ghost use Rattle.qc_pass.specs.Entries.{IsOlder};
@@ -150,10 +151,12 @@ impl<N: Store> Desk<N> {
         ensures pass { Shown pass.old pass.new }
         ensures seer { Shown seer.old seer.new }
         ensures same { seer.new.seen ≡ pass.new.seen }
+        ensures bounded { length seer.new.seen ≤ limit }
     {
         let mut locked = self.locked.lock(rt);
         locked.look(&self.room, pass);
         locked.look(&self.room, seer);
+        locked.known();
     }
 
     /// A pass with nothing out is joined into a pass, which has then seen what both had seen. Its number, its
@@ -173,6 +176,7 @@ impl<N: Store> Desk<N> {
         requires first { (pass.live ≡ true) × (pass.number ≡ 0) × (pass.out ≡ []) }
         ensures base { result.0 ≡ N.base }
         ensures legal { Legal (setting_of N.table N.base) (reverse result.1.items) }
+        ensures bounded { length result.1.items ≤ limit }
         ensures settled { IsOlder pass.seen (reverse result.1.items)
             × IsSettled (reverse result.1.items) pass }
     {

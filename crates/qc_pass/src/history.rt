@@ -180,7 +180,8 @@ impl History {
 
     /// The entries, the oldest first. It takes no memory.
     pub fn into_entries(self) -> Vec<Entry>
-        ensures { reverse result.items ≡ self }
+        ensures entries { reverse result.items ≡ self }
+        ensures bounded { length result.items ≤ limit }
     {
         self.entries
     }

@@ -139,6 +139,7 @@ impl<N: Store> Locked<N> {
         requires room { IsRoomOf N.desk room.shared.table_id }
         requires first { (pass.live ≡ true) × (pass.number ≡ 0) × (pass.out ≡ []) }
         ensures legal { Legal (setting_of N.table N.base) (reverse result.items) }
+        ensures bounded { length result.items ≤ limit }
         ensures settled { IsOlder pass.seen (reverse result.items)
             × IsSettled (reverse result.items) pass }
     {

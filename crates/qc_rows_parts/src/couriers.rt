@@ -3,31 +3,37 @@ ghost use Rattle.std.specs.Prelude.{◌≤◌, IfOk};
 
 use crate::Answer;
 use qc_config::{Config, Op, Tuple};
-use qc_event::{Answered, Ask, Name};
+use qc_event::{Answered, Ask, Name, Short};
 use qc_net::{Courier, Fate, Link, PlanLink, Port, Sent};
 use qc_trail_text::{BadLine, Words};
 use std::alloc::{AllocError, Global};
 use std::io;
 
-/// A port that grants reads, with the number of the delivery as version, and calls all else dead.
+/// A port that grants reads, with the number of the delivery as version, and calls all else dead. It has room for
+/// so many deliveries.
 #[derive(Drop)]
 struct Counting {
     deliveries: u64,
+    room: u64,
 }
 
 impl Port for Counting {
-    ghost use Rattle.std.specs.Prelude.{None};
+    ghost use Rattle.std.specs.Prelude.{◌≤◌, None};
 
     ghost view = { λ port. record {
       may = λ ask. Unit {0};
       gave = λ ask answer. Unit {0};
       made = None;
+      full = port.room ≤ port.deliveries;
     } };
 
     ghost became = { λ before now. Unit {0} };
 
-    fn deliver(&mut self, ask: &Ask) -> Result<Answered, AllocError> {
-        self.deliveries = self.deliveries.saturating_add(1);
+    fn deliver(&mut self, ask: &Ask) -> Result<Answered, Short> {
+        if self.deliveries >= self.room {
+            return Err(Short::Room);
+        }
+        self.deliveries += 1;
         Ok(match ask.op {
             Op::Get => Answered::Granted(Tuple {
                 version: self.deliveries,
@@ -78,8 +84,7 @@ fn ask_of(op: Op) -> Ask {
     }
 }
 
-// Sends a read, or a put, and prints what the sender sees: the number of the delivery that answered, or why none
-// did.
+// Sends a read, or a put, and prints what the sender sees: the number of the delivery that answered, or why none did.
 fn print_sending(
     rt: &HostRuntime,
     courier: &mut Courier<PlanLink>,
@@ -87,21 +92,22 @@ fn print_sending(
     op: Op,
     patience: u32,
 ) -> io::Result<()> {
-    match courier.send(&ask_of(op), port, patience)? {
-        Sent::Answer(Answered::Granted(tuple)) => print!(rt; " {}", tuple.version),
-        Sent::Answer(_) => print!(rt; " dead"),
-        Sent::Lost => print!(rt; " lost"),
-        Sent::Late => print!(rt; " late"),
+    match courier.send(&ask_of(op), port, patience) {
+        Ok(Sent::Answer(Answered::Granted(tuple))) => print!(rt; " {}", tuple.version),
+        Ok(Sent::Answer(_)) => print!(rt; " dead"),
+        Ok(Sent::Lost) => print!(rt; " lost"),
+        Ok(Sent::Late) => print!(rt; " late"),
+        Err(short) => print!(rt; " {short}"),
     }
 }
 
 fn print_sendings(
     rt: &HostRuntime,
     mut courier: Courier<PlanLink>,
+    mut port: Counting,
     patience: u32,
     letters: &str,
 ) -> io::Result<()> {
-    let mut port = Counting { deliveries: 0 };
     print!(rt; "sent")?;
     for letter in letters.bytes() {
         let put = Op::PutData {
@@ -114,19 +120,32 @@ fn print_sendings(
     println!(rt; ", {} deliveries", port.deliveries)
 }
 
-/// `courier FATES HOLD PATIENCE SENDINGS`: a letter for each sending, `g` a read and `p` a put. Fates `-` are none.
+// How many deliveries a port has room for, where the line says so.
+fn room_of(words: &mut Words<'_>) -> Result<u64, BadLine> {
+    match words.number::<u64>() {
+        Err(BadLine::Ends) => Ok(u64::MAX),
+        room => room,
+    }
+}
+
+/// `courier FATES HOLD PATIENCE SENDINGS [ROOM]`: a letter for each sending, `g` a read and `p` a put. Fates `-` are
+/// none.
 pub(crate) fn courier(rt: &HostRuntime, alloc: Global, mut words: Words<'_>) -> Answer {
     let letters = words.word()?;
     let hold = hold_of(&mut words)?;
     let patience = words.number::<u32>()?;
     let sendings = words.word()?;
+    let port = Counting {
+        deliveries: 0,
+        room: room_of(&mut words)?,
+    };
     let letters = if letters == "-" { "" } else { letters };
     let fates = match fates_of(alloc, letters) {
         Ok(fates) => fates,
         Err(AllocError) => return Ok(println!(rt; "no memory")),
     };
     let courier = Courier::new(alloc, PlanLink::new(fates, hold));
-    Ok(print_sendings(rt, courier, patience, sendings))
+    Ok(print_sendings(rt, courier, port, patience, sendings))
 }
 
 fn print_due(rt: &HostRuntime, link: &mut PlanLink, held: usize) -> io::Result<()> {

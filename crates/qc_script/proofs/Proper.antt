@@ -17,14 +17,14 @@ use Rattle.qc_config.specs.declared.config.BadConfig.{BadConfig}
 use Rattle.qc_event.specs.declared.table.Row.{Row}
 use Rattle.qc_event.specs.declared.table.Table.{Table}
 use Rattle.qc_net.specs.declared.link.Fate.{Fate}
-use Rattle.qc_script.specs.Plan.{Plan, Numbered, ScriptPlan, SessionPlan, IsTried, PlanWithin, TopsWithin}
+use Rattle.qc_script.specs.Plan.{Plan, Numbered, ScriptPlan, SessionPlan, IsTried, PlanWithin, TopsWithin, value_of}
 use Rattle.qc_script.specs.Steps.{plan_of_script}
 use Rattle.qc_script.specs.declared.bad_script.BadScript.{BadScript}
 use Rattle.qc_script.specs.declared.bad_script.BadScript.TheVariants.{Shape, Config, Unknown}
 use Rattle.qc_script.specs.declared.bad_script.Member.{Member}
 use Rattle.qc_script.specs.declared.bad_script.Member.TheVariants as part
 use Rattle.qc_script.specs.declared.script.Script.{Script}
-use Rattle.qc_script.specs.ScriptText.{Read, Text, Front, Counted, Net, followed, ◌>>=◌, must, each, limited, member_or, config_of, row_of, names_of, rows_of, number_of, fate_of, fates_of, net_of, is_word, read_of, set_of, reconf_of, child_of, abort_of, step_in, step_of, steps_of, tries_of, body_of, bodies_of, session_of, only_session, copies_of, records_of, session_at, script_of}
+use Rattle.qc_script.specs.ScriptText.{Read, Text, Front, Counted, Net, followed, ◌>>=◌, must, each, limited, member_or, config_of, row_of, names_of, rows_of, number_of, fate_of, fates_of, net_of, is_word, read_of, amount_of, set_of, add_of, sub_of, need_of, reconf_of, child_of, abort_of, step_in, step_of, steps_of, tries_of, body_of, bodies_of, session_of, only_session, copies_of, records_of, session_at, script_of}
 use Rattle.qc_script.specs.Reading.{Gives, IsScript, IsProperRow, IsProper}
 
 -- what holds of the last of several parts, where each of them is read
@@ -146,30 +146,62 @@ number_within table name =
 abbrev Within : Table → ℕ → Plan → Type 0
 Within table depth plan = PlanWithin table.copies (length table.records) depth plan
 
--- a step, before a plan within bounds
+-- a step, in a body below the root, before a plan within bounds
 abbrev KeepsWithin : Table → ℕ → Front × ℕ → Type 0
-KeepsWithin table depth p = (rest : Plan) → Within table depth rest → Within table depth (p.0 rest)
+KeepsWithin table depth p = 0 < depth → (rest : Plan) → Within table depth rest → Within table depth (p.0 rest)
 
 -- a body in a body of this depth
 abbrev IsInner : Table → ℕ → Numbered × ℕ → Type 0
 IsInner table depth p = (depth < 16) × IsTried p.0.tries × Within table (depth + 1) p.0.plan
 
 read_within : (table : Table) (depth next : ℕ) (rec : Data) → IfOk (read_of table next rec) (KeepsWithin table depth)
-read_within table depth next rec = then_ok _ _ _ λ name _. then_ok _ _ _ λ i h rest within. (IfOk-at_ok (λ k. k < length table.records) h (number_within table name), within)
+read_within table depth next rec =
+    then_ok _ _ _ λ name _. then_ok _ _ _ λ i h some rest within. (IfOk-at_ok (λ k. k < length table.records) h (number_within table name), λ given. within)
+
+-- of a record of the table
+abbrev IsAmount : Table → ℕ × ℕ → Type 0
+IsAmount table a = a.0 < length table.records
+
+amount_within : (table : Table) (rec value : Data) → IfOk (amount_of table rec value) (IsAmount table)
+amount_within table rec value =
+    then_ok _ _ _ λ name _. then_ok _ _ _ λ n _. then_ok _ _ _ λ i h. IfOk-at_ok (λ k. k < length table.records) h (number_within table name)
 
 set_within : (table : Table) (depth next : ℕ) (rec value : Data) → IfOk (set_of table next rec value) (KeepsWithin table depth)
-set_within table depth next rec value =
-    then_ok _ _ _ λ name _. then_ok _ _ _ λ n _. then_ok _ _ _ λ i h rest within. (IfOk-at_ok (λ k. k < length table.records) h (number_within table name), within)
+set_within table depth next rec value = then_ok _ _ _ λ a h some rest within. (IfOk-at_ok (IsAmount table) h (amount_within table rec value), λ given. within)
+
+add_within : (table : Table) (depth next : ℕ) (rec value : Data) → IfOk (add_of table next rec value) (KeepsWithin table depth)
+add_within table depth next rec value =
+    then_ok _ _ _ λ a h some rest within.
+    let there = IfOk-at_ok (IsAmount table) h (amount_within table rec value) in
+    (there, λ given. (there, λ done. within))
+
+sub_within : (table : Table) (depth next : ℕ) (rec value : Data) → IfOk (sub_of table next rec value) (KeepsWithin table depth)
+sub_within table depth next rec value =
+    then_ok _ _ _ λ a h some rest within.
+    let there = IfOk-at_ok (IsAmount table) h (amount_within table rec value) in
+    (there, λ given. (there, λ done. within))
+
+-- whether the value was enough or not
+either_within : (table : Table) (depth : ℕ) (rest : Plan) (less : Bool) → 0 < depth → Within table depth rest → Within table depth (if less then Plan.abort_then 0 rest else rest)
+either_within table depth rest true some within = (some, within)
+either_within table depth rest false some within = within
+
+need_within : (table : Table) (depth next : ℕ) (rec value : Data) → IfOk (need_of table next rec value) (KeepsWithin table depth)
+need_within table depth next rec value =
+    then_ok _ _ _ λ a h some rest within. (
+      IfOk-at_ok (IsAmount table) h (amount_within table rec value),
+      λ given. either_within table depth rest (nat_lt (value_of given) a.1) some within,
+    )
 
 reconf_within : (table : Table) (depth next : ℕ) (rec config : Data) → IfOk (reconf_of table next rec config) (KeepsWithin table depth)
 reconf_within table depth next rec config =
-    then_ok _ _ _ λ name _. then_ok _ _ _ λ _ _. then_ok _ _ _ λ i h. then_ok _ _ _ λ c hc rest within. (
+    then_ok _ _ _ λ name _. then_ok _ _ _ λ _ _. then_ok _ _ _ λ i h. then_ok _ _ _ λ c hc some rest within. (
       (IfOk-at_ok (λ k. k < length table.records) h (number_within table name), IfOk-at_ok (IsConfigFor table.copies) hc (config_proper table.copies config)),
-      within,
+      λ given. within,
     )
 
 abort_within : (table : Table) (depth next : ℕ) (d : Data) → IfOk (abort_of depth next d) (KeepsWithin table depth)
-abort_within table depth next d = then_ok _ _ _ λ k _. then_ok _ _ _ λ t h rest within. (ltb-true k depth (must_true _ _ t h), within)
+abort_within table depth next d = then_ok _ _ _ λ k _. then_ok _ _ _ λ t h some rest within. (ltb-true k depth (must_true _ _ t h), within)
 
 -- what is read so is a body in a body of this depth
 abbrev ReadsInner : Table → ℕ → (ℕ → Data → Counted Numbered) → Type 0
@@ -177,7 +209,7 @@ ReadsInner table depth body = (next : ℕ) (d : Data) → IfOk (body next d) (Is
 
 child_within : (table : Table) (depth : ℕ) (body : ℕ → Data → Counted Numbered) (next : ℕ) (d : Data) → ReadsInner table depth body → IfOk (child_of body next d) (KeepsWithin table depth)
 child_within table depth body next d inner =
-    then_ok _ _ _ λ _ _. then_ok _ _ _ λ b h rest within. let p = IfOk-at_ok (IsInner table depth) h (inner next d) in (p.0, p.1, p.2, within)
+    then_ok _ _ _ λ _ _. then_ok _ _ _ λ b h some rest within. let p = IfOk-at_ok (IsInner table depth) h (inner next d) in (p.0, p.1, p.2, within)
 
 -- by what the word of a step is
 two_within : (table : Table) (depth : ℕ) (body : ℕ → Data → Counted Numbered) (next : ℕ) (d : Data) (read child abort : Bool) → ReadsInner table depth body → IfOk (if read then read_of table next d else if child then child_of body next d else if abort then abort_of depth next d else Err (Shape part.Step)) (KeepsWithin table depth)
@@ -186,27 +218,38 @@ two_within table depth body next d false true abort inner = child_within table d
 two_within table depth body next d false false true inner = abort_within table depth next d
 two_within table depth body next d false false false inner = tt
 
-three_within : (table : Table) (depth next : ℕ) (rec value : Data) (set reconf : Bool) → IfOk (if set then set_of table next rec value else if reconf then reconf_of table next rec value else Err (Shape part.Step)) (KeepsWithin table depth)
-three_within table depth next rec value true reconf = set_within table depth next rec value
-three_within table depth next rec value false true = reconf_within table depth next rec value
-three_within table depth next rec value false false = tt
+three_within : (table : Table) (depth next : ℕ) (rec value : Data) (set add sub need reconf : Bool)
+    → IfOk (
+    if set then set_of table next rec value
+    else if add then add_of table next rec value
+    else if sub then sub_of table next rec value
+    else if need then need_of table next rec value
+    else if reconf then reconf_of table next rec value
+    else Err (Shape part.Step)
+    ) (KeepsWithin table depth)
+three_within table depth next rec value true add sub need reconf = set_within table depth next rec value
+three_within table depth next rec value false true sub need reconf = add_within table depth next rec value
+three_within table depth next rec value false false true need reconf = sub_within table depth next rec value
+three_within table depth next rec value false false false true reconf = need_within table depth next rec value
+three_within table depth next rec value false false false false true = reconf_within table depth next rec value
+three_within table depth next rec value false false false false false = tt
 
 parts_within : (table : Table) (depth : ℕ) (body : ℕ → Data → Counted Numbered) (next : ℕ) (parts : List Data) → ReadsInner table depth body → IfOk (step_in body depth table next parts) (KeepsWithin table depth)
 parts_within table depth body next [] inner = tt
 parts_within table depth body next (word ∷ []) inner = tt
 parts_within table depth body next (word ∷ d ∷ []) inner = two_within table depth body next d (is_word (codes "read") word) (is_word (codes "child") word) (is_word (codes "abort") word) inner
-parts_within table depth body next (word ∷ rec ∷ value ∷ []) inner = three_within table depth next rec value (is_word (codes "set") word) (is_word (codes "reconf") word)
+parts_within table depth body next (word ∷ rec ∷ value ∷ []) inner = three_within table depth next rec value (is_word (codes "set") word) (is_word (codes "add") word) (is_word (codes "sub") word) (is_word (codes "need") word) (is_word (codes "reconf") word)
 parts_within table depth body next (word ∷ rec ∷ value ∷ more ∷ others) inner = tt
 
 step_within : (table : Table) (depth : ℕ) (body : ℕ → Data → Counted Numbered) (next : ℕ) (d : Data) → ReadsInner table depth body → IfOk (step_of body depth table next d) (KeepsWithin table depth)
 step_within table depth body next d inner = then_ok _ _ _ λ parts _. parts_within table depth body next parts inner
 
-steps_within : (table : Table) (depth : ℕ) (body : ℕ → Data → Counted Numbered) (next : ℕ) (ds : List Data) → ReadsInner table depth body → IfOk (steps_of body depth table next ds) (λ p. Within table depth p.0)
-steps_within table depth body next [] inner = tt
-steps_within table depth body next (d ∷ ds) inner =
+steps_within : (table : Table) (depth : ℕ) (body : ℕ → Data → Counted Numbered) (next : ℕ) (ds : List Data) → 0 < depth → ReadsInner table depth body → IfOk (steps_of body depth table next ds) (λ p. Within table depth p.0)
+steps_within table depth body next [] some inner = tt
+steps_within table depth body next (d ∷ ds) some inner =
     then_ok _ _ _ λ first h. then_ok _ _ _ λ rest hs.
-    IfOk-at_ok (KeepsWithin table depth) h (step_within table depth body next d inner) rest.0
-    (IfOk-at_ok (λ (p : Plan × ℕ). Within table depth p.0) hs (steps_within table depth body first.1 ds inner))
+    IfOk-at_ok (KeepsWithin table depth) h (step_within table depth body next d inner) some rest.0
+    (IfOk-at_ok (λ (p : Plan × ℕ). Within table depth p.0) hs (steps_within table depth body first.1 ds some inner))
 
 tried : (around : ℕ) (d : Data) → IfOk (tries_of around d) IsTried
 tried around d =
@@ -235,7 +278,7 @@ body_within table (suc below) around next d few =
       IfOk-at_ok IsTried t (tried around d),
       subst P depth (
           IfOk-at_ok (λ (p : Plan × ℕ). Within table (16 - below) p.0) h
-          (steps_within table (16 - below) (body_of below (around * tries) table) (next + 1) list (λ n x. inner_within table below (around * tries) n x (omega arith) (body_within table below (around * tries) n x (omega arith))))),
+          (steps_within table (16 - below) (body_of below (around * tries) table) (next + 1) list (omega arith) (λ n x. inner_within table below (around * tries) n x (omega arith) (body_within table below (around * tries) n x (omega arith))))),
     )
 
 bodies_within : (table : Table) (next : ℕ) (ds : List Data) → IfOk (bodies_of table next ds) (TopsWithin table.copies (length table.records))

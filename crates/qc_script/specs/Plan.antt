@@ -1,19 +1,45 @@
 -- What a body does: its steps one after another; and what a script is.
-use Rattle.std.specs.Prelude.{ℕ, ◌+◌, ◌<◌, ◌≤◌, List, [], ◌∷◌, length}
+use Rattle.std.specs.Prelude.{ℕ, ◌+◌, ◌-◌, ◌%◌, ◌^◌, ◌<◌, ◌≤◌, nat_lt, if◌then◌else◌, List, [], ◌∷◌, length}
+use Rattle.qc_event.specs.declared.event.Answer.{Answer}
+use Rattle.qc_event.specs.declared.event.Answer.TheVariants as answer
 use Rattle.qc_event.specs.Base.{Setting, IsConfigFor}
 use Rattle.qc_event.specs.declared.event.Kind.{Kind}
 use Rattle.qc_event.specs.declared.event.Kind.TheVariants as kind
 use Rattle.qc_event.specs.declared.table.Table.{Table}
 use Rattle.qc_net.specs.declared.link.Fate.{Fate}
 
--- A plan is the steps of a body, the first of them before the plan of the others. A step that reads, sets or gives a
--- record another configuration is a manager of that kind. The body of a child has a number, how often it is tried at
--- most, and a plan of its own.
+-- A plan is what a body does, one thing before the plan of what follows. A manager of a kind reads, sets or gives a
+-- record another configuration, and what follows may go by its answer. The body of a child has a number, how often it is
+-- tried at most, and a plan of its own.
 pub data Plan : Type 0 where
   done : Plan
-  manage_then : Kind → Plan → Plan
+  manage_by : Kind → (Answer → Plan) → Plan
   child_then : ℕ → ℕ → Plan → Plan → Plan
   abort_then : ℕ → Plan → Plan
+
+-- whatever the manager answers
+abbrev pub manage_then : Kind → Plan → Plan
+manage_then k rest = Plan.manage_by k (λ given. rest)
+
+-- the value that a read answered; no read answers anything else
+abbrev pub value_of : Answer → ℕ
+value_of (answer.Value value) = value
+value_of _ = 0
+
+-- values are numbers modulo 2 ^ 64
+abbrev pub plus : ℕ → ℕ → ℕ
+plus value n = (value + n) % 2 ^ 64
+
+abbrev pub minus : ℕ → ℕ → ℕ
+minus value n = (value + (2 ^ 64 - n)) % 2 ^ 64
+
+-- a record is read, and its value is written as it is then changed
+abbrev pub change_then : ℕ → (ℕ → ℕ) → Plan → Plan
+change_then rec changed rest = Plan.manage_by (kind.Read rec) (λ given. manage_then (kind.Write rec (changed (value_of given))) rest)
+
+-- a record is read, and the transaction aborts itself where the value is less than this
+abbrev pub need_then : ℕ → ℕ → Plan → Plan
+need_then rec least rest = Plan.manage_by (kind.Read rec) (λ given. if nat_lt (value_of given) least then Plan.abort_then 0 rest else rest)
 
 -- A body: its number, how often it is tried at most, and its plan.
 pub record Numbered : Type 0 where
@@ -52,7 +78,7 @@ KindWithin copies records _ = ⊥
 -- an ancestor below the root.
 abbrev pub PlanWithin : ℕ → ℕ → ℕ → Plan → Type 0
 PlanWithin copies records depth Plan.done = Unit {0}
-PlanWithin copies records depth (Plan.manage_then k rest) = KindWithin copies records k × PlanWithin copies records depth rest
+PlanWithin copies records depth (Plan.manage_by k next) = KindWithin copies records k × ((given : Answer) → PlanWithin copies records depth (next given))
 PlanWithin copies records depth (Plan.child_then number tries inner rest) =
     (depth < 16) × IsTried tries × PlanWithin copies records (depth + 1) inner × PlanWithin copies records depth rest
 PlanWithin copies records depth (Plan.abort_then levels rest) = (levels < depth) × PlanWithin copies records depth rest

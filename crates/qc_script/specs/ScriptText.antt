@@ -17,7 +17,7 @@ use Rattle.qc_script.specs.declared.bad_script.BadScript.{BadScript}
 use Rattle.qc_script.specs.declared.bad_script.BadScript.TheVariants.{Shape, Limit, Config, Unknown, Twice}
 use Rattle.qc_script.specs.declared.bad_script.Member.{Member}
 use Rattle.qc_script.specs.declared.bad_script.Member.TheVariants as part
-use Rattle.qc_script.specs.Plan.{Plan, Numbered, SessionPlan, ScriptPlan}
+use Rattle.qc_script.specs.Plan.{Plan, Numbered, SessionPlan, ScriptPlan, manage_then, change_then, need_then, plus, minus}
 
 -- a text, as its bytes
 abbrev pub Text : Type 0
@@ -229,15 +229,31 @@ abbrev pub read_of : Table → ℕ → Data → Counted Front
 read_of table next rec = do
   name ← step_name rec
   i ← number_of table name
-  Ok (Plan.manage_then (kind.Read i), next)
+  Ok (manage_then (kind.Read i), next)
 
--- ["set", R, n]
-abbrev pub set_of : Table → ℕ → Data → Data → Counted Front
-set_of table next rec value = do
+-- a record's number, and a number
+abbrev pub amount_of : Table → Data → Data → Read (ℕ × ℕ)
+amount_of table rec value = do
   name ← step_name rec
   n ← ok_or (digits_of value) (Shape part.Step)
   i ← number_of table name
-  Ok (Plan.manage_then (kind.Write i n), next)
+  Ok (i, n)
+
+-- ["set", R, n]
+abbrev pub set_of : Table → ℕ → Data → Data → Counted Front
+set_of table next rec value = amount_of table rec value >>= λ a. Ok (manage_then (kind.Write a.0 a.1), next)
+
+-- ["add", R, n]
+abbrev pub add_of : Table → ℕ → Data → Data → Counted Front
+add_of table next rec value = amount_of table rec value >>= λ a. Ok (change_then a.0 (λ old. plus old a.1), next)
+
+-- ["sub", R, n]
+abbrev pub sub_of : Table → ℕ → Data → Data → Counted Front
+sub_of table next rec value = amount_of table rec value >>= λ a. Ok (change_then a.0 (λ old. minus old a.1), next)
+
+-- ["need", R, n]
+abbrev pub need_of : Table → ℕ → Data → Data → Counted Front
+need_of table next rec value = amount_of table rec value >>= λ a. Ok (need_then a.0 a.1, next)
 
 -- ["reconf", R, config]
 abbrev pub reconf_of : Table → ℕ → Data → Data → Counted Front
@@ -246,7 +262,7 @@ reconf_of table next rec config = do
   _ ← must (is_some (as_object config)) (Shape part.Step)
   i ← number_of table name
   c ← config_of table.copies config
-  Ok (Plan.manage_then (kind.Reconf i c), next)
+  Ok (manage_then (kind.Reconf i c), next)
 
 -- ["child", body], where the body is read so
 abbrev pub child_of : (ℕ → Data → Counted Numbered) → ℕ → Data → Counted Front
@@ -274,6 +290,9 @@ two_of body depth table next word d =
 abbrev pub three_of : Table → ℕ → Data → Data → Data → Counted Front
 three_of table next word rec value =
     if is_word (codes "set") word then set_of table next rec value
+    else if is_word (codes "add") word then add_of table next rec value
+    else if is_word (codes "sub") word then sub_of table next rec value
+    else if is_word (codes "need") word then need_of table next rec value
     else if is_word (codes "reconf") word then reconf_of table next rec value
     else Err (Shape part.Step)
 

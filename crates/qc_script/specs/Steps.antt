@@ -6,13 +6,16 @@ use Rattle.qc_script.specs.declared.script.Script.{Script}
 use Rattle.qc_script.specs.declared.script.Session.{Session}
 use Rattle.qc_script.specs.declared.script.Step.{Step, fold-Step, Step-F}
 use Rattle.qc_script.specs.declared.script.Step.TheOpen.{Body-F}
-use Rattle.qc_script.specs.Plan.{Plan, Numbered, SessionPlan, ScriptPlan}
+use Rattle.qc_script.specs.Plan.{Plan, Numbered, SessionPlan, ScriptPlan, manage_then, change_then, need_then, plus, minus}
 
 -- a step, before the plan of the steps after it
 abbrev pub before : Step-F (Plan → Plan) Numbered → Plan → Plan
-before (Step-F.Read rec) rest = Plan.manage_then (kind.Read rec) rest
-before (Step-F.Set rec value) rest = Plan.manage_then (kind.Write rec value) rest
-before (Step-F.Reconf rec config) rest = Plan.manage_then (kind.Reconf rec config) rest
+before (Step-F.Read rec) rest = manage_then (kind.Read rec) rest
+before (Step-F.Set rec value) rest = manage_then (kind.Write rec value) rest
+before (Step-F.Add rec value) rest = change_then rec (λ old. plus old value) rest
+before (Step-F.Sub rec value) rest = change_then rec (λ old. minus old value) rest
+before (Step-F.Need rec value) rest = need_then rec value rest
+before (Step-F.Reconf rec config) rest = manage_then (kind.Reconf rec config) rest
 before (Step-F.Child body) rest = Plan.child_then body.number body.tries body.plan rest
 before (Step-F.Abort levels) rest = Plan.abort_then levels rest
 

@@ -9,6 +9,12 @@ pub enum Step {
     Read { rec: u8 },
     /// Writes a value to a record.
     Set { rec: u8, value: u64 },
+    /// Reads a record, and writes its value plus this one, modulo `2^64`.
+    Add { rec: u8, value: u64 },
+    /// Reads a record, and writes its value minus this one, modulo `2^64`.
+    Sub { rec: u8, value: u64 },
+    /// Reads a record, and aborts the transaction itself where its value is less than this one.
+    Need { rec: u8, value: u64 },
     /// Gives a record another configuration.
     Reconf { rec: u8, config: Config },
     /// Runs a child.

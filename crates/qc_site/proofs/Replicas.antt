@@ -31,7 +31,7 @@ use Rattle.qc_moss.specs.Follows.{Follows}
 use Rattle.qc_moss.proofs.Tables.{grows}
 use Rattle.qc_pass.specs.declared.view.View.{View}
 use Rattle.qc_pass.specs.Calling.{Entered, Looked, Refused, Shown}
-use mathlib.Core.Bool.{true≢false}
+use Rattle.qc_pass.proofs.Since.{others_where_none}
 use Rattle.qc_pass.specs.Entries.{entries_of, AreOthers, IsOlder, IsSince, entry}
 use Rattle.qc_pass.proofs.NoGrants.{AreNoGrants, grants_kept, grant_still_allowed, others_grant_none}
 use Rattle.qc_site.specs.declared.lock_table.LockTable.{LockTable}
@@ -50,6 +50,7 @@ pub record HasNoGrant (copy : ℕ) (v w : View) : Type 0 where
   pub none : AreNoGrants copy newer
   pub live : w.live ≡ v.live
   pub number : w.number ≡ v.number
+  pub out : w.out ≡ v.out
 
 module _ (setting : Setting) (copy : ℕ) (v w : View) (legal : Legal setting w.seen) (more : HasNoGrant copy v w) where
   here : Legal setting (more.newer ++ v.seen)
@@ -73,6 +74,7 @@ module _ (setting : Setting) (copy : ℕ) (v w : View) (legal : Legal setting w.
     small = was.small;
     live = more.live ∙ was.live;
     number = more.number ∙ was.number;
+    out = more.out ∙ was.out;
     starts = was.starts;
     kept = by_table table was.kept;
     may = by_hand hand was.may;
@@ -97,6 +99,7 @@ looked_none setting copy v w number legal looked =
       none = others_grant_none setting v.seen copy since.0 (subst (Legal setting) since.1 legal) (subst (λ n. AreOthers n since.0) number since.2);
       live = ap (λ (x : View). x.live) looked.1;
       number = ap (λ (x : View). x.number) looked.1;
+      out = ap (λ (x : View). x.out) looked.1;
     }
 
 pub shown_looked : (v w : View) → v.live ≡ true → Shown v w → Looked v w
@@ -109,6 +112,7 @@ left_none setting copy v w number legal (inl is) = record {
   none = tt;
   live = ap (λ (x : View). x.live) is;
   number = ap (λ (x : View). x.number) is;
+  out = ap (λ (x : View). x.out) is;
 }
 left_none setting copy v w number legal (inr looked) = looked_none setting copy v w number legal looked
 
@@ -122,6 +126,7 @@ entered_none setting copy v w ev before number legal nothing since is =
       none = (nothing, others_grant_none setting v.seen copy since.0 (subst (Legal setting) seen legal).0 (subst (λ n. AreOthers n since.0) number since.2));
       live = ap (λ (x : View). x.live) is;
       number = ap (λ (x : View). x.number) is;
+      out = ap (λ (x : View). x.out) is;
     }
 
 pub told_none : (setting : Setting) (copy : ℕ) (v w : View) (ask : Ask) (said : Verdict) → v.number ≡ copy_seat copy → Legal setting w.seen → IsTold setting ask v w said → HasNoGrant copy v w
@@ -176,6 +181,7 @@ module _ (setting : Setting) (copy : ℕ) (v w : View) (g : Grant) (start : List
     small = was.small;
     live = ap (λ (x : View). x.live) enters.3 ∙ was.live;
     number = ap (λ (x : View). x.number) enters.3 ∙ was.number;
+    out = ap (λ (x : View). x.out) enters.3 ∙ was.out;
     starts = was.starts;
     kept = is;
     may = tt;
@@ -194,6 +200,7 @@ kept_asked setting copy v w start table new hand now more kept may room was = re
   small = was.small;
   live = more.live ∙ was.live;
   number = more.number ∙ was.number;
+  out = more.out ∙ was.out;
   starts = was.starts;
   kept = kept;
   may = may;
@@ -241,6 +248,7 @@ kept_restored setting copy v start table hand new none is was = record {
   small = was.small;
   live = was.live;
   number = was.number;
+  out = was.out;
   starts = was.starts;
   kept = is;
   may = was.may;
@@ -296,17 +304,9 @@ told_again setting copy past ask tuple legal told =
 
 -- AT FIRST
 
-none_of_number : (n : ℕ) (past : Past) → entries_of n past ≡ [] → AreOthers n past
-none_of_number n [] none = tt
-none_of_number n (e ∷ past) none = by_test (e.seat == n) refl none (none_of_number n past)
-  where
-    by_test : (b : Bool) → (e.seat == n) ≡ b → cond b (e ∷ entries_of n past) (entries_of n past) ≡ [] → (entries_of n past ≡ [] → AreOthers n past) → AreOthers n (e ∷ past)
-    by_test true is h rest = absurd cc
-    by_test false apart h rest = ((λ same. true≢false (sym (eq-eqb e.seat n same) ∙ apart)), rest h)
-
 -- a copy whose pass has entered nothing has granted nothing
 pub nothing_granted : (setting : Setting) (copy : ℕ) (v : View) → v.number ≡ copy_seat copy → Legal setting v.seen → v.mine ≡ entries_of v.number v.seen → v.mine ≡ [] → grants v.seen copy ≡ []
 nothing_granted setting copy v number legal mine fresh =
-    let others = none_of_number (copy_seat copy) v.seen (subst (λ n. entries_of n v.seen ≡ []) number (sym mine ∙ fresh)) in
+    let others = others_where_none (copy_seat copy) v.seen (subst (λ n. entries_of n v.seen ≡ []) number (sym mine ∙ fresh)) in
     let all : v.seen ++ [] ≡ v.seen = append-nil v.seen in
     ap (λ p. grants p copy) (sym all) ∙ grants_kept setting [] copy v.seen (others_grant_none setting [] copy v.seen (subst (Legal setting) (sym all) legal) others)

@@ -1,10 +1,13 @@
 //! A copy at its desk: its pass, its locks, and the grant in hand.
-ghost use Rattle.std.specs.Prelude.{◌≡◌, ◌<◌, [], true, false, Option, None, Some, slice_index_or, is_some};
+ghost use Rattle.std.specs.Prelude.{◌≡◌, ◌<◌, [], true, false, Option, None, Some, IfSome, slice_index_or, is_some};
 ghost use Rattle.qc_config.specs.declared.tuple.Tuple.{Tuple};
 ghost use Rattle.qc_copy.specs.State.{again, grant_with};
+ghost use Rattle.qc_event.specs.Grants.{MayGrant};
 ghost use Rattle.qc_event.specs.History.{grants};
+ghost use Rattle.qc_event.specs.Legal.{Legal};
 ghost use Rattle.qc_event.specs.Seats.{copy_seat};
 ghost use Rattle.qc_event.specs.Tables.{setting_of};
+ghost use Rattle.qc_pass.specs.Entries.{entries_of};
 ghost use Rattle.qc_site.specs.Replica.{IsTableOf};
 
 use crate::lock_table::LockTable;
@@ -52,6 +55,7 @@ impl<N: Store, const C: u8> Replica<N, C> {
     pub(crate) fn new(pass: Pass<N>, start: Vec<Tuple>, table: LockTable) -> Self
         requires small { C < 16 }
         requires pass { (pass.live ≡ true) × (pass.number ≡ copy_seat C) }
+        requires none_out { pass.out ≡ [] }
         requires nothing { grants pass.seen C ≡ [] }
         requires starts { start.items ≡ slice_index_or N.base C [] }
         requires table { IsTableOf start.items pass.seen C table }
@@ -65,6 +69,14 @@ impl<N: Store, const C: u8> Replica<N, C> {
             table: Some(table),
             hand: None,
         }
+    }
+
+    /// What its pass keeps: what it has seen is legal, and its own entries are those seen under the copy's number.
+    pub(crate) fn known(&self)
+        ensures legal { Legal (setting_of N.table N.base) self.now.pass.seen }
+        ensures mine { self.now.pass.mine ≡ entries_of (copy_seat C) self.now.pass.seen }
+    {
+        self.pass.known();
     }
 
     /// Whether it is up.
@@ -112,7 +124,10 @@ impl<N: Store, const C: u8> Replica<N, C> {
 
     /// Its pass.
     pub(crate) fn into_pass(self) -> Pass<N>
-        ensures { result ≡ self.pass }
+        ensures pass { result ≡ self.pass }
+        ensures copy { (result.live ≡ true) × (result.number ≡ copy_seat C) × (result.out ≡ []) }
+        ensures may { IfSome self.hand (MayGrant (setting_of N.table N.base) self.pass.seen
+            (copy_seat C) C) }
     {
         self.pass
     }

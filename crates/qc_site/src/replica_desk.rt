@@ -1,5 +1,5 @@
 //! What a copy does at its desk: it looks, asks, and enters.
-ghost use Rattle.std.specs.Prelude.{◌≡◌, ◌<◌, ◌⊎◌, ◌++◌, ◌∷◌, [], true, IfOk, IfErr, IfSome, OnOk, OnErr, None, Some, length, option_to_list, slice_index_or};
+ghost use Rattle.std.specs.Prelude.{◌≡◌, ◌<◌, ◌≤◌, ◌⊎◌, ◌++◌, ◌∷◌, [], true, IfOk, IfErr, IfSome, OnOk, OnErr, None, Some, length, option_to_list, slice_index_or};
 ghost use Rattle.qc_config.specs.declared.tuple.Tuple.{Tuple};
 ghost use Rattle.qc_codec.specs.Bodies as body;
 ghost use Rattle.qc_codec.specs.Fields.{format_1};
@@ -9,7 +9,7 @@ ghost use Rattle.qc_copy.specs.Repeats.{HasRoom};
 ghost use Rattle.qc_copy.specs.State.{again, grant_with};
 ghost use Rattle.qc_copy.specs.State.{again as again_in};
 ghost use Rattle.qc_event.specs.Base.{IsProper};
-ghost use Rattle.qc_event.specs.History.{grants};
+ghost use Rattle.qc_event.specs.History.{grants, limit};
 ghost use Rattle.qc_event.specs.History.{grants as past_grants};
 ghost use Rattle.qc_event.specs.Requests.{is_fault};
 ghost use Rattle.qc_event.specs.Seats.{copy_seat};
@@ -186,13 +186,14 @@ impl<N: Store, const C: u8> Replica<N, C> {
         answer
     }
 
-    // The seer has then seen what the copy has.
-    fn show<R: Wait>(&mut self, rt: &R, desk: &Desk<N>, seer: &mut Pass<N>)
+    /// The seer has then seen what the copy has: the history at this step.
+    pub(crate) fn show<R: Wait>(&mut self, rt: &R, desk: &Desk<N>, seer: &mut Pass<N>)
         ensures looks { OnlyLooks C self.old self.new }
         ensures hand { self.new.hand ≡ self.old.hand }
         ensures up { self.new.up ≡ self.old.up }
         ensures seer { SeesMore seer.old seer.new }
         ensures same { seer.new.seen ≡ self.new.pass.seen }
+        ensures bounded { length seer.new.seen ≤ limit }
     {
         desk.show(rt, &mut self.pass, seer);
         self.pass.known();

@@ -1,11 +1,16 @@
 //! A copy over its desk and its disk: what it granted stands in each image.
-ghost use Rattle.std.specs.Prelude.{◌≡◌, ◌⊎◌, ◌++◌, ℕ, List, true, false, IfOk, IfErr, OnOk, OnErr, IsErrOf, Option, None, Some, Ok, length, is_some, option_to_list};
+ghost use Rattle.std.specs.Prelude.{◌≡◌, ◌≤◌, ◌⊎◌, ◌++◌, ℕ, List, [], true, false, IfOk, IfSome, IfErr, OnOk, OnErr, IsErrOf, Option, None, Some, Ok, length, is_some, option_to_list};
 ghost use Rattle.qc_event.specs.Base.{IsProper};
+ghost use Rattle.qc_event.specs.Grants.{MayGrant};
 ghost use Rattle.qc_event.specs.History.{grants, limit};
+ghost use Rattle.qc_event.specs.Legal.{Legal};
+ghost use Rattle.qc_event.specs.Seats.{copy_seat};
 ghost use Rattle.qc_event.specs.Tables.{setting_of};
 ghost use Rattle.qc_journal.specs.Journal.{disk_of, limit_of, IsDown, IsUp};
+ghost use Rattle.qc_ledger.specs.Entered.{SeesMore};
 ghost use Rattle.qc_ledger.specs.Runs.{Costs, Falls, Leaves};
-ghost use Rattle.qc_pass.specs.Entries.{IsOlder};
+ghost use Rattle.qc_pass.specs.Entries.{entries_of, IsOlder};
+ghost use Rattle.qc_site.specs.AtDesk.{OnlyLooks};
 ghost use Rattle.qc_site.specs.Log.{copies_of, journal_in};
 ghost use Rattle.qc_site.specs.declared.fault.SiteNo.TheVariants.{Disk, Strange, Room};
 
@@ -57,6 +62,32 @@ impl<D: Disk, N: Store, const C: u8> Site<D, N, C> {
         ensures { is_some result ≡ is_some self.now.strange }
     {
         self.strange.as_ref()
+    }
+
+    /// What it keeps of its pass: what that has seen is legal, and its own entries are those seen under the copy's number.
+    pub fn known(&self)
+        ensures legal { Legal (setting_of N.table N.base) self.now.replica.pass.seen }
+        ensures mine { self.now.replica.pass.mine
+            ≡ entries_of (copy_seat C) self.now.replica.pass.seen }
+    {
+        self.replica.known();
+    }
+
+    /// The seer is shown the history at this step, which the copy has then seen too.
+    pub fn show<R: Wait>(&mut self, rt: &R, desk: &Desk<N>, seer: &mut Pass<N>)
+        ensures looks { OnlyLooks C self.old.replica self.new.replica }
+        ensures up { self.new.replica.up ≡ self.old.replica.up }
+        ensures hand { self.new.replica.hand ≡ self.old.replica.hand }
+        ensures log { self.new.log ≡ self.old.log }
+        ensures strange { self.new.strange ≡ self.old.strange }
+        ensures over { (before : List (List ℕ))
+            → KeepsGranted C before self.old.log self.old.replica
+            → KeepsGranted C before self.new.log self.new.replica }
+        ensures seer { SeesMore seer.old seer.new }
+        ensures same { seer.new.seen ≡ self.new.replica.pass.seen }
+        ensures bounded { length seer.new.seen ≤ limit }
+    {
+        self.replica.show(rt, desk, seer);
     }
 
     /// A crash: it forgets its locks, and is down. The grant in hand stays. It takes no memory.
@@ -213,6 +244,10 @@ impl<D: Disk, N: Store, const C: u8> Site<D, N, C> {
     pub fn into_parts(self) -> (D, Pass<N>)
         ensures disk { result.0 ≡ disk_of (journal_in self.log) }
         ensures pass { result.1 ≡ self.replica.pass }
+        ensures copy { (result.1.live ≡ true) × (result.1.number ≡ copy_seat C)
+            × (result.1.out ≡ []) }
+        ensures may { IfSome self.replica.hand (MayGrant (setting_of N.table N.base)
+            self.replica.pass.seen (copy_seat C) C) }
     {
         (self.log.into_disk(), self.replica.into_pass())
     }

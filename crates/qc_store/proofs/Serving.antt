@@ -64,14 +64,8 @@ module _ (setting : Setting) (past : Past) (ask : Ask) (r : IsReady setting past
       by_copy a h = let same : a ≡ record { seat = r.may.0; ask = ask } = cc in ap (λ (x : Asked). x.ask.copy) same
 
   -- a repeat is answered with its grant's tuple
-  pub repeat_told : (s : State) (a : Answered) → IsSite setting.base past ask.copy s → is_some (copy.again s.grants ask.access) ≡ true → a ≡ copy.answer past s ask → HasAnswered past ask a
-  repeat_told s a site some is = by_again (copy.again s.grants ask.access) refl some
-    where
-      by_again : (o : Option Tuple) → copy.again s.grants ask.access ≡ o → is_some o ≡ true → HasAnswered past ask a
-      by_again None at h = absurd (true≢false (sym h))
-      by_again (Some t) at h =
-          subst (HasAnswered past ask) (sym (is ∙ ap (λ o. option_map_or Granted o (option_map_or Dead (dead past ask.access) (option_map_or Blocked (copy.blocker past s ask) (Granted (copy.tuple_after past s ask))))) at))
-          (was_granted (granted past ask.access) t (sym again_told ∙ ap (λ gs. copy.again gs ask.access) (sym site.granted) ∙ at))
+  pub repeat_told : (s : State) (t : Tuple) → IsSite setting.base past ask.copy s → copy.again s.grants ask.access ≡ Some t → HasAnswered past ask (Granted t)
+  repeat_told s t site at = was_granted (granted past ask.access) t (sym again_told ∙ ap (λ gs. copy.again gs ask.access) (sym site.granted) ∙ at)
 
   -- ANSWERS
 
@@ -215,7 +209,3 @@ at_copy setting past ask sites s r are item = record { ready = r; site = subst (
 pub made : {T E : Type 0} (r : Result T E) {P : Type 0} → is_err r ≡ false → OnOk r P → P
 made (Ok t) none h = h
 made (Err e) none h = absurd (true≢false none)
-
-pub not_again : (o : Option Tuple) → is_some o ≡ false → o ≡ None
-not_again None h = refl
-not_again (Some t) h = absurd (true≢false h)

@@ -1,5 +1,6 @@
 ghost use Rattle.std.specs.Prelude.{◌≡◌, ◌≤◌, ◌<◌, ◌↔◌, [], ◌∷◌, ◌++◌, IsTrue, IsErrOf, OnOk, OnErr, reverse, length, vec_len, vec_capacity};
 ghost use Rattle.qc_event.specs.History.{limit};
+ghost use Rattle.qc_net.specs.Given.{IsWant};
 ghost use Rattle.qc_store.specs.Indexed.{IsIndex};
 
 use qc_desk::{Index, Outcomes};
@@ -54,6 +55,17 @@ impl History {
         ensures bounded { length self.now ≤ limit }
     {
         self.entries.len() >= LIMIT
+    }
+
+    /// Why an entry that was to come is missing: for want of room where the history is full, else of memory.
+    pub fn want(&self) -> Short
+        ensures { IsWant (length self.now ≡ limit) result }
+    {
+        if self.is_full() {
+            Short::Room
+        } else {
+            Short::Memory
+        }
     }
 
     /// Appends an entry; `Room` comes exactly where the history takes no more. An error leaves the history and its

@@ -1,10 +1,11 @@
-ghost use Rattle.std.specs.Prelude.{◌≡◌, ◌≤◌, ◌<◌, ◌↔◌, ◌∷◌, [], not, IsTrue, IsErrOf, IfOk, OnOk, OnErr, reverse, length};
+ghost use Rattle.std.specs.Prelude.{◌≡◌, ◌≤◌, ◌<◌, ◌↔◌, ◌∷◌, [], not, IsTrue, IsErrOf, IfOk, IfErr, OnOk, OnErr, reverse, length};
 ghost use Rattle.qc_event.specs.Base.{first_of, IsProper};
 ghost use Rattle.qc_event.specs.Dead.{dead as dead_in, outcome as outcome_in};
 ghost use Rattle.qc_event.specs.History.{limit, children, is_ready};
 ghost use Rattle.qc_event.specs.Standing.{open_child};
 ghost use Rattle.qc_names.specs.Name.{longest};
 ghost use Rattle.qc_event.specs.Legal.{Allowed, Legal};
+ghost use Rattle.qc_net.specs.Given.{IsWant};
 ghost use Rattle.qc_store.specs.Indexed.{IsIndex};
 ghost use Rattle.qc_store.specs.Served as served;
 ghost use Rattle.qc_store.specs.Sites.{is_grant, AreSites};
@@ -99,6 +100,7 @@ fn enter_answer(log: &mut History, ask: &Ask, answered: &Answered) -> Result<(),
     requires { served.IsOfCopy answered.now }
     ensures ok { OnOk result (log.new ≡ served.answer_entry ask.now answered.now ∷ log.old) }
     ensures err { OnErr result (log.new ≡ log.old) }
+    ensures short { IfErr result (IsWant (length log.new ≡ limit)) }
 {
     match answered {
         Answered::Granted(tuple) => log.push(granted(ask, tuple)),
@@ -240,7 +242,8 @@ impl Store {
 }
 
 impl Port for Store {
-    ghost use Rattle.std.specs.Prelude.{None};
+    ghost use Rattle.std.specs.Prelude.{◌≡◌, None, length};
+    ghost use Rattle.qc_event.specs.History.{limit};
     ghost use Rattle.qc_store.specs.Served.{MayServe, HasAnswered, HasServed};
     ghost use Rattle.qc_store.specs.Laws.{served_itself, served_by_both};
 
@@ -248,6 +251,7 @@ impl Port for Store {
       may = λ ask. MayServe store.past ask;
       gave = λ ask answer. HasAnswered store.past ask answer;
       made = None;
+      full = length store.past ≡ limit;
     } };
 
     ghost became = { HasServed };
@@ -256,25 +260,31 @@ impl Port for Store {
 
     ghost became_by_both = { served_by_both };
 
-    // An error says that memory ran out, or that the history is full. Where the answer is not entered, the copy and
-    // the history may part: the store is torn, and serves no one more.
-    fn deliver(&mut self, ask: &Ask) -> Result<Answered, AllocError> {
+    // A repeat is answered where the history is full too, and no other request is. Where memory runs out between an
+    // answer and its entry, the copy and the history may part: the store is torn, and serves no one more.
+    fn deliver(&mut self, ask: &Ask) -> Result<Answered, Short> {
         if self.torn {
-            return Err(AllocError);
+            return Err(self.log.want());
         }
         let site = &mut self.sites[ask.copy as usize];
-        let repeated = site.again(&ask.access).is_some();
+        if let Some(tuple) = site.again(&ask.access) {
+            return Ok(Answered::Granted(tuple));
+        }
+        if self.log.is_full() {
+            return Err(Short::Room);
+        }
         let source = Indexed {
             index: self.log.index(),
         };
-        let answered = site.serve_by(ask, &source)?;
-        if repeated {
-            return Ok(answered);
+        let Ok(answered) = site.serve_by(ask, &source) else {
+            return Err(Short::Memory);
+        };
+        match enter_answer(&mut self.log, ask, &answered) {
+            Ok(()) => Ok(answered),
+            Err(short) => {
+                self.torn = true;
+                Err(short)
+            }
         }
-        if enter_answer(&mut self.log, ask, &answered).is_err() {
-            self.torn = true;
-            return Err(AllocError);
-        }
-        Ok(answered)
     }
 }

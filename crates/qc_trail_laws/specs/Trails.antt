@@ -18,7 +18,7 @@ use Rattle.qc_event.specs.declared.event.Why.TheVariants.{Lost, Down}
 use Rattle.qc_event.specs.declared.event.Refusal.TheVariants.{Blocked}
 use Rattle.qc_event.specs.History.{Name}
 use Rattle.qc_event.specs.Seats.{ledger_seat, copy_seat, client_seat, number_in}
-use Rattle.qc_script.specs.Plan.{Plan, Numbered}
+use Rattle.qc_script.specs.Plan.{Plan, Numbered, manage_then}
 use Rattle.qc_net.specs.declared.link.Fate.TheVariants.{LoseAsk, Deliver}
 use Rattle.qc_net.specs.Messages.{Net}
 
@@ -166,10 +166,10 @@ abbrev pub body_of : Plan → List Numbered
 body_of plan = record { number = 0; tries = 1; plan = plan } ∷ []
 
 abbrev pub set_then_read : List Numbered
-set_then_read = body_of (Plan.manage_then (kind.Write x 5) (Plan.manage_then (kind.Read x) Plan.done))
+set_then_read = body_of (manage_then (kind.Write x 5) (manage_then (kind.Read x) Plan.done))
 
 abbrev pub read_alone : List Numbered
-read_alone = body_of (Plan.manage_then (kind.Read x) Plan.done)
+read_alone = body_of (manage_then (kind.Read x) Plan.done)
 
 abbrev pub no_step : List Numbered
 no_step = body_of Plan.done
@@ -199,8 +199,8 @@ late_commit =
 
 abbrev pub set_and_read : List Numbered
 set_and_read =
-    record { number = 0; tries = 1; plan = Plan.manage_then (kind.Write x 5) Plan.done }
-    ∷ record { number = 1; tries = 1; plan = Plan.manage_then (kind.Read x) Plan.done }
+    record { number = 0; tries = 1; plan = manage_then (kind.Write x 5) Plan.done }
+    ∷ record { number = 1; tries = 1; plan = manage_then (kind.Read x) Plan.done }
     ∷ []
 
 -- child with set x 5 and read x, then abort 0: the child is begun, and none of its steps is run
@@ -213,7 +213,7 @@ dropped_steps =
     ∷ []
 
 abbrev pub child_and_abort : List Numbered
-child_and_abort = body_of (Plan.child_then 1 1 (Plan.manage_then (kind.Write x 5) (Plan.manage_then (kind.Read x) Plan.done)) (Plan.abort_then 0 Plan.done))
+child_and_abort = body_of (Plan.child_then 1 1 (manage_then (kind.Write x 5) (manage_then (kind.Read x) Plan.done)) (Plan.abort_then 0 Plan.done))
 
 -- the first run under another seat, by a network that loses every request
 abbrev pub moved : Entry → Entry
@@ -267,7 +267,7 @@ abort_body levels = record { number = 0; tries = 1; plan = Plan.child_then 1 1 (
 
 -- the body of the first run
 abbrev pub first_body : Numbered
-first_body = record { number = 0; tries = 1; plan = Plan.manage_then (kind.Write x 5) (Plan.manage_then (kind.Read x) Plan.done) }
+first_body = record { number = 0; tries = 1; plan = manage_then (kind.Write x 5) (manage_then (kind.Read x) Plan.done) }
 
 -- two tops of a session, each under a seat of its own
 abbrev pub two_seats : List Entry
@@ -299,7 +299,7 @@ tried_again =
     ∷ []))
 
 abbrev pub read_twice : List Numbered
-read_twice = record { number = 0; tries = 2; plan = Plan.manage_then (kind.Read x) Plan.done } ∷ []
+read_twice = record { number = 0; tries = 2; plan = manage_then (kind.Read x) Plan.done } ∷ []
 
 abbrev pub first_lost : Net
 first_lost = record { fates = LoseAsk ∷ Deliver ∷ []; hold = 1; patience = 4 }
@@ -315,7 +315,7 @@ reconfigured =
     ∷ []
 
 abbrev pub reconfigure : List Numbered
-reconfigure = body_of (Plan.manage_then (kind.Reconf x one) Plan.done)
+reconfigure = body_of (manage_then (kind.Reconf x one) Plan.done)
 
 abbrev pub two_steps : List Numbered
 two_steps = record { number = 0; tries = 1; plan = Plan.done } ∷ record { number = 0; tries = 1; plan = Plan.done } ∷ []

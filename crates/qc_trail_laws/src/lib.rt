@@ -11,6 +11,7 @@ ghost use Rattle.qc_interp.specs.Session.{FollowsBodies, RunsBodies};
 ghost use Rattle.qc_interp.specs.Sessions.{RunsInTurn, tops_of, meets, all_plain};
 ghost use Rattle.qc_script.specs.Numbers.{each, is_next_top};
 ghost use Rattle.qc_trail_laws.specs.Trails as trails;
+ghost use Rattle.qc_trail_laws.specs.Values as values;
 
 /// The first run follows its script, in turn, with its numbers and its messages; a try after a lost request, another
 /// configuration, and an abort from two levels below follow theirs.
@@ -96,4 +97,38 @@ pub fn begins_otherwise()
         (reverse trails.both_started) → ⊥ }
     ensures cut_off { FollowsScript 0 1 trails.net trails.set_then_read
         (reverse (trails.first_cut trails.read_asked)) → ⊥ }
+{}
+
+/// A step `add` or `sub` follows its script where what was read is written changed, also past either end of the numbers,
+/// and a step `need` where the top goes on with as much as is needed and aborts itself with less.
+pub fn goes_by_values()
+    ensures added { FollowsBodies 0 (reverse (values.changed 4 7)) (values.add 3) (trails.top ∷ []) }
+    ensures added_past { FollowsBodies 0 (reverse (values.changed values.last_value 0))
+        (values.add 1)
+        (trails.top ∷ []) }
+    ensures taken { FollowsBodies 0 (reverse (values.changed 7 4)) (values.sub 3) (trails.top ∷ []) }
+    ensures taken_past { FollowsBodies 0 (reverse (values.changed 0 values.last_value))
+        (values.sub 1)
+        (trails.top ∷ []) }
+    ensures enough { FollowsBodies 0 (reverse (values.enough 30)) (values.need 30)
+        (trails.top ∷ []) }
+    ensures too_little { FollowsBodies 0 (reverse (values.too_little 29)) (values.need 30)
+        (trails.top ∷ []) }
+{}
+
+/// None of these follows its script: an `add` that writes what it read, stops at the last number, or writes nothing; a
+/// `sub` that stops at 0; and a `need` that fails with as much as is needed, or holds with less.
+pub fn goes_by_no_other_value()
+    ensures nothing_added { FollowsScript 0 1 trails.net (values.add 3)
+        (reverse (values.changed 4 4)) → ⊥ }
+    ensures stops_at_the_last { FollowsScript 0 1 trails.net (values.add 1)
+        (reverse (values.changed values.last_value values.last_value)) → ⊥ }
+    ensures not_written { FollowsScript 0 1 trails.net (values.add 3) (reverse (values.enough 4))
+        → ⊥ }
+    ensures stops_at_0 { FollowsScript 0 1 trails.net (values.sub 1) (reverse (values.changed 0 0))
+        → ⊥ }
+    ensures fails_with_enough { FollowsScript 0 1 trails.net (values.need 30)
+        (reverse (values.too_little 30)) → ⊥ }
+    ensures holds_with_less { FollowsScript 0 1 trails.net (values.need 30)
+        (reverse (values.enough 29)) → ⊥ }
 {}

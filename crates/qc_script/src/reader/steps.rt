@@ -45,6 +45,22 @@ fn read_of(alloc: Global, records: &Records<'_>, rec: &Value) -> Result<Step, Ba
     Ok(Step::Read { rec })
 }
 
+// The number of a record, and a number.
+fn amount_of(
+    alloc: Global,
+    records: &Records<'_>,
+    rec: &Value,
+    value: &Value,
+) -> Result<(u8, u64), BadScript>
+    ensures { Gives (λ a. (a.0, a.1)) result
+        (script.amount_of records.now.table (view rec.now) (view value.now)) }
+{
+    let name = step_name(rec)?;
+    let value = value.as_u64().ok_or(BadScript::Shape(Member::Step))?;
+    let rec = records.number_of(alloc, name)?;
+    Ok((rec, value))
+}
+
 fn set_of(
     alloc: Global,
     records: &Records<'_>,
@@ -54,10 +70,47 @@ fn set_of(
     ensures { (next : ℕ) → Gives (λ s. (put s, next)) result
         (script.set_of records.now.table next (view rec.now) (view value.now)) }
 {
-    let name = step_name(rec)?;
-    let value = value.as_u64().ok_or(BadScript::Shape(Member::Step))?;
-    let rec = records.number_of(alloc, name)?;
+    let (rec, value) = amount_of(alloc, records, rec, value)?;
     Ok(Step::Set { rec, value })
+}
+
+fn add_of(
+    alloc: Global,
+    records: &Records<'_>,
+    rec: &Value,
+    value: &Value,
+) -> Result<Step, BadScript>
+    ensures { (next : ℕ) → Gives (λ s. (put s, next)) result
+        (script.add_of records.now.table next (view rec.now) (view value.now)) }
+{
+    let (rec, value) = amount_of(alloc, records, rec, value)?;
+    Ok(Step::Add { rec, value })
+}
+
+fn sub_of(
+    alloc: Global,
+    records: &Records<'_>,
+    rec: &Value,
+    value: &Value,
+) -> Result<Step, BadScript>
+    ensures { (next : ℕ) → Gives (λ s. (put s, next)) result
+        (script.sub_of records.now.table next (view rec.now) (view value.now)) }
+{
+    let (rec, value) = amount_of(alloc, records, rec, value)?;
+    Ok(Step::Sub { rec, value })
+}
+
+fn need_of(
+    alloc: Global,
+    records: &Records<'_>,
+    rec: &Value,
+    value: &Value,
+) -> Result<Step, BadScript>
+    ensures { (next : ℕ) → Gives (λ s. (put s, next)) result
+        (script.need_of records.now.table next (view rec.now) (view value.now)) }
+{
+    let (rec, value) = amount_of(alloc, records, rec, value)?;
+    Ok(Step::Need { rec, value })
 }
 
 fn reconf_of(
@@ -90,6 +143,12 @@ fn three_of(
 {
     if is_word(word, "set") {
         set_of(alloc, records, rec, value)
+    } else if is_word(word, "add") {
+        add_of(alloc, records, rec, value)
+    } else if is_word(word, "sub") {
+        sub_of(alloc, records, rec, value)
+    } else if is_word(word, "need") {
+        need_of(alloc, records, rec, value)
     } else if is_word(word, "reconf") {
         reconf_of(alloc, records, rec, value)
     } else {

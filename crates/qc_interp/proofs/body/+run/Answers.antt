@@ -4,12 +4,12 @@ use Rattle.qc_event.specs.History.{Past, Name}
 use Rattle.qc_event.proofs.LastNumber.{child_longer}
 use Rattle.qc_script.specs.Calls.{WasRefused}
 use Rattle.qc_script.specs.Client.{Client, Made}
-use Rattle.qc_script.specs.Plan.{Plan, PlanFits}
+use Rattle.qc_script.specs.Plan.{Plan, PlanFits, manage_then, change_then, need_then, plus, minus}
 use Rattle.qc_script.specs.Steps.{put, plan_of, numbered}
 use Rattle.qc_interp.specs.Running.{Runs, WhyStop, Stopped, Ended, CutOff, Stepped}
 use Rattle.qc_interp.proofs.Results.{if_ok, if_err, any_err}
 use Rattle.qc_interp.proofs.Growth.{made_both}
-use Rattle.qc_interp.proofs.Plans.{weight, plan_is, tries_of, number_of, put_read, put_set, put_reconf, put_child, put_abort, step_lighter}
+use Rattle.qc_interp.proofs.Plans.{weight, plan_is, tries_of, number_of, put_read, put_set, put_add, put_sub, put_need, put_reconf, put_child, put_abort, step_lighter}
 use Rattle.qc_interp.proofs.Loops.{fits_step, one_done, stopped_there, cut_there, cut_at_last, all_done, none_done}
 use Rattle.qc_interp.proofs.Tried.{TriesLeft, Tried, runs_begun, tried_once, cut_once, tried_more, tried_out, tried_all, tries_cut, not_begun, begin_stops, begin_cut, refused_made, none_tried, start_of}
 use Rattle.qc_interp.proofs.body.+run.Goals as goal
@@ -192,21 +192,42 @@ pub step-returns-in-Read-clause-ok : goal.step-returns-in-Read-clause-ok
 step-returns-in-Read-clause-ok g t c =
     let v = g.T.Tx.view c.args.tx.now in
     let w = g.T.Tx.view c.manage.new.tx in
-    if_ok (Stepped v.client c.args.of.now v.seen w.seen (Plan.manage_then (kind.Read c.in-Read.rec))) (Stepped v.client c.args.of.now v.seen w.seen (put c.args.step.now)) c.manage.result
+    if_ok (Stepped v.client c.args.of.now v.seen w.seen (manage_then (kind.Read c.in-Read.rec))) (Stepped v.client c.args.of.now v.seen w.seen (put c.args.step.now)) c.manage.result
     (λ r h. subst (λ f. Stepped v.client c.args.of.now v.seen w.seen f r) (sym (ap put c.in-Read.is ∙ put_read c.in-Read.rec)) h) c.manage.ensures.ok
 
 pub step-returns-in-Set-clause-ok : goal.step-returns-in-Set-clause-ok
 step-returns-in-Set-clause-ok g t c =
     let v = g.T.Tx.view c.args.tx.now in
     let w = g.T.Tx.view c.manage-in-Set.new.tx in
-    if_ok (Stepped v.client c.args.of.now v.seen w.seen (Plan.manage_then (kind.Write c.in-Set.rec c.in-Set.value))) (Stepped v.client c.args.of.now v.seen w.seen (put c.args.step.now)) c.manage-in-Set.result
+    if_ok (Stepped v.client c.args.of.now v.seen w.seen (manage_then (kind.Write c.in-Set.rec c.in-Set.value))) (Stepped v.client c.args.of.now v.seen w.seen (put c.args.step.now)) c.manage-in-Set.result
     (λ r h. subst (λ f. Stepped v.client c.args.of.now v.seen w.seen f r) (sym (ap put c.in-Set.is ∙ put_set c.in-Set.rec c.in-Set.value)) h) c.manage-in-Set.ensures.ok
+
+pub step-returns-in-Add-clause-ok : goal.step-returns-in-Add-clause-ok
+step-returns-in-Add-clause-ok g t c =
+    let v = g.T.Tx.view c.args.tx.now in
+    let w = g.T.Tx.view c.change_value.new.tx in
+    if_ok (Stepped v.client c.args.of.now v.seen w.seen (change_then c.in-Add.rec (λ old. plus old c.in-Add.value))) (Stepped v.client c.args.of.now v.seen w.seen (put c.args.step.now)) c.change_value.result
+    (λ r h. subst (λ f. Stepped v.client c.args.of.now v.seen w.seen f r) (sym (ap put c.in-Add.is ∙ put_add c.in-Add.rec c.in-Add.value)) h) c.change_value.ensures.ok
+
+pub step-returns-in-Sub-clause-ok : goal.step-returns-in-Sub-clause-ok
+step-returns-in-Sub-clause-ok g t c =
+    let v = g.T.Tx.view c.args.tx.now in
+    let w = g.T.Tx.view c.change_value-in-Sub.new.tx in
+    if_ok (Stepped v.client c.args.of.now v.seen w.seen (change_then c.in-Sub.rec (λ old. minus old c.in-Sub.value))) (Stepped v.client c.args.of.now v.seen w.seen (put c.args.step.now)) c.change_value-in-Sub.result
+    (λ r h. subst (λ f. Stepped v.client c.args.of.now v.seen w.seen f r) (sym (ap put c.in-Sub.is ∙ put_sub c.in-Sub.rec c.in-Sub.value)) h) c.change_value-in-Sub.ensures.ok
+
+pub step-returns-in-Need-clause-ok : goal.step-returns-in-Need-clause-ok
+step-returns-in-Need-clause-ok g t c =
+    let v = g.T.Tx.view c.args.tx.now in
+    let w = g.T.Tx.view c.need.new.tx in
+    if_ok (Stepped v.client c.args.of.now v.seen w.seen (need_then c.in-Need.rec c.in-Need.value)) (Stepped v.client c.args.of.now v.seen w.seen (put c.args.step.now)) c.need.result
+    (λ r h. subst (λ f. Stepped v.client c.args.of.now v.seen w.seen f r) (sym (ap put c.in-Need.is ∙ put_need c.in-Need.rec c.in-Need.value)) h) c.need.ensures.ok
 
 pub step-returns-in-Reconf-clause-ok : goal.step-returns-in-Reconf-clause-ok
 step-returns-in-Reconf-clause-ok g t c =
     let v = g.T.Tx.view c.args.tx.now in
     let w = g.T.Tx.view c.manage-in-Reconf.new.tx in
-    if_ok (Stepped v.client c.args.of.now v.seen w.seen (Plan.manage_then (kind.Reconf c.in-Reconf.rec c.in-Reconf.config))) (Stepped v.client c.args.of.now v.seen w.seen (put c.args.step.now)) c.manage-in-Reconf.result
+    if_ok (Stepped v.client c.args.of.now v.seen w.seen (manage_then (kind.Reconf c.in-Reconf.rec c.in-Reconf.config))) (Stepped v.client c.args.of.now v.seen w.seen (put c.args.step.now)) c.manage-in-Reconf.result
     (λ r h. subst (λ f. Stepped v.client c.args.of.now v.seen w.seen f r) (sym (ap put c.in-Reconf.is ∙ put_reconf c.in-Reconf.rec c.in-Reconf.config)) h) c.manage-in-Reconf.ensures.ok
 
 pub step-returns-in-Child-clause-ok : goal.step-returns-in-Child-clause-ok
@@ -229,21 +250,42 @@ pub step-returns-in-Read-clause-cut : goal.step-returns-in-Read-clause-cut
 step-returns-in-Read-clause-cut g t c =
     let v = g.T.Tx.view c.args.tx.now in
     let w = g.T.Tx.view c.manage.new.tx in
-    if_err ((rest : Plan) → CutOff v.client c.args.of.now v.seen w.seen (Plan.manage_then (kind.Read c.in-Read.rec) rest)) ((rest : Plan) → CutOff v.client c.args.of.now v.seen w.seen (put c.args.step.now rest)) c.manage.result
+    if_err ((rest : Plan) → CutOff v.client c.args.of.now v.seen w.seen (manage_then (kind.Read c.in-Read.rec) rest)) ((rest : Plan) → CutOff v.client c.args.of.now v.seen w.seen (put c.args.step.now rest)) c.manage.result
     (λ h rest. subst (λ f. CutOff v.client c.args.of.now v.seen w.seen (f rest)) (sym (ap put c.in-Read.is ∙ put_read c.in-Read.rec)) (h rest)) c.manage.ensures.cut
 
 pub step-returns-in-Set-clause-cut : goal.step-returns-in-Set-clause-cut
 step-returns-in-Set-clause-cut g t c =
     let v = g.T.Tx.view c.args.tx.now in
     let w = g.T.Tx.view c.manage-in-Set.new.tx in
-    if_err ((rest : Plan) → CutOff v.client c.args.of.now v.seen w.seen (Plan.manage_then (kind.Write c.in-Set.rec c.in-Set.value) rest)) ((rest : Plan) → CutOff v.client c.args.of.now v.seen w.seen (put c.args.step.now rest)) c.manage-in-Set.result
+    if_err ((rest : Plan) → CutOff v.client c.args.of.now v.seen w.seen (manage_then (kind.Write c.in-Set.rec c.in-Set.value) rest)) ((rest : Plan) → CutOff v.client c.args.of.now v.seen w.seen (put c.args.step.now rest)) c.manage-in-Set.result
     (λ h rest. subst (λ f. CutOff v.client c.args.of.now v.seen w.seen (f rest)) (sym (ap put c.in-Set.is ∙ put_set c.in-Set.rec c.in-Set.value)) (h rest)) c.manage-in-Set.ensures.cut
+
+pub step-returns-in-Add-clause-cut : goal.step-returns-in-Add-clause-cut
+step-returns-in-Add-clause-cut g t c =
+    let v = g.T.Tx.view c.args.tx.now in
+    let w = g.T.Tx.view c.change_value.new.tx in
+    if_err ((rest : Plan) → CutOff v.client c.args.of.now v.seen w.seen ((change_then c.in-Add.rec (λ old. plus old c.in-Add.value)) rest)) ((rest : Plan) → CutOff v.client c.args.of.now v.seen w.seen (put c.args.step.now rest)) c.change_value.result
+    (λ h rest. subst (λ f. CutOff v.client c.args.of.now v.seen w.seen (f rest)) (sym (ap put c.in-Add.is ∙ put_add c.in-Add.rec c.in-Add.value)) (h rest)) c.change_value.ensures.cut
+
+pub step-returns-in-Sub-clause-cut : goal.step-returns-in-Sub-clause-cut
+step-returns-in-Sub-clause-cut g t c =
+    let v = g.T.Tx.view c.args.tx.now in
+    let w = g.T.Tx.view c.change_value-in-Sub.new.tx in
+    if_err ((rest : Plan) → CutOff v.client c.args.of.now v.seen w.seen ((change_then c.in-Sub.rec (λ old. minus old c.in-Sub.value)) rest)) ((rest : Plan) → CutOff v.client c.args.of.now v.seen w.seen (put c.args.step.now rest)) c.change_value-in-Sub.result
+    (λ h rest. subst (λ f. CutOff v.client c.args.of.now v.seen w.seen (f rest)) (sym (ap put c.in-Sub.is ∙ put_sub c.in-Sub.rec c.in-Sub.value)) (h rest)) c.change_value-in-Sub.ensures.cut
+
+pub step-returns-in-Need-clause-cut : goal.step-returns-in-Need-clause-cut
+step-returns-in-Need-clause-cut g t c =
+    let v = g.T.Tx.view c.args.tx.now in
+    let w = g.T.Tx.view c.need.new.tx in
+    if_err ((rest : Plan) → CutOff v.client c.args.of.now v.seen w.seen ((need_then c.in-Need.rec c.in-Need.value) rest)) ((rest : Plan) → CutOff v.client c.args.of.now v.seen w.seen (put c.args.step.now rest)) c.need.result
+    (λ h rest. subst (λ f. CutOff v.client c.args.of.now v.seen w.seen (f rest)) (sym (ap put c.in-Need.is ∙ put_need c.in-Need.rec c.in-Need.value)) (h rest)) c.need.ensures.cut
 
 pub step-returns-in-Reconf-clause-cut : goal.step-returns-in-Reconf-clause-cut
 step-returns-in-Reconf-clause-cut g t c =
     let v = g.T.Tx.view c.args.tx.now in
     let w = g.T.Tx.view c.manage-in-Reconf.new.tx in
-    if_err ((rest : Plan) → CutOff v.client c.args.of.now v.seen w.seen (Plan.manage_then (kind.Reconf c.in-Reconf.rec c.in-Reconf.config) rest)) ((rest : Plan) → CutOff v.client c.args.of.now v.seen w.seen (put c.args.step.now rest)) c.manage-in-Reconf.result
+    if_err ((rest : Plan) → CutOff v.client c.args.of.now v.seen w.seen (manage_then (kind.Reconf c.in-Reconf.rec c.in-Reconf.config) rest)) ((rest : Plan) → CutOff v.client c.args.of.now v.seen w.seen (put c.args.step.now rest)) c.manage-in-Reconf.result
     (λ h rest. subst (λ f. CutOff v.client c.args.of.now v.seen w.seen (f rest)) (sym (ap put c.in-Reconf.is ∙ put_reconf c.in-Reconf.rec c.in-Reconf.config)) (h rest)) c.manage-in-Reconf.ensures.cut
 
 pub step-returns-in-Child-clause-cut : goal.step-returns-in-Child-clause-cut

@@ -14,6 +14,7 @@ invariant_of-self g c =
     record {
       live = kept.live ∙ c.args.self.now.live;
       number = kept.number ∙ c.args.self.now.number;
+      out = kept.out ∙ c.args.self.now.out;
       may = λ top here. kept.still top (c.args.self.now.may top here);
     }
 

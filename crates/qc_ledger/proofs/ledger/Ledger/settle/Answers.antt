@@ -17,5 +17,6 @@ invariant_of-self-in-Err-1 g c =
     record {
       live = ap (λ (v : View). v.live) is ∙ ap (λ (v : View). v.live) same ∙ c.args.self.now.live;
       number = ap (λ (v : View). v.number) is ∙ ap (λ (v : View). v.number) same ∙ c.args.self.now.number;
+      out = ap (λ (v : View). v.out) is ∙ ap (λ (v : View). v.out) same ∙ c.args.self.now.out;
       may = λ top here. may_still old new top (ap (λ (v : View). v.mine) is ∙ ap (λ (v : View). v.mine) same) older (c.args.self.now.may top here);
     }

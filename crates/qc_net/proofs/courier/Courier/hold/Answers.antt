@@ -1,5 +1,5 @@
 -- Each due step leaves the request held last, or delivers it.
-use Rattle.std.proofs.Common.{◌≡◌, ◌≢◌, ℕ, ◌+◌, ◌-◌, List, [], ◌∷◌, ◌++◌, length, inl, inr, Option, Some, None, refl, sym, ap, ◌∙◌, subst, arith}
+use Rattle.std.proofs.Common.{◌≡◌, ◌≢◌, ℕ, ◌+◌, ◌-◌, List, [], ◌∷◌, ◌++◌, length, inr, Option, Some, None, refl, sym, ap, ◌∙◌, subst, arith}
 use Rattle.std.proofs.lemmas.List.Elements.{All-push, All-weaker, All-same}
 use Rattle.std.proofs.lemmas.Result.{err_from_is_err_and}
 use Rattle.qc_event.specs.declared.event.Ask.{Ask}
@@ -11,20 +11,13 @@ use Rattle.qc_net.proofs.Waits.{waits-begin, waits-step, wait-goes, wait-mine, w
 use Rattle.qc_net.proofs.courier.Courier.hold.Goals as goal
 use Rattle.qc_net.proofs.courier.Courier.hold.Goals.{in-Some+else-place-last, in_default}
 
-pub returns-in_err-append-clause-held : goal.returns-in_err-append-clause-held
-returns-in_err-append-clause-held g c =
-    let p = err_from_is_err_and c.from_residual.result c.from_residual.ensures.1 in
-    let held = c.args.self.now.held.items in
-    let same : c.append.new.items.items ≡ held = c.in_err-append.ensures.err in
-    rw (p.1) (inl (subst (λ (now : List Ask). IsLeft (g.P.Port.view c.args.port.now).gave held now) (sym same) (left-same (g.P.Port.view c.args.port.now).gave held)))
-
 pub loop-init : goal.loop-init
 loop-init g c =
     let Gave = (g.P.Port.view c.args.port.now).gave in
     let May = (g.P.Port.view c.args.port.now).may in
     let held = c.args.self.now.held.items in
     let mine = c.args.ask.now in
-    let pushed : c.append.new.items.items ≡ held ++ mine ∷ [] = c.in_ok-append.ensures.ok in
+    let pushed : c.add.new.items.items ≡ held ++ mine ∷ [] = c.add.ensures in
     let whole : c.args.patience - 0 ≡ c.args.patience = omega arith in
     record {
       behind = (held, pushed, left-same Gave held);
@@ -47,7 +40,7 @@ due_step-requires g c = c.loop.invariant.allowed
 
 pub returns-in_err-place-clause-held : goal.returns-in_err-place-clause-held
 returns-in_err-place-clause-held g c =
-    let p = err_from_is_err_and c.from_residual-in_err-place.result c.from_residual-in_err-place.ensures.1 in
+    let p = err_from_is_err_and c.from_residual.result c.from_residual.ensures.1 in
     let same : c.due_step.new.self.held.items ≡ c.loop.self.held.items = c.in_err-place.ensures.held_err in
     rw (p.1) (inr (behind-same (g.P.Port.view c.loop.port).gave (g.P.Port.view c.due_step.new.port).gave c.due_step.ensures.gave _ _ c.loop.self.held.items _ same c.loop.invariant.behind))
 
@@ -125,7 +118,7 @@ loop-preserved g c =
     let Gives = (g.P.Port.view c.due_step.new.port).gave in
     let step = c.in_ok-place.field-0 in
     let stepped = c.in_ok-place.ensures.stepped in
-    let other : (place : ℕ) (answer : Answered) → step ≡ Some (place, answer) → place ≢ length c.loop.self.held.items - 1 = elim c.match-branch-3.branch [
+    let other : (place : ℕ) (answer : Answered) → step ≡ Some (place, answer) → place ≢ length c.loop.self.held.items - 1 = elim c.match-branch-2.branch [
       | in-Some+else-place-last w ↦ λ place answer is last.
           let same = ap place_in (sym w.in-Some.is ∙ is) in
           w.if-place-last.false (omega (arith, same, last, c.len-last.ensures))

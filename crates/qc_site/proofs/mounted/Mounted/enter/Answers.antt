@@ -17,17 +17,20 @@ pub new-requires : goal.new-requires
 new-requires g c =
     let setting = setting_of g.N.Store.table g.N.Store.base in
     let start = c.into_parts-start.ensures.start in
-    let nothing = nothing_granted setting g.row.C c.args.pass c.requires.pass.1 c.known.ensures.legal (c.known.ensures.mine c.requires.pass.0) c.requires.fresh in (
+    let nothing = nothing_granted setting g.row.C c.args.pass c.requires.pass.1 c.known.ensures.legal (c.known.ensures.mine c.requires.pass.0) c.requires.fresh.0 in (
       omega arith,
       (
         c.requires.small,
         (
           c.requires.pass,
           (
-            nothing,
+            c.requires.fresh.1,
             (
-              start ∙ c.requires.start,
-              subst (λ (row : List Tuple). IsTableOf row c.args.pass.seen g.row.C c.into_parts-start.result.1) (sym start) (c.into_parts-start.ensures.table c.args.pass.seen g.row.C nothing),
+              nothing,
+              (
+                start ∙ c.requires.start,
+                subst (λ (row : List Tuple). IsTableOf row c.args.pass.seen g.row.C c.into_parts-start.result.1) (sym start) (c.into_parts-start.ensures.table c.args.pass.seen g.row.C nothing),
+              ),
             ),
           ),
         ),
@@ -37,6 +40,6 @@ new-requires g c =
 pub returns-clause-over : goal.returns-clause-over
 returns-clause-over g c = λ keeps.
     let setting = setting_of g.N.Store.table g.N.Store.base in
-    let nothing = nothing_granted setting g.row.C c.args.pass c.requires.pass.1 c.known.ensures.legal (c.known.ensures.mine c.requires.pass.0) c.requires.fresh in
+    let nothing = nothing_granted setting g.row.C c.args.pass c.requires.pass.1 c.known.ensures.legal (c.known.ensures.mine c.requires.pass.0) c.requires.fresh.0 in
     same_over (records_of c.args.self) _ [] _ None _ (ap (λ (v : View). grants v.seen g.row.C) c.new.ensures.pass ∙ nothing) c.new.ensures.none
     (first_over (records_of c.args.self) _ c.args.self.up keeps (ap length c.as_slice.ensures.value ∙ sym (length-map c.args.self.bodies.items (λ (b : Vec ℕ Global). b.items))))

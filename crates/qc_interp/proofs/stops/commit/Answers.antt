@@ -1,0 +1,59 @@
+use Rattle.std.proofs.Common.{[], sym, subst, ◌∙◌, inl, inr}
+use Rattle.qc_script.specs.Client.{Made}
+use Rattle.qc_script.specs.Plan.{Plan}
+use Rattle.qc_interp.specs.Running.{Runs, WhyStop, Stopped, Ended, CutOff}
+use Rattle.qc_interp.proofs.Results.{if_ok, if_err}
+use Rattle.qc_interp.proofs.Asking.{commit_ok, commit_ledger, commit_stops, commit_short, commit_over}
+use Rattle.qc_interp.proofs.Ending.{cut_still}
+use Rattle.qc_interp.proofs.Growth.{made_both}
+use Rattle.qc_interp.proofs.stops.commit.Goals as goal
+
+pub stop-requires : goal.stop-requires
+stop-requires g c =
+    let v = g.T.Tx.view c.args.tx.now in
+    let w = g.T.Tx.view c.commit.new.self in
+    let h = commit_stops v.client c.args.of.now v.seen w.seen c.in-Err.why c.requires.runs c.in-Err.ensures.err c.in_default.not-Memory c.in_default.not-Room c.in_default.not-Ledger in
+    record {
+      runs = subst (λ d. Runs d c.args.of.now w.seen) (sym c.commit.ensures.client) h.0;
+      met = c.commit.ensures.met;
+      why = subst (λ d. WhyStop d w.seen c.args.of.now c.in-Err.why) (sym c.commit.ensures.client) h.1;
+    }
+
+pub returns-in-Ok-clause-ok : goal.returns-in-Ok-clause-ok
+returns-in-Ok-clause-ok g c =
+    let v = g.T.Tx.view c.args.tx.now in
+    commit_ok v.client c.args.of.now v.seen (g.T.Tx.view c.commit.new.self).seen c.requires.runs c.in-Ok.ensures.ok
+
+pub returns-in-Ledger-clause-ok : goal.returns-in-Ledger-clause-ok
+returns-in-Ledger-clause-ok g c =
+    let v = g.T.Tx.view c.args.tx.now in
+    commit_ledger v.client c.args.of.now v.seen (g.T.Tx.view c.commit.new.self).seen c.in-Err.why c.in-Ledger.is c.requires.runs c.in-Err.ensures.err
+
+pub returns-in_default : goal.returns-in_default
+returns-in_default g c =
+    let v = g.T.Tx.view c.args.tx.now in
+    let w = g.T.Tx.view c.commit.new.self in
+    let x = g.T.Tx.view c.stop.new.tx in
+    let of = c.args.of.now in
+    record {
+      met = c.stop.ensures.met;
+      client = c.stop.ensures.client ∙ c.commit.ensures.client;
+      ok = if_ok (Stopped w.client of c.in-Err.why w.seen x.seen) (Ended v.client of v.seen x.seen Plan.done) c.stop.result
+          (λ again stopped. commit_over v.client of v.seen w.seen x.seen c.in-Err.why again c.requires.runs c.in-Err.ensures.err c.in_default.not-Memory c.in_default.not-Room c.in_default.not-Ledger
+          (subst (λ d. Stopped d of c.in-Err.why w.seen x.seen again) c.commit.ensures.client stopped)) c.stop.ensures.ok;
+      cut = if_err (Made w.client [] w.seen x.seen) (CutOff v.client of v.seen x.seen Plan.done) c.stop.result
+          (λ m. cut_still v.client of v.seen x.seen c.requires.runs
+          (made_both v.client v.seen w.seen x.seen (commit_stops v.client of v.seen w.seen c.in-Err.why c.requires.runs c.in-Err.ensures.err c.in_default.not-Memory c.in_default.not-Room c.in_default.not-Ledger).2
+          (subst (λ d. Made d [] w.seen x.seen) c.commit.ensures.client m)) Plan.done) c.stop.ensures.cut;
+      room = c.stop.ensures.room;
+    }
+
+pub returns-in-Memory-clause-cut : goal.returns-in-Memory-clause-cut
+returns-in-Memory-clause-cut g c =
+    let v = g.T.Tx.view c.args.tx.now in
+    commit_short v.client c.args.of.now v.seen (g.T.Tx.view c.commit.new.self).seen c.in-Err.why (inl c.in-Memory.is) c.requires.runs c.in-Err.ensures.err
+
+pub returns-in-Room-clause-cut : goal.returns-in-Room-clause-cut
+returns-in-Room-clause-cut g c =
+    let v = g.T.Tx.view c.args.tx.now in
+    commit_short v.client c.args.of.now v.seen (g.T.Tx.view c.commit.new.self).seen c.in-Err.why (inr c.in-Room.is) c.requires.runs c.in-Err.ensures.err

@@ -1,0 +1,31 @@
+-- What holds of bodies in order, one behind another.
+use Rattle.std.proofs.Common.{◌≡◌, ℕ, ◌<◌, inl, inr, List, [], ◌∷◌, ◌++◌, length, refl, sym, subst, arith, append-nil, append_assoc}
+use Rattle.std.specs.List.{All}
+use Rattle.std.proofs.lemmas.Bool.{cases_lt}
+use Rattle.std.proofs.lemmas.List.{get_or_past}
+use Rattle.std.proofs.lemmas.List.Elements.{All-head, All-tail}
+use Rattle.qc_codec.specs.Order.{EachMay}
+use Rattle.qc_codec.proofs.Exact.{IsBytes}
+
+-- each number of a list is a byte
+abbrev pub Bytes : List ℕ → Type 0
+Bytes bytes = All (λ (byte : ℕ). byte < 256) bytes
+
+pub are_bytes : (bytes : List ℕ) → Bytes bytes → IsBytes bytes
+are_bytes bytes all i = elim (cases_lt i (length bytes)) [
+  | inl within ↦ all i 0 within
+  | inr past_all ↦ subst (λ (n : ℕ). n < 256) (sym (get_or_past bytes i 0 past_all)) (omega arith)
+]
+
+-- what holds of the first bodies, and goes on to each further one that may stand, holds of all
+module _ (May : List (List ℕ) → List ℕ → Type 0) (Holds : List (List ℕ) → Type 0) (next : (front : List (List ℕ)) (bytes : List ℕ) → Holds front → May front bytes → IsBytes bytes → Holds (front ++ bytes ∷ [])) where
+  pub each_holds : (front rest : List (List ℕ)) → Holds front → EachMay May (front ++ rest) → All Bytes rest → Holds (front ++ rest)
+  each_holds front [] holds order fit = subst Holds (sym (append-nil front)) holds
+  each_holds front (b ∷ rest) holds order fit =
+      let same : (front ++ b ∷ []) ++ rest ≡ front ++ b ∷ rest = append_assoc front (b ∷ []) rest in
+      subst Holds same (
+      each_holds (front ++ b ∷ []) rest
+      (next front b holds (order front rest b refl) (are_bytes b (All-head Bytes b rest fit)))
+      (subst (EachMay May) (sym same) order)
+      (All-tail Bytes b rest fit)
+      )

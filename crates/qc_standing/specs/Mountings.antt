@@ -1,0 +1,75 @@
+-- What the mountings of a store's disks found: disk 0 is the ledger's, disk c + 1 copy c's.
+use Rattle.std.specs.Prelude.{ℕ, ◌≡◌, ◌+◌, ◌<◌, ◌≤◌, ◌^◌, ◌⊎◌, List, [], ◌∷◌, length, slice_index_or, All, Option, IfSome, IsSome}
+use Rattle.qc_codec.specs.Bodies as body
+use Rattle.qc_codec.specs.Copy.{grant_form}
+use Rattle.qc_codec.specs.Ledger.{readings}
+use Rattle.qc_codec.specs.Restored.{restored_row}
+use Rattle.qc_codec.specs.declared.past.Logged.{Logged}
+use Rattle.qc_codec.specs.declared.past.Past.{Past as Logs}
+use Rattle.qc_config.specs.declared.tuple.Tuple.{Tuple}
+use Rattle.qc_event.specs.declared.table.Table.{Table}
+use Rattle.qc_event.specs.Base.{start_tuple}
+use Rattle.qc_event.specs.History.{Past}
+use Rattle.qc_event.specs.Tables.{base_of, setting_of}
+use Rattle.qc_journal.specs.Image.{HasRecords}
+use Rattle.qc_ledger.specs.Image as tops
+use Rattle.qc_ledger.specs.Mounted as ledger
+use Rattle.qc_refine.specs.Images.{CarryFinal, IsCopyImage}
+use Rattle.qc_refine.specs.Standing.{AreNext, committed_too}
+use Rattle.qc_site.specs.Image as grants
+use Rattle.qc_site.specs.Mounted as copies
+use Rattle.qc_standing.specs.Left.{KeepsGrants, KeepsTops}
+
+-- each number of these bodies is a byte
+abbrev pub AreBytes : List (List ℕ) → Type 0
+AreBytes bodies = All (λ (bytes : List ℕ). All (λ (byte : ℕ). byte < 256) bytes) bodies
+
+-- A store was mounted over disks that told this: the ledger for an epoch, and each copy behind the ledger's past. Then they
+-- have these records, and the copies start with what these restore.
+pub record IsMounted (table : Table) (told : ℕ → Option (List ℕ)) (records : ℕ → List (List ℕ)) (epoch : ℕ) (base : List (List Tuple)) : Type 0 where
+  pub past : Logs
+  pub limit : ℕ → ℕ
+  pub proper : (body.table 1).fits table
+  pub small : epoch < 2 ^ 32
+  pub bytes : (number : ℕ) → number ≤ table.copies → AreBytes (records number)
+  pub ledger : ledger.Mounts table (limit 0) (told 0) (records 0) past epoch
+  pub copies : (copy : ℕ) → copy < table.copies → copies.Mounts copy table past (limit (copy + 1)) (told (copy + 1)) (records (copy + 1))
+  pub as_many : length base ≡ table.copies
+  pub starts : (copy : ℕ) → copy < table.copies
+      → slice_index_or base copy [] ≡ restored_row past.tops (length table.records) (start_tuple (base_of table) copy) (readings (grant_form table) (records (copy + 1)))
+
+-- Of each disk one image, which tells what the disk keeps of a history behind these records.
+pub record AreKept (table : Table) (base : List (List Tuple)) (records : ℕ → List (List ℕ)) (past : Past) (images : List (List ℕ)) : Type 0 where
+  pub as_many : length images ≡ table.copies + 1
+  pub ledger : ∥ KeepsTops (records 0) (λ image. image ≡ slice_index_or images 0 []) past ∥₁
+  pub copies : (copy : ℕ) → copy < table.copies
+      → ∥ KeepsGrants (setting_of table base) (length base) copy (records (copy + 1)) (λ image. image ≡ slice_index_or images (copy + 1) []) past ∥₁
+
+-- The copies' disks told images on which no grant stands: they were empty, or of a store that was just made.
+abbrev pub HaveNoGrants : Table → (ℕ → Option (List ℕ)) → Type 0
+HaveNoGrants table told = (copy : ℕ) → copy < table.copies
+    → IsSome (told (copy + 1)) × IfSome (told (copy + 1)) (λ image. HasRecords [] image ⊎ IsCopyImage table copy [] image)
+
+-- Tuples carry the serial machine's values after a history and the commits of tops that may come next.
+pub record CarryNext (table : Table) (values : List ℕ) (past : Past) (tuples : List (List Tuple)) : Type 0 where
+  pub more : List Logged
+  pub next : AreNext past more
+  pub carry : CarryFinal table values (committed_too past more) tuples
+
+-- An image is left of another by a mounting that was cut off: it has the same records, and some first ones of those that
+-- a mounting writes behind them.
+pub record IsCutOff (written : List (List ℕ) → List (List ℕ)) (image later : List ℕ) : Type 0 where
+  pub found : List (List ℕ)
+  pub had : HasRecords found image
+  pub has : ledger.HasSome found (written found) later
+
+-- So is each image of a store's disks.
+pub record AreCutOff (table : Table) (images later : List (List ℕ)) : Type 0 where
+  pub as_many : length later ≡ table.copies + 1
+  pub ledger : IsCutOff (tops.to_write table) (slice_index_or images 0 []) (slice_index_or later 0 [])
+  pub copies : (copy : ℕ) → copy < table.copies → IsCutOff (grants.to_write copy table) (slice_index_or images (copy + 1) []) (slice_index_or later (copy + 1) [])
+
+-- Mountings one after another were cut off, which left these images in turn, and then the last ones.
+abbrev pub AreLeft : Table → List (List ℕ) → List (List (List ℕ)) → List (List ℕ) → Type 0
+AreLeft table images [] last = last ≡ images
+AreLeft table images (next ∷ later) last = AreCutOff table images next × AreLeft table next later last

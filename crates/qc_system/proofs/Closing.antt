@@ -1,0 +1,175 @@
+-- How the copies leave, one after another, and what the closed history has of each.
+use Rattle.std.proofs.Common.{◌≡◌, ℕ, zero, suc, ◌+◌, ◌<◌, ◌≤◌, Bool, true, false, List, [], ◌∷◌, ◌++◌, length, refl, sym, ap, ◌∙◌, arith, subst, inl, inr}
+use Rattle.std.proofs.lemmas.Bool.Decides.{nat_tests}
+use Rattle.std.specs.Prelude.{◌⊎◌, nat_lt, Some, slice_get}
+use Rattle.std.proofs.Math.Logic.{∥∥₁_map}
+use Rattle.std.proofs.Math.Nat.{min-eq_left, min-eq_right}
+use Rattle.std.proofs.lemmas.List.{length-append}
+use Rattle.atomic_table.proofs.Lists.{at_longer}
+use Rattle.qc_disk.specs.Disk.{View as Disk}
+use Rattle.qc_event.specs.Base.{Setting}
+use Rattle.qc_event.specs.History.{Past}
+use Rattle.qc_event.specs.Legal.{Legal}
+use Rattle.qc_event.specs.Seats.{copy_seat, ledger_seat}
+use Rattle.qc_pass.specs.declared.view.View.{View}
+use Rattle.qc_pass.specs.Entries.{IsOlder, entries_of}
+use Rattle.qc_pass.specs.Rules.{Has, IsSettled, joined, knows, without}
+use Rattle.qc_pass.proofs.Seers.{older_trans}
+use Rattle.qc_system.specs.Closing.{AllKeep, CopyKeeps, DiskKeeps, HaveLeft, Keeping, LedgerKeeps, WasLeft}
+use Rattle.qc_system.specs.Kept.{Pays, downs}
+use Rattle.qc_system.specs.Parts.{Findings, IsClosing, IsThere}
+use Rattle.qc_system.proofs.Left.{keeps_grants_later, keeps_tops_later}
+
+module _ {A : Type 0} where
+  get_left : (xs ys : List A) (i : ℕ) (x : A) → slice_get xs i ≡ Some x → slice_get (xs ++ ys) i ≡ Some x
+  get_left [] ys i x h = absurd cc
+  get_left (y ∷ xs) ys zero x h = h
+  get_left (y ∷ xs) ys (suc i) x h = get_left xs ys i x h
+
+  get_last : (xs : List A) (x : A) → slice_get (xs ++ x ∷ []) (length xs) ≡ Some x
+  get_last [] x = refl
+  get_last (y ∷ xs) x = get_last xs x
+
+  has_left : (xs ys : List A) (x : A) → Has xs x → Has (xs ++ ys) x
+  has_left xs ys x h = (h.0, at_longer xs ys h.0 x h.1)
+
+  has_next : (xs ys : List A) (x : A) → Has (xs ++ x ∷ ys) x
+  has_next [] ys x = (0, refl)
+  has_next (y ∷ xs) ys x = let r = has_next xs ys x in (suc r.0, r.1)
+
+lt_or_eq : (k c : ℕ) → k < c + 1 → (k < c) ⊎ (k ≡ c)
+lt_or_eq k c lt = by_test (nat_lt k c) refl
+  where
+    by_test : (b : Bool) → nat_lt k c ≡ b → (k < c) ⊎ (k ≡ c)
+    by_test true is = inl (grind (arith, nat_tests))
+    by_test false is = inr (grind (arith, nat_tests))
+
+module _ (setting : Setting) (found : Findings) {D : Type 0} (view : D → Disk) where
+  abbrev all : ℕ
+  all = length found.base
+
+  -- what was left is left when one more leaves
+  left_on : (disks : List D) (x : D) (old new : View) (more : List (ℕ × Past)) (place number : ℕ) (keeps : Keeping) → IsOlder old.seen new.seen → new.kin ≡ old.kin ++ more
+      → WasLeft setting found view disks old place number keeps → WasLeft setting found view (disks ++ x ∷ []) new place number keeps
+  left_on disks x old new more place number keeps older kin was = record {
+    disk = was.disk;
+    there = get_left disks (x ∷ []) place was.disk was.there;
+    seen = was.seen;
+    older = older_trans was.seen old.seen new.seen was.older older;
+    legal = was.legal;
+    joined = subst (λ l. Has l (number, entries_of number was.seen)) (sym kin) (has_left old.kin more (number, entries_of number was.seen) was.joined);
+    kept = was.kept;
+  }
+
+  -- the one that leaves
+  left_now : (disks : List D) (x : D) (kin more : List (ℕ × Past)) (new : View) (seen mine : Past) (place number : ℕ) (keeps : Keeping) → length disks ≡ place → IsOlder seen new.seen → Legal setting seen
+      → mine ≡ entries_of number seen → new.kin ≡ kin ++ (number, mine) ∷ more → keeps (view x) seen → WasLeft setting found view (disks ++ x ∷ []) new place number keeps
+  left_now disks x kin more new seen mine place number keeps size older legal own is kept = record {
+    disk = x;
+    there = subst (λ i. slice_get (disks ++ x ∷ []) i ≡ Some x) size (get_last disks x);
+    seen = seen;
+    older = older;
+    legal = legal;
+    joined = subst (λ l. Has l (number, entries_of number seen)) (sym is) (subst (λ m. Has (kin ++ (number, m) ∷ more) (number, entries_of number seen)) (sym own) (has_next kin more (number, entries_of number seen)));
+    kept = kept;
+  }
+
+  -- the ledger has left
+  pub ledger_left : (disks disks' : List D) (x : D) (kin more : List (ℕ × Past)) (new : View) (seen mine : Past) → disks ≡ [] → IsOlder seen new.seen → Legal setting seen → mine ≡ entries_of ledger_seat seen
+      → new.kin ≡ kin ++ (ledger_seat, mine) ∷ more → disks' ≡ disks ++ x ∷ [] → LedgerKeeps setting found (view x) seen → HaveLeft setting found view 0 disks' new
+  ledger_left disks disks' x kin more new seen mine none older legal own is now kept = subst (λ ds. HaveLeft setting found view 0 ds new) (sym now) (record {
+    many = ap (λ ds. length (ds ++ x ∷ [])) none ∙ omega (arith, min-eq_left {n = 0} {m = all} (omega arith));
+    ledger = left_now disks x kin more new seen mine 0 ledger_seat (LedgerKeeps setting found) (ap length none) older legal own is kept;
+    copies = λ k lt there. absurd (omega (arith, lt));
+  })
+
+  -- one more copy has left
+  pub one_more : (c : ℕ) (disks disks' : List D) (x : D) (old new : View) (more : List (ℕ × Past)) (seen mine : Past) → c < all → IsOlder old.seen new.seen → IsOlder seen new.seen → Legal setting seen
+      → mine ≡ entries_of (copy_seat c) seen → new.kin ≡ old.kin ++ (copy_seat c, mine) ∷ more → disks' ≡ disks ++ x ∷ [] → CopyKeeps setting found c (view x) seen
+      → HaveLeft setting found view c disks old → HaveLeft setting found view (c + 1) disks' new
+  one_more c disks disks' x old new more seen mine lt older own_older legal own is now kept h = subst (λ ds. HaveLeft setting found view (c + 1) ds new) (sym now) (record {
+    many = omega (arith, length-append disks (x ∷ []), h.many, min-eq_left {n = c} {m = all} (omega (arith, lt)), min-eq_left {n = c + 1} {m = all} (omega (arith, lt)));
+    ledger = left_on disks x old new ((copy_seat c, mine) ∷ more) 0 ledger_seat (LedgerKeeps setting found) older is h.ledger;
+    copies = λ k below there. by_case k there (lt_or_eq k c below);
+  })
+    where
+      size : length disks ≡ c + 1
+      size = omega (arith, h.many, lt, min-eq_left {n = c} {m = all} (omega (arith, lt)))
+
+      by_case : (k : ℕ) → k < all → (k < c) ⊎ (k ≡ c) → WasLeft setting found view (disks ++ x ∷ []) new (k + 1) (copy_seat k) (CopyKeeps setting found k)
+      by_case k there (inl before) = left_on disks x old new ((copy_seat c, mine) ∷ more) (k + 1) (copy_seat k) (CopyKeeps setting found k) older is (h.copies k before there)
+      by_case k there (inr same) = subst (λ i. WasLeft setting found view (disks ++ x ∷ []) new (i + 1) (copy_seat i) (CopyKeeps setting found i)) (sym same)
+          (left_now disks x old.kin more new seen mine (c + 1) (copy_seat c) (CopyKeeps setting found c) size own_older legal own is kept)
+
+  -- a copy that is not there leaves nothing
+  pub no_more : (c : ℕ) (disks : List D) (v : View) → all ≤ c → HaveLeft setting found view c disks v → HaveLeft setting found view (c + 1) disks v
+  no_more c disks v le h = record {
+    many = omega (arith, h.many, le, min-eq_right {n = all} {m = c} le, min-eq_right {n = all} {m = c + 1} (omega (arith, le)));
+    ledger = h.ledger;
+    copies = λ k below there. h.copies k (omega (arith, below, there, le)) there;
+  }
+
+  -- the history is closed
+  module _ (disks : List D) (v : View) (log : Past) (older : IsOlder v.seen log) (legal : Legal setting log) (settled : IsSettled log v) where
+    own_of : (place number : ℕ) (keeps : Keeping) (was : WasLeft setting found view disks v place number keeps) → entries_of number log ≡ entries_of number was.seen
+    own_of place number keeps was = settled.1 number (entries_of number was.seen) was.joined
+
+    older_of : (place number : ℕ) (keeps : Keeping) (was : WasLeft setting found view disks v place number keeps) → IsOlder was.seen log
+    older_of place number keeps was = older_trans was.seen v.seen log was.older older
+
+    ledger_keeps : WasLeft setting found view disks v 0 ledger_seat (LedgerKeeps setting found) → DiskKeeps setting found view disks 0 (LedgerKeeps setting found) log
+    ledger_keeps was =
+        let own = own_of 0 ledger_seat (LedgerKeeps setting found) was in
+        let since = older_of 0 ledger_seat (LedgerKeeps setting found) was in
+        record {
+          disk = was.disk;
+          there = was.there;
+          kept = record {
+            kept = ∥∥₁_map was.kept.kept (λ k told. keeps_tops_later setting was.seen log since legal was.legal own (found.before 0) (view was.disk).may_leave (k told));
+            paid = subst (λ p. Pays (found.faults 0) (downs p) (view was.disk).faults) (sym own) was.kept.paid;
+          };
+        }
+
+    copy_keeps : (k : ℕ) → WasLeft setting found view disks v (k + 1) (copy_seat k) (CopyKeeps setting found k) → DiskKeeps setting found view disks (k + 1) (CopyKeeps setting found k) log
+    copy_keeps k was =
+        let own = own_of (k + 1) (copy_seat k) (CopyKeeps setting found k) was in
+        let since = older_of (k + 1) (copy_seat k) (CopyKeeps setting found k) was in
+        record {
+          disk = was.disk;
+          there = was.there;
+          kept = record {
+            kept = ∥∥₁_map was.kept.kept (λ kept told. keeps_grants_later setting k was.seen log since legal own all (found.before (k + 1)) (view was.disk).may_leave (kept told));
+            paid = subst (λ p. Pays (found.faults (k + 1)) (downs p) (view was.disk).faults) (sym own) was.kept.paid;
+          };
+        }
+
+    pub all_left : all ≤ 16 → HaveLeft setting found view 16 disks v → AllKeep setting found view disks log
+    all_left few h = record {
+      many = omega (arith, h.many, few, min-eq_right {n = all} {m = 16} few);
+      ledger = ledger_keeps h.ledger;
+      copies = λ k there. copy_keeps k (h.copies k (omega (arith, there, few)) there);
+    }
+
+-- WHICH COPIES ARE THERE
+
+pub is_below : (c all : ℕ) (b : Bool) → b ≡ true → IsThere c all b → c < all
+is_below c all b is h = by_test (nat_lt c all) refl
+  where
+    by_test : (t : Bool) → nat_lt c all ≡ t → c < all
+    by_test true t = grind (arith, nat_tests)
+    by_test false t = absurd (cc (sym is ∙ h.1 (grind (arith, nat_tests))))
+
+pub is_past : (c all : ℕ) (b : Bool) → b ≡ false → IsThere c all b → all ≤ c
+is_past c all b is h = by_test (nat_lt c all) refl
+  where
+    by_test : (t : Bool) → nat_lt c all ≡ t → all ≤ c
+    by_test true t = absurd (cc (sym is ∙ h.0 (grind (arith, nat_tests))))
+    by_test false t = grind (arith, nat_tests)
+
+-- a pass that another was joined into is closing still
+pub closing_still : (v other w : View) → IsClosing v → w ≡ knows w.seen (joined v other) → IsClosing w
+closing_still v other w closing is = (
+  ap (λ (x : View). x.live) is ∙ closing.0,
+  ap (λ (x : View). x.number) is ∙ closing.1,
+  ap (λ (x : View). x.out) is ∙ ap (without other.number) closing.2,
+)

@@ -1,0 +1,6 @@
+pub mod Closing
+pub mod Left
+pub mod Listed
+pub mod Opening
+pub mod Paying
+pub mod Standing

@@ -1,0 +1,17 @@
+-- What was found on the disk is kept, and nothing of this run.
+use Rattle.std.proofs.Common.{◌+◌, sym, ap, ◌∙◌, subst}
+use Rattle.qc_pass.specs.declared.view.View.{View}
+use Rattle.qc_site.specs.Sites.{KeepsGranted}
+use Rattle.qc_system.specs.Kept.{Pays, downs}
+use Rattle.qc_system.proofs.Paying.{faults_of, pays_first}
+use Rattle.qc_system.proofs.held.Held.new.Goals as goal
+
+pub invariant_of-result : goal.invariant_of-result
+invariant_of-result g c =
+    let found = c.requires.mounted.disk in
+    let none = ap (λ (v : View). downs v.mine) c.enter.ensures.pass ∙ ap downs c.requires.fresh.0 in
+    record {
+      keeps = ∣ (λ told. subst (λ b. KeepsGranted g.row.C b c.enter.result.log c.enter.result.replica) (sym found.same) (c.enter.ensures.over (found.keeps told))) ∣₁;
+      pays = subst (λ n. Pays (g.N.Mounting.faults (g.row.C + 1)) n (faults_of c.enter.result.log.journal)) (sym none)
+          (pays_first (g.N.Mounting.faults (g.row.C + 1)) (faults_of c.enter.result.log.journal) (found.count ∙ sym (ap faults_of c.enter.ensures.journal)));
+    }

@@ -1,0 +1,38 @@
+-- What the site serves its disk keeps and pays for, and what it answers stands.
+use Rattle.std.proofs.Common.{◌+◌, sym, ap, subst}
+use Rattle.std.proofs.Math.Logic.{∥∥₁_map}
+use Rattle.std.specs.Prelude.{Ok}
+use Rattle.qc_ledger.proofs.Passes.{sees_on}
+use Rattle.qc_pass.specs.Entries.{IsOlder}
+use Rattle.qc_site.specs.Answers.{HasAnswered}
+use Rattle.qc_system.specs.Kept.{Pays, downs}
+use Rattle.qc_system.proofs.Paying.{faults_of, serve_pays}
+use Rattle.qc_system.proofs.Standing.{answer_stands, full_still}
+use Rattle.qc_system.proofs.held.Held.serve.Goals as goal
+
+pub invariant_of-self : goal.invariant_of-self
+invariant_of-self g c = record {
+  keeps = ∥∥₁_map c.args.self.now.keeps (λ k told. c.serve.ensures.over (g.N.Mounting.before (g.row.C + 1)) (k told));
+  pays = serve_pays g.row.C c.args.ask.now c.args.self.now.site.replica c.serve.new.self.replica (g.N.Mounting.faults (g.row.C + 1)) _ _ c.serve.result c.serve.ensures.enters c.serve.ensures.err c.serve.ensures.cause c.args.self.now.pays;
+}
+
+pub invariant_of-self-in-Err : goal.invariant_of-self-in-Err
+invariant_of-self-in-Err g c =
+    let served = serve_pays g.row.C c.args.ask.now c.args.self.now.site.replica c.serve.new.self.replica (g.N.Mounting.faults (g.row.C + 1)) _ _ c.serve.result c.serve.ensures.enters c.serve.ensures.err c.serve.ensures.cause c.args.self.now.pays in
+    record {
+      keeps = ∥∥₁_map c.args.self.now.keeps (λ k told. c.show.ensures.over (g.N.Mounting.before (g.row.C + 1)) (c.serve.ensures.over (g.N.Mounting.before (g.row.C + 1)) (k told)));
+      pays = subst (λ l. Pays (g.N.Mounting.faults (g.row.C + 1)) (downs c.show.new.self.replica.pass.mine) (faults_of l.journal)) (sym c.show.ensures.log)
+          (subst (λ p. Pays (g.N.Mounting.faults (g.row.C + 1)) (downs p) (faults_of c.serve.new.self.log.journal)) (sym c.show.ensures.looks.mine) served);
+    }
+
+pub returns-in-Ok-clause-answered : goal.returns-in-Ok-clause-answered
+returns-in-Ok-clause-answered g c =
+    subst (λ p. HasAnswered g.row.C p c.args.ask.now c.in-Ok.answered) (sym c.in-Ok.ensures.same)
+    (answer_stands g.row.C c.args.ask.now c.args.self.now.site.replica c.serve.new.self.replica c.in-Ok.answered c.known.ensures.mine (λ tuple is. c.in-Ok.ensures.granted tuple (ap Ok is)) c.in-Ok.ensures.enters)
+
+pub returns-in-Err-clause-room : goal.returns-in-Err-clause-room
+returns-in-Err-clause-room g c = λ is.
+    full_still c.serve.new.self.replica.pass.seen c.show.new.seer.seen (subst (λ p. IsOlder c.serve.new.self.replica.pass.seen p) (sym c.show.ensures.same) c.show.ensures.looks.older) c.show.ensures.bounded (c.in-Err.ensures.room is)
+
+pub returns-in-Err-clause-seer : goal.returns-in-Err-clause-seer
+returns-in-Err-clause-seer g c = sees_on c.args.seer.now c.serve.new.seer c.show.new.seer c.serve.ensures.seer c.show.ensures.seer

@@ -1,0 +1,52 @@
+-- What the ledger logs its disk keeps, as it is listed, and pays for; and what it answers stands.
+use Rattle.std.proofs.Common.{◌≡◌, sym, ap, ◌∙◌, subst}
+use Rattle.qc_event.specs.Legal.{Legal}
+use Rattle.qc_event.specs.Listed.{listed}
+use Rattle.qc_event.specs.Seats.{ledger_seat}
+use Rattle.qc_event.specs.Tables.{setting_of}
+use Rattle.qc_ledger.specs.Entered.{IsOver, tops_of}
+use Rattle.qc_ledger.proofs.Passes.{sees_on}
+use Rattle.qc_pass.specs.Entries.{IsOlder, entries_of}
+use Rattle.qc_pass.proofs.Seers.{older_trans}
+use Rattle.qc_system.specs.Kept.{Pays, downs}
+use Rattle.qc_system.proofs.Listed.{listed_stays, over_seen}
+use Rattle.qc_system.proofs.Paying.{log_pays}
+use Rattle.qc_system.proofs.Standing.{ended_still, refused_still}
+use Rattle.qc_system.proofs.held_ledger.log_listed.Goals as goal
+
+pub returns-clause-keeps : goal.returns-clause-keeps
+returns-clause-keeps g c = λ before over.
+    let setting = setting_of g.N.Store.table g.N.Store.base in
+    let first = c.args.ledger.now in
+    let mid = c.log-answer.new.self in
+    let last = c.show.new.self in
+    let top = c.args.top.now in
+    let legal : Legal setting last.pass.seen = c.known-3.ensures.legal in
+    let seen : IsOlder first.pass.seen last.pass.seen = older_trans first.pass.seen mid.pass.seen last.pass.seen c.log-answer.ensures.seen c.show.ensures.seen in
+    let asked : IsOlder c.args.seer.now.seen last.pass.seen = subst (λ p. IsOlder c.args.seer.now.seen p) c.show.ensures.same (sees_on c.args.seer.now c.log-answer.new.seer c.show.new.seer c.log-answer.ensures.seer c.show.ensures.seer).older in
+    let told : c.args.aborted.now ≡ listed last.pass.seen top = c.requires.listed ∙ sym (listed_stays setting c.args.seer.now.seen last.pass.seen top asked legal c.requires.ready) in
+    let own : first.pass.mine ≡ entries_of ledger_seat first.pass.seen = c.known.ensures.mine first.live ∙ ap (λ n. entries_of n first.pass.seen) first.number in
+    let f = listed last.pass.seen in
+    let was = over_seen setting first.pass last.pass.seen before first.shelf seen legal c.known.ensures.legal own first.may over in
+    let now : IsOver f before mid.shelf (tops_of mid.pass.mine) = c.log-answer.ensures.over f before told was in
+    subst (λ s. IsOver f before s (tops_of last.pass.mine)) (sym c.show.ensures.shelf) (subst (λ p. IsOver f before mid.shelf (tops_of p)) (sym c.show.ensures.mine) now)
+
+pub returns-clause-pays : goal.returns-clause-pays
+returns-clause-pays g c = λ first pays.
+    let mid = c.log-answer.new.self in
+    let last = c.show.new.self in
+    let now = log_pays _ c.args.top.now c.args.ledger.now.pass.mine mid.pass.mine first _ _ c.log-answer.result c.log-answer.ensures.enters c.log-answer.ensures.refused c.log-answer.ensures.cause pays in
+    subst (λ s. Pays first (downs last.pass.mine) (g.D.Disk.view s.journal.disk).faults) (sym c.show.ensures.shelf) (subst (λ p. Pays first (downs p) (g.D.Disk.view mid.shelf.journal.disk).faults) (sym c.show.ensures.mine) now)
+
+pub returns-clause-ended : goal.returns-clause-ended
+returns-clause-ended g c = ended_still c.log-answer.result c.log-answer.new.self.pass.seen c.show.new.seer.seen c.args.top.now (subst (λ p. IsOlder c.log-answer.new.self.pass.seen p) (sym c.show.ensures.same) c.show.ensures.seen) c.log-answer.ensures.stands
+
+pub returns-clause-refused : goal.returns-clause-refused
+returns-clause-refused g c =
+    let mid = c.log-answer.new.self.pass in
+    refused_still c.log-answer.result mid.seen c.show.new.seer.seen mid.mine c.args.ledger.now.pass.mine _ c.args.top.now
+    (c.known-2.ensures.mine c.log-answer.new.self.live ∙ ap (λ n. entries_of n mid.seen) c.log-answer.new.self.number)
+    (subst (λ p. IsOlder mid.seen p) (sym c.show.ensures.same) c.show.ensures.seen) c.show.ensures.bounded c.log-answer.ensures.room c.log-answer.ensures.refused
+
+pub returns-clause-seer : goal.returns-clause-seer
+returns-clause-seer g c = sees_on c.args.seer.now c.log-answer.new.seer c.show.new.seer c.log-answer.ensures.seer c.show.ensures.seer

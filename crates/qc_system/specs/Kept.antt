@@ -1,0 +1,49 @@
+-- What the disks of a system keep since they were mounted.
+use Rattle.std.specs.Prelude.{◌≡◌, ◌≤◌, ◌+◌, ◌-◌, ◌^◌, ℕ, Bool, true, false, IsTrue, List, length, min}
+use Rattle.std.specs.List.{count_by}
+use Rattle.qc_disk.specs.declared.disk.Disk.{Ghosts}
+use Rattle.qc_event.specs.declared.event.Entry.{Entry}
+use Rattle.qc_event.specs.declared.event.Event.{Event}
+use Rattle.qc_event.specs.declared.event.Event.TheVariants as event
+use Rattle.qc_event.specs.declared.event.Why.TheVariants as why
+use Rattle.qc_event.specs.History.{Past, Name, limit}
+use Rattle.qc_event.specs.Listed.{listed}
+use Rattle.qc_event.specs.Requests.{was_unable}
+use Rattle.qc_ledger.specs.Entered.{IsOver, tops_of}
+use Rattle.qc_ledger.specs.declared.fault.LedgerNo.{LedgerNo}
+use Rattle.qc_ledger.specs.declared.fault.LedgerNo.TheVariants as no
+use Rattle.qc_ledger.specs.declared.shelf.Shelf.{Shelf}
+use Rattle.qc_pass.specs.declared.view.View.{View}
+use Rattle.qc_site.specs.Replica.{Standing}
+use Rattle.qc_site.specs.Sites.{KeepsGranted}
+use Rattle.qc_site.specs.declared.log.GrantLog.{GrantLog}
+
+-- where a copy's disk tells its bytes, it keeps what was found there, and what the copy granted since
+abbrev pub KeepsSince : {D : Type 0} {g : Ghosts D} → ℕ → Bool → List (List ℕ) → GrantLog D g → Standing → Type 0
+KeepsSince copy told before log standing = told ≡ true → KeepsGranted copy before log standing
+
+-- where the ledger's disk tells its bytes, it keeps what was found there, and the tops that were committed since, with the
+-- names that are listed of each
+abbrev pub TopsSince : {D : Type 0} {g : Ghosts D} → Bool → List (List ℕ) → Shelf D g → View → Type 0
+TopsSince told before shelf pass = told ≡ true → IsOver (listed pass.seen) before shelf (tops_of pass.mine)
+
+-- what a ledger's refusal of a top rests on: that it was unable to log it, for this reason
+abbrev pub HasRefused : Past → Name → LedgerNo → Type 0
+HasRefused past top no.Disk = IsTrue (was_unable past top why.Down)
+HasRefused past top (no.Image bad) = ⊥
+HasRefused past top (no.Full place) = IsTrue (was_unable past top why.Full)
+HasRefused past top no.Memory = Unit {0}
+HasRefused past top no.Room = length past ≡ limit
+
+-- whether someone was unable since a disk failed
+abbrev pub is_down : Event → Bool
+is_down (event.Unable n why.Down) = true
+is_down _ = false
+
+-- how often someone was
+abbrev pub downs : Past → ℕ
+downs past = count_by (λ (e : Entry). is_down e.event) past
+
+-- a count of faults, of which this many were told since it was at first, up to the end of its range
+abbrev pub Pays : ℕ → ℕ → ℕ → Type 0
+Pays first told now = min (first + told) (2 ^ 64 - 1) ≤ now

@@ -1,0 +1,4 @@
+pub mod Closing
+pub mod Kept
+pub mod Left
+pub mod Parts

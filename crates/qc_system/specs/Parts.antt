@@ -1,0 +1,56 @@
+-- What was mounted, and what is known of the first pass while a system is opened.
+use Rattle.std.specs.Prelude.{◌≡◌, ℕ, ◌+◌, ◌-◌, ◌<◌, ◌≤◌, Bool, true, false, List, [], ◌∷◌, length, slice_index_or}
+use Rattle.qc_config.specs.declared.tuple.Tuple.{Tuple}
+use Rattle.qc_disk.specs.declared.disk.Disk.{Ghosts}
+use Rattle.qc_journal.specs.Journal.{disk_of, Keeps}
+use Rattle.qc_journal.specs.declared.journal.Journal.{Journal}
+use Rattle.qc_pass.specs.declared.view.View.{View}
+use Rattle.qc_site.specs.Mounted.{copies_of, copy_of, journal_of, records_of}
+use Rattle.qc_site.specs.Start.{start_of}
+use Rattle.qc_site.specs.declared.mounted.Mounted.{Mounted}
+
+-- The first pass has given so many passes away, and has done nothing else.
+pub record IsOpening (v : View) (count : ℕ) : Type 0 where
+  pub live : v.live ≡ true
+  pub number : v.number ≡ 0
+  pub given : v.count ≡ count
+  pub out : v.out ≡ []
+  pub mine : v.mine ≡ []
+  pub kin : v.kin ≡ []
+
+-- the first pass, with all its passes joined back but those of the ledger and the copies
+abbrev pub IsClosing : View → Type 0
+IsClosing v = (v.live ≡ true) × (v.number ≡ 0) × (v.out ≡ [])
+
+-- a copy is there where there are more copies than its number
+abbrev pub IsThere : ℕ → ℕ → Bool → Type 0
+IsThere copy all there = (copy < all → there ≡ true) × (all ≤ copy → there ≡ false)
+
+-- What was found on a disk: its records, which it keeps where it tells its bytes, and its count of faults.
+pub record IsFound {D : Type 0} {g : Ghosts D} (told : Bool) (before : List (List ℕ)) (faults : ℕ) (records : List (List ℕ)) (journal : Journal D g) : Type 0 where
+  pub same : before ≡ records
+  pub keeps : told ≡ true → Keeps journal records
+  pub count : faults ≡ (g.view (disk_of journal)).faults
+
+-- What was found of all disks, by their numbers, and with what the copies start.
+pub record Findings : Type 0 where
+  pub base : List (List Tuple)
+  pub told : ℕ → Bool
+  pub before : ℕ → List (List ℕ)
+  pub faults : ℕ → ℕ
+
+-- This copy was mounted so.
+pub record IsMounted {D : Type 0} {g : Ghosts D} (found : Findings) (copy : ℕ) (mounted : Mounted D g) : Type 0 where
+  pub number : copy_of mounted ≡ copy
+  pub many : copies_of mounted ≡ length found.base
+  pub starts : start_of mounted ≡ slice_index_or found.base copy []
+  pub disk : IsFound (found.told (copy + 1)) (found.before (copy + 1)) (found.faults (copy + 1)) (records_of mounted) (journal_of mounted)
+
+-- the copies from this one on were mounted so, in order
+abbrev pub AreMounted : {D : Type 0} {g : Ghosts D} → Findings → ℕ → List (Mounted D g) → Type 0
+AreMounted found copy [] = Unit {0}
+AreMounted found copy (m ∷ ms) = IsMounted found copy m × AreMounted found (copy + 1) ms
+
+-- the copies from this one on wait to be entered
+abbrev pub AreWaiting : {D : Type 0} {g : Ghosts D} → Findings → ℕ → List (Mounted D g) → Type 0
+AreWaiting found copy ms = (length ms ≡ length found.base - copy) × AreMounted found copy ms

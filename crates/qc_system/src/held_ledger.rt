@@ -1,0 +1,124 @@
+//! The ledger in its lock.
+ghost use Rattle.std.specs.Prelude.{◌≡◌, ℕ, List, [], true, IfErr, IsTrue, OnOk, length, is_some};
+ghost use Rattle.qc_codec.specs.Bodies as body;
+ghost use Rattle.qc_codec.specs.declared.record.LedgerRecord.TheVariants.{Top};
+ghost use Rattle.qc_event.specs.History.{end, is_ready};
+ghost use Rattle.qc_event.specs.Legal.{Legal};
+ghost use Rattle.qc_event.specs.Listed.{listed};
+ghost use Rattle.qc_event.specs.Seats.{ledger_seat};
+ghost use Rattle.qc_event.specs.Tables.{setting_of};
+ghost use Rattle.qc_journal.specs.Journal.{disk_of};
+ghost use Rattle.qc_ledger.specs.Entered.{tops_of, IsOver, SeesMore};
+ghost use Rattle.qc_ledger.specs.Mounted.{journal_of, records_of};
+ghost use Rattle.qc_ledger.specs.Shelf.{journal_in};
+ghost use Rattle.qc_pass.specs.Entries.{entries_of};
+ghost use Rattle.qc_system.specs.Closing.{LedgerKeeps};
+ghost use Rattle.qc_system.specs.Kept.{HasRefused, Pays, TopsSince, downs};
+ghost use Rattle.qc_system.specs.Parts.{IsFound};
+
+use crate::boxed::Boxed;
+use crate::mounting::Mounting;
+use qc_disk::Disk;
+use qc_event::Name;
+use qc_ledger::{Book, Ledger, LedgerNo};
+use qc_pass::{Desk, Pass};
+use std::sync::Wait;
+
+/// The ledger in its lock. Its disk keeps what was found there at the mounting, and the tops that were committed since,
+/// each with the names that are listed of it.
+#[derive(Drop)]
+pub(crate) struct HeldLedger<D: Disk + Drop, N: Mounting>
+where
+    Boxed<D>: Disk,
+{
+    pub(crate) ledger: Ledger<Boxed<D>, N>,
+    ghost keeps: { ∥ TopsSince (N.told 0) (N.before 0) ledger.shelf ledger.pass ∥₁ },
+    ghost pays: { Pays (N.faults 0) (downs ledger.pass.mine)
+        (D.view (disk_of (journal_in ledger.shelf)).disk.value).faults },
+}
+
+// Logs a ready top, with the names that are listed of it, and shows the seer what was entered.
+fn log_listed<D: Disk + Drop, N: Mounting, R: Wait>(
+    ledger: &mut Ledger<D, N>,
+    rt: &R,
+    desk: &Desk<N>,
+    seer: &mut Pass<N>,
+    top: &Name,
+    aborted: &[Name],
+) -> Result<(), LedgerNo>
+    requires is_top { length top.now ≡ 1 }
+    requires ready { IsTrue (is_ready seer.old.seen top.now) }
+    requires proper { body.ledger.fits (Top top.now aborted.now) }
+    requires listed { aborted.now ≡ listed seer.old.seen top.now }
+    ensures keeps { (before : List (List ℕ))
+        → IsOver (listed ledger.old.pass.seen) before ledger.old.shelf (tops_of ledger.old.pass.mine)
+        → IsOver (listed ledger.new.pass.seen) before ledger.new.shelf
+        (tops_of ledger.new.pass.mine) }
+    ensures pays { (first : ℕ) → Pays first (downs ledger.old.pass.mine)
+        (D.view (disk_of (journal_in ledger.old.shelf))).faults
+        → Pays first (downs ledger.new.pass.mine)
+        (D.view (disk_of (journal_in ledger.new.shelf))).faults }
+    ensures ended { OnOk result (IsTrue (is_some (end seer.new.seen top.now))) }
+    ensures refused { IfErr result (HasRefused seer.new.seen top.now) }
+    ensures seer { SeesMore seer.old seer.new }
+{
+    ledger.pass.known();
+    let answer = ledger.log(rt, desk, seer, top, aborted);
+    ledger.pass.known();
+    ledger.show(rt, desk, seer);
+    ledger.pass.known();
+    answer
+}
+
+impl<D: Disk + Drop, N: Mounting> HeldLedger<D, N> {
+    /// A ledger that was mounted, which a pass with the ledger's number enters that has entered nothing.
+    pub(crate) fn new(book: Book<Boxed<D>>, pass: Pass<N>) -> Self
+        requires ledger { (pass.live ≡ true) × (pass.number ≡ ledger_seat) × (pass.out ≡ []) }
+        requires fresh { pass.mine ≡ [] }
+        requires found { IsFound (N.told 0) (N.before 0) (N.faults 0) (records_of book)
+            (journal_of book) }
+    {
+        HeldLedger {
+            ledger: book.enter(pass),
+        }
+    }
+
+    /// Logs a ready top, with the names that are listed of it. The seer has then seen what the answer rests on.
+    pub(crate) fn log<R: Wait>(
+        &mut self,
+        rt: &R,
+        desk: &Desk<N>,
+        seer: &mut Pass<N>,
+        top: &Name,
+        aborted: &[Name],
+    ) -> Result<(), LedgerNo>
+        requires is_top { length top.now ≡ 1 }
+        requires ready { IsTrue (is_ready seer.old.seen top.now) }
+        requires proper { body.ledger.fits (Top top.now aborted.now) }
+        requires listed { aborted.now ≡ listed seer.old.seen top.now }
+        ensures ended { OnOk result (IsTrue (is_some (end seer.new.seen top.now))) }
+        ensures refused { IfErr result (HasRefused seer.new.seen top.now) }
+        ensures seer { SeesMore seer.old seer.new }
+    {
+        log_listed(&mut self.ledger, rt, desk, seer, top, aborted)
+    }
+
+    /// The disk and the pass.
+    pub(crate) fn leave(self) -> (D, Pass<N>)
+        ensures pass { (result.1.live ≡ true) × (result.1.number ≡ ledger_seat)
+            × (result.1.out ≡ []) }
+        ensures legal { Legal (setting_of N.table N.base) result.1.seen }
+        ensures own { result.1.mine ≡ entries_of ledger_seat result.1.seen }
+        ensures kept { LedgerKeeps (setting_of N.table N.base) (record {
+          base = N.base;
+          told = N.told;
+          before = N.before;
+          faults = N.faults;
+        }) (D.view result.0)
+            result.1.seen }
+    {
+        let (disk, pass) = self.ledger.into_parts();
+        pass.known();
+        (disk.into_disk(), pass)
+    }
+}
