@@ -18,8 +18,8 @@ use Rattle.qc_journal.specs.Image.{HasRecords}
 use Rattle.qc_refine.specs.Images.{IsCopyImage}
 use Rattle.qc_refine.specs.Standing.{IsUntold}
 use Rattle.qc_site.specs.Back.{grant_body}
-use Rattle.qc_standing.specs.Left.{KeepsGrants, OrMore}
-use Rattle.qc_standing.proofs.Lists.{all_front}
+use Rattle.qc_system.specs.Left.{KeepsGrants, OrMore}
+use Rattle.qc_refine.proofs.DonesWalk.{all_front}
 
 -- of one more that may stand behind some, what stands there
 pub record More {A : Type 0} (these : List A) (one : Option A) (P : A → Type 0) (all : List A) : Type 0 where

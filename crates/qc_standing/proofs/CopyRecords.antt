@@ -18,7 +18,7 @@ use Rattle.qc_refine.proofs.ImageReadings.{read_again}
 use Rattle.qc_site.specs.Image.{AreGranted, made_body, to_write}
 use Rattle.qc_site.specs.Mounted.{Mounts}
 use Rattle.qc_standing.proofs.InOrder.{Bytes, are_bytes, each_holds}
-use Rattle.qc_standing.proofs.Lists.{all_front}
+use Rattle.qc_refine.proofs.DonesWalk.{all_front}
 
 -- a made record tells no grant
 pub made_tells_none : (table : Table) (copy : ℕ) (bodies : List (List ℕ)) → readings (grant_form table) (body.made.spell (made_for (copy + 1) table) ∷ bodies) ≡ readings (grant_form table) bodies
@@ -62,13 +62,9 @@ module _ (copy : ℕ) (table : Table) (past : Past) where
       let one = all_takes (grant_form table) (exact_grant (format_1 table.copies)) bytes g fit reads in
       (granted ++ g ∷ [], add front bytes granted g s one.0 one.1 may.1)
 
-  -- behind some bodies stands a grant
-  stands : (front : List (List ℕ)) (bytes : List ℕ) → 0 < length front → MayStand copy table past front bytes → MatchOption (all_of (grant_form table) bytes) ⊥ (MayFollow table past (readings (grant_form table) front))
-  stands [] bytes some may = absurd (omega (arith, some))
-  stands (first ∷ front) bytes some may = may
-
   longer : (front : List (List ℕ)) (bytes : List ℕ) → AreSpelled front → MayStand copy table past front bytes → IsBytes bytes → AreSpelled (front ++ bytes ∷ [])
-  longer front bytes (granted, s) may fit = follow front bytes granted (all_of (grant_form table) bytes) s refl fit (stands front bytes (omega (arith, ap length s.spelled)) may)
+  longer [] bytes (granted, s) may fit = absurd (omega (arith, ap length s.spelled))
+  longer (first ∷ front) bytes (granted, s) may fit = follow (first ∷ front) bytes granted (all_of (grant_form table) bytes) s refl fit may
 
   begin : (first : List ℕ) → first ≡ body.made.spell (made_for (copy + 1) table) → AreSpelled (first ∷ [])
   begin first is = ([], record { spelled = ap (λ (b : List ℕ). b ∷ []) is; fit = All-nil (grant_form table).fits; are_old = All-nil IsOfOld })

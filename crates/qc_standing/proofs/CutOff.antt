@@ -27,7 +27,7 @@ use Rattle.qc_refine.specs.Restored.{restored}
 use Rattle.qc_site.specs.Image as grants
 use Rattle.qc_standing.specs.Mountings.{AreCutOff, AreLeft}
 use Rattle.qc_standing.proofs.CopyRecords.{made_tells_none}
-use Rattle.qc_standing.proofs.Lists.{all_front}
+use Rattle.qc_refine.proofs.DonesWalk.{all_front}
 
 -- WHAT A MOUNTING WRITES
 

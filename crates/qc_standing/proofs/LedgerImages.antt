@@ -25,8 +25,8 @@ use Rattle.qc_refine.specs.Images.{IsLedgerImage, ledger_records}
 use Rattle.qc_refine.specs.Listed.{logged, logged_as}
 use Rattle.qc_refine.specs.Standing.{AreNext, IsOfEpoch, IsNext}
 use Rattle.qc_refine.proofs.LoggedTops.{IsLogged, committed_ready, logged_are}
-use Rattle.qc_standing.specs.Left as left
-use Rattle.qc_standing.specs.Left.{KeepsTops}
+use Rattle.qc_system.specs.Left as left
+use Rattle.qc_system.specs.Left.{KeepsTops}
 use Rattle.qc_standing.proofs.CopyImages.{or_more}
 use Rattle.qc_standing.proofs.LedgerRecords.{Mounted}
 use Rattle.qc_standing.proofs.ListedNames.{top_fits}

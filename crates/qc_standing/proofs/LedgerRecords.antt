@@ -21,7 +21,8 @@ use Rattle.qc_ledger.proofs.Firsts.{made_proper}
 use Rattle.qc_ledger.proofs.Writing.{epoch_fits}
 use Rattle.qc_refine.proofs.ImageReadings.{read_again}
 use Rattle.qc_standing.proofs.InOrder.{Bytes, are_bytes, each_holds}
-use Rattle.qc_standing.proofs.Lists.{all_front, last_number, range_more}
+use Rattle.qc_refine.proofs.DonesWalk.{all_front}
+use Rattle.qc_standing.proofs.Lists.{last_number, range_more}
 
 -- OLDER RECORDS
 
@@ -109,16 +110,10 @@ module _ (table : Table) where
     follow None reads fit may = absurd may
     follow (Some r) reads fit may = let one = all_takes body.ledger exact_ledger bytes r fit reads in add r one.0 one.1 may
 
-  -- behind some bodies, the rule is that of the past that they tell
-  stands : (front : List (List ℕ)) (bytes : List ℕ) → 0 < length front → MayStand front bytes → MatchOption (all_of body.ledger bytes) ⊥ (MayFollow (past_in front))
-  stands [] bytes some may = absurd (omega (arith, some))
-  stands (first ∷ front) bytes some may = may
-
   longer : (front : List (List ℕ)) (bytes : List ℕ) → AreSpelled front → MayStand front bytes → IsBytes bytes → AreSpelled (front ++ bytes ∷ [])
-  longer front bytes (epoch, old, s) may fit =
-      let some : 0 < length front = omega (arith, ap length s.spelled) in
-      follow front bytes epoch old s (all_of body.ledger bytes) refl fit
-      (subst (λ p. MatchOption (all_of body.ledger bytes) ⊥ (MayFollow p)) (tell epoch old front s) (stands front bytes some may))
+  longer [] bytes (epoch, old, s) may fit = absurd (omega (arith, ap length s.spelled))
+  longer (first ∷ front) bytes (epoch, old, s) may fit =
+      follow (first ∷ front) bytes epoch old s (all_of body.ledger bytes) refl fit (subst (λ p. MatchOption (all_of body.ledger bytes) ⊥ (MayFollow p)) (tell epoch old (first ∷ front) s) may)
 
   -- THE FIRST BODY
 

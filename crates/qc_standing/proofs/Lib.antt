@@ -1,4 +1,5 @@
 pub mod InOrder
+pub mod KeptImages
 pub mod Lists
 pub mod LedgerRecords
 pub mod CopyRecords

@@ -1,14 +1,8 @@
--- Lists of which the first items are known, and numbers in a row.
+-- Numbers in a row.
 use Rattle.std.proofs.Common.{◌≡◌, ℕ, zero, suc, ◌+◌, List, [], ◌∷◌, ◌++◌, refl, ap, ◌∙◌, arith}
 use Rattle.std.specs.Prelude.{Option, None, unwrap_or}
-use Rattle.std.specs.List.{All, last_or, range_with_len}
-use Rattle.std.proofs.lemmas.List.Elements.{All-nil, All-cons, All-head, All-tail}
+use Rattle.std.specs.List.{last_or, range_with_len}
 use Rattle.qc_event.proofs.Lists.{last_push}
-
--- what holds of each of a list holds of each of its first items
-pub all_front : {X : Type 0} (P : X → Type 0) (xs ys : List X) → All P (xs ++ ys) → All P xs
-all_front P [] ys all = All-nil P
-all_front P (x ∷ xs) ys all = All-cons P x xs (All-head P x (xs ++ ys) all) (all_front P xs ys (All-tail P x (xs ++ ys) all))
 
 pub range_suc : (a n : ℕ) → range_with_len a (suc n) ≡ range_with_len a n ++ (a + n) ∷ []
 range_suc a zero = ap (λ (k : ℕ). k ∷ []) (omega arith)

@@ -3,7 +3,7 @@ use Rattle.std.proofs.Common.{◌≡◌, ℕ, Bool, true, List, sym, subst}
 use Rattle.std.proofs.Math.Logic.{∥∥₁_map}
 use Rattle.qc_event.specs.Base.{Setting}
 use Rattle.qc_event.specs.History.{Past}
-use Rattle.qc_standing.specs.Left.{KeepsGrants, KeepsTops}
+use Rattle.qc_system.specs.Left.{KeepsGrants, KeepsTops}
 
 module _ (before : List (List ℕ)) (left : List ℕ → Type 0) (past : Past) (image : List ℕ) (here : left image) where
   one_of_tops : KeepsTops before left past → KeepsTops before (λ i. i ≡ image) past

@@ -19,7 +19,7 @@ use Rattle.qc_journal.specs.Journal.{IsTooLong}
 use Rattle.qc_journal.proofs.Images.{length-length_bytes}
 use Rattle.qc_refine.specs.Images.{IsStanding}
 use Rattle.qc_site.specs.Mounted as copies
-use Rattle.qc_standing.specs.Left.{KeepsGrants}
+use Rattle.qc_system.specs.Left.{KeepsGrants}
 use Rattle.qc_standing.proofs.CopyRecords.{made_tells_none}
 use Rattle.qc_standing.proofs.Stands.{stand}
 use Rattle.qc_codec.specs.Bodies as body

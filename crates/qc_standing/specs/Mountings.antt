@@ -18,7 +18,7 @@ use Rattle.qc_refine.specs.Images.{CarryFinal, IsCopyImage}
 use Rattle.qc_refine.specs.Standing.{AreNext, committed_too}
 use Rattle.qc_site.specs.Image as grants
 use Rattle.qc_site.specs.Mounted as copies
-use Rattle.qc_standing.specs.Left.{KeepsGrants, KeepsTops}
+use Rattle.qc_system.specs.Left.{KeepsGrants, KeepsTops}
 
 -- each number of these bodies is a byte
 abbrev pub AreBytes : List (List ℕ) → Type 0

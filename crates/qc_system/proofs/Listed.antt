@@ -1,6 +1,7 @@
 -- What is listed of a ready top stays, and with it what the ledger's disk keeps.
 use Rattle.std.proofs.Common.{◌≡◌, inl, inr, ℕ, Bool, true, false, List, [], ◌∷◌, ◌++◌, ◌==◌, refl, sym, ap, ap₂, ◌∙◌, subst, cond}
 use Rattle.std.specs.Prelude.{map, is_some, IfSome, Option, None, Some, option_to_list}
+use Rattle.std.specs.List.{AllByRecursion}
 use Rattle.std.specs.Option.{option_map}
 use Rattle.qc_codec.specs.Ledger as records
 use Rattle.qc_disk.specs.declared.disk.Disk.{Ghosts}
@@ -49,50 +50,45 @@ listed_stays setting before now top older legal ready = ap (λ p. listed p top) 
 
 -- THE TOPS THAT A PASS COMMITTED
 
--- one fact of names at each of a list
-abbrev AreAll : (Name → Type 0) → List Name → Type 0
-AreAll P [] = Unit {0}
-AreAll P (t ∷ ts) = P t × AreAll P ts
-
-all_append : (P : Name → Type 0) (a b : List Name) → AreAll P a → AreAll P b → AreAll P (a ++ b)
+all_append : (P : Name → Type 0) (a b : List Name) → AllByRecursion P a → AllByRecursion P b → AllByRecursion P (a ++ b)
 all_append P [] b pa pb = pb
 all_append P (t ∷ a) b pa pb = (pa.0, all_append P a b pa.1 pb)
 
-all_on : (P Q : Name → Type 0) (ts : List Name) → ((t : Name) → P t → Q t) → AreAll P ts → AreAll Q ts
+all_on : (P Q : Name → Type 0) (ts : List Name) → ((t : Name) → P t → Q t) → AllByRecursion P ts → AllByRecursion Q ts
 all_on P Q [] on p = tt
 all_on P Q (t ∷ ts) on p = (on t p.0, all_on P Q ts on p.1)
 
 -- what agrees on tops tells the same records of them
-same_bodies : (f g : Name → List Name) (ts : List Name) → AreAll (λ t. f t ≡ g t) ts → map (told_body f) ts ≡ map (told_body g) ts
+same_bodies : (f g : Name → List Name) (ts : List Name) → AllByRecursion (λ t. f t ≡ g t) ts → map (told_body f) ts ≡ map (told_body g) ts
 same_bodies f g [] agree = refl
 same_bodies f g (t ∷ ts) agree = ap₂ (λ (l : List Name) rest. top_body t l ∷ rest) agree.0 (same_bodies f g ts agree.1)
 
 -- the tops that entries under a number commit were seen to be ready
-tops_ready : (setting : Setting) (n : ℕ) (past : Past) → Legal setting past → AreAll (λ t. is_ready past t ≡ true) (tops_of (entries_of n past))
+tops_ready : (setting : Setting) (n : ℕ) (past : Past) → Legal setting past → AllByRecursion (λ t. is_ready past t ≡ true) (tops_of (entries_of n past))
 tops_ready setting n [] legal = tt
 tops_ready setting n (e ∷ past) legal = by_seat (e.seat == n) (on (tops_of (entries_of n past)) (tops_ready setting n past legal.0))
   where
-    on : (ts : List Name) → AreAll (λ t. is_ready past t ≡ true) ts → AreAll (λ t. is_ready (e ∷ past) t ≡ true) ts
+    on : (ts : List Name) → AllByRecursion (λ t. is_ready past t ≡ true) ts → AllByRecursion (λ t. is_ready (e ∷ past) t ≡ true) ts
     on ts = all_on (λ t. is_ready past t ≡ true) (λ t. is_ready (e ∷ past) t ≡ true) ts (λ t h. some_stays (λ x. ready_in t x.event) (e ∷ []) past h)
 
-    this : (ev : Event) → MayHappen setting past e.seat ev → AreAll (λ t. is_ready past t ≡ true) (option_to_list (records.top_in ev))
+    this : (ev : Event) → MayHappen setting past e.seat ev → AllByRecursion (λ t. is_ready past t ≡ true) (option_to_list (records.top_in ev))
     this (event.End (number ∷ []) (Commit given)) may = (commit_ready setting past e.seat number given legal.0 may, tt)
     this (event.End [] how) may = tt
     this (event.End (number ∷ []) (Abort cause)) may = tt
     this (event.End (number ∷ m ∷ name) how) may = tt
     this _ may = tt
 
-    by_seat : (b : Bool) → AreAll (λ t. is_ready (e ∷ past) t ≡ true) (tops_of (entries_of n past)) → AreAll (λ t. is_ready (e ∷ past) t ≡ true) (tops_of (cond b (e ∷ entries_of n past) (entries_of n past)))
+    by_seat : (b : Bool) → AllByRecursion (λ t. is_ready (e ∷ past) t ≡ true) (tops_of (entries_of n past)) → AllByRecursion (λ t. is_ready (e ∷ past) t ≡ true) (tops_of (cond b (e ∷ entries_of n past) (entries_of n past)))
     by_seat false before = before
     by_seat true before = all_append (λ t. is_ready (e ∷ past) t ≡ true) (tops_of (entries_of n past)) (option_to_list (records.top_in e.event)) before (on (option_to_list (records.top_in e.event)) (this e.event legal.1))
 
 -- WHAT THE DISK KEEPS
 
 module _ (setting : Setting) (before now : Past) (older : IsOlder before now) (legal : Legal setting now) where
-  agree : (ts : List Name) → AreAll (λ t. is_ready before t ≡ true) ts → AreAll (λ t. listed before t ≡ listed now t) ts
+  agree : (ts : List Name) → AllByRecursion (λ t. is_ready before t ≡ true) ts → AllByRecursion (λ t. listed before t ≡ listed now t) ts
   agree ts = all_on (λ t. is_ready before t ≡ true) (λ t. listed before t ≡ listed now t) ts (λ t ready. sym (listed_stays setting before now t older legal ready))
 
-  pending_ready : (s : State) (hand : Option Name) → ((t : Name) → hand ≡ Some t → is_ready before t ≡ true) → AreAll (λ t. is_ready before t ≡ true) (pending_by s hand)
+  pending_ready : (s : State) (hand : Option Name) → ((t : Name) → hand ≡ Some t → is_ready before t ≡ true) → AllByRecursion (λ t. is_ready before t ≡ true) (pending_by s hand)
   pending_ready (state.Up missing) None ready = tt
   pending_ready (state.Up missing) (Some t) ready = (ready t refl, tt)
   pending_ready (state.Down held) hand ready = tt
@@ -113,7 +109,7 @@ module _ (setting : Setting) (before now : Past) (older : IsOlder before now) (l
       tops : List Name
       tops = tops_of (entries_of n before) ++ pending_by (journal_in shelf).state (top_in shelf)
 
-      all : AreAll (λ t. is_ready before t ≡ true) tops
+      all : AllByRecursion (λ t. is_ready before t ≡ true) tops
       all = all_append (λ t. is_ready before t ≡ true) (tops_of (entries_of n before)) (pending_by (journal_in shelf).state (top_in shelf)) (tops_ready setting n before was) (pending_ready (journal_in shelf).state (top_in shelf) ready)
 
 -- the tops that a disk has records of are listed the same
@@ -124,16 +120,16 @@ same_listed setting before now older legal was n untold next tops these = same_b
     IsReady : Name → Type 0
     IsReady t = is_ready before t ≡ true
 
-    committed : AreAll IsReady (tops_of (entries_of n before))
+    committed : AllByRecursion IsReady (tops_of (entries_of n before))
     committed = tops_ready setting n before was
 
-    more : (o : Option Name) → IfSome o (IsNext before) → AreAll IsReady (option_to_list o)
+    more : (o : Option Name) → IfSome o (IsNext before) → AllByRecursion IsReady (option_to_list o)
     more None h = tt
     more (Some t) h = (h.ready, tt)
 
-    all_ready : OrMore (tops_of (entries_of n before)) untold tops → AreAll IsReady tops
-    all_ready (inl is) = subst (AreAll IsReady) (sym is) committed
-    all_ready (inr is) = subst (AreAll IsReady) (sym is) (all_append IsReady (tops_of (entries_of n before)) (option_to_list untold) committed (more untold next))
+    all_ready : OrMore (tops_of (entries_of n before)) untold tops → AllByRecursion IsReady tops
+    all_ready (inl is) = subst (AllByRecursion IsReady) (sym is) committed
+    all_ready (inr is) = subst (AllByRecursion IsReady) (sym is) (all_append IsReady (tops_of (entries_of n before)) (option_to_list untold) committed (more untold next))
 
 -- a pass has seen more, and the disk keeps its tops as they are listed then
 pub over_seen : {D : Type 0} {g : Ghosts D} (setting : Setting) (old : View) (now : Past) (bodies : List (List ℕ)) (shelf : Shelf D g) → IsOlder old.seen now → Legal setting now → Legal setting old.seen → old.mine ≡ entries_of ledger_seat old.seen
