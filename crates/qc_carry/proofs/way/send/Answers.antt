@@ -1,0 +1,34 @@
+-- A pass is lent to its way, and has then seen what its port has.
+use Rattle.std.proofs.Common.{sym, ap, ◌∙◌, subst}
+use Rattle.std.specs.Prelude.{All, Err}
+use Rattle.qc_net.specs.Courier.{held_of}
+use Rattle.qc_ledger.specs.Entered.{SeesMore}
+use Rattle.qc_pass.specs.Consulting.{HasAsked}
+use Rattle.qc_pass.specs.declared.view.View.{View}
+use Rattle.qc_carry.specs.Access.{IsShort}
+use Rattle.qc_carry.proofs.Ending.{want_short}
+use Rattle.qc_carry.proofs.Walking as walking
+use Rattle.qc_carry.proofs.way.send.Goals as goal
+
+pub send-sent-requires-clause-ask : goal.send-sent-requires-clause-ask
+send-sent-requires-clause-ask g c =
+    subst (λ (v : View). HasAsked v.seen c.args.ask.now) (sym (c.replace.ensures.value ∙ c.note-note.ensures.1)) c.requires.asked
+
+pub send-sent-requires-clause-held : goal.send-sent-requires-clause-held
+send-sent-requires-clause-held g c =
+    subst (λ (v : View). All (HasAsked v.seen) (held_of c.args.courier.now)) (sym (c.replace.ensures.value ∙ c.note-note.ensures.1)) c.requires.held
+
+pub returns-in-Ok-clause-walk : goal.returns-in-Ok-clause-walk
+returns-in-Ok-clause-walk g c =
+    let w = c.send-sent.new.port.pass in
+    walking.of_seen c.args.pass.now w c.requires.client c.known.ensures.mine c.known-2.ensures.mine (subst (λ (v : View). SeesMore v w) (c.replace.ensures.value ∙ c.note-note.ensures.1) c.send-sent.ensures.became)
+
+pub returns-in-Err-clause-walk : goal.returns-in-Err-clause-walk
+returns-in-Err-clause-walk g c =
+    let w = c.send-sent.new.port.pass in
+    walking.of_seen c.args.pass.now w c.requires.client c.known.ensures.mine c.known-2.ensures.mine (subst (λ (v : View). SeesMore v w) (c.replace.ensures.value ∙ c.note-note.ensures.1) c.send-sent.ensures.became)
+
+pub returns-in-Err-clause-err : goal.returns-in-Err-clause-err
+returns-in-Err-clause-err g c =
+    let w = c.send-sent.new.port.pass in
+    subst (IsShort c.args.pass.now w) (sym c.want_of.ensures) (want_short c.args.pass.now w c.in-Err.short (returns-in-Err-clause-walk g c) (λ is. c.send-sent.new.port.found (c.in-Err.ensures.room (ap Err is))))

@@ -1,0 +1,101 @@
+-- One access of a manager, by the entries of its client alone: what it waits for, how it ends, and what is left where it is cut off.
+use Rattle.std.specs.Prelude.{ℕ, ◌≡◌, ◌⊎◌, ◌||◌, not, IsTrue, [], ◌∷◌, length, None, Some, Result, Ok, Err}
+use Rattle.qc_event.specs.declared.event.Answer.TheVariants as answer
+use Rattle.qc_event.specs.declared.event.Ask.{Ask}
+use Rattle.qc_event.specs.declared.event.Cause.TheVariants.{Missed, Orphan as OrphanOf}
+use Rattle.qc_event.specs.declared.event.Event.TheVariants as event
+use Rattle.qc_event.specs.declared.event.How.TheVariants.{Commit, Abort}
+use Rattle.qc_event.specs.declared.event.Refusal.TheVariants as refusal
+use Rattle.qc_event.specs.declared.event.Why.{Why}
+use Rattle.qc_event.specs.declared.log.Short.{Short}
+use Rattle.qc_event.specs.declared.log.Short.TheVariants as short
+use Rattle.qc_event.specs.History.{Past, Name, limit, asked, gone, refused, end}
+use Rattle.qc_event.specs.Manager.{Replied, Missing, BlockedBy, Result as Became}
+use Rattle.qc_event.specs.Requests.{is_fault, was_unable}
+use Rattle.qc_event.specs.Standing.{IsOrphanOf, open_child}
+use Rattle.qc_gather.specs.Carrying.{entry, access_entries, became, IsBegun, WasStopped}
+use Rattle.qc_gather.specs.declared.carrier.Carried.{Carried}
+use Rattle.qc_gather.specs.declared.carrier.Carried.TheVariants.{Reply, Blocked, Gone}
+use Rattle.qc_gather.specs.declared.carrier.CarryNo.{CarryNo}
+use Rattle.qc_gather.specs.declared.carrier.CarryNo.TheVariants as no
+use Rattle.qc_net.specs.Messages.{asked_under}
+use Rattle.qc_pass.specs.declared.refusal.DeskNo.{DeskNo}
+use Rattle.qc_pass.specs.declared.refusal.DeskNo.TheVariants as desk_no
+use Rattle.qc_pass.specs.declared.view.View.{View}
+use Rattle.qc_pass.specs.Own.{IsOwnAccess}
+use Rattle.qc_carry.specs.Walk.{Walk}
+
+-- An access of one's own has asked, is open, and was not given up.
+pub record Waits (past : Past) (seat : ℕ) (ask : Ask) : Type 0 where
+  pub own : IsOwnAccess past seat ask.access
+  pub asks_it : asked past ask.access ≡ Some (record { seat = seat; ask = ask })
+  pub ungone : gone past ask.access ≡ None
+
+-- what a manager is told of an access that is not granted stands in the history: the first refusal, or the copy's own word
+abbrev pub Stands : Past → Name → Carried → Type 0
+Stands past access (Reply tuple) = Unit {0}
+Stands past access (Blocked holder) = refused past access ≡ Some (refusal.Blocked holder)
+Stands past access (Gone why) = IsTrue (not (is_fault why) || was_unable past access why)
+
+-- the entries with which an access that asked ends, by its result
+abbrev pub ending : ℕ → Ask → Became → Past
+ending seat ask (Replied tuple) = entry seat (event.End ask.access (Commit (answer.Reply tuple))) ∷ []
+ending seat ask (BlockedBy holder) = entry seat (event.End ask.access (Abort Missed)) ∷ []
+ending seat ask (Missing why) = entry seat (event.End ask.access (Abort Missed)) ∷ entry seat (event.Gone ask.access why) ∷ []
+
+-- the entry with which an access ends as an orphan
+abbrev pub orphaning : ℕ → Name → Name → Past
+orphaning seat access ancestor = entry seat (event.End access (Abort (OrphanOf ancestor))) ∷ []
+
+-- why an access is not carried on, by what a desk answers to a call
+abbrev pub no_of : DeskNo → CarryNo
+no_of (desk_no.Orphan a) = no.Orphan a
+no_of desk_no.Room = no.Room
+no_of _ = no.Memory
+
+-- why an access is not carried on for want of memory or of room
+abbrev pub want_of : Short → CarryNo
+want_of short.Room = no.Room
+want_of short.Memory = no.Memory
+
+-- nothing was entered, for want of memory or of room
+abbrev pub IsShort : View → View → CarryNo → Type 0
+IsShort v w (no.Orphan a) = ⊥
+IsShort v w no.Memory = Walk v w []
+IsShort v w no.Room = Walk v w [] × (length w.seen ≡ limit)
+
+-- an access that has started is stopped: it ended as an orphan, or nothing was entered
+abbrev pub IsStopped : View → View → Name → CarryNo → Type 0
+IsStopped v w access (no.Orphan a) = Walk v w (orphaning v.number access a) × IsOrphanOf w.seen access a
+IsStopped v w access no.Memory = Walk v w []
+IsStopped v w access no.Room = Walk v w [] × (length w.seen ≡ limit)
+
+-- nothing was entered, or the access was given up
+abbrev pub IsLeft : View → View → Name → Type 0
+IsLeft v w access = Walk v w [] ⊎ ((why : Why) × Walk v w (entry v.number (event.Gone access why) ∷ []))
+
+-- what an access that waits has come to: it ended by what its manager is told, or as an orphan, or it was left
+abbrev pub Ends : View → View → Ask → Result Carried CarryNo → Type 0
+Ends v w ask (Ok told) = Walk v w (ending v.number ask (became told)) × Stands w.seen ask.access told
+Ends v w ask (Err (no.Orphan a)) = Walk v w (orphaning v.number ask.access a) × IsOrphanOf w.seen ask.access a
+Ends v w ask (Err no.Memory) = IsLeft v w ask.access
+Ends v w ask (Err no.Room) = IsLeft v w ask.access × (length w.seen ≡ limit)
+
+-- the entries of an access that was cut off, by why
+abbrev pub IsPart : View → View → Name → Ask → Past → CarryNo → Type 0
+IsPart v w m ask made (no.Orphan a) = WasStopped v.number ask a made × IsOrphanOf w.seen m a × (end w.seen m ≡ None) × (open_child w.seen m ≡ None)
+IsPart v w m ask made no.Memory = IsBegun v.number ask made
+IsPart v w m ask made no.Room = IsBegun v.number ask made × (length w.seen ≡ limit)
+
+-- a manager's next access was cut off
+abbrev pub Cut : View → View → Name → Ask → CarryNo → Type 0
+Cut v w m ask why = (made : Past) × Walk v w made × IsPart v w m ask made why
+
+-- it was cut off before it asked
+abbrev pub CutUnasked : View → View → Name → Ask → CarryNo → Type 0
+CutUnasked v w m ask why = (made : Past) × Walk v w made × IsPart v w m ask made why × (asked_under v.number made ≡ [])
+
+-- what a manager's next access has come to
+abbrev pub Course : View → View → Name → Ask → Result Carried CarryNo → Type 0
+Course v w m ask (Ok told) = Walk v w (access_entries v.number ask (became told)) × Stands w.seen ask.access told
+Course v w m ask (Err why) = Cut v w m ask why

@@ -1,0 +1,5 @@
+pub mod Walk
+pub mod Access
+pub mod Kept
+pub mod Seeing
+pub mod Carried

@@ -1,0 +1,11 @@
+//! A client's way to a system: its managers' accesses, started, sent over its courier, and ended by what came back.
+#![tactic(auto)]
+
+mod begin;
+mod calls;
+mod carry;
+mod finish;
+mod line;
+mod way;
+
+pub use line::Line;
