@@ -69,5 +69,5 @@ pub returns-in-Err-clause-others : goal.returns-in-Err-clause-others
 returns-in-Err-clause-others g c = λ p n from.
     let waiting = waiting_in c.new-waiting.result in
     let refused = not_mounted g.H.D.Disk.view c.args.table.now c.with.result c.in-Err.reason (λ bad. (images : List (List ℕ)) → TellImages g.H.D.Disk.view waiting images → IsFirstFault c.args.table.now c.args.limit bad images)
-        waiting (waiting_in c.mount_all.new.waiting) (ap length c.new-waiting.ensures.disks ∙ c.in_ok-disks.ensures.all) c.in-Err.ensures.left c.with.ensures.reason (c.with.ensures.disks ∙ c.into_disks.ensures) c.in-Err.ensures.reason in
+    waiting (waiting_in c.mount_all.new.waiting) (ap length c.new-waiting.ensures.disks ∙ c.in_ok-disks.ensures.all) c.in-Err.ensures.left c.with.ensures.reason (c.with.ensures.disks ∙ c.into_disks.ensures) c.in-Err.ensures.reason in
     c.in_ok-disks.ensures.others p n (omega (arith, from, refused.all, c.in_ok-disks.ensures.all))
