@@ -15,14 +15,12 @@ use Rattle.qc_event.specs.Manager.{result, result_by}
 use Rattle.qc_event.specs.Standing.{IsManager}
 use Rattle.qc_event.proofs.Absent.{same_is}
 use Rattle.qc_event.proofs.Later.{started_still}
+use Rattle.qc_event.proofs.Histories.{or_first}
+use Rattle.qc_event.proofs.OneEntry.{stays_some}
 use Rattle.qc_event.proofs.Options.{still}
 use Rattle.qc_gather.specs.Carrying.{made_by, name_of}
 use Rattle.qc_pass.specs.Own.{IsMine}
 use Rattle.qc_pass.proofs.Others as others
-
-or_assoc : {Y : Type 0} (a b c : Option Y) → option_or (option_or a b) c ≡ option_or a (option_or b c)
-or_assoc None b c = refl
-or_assoc (Some y) b c = refl
 
 -- a result by the same end, reason and refusal is the same
 pub result_same : (before now : Past) (x : Name) → end now x ≡ end before x → gone now x ≡ gone before x → refused now x ≡ refused before x → result now x ≡ result before x
@@ -84,7 +82,7 @@ module _ (setting : Setting) (past : Past) (seat : ℕ) (m : Name) (mine : IsMin
   earliest_own f silent (e ∷ newer) legal = own_or_not e
       (λ own is.
       ap (λ o. option_or o (f e)) (earliest_own f silent newer legal.0)
-      ∙ or_assoc (earliest f past) (earliest f (made_by seat newer)) (f e)
+      ∙ or_first (earliest f past) (earliest f (made_by seat newer)) (f e)
       ∙ sym (ap (λ (b : Bool). option_or (earliest f past) (earliest f (cond b (e ∷ made_by seat newer) (made_by seat newer)))) is))
       (λ other is.
       ap (option_or (earliest f (newer ++ past))) (silent e (newer ++ past) other legal.0 legal.1 (mine_at newer))
@@ -150,10 +148,6 @@ module _ (setting : Setting) (past : Past) (seat : ℕ) (m : Name) (mine : IsMin
 
   -- RESULTS
 
-  some_kept : {Y : Type 0} (o new : Option Y) → is_some o ≡ true → is_some (option_or o new) ≡ true
-  some_kept None new h = absurd (true≢false (sym h))
-  some_kept (Some y) new h = refl
-
   -- the result of another access that has ended stays
   pub result_kept : (n c : Name) → is_child m c ≡ true → (n ≡ c → ⊥) → is_some (end past c) ≡ true → (newer : Past) → Legal setting (newer ++ past) → AllByRecursion (IsOf n) (made_by seat newer)
       → (is_some (end (newer ++ past) c) ≡ true) × (result (newer ++ past) c ≡ result past c)
@@ -163,7 +157,7 @@ module _ (setting : Setting) (past : Past) (seat : ℕ) (m : Name) (mine : IsMin
       let parts = subst (λ (b : Bool). AllByRecursion (IsOf n) (cond b (e ∷ made_by seat newer) (made_by seat newer))) is all in
       let before = result_kept n c child apart ended newer legal.0 parts.1 in
       let off = elsewhere e n c parts.0 apart in (
-        some_kept (end (newer ++ past) c) _ before.0,
+        stays_some (end (newer ++ past) c) _ before.0,
         result_same (newer ++ past) (e ∷ newer ++ past) c
             (ap (option_or (end (newer ++ past) c)) off.0 ∙ still (end (newer ++ past) c))
             (ap (option_or (gone (newer ++ past) c)) off.1 ∙ still (gone (newer ++ past) c))
@@ -172,6 +166,6 @@ module _ (setting : Setting) (past : Past) (seat : ℕ) (m : Name) (mine : IsMin
       ))
       (λ other is.
       let before = result_kept n c child apart ended newer legal.0 (subst (λ (b : Bool). AllByRecursion (IsOf n) (cond b (e ∷ made_by seat newer) (made_by seat newer))) is all) in (
-        some_kept (end (newer ++ past) c) _ before.0,
+        stays_some (end (newer ++ past) c) _ before.0,
         others.result_stays setting e (newer ++ past) seat m other legal.0 legal.1 (mine_at newer) c child before.0 ∙ before.1,
       ))
