@@ -14,10 +14,10 @@ use Rattle.qc_event.specs.declared.event.How.TheVariants.{Commit, Abort}
 use Rattle.qc_event.specs.Base.{Setting}
 use Rattle.qc_event.specs.History.{Past, Name, end, children}
 use Rattle.qc_event.specs.Legal.{Legal}
-use Rattle.qc_interp.specs.Asking.{DoesOn, Asks, IsAskedBy, AllAsked, ByItself}
+use Rattle.qc_interp.specs.Asking.{DoesOn, DoesAfter, Asks, IsAskedBy, AllAsked, ByItself}
 use Rattle.qc_script.specs.Calls.{IsOfAccess}
 use Rattle.qc_script.specs.Client.{Client, mine, Made}
-use Rattle.qc_interp.specs.Follows.{GoesOn, FollowsPlan, StopsEarly}
+use Rattle.qc_interp.specs.Follows.{GoesOn, GoesOnAfter, AfterTries, FollowsPlan, StopsEarly}
 use Rattle.qc_script.specs.Plan.{Plan}
 use Rattle.qc_interp.specs.Reach.{Reach}
 use Rattle.qc_interp.specs.Tries.{Tries, TriesDo, is_tried_again}
@@ -122,21 +122,31 @@ module _ (s : ℕ) (p : Entry → Bool) (setting : Setting) (newer past : Past) 
   does_still n c Follows Does DoesNow further how step (Some (Abort x)) is follows h = absurd h
   does_still n c Follows Does DoesNow further how step (Some (Commit given)) is follows h = subst (λ o. DoesOn o DoesNow) (sym (end_some p setting newer past c (Commit given) is)) (step given follows h)
 
-  tries_do_still : (IsTry Does DoesNow : Name → Type 0) (Stopped : Type 0) (Rest RestDoes RestDoesNow : List Name → Type 0)
-      → ((c : Name) → IsTry c → Closed old c × (Does c → DoesNow c)) → ((cs : List Name) → Rest cs → RestDoes cs → RestDoesNow cs)
-      → (left : ℕ) (cs : List Name) → Tries (end old) IsTry Stopped Rest left cs → TriesDo (end old) Does RestDoes left cs → TriesDo (end now) DoesNow RestDoesNow left cs
-  tries_do_still IsTry Does DoesNow Stopped Rest RestDoes RestDoesNow try rest zero cs h d = rest cs h d
-  tries_do_still IsTry Does DoesNow Stopped Rest RestDoes RestDoesNow try rest (suc left) [] h d = absurd d
-  tries_do_still IsTry Does DoesNow Stopped Rest RestDoes RestDoesNow try rest (suc left) (c ∷ cs) h (inl d) = inl ((try c h.0).1 d)
-  tries_do_still IsTry Does DoesNow Stopped Rest RestDoes RestDoesNow try rest (suc left) (c ∷ cs) h (inr d) =
-      inr (subst (λ b. MatchBool b (TriesDo (end now) DoesNow RestDoesNow left cs) (RestDoesNow cs)) (sym (again_still s p setting newer past legal c (try c h.0).0))
-      (by_test (is_tried_again (end old c)) h.1 d (tries_do_still IsTry Does DoesNow Stopped Rest RestDoes RestDoesNow try rest left cs)))
+  tries_do_still : (IsTry Does DoesNow : Name → Type 0) (Stopped : Type 0) (Rest RestDoes RestDoesNow : Option Name → List Name → Type 0)
+      → ((c : Name) → IsTry c → Closed old c × (Does c → DoesNow c)) → ((last : Option Name) (cs : List Name) → Rest last cs → RestDoes last cs → RestDoesNow last cs)
+      → (last : Option Name) (left : ℕ) (cs : List Name) → Tries (end old) IsTry Stopped Rest last left cs → TriesDo (end old) Does RestDoes last left cs → TriesDo (end now) DoesNow RestDoesNow last left cs
+  tries_do_still IsTry Does DoesNow Stopped Rest RestDoes RestDoesNow try rest last zero cs h d = rest last cs h d
+  tries_do_still IsTry Does DoesNow Stopped Rest RestDoes RestDoesNow try rest last (suc left) [] h d = absurd d
+  tries_do_still IsTry Does DoesNow Stopped Rest RestDoes RestDoesNow try rest last (suc left) (c ∷ cs) h (inl d) = inl ((try c h.0).1 d)
+  tries_do_still IsTry Does DoesNow Stopped Rest RestDoes RestDoesNow try rest last (suc left) (c ∷ cs) h (inr d) =
+      inr (subst (λ b. MatchBool b (TriesDo (end now) DoesNow RestDoesNow (Some c) left cs) (RestDoesNow (Some c) cs)) (sym (again_still s p setting newer past legal c (try c h.0).0))
+      (by_test (is_tried_again (end old c)) h.1 d (tries_do_still IsTry Does DoesNow Stopped Rest RestDoes RestDoesNow try rest (Some c) left cs)))
     where
-      by_test : (b : Bool) → MatchBool b (Tries (end old) IsTry Stopped Rest left cs) (Rest cs) → MatchBool b (TriesDo (end old) Does RestDoes left cs) (RestDoes cs)
-          → (Tries (end old) IsTry Stopped Rest left cs → TriesDo (end old) Does RestDoes left cs → TriesDo (end now) DoesNow RestDoesNow left cs)
-          → MatchBool b (TriesDo (end now) DoesNow RestDoesNow left cs) (RestDoesNow cs)
+      by_test : (b : Bool) → MatchBool b (Tries (end old) IsTry Stopped Rest (Some c) left cs) (Rest (Some c) cs) → MatchBool b (TriesDo (end old) Does RestDoes (Some c) left cs) (RestDoes (Some c) cs)
+          → (Tries (end old) IsTry Stopped Rest (Some c) left cs → TriesDo (end old) Does RestDoes (Some c) left cs → TriesDo (end now) DoesNow RestDoesNow (Some c) left cs)
+          → MatchBool b (TriesDo (end now) DoesNow RestDoesNow (Some c) left cs) (RestDoesNow (Some c) cs)
       by_test true h d more = more h d
-      by_test false h d more = rest cs h d
+      by_test false h d more = rest (Some c) cs h d
+
+  does_after_still : (n child : Name) (Follows Does DoesNow : Type 0) (further : List Name) (how : Option How) → (Follows → Does → DoesNow) → (o : Option How) → end old child ≡ o → GoesOnAfter Reach.to_the_end old n child o Follows further how → DoesOn o (λ given. Does) → DoesOn (end now child) (λ given. DoesNow)
+  does_after_still n child Follows Does DoesNow further how step None is follows h = absurd h
+  does_after_still n child Follows Does DoesNow further how step (Some (Abort x)) is follows h = absurd h
+  does_after_still n child Follows Does DoesNow further how step (Some (Commit given)) is follows h = subst (λ o. DoesOn o (λ told. DoesNow)) (sym (end_some p setting newer past child (Commit given) is)) (step follows h)
+
+  does_behind_still : (n : Name) (last : Option Name) (must : Bool) (Follows Does DoesNow : Type 0) (further : List Name) (how : Option How) → (Follows → Does → DoesNow) → AfterTries Reach.to_the_end old n last must Follows further how → DoesAfter old last must Does → DoesAfter now last must DoesNow
+  does_behind_still n None must Follows Does DoesNow further how step h d = step h d
+  does_behind_still n (Some child) false Follows Does DoesNow further how step h d = step h d
+  does_behind_still n (Some child) true Follows Does DoesNow further how step h d = does_after_still n child Follows Does DoesNow further how step (end old child) refl h d
 
   plan_asks_still : (n : Name) (plan : Plan) (cs : List Name) (how : Option How) → FollowsPlan s old n plan cs how → Asks old n plan cs by target → Asks now n plan cs by target
   plan_asks_still n Plan.done cs how h d = absurd d
@@ -144,12 +154,13 @@ module _ (s : ℕ) (p : Entry → Bool) (setting : Setting) (newer past : Past) 
   plan_asks_still n (Plan.manage_by k next) (c ∷ cs) how h d =
       does_still n c (λ given. FollowsPlan s old n (next given) cs how) (λ given. Asks old n (next given) cs by target) (λ given. Asks now n (next given) cs by target) cs how
       (λ given. plan_asks_still n (next given) cs how) (end old c) refl h.1 d
-  plan_asks_still n (Plan.child_then number tries inner rest) cs how h d =
-      tries_do_still _ (λ c. Asks old c inner (children old c) by target) (λ c. Asks now c inner (children now c) by target) (StopsEarly n how) _ (λ further. Asks old n rest further by target) (λ further. Asks now n rest further by target)
+  plan_asks_still n (Plan.child_then number tries must inner rest) cs how h d =
+      tries_do_still _ (λ c. Asks old c inner (children old c) by target) (λ c. Asks now c inner (children now c) by target) (StopsEarly n how) (λ last further. AfterTries Reach.to_the_end old n last must (FollowsPlan s old n rest further how) further how)
+      (λ last further. DoesAfter old last must (Asks old n rest further by target)) (λ last further. DoesAfter now last must (Asks now n rest further by target))
       (λ c t.
       let closed = (child_still s p setting newer past legal c inner (plan_still s p setting newer past legal c inner) t.1).1 in
       (closed, λ a. subst (λ xs. Asks now c inner xs by target) (sym (children_still p setting newer past c legal closed)) (plan_asks_still c inner (children old c) (end old c) t.1 a)))
-      (λ further f a. plan_asks_still n rest further how f a) tries cs h d
+      (λ last further f a. does_behind_still n last must (FollowsPlan s old n rest further how) (Asks old n rest further by target) (Asks now n rest further by target) further how (plan_asks_still n rest further how) f a) None tries cs h d
   plan_asks_still n (Plan.abort_then levels rest) [] how h d = d
   plan_asks_still n (Plan.abort_then levels rest) (c ∷ cs) how h d = absurd d
 

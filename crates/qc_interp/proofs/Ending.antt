@@ -27,13 +27,14 @@ use Rattle.qc_event.proofs.OneEntry.{end_now, end_step, ending, marking, stays_s
 use Rattle.qc_event.proofs.Orderly.{KeepsOrder, Begins}
 use Rattle.qc_event.proofs.Later.{started_still}
 use Rattle.qc_names.specs.Name as name
-use Rattle.qc_script.specs.Calls.{by_client, NotAborted, IsGrounded, IsNone}
+use Rattle.qc_script.specs.Calls.{by_client, NotAborted, IsGrounded, IsForChild, IsNone}
 use Rattle.qc_script.specs.Client.{Client, mine, concerns, Made, AreOurs}
-use Rattle.qc_interp.specs.Follows.{StopsEarly, WasAsked, IsUnended, Stops, HasNotEnded, RunsPlan}
+use Rattle.qc_interp.specs.Follows.{StopsEarly, WasAsked, IsUnended, Stops, HasNotEnded, AfterTries, RunsPlan}
 use Rattle.qc_script.specs.Plan.{Plan}
 use Rattle.qc_interp.proofs.TriesAlike.{no_tries}
 use Rattle.qc_interp.specs.Reach.{Reach, AtTheEnd}
-use Rattle.qc_interp.specs.Running.{Runs, LeavesAt, Leaves, CutOff, Quit}
+use Rattle.qc_interp.specs.Running.{Runs, LeavesAt, Leaves, CutOff, CameTo, Quit}
+use Rattle.qc_interp.specs.declared.stops.Ending.TheVariants as ending
 use Rattle.qc_interp.specs.Turns.{acts}
 use Rattle.qc_interp.proofs.Adding.{all_later, at_top, over_later}
 use Rattle.qc_interp.proofs.Turning.{InTurn, Alone, end_turns, alone_below, itself}
@@ -83,6 +84,14 @@ unended_again n (Some (Abort cause.Killed)) (inr h) = absurd h
 unended_again n (Some (Abort (cause.Child x))) (inr h) = absurd h
 unended_again n (Some (Abort cause.Missed)) (inr h) = absurd h
 
+pub unended_stopped : (n : Name) (how : Option How) → IsUnended n how → CameTo (ending.Stopped false) how
+unended_stopped n None h = refl
+unended_stopped n (Some (Commit given)) h = elim h [
+  | inl is ↦ absurd cc
+  | inr s ↦ absurd s
+]
+unended_stopped n (Some (Abort x)) h = sym (unended_again n (Some (Abort x)) h)
+
 -- who has not ended itself and is not ready stops where the run was cut off
 pub running_stops : (past : Past) (n : Name) (how : Option How) → IsUnended n how → is_ready past n ≡ false → Stops Reach.cut_off past n how
 running_stops past n how (inl none) unready = inr (none, unready)
@@ -96,8 +105,8 @@ running_unended past n how (inr asked) unready = inl asked
 pub running_runs : (s : ℕ) (past : Past) (n : Name) (how : Option How) → IsUnended n how → is_ready past n ≡ false → (plan : Plan) → RunsPlan Reach.cut_off s past n plan [] how
 running_runs s past n how unended unready Plan.done = inr (running_stops past n how unended unready)
 running_runs s past n how unended unready (Plan.manage_by k next) = running_stops past n how unended unready
-running_runs s past n how unended unready (Plan.child_then number tries inner rest) =
-    no_tries (end past) _ (Stops Reach.cut_off past n how) (λ further. RunsPlan Reach.cut_off s past n rest further how) (running_stops past n how unended unready) (running_runs s past n how unended unready rest) tries
+running_runs s past n how unended unready (Plan.child_then number tries must inner rest) =
+    no_tries (end past) _ (Stops Reach.cut_off past n how) (λ last further. AfterTries Reach.cut_off past n last must (RunsPlan Reach.cut_off s past n rest further how) further how) None (running_stops past n how unended unready) (running_runs s past n how unended unready rest) tries
 running_runs s past n how unended unready (Plan.abort_then levels rest) = inr (running_unended past n how unended unready)
 
 pub unended_some : (n : Name) (how : Option How) → IsUnended n how → is_some how ≡ true → WasAsked n how
@@ -305,7 +314,7 @@ module _ (c : Client) (of : Name) where
   quit_ok cause before now grounded itself m = record {
     asked = asked_made c _ before now NoOne m (itself_end of cause itself, tt);
     leaves = leaves_end (Abort cause) before now m (cause_actor before of cause grounded);
-    tried = sym (ap is_tried_again (ends_so (Abort cause) before now m));
+    tried = subst (CameTo (ending.Stopped (is_tried_again (Some (Abort cause))))) (sym (ends_so (Abort cause) before now m)) refl;
     children = children_end (Abort cause) before now m;
     ended = λ ours. inl (ends_so (Abort cause) before now m);
   }
@@ -316,34 +325,44 @@ module _ (c : Client) (of : Name) where
       record {
         leaves = leaves_still before now m;
         asked = asked_made c [] before now NoOne m tt;
-        tried = sym (unended_again of _ (after.above of [] (sym (append-nil of)) after.nonroot).0);
+        tried = unended_stopped of _ (after.above of [] (sym (append-nil of)) after.nonroot).0;
         children = ap (λ h. children h of) (still before now m);
         ended = λ ours. inr (early after ours);
       }
 
-  pub quit_no : (cause : Cause) (before now : Past) (why : TxNo) → Runs c of before → IsGrounded before of cause → NotAborted c of cause before now why → (why ≡ tx_no.Memory → ⊥) → (why ≡ tx_no.Room → ⊥) → Quit c of (Abort cause) before now false
-  quit_no x before now tx_no.Memory runs grounded none_made other full = absurd (other refl)
-  quit_no x before now tx_no.Room runs grounded none_made other full = absurd (full refl)
-  quit_no x before now tx_no.Ended runs grounded none_made other full = quit_still (Abort x) before now runs none_made.0 (λ after ours. elim none_made.1 [
+  not_for_child : (x : Cause) → ByItself of x → IsForChild x → ⊥
+  not_for_child (cause.Child child) itself h = itself
+  not_for_child (cause.Asked by) itself h = h
+  not_for_child (cause.Orphan a) itself h = h
+  not_for_child (cause.Conflict copy holder) itself h = h
+  not_for_child (cause.NoQuorum lack) itself h = h
+  not_for_child cause.Last itself h = h
+  not_for_child cause.Killed itself h = h
+  not_for_child cause.Missed itself h = h
+
+  pub quit_no : (cause : Cause) (before now : Past) (why : TxNo) → Runs c of before → IsGrounded before of cause → ByItself of cause → NotAborted c of cause before now why → (why ≡ tx_no.Memory → ⊥) → (why ≡ tx_no.Room → ⊥) → Quit c of (Abort cause) before now false
+  quit_no x before now tx_no.Memory runs grounded itself none_made other full = absurd (other refl)
+  quit_no x before now tx_no.Room runs grounded itself none_made other full = absurd (full refl)
+  quit_no x before now tx_no.Ended runs grounded itself none_made other full = quit_still (Abort x) before now runs none_made.0 (λ after ours. elim none_made.1 [
     | inl some ↦ ended_early now after ours some
-    | inr none ↦ absurd (by_cause now x after ours grounded none)
+    | inr none ↦ absurd (by_cause now x after ours grounded itself none)
   ])
     where
-      by_cause : (now : Past) (x : Cause) → Runs c of now → AreOurs c of now → IsGrounded before of x → IsNone now x → ⊥
-      by_cause now (cause.Orphan a) after ours grounded none =
+      by_cause : (now : Past) (x : Cause) → Runs c of now → AreOurs c of now → IsGrounded before of x → ByItself of x → IsNone now x → ⊥
+      by_cause now (cause.Orphan a) after ours grounded itself none =
           let r = Rattle.qc_event.proofs.LastNumber.rest_of a of grounded.0 in
           not_committed now after ours a r.0 r.1 none
-      by_cause now (cause.Asked by) after ours grounded none = none
-      by_cause now (cause.Conflict copy holder) after ours grounded none = none
-      by_cause now (cause.NoQuorum lack) after ours grounded none = none
-      by_cause now cause.Last after ours grounded none = none
-      by_cause now cause.Killed after ours grounded none = none
-      by_cause now (cause.Child y) after ours grounded none = none
-      by_cause now cause.Missed after ours grounded none = none
-  quit_no x before now tx_no.Ready runs grounded none_made other full = quit_still (Abort x) before now runs none_made.0 (λ after ours. absurd (not_ready now after ours of [] (sym (append-nil of)) after.nonroot none_made.1))
-  quit_no x before now (tx_no.Orphan a) runs grounded none_made other full = absurd none_made
-  quit_no x before now (tx_no.Conflict copy holder) runs grounded none_made other full = absurd none_made
-  quit_no x before now (tx_no.NoQuorum lack) runs grounded none_made other full = absurd none_made
-  quit_no x before now tx_no.Last runs grounded none_made other full = absurd none_made
-  quit_no x before now (tx_no.ChildrenOpen y) runs grounded none_made other full = absurd none_made
-  quit_no x before now tx_no.Ledger runs grounded none_made other full = absurd none_made
+      by_cause now (cause.Asked by) after ours grounded itself none = none
+      by_cause now (cause.Conflict copy holder) after ours grounded itself none = none
+      by_cause now (cause.NoQuorum lack) after ours grounded itself none = none
+      by_cause now cause.Last after ours grounded itself none = none
+      by_cause now cause.Killed after ours grounded itself none = none
+      by_cause now (cause.Child y) after ours grounded itself none = itself
+      by_cause now cause.Missed after ours grounded itself none = none
+  quit_no x before now tx_no.Ready runs grounded itself none_made other full = quit_still (Abort x) before now runs none_made.0 (λ after ours. absurd (not_ready now after ours of [] (sym (append-nil of)) after.nonroot none_made.1))
+  quit_no x before now (tx_no.Orphan a) runs grounded itself none_made other full = absurd (not_for_child x itself none_made.1.0)
+  quit_no x before now (tx_no.Conflict copy holder) runs grounded itself none_made other full = absurd none_made
+  quit_no x before now (tx_no.NoQuorum lack) runs grounded itself none_made other full = absurd none_made
+  quit_no x before now tx_no.Last runs grounded itself none_made other full = absurd none_made
+  quit_no x before now (tx_no.ChildrenOpen y) runs grounded itself none_made other full = absurd none_made
+  quit_no x before now tx_no.Ledger runs grounded itself none_made other full = absurd none_made

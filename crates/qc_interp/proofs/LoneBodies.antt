@@ -62,15 +62,15 @@ module _ (c : Client) (past : Past) (legal : Legal c.setting past) where
     bodies_seen [] [] ours h = h
     bodies_seen [] (t ∷ ts) ours h = absurd h
     bodies_seen (b ∷ bodies) ts ours h =
-        tries_alike (end (mine c past)) (end past) (RunsBody reach s (mine c past) b) (RunsBody reach s past b) (NotBegun reach) (NotBegun reach) (λ further. RunsBodies reach s (mine c past) bodies further) (λ further. RunsBodies reach s past bodies further) (IsOurTop c past)
-        again_alike (λ none. none) (body_seen b) (bodies_seen bodies) b.tries ts ours h
+        tries_alike (end (mine c past)) (end past) (RunsBody reach s (mine c past) b) (RunsBody reach s past b) (NotBegun reach) (NotBegun reach) (λ last further. RunsBodies reach s (mine c past) bodies further) (λ last further. RunsBodies reach s past bodies further) (IsOurTop c past)
+        again_alike (λ none. none) (body_seen b) (λ last further was o r. bodies_seen bodies further o r) None b.tries ts tt ours h
 
   pub bodies_ask_seen : (by target : Name) (bodies : List Numbered) (ts : List Name) → AllByRecursion (IsOurTop c past) ts → BodiesAsk (mine c past) bodies ts by target → BodiesAsk past bodies ts by target
   bodies_ask_seen by target [] ts ours h = absurd h
   bodies_ask_seen by target (b ∷ bodies) ts ours h =
       tries_do_alike (end (mine c past)) (end past) (λ t. Asks (mine c past) t b.plan (children (mine c past) t) by target) (λ t. Asks past t b.plan (children past t) by target)
-      (λ further. BodiesAsk (mine c past) bodies further by target) (λ further. BodiesAsk past bodies further by target) (IsOurTop c past)
-      again_alike (λ t o a. asks_seen c t past o.1 by target b.plan (long t o.0) (at_top t) a) (λ further o. bodies_ask_seen by target bodies further o) b.tries ts ours h
+      (λ last further. BodiesAsk (mine c past) bodies further by target) (λ last further. BodiesAsk past bodies further by target) (IsOurTop c past)
+      again_alike (λ t o a. asks_seen c t past o.1 by target b.plan (long t o.0) (at_top t) a) (λ last further was o a. bodies_ask_seen by target bodies further o a) None b.tries ts tt ours h
 
 -- each top that follows a body is a user transaction of the session
 abbrev pub IsOfSession : ℕ → Past → Name → Type 0
@@ -80,4 +80,4 @@ pub each_of_session : (reach : Reach) (s : ℕ) (past : Past) (bodies : List Num
 each_of_session reach s past [] [] h = tt
 each_of_session reach s past [] (t ∷ ts) h = absurd h
 each_of_session reach s past (b ∷ bodies) ts h =
-    tries_all (end past) (RunsBody reach s past b) (IsOfSession s past) (NotBegun reach) (λ further. RunsBodies reach s past bodies further) (λ t f. (b.number, f.kind)) (each_of_session reach s past bodies) b.tries ts h
+    tries_all (end past) (RunsBody reach s past b) (IsOfSession s past) (NotBegun reach) (λ last further. RunsBodies reach s past bodies further) (λ t f. (b.number, f.kind)) (λ last further r. each_of_session reach s past bodies further r) None b.tries ts h

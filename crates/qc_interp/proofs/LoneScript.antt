@@ -348,8 +348,8 @@ module _ (s : ℕ) (past : Past) where
   bodies_begin [] [] h = h
   bodies_begin [] (t ∷ ts) h = absurd h
   bodies_begin (b ∷ bodies) ts h =
-      tries_wider (end past) (FollowsBody s past b) (RunsBody Reach.cut_off s past b) ⊥ (NotBegun Reach.cut_off) (λ further. FollowsBodies s past bodies further) (λ further. RunsBodies Reach.cut_off s past bodies further)
-      (body_begins b) (λ none. tt) (bodies_begin bodies) b.tries ts h
+      tries_wider (end past) (FollowsBody s past b) (RunsBody Reach.cut_off s past b) ⊥ (NotBegun Reach.cut_off) (λ last further. FollowsBodies s past bodies further) (λ last further. RunsBodies Reach.cut_off s past bodies further)
+      (body_begins b) (λ none. tt) (λ last further r. bodies_begin bodies further r) None b.tries ts h
 
 pub follows_begins : (session epoch : ℕ) (net : Net) (bodies : List Numbered) (past : Past) → FollowsScript session epoch net bodies past → BeginsScript session epoch net bodies past
 follows_begins session epoch net bodies past follows = record {

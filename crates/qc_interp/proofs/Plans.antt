@@ -13,10 +13,10 @@ use Rattle.qc_script.proofs.Plans.{all_before-map}
 use Rattle.qc_script.specs.Steps.{before, layer, numbered, put, plan_of}
 
 -- a body's plan is the plan of its steps
-pub numbered_is : (b : Body) → numbered b ≡ record { number = (out-Body b).number; tries = (out-Body b).tries; plan = plan_of (out-Body b).steps.items }
+pub numbered_is : (b : Body) → numbered b ≡ record { number = (out-Body b).number; tries = (out-Body b).tries; must = (out-Body b).must; plan = plan_of (out-Body b).steps.items }
 numbered_is b =
     fold_out-Body (Plan → Plan) Numbered before layer b ∙
-    ap (λ p. let n : Numbered = record { number = (out-Body b).number; tries = (out-Body b).tries; plan = p } in n) (all_before-map (out-Body b).steps.items)
+    ap (λ p. let n : Numbered = record { number = (out-Body b).number; tries = (out-Body b).tries; must = (out-Body b).must; plan = p } in n) (all_before-map (out-Body b).steps.items)
 
 pub plan_is : (b : Body) (steps : List Step) → steps ≡ (out-Body b).steps.items → plan_of steps ≡ (numbered b).plan
 plan_is b steps taken = ap plan_of taken ∙ sym (ap (λ (n : Numbered). n.plan) (numbered_is b))
@@ -26,6 +26,9 @@ tries_of b = ap (λ (n : Numbered). n.tries) (numbered_is b)
 
 pub number_of : (b : Body) → (numbered b).number ≡ (out-Body b).number
 number_of b = ap (λ (n : Numbered). n.number) (numbered_is b)
+
+pub must_of : (b : Body) → (numbered b).must ≡ (out-Body b).must
+must_of b = ap (λ (n : Numbered). n.must) (numbered_is b)
 
 -- what each step is
 pub put_read : (rec : ℕ) → put (step.Read rec) ≡ manage_then (kind.Read rec)
@@ -46,7 +49,7 @@ put_need rec value = ap put (sym (step.rolls-Need rec value)) ∙ fold-roll-Step
 pub put_reconf : (rec : ℕ) (config : Voting) → put (step.Reconf rec config) ≡ manage_then (kind.Reconf rec config)
 put_reconf rec config = ap put (sym (step.rolls-Reconf rec config)) ∙ fold-roll-Step (Plan → Plan) Numbered before layer (Step-F.Reconf rec config)
 
-pub put_child : (b : Body) → put (step.Child b) ≡ Plan.child_then (numbered b).number (numbered b).tries (numbered b).plan
+pub put_child : (b : Body) → put (step.Child b) ≡ Plan.child_then (numbered b).number (numbered b).tries (numbered b).must (numbered b).plan
 put_child b = ap put (sym (step.rolls-Child b)) ∙ fold-roll-Step (Plan → Plan) Numbered before layer (Step-F.Child b)
 
 pub put_abort : (levels : ℕ) → put (step.Abort levels) ≡ Plan.abort_then levels
@@ -56,7 +59,7 @@ put_abort levels = ap put (sym (step.rolls-Abort levels)) ∙ fold-roll-Step (Pl
 abbrev pub weight : Plan → ℕ
 weight Plan.done = 0
 weight (Plan.manage_by k next) = weight (next answer.Nothing)
-weight (Plan.child_then number tries inner rest) = weight inner + weight rest + 4
+weight (Plan.child_then number tries must inner rest) = weight inner + weight rest + 5
 weight (Plan.abort_then levels rest) = weight rest
 
 -- one step as it is open

@@ -19,7 +19,7 @@ use Rattle.qc_event.proofs.LastNumber.{child_last, child_longer, below_more}
 use Rattle.qc_event.proofs.OneEntry.{starting, ending, marking, some_or_none, not_some, all_children}
 use Rattle.qc_names.specs.Name as name
 use Rattle.qc_script.specs.Client.{Client, mine, is_own, concerns, is_commit, AreOurs, all_ours}
-use Rattle.qc_interp.specs.Follows.{Stops, HasNotEnded, GoesOn, Commits, RunsPlan}
+use Rattle.qc_interp.specs.Follows.{Stops, HasNotEnded, GoesOn, GoesOnAfter, AfterTries, Commits, RunsPlan}
 use Rattle.qc_interp.specs.Reach.{Reach}
 use Rattle.qc_script.specs.Plan.{Plan}
 use Rattle.qc_interp.specs.Asking.{DoesOn, Asks}
@@ -138,6 +138,24 @@ module _ (c : Client) (of : Name) (past : Past) (ours : AreOurs c of past) where
     ],
   )
 
+  after_seen : (reach : Reach) (n child : Name) (o : Option How) (Rest RestToo : Type 0) (further : List Name) (how : Option How) → name.is_ancestor (take 1 of) n ≡ true → (Rest → RestToo) → GoesOnAfter reach made n child o Rest further how → GoesOnAfter reach past n child o RestToo further how
+  after_seen Reach.to_the_end n child None Rest RestToo further how low step h = h
+  after_seen Reach.cut_off n child None Rest RestToo further how low step h = (h.0, unended_seen Reach.cut_off n how low h.1)
+  after_seen reach n child (Some (Commit given)) Rest RestToo further how low step h = step h
+  after_seen reach n child (Some (Abort y)) Rest RestToo further how low step h = (
+    h.0,
+    elim h.1 [
+      | inl is ↦ inl is
+      | inr x ↦ inr (stops_seen reach n how low x)
+    ],
+  )
+
+  behind_seen : (reach : Reach) (n : Name) (last : Option Name) (must : Bool) (Rest RestToo : Type 0) (further : List Name) (how : Option How) → name.is_ancestor (take 1 of) n ≡ true → IfAny Low last → (Rest → RestToo) → AfterTries reach made n last must Rest further how → AfterTries reach past n last must RestToo further how
+  behind_seen reach n None must Rest RestToo further how low was step h = step h
+  behind_seen reach n (Some child) false Rest RestToo further how low was step h = step h
+  behind_seen reach n (Some child) true Rest RestToo further how low was step h =
+      subst (λ o. GoesOnAfter reach past n child o RestToo further how) (same_end child was.0 was.1) (after_seen reach n child (end made child) Rest RestToo further how low step h)
+
   plan_seen : (reach : Reach) (s : ℕ) (n : Name) (plan : Plan) (cs : List Name) (how : Option How) → name.is_ancestor (take 1 of) n ≡ true → AllByRecursion Low cs → RunsPlan reach s made n plan cs how → RunsPlan reach s past n plan cs how
   plan_seen reach s n Plan.done [] how low all (inl is) = inl (by_how how is)
     where
@@ -153,18 +171,29 @@ module _ (c : Client) (of : Name) (past : Past) (ours : AreOurs c of past) where
     subst (λ o. GoesOn reach past n o (λ given. RunsPlan reach s past n (next given) cs how) cs how) (same_end x all.0.0 all.0.1)
         (goes_seen reach n (end made x) (λ given. RunsPlan reach s made n (next given) cs how) (λ given. RunsPlan reach s past n (next given) cs how) cs how low (λ given. plan_seen reach s n (next given) cs how low all.1) h.1),
   )
-  plan_seen reach s n (Plan.child_then number tries inner rest) cs how low all h =
-      tries_alike (end made) (end past) _ _ (Stops reach made n how) (Stops reach past n how) (λ further. RunsPlan reach s made n rest further how) (λ further. RunsPlan reach s past n rest further how) Low again_low (stops_seen reach n how low)
+  plan_seen reach s n (Plan.child_then number tries must inner rest) cs how low all h =
+      tries_alike (end made) (end past) _ _ (Stops reach made n how) (Stops reach past n how) (λ last further. AfterTries reach made n last must (RunsPlan reach s made n rest further how) further how)
+      (λ last further. AfterTries reach past n last must (RunsPlan reach s past n rest further how) further how) Low again_low (stops_seen reach n how low)
       (λ x lx t. (
         sym (same_kind x lx.0) ∙ t.0,
         subst (λ o. RunsPlan reach s past x inner (children past x) o) (same_end x lx.0 lx.1)
             (subst (λ xs. RunsPlan reach s past x inner xs (end made x)) (same_children x lx.0)
             (plan_seen reach s x inner (children made x) (end made x) lx.0 (low_children x lx.0 (longer x lx) (children made x) (all_children made x)) t.1)),
       ))
-      (λ further lf f. plan_seen reach s n rest further how low lf f) tries cs all h
+      (λ last further was lf f. behind_seen reach n last must (RunsPlan reach s made n rest further how) (RunsPlan reach s past n rest further how) further how low was (plan_seen reach s n rest further how low lf) f) None tries cs tt all h
   plan_seen reach s n (Plan.abort_then levels rest) [] how low all (inl is) = inl is
   plan_seen reach s n (Plan.abort_then levels rest) [] how low all (inr x) = inr (unended_seen reach n how low x)
   plan_seen reach s n (Plan.abort_then levels rest) (x ∷ cs) how low all h = absurd h
+
+  does_after_seen : (last : Option Name) (must : Bool) (Does DoesToo : Type 0) → IfAny Low last → (Does → DoesToo) → DoesAfter made last must Does → DoesAfter past last must DoesToo
+  does_after_seen None must Does DoesToo was step h = step h
+  does_after_seen (Some child) false Does DoesToo was step h = step h
+  does_after_seen (Some child) true Does DoesToo was step h = subst (λ o. DoesOn o (λ given. DoesToo)) (same_end child was.0 was.1) (by_end (end made child) h)
+    where
+      by_end : (o : Option How) → DoesOn o (λ given. Does) → DoesOn o (λ given. DoesToo)
+      by_end None g = g
+      by_end (Some (Commit given)) g = step g
+      by_end (Some (Abort y)) g = g
 
   plan_asks_seen : (by target n : Name) (plan : Plan) (cs : List Name) → AllByRecursion Low cs → Asks made n plan cs by target → Asks past n plan cs by target
   plan_asks_seen by target n Plan.done cs all h = absurd h
@@ -177,10 +206,11 @@ module _ (c : Client) (of : Name) (past : Past) (ours : AreOurs c of past) where
       by_end None step g = g
       by_end (Some (Commit given)) step g = step given g
       by_end (Some (Abort y)) step g = g
-  plan_asks_seen by target n (Plan.child_then number tries inner rest) cs all h =
-      tries_do_alike (end made) (end past) (λ x. Asks made x inner (children made x) by target) (λ x. Asks past x inner (children past x) by target) (λ further. Asks made n rest further by target) (λ further. Asks past n rest further by target) Low again_low
+  plan_asks_seen by target n (Plan.child_then number tries must inner rest) cs all h =
+      tries_do_alike (end made) (end past) (λ x. Asks made x inner (children made x) by target) (λ x. Asks past x inner (children past x) by target) (λ last further. DoesAfter made last must (Asks made n rest further by target))
+      (λ last further. DoesAfter past last must (Asks past n rest further by target)) Low again_low
       (λ x lx t. subst (λ xs. Asks past x inner xs by target) (same_children x lx.0) (plan_asks_seen by target x inner (children made x) (low_children x lx.0 (longer x lx) (children made x) (all_children made x)) t))
-      (λ further lf f. plan_asks_seen by target n rest further lf f) tries cs all h
+      (λ last further was lf f. does_after_seen last must (Asks made n rest further by target) (Asks past n rest further by target) was (plan_asks_seen by target n rest further lf) f) None tries cs tt all h
   plan_asks_seen by target n (Plan.abort_then levels rest) [] all h = h
   plan_asks_seen by target n (Plan.abort_then levels rest) (x ∷ cs) all h = absurd h
 

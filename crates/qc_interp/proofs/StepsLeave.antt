@@ -25,12 +25,13 @@ use Rattle.qc_interp.specs.Reach.{Reach}
 use Rattle.qc_script.specs.Plan.{Plan, manage_then}
 use Rattle.qc_script.specs.Plan.{KindFits}
 use Rattle.qc_interp.specs.Running.{Runs, Leaves, WhyStop, StopsBy, Stopped, Ended, CutOff, WentOn, WentBy}
+use Rattle.qc_interp.specs.declared.stops.Ending.TheVariants as ending
 use Rattle.qc_script.specs.declared.tx.TxNo.{TxNo}
 use Rattle.qc_script.specs.declared.tx.TxNo.TheVariants as tx_no
 use Rattle.qc_interp.proofs.Mine.{end_some, kind_still, kept_some, some_is}
 use Rattle.qc_interp.proofs.Growth.{made_both, ours_before, own_found}
 use Rattle.qc_interp.proofs.Managers.{Managed, managed, Interrupted, interrupted}
-use Rattle.qc_interp.proofs.Ending.{asked_early, unended_again, running_stops, running_unended, top_above, not_ready, ended_early, leaves_itself, leaves_trans, leaves_cut, cut_still, still, leaves_still, runs_still}
+use Rattle.qc_interp.proofs.Ending.{asked_early, unended_stopped, running_stops, running_unended, top_above, not_ready, ended_early, leaves_itself, leaves_trans, leaves_cut, cut_still, still, leaves_still, runs_still}
 use Rattle.qc_interp.specs.Asking.{DoesOn, Asks, AllAsked}
 use Rattle.qc_interp.proofs.Asked.{NoOne, asked_made, asked_none, asked_wider, asked_trans}
 use Rattle.qc_interp.proofs.Adding.{over_later}
@@ -169,7 +170,7 @@ module _ (c : Client) (of : Name) where
 
   -- it stops without a child
   pub stopped_still : (before mid now : Past) (why : TxNo) (again : Bool) (plan : Plan) → Made c [] before mid → Stopped c of why mid now again
-      → (StopsBy of why (end (mine c now) of) → FollowsPlan c.session (mine c now) of plan [] (end (mine c now) of)) → Ended c of before now plan again
+      → (StopsBy of why (end (mine c now) of) → FollowsPlan c.session (mine c now) of plan [] (end (mine c now) of)) → Ended c of before now plan (ending.Stopped again)
   stopped_still before mid now why again plan m stopped follows = record {
     leaves = leaves_trans c of before mid now (leaves_still c of before mid m) stopped.leaves;
     tried = stopped.tried;
@@ -178,7 +179,7 @@ module _ (c : Client) (of : Name) where
 
   -- it stops with the manager as its last child
   stopped_managed : (k : Kind) (x : Cause) (m : Name) (before mid now : Past) (why : TxNo) (again : Bool) (next : Answer → Plan) → Managed c of k (Abort x) m before mid → Stopped c of why mid now again
-      → (StopsBy of why (end (mine c now) of) → ((is_handed_on x ≡ true) × (end (mine c now) of ≡ Some (Abort x))) ⊎ StopsEarly of (end (mine c now) of)) → Ended c of before now (Plan.manage_by k next) again
+      → (StopsBy of why (end (mine c now) of) → ((is_handed_on x ≡ true) × (end (mine c now) of ≡ Some (Abort x))) ⊎ StopsEarly of (end (mine c now) of)) → Ended c of before now (Plan.manage_by k next) (ending.Stopped again)
   stopped_managed k x m before mid now why again next ran stopped handed = record {
     leaves = leaves_trans c of before mid now (leaves_managed k _ m before mid ran) stopped.leaves;
     tried = stopped.tried;
@@ -202,7 +203,7 @@ module _ (c : Client) (of : Name) where
   orphan_early a how (inl e) = subst (StopsEarly of) (sym e) tt
   orphan_early a how (inr s) = asked_early of how s
 
-  pub manage_over : (k : Kind) (before mid now : Past) (why : TxNo) (again : Bool) (next : Answer → Plan) → Runs c of before → GaveNone c of k before mid why → (why ≡ tx_no.Memory → ⊥) → (why ≡ tx_no.Room → ⊥) → Stopped c of why mid now again → Ended c of before now (Plan.manage_by k next) again
+  pub manage_over : (k : Kind) (before mid now : Past) (why : TxNo) (again : Bool) (next : Answer → Plan) → Runs c of before → GaveNone c of k before mid why → (why ≡ tx_no.Memory → ⊥) → (why ≡ tx_no.Room → ⊥) → Stopped c of why mid now again → Ended c of before now (Plan.manage_by k next) (ending.Stopped again)
   manage_over k before mid now tx_no.Memory again next runs none other full stopped = absurd (other refl)
   manage_over k before mid now tx_no.Room again next runs none other full stopped = absurd (full refl)
   manage_over k before mid now (tx_no.Orphan a) again next runs none other full stopped = elim none.1 [
@@ -303,7 +304,7 @@ module _ (c : Client) (of : Name) where
   stop_here now why runs early = record {
     leaves = leaves_itself c of now runs.legal;
     asked = ([], refl, tt);
-    tried = sym (unended_again of _ (runs.above of [] (sym (append-nil of)) runs.nonroot).0);
+    tried = unended_stopped of _ (runs.above of [] (sym (append-nil of)) runs.nonroot).0;
     children = refl;
     ended = early;
   }

@@ -13,7 +13,7 @@ use Rattle.qc_event.proofs.Histories.{earliest-append}
 use Rattle.qc_event.proofs.OneEntry.{stays_some}
 use Rattle.qc_script.specs.Plan.{Plan}
 use Rattle.qc_interp.specs.Tries.{Tries, is_tried_again}
-use Rattle.qc_interp.specs.Follows.{StopsEarly, WasAsked, Stops, HasNotEnded, GoesOn, Commits, RunsPlan, FollowsPlan, asked_end}
+use Rattle.qc_interp.specs.Follows.{StopsEarly, WasAsked, Stops, HasNotEnded, GoesOn, GoesOnAfter, AfterTries, Commits, RunsPlan, FollowsPlan, asked_end}
 use Rattle.qc_interp.specs.Reach.{Reach}
 use Rattle.qc_interp.proofs.Mine.{Closed, CommittedSince, children_still, how_still, end_some, kind_still, kept_append}
 
@@ -44,14 +44,28 @@ goes_done past n (Some (Abort c)) Rest further how rest h = elim h.1 [
   | inr s ↦ inl (stopped_some n how s)
 ]
 
-tries_done : (ended : Name → Option How) (IsTry : Name → Type 0) (Stopped : Type 0) (Rest : List Name → Type 0) (Goal : Type 0) → (Stopped → Goal) → ((cs : List Name) → Rest cs → Goal) → (left : ℕ) (cs : List Name) → Tries ended IsTry Stopped Rest left cs → Goal
-tries_done ended IsTry Stopped Rest Goal stop rest zero cs h = rest cs h
-tries_done ended IsTry Stopped Rest Goal stop rest (suc left) [] h = stop h
-tries_done ended IsTry Stopped Rest Goal stop rest (suc left) (c ∷ cs) h = by_test (is_tried_again (ended c)) h.1 (tries_done ended IsTry Stopped Rest Goal stop rest left cs)
+tries_done : (ended : Name → Option How) (IsTry : Name → Type 0) (Stopped : Type 0) (Rest : Option Name → List Name → Type 0) (Goal : Type 0) → (Stopped → Goal) → ((last : Option Name) (cs : List Name) → Rest last cs → Goal) → (last : Option Name) (left : ℕ) (cs : List Name) → Tries ended IsTry Stopped Rest last left cs → Goal
+tries_done ended IsTry Stopped Rest Goal stop rest last zero cs h = rest last cs h
+tries_done ended IsTry Stopped Rest Goal stop rest last (suc left) [] h = stop h
+tries_done ended IsTry Stopped Rest Goal stop rest last (suc left) (c ∷ cs) h = by_test (is_tried_again (ended c)) h.1 (tries_done ended IsTry Stopped Rest Goal stop rest (Some c) left cs)
   where
-    by_test : (b : Bool) → MatchBool b (Tries ended IsTry Stopped Rest left cs) (Rest cs) → (Tries ended IsTry Stopped Rest left cs → Goal) → Goal
+    by_test : (b : Bool) → MatchBool b (Tries ended IsTry Stopped Rest (Some c) left cs) (Rest (Some c) cs) → (Tries ended IsTry Stopped Rest (Some c) left cs → Goal) → Goal
     by_test true h more = more h
-    by_test false h more = rest cs h
+    by_test false h more = rest (Some c) cs h
+
+-- who was aborted for a child, or stopped early, has ended
+after_done : (past : Past) (n child : Name) (o : Option How) (Rest : Type 0) (further : List Name) (how : Option How) → (Rest → Done past n how) → GoesOnAfter Reach.to_the_end past n child o Rest further how → Done past n how
+after_done past n child None Rest further how rest h = absurd h
+after_done past n child (Some (Commit given)) Rest further how rest h = rest h
+after_done past n child (Some (Abort c)) Rest further how rest h = elim h.1 [
+  | inl is ↦ inl (ap is_some is.1)
+  | inr s ↦ inl (stopped_some n how s)
+]
+
+behind_done : (past : Past) (n : Name) (last : Option Name) (must : Bool) (Rest : Type 0) (further : List Name) (how : Option How) → (Rest → Done past n how) → AfterTries Reach.to_the_end past n last must Rest further how → Done past n how
+behind_done past n None must Rest further how rest h = rest h
+behind_done past n (Some child) false Rest further how rest h = rest h
+behind_done past n (Some child) true Rest further how rest h = after_done past n child (end past child) Rest further how rest h
 
 pub followed_done : (s : ℕ) (past : Past) (n : Name) (plan : Plan) (cs : List Name) (how : Option How) → FollowsPlan s past n plan cs how → Done past n how
 followed_done s past n Plan.done [] how (inl is) = committed_done past n how is
@@ -60,8 +74,9 @@ followed_done s past n Plan.done (c ∷ cs) how h = absurd h
 followed_done s past n (Plan.manage_by k next) [] how h = inl (stopped_some n how h)
 followed_done s past n (Plan.manage_by k next) (c ∷ cs) how h =
     goes_done past n (end past c) (λ given. FollowsPlan s past n (next given) cs how) cs how (λ given. followed_done s past n (next given) cs how) h.1
-followed_done s past n (Plan.child_then number tries inner rest) cs how h =
-    tries_done (end past) _ (StopsEarly n how) (λ further. FollowsPlan s past n rest further how) (Done past n how) (λ x. inl (stopped_some n how x)) (λ further f. followed_done s past n rest further how f) tries cs h
+followed_done s past n (Plan.child_then number tries must inner rest) cs how h =
+    tries_done (end past) _ (StopsEarly n how) (λ last further. AfterTries Reach.to_the_end past n last must (FollowsPlan s past n rest further how) further how) (Done past n how) (λ x. inl (stopped_some n how x))
+    (λ last further f. behind_done past n last must (FollowsPlan s past n rest further how) further how (followed_done s past n rest further how) f) None tries cs h
 followed_done s past n (Plan.abort_then levels rest) [] how (inl is) = inl (by_levels levels is)
   where
     by_levels : (l : ℕ) → how ≡ asked_end n l → is_some how ≡ true
@@ -96,14 +111,28 @@ goes_committed reach past n (Some (Abort c)) Rest Rest2 further how ready step h
   | inr x ↦ absurd (ready_not reach past n ready x)
 ]
 
-pub tries_wider : (ended : Name → Option How) (IsTry IsTry2 : Name → Type 0) (Stopped Stopped2 : Type 0) (Rest Rest2 : List Name → Type 0) → ((c : Name) → IsTry c → IsTry2 c) → (Stopped → Stopped2) → ((cs : List Name) → Rest cs → Rest2 cs) → (left : ℕ) (cs : List Name) → Tries ended IsTry Stopped Rest left cs → Tries ended IsTry2 Stopped2 Rest2 left cs
-tries_wider ended IsTry IsTry2 Stopped Stopped2 Rest Rest2 try stop rest zero cs h = rest cs h
-tries_wider ended IsTry IsTry2 Stopped Stopped2 Rest Rest2 try stop rest (suc left) [] h = stop h
-tries_wider ended IsTry IsTry2 Stopped Stopped2 Rest Rest2 try stop rest (suc left) (c ∷ cs) h = (try c h.0, by_test (is_tried_again (ended c)) (tries_wider ended IsTry IsTry2 Stopped Stopped2 Rest Rest2 try stop rest left cs) h.1)
+pub tries_wider : (ended : Name → Option How) (IsTry IsTry2 : Name → Type 0) (Stopped Stopped2 : Type 0) (Rest Rest2 : Option Name → List Name → Type 0) → ((c : Name) → IsTry c → IsTry2 c) → (Stopped → Stopped2) → ((last : Option Name) (cs : List Name) → Rest last cs → Rest2 last cs) → (last : Option Name) (left : ℕ) (cs : List Name) → Tries ended IsTry Stopped Rest last left cs → Tries ended IsTry2 Stopped2 Rest2 last left cs
+tries_wider ended IsTry IsTry2 Stopped Stopped2 Rest Rest2 try stop rest last zero cs h = rest last cs h
+tries_wider ended IsTry IsTry2 Stopped Stopped2 Rest Rest2 try stop rest last (suc left) [] h = stop h
+tries_wider ended IsTry IsTry2 Stopped Stopped2 Rest Rest2 try stop rest last (suc left) (c ∷ cs) h = (try c h.0, by_test (is_tried_again (ended c)) (tries_wider ended IsTry IsTry2 Stopped Stopped2 Rest Rest2 try stop rest (Some c) left cs) h.1)
   where
-    by_test : (b : Bool) → (Tries ended IsTry Stopped Rest left cs → Tries ended IsTry2 Stopped2 Rest2 left cs) → MatchBool b (Tries ended IsTry Stopped Rest left cs) (Rest cs) → MatchBool b (Tries ended IsTry2 Stopped2 Rest2 left cs) (Rest2 cs)
+    by_test : (b : Bool) → (Tries ended IsTry Stopped Rest (Some c) left cs → Tries ended IsTry2 Stopped2 Rest2 (Some c) left cs) → MatchBool b (Tries ended IsTry Stopped Rest (Some c) left cs) (Rest (Some c) cs) → MatchBool b (Tries ended IsTry2 Stopped2 Rest2 (Some c) left cs) (Rest2 (Some c) cs)
     by_test true more x = more x
-    by_test false more x = rest cs x
+    by_test false more x = rest (Some c) cs x
+
+after_committed : (reach : Reach) (past : Past) (n child : Name) (o : Option How) (Rest Rest2 : Type 0) (further : List Name) (how : How) → is_ready past n ≡ true → (Rest → Rest2) → GoesOnAfter reach past n child o Rest further None → GoesOnAfter reach past n child o Rest2 further (Some how)
+after_committed Reach.to_the_end past n child None Rest Rest2 further how ready step h = absurd h
+after_committed Reach.cut_off past n child None Rest Rest2 further how ready step h = absurd (unended_not Reach.cut_off past n ready h.1)
+after_committed reach past n child (Some (Commit given)) Rest Rest2 further how ready step h = step h
+after_committed reach past n child (Some (Abort c)) Rest Rest2 further how ready step h = elim h.1 [
+  | inl is ↦ absurd cc
+  | inr x ↦ absurd (ready_not reach past n ready x)
+]
+
+behind_committed : (reach : Reach) (past : Past) (n : Name) (last : Option Name) (must : Bool) (Rest Rest2 : Type 0) (further : List Name) (how : How) → is_ready past n ≡ true → (Rest → Rest2) → AfterTries reach past n last must Rest further None → AfterTries reach past n last must Rest2 further (Some how)
+behind_committed reach past n None must Rest Rest2 further how ready step h = step h
+behind_committed reach past n (Some child) false Rest Rest2 further how ready step h = step h
+behind_committed reach past n (Some child) true Rest Rest2 further how ready step h = after_committed reach past n child (end past child) Rest Rest2 further how ready step h
 
 pub plan_committed : (reach : Reach) (s : ℕ) (past : Past) (n : Name) (plan : Plan) (cs : List Name) (given : Answer) → is_ready past n ≡ true → RunsPlan reach s past n plan cs None → RunsPlan reach s past n plan cs (Some (Commit given))
 plan_committed reach s past n Plan.done [] given ready (inl is) = inl tt
@@ -115,9 +144,10 @@ plan_committed reach s past n (Plan.manage_by k next) (c ∷ cs) given ready h =
   goes_committed reach past n (end past c) (λ told. RunsPlan reach s past n (next told) cs None) (λ told. RunsPlan reach s past n (next told) cs (Some (Commit given))) cs (Commit given) ready
       (λ told. plan_committed reach s past n (next told) cs given ready) h.1,
 )
-plan_committed reach s past n (Plan.child_then number tries inner rest) cs given ready h =
-    tries_wider (end past) _ _ (Stops reach past n None) (Stops reach past n (Some (Commit given))) (λ further. RunsPlan reach s past n rest further None) (λ further. RunsPlan reach s past n rest further (Some (Commit given)))
-    (λ c t. t) (λ x. absurd (ready_not reach past n ready x)) (λ further f. plan_committed reach s past n rest further given ready f) tries cs h
+plan_committed reach s past n (Plan.child_then number tries must inner rest) cs given ready h =
+    tries_wider (end past) _ _ (Stops reach past n None) (Stops reach past n (Some (Commit given))) (λ last further. AfterTries reach past n last must (RunsPlan reach s past n rest further None) further None)
+    (λ last further. AfterTries reach past n last must (RunsPlan reach s past n rest further (Some (Commit given))) further (Some (Commit given))) (λ c t. t) (λ x. absurd (ready_not reach past n ready x))
+    (λ last further f. behind_committed reach past n last must (RunsPlan reach s past n rest further None) (RunsPlan reach s past n rest further (Some (Commit given))) further (Commit given) ready (plan_committed reach s past n rest further given ready) f) None tries cs h
 plan_committed reach s past n (Plan.abort_then levels rest) [] given ready (inl is) = absurd (by_levels levels is)
   where
     by_levels : (l : ℕ) → None ≡ asked_end n l → ⊥
@@ -154,6 +184,22 @@ goes_any reach past n (Some (Abort c)) Rest Rest2 further how step h = (
   ],
 )
 
+after_any : (reach : Reach) (past : Past) (n child : Name) (o : Option How) (Rest Rest2 : Type 0) (further : List Name) (how : Option How) → (Rest → Rest2) → GoesOnAfter Reach.to_the_end past n child o Rest further how → GoesOnAfter reach past n child o Rest2 further how
+after_any reach past n child None Rest Rest2 further how step h = absurd h
+after_any reach past n child (Some (Commit given)) Rest Rest2 further how step h = step h
+after_any reach past n child (Some (Abort c)) Rest Rest2 further how step h = (
+  h.0,
+  elim h.1 [
+    | inl is ↦ inl is
+    | inr x ↦ inr (stops_early reach past n how x)
+  ],
+)
+
+behind_any : (reach : Reach) (past : Past) (n : Name) (last : Option Name) (must : Bool) (Rest Rest2 : Type 0) (further : List Name) (how : Option How) → (Rest → Rest2) → AfterTries Reach.to_the_end past n last must Rest further how → AfterTries reach past n last must Rest2 further how
+behind_any reach past n None must Rest Rest2 further how step h = step h
+behind_any reach past n (Some child) false Rest Rest2 further how step h = step h
+behind_any reach past n (Some child) true Rest Rest2 further how step h = after_any reach past n child (end past child) Rest Rest2 further how step h
+
 pub follows_runs : (reach : Reach) (s : ℕ) (past : Past) (n : Name) (plan : Plan) (cs : List Name) (how : Option How) → FollowsPlan s past n plan cs how → RunsPlan reach s past n plan cs how
 follows_runs reach s past n Plan.done [] how (inl is) = inl is
 follows_runs reach s past n Plan.done [] how (inr x) = inr (stops_early reach past n how x)
@@ -163,9 +209,10 @@ follows_runs reach s past n (Plan.manage_by k next) (c ∷ cs) how h = (
   h.0,
   goes_any reach past n (end past c) (λ given. FollowsPlan s past n (next given) cs how) (λ given. RunsPlan reach s past n (next given) cs how) cs how (λ given. follows_runs reach s past n (next given) cs how) h.1,
 )
-follows_runs reach s past n (Plan.child_then number tries inner rest) cs how h =
-    tries_wider (end past) _ _ (StopsEarly n how) (Stops reach past n how) (λ further. FollowsPlan s past n rest further how) (λ further. RunsPlan reach s past n rest further how)
-    (λ c t. (t.0, follows_runs reach s past c inner (children past c) (end past c) t.1)) (stops_early reach past n how) (λ further f. follows_runs reach s past n rest further how f) tries cs h
+follows_runs reach s past n (Plan.child_then number tries must inner rest) cs how h =
+    tries_wider (end past) _ _ (StopsEarly n how) (Stops reach past n how) (λ last further. AfterTries Reach.to_the_end past n last must (FollowsPlan s past n rest further how) further how)
+    (λ last further. AfterTries reach past n last must (RunsPlan reach s past n rest further how) further how) (λ c t. (t.0, follows_runs reach s past c inner (children past c) (end past c) t.1)) (stops_early reach past n how)
+    (λ last further f. behind_any reach past n last must (FollowsPlan s past n rest further how) (RunsPlan reach s past n rest further how) further how (follows_runs reach s past n rest further how) f) None tries cs h
 follows_runs reach s past n (Plan.abort_then levels rest) [] how (inl is) = inl is
 follows_runs reach s past n (Plan.abort_then levels rest) [] how (inr x) = inr (asked_unended reach past n how x)
 follows_runs reach s past n (Plan.abort_then levels rest) (c ∷ cs) how h = absurd h
@@ -200,22 +247,32 @@ module _ (s : ℕ) (p : Entry → Bool) (setting : Setting) (newer past : Past) 
       by_end a (Some (Abort c)) h = absurd h
       by_end a (Some (Commit given)) h = sym (ap is_tried_again h)
 
-  pub tries_still : (IsTry IsTryNow : Name → Type 0) (Stopped StoppedNow : Type 0) (Rest RestNow : List Name → Type 0)
-      → ((c : Name) → IsTry c → IsTryNow c × Closed old c) → (Stopped → StoppedNow) → ((cs : List Name) → Rest cs → RestNow cs)
-      → (left : ℕ) (cs : List Name) → Tries (end old) IsTry Stopped Rest left cs → Tries (end now) IsTryNow StoppedNow RestNow left cs
-  tries_still IsTry IsTryNow Stopped StoppedNow Rest RestNow try stop rest zero cs h = rest cs h
-  tries_still IsTry IsTryNow Stopped StoppedNow Rest RestNow try stop rest (suc left) [] h = stop h
-  tries_still IsTry IsTryNow Stopped StoppedNow Rest RestNow try stop rest (suc left) (c ∷ cs) h =
+  pub tries_still : (IsTry IsTryNow : Name → Type 0) (Stopped StoppedNow : Type 0) (Rest RestNow : Option Name → List Name → Type 0)
+      → ((c : Name) → IsTry c → IsTryNow c × Closed old c) → (Stopped → StoppedNow) → ((last : Option Name) (cs : List Name) → Rest last cs → RestNow last cs)
+      → (last : Option Name) (left : ℕ) (cs : List Name) → Tries (end old) IsTry Stopped Rest last left cs → Tries (end now) IsTryNow StoppedNow RestNow last left cs
+  tries_still IsTry IsTryNow Stopped StoppedNow Rest RestNow try stop rest last zero cs h = rest last cs h
+  tries_still IsTry IsTryNow Stopped StoppedNow Rest RestNow try stop rest last (suc left) [] h = stop h
+  tries_still IsTry IsTryNow Stopped StoppedNow Rest RestNow try stop rest last (suc left) (c ∷ cs) h =
       let one = try c h.0 in (
         one.0,
-        subst (λ b. MatchBool b (Tries (end now) IsTryNow StoppedNow RestNow left cs) (RestNow cs)) (sym (again_still c one.1))
-            (by_test (is_tried_again (end old c)) h.1 (tries_still IsTry IsTryNow Stopped StoppedNow Rest RestNow try stop rest left cs)),
+        subst (λ b. MatchBool b (Tries (end now) IsTryNow StoppedNow RestNow (Some c) left cs) (RestNow (Some c) cs)) (sym (again_still c one.1))
+            (by_test (is_tried_again (end old c)) h.1 (tries_still IsTry IsTryNow Stopped StoppedNow Rest RestNow try stop rest (Some c) left cs)),
       )
     where
-      by_test : (b : Bool) → MatchBool b (Tries (end old) IsTry Stopped Rest left cs) (Rest cs) → (Tries (end old) IsTry Stopped Rest left cs → Tries (end now) IsTryNow StoppedNow RestNow left cs)
-          → MatchBool b (Tries (end now) IsTryNow StoppedNow RestNow left cs) (RestNow cs)
+      by_test : (b : Bool) → MatchBool b (Tries (end old) IsTry Stopped Rest (Some c) left cs) (Rest (Some c) cs) → (Tries (end old) IsTry Stopped Rest (Some c) left cs → Tries (end now) IsTryNow StoppedNow RestNow (Some c) left cs)
+          → MatchBool b (Tries (end now) IsTryNow StoppedNow RestNow (Some c) left cs) (RestNow (Some c) cs)
       by_test true h more = more h
-      by_test false h more = rest cs h
+      by_test false h more = rest (Some c) cs h
+
+  after_still : (n child : Name) (Rest RestNow : Type 0) (further : List Name) (how : Option How) → (Rest → RestNow) → (o : Option How) → end old child ≡ o → GoesOnAfter Reach.to_the_end old n child o Rest further how → GoesOnAfter Reach.to_the_end now n child (end now child) RestNow further how
+  after_still n child Rest RestNow further how step None is h = absurd h
+  after_still n child Rest RestNow further how step (Some (Commit given)) is h = subst (λ o. GoesOnAfter Reach.to_the_end now n child o RestNow further how) (sym (end_some p setting newer past child (Commit given) is)) (step h)
+  after_still n child Rest RestNow further how step (Some (Abort x)) is h = subst (λ o. GoesOnAfter Reach.to_the_end now n child o RestNow further how) (sym (end_some p setting newer past child (Abort x) is)) h
+
+  behind_still : (n : Name) (last : Option Name) (must : Bool) (Rest RestNow : Type 0) (further : List Name) (how : Option How) → (Rest → RestNow) → AfterTries Reach.to_the_end old n last must Rest further how → AfterTries Reach.to_the_end now n last must RestNow further how
+  behind_still n None must Rest RestNow further how step h = step h
+  behind_still n (Some child) false Rest RestNow further how step h = step h
+  behind_still n (Some child) true Rest RestNow further how step h = after_still n child Rest RestNow further how step (end old child) refl h
 
   -- a child that follows its plan is closed, so its children stand, and its end but for a top's commit
   pub child_still : (c : Name) (inner : Plan) → ((cs : List Name) (how : Option How) → FollowsPlan s old c inner cs how → FollowsPlan s now c inner cs how)
@@ -246,9 +303,11 @@ module _ (s : ℕ) (p : Entry → Bool) (setting : Setting) (newer past : Past) 
     kind_still p setting newer past c k h.0,
     goes_still n c (λ given. FollowsPlan s old n (next given) cs how) (λ given. FollowsPlan s now n (next given) cs how) cs how (λ given. plan_still n (next given) cs how) (end old c) refl h.1,
   )
-  plan_still n (Plan.child_then number tries inner rest) cs how h =
-      tries_still _ _ (StopsEarly n how) (StopsEarly n how) (λ further. FollowsPlan s old n rest further how) (λ further. FollowsPlan s now n rest further how)
-      (λ c t. let one = child_still c inner (plan_still c inner) t.1 in ((kind_still p setting newer past c _ t.0, one.0), one.1)) (λ x. x) (λ further f. plan_still n rest further how f) tries cs h
+  plan_still n (Plan.child_then number tries must inner rest) cs how h =
+      tries_still _ _ (StopsEarly n how) (StopsEarly n how) (λ last further. AfterTries Reach.to_the_end old n last must (FollowsPlan s old n rest further how) further how)
+      (λ last further. AfterTries Reach.to_the_end now n last must (FollowsPlan s now n rest further how) further how)
+      (λ c t. let one = child_still c inner (plan_still c inner) t.1 in ((kind_still p setting newer past c _ t.0, one.0), one.1)) (λ x. x)
+      (λ last further f. behind_still n last must (FollowsPlan s old n rest further how) (FollowsPlan s now n rest further how) further how (plan_still n rest further how) f) None tries cs h
   plan_still n (Plan.abort_then levels rest) [] how h = h
   plan_still n (Plan.abort_then levels rest) (c ∷ cs) how h = absurd h
 

@@ -1,7 +1,7 @@
 -- What the tries of a body leave that run as tops, and what the tops of all bodies leave.
 use Rattle.std.proofs.Common.{◌≡◌, inl, inr, ℕ, suc, ◌<◌, ◌+◌, ◌≤◌, Bool, true, false, List, [], ◌∷◌, ◌++◌, length, drop, map, get_or, refl, sym, ap, ◌∙◌, subst, append-nil, append_assoc, arith, length-append, add-one, drop-cons, take}
 use mathlib.Core.Bool.{true≢false}
-use Rattle.std.specs.Prelude.{None, Some, MatchOption, MatchBool, is_some, is_none, find, option_map, ◌&&◌, ◌||◌}
+use Rattle.std.specs.Prelude.{Option, None, Some, MatchOption, MatchBool, is_some, is_none, find, option_map, ◌&&◌, ◌||◌}
 use Rattle.std.specs.List.{AllByRecursion, list_all}
 use Rattle.std.proofs.lemmas.Bool.{false_from_ne_true}
 use Rattle.std.proofs.lemmas.List.{drop_all}
@@ -33,7 +33,8 @@ use Rattle.qc_interp.specs.Turns.{is_done}
 use Rattle.qc_script.specs.Numbers.{each}
 use Rattle.qc_interp.proofs.Adding.{numbers_stay, one_both, all_one, all_later, after_stay, begun_after, all_over_more, over_ended}
 use Rattle.qc_interp.proofs.Turning.{InTurn, Alone, start_turns, alone_up, some_done, itself}
-use Rattle.qc_interp.specs.Tries.{Tries, is_tried_again, TriesDo}
+use Rattle.qc_interp.specs.Tries.{Tries, is_tried_again, is_again, TriesDo}
+use Rattle.qc_interp.specs.declared.stops.Ending.{Ending}
 use Rattle.qc_interp.proofs.TriesAlike.{no_tries}
 use Rattle.qc_interp.proofs.Mine.{kept_some}
 use Rattle.qc_interp.proofs.Still.{follows_runs, follows_still, followed_done, done_closed, again_still}
@@ -46,7 +47,7 @@ use Rattle.qc_script.specs.Numbers.{Numbers, own_next}
 use Rattle.qc_script.specs.Calls.{is_over}
 use Rattle.qc_interp.specs.Asking.{Asks, BodiesAsk, AllAsked}
 use Rattle.qc_interp.proofs.Asked.{asked_made, asked_wider, asked_trans, asks_still}
-use Rattle.qc_interp.proofs.Tried.{match_true, match_false}
+use Rattle.qc_interp.proofs.Tried.{again_is, match_true, match_false}
 
 -- A TOP THAT BEGINS
 
@@ -230,8 +231,8 @@ module _ (c : Client) (t : Name) (body : Numbered) (before mid now : Past) (top 
           let e = ends ours in
           asked_trans c before mid now _ (asked_made c _ before mid _ m (tt, tt)) (asked_wider _ _ (λ by n a. subst (λ cs. Asks (mine c now) t body.plan cs by n) (sym (all_are e.0 e.1)) a) c mid now e.3)
 
-  pub top_once : (again : Bool) → Ended c t mid now body.plan again → TriedTop c body before now again
-  top_once again ended = record {
+  pub top_once : (to : Ending) → Ended c t mid now body.plan to → TriedTop c body before now (is_again to)
+  top_once to ended = record {
     later = later_is Reach.to_the_end ended.leaves;
     top = t;
     more = more_is Reach.to_the_end ended.leaves;
@@ -251,7 +252,7 @@ module _ (c : Client) (t : Name) (body : Numbered) (before mid now : Past) (top 
     };
     follows = follows_is;
     asked = asked_is Reach.to_the_end ended.leaves ended.ends;
-    tried = ended.tried;
+    tried = sym (again_is to (end (mine c now) t) ended.tried);
   }
     where
       follows_is : AreOurs c t now → FollowsPlan c.session (mine c now) t body.plan (children (mine c now) t) (end (mine c now) t)
@@ -300,11 +301,11 @@ module _ (c : Client) (t : Name) (body : Numbered) (before mid now : Past) (top 
   }
 
 -- from `before` on, so many tries of a body and then of other bodies, or as far as the run came
-abbrev pub EndsTopTries : Reach → Client → Past → Past → Numbered → ℕ → List Numbered → Type 0
-EndsTopTries reach c before now body left rest =
+abbrev pub EndsTopTries : Reach → Client → Past → Past → Numbered → Option Name → ℕ → List Numbered → Type 0
+EndsTopTries reach c before now body last left rest =
     AreAllOurs c now → (further : List Name) × (tops c now ≡ tops c before ++ further)
-    × Tries (end (mine c now)) (RunsBody reach c.session (mine c now) body) (NotBegun reach) (λ more. RunsBodies reach c.session (mine c now) rest more) left further
-    × AllAsked c before now (λ by t. TriesDo (end (mine c now)) (λ n. Asks (mine c now) n body.plan (children (mine c now) n) by t) (λ more. BodiesAsk (mine c now) rest more by t) left further)
+    × Tries (end (mine c now)) (RunsBody reach c.session (mine c now) body) (NotBegun reach) (λ latest more. RunsBodies reach c.session (mine c now) rest more) last left further
+    × AllAsked c before now (λ by t. TriesDo (end (mine c now)) (λ n. Asks (mine c now) n body.plan (children (mine c now) n) by t) (λ latest more. BodiesAsk (mine c now) rest more by t) last left further)
 
 module _ (c : Client) (body : Numbered) (before now : Past) (again : Bool) (t : TriedTop c body before now again) where
   module _ (reach : Reach) (x : Past) (later : IsLater c now x) (further : List Name) (more : tops c x ≡ tops c now ++ further) (ours : AreAllOurs c x) where
@@ -335,33 +336,34 @@ module _ (c : Client) (body : Numbered) (before now : Past) (again : Bool) (t : 
         subst (λ h. Asks (mine c h) t.top body.plan (children (mine c h) t.top) by n) (sym later.grown)
         (asks_still c.session (λ (e : Entry). is_own c e.seat) c.setting later.newer now (subst (Legal c.setting) later.grown later.legal) by n t.top body.plan follows_now a)) c before now (t.asked (ours_before c t.top now x later ours_top))
 
-    abbrev DoTries : ℕ → List Numbered → Name → Name → Type 0
-    DoTries left rest by n = TriesDo (end (mine c x)) (λ y. Asks (mine c x) y body.plan (children (mine c x) y) by n) (λ more. BodiesAsk (mine c x) rest more by n) left further
+    abbrev DoTries : Option Name → ℕ → List Numbered → Name → Name → Type 0
+    DoTries last left rest by n = TriesDo (end (mine c x)) (λ y. Asks (mine c x) y body.plan (children (mine c x) y) by n) (λ latest more. BodiesAsk (mine c x) rest more by n) last left further
 
     abbrev MoreDo : ℕ → List Numbered → Name → Name → Bool → Type 0
-    MoreDo left rest by n b = MatchBool b (DoTries left rest by n) (BodiesAsk (mine c x) rest further by n)
+    MoreDo left rest by n b = MatchBool b (DoTries (Some t.top) left rest by n) (BodiesAsk (mine c x) rest further by n)
 
-    with_asked : (left : ℕ) (rest : List Numbered) → AllAsked c now x (λ by n. MoreDo left rest by n again) → AllAsked c before x (λ by n. TriesDo (end (mine c x)) (λ y. Asks (mine c x) y body.plan (children (mine c x) y) by n) (λ more. BodiesAsk (mine c x) rest more by n) (suc left) (t.top ∷ further))
-    with_asked left rest h = asked_trans c before now x _ (asked_wider _ _ (λ by n a. inl a) c before now asked_later) (asked_wider _ _ (λ by n a. inr (subst (MoreDo left rest by n) (sym again_later) a)) c now x h)
+    with_asked : (last : Option Name) (left : ℕ) (rest : List Numbered) → AllAsked c now x (λ by n. MoreDo left rest by n again)
+        → AllAsked c before x (λ by n. TriesDo (end (mine c x)) (λ y. Asks (mine c x) y body.plan (children (mine c x) y) by n) (λ latest more. BodiesAsk (mine c x) rest more by n) last (suc left) (t.top ∷ further))
+    with_asked last left rest h = asked_trans c before now x _ (asked_wider _ _ (λ by n a. inl a) c before now asked_later) (asked_wider _ _ (λ by n a. inr (subst (MoreDo left rest by n) (sym again_later) a)) c now x h)
 
-  pub top_again : again ≡ true → (reach : Reach) (x : Past) → IsLater c now x → (left : ℕ) (rest : List Numbered) → EndsTopTries reach c now x body left rest → EndsTopTries reach c before x body (suc left) rest
-  top_again is reach x later left rest ends ours =
+  pub top_again : again ≡ true → (reach : Reach) (x : Past) → IsLater c now x → (last : Option Name) (left : ℕ) (rest : List Numbered) → EndsTopTries reach c now x body (Some t.top) left rest → EndsTopTries reach c before x body last (suc left) rest
+  top_again is reach x later last left rest ends ours =
       let e = ends ours in
-      (t.top ∷ e.0, more_later reach x later e.0 e.1 ours, (one_top reach x later e.0 e.1 ours, match_true _ (RunsBodies reach c.session (mine c x) rest e.0) _ (again_later reach x later e.0 e.1 ours ∙ is) e.2), with_asked reach x later e.0 e.1 ours left rest (asked_wider _ _ (λ by n a. match_true _ (BodiesAsk (mine c x) rest e.0 by n) again is a) c now x e.3))
+      (t.top ∷ e.0, more_later reach x later e.0 e.1 ours, (one_top reach x later e.0 e.1 ours, match_true _ (RunsBodies reach c.session (mine c x) rest e.0) _ (again_later reach x later e.0 e.1 ours ∙ is) e.2), with_asked reach x later e.0 e.1 ours last left rest (asked_wider _ _ (λ by n a. match_true _ (BodiesAsk (mine c x) rest e.0 by n) again is a) c now x e.3))
 
-  pub top_last : again ≡ false → (reach : Reach) (x : Past) → IsLater c now x → (left : ℕ) (rest : List Numbered) → EndsTopsAt reach c now x rest → EndsTopTries reach c before x body (suc left) rest
-  top_last is reach x later left rest ends ours =
+  pub top_last : again ≡ false → (reach : Reach) (x : Past) → IsLater c now x → (last : Option Name) (left : ℕ) (rest : List Numbered) → EndsTopsAt reach c now x rest → EndsTopTries reach c before x body last (suc left) rest
+  top_last is reach x later last left rest ends ours =
       let e = ends ours in
-      (t.top ∷ e.0, more_later reach x later e.0 e.1 ours, (one_top reach x later e.0 e.1 ours, match_false (Tries (end (mine c x)) (RunsBody reach c.session (mine c x) body) (NotBegun reach) (λ more. RunsBodies reach c.session (mine c x) rest more) left e.0) _ _ (again_later reach x later e.0 e.1 ours ∙ is) e.2), with_asked reach x later e.0 e.1 ours left rest (asked_wider _ _ (λ by n a. match_false (DoTries reach x later e.0 e.1 ours left rest by n) _ again is a) c now x e.3))
+      (t.top ∷ e.0, more_later reach x later e.0 e.1 ours, (one_top reach x later e.0 e.1 ours, match_false (Tries (end (mine c x)) (RunsBody reach c.session (mine c x) body) (NotBegun reach) (λ latest more. RunsBodies reach c.session (mine c x) rest more) (Some t.top) left e.0) _ _ (again_later reach x later e.0 e.1 ours ∙ is) e.2), with_asked reach x later e.0 e.1 ours last left rest (asked_wider _ _ (λ by n a. match_false (DoTries reach x later e.0 e.1 ours (Some t.top) left rest by n) _ again is a) c now x e.3))
 
 -- no body was begun where the run was cut off
 pub none_begun : (s : ℕ) (past : Past) (bodies : List Numbered) → RunsBodies Reach.cut_off s past bodies []
 none_begun s past [] = tt
-none_begun s past (b ∷ bodies) = no_tries (end past) _ (NotBegun Reach.cut_off) (λ further. RunsBodies Reach.cut_off s past bodies further) tt (none_begun s past bodies) b.tries
+none_begun s past (b ∷ bodies) = no_tries (end past) _ (NotBegun Reach.cut_off) (λ last further. RunsBodies Reach.cut_off s past bodies further) None tt (none_begun s past bodies) b.tries
 
 -- a try of a top that was cut off is the last
-pub cut_last : (c : Client) (body : Numbered) (before now : Past) → CutTop c body before now → (left : ℕ) (rest : List Numbered) → EndsTopTries Reach.cut_off c before now body (suc left) rest
-cut_last c body before now t left rest ours =
+pub cut_last : (c : Client) (body : Numbered) (before now : Past) → CutTop c body before now → (last : Option Name) (left : ℕ) (rest : List Numbered) → EndsTopTries Reach.cut_off c before now body last (suc left) rest
+cut_last c body before now t last left rest ours =
     let one = all_last (λ n. AreOurs c n now) (tops c before) t.top [] (subst (AllByRecursion (λ n. AreOurs c n now)) t.more ours) in (
       t.top ∷ [],
       t.more,
@@ -374,24 +376,26 @@ cut_last c body before now t left rest ours =
 pub record TopTriesLeft (c : Client) (body : Numbered) (before now : Past) (left : ℕ) : Type 0 where
   pub later : IsLater c before now
   pub in_turn : RanInTurn c before now
-  pub front : (reach : Reach) (x : Past) → IsLater c now x → (rest : List Numbered) → EndsTopTries reach c now x body left rest → EndsTopsAt reach c before x (body ∷ rest)
+  pub last : Option Name
+  pub front : (reach : Reach) (x : Past) → IsLater c now x → (rest : List Numbered) → EndsTopTries reach c now x body last left rest → EndsTopsAt reach c before x (body ∷ rest)
 
 module _ (c : Client) (body : Numbered) where
   pub no_top : (now : Past) → Legal c.setting now → TopTriesLeft c body now now body.tries
-  no_top now legal = record { in_turn = turn_itself c now legal; later = later_itself c now legal; front = λ reach x later rest ends. ends }
+  no_top now legal = record { in_turn = turn_itself c now legal; later = later_itself c now legal; last = None; front = λ reach x later rest ends. ends }
 
   pub top_more : (before now next : Past) (left : ℕ) → TopTriesLeft c body before now (suc left) → TriedTop c body now next true → TopTriesLeft c body before next left
   top_more before now next left l t = record {
     in_turn = turn_trans c before now next t.later l.in_turn t.in_turn;
     later = later_trans c before now next l.later t.later;
-    front = λ reach x later rest ends. l.front reach x (later_trans c now next x t.later later) rest (top_again c body now next true t refl reach x later left rest ends);
+    last = Some t.top;
+    front = λ reach x later rest ends. l.front reach x (later_trans c now next x t.later later) rest (top_again c body now next true t refl reach x later l.last left rest ends);
   }
 
   pub top_out : (before now next : Past) (left : ℕ) → TopTriesLeft c body before now (suc left) → TriedTop c body now next false → RanTops c before next (λ rest. body ∷ rest)
   top_out before now next left l t = record {
     in_turn = turn_trans c before now next t.later l.in_turn t.in_turn;
     later = later_trans c before now next l.later t.later;
-    follows = λ reach x later rest ends. l.front reach x (later_trans c now next x t.later later) rest (top_last c body now next false t refl reach x later left rest ends);
+    follows = λ reach x later rest ends. l.front reach x (later_trans c now next x t.later later) rest (top_last c body now next false t refl reach x later l.last left rest ends);
   }
 
   pub tops_out : (before now : Past) → TopTriesLeft c body before now 0 → RanTops c before now (λ rest. body ∷ rest)
@@ -401,7 +405,7 @@ module _ (c : Client) (body : Numbered) where
   pub try_cut : (before now next : Past) (left : ℕ) (rest : List Numbered) → TopTriesLeft c body before now (suc left) → CutTop c body now next → CutTops c before next (body ∷ rest)
   try_cut before now next left rest l t = record {
     in_turn = turn_trans c before now next t.in_turn.later l.in_turn t.in_turn;
-    begins = l.front Reach.cut_off next t.in_turn.later rest (cut_last c body now next t left rest);
+    begins = l.front Reach.cut_off next t.in_turn.later rest (cut_last c body now next t l.last left rest);
   }
 
   -- a top was not begun

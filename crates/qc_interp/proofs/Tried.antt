@@ -1,14 +1,17 @@
 -- What the tries of a child leave, what `abort` leaves, and how a transaction commits.
 use Rattle.std.proofs.Common.{◌≡◌, inl, inr, ℕ, suc, ◌<◌, ◌+◌, Bool, true, false, List, [], ◌∷◌, ◌++◌, length, take, refl, sym, ap, ◌∙◌, subst, append-nil, append_assoc, arith, length-append}
 use mathlib.Core.Bool.{true≢false}
-use Rattle.std.specs.Prelude.{Some, MatchOption, MatchBool, is_some, is_none, IsTrue, not, find, option_map, ◌&&◌}
+use Rattle.std.specs.Prelude.{Option, None, Some, MatchOption, MatchBool, is_some, is_none, IsTrue, not, find, option_map, ◌&&◌}
 use Rattle.std.proofs.lemmas.Bool.{false_from_ne_true}
 use Rattle.qc_event.specs.declared.event.Entry.{Entry}
 use Rattle.qc_event.specs.declared.event.Event.TheVariants as event
+use Rattle.qc_event.specs.declared.event.Answer.{Answer}
+use Rattle.qc_event.specs.declared.event.How.{How}
+use Rattle.qc_event.specs.declared.event.How.TheVariants.{Commit, Abort}
 use Rattle.qc_event.specs.declared.event.Kind.TheVariants as kind
 use Rattle.qc_event.specs.History.{Past, Name, Begun, end, is_ready, children, is_child, kind_of}
 use Rattle.qc_event.specs.Legal.{Legal}
-use Rattle.qc_event.specs.Standing.{Started, IsUser}
+use Rattle.qc_event.specs.Standing.{Started, IsUser, IsAbort}
 use Rattle.qc_event.proofs.Absent.{if_not}
 use Rattle.qc_event.proofs.LastNumber.{child_last, length_last, child_longer, no_child_length}
 use Rattle.qc_event.proofs.OneEntry.{child_added, start_is}
@@ -16,11 +19,13 @@ use Rattle.qc_event.proofs.Later.{started_still}
 use Rattle.qc_event.proofs.LegalOrderly.{ready_top}
 use Rattle.qc_script.specs.Calls.{by_client, WasRefused}
 use Rattle.qc_script.specs.Client.{Client, mine, is_own, Made, IsLater, AreOurs}
-use Rattle.qc_interp.specs.Follows.{StopsEarly, Stops, IsUnended, RunsPlan, FollowsPlan}
+use Rattle.qc_interp.specs.Follows.{StopsEarly, Stops, IsUnended, GoesOnAfter, AfterTries, RunsPlan, FollowsPlan}
 use Rattle.qc_interp.specs.Reach.{Reach}
 use Rattle.qc_script.specs.Plan.{Plan, Numbered}
-use Rattle.qc_interp.specs.Running.{Runs, LeavesIt, LeavesAt, Leaves, WhyStop, StopsBy, Stopped, EndsAt, Ended, CutOff, WentOn, EndsTries, FrontTries}
-use Rattle.qc_interp.specs.Tries.{Tries, is_tried_again, TriesDo}
+use Rattle.qc_interp.specs.Running.{Runs, LeavesIt, LeavesAt, Leaves, WhyStop, StopsBy, Stopped, EndsAt, CameTo, Ended, CutOff, WentOn, HasFailed, EndsTries, child_step, FrontTries, Failed}
+use Rattle.qc_interp.specs.Tries.{Tries, is_tried_again, is_again, TriesDo}
+use Rattle.qc_interp.specs.declared.stops.Ending.{Ending}
+use Rattle.qc_interp.specs.declared.stops.Ending.TheVariants as ending
 use Rattle.qc_script.specs.declared.tx.TxNo.{TxNo}
 use Rattle.qc_script.specs.declared.tx.TxNo.TheVariants as tx_no
 use Rattle.qc_interp.proofs.Adding.{all_later, start_stays_in, child_top, over_later}
@@ -29,11 +34,12 @@ use Rattle.qc_interp.proofs.Mine.{kept_some}
 use Rattle.qc_interp.proofs.Still.{follows_runs, follows_still, followed_done, done_closed, again_still}
 use Rattle.qc_interp.proofs.Growth.{made_is, made_later, later_trans, ours_before}
 use Rattle.qc_interp.proofs.Managers.{children_quiet, found_quiet, NewChild, new_child}
-use Rattle.qc_interp.proofs.Ending.{unended_again, running_stops, running_runs, leaves_trans, leaves_cut, still, leaves_still, runs_still}
-use Rattle.qc_interp.proofs.StepsLeave.{kind_later, closed_more}
+use Rattle.qc_interp.proofs.Ending.{unended_again, running_stops, running_unended, running_runs, leaves_trans, leaves_cut, still, leaves_still, runs_still}
+use Rattle.qc_interp.proofs.StepsLeave.{end_later, kind_later, closed_more}
+use Rattle.qc_interp.proofs.TriesAlike.{IfAny}
 use Rattle.std.specs.List.{list_all}
 use Rattle.qc_interp.specs.Adding.{stays_in, AllStayIn}
-use Rattle.qc_interp.specs.Asking.{Asks, AllAsked}
+use Rattle.qc_interp.specs.Asking.{DoesOn, DoesAfter, Asks, AllAsked}
 use Rattle.qc_interp.proofs.Asked.{NoOne, asked_made, asked_none, asked_wider, asked_trans, asks_still}
 
 -- A CHILD THAT BEGINS
@@ -121,15 +127,18 @@ module _ (c : Client) (of n : Name) (number : ℕ) (before now : Past) (runs : R
 -- A TRY OF A CHILD
 
 -- of a body, that ended, below its parent
-pub record Tried (c : Client) (of : Name) (body : Numbered) (before now : Past) (again : Bool) : Type 0 where
+pub record Tried (c : Client) (of : Name) (body : Numbered) (before now : Past) (to : Ending) : Type 0 where
   pub leaves : Leaves c of before now
   pub runs : Runs c of now
   pub child : Name
+  pub is_one : is_child of child ≡ true
+  pub user : Started now child (λ b. IsUser b.kind)
   pub more : children (mine c now) of ≡ children (mine c before) of ++ child ∷ []
   pub kind : kind_of (mine c now) child ≡ Some (kind.User c.session body.number)
   pub follows : AreOurs c of now → FollowsPlan c.session (mine c now) child body.plan (children (mine c now) child) (end (mine c now) child)
   pub asked : AreOurs c of now → AllAsked c before now (λ by t. Asks (mine c now) child body.plan (children (mine c now) child) by t)
-  pub tried : again ≡ is_tried_again (end (mine c now) child)
+  pub tried : CameTo to (end (mine c now) child)
+  pub ended : AreOurs c of now → is_some (end (mine c now) child) ≡ true
 
 -- of a body that was cut off
 pub record CutTry (c : Client) (of : Name) (body : Numbered) (before now : Past) : Type 0 where
@@ -200,7 +209,7 @@ module _ (c : Client) (of n : Name) (body : Numbered) (before mid now : Past) (r
           let e = ends (ours_child ours) in
           asked_trans c before mid now _ (asked_made c _ before mid _ m (tt, tt)) (asked_wider _ _ (λ by t a. subst (λ cs. Asks (mine c now) n body.plan cs by t) (sym (all_are e.0 e.1)) a) c mid now e.3)
 
-  module _ (again : Bool) (ended : Ended c n mid now body.plan again) where
+  module _ (to : Ending) (ended : Ended c n mid now body.plan to) where
     ended_is : AreOurs c of now → is_some (end (mine c now) n) ≡ true
     ended_is ours = elim (done_closed (mine c now) n (followed_done c.session (mine c now) n body.plan (children (mine c now) n) (end (mine c now) n) (runs_is Reach.to_the_end ended.leaves ended.ends ours))) [
       | inl some ↦ some
@@ -221,7 +230,7 @@ module _ (c : Client) (of n : Name) (body : Numbered) (before mid now : Past) (r
       above = above_is Reach.to_the_end ended.leaves;
     }
 
-    pub tried_once : Tried c of body before now again
+    pub tried_once : Tried c of body before now to
     tried_once = record {
       leaves = leaves_is;
       runs = record {
@@ -232,11 +241,14 @@ module _ (c : Client) (of n : Name) (body : Numbered) (before mid now : Past) (r
         closed = λ ours. closed_more c of before now n (later_is Reach.to_the_end ended.leaves) (more_is Reach.to_the_end ended.leaves) (runs.closed (ours_before c of before now (later_is Reach.to_the_end ended.leaves) ours)) (ended_is ours);
       };
       child = n;
+      is_one = child;
+      user = subst (λ h. Started h n (λ b. IsUser b.kind)) (sym ended.leaves.later.grown) (started_still ended.leaves.later.newer mid n _ (runs_begun c of n body.number before mid runs child m).user);
       more = more_is Reach.to_the_end ended.leaves;
       kind = kind_is Reach.to_the_end ended.leaves;
       follows = runs_is Reach.to_the_end ended.leaves ended.ends;
       asked = asked_is Reach.to_the_end ended.leaves ended.ends;
       tried = ended.tried;
+      ended = ended_is;
     }
 
   pub cut_once : CutOff c n mid now body.plan → CutTry c of body before now
@@ -274,7 +286,35 @@ pub match_false : (P Q : Type 0) (b : Bool) → b ≡ false → Q → MatchBool 
 match_false P Q false is h = h
 match_false P Q true is h = absurd (true≢false is)
 
-module _ (c : Client) (of : Name) (body : Numbered) (before now : Past) (again : Bool) (t : Tried c of body before now again) where
+-- behind a child that committed a transaction goes on
+goes_behind : (reach : Reach) (past : Past) (n child : Name) (must : Bool) (Rest : Type 0) (further : List Name) (how : Option How) (given : Answer) → end past child ≡ Some (Commit given) → Rest → AfterTries reach past n (Some child) must Rest further how
+goes_behind reach past n child false Rest further how given is h = h
+goes_behind reach past n child true Rest further how given is h = subst (λ o. GoesOnAfter reach past n child o Rest further how) (sym is) h
+
+does_behind : (past : Past) (child : Name) (must : Bool) (Does : Type 0) (given : Answer) → end past child ≡ Some (Commit given) → Does → DoesAfter past (Some child) must Does
+does_behind past child false Does given is h = h
+does_behind past child true Does given is h = subst (λ o. DoesOn o (λ told. Does)) (sym is) h
+
+-- where the run was cut off at a child, the transaction came no further
+pub cut_behind : (past : Past) (n child : Name) (must : Bool) (Rest : Type 0) (how : Option How) → IsUnended n how → is_ready past n ≡ false → Rest → AfterTries Reach.cut_off past n (Some child) must Rest [] how
+cut_behind past n child false Rest how unended unready rest = rest
+cut_behind past n child true Rest how unended unready rest = by_end (end past child)
+  where
+    by_end : (o : Option How) → GoesOnAfter Reach.cut_off past n child o Rest [] how
+    by_end None = (refl, running_unended past n how unended unready)
+    by_end (Some (Commit given)) = rest
+    by_end (Some (Abort x)) = (refl, inr (running_stops past n how unended unready))
+
+-- a body that came to this is tried again, or not
+pub again_is : (to : Ending) (how : Option How) → CameTo to how → is_tried_again how ≡ is_again to
+again_is ending.Committed None h = refl
+again_is ending.Committed (Some (Commit given)) h = refl
+again_is ending.Committed (Some (Abort x)) h = absurd h
+again_is (ending.Stopped again) None h = sym h
+again_is (ending.Stopped again) (Some (Commit given)) h = absurd h
+again_is (ending.Stopped again) (Some (Abort x)) h = sym h
+
+module _ (c : Client) (of : Name) (body : Numbered) (before now : Past) (to : Ending) (t : Tried c of body before now to) where
   -- the try by what was seen later
   module _ (reach : Reach) (x : Past) (later : IsLater c now x) (ours : AreOurs c of x) where
     follows_now : FollowsPlan c.session (mine c now) t.child body.plan (children (mine c now) t.child) (end (mine c now) t.child)
@@ -287,95 +327,157 @@ module _ (c : Client) (of : Name) (body : Numbered) (before now : Past) (again :
           (follows_still c.session (λ (e : Entry). is_own c e.seat) c.setting later.newer now (subst (Legal c.setting) later.grown later.legal) t.child body.plan follows_now).0),
     )
 
-    again_later : is_tried_again (end (mine c x) t.child) ≡ again
+    again_later : is_tried_again (end (mine c x) t.child) ≡ is_again to
     again_later =
         ap (λ h. is_tried_again (end (mine c h) t.child)) later.grown
         ∙ again_still c.session (λ (e : Entry). is_own c e.seat) c.setting later.newer now (subst (Legal c.setting) later.grown later.legal) t.child (done_closed (mine c now) t.child (followed_done c.session (mine c now) t.child body.plan (children (mine c now) t.child) (end (mine c now) t.child) follows_now))
-        ∙ sym t.tried
+        ∙ again_is to (end (mine c now) t.child) t.tried
 
     asked_later : AllAsked c before now (λ by n. Asks (mine c x) t.child body.plan (children (mine c x) t.child) by n)
     asked_later = asked_wider _ _ (λ by n a.
         subst (λ h. Asks (mine c h) t.child body.plan (children (mine c h) t.child) by n) (sym later.grown)
         (asks_still c.session (λ (e : Entry). is_own c e.seat) c.setting later.newer now (subst (Legal c.setting) later.grown later.legal) by n t.child body.plan follows_now a)) c before now (t.asked (ours_before c of now x later ours))
 
-    abbrev DoTries : ℕ → Plan → List Name → Name → Name → Type 0
-    DoTries left rest further by n = TriesDo (end (mine c x)) (λ y. Asks (mine c x) y body.plan (children (mine c x) y) by n) (λ more. Asks (mine c x) of rest more by n) left further
+    abbrev Rest : Plan → Option Name → List Name → Type 0
+    Rest rest last further = AfterTries reach (mine c x) of last body.must (RunsPlan reach c.session (mine c x) of rest further (end (mine c x) of)) further (end (mine c x) of)
 
-    abbrev MoreDo : ℕ → Plan → List Name → Name → Name → Bool → Type 0
-    MoreDo left rest further by n b = MatchBool b (DoTries left rest further by n) (Asks (mine c x) of rest further by n)
-
-    with_asked : (left : ℕ) (rest : Plan) (further : List Name) → AllAsked c now x (λ by n. MoreDo left rest further by n again) → AllAsked c before x (λ by n. DoTries (suc left) rest (t.child ∷ further) by n)
-    with_asked left rest further h = asked_trans c before now x _ (asked_wider _ _ (λ by n a. inl a) c before now asked_later) (asked_wider _ _ (λ by n a. inr (subst (MoreDo left rest further by n) (sym again_later) a)) c now x h)
-
-    abbrev Rest : Plan → List Name → Type 0
-    Rest rest further = RunsPlan reach c.session (mine c x) of rest further (end (mine c x) of)
+    abbrev RestDoes : Plan → Name → Name → Option Name → List Name → Type 0
+    RestDoes rest by n last further = DoesAfter (mine c x) last body.must (Asks (mine c x) of rest further by n)
 
     abbrev Try : Name → Type 0
     Try n = (kind_of (mine c x) n ≡ Some (kind.User c.session body.number)) × RunsPlan reach c.session (mine c x) n body.plan (children (mine c x) n) (end (mine c x) n)
 
-    with_try : (left : ℕ) (rest : Plan) (further : List Name) → MatchBool again (Tries (end (mine c x)) Try (Stops reach (mine c x) of (end (mine c x) of)) (Rest rest) left further) (Rest rest further)
-        → Tries (end (mine c x)) Try (Stops reach (mine c x) of (end (mine c x) of)) (Rest rest) (suc left) (t.child ∷ further)
-    with_try left rest further h = (one_try, subst (λ b. MatchBool b (Tries (end (mine c x)) Try (Stops reach (mine c x) of (end (mine c x) of)) (Rest rest) left further) (Rest rest further)) (sym again_later) h)
+    abbrev DoTries : Option Name → ℕ → Plan → List Name → Name → Name → Type 0
+    DoTries last left rest further by n = TriesDo (end (mine c x)) (λ y. Asks (mine c x) y body.plan (children (mine c x) y) by n) (RestDoes rest by n) last left further
+
+    abbrev AreTries : Option Name → ℕ → Plan → List Name → Type 0
+    AreTries last left rest further = Tries (end (mine c x)) Try (Stops reach (mine c x) of (end (mine c x) of)) (Rest rest) last left further
+
+    -- one try more, and then as many as are left: none where it is not tried again
+    module _ (last : Option Name) (left : ℕ) (rest : Plan) (further : List Name) where
+      abbrev MoreDo : Name → Name → Bool → Type 0
+      MoreDo by n b = MatchBool b (DoTries (Some t.child) left rest further by n) (RestDoes rest by n (Some t.child) further)
+
+      with_asked : AllAsked c now x (λ by n. MoreDo by n (is_again to)) → AllAsked c before x (λ by n. DoTries last (suc left) rest (t.child ∷ further) by n)
+      with_asked h = asked_trans c before now x _ (asked_wider _ _ (λ by n a. inl a) c before now asked_later) (asked_wider _ _ (λ by n a. inr (subst (MoreDo by n) (sym again_later) a)) c now x h)
+
+      with_try : MatchBool (is_again to) (AreTries (Some t.child) left rest further) (Rest rest (Some t.child) further) → AreTries last (suc left) rest (t.child ∷ further)
+      with_try h = (one_try, subst (λ b. MatchBool b (AreTries (Some t.child) left rest further) (Rest rest (Some t.child) further)) (sym again_later) h)
 
     more_later : (further : List Name) → children (mine c x) of ≡ children (mine c now) of ++ further → children (mine c x) of ≡ children (mine c before) of ++ t.child ∷ further
     more_later further is = is ∙ ap (λ l. l ++ further) t.more ∙ append_assoc (children (mine c before) of) (t.child ∷ []) further
 
   -- one try more, after which there is another
-  pub try_again : again ≡ true → (reach : Reach) (x : Past) → IsLater c now x → (left : ℕ) (rest : Plan) → EndsTries reach c of now x body left rest → EndsTries reach c of before x body (suc left) rest
-  try_again is reach x later left rest ends ours =
-      let e = ends ours in
-      (t.child ∷ e.0, more_later reach x later ours e.0 e.1, with_try reach x later ours left rest e.0 (match_true _ (Rest reach x later ours rest e.0) again is e.2), with_asked reach x later ours left rest e.0 (asked_wider _ _ (λ by n a. match_true _ (Asks (mine c x) of rest e.0 by n) again is a) c now x e.3))
+  pub try_again : is_again to ≡ true → (reach : Reach) (x : Past) → IsLater c now x → (last : Option Name) (left : ℕ) (rest : Plan) → EndsTries reach c of now x body (Some t.child) left rest → EndsTries reach c of before x body last (suc left) rest
+  try_again is reach x later last left rest ends ours =
+      let e = ends ours in (
+        t.child ∷ e.0,
+        more_later reach x later ours e.0 e.1,
+        with_try reach x later ours last left rest e.0 (match_true _ (Rest reach x later ours rest (Some t.child) e.0) (is_again to) is e.2),
+        with_asked reach x later ours last left rest e.0 (asked_wider _ _ (λ by n a. match_true _ (RestDoes reach x later ours rest by n (Some t.child) e.0) (is_again to) is a) c now x e.3),
+      )
 
   -- one try more, which is the last
-  pub try_last : again ≡ false → (reach : Reach) (x : Past) → IsLater c now x → (left : ℕ) (rest : Plan) → EndsAt reach c of now x rest → EndsTries reach c of before x body (suc left) rest
-  try_last is reach x later left rest ends ours =
+  pub try_last : is_again to ≡ false → (reach : Reach) (x : Past) → IsLater c now x → (last : Option Name) (left : ℕ) (rest : Plan) → EndsTries reach c of now x body (Some t.child) 0 rest → EndsTries reach c of before x body last (suc left) rest
+  try_last is reach x later last left rest ends ours =
+      let e = ends ours in (
+        t.child ∷ e.0,
+        more_later reach x later ours e.0 e.1,
+        with_try reach x later ours last left rest e.0 (match_false (AreTries reach x later ours (Some t.child) left rest e.0) _ (is_again to) is e.2),
+        with_asked reach x later ours last left rest e.0 (asked_wider _ _ (λ by n a. match_false (DoTries reach x later ours (Some t.child) left rest e.0 by n) _ (is_again to) is a) c now x e.3),
+      )
+
+  -- the child was aborted, or committed
+  pub has_failed : (again : Bool) → to ≡ ending.Stopped again → HasFailed c of now t.child
+  has_failed again is = record { is_one = t.is_one; user = t.user; aborted = λ ours. by_end (end (mine c now) t.child) (t.ended ours) (subst (λ y. CameTo y (end (mine c now) t.child)) is t.tried) }
+    where
+      by_end : (o : Option How) → is_some o ≡ true → CameTo (ending.Stopped again) o → MatchOption o ⊥ IsAbort
+      by_end None some h = absurd (true≢false (sym some))
+      by_end (Some (Commit given)) some h = absurd h
+      by_end (Some (Abort y)) some h = tt
+
+  has_committed : to ≡ ending.Committed → AreOurs c of now → (given : Answer) × (end (mine c now) t.child ≡ Some (Commit given))
+  has_committed is ours = by_end (end (mine c now) t.child) refl (t.ended ours) (subst (λ y. CameTo y (end (mine c now) t.child)) is t.tried)
+    where
+      by_end : (o : Option How) → end (mine c now) t.child ≡ o → is_some o ≡ true → CameTo ending.Committed o → (given : Answer) × (end (mine c now) t.child ≡ Some (Commit given))
+      by_end None at some h = absurd (true≢false (sym some))
+      by_end (Some (Commit given)) at some h = (given, at)
+      by_end (Some (Abort y)) at some h = absurd h
+
+  -- behind a try that committed the transaction goes on, whether it must or not
+  pub try_through : to ≡ ending.Committed → (reach : Reach) (x : Past) → IsLater c now x → (rest : Plan) → EndsAt reach c of now x rest → EndsTries reach c of now x body (Some t.child) 0 rest
+  try_through is reach x later rest ends ours =
       let e = ends ours in
-      (t.child ∷ e.0, more_later reach x later ours e.0 e.1, with_try reach x later ours left rest e.0 (match_false (Tries (end (mine c x)) (Try reach x later ours) (Stops reach (mine c x) of (end (mine c x) of)) (Rest reach x later ours rest) left e.0) _ again is e.2), with_asked reach x later ours left rest e.0 (asked_wider _ _ (λ by n a. match_false (DoTries reach x later ours left rest e.0 by n) _ again is a) c now x e.3))
+      let had = has_committed is (ours_before c of now x later ours) in
+      let has : end (mine c x) t.child ≡ Some (Commit had.0) = end_later c of now x later t.child (Commit had.0) had.1 in (
+        e.0,
+        e.1,
+        goes_behind reach (mine c x) of t.child body.must _ e.0 (end (mine c x) of) had.0 has e.2,
+        asked_wider _ _ (λ by n a. does_behind (mine c x) t.child body.must _ had.0 has a) c now x e.3,
+      )
 
 -- A try that was cut off is the last, and the run came no further.
-pub try_cut : (c : Client) (of : Name) (body : Numbered) (before now : Past) → CutTry c of body before now → (left : ℕ) (rest : Plan) → EndsTries Reach.cut_off c of before now body (suc left) rest
-try_cut c of body before now t left rest ours = (
+pub try_cut : (c : Client) (of : Name) (body : Numbered) (before now : Past) → CutTry c of body before now → (last : Option Name) (left : ℕ) (rest : Plan) → EndsTries Reach.cut_off c of before now body last (suc left) rest
+try_cut c of body before now t last left rest ours = (
   t.child ∷ [],
   t.more,
-  ((t.kind, t.begins ours), match_false _ _ _ t.tried (running_runs c.session (mine c now) of _ t.unended t.unready rest)),
+  ((t.kind, t.begins ours), match_false _ _ _ t.tried (cut_behind (mine c now) of t.child body.must _ (end (mine c now) of) t.unended t.unready (running_runs c.session (mine c now) of _ t.unended t.unready rest))),
   asked_wider _ _ (λ by n a. inl a) c before now (t.asked ours),
 )
 
 -- THE LOOP OVER TRIES
 
--- so many tries are left
-pub record TriesLeft (c : Client) (of : Name) (body : Numbered) (before now : Past) (left : ℕ) : Type 0 where
+-- so many tries are left behind this one, which failed
+pub record TriesLeft (c : Client) (of : Name) (body : Numbered) (before now : Past) (last : Option Name) (left : ℕ) : Type 0 where
   pub leaves : Leaves c of before now
   pub runs : Runs c of now
-  pub front : FrontTries c of before now body left
+  pub failed : IfAny (HasFailed c of now) last
+  pub front : FrontTries c of before now body last left
 
 module _ (c : Client) (of : Name) (body : Numbered) where
-  pub none_tried : (now : Past) → Runs c of now → TriesLeft c of body now now body.tries
-  none_tried now runs = record { leaves = Rattle.qc_interp.proofs.Ending.leaves_itself c of now runs.legal; runs = runs; front = λ reach x later rest ends. ends }
+  pub none_tried : (now : Past) → Runs c of now → TriesLeft c of body now now None body.tries
+  none_tried now runs = record { leaves = Rattle.qc_interp.proofs.Ending.leaves_itself c of now runs.legal; runs = runs; failed = tt; front = λ reach x later rest ends. ends }
 
-  pub tried_more : (before now next : Past) (left : ℕ) → TriesLeft c of body before now (suc left) → Tried c of body now next true → TriesLeft c of body before next left
-  tried_more before now next left l t = record {
+  pub tried_more : (before now next : Past) (last : Option Name) (left : ℕ) → TriesLeft c of body before now last (suc left) → (t : Tried c of body now next (ending.Stopped true)) → TriesLeft c of body before next (Some t.child) left
+  tried_more before now next last left l t = record {
     leaves = leaves_trans c of before now next l.leaves t.leaves;
     runs = t.runs;
-    front = λ reach x later rest ends. l.front reach x (later_trans c now next x t.leaves.later later) rest (try_again c of body now next true t refl reach x later left rest ends);
+    failed = has_failed c of body now next (ending.Stopped true) t true refl;
+    front = λ reach x later rest ends. l.front reach x (later_trans c now next x t.leaves.later later) rest (try_again c of body now next (ending.Stopped true) t refl reach x later last left rest ends);
   }
 
-  pub tried_out : (before now next : Past) (left : ℕ) → TriesLeft c of body before now (suc left) → Tried c of body now next false → WentOn c of before next (Plan.child_then body.number body.tries body.plan)
-  tried_out before now next left l t = record {
+  -- the last try failed
+  pub tried_failed : (before now next : Past) (last : Option Name) (left : ℕ) → TriesLeft c of body before now last (suc left) → (t : Tried c of body now next (ending.Stopped false)) → Failed c of before next body t.child
+  tried_failed before now next last left l t = record {
     leaves = leaves_trans c of before now next l.leaves t.leaves;
     runs = t.runs;
-    follows = λ reach x later rest ends. l.front reach x (later_trans c now next x t.leaves.later later) rest (try_last c of body now next false t refl reach x later left rest ends);
+    failed = has_failed c of body now next (ending.Stopped false) t false refl;
+    follows = λ reach x later rest ends. l.front reach x (later_trans c now next x t.leaves.later later) rest (try_last c of body now next (ending.Stopped false) t refl reach x later last left rest ends);
   }
 
-  pub tried_all : (before now : Past) → TriesLeft c of body before now 0 → WentOn c of before now (Plan.child_then body.number body.tries body.plan)
-  tried_all before now l = record { leaves = l.leaves; runs = l.runs; follows = λ reach x later rest ends. l.front reach x later rest ends }
+  -- a try committed
+  pub tried_out : (before now next : Past) (last : Option Name) (left : ℕ) → TriesLeft c of body before now last (suc left) → Tried c of body now next ending.Committed → WentOn c of before next (child_step body)
+  tried_out before now next last left l t = record {
+    leaves = leaves_trans c of before now next l.leaves t.leaves;
+    runs = t.runs;
+    follows = λ reach x later rest ends.
+        l.front reach x (later_trans c now next x t.leaves.later later) rest
+        (try_last c of body now next ending.Committed t refl reach x later last left rest (try_through c of body now next ending.Committed t refl reach x later rest ends));
+  }
+
+  -- no try is left
+  pub all_failed : (before now : Past) (last : Name) → TriesLeft c of body before now (Some last) 0 → Failed c of before now body last
+  all_failed before now last l = record { leaves = l.leaves; runs = l.runs; failed = l.failed; follows = l.front }
+
+  pub none_begun : (before now : Past) → TriesLeft c of body before now None 0 → WentOn c of before now (child_step body)
+  none_begun before now l = record { leaves = l.leaves; runs = l.runs; follows = λ reach x later rest ends. l.front reach x later rest ends }
 
   -- a try was not begun, and the parent has stopped
-  pub not_begun : (before now mid next : Past) (left : ℕ) (why : TxNo) (again : Bool) (rest : Plan) → TriesLeft c of body before now (suc left) → WasRefused c of now mid why → (why ≡ tx_no.Memory → ⊥) → (why ≡ tx_no.Room → ⊥) → Stopped c of why mid next again
-      → Ended c of before next (Plan.child_then body.number body.tries body.plan rest) again
-  not_begun before now mid next left why again rest l refused other full stopped = by_why why refused other full stopped
+  pub not_begun : (before now mid next : Past) (last : Option Name) (left : ℕ) (why : TxNo) (again : Bool) (rest : Plan) → TriesLeft c of body before now last (suc left) → WasRefused c of now mid why → (why ≡ tx_no.Memory → ⊥) → (why ≡ tx_no.Room → ⊥) → Stopped c of why mid next again
+      → Ended c of before next (child_step body rest) (ending.Stopped again)
+  not_begun before now mid next last left why again rest l refused other full stopped = by_why why refused other full stopped
     where
-      stops : (why : TxNo) → Made c [] now mid → Stopped c of why mid next again → (StopsBy of why (end (mine c next) of) → StopsEarly of (end (mine c next) of)) → Ended c of before next (Plan.child_then body.number body.tries body.plan rest) again
+      stops : (why : TxNo) → Made c [] now mid → Stopped c of why mid next again → (StopsBy of why (end (mine c next) of) → StopsEarly of (end (mine c next) of)) → Ended c of before next (child_step body rest) (ending.Stopped again)
       stops why m stopped early = record {
         leaves = leaves_trans c of before mid next (leaves_trans c of before now mid l.leaves (leaves_still c of now mid m)) stopped.leaves;
         tried = stopped.tried;
@@ -383,7 +485,7 @@ module _ (c : Client) (of : Name) (body : Numbered) where
             ([], stopped.children ∙ ap (λ h. children h of) (still c of now mid m) ∙ sym (append-nil _), early (stopped.ended ours), asked_none c now next _ (asked_trans c now mid next NoOne (asked_made c [] now mid NoOne m tt) stopped.asked)));
       }
 
-      by_why : (why : TxNo) → WasRefused c of now mid why → (why ≡ tx_no.Memory → ⊥) → (why ≡ tx_no.Room → ⊥) → Stopped c of why mid next again → Ended c of before next (Plan.child_then body.number body.tries body.plan rest) again
+      by_why : (why : TxNo) → WasRefused c of now mid why → (why ≡ tx_no.Memory → ⊥) → (why ≡ tx_no.Room → ⊥) → Stopped c of why mid next again → Ended c of before next (child_step body rest) (ending.Stopped again)
       by_why tx_no.Memory refused other full stopped = absurd (other refl)
       by_why tx_no.Room refused other full stopped = absurd (full refl)
       by_why (tx_no.Orphan a) refused other full stopped = stops (tx_no.Orphan a) refused.0 stopped (λ s. Rattle.qc_interp.proofs.StepsLeave.orphan_early c of a _ s)
@@ -395,16 +497,16 @@ module _ (c : Client) (of : Name) (body : Numbered) where
       by_why tx_no.Last refused other full stopped = absurd refused.1
       by_why tx_no.Ledger refused other full stopped = absurd refused.1
 
-  pub tries_cut : (before now next : Past) (left : ℕ) (rest : Plan) → TriesLeft c of body before now (suc left) → CutTry c of body now next → CutOff c of before next (Plan.child_then body.number body.tries body.plan rest)
-  tries_cut before now next left rest l t = record {
+  pub tries_cut : (before now next : Past) (last : Option Name) (left : ℕ) (rest : Plan) → TriesLeft c of body before now last (suc left) → CutTry c of body now next → CutOff c of before next (child_step body rest)
+  tries_cut before now next last left rest l t = record {
     leaves = leaves_trans c of before now next l.leaves t.leaves;
     unended = t.unended;
-    begins = l.front Reach.cut_off next t.leaves.later rest (try_cut c of body now next t left rest);
+    begins = l.front Reach.cut_off next t.leaves.later rest (try_cut c of body now next t last left rest);
   }
 
   -- a try was not begun, and nothing was made after it
-  pub begin_cut : (before now next : Past) (left : ℕ) (rest : Plan) → TriesLeft c of body before now (suc left) → Made c [] now next → CutOff c of before next (Plan.child_then body.number body.tries body.plan rest)
-  begin_cut before now next left rest l m =
+  pub begin_cut : (before now next : Past) (last : Option Name) (left : ℕ) (rest : Plan) → TriesLeft c of body before now last (suc left) → Made c [] now next → CutOff c of before next (child_step body rest)
+  begin_cut before now next last left rest l m =
       let at = (runs_still c of now next m l.runs).above of [] (sym (append-nil of)) l.runs.nonroot in
       record {
         leaves = leaves_trans c of before now next l.leaves (leaves_cut c of now next (leaves_still c of now next m));

@@ -1,5 +1,5 @@
 -- Who is aborted as another asked, and by which step.
-use Rattle.std.specs.Prelude.{◌≡◌, ◌⊎◌, List, [], ◌∷◌, ◌++◌, Option, Some}
+use Rattle.std.specs.Prelude.{◌≡◌, ◌⊎◌, Bool, true, false, List, [], ◌∷◌, ◌++◌, Option, None, Some}
 use Rattle.std.specs.List.{AllByRecursion}
 use Rattle.qc_event.specs.declared.event.Answer.{Answer}
 use Rattle.qc_event.specs.declared.event.Cause.{Cause}
@@ -20,14 +20,20 @@ abbrev pub DoesOn : Option How → (Answer → Type 0) → Type 0
 DoesOn (Some (Commit given)) rest = rest given
 DoesOn _ rest = ⊥
 
+-- it is done behind the last try of a child, which has committed if it must
+abbrev pub DoesAfter : Past → Option Name → Bool → Type 0 → Type 0
+DoesAfter past None must rest = rest
+DoesAfter past (Some child) false rest = rest
+DoesAfter past (Some child) true rest = DoesOn (end past child) (λ given. rest)
+
 -- As a transaction with these children follows its plan, one of its body or below, `by`, comes to a step `abort` that
 -- names its ancestor `target`.
 abbrev pub Asks : Past → Name → Plan → List Name → Name → Name → Type 0
 Asks past n Plan.done cs by target = ⊥
 Asks past n (Plan.manage_by k next) [] by target = ⊥
 Asks past n (Plan.manage_by k next) (c ∷ further) by target = DoesOn (end past c) (λ given. Asks past n (next given) further by target)
-Asks past n (Plan.child_then number tries inner rest) cs by target =
-    TriesDo (end past) (λ c. Asks past c inner (children past c) by target) (λ further. Asks past n rest further by target) tries cs
+Asks past n (Plan.child_then number tries must inner rest) cs by target =
+    TriesDo (end past) (λ c. Asks past c inner (children past c) by target) (λ last further. DoesAfter past last must (Asks past n rest further by target)) None tries cs
 Asks past n (Plan.abort_then levels rest) [] by target = (by ≡ n) × (target ≡ above n levels)
 Asks past n (Plan.abort_then levels rest) (c ∷ further) by target = ⊥
 
@@ -35,7 +41,7 @@ Asks past n (Plan.abort_then levels rest) (c ∷ further) by target = ⊥
 abbrev pub BodiesAsk : Past → List Numbered → List Name → Name → Name → Type 0
 BodiesAsk past [] ts by target = ⊥
 BodiesAsk past (b ∷ bodies) ts by target =
-    TriesDo (end past) (λ t. Asks past t b.plan (children past t) by target) (λ further. BodiesAsk past bodies further by target) b.tries ts
+    TriesDo (end past) (λ t. Asks past t b.plan (children past t) by target) (λ last further. BodiesAsk past bodies further by target) None b.tries ts
 
 -- whoever the event aborts as another asked, that one may ask so
 abbrev pub IsAskedBy : (Name → Name → Type 0) → Event → Type 0
@@ -46,7 +52,8 @@ IsAskedBy Q _ = Unit {0}
 abbrev pub AllAsked : Client → Past → Past → (Name → Name → Type 0) → Type 0
 AllAsked c before now Q = (made : Past) × (mine c now ≡ made ++ mine c before) × AllByRecursion (λ (e : Entry). IsAskedBy Q e.event) made
 
--- it aborts no other
+-- it aborts no other, nor for a child
 abbrev pub ByItself : Name → Cause → Type 0
 ByItself n (cause.Asked by) = by ≡ n
+ByItself n (cause.Child child) = ⊥
 ByItself n _ = Unit {0}

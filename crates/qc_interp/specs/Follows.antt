@@ -66,6 +66,25 @@ GoesOn reach past n (Some (Commit given)) rest further how = rest given
 GoesOn reach past n (Some (Abort c)) rest further how = (further ≡ []) × (((is_handed_on c ≡ true) × (how ≡ Some (Abort c))) ⊎ Stops reach past n how)
 GoesOn reach past n None rest further how = IsCutShort reach past n further how
 
+-- whether it is of an orphan
+abbrev pub is_of_orphan : Cause → Bool
+is_of_orphan (cause.Orphan a) = true
+is_of_orphan _ = false
+
+-- A transaction goes on where a child committed. Where that was aborted, the transaction has no further child, and is
+-- aborted for it, unless the child was an orphan, or the transaction stops early.
+abbrev pub GoesOnAfter : Reach → Past → Name → Name → Option How → Type 0 → List Name → Option How → Type 0
+GoesOnAfter reach past n child (Some (Commit given)) Rest further how = Rest
+GoesOnAfter reach past n child (Some (Abort c)) Rest further how =
+    (further ≡ []) × (((is_of_orphan c ≡ false) × (how ≡ Some (Abort (cause.Child child)))) ⊎ Stops reach past n how)
+GoesOnAfter reach past n child None Rest further how = IsCutShort reach past n further how
+
+-- Behind the last try of a child a transaction goes on, but by that try where the child must commit.
+abbrev pub AfterTries : Reach → Past → Name → Option Name → Bool → Type 0 → List Name → Option How → Type 0
+AfterTries reach past n None must Rest further how = Rest
+AfterTries reach past n (Some child) false Rest further how = Rest
+AfterTries reach past n (Some child) true Rest further how = GoesOnAfter reach past n child (end past child) Rest further how
+
 -- it has committed, or is a ready top
 abbrev pub Commits : Past → Name → Option How → Type 0
 Commits past n (Some (Commit given)) = Unit {0}
@@ -85,9 +104,9 @@ RunsPlan reach s past n Plan.done (c ∷ further) how = ⊥
 RunsPlan reach s past n (Plan.manage_by k next) [] how = Stops reach past n how
 RunsPlan reach s past n (Plan.manage_by k next) (c ∷ further) how =
     (kind_of past c ≡ Some k) × GoesOn reach past n (end past c) (λ given. RunsPlan reach s past n (next given) further how) further how
-RunsPlan reach s past n (Plan.child_then number tries inner rest) cs how =
+RunsPlan reach s past n (Plan.child_then number tries must inner rest) cs how =
     Tries (end past) (λ c. (kind_of past c ≡ Some (kind.User s number)) × RunsPlan reach s past c inner (children past c) (end past c))
-    (Stops reach past n how) (λ further. RunsPlan reach s past n rest further how) tries cs
+    (Stops reach past n how) (λ last further. AfterTries reach past n last must (RunsPlan reach s past n rest further how) further how) None tries cs
 RunsPlan reach s past n (Plan.abort_then levels rest) [] how = (how ≡ asked_end n levels) ⊎ HasNotEnded reach past n how
 RunsPlan reach s past n (Plan.abort_then levels rest) (c ∷ further) how = ⊥
 

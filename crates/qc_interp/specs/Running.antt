@@ -1,5 +1,5 @@
 -- What holds of a transaction between two of its steps, and what a step leaves.
-use Rattle.std.specs.Prelude.{ℕ, ◌≡◌, ◌<◌, ◌⊎◌, Bool, true, false, List, ◌++◌, length, take, Option, None, Some}
+use Rattle.std.specs.Prelude.{ℕ, ◌≡◌, ◌<◌, ◌⊎◌, Bool, true, false, List, ◌++◌, length, take, Option, None, Some, MatchOption}
 use Rattle.qc_event.specs.declared.event.Answer.{Answer}
 use Rattle.qc_event.specs.declared.event.Answer.TheVariants as answer
 use Rattle.qc_event.specs.declared.event.Cause.TheVariants as cause
@@ -8,24 +8,28 @@ use Rattle.qc_script.specs.declared.tx.TxNo.{TxNo}
 use Rattle.qc_script.specs.declared.tx.TxNo.TheVariants as tx_no
 use Rattle.qc_script.specs.Calls.{Refuses}
 use Rattle.qc_event.specs.declared.event.How.{How}
-use Rattle.qc_event.specs.declared.event.How.TheVariants.{Abort}
+use Rattle.qc_event.specs.declared.event.How.TheVariants.{Commit, Abort}
 use Rattle.qc_event.specs.declared.event.Kind.{Kind}
 use Rattle.qc_event.specs.declared.event.Kind.TheVariants as kind
-use Rattle.qc_event.specs.History.{Past, Name, end, is_ready, children, kind_of}
+use Rattle.qc_event.specs.History.{Past, Name, end, is_ready, is_child, children, kind_of}
 use Rattle.qc_event.specs.Legal.{Legal}
-use Rattle.qc_event.specs.Standing.{Started, IsUser, open_child}
+use Rattle.qc_event.specs.Standing.{Started, IsUser, IsAbort, open_child}
 use Rattle.qc_interp.specs.Adding.{AllStayIn}
 use Rattle.qc_script.specs.Calls.{is_over}
 use Rattle.qc_script.specs.Client.{Client, mine, IsLater, AreOurs}
-use Rattle.qc_interp.specs.Follows.{Stops, WasAsked, IsUnended, RunsPlan}
+use Rattle.qc_interp.specs.Follows.{StopsEarly, Stops, WasAsked, IsUnended, is_of_orphan, AfterTries, RunsPlan}
+use Rattle.qc_interp.specs.declared.body.Came.{Came}
+use Rattle.qc_interp.specs.declared.body.Came.TheVariants as came
 use Rattle.qc_interp.specs.declared.managing.Look.{Look}
 use Rattle.qc_interp.specs.declared.managing.Look.TheVariants as look
+use Rattle.qc_interp.specs.declared.stops.Ending.{Ending}
+use Rattle.qc_interp.specs.declared.stops.Ending.TheVariants as ending
 use Rattle.qc_interp.specs.Reach.{Reach, AtTheEnd}
 use Rattle.qc_script.specs.Plan.{Plan, Numbered}
 use Rattle.qc_script.specs.Numbers.{each}
 use Rattle.qc_interp.specs.Turns.{takes_turn, is_alone}
 use Rattle.qc_interp.specs.Tries.{Tries, is_tried_again, TriesDo}
-use Rattle.qc_interp.specs.Asking.{Asks, AllAsked}
+use Rattle.qc_interp.specs.Asking.{DoesAfter, Asks, AllAsked}
 
 -- A transaction that runs: by what the client made neither it nor one above it has ended itself or is ready, and no child is open.
 pub record Runs (c : Client) (of : Name) (now : Past) : Type 0 where
@@ -63,10 +67,17 @@ EndsAt reach c of before now plan =
 abbrev pub Ends : Client → Name → Past → Past → Plan → Type 0
 Ends c of before now plan = EndsAt Reach.to_the_end c of before now plan
 
--- the same, and whether its body is to be tried again
-pub record Ended (c : Client) (of : Name) (before now : Past) (plan : Plan) (again : Bool) : Type 0 where
+-- by how a transaction has ended, it committed, or stopped so that its body is tried again, or not
+abbrev pub CameTo : Ending → Option How → Type 0
+CameTo ending.Committed (Some (Abort c)) = ⊥
+CameTo ending.Committed how = Unit {0}
+CameTo (ending.Stopped again) (Some (Commit given)) = ⊥
+CameTo (ending.Stopped again) how = again ≡ is_tried_again how
+
+-- the same, and what it came to
+pub record Ended (c : Client) (of : Name) (before now : Past) (plan : Plan) (to : Ending) : Type 0 where
   pub leaves : Leaves c of before now
-  pub tried : again ≡ is_tried_again (end (mine c now) of)
+  pub tried : CameTo to (end (mine c now) of)
   pub ends : Ends c of before now plan
 
 -- A transaction was cut off, for want of memory or room, as it did what this plan asks for: it has not ended itself.
@@ -78,7 +89,7 @@ pub record CutOff (c : Client) (of : Name) (before now : Past) (plan : Plan) : T
 -- A transaction was aborted, or was aborted before that as another asked. No other was aborted as it asked.
 pub record Quit (c : Client) (of : Name) (how : How) (before now : Past) (again : Bool) : Type 0 where
   pub leaves : Leaves c of before now
-  pub tried : again ≡ is_tried_again (end (mine c now) of)
+  pub tried : CameTo (ending.Stopped again) (end (mine c now) of)
   pub children : children (mine c now) of ≡ children (mine c before) of
   pub asked : AllAsked c before now (λ by t. ⊥)
   pub ended : AreOurs c of now → (end (mine c now) of ≡ Some how) ⊎ WasAsked of (end (mine c now) of)
@@ -102,10 +113,29 @@ StopsBy of why how = WasAsked of how
 
 pub record Stopped (c : Client) (of : Name) (why : TxNo) (before now : Past) (again : Bool) : Type 0 where
   pub leaves : Leaves c of before now
-  pub tried : again ≡ is_tried_again (end (mine c now) of)
+  pub tried : CameTo (ending.Stopped again) (end (mine c now) of)
   pub children : children (mine c now) of ≡ children (mine c before) of
   pub asked : AllAsked c before now (λ by t. ⊥)
   pub ended : AreOurs c of now → StopsBy of why (end (mine c now) of)
+
+-- a child of a body that was aborted
+pub record HasFailed (c : Client) (of : Name) (now : Past) (child : Name) : Type 0 where
+  pub is_one : is_child of child ≡ true
+  pub user : Started now child (λ b. IsUser b.kind)
+  pub aborted : AreOurs c of now → MatchOption (end (mine c now) child) ⊥ IsAbort
+
+-- it was an orphan
+abbrev pub WasOrphan : Option How → Type 0
+WasOrphan (Some (Abort c)) = is_of_orphan c ≡ true
+WasOrphan _ = ⊥
+
+-- A transaction was aborted for a child, which was no orphan, or stopped early.
+pub record QuitFor (c : Client) (of child : Name) (before now : Past) (again : Bool) : Type 0 where
+  pub leaves : Leaves c of before now
+  pub tried : CameTo (ending.Stopped again) (end (mine c now) of)
+  pub children : children (mine c now) of ≡ children (mine c before) of
+  pub asked : AllAsked c before now (λ by t. ⊥)
+  pub ended : AreOurs c of now → ((WasOrphan (end (mine c now) child) → ⊥) × (end (mine c now) of ≡ Some (Abort (cause.Child child)))) ⊎ StopsEarly of (end (mine c now) of)
 
 -- The front of a plan was done: however the transaction goes on from `now` and ends, or is cut off, whatever is entered
 -- until then, from `before` on it did the whole plan, or came as far.
@@ -127,22 +157,41 @@ pub record WentBy (c : Client) (of : Name) (before now : Past) (k : Kind) (given
 -- A step's read gave a value, or the transaction stopped there.
 abbrev pub Looked : Client → Name → Past → Past → ℕ → Look → Type 0
 Looked c of before now rec (look.Value value) = WentBy c of before now (kind.Read rec) (answer.Value value)
-Looked c of before now rec (look.Stopped again) = (next : Answer → Plan) → Ended c of before now (Plan.manage_by (kind.Read rec) next) again
+Looked c of before now rec (look.Stopped again) = (next : Answer → Plan) → Ended c of before now (Plan.manage_by (kind.Read rec) next) (ending.Stopped again)
 
 -- A step was done, and the transaction goes on, or has ended so that its body is tried again, or not.
 abbrev pub Stepped : Client → Name → Past → Past → (Plan → Plan) → Option Bool → Type 0
 Stepped c of before now front None = WentOn c of before now front
-Stepped c of before now front (Some again) = (rest : Plan) → Ended c of before now (front rest) again
+Stepped c of before now front (Some again) = (rest : Plan) → Ended c of before now (front rest) (ending.Stopped again)
 
--- From `before` on, a transaction did so many tries of a body and then the rest, and ended, or came as far as the run.
-abbrev pub EndsTries : Reach → Client → Name → Past → Past → Numbered → ℕ → Plan → Type 0
-EndsTries reach c of before now body left rest =
+-- From `before` on, a transaction did so many tries of a body, behind this one, and then the rest, and ended, or came as
+-- far as the run.
+abbrev pub EndsTries : Reach → Client → Name → Past → Past → Numbered → Option Name → ℕ → Plan → Type 0
+EndsTries reach c of before now body last left rest =
     AreOurs c of now → (further : List Name) × (children (mine c now) of ≡ children (mine c before) of ++ further)
     × Tries (end (mine c now)) (λ n. (kind_of (mine c now) n ≡ Some (kind.User c.session body.number)) × RunsPlan reach c.session (mine c now) n body.plan (children (mine c now) n) (end (mine c now) n))
-    (Stops reach (mine c now) of (end (mine c now) of)) (λ more. RunsPlan reach c.session (mine c now) of rest more (end (mine c now) of)) left further
-    × AllAsked c before now (λ by t. TriesDo (end (mine c now)) (λ n. Asks (mine c now) n body.plan (children (mine c now) n) by t) (λ more. Asks (mine c now) of rest more by t) left further)
+    (Stops reach (mine c now) of (end (mine c now) of))
+    (λ latest more. AfterTries reach (mine c now) of latest body.must (RunsPlan reach c.session (mine c now) of rest more (end (mine c now) of)) more (end (mine c now) of)) last left further
+    × AllAsked c before now (λ by t. TriesDo (end (mine c now)) (λ n. Asks (mine c now) n body.plan (children (mine c now) n) by t) (λ latest more. DoesAfter (mine c now) latest body.must (Asks (mine c now) of rest more by t)) last left further)
 
--- Some tries were done: what is left of them leads to all of them.
-abbrev pub FrontTries : Client → Name → Past → Past → Numbered → ℕ → Type 0
-FrontTries c of before now body left =
-    (reach : Reach) (x : Past) → IsLater c now x → (rest : Plan) → EndsTries reach c of now x body left rest → EndsAt reach c of before x (Plan.child_then body.number body.tries body.plan rest)
+-- a step that runs a child of a body
+abbrev pub child_step : Numbered → Plan → Plan
+child_step body rest = Plan.child_then body.number body.tries body.must body.plan rest
+
+-- Some tries were done, the last of them this: what is left of them leads to all of them.
+abbrev pub FrontTries : Client → Name → Past → Past → Numbered → Option Name → ℕ → Type 0
+FrontTries c of before now body last left =
+    (reach : Reach) (x : Past) → IsLater c now x → (rest : Plan) → EndsTries reach c of now x body last left rest → EndsAt reach c of before x (child_step body rest)
+
+-- The tries of a child were done, and the last of them failed.
+pub record Failed (c : Client) (of : Name) (before now : Past) (body : Numbered) (last : Name) : Type 0 where
+  pub leaves : Leaves c of before now
+  pub runs : Runs c of now
+  pub failed : HasFailed c of now last
+  pub follows : FrontTries c of before now body (Some last) 0
+
+-- the tries of a child came to this
+abbrev pub TriesCame : Client → Name → Past → Past → Numbered → Came → Type 0
+TriesCame c of before now body came.Through = WentOn c of before now (child_step body)
+TriesCame c of before now body (came.Failed last) = Failed c of before now body last
+TriesCame c of before now body (came.Stopped again) = (rest : Plan) → Ended c of before now (child_step body rest) (ending.Stopped again)

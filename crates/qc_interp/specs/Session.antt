@@ -1,5 +1,5 @@
 -- What the tops of a session leave.
-use Rattle.std.specs.Prelude.{ℕ, ◌≡◌, true, List, [], ◌∷◌, ◌++◌}
+use Rattle.std.specs.Prelude.{ℕ, ◌≡◌, true, List, [], ◌∷◌, ◌++◌, None}
 use Rattle.std.specs.List.{AllByRecursion}
 use Rattle.qc_event.specs.History.{Past, Name, end, children}
 use Rattle.qc_interp.specs.Adding.{AllOfOne, own_after, all_over}
@@ -26,7 +26,7 @@ NotBegun Reach.cut_off = Unit {0}
 abbrev pub RunsBodies : Reach → ℕ → Past → List Numbered → List Name → Type 0
 RunsBodies reach s past [] [] = Unit {0}
 RunsBodies reach s past [] (t ∷ ts) = ⊥
-RunsBodies reach s past (b ∷ bodies) ts = Tries (end past) (RunsBody reach s past b) (NotBegun reach) (λ further. RunsBodies reach s past bodies further) b.tries ts
+RunsBodies reach s past (b ∷ bodies) ts = Tries (end past) (RunsBody reach s past b) (NotBegun reach) (λ last further. RunsBodies reach s past bodies further) None b.tries ts
 
 abbrev pub FollowsBodies : ℕ → Past → List Numbered → List Name → Type 0
 FollowsBodies s past bodies ts = RunsBodies Reach.to_the_end s past bodies ts

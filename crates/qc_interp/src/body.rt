@@ -4,16 +4,72 @@ ghost use Rattle.qc_event.specs.History.{limit};
 ghost use Rattle.qc_script.specs.Calls.{MeetsLink};
 ghost use Rattle.qc_script.specs.Plan.{Plan, PlanFits};
 ghost use Rattle.qc_script.specs.Steps.{put, plan_of, numbered};
-ghost use Rattle.qc_interp.specs.Running.{Runs, Ended, CutOff, Stepped};
+ghost use Rattle.qc_interp.specs.Running.{Runs, Ended, CutOff, Stepped, TriesCame, child_step};
 
 use crate::managing::{Change, change_value, manage, need};
-use crate::stops::{ask, commit, stop};
+use crate::stops::{Ending, ask, commit, quit_for, stop};
 use qc_event::{Kind, Name, Short};
 use qc_script::{Body, Step, Tx, TxNo};
 
-// A step that runs a child, as often as its body is tried.
+// What the tries of a child came to.
+enum Came {
+    // One of them committed, or there was none to begin.
+    Through,
+    // The last of them was aborted.
+    Failed { last: Name },
+    // One could not begin. The transaction has stopped, and its body is to be tried again, or not.
+    Stopped { again: bool },
+}
+
+// Runs a child as often as its body is tried.
 #[cycle(run)]
-fn child_tries<T: Tx>(tx: &mut T, of: &Name, body: &Body) -> Result<Option<bool>, Short>
+fn tries<T: Tx>(tx: &mut T, of: &Name, body: &Body) -> Result<Came, Short>
+    requires runs { Runs (T.view tx.old).client of.now (T.view tx.old).seen }
+    requires depth { length of.now < 16 }
+    requires fits { PlanFits (T.view tx.old).client.setting (length of.now + 1)
+        (numbered body.now).plan }
+    requires met { MeetsLink (T.view tx.old) }
+    ensures met { MeetsLink (T.view tx.new) }
+    ensures client { (T.view tx.new).client ≡ (T.view tx.old).client }
+    ensures ok { IfOk result (TriesCame (T.view tx.old).client of.now (T.view tx.old).seen
+        (T.view tx.new).seen (numbered body.now)) }
+    ensures cut { IfErr result (λ _. (rest : Plan) → CutOff (T.view tx.old).client of.now
+        (T.view tx.old).seen (T.view tx.new).seen (child_step (numbered body.now) rest)) }
+    ensures room { IfErr result (λ e. e ≡ Short.Room → length (T.view tx.new).seen ≡ limit) }
+{
+    let mut last = None;
+    for _ in 0..body.tries {
+        match tx.begin(of, body.number) {
+            Ok(name) => match steps(tx, &name, body.steps.as_slice())? {
+                Ending::Committed => return Ok(Came::Through),
+                Ending::Stopped { again } => {
+                    if !again {
+                        return Ok(Came::Failed { last: name });
+                    }
+                    last = Some(name);
+                }
+            },
+            Err(why) => {
+                return match why {
+                    TxNo::Memory => Err(Short::Memory),
+                    TxNo::Room => Err(Short::Room),
+                    _ => {
+                        let again = stop(tx, of, &why)?;
+                        Ok(Came::Stopped { again })
+                    }
+                };
+            }
+        }
+    }
+    match last {
+        Some(last) => Ok(Came::Failed { last }),
+        None => Ok(Came::Through),
+    }
+}
+
+// A step that runs a child. Where the child must commit and did not, the transaction is aborted for it.
+#[cycle(run)]
+fn child<T: Tx>(tx: &mut T, of: &Name, body: &Body) -> Result<Option<bool>, Short>
     requires runs { Runs (T.view tx.old).client of.now (T.view tx.old).seen }
     requires depth { length of.now < 16 }
     requires fits { PlanFits (T.view tx.old).client.setting (length of.now + 1)
@@ -22,31 +78,22 @@ fn child_tries<T: Tx>(tx: &mut T, of: &Name, body: &Body) -> Result<Option<bool>
     ensures met { MeetsLink (T.view tx.new) }
     ensures client { (T.view tx.new).client ≡ (T.view tx.old).client }
     ensures ok { IfOk result (Stepped (T.view tx.old).client of.now (T.view tx.old).seen
-        (T.view tx.new).seen (Plan.child_then (numbered body.now).number (numbered body.now).tries
-        (numbered body.now).plan)) }
+        (T.view tx.new).seen (child_step (numbered body.now))) }
     ensures cut { IfErr result (λ _. (rest : Plan) → CutOff (T.view tx.old).client of.now
-        (T.view tx.old).seen (T.view tx.new).seen
-        (Plan.child_then (numbered body.now).number (numbered body.now).tries
-        (numbered body.now).plan rest)) }
+        (T.view tx.old).seen (T.view tx.new).seen (child_step (numbered body.now) rest)) }
     ensures room { IfErr result (λ e. e ≡ Short.Room → length (T.view tx.new).seen ≡ limit) }
 {
-    for _ in 0..body.tries {
-        match tx.begin(of, body.number) {
-            Ok(name) => {
-                if !steps(tx, &name, body.steps.as_slice())? {
-                    return Ok(None);
-                }
+    match tries(tx, of, body)? {
+        Came::Through => Ok(None),
+        Came::Stopped { again } => Ok(Some(again)),
+        Came::Failed { last } => {
+            if !body.must {
+                return Ok(None);
             }
-            Err(why) => {
-                return match why {
-                    TxNo::Memory => Err(Short::Memory),
-                    TxNo::Room => Err(Short::Room),
-                    _ => Ok(Some(stop(tx, of, &why)?)),
-                };
-            }
+            let again = quit_for(tx, of, &last)?;
+            Ok(Some(again))
         }
     }
-    Ok(None)
 }
 
 // One step.
@@ -83,7 +130,7 @@ fn step<T: Tx>(tx: &mut T, of: &Name, step: &Step) -> Result<Option<bool>, Short
             };
             manage(tx, of, &kind)
         }
-        Step::Child(body) => child_tries(tx, of, body),
+        Step::Child(body) => child(tx, of, body),
         Step::Abort { levels } => {
             let again = ask(tx, of, *levels)?;
             Ok(Some(again))
@@ -91,10 +138,9 @@ fn step<T: Tx>(tx: &mut T, of: &Name, step: &Step) -> Result<Option<bool>, Short
     }
 }
 
-/// Runs the steps of a transaction that has started and has done nothing, and ends it. It answers whether its body is to
-/// be tried again. Want of memory or room cuts it off: it has then done the first of its steps.
+/// Runs the steps of a transaction that has started and has done nothing, and ends it. It answers what it came to. Want of memory or room cuts it off: it has then done the first of its steps.
 #[cycle(run)]
-pub fn steps<T: Tx>(tx: &mut T, of: &Name, steps: &[Step]) -> Result<bool, Short>
+pub fn steps<T: Tx>(tx: &mut T, of: &Name, steps: &[Step]) -> Result<Ending, Short>
     requires runs { Runs (T.view tx.old).client of.now (T.view tx.old).seen }
     requires fits { PlanFits (T.view tx.old).client.setting (length of.now) (plan_of steps.now) }
     requires met { MeetsLink (T.view tx.old) }
@@ -108,7 +154,7 @@ pub fn steps<T: Tx>(tx: &mut T, of: &Name, steps: &[Step]) -> Result<bool, Short
 {
     for s in steps {
         if let Some(again) = step(tx, of, s)? {
-            return Ok(again);
+            return Ok(Ending::Stopped { again });
         }
     }
     commit(tx, of)

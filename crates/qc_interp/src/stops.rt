@@ -2,15 +2,37 @@
 ghost use Rattle.std.specs.Prelude.{◌≡◌, ◌<◌, [], length, Some, IfOk, IfErr};
 ghost use Rattle.qc_event.specs.History.{limit};
 ghost use Rattle.qc_event.specs.declared.event.How.TheVariants.{Abort};
+ghost use Rattle.qc_interp.specs.declared.stops.Ending.TheVariants as ending;
 ghost use Rattle.qc_script.specs.Calls.{IsGrounded, MeetsLink};
 ghost use Rattle.qc_script.specs.Client.{Made};
 ghost use Rattle.qc_script.specs.Plan.{Plan};
 ghost use Rattle.qc_interp.specs.Asking.{ByItself};
-ghost use Rattle.qc_interp.specs.Running.{Runs, Quit, WhyStop, Stopped, Ended, CutOff};
+ghost use Rattle.qc_interp.specs.Running.{Runs, Quit, HasFailed, QuitFor, WhyStop, Stopped, Ended, CutOff};
 ghost use Rattle.qc_interp.specs.Tries as tries;
 
 use qc_event::{Cause, Name, Short};
 use qc_script::{Tx, TxNo};
+
+/// What a transaction came to that ran its steps.
+#[derive(Clone, Copy)]
+pub enum Ending {
+    /// It has committed, or is a ready top.
+    Committed,
+    /// It has stopped, and its body is to be tried again, or not.
+    Stopped { again: bool },
+}
+
+impl Ending {
+    // Whether the body is to be tried again.
+    pub(crate) fn is_again(&self) -> bool
+        ensures { result ≡ tries.is_again self.now }
+    {
+        match self {
+            Ending::Committed => false,
+            Ending::Stopped { again } => *again,
+        }
+    }
+}
 
 // Whether a body that was aborted so is tried again.
 fn is_tried_again(cause: &Cause) -> bool
@@ -89,7 +111,7 @@ pub(crate) fn ask<T: Tx>(tx: &mut T, of: &Name, levels: u8) -> Result<bool, Shor
     ensures client { (T.view tx.new).client ≡ (T.view tx.old).client }
     ensures ok { IfOk result (λ again. (rest : Plan)
         → Ended (T.view tx.old).client of.now (T.view tx.old).seen (T.view tx.new).seen
-        (Plan.abort_then levels rest) again) }
+        (Plan.abort_then levels rest) (ending.Stopped again)) }
     ensures cut { IfErr result (λ _. (rest : Plan) → CutOff (T.view tx.old).client of.now
         (T.view tx.old).seen (T.view tx.new).seen (Plan.abort_then levels rest)) }
     ensures room { IfErr result (λ e. e ≡ Short.Room → length (T.view tx.new).seen ≡ limit) }
@@ -109,8 +131,32 @@ pub(crate) fn ask<T: Tx>(tx: &mut T, of: &Name, levels: u8) -> Result<bool, Shor
     }
 }
 
+// Aborts the transaction that runs for a child that was aborted. One that is dead ends as an orphan.
+pub(crate) fn quit_for<T: Tx>(tx: &mut T, of: &Name, child: &Name) -> Result<bool, Short>
+    requires runs { Runs (T.view tx.old).client of.now (T.view tx.old).seen }
+    requires failed { HasFailed (T.view tx.old).client of.now (T.view tx.old).seen child.now }
+    requires met { MeetsLink (T.view tx.old) }
+    ensures met { MeetsLink (T.view tx.new) }
+    ensures client { (T.view tx.new).client ≡ (T.view tx.old).client }
+    ensures ok { IfOk result (QuitFor (T.view tx.old).client of.now child.now (T.view tx.old).seen
+        (T.view tx.new).seen) }
+    ensures cut { IfErr result (λ _. Made (T.view tx.old).client []
+        (T.view tx.old).seen (T.view tx.new).seen) }
+    ensures room { IfErr result (λ e. e ≡ Short.Room → length (T.view tx.new).seen ≡ limit) }
+{
+    match tx.abort(of, Cause::Child(*child)) {
+        Ok(()) => Ok(true),
+        Err(why) => match why {
+            TxNo::Memory => Err(Short::Memory),
+            TxNo::Room => Err(Short::Room),
+            TxNo::Orphan(_) => stop(tx, of, &why),
+            _ => Ok(false),
+        },
+    }
+}
+
 // Commits the transaction that runs.
-pub(crate) fn commit<T: Tx>(tx: &mut T, of: &Name) -> Result<bool, Short>
+pub(crate) fn commit<T: Tx>(tx: &mut T, of: &Name) -> Result<Ending, Short>
     requires runs { Runs (T.view tx.old).client of.now (T.view tx.old).seen }
     requires met { MeetsLink (T.view tx.old) }
     ensures met { MeetsLink (T.view tx.new) }
@@ -122,12 +168,15 @@ pub(crate) fn commit<T: Tx>(tx: &mut T, of: &Name) -> Result<bool, Short>
     ensures room { IfErr result (λ e. e ≡ Short.Room → length (T.view tx.new).seen ≡ limit) }
 {
     match tx.commit(of) {
-        Ok(()) => Ok(false),
+        Ok(()) => Ok(Ending::Committed),
         Err(why) => match why {
             TxNo::Memory => Err(Short::Memory),
             TxNo::Room => Err(Short::Room),
-            TxNo::Ledger => Ok(false),
-            _ => stop(tx, of, &why),
+            TxNo::Ledger => Ok(Ending::Stopped { again: false }),
+            _ => {
+                let again = stop(tx, of, &why)?;
+                Ok(Ending::Stopped { again })
+            }
         },
     }
 }

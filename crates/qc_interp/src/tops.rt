@@ -28,7 +28,7 @@ fn top_tries<T: Tx>(tx: &mut T, body: &Body) -> Result<(), Short>
     for _ in 0..body.tries {
         match tx.begin(&Name::root(), body.number) {
             Ok(name) => {
-                if !steps(tx, &name, body.steps.as_slice())? {
+                if !steps(tx, &name, body.steps.as_slice())?.is_again() {
                     return Ok(());
                 }
             }

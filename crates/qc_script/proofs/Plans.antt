@@ -17,11 +17,11 @@ pub all_before-map : (steps : List Step) → all_before (map put steps) ≡ plan
 all_before-map [] = refl
 all_before-map (s ∷ steps) = ap (put s) (all_before-map steps)
 
--- the number, the tries and the plan of a body
-pub numbered_roll : (b : Body-F Step Body) → numbered (roll-Body b) ≡ record { number = b.number; tries = b.tries; plan = plan_of b.steps.items }
+-- what a body is
+pub numbered_roll : (b : Body-F Step Body) → numbered (roll-Body b) ≡ record { number = b.number; tries = b.tries; must = b.must; plan = plan_of b.steps.items }
 numbered_roll b =
     fold-roll-Body (Plan → Plan) Numbered before layer b
-    ∙ ap (λ (p : Plan). let n : Numbered = record { number = b.number; tries = b.tries; plan = p } in n) (all_before-map b.steps.items)
+    ∙ ap (λ (p : Plan). let n : Numbered = record { number = b.number; tries = b.tries; must = b.must; plan = p } in n) (all_before-map b.steps.items)
 
 put_all-done : (steps : List Step) → put_all steps Plan.done ≡ plan_of steps
 put_all-done [] = refl

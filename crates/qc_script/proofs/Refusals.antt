@@ -1,5 +1,5 @@
 -- What a body is refused for, part by part, and which steps have no form.
-use Rattle.std.proofs.Common.{◌≡◌, ℕ, ◌+◌, ◌-◌, ◌*◌, ◌<◌, ◌≤◌, suc, List, [], ◌∷◌, length, map, get_or, drop, Ok, Err, refl, sym, ap, ◌∙◌, subst, inl, inr, add-one, drop-cons, arith}
+use Rattle.std.proofs.Common.{◌≡◌, Bool, ℕ, ◌+◌, ◌-◌, ◌*◌, ◌<◌, ◌≤◌, suc, List, [], ◌∷◌, length, map, get_or, drop, Ok, Err, refl, sym, ap, ◌∙◌, subst, inl, inr, add-one, drop-cons, arith}
 use Rattle.std.specs.Prelude.{◌⊎◌, codes}
 use Rattle.serde_json.specs.Data.{Data}
 use Rattle.serde_json.specs.View.{view}
@@ -10,7 +10,7 @@ use Rattle.qc_script.specs.declared.bad_script.BadScript.TheVariants.{NotJson, S
 use Rattle.qc_script.specs.declared.bad_script.Member.TheVariants as part
 use Rattle.qc_script.specs.Plan.{Plan, Numbered}
 use Rattle.qc_script.specs.Reading.{Fails}
-use Rattle.qc_script.specs.ScriptText.{Read, Counted, followed, ◌>>=◌, without, list_at, steps_of, step_in, body_object, tries_of, body_of, bodies_of}
+use Rattle.qc_script.specs.ScriptText.{Read, Counted, followed, ◌>>=◌, list_at, steps_of, step_in, body_object, tries_of, must_of, body_of, bodies_of}
 use Rattle.qc_script.proofs.Parts.{with_front}
 
 fails_first : {A B : Type 0} (e : BadScript) (r : Read A) (f : A → Read B) → Fails e r → Fails e (r >>= f)
@@ -34,32 +34,32 @@ fails_then e r f x h fails = subst (λ y. Fails e y) (sym (is_then r f x h)) fai
 pub tries_refused : (levels below around : ℕ) (table : Table) (next : ℕ) (d : Data) (e : BadScript) → levels ≡ suc below → body_object d ≡ Ok tt → Fails e (tries_of around d) → Fails e (body_of levels around table next d)
 tries_refused levels below around table next d e level checked fails = rw level (fails_then e _ _ tt checked (fails_first e _ _ fails))
 
-pub must_refused : (levels below around : ℕ) (table : Table) (next : ℕ) (d : Data) (e : BadScript) (tries : ℕ) → levels ≡ suc below → body_object d ≡ Ok tt → tries_of around d ≡ Ok tries → Fails e (without (codes "must") part.Must d) → Fails e (body_of levels around table next d)
+pub must_refused : (levels below around : ℕ) (table : Table) (next : ℕ) (d : Data) (e : BadScript) (tries : ℕ) → levels ≡ suc below → body_object d ≡ Ok tt → tries_of around d ≡ Ok tries → Fails e (must_of d) → Fails e (body_of levels around table next d)
 must_refused levels below around table next d e tries level checked tried fails =
     rw level (fails_then e _ _ tt checked (fails_then e _ _ tries tried (fails_first e _ _ fails)))
 
--- An object that is tried so often at most, without the member that is not built yet, in a body that may have
--- so many levels below it, where the tries around it have this product.
-pub record IsBody (levels below around tries : ℕ) (d : Data) : Type 0 where
+-- An object that is tried so often at most, and must commit or need not, in a body that may have so many levels below
+-- it, where the tries around it have this product.
+pub record IsBody (levels below around tries : ℕ) (must : Bool) (d : Data) : Type 0 where
   pub level : levels ≡ suc below
   pub checked : body_object d ≡ Ok tt
   pub tried : tries_of around d ≡ Ok tries
-  pub no_must : without (codes "must") part.Must d ≡ Ok tt
+  pub needed : must_of d ≡ Ok must
 
-pub list_refused : (levels below around tries : ℕ) (table : Table) (next : ℕ) (d : Data) (e : BadScript) → IsBody levels below around tries d → Fails e (list_at (codes "steps") part.Steps d) → Fails e (body_of levels around table next d)
-list_refused levels below around tries table next d e is fails =
+pub list_refused : (levels below around tries : ℕ) (must : Bool) (table : Table) (next : ℕ) (d : Data) (e : BadScript) → IsBody levels below around tries must d → Fails e (list_at (codes "steps") part.Steps d) → Fails e (body_of levels around table next d)
+list_refused levels below around tries must table next d e is fails =
     let level = is.level in
-    rw level (fails_then e _ _ tt is.checked (fails_then e _ _ tries is.tried (fails_then e _ _ tt is.no_must (fails_first e _ _ fails))))
+    rw level (fails_then e _ _ tt is.checked (fails_then e _ _ tries is.tried (fails_then e _ _ must is.needed (fails_first e _ _ fails))))
 
-pub steps_refused : (levels below around tries : ℕ) (table : Table) (next : ℕ) (d : Data) (e : BadScript) (list : List Data) → IsBody levels below around tries d → list_at (codes "steps") part.Steps d ≡ Ok list → Fails e (steps_of (body_of below (around * tries) table) (16 - below) table (next + 1) list) → Fails e (body_of levels around table next d)
-steps_refused levels below around tries table next d e list is steps fails =
+pub steps_refused : (levels below around tries : ℕ) (must : Bool) (table : Table) (next : ℕ) (d : Data) (e : BadScript) (list : List Data) → IsBody levels below around tries must d → list_at (codes "steps") part.Steps d ≡ Ok list → Fails e (steps_of (body_of below (around * tries) table) (16 - below) table (next + 1) list) → Fails e (body_of levels around table next d)
+steps_refused levels below around tries must table next d e list is steps fails =
     let level = is.level in
-    rw level (fails_then e _ _ tt is.checked (fails_then e _ _ tries is.tried (fails_then e _ _ tt is.no_must (fails_then e _ _ list steps (fails_first e _ _ fails)))))
+    rw level (fails_then e _ _ tt is.checked (fails_then e _ _ tries is.tried (fails_then e _ _ must is.needed (fails_then e _ _ list steps (fails_first e _ _ fails)))))
 
-pub body_read : (levels below around tries : ℕ) (table : Table) (next : ℕ) (d : Data) (list : List Data) (plan : Plan) (after : ℕ) → IsBody levels below around tries d → list_at (codes "steps") part.Steps d ≡ Ok list → steps_of (body_of below (around * tries) table) (16 - below) table (next + 1) list ≡ Ok (plan, after) → body_of levels around table next d ≡ Ok (record { number = next; tries = tries; plan = plan }, after)
-body_read levels below around tries table next d list plan after is steps read =
+pub body_read : (levels below around tries : ℕ) (must : Bool) (table : Table) (next : ℕ) (d : Data) (list : List Data) (plan : Plan) (after : ℕ) → IsBody levels below around tries must d → list_at (codes "steps") part.Steps d ≡ Ok list → steps_of (body_of below (around * tries) table) (16 - below) table (next + 1) list ≡ Ok (plan, after) → body_of levels around table next d ≡ Ok (record { number = next; tries = tries; must = must; plan = plan }, after)
+body_read levels below around tries must table next d list plan after is steps read =
     let level = is.level in
-    rw level (is_then _ _ tt is.checked ∙ is_then _ _ tries is.tried ∙ is_then _ _ tt is.no_must ∙ is_then _ _ list steps ∙ is_then _ _ (plan, after) read)
+    rw level (is_then _ _ tt is.checked ∙ is_then _ _ tries is.tried ∙ is_then _ _ must is.needed ∙ is_then _ _ list steps ∙ is_then _ _ (plan, after) read)
 
 -- the bodies of a list are refused for what the next of them is
 pub bodies_refused : (table : Table) (next : ℕ) (front : List Numbered) (list : List Value) (i : ℕ) (x : Value) (e : BadScript) → i < length list → x ≡ get_or list i x → Fails e (body_of 16 1 table next (view x)) → Fails e (with_front front (bodies_of table next (map view (drop i list))))

@@ -12,9 +12,9 @@ use Rattle.qc_event.specs.declared.event.How.{How}
 use Rattle.qc_event.specs.declared.event.How.TheVariants.{Commit, Abort}
 use Rattle.qc_event.specs.declared.event.Kind.{Kind}
 use Rattle.qc_event.specs.declared.event.Kind.TheVariants as kind
-use Rattle.qc_event.specs.Dead.{outcome, is_committed}
+use Rattle.qc_event.specs.Dead.{outcome, is_committed, is_aborted}
 use Rattle.qc_event.specs.History.{Past, Name, limit, same, start, end, is_ready, is_child}
-use Rattle.qc_event.specs.Standing.{Started, IsAbort}
+use Rattle.qc_event.specs.Standing.{Started, IsAbort, IsUser}
 use Rattle.qc_event.specs.Users.{UserCause}
 use Rattle.qc_names.specs.Name as name
 use Rattle.qc_net.specs.Messages.{meets_fates}
@@ -102,25 +102,32 @@ abbrev pub IsMarkedFor : Past → Name → Kind → Type 0
 IsMarkedFor seen n (kind.User session body) = UserCause seen n session cause.Killed
 IsMarkedFor seen n _ = ⊥
 
--- What a cause to abort a user transaction for stands on, in what was seen: its licence, and for an orphan that the
--- ancestor has ended. Only marks go by sessions.
+-- What a cause to abort a user transaction for stands on, in what was seen: its licence, for an orphan that the ancestor
+-- has ended, and for a child that it is a user transaction. Only marks go by sessions.
 abbrev pub IsGrounded : Past → Name → Cause → Type 0
 IsGrounded seen n (cause.Orphan a) = IsTrue (name.is_ancestor a n) × IsTrue (not (same a n)) × (is_some (end seen a) ≡ true)
 IsGrounded seen n cause.Killed = Started seen n (λ b. IsMarkedFor seen n b.kind)
+IsGrounded seen n (cause.Child child) = IsTrue (is_child n child) × Started seen child (λ b. IsUser b.kind)
 IsGrounded seen n c = (session : ℕ) → UserCause seen n session c
 
--- the ancestor of which it would be an orphan has committed
+-- the ancestor of which it would be an orphan has committed, or the child for which it would be aborted is not aborted
 abbrev pub IsNone : Past → Cause → Type 0
 IsNone seen (cause.Orphan a) = is_committed (outcome seen a) ≡ true
+IsNone seen (cause.Child child) = is_aborted (outcome seen child) ≡ false
 IsNone seen c = ⊥
 
--- An abort was refused: nothing was made, and it had ended or was ready, or would have been no orphan, or it was want of
--- memory or room.
+abbrev pub IsForChild : Cause → Type 0
+IsForChild (cause.Child child) = Unit {0}
+IsForChild c = ⊥
+
+-- An abort was refused: nothing was made, and it had ended or was ready, or the cause does not hold, or it was want of
+-- memory or room. For a child none is aborted that is an orphan.
 abbrev pub NotAborted : Client → Name → Cause → Past → Past → TxNo → Type 0
 NotAborted c of why before now tx_no.Memory = Made c [] before now
 NotAborted c of why before now tx_no.Room = Made c [] before now × (length now ≡ limit)
 NotAborted c of why before now tx_no.Ended = Made c [] before now × ((is_some (end now of) ≡ true) ⊎ IsNone now why)
 NotAborted c of why before now tx_no.Ready = Made c [] before now × (is_ready now of ≡ true)
+NotAborted c of why before now (tx_no.Orphan a) = Made c [] before now × IsForChild why × Refuses now of (tx_no.Orphan a)
 NotAborted c of why before now _ = ⊥
 
 -- A manager gave no answer: it did not start, ended for the cause that the call tells, or was cut off.

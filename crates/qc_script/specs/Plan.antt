@@ -1,5 +1,5 @@
 -- What a body does: its steps one after another; and what a script is.
-use Rattle.std.specs.Prelude.{ℕ, ◌+◌, ◌-◌, ◌%◌, ◌^◌, ◌<◌, ◌≤◌, nat_lt, if◌then◌else◌, List, [], ◌∷◌, length}
+use Rattle.std.specs.Prelude.{ℕ, Bool, ◌+◌, ◌-◌, ◌%◌, ◌^◌, ◌<◌, ◌≤◌, nat_lt, if◌then◌else◌, List, [], ◌∷◌, length}
 use Rattle.qc_event.specs.declared.event.Answer.{Answer}
 use Rattle.qc_event.specs.declared.event.Answer.TheVariants as answer
 use Rattle.qc_event.specs.Base.{Setting, IsConfigFor}
@@ -10,11 +10,11 @@ use Rattle.qc_net.specs.declared.link.Fate.{Fate}
 
 -- A plan is what a body does, one thing before the plan of what follows. A manager of a kind reads, sets or gives a
 -- record another configuration, and what follows may go by its answer. The body of a child has a number, how often it is
--- tried at most, and a plan of its own.
+-- tried at most, whether it must commit for what follows, and a plan of its own.
 pub data Plan : Type 0 where
   done : Plan
   manage_by : Kind → (Answer → Plan) → Plan
-  child_then : ℕ → ℕ → Plan → Plan → Plan
+  child_then : ℕ → ℕ → Bool → Plan → Plan → Plan
   abort_then : ℕ → Plan → Plan
 
 -- whatever the manager answers
@@ -41,10 +41,11 @@ change_then rec changed rest = Plan.manage_by (kind.Read rec) (λ given. manage_
 abbrev pub need_then : ℕ → ℕ → Plan → Plan
 need_then rec least rest = Plan.manage_by (kind.Read rec) (λ given. if nat_lt (value_of given) least then Plan.abort_then 0 rest else rest)
 
--- A body: its number, how often it is tried at most, and its plan.
+-- A body: its number, how often it is tried at most, whether it must commit as a child, and its plan.
 pub record Numbered : Type 0 where
   pub number : ℕ
   pub tries : ℕ
+  pub must : Bool
   pub plan : Plan
 
 -- A session: the fates of its requests, after how many due steps a held one is delivered, and the bodies of its tops.
@@ -79,7 +80,7 @@ KindWithin copies records _ = ⊥
 abbrev pub PlanWithin : ℕ → ℕ → ℕ → Plan → Type 0
 PlanWithin copies records depth Plan.done = Unit {0}
 PlanWithin copies records depth (Plan.manage_by k next) = KindWithin copies records k × ((given : Answer) → PlanWithin copies records depth (next given))
-PlanWithin copies records depth (Plan.child_then number tries inner rest) =
+PlanWithin copies records depth (Plan.child_then number tries must inner rest) =
     (depth < 16) × IsTried tries × PlanWithin copies records (depth + 1) inner × PlanWithin copies records depth rest
 PlanWithin copies records depth (Plan.abort_then levels rest) = (levels < depth) × PlanWithin copies records depth rest
 

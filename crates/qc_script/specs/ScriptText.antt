@@ -1,12 +1,12 @@
 -- What a script is, as a function on a JSON value: its parts from outside in, and the first refusal.
-use Rattle.std.specs.Prelude.{ℕ, ◌+◌, ◌-◌, ◌*◌, ◌==◌, Bool, true, false, not, ◌&&◌, ◌||◌, nat_lt, nat_le, if◌then◌else◌, List, [], ◌∷◌, ◌++◌, length, map, codes, Option, None, Some, is_some, is_none, ok_or, option_map, option_and_then, Result, Ok, Err}
+use Rattle.std.specs.Prelude.{ℕ, ◌+◌, ◌-◌, ◌*◌, ◌==◌, Bool, true, false, not, ◌&&◌, ◌||◌, nat_lt, nat_le, if◌then◌else◌, List, [], ◌∷◌, ◌++◌, length, map, codes, Option, None, Some, is_some, ok_or, option_map, option_and_then, Result, Ok, Err}
 use Rattle.std.proofs.Common.{zero, suc}
 use Rattle.std.specs.Char.{is_ascii_alphanumeric}
 use Rattle.std.specs.List.{list_all, list_any, position}
 use Rattle.std.specs.Result.{is_ok}
 use Rattle.std.specs.Str.{bytes_eq}
 use Rattle.serde_json.specs.Data.{Data, Items, no_items, item, Members, no_members, member}
-use Rattle.serde_json.specs.Find.{get, as_number, as_str, as_array, as_object, as_u64}
+use Rattle.serde_json.specs.Find.{get, as_number, as_str, as_array, as_object, as_u64, as_bool}
 use Rattle.qc_event.specs.declared.event.Kind.TheVariants as kind
 use Rattle.qc_config.specs.Config.{Voting, fault}
 use Rattle.qc_event.specs.declared.table.Row.{Row}
@@ -91,10 +91,6 @@ text_at name word d = ok_or (option_and_then as_str (get name d)) (Shape word)
 
 abbrev pub list_at : Text → Member → Data → Read (List Data)
 list_at name word d = ok_or (option_and_then list_of (get name d)) (Shape word)
-
--- a member that is not built yet
-abbrev pub without : Text → Member → Data → Read (Unit {0})
-without name word d = must (is_none (get name d)) (Shape word)
 
 -- a number, or the length of a list or a text, within its limits
 abbrev pub within : Member → ℕ → ℕ → ℕ → Read (Unit {0})
@@ -269,7 +265,7 @@ abbrev pub child_of : (ℕ → Data → Counted Numbered) → ℕ → Data → C
 child_of body next d = do
   _ ← must (is_some (as_object d)) (Shape part.Step)
   inner ← body next d
-  Ok (Plan.child_then inner.0.number inner.0.tries inner.0.plan, inner.1)
+  Ok (Plan.child_then inner.0.number inner.0.tries inner.0.must inner.0.plan, inner.1)
 
 -- ["abort", k], in a body of this depth
 abbrev pub abort_of : ℕ → ℕ → Data → Counted Front
@@ -322,6 +318,10 @@ tries_of around d = do
   _ ← within part.Tries 0 256 (around * tries)
   Ok tries
 
+-- whether a body must commit, as a child: true or false
+abbrev pub must_of : Data → Read Bool
+must_of d = member_or (codes "must") false (λ value. ok_or (as_bool value) (Shape part.Must)) d
+
 -- A body that may have so many levels of bodies, itself among them, with this number, where the tries of the
 -- bodies around it have this product. The depth of a top's body is 1, and no body is deeper than 16.
 abbrev pub body_of : ℕ → ℕ → Table → ℕ → Data → Counted Numbered
@@ -329,10 +329,10 @@ body_of zero around table next d = body_object d >>= λ _. Err (Limit part.Body 
 body_of (suc below) around table next d = do
   _ ← body_object d
   tries ← tries_of around d
-  _ ← without (codes "must") part.Must d
+  needed ← must_of d
   steps ← list_at (codes "steps") part.Steps d
   plan ← steps_of (body_of below (around * tries) table) (16 - below) table (next + 1) steps
-  Ok (record { number = next; tries = tries; plan = plan.0 }, plan.1)
+  Ok (record { number = next; tries = tries; must = needed; plan = plan.0 }, plan.1)
 
 -- the bodies of tops, the first of them with this number
 abbrev pub bodies_of : Table → ℕ → List Data → Read (List Numbered)

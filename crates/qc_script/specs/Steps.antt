@@ -16,7 +16,7 @@ before (Step-F.Add rec value) rest = change_then rec (λ old. plus old value) re
 before (Step-F.Sub rec value) rest = change_then rec (λ old. minus old value) rest
 before (Step-F.Need rec value) rest = need_then rec value rest
 before (Step-F.Reconf rec config) rest = manage_then (kind.Reconf rec config) rest
-before (Step-F.Child body) rest = Plan.child_then body.number body.tries body.plan rest
+before (Step-F.Child body) rest = Plan.child_then body.number body.tries body.must body.plan rest
 before (Step-F.Abort levels) rest = Plan.abort_then levels rest
 
 abbrev pub all_before : List (Plan → Plan) → Plan
@@ -24,9 +24,9 @@ all_before [] = Plan.done
 all_before (s ∷ steps) = s (all_before steps)
 
 abbrev pub layer : Body-F (Plan → Plan) Numbered → Numbered
-layer b = record { number = b.number; tries = b.tries; plan = all_before b.steps.items }
+layer b = record { number = b.number; tries = b.tries; must = b.must; plan = all_before b.steps.items }
 
--- a body's number, tries and plan
+-- what a body is
 abbrev pub numbered : Body → Numbered
 numbered = fold-Body (Plan → Plan) Numbered before layer
 

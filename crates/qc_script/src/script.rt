@@ -23,13 +23,14 @@ pub enum Step {
     Abort { levels: u8 },
 }
 
-/// What a transaction does: its steps in order, and how often it is tried at most. Bodies are numbered from 0
-/// in the order in which they begin in a script.
+/// What a transaction does: its steps in order, how often it is tried at most, and whether, as a child, it must commit
+/// for its parent to go on. Bodies are numbered from 0 in the order in which they begin in a script.
 #[cycle(script)]
 #[derive(Debug, Drop)]
 pub struct Body {
     pub number: u32,
     pub tries: u32,
+    pub must: bool,
     pub steps: Vec<Step>,
 }
 

@@ -47,13 +47,14 @@ pub enum TxNo {
 /// history that it has seen only grows. Each answer is the one that the history then seen gives. Where the link is told,
 /// the requests go on to meet its fates.
 pub trait Tx: Sized {
-    ghost use Rattle.std.specs.Prelude.{◌≡◌, ◌<◌, ◌⊎◌, [], length, IfOk, IfErr, OnOk, IsTrue};
+    ghost use Rattle.std.specs.Prelude.{◌≡◌, ◌<◌, ◌⊎◌, [], length, None, IfOk, IfErr, OnOk, IsTrue};
     ghost use Rattle.qc_event.specs.declared.event.Answer.TheVariants as answer;
     ghost use Rattle.qc_event.specs.declared.event.Kind.TheVariants as kind;
+    ghost use Rattle.qc_event.specs.Dead.{dead};
     ghost use Rattle.qc_event.specs.History.{is_child};
     ghost use Rattle.qc_event.specs.Standing.{Started, IsUser};
     ghost use Rattle.qc_script.specs.Numbers.{Numbers};
-    ghost use Rattle.qc_script.specs.Calls.{Began, Answers, Fails, Aborts, IsGrounded, WasRefused, NotAborted, Committed, NotCommitted, MeetsLink};
+    ghost use Rattle.qc_script.specs.Calls.{Began, Answers, Fails, Aborts, IsGrounded, IsForChild, WasRefused, NotAborted, Committed, NotCommitted, MeetsLink};
     ghost use Rattle.qc_script.specs.Client.{View};
     ghost use Rattle.qc_script.specs.Plan.{KindFits};
 
@@ -111,7 +112,8 @@ pub trait Tx: Sized {
         ensures err { IfErr result (Fails
             (view self.old) (view self.new) of.now (kind.Reconf rec config.now)) };
 
-    /// Aborts a transaction for a cause that what was seen licenses.
+    /// Aborts a transaction for a cause that what was seen licenses. For a child it is aborted only where that is aborted,
+    /// and it is no orphan.
     fn abort(&mut self, target: &Name, cause: Cause) -> Result<(), TxNo>
         requires user { Started (view self.old).seen target.now (λ b. IsUser b.kind) }
         requires grounded { IsGrounded (view self.old).seen target.now cause }
@@ -119,6 +121,8 @@ pub trait Tx: Sized {
         ensures met { MeetsLink (view self.new) }
         ensures client { (view self.new).client ≡ (view self.old).client }
         ensures ok { OnOk result (Aborts (view self.old) (view self.new) target.now cause) }
+        ensures alive { OnOk result (IsForChild cause
+            → dead (view self.old).seen target.now ≡ None) }
         ensures err { IfErr result (NotAborted
             (view self.old).client target.now cause (view self.old).seen (view self.new).seen) };
 

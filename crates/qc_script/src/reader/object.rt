@@ -106,17 +106,6 @@ pub(crate) fn list_at<'v>(
     }
 }
 
-/// Checks that an object has no such member: it is not built yet.
-pub(crate) fn check_absent(object: &Value, name: &str, word: Member) -> Result<(), BadScript>
-    ensures exact { Gives (λ _. tt) result (script.without name.now word (view object.now)) }
-    ensures no_memory { IfErr result (λ e. e ≢ BadScript.Memory) }
-{
-    if object.get(name).is_some() {
-        return Err(BadScript::Shape(word));
-    }
-    Ok(())
-}
-
 /// Checks a number, or a length, against its limits.
 pub(crate) fn check_within(word: Member, low: u64, high: u64, number: u64) -> Result<(), BadScript>
     ensures exact { Gives (λ _. tt) result (script.within word low high number) }

@@ -8,7 +8,7 @@ ghost use Rattle.qc_script.specs.Steps.{put, plan_of, numbered};
 ghost use Rattle.qc_script.specs.Reading.{Gives};
 
 use crate::bad_script::{BadScript, Member};
-use crate::reader::object::{check_absent, check_object, check_within, list_at, number_or};
+use crate::reader::object::{check_object, check_within, list_at, number_or};
 use crate::reader::rows::{Records, check_name, config_of};
 use crate::script::{Body, Step};
 use serde_json::Value;
@@ -300,6 +300,17 @@ fn tries_of(around: u32, value: &Value) -> Result<u32, BadScript>
     Ok(tries)
 }
 
+// Whether a body must commit as a child. Where it does not say so, it need not.
+fn must_of(value: &Value) -> Result<bool, BadScript>
+    ensures exact { Gives (λ b. b) result (script.must_of (view value.now)) }
+    ensures no_memory { IfErr result (λ e. e ≢ BadScript.Memory) }
+{
+    match value.get("must") {
+        Some(must) => must.as_bool().ok_or(BadScript::Shape(Member::Must)),
+        None => Ok(false),
+    }
+}
+
 // A body that may have this number of levels of bodies, itself among them, where the tries of the bodies around it
 // have this product.
 #[cycle(bodies)]
@@ -321,7 +332,7 @@ fn body_of(
         return Err(BadScript::Limit(Member::Body, 17));
     }
     let tries = tries_of(around, value)?;
-    check_absent(value, "must", Member::Must)?;
+    let must = must_of(value)?;
     let list = list_at(value, "steps", Member::Steps)?;
     let number = *next;
     *next = number.checked_add(1).ok_or(BadScript::Memory)?;
@@ -329,6 +340,7 @@ fn body_of(
     Ok(Body {
         number,
         tries,
+        must,
         steps,
     })
 }

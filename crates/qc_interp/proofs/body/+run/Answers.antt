@@ -16,11 +16,11 @@ use Rattle.qc_interp.proofs.body.+run.Goals as goal
 
 -- CHILDREN
 
-one_less : (c : Client) (of : Name) (body : Rattle.qc_script.specs.Plan.Numbered) (before now : Past) (counter : ℕ) → counter < body.tries → TriesLeft c of body before now (body.tries - counter) → TriesLeft c of body before now (suc (body.tries - (counter + 1)))
-one_less c of body before now counter few left = subst (TriesLeft c of body before now) (let e : body.tries - counter ≡ suc (body.tries - (counter + 1)) = omega (arith, few) in e) left
+one_less : (c : Client) (of : Name) (body : Rattle.qc_script.specs.Plan.Numbered) (before now : Past) (last : Option Name) (counter : ℕ) → counter < body.tries → TriesLeft c of body before now last (body.tries - counter) → TriesLeft c of body before now last (suc (body.tries - (counter + 1)))
+one_less c of body before now last counter few left = subst (TriesLeft c of body before now last) (let e : body.tries - counter ≡ suc (body.tries - (counter + 1)) = omega (arith, few) in e) left
 
-pub child_tries-steps-requires : goal.child_tries-steps-requires
-child_tries-steps-requires g t c κs within =
+pub tries-steps-requires : goal.tries-steps-requires
+tries-steps-requires g t c κs within =
     let inv = c.loop.invariant in
     let v = g.T.Tx.view c.args.tx.now in
     let w = g.T.Tx.view c.loop.tx in
@@ -44,8 +44,8 @@ child_tries-steps-requires g t c κs within =
       ),
     )
 
-pub child_tries-returns-then-not-branch-clause-ok : goal.child_tries-returns-then-not-branch-clause-ok
-child_tries-returns-then-not-branch-clause-ok g t c =
+pub tries-returns-then-not-branch-clause-ok : goal.tries-returns-then-not-branch-clause-ok
+tries-returns-then-not-branch-clause-ok g t c =
     let inv = c.loop.invariant in
     let v = g.T.Tx.view c.args.tx.now in
     let w = g.T.Tx.view c.loop.tx in
@@ -57,11 +57,11 @@ child_tries-returns-then-not-branch-clause-ok g t c =
     let ended = subst (λ d. Ended d c.in-Ok.name x.seen y.seen (numbered body).plan c.in_ok-steps-in-Ok.field-0) (c.begin.ensures.client ∙ inv.client)
     (subst (λ p. Ended x.client c.in-Ok.name x.seen y.seen p c.in_ok-steps-in-Ok.field-0) (plan_is body c.as_slice.result.now c.as_slice.ensures.value) c.in_ok-steps-in-Ok.ensures.ok) in
     let tried = tried_once v.client of c.in-Ok.name (numbered body) w.seen x.seen y.seen inv.left.runs c.in-Ok.ensures.child made c.in_ok-steps-in-Ok.field-0 ended in
-    tried_out v.client of (numbered body) v.seen w.seen y.seen _ (one_less v.client of (numbered body) v.seen w.seen c.loop.counter (subst (λ n. c.loop.counter < n) (sym (tries_of body)) c.loop-test.true) inv.left)
+    tried_out v.client of (numbered body) v.seen w.seen y.seen _ (one_less v.client of (numbered body) v.seen w.seen c.loop.last c.loop.counter (subst (λ n. c.loop.counter < n) (sym (tries_of body)) c.loop-test.true) inv.left)
     (subst (Tried v.client of (numbered body) w.seen y.seen) c.if-not-branch.true tried)
 
-pub child_tries-stop-requires : goal.child_tries-stop-requires
-child_tries-stop-requires g t c =
+pub tries-stop-requires : goal.tries-stop-requires
+tries-stop-requires g t c =
     let inv = c.loop.invariant in
     let v = g.T.Tx.view c.args.tx.now in
     let w = g.T.Tx.view c.loop.tx in
@@ -71,8 +71,8 @@ child_tries-stop-requires g t c =
     let client = c.begin.ensures.client ∙ inv.client in
     record { met = c.begin.ensures.met; runs = subst (λ d. Runs d of x.seen) (sym client) h.0; why = subst (λ d. WhyStop d x.seen of c.in-Err.why) (sym client) h.1 }
 
-pub child_tries-returns-in_ok-stop-in_default : goal.child_tries-returns-in_ok-stop-in_default
-child_tries-returns-in_ok-stop-in_default g t c =
+pub tries-returns-in_ok-stop-in_default : goal.tries-returns-in_ok-stop-in_default
+tries-returns-in_ok-stop-in_default g t c =
     let inv = c.loop.invariant in
     let v = g.T.Tx.view c.args.tx.now in
     let w = g.T.Tx.view c.loop.tx in
@@ -85,16 +85,16 @@ child_tries-returns-in_ok-stop-in_default g t c =
       met = c.stop.ensures.met;
       client = c.stop.ensures.client ∙ client;
       ok = λ rest.
-          not_begun v.client of body v.seen w.seen x.seen y.seen _ c.in-Err.why c.in_ok-stop-in_default.field-0 rest
-          (one_less v.client of body v.seen w.seen c.loop.counter (subst (λ n. c.loop.counter < n) (sym (tries_of c.args.body.now)) c.loop-test.true) inv.left)
+          not_begun v.client of body v.seen w.seen x.seen y.seen _ _ c.in-Err.why c.in_ok-stop-in_default.field-0 rest
+          (one_less v.client of body v.seen w.seen c.loop.last c.loop.counter (subst (λ n. c.loop.counter < n) (sym (tries_of c.args.body.now)) c.loop-test.true) inv.left)
           (subst (λ d. WasRefused d of w.seen x.seen c.in-Err.why) inv.client c.in-Err.ensures.err) c.in_default.not-Memory c.in_default.not-Room
           (subst (λ d. Stopped d of c.in-Err.why x.seen y.seen c.in_ok-stop-in_default.field-0) client c.in_ok-stop-in_default.ensures.ok);
       cut = tt;
       room = tt;
     }
 
-pub child_tries-loop-preserved : goal.child_tries-loop-preserved
-child_tries-loop-preserved g t c =
+pub tries-loop-preserved : goal.tries-loop-preserved
+tries-loop-preserved g t c =
     let inv = c.loop.invariant in
     let v = g.T.Tx.view c.args.tx.now in
     let w = g.T.Tx.view c.loop.tx in
@@ -109,12 +109,12 @@ child_tries-loop-preserved g t c =
     record {
       met = c.steps.ensures.met;
       client = c.steps.ensures.client ∙ c.begin.ensures.client ∙ inv.client;
-      left = tried_more v.client of (numbered body) v.seen w.seen y.seen _ (one_less v.client of (numbered body) v.seen w.seen c.loop.counter (subst (λ n. c.loop.counter < n) (sym (tries_of body)) c.loop-test.true) inv.left)
+      left = tried_more v.client of (numbered body) v.seen w.seen y.seen _ (one_less v.client of (numbered body) v.seen w.seen c.loop.last c.loop.counter (subst (λ n. c.loop.counter < n) (sym (tries_of body)) c.loop-test.true) inv.left)
           (subst (Tried v.client of (numbered body) w.seen y.seen) c.if-not-branch.false tried);
     }
 
-pub child_tries-returns-clause-ok : goal.child_tries-returns-clause-ok
-child_tries-returns-clause-ok g t c =
+pub tries-returns-clause-ok : goal.tries-returns-clause-ok
+tries-returns-clause-ok g t c =
     let inv = c.loop.invariant in
     let v = g.T.Tx.view c.args.tx.now in
     let w = g.T.Tx.view c.loop.tx in
@@ -124,8 +124,8 @@ child_tries-returns-clause-ok g t c =
 
 -- where it was cut off
 
-pub child_tries-returns-in_err-steps-in-Ok-clause-cut : goal.child_tries-returns-in_err-steps-in-Ok-clause-cut
-child_tries-returns-in_err-steps-in-Ok-clause-cut g t c =
+pub tries-returns-in_err-steps-in-Ok-clause-cut : goal.tries-returns-in_err-steps-in-Ok-clause-cut
+tries-returns-in_err-steps-in-Ok-clause-cut g t c =
     let inv = c.loop.invariant in
     let v = g.T.Tx.view c.args.tx.now in
     let w = g.T.Tx.view c.loop.tx in
@@ -137,35 +137,35 @@ child_tries-returns-in_err-steps-in-Ok-clause-cut g t c =
     let cut = subst (λ d. CutOff d c.in-Ok.name x.seen y.seen (numbered body).plan) (c.begin.ensures.client ∙ inv.client)
     (subst (CutOff x.client c.in-Ok.name x.seen y.seen) (plan_is body c.as_slice.result.now c.as_slice.ensures.value) c.in_err-steps-in-Ok.ensures.cut) in
     any_err _ c.from_residual.result
-    (λ rest. tries_cut v.client of (numbered body) v.seen w.seen y.seen _ rest (one_less v.client of (numbered body) v.seen w.seen c.loop.counter (subst (λ n. c.loop.counter < n) (sym (tries_of body)) c.loop-test.true) inv.left)
+    (λ rest. tries_cut v.client of (numbered body) v.seen w.seen y.seen _ _ rest (one_less v.client of (numbered body) v.seen w.seen c.loop.last c.loop.counter (subst (λ n. c.loop.counter < n) (sym (tries_of body)) c.loop-test.true) inv.left)
     (cut_once v.client of c.in-Ok.name (numbered body) w.seen x.seen y.seen inv.left.runs c.in-Ok.ensures.child made cut))
 
-pub child_tries-returns-in-Memory-clause-cut : goal.child_tries-returns-in-Memory-clause-cut
-child_tries-returns-in-Memory-clause-cut g t c rest =
+pub tries-returns-in-Memory-clause-cut : goal.tries-returns-in-Memory-clause-cut
+tries-returns-in-Memory-clause-cut g t c rest =
     let inv = c.loop.invariant in
     let v = g.T.Tx.view c.args.tx.now in
     let w = g.T.Tx.view c.loop.tx in
     let x = g.T.Tx.view c.begin.new.self in
     let of = c.args.of.now in
     let body = numbered c.args.body.now in
-    begin_cut v.client of body v.seen w.seen x.seen _ rest
-    (one_less v.client of body v.seen w.seen c.loop.counter (subst (λ n. c.loop.counter < n) (sym (tries_of c.args.body.now)) c.loop-test.true) inv.left)
+    begin_cut v.client of body v.seen w.seen x.seen _ _ rest
+    (one_less v.client of body v.seen w.seen c.loop.last c.loop.counter (subst (λ n. c.loop.counter < n) (sym (tries_of c.args.body.now)) c.loop-test.true) inv.left)
     (refused_made v.client of body w.seen x.seen c.in-Err.why (subst (λ d. WasRefused d of w.seen x.seen c.in-Err.why) inv.client c.in-Err.ensures.err))
 
-pub child_tries-returns-in-Room-clause-cut : goal.child_tries-returns-in-Room-clause-cut
-child_tries-returns-in-Room-clause-cut g t c rest =
+pub tries-returns-in-Room-clause-cut : goal.tries-returns-in-Room-clause-cut
+tries-returns-in-Room-clause-cut g t c rest =
     let inv = c.loop.invariant in
     let v = g.T.Tx.view c.args.tx.now in
     let w = g.T.Tx.view c.loop.tx in
     let x = g.T.Tx.view c.begin.new.self in
     let of = c.args.of.now in
     let body = numbered c.args.body.now in
-    begin_cut v.client of body v.seen w.seen x.seen _ rest
-    (one_less v.client of body v.seen w.seen c.loop.counter (subst (λ n. c.loop.counter < n) (sym (tries_of c.args.body.now)) c.loop-test.true) inv.left)
+    begin_cut v.client of body v.seen w.seen x.seen _ _ rest
+    (one_less v.client of body v.seen w.seen c.loop.last c.loop.counter (subst (λ n. c.loop.counter < n) (sym (tries_of c.args.body.now)) c.loop-test.true) inv.left)
     (refused_made v.client of body w.seen x.seen c.in-Err.why (subst (λ d. WasRefused d of w.seen x.seen c.in-Err.why) inv.client c.in-Err.ensures.err))
 
-pub child_tries-returns-in_err-stop-in_default : goal.child_tries-returns-in_err-stop-in_default
-child_tries-returns-in_err-stop-in_default g t c =
+pub tries-returns-in_err-stop-in_default : goal.tries-returns-in_err-stop-in_default
+tries-returns-in_err-stop-in_default g t c =
     let inv = c.loop.invariant in
     let v = g.T.Tx.view c.args.tx.now in
     let w = g.T.Tx.view c.loop.tx in
@@ -179,8 +179,8 @@ child_tries-returns-in_err-stop-in_default g t c =
       client = c.stop.ensures.client ∙ client;
       ok = search rules;
       cut = any_err _ c.from_residual-in_err-stop-in_default.result
-          (λ rest. begin_cut v.client of body v.seen w.seen y.seen _ rest
-          (one_less v.client of body v.seen w.seen c.loop.counter (subst (λ n. c.loop.counter < n) (sym (tries_of c.args.body.now)) c.loop-test.true) inv.left)
+          (λ rest. begin_cut v.client of body v.seen w.seen y.seen _ _ rest
+          (one_less v.client of body v.seen w.seen c.loop.last c.loop.counter (subst (λ n. c.loop.counter < n) (sym (tries_of c.args.body.now)) c.loop-test.true) inv.left)
           (made_both v.client w.seen x.seen y.seen (refused_made v.client of body w.seen x.seen c.in-Err.why (subst (λ d. WasRefused d of w.seen x.seen c.in-Err.why) inv.client c.in-Err.ensures.err))
           (subst (λ d. Made d [] x.seen y.seen) client c.in_err-stop-in_default.ensures.cut)));
       room = search rules;
@@ -233,10 +233,10 @@ step-returns-in-Reconf-clause-ok g t c =
 pub step-returns-in-Child-clause-ok : goal.step-returns-in-Child-clause-ok
 step-returns-in-Child-clause-ok g t c =
     let v = g.T.Tx.view c.args.tx.now in
-    let w = g.T.Tx.view c.child_tries.new.tx in
+    let w = g.T.Tx.view c.child.new.tx in
     let body = numbered c.in-Child.body in
-    if_ok (Stepped v.client c.args.of.now v.seen w.seen (Plan.child_then body.number body.tries body.plan)) (Stepped v.client c.args.of.now v.seen w.seen (put c.args.step.now)) c.child_tries.result
-    (λ r h. subst (λ f. Stepped v.client c.args.of.now v.seen w.seen f r) (sym (ap put c.in-Child.is ∙ put_child c.in-Child.body)) h) c.child_tries.ensures.ok
+    if_ok (Stepped v.client c.args.of.now v.seen w.seen (child_step body)) (Stepped v.client c.args.of.now v.seen w.seen (put c.args.step.now)) c.child.result
+    (λ r h. subst (λ f. Stepped v.client c.args.of.now v.seen w.seen f r) (sym (ap put c.in-Child.is ∙ put_child c.in-Child.body)) h) c.child.ensures.ok
 
 pub step-returns-in_ok-again-in-Abort-clause-ok : goal.step-returns-in_ok-again-in-Abort-clause-ok
 step-returns-in_ok-again-in-Abort-clause-ok g t c = λ rest.
@@ -291,10 +291,10 @@ step-returns-in-Reconf-clause-cut g t c =
 pub step-returns-in-Child-clause-cut : goal.step-returns-in-Child-clause-cut
 step-returns-in-Child-clause-cut g t c =
     let v = g.T.Tx.view c.args.tx.now in
-    let w = g.T.Tx.view c.child_tries.new.tx in
+    let w = g.T.Tx.view c.child.new.tx in
     let body = numbered c.in-Child.body in
-    if_err ((rest : Plan) → CutOff v.client c.args.of.now v.seen w.seen (Plan.child_then body.number body.tries body.plan rest)) ((rest : Plan) → CutOff v.client c.args.of.now v.seen w.seen (put c.args.step.now rest)) c.child_tries.result
-    (λ h rest. subst (λ f. CutOff v.client c.args.of.now v.seen w.seen (f rest)) (sym (ap put c.in-Child.is ∙ put_child c.in-Child.body)) (h rest)) c.child_tries.ensures.cut
+    if_err ((rest : Plan) → CutOff v.client c.args.of.now v.seen w.seen (child_step body rest)) ((rest : Plan) → CutOff v.client c.args.of.now v.seen w.seen (put c.args.step.now rest)) c.child.result
+    (λ h rest. subst (λ f. CutOff v.client c.args.of.now v.seen w.seen (f rest)) (sym (ap put c.in-Child.is ∙ put_child c.in-Child.body)) (h rest)) c.child.ensures.cut
 
 pub step-returns-in_err-again-in-Abort-clause-cut : goal.step-returns-in_err-again-in-Abort-clause-cut
 step-returns-in_err-again-in-Abort-clause-cut g t c =
@@ -378,8 +378,8 @@ steps-returns-clause-ok g t c =
     if_ok (Ended w.client of w.seen x.seen Plan.done) (Ended v.client of v.seen x.seen (plan_of c.args.steps.now)) c.commit.result
     (λ again e. all_done v.client of c.args.steps.now v.seen w.seen x.seen c.loop-s.s-index again inv.left c.loop-s-test.false (subst (λ d. Ended d of w.seen x.seen Plan.done again) inv.client e)) c.commit.ensures.ok
 
-pub child_tries-loop-init : goal.child_tries-loop-init
-child_tries-loop-init g t c =
+pub tries-loop-init : goal.tries-loop-init
+tries-loop-init g t c =
     let v = g.T.Tx.view c.args.tx.now in
     let b = numbered c.args.body.now in
     record { met = c.requires.met; client = refl; left = subst (TriesLeft v.client c.args.of.now b v.seen v.seen) (let e : b.tries ≡ b.tries - 0 = omega arith in e) (none_tried v.client c.args.of.now b v.seen c.requires.runs) }

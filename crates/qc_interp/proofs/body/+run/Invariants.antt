@@ -7,13 +7,13 @@ use Rattle.qc_interp.proofs.Plans.{weight}
 use Rattle.qc_interp.proofs.Tried.{TriesLeft}
 use Rattle.qc_interp.proofs.body.+run.Given as goal
 
-abbrev pub invariant-child_tries-loop : goal.invariant-child_tries-loop
-invariant-child_tries-loop g l =
+abbrev pub invariant-tries-loop : goal.invariant-tries-loop
+invariant-tries-loop g l =
     let view = g.T.Tx.view in
     record {
       met : MeetsLink (view l.tx);
       client : (view l.tx).client ≡ (view l.initial.tx).client;
-      left : TriesLeft (view l.initial.tx).client l.of (numbered l.body) (view l.initial.tx).seen (view l.tx).seen ((numbered l.body).tries - l.counter);
+      left : TriesLeft (view l.initial.tx).client l.of (numbered l.body) (view l.initial.tx).seen (view l.tx).seen l.last ((numbered l.body).tries - l.counter);
     }
 
 abbrev pub invariant-steps-loop-s : goal.invariant-steps-loop-s
@@ -31,5 +31,8 @@ decreases-steps g l = weight (plan_of l.steps.now) + 1
 abbrev pub decreases-step : goal.decreases-step
 decreases-step g l = weight (put l.step.now Plan.done)
 
-abbrev pub decreases-child_tries : goal.decreases-child_tries
-decreases-child_tries g l = weight (numbered l.body.now).plan + 3
+abbrev pub decreases-child : goal.decreases-child
+decreases-child g l = weight (numbered l.body.now).plan + 4
+
+abbrev pub decreases-tries : goal.decreases-tries
+decreases-tries g l = weight (numbered l.body.now).plan + 3

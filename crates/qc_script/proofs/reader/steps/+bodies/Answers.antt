@@ -31,21 +31,21 @@ body_of-returns-in_err-tries t c =
     rw (p.1, p.2)
     (tries_refused _ (c.args.levels - 1) _ _ _ _ _ (omega arith) c.in_ok-check_object.ensures.exact c.in_err-tries.ensures.exact)
 
-pub body_of-returns-in_err-check_absent : goal.body_of-returns-in_err-check_absent
-body_of-returns-in_err-check_absent t c =
-    let p = err_from_is_err_and c.from_residual-in_err-check_absent.result c.from_residual-in_err-check_absent.ensures.1 in
+pub body_of-returns-in_err-must : goal.body_of-returns-in_err-must
+body_of-returns-in_err-must t c =
+    let p = err_from_is_err_and c.from_residual-in_err-must.result c.from_residual-in_err-must.ensures.1 in
     rw (p.1, p.2)
-    (must_refused _ (c.args.levels - 1) _ _ _ _ _ _ (omega arith) c.in_ok-check_object.ensures.exact c.in_ok-tries.ensures.exact c.in_err-check_absent.ensures.exact)
+    (must_refused _ (c.args.levels - 1) _ _ _ _ _ _ (omega arith) c.in_ok-check_object.ensures.exact c.in_ok-tries.ensures.exact c.in_err-must.ensures.exact)
 
 pub body_of-returns-in_err-list : goal.body_of-returns-in_err-list
 body_of-returns-in_err-list t c =
     let p = err_from_is_err_and c.from_residual-in_err-list.result c.from_residual-in_err-list.ensures.1 in
     rw (p.1, p.2)
-    (list_refused _ (c.args.levels - 1) _ _ _ _ _ _ (record {
+    (list_refused _ (c.args.levels - 1) _ _ _ _ _ _ _ (record {
       level = omega arith;
       checked = c.in_ok-check_object.ensures.exact;
       tried = c.in_ok-tries.ensures.exact;
-      no_must = c.in_ok-check_absent.ensures.exact;
+      needed = c.in_ok-must.ensures.exact;
     }) c.in_err-list.ensures.exact)
 
 pub body_of-returns-in_err-steps : goal.body_of-returns-in_err-steps
@@ -53,20 +53,20 @@ body_of-returns-in_err-steps t c =
     let next : c.in_ok-next.field-0 ≡ c.args.next.now + 1 = grind (arith, common_steps) in
     let p = err_from_is_err_and c.from_residual-in_err-steps.result c.from_residual-in_err-steps.ensures.1 in
     rw (p.1, p.2)
-    (steps_refused _ (c.args.levels - 1) _ _ _ _ _ _ _ (record {
+    (steps_refused _ (c.args.levels - 1) _ _ _ _ _ _ _ _ (record {
       level = omega arith;
       checked = c.in_ok-check_object.ensures.exact;
       tried = c.in_ok-tries.ensures.exact;
-      no_must = c.in_ok-check_absent.ensures.exact;
+      needed = c.in_ok-must.ensures.exact;
     }) c.in_ok-list.ensures.exact (rw next at c.in_err-steps.ensures))
 
 pub body_of-returns : goal.body_of-returns
 body_of-returns t c =
     let next : c.in_ok-next.field-0 ≡ c.args.next.now + 1 = grind (arith, common_steps) in
     rw numbered_roll
-    (body_read _ (c.args.levels - 1) _ _ _ _ _ _ _ _ (record {
+    (body_read _ (c.args.levels - 1) _ _ _ _ _ _ _ _ _ (record {
       level = omega arith;
       checked = c.in_ok-check_object.ensures.exact;
       tried = c.in_ok-tries.ensures.exact;
-      no_must = c.in_ok-check_absent.ensures.exact;
+      needed = c.in_ok-must.ensures.exact;
     }) c.in_ok-list.ensures.exact (rw next at c.in_ok-steps.ensures))
