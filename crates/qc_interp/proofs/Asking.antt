@@ -24,8 +24,8 @@ use Rattle.qc_interp.specs.Follows.{WasAsked, IsUnended, FollowsPlan, asked_end,
 use Rattle.qc_script.specs.Plan.{Plan}
 use Rattle.qc_interp.specs.Reach.{Reach, AtTheEnd}
 use Rattle.qc_interp.specs.Running.{Runs, LeavesAt, Leaves, CutOff, Quit, WhyStop, Stopped, CameTo, Ended}
-use Rattle.qc_interp.specs.declared.stops.Ending.{Ending}
-use Rattle.qc_interp.specs.declared.stops.Ending.TheVariants as ending
+use Rattle.qc_interp.specs.declared.stops.Finish.{Finish}
+use Rattle.qc_interp.specs.declared.stops.Finish.TheVariants as finish
 use Rattle.qc_script.specs.declared.tx.TxNo.{TxNo}
 use Rattle.qc_script.specs.declared.tx.TxNo.TheVariants as tx_no
 use Rattle.qc_interp.proofs.Mine.{kept_some}
@@ -50,7 +50,7 @@ orphaned of t (suc levels) how named some (inr s) = inr s
 
 module _ (c : Client) (of : Name) where
   -- an orphan after a step `abort`
-  pub asked_orphan : (t : Name) (levels : ℕ) → t ≡ above of levels → (levels ≡ 0 → ⊥) → (before mid now : Past) (again : Bool) (rest : Plan) → Leaves c of before mid → AllAsked c before mid (λ by x. (by ≡ of) × (x ≡ t)) → children (mine c mid) of ≡ children (mine c before) of → Quit c of (Abort (cause.Orphan t)) mid now again → Ended c of before now (Plan.abort_then levels rest) (ending.Stopped again)
+  pub asked_orphan : (t : Name) (levels : ℕ) → t ≡ above of levels → (levels ≡ 0 → ⊥) → (before mid now : Past) (again : Bool) (rest : Plan) → Leaves c of before mid → AllAsked c before mid (λ by x. (by ≡ of) × (x ≡ t)) → children (mine c mid) of ≡ children (mine c before) of → Quit c of (Abort (cause.Orphan t)) mid now again → Ended c of before now (Plan.abort_then levels rest) (finish.Stopped again)
   asked_orphan t levels named some before mid now again rest leaves asked same_children quit = record {
     leaves = leaves_trans c of before mid now leaves quit.leaves;
     tried = quit.tried;
@@ -72,7 +72,7 @@ module _ (c : Client) (of : Name) where
         );
       }
 
-  pub asked_itself : (levels : ℕ) (before now : Past) (again : Bool) (rest : Plan) → levels ≡ 0 → Quit c of (Abort (cause.Asked of)) before now again → Ended c of before now (Plan.abort_then levels rest) (ending.Stopped again)
+  pub asked_itself : (levels : ℕ) (before now : Past) (again : Bool) (rest : Plan) → levels ≡ 0 → Quit c of (Abort (cause.Asked of)) before now again → Ended c of before now (Plan.abort_then levels rest) (finish.Stopped again)
   asked_itself zero before now again rest none quit = record {
     leaves = quit.leaves;
     tried = quit.tried;
@@ -165,7 +165,7 @@ module _ (c : Client) (of : Name) where
   user_above now t levels runs a = above_user now t a.rest (lawful now (legal_orderly c.setting now runs.legal)) a.nonroot (subst (λ n. Started now n (λ b. IsUser b.kind)) a.is runs.user)
 
   -- an ancestor that could not be aborted, as it was ready
-  pub ask_no : (t : Name) (levels : ℕ) (before now : Past) (why : TxNo) (rest : Plan) → Above t levels → Runs c of before → NotAborted c t (cause.Asked of) before now why → (why ≡ tx_no.Memory → ⊥) → (why ≡ tx_no.Room → ⊥) → (why ≡ tx_no.Ended → ⊥) → Ended c of before now (Plan.abort_then levels rest) (ending.Stopped false)
+  pub ask_no : (t : Name) (levels : ℕ) (before now : Past) (why : TxNo) (rest : Plan) → Above t levels → Runs c of before → NotAborted c t (cause.Asked of) before now why → (why ≡ tx_no.Memory → ⊥) → (why ≡ tx_no.Room → ⊥) → (why ≡ tx_no.Ended → ⊥) → Ended c of before now (Plan.abort_then levels rest) (finish.Stopped false)
   ask_no t levels before now tx_no.Memory rest a runs none n1 n0 n2 = absurd (n1 refl)
   ask_no t levels before now tx_no.Room rest a runs none n1 n0 n2 = absurd (n0 refl)
   ask_no t levels before now tx_no.Ended rest a runs none n1 n0 n2 = absurd (n2 refl)
@@ -176,7 +176,7 @@ module _ (c : Client) (of : Name) where
         tried = unended_stopped of _ (after.above of [] (sym (append-nil of)) after.nonroot).0;
         ends = λ ours. absurd (not_ready c of now after ours t a.rest a.is a.nonroot none.1);
       }
-  ask_no t levels before now (tx_no.Orphan x) rest a runs none n1 n0 n2 = absurd none.1.0
+  ask_no t levels before now (tx_no.Orphan x) rest a runs none n1 n0 n2 = absurd none.1
   ask_no t levels before now (tx_no.Conflict copy holder) rest a runs none n1 n0 n2 = absurd none
   ask_no t levels before now (tx_no.NoQuorum lack) rest a runs none n1 n0 n2 = absurd none
   ask_no t levels before now tx_no.Last rest a runs none n1 n0 n2 = absurd none
@@ -261,7 +261,7 @@ module _ (c : Client) (of : Name) where
         let keeps : KeepsOrder (at.mid ++ before) (event.Ready of) = (legal_orderly c.setting (by_client c (event.Ready of) ∷ (at.mid ++ before)) at.legal).1 in
         end_ready of ∙ absent c _ at.mid before keeps.is_open.not_ended
 
-    ready_made : (to : Ending) → CameTo to None → is_over now of ≡ true → Ended c of before now Plan.done to
+    ready_made : (to : Finish) → CameTo to None → is_over now of ≡ true → Ended c of before now Plan.done to
     ready_made to came over = record {
       leaves = leaves_ready Reach.to_the_end over;
       tried = subst (CameTo to) (sym none_ready) came;
@@ -287,15 +287,15 @@ module _ (c : Client) (of : Name) where
       either (inl m) = cut_still c of before now runs m Plan.done
       either (inr ready) = ready_cut before now runs ready.1
 
-  end_made : (before now : Past) → Runs c of before → Made c (by_client c (event.End of (Commit answer.Nothing)) ∷ []) before now → Ended c of before now Plan.done ending.Committed
+  end_made : (before now : Past) → Runs c of before → Made c (by_client c (event.End of (Commit answer.Nothing)) ∷ []) before now → Ended c of before now Plan.done finish.Committed
   end_made before now runs m = record {
     leaves = leaves_end c of (Commit answer.Nothing) before now m (of, refl, itself of);
-    tried = subst (CameTo ending.Committed) (sym (ends_so c of (Commit answer.Nothing) before now m)) tt;
+    tried = subst (CameTo finish.Committed) (sym (ends_so c of (Commit answer.Nothing) before now m)) tt;
     ends = λ ours. ([], children_end c of (Commit answer.Nothing) before now m ∙ sym (append-nil _), inl (subst (λ x. Rattle.qc_interp.specs.Follows.Commits (mine c now) of x) (sym (ends_so c of (Commit answer.Nothing) before now m)) tt), asked_made c _ before now _ m (tt, tt));
   }
 
-  pub commit_ledger : (before now : Past) (why : TxNo) → why ≡ tx_no.Ledger → Runs c of before → NotCommitted c of before now why → Ended c of before now Plan.done (ending.Stopped false)
-  commit_ledger before now why is runs none = let x = subst (NotCommitted c of before now) is none in ready_made before now runs x.1 (ending.Stopped false) refl x.2
+  pub commit_ledger : (before now : Past) (why : TxNo) → why ≡ tx_no.Ledger → Runs c of before → NotCommitted c of before now why → Ended c of before now Plan.done (finish.Stopped false)
+  commit_ledger before now why is runs none = let x = subst (NotCommitted c of before now) is none in ready_made before now runs x.1 (finish.Stopped false) refl x.2
 
   pub commit_stops : (before now : Past) (why : TxNo) → Runs c of before → NotCommitted c of before now why → (why ≡ tx_no.Memory → ⊥) → (why ≡ tx_no.Room → ⊥) → (why ≡ tx_no.Ledger → ⊥) → Runs c of now × WhyStop c now of why × Made c [] before now
   commit_stops before now tx_no.Memory runs none n1 n0 n2 = absurd (n1 refl)
@@ -310,7 +310,7 @@ module _ (c : Client) (of : Name) where
   commit_stops before now tx_no.Last runs none n1 n0 n2 = absurd none.1
 
 -- a commit that was refused, so that the transaction stops
-pub commit_over : (c : Client) (of : Name) (before mid now : Past) (why : TxNo) (again : Bool) → Runs c of before → NotCommitted c of before mid why → (why ≡ tx_no.Memory → ⊥) → (why ≡ tx_no.Room → ⊥) → (why ≡ tx_no.Ledger → ⊥) → Stopped c of why mid now again → Ended c of before now Plan.done (ending.Stopped again)
+pub commit_over : (c : Client) (of : Name) (before mid now : Past) (why : TxNo) (again : Bool) → Runs c of before → NotCommitted c of before mid why → (why ≡ tx_no.Memory → ⊥) → (why ≡ tx_no.Room → ⊥) → (why ≡ tx_no.Ledger → ⊥) → Stopped c of why mid now again → Ended c of before now Plan.done (finish.Stopped again)
 commit_over c of before mid now tx_no.Memory again runs none n1 n0 n2 stopped = absurd (n1 refl)
 commit_over c of before mid now tx_no.Room again runs none n1 n0 n2 stopped = absurd (n0 refl)
 commit_over c of before mid now tx_no.Ledger again runs none n1 n0 n2 stopped = absurd (n2 refl)
@@ -322,7 +322,7 @@ commit_over c of before mid now (tx_no.Conflict copy holder) again runs none n1 
 commit_over c of before mid now (tx_no.NoQuorum lack) again runs none n1 n0 n2 stopped = absurd none.1
 commit_over c of before mid now tx_no.Last again runs none n1 n0 n2 stopped = absurd none.1
 
-pub commit_ok : (c : Client) (of : Name) (before now : Past) → Runs c of before → Committed c of before now → Ended c of before now Plan.done ending.Committed
+pub commit_ok : (c : Client) (of : Name) (before now : Past) → Runs c of before → Committed c of before now → Ended c of before now Plan.done finish.Committed
 commit_ok c [] before now runs m = end_made c [] before now runs m
-commit_ok c (x ∷ []) before now runs m = ready_made c (x ∷ []) before now runs m.0 ending.Committed tt (over_ended now (x ∷ []) (ap is_some m.1))
+commit_ok c (x ∷ []) before now runs m = ready_made c (x ∷ []) before now runs m.0 finish.Committed tt (over_ended now (x ∷ []) (ap is_some m.1))
 commit_ok c (x ∷ y ∷ of) before now runs m = end_made c (x ∷ y ∷ of) before now runs m

@@ -7,8 +7,8 @@ use Rattle.qc_event.specs.History.{Past, Name}
 use Rattle.qc_script.specs.Client.{Client}
 use Rattle.qc_script.specs.Plan.{Plan}
 use Rattle.qc_interp.specs.Reach.{Reach}
-use Rattle.qc_interp.specs.declared.stops.Ending.{Ending}
-use Rattle.qc_interp.specs.declared.stops.Ending.TheVariants as ending
+use Rattle.qc_interp.specs.declared.stops.Finish.{Finish}
+use Rattle.qc_interp.specs.declared.stops.Finish.TheVariants as finish
 use Rattle.qc_interp.specs.Running.{Ends, EndsAt, Ended, CutOff, WentOn, WentBy, Stepped}
 use Rattle.qc_interp.proofs.Ending.{leaves_trans}
 use Rattle.qc_interp.proofs.Growth.{later_trans}
@@ -32,7 +32,7 @@ module _ (c : Client) (of : Name) (k : Kind) (given : Answer) (before mid : Past
   }
 
   -- it ends in what follows
-  pub by_ended : (now : Past) (plan : Plan) (next : Answer → Plan) (to : Ending) → next given ≡ plan → Ended c of mid now plan to → Ended c of before now (Plan.manage_by k next) to
+  pub by_ended : (now : Past) (plan : Plan) (next : Answer → Plan) (to : Finish) → next given ≡ plan → Ended c of mid now plan to → Ended c of before now (Plan.manage_by k next) to
   by_ended now plan next to same e = record {
     leaves = leaves_trans c of before mid now by.leaves e.leaves;
     tried = e.tried;
@@ -50,4 +50,4 @@ module _ (c : Client) (of : Name) (k : Kind) (given : Answer) (before mid : Past
   -- a step is done in what follows
   pub by_stepped : (now : Past) (front : Plan → Plan) (next : Plan → Answer → Plan) → ((rest : Plan) → next rest given ≡ front rest) → (r : Option Bool) → Stepped c of mid now front r → Stepped c of before now (λ rest. Plan.manage_by k (next rest)) r
   by_stepped now front next same None on = by_on now front next same on
-  by_stepped now front next same (Some again) ended = λ rest. by_ended now (front rest) (next rest) (ending.Stopped again) (same rest) (ended rest)
+  by_stepped now front next same (Some again) ended = λ rest. by_ended now (front rest) (next rest) (finish.Stopped again) (same rest) (ended rest)

@@ -34,7 +34,7 @@ use Rattle.qc_script.specs.Plan.{Plan}
 use Rattle.qc_interp.proofs.TriesAlike.{no_tries}
 use Rattle.qc_interp.specs.Reach.{Reach, AtTheEnd}
 use Rattle.qc_interp.specs.Running.{Runs, LeavesAt, Leaves, CutOff, CameTo, Quit}
-use Rattle.qc_interp.specs.declared.stops.Ending.TheVariants as ending
+use Rattle.qc_interp.specs.declared.stops.Finish.TheVariants as finish
 use Rattle.qc_interp.specs.Turns.{acts}
 use Rattle.qc_interp.proofs.Adding.{all_later, at_top, over_later}
 use Rattle.qc_interp.proofs.Turning.{InTurn, Alone, end_turns, alone_below, itself}
@@ -84,7 +84,7 @@ unended_again n (Some (Abort cause.Killed)) (inr h) = absurd h
 unended_again n (Some (Abort (cause.Child x))) (inr h) = absurd h
 unended_again n (Some (Abort cause.Missed)) (inr h) = absurd h
 
-pub unended_stopped : (n : Name) (how : Option How) → IsUnended n how → CameTo (ending.Stopped false) how
+pub unended_stopped : (n : Name) (how : Option How) → IsUnended n how → CameTo (finish.Stopped false) how
 unended_stopped n None h = refl
 unended_stopped n (Some (Commit given)) h = elim h [
   | inl is ↦ absurd cc
@@ -314,7 +314,7 @@ module _ (c : Client) (of : Name) where
   quit_ok cause before now grounded itself m = record {
     asked = asked_made c _ before now NoOne m (itself_end of cause itself, tt);
     leaves = leaves_end (Abort cause) before now m (cause_actor before of cause grounded);
-    tried = subst (CameTo (ending.Stopped (is_tried_again (Some (Abort cause))))) (sym (ends_so (Abort cause) before now m)) refl;
+    tried = subst (CameTo (finish.Stopped (is_tried_again (Some (Abort cause))))) (sym (ends_so (Abort cause) before now m)) refl;
     children = children_end (Abort cause) before now m;
     ended = λ ours. inl (ends_so (Abort cause) before now m);
   }
@@ -360,7 +360,7 @@ module _ (c : Client) (of : Name) where
       by_cause now (cause.Child y) after ours grounded itself none = itself
       by_cause now cause.Missed after ours grounded itself none = none
   quit_no x before now tx_no.Ready runs grounded itself none_made other full = quit_still (Abort x) before now runs none_made.0 (λ after ours. absurd (not_ready now after ours of [] (sym (append-nil of)) after.nonroot none_made.1))
-  quit_no x before now (tx_no.Orphan a) runs grounded itself none_made other full = absurd (not_for_child x itself none_made.1.0)
+  quit_no x before now (tx_no.Orphan a) runs grounded itself none_made other full = absurd (not_for_child x itself none_made.1)
   quit_no x before now (tx_no.Conflict copy holder) runs grounded itself none_made other full = absurd none_made
   quit_no x before now (tx_no.NoQuorum lack) runs grounded itself none_made other full = absurd none_made
   quit_no x before now tx_no.Last runs grounded itself none_made other full = absurd none_made

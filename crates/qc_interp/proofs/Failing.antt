@@ -30,7 +30,7 @@ use Rattle.qc_interp.specs.Follows.{WasAsked, GoesOnAfter, AfterTries, is_of_orp
 use Rattle.qc_interp.specs.Asking.{Asks, DoesAfter}
 use Rattle.qc_interp.specs.Reach.{Reach}
 use Rattle.qc_interp.specs.Running.{Runs, CameTo, Ended, CutOff, WentOn, HasFailed, WasOrphan, QuitFor, Stopped, child_step, Failed}
-use Rattle.qc_interp.specs.declared.stops.Ending.TheVariants as ending
+use Rattle.qc_interp.specs.declared.stops.Finish.TheVariants as finish
 use Rattle.qc_interp.proofs.Asked.{NoOne, asked_made, asked_none, asked_wider, asked_trans}
 use Rattle.qc_interp.proofs.Ending.{asked_early, unended_stopped, running_runs, not_ready, ended_early, leaves_trans, leaves_cut, still, leaves_still, runs_still, leaves_end, children_end, ends_so}
 use Rattle.qc_interp.proofs.Growth.{made_later, ours_before}
@@ -107,7 +107,7 @@ module _ (c : Client) (of child : Name) where
   pub quit_for_ok : (before now : Past) → Runs c of before → HasFailed c of before child → dead before of ≡ None → Made c (by_client c (event.End of (Abort (cause.Child child))) ∷ []) before now → QuitFor c of child before now true
   quit_for_ok before now runs failed alive m = record {
     leaves = leaves_end c of (Abort (cause.Child child)) before now m (of, refl, itself of);
-    tried = subst (CameTo (ending.Stopped true)) (sym (ends_so c of (Abort (cause.Child child)) before now m)) refl;
+    tried = subst (CameTo (finish.Stopped true)) (sym (ends_so c of (Abort (cause.Child child)) before now m)) refl;
     children = children_end c of (Abort (cause.Child child)) before now m;
     asked = asked_made c _ before now NoOne m (tt, tt);
     ended = λ ours. inl (no_orphan ours, ends_so c of (Abort (cause.Child child)) before now m);
@@ -195,14 +195,14 @@ module _ (c : Client) (of : Name) (body : Numbered) (before mid : Past) (last : 
 
   module _ (now : Past) where
     -- it was aborted for the child, or stopped
-    pub failed_quit : (again : Bool) (rest : Plan) → body.must ≡ true → QuitFor c of last mid now again → Ended c of before now (child_step body rest) (ending.Stopped again)
+    pub failed_quit : (again : Bool) (rest : Plan) → body.must ≡ true → QuitFor c of last mid now again → Ended c of before now (child_step body rest) (finish.Stopped again)
     failed_quit again rest must quit = record {
       leaves = leaves_trans c of before mid now f.leaves quit.leaves;
       tried = quit.tried;
       ends = f.follows Reach.to_the_end now quit.leaves.later rest (λ ours. (
         [],
         quit.children ∙ sym (append-nil _),
-        subst (λ b. AfterTries Reach.to_the_end (mine c now) of (Some last) b _ [] (end (mine c now) of)) (sym must) (behind ours),
+        subst (λ b. AfterTries Reach.to_the_end (mine c now) of (Some last) b (FollowsPlan c.session (mine c now) of rest [] (end (mine c now) of)) [] (end (mine c now) of)) (sym must) (behind ours),
         asked_none c mid now _ quit.asked,
       ));
     }
@@ -217,11 +217,13 @@ module _ (c : Client) (of : Name) (body : Numbered) (before mid : Past) (last : 
         behind : AreOurs c of now → GoesOnAfter Reach.to_the_end (mine c now) of last (end (mine c now) last) (FollowsPlan c.session (mine c now) of rest [] (end (mine c now) of)) [] (end (mine c now) of)
         behind ours =
             let was = still_aborted c of last mid now quit.leaves.later f.failed ours in
-            subst (λ o. GoesOnAfter Reach.to_the_end (mine c now) of last o (FollowsPlan c.session (mine c now) of rest [] (end (mine c now) of)) [] (end (mine c now) of)) (sym was.1)
-            (refl, elim (quit.ended ours) [
-              | inl is ↦ inl (not_orphan was.0 (λ h. is.0 (subst WasOrphan (sym was.1) h)), is.1)
-              | inr early ↦ inr early
-            ])
+            subst (λ o. GoesOnAfter Reach.to_the_end (mine c now) of last o (FollowsPlan c.session (mine c now) of rest [] (end (mine c now) of)) [] (end (mine c now) of)) (sym was.1) (
+              refl,
+              elim (quit.ended ours) [
+                | inl is ↦ inl (not_orphan was.0 (λ h. is.0 (subst WasOrphan (sym was.1) h)), is.1)
+                | inr early ↦ inr early
+              ],
+            )
 
     -- the run was cut off there
     pub failed_cut : (rest : Plan) → Made c [] mid now → CutOff c of before now (child_step body rest)

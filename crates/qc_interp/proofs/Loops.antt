@@ -7,7 +7,7 @@ use Rattle.qc_script.specs.Client.{Client, IsLater}
 use Rattle.qc_script.specs.Plan.{Plan, PlanFits}
 use Rattle.qc_script.specs.Steps.{put, plan_of}
 use Rattle.qc_interp.specs.Reach.{Reach}
-use Rattle.qc_interp.specs.declared.stops.Ending.{Ending}
+use Rattle.qc_interp.specs.declared.stops.Finish.{Finish}
 use Rattle.qc_interp.specs.Running.{Runs, Leaves, EndsAt, Ends, Ended, WentOn, CutOff}
 use Rattle.qc_interp.proofs.Ending.{leaves_itself, leaves_trans}
 use Rattle.qc_interp.proofs.Growth.{later_trans}
@@ -36,7 +36,7 @@ module _ (c : Client) (of : Name) (steps : List Step) where
           left.front reach x (later_trans c now next x on.leaves.later later) (subst (EndsAt reach c of now x) (sym (plan_at steps i s below is)) (on.follows reach x later (plan_of (drop (i + 1) steps)) ends));
     }
 
-    pub stopped_there : (to : Ending) → ((rest : Plan) → Ended c of now next (put s rest) to) → Ended c of before next (plan_of steps) to
+    pub stopped_there : (to : Finish) → ((rest : Plan) → Ended c of now next (put s rest) to) → Ended c of before next (plan_of steps) to
     stopped_there to ended =
         let e = ended (plan_of (drop (i + 1) steps)) in
         record {
@@ -54,7 +54,7 @@ module _ (c : Client) (of : Name) (steps : List Step) where
           begins = left.front Reach.cut_off next e.leaves.later (subst (EndsAt Reach.cut_off c of now next) (sym (plan_at steps i s below is)) e.begins);
         }
 
-  pub all_done : (before now next : Past) (i : ℕ) (to : Ending) → StepsLeft c of steps before now i → length steps ≤ i → Ended c of now next Plan.done to → Ended c of before next (plan_of steps) to
+  pub all_done : (before now next : Past) (i : ℕ) (to : Finish) → StepsLeft c of steps before now i → length steps ≤ i → Ended c of now next Plan.done to → Ended c of before next (plan_of steps) to
   all_done before now next i to left past e = record {
     leaves = leaves_trans c of before now next left.leaves e.leaves;
     tried = e.tried;

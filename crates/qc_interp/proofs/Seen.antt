@@ -22,13 +22,13 @@ use Rattle.qc_script.specs.Client.{Client, mine, is_own, concerns, is_commit, Ar
 use Rattle.qc_interp.specs.Follows.{Stops, HasNotEnded, GoesOn, GoesOnAfter, AfterTries, Commits, RunsPlan}
 use Rattle.qc_interp.specs.Reach.{Reach}
 use Rattle.qc_script.specs.Plan.{Plan}
-use Rattle.qc_interp.specs.Asking.{DoesOn, Asks}
+use Rattle.qc_interp.specs.Asking.{DoesOn, DoesAfter, Asks}
 use Rattle.qc_interp.specs.Tries.{is_tried_again}
 use Rattle.qc_interp.proofs.Mine.{kept_some, some_is}
 use Rattle.qc_interp.proofs.Growth.{implied, own_found}
 use Rattle.qc_interp.proofs.Adding.{at_top}
 use Rattle.qc_interp.proofs.Still.{plan_committed}
-use Rattle.qc_interp.proofs.TriesAlike.{AreAlike, tries_alike, tries_do_alike}
+use Rattle.qc_interp.proofs.TriesAlike.{AreAlike, IfAny, tries_alike, tries_do_alike}
 use Rattle.std.proofs.Math.Bool.{and-false}
 use Rattle.std.proofs.lemmas.Bool.{and_parts}
 use Rattle.qc_event.specs.declared.event.Cause.{Cause}

@@ -25,7 +25,7 @@ use Rattle.qc_interp.specs.Reach.{Reach}
 use Rattle.qc_script.specs.Plan.{Plan, manage_then}
 use Rattle.qc_script.specs.Plan.{KindFits}
 use Rattle.qc_interp.specs.Running.{Runs, Leaves, WhyStop, StopsBy, Stopped, Ended, CutOff, WentOn, WentBy}
-use Rattle.qc_interp.specs.declared.stops.Ending.TheVariants as ending
+use Rattle.qc_interp.specs.declared.stops.Finish.TheVariants as finish
 use Rattle.qc_script.specs.declared.tx.TxNo.{TxNo}
 use Rattle.qc_script.specs.declared.tx.TxNo.TheVariants as tx_no
 use Rattle.qc_interp.proofs.Mine.{end_some, kind_still, kept_some, some_is}
@@ -170,7 +170,7 @@ module _ (c : Client) (of : Name) where
 
   -- it stops without a child
   pub stopped_still : (before mid now : Past) (why : TxNo) (again : Bool) (plan : Plan) → Made c [] before mid → Stopped c of why mid now again
-      → (StopsBy of why (end (mine c now) of) → FollowsPlan c.session (mine c now) of plan [] (end (mine c now) of)) → Ended c of before now plan (ending.Stopped again)
+      → (StopsBy of why (end (mine c now) of) → FollowsPlan c.session (mine c now) of plan [] (end (mine c now) of)) → Ended c of before now plan (finish.Stopped again)
   stopped_still before mid now why again plan m stopped follows = record {
     leaves = leaves_trans c of before mid now (leaves_still c of before mid m) stopped.leaves;
     tried = stopped.tried;
@@ -179,7 +179,7 @@ module _ (c : Client) (of : Name) where
 
   -- it stops with the manager as its last child
   stopped_managed : (k : Kind) (x : Cause) (m : Name) (before mid now : Past) (why : TxNo) (again : Bool) (next : Answer → Plan) → Managed c of k (Abort x) m before mid → Stopped c of why mid now again
-      → (StopsBy of why (end (mine c now) of) → ((is_handed_on x ≡ true) × (end (mine c now) of ≡ Some (Abort x))) ⊎ StopsEarly of (end (mine c now) of)) → Ended c of before now (Plan.manage_by k next) (ending.Stopped again)
+      → (StopsBy of why (end (mine c now) of) → ((is_handed_on x ≡ true) × (end (mine c now) of ≡ Some (Abort x))) ⊎ StopsEarly of (end (mine c now) of)) → Ended c of before now (Plan.manage_by k next) (finish.Stopped again)
   stopped_managed k x m before mid now why again next ran stopped handed = record {
     leaves = leaves_trans c of before mid now (leaves_managed k _ m before mid ran) stopped.leaves;
     tried = stopped.tried;
@@ -203,7 +203,7 @@ module _ (c : Client) (of : Name) where
   orphan_early a how (inl e) = subst (StopsEarly of) (sym e) tt
   orphan_early a how (inr s) = asked_early of how s
 
-  pub manage_over : (k : Kind) (before mid now : Past) (why : TxNo) (again : Bool) (next : Answer → Plan) → Runs c of before → GaveNone c of k before mid why → (why ≡ tx_no.Memory → ⊥) → (why ≡ tx_no.Room → ⊥) → Stopped c of why mid now again → Ended c of before now (Plan.manage_by k next) (ending.Stopped again)
+  pub manage_over : (k : Kind) (before mid now : Past) (why : TxNo) (again : Bool) (next : Answer → Plan) → Runs c of before → GaveNone c of k before mid why → (why ≡ tx_no.Memory → ⊥) → (why ≡ tx_no.Room → ⊥) → Stopped c of why mid now again → Ended c of before now (Plan.manage_by k next) (finish.Stopped again)
   manage_over k before mid now tx_no.Memory again next runs none other full stopped = absurd (other refl)
   manage_over k before mid now tx_no.Room again next runs none other full stopped = absurd (full refl)
   manage_over k before mid now (tx_no.Orphan a) again next runs none other full stopped = elim none.1 [

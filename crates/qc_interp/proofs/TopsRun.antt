@@ -34,7 +34,7 @@ use Rattle.qc_script.specs.Numbers.{each}
 use Rattle.qc_interp.proofs.Adding.{numbers_stay, one_both, all_one, all_later, after_stay, begun_after, all_over_more, over_ended}
 use Rattle.qc_interp.proofs.Turning.{InTurn, Alone, start_turns, alone_up, some_done, itself}
 use Rattle.qc_interp.specs.Tries.{Tries, is_tried_again, is_again, TriesDo}
-use Rattle.qc_interp.specs.declared.stops.Ending.{Ending}
+use Rattle.qc_interp.specs.declared.stops.Finish.{Finish}
 use Rattle.qc_interp.proofs.TriesAlike.{no_tries}
 use Rattle.qc_interp.proofs.Mine.{kept_some}
 use Rattle.qc_interp.proofs.Still.{follows_runs, follows_still, followed_done, done_closed, again_still}
@@ -231,7 +231,7 @@ module _ (c : Client) (t : Name) (body : Numbered) (before mid now : Past) (top 
           let e = ends ours in
           asked_trans c before mid now _ (asked_made c _ before mid _ m (tt, tt)) (asked_wider _ _ (λ by n a. subst (λ cs. Asks (mine c now) t body.plan cs by n) (sym (all_are e.0 e.1)) a) c mid now e.3)
 
-  pub top_once : (to : Ending) → Ended c t mid now body.plan to → TriedTop c body before now (is_again to)
+  pub top_once : (to : Finish) → Ended c t mid now body.plan to → TriedTop c body before now (is_again to)
   top_once to ended = record {
     later = later_is Reach.to_the_end ended.leaves;
     top = t;

@@ -24,8 +24,8 @@ use Rattle.qc_interp.specs.Reach.{Reach}
 use Rattle.qc_script.specs.Plan.{Plan, Numbered}
 use Rattle.qc_interp.specs.Running.{Runs, LeavesIt, LeavesAt, Leaves, WhyStop, StopsBy, Stopped, EndsAt, CameTo, Ended, CutOff, WentOn, HasFailed, EndsTries, child_step, FrontTries, Failed}
 use Rattle.qc_interp.specs.Tries.{Tries, is_tried_again, is_again, TriesDo}
-use Rattle.qc_interp.specs.declared.stops.Ending.{Ending}
-use Rattle.qc_interp.specs.declared.stops.Ending.TheVariants as ending
+use Rattle.qc_interp.specs.declared.stops.Finish.{Finish}
+use Rattle.qc_interp.specs.declared.stops.Finish.TheVariants as finish
 use Rattle.qc_script.specs.declared.tx.TxNo.{TxNo}
 use Rattle.qc_script.specs.declared.tx.TxNo.TheVariants as tx_no
 use Rattle.qc_interp.proofs.Adding.{all_later, start_stays_in, child_top, over_later}
@@ -127,10 +127,9 @@ module _ (c : Client) (of n : Name) (number : ℕ) (before now : Past) (runs : R
 -- A TRY OF A CHILD
 
 -- of a body, that ended, below its parent
-pub record Tried (c : Client) (of : Name) (body : Numbered) (before now : Past) (to : Ending) : Type 0 where
+pub record Tried (c : Client) (of child : Name) (body : Numbered) (before now : Past) (to : Finish) : Type 0 where
   pub leaves : Leaves c of before now
   pub runs : Runs c of now
-  pub child : Name
   pub is_one : is_child of child ≡ true
   pub user : Started now child (λ b. IsUser b.kind)
   pub more : children (mine c now) of ≡ children (mine c before) of ++ child ∷ []
@@ -209,7 +208,7 @@ module _ (c : Client) (of n : Name) (body : Numbered) (before mid now : Past) (r
           let e = ends (ours_child ours) in
           asked_trans c before mid now _ (asked_made c _ before mid _ m (tt, tt)) (asked_wider _ _ (λ by t a. subst (λ cs. Asks (mine c now) n body.plan cs by t) (sym (all_are e.0 e.1)) a) c mid now e.3)
 
-  module _ (to : Ending) (ended : Ended c n mid now body.plan to) where
+  module _ (to : Finish) (ended : Ended c n mid now body.plan to) where
     ended_is : AreOurs c of now → is_some (end (mine c now) n) ≡ true
     ended_is ours = elim (done_closed (mine c now) n (followed_done c.session (mine c now) n body.plan (children (mine c now) n) (end (mine c now) n) (runs_is Reach.to_the_end ended.leaves ended.ends ours))) [
       | inl some ↦ some
@@ -230,7 +229,7 @@ module _ (c : Client) (of n : Name) (body : Numbered) (before mid now : Past) (r
       above = above_is Reach.to_the_end ended.leaves;
     }
 
-    pub tried_once : Tried c of body before now to
+    pub tried_once : Tried c of n body before now to
     tried_once = record {
       leaves = leaves_is;
       runs = record {
@@ -240,7 +239,6 @@ module _ (c : Client) (of n : Name) (body : Numbered) (before mid now : Past) (r
         above = λ p r is far. (unended_is Reach.to_the_end ended.leaves p r is (runs.above p r is far).0, ready_is Reach.to_the_end ended.leaves p r is ∙ (runs.above p r is far).1);
         closed = λ ours. closed_more c of before now n (later_is Reach.to_the_end ended.leaves) (more_is Reach.to_the_end ended.leaves) (runs.closed (ours_before c of before now (later_is Reach.to_the_end ended.leaves) ours)) (ended_is ours);
       };
-      child = n;
       is_one = child;
       user = subst (λ h. Started h n (λ b. IsUser b.kind)) (sym ended.leaves.later.grown) (started_still ended.leaves.later.newer mid n _ (runs_begun c of n body.number before mid runs child m).user);
       more = more_is Reach.to_the_end ended.leaves;
@@ -306,37 +304,37 @@ cut_behind past n child true Rest how unended unready rest = by_end (end past ch
     by_end (Some (Abort x)) = (refl, inr (running_stops past n how unended unready))
 
 -- a body that came to this is tried again, or not
-pub again_is : (to : Ending) (how : Option How) → CameTo to how → is_tried_again how ≡ is_again to
-again_is ending.Committed None h = refl
-again_is ending.Committed (Some (Commit given)) h = refl
-again_is ending.Committed (Some (Abort x)) h = absurd h
-again_is (ending.Stopped again) None h = sym h
-again_is (ending.Stopped again) (Some (Commit given)) h = absurd h
-again_is (ending.Stopped again) (Some (Abort x)) h = sym h
+pub again_is : (to : Finish) (how : Option How) → CameTo to how → is_tried_again how ≡ is_again to
+again_is finish.Committed None h = refl
+again_is finish.Committed (Some (Commit given)) h = refl
+again_is finish.Committed (Some (Abort x)) h = absurd h
+again_is (finish.Stopped again) None h = sym h
+again_is (finish.Stopped again) (Some (Commit given)) h = absurd h
+again_is (finish.Stopped again) (Some (Abort x)) h = sym h
 
-module _ (c : Client) (of : Name) (body : Numbered) (before now : Past) (to : Ending) (t : Tried c of body before now to) where
+module _ (c : Client) (of child : Name) (body : Numbered) (before now : Past) (to : Finish) (t : Tried c of child body before now to) where
   -- the try by what was seen later
   module _ (reach : Reach) (x : Past) (later : IsLater c now x) (ours : AreOurs c of x) where
-    follows_now : FollowsPlan c.session (mine c now) t.child body.plan (children (mine c now) t.child) (end (mine c now) t.child)
+    follows_now : FollowsPlan c.session (mine c now) child body.plan (children (mine c now) child) (end (mine c now) child)
     follows_now = t.follows (ours_before c of now x later ours)
 
-    one_try : (kind_of (mine c x) t.child ≡ Some (kind.User c.session body.number)) × RunsPlan reach c.session (mine c x) t.child body.plan (children (mine c x) t.child) (end (mine c x) t.child)
+    one_try : (kind_of (mine c x) child ≡ Some (kind.User c.session body.number)) × RunsPlan reach c.session (mine c x) child body.plan (children (mine c x) child) (end (mine c x) child)
     one_try = (
-      kind_later c of now x later t.child _ t.kind,
-      follows_runs reach c.session (mine c x) t.child body.plan _ _ (subst (λ h. FollowsPlan c.session (mine c h) t.child body.plan (children (mine c h) t.child) (end (mine c h) t.child)) (sym later.grown)
-          (follows_still c.session (λ (e : Entry). is_own c e.seat) c.setting later.newer now (subst (Legal c.setting) later.grown later.legal) t.child body.plan follows_now).0),
+      kind_later c of now x later child _ t.kind,
+      follows_runs reach c.session (mine c x) child body.plan _ _ (subst (λ h. FollowsPlan c.session (mine c h) child body.plan (children (mine c h) child) (end (mine c h) child)) (sym later.grown)
+          (follows_still c.session (λ (e : Entry). is_own c e.seat) c.setting later.newer now (subst (Legal c.setting) later.grown later.legal) child body.plan follows_now).0),
     )
 
-    again_later : is_tried_again (end (mine c x) t.child) ≡ is_again to
+    again_later : is_tried_again (end (mine c x) child) ≡ is_again to
     again_later =
-        ap (λ h. is_tried_again (end (mine c h) t.child)) later.grown
-        ∙ again_still c.session (λ (e : Entry). is_own c e.seat) c.setting later.newer now (subst (Legal c.setting) later.grown later.legal) t.child (done_closed (mine c now) t.child (followed_done c.session (mine c now) t.child body.plan (children (mine c now) t.child) (end (mine c now) t.child) follows_now))
-        ∙ again_is to (end (mine c now) t.child) t.tried
+        ap (λ h. is_tried_again (end (mine c h) child)) later.grown
+        ∙ again_still c.session (λ (e : Entry). is_own c e.seat) c.setting later.newer now (subst (Legal c.setting) later.grown later.legal) child (done_closed (mine c now) child (followed_done c.session (mine c now) child body.plan (children (mine c now) child) (end (mine c now) child) follows_now))
+        ∙ again_is to (end (mine c now) child) t.tried
 
-    asked_later : AllAsked c before now (λ by n. Asks (mine c x) t.child body.plan (children (mine c x) t.child) by n)
+    asked_later : AllAsked c before now (λ by n. Asks (mine c x) child body.plan (children (mine c x) child) by n)
     asked_later = asked_wider _ _ (λ by n a.
-        subst (λ h. Asks (mine c h) t.child body.plan (children (mine c h) t.child) by n) (sym later.grown)
-        (asks_still c.session (λ (e : Entry). is_own c e.seat) c.setting later.newer now (subst (Legal c.setting) later.grown later.legal) by n t.child body.plan follows_now a)) c before now (t.asked (ours_before c of now x later ours))
+        subst (λ h. Asks (mine c h) child body.plan (children (mine c h) child) by n) (sym later.grown)
+        (asks_still c.session (λ (e : Entry). is_own c e.seat) c.setting later.newer now (subst (Legal c.setting) later.grown later.legal) by n child body.plan follows_now a)) c before now (t.asked (ours_before c of now x later ours))
 
     abbrev Rest : Plan → Option Name → List Name → Type 0
     Rest rest last further = AfterTries reach (mine c x) of last body.must (RunsPlan reach c.session (mine c x) of rest further (end (mine c x) of)) further (end (mine c x) of)
@@ -356,64 +354,64 @@ module _ (c : Client) (of : Name) (body : Numbered) (before now : Past) (to : En
     -- one try more, and then as many as are left: none where it is not tried again
     module _ (last : Option Name) (left : ℕ) (rest : Plan) (further : List Name) where
       abbrev MoreDo : Name → Name → Bool → Type 0
-      MoreDo by n b = MatchBool b (DoTries (Some t.child) left rest further by n) (RestDoes rest by n (Some t.child) further)
+      MoreDo by n b = MatchBool b (DoTries (Some child) left rest further by n) (RestDoes rest by n (Some child) further)
 
-      with_asked : AllAsked c now x (λ by n. MoreDo by n (is_again to)) → AllAsked c before x (λ by n. DoTries last (suc left) rest (t.child ∷ further) by n)
+      with_asked : AllAsked c now x (λ by n. MoreDo by n (is_again to)) → AllAsked c before x (λ by n. DoTries last (suc left) rest (child ∷ further) by n)
       with_asked h = asked_trans c before now x _ (asked_wider _ _ (λ by n a. inl a) c before now asked_later) (asked_wider _ _ (λ by n a. inr (subst (MoreDo by n) (sym again_later) a)) c now x h)
 
-      with_try : MatchBool (is_again to) (AreTries (Some t.child) left rest further) (Rest rest (Some t.child) further) → AreTries last (suc left) rest (t.child ∷ further)
-      with_try h = (one_try, subst (λ b. MatchBool b (AreTries (Some t.child) left rest further) (Rest rest (Some t.child) further)) (sym again_later) h)
+      with_try : MatchBool (is_again to) (AreTries (Some child) left rest further) (Rest rest (Some child) further) → AreTries last (suc left) rest (child ∷ further)
+      with_try h = (one_try, subst (λ b. MatchBool b (AreTries (Some child) left rest further) (Rest rest (Some child) further)) (sym again_later) h)
 
-    more_later : (further : List Name) → children (mine c x) of ≡ children (mine c now) of ++ further → children (mine c x) of ≡ children (mine c before) of ++ t.child ∷ further
-    more_later further is = is ∙ ap (λ l. l ++ further) t.more ∙ append_assoc (children (mine c before) of) (t.child ∷ []) further
+    more_later : (further : List Name) → children (mine c x) of ≡ children (mine c now) of ++ further → children (mine c x) of ≡ children (mine c before) of ++ child ∷ further
+    more_later further is = is ∙ ap (λ l. l ++ further) t.more ∙ append_assoc (children (mine c before) of) (child ∷ []) further
 
   -- one try more, after which there is another
-  pub try_again : is_again to ≡ true → (reach : Reach) (x : Past) → IsLater c now x → (last : Option Name) (left : ℕ) (rest : Plan) → EndsTries reach c of now x body (Some t.child) left rest → EndsTries reach c of before x body last (suc left) rest
+  pub try_again : is_again to ≡ true → (reach : Reach) (x : Past) → IsLater c now x → (last : Option Name) (left : ℕ) (rest : Plan) → EndsTries reach c of now x body (Some child) left rest → EndsTries reach c of before x body last (suc left) rest
   try_again is reach x later last left rest ends ours =
       let e = ends ours in (
-        t.child ∷ e.0,
+        child ∷ e.0,
         more_later reach x later ours e.0 e.1,
-        with_try reach x later ours last left rest e.0 (match_true _ (Rest reach x later ours rest (Some t.child) e.0) (is_again to) is e.2),
-        with_asked reach x later ours last left rest e.0 (asked_wider _ _ (λ by n a. match_true _ (RestDoes reach x later ours rest by n (Some t.child) e.0) (is_again to) is a) c now x e.3),
+        with_try reach x later ours last left rest e.0 (match_true _ (Rest reach x later ours rest (Some child) e.0) (is_again to) is e.2),
+        with_asked reach x later ours last left rest e.0 (asked_wider _ _ (λ by n a. match_true _ (RestDoes reach x later ours rest by n (Some child) e.0) (is_again to) is a) c now x e.3),
       )
 
   -- one try more, which is the last
-  pub try_last : is_again to ≡ false → (reach : Reach) (x : Past) → IsLater c now x → (last : Option Name) (left : ℕ) (rest : Plan) → EndsTries reach c of now x body (Some t.child) 0 rest → EndsTries reach c of before x body last (suc left) rest
+  pub try_last : is_again to ≡ false → (reach : Reach) (x : Past) → IsLater c now x → (last : Option Name) (left : ℕ) (rest : Plan) → EndsTries reach c of now x body (Some child) 0 rest → EndsTries reach c of before x body last (suc left) rest
   try_last is reach x later last left rest ends ours =
       let e = ends ours in (
-        t.child ∷ e.0,
+        child ∷ e.0,
         more_later reach x later ours e.0 e.1,
-        with_try reach x later ours last left rest e.0 (match_false (AreTries reach x later ours (Some t.child) left rest e.0) _ (is_again to) is e.2),
-        with_asked reach x later ours last left rest e.0 (asked_wider _ _ (λ by n a. match_false (DoTries reach x later ours (Some t.child) left rest e.0 by n) _ (is_again to) is a) c now x e.3),
+        with_try reach x later ours last left rest e.0 (match_false (AreTries reach x later ours (Some child) left rest e.0) _ (is_again to) is e.2),
+        with_asked reach x later ours last left rest e.0 (asked_wider _ _ (λ by n a. match_false (DoTries reach x later ours (Some child) left rest e.0 by n) _ (is_again to) is a) c now x e.3),
       )
 
   -- the child was aborted, or committed
-  pub has_failed : (again : Bool) → to ≡ ending.Stopped again → HasFailed c of now t.child
-  has_failed again is = record { is_one = t.is_one; user = t.user; aborted = λ ours. by_end (end (mine c now) t.child) (t.ended ours) (subst (λ y. CameTo y (end (mine c now) t.child)) is t.tried) }
+  pub has_failed : (again : Bool) → to ≡ finish.Stopped again → HasFailed c of now child
+  has_failed again is = record { is_one = t.is_one; user = t.user; aborted = λ ours. by_end (end (mine c now) child) (t.ended ours) (subst (λ y. CameTo y (end (mine c now) child)) is t.tried) }
     where
-      by_end : (o : Option How) → is_some o ≡ true → CameTo (ending.Stopped again) o → MatchOption o ⊥ IsAbort
+      by_end : (o : Option How) → is_some o ≡ true → CameTo (finish.Stopped again) o → MatchOption o ⊥ IsAbort
       by_end None some h = absurd (true≢false (sym some))
       by_end (Some (Commit given)) some h = absurd h
       by_end (Some (Abort y)) some h = tt
 
-  has_committed : to ≡ ending.Committed → AreOurs c of now → (given : Answer) × (end (mine c now) t.child ≡ Some (Commit given))
-  has_committed is ours = by_end (end (mine c now) t.child) refl (t.ended ours) (subst (λ y. CameTo y (end (mine c now) t.child)) is t.tried)
+  has_committed : to ≡ finish.Committed → AreOurs c of now → (given : Answer) × (end (mine c now) child ≡ Some (Commit given))
+  has_committed is ours = by_end (end (mine c now) child) refl (t.ended ours) (subst (λ y. CameTo y (end (mine c now) child)) is t.tried)
     where
-      by_end : (o : Option How) → end (mine c now) t.child ≡ o → is_some o ≡ true → CameTo ending.Committed o → (given : Answer) × (end (mine c now) t.child ≡ Some (Commit given))
+      by_end : (o : Option How) → end (mine c now) child ≡ o → is_some o ≡ true → CameTo finish.Committed o → (given : Answer) × (end (mine c now) child ≡ Some (Commit given))
       by_end None at some h = absurd (true≢false (sym some))
       by_end (Some (Commit given)) at some h = (given, at)
       by_end (Some (Abort y)) at some h = absurd h
 
   -- behind a try that committed the transaction goes on, whether it must or not
-  pub try_through : to ≡ ending.Committed → (reach : Reach) (x : Past) → IsLater c now x → (rest : Plan) → EndsAt reach c of now x rest → EndsTries reach c of now x body (Some t.child) 0 rest
+  pub try_through : to ≡ finish.Committed → (reach : Reach) (x : Past) → IsLater c now x → (rest : Plan) → EndsAt reach c of now x rest → EndsTries reach c of now x body (Some child) 0 rest
   try_through is reach x later rest ends ours =
       let e = ends ours in
       let had = has_committed is (ours_before c of now x later ours) in
-      let has : end (mine c x) t.child ≡ Some (Commit had.0) = end_later c of now x later t.child (Commit had.0) had.1 in (
+      let has : end (mine c x) child ≡ Some (Commit had.0) = end_later c of now x later child (Commit had.0) had.1 in (
         e.0,
         e.1,
-        goes_behind reach (mine c x) of t.child body.must _ e.0 (end (mine c x) of) had.0 has e.2,
-        asked_wider _ _ (λ by n a. does_behind (mine c x) t.child body.must _ had.0 has a) c now x e.3,
+        goes_behind reach (mine c x) of child body.must _ e.0 (end (mine c x) of) had.0 has e.2,
+        asked_wider _ _ (λ by n a. does_behind (mine c x) child body.must _ had.0 has a) c now x e.3,
       )
 
 -- A try that was cut off is the last, and the run came no further.
@@ -438,46 +436,46 @@ module _ (c : Client) (of : Name) (body : Numbered) where
   pub none_tried : (now : Past) → Runs c of now → TriesLeft c of body now now None body.tries
   none_tried now runs = record { leaves = Rattle.qc_interp.proofs.Ending.leaves_itself c of now runs.legal; runs = runs; failed = tt; front = λ reach x later rest ends. ends }
 
-  pub tried_more : (before now next : Past) (last : Option Name) (left : ℕ) → TriesLeft c of body before now last (suc left) → (t : Tried c of body now next (ending.Stopped true)) → TriesLeft c of body before next (Some t.child) left
-  tried_more before now next last left l t = record {
+  pub tried_more : (before now next : Past) (last : Option Name) (left : ℕ) (child : Name) → TriesLeft c of body before now last (suc left) → Tried c of child body now next (finish.Stopped true) → TriesLeft c of body before next (Some child) left
+  tried_more before now next last left child l t = record {
     leaves = leaves_trans c of before now next l.leaves t.leaves;
     runs = t.runs;
-    failed = has_failed c of body now next (ending.Stopped true) t true refl;
-    front = λ reach x later rest ends. l.front reach x (later_trans c now next x t.leaves.later later) rest (try_again c of body now next (ending.Stopped true) t refl reach x later last left rest ends);
+    failed = has_failed c of child body now next (finish.Stopped true) t true refl;
+    front = λ reach x later rest ends. l.front reach x (later_trans c now next x t.leaves.later later) rest (try_again c of child body now next (finish.Stopped true) t refl reach x later last left rest ends);
   }
 
   -- the last try failed
-  pub tried_failed : (before now next : Past) (last : Option Name) (left : ℕ) → TriesLeft c of body before now last (suc left) → (t : Tried c of body now next (ending.Stopped false)) → Failed c of before next body t.child
-  tried_failed before now next last left l t = record {
+  pub tried_failed : (before now next : Past) (last : Option Name) (left : ℕ) (child : Name) → TriesLeft c of body before now last (suc left) → Tried c of child body now next (finish.Stopped false) → Failed c of before next body child
+  tried_failed before now next last left child l t = record {
     leaves = leaves_trans c of before now next l.leaves t.leaves;
     runs = t.runs;
-    failed = has_failed c of body now next (ending.Stopped false) t false refl;
-    follows = λ reach x later rest ends. l.front reach x (later_trans c now next x t.leaves.later later) rest (try_last c of body now next (ending.Stopped false) t refl reach x later last left rest ends);
+    failed = has_failed c of child body now next (finish.Stopped false) t false refl;
+    follows = λ reach x later rest ends. l.front reach x (later_trans c now next x t.leaves.later later) rest (try_last c of child body now next (finish.Stopped false) t refl reach x later last left rest ends);
   }
 
   -- a try committed
-  pub tried_out : (before now next : Past) (last : Option Name) (left : ℕ) → TriesLeft c of body before now last (suc left) → Tried c of body now next ending.Committed → WentOn c of before next (child_step body)
-  tried_out before now next last left l t = record {
+  pub tried_out : (before now next : Past) (last : Option Name) (left : ℕ) (child : Name) → TriesLeft c of body before now last (suc left) → Tried c of child body now next finish.Committed → WentOn c of before next (child_step body)
+  tried_out before now next last left child l t = record {
     leaves = leaves_trans c of before now next l.leaves t.leaves;
     runs = t.runs;
     follows = λ reach x later rest ends.
         l.front reach x (later_trans c now next x t.leaves.later later) rest
-        (try_last c of body now next ending.Committed t refl reach x later last left rest (try_through c of body now next ending.Committed t refl reach x later rest ends));
+        (try_last c of child body now next finish.Committed t refl reach x later last left rest (try_through c of child body now next finish.Committed t refl reach x later rest ends));
   }
 
   -- no try is left
   pub all_failed : (before now : Past) (last : Name) → TriesLeft c of body before now (Some last) 0 → Failed c of before now body last
   all_failed before now last l = record { leaves = l.leaves; runs = l.runs; failed = l.failed; follows = l.front }
 
-  pub none_begun : (before now : Past) → TriesLeft c of body before now None 0 → WentOn c of before now (child_step body)
-  none_begun before now l = record { leaves = l.leaves; runs = l.runs; follows = λ reach x later rest ends. l.front reach x later rest ends }
+  pub none_to_begin : (before now : Past) → TriesLeft c of body before now None 0 → WentOn c of before now (child_step body)
+  none_to_begin before now l = record { leaves = l.leaves; runs = l.runs; follows = λ reach x later rest ends. l.front reach x later rest ends }
 
   -- a try was not begun, and the parent has stopped
   pub not_begun : (before now mid next : Past) (last : Option Name) (left : ℕ) (why : TxNo) (again : Bool) (rest : Plan) → TriesLeft c of body before now last (suc left) → WasRefused c of now mid why → (why ≡ tx_no.Memory → ⊥) → (why ≡ tx_no.Room → ⊥) → Stopped c of why mid next again
-      → Ended c of before next (child_step body rest) (ending.Stopped again)
+      → Ended c of before next (child_step body rest) (finish.Stopped again)
   not_begun before now mid next last left why again rest l refused other full stopped = by_why why refused other full stopped
     where
-      stops : (why : TxNo) → Made c [] now mid → Stopped c of why mid next again → (StopsBy of why (end (mine c next) of) → StopsEarly of (end (mine c next) of)) → Ended c of before next (child_step body rest) (ending.Stopped again)
+      stops : (why : TxNo) → Made c [] now mid → Stopped c of why mid next again → (StopsBy of why (end (mine c next) of) → StopsEarly of (end (mine c next) of)) → Ended c of before next (child_step body rest) (finish.Stopped again)
       stops why m stopped early = record {
         leaves = leaves_trans c of before mid next (leaves_trans c of before now mid l.leaves (leaves_still c of now mid m)) stopped.leaves;
         tried = stopped.tried;
@@ -485,7 +483,7 @@ module _ (c : Client) (of : Name) (body : Numbered) where
             ([], stopped.children ∙ ap (λ h. children h of) (still c of now mid m) ∙ sym (append-nil _), early (stopped.ended ours), asked_none c now next _ (asked_trans c now mid next NoOne (asked_made c [] now mid NoOne m tt) stopped.asked)));
       }
 
-      by_why : (why : TxNo) → WasRefused c of now mid why → (why ≡ tx_no.Memory → ⊥) → (why ≡ tx_no.Room → ⊥) → Stopped c of why mid next again → Ended c of before next (child_step body rest) (ending.Stopped again)
+      by_why : (why : TxNo) → WasRefused c of now mid why → (why ≡ tx_no.Memory → ⊥) → (why ≡ tx_no.Room → ⊥) → Stopped c of why mid next again → Ended c of before next (child_step body rest) (finish.Stopped again)
       by_why tx_no.Memory refused other full stopped = absurd (other refl)
       by_why tx_no.Room refused other full stopped = absurd (full refl)
       by_why (tx_no.Orphan a) refused other full stopped = stops (tx_no.Orphan a) refused.0 stopped (λ s. Rattle.qc_interp.proofs.StepsLeave.orphan_early c of a _ s)

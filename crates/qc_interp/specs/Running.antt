@@ -22,8 +22,8 @@ use Rattle.qc_interp.specs.declared.body.Came.{Came}
 use Rattle.qc_interp.specs.declared.body.Came.TheVariants as came
 use Rattle.qc_interp.specs.declared.managing.Look.{Look}
 use Rattle.qc_interp.specs.declared.managing.Look.TheVariants as look
-use Rattle.qc_interp.specs.declared.stops.Ending.{Ending}
-use Rattle.qc_interp.specs.declared.stops.Ending.TheVariants as ending
+use Rattle.qc_interp.specs.declared.stops.Finish.{Finish}
+use Rattle.qc_interp.specs.declared.stops.Finish.TheVariants as finish
 use Rattle.qc_interp.specs.Reach.{Reach, AtTheEnd}
 use Rattle.qc_script.specs.Plan.{Plan, Numbered}
 use Rattle.qc_script.specs.Numbers.{each}
@@ -68,14 +68,14 @@ abbrev pub Ends : Client → Name → Past → Past → Plan → Type 0
 Ends c of before now plan = EndsAt Reach.to_the_end c of before now plan
 
 -- by how a transaction has ended, it committed, or stopped so that its body is tried again, or not
-abbrev pub CameTo : Ending → Option How → Type 0
-CameTo ending.Committed (Some (Abort c)) = ⊥
-CameTo ending.Committed how = Unit {0}
-CameTo (ending.Stopped again) (Some (Commit given)) = ⊥
-CameTo (ending.Stopped again) how = again ≡ is_tried_again how
+abbrev pub CameTo : Finish → Option How → Type 0
+CameTo finish.Committed (Some (Abort c)) = ⊥
+CameTo finish.Committed how = Unit {0}
+CameTo (finish.Stopped again) (Some (Commit given)) = ⊥
+CameTo (finish.Stopped again) how = again ≡ is_tried_again how
 
 -- the same, and what it came to
-pub record Ended (c : Client) (of : Name) (before now : Past) (plan : Plan) (to : Ending) : Type 0 where
+pub record Ended (c : Client) (of : Name) (before now : Past) (plan : Plan) (to : Finish) : Type 0 where
   pub leaves : Leaves c of before now
   pub tried : CameTo to (end (mine c now) of)
   pub ends : Ends c of before now plan
@@ -89,7 +89,7 @@ pub record CutOff (c : Client) (of : Name) (before now : Past) (plan : Plan) : T
 -- A transaction was aborted, or was aborted before that as another asked. No other was aborted as it asked.
 pub record Quit (c : Client) (of : Name) (how : How) (before now : Past) (again : Bool) : Type 0 where
   pub leaves : Leaves c of before now
-  pub tried : CameTo (ending.Stopped again) (end (mine c now) of)
+  pub tried : CameTo (finish.Stopped again) (end (mine c now) of)
   pub children : children (mine c now) of ≡ children (mine c before) of
   pub asked : AllAsked c before now (λ by t. ⊥)
   pub ended : AreOurs c of now → (end (mine c now) of ≡ Some how) ⊎ WasAsked of (end (mine c now) of)
@@ -113,7 +113,7 @@ StopsBy of why how = WasAsked of how
 
 pub record Stopped (c : Client) (of : Name) (why : TxNo) (before now : Past) (again : Bool) : Type 0 where
   pub leaves : Leaves c of before now
-  pub tried : CameTo (ending.Stopped again) (end (mine c now) of)
+  pub tried : CameTo (finish.Stopped again) (end (mine c now) of)
   pub children : children (mine c now) of ≡ children (mine c before) of
   pub asked : AllAsked c before now (λ by t. ⊥)
   pub ended : AreOurs c of now → StopsBy of why (end (mine c now) of)
@@ -132,7 +132,7 @@ WasOrphan _ = ⊥
 -- A transaction was aborted for a child, which was no orphan, or stopped early.
 pub record QuitFor (c : Client) (of child : Name) (before now : Past) (again : Bool) : Type 0 where
   pub leaves : Leaves c of before now
-  pub tried : CameTo (ending.Stopped again) (end (mine c now) of)
+  pub tried : CameTo (finish.Stopped again) (end (mine c now) of)
   pub children : children (mine c now) of ≡ children (mine c before) of
   pub asked : AllAsked c before now (λ by t. ⊥)
   pub ended : AreOurs c of now → ((WasOrphan (end (mine c now) child) → ⊥) × (end (mine c now) of ≡ Some (Abort (cause.Child child)))) ⊎ StopsEarly of (end (mine c now) of)
@@ -157,12 +157,12 @@ pub record WentBy (c : Client) (of : Name) (before now : Past) (k : Kind) (given
 -- A step's read gave a value, or the transaction stopped there.
 abbrev pub Looked : Client → Name → Past → Past → ℕ → Look → Type 0
 Looked c of before now rec (look.Value value) = WentBy c of before now (kind.Read rec) (answer.Value value)
-Looked c of before now rec (look.Stopped again) = (next : Answer → Plan) → Ended c of before now (Plan.manage_by (kind.Read rec) next) (ending.Stopped again)
+Looked c of before now rec (look.Stopped again) = (next : Answer → Plan) → Ended c of before now (Plan.manage_by (kind.Read rec) next) (finish.Stopped again)
 
 -- A step was done, and the transaction goes on, or has ended so that its body is tried again, or not.
 abbrev pub Stepped : Client → Name → Past → Past → (Plan → Plan) → Option Bool → Type 0
 Stepped c of before now front None = WentOn c of before now front
-Stepped c of before now front (Some again) = (rest : Plan) → Ended c of before now (front rest) (ending.Stopped again)
+Stepped c of before now front (Some again) = (rest : Plan) → Ended c of before now (front rest) (finish.Stopped again)
 
 -- From `before` on, a transaction did so many tries of a body, behind this one, and then the rest, and ended, or came as
 -- far as the run.
@@ -194,4 +194,4 @@ pub record Failed (c : Client) (of : Name) (before now : Past) (body : Numbered)
 abbrev pub TriesCame : Client → Name → Past → Past → Numbered → Came → Type 0
 TriesCame c of before now body came.Through = WentOn c of before now (child_step body)
 TriesCame c of before now body (came.Failed last) = Failed c of before now body last
-TriesCame c of before now body (came.Stopped again) = (rest : Plan) → Ended c of before now (child_step body rest) (ending.Stopped again)
+TriesCame c of before now body (came.Stopped again) = (rest : Plan) → Ended c of before now (child_step body rest) (finish.Stopped again)

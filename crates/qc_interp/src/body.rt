@@ -7,7 +7,7 @@ ghost use Rattle.qc_script.specs.Steps.{put, plan_of, numbered};
 ghost use Rattle.qc_interp.specs.Running.{Runs, Ended, CutOff, Stepped, TriesCame, child_step};
 
 use crate::managing::{Change, change_value, manage, need};
-use crate::stops::{Ending, ask, commit, quit_for, stop};
+use crate::stops::{Finish, ask, commit, quit_for, stop};
 use qc_event::{Kind, Name, Short};
 use qc_script::{Body, Step, Tx, TxNo};
 
@@ -41,8 +41,8 @@ fn tries<T: Tx>(tx: &mut T, of: &Name, body: &Body) -> Result<Came, Short>
     for _ in 0..body.tries {
         match tx.begin(of, body.number) {
             Ok(name) => match steps(tx, &name, body.steps.as_slice())? {
-                Ending::Committed => return Ok(Came::Through),
-                Ending::Stopped { again } => {
+                Finish::Committed => return Ok(Came::Through),
+                Finish::Stopped { again } => {
                     if !again {
                         return Ok(Came::Failed { last: name });
                     }
@@ -140,7 +140,7 @@ fn step<T: Tx>(tx: &mut T, of: &Name, step: &Step) -> Result<Option<bool>, Short
 
 /// Runs the steps of a transaction that has started and has done nothing, and ends it. It answers what it came to. Want of memory or room cuts it off: it has then done the first of its steps.
 #[cycle(run)]
-pub fn steps<T: Tx>(tx: &mut T, of: &Name, steps: &[Step]) -> Result<Ending, Short>
+pub fn steps<T: Tx>(tx: &mut T, of: &Name, steps: &[Step]) -> Result<Finish, Short>
     requires runs { Runs (T.view tx.old).client of.now (T.view tx.old).seen }
     requires fits { PlanFits (T.view tx.old).client.setting (length of.now) (plan_of steps.now) }
     requires met { MeetsLink (T.view tx.old) }
@@ -154,7 +154,7 @@ pub fn steps<T: Tx>(tx: &mut T, of: &Name, steps: &[Step]) -> Result<Ending, Sho
 {
     for s in steps {
         if let Some(again) = step(tx, of, s)? {
-            return Ok(Ending::Stopped { again });
+            return Ok(Finish::Stopped { again });
         }
     }
     commit(tx, of)

@@ -7,5 +7,5 @@ mod stops;
 mod tops;
 
 pub use body::steps;
-pub use stops::Ending;
+pub use stops::Finish;
 pub use tops::run_tops;

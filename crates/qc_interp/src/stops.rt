@@ -2,7 +2,7 @@
 ghost use Rattle.std.specs.Prelude.{◌≡◌, ◌<◌, [], length, Some, IfOk, IfErr};
 ghost use Rattle.qc_event.specs.History.{limit};
 ghost use Rattle.qc_event.specs.declared.event.How.TheVariants.{Abort};
-ghost use Rattle.qc_interp.specs.declared.stops.Ending.TheVariants as ending;
+ghost use Rattle.qc_interp.specs.declared.stops.Finish.TheVariants as finish;
 ghost use Rattle.qc_script.specs.Calls.{IsGrounded, MeetsLink};
 ghost use Rattle.qc_script.specs.Client.{Made};
 ghost use Rattle.qc_script.specs.Plan.{Plan};
@@ -15,21 +15,21 @@ use qc_script::{Tx, TxNo};
 
 /// What a transaction came to that ran its steps.
 #[derive(Clone, Copy)]
-pub enum Ending {
+pub enum Finish {
     /// It has committed, or is a ready top.
     Committed,
     /// It has stopped, and its body is to be tried again, or not.
     Stopped { again: bool },
 }
 
-impl Ending {
+impl Finish {
     // Whether the body is to be tried again.
     pub(crate) fn is_again(&self) -> bool
         ensures { result ≡ tries.is_again self.now }
     {
         match self {
-            Ending::Committed => false,
-            Ending::Stopped { again } => *again,
+            Finish::Committed => false,
+            Finish::Stopped { again } => *again,
         }
     }
 }
@@ -111,7 +111,7 @@ pub(crate) fn ask<T: Tx>(tx: &mut T, of: &Name, levels: u8) -> Result<bool, Shor
     ensures client { (T.view tx.new).client ≡ (T.view tx.old).client }
     ensures ok { IfOk result (λ again. (rest : Plan)
         → Ended (T.view tx.old).client of.now (T.view tx.old).seen (T.view tx.new).seen
-        (Plan.abort_then levels rest) (ending.Stopped again)) }
+        (Plan.abort_then levels rest) (finish.Stopped again)) }
     ensures cut { IfErr result (λ _. (rest : Plan) → CutOff (T.view tx.old).client of.now
         (T.view tx.old).seen (T.view tx.new).seen (Plan.abort_then levels rest)) }
     ensures room { IfErr result (λ e. e ≡ Short.Room → length (T.view tx.new).seen ≡ limit) }
@@ -156,7 +156,7 @@ pub(crate) fn quit_for<T: Tx>(tx: &mut T, of: &Name, child: &Name) -> Result<boo
 }
 
 // Commits the transaction that runs.
-pub(crate) fn commit<T: Tx>(tx: &mut T, of: &Name) -> Result<Ending, Short>
+pub(crate) fn commit<T: Tx>(tx: &mut T, of: &Name) -> Result<Finish, Short>
     requires runs { Runs (T.view tx.old).client of.now (T.view tx.old).seen }
     requires met { MeetsLink (T.view tx.old) }
     ensures met { MeetsLink (T.view tx.new) }
@@ -168,14 +168,14 @@ pub(crate) fn commit<T: Tx>(tx: &mut T, of: &Name) -> Result<Ending, Short>
     ensures room { IfErr result (λ e. e ≡ Short.Room → length (T.view tx.new).seen ≡ limit) }
 {
     match tx.commit(of) {
-        Ok(()) => Ok(Ending::Committed),
+        Ok(()) => Ok(Finish::Committed),
         Err(why) => match why {
             TxNo::Memory => Err(Short::Memory),
             TxNo::Room => Err(Short::Room),
-            TxNo::Ledger => Ok(Ending::Stopped { again: false }),
+            TxNo::Ledger => Ok(Finish::Stopped { again: false }),
             _ => {
                 let again = stop(tx, of, &why)?;
-                Ok(Ending::Stopped { again })
+                Ok(Finish::Stopped { again })
             }
         },
     }

@@ -1,4 +1,4 @@
-use Rattle.std.proofs.Common.{rules, ◌≡◌, ◌<◌, ◌≤◌, ◌+◌, ◌-◌, ℕ, suc, [], length, sym, ap, ◌∙◌, subst, arith, refl}
+use Rattle.std.proofs.Common.{rules, Option, None, Some, ◌≡◌, ◌<◌, ◌≤◌, ◌+◌, ◌-◌, ℕ, suc, [], length, sym, ap, ◌∙◌, subst, arith, refl}
 use Rattle.qc_event.specs.declared.event.Kind.TheVariants as kind
 use Rattle.qc_event.specs.History.{Past, Name}
 use Rattle.qc_event.proofs.LastNumber.{child_longer}
@@ -6,12 +6,14 @@ use Rattle.qc_script.specs.Calls.{WasRefused}
 use Rattle.qc_script.specs.Client.{Client, Made}
 use Rattle.qc_script.specs.Plan.{Plan, PlanFits, manage_then, change_then, need_then, plus, minus}
 use Rattle.qc_script.specs.Steps.{put, plan_of, numbered}
-use Rattle.qc_interp.specs.Running.{Runs, WhyStop, Stopped, Ended, CutOff, Stepped}
+use Rattle.qc_interp.specs.Running.{Runs, WhyStop, Stopped, Ended, CutOff, Stepped, QuitFor, child_step, TriesCame}
+use Rattle.qc_interp.specs.declared.stops.Finish.TheVariants as finish
 use Rattle.qc_interp.proofs.Results.{if_ok, if_err, any_err}
 use Rattle.qc_interp.proofs.Growth.{made_both}
-use Rattle.qc_interp.proofs.Plans.{weight, plan_is, tries_of, number_of, put_read, put_set, put_add, put_sub, put_need, put_reconf, put_child, put_abort, step_lighter}
+use Rattle.qc_interp.proofs.Plans.{weight, plan_is, tries_of, number_of, must_of, put_read, put_set, put_add, put_sub, put_need, put_reconf, put_child, put_abort, step_lighter}
 use Rattle.qc_interp.proofs.Loops.{fits_step, one_done, stopped_there, cut_there, cut_at_last, all_done, none_done}
-use Rattle.qc_interp.proofs.Tried.{TriesLeft, Tried, runs_begun, tried_once, cut_once, tried_more, tried_out, tried_all, tries_cut, not_begun, begin_stops, begin_cut, refused_made, none_tried, start_of}
+use Rattle.qc_interp.proofs.Failing.{failed_on, failed_quit, failed_cut}
+use Rattle.qc_interp.proofs.Tried.{TriesLeft, Tried, runs_begun, tried_once, cut_once, tried_more, tried_failed, tried_out, all_failed, none_to_begin, tries_cut, not_begun, begin_stops, begin_cut, refused_made, none_tried, start_of}
 use Rattle.qc_interp.proofs.body.+run.Goals as goal
 
 -- CHILDREN
@@ -44,8 +46,8 @@ tries-steps-requires g t c κs within =
       ),
     )
 
-pub tries-returns-then-not-branch-clause-ok : goal.tries-returns-then-not-branch-clause-ok
-tries-returns-then-not-branch-clause-ok g t c =
+pub tries-returns-in-Committed-clause-ok : goal.tries-returns-in-Committed-clause-ok
+tries-returns-in-Committed-clause-ok g t c =
     let inv = c.loop.invariant in
     let v = g.T.Tx.view c.args.tx.now in
     let w = g.T.Tx.view c.loop.tx in
@@ -57,8 +59,24 @@ tries-returns-then-not-branch-clause-ok g t c =
     let ended = subst (λ d. Ended d c.in-Ok.name x.seen y.seen (numbered body).plan c.in_ok-steps-in-Ok.field-0) (c.begin.ensures.client ∙ inv.client)
     (subst (λ p. Ended x.client c.in-Ok.name x.seen y.seen p c.in_ok-steps-in-Ok.field-0) (plan_is body c.as_slice.result.now c.as_slice.ensures.value) c.in_ok-steps-in-Ok.ensures.ok) in
     let tried = tried_once v.client of c.in-Ok.name (numbered body) w.seen x.seen y.seen inv.left.runs c.in-Ok.ensures.child made c.in_ok-steps-in-Ok.field-0 ended in
-    tried_out v.client of (numbered body) v.seen w.seen y.seen _ (one_less v.client of (numbered body) v.seen w.seen c.loop.last c.loop.counter (subst (λ n. c.loop.counter < n) (sym (tries_of body)) c.loop-test.true) inv.left)
-    (subst (Tried v.client of (numbered body) w.seen y.seen) c.if-not-branch.true tried)
+    tried_out v.client of (numbered body) v.seen w.seen y.seen c.loop.last _ c.in-Ok.name (one_less v.client of (numbered body) v.seen w.seen c.loop.last c.loop.counter (subst (λ n. c.loop.counter < n) (sym (tries_of body)) c.loop-test.true) inv.left)
+    (subst (Tried v.client of c.in-Ok.name (numbered body) w.seen y.seen) c.in-Committed.is tried)
+
+pub tries-returns-then-not-again-clause-ok : goal.tries-returns-then-not-again-clause-ok
+tries-returns-then-not-again-clause-ok g t c =
+    let inv = c.loop.invariant in
+    let v = g.T.Tx.view c.args.tx.now in
+    let w = g.T.Tx.view c.loop.tx in
+    let x = g.T.Tx.view c.begin.new.self in
+    let y = g.T.Tx.view c.steps.new.tx in
+    let of = c.args.of.now in
+    let body = c.args.body.now in
+    let made = start_of v.client w.client c.in-Ok.name _ (numbered body).number w.seen x.seen inv.client (sym (number_of body)) c.in-Ok.ensures.ok in
+    let ended = subst (λ d. Ended d c.in-Ok.name x.seen y.seen (numbered body).plan c.in_ok-steps-in-Ok.field-0) (c.begin.ensures.client ∙ inv.client)
+    (subst (λ p. Ended x.client c.in-Ok.name x.seen y.seen p c.in_ok-steps-in-Ok.field-0) (plan_is body c.as_slice.result.now c.as_slice.ensures.value) c.in_ok-steps-in-Ok.ensures.ok) in
+    let tried = tried_once v.client of c.in-Ok.name (numbered body) w.seen x.seen y.seen inv.left.runs c.in-Ok.ensures.child made c.in_ok-steps-in-Ok.field-0 ended in
+    tried_failed v.client of (numbered body) v.seen w.seen y.seen c.loop.last _ c.in-Ok.name (one_less v.client of (numbered body) v.seen w.seen c.loop.last c.loop.counter (subst (λ n. c.loop.counter < n) (sym (tries_of body)) c.loop-test.true) inv.left)
+    (subst (Tried v.client of c.in-Ok.name (numbered body) w.seen y.seen) (c.in-Stopped.is ∙ ap finish.Stopped c.if-not-again.true) tried)
 
 pub tries-stop-requires : goal.tries-stop-requires
 tries-stop-requires g t c =
@@ -71,8 +89,8 @@ tries-stop-requires g t c =
     let client = c.begin.ensures.client ∙ inv.client in
     record { met = c.begin.ensures.met; runs = subst (λ d. Runs d of x.seen) (sym client) h.0; why = subst (λ d. WhyStop d x.seen of c.in-Err.why) (sym client) h.1 }
 
-pub tries-returns-in_ok-stop-in_default : goal.tries-returns-in_ok-stop-in_default
-tries-returns-in_ok-stop-in_default g t c =
+pub tries-returns-in_ok-again-in_default : goal.tries-returns-in_ok-again-in_default
+tries-returns-in_ok-again-in_default g t c =
     let inv = c.loop.invariant in
     let v = g.T.Tx.view c.args.tx.now in
     let w = g.T.Tx.view c.loop.tx in
@@ -85,10 +103,10 @@ tries-returns-in_ok-stop-in_default g t c =
       met = c.stop.ensures.met;
       client = c.stop.ensures.client ∙ client;
       ok = λ rest.
-          not_begun v.client of body v.seen w.seen x.seen y.seen _ _ c.in-Err.why c.in_ok-stop-in_default.field-0 rest
+          not_begun v.client of body v.seen w.seen x.seen y.seen _ _ c.in-Err.why c.in_ok-again-in_default.again rest
           (one_less v.client of body v.seen w.seen c.loop.last c.loop.counter (subst (λ n. c.loop.counter < n) (sym (tries_of c.args.body.now)) c.loop-test.true) inv.left)
           (subst (λ d. WasRefused d of w.seen x.seen c.in-Err.why) inv.client c.in-Err.ensures.err) c.in_default.not-Memory c.in_default.not-Room
-          (subst (λ d. Stopped d of c.in-Err.why x.seen y.seen c.in_ok-stop-in_default.field-0) client c.in_ok-stop-in_default.ensures.ok);
+          (subst (λ d. Stopped d of c.in-Err.why x.seen y.seen c.in_ok-again-in_default.again) client c.in_ok-again-in_default.ensures.ok);
       cut = tt;
       room = tt;
     }
@@ -109,18 +127,29 @@ tries-loop-preserved g t c =
     record {
       met = c.steps.ensures.met;
       client = c.steps.ensures.client ∙ c.begin.ensures.client ∙ inv.client;
-      left = tried_more v.client of (numbered body) v.seen w.seen y.seen _ (one_less v.client of (numbered body) v.seen w.seen c.loop.last c.loop.counter (subst (λ n. c.loop.counter < n) (sym (tries_of body)) c.loop-test.true) inv.left)
-          (subst (Tried v.client of (numbered body) w.seen y.seen) c.if-not-branch.false tried);
+      left = tried_more v.client of (numbered body) v.seen w.seen y.seen c.loop.last _ c.in-Ok.name (one_less v.client of (numbered body) v.seen w.seen c.loop.last c.loop.counter (subst (λ n. c.loop.counter < n) (sym (tries_of body)) c.loop-test.true) inv.left)
+          (subst (Tried v.client of c.in-Ok.name (numbered body) w.seen y.seen) (c.in-Stopped.is ∙ ap finish.Stopped c.if-not-again.false) tried);
     }
 
-pub tries-returns-clause-ok : goal.tries-returns-clause-ok
-tries-returns-clause-ok g t c =
+pub tries-returns-in-Some-clause-ok : goal.tries-returns-in-Some-clause-ok
+tries-returns-in-Some-clause-ok g t c =
     let inv = c.loop.invariant in
     let v = g.T.Tx.view c.args.tx.now in
     let w = g.T.Tx.view c.loop.tx in
     let body = numbered c.args.body.now in
     let over : body.tries ≤ c.loop.counter = subst (λ n. n ≤ c.loop.counter) (sym (tries_of c.args.body.now)) c.loop-test.false in
-    tried_all v.client c.args.of.now body v.seen w.seen (subst (TriesLeft v.client c.args.of.now body v.seen w.seen) (let e : body.tries - c.loop.counter ≡ 0 = omega (arith, over) in e) inv.left)
+    all_failed v.client c.args.of.now body v.seen w.seen c.in-Some.last
+    (subst (λ o. TriesLeft v.client c.args.of.now body v.seen w.seen o 0) c.in-Some.is (subst (TriesLeft v.client c.args.of.now body v.seen w.seen c.loop.last) (let e : body.tries - c.loop.counter ≡ 0 = omega (arith, over) in e) inv.left))
+
+pub tries-returns-in-None-clause-ok : goal.tries-returns-in-None-clause-ok
+tries-returns-in-None-clause-ok g t c =
+    let inv = c.loop.invariant in
+    let v = g.T.Tx.view c.args.tx.now in
+    let w = g.T.Tx.view c.loop.tx in
+    let body = numbered c.args.body.now in
+    let over : body.tries ≤ c.loop.counter = subst (λ n. n ≤ c.loop.counter) (sym (tries_of c.args.body.now)) c.loop-test.false in
+    none_to_begin v.client c.args.of.now body v.seen w.seen
+    (subst (λ o. TriesLeft v.client c.args.of.now body v.seen w.seen o 0) c.in-None.is (subst (TriesLeft v.client c.args.of.now body v.seen w.seen c.loop.last) (let e : body.tries - c.loop.counter ≡ 0 = omega (arith, over) in e) inv.left))
 
 -- where it was cut off
 
@@ -164,8 +193,8 @@ tries-returns-in-Room-clause-cut g t c rest =
     (one_less v.client of body v.seen w.seen c.loop.last c.loop.counter (subst (λ n. c.loop.counter < n) (sym (tries_of c.args.body.now)) c.loop-test.true) inv.left)
     (refused_made v.client of body w.seen x.seen c.in-Err.why (subst (λ d. WasRefused d of w.seen x.seen c.in-Err.why) inv.client c.in-Err.ensures.err))
 
-pub tries-returns-in_err-stop-in_default : goal.tries-returns-in_err-stop-in_default
-tries-returns-in_err-stop-in_default g t c =
+pub tries-returns-in_err-again-in_default : goal.tries-returns-in_err-again-in_default
+tries-returns-in_err-again-in_default g t c =
     let inv = c.loop.invariant in
     let v = g.T.Tx.view c.args.tx.now in
     let w = g.T.Tx.view c.loop.tx in
@@ -178,13 +207,41 @@ tries-returns-in_err-stop-in_default g t c =
       met = c.stop.ensures.met;
       client = c.stop.ensures.client ∙ client;
       ok = search rules;
-      cut = any_err _ c.from_residual-in_err-stop-in_default.result
+      cut = any_err _ c.from_residual-in_err-again-in_default.result
           (λ rest. begin_cut v.client of body v.seen w.seen y.seen _ _ rest
           (one_less v.client of body v.seen w.seen c.loop.last c.loop.counter (subst (λ n. c.loop.counter < n) (sym (tries_of c.args.body.now)) c.loop-test.true) inv.left)
           (made_both v.client w.seen x.seen y.seen (refused_made v.client of body w.seen x.seen c.in-Err.why (subst (λ d. WasRefused d of w.seen x.seen c.in-Err.why) inv.client c.in-Err.ensures.err))
-          (subst (λ d. Made d [] x.seen y.seen) client c.in_err-stop-in_default.ensures.cut)));
+          (subst (λ d. Made d [] x.seen y.seen) client c.in_err-again-in_default.ensures.cut)));
       room = search rules;
     }
+
+-- BEHIND THE TRIES
+
+pub child-returns-then-not-body-clause-ok : goal.child-returns-then-not-body-clause-ok
+child-returns-then-not-body-clause-ok g t c =
+    let v = g.T.Tx.view c.args.tx.now in
+    let w = g.T.Tx.view c.tries.new.tx in
+    let body = c.args.body.now in
+    failed_on v.client c.args.of.now (numbered body) v.seen w.seen c.in-Failed.last (subst (TriesCame v.client c.args.of.now v.seen w.seen (numbered body)) c.in-Failed.is c.in_ok-tries.ensures.ok) (must_of body ∙ c.if-not-body.true)
+
+pub child-returns-in_ok-again-in-Failed-clause-ok : goal.child-returns-in_ok-again-in-Failed-clause-ok
+child-returns-in_ok-again-in-Failed-clause-ok g t c rest =
+    let v = g.T.Tx.view c.args.tx.now in
+    let w = g.T.Tx.view c.tries.new.tx in
+    let x = g.T.Tx.view c.quit_for.new.tx in
+    let body = c.args.body.now in
+    failed_quit v.client c.args.of.now (numbered body) v.seen w.seen c.in-Failed.last (subst (TriesCame v.client c.args.of.now v.seen w.seen (numbered body)) c.in-Failed.is c.in_ok-tries.ensures.ok) x.seen c.in_ok-again-in-Failed.again rest (must_of body ∙ c.if-not-body.false)
+    (subst (λ d. QuitFor d c.args.of.now c.in-Failed.last w.seen x.seen c.in_ok-again-in-Failed.again) c.tries.ensures.client c.in_ok-again-in-Failed.ensures.ok)
+
+pub child-returns-in_err-again-in-Failed-clause-cut : goal.child-returns-in_err-again-in-Failed-clause-cut
+child-returns-in_err-again-in-Failed-clause-cut g t c =
+    let v = g.T.Tx.view c.args.tx.now in
+    let w = g.T.Tx.view c.tries.new.tx in
+    let x = g.T.Tx.view c.quit_for.new.tx in
+    let body = c.args.body.now in
+    any_err _ c.from_residual-in_err-again-in-Failed.result
+    (λ rest. failed_cut v.client c.args.of.now (numbered body) v.seen w.seen c.in-Failed.last (subst (TriesCame v.client c.args.of.now v.seen w.seen (numbered body)) c.in-Failed.is c.in_ok-tries.ensures.ok) x.seen rest
+    (subst (λ d. Made d [] w.seen x.seen) c.tries.ensures.client c.in_err-again-in-Failed.ensures.cut))
 
 -- ONE STEP
 
@@ -242,7 +299,7 @@ pub step-returns-in_ok-again-in-Abort-clause-ok : goal.step-returns-in_ok-again-
 step-returns-in_ok-again-in-Abort-clause-ok g t c = λ rest.
     let v = g.T.Tx.view c.args.tx.now in
     let w = g.T.Tx.view c.ask.new.tx in
-    subst (λ f. Ended v.client c.args.of.now v.seen w.seen (f rest) c.in_ok-again-in-Abort.again) (sym (ap put c.in-Abort.is ∙ put_abort c.in-Abort.levels)) (c.in_ok-again-in-Abort.ensures.ok rest)
+    subst (λ f. Ended v.client c.args.of.now v.seen w.seen (f rest) (finish.Stopped c.in_ok-again-in-Abort.again)) (sym (ap put c.in-Abort.is ∙ put_abort c.in-Abort.levels)) (c.in_ok-again-in-Abort.ensures.ok rest)
 
 -- where it was cut off
 
@@ -350,7 +407,7 @@ steps-returns-in-Some-clause-ok g t c =
     let x = g.T.Tx.view c.step.new.tx in
     let of = c.args.of.now in
     let stepped = subst (λ d. Stepped d of w.seen x.seen (put c.s-item.result) c.in_ok-again.field-0) inv.client c.in_ok-again.ensures.ok in
-    stopped_there v.client of c.args.steps.now v.seen w.seen x.seen c.loop-s.s-index c.s-item.result inv.left c.loop-s-test.true c.s-item.is c.in-Some.again
+    stopped_there v.client of c.args.steps.now v.seen w.seen x.seen c.loop-s.s-index c.s-item.result inv.left c.loop-s-test.true c.s-item.is (finish.Stopped c.in-Some.again)
     (subst (Stepped v.client of w.seen x.seen (put c.s-item.result)) c.in-Some.is stepped)
 
 pub steps-loop-s-preserved : goal.steps-loop-s-preserved
@@ -382,7 +439,7 @@ pub tries-loop-init : goal.tries-loop-init
 tries-loop-init g t c =
     let v = g.T.Tx.view c.args.tx.now in
     let b = numbered c.args.body.now in
-    record { met = c.requires.met; client = refl; left = subst (TriesLeft v.client c.args.of.now b v.seen v.seen) (let e : b.tries ≡ b.tries - 0 = omega arith in e) (none_tried v.client c.args.of.now b v.seen c.requires.runs) }
+    record { met = c.requires.met; client = refl; left = subst (TriesLeft v.client c.args.of.now b v.seen v.seen None) (let e : b.tries ≡ b.tries - 0 = omega arith in e) (none_tried v.client c.args.of.now b v.seen c.requires.runs) }
 
 pub steps-loop-s-init : goal.steps-loop-s-init
 steps-loop-s-init g t c =

@@ -5,7 +5,7 @@ use Rattle.qc_event.specs.declared.event.Answer.TheVariants as answer
 use Rattle.qc_event.specs.declared.event.Kind.TheVariants as kind
 use Rattle.qc_script.specs.Plan.{Plan, value_of}
 use Rattle.qc_interp.specs.Running.{Ended, CutOff, Looked}
-use Rattle.qc_interp.specs.declared.stops.Ending.TheVariants as ending
+use Rattle.qc_interp.specs.declared.stops.Finish.TheVariants as finish
 use Rattle.qc_interp.proofs.ByAnswer.{by_here, by_ended, by_cut}
 use Rattle.qc_interp.proofs.Results.{any_err}
 use Rattle.qc_interp.proofs.managing.need.Goals as goal
@@ -18,9 +18,9 @@ returns-then-value-least-clause-ok g c rest =
     let of = c.args.of.now in
     let least = c.args.least in
     by_ended v.client of (kind.Read c.args.rec) (answer.Value c.in-Value.value) v.seen w.seen (subst (Looked v.client of v.seen w.seen c.args.rec) c.in-Value.is c.in_ok-value.ensures.ok)
-    x.seen (Plan.abort_then 0 rest) (λ given. if nat_lt (value_of given) least then Plan.abort_then 0 rest else rest) (ending.Stopped c.in_ok-again-in-Value.again)
+    x.seen (Plan.abort_then 0 rest) (λ given. if nat_lt (value_of given) least then Plan.abort_then 0 rest else rest) (finish.Stopped c.in_ok-again-in-Value.again)
     (ap (λ b. if b then Plan.abort_then 0 rest else rest) (lt-ltb c.in-Value.value least c.if-value-least.true))
-    (subst (λ d. Ended d of w.seen x.seen (Plan.abort_then 0 rest) (ending.Stopped c.in_ok-again-in-Value.again)) c.look_up.ensures.client (c.in_ok-again-in-Value.ensures.ok rest))
+    (subst (λ d. Ended d of w.seen x.seen (Plan.abort_then 0 rest) (finish.Stopped c.in_ok-again-in-Value.again)) c.look_up.ensures.client (c.in_ok-again-in-Value.ensures.ok rest))
 
 pub returns-else-value-least-clause-ok : goal.returns-else-value-least-clause-ok
 returns-else-value-least-clause-ok g c =

@@ -8,7 +8,7 @@ use Rattle.qc_script.specs.Plan.{Plan}
 use Rattle.qc_script.specs.Client.{Made}
 use Rattle.qc_interp.proofs.Growth.{made_both}
 use Rattle.qc_interp.specs.Running.{Runs, Quit, Ended, CutOff}
-use Rattle.qc_interp.specs.declared.stops.Ending.TheVariants as ending
+use Rattle.qc_interp.specs.declared.stops.Finish.TheVariants as finish
 use Rattle.qc_interp.proofs.Results.{if_ok, if_err}
 use Rattle.qc_interp.proofs.Ending.{runs_still, leaves_still, still, cut_still}
 use Rattle.qc_interp.proofs.Asked.{asked_made}
@@ -68,7 +68,7 @@ returns-in-Ok-clause-ok g c =
     let of = c.args.of.now in
     let t = c.ancestor-ancestor.result in
     let up = above_is v.client of t c.args.levels c.len.result c.len.ensures.length c.ancestor-ancestor.ensures c.if-levels-eq0.false c.requires.within in
-    if_ok (Quit (g.T.Tx.view c.abort.new.self).client of (Abort (cause.Orphan t)) w.seen x.seen) (λ again. (rest : Plan) → Ended v.client of v.seen x.seen (Plan.abort_then c.args.levels rest) (ending.Stopped again)) c.quit-in-Ok.result
+    if_ok (Quit (g.T.Tx.view c.abort.new.self).client of (Abort (cause.Orphan t)) w.seen x.seen) (λ again. (rest : Plan) → Ended v.client of v.seen x.seen (Plan.abort_then c.args.levels rest) (finish.Stopped again)) c.quit-in-Ok.result
     (λ again quit rest.
     asked_orphan v.client of t c.args.levels up.named c.if-levels-eq0.false v.seen w.seen x.seen again rest (leaves_asked v.client of t up.rest up.is up.far up.nonroot v.seen w.seen c.in-Ok.ensures.ok)
     (asked_one v.client of t up.rest up.is up.far up.nonroot v.seen w.seen c.in-Ok.ensures.ok)
@@ -84,7 +84,7 @@ returns-in-Ended-clause-ok g c =
     let t = c.ancestor-ancestor.result in
     let up = above_is v.client of t c.args.levels c.len.result c.len.ensures.length c.ancestor-ancestor.ensures c.if-levels-eq0.false c.requires.within in
     let m = (ask_ended v.client of t v.seen w.seen c.in-Err.why c.in-Ended.is c.in-Err.ensures.err).0 in
-    if_ok (Quit (g.T.Tx.view c.abort.new.self).client of (Abort (cause.Orphan t)) w.seen x.seen) (λ again. (rest : Plan) → Ended v.client of v.seen x.seen (Plan.abort_then c.args.levels rest) (ending.Stopped again)) c.quit-in-Ended.result
+    if_ok (Quit (g.T.Tx.view c.abort.new.self).client of (Abort (cause.Orphan t)) w.seen x.seen) (λ again. (rest : Plan) → Ended v.client of v.seen x.seen (Plan.abort_then c.args.levels rest) (finish.Stopped again)) c.quit-in-Ended.result
     (λ again quit rest.
     asked_orphan v.client of t c.args.levels up.named c.if-levels-eq0.false v.seen w.seen x.seen again rest (leaves_still v.client of v.seen w.seen m) (asked_made v.client [] v.seen w.seen _ m tt) (ap (λ h. children h of) (still v.client of v.seen w.seen m))
     (subst (λ d. Quit d of (Abort (cause.Orphan t)) w.seen x.seen again) c.abort.ensures.client quit)) c.quit-in-Ended.ensures.ok
@@ -103,7 +103,7 @@ returns-then-levels-eq0-clause-ok g c =
     let v = g.T.Tx.view c.args.tx.now in
     let x = g.T.Tx.view c.quit.new.tx in
     let of = c.args.of.now in
-    if_ok (Quit v.client of (Abort (cause.Asked of)) v.seen x.seen) (λ again. (rest : Plan) → Ended v.client of v.seen x.seen (Plan.abort_then c.args.levels rest) (ending.Stopped again)) c.quit.result
+    if_ok (Quit v.client of (Abort (cause.Asked of)) v.seen x.seen) (λ again. (rest : Plan) → Ended v.client of v.seen x.seen (Plan.abort_then c.args.levels rest) (finish.Stopped again)) c.quit.result
     (λ again quit rest. asked_itself v.client of c.args.levels v.seen x.seen again rest c.if-levels-eq0.true quit) c.quit.ensures.ok
 
 -- WHERE IT WAS CUT OFF

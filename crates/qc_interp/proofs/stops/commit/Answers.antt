@@ -1,8 +1,8 @@
-use Rattle.std.proofs.Common.{[], sym, subst, ◌∙◌, inl, inr}
+use Rattle.std.proofs.Common.{rules, [], sym, subst, ◌∙◌, inl, inr}
 use Rattle.qc_script.specs.Client.{Made}
 use Rattle.qc_script.specs.Plan.{Plan}
 use Rattle.qc_interp.specs.Running.{Runs, WhyStop, Stopped, Ended, CutOff}
-use Rattle.qc_interp.proofs.Results.{if_ok, if_err}
+use Rattle.qc_interp.proofs.Results.{any_err}
 use Rattle.qc_interp.proofs.Asking.{commit_ok, commit_ledger, commit_stops, commit_short, commit_over}
 use Rattle.qc_interp.proofs.Ending.{cut_still}
 use Rattle.qc_interp.proofs.Growth.{made_both}
@@ -29,8 +29,8 @@ returns-in-Ledger-clause-ok g c =
     let v = g.T.Tx.view c.args.tx.now in
     commit_ledger v.client c.args.of.now v.seen (g.T.Tx.view c.commit.new.self).seen c.in-Err.why c.in-Ledger.is c.requires.runs c.in-Err.ensures.err
 
-pub returns-in_default : goal.returns-in_default
-returns-in_default g c =
+pub returns-in_ok-again-in_default : goal.returns-in_ok-again-in_default
+returns-in_ok-again-in_default g c =
     let v = g.T.Tx.view c.args.tx.now in
     let w = g.T.Tx.view c.commit.new.self in
     let x = g.T.Tx.view c.stop.new.tx in
@@ -38,14 +38,27 @@ returns-in_default g c =
     record {
       met = c.stop.ensures.met;
       client = c.stop.ensures.client ∙ c.commit.ensures.client;
-      ok = if_ok (Stopped w.client of c.in-Err.why w.seen x.seen) (Ended v.client of v.seen x.seen Plan.done) c.stop.result
-          (λ again stopped. commit_over v.client of v.seen w.seen x.seen c.in-Err.why again c.requires.runs c.in-Err.ensures.err c.in_default.not-Memory c.in_default.not-Room c.in_default.not-Ledger
-          (subst (λ d. Stopped d of c.in-Err.why w.seen x.seen again) c.commit.ensures.client stopped)) c.stop.ensures.ok;
-      cut = if_err (Made w.client [] w.seen x.seen) (CutOff v.client of v.seen x.seen Plan.done) c.stop.result
-          (λ m. cut_still v.client of v.seen x.seen c.requires.runs
+      ok = commit_over v.client of v.seen w.seen x.seen c.in-Err.why c.in_ok-again-in_default.again c.requires.runs c.in-Err.ensures.err c.in_default.not-Memory c.in_default.not-Room c.in_default.not-Ledger
+          (subst (λ d. Stopped d of c.in-Err.why w.seen x.seen c.in_ok-again-in_default.again) c.commit.ensures.client c.in_ok-again-in_default.ensures.ok);
+      cut = tt;
+      room = tt;
+    }
+
+pub returns-in_err-again-in_default : goal.returns-in_err-again-in_default
+returns-in_err-again-in_default g c =
+    let v = g.T.Tx.view c.args.tx.now in
+    let w = g.T.Tx.view c.commit.new.self in
+    let x = g.T.Tx.view c.stop.new.tx in
+    let of = c.args.of.now in
+    record {
+      met = c.stop.ensures.met;
+      client = c.stop.ensures.client ∙ c.commit.ensures.client;
+      ok = search rules;
+      cut = any_err _ c.from_residual.result
+          (cut_still v.client of v.seen x.seen c.requires.runs
           (made_both v.client v.seen w.seen x.seen (commit_stops v.client of v.seen w.seen c.in-Err.why c.requires.runs c.in-Err.ensures.err c.in_default.not-Memory c.in_default.not-Room c.in_default.not-Ledger).2
-          (subst (λ d. Made d [] w.seen x.seen) c.commit.ensures.client m)) Plan.done) c.stop.ensures.cut;
-      room = c.stop.ensures.room;
+          (subst (λ d. Made d [] w.seen x.seen) c.commit.ensures.client c.in_err-again-in_default.ensures.cut)) Plan.done);
+      room = search rules;
     }
 
 pub returns-in-Memory-clause-cut : goal.returns-in-Memory-clause-cut

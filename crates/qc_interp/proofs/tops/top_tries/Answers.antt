@@ -38,8 +38,8 @@ steps-requires-clause-fits g c =
     (subst (λ k. PlanFits v.client.setting k (plan_of c.as_slice.result.now)) (sym (child_longer [] c.in-Ok.name (subst (λ r. is_child r c.in-Ok.name ≡ true) c.root.ensures c.in-Ok.ensures.child)))
     (subst (PlanFits v.client.setting 1) (sym (plan_is body c.as_slice.result.now c.as_slice.ensures.value)) c.requires.fits))
 
-pub returns-then-not-branch-clause-ok : goal.returns-then-not-branch-clause-ok
-returns-then-not-branch-clause-ok g c =
+pub returns-then-not-is_again-clause-ok : goal.returns-then-not-is_again-clause-ok
+returns-then-not-is_again-clause-ok g c =
     let inv = c.loop.invariant in
     let v = g.T.Tx.view c.args.tx.now in
     let w = g.T.Tx.view c.loop.tx in
@@ -51,7 +51,7 @@ returns-then-not-branch-clause-ok g c =
     (subst (λ p. Ended x.client c.in-Ok.name x.seen y.seen p c.in_ok-steps-in-Ok.field-0) (plan_is body c.as_slice.result.now c.as_slice.ensures.value) c.in_ok-steps-in-Ok.ensures.ok) in
     let tried = top_once v.client c.in-Ok.name (numbered body) w.seen x.seen y.seen (subst (λ r. is_child r c.in-Ok.name ≡ true) c.root.ensures c.in-Ok.ensures.child) made (subst (λ d. Numbers d w.seen x.seen) inv.client c.in-Ok.ensures.number) c.in_ok-steps-in-Ok.field-0 ended in
     top_out v.client (numbered body) v.seen w.seen y.seen _ (one_less v.client (numbered body) v.seen w.seen c.loop.counter (subst (λ n. c.loop.counter < n) (sym (tries_of body)) c.loop-test.true) inv.left)
-    (subst (TriedTop v.client (numbered body) w.seen y.seen) c.if-not-branch.true tried)
+    (subst (TriedTop v.client (numbered body) w.seen y.seen) (sym c.is_again.ensures ∙ c.if-not-is_again.true) tried)
 
 pub loop-preserved : goal.loop-preserved
 loop-preserved g c =
@@ -69,7 +69,7 @@ loop-preserved g c =
       met = c.steps.ensures.met;
       client = c.steps.ensures.client ∙ c.begin.ensures.client ∙ inv.client;
       left = top_more v.client (numbered body) v.seen w.seen y.seen _ (one_less v.client (numbered body) v.seen w.seen c.loop.counter (subst (λ n. c.loop.counter < n) (sym (tries_of body)) c.loop-test.true) inv.left)
-          (subst (TriedTop v.client (numbered body) w.seen y.seen) c.if-not-branch.false tried);
+          (subst (TriedTop v.client (numbered body) w.seen y.seen) (sym c.is_again.ensures ∙ c.if-not-is_again.false) tried);
     }
 
 pub loop-init : goal.loop-init
