@@ -15,7 +15,7 @@ use Rattle.qc_event.specs.declared.event.How.{How}
 use Rattle.qc_event.specs.declared.event.How.TheVariants.{Commit, Abort}
 use Rattle.qc_event.specs.declared.event.Kind.{Kind}
 use Rattle.qc_event.specs.declared.event.Kind.TheVariants as kind
-use Rattle.qc_event.specs.Dead.{outcome, outcome_of, is_committed}
+use Rattle.qc_event.specs.Dead.{outcome, outcome_of, is_aborted, is_committed}
 use Rattle.qc_event.specs.History.{Past, Name, Begun, same, start, end, is_ready, kind_of}
 use Rattle.qc_event.specs.Legal.{Legal, Allowed, MayEnd}
 use Rattle.qc_event.specs.Seats.{ledger_seat}
@@ -48,16 +48,21 @@ marked past n session body is began = by_start (start past n) is began
     by_start None is h = absurd h
     by_start (Some b) is h = let same : b.kind ≡ kind.User session body = cc in subst (IsMarkedFor past n) same h
 
--- a cause that is grounded is licensed, but for an orphan of one that committed
-pub grounded : (past : Past) (n : Name) (why : Cause) → IsGrounded past n why → ((a : Name) → why ≡ cause.Orphan a → is_committed (outcome past a) ≡ false) → (session body : ℕ) → kind_of past n ≡ Some (kind.User session body) → UserCause past n session why
-grounded past n (cause.Orphan a) g none session body is = record { above = g.0; not_itself = g.1; aborted = not_committed (end past a) g.2 (none a refl) }
-grounded past n cause.Killed g none session body is = marked past n session body is g
-grounded past n (cause.Asked by) g none session body is = g session
-grounded past n (cause.Conflict copy holder) g none session body is = g session
-grounded past n (cause.NoQuorum lack) g none session body is = g session
-grounded past n cause.Last g none session body is = g session
-grounded past n (cause.Child child) g none session body is = g session
-grounded past n cause.Missed g none session body is = g session
+aborted_is : (o : Option How) → is_aborted (outcome_of o) ≡ true → MatchOption o ⊥ IsAbort
+aborted_is None t = absurd (true≢false (sym t))
+aborted_is (Some (Commit given)) t = absurd (true≢false (sym t))
+aborted_is (Some (Abort why)) t = tt
+
+-- a cause that is grounded is licensed, but for an orphan of one that committed, and for a child that is not aborted
+pub grounded : (past : Past) (n : Name) (why : Cause) → IsGrounded past n why → ((a : Name) → why ≡ cause.Orphan a → is_committed (outcome past a) ≡ false) → ((child : Name) → why ≡ cause.Child child → is_aborted (outcome past child) ≡ true) → (session body : ℕ) → kind_of past n ≡ Some (kind.User session body) → UserCause past n session why
+grounded past n (cause.Orphan a) g none failed session body is = record { above = g.0; not_itself = g.1; aborted = not_committed (end past a) g.2 (none a refl) }
+grounded past n cause.Killed g none failed session body is = marked past n session body is g
+grounded past n (cause.Asked by) g none failed session body is = g session
+grounded past n (cause.Conflict copy holder) g none failed session body is = g session
+grounded past n (cause.NoQuorum lack) g none failed session body is = g session
+grounded past n cause.Last g none failed session body is = g session
+grounded past n (cause.Child child) g none failed session body is = (g.0, g.1, aborted_is (end past child) (failed child refl))
+grounded past n cause.Missed g none failed session body is = g session
 
 user_licensed : (setting : Setting) (past : Past) (seat : ℕ) (n : Name) (b : Begun) (k : Kind) (why : Cause) → IsUser k → ((s body : ℕ) → k ≡ kind.User s body → UserCause past n s why) → Licensed setting past seat n b k why
 user_licensed setting past seat n b (kind.User session body) why is license = license session body refl

@@ -6,7 +6,8 @@ ghost use Rattle.qc_event.specs.Legal.{Legal};
 ghost use Rattle.qc_event.specs.Standing.{Started, IsUser, open_child};
 ghost use Rattle.qc_client.specs.Entering.{IsClear, MayEnter};
 ghost use Rattle.qc_client.specs.Alone.{IsAlone};
-ghost use Rattle.qc_script.specs.Calls.{IsGrounded, NotAborted, Committed, NotCommitted, by_client};
+ghost use Rattle.qc_event.specs.Dead.{dead};
+ghost use Rattle.qc_script.specs.Calls.{IsGrounded, IsForChild, NotAborted, Committed, NotCommitted, by_client};
 
 use crate::lone::LoneClient;
 use qc_event::{Answer, Cause, Config, Entry, Event, How, Kind, LEDGER_SEAT, Name};
@@ -19,6 +20,7 @@ impl LoneClient {
         requires grounded { IsGrounded self.now.seen target.now cause.now }
         ensures ok { OnOk result (MayEnter self.now.client self.now.seen
             (by_client self.now.client (event.End target.now (Abort cause.now)))) }
+        ensures alive { OnOk result (IsForChild cause.now → dead self.now.seen target.now ≡ None) }
         ensures err { IfErr result (NotAborted
             self.now.client target.now cause.now self.now.seen self.now.seen) }
         ensures legal { Legal self.now.client.setting self.now.seen }
@@ -35,6 +37,14 @@ impl LoneClient {
                 return Err(TxNo::Ended);
             }
             return Ok(());
+        }
+        if let Cause::Child(child) = cause {
+            if let Some(ancestor) = self.dead(target) {
+                return Err(TxNo::Orphan(ancestor));
+            }
+            if !self.outcome(child).is_aborted() {
+                return Err(TxNo::Ended);
+            }
         }
         Ok(())
     }

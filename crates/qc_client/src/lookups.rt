@@ -12,7 +12,7 @@ use qc_script::TxNo;
 
 impl LoneClient {
     // The shortest aborted ancestor of a name.
-    fn dead(&self, name: &Name) -> Option<Name>
+    pub(crate) fn dead(&self, name: &Name) -> Option<Name>
         ensures { result ≡ standing.dead self.now.seen name.now }
     {
         self.line.dead(name)

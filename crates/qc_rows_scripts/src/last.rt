@@ -69,6 +69,7 @@ fn print_set(rt: &HostRuntime, alloc: Global, config: Config) -> io::Result<()>
         Body {
             number: 0,
             tries: 1,
+            must: false,
             steps
         },
     ]?;
@@ -83,6 +84,7 @@ fn print_reconf(rt: &HostRuntime, alloc: Global, config: Config) -> io::Result<(
         Body {
             number: 0,
             tries: 1,
+            must: false,
             steps
         },
     ]?;

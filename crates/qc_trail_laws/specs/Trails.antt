@@ -163,7 +163,7 @@ marked_elsewhere =
     user client far ∷ by client (event.Mark far 3) ∷ by client (event.Ready far) ∷ by ledger_seat (event.End far (Commit answer.Nothing)) ∷ []
 
 abbrev pub body_of : Plan → List Numbered
-body_of plan = record { number = 0; tries = 1; plan = plan } ∷ []
+body_of plan = record { number = 0; tries = 1; must = false; plan = plan } ∷ []
 
 abbrev pub set_then_read : List Numbered
 set_then_read = body_of (manage_then (kind.Write x 5) (manage_then (kind.Read x) Plan.done))
@@ -199,8 +199,8 @@ late_commit =
 
 abbrev pub set_and_read : List Numbered
 set_and_read =
-    record { number = 0; tries = 1; plan = manage_then (kind.Write x 5) Plan.done }
-    ∷ record { number = 1; tries = 1; plan = manage_then (kind.Read x) Plan.done }
+    record { number = 0; tries = 1; must = false; plan = manage_then (kind.Write x 5) Plan.done }
+    ∷ record { number = 1; tries = 1; must = false; plan = manage_then (kind.Read x) Plan.done }
     ∷ []
 
 -- child with set x 5 and read x, then abort 0: the child is begun, and none of its steps is run
@@ -213,7 +213,7 @@ dropped_steps =
     ∷ []
 
 abbrev pub child_and_abort : List Numbered
-child_and_abort = body_of (Plan.child_then 1 1 (manage_then (kind.Write x 5) (manage_then (kind.Read x) Plan.done)) (Plan.abort_then 0 Plan.done))
+child_and_abort = body_of (Plan.child_then 1 1 false (manage_then (kind.Write x 5) (manage_then (kind.Read x) Plan.done)) (Plan.abort_then 0 Plan.done))
 
 -- the first run under another seat, by a network that loses every request
 abbrev pub moved : Entry → Entry
@@ -263,11 +263,11 @@ aborts_two =
 
 -- a body whose grandchild has a step `abort` so many levels up
 abbrev pub abort_body : ℕ → Numbered
-abort_body levels = record { number = 0; tries = 1; plan = Plan.child_then 1 1 (Plan.child_then 2 1 (Plan.abort_then levels Plan.done) Plan.done) Plan.done }
+abort_body levels = record { number = 0; tries = 1; must = false; plan = Plan.child_then 1 1 false (Plan.child_then 2 1 false (Plan.abort_then levels Plan.done) Plan.done) Plan.done }
 
 -- the body of the first run
 abbrev pub first_body : Numbered
-first_body = record { number = 0; tries = 1; plan = manage_then (kind.Write x 5) (manage_then (kind.Read x) Plan.done) }
+first_body = record { number = 0; tries = 1; must = false; plan = manage_then (kind.Write x 5) (manage_then (kind.Read x) Plan.done) }
 
 -- two tops of a session, each under a seat of its own
 abbrev pub two_seats : List Entry
@@ -299,7 +299,7 @@ tried_again =
     ∷ []))
 
 abbrev pub read_twice : List Numbered
-read_twice = record { number = 0; tries = 2; plan = manage_then (kind.Read x) Plan.done } ∷ []
+read_twice = record { number = 0; tries = 2; must = false; plan = manage_then (kind.Read x) Plan.done } ∷ []
 
 abbrev pub first_lost : Net
 first_lost = record { fates = LoseAsk ∷ Deliver ∷ []; hold = 1; patience = 4 }
@@ -318,7 +318,7 @@ abbrev pub reconfigure : List Numbered
 reconfigure = body_of (manage_then (kind.Reconf x one) Plan.done)
 
 abbrev pub two_steps : List Numbered
-two_steps = record { number = 0; tries = 1; plan = Plan.done } ∷ record { number = 0; tries = 1; plan = Plan.done } ∷ []
+two_steps = record { number = 0; tries = 1; must = false; plan = Plan.done } ∷ record { number = 0; tries = 1; must = false; plan = Plan.done } ∷ []
 
 -- CUT OFF
 

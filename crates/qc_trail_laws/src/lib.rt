@@ -1,7 +1,7 @@
 //! Laws that tell by example what it is to follow a script: trails that do, and trails that only seem to.
 #![tactic(auto)]
 
-ghost use Rattle.std.specs.Prelude.{◌≡◌, false, [], ◌∷◌, IsTrue, map, reverse};
+ghost use Rattle.std.specs.Prelude.{◌≡◌, true, false, [], ◌∷◌, IsTrue, map, reverse};
 ghost use Rattle.qc_event.specs.History.{children};
 ghost use Rattle.qc_interp.specs.Asking.{Asks};
 ghost use Rattle.qc_interp.specs.Follows.{FollowsBody};
@@ -10,6 +10,7 @@ ghost use Rattle.qc_interp.specs.Reach.{Reach};
 ghost use Rattle.qc_interp.specs.Session.{FollowsBodies, RunsBodies};
 ghost use Rattle.qc_interp.specs.Sessions.{RunsInTurn, tops_of, meets, all_plain};
 ghost use Rattle.qc_script.specs.Numbers.{each, is_next_top};
+ghost use Rattle.qc_trail_laws.specs.Musts as musts;
 ghost use Rattle.qc_trail_laws.specs.Trails as trails;
 ghost use Rattle.qc_trail_laws.specs.Values as values;
 
@@ -131,4 +132,27 @@ pub fn goes_by_no_other_value()
         (reverse (values.too_little 30)) → ⊥ }
     ensures holds_with_less { FollowsScript 0 1 trails.net (values.need 30)
         (reverse (values.enough 29)) → ⊥ }
+{}
+
+/// A top follows its script that is aborted for a child that must commit and did not, and is then begun again where tries
+/// are left; one that goes on behind a child that need not; and one whose child ends as an orphan, though the child's own
+/// child must commit.
+pub fn goes_by_children()
+    ensures aborted { FollowsBodies 0 (reverse musts.aborted) (musts.child true) (trails.top ∷ []) }
+    ensures aborted_turns { RunsInTurn 0 (reverse musts.aborted) }
+    ensures aborted_twice { FollowsBodies 0 (reverse musts.aborted_twice) musts.child_twice
+        (trails.top ∷ trails.top2 ∷ []) }
+    ensures went_on { FollowsBodies 0 (reverse musts.went_on) (musts.child false)
+        (trails.top ∷ []) }
+    ensures went_on_turns { RunsInTurn 0 (reverse musts.went_on) }
+    ensures orphan { FollowsBody 0 (reverse trails.far_abort) musts.far_body trails.top }
+{}
+
+/// None of these follows its script: a top that goes on behind a child that must commit and did not; one that is aborted
+/// for a child that need not; and a transaction that is aborted for an orphan, and no orphan.
+pub fn goes_by_no_other_child()
+    ensures goes_on { FollowsScript 0 1 trails.net (musts.child true) (reverse musts.went_on) → ⊥ }
+    ensures aborted { FollowsScript 0 1 trails.net (musts.child false) (reverse musts.aborted) → ⊥ }
+    ensures no_orphan { FollowsScript 0 1 trails.net (musts.far_body ∷ []) (reverse musts.no_orphan)
+        → ⊥ }
 {}
