@@ -32,21 +32,24 @@ impl LoneClient {
         if self.is_ready(target) {
             return Err(TxNo::Ready);
         }
-        if let Cause::Orphan(ancestor) = cause {
-            if self.outcome(ancestor).is_committed() {
-                return Err(TxNo::Ended);
+        match cause {
+            Cause::Orphan(ancestor) => {
+                if self.outcome(ancestor).is_committed() {
+                    return Err(TxNo::Ended);
+                }
+                Ok(())
             }
-            return Ok(());
+            Cause::Child(child) => {
+                if let Some(ancestor) = self.dead(target) {
+                    return Err(TxNo::Orphan(ancestor));
+                }
+                if !self.outcome(child).is_aborted() {
+                    return Err(TxNo::Ended);
+                }
+                Ok(())
+            }
+            _ => Ok(()),
         }
-        if let Cause::Child(child) = cause {
-            if let Some(ancestor) = self.dead(target) {
-                return Err(TxNo::Orphan(ancestor));
-            }
-            if !self.outcome(child).is_aborted() {
-                return Err(TxNo::Ended);
-            }
-        }
-        Ok(())
     }
 
     // Makes a top ready in whose way nothing is, and commits it under the ledger's seat.
