@@ -118,7 +118,7 @@ pub record Stopped (c : Client) (of : Name) (why : TxNo) (before now : Past) (ag
   pub asked : AllAsked c before now (λ by t. ⊥)
   pub ended : AreOurs c of now → StopsBy of why (end (mine c now) of)
 
--- a child of a body that was aborted
+-- a child that is a user transaction, and was aborted
 pub record HasFailed (c : Client) (of : Name) (now : Past) (child : Name) : Type 0 where
   pub is_one : is_child of child ≡ true
   pub user : Started now child (λ b. IsUser b.kind)

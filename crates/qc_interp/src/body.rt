@@ -138,7 +138,8 @@ fn step<T: Tx>(tx: &mut T, of: &Name, step: &Step) -> Result<Option<bool>, Short
     }
 }
 
-/// Runs the steps of a transaction that has started and has done nothing, and ends it. It answers what it came to. Want of memory or room cuts it off: it has then done the first of its steps.
+/// Runs the steps of a transaction that has started and has done nothing, and ends it. It answers what the transaction
+/// came to. Want of memory or room cuts it off: it has then done the first of its steps.
 #[cycle(run)]
 pub fn steps<T: Tx>(tx: &mut T, of: &Name, steps: &[Step]) -> Result<Finish, Short>
     requires runs { Runs (T.view tx.old).client of.now (T.view tx.old).seen }

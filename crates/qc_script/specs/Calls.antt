@@ -116,12 +116,13 @@ IsNone seen (cause.Orphan a) = is_committed (outcome seen a) ≡ true
 IsNone seen (cause.Child child) = is_aborted (outcome seen child) ≡ false
 IsNone seen c = ⊥
 
+-- a transaction is aborted for a child of it
 abbrev pub IsForChild : Cause → Type 0
 IsForChild (cause.Child child) = Unit {0}
 IsForChild c = ⊥
 
 -- An abort was refused: nothing was made, and it had ended or was ready, or the cause does not hold, or it was want of
--- memory or room. For a child none is aborted that is an orphan.
+-- memory or room. No transaction with an aborted ancestor is aborted for a child.
 abbrev pub NotAborted : Client → Name → Cause → Past → Past → TxNo → Type 0
 NotAborted c of why before now tx_no.Memory = Made c [] before now
 NotAborted c of why before now tx_no.Room = Made c [] before now × (length now ≡ limit)

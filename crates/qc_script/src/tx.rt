@@ -113,7 +113,7 @@ pub trait Tx: Sized {
             (view self.old) (view self.new) of.now (kind.Reconf rec config.now)) };
 
     /// Aborts a transaction for a cause that what was seen licenses. For a child it is aborted only where that is aborted,
-    /// and it is no orphan.
+    /// and no ancestor is.
     fn abort(&mut self, target: &Name, cause: Cause) -> Result<(), TxNo>
         requires user { Started (view self.old).seen target.now (λ b. IsUser b.kind) }
         requires grounded { IsGrounded (view self.old).seen target.now cause }
