@@ -1,7 +1,7 @@
 -- What a transaction does where the last try of a child failed.
 use Rattle.std.proofs.Common.{◌≡◌, inl, inr, ℕ, Bool, List, true, false, [], ◌∷◌, ◌++◌, refl, sym, ap, ◌∙◌, subst, append-nil, append_assoc}
 use mathlib.Core.Bool.{true≢false}
-use Rattle.std.specs.Prelude.{Option, None, Some, MatchOption, is_some, not}
+use Rattle.std.specs.Prelude.{Option, None, Some, MatchOption, not}
 use Rattle.std.specs.Option.{option_or}
 use Rattle.qc_event.specs.declared.event.Cause.{Cause}
 use Rattle.qc_event.specs.declared.event.Cause.TheVariants as cause
@@ -13,7 +13,7 @@ use Rattle.qc_event.specs.declared.event.Kind.{Kind}
 use Rattle.qc_event.specs.declared.event.Kind.TheVariants as kind
 use Rattle.qc_event.specs.Aborts.{Licensed}
 use Rattle.qc_event.specs.Base.{Setting}
-use Rattle.qc_event.specs.Dead.{dead, outcome, outcome_of, is_aborted}
+use Rattle.qc_event.specs.Dead.{dead, outcome_of, is_aborted}
 use Rattle.qc_event.specs.History.{Past, Name, Begun, start, end, children, same}
 use Rattle.qc_event.specs.Legal.{Legal, MayHappen, MayEnd}
 use Rattle.qc_event.specs.Standing.{IsAbort, IsOrphanOf}
@@ -26,8 +26,8 @@ use Rattle.qc_script.specs.Client.{Client, mine, Made, IsLater, AreOurs}
 use Rattle.qc_script.specs.Plan.{Plan, Numbered}
 use Rattle.qc_script.specs.declared.tx.TxNo.{TxNo}
 use Rattle.qc_script.specs.declared.tx.TxNo.TheVariants as tx_no
-use Rattle.qc_interp.specs.Follows.{WasAsked, GoesOnAfter, AfterTries, is_of_orphan, RunsPlan, FollowsPlan}
-use Rattle.qc_interp.specs.Asking.{Asks, DoesAfter}
+use Rattle.qc_interp.specs.Follows.{WasAsked, GoesOnAfter, AfterTries, is_of_orphan, FollowsPlan}
+use Rattle.qc_interp.specs.Asking.{DoesAfter}
 use Rattle.qc_interp.specs.Reach.{Reach}
 use Rattle.qc_interp.specs.Running.{Runs, CameTo, Ended, CutOff, WentOn, HasFailed, WasOrphan, QuitFor, Stopped, child_step, Failed}
 use Rattle.qc_interp.specs.declared.stops.Finish.TheVariants as finish

@@ -1,4 +1,4 @@
-use Rattle.std.proofs.Common.{rules, Option, None, Some, ◌≡◌, ◌<◌, ◌≤◌, ◌+◌, ◌-◌, ℕ, suc, [], length, sym, ap, ◌∙◌, subst, arith, refl}
+use Rattle.std.proofs.Common.{rules, Option, None, ◌≡◌, ◌<◌, ◌≤◌, ◌+◌, ◌-◌, ℕ, suc, [], length, sym, ap, ◌∙◌, subst, arith, refl}
 use Rattle.qc_event.specs.declared.event.Kind.TheVariants as kind
 use Rattle.qc_event.specs.History.{Past, Name}
 use Rattle.qc_event.proofs.LastNumber.{child_longer}

@@ -1,12 +1,10 @@
-use Rattle.std.proofs.Common.{◌≡◌, refl, sym, ap, subst}
-use Rattle.std.specs.Prelude.{Option}
+use Rattle.std.proofs.Common.{◌≡◌, sym, ap, subst}
 use Rattle.qc_event.specs.declared.event.Answer.{Answer}
 use Rattle.qc_event.specs.declared.event.Answer.TheVariants as answer
-use Rattle.qc_event.specs.declared.event.Kind.{Kind}
 use Rattle.qc_event.specs.declared.event.Kind.TheVariants as kind
 use Rattle.qc_script.specs.Plan.{Plan, manage_then, change_then, value_of}
 use Rattle.qc_interp.specs.Change.{changed}
-use Rattle.qc_interp.specs.Running.{Ended, CutOff, Looked, Stepped}
+use Rattle.qc_interp.specs.Running.{CutOff, Looked, Stepped}
 use Rattle.qc_interp.proofs.ByAnswer.{by_stepped, by_cut}
 use Rattle.qc_interp.proofs.Results.{any_err, if_ok, if_err}
 use Rattle.qc_interp.proofs.managing.change_value.Goals as goal

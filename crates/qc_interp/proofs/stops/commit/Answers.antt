@@ -1,7 +1,7 @@
 use Rattle.std.proofs.Common.{rules, [], sym, subst, ◌∙◌, inl, inr}
 use Rattle.qc_script.specs.Client.{Made}
 use Rattle.qc_script.specs.Plan.{Plan}
-use Rattle.qc_interp.specs.Running.{Runs, WhyStop, Stopped, Ended, CutOff}
+use Rattle.qc_interp.specs.Running.{Runs, WhyStop, Stopped}
 use Rattle.qc_interp.proofs.Results.{any_err}
 use Rattle.qc_interp.proofs.Asking.{commit_ok, commit_ledger, commit_stops, commit_short, commit_over}
 use Rattle.qc_interp.proofs.Ending.{cut_still}

@@ -1,6 +1,5 @@
-use Rattle.std.proofs.Common.{[], sym, ap, ◌∙◌, subst}
+use Rattle.std.proofs.Common.{[], sym, subst}
 use Rattle.qc_event.specs.declared.event.Cause.TheVariants as cause
-use Rattle.qc_script.specs.Calls.{NotAborted}
 use Rattle.qc_script.specs.Client.{Made}
 use Rattle.qc_interp.specs.Running.{Runs, Stopped, QuitFor}
 use Rattle.qc_interp.proofs.Asking.{not_aborted_made}
