@@ -17,3 +17,4 @@ pub mod Held
 pub mod Keeping
 pub mod KeepsOn
 pub mod KeepsStill
+pub mod Acting

@@ -66,23 +66,19 @@ refused_orphan setting (e ∷ past) n a legal is going =
         by_reason r parts.1 (subst (λ x. MatchOption (asked past x) ⊥ (λ q. IsRefusal past q.ask r)) (same_is m n parts.0) may.reason)
     by_event _ may here = absurd cc
 
--- a child's aborted ancestor is one of its parent that has not ended
-pub parent_orphan : (past : Past) (p a : Name) (j : ℕ) → IsOrphanOf past (p ++ j ∷ []) a → end past p ≡ None → IsOrphanOf past p a
-parent_orphan past p a j o going = record {
-  above = above;
-  not_itself = ap not (false_from_ne_true (same a p) (λ h. subst (λ x. MatchOption x ⊥ IsAbort) (ap (end past) (same_is a p h) ∙ going) o.aborted));
-  aborted = o.aborted;
-}
+-- who is above a child, and not the child itself, is above its parent
+pub above_parent : (p a : Name) (j : ℕ) → name.is_ancestor a (p ++ j ∷ []) ≡ true → not (same a (p ++ j ∷ [])) ≡ true → name.is_ancestor a p ≡ true
+above_parent p a j above not_itself = by_end rest.0 rest.1 (ends_in rest.0)
   where
     rest : (r : Name) × (p ++ j ∷ [] ≡ a ++ r)
-    rest = rest_of a (p ++ j ∷ []) o.above
+    rest = rest_of a (p ++ j ∷ []) above
 
     apart : (b : Bool) → not b ≡ true → b ≡ true → ⊥
     apart true h is = true≢false (sym h)
     apart false h is = true≢false (sym is)
 
     itself : p ++ j ∷ [] ≡ a → ⊥
-    itself is = apart (same a (p ++ j ∷ [])) o.not_itself (ap (same a) is ∙ same_itself a)
+    itself is = apart (same a (p ++ j ∷ [])) not_itself (ap (same a) is ∙ same_itself a)
 
     by_end : (r : Name) → p ++ j ∷ [] ≡ a ++ r → (r ≡ []) ⊎ EndsIn r → name.is_ancestor a p ≡ true
     by_end r is (inl none) = absurd (itself (is ∙ ap (λ x. a ++ x) none ∙ append-nil a))
@@ -90,5 +86,10 @@ parent_orphan past p a j o going = record {
         let parts = same_last p (a ++ last.0) j last.1 (is ∙ ap (λ x. a ++ x) last.2 ∙ sym (append_assoc a last.0 (last.1 ∷ []))) in
         ap (name.is_ancestor a) parts.0 ∙ is_ancestor-append a last.0
 
-    above : name.is_ancestor a p ≡ true
-    above = by_end rest.0 rest.1 (ends_in rest.0)
+-- a child's aborted ancestor is one of its parent that has not ended
+pub parent_orphan : (past : Past) (p a : Name) (j : ℕ) → IsOrphanOf past (p ++ j ∷ []) a → end past p ≡ None → IsOrphanOf past p a
+parent_orphan past p a j o going = record {
+  above = above_parent p a j o.above o.not_itself;
+  not_itself = ap not (false_from_ne_true (same a p) (λ h. subst (λ x. MatchOption x ⊥ IsAbort) (ap (end past) (same_is a p h) ∙ going) o.aborted));
+  aborted = o.aborted;
+}

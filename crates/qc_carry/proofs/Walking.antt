@@ -15,7 +15,7 @@ use Rattle.qc_pass.proofs.Lists.{entries_append}
 use Rattle.qc_pass.proofs.Since as since
 use Rattle.qc_carry.specs.Walk.{Walk}
 
-none_own : (seat : ℕ) (xs : Past) → AreOthers seat xs → made_by seat xs ≡ []
+pub none_own : (seat : ℕ) (xs : Past) → AreOthers seat xs → made_by seat xs ≡ []
 none_own seat [] all = refl
 none_own seat (e ∷ xs) all = ap (λ (b : Bool). cond b (e ∷ made_by seat xs) (made_by seat xs)) (false_from_ne_true (e.seat == seat) (λ is. all.0 (eqb-true e.seat seat is))) ∙ none_own seat xs all.1
 

@@ -3,3 +3,4 @@ pub mod Access
 pub mod Kept
 pub mod Seeing
 pub mod Carried
+pub mod Acting

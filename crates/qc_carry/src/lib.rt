@@ -1,9 +1,11 @@
 //! A client's way to a system: its managers' accesses, started, sent over its courier, and ended by what came back.
 #![tactic(auto)]
 
+mod acts;
 mod begin;
 mod calls;
 mod carry;
+mod desk_calls;
 mod finish;
 mod line;
 mod way;

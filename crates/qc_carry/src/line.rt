@@ -56,6 +56,7 @@ impl<'a, R: Wait, D: Disk + Drop, L: Link + Drop, N: Mounting> Line<'a, R, D, L,
         requires fresh { pass.mine ≡ [] }
         requires none { held_of courier ≡ [] }
         requires start { IfSome (L.view (link_of courier)).plan (λ plan. plan ≡ anew plan) }
+        ensures system { result.system.now ≡ system.now }
         ensures pass { result.pass ≡ pass }
         ensures courier { result.courier ≡ courier }
         ensures patience { result.patience ≡ patience }
@@ -85,7 +86,8 @@ impl<'a, R: Wait, D: Disk + Drop, L: Link + Drop, N: Mounting> Line<'a, R, D, L,
 }
 
 impl<'a, R: Wait, D: Disk + Drop, L: Link + Drop, N: Mounting> Carrier for Line<'a, R, D, L, N> {
-    ghost use Rattle.std.specs.Prelude.{◌==◌, not};
+    ghost use Rattle.std.proofs.Common.{refl, ◌∙◌};
+    ghost use Rattle.std.specs.Prelude.{◌≡◌, ◌==◌, not};
     ghost use Rattle.qc_event.specs.Tables.{setting_of};
     ghost use Rattle.qc_event.proofs.LegalAgain.{legal_again};
     ghost use Rattle.qc_net.specs.Courier.{link_of};
@@ -101,14 +103,20 @@ impl<'a, R: Wait, D: Disk + Drop, L: Link + Drop, N: Mounting> Carrier for Line<
 
     ghost became = { λ before now. HasCarried before.pass now.pass
         (L.view (link_of before.courier)).plan (L.view (link_of now.courier)).plan
-        before.patience now.patience };
+        before.patience now.patience × (now.system ≡ before.system) };
 
-    ghost became_itself = { λ line. carried_itself line.pass (L.view (link_of line.courier)).plan
-        line.patience };
+    ghost became_itself = { λ line. (
+      carried_itself line.pass (L.view (link_of line.courier)).plan
+          line.patience,
+      refl,
+    ) };
 
-    ghost became_by_both = { λ a b c first next. carried_by_both a.pass b.pass c.pass
-        (L.view (link_of a.courier)).plan (L.view (link_of b.courier)).plan
-        (L.view (link_of c.courier)).plan a.patience b.patience c.patience first next };
+    ghost became_by_both = { λ a b c first next. (
+      carried_by_both a.pass b.pass c.pass
+          (L.view (link_of a.courier)).plan (L.view (link_of b.courier)).plan
+          (L.view (link_of c.courier)).plan a.patience b.patience c.patience first.0 next.0,
+      next.1 ∙ first.1,
+    ) };
 
     ghost is_legal = { λ line. legal_again (setting_of N.table N.base) line.pass.seen line.legal };
 

@@ -33,6 +33,7 @@ pub record IsKept (old new : View) : Type 0 where
   pub live : new.live ≡ old.live
   pub number : new.number ≡ old.number
   pub out : new.out ≡ old.out
+  pub kin : new.kin ≡ old.kin
   pub older : IsOlder old.seen new.seen
   pub still : (top : Name) → MayFinish old top → MayFinish new top
 
@@ -41,6 +42,7 @@ kept_on a b c one two = record {
   live = two.live ∙ one.live;
   number = two.number ∙ one.number;
   out = two.out ∙ one.out;
+  kin = two.kin ∙ one.kin;
   older = older_trans a.seen b.seen c.seen one.older two.older;
   still = λ top may. two.still top (one.still top may);
 }
@@ -53,6 +55,7 @@ shown_kept old new shown =
       live = ap (λ (v : View). v.live) shown.1;
       number = ap (λ (v : View). v.number) shown.1;
       out = ap (λ (v : View). v.out) shown.1;
+      kin = ap (λ (v : View). v.kin) shown.1;
       older = older;
       still = λ top may. may_still old new top (ap (λ (v : View). v.mine) shown.1) older may;
     }
@@ -67,6 +70,7 @@ unable_kept (Ok x) old new top why ok err =
       live = ap (λ (v : View). v.live) is;
       number = ap (λ (v : View). v.number) is;
       out = ap (λ (v : View). v.out) is;
+      kin = ap (λ (v : View). v.kin) is;
       older = older;
       still = λ t may. record {
         is_top = may.is_top;
@@ -80,6 +84,7 @@ unable_kept (Err refused) old new top why ok err =
       live = ap (λ (v : View). v.live) err.0.1;
       number = ap (λ (v : View). v.number) err.0.1;
       out = ap (λ (v : View). v.out) err.0.1;
+      kin = ap (λ (v : View). v.kin) err.0.1;
       older = older;
       still = λ t may. may_still old new t (ap (λ (v : View). v.mine) err.0.1) older may;
     }

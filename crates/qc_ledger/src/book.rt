@@ -45,9 +45,10 @@ impl<D: Disk> Book<D> {
         }
     }
 
-    /// The ledger of a desk, which a pass with the ledger's number enters that has no pass out.
+    /// The ledger of a desk, which a pass with the ledger's number enters that has no pass out and none joined.
     pub fn enter<N: Store>(self, pass: Pass<N>) -> Ledger<D, N>
         requires ledger { (pass.live ≡ true) × (pass.number ≡ ledger_seat) × (pass.out ≡ []) }
+        requires none { pass.kin ≡ [] }
         ensures journal { journal_in result.shelf ≡ journal_of self }
         ensures none { top_in result.shelf ≡ None }
         ensures pass { result.pass ≡ pass }

@@ -30,6 +30,7 @@ pub struct Ledger<D: Disk, N: Store> {
     ghost live: { pass.live ≡ true },
     ghost number: { pass.number ≡ ledger_seat },
     ghost out: { pass.out ≡ [] },
+    ghost kin: { pass.kin ≡ [] },
     ghost may: { (top : List ℕ) → top_in shelf ≡ Some top → MayFinish pass top },
 }
 
@@ -353,6 +354,7 @@ impl<D: Disk, N: Store> Ledger<D, N> {
         ensures pass { result.1 ≡ self.pass }
         ensures ledger { (result.1.live ≡ true) × (result.1.number ≡ ledger_seat)
             × (result.1.out ≡ []) }
+        ensures kin { result.1.kin ≡ [] }
         ensures may { (top : List ℕ) → top_in self.shelf ≡ Some top → MayFinish result.1 top }
     {
         (self.shelf.into_disk(), self.pass)

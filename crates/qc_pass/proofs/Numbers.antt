@@ -421,19 +421,19 @@ has_without n k (x ∷ xs) (suc i) ne e = go (x == n) (has_without n k xs i ne e
     go true h = h
     go false h = (suc h.0, h.1)
 
-has_left : {A : Type 0} (xs ys : List A) (x : A) → Has xs x → Has (xs ++ ys) x
+pub has_left : {A : Type 0} (xs ys : List A) (x : A) → Has xs x → Has (xs ++ ys) x
 has_left xs ys x h = (h.0, at_longer xs ys h.0 x h.1)
 
 has_right : {A : Type 0} (xs ys : List A) (x : A) → Has ys x → Has (xs ++ ys) x
 has_right [] ys x h = h
 has_right (y ∷ xs) ys x h = let r = has_right xs ys x h in (suc r.0, r.1)
 
-has_both : {A : Type 0} (xs ys : List A) (x : A) (k : ℕ) → get_elem? (xs ++ ys) k ≡ some x → Has xs x ⊎ Has ys x
+pub has_both : {A : Type 0} (xs ys : List A) (x : A) (k : ℕ) → get_elem? (xs ++ ys) k ≡ some x → Has xs x ⊎ Has ys x
 has_both [] ys x k e = inr (k, e)
 has_both (y ∷ xs) ys x zero e = inl (0, e)
 has_both (y ∷ xs) ys x (suc k) e = ⊎_elim (λ t. inl (suc t.0, t.1)) (λ t. inr t) (has_both xs ys x k e)
 
-has_cons : {A : Type 0} (y x : A) (xs : List A) (k : ℕ) → get_elem? (y ∷ xs) k ≡ some x → (y ≡ x) ⊎ Has xs x
+pub has_cons : {A : Type 0} (y x : A) (xs : List A) (k : ℕ) → get_elem? (y ∷ xs) k ≡ some x → (y ≡ x) ⊎ Has xs x
 has_cons y x xs zero e = inl (some-injective y x e)
 has_cons y x xs (suc k) e = inr (k, e)
 

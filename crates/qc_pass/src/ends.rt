@@ -1,6 +1,7 @@
-//! The calls with which a client commits, aborts, and looks whether a name has ended.
+//! The calls with which a client commits, aborts, and looks whether a name has ended, or is dead.
 ghost use Rattle.std.specs.Prelude.{◌≡◌, OnOk, IfErr};
 ghost use Rattle.qc_event.specs.Aborts.{Licensed};
+ghost use Rattle.qc_event.specs.Dead.{dead};
 ghost use Rattle.qc_event.specs.declared.event.Event.TheVariants as event;
 ghost use Rattle.qc_event.specs.declared.event.How.TheVariants.{Commit as Commits, Abort as Aborts};
 ghost use Rattle.qc_event.specs.History.{end};
@@ -81,5 +82,15 @@ impl<N: Store> Desk<N> {
         let mut locked = self.locked.lock(rt);
         locked.look(&self.room, pass);
         locked.end(name)
+    }
+
+    /// The shortest aborted ancestor of a name, itself among them, in the history at this step; none exactly where none is.
+    pub fn dead<R: Wait>(&self, rt: &R, pass: &mut Pass<N>, name: &Name) -> Option<Name>
+        ensures looked { Shown pass.old pass.new }
+        ensures dead { result ≡ dead pass.new.seen name.now }
+    {
+        let mut locked = self.locked.lock(rt);
+        locked.look(&self.room, pass);
+        locked.dead(name)
     }
 }

@@ -51,6 +51,7 @@ pub record HasNoGrant (copy : ℕ) (v w : View) : Type 0 where
   pub live : w.live ≡ v.live
   pub number : w.number ≡ v.number
   pub out : w.out ≡ v.out
+  pub kin : w.kin ≡ v.kin
 
 module _ (setting : Setting) (copy : ℕ) (v w : View) (legal : Legal setting w.seen) (more : HasNoGrant copy v w) where
   here : Legal setting (more.newer ++ v.seen)
@@ -75,6 +76,7 @@ module _ (setting : Setting) (copy : ℕ) (v w : View) (legal : Legal setting w.
     live = more.live ∙ was.live;
     number = more.number ∙ was.number;
     out = more.out ∙ was.out;
+    kin = more.kin ∙ was.kin;
     starts = was.starts;
     kept = by_table table was.kept;
     may = by_hand hand was.may;
@@ -100,6 +102,7 @@ looked_none setting copy v w number legal looked =
       live = ap (λ (x : View). x.live) looked.1;
       number = ap (λ (x : View). x.number) looked.1;
       out = ap (λ (x : View). x.out) looked.1;
+      kin = ap (λ (x : View). x.kin) looked.1;
     }
 
 pub shown_looked : (v w : View) → v.live ≡ true → Shown v w → Looked v w
@@ -113,6 +116,7 @@ left_none setting copy v w number legal (inl is) = record {
   live = ap (λ (x : View). x.live) is;
   number = ap (λ (x : View). x.number) is;
   out = ap (λ (x : View). x.out) is;
+  kin = ap (λ (x : View). x.kin) is;
 }
 left_none setting copy v w number legal (inr looked) = looked_none setting copy v w number legal looked
 
@@ -127,6 +131,7 @@ entered_none setting copy v w ev before number legal nothing since is =
       live = ap (λ (x : View). x.live) is;
       number = ap (λ (x : View). x.number) is;
       out = ap (λ (x : View). x.out) is;
+      kin = ap (λ (x : View). x.kin) is;
     }
 
 pub told_none : (setting : Setting) (copy : ℕ) (v w : View) (ask : Ask) (said : Verdict) → v.number ≡ copy_seat copy → Legal setting w.seen → IsTold setting ask v w said → HasNoGrant copy v w
@@ -182,6 +187,7 @@ module _ (setting : Setting) (copy : ℕ) (v w : View) (g : Grant) (start : List
     live = ap (λ (x : View). x.live) enters.3 ∙ was.live;
     number = ap (λ (x : View). x.number) enters.3 ∙ was.number;
     out = ap (λ (x : View). x.out) enters.3 ∙ was.out;
+    kin = ap (λ (x : View). x.kin) enters.3 ∙ was.kin;
     starts = was.starts;
     kept = is;
     may = tt;
@@ -201,6 +207,7 @@ kept_asked setting copy v w start table new hand now more kept may room was = re
   live = more.live ∙ was.live;
   number = more.number ∙ was.number;
   out = more.out ∙ was.out;
+  kin = more.kin ∙ was.kin;
   starts = was.starts;
   kept = kept;
   may = may;
@@ -249,6 +256,7 @@ kept_restored setting copy v start table hand new none is was = record {
   live = was.live;
   number = was.number;
   out = was.out;
+  kin = was.kin;
   starts = was.starts;
   kept = is;
   may = was.may;

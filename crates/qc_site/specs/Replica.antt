@@ -29,12 +29,13 @@ pub record IsTableOf (start : List Tuple) (past : Past) (copy : ℕ) (table : Lo
   pub follows : Follows past (grants past copy) table.locks
   pub repeats : AreOf table.repeats (grants past copy)
 
--- What a copy keeps: its number, that no pass is out, its start, its locks where it is up, and that the grant in hand may be made.
+-- What a copy keeps: its number, that no pass is out and none was joined, its start, its locks where it is up, and that the grant in hand may be made.
 pub record IsKept (setting : Setting) (copy : ℕ) (pass : View) (start : List Tuple) (table : Option LockTable) (hand : Option Grant) : Type 0 where
   pub small : copy < 16
   pub live : pass.live ≡ true
   pub number : pass.number ≡ copy_seat copy
   pub out : pass.out ≡ []
+  pub kin : pass.kin ≡ []
   pub starts : start ≡ slice_index_or setting.base copy []
   pub kept : IfSome table (IsTableOf start pass.seen copy)
   pub may : IfSome hand (MayGrant setting pass.seen (copy_seat copy) copy)

@@ -48,7 +48,7 @@ impl<D: Disk> Mounted<D> {
         self.start.tuples()
     }
 
-    /// The site of a desk, which a pass with the copy's number enters that has entered nothing and has no pass out. Where each image has the
+    /// The site of a desk, which a pass with the copy's number enters that has entered nothing and has no pass out and none joined. Where each image has the
     /// records, it keeps what the copy granted in this run, which is nothing.
     pub fn enter<N: Store, const C: u8>(self, pass: Pass<N>) -> Site<D, N, C>
         requires copy { copy_of self ≡ C }
@@ -56,6 +56,7 @@ impl<D: Disk> Mounted<D> {
         requires copies { copies_of self ≡ length N.base }
         requires pass { (pass.live ≡ true) × (pass.number ≡ copy_seat C) }
         requires fresh { (pass.mine ≡ []) × (pass.out ≡ []) }
+        requires none_joined { pass.kin ≡ [] }
         requires start { start_of self ≡ slice_index_or N.base C [] }
         ensures up { result.replica.up ≡ true }
         ensures none { result.replica.hand ≡ None }

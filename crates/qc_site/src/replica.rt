@@ -56,6 +56,7 @@ impl<N: Store, const C: u8> Replica<N, C> {
         requires small { C < 16 }
         requires pass { (pass.live ≡ true) × (pass.number ≡ copy_seat C) }
         requires none_out { pass.out ≡ [] }
+        requires none_joined { pass.kin ≡ [] }
         requires nothing { grants pass.seen C ≡ [] }
         requires starts { start.items ≡ slice_index_or N.base C [] }
         requires table { IsTableOf start.items pass.seen C table }
@@ -126,6 +127,7 @@ impl<N: Store, const C: u8> Replica<N, C> {
     pub(crate) fn into_pass(self) -> Pass<N>
         ensures pass { result ≡ self.pass }
         ensures copy { (result.live ≡ true) × (result.number ≡ copy_seat C) × (result.out ≡ []) }
+        ensures kin { result.kin ≡ [] }
         ensures may { IfSome self.hand (MayGrant (setting_of N.table N.base) self.pass.seen
             (copy_seat C) C) }
     {

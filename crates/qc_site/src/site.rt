@@ -246,6 +246,7 @@ impl<D: Disk, N: Store, const C: u8> Site<D, N, C> {
         ensures pass { result.1 ≡ self.replica.pass }
         ensures copy { (result.1.live ≡ true) × (result.1.number ≡ copy_seat C)
             × (result.1.out ≡ []) }
+        ensures kin { result.1.kin ≡ [] }
         ensures may { IfSome self.replica.hand (MayGrant (setting_of N.table N.base)
             self.replica.pass.seen (copy_seat C) C) }
     {

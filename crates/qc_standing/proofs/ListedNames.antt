@@ -165,7 +165,7 @@ below_fits x most (y ∷ z ∷ rest) first fit below numbered small short =
 
 -- TOPS
 
-module _ (setting : Setting) (past : Past) (epoch : ℕ) (legal : Legal setting past) (few : length past ≤ limit) (of_epoch : IsOfEpoch epoch past) (small : epoch < 2 ^ 32) where
+module _ (setting : Setting) (past : Past) (legal : Legal setting past) (few : length past ≤ limit) where
   -- who was aborted was started
   aborted_started : (n : Name) → WasAborted past n → is_some (start past n) ≡ true
   aborted_started n was = (lawful past (legal_orderly setting past legal)).end_has_start n (some_end (end past n) was)
@@ -181,10 +181,7 @@ module _ (setting : Setting) (past : Past) (epoch : ℕ) (legal : Legal setting 
       by_start None at h = absurd (true≢false (sym h))
       by_start (Some b) at h = started_short setting past n b legal at
 
-  module _ (x : ℕ) (began : is_some (start past (x ∷ [])) ≡ true) where
-    first_small : x < 2 ^ 64
-    first_small = let of = of_epoch x began in omega (arith, of, small)
-
+  module _ (x : ℕ) (first_small : x < 2 ^ 64) (began : is_some (start past (x ∷ [])) ≡ true) where
     abbrev Told : Name → Type 0
     Told n = IsBelow (x ∷ []) n × WasAborted past n
 
@@ -198,11 +195,15 @@ module _ (setting : Setting) (past : Past) (epoch : ℕ) (legal : Legal setting 
     both (n ∷ ns) below aborted = All-cons Told n ns (All-head (IsBelow (x ∷ [])) n ns below, All-head (WasAborted past) n ns aborted) (both ns (All-tail (IsBelow (x ∷ [])) n ns below) (All-tail (WasAborted past) n ns aborted))
 
     -- the record of a started top, with the names that are listed of it, fits
-    pub top_fits : body.ledger.fits (Top (x ∷ []) (listed past (x ∷ [])))
+    pub number_top_fits : body.ledger.fits (Top (x ∷ []) (listed past (x ∷ [])))
     unfolding body.ledger body.top word
-    top_fits =
+    number_top_fits =
         let numbered = started_numbered setting past (x ∷ []) legal began in
         let count = listed_few past (x ∷ []) in (
           number_fits x first_small numbered.0 numbered.1,
           ((omega (arith, count, few), (refl, All-weaker Told (body.below x).fits told_fits (listed past (x ∷ [])) (both (listed past (x ∷ [])) (listed_below past (x ∷ [])) (listed_aborted setting past (x ∷ []) legal)))), tt),
         )
+
+-- so does that of a top of an epoch
+pub top_fits : (setting : Setting) (past : Past) (epoch : ℕ) → Legal setting past → length past ≤ limit → IsOfEpoch epoch past → epoch < 2 ^ 32 → (x : ℕ) → is_some (start past (x ∷ [])) ≡ true → body.ledger.fits (Top (x ∷ []) (listed past (x ∷ [])))
+top_fits setting past epoch legal few of_epoch small x began = let of = of_epoch x began in number_top_fits setting past legal few x (omega (arith, of, small)) began

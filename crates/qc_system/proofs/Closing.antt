@@ -5,7 +5,6 @@ use Rattle.std.specs.Prelude.{◌⊎◌, nat_lt, Some, slice_get}
 use Rattle.std.proofs.Math.Logic.{∥∥₁_map}
 use Rattle.std.proofs.Math.Nat.{min-eq_left, min-eq_right}
 use Rattle.std.proofs.lemmas.List.{length-append}
-use Rattle.atomic_table.proofs.Lists.{at_longer}
 use Rattle.qc_disk.specs.Disk.{View as Disk}
 use Rattle.qc_event.specs.Base.{Setting}
 use Rattle.qc_event.specs.History.{Past}
@@ -14,6 +13,7 @@ use Rattle.qc_event.specs.Seats.{copy_seat, ledger_seat}
 use Rattle.qc_pass.specs.declared.view.View.{View}
 use Rattle.qc_pass.specs.Entries.{IsOlder, entries_of}
 use Rattle.qc_pass.specs.Rules.{Has, IsSettled, joined, knows, without}
+use Rattle.qc_pass.proofs.Numbers.{has_left}
 use Rattle.qc_pass.proofs.Seers.{older_trans}
 use Rattle.qc_system.specs.Closing.{AllKeep, CopyKeeps, DiskKeeps, HaveLeft, Keeping, LedgerKeeps, WasLeft}
 use Rattle.qc_system.specs.Kept.{Pays, downs}
@@ -29,9 +29,6 @@ module _ {A : Type 0} where
   get_last : (xs : List A) (x : A) → slice_get (xs ++ x ∷ []) (length xs) ≡ Some x
   get_last [] x = refl
   get_last (y ∷ xs) x = get_last xs x
-
-  has_left : (xs ys : List A) (x : A) → Has xs x → Has (xs ++ ys) x
-  has_left xs ys x h = (h.0, at_longer xs ys h.0 x h.1)
 
   has_next : (xs ys : List A) (x : A) → Has (xs ++ x ∷ ys) x
   has_next [] ys x = (0, refl)

@@ -1,4 +1,5 @@
 pub mod Closing
+pub mod Joining
 pub mod Left
 pub mod Listed
 pub mod Opening

@@ -35,6 +35,7 @@ opens_next v w n opening is = subst (λ x. IsOpening x (n + 1)) (sym is) (record
   out = opening.out;
   mine = opening.mine;
   kin = opening.kin;
+  seen = opening.seen;
 })
 
 -- where no copy waits, none does behind
@@ -49,4 +50,4 @@ first_waits found c (m ∷ ms) d some waiting = waiting.1.0
 
 -- a pass that was just named has given nothing away
 pub named_opens : (v : View) → v ≡ pass 0 [] → IsOpening v 0
-named_opens v is = subst (λ x. IsOpening x 0) (sym is) (record { live = refl; number = refl; given = refl; out = refl; mine = refl; kin = refl })
+named_opens v is = subst (λ x. IsOpening x 0) (sym is) (record { live = refl; number = refl; given = refl; out = refl; mine = refl; kin = refl; seen = refl })

@@ -4,12 +4,14 @@ use Rattle.qc_config.specs.declared.tuple.Tuple.{Tuple}
 use Rattle.qc_disk.specs.declared.disk.Disk.{Ghosts}
 use Rattle.qc_journal.specs.Journal.{disk_of, Keeps}
 use Rattle.qc_journal.specs.declared.journal.Journal.{Journal}
+use Rattle.qc_event.specs.History.{Past}
 use Rattle.qc_pass.specs.declared.view.View.{View}
+use Rattle.qc_pass.specs.Rules.{Has}
 use Rattle.qc_site.specs.Mounted.{copies_of, copy_of, journal_of, records_of}
 use Rattle.qc_site.specs.Start.{start_of}
 use Rattle.qc_site.specs.declared.mounted.Mounted.{Mounted}
 
--- The first pass has given so many passes away, and has done nothing else.
+-- The first pass has given so many passes away, has done nothing else, and has seen nothing.
 pub record IsOpening (v : View) (count : ℕ) : Type 0 where
   pub live : v.live ≡ true
   pub number : v.number ≡ 0
@@ -17,10 +19,18 @@ pub record IsOpening (v : View) (count : ℕ) : Type 0 where
   pub out : v.out ≡ []
   pub mine : v.mine ≡ []
   pub kin : v.kin ≡ []
+  pub seen : v.seen ≡ []
 
 -- the first pass, with all its passes joined back but those of the ledger and the copies
 abbrev pub IsClosing : View → Type 0
 IsClosing v = (v.live ≡ true) × (v.number ≡ 0) × (v.out ≡ [])
+
+-- What the ledger's pass and the copies' add to the first one: it has entered nothing more, who was joined before still is,
+-- and no other client is.
+pub record JoinsLow (v w : View) : Type 0 where
+  pub mine : w.mine ≡ v.mine
+  pub still : (k : ℕ) (own : Past) → Has v.kin (k, own) → Has w.kin (k, own)
+  pub no_other : (k : ℕ) (own : Past) → 17 < k → Has w.kin (k, own) → Has v.kin (k, own)
 
 -- a copy is there where there are more copies than its number
 abbrev pub IsThere : ℕ → ℕ → Bool → Type 0

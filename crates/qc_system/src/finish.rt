@@ -7,7 +7,7 @@ ghost use Rattle.qc_event.specs.Tables.{setting_of};
 ghost use Rattle.qc_pass.specs.Entries.{IsOlder};
 ghost use Rattle.qc_pass.specs.Rules.{IsSettled};
 ghost use Rattle.qc_system.specs.Closing.{AllKeep, HaveLeft};
-ghost use Rattle.qc_system.specs.Parts.{IsClosing, IsThere};
+ghost use Rattle.qc_system.specs.Parts.{IsClosing, IsThere, JoinsLow};
 
 use crate::held::Held;
 use crate::mounting::Mounting;
@@ -41,6 +41,7 @@ fn leave_at<D: Disk + Drop, N: Mounting, const C: u8, R: Wait>(
         first.old }
     ensures first { IsClosing first.new }
     ensures seen { IsOlder first.old.seen first.new.seen }
+    ensures low { JoinsLow first.old first.new }
     ensures room { 17 ≤ vec_capacity disks.new }
     ensures left { HaveLeft (setting_of N.table N.base) (record {
       base = N.base;
@@ -66,13 +67,15 @@ macro_rules! leave_all {
 
 impl<D: Disk + Drop, N: Mounting> System<D, N> {
     /// The start tuples, the history, the oldest entry first, and the disks, the ledger's first: what each keeps is what
-    /// was found on it, and then what the history tells. It takes no memory.
+    /// was found on it, and then what the history tells. Each entry of a client is the first pass's own, or that of one
+    /// that was joined into it. It takes no memory.
     pub fn finish<R: Wait>(self, rt: &R, first: Pass<N>) -> (Base, Vec<Entry>, Vec<D>)
         requires first { IsClosing first }
         ensures base { result.0 ≡ N.base }
         ensures legal { Legal (setting_of N.table N.base) (reverse result.1.items) }
         ensures bounded { length result.1.items ≤ limit }
         ensures seen { IsOlder first.seen (reverse result.1.items) }
+        ensures settled { IsSettled (reverse result.1.items) first }
         ensures disks { AllKeep (setting_of N.table N.base) (record {
           base = N.base;
           told = N.told;

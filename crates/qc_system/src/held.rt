@@ -42,6 +42,7 @@ impl<D: Disk + Drop, N: Mounting, const C: u8> Held<D, N, C> {
         requires small { C < 16 }
         requires pass { (pass.live ≡ true) × (pass.number ≡ copy_seat C) }
         requires fresh { (pass.mine ≡ []) × (pass.out ≡ []) }
+        requires none_joined { pass.kin ≡ [] }
         requires mounted { IsMounted (record {
           base = N.base;
           told = N.told;
@@ -92,6 +93,7 @@ impl<D: Disk + Drop, N: Mounting, const C: u8> Held<D, N, C> {
     pub(crate) fn leave(self) -> (D, Pass<N>)
         ensures pass { (result.1.live ≡ true) × (result.1.number ≡ copy_seat C)
             × (result.1.out ≡ []) }
+        ensures kin { result.1.kin ≡ [] }
         ensures legal { Legal (setting_of N.table N.base) result.1.seen }
         ensures own { result.1.mine ≡ entries_of (copy_seat C) result.1.seen }
         ensures kept { CopyKeeps (setting_of N.table N.base) (record {

@@ -74,7 +74,7 @@ impl<D: Disk + Drop, N: Mounting> HeldLedger<D, N> {
     /// A ledger that was mounted, which a pass with the ledger's number enters that has entered nothing.
     pub(crate) fn new(book: Book<Boxed<D>>, pass: Pass<N>) -> Self
         requires ledger { (pass.live ≡ true) × (pass.number ≡ ledger_seat) × (pass.out ≡ []) }
-        requires fresh { pass.mine ≡ [] }
+        requires fresh { (pass.mine ≡ []) × (pass.kin ≡ []) }
         requires found { IsFound (N.told 0) (N.before 0) (N.faults 0) (records_of book)
             (journal_of book) }
     {
@@ -107,6 +107,7 @@ impl<D: Disk + Drop, N: Mounting> HeldLedger<D, N> {
     pub(crate) fn leave(self) -> (D, Pass<N>)
         ensures pass { (result.1.live ≡ true) × (result.1.number ≡ ledger_seat)
             × (result.1.out ≡ []) }
+        ensures kin { result.1.kin ≡ [] }
         ensures legal { Legal (setting_of N.table N.base) result.1.seen }
         ensures own { result.1.mine ≡ entries_of ledger_seat result.1.seen }
         ensures kept { LedgerKeeps (setting_of N.table N.base) (record {

@@ -74,6 +74,7 @@ impl<D: Disk + Drop, N: Mounting> System<D, N> {
           faults = N.faults;
         }) 0 parts.copies.items }
         ensures first { IsOpening result.1 17 }
+        ensures epoch { result.0.desk.epoch ≡ parts.blank.epoch }
     {
         let Parts {
             blank,

@@ -130,7 +130,9 @@ fn crash_at<D: Disk + Drop, N: Mounting, const C: u8, R: Wait>(
 
 impl<D: Disk + Drop, N: Mounting> System<D, N> {
     /// The desk.
-    pub fn desk(&self) -> &Desk<N> {
+    pub fn desk(&self) -> &Desk<N>
+        ensures { result.now ≡ self.now.desk }
+    {
         &self.desk
     }
 

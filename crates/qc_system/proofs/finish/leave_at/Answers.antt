@@ -1,10 +1,11 @@
 -- One more copy leaves, where it is there.
-use Rattle.std.proofs.Common.{◌<◌, ◌≤◌, ◌++◌, ◌∷◌, ap, ◌∙◌, subst}
+use Rattle.std.proofs.Common.{◌<◌, ◌≤◌, ◌++◌, ◌∷◌, ap, ◌∙◌, subst, arith}
 use Rattle.std.specs.Prelude.{is_some}
 use Rattle.qc_event.specs.Tables.{setting_of}
 use Rattle.qc_pass.specs.declared.view.View.{View}
 use Rattle.qc_system.specs.Parts.{Findings}
 use Rattle.qc_system.proofs.Closing.{is_below, is_past, no_more, one_more}
+use Rattle.qc_system.proofs.Joining.{joins_low, low_itself}
 use Rattle.qc_system.proofs.finish.leave_at.Goals as goal
 
 pub returns-in-Some-clause-left : goal.returns-in-Some-clause-left
@@ -21,3 +22,10 @@ returns-in_default-clause-left g c =
     let found : Findings = record { base = g.N.Store.base; told = g.N.Mounting.told; before = g.N.Mounting.before; faults = g.N.Mounting.faults } in
     no_more (setting_of g.N.Store.table g.N.Store.base) found g.D.Disk.view g.row.C c.args.disks.now.items c.args.first.now
     (subst (λ n. n ≤ g.row.C) c.requires.whole (is_past g.row.C c.args.all (is_some c.args.site) (ap is_some c.in_default.is) c.requires.there)) c.requires.left
+
+pub returns-in-Some-clause-low : goal.returns-in-Some-clause-low
+returns-in-Some-clause-low g c =
+    joins_low c.args.first.now c.leave-disk.result.1 c.join.new.pass (omega (arith, c.leave-disk.ensures.pass.1, c.requires.low)) c.leave-disk.ensures.kin c.join.ensures.joined
+
+pub returns-in_default-clause-low : goal.returns-in_default-clause-low
+returns-in_default-clause-low g c = low_itself c.args.first.now

@@ -21,7 +21,10 @@ new-requires g c =
           (ap (λ (v : View). v.live) given, number),
           (
             (ap (λ (v : View). v.mine) given, ap (λ (v : View). v.out) given),
-            subst (IsMounted found g.row.C) (sym c.remove-mounted.ensures.value) (first_waits found g.row.C copies c.remove-mounted.result some c.requires.waiting),
+            (
+              ap (λ (v : View). v.kin) given,
+              subst (IsMounted found g.row.C) (sym c.remove-mounted.ensures.value) (first_waits found g.row.C copies c.remove-mounted.result some c.requires.waiting),
+            ),
           ),
         ),
       ),

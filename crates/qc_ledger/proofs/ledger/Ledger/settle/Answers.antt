@@ -18,5 +18,6 @@ invariant_of-self-in-Err-1 g c =
       live = ap (λ (v : View). v.live) is ∙ ap (λ (v : View). v.live) same ∙ c.args.self.now.live;
       number = ap (λ (v : View). v.number) is ∙ ap (λ (v : View). v.number) same ∙ c.args.self.now.number;
       out = ap (λ (v : View). v.out) is ∙ ap (λ (v : View). v.out) same ∙ c.args.self.now.out;
+      kin = ap (λ (v : View). v.kin) is ∙ ap (λ (v : View). v.kin) same ∙ c.args.self.now.kin;
       may = λ top here. may_still old new top (ap (λ (v : View). v.mine) is ∙ ap (λ (v : View). v.mine) same) older (c.args.self.now.may top here);
     }

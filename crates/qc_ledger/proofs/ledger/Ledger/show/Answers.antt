@@ -10,5 +10,6 @@ invariant_of-self g c =
       live = kept.live ∙ c.args.self.now.live;
       number = kept.number ∙ c.args.self.now.number;
       out = kept.out ∙ c.args.self.now.out;
+      kin = kept.kin ∙ c.args.self.now.kin;
       may = λ top here. kept.still top (c.args.self.now.may top here);
     }

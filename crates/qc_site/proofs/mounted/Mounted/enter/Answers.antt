@@ -26,10 +26,13 @@ new-requires g c =
           (
             c.requires.fresh.1,
             (
-              nothing,
+              c.requires.none_joined,
               (
-                start ∙ c.requires.start,
-                subst (λ (row : List Tuple). IsTableOf row c.args.pass.seen g.row.C c.into_parts-start.result.1) (sym start) (c.into_parts-start.ensures.table c.args.pass.seen g.row.C nothing),
+                nothing,
+                (
+                  start ∙ c.requires.start,
+                  subst (λ (row : List Tuple). IsTableOf row c.args.pass.seen g.row.C c.into_parts-start.result.1) (sym start) (c.into_parts-start.ensures.table c.args.pass.seen g.row.C nothing),
+                ),
               ),
             ),
           ),

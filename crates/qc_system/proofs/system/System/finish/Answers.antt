@@ -6,6 +6,7 @@ use Rattle.qc_pass.specs.Entries.{IsOlder}
 use Rattle.qc_pass.proofs.Seers.{older_trans}
 use Rattle.qc_system.specs.Parts.{Findings}
 use Rattle.qc_system.proofs.Closing.{all_left, closing_still, ledger_left}
+use Rattle.qc_system.proofs.Joining.{joins_low, low_by_both, settled_before}
 use Rattle.qc_system.proofs.system.System.finish.Goals as goal
 
 pub leave_at-requires : goal.leave_at-requires
@@ -106,3 +107,25 @@ returns-clause-seen g c =
     let s15 = older_trans c.args.first.seen c.leave_at-14.new.first.seen c.leave_at-15.new.first.seen s14 c.leave_at-15.ensures.seen in
     let s16 = older_trans c.args.first.seen c.leave_at-15.new.first.seen c.leave_at-16.new.first.seen s15 c.leave_at-16.ensures.seen in
     older_trans c.args.first.seen c.leave_at-16.new.first.seen (reverse c.close-base.result.1.items) s16 c.close-base.ensures.settled.0
+
+pub returns-clause-settled : goal.returns-clause-settled
+returns-clause-settled g c =
+    let out = c.leave-disk.result in
+    let l0 = joins_low c.args.first out.1 c.join.new.pass (omega (arith, c.leave-disk.ensures.pass.1)) c.leave-disk.ensures.kin c.join.ensures.joined in
+    let l1 = low_by_both c.args.first c.join.new.pass c.leave_at.new.first l0 c.leave_at.ensures.low in
+    let l2 = low_by_both c.args.first c.leave_at.new.first c.leave_at-2.new.first l1 c.leave_at-2.ensures.low in
+    let l3 = low_by_both c.args.first c.leave_at-2.new.first c.leave_at-3.new.first l2 c.leave_at-3.ensures.low in
+    let l4 = low_by_both c.args.first c.leave_at-3.new.first c.leave_at-4.new.first l3 c.leave_at-4.ensures.low in
+    let l5 = low_by_both c.args.first c.leave_at-4.new.first c.leave_at-5.new.first l4 c.leave_at-5.ensures.low in
+    let l6 = low_by_both c.args.first c.leave_at-5.new.first c.leave_at-6.new.first l5 c.leave_at-6.ensures.low in
+    let l7 = low_by_both c.args.first c.leave_at-6.new.first c.leave_at-7.new.first l6 c.leave_at-7.ensures.low in
+    let l8 = low_by_both c.args.first c.leave_at-7.new.first c.leave_at-8.new.first l7 c.leave_at-8.ensures.low in
+    let l9 = low_by_both c.args.first c.leave_at-8.new.first c.leave_at-9.new.first l8 c.leave_at-9.ensures.low in
+    let l10 = low_by_both c.args.first c.leave_at-9.new.first c.leave_at-10.new.first l9 c.leave_at-10.ensures.low in
+    let l11 = low_by_both c.args.first c.leave_at-10.new.first c.leave_at-11.new.first l10 c.leave_at-11.ensures.low in
+    let l12 = low_by_both c.args.first c.leave_at-11.new.first c.leave_at-12.new.first l11 c.leave_at-12.ensures.low in
+    let l13 = low_by_both c.args.first c.leave_at-12.new.first c.leave_at-13.new.first l12 c.leave_at-13.ensures.low in
+    let l14 = low_by_both c.args.first c.leave_at-13.new.first c.leave_at-14.new.first l13 c.leave_at-14.ensures.low in
+    let l15 = low_by_both c.args.first c.leave_at-14.new.first c.leave_at-15.new.first l14 c.leave_at-15.ensures.low in
+    let l16 = low_by_both c.args.first c.leave_at-15.new.first c.leave_at-16.new.first l15 c.leave_at-16.ensures.low in
+    settled_before c.args.first c.leave_at-16.new.first (reverse c.close-base.result.1.items) l16 c.close-base.ensures.settled.1

@@ -1,0 +1,12 @@
+-- The line stays one: the ledger acted, and its client has seen it.
+use Rattle.qc_carry.proofs.Acting.{none_still}
+use Rattle.qc_event.specs.Tables.{setting_of}
+use Rattle.qc_net.specs.Courier.{held_of, link_of}
+use Rattle.qc_carry.proofs.line.Line.log.Goals as goal
+
+pub invariant_of-self : goal.invariant_of-self
+invariant_of-self g c =
+    let line = c.args.self.now in
+    let w = c.log.new.pass in
+    let still = none_still (setting_of g.N.Store.table g.N.Store.base) line.pass w line.client c.log.ensures.legal (g.L.Link.view (link_of line.courier)).plan (held_of line.courier) line.patience line.torn line.held line.keeps c.log.ensures.walk in
+    record { client = still.0; legal = ∣ c.log.ensures.legal ∣₁; held = still.1; keeps = still.2 }

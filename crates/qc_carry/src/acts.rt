@@ -1,0 +1,163 @@
+//! What a client does at the desk, on its line. None of it is of an access, so what was sent and what is held stay.
+ghost use Rattle.std.specs.Prelude.{◌≡◌, ◌+◌, [], ◌∷◌, ◌≤◌, ◌++◌, true, length, is_some, IsTrue, OnOk, IfOk, IfErr};
+ghost use Rattle.qc_carry.specs.Acting.{IsNoAccess};
+ghost use Rattle.qc_carry.specs.Walk.{Walk};
+ghost use Rattle.qc_codec.specs.Bodies as body;
+ghost use Rattle.qc_codec.specs.declared.record.LedgerRecord.TheVariants.{Top};
+ghost use Rattle.qc_event.specs.Aborts.{Licensed};
+ghost use Rattle.qc_event.specs.Dead.{dead};
+ghost use Rattle.qc_event.specs.declared.event.Event.TheVariants as event;
+ghost use Rattle.qc_event.specs.declared.event.How.TheVariants.{Commit as Commits, Abort as Aborts};
+ghost use Rattle.qc_event.specs.declared.event.Kind.TheVariants as kind;
+ghost use Rattle.qc_event.specs.History.{children, end, is_ready, limit, start};
+ghost use Rattle.qc_event.specs.Listed.{listed};
+ghost use Rattle.qc_event.specs.Seats as seats;
+ghost use Rattle.qc_event.specs.Standing.{Started};
+ghost use Rattle.qc_event.specs.Starts.{Stands};
+ghost use Rattle.qc_event.specs.Tables.{setting_of};
+ghost use Rattle.qc_pass.specs.Calling.{EnteredAs, Entered, Refused, Shown};
+ghost use Rattle.qc_pass.specs.Own.{CommitsOwn};
+ghost use Rattle.qc_pass.specs.Refusing.{against_abort, against_child, against_commit, against_nothing, against_ready};
+ghost use Rattle.qc_system.specs.Kept.{HasRefused};
+
+use crate::desk_calls;
+use crate::line::Line;
+use qc_disk::Disk;
+use qc_event::{Answer, Cause, How, Kind, Name};
+use qc_ledger::LedgerNo;
+use qc_net::Link;
+use qc_pass::DeskNo;
+use qc_system::Mounting;
+use std::sync::Wait;
+
+impl<'a, R: Wait, D: Disk + Drop, L: Link + Drop, N: Mounting> Line<'a, R, D, L, N> {
+    /// Starts the next top, for a session with a body. The only errors are want of memory and of room.
+    pub fn start_top(&mut self, session: u8, body: u32) -> Result<Name, DeskNo>
+        ensures ok { IfOk result (λ n. EnteredAs against_nothing
+            (λ past ev. (n ≡ seats.top_name self.old.system.now.desk.epoch
+            (length (children past []) + 1)) × (ev ≡ event.Start n (kind.User session body)))
+            self.old.pass self.new.pass) }
+        ensures err { IfErr result (Refused against_nothing self.old.pass self.new.pass) }
+        ensures rest { (self.new.courier ≡ self.old.courier)
+            × (self.new.patience ≡ self.old.patience) × (self.new.torn ≡ self.old.torn)
+            × (self.new.system ≡ self.old.system) }
+    {
+        desk_calls::start_top(self.rt, self.system.desk(), &mut self.pass, session, body)
+    }
+
+    /// Starts the next child of a name, for what may stand there. Refused where the parent has committed, is dead, or is
+    /// ready.
+    pub fn start(&mut self, parent: &Name, kind: Kind) -> Result<Name, DeskNo>
+        requires stands { Started self.old.pass.seen parent.now (λ p. Stands
+            (setting_of N.table N.base) self.old.pass.number p (length parent.now + 1) kind) }
+        ensures ok { IfOk result (λ n. EnteredAs (against_child parent.now)
+            (λ past ev. (n ≡ parent.now ++ (length (children past parent.now) + 1) ∷ [])
+            × (ev ≡ event.Start n kind)) self.old.pass self.new.pass) }
+        ensures err { IfErr result (Refused (against_child parent.now) self.old.pass
+            self.new.pass) }
+        ensures rest { (self.new.courier ≡ self.old.courier)
+            × (self.new.patience ≡ self.old.patience) × (self.new.torn ≡ self.old.torn)
+            × (self.new.system ≡ self.old.system) }
+    {
+        desk_calls::start(self.rt, self.system.desk(), &mut self.pass, parent, kind)
+    }
+
+    /// Commits a user transaction below a top, or a manager that is complete by what was seen. Refused where it has
+    /// ended, is dead, or has a child that has not ended.
+    pub fn end(&mut self, name: &Name, answer: &Answer) -> Result<(), DeskNo>
+        requires may { Started self.old.pass.seen name.now (λ b. CommitsOwn
+            (setting_of N.table N.base) self.old.pass.seen self.old.pass.number name.now
+            answer.now b b.kind) }
+        ensures ok { OnOk result (Entered (against_commit name.now)
+            (event.End name.now (Commits answer.now)) self.old.pass self.new.pass) }
+        ensures err { IfErr result (Refused (against_commit name.now) self.old.pass
+            self.new.pass) }
+        ensures rest { (self.new.courier ≡ self.old.courier)
+            × (self.new.patience ≡ self.old.patience) × (self.new.torn ≡ self.old.torn)
+            × (self.new.system ≡ self.old.system) }
+    {
+        desk_calls::end(self.rt, self.system.desk(), &mut self.pass, name, answer)
+    }
+
+    /// Aborts a user transaction or a manager for a cause that was seen to be licensed. Refused where it has ended, or is
+    /// ready.
+    pub fn abort(&mut self, name: &Name, cause: &Cause) -> Result<(), DeskNo>
+        requires no_access { Started self.old.pass.seen name.now (λ b. IsNoAccess b.kind) }
+        requires licensed { Started self.old.pass.seen name.now (λ b. Licensed
+            (setting_of N.table N.base) self.old.pass.seen self.old.pass.number name.now b
+            b.kind cause.now) }
+        ensures ok { OnOk result (Entered (against_abort name.now)
+            (event.End name.now (Aborts cause.now)) self.old.pass self.new.pass) }
+        ensures err { IfErr result (Refused (against_abort name.now) self.old.pass self.new.pass) }
+        ensures rest { (self.new.courier ≡ self.old.courier)
+            × (self.new.patience ≡ self.old.patience) × (self.new.torn ≡ self.old.torn)
+            × (self.new.system ≡ self.old.system) }
+    {
+        desk_calls::abort(self.rt, self.system.desk(), &mut self.pass, name, cause)
+    }
+
+    /// How a name ended, in the history at this step; none exactly where it has not.
+    pub fn ended(&mut self, name: &Name) -> Option<How>
+        ensures looked { Shown self.old.pass self.new.pass }
+        ensures end { result ≡ end self.new.pass.seen name.now }
+        ensures rest { (self.new.courier ≡ self.old.courier)
+            × (self.new.patience ≡ self.old.patience) × (self.new.torn ≡ self.old.torn)
+            × (self.new.system ≡ self.old.system) }
+    {
+        desk_calls::ended(self.rt, self.system.desk(), &mut self.pass, name)
+    }
+
+    /// The shortest aborted ancestor of a name, itself among them, in the history at this step; none exactly where none is.
+    pub fn dead(&mut self, name: &Name) -> Option<Name>
+        ensures looked { Shown self.old.pass self.new.pass }
+        ensures dead { result ≡ dead self.new.pass.seen name.now }
+        ensures rest { (self.new.courier ≡ self.old.courier)
+            × (self.new.patience ≡ self.old.patience) × (self.new.torn ≡ self.old.torn)
+            × (self.new.system ≡ self.old.system) }
+    {
+        desk_calls::dead(self.rt, self.system.desk(), &mut self.pass, name)
+    }
+
+    /// Looks at the history, which has no more entries than it takes.
+    pub fn look(&mut self)
+        ensures looked { Shown self.old.pass self.new.pass }
+        ensures bounded { length self.new.pass.seen ≤ limit }
+        ensures rest { (self.new.courier ≡ self.old.courier)
+            × (self.new.patience ≡ self.old.patience) × (self.new.torn ≡ self.old.torn)
+            × (self.new.system ≡ self.old.system) }
+    {
+        desk_calls::look(self.rt, self.system.desk(), &mut self.pass)
+    }
+
+    /// A top is ready: from then on it is not aborted. It tells the names that are listed of it. Refused where it has
+    /// ended, is ready, or has a child that has not ended.
+    pub fn ready(&mut self, top: &Name) -> Result<Vec<Name>, DeskNo>
+        requires started { (length top.now ≡ 1)
+            × (is_some (start self.old.pass.seen top.now) ≡ true) }
+        ensures ok { OnOk result (Entered (against_ready top.now) (event.Ready top.now)
+            self.old.pass self.new.pass) }
+        ensures list { IfOk result (λ found. found.items ≡ listed self.new.pass.seen top.now) }
+        ensures err { IfErr result (Refused (against_ready top.now) self.old.pass self.new.pass) }
+        ensures rest { (self.new.courier ≡ self.old.courier)
+            × (self.new.patience ≡ self.old.patience) × (self.new.torn ≡ self.old.torn)
+            × (self.new.system ≡ self.old.system) }
+    {
+        desk_calls::ready(self.rt, self.system.desk(), &mut self.pass, top)
+    }
+
+    /// The ledger logs a ready top, with the names that are listed of it.
+    pub fn log(&mut self, top: &Name, aborted: &[Name]) -> Result<(), LedgerNo>
+        requires is_top { length top.now ≡ 1 }
+        requires ready { IsTrue (is_ready self.old.pass.seen top.now) }
+        requires proper { body.ledger.fits (Top top.now aborted.now) }
+        requires listed { aborted.now ≡ listed self.old.pass.seen top.now }
+        ensures ended { OnOk result (IsTrue (is_some (end self.new.pass.seen top.now))) }
+        ensures refused { IfErr result (HasRefused self.new.pass.seen top.now) }
+        ensures walk { Walk self.old.pass self.new.pass [] }
+        ensures rest { (self.new.courier ≡ self.old.courier)
+            × (self.new.patience ≡ self.old.patience) × (self.new.torn ≡ self.old.torn)
+            × (self.new.system ≡ self.old.system) }
+    {
+        desk_calls::log(self.rt, self.system, &mut self.pass, top, aborted)
+    }
+}
