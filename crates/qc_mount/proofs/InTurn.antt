@@ -1,6 +1,6 @@
 -- Copies that are mounted one after another.
-use Rattle.std.proofs.Common.{◌≡◌, ℕ, ◌+◌, ◌<◌, ◌≤◌, List, [], ◌∷◌, ◌++◌, length, map, subst, sym, ap, refl, arith, inl, inr, ◌∙◌, add-one}
-use Rattle.std.specs.Prelude.{◌↔◌, Option, Some, IfSome}
+use Rattle.std.proofs.Common.{◌≡◌, ℕ, ◌+◌, ◌<◌, List, [], ◌∷◌, ◌++◌, length, map, subst, sym, ap, refl, arith, inl, inr, ◌∙◌, add-one}
+use Rattle.std.specs.Prelude.{◌↔◌, Some, IfSome}
 use Rattle.std.proofs.lemmas.List.{append-nil, append_assoc, length-append, map-append}
 use Rattle.qc_codec.specs.declared.image.BadImage.{BadImage}
 use Rattle.qc_codec.specs.declared.image.ImageFault.{ImageFault}
@@ -19,7 +19,7 @@ use Rattle.qc_mount.specs.Numbered.{EachFrom, PairsFrom}
 use Rattle.qc_mount.specs.Refusing.{AreLeft, FailedAt, IsBehind, IsReasonAmong, IsReasonAt, TellImages}
 use Rattle.qc_mount.specs.Waiting.{GoesBack, IsTaken}
 use Rattle.qc_mount.specs.declared.refusing.Reason.{Reason}
-use Rattle.qc_mount.proofs.Disks.{among_at, mounted_for, not_behind, not_failed, unmoved, unreached}
+use Rattle.qc_mount.proofs.Disks.{among_at, mounted_for, not_behind, not_failed, unreached}
 use Rattle.qc_mount.proofs.Numbered.{pairs_append, pairs_length, pairs_mapped, pairs_more, pairs_shifted}
 
 -- what a disk tells, and what those behind it do
@@ -30,7 +30,7 @@ pub told_rest : {A : Type 0} (o p : A) (os ps : List A) → o ∷ os ≡ p ∷ p
 told_rest o p os ps same = cc
 
 -- disk `copy + 1` is a copy's
-written_next : {D : Type 0} (view : D → View) (table : Table) (copy : ℕ) (Failed : Type 0) (old new : D) → IsMounted view (site.to_write copy table) Failed old new → IsMounted view (to_write table (copy + 1)) Failed old new
+pub written_next : {D : Type 0} (view : D → View) (table : Table) (copy : ℕ) (Failed : Type 0) (old new : D) → IsMounted view (site.to_write copy table) Failed old new → IsMounted view (to_write table (copy + 1)) Failed old new
 written_next view table copy Failed old new is = subst (λ n. IsMounted view (to_write table n) Failed old new) (sym (add-one copy)) is
 
 module _ {D : Type 0} {g : Ghosts D} (table : Table) (past : Past) (limit : ℕ) where

@@ -1,5 +1,5 @@
-mod Numbered
-mod Disks
-mod InTurn
-mod Stores
+pub mod Numbered
+pub mod Disks
+pub mod InTurn
+pub mod Stores
 mod Verdicts

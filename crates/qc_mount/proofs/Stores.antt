@@ -1,12 +1,11 @@
 -- A store that is mounted, or refused.
-use Rattle.std.proofs.Common.{◌≡◌, ℕ, ◌+◌, ◌<◌, ◌≤◌, List, [], ◌∷◌, ◌++◌, length, map, subst, sym, ap, refl, arith, inl, inr, ◌∙◌, suc}
-use Rattle.std.specs.Prelude.{◌↔◌, ◌⊎◌, Option, Some, IfSome, Result, Ok, Err, IfErr}
+use Rattle.std.proofs.Common.{◌≡◌, ℕ, ◌+◌, ◌<◌, ◌≤◌, List, [], ◌∷◌, length, subst, sym, ap, refl, arith, inl, inr, ◌∙◌, suc}
+use Rattle.std.specs.Prelude.{◌↔◌, Option, Some, IfSome, Result, Ok, Err, IfErr, IfOk, OnOk}
 use Rattle.std.specs.Result.{IsErrAnd}
-use Rattle.qc_codec.specs.Ledger.{past_in}
 use Rattle.qc_codec.specs.declared.image.BadImage.{BadImage}
 use Rattle.qc_codec.specs.declared.image.ImageFault.{ImageFault}
 use Rattle.qc_codec.specs.declared.past.Past.{Past}
-use Rattle.qc_disk.specs.Disk.{View, Rose}
+use Rattle.qc_disk.specs.Disk.{View}
 use Rattle.qc_disk.specs.declared.disk.Disk.{Ghosts}
 use Rattle.qc_event.specs.declared.table.Table.{Table}
 use Rattle.qc_journal.specs.Image.{HasRecords}
@@ -14,11 +13,10 @@ use Rattle.qc_journal.specs.Journal.{disk_of}
 use Rattle.qc_ledger.specs.Image as ledger
 use Rattle.qc_ledger.specs.Mounted as book
 use Rattle.qc_ledger.specs.declared.book.Book.{Book}
-use Rattle.qc_site.specs.declared.mounted.Mounted.{Mounted}
 use Rattle.qc_mount.specs.Disks.{AreOffered, IsLeft, IsMounted}
-use Rattle.qc_mount.specs.Images.{AreSound, IsCopiesFault, IsFirstFault, IsSoundCopy, IsSoundLedger, Offers}
-use Rattle.qc_mount.specs.Mounted.{AreCopies, IsCopy, IsLedger, IsStoreOf}
-use Rattle.qc_mount.specs.Numbered.{EachFrom, PairsFrom}
+use Rattle.qc_mount.specs.Images.{AreSound, IsCopiesFault, IsFirstFault, IsSoundCopy, IsSoundLedger}
+use Rattle.qc_mount.specs.Mounted.{given_by, IsCopy, IsLedger, IsStoreOf}
+use Rattle.qc_mount.specs.Numbered.{EachFrom}
 use Rattle.qc_mount.specs.Obtained.{IsNotGiven}
 use Rattle.qc_mount.specs.Refusing.{disks_in, reason_in, AreLeft, ComeBack, FailedAt, IsBehind, IsFaultOf, IsNotMounted, IsReasonAmong, IsReasonAt, TellImages}
 use Rattle.qc_mount.specs.Waiting.{GoesBack, IsTaken}
@@ -28,13 +26,26 @@ use Rattle.qc_mount.specs.declared.refusing.MountNo.TheVariants as no
 use Rattle.qc_mount.specs.declared.refusing.Reason.{Reason}
 use Rattle.qc_mount.specs.declared.refusing.Reason.TheVariants.{Disk, Image, Memory}
 use Rattle.qc_mount.proofs.InTurn.{sound_copies, told_first, told_rest}
-use Rattle.qc_mount.proofs.Disks.{among_at, among_more, mounted_for, not_behind, not_behind_first, not_failed, not_first_failed, tell, unreached}
+use Rattle.qc_mount.proofs.Disks.{among_at, among_more, mounted_for, not_behind_first, not_failed, not_first_failed, unreached}
 use Rattle.qc_mount.proofs.Numbered.{pairs_length}
 
 -- what is answered with an error that was handed on
 pub by_err : {T E : Type 0} (r : Result T E) (e : E) (P : E → Type 0) → IsErrAnd r (λ x. x ≡ e) → P e → IfErr r P
 by_err (Ok x) e P is has = tt
 by_err (Err x) e P is has = subst P (sym is) has
+
+-- what follows of an answer, and of an error
+pub if_ok : {T E : Type 0} (r : Result T E) (P Q : T → Type 0) → IfOk r P → ((x : T) → P x → Q x) → IfOk r Q
+if_ok (Ok x) P Q has also = also x has
+if_ok (Err e) P Q has also = tt
+
+pub on_ok : {T E : Type 0} (r : Result T E) (P : T → Type 0) (Q : Type 0) → IfOk r P → ((x : T) → P x → Q) → OnOk r Q
+on_ok (Ok x) P Q has also = also x has
+on_ok (Err e) P Q has also = tt
+
+pub if_err : {T E : Type 0} (r : Result T E) (P Q R : E → Type 0) → IfErr r P → IfErr r Q → ((e : E) → P e → Q e → R e) → IfErr r R
+if_err (Ok x) P Q R one two also = tt
+if_err (Err e) P Q R one two also = also e one two
 
 module _ {D : Type 0} {g : Ghosts D} (table : Table) (limit : ℕ) where
   -- THE LEDGER
@@ -106,6 +117,15 @@ module _ {D : Type 0} {g : Ghosts D} (table : Table) (limit : ℕ) where
       let pairs : length parts.copies.items ≡ length store.copy_disks = pairs_length (IsCopy table parts.past limit) 0 store.copy_disks parts.copies.items store.copies_are in
       let all : length disks ≡ suc (length store.copy_disks) = ap length store.disks_are in
       omega (arith, pairs, all, size)
+
+  -- of these disks all were given, whatever came of it
+  pub given_all : (disks : List D) (answer : Result (Parts D g) (MountNo D)) → IfOk answer (IsStoreOf table limit disks) → IfErr answer (λ refused. AreLeft g.view table (reason_in refused) 0 disks (disks_in refused))
+      → given_by answer ≡ length disks
+  given_all disks (Ok parts) store left =
+      let pairs : length parts.copies.items ≡ length store.copy_disks = pairs_length (IsCopy table parts.past limit) 0 store.copy_disks parts.copies.items store.copies_are in
+      let all : length disks ≡ suc (length store.copy_disks) = ap length store.disks_are in
+      omega (arith, pairs, all)
+  given_all disks (Err refused) store left = pairs_length (IsLeft g.view table (FailedAt (reason_in refused)) (IsBehind (reason_in refused))) 0 disks (disks_in refused) left
 
 -- REFUSALS
 

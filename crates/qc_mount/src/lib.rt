@@ -11,6 +11,7 @@ mod refusing;
 mod waiting;
 
 pub use law::one_verdict;
-pub use mounting::mount;
+pub use mounting::{mount, mount_disks};
+pub use obtaining::obtain_all;
 pub use parts::Parts;
 pub use refusing::MountNo;

@@ -4,7 +4,7 @@ ghost use Rattle.qc_codec.specs.Bodies as body;
 ghost use Rattle.qc_mount.specs.Images.{AreSound, IsFirstFault, Offers};
 ghost use Rattle.qc_mount.specs.Mounted.{given_by, IsStore, IsStoreOf};
 ghost use Rattle.qc_mount.specs.Obtained.{IsNotGiven};
-ghost use Rattle.qc_mount.specs.Refusing.{AreLeft, ComeBack, IsFaultOf, IsNotMounted, IsReasonAmong, TellImages};
+ghost use Rattle.qc_mount.specs.Refusing.{disks_in, reason_in, AreLeft, ComeBack, IsFaultOf, IsNotMounted, IsReasonAmong, TellImages};
 ghost use Rattle.qc_mount.specs.Waiting.{room_in, waiting_in};
 
 use crate::copies::mount_copies;
@@ -51,6 +51,33 @@ fn mount_all<D: Disk>(
     }
 }
 
+/// Mounts the disks of a store, of which the first is the ledger's and each next one a copy's. A refusal hands them back
+/// in their order, each as its mounting left it.
+pub fn mount_disks<D: Disk>(
+    alloc: Global,
+    disks: Vec<D>,
+    table: &Table,
+    limit: u64,
+) -> Result<Parts<D>, MountNo<D>>
+    requires proper { (body.table 1).fits table.now }
+    requires all { length disks.items ≡ table.now.copies + 1 }
+    ensures store { IfOk result (IsStoreOf table.now limit disks.items) }
+    ensures left { IfErr result (λ refused. AreLeft D.view table.now (reason_in refused) 0
+        disks.items (disks_in refused)) }
+    ensures reason { IfErr result (λ refused. IsReasonAmong 0 table.now.copies
+        (λ bad. (images : List (List ℕ)) → TellImages D.view disks.items images
+        → IsFirstFault table.now limit bad images) (reason_in refused)) }
+{
+    let mut waiting = Waiting::new(disks);
+    match mount_all(alloc, &mut waiting, table, limit) {
+        Ok(parts) => {
+            waiting.finish();
+            Ok(parts)
+        }
+        Err(reason) => Err(reason.with(waiting.into_disks())),
+    }
+}
+
 // It makes the law of disks known for those of a shop: at this moment a disk is what a crash may leave.
 fn known_now<D: Disk>()
     ensures { (disk : D) (c : List ℕ) → (D.view disk).left_at (D.view disk).moment c
@@ -91,12 +118,5 @@ pub fn mount<H: Shop>(
 {
     known_now::<H::D>();
     let disks = obtain_all(alloc, shop, place, table.copies + 1)?;
-    let mut waiting = Waiting::new(disks);
-    match mount_all(alloc, &mut waiting, table, limit) {
-        Ok(parts) => {
-            waiting.finish();
-            Ok(parts)
-        }
-        Err(reason) => Err(reason.with(waiting.into_disks())),
-    }
+    mount_disks(alloc, disks, table, limit)
 }

@@ -9,7 +9,7 @@ use std::alloc::Global;
 
 /// Obtains the disks of a place from 0 on, so many. The room for all is taken before the first, so that handing them back
 /// takes no memory.
-pub(crate) fn obtain_all<H: Shop>(
+pub fn obtain_all<H: Shop>(
     alloc: Global,
     shop: &mut H,
     place: &str,
