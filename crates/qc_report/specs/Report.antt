@@ -3,7 +3,7 @@
 -- nothing.
 use Rattle.std.specs.Prelude.{ℕ, ◌==◌, Bool, true, false, if◌then◌else◌, List, [], ◌∷◌, ◌++◌, length, map, filter, filter_map, reverse, count_by, codes, slice_get, slice_index_or, Option, None}
 use Rattle.std.specs.Fmt.{decimal}
-use Rattle.std.specs.List.{flat_map, zip}
+use Rattle.std.specs.List.{flat_map, list_any, zip}
 use Rattle.std.specs.Option.{option_map, option_map_or}
 use Rattle.qc_names.specs.Name as name
 use Rattle.qc_config.specs.Copies.{has}
@@ -210,6 +210,10 @@ tally_line started committed aborted doubt = codes "tops " ++ decimal started ++
 -- how many tops a history started, committed and aborted, and how many it left in doubt
 abbrev pub tally : List Entry → Text
 tally trail = tally_line (entries_of starts_top trail) (entries_of commits_top trail) (entries_of aborts_top trail) (entries_of (in_doubt trail) trail)
+
+-- whether any top was ready and has not ended
+abbrev pub has_doubt : List Entry → Bool
+has_doubt trail = list_any (λ (e : Entry). in_doubt trail e.event) trail
 
 -- the lines of a history, entry by entry
 abbrev pub event_lines : Table → List Entry → List Entry → Text

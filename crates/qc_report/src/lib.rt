@@ -19,6 +19,7 @@ use lines::{push_doubt, push_event, push_final};
 pub use page::Page;
 use qc_event::Table;
 use std::alloc::{AllocError, Global};
+pub use tally::has_doubt;
 use tally::push_tally;
 
 /// The report of a run: a line for each end in its history, a line for each top in doubt, the value of

@@ -93,6 +93,16 @@ fn tops_in_doubt(history: &History<'_>) -> usize
         .count()
 }
 
+/// Whether any top was ready and has not ended.
+pub fn has_doubt(history: &History<'_>) -> bool
+    ensures { result ≡ spec.has_doubt history.now }
+{
+    history
+        .entries()
+        .iter()
+        .any(|e| in_doubt(history, &e.event))
+}
+
 /// How many tops were started, committed and aborted, and how many are in doubt.
 #[derive(Clone, Copy)]
 struct Tally {
