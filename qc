@@ -19,11 +19,12 @@ qc runs a script of nested transactions over replicated records, and writes a re
 did. The program is proved before it is built: README.md says of what.
 
   ./qc run < SCRIPT              runs a script (`run --serial` does the same today)
+  ./qc run --dir P < SCRIPT      the same over the disks in the folder P, for a later run too
   ./qc --unproved run < SCRIPT   the same before the first build is done: in about a minute, unproved
   ./qc --help                    this page
 
 The first call proves and builds the program, which takes a while and is told here; later calls
-start at once. `--dir` and `gen` are for a later stage, and are refused today.
+start at once. `gen` is for a later stage, and is refused today.
 
 A script, examples/sets_and_reads_back.json:
 
@@ -32,8 +33,9 @@ END
     cat >&2 <<'END'
 
 The exit status is 0 where the report was written, 2 for words that are no command, 3 for a text
-that is no script, 4 and 5 where the input or the output failed, 9 where there was no memory, 14
-where the history is full; and 1 where the program could not be built.
+that is no script, 4 and 5 where the input or the output failed, 6 where a disk failed, 7 where what
+stands on one is refused, 8 where a top is in doubt, 9 where there was no memory, 14 where the history
+is full; and 1 where the program could not be built.
 
 examples/ has more scripts, each with its report; docs/FORMATS.md has every step, refusal and line.
 END
@@ -159,6 +161,19 @@ run_unproved() {
     say "nothing is proved of this run: rt try builds the program and checks it as it runs"
     said=$(mktemp) || exit 1
     trap 'rm -f "$said"' EXIT
+    # rt try runs in the crate's folder, so the folder of --dir is told from the root on.
+    before=
+    for word in "$@"; do
+        shift
+        case $before:$word in
+            --dir:/* | --dir:) ;;
+            --dir:*) word=$PWD/$word ;;
+            *:--dir=/* | *:--dir=) ;;
+            *:--dir=*) word=--dir=$PWD/${word#--dir=} ;;
+        esac
+        set -- "$@" "$word"
+        before=$word
+    done
     (cd "$crate" && "$rt" try -- "$@") 2>"$said"
     status=$?
     if ! grep -q '^run=ended ' "$said"; then

@@ -9,13 +9,14 @@ use qc_run::io::{StdSource, Untaken, take_all};
 use qc_script::MOST_BYTES;
 use std::io;
 use std::process::ExitCode;
+use std::sync::Wait;
 use std::time::Duration;
 use trouble::Trouble;
 
-fn measured(rt: &HostRuntime) -> Result<Times, Trouble> {
+fn measured<R: Wait>(handle: &R, rt: &HostRuntime) -> Result<Times, Trouble> {
     let alloc = rt.alloc();
     match take_all(alloc, &mut StdSource::new(rt.stdin()), MOST_BYTES) {
-        Ok(bytes) => both_times(rt, alloc, bytes),
+        Ok(bytes) => both_times(handle, rt, alloc, bytes),
         Err(Untaken::Failed) => Err(Trouble::Script),
         Err(Untaken::Memory) => Err(Trouble::Memory),
     }
@@ -55,7 +56,7 @@ fn told(rt: &HostRuntime, measured: &Result<Times, Trouble>) -> io::Result<u8> {
 }
 
 fn main(rt: HostRuntime) -> ExitCode {
-    let told = told(&rt, &measured(&rt));
+    let told = told(&rt, &measured(&rt, &rt));
     // The output could not be written.
     ExitCode::from(told.unwrap_or(5))
 }

@@ -5,12 +5,14 @@ ghost use Rattle.qc_report.specs.Indexed.{IsLegal};
 
 use crate::trouble::Trouble;
 use qc_desk::Index;
+use qc_disk::{MemDisk, MemShop};
 use qc_event::Table;
 use qc_report::{History, finals, index_of, report};
 use qc_run::io::{MemSink, MemSource};
 use qc_run::{Ran, Status, run};
 use qc_script::Script;
 use std::alloc::{AllocError, Global};
+use std::sync::Wait;
 use std::time::{Clock, Duration, Instant};
 
 /// How long the whole run took and how long its report took alone, and how many entries its history has.
@@ -29,7 +31,12 @@ fn run_words(alloc: Global) -> Result<Vec<String>, AllocError> {
 }
 
 // The report of a run over a table, made as the run made it.
-fn report_of(alloc: Global, table: &Table, ran: &Ran, index: &Index) -> Result<Vec<u8>, Trouble>
+fn report_of(
+    alloc: Global,
+    table: &Table,
+    ran: &Ran<MemDisk>,
+    index: &Index,
+) -> Result<Vec<u8>, Trouble>
     requires legal { IsLegal ran.now.trail.items }
     requires index { IsOf index.now (reverse ran.now.trail.items) }
 {
@@ -43,8 +50,9 @@ fn report_of(alloc: Global, table: &Table, ran: &Ran, index: &Index) -> Result<V
     Ok(report(alloc, table, values.as_slice(), &history)?)
 }
 
-/// Runs the script that the bytes are, over streams in memory, and then makes its report once more.
-pub(crate) fn both_times(
+/// Runs the script that the bytes are, over streams and disks in memory, and then makes its report once more.
+pub(crate) fn both_times<R: Wait>(
+    handle: &R,
     clock: &impl Clock,
     alloc: Global,
     bytes: Vec<u8>,
@@ -53,13 +61,14 @@ pub(crate) fn both_times(
     let words = run_words(alloc)?;
     let mut source = MemSource::new(bytes, Vec::new(alloc));
     let mut sink = MemSink::new(alloc, Vec::new(alloc));
+    let mut shop = MemShop::new(Vec::new(alloc), Vec::new(alloc));
+    let words = words.as_slice();
     let start = Instant::now(clock)?;
-    let ran = run(alloc, words.as_slice(), &mut source, &mut sink);
+    let ran = run(handle, alloc, words, &mut source, &mut sink, &mut shop);
     let run = start.elapsed(clock)?;
     let Status::Done = ran.status else {
         return Err(Trouble::Script);
     };
-    // A run's client keeps this index as it goes on.
     let trail = ran.trail.as_slice();
     let index = index_of(alloc, trail)?;
     let start = Instant::now(clock)?;

@@ -2,10 +2,10 @@
 use Rattle.std.proofs.Common.{◌≡◌, ◌⊎◌, inl, inr, arith, ℕ, Bool, true, false, List, [], ◌∷◌, ◌++◌, length, refl, sym, ap, ◌∙◌, subst, append-nil}
 use mathlib.Core.Bool.{true≢false}
 use Rattle.std.specs.Prelude.{Option, None, Some, MatchOption, IsTrue, is_some, option_to_list, option_map, ◌==◌, ◌&&◌, ◌||◌, if◌then◌else◌}
-use Rattle.std.specs.List.{AllByRecursion, list_all, list_any}
+use Rattle.std.specs.List.{AllByRecursion, list_all}
 use Rattle.std.proofs.lemmas.List.Folds.{list_all-append}
 use Rattle.std.proofs.Math.Bool.{or-false}
-use Rattle.std.proofs.lemmas.Bool.{and_parts, and_from}
+use Rattle.std.proofs.lemmas.Bool.{and_parts, and_from, or_right, false_from_ne_true}
 use Rattle.qc_event.specs.declared.event.Cause.TheVariants.{Asked}
 use Rattle.qc_event.specs.declared.event.Entry.{Entry}
 use Rattle.qc_event.specs.declared.event.Event.{Event}
@@ -24,7 +24,7 @@ use Rattle.qc_event.proofs.LegalOrderly.{legal_orderly}
 use Rattle.qc_event.proofs.OneEntry.{ending, first_is, first_some, starting, some_or_none, all_children}
 use Rattle.qc_names.specs.Name as name
 use Rattle.qc_net.specs.Messages.{Net, meets_fates}
-use Rattle.qc_script.specs.Calls.{is_access, is_over, unable_in}
+use Rattle.qc_script.specs.Calls.{is_access, is_over}
 use Rattle.qc_script.specs.Client.{Client, mine, is_own}
 use Rattle.qc_script.specs.Plan.{Numbered}
 use Rattle.qc_interp.specs.Adding.{is_of_one, all_over}
@@ -34,12 +34,12 @@ use Rattle.qc_interp.specs.FollowsScript.{RunsScript, FollowsScript, BeginsScrip
 use Rattle.qc_interp.specs.Follows.{RunsBody, FollowsBody}
 use Rattle.qc_interp.specs.Reach.{Reach, AtTheEnd}
 use Rattle.qc_interp.specs.Session.{tops, NotBegun, RunsBodies, FollowsBodies, EndsTopsAt, EndsTops, InTurnAt, RanInTurn}
-use Rattle.qc_interp.specs.Sessions.{tops_of, is_plain, all_plain}
+use Rattle.qc_interp.specs.Sessions.{tops_of, is_settled}
 use Rattle.qc_interp.specs.Turns.{begun_in, is_done, is_alone}
 use Rattle.qc_interp.proofs.Ending.{top_user}
 use Rattle.qc_interp.proofs.LoneBodies.{IsOurTop, IsOfSession, bodies_seen, bodies_ask_seen, each_of_session}
 use Rattle.qc_interp.proofs.LoneEntries.{ours_alone, all_ours_alone}
-use Rattle.qc_interp.proofs.LoneSessions.{IsSingle, kind_at, one_more, only_of, turns_lone, seats_lone, messages_lone, order_lone, numbers_lone, plain_lone}
+use Rattle.qc_interp.proofs.LoneSessions.{IsSingle, kind_at, one_more, only_of, turns_lone, seats_lone, messages_lone, order_lone, numbers_lone, unmarked_lone}
 use Rattle.qc_interp.proofs.LoneTurns.{Answers, earliest_kept, every_kept}
 use Rattle.qc_interp.proofs.Mine.{kept_some}
 use Rattle.qc_interp.proofs.ReadyTops.{ready_is_top}
@@ -109,7 +109,7 @@ module _ (c : Client) where
           foreign : is_lone c e.seat (event.End n (Abort (Asked by))) ≡ false
           foreign = ap (λ b. b || ((e.seat == 1) && ((length n == 1) && false))) own ∙ no_commit (e.seat == 1) (length n == 1)
 
--- WHO HAS STARTED HAS ENDED
+-- WHO HAS STARTED IS SETTLED
 
 -- what passes wherever a name is started for a kind passes of all that have started
 all_started : (setting : Setting) (passes : Name → Bool) (newer past : Past) → Legal setting (newer ++ past) → ((n : Name) (k : Kind) → kind_of (newer ++ past) n ≡ Some k → passes n ≡ true) → list_all passes (started past) ≡ true
@@ -179,40 +179,30 @@ child_passes passes (e ∷ h) p n child some all =
         let at : child_in p e.event ≡ Some n = ap (child_in p) is ∙ ap (λ b. if b then Some n else None) child in
         (and_parts (passes n) true (sym (ap (λ o. list_all passes (option_to_list o)) at) ∙ all)).0
 
-none_unable : (n : Name) (past : Past) → all_plain past ≡ true → list_any (λ (e : Entry). unable_in n e.event) past ≡ false
-none_unable n [] plain = refl
-none_unable n (e ∷ past) plain =
-    let both = and_parts (is_plain e.event) (all_plain past) plain in
-    ap (λ b. b || list_any (λ (e : Entry). unable_in n e.event) past) (by_event e.event both.0) ∙ none_unable n past both.1
-  where
-    by_event : (ev : Event) → is_plain ev ≡ true → unable_in n ev ≡ false
-    by_event (event.Unable m why) plain = absurd (true≢false (sym plain))
-    by_event (event.Mark m session) plain = refl
-    by_event (event.Start m k) plain = refl
-    by_event (event.Ask ask) plain = refl
-    by_event (event.Gone m why) plain = refl
-    by_event (event.Granted copy grant) plain = refl
-    by_event (event.Refused m copy refusal) plain = refl
-    by_event (event.Ready m) plain = refl
-    by_event (event.End m how) plain = refl
+-- who has ended is settled, and so is a ready top that is over
+ended_settled : (past : Past) (n : Name) → is_some (end past n) ≡ true → is_settled past n ≡ true
+ended_settled past n ended = ap (λ b. b || (is_ready past n && is_over past n)) ended
 
--- who is over where none is unable has ended
-over_ends : (n : Name) (past : Past) → all_plain past ≡ true → is_over past n ≡ true → is_some (end past n) ≡ true
-over_ends n past plain over = sym (ap (λ b. is_some (end past n) || b) (none_unable n past plain) ∙ or-false (is_some (end past n))) ∙ over
+ready_settled : (past : Past) (n : Name) → is_ready past n ≡ true → is_over past n ≡ true → is_settled past n ≡ true
+ready_settled past n ready over = or_right (is_some (end past n)) (is_ready past n && is_over past n) (and_from _ _ ready over)
 
--- a user transaction or manager of a lone client that is alone at the root has ended
-begun_ended : (c : Client) (past : Past) (n : Name) (k : Kind) → Legal c.setting past → AreLone c past → is_alone (mine c past) [] ≡ true → all_over c past ≡ true → kind_of past n ≡ Some k → is_access k ≡ false → is_some (end past n) ≡ true
-begun_ended c past n k legal lone alone over is none =
+-- who is settled and not ready has ended
+settled_ended : (past : Past) (n : Name) → is_ready past n ≡ false → is_settled past n ≡ true → is_some (end past n) ≡ true
+settled_ended past n unready settled = sym (ap (λ b. is_some (end past n) || (b && is_over past n)) unready ∙ or-false (is_some (end past n))) ∙ settled
+
+-- a user transaction or manager of a lone client that is alone at the root is settled
+begun_settled : (c : Client) (past : Past) (n : Name) (k : Kind) → Legal c.setting past → AreLone c past → is_alone (mine c past) [] ≡ true → all_over c past ≡ true → kind_of past n ≡ Some k → is_access k ≡ false → is_settled past n ≡ true
+begun_settled c past n k legal lone alone over is none =
     let b = some_kind (start past n) k is in
     let at : start (mine c past) n ≡ Some b.0 = same_start c past n lone ∙ b.1 in
     by_name n at b.1 (begun_passes (λ m. is_done (mine c past) m || name.is_ancestor m []) (mine c past) n b.0 at (ap is_access b.2 ∙ none) alone)
   where
-    by_done : (n : Name) (b : Begun) → start (mine c past) n ≡ Some b → (ended ready : Bool) → is_some (end (mine c past) n) ≡ ended → is_ready (mine c past) n ≡ ready → (ended || ready) ≡ true → is_some (end past n) ≡ true
-    by_done n b at true ready ends readies done = kept_some (λ (e : Entry). is_own c e.seat) (λ e. end_in n e.event) past ends
+    by_done : (n : Name) (b : Begun) → start (mine c past) n ≡ Some b → (ended ready : Bool) → is_some (end (mine c past) n) ≡ ended → is_ready (mine c past) n ≡ ready → (ended || ready) ≡ true → is_settled past n ≡ true
+    by_done n b at true ready ends readies done = ended_settled past n (kept_some (λ (e : Entry). is_own c e.seat) (λ e. end_in n e.event) past ends)
     by_done n b at false true ends readies done =
         let ready = kept_some (λ (e : Entry). is_own c e.seat) (λ e. Rattle.qc_event.specs.History.ready_in n e.event) past readies in
         let top : length n ≡ 1 = (ready_is_top c.setting past n legal ready).0 in
-        over_ends n past (plain_lone c past lone) (child_passes (is_over past) (mine c past) [] n (one_number n top) (ap is_some at) over)
+        ready_settled past n ready (child_passes (is_over past) (mine c past) [] n (one_number n top) (ap is_some at) over)
       where
         one_number : (n : Name) → length n ≡ 1 → is_child [] n ≡ true
         one_number [] h = absurd (let z : ⊥ = omega (arith, h) in z)
@@ -220,16 +210,82 @@ begun_ended c past n k legal lone alone over is none =
         one_number (x ∷ y ∷ n) h = absurd (let z : ⊥ = omega (arith, h) in z)
     by_done n b at false false ends readies done = absurd (true≢false (sym done))
 
-    by_name : (n : Name) {b : Begun} → start (mine c past) n ≡ Some b → start past n ≡ Some b → (is_done (mine c past) n || name.is_ancestor n []) ≡ true → is_some (end past n) ≡ true
+    by_name : (n : Name) {b : Begun} → start (mine c past) n ≡ Some b → start past n ≡ Some b → (is_done (mine c past) n || name.is_ancestor n []) ≡ true → is_settled past n ≡ true
     by_name [] at was done = absurd (some_or_none (start past []) (ap is_some was) (lawful past (legal_orderly c.setting past legal)).no_root_start)
     by_name (x ∷ n) {b = b} at was done = by_done (x ∷ n) b at (is_some (end (mine c past) (x ∷ n))) (is_ready (mine c past) (x ∷ n)) refl refl (sym (or-false (is_done (mine c past) (x ∷ n))) ∙ done)
+
+-- where the client is alone at the root, its tops are over, and the accesses of who has ended have ended, all is settled
+all_settled : (c : Client) (past : Past) → Legal c.setting past → AreLone c past → is_alone (mine c past) [] ≡ true → all_over c past ≡ true → AccessesEnd past → list_all (is_settled past) (started past) ≡ true
+all_settled c past legal lone turns order accesses = all_started c.setting (is_settled past) [] past legal by_kind
+  where
+    manager_unready : (p : Name) (b : Begun) → start past p ≡ Some b → IsManager b.kind → is_ready past p ≡ false
+    manager_unready p b at manages = false_from_ne_true (is_ready past p) (λ ready. by_name p at (ready_is_top c.setting past p legal ready).0)
+      where
+        no_user : (k : Kind) → IsManager k → IsUser k → ⊥
+        no_user (kind.User s b) manages user = manages
+        no_user (kind.Read rec) manages user = user
+        no_user (kind.Write rec value) manages user = user
+        no_user (kind.Reconf rec config) manages user = user
+        no_user kind.Access manages user = user
+
+        by_name : (p : Name) → start past p ≡ Some b → length p ≡ 1 → ⊥
+        by_name [] at top = let z : ⊥ = omega (arith, top) in z
+        by_name (x ∷ []) at top = no_user b.kind manages (top_user c.setting past x b legal at)
+        by_name (x ∷ y ∷ p) at top = let z : ⊥ = omega (arith, top) in z
+
+    manager_ended : (p : Name) (b : Begun) → start past p ≡ Some b → IsManager b.kind → is_some (end past p) ≡ true
+    manager_ended p b at manages =
+        settled_ended past p (manager_unready p b at manages) (begun_settled c past p b.kind legal lone turns order (ap (option_map (λ (x : Begun). x.kind)) at) (no_access b.kind manages))
+      where
+        no_access : (k : Kind) → IsManager k → is_access k ≡ false
+        no_access (kind.User s b) h = refl
+        no_access (kind.Read rec) h = refl
+        no_access (kind.Write rec value) h = refl
+        no_access (kind.Reconf rec config) h = refl
+        no_access kind.Access h = absurd h
+
+    access_ended : (n : Name) → kind_of past n ≡ Some kind.Access → is_some (end past n) ≡ true
+    access_ended n is =
+        let b = some_kind (start past n) kind.Access is in
+        let law = lawful past (legal_orderly c.setting past legal) in
+        elim (ends_in n) [
+          | inl root ↦ absurd (some_or_none (start past []) (ap is_some (sym (ap (start past) root) ∙ b.1)) law.no_root_start)
+          | inr last ↦ by_parent last.0 last.1 last.2 b
+        ]
+      where
+        by_manager : (p : Name) (j : ℕ) → n ≡ p ++ j ∷ [] → (o : Option Begun) → start past p ≡ o → MatchOption o ⊥ (λ m. Belongs m kind.Access) → (b : Begun) → start past n ≡ Some b → b.kind ≡ kind.Access → is_some (end past n) ≡ true
+        by_manager p j at None is manages b begun kind = absurd manages
+        by_manager p j at (Some m) is manages b begun kind =
+            accesses n (subst (λ o. MatchOption o ⊥ (λ (x : Begun). is_access x.kind ≡ true)) (sym begun) (ap is_access kind)) (subst (λ q. is_some (end past q) ≡ true) (sym (ap name.front at ∙ front_last p j)) (manager_ended p m is manages))
+
+        by_parent : (p : Name) (j : ℕ) → n ≡ p ++ j ∷ [] → (b : Begun) × (start past n ≡ Some b) × (b.kind ≡ kind.Access) → is_some (end past n) ≡ true
+        by_parent [] j at b = absurd (subst IsUser b.2 (top_user c.setting past j b.0 legal (sym (ap (start past) at) ∙ b.1)))
+        by_parent (x ∷ p) j at b =
+            let begun : start past ((x ∷ p) ++ j ∷ []) ≡ Some b.0 = sym (ap (start past) at) ∙ b.1 in
+            let under : Started past (x ∷ p) (λ m. Belongs m b.0.kind) =
+            subst (λ o. MatchOption o ⊥ (λ (y : Begun). Started past (x ∷ p) (λ m. Belongs m y.kind))) begun ((lawful past (legal_orderly c.setting past legal)).under (x ∷ p) j (omega arith) (ap is_some begun)) in
+            by_manager (x ∷ p) j at (start past (x ∷ p)) refl (subst (λ k. Started past (x ∷ p) (λ m. Belongs m k)) b.2 under) b.0 b.1 b.2
+
+    by_kind : (n : Name) (k : Kind) → kind_of past n ≡ Some k → is_settled past n ≡ true
+    by_kind n kind.Access is = ended_settled past n (access_ended n is)
+    by_kind n (kind.User s b) is = begun_settled c past n (kind.User s b) legal lone turns order is refl
+    by_kind n (kind.Read rec) is = begun_settled c past n (kind.Read rec) legal lone turns order is refl
+    by_kind n (kind.Write rec value) is = begun_settled c past n (kind.Write rec value) legal lone turns order is refl
+    by_kind n (kind.Reconf rec config) is = begun_settled c past n (kind.Reconf rec config) legal lone turns order is refl
+
+-- so all is settled where a run of the client came to its end
+pub ran_settled : (reach : Reach) (c : Client) (past : Past) → Legal c.setting past → AreLone c past → InTurnAt reach c [] past → AtTheEnd reach (AccessesEnd past) → AtTheEnd reach (IsTrue (list_all (is_settled past) (started past)))
+ran_settled Reach.to_the_end c past legal lone ran accesses =
+    let ours = all_ours_alone c past lone in
+    all_settled c past legal lone (ran.turns ours refl refl).1 (ran.order ours refl refl).1 accesses
+ran_settled Reach.cut_off c past legal lone ran accesses = tt
 
 -- ALL OF IT
 
 -- as far as the run came
 pub lone_runs : (reach : Reach) (c : Client) (net : Net) (bodies : List Numbered) (past : Past) → Legal c.setting past → IsSingle c → AreLone c past → EndsTopsAt reach c [] past bodies → InTurnAt reach c [] past → meets_fates c.number net past ≡ true
-    → AtTheEnd reach (IsTrue (list_all (λ n. is_some (end past n)) (started past))) → RunsScript reach c.session c.epoch net bodies past
-lone_runs reach c net bodies past legal single lone ends ran met all_ended = record {
+    → AtTheEnd reach (IsTrue (list_all (is_settled past) (started past))) → RunsScript reach c.session c.epoch net bodies past
+lone_runs reach c net bodies past legal single lone ends ran met settled = record {
   only = only;
   bodies_run = subst (RunsBodies reach c.session past bodies) further_is follows;
   in_turn = record {
@@ -242,8 +298,8 @@ lone_runs reach c net bodies past legal single lone ends ran met all_ended = rec
     | inl same ↦ inl same
     | inr asks ↦ inr (subst (λ ts. BodiesAsk past bodies ts by n) further_is (bodies_ask_seen c past legal by n bodies further ours asks))
   ];
-  each_ended = all_ended;
-  plain = plain_lone c past lone;
+  each_settled = settled;
+  unmarked = unmarked_lone c past lone;
   messages = messages_lone c c.session net past single lone met;
 }
   where
@@ -291,53 +347,7 @@ lone_runs reach c net bodies past legal single lone ends ran met all_ended = rec
     asked = let a = (ends all_ours).3 in subst (AllByRecursion (λ (e : Entry). IsAskedBy Q e.event)) (sym (a.1 ∙ append-nil a.0)) a.2
 
 pub lone_follows : (c : Client) (net : Net) (bodies : List Numbered) (past : Past) → Legal c.setting past → IsSingle c → AreLone c past → EndsTops c [] past bodies → RanInTurn c [] past → meets_fates c.number net past ≡ true → AccessesEnd past → FollowsScript c.session c.epoch net bodies past
-lone_follows c net bodies past legal single lone ends ran met accesses =
-    lone_runs Reach.to_the_end c net bodies past legal single lone ends ran met (all_started c.setting (λ n. is_some (end past n)) [] past legal by_kind)
-  where
-    turns : is_alone (mine c past) [] ≡ true
-    turns = (ran.turns (all_ours_alone c past lone) refl refl).1
-
-    order : all_over c past ≡ true
-    order = (ran.order (all_ours_alone c past lone) refl refl).1
-
-    manager_ended : (p : Name) (b : Begun) → start past p ≡ Some b → IsManager b.kind → is_some (end past p) ≡ true
-    manager_ended p b at manages = begun_ended c past p b.kind legal lone turns order (ap (option_map (λ (x : Begun). x.kind)) at) (no_access b.kind manages)
-      where
-        no_access : (k : Kind) → IsManager k → is_access k ≡ false
-        no_access (kind.User s b) h = refl
-        no_access (kind.Read rec) h = refl
-        no_access (kind.Write rec value) h = refl
-        no_access (kind.Reconf rec config) h = refl
-        no_access kind.Access h = absurd h
-
-    access_ended : (n : Name) → kind_of past n ≡ Some kind.Access → is_some (end past n) ≡ true
-    access_ended n is =
-        let b = some_kind (start past n) kind.Access is in
-        let law = lawful past (legal_orderly c.setting past legal) in
-        elim (ends_in n) [
-          | inl root ↦ absurd (some_or_none (start past []) (ap is_some (sym (ap (start past) root) ∙ b.1)) law.no_root_start)
-          | inr last ↦ by_parent last.0 last.1 last.2 b
-        ]
-      where
-        by_manager : (p : Name) (j : ℕ) → n ≡ p ++ j ∷ [] → (o : Option Begun) → start past p ≡ o → MatchOption o ⊥ (λ m. Belongs m kind.Access) → (b : Begun) → start past n ≡ Some b → b.kind ≡ kind.Access → is_some (end past n) ≡ true
-        by_manager p j at None is manages b begun kind = absurd manages
-        by_manager p j at (Some m) is manages b begun kind =
-            accesses n (subst (λ o. MatchOption o ⊥ (λ (x : Begun). is_access x.kind ≡ true)) (sym begun) (ap is_access kind)) (subst (λ q. is_some (end past q) ≡ true) (sym (ap name.front at ∙ front_last p j)) (manager_ended p m is manages))
-
-        by_parent : (p : Name) (j : ℕ) → n ≡ p ++ j ∷ [] → (b : Begun) × (start past n ≡ Some b) × (b.kind ≡ kind.Access) → is_some (end past n) ≡ true
-        by_parent [] j at b = absurd (subst IsUser b.2 (top_user c.setting past j b.0 legal (sym (ap (start past) at) ∙ b.1)))
-        by_parent (x ∷ p) j at b =
-            let begun : start past ((x ∷ p) ++ j ∷ []) ≡ Some b.0 = sym (ap (start past) at) ∙ b.1 in
-            let under : Started past (x ∷ p) (λ m. Belongs m b.0.kind) =
-            subst (λ o. MatchOption o ⊥ (λ (y : Begun). Started past (x ∷ p) (λ m. Belongs m y.kind))) begun ((lawful past (legal_orderly c.setting past legal)).under (x ∷ p) j (omega arith) (ap is_some begun)) in
-            by_manager (x ∷ p) j at (start past (x ∷ p)) refl (subst (λ k. Started past (x ∷ p) (λ m. Belongs m k)) b.2 under) b.0 b.1 b.2
-
-    by_kind : (n : Name) (k : Kind) → kind_of past n ≡ Some k → is_some (end past n) ≡ true
-    by_kind n kind.Access is = access_ended n is
-    by_kind n (kind.User s b) is = begun_ended c past n (kind.User s b) legal lone turns order is refl
-    by_kind n (kind.Read rec) is = begun_ended c past n (kind.Read rec) legal lone turns order is refl
-    by_kind n (kind.Write rec value) is = begun_ended c past n (kind.Write rec value) legal lone turns order is refl
-    by_kind n (kind.Reconf rec config) is = begun_ended c past n (kind.Reconf rec config) legal lone turns order is refl
+lone_follows c net bodies past legal single lone ends ran met accesses = lone_runs Reach.to_the_end c net bodies past legal single lone ends ran met (ran_settled Reach.to_the_end c past legal lone ran accesses)
 
 -- who follows a script has begun it
 module _ (s : ℕ) (past : Past) where
@@ -358,7 +368,7 @@ follows_begins session epoch net bodies past follows = record {
   in_turn = follows.in_turn;
   numbers = follows.numbers;
   as_asked = follows.as_asked;
-  each_ended = tt;
-  plain = follows.plain;
+  each_settled = tt;
+  unmarked = follows.unmarked;
   messages = follows.messages;
 }

@@ -33,7 +33,7 @@ use Rattle.qc_script.specs.Client.{Client, mine, is_own, about}
 use Rattle.qc_script.specs.Numbers.{each, any_top, own_next, is_next_top}
 use Rattle.qc_interp.specs.Adding.{all_over, own_after, is_of_one}
 use Rattle.qc_interp.specs.Alone.{is_lone, all_lone, AreLone}
-use Rattle.qc_interp.specs.Sessions.{top_by, top_in, tops_of, is_of, part_of, is_under, seat_for, keeps_seat, after_others, seat_in, is_plain, all_plain}
+use Rattle.qc_interp.specs.Sessions.{top_by, top_in, tops_of, is_of, part_of, is_under, seat_for, keeps_seat, after_others, seat_in, is_unmarked, all_unmarked}
 use Rattle.qc_interp.specs.Turns.{begun_in, takes_turn}
 use Rattle.qc_interp.proofs.LoneBodies.{IsOfSession}
 use Rattle.qc_interp.proofs.LoneEntries.{top_is}
@@ -130,7 +130,7 @@ of_lone c tops e lone of = by_event e.event refl lone (and_parts (is_client e.se
         by_own false h = absurd (true≢false (sym client ∙ not_ledger e.seat (and_parts (e.seat == 1) _ h).0))
     by_event (event.Granted copy grant) is lone client low = absurd (true≢false (sym (sym (ap (λ ev. option_map_or (λ n. list_any (λ t. name.is_ancestor t n) tops) (about ev) false) is) ∙ low)))
     by_event (event.Refused n copy refusal) is lone client low = absurd (true≢false (sym (sym (ap (λ ev. option_map_or (λ m. list_any (λ t. name.is_ancestor t m) tops) (about ev) false) is) ∙ low)))
-    by_event (event.Unable n why) is lone client low = absurd (true≢false (sym lone))
+    by_event (event.Unable n why) is lone client low = absurd (true≢false (sym (sym (ap (λ ev. option_map_or (λ m. list_any (λ t. name.is_ancestor t m) tops) (about ev) false) is) ∙ low)))
     by_event (event.Mark n session) is lone client low = absurd (true≢false (sym lone))
 
 all_of_lone : (c : Client) (tops : List Name) (past : Past) → AreLone c past → AllByRecursion (λ (e : Entry). is_of tops e ≡ true → is_own c e.seat ≡ true) past
@@ -456,11 +456,11 @@ numbers_lone c (e ∷ past) lone numbers =
     by_own true own next lone = next
     by_own false own next lone = ap (λ o. option_map_or (λ number. number == Rattle.qc_script.specs.Numbers.next_top c.epoch past) o true) (none_started own e.event lone)
 
-pub plain_lone : (c : Client) (past : Past) → AreLone c past → all_plain past ≡ true
-plain_lone c past lone = all_wider (λ (e : Entry). is_lone c e.seat e.event) (λ e. is_plain e.event) past (λ e h. by_event e.seat e.event h) lone
+pub unmarked_lone : (c : Client) (past : Past) → AreLone c past → all_unmarked past ≡ true
+unmarked_lone c past lone = all_wider (λ (e : Entry). is_lone c e.seat e.event) (λ e. is_unmarked e.event) past (λ e h. by_event e.seat e.event h) lone
   where
-    by_event : (seat : ℕ) (ev : Event) → is_lone c seat ev ≡ true → is_plain ev ≡ true
-    by_event seat (event.Unable m why) h = absurd (true≢false (sym h))
+    by_event : (seat : ℕ) (ev : Event) → is_lone c seat ev ≡ true → is_unmarked ev ≡ true
+    by_event seat (event.Unable m why) h = refl
     by_event seat (event.Mark m session) h = absurd (true≢false (sym h))
     by_event seat (event.Start n k) h = refl
     by_event seat (event.Ask ask) h = refl

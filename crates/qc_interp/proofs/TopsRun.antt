@@ -361,6 +361,18 @@ pub none_begun : (s : ℕ) (past : Past) (bodies : List Numbered) → RunsBodies
 none_begun s past [] = tt
 none_begun s past (b ∷ bodies) = no_tries (end past) _ (NotBegun Reach.cut_off) (λ last further. RunsBodies Reach.cut_off s past bodies further) None tt (none_begun s past bodies) b.tries
 
+-- nor where nothing was made
+pub none_cut : (c : Client) (bodies : List Numbered) (before now : Past) → Made c [] before now → CutTops c before now bodies
+none_cut c bodies before now m = record {
+  in_turn = turn_cut c before now m;
+  begins = λ ours. (
+    [],
+    ap (λ h. children h []) (made_is c [] before now m) ∙ sym (append-nil _),
+    none_begun c.session (mine c now) bodies,
+    asked_made c [] before now _ m tt,
+  );
+}
+
 -- a try of a top that was cut off is the last
 pub cut_last : (c : Client) (body : Numbered) (before now : Past) → CutTop c body before now → (last : Option Name) (left : ℕ) (rest : List Numbered) → EndsTopTries Reach.cut_off c before now body last (suc left) rest
 cut_last c body before now t last left rest ours =

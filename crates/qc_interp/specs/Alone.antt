@@ -12,7 +12,7 @@ use Rattle.qc_script.specs.Calls.{is_access}
 use Rattle.qc_script.specs.Client.{Client, is_own, is_commit}
 
 -- Whether an event under a seat may stand where a client is alone. Its own are starts, ends, requests and what became of
--- them; the copies answer; the ledger commits tops. None marks, and none is unable.
+-- them; the copies answer; the ledger commits tops; the copies and the ledger may be unable. None marks.
 abbrev pub is_lone : Client → ℕ → Event → Bool
 is_lone c seat (event.Start n k) = is_own c seat
 is_lone c seat (event.Ready n) = is_own c seat
@@ -21,7 +21,7 @@ is_lone c seat (event.Gone n why) = is_own c seat
 is_lone c seat (event.End n how) = is_own c seat || ((seat == ledger_seat) && ((length n == 1) && is_commit how))
 is_lone c seat (event.Granted copy grant) = true
 is_lone c seat (event.Refused n copy refusal) = true
-is_lone c seat (event.Unable n why) = false
+is_lone c seat (event.Unable n why) = true
 is_lone c seat (event.Mark n session) = false
 
 abbrev pub all_lone : Client → Past → Bool

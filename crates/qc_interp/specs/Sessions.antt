@@ -1,5 +1,5 @@
 -- What is of a session in a history: its tops, its part, its seats, and its messages.
-use Rattle.std.specs.Prelude.{ℕ, ◌==◌, Bool, true, false, ◌&&◌, if◌then◌else◌, IsTrue, List, [], ◌∷◌, filter, Option, None, Some}
+use Rattle.std.specs.Prelude.{ℕ, ◌==◌, Bool, true, false, ◌&&◌, ◌||◌, if◌then◌else◌, IsTrue, List, [], ◌∷◌, filter, Option, None, Some, is_some}
 use Rattle.std.specs.List.{list_all, list_any}
 use Rattle.std.specs.Option.{option_map_or}
 use Rattle.qc_names.specs.Name as name
@@ -8,7 +8,7 @@ use Rattle.qc_event.specs.declared.event.Event.{Event}
 use Rattle.qc_event.specs.declared.event.Event.TheVariants as event
 use Rattle.qc_event.specs.declared.event.Kind.{Kind}
 use Rattle.qc_event.specs.declared.event.Kind.TheVariants as kind
-use Rattle.qc_event.specs.History.{Past, Name, Begun, every, start}
+use Rattle.qc_event.specs.History.{Past, Name, Begun, every, start, end, is_ready}
 use Rattle.qc_event.specs.Seats.{is_client}
 use Rattle.qc_net.specs.Messages.{Net, meets_fates}
 use Rattle.qc_script.specs.Calls.{is_over}
@@ -78,12 +78,17 @@ seat_in e = option_map_or (λ n. Some e.seat) (begun_in e.event) None
 abbrev pub meets : ℕ → Net → Past → Bool
 meets s net past = list_all (λ seat. meets_fates seat net past) (every seat_in (part_of s past))
 
--- WHERE THERE ARE NO DISKS AND NO STEPS THAT MARK
+-- WHO IS SETTLED
 
-abbrev pub is_plain : Event → Bool
-is_plain (event.Unable n why) = false
-is_plain (event.Mark n session) = false
-is_plain _ = true
+-- it has ended, or is a ready top that was unable to be logged
+abbrev pub is_settled : Past → Name → Bool
+is_settled past n = is_some (end past n) || (is_ready past n && is_over past n)
 
-abbrev pub all_plain : Past → Bool
-all_plain past = list_all (λ (e : Entry). is_plain e.event) past
+-- WHERE NO STEP MARKS
+
+abbrev pub is_unmarked : Event → Bool
+is_unmarked (event.Mark n session) = false
+is_unmarked _ = true
+
+abbrev pub all_unmarked : Past → Bool
+all_unmarked past = list_all (λ (e : Entry). is_unmarked e.event) past

@@ -1,15 +1,17 @@
-//! The program's body: its words and the standard streams, handed to the top call.
+//! The program's body: its words, the standard streams and the real shop of disks, handed to the top call.
 #![tactic(auto)]
 
 ghost use Rattle.std.specs.Prelude.{◌≡◌};
 ghost use Rattle.std.specs.Process.{exit_status};
 ghost use Rattle.qc_run.specs.FaultLine.{exit_code};
 
+use qc_disk::HomeShop;
 use qc_run::io::{StdSink, StdSource};
 use qc_run::{Status, run};
 use std::alloc::{AllocError, Global};
 use std::env;
 use std::process::ExitCode;
+use std::sync::Wait;
 
 // The words after the program's name. Words that cannot be told as text are no command, as none are.
 fn words(rt: &HostRuntime, alloc: Global) -> Result<Vec<String>, AllocError> {
@@ -28,14 +30,17 @@ fn ended(status: &Status) -> ExitCode
     ExitCode::from(status.code())
 }
 
-/// Does what the program's words say over the standard streams, and tells how it ended.
-pub fn start(rt: HostRuntime) -> ExitCode {
+/// Does what the program's words say over the standard streams and the real shop, and tells how it ended.
+/// The handle is that of the runtime, which alone may wait.
+pub fn start<R: Wait>(handle: &R, rt: HostRuntime) -> ExitCode {
     let alloc = rt.alloc();
     let Ok(words) = words(&rt, alloc) else {
         return ended(&Status::Memory);
     };
     let mut source = StdSource::new(rt.stdin());
     let mut sink = StdSink::new(rt.stdout());
-    let ran = run(alloc, words.as_slice(), &mut source, &mut sink);
+    let mut shop = HomeShop::new(rt);
+    let words = words.as_slice();
+    let ran = run(handle, alloc, words, &mut source, &mut sink, &mut shop);
     ended(&ran.status)
 }

@@ -22,8 +22,8 @@ ghost use Rattle.qc_refine.specs.Standing.{AreNext, StandBeside, committed_too};
 /// greatest version over all copies is the serial machine's (Gifford). They restore one base, and there is one.
 /// Fresh images stand beside the empty history.
 ///
-/// That the images of a run's disks stand beside its history is a premise here. No call gives it yet, since runs
-/// keep no disks.
+/// That the images of a run's disks stand beside its history is a premise here. The clause `images_stand` of
+/// `qc_run`'s `run` gives it.
 pub fn restored_values_are_serial()
     ensures legal { (setting : Setting) (past : Past) (more : List Logged)
         → Legal setting past → AreNext past more → Legal setting (committed_too past more) }

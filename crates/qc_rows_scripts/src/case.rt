@@ -1,7 +1,10 @@
 //! Cases, and how they are run.
+use crate::shelf::Shelf;
+use qc_disk::MemDisk;
 use qc_run::io::{MemSink, MemSource};
 use qc_run::{Ran, run};
 use std::alloc::{AllocError, Global};
+use std::sync::Wait;
 
 /// What a line asks for.
 #[derive(Drop)]
@@ -16,7 +19,7 @@ pub(crate) struct Case<'l> {
 /// What came of it.
 #[derive(Drop)]
 pub(crate) struct Outcome {
-    pub(crate) ran: Ran,
+    pub(crate) ran: Ran<MemDisk>,
     pub(crate) sink: MemSink,
 }
 
@@ -33,31 +36,20 @@ impl<'l> Case<'l> {
         })
     }
 
-    pub(crate) fn run(&self, alloc: Global) -> Result<Outcome, AllocError> {
-        let script = bytes_of(alloc, self.script, self.length)?;
-        Outcome::of(
-            alloc,
-            self.words,
-            script,
-            self.source_fails,
-            self.sink_fails,
-        )
-    }
-}
-
-impl Outcome {
-    /// Runs a script by a line of words, where the source and the sink fail at one call each.
-    pub(crate) fn of(
+    /// Runs it over the disks on the shelf, and puts back what came back.
+    pub(crate) fn run<R: Wait>(
+        &self,
+        handle: &R,
         alloc: Global,
-        line: &str,
-        script: Vec<u8>,
-        source_fails: u64,
-        sink_fails: u64,
-    ) -> Result<Self, AllocError> {
-        let words = words_of(alloc, line)?;
-        let mut source = MemSource::new(script, vec![in alloc; source_fails]?);
-        let mut sink = MemSink::new(alloc, vec![in alloc; sink_fails]?);
-        let ran = run(alloc, &words, &mut source, &mut sink);
+        shelf: &mut Shelf,
+    ) -> Result<Outcome, AllocError> {
+        let script = bytes_of(alloc, self.script, self.length)?;
+        let words = words_of(alloc, self.words)?;
+        let mut source = MemSource::new(script, vec![in alloc; self.source_fails]?);
+        let mut sink = MemSink::new(alloc, vec![in alloc; self.sink_fails]?);
+        let mut shop = shelf.shop()?;
+        let ran = run(handle, alloc, &words, &mut source, &mut sink, &mut shop);
+        shelf.take_back(&ran.disks)?;
         Ok(Outcome { ran, sink })
     }
 }

@@ -3,17 +3,27 @@
 //! A case is the command's words, the calls at which the source and the sink fail (0: never), and the
 //! script, with bars between them. Where a fifth field stands, blanks are put behind the script up to that
 //! length. Blank lines and titles, which begin with `#`, are printed as they are.
+//!
+//! A case runs over empty disks in memory, but that a line before it begins with `disks:`, which is printed
+//! too. Behind that stand steps with `;` between:
+//! - `keep`: the disks are those that came back from the last case.
+//! - `image N BODY ..`: disk N is a journal of these records, each body in hex.
+//! - `fail N CALL done CALL not ..`: disk N fails at these calls, its work done or not.
+//! - `shop N ..`: the shop fails at these numbers.
 #![tactic(auto)]
 
 mod case;
-mod last;
+mod shelf;
+mod step;
 mod told;
 
 use case::Case;
-use last::print_at_the_last;
 use qc_run::{Status, fault_line};
+use shelf::Shelf;
 use std::alloc::Global;
 use std::io;
+use std::sync::Wait;
+use step::Step;
 use told::{print_outcome, print_text};
 
 // Prints the line of each status that no case can reach.
@@ -25,12 +35,33 @@ fn print_unreached(rt: &HostRuntime, alloc: Global) -> io::Result<()> {
     Ok(())
 }
 
-fn answer(rt: &HostRuntime, alloc: Global, line: &str) -> io::Result<()> {
+// Makes the steps of a line on the disks of the next case.
+fn prepare(rt: &HostRuntime, alloc: Global, shelf: &mut Shelf, steps: &str) -> io::Result<()> {
+    println!(rt; "disks:{steps}")?;
+    for text in steps.split(';') {
+        if !shelf.step(&Step::of(alloc, text)?)? {
+            println!(rt; "no step: {text}")?;
+        }
+    }
+    Ok(())
+}
+
+// Prints a line, makes its steps, or runs the case that it is.
+fn answer<R: Wait>(
+    handle: &R,
+    rt: &HostRuntime,
+    alloc: Global,
+    shelf: &mut Shelf,
+    line: &str,
+) -> io::Result<()> {
     if line.is_empty() || line.starts_with('#') {
         return println!(rt; "{line}");
     }
+    if let Some(steps) = line.strip_prefix("disks:") {
+        return prepare(rt, alloc, shelf, steps);
+    }
     match Case::of(line) {
-        Some(case) => print_outcome(rt, &case.run(alloc)?),
+        Some(case) => print_outcome(rt, &case.run(handle, alloc, shelf)?),
         None => println!(rt; "no case: {line}"),
     }
 }
@@ -38,9 +69,9 @@ fn answer(rt: &HostRuntime, alloc: Global, line: &str) -> io::Result<()> {
 fn main(rt: HostRuntime) -> io::Result<()> {
     let alloc = rt.alloc();
     print_unreached(&rt, alloc)?;
-    print_at_the_last(&rt, alloc)?;
+    let mut shelf = Shelf::new(alloc);
     for line in rt.lines(alloc) {
-        answer(&rt, alloc, line?.as_str())?;
+        answer(&rt, &rt, alloc, &mut shelf, line?.as_str())?;
     }
     Ok(())
 }

@@ -1,5 +1,6 @@
 //! What is printed of a run.
 use crate::case::Outcome;
+use qc_disk::MemDisk;
 use qc_event::{Entry, Event, Kind, Op};
 use qc_run::Ran;
 use std::io;
@@ -24,7 +25,7 @@ pub(crate) fn print_text(rt: &HostRuntime, bytes: &[u8]) -> io::Result<()> {
 }
 
 // Prints the number of grants at each copy.
-fn print_grants(rt: &HostRuntime, ran: &Ran) -> io::Result<()> {
+fn print_grants(rt: &HostRuntime, ran: &Ran<MemDisk>) -> io::Result<()> {
     print!(rt; "grants")?;
     for copy in 0..ran.start.copies() {
         let granted = ran.trail.iter().filter(|e| is_granted_at(e, copy));
@@ -40,9 +41,9 @@ fn is_granted_at(entry: &Entry, at: usize) -> bool {
     }
 }
 
-/// Prints what began and what the copies answered, in order: a body by its number, `[0]`; a grant by its
+// Prints what began and what the copies answered, in order: a body by its number, `[0]`; a grant by its
 /// operation and copy, `g0` for a read, `v0` for a value, `c0` for a configuration; a refusal by its copy, `!0`.
-pub(crate) fn print_order(rt: &HostRuntime, trail: &[Entry]) -> io::Result<()> {
+fn print_order(rt: &HostRuntime, trail: &[Entry]) -> io::Result<()> {
     print!(rt; "order")?;
     for entry in trail {
         print_step(rt, &entry.event)?;

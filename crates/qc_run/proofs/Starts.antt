@@ -1,17 +1,16 @@
--- The first tuples of a proper script's table are a proper base, and carry the rows' start values.
+-- The first tuples of a proper script's table carry the start values of its rows.
 use Rattle.std.proofs.Common.{◌≡◌, ℕ, zero, suc, ◌+◌, ◌<◌, true, List, [], ◌∷◌, length, map, replicate, Option, Some, None, refl, sym, ap, ◌∙◌, subst, arith}
-use Rattle.std.specs.Prelude.{All, MatchOption, slice_get, slice_index_or, sum, nat_le, ◌==◌, IsTrue}
+use Rattle.std.specs.Prelude.{MatchOption, slice_get, slice_index_or, sum, nat_le, ◌==◌, IsTrue}
 use Rattle.std.specs.List.{AllByRecursion}
 use Rattle.std.specs.Option.{option_map}
 use Rattle.std.proofs.lemmas.Bool.{le-leb}
-use Rattle.std.proofs.lemmas.List.{length-map, length-replicate}
-use Rattle.std.proofs.lemmas.List.Elements.{All-nil, All-cons, All-map, All-replicate}
+use Rattle.std.proofs.lemmas.List.{length-map}
+use Rattle.std.proofs.lemmas.List.Elements.{All-nil, All-cons, All-replicate}
 use Rattle.std.proofs.lemmas.List.Sums.{sum_by-cons}
 use Rattle.std.proofs.lemmas.Option.{slice_get-map, get_or_from_slice_get}
 use Rattle.qc_config.specs.Config.{IsLegal, weight, holds_write, no_config}
 use Rattle.qc_config.specs.declared.tuple.Tuple.{Tuple}
-use Rattle.qc_event.specs.Base.{first_of, no_tuple, IsConfigFor, IsRowFor}
-use Rattle.qc_event.specs.Base.{IsProper as IsProperSetting}
+use Rattle.qc_event.specs.Base.{first_of, no_tuple}
 use Rattle.qc_event.specs.Sound.{Carries, IsSound, HasValue, column, greatest_version}
 use Rattle.qc_event.specs.Tables.{base_of, setting_of, first_tuple, first_configs, first_values}
 use Rattle.qc_event.specs.declared.table.Row.{Row}
@@ -33,10 +32,6 @@ at_place : {X : Type 0} (P : X → Type 0) (xs : List X) (k : ℕ) (x : X) → A
 at_place P [] k x all is = absurd cc
 at_place P (y ∷ xs) zero x all is = let same : y ≡ x = cc in subst P same all.0
 at_place P (y ∷ xs) (suc k) x all is = at_place P xs k x all.1 is
-
-all_of : {X : Type 0} (P : X → Type 0) (xs : List X) → AllByRecursion P xs → All P xs
-all_of P [] all = All-nil P
-all_of P (x ∷ xs) all = All-cons P x xs all.0 (all_of P xs all.1)
 
 -- ONE RECORD
 
@@ -80,9 +75,6 @@ first_row table = map first_tuple table.records
 pub firsts_length : (table : Table) → length (first_configs table) ≡ length table.records
 firsts_length table = length-map table.records (λ (r : Row). r.config)
 
-pub base_length : (table : Table) → length (base_of table) ≡ table.copies
-base_length table = length-replicate table.copies (first_row table)
-
 column_is : (table : Table) (rec : ℕ) (row : Row) → slice_get table.records rec ≡ Some row → column (base_of table) rec ≡ replicate table.copies (first_tuple row)
 column_is table rec row is =
     map_replicate (λ (ts : List Tuple). slice_index_or ts rec no_tuple) table.copies (first_row table)
@@ -116,30 +108,3 @@ pub start_is_sound : (s : ScriptPlan) → IsProper s → IsSound (setting_of s.t
 start_is_sound s proper rec there =
     let size = firsts_length s.table in
     by_row s rec (slice_get s.table.records rec) proper (omega arith) refl
-
--- a table of legal configurations for its copies, and its first tuples, are a proper setting
-pub setting_is_proper : (s : ScriptPlan) → IsProper s → IsProperSetting (setting_of s.table (base_of s.table))
-setting_is_proper s proper =
-    let size = base_length s.table in
-    let many = firsts_length s.table in
-    let some_copy = proper.some_copy in
-    let few_copies = proper.few_copies in
-    let some_record = proper.some_records in
-    let few_records = proper.few_records in
-    record {
-      base = record {
-        some_copy = omega arith;
-        most_copies = omega arith;
-        some_record = omega arith;
-        most_records = omega arith;
-        rows = All-replicate (IsRowFor (length (base_of s.table)) (length (first_configs s.table))) s.table.copies (first_row s.table) (record {
-          same_records = length-map s.table.records first_tuple ∙ sym many;
-          configs = All-map (λ (t : Tuple). IsConfigFor (length (base_of s.table)) t.config) first_tuple s.table.records fitting;
-        });
-      };
-      firsts = All-map (IsConfigFor (length (base_of s.table))) (λ (r : Row). r.config) s.table.records fitting;
-    }
-  where
-    fitting : All (λ (r : Row). IsConfigFor (length (base_of s.table)) r.config) s.table.records
-    fitting = all_of (λ (r : Row). IsConfigFor (length (base_of s.table)) r.config) s.table.records
-        (subst (λ n. AllByRecursion (λ (r : Row). IsConfigFor n r.config) s.table.records) (sym (base_length s.table)) proper.rows)

@@ -1,15 +1,18 @@
 -- What was taken of a source's bytes tells what all of them are.
 use Rattle.std.proofs.Common.{◌≡◌, ℕ, ◌≤◌, ◌^◌, List, [], length, take, refl, sym, ap, subst, ◌∙◌, arith}
-use Rattle.std.specs.Prelude.{Option, None, Some, IfSome, min}
+use Rattle.std.specs.Prelude.{Option, None, Some, IfSome, Ok, min}
 use Rattle.std.proofs.lemmas.List.{length-take, take_all}
 use Rattle.qc_script.specs.declared.bad_script.BadScript.{BadScript}
 use Rattle.qc_script.specs.declared.bad_script.BadScript.TheVariants.{NotJson, Shape, Limit, Config, Unknown, TooLong, Twice, Memory}
 use Rattle.qc_script.specs.Plan.{ScriptPlan}
 use Rattle.qc_run.specs.declared.status.Status.{Status}
 use Rattle.qc_run.specs.declared.status.Status.TheVariants as status
-use Rattle.qc_io.specs.Io.{Drops, IsAtEnd}
+use Rattle.qc_io.specs.Io.{Drops, IsAtEnd, SourceView}
+use Rattle.qc_run.specs.Left.{IsNoScript, IsUnread}
 use Rattle.qc_script.specs.Reading.{IsScript, IsRefused}
-use Rattle.qc_run.specs.Run.{ReadsScript, ReadIt, IsScriptFault, IsNoRun, IsDoneOrShort}
+use Rattle.qc_run.specs.Run.{ReadsScript, ReadIt, IsScriptFault, IsNoRun, IsRun}
+use Rattle.serde_json.specs.Data.{Data}
+use Rattle.qc_script.specs.ScriptText.{script_of, Read}
 use Rattle.qc_script.proofs.OneScript.{script_not_refused}
 
 -- one byte more than a script may have
@@ -55,15 +58,22 @@ refused_before left bytes (Unknown name) taken no_script = subst (λ x. IsRefuse
 refused_before left bytes (Twice name) taken no_script = subst (λ x. IsRefused x (Twice name)) (sym (all_taken left bytes taken no_script.short)) no_script
 
 -- what is refused of the bytes taken is refused of all
-pub fault_of_all : (left : Option (List ℕ)) (bytes : List ℕ) (answer : Status) → IfSome left (λ l. bytes ≡ take most l) → IsScriptFault (Some bytes) answer → IsScriptFault left answer
-fault_of_all None bytes (status.Script e) taken fault = (tt, fault.1)
-fault_of_all (Some l) bytes (status.Script e) taken fault = (refused_before l bytes e taken fault.0, fault.1)
-fault_of_all left bytes status.Done taken fault = tt
-fault_of_all left bytes status.Usage taken fault = tt
-fault_of_all left bytes status.ReadFault taken fault = tt
-fault_of_all left bytes status.WriteFault taken fault = tt
-fault_of_all left bytes status.Memory taken fault = tt
-fault_of_all left bytes status.Room taken fault = tt
+pub fault_of_all : (left : Option (List ℕ)) (bytes : List ℕ) (e : BadScript) → IfSome left (λ l. bytes ≡ take most l) → IsRefused bytes e → IfSome left (λ l. IsRefused l e)
+fault_of_all None bytes e taken refused = tt
+fault_of_all (Some l) bytes e taken refused = refused_before l bytes e taken refused
+
+-- why bytes that were taken are no script is why none was read
+pub unread : (words : List (List ℕ)) (before now : SourceView) (bytes : List ℕ) (answer : Status) → IfSome before.left (λ l. bytes ≡ take most l) → IsNoScript bytes answer → IsUnread words before now answer
+unread words before now bytes (status.Script e) taken none = (fault_of_all before.left bytes e taken none.0, none.1)
+unread words before now bytes status.Memory taken none = tt
+unread words before now bytes status.Done taken none = absurd none
+unread words before now bytes status.InDoubt taken none = absurd none
+unread words before now bytes status.Usage taken none = absurd none
+unread words before now bytes status.ReadFault taken none = absurd none
+unread words before now bytes status.WriteFault taken none = absurd none
+unread words before now bytes (status.DiskFault which) taken none = absurd none
+unread words before now bytes (status.Image bad) taken none = absurd none
+unread words before now bytes status.Room taken none = absurd none
 
 no_run : (l : List ℕ) (now : Option (List ℕ)) (s : ScriptPlan) → ((s : ScriptPlan) → IsScript l s → ⊥) → ReadsScript (Some l) now s → ⊥
 no_run l now s none reads = none s (subst (λ x. IsScript x s) (sym reads.held) reads.is_script)
@@ -76,15 +86,41 @@ none_was_run (Some l) now (status.Script e) command started = λ none. tt
 none_was_run (Some l) now status.ReadFault command started = λ none. tt
 none_was_run (Some l) now status.Memory command started = λ none. tt
 none_was_run (Some l) now status.Done command started = λ none. no_run l now (started tt).0 none (started tt).1
+none_was_run (Some l) now status.InDoubt command started = λ none. no_run l now (started tt).0 none (started tt).1
 none_was_run (Some l) now status.WriteFault command started = λ none. no_run l now (started tt).0 none (started tt).1
+none_was_run (Some l) now (status.DiskFault which) command started = λ none. no_run l now (started tt).0 none (started tt).1
+none_was_run (Some l) now (status.Image bad) command started = λ none. no_run l now (started tt).0 none (started tt).1
 none_was_run (Some l) now status.Room command started = λ none. no_run l now (started tt).0 none (started tt).1
 
--- where the bytes are a script and no stream failed, it was run as far as there was memory and room
-pub script_was_run : (bytes : List ℕ) (s : ScriptPlan) (answer : Status) (R W : Type 0) → IsScript bytes s → IsScriptFault (Some bytes) answer → (answer ≡ status.Usage → ⊥) → (answer ≡ status.ReadFault → R) → (answer ≡ status.WriteFault → W) → (R → ⊥) → (W → ⊥) → IsDoneOrShort answer
+-- where the bytes are a script and no stream failed, it was run, or no store was mounted for it
+pub script_was_run : (bytes : List ℕ) (s : ScriptPlan) (answer : Status) (R W : Type 0) → IsScript bytes s → IsScriptFault (Some bytes) answer → (answer ≡ status.Usage → ⊥) → (answer ≡ status.ReadFault → R) → (answer ≡ status.WriteFault → W) → (R → ⊥) → (W → ⊥) → IsRun answer
 script_was_run bytes s status.Done R W is fault command read write r w = tt
+script_was_run bytes s status.InDoubt R W is fault command read write r w = tt
+script_was_run bytes s (status.DiskFault which) R W is fault command read write r w = tt
+script_was_run bytes s (status.Image bad) R W is fault command read write r w = tt
 script_was_run bytes s status.Memory R W is fault command read write r w = tt
 script_was_run bytes s status.Room R W is fault command read write r w = tt
 script_was_run bytes s status.Usage R W is fault command read write r w = command refl
 script_was_run bytes s status.ReadFault R W is fault command read write r w = r (read refl)
 script_was_run bytes s status.WriteFault R W is fault command read write r w = w (write refl)
 script_was_run bytes s (status.Script e) R W is fault command read write r w = fault.1 (script_not_refused bytes s e is fault.0)
+
+one_value : (x y : Data) (o : Option Data) → o ≡ Some x → o ≡ Some y → x ≡ y
+one_value x y o p q = cc
+
+abbrev read_as : ScriptPlan → Read ScriptPlan
+read_as s = Ok s
+
+one_plan : (s other : ScriptPlan) → read_as s ≡ read_as other → s ≡ other
+one_plan s other same = cc
+
+-- bytes are one script at most
+one_script : (bytes : List ℕ) (s other : ScriptPlan) → IsScript bytes s → IsScript bytes other → s ≡ other
+one_script bytes s other x y = one_plan s other (sym x.reads ∙ ap script_of (one_value x.value y.value _ x.json.reads y.json.reads) ∙ y.reads)
+
+-- the script that a source held is the one that its bytes are
+pub same_script : (left now : Option (List ℕ)) (bytes : List ℕ) (s other : ScriptPlan) → left ≡ Some bytes → IsScript bytes s → ReadsScript left now other → s ≡ other
+same_script None now bytes s other held is reads = absurd cc
+same_script (Some l) now bytes s other held is reads =
+    let all : l ≡ bytes = cc in
+    one_script bytes s other is (subst (λ x. IsScript x other) (sym reads.held ∙ all) reads.is_script)

@@ -1,6 +1,8 @@
 -- The line that tells why a run gave no report, and the number with which the process ends.
 use Rattle.std.specs.Prelude.{ℕ, [], ◌++◌, codes}
 use Rattle.std.specs.Fmt.{decimal}
+use Rattle.qc_codec.specs.declared.image.ImageFault.{ImageFault}
+use Rattle.qc_codec.specs.declared.image.ImageFault.TheVariants as image
 use Rattle.qc_config.specs.declared.config.BadConfig.{BadConfig}
 use Rattle.qc_config.specs.declared.config.BadConfig.TheVariants as config
 use Rattle.qc_script.specs.declared.bad_script.BadScript.{BadScript}
@@ -18,6 +20,9 @@ exit_code status.Usage = 2
 exit_code (status.Script why) = 3
 exit_code status.ReadFault = 4
 exit_code status.WriteFault = 5
+exit_code (status.DiskFault disk) = 6
+exit_code (status.Image bad) = 7
+exit_code status.InDoubt = 8
 exit_code status.Memory = 9
 exit_code status.Room = 14
 
@@ -68,6 +73,14 @@ script_fault bad.TooLong = codes "too long"
 script_fault (bad.Twice label) = codes "twice " ++ label
 script_fault bad.Memory = codes "memory"
 
+-- what is wrong with the image of a disk
+abbrev pub image_fault : ImageFault → Text
+image_fault (image.Broken place) = codes "broken at " ++ decimal place
+image_fault (image.Grammar index) = codes "record " ++ decimal index ++ codes " grammar"
+image_fault (image.Full place) = codes "full at " ++ decimal place
+image_fault (image.Table kept asked) = codes "table"
+image_fault (image.Epoch epoch) = codes "epoch " ++ decimal epoch
+
 -- the line that tells a fault; nothing where there is none, or where nothing more can be written
 abbrev pub fault_line : Status → Text
 fault_line status.Done = []
@@ -75,5 +88,8 @@ fault_line status.Usage = codes "usage: qc run [--dir PATH] [--serial] | qc gen 
 fault_line (status.Script why) = codes "qc: script: " ++ script_fault why ++ codes "\n"
 fault_line status.ReadFault = codes "qc: read fault\n"
 fault_line status.WriteFault = []
+fault_line (status.DiskFault disk) = codes "qc: disk " ++ decimal disk ++ codes " fault\n"
+fault_line (status.Image bad) = codes "qc: image: disk " ++ decimal bad.disk ++ codes " " ++ image_fault bad.fault ++ codes "\n"
+fault_line status.InDoubt = []
 fault_line status.Memory = []
 fault_line status.Room = codes "qc: room\n"

@@ -1,12 +1,16 @@
 //! Runs a script of sessions over a replicated record store, and reports what happened.
 #![tactic(auto)]
 
+mod finishing;
 mod program;
-mod start;
+mod ran;
+mod refusing;
+mod spelling;
 mod status;
 mod words;
 
-pub use program::{Ran, run};
+pub use program::run;
 pub use qc_io as io;
 pub use qc_script::{BadScript, Member};
+pub use ran::Ran;
 pub use status::{Status, fault_line};

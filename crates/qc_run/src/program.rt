@@ -1,309 +1,170 @@
-//! The top call: all that the program does, over the streams that it is handed.
-ghost use Rattle.std.specs.Prelude.{ℕ, List, ⊤, ◌≡◌, ◌≤◌, ◌⊎◌, [], false, true, length, map, reverse, string_bytes, Some, IfSome, IfOk};
-ghost use Rattle.qc_event.specs.History.{limit};
+//! The top call: all that the program does, over the streams and the shop of disks that it is handed.
+ghost use Rattle.std.specs.Prelude.{ℕ, List, ⊤, ◌≡◌, ◌≤◌, ◌⊎◌, [], length, map, reverse, string_bytes, Some, IfSome};
+ghost use Rattle.qc_codec.specs.Bodies as body;
+ghost use Rattle.qc_event.specs.History.{Name, limit};
 ghost use Rattle.qc_event.specs.Legal.{Legal};
 ghost use Rattle.qc_event.specs.Sound.{IsSound};
 ghost use Rattle.qc_event.specs.Tables.{base_of, first_values, setting_of};
-ghost use Rattle.qc_script.specs.Plan.{ScriptPlan};
-ghost use Rattle.qc_script.specs.Steps.{plan_of_script};
-ghost use Rattle.qc_run.specs.FaultLine.{fault_line};
 ghost use Rattle.qc_io.specs.Io.{Rose, Keeps, Appends, AppendsFront, Drops, LosesWithin};
+ghost use Rattle.qc_mount.specs.Images.{AreSound, IsFirstFault};
+ghost use Rattle.qc_opening.specs.Stored.{AllTell, AreImages, HavePaid};
+ghost use Rattle.qc_refine.specs.Images.{IsStanding, Restores};
+ghost use Rattle.qc_script.specs.Plan.{ScriptPlan};
 ghost use Rattle.qc_script.specs.Reading.{IsScript, IsProper};
+ghost use Rattle.qc_script.specs.Steps.{plan_of_script};
+ghost use Rattle.qc_standing.specs.Mountings.{HaveNoGrants};
+ghost use Rattle.qc_codec.specs.declared.image.BadImage.{BadImage};
+ghost use Rattle.qc_run.specs.Left as left;
 ghost use Rattle.qc_run.specs.Run as terms;
 ghost use Rattle.qc_run.specs.Words as line;
 
-use crate::io::{Sink, Source, Untaken, take_all, write_all};
-use crate::start::open;
-use crate::status::{ROOM_LINE, Status, fault_line};
-use crate::words::is_command;
-use qc_client::LoneClient;
-use qc_event::{Base, Entry, Short, Table};
-use qc_report::{History, finals, report};
+use crate::finishing::finish;
+use crate::io::{Sink, Source, Untaken, take_all};
+use crate::ran::Ran;
+use crate::refusing::{nothing, refuse, unmounted};
+use crate::spelling::is_spelled;
+use crate::status::Status;
+use crate::words::place_of;
+use qc_disk::Shop;
+use qc_mount::one_verdict;
+use qc_opening::run_stored;
 use qc_script::{BadScript, MOST_BYTES, Script};
-use std::alloc::{AllocError, Global};
+use qc_session::Ended;
+use std::alloc::Global;
+use std::sync::Wait;
 
-/// What a run answers: how it ended, the tuples from which it started, and its history, the oldest
-/// entry first.
-#[derive(Debug, Drop)]
-pub struct Ran {
-    pub status: Status,
-    pub start: Base,
-    pub trail: Vec<Entry>,
-}
+/// The most bytes of a journal.
+const JOURNAL_LIMIT: u64 = 1 << 40;
 
-// A run that began nothing.
-fn nothing(alloc: Global, status: Status) -> Ran
-    ensures status { result.status ≡ status }
-    ensures start { result.start ≡ [] }
-    ensures trail { result.trail.items ≡ [] }
-{
-    Ran {
-        status,
-        start: Base::new(Vec::new(alloc)),
-        trail: Vec::new(alloc),
-    }
-}
-
-// Writes the line of a fault, and answers it; or that there was no memory for the line.
-fn tell<K: Sink>(alloc: Global, status: Status, sink: &mut K) -> Status
-    requires { terms.IsTold status }
-    ensures answer { terms.IsOrMemory status result }
-    ensures told { terms.IsTold result
-        → terms.TellsFault (K.view sink.old).taken (K.view sink.new).taken
-        (K.view sink.old).faults (K.view sink.new).faults result }
-    ensures short { result ≡ Status.Memory → Keeps (K.view sink.old).taken (K.view sink.new).taken }
-    ensures faults { (K.view sink.old).faults ≤ (K.view sink.new).faults }
-{
-    match fault_line(alloc, &status) {
-        Ok(line) => {
-            let _ = write_all(sink, line.as_slice());
-            status
-        }
-        Err(AllocError) => Status::Memory,
-    }
-}
-
-// The report of what a client has done.
-fn page_of(alloc: Global, table: &Table, client: &LoneClient) -> Result<Vec<u8>, AllocError>
-    requires copies { length client.now.client.setting.base ≤ 16 }
-    requires records { length table.now.records ≤ 64 }
-    ensures { IfOk result (λ text. text.items ≡ terms.page table.now client.now) }
-{
-    let trail = client.entries();
-    let history = History::indexed(trail, client.index());
-    let records = table.records.as_slice().len();
-    let values = finals(alloc, client.base(), &history, records)?;
-    report(alloc, table, values.as_slice(), &history)
-}
-
-// Reports a client whose session has run to its end.
-fn conclude<K: Sink>(alloc: Global, table: &Table, client: &LoneClient, sink: &mut K) -> Status
-    requires copies { length client.now.client.setting.base ≤ 16 }
-    requires records { length table.now.records ≤ 64 }
-    ensures answer { terms.IsConcluded result }
-    ensures done { result ≡ Status.Done
-        → Appends (K.view sink.old).taken (K.view sink.new).taken
-        (terms.page table.now client.now) }
-    ensures front { result ≡ Status.WriteFault
-        → AppendsFront (K.view sink.old).taken (K.view sink.new).taken
-        (terms.page table.now client.now) }
-    ensures short { result ≡ Status.Memory → Keeps (K.view sink.old).taken (K.view sink.new).taken }
-    ensures fault { result ≡ Status.WriteFault
-        → Rose (K.view sink.old).faults (K.view sink.new).faults }
-    ensures faults { (K.view sink.old).faults ≤ (K.view sink.new).faults }
-{
-    match page_of(alloc, table, client) {
-        Ok(text) => match write_all(sink, text.as_slice()) {
-            Ok(()) => Status::Done,
-            Err(_) => Status::WriteFault,
-        },
-        Err(AllocError) => Status::Memory,
-    }
-}
-
-// Ends a run that stopped since memory ran out or the history is full. To tell of the latter takes no memory.
-fn halt<K: Sink>(short: Short, sink: &mut K) -> Status
-    ensures answer { terms.IsHalted short result }
-    ensures told { terms.IsTold result
-        → terms.TellsFault (K.view sink.old).taken (K.view sink.new).taken
-        (K.view sink.old).faults (K.view sink.new).faults result }
-    ensures short { result ≡ Status.Memory → Keeps (K.view sink.old).taken (K.view sink.new).taken }
-    ensures faults { (K.view sink.old).faults ≤ (K.view sink.new).faults }
-{
-    match short {
-        Short::Memory => Status::Memory,
-        Short::Room => {
-            let _ = write_all(sink, ROOM_LINE);
-            Status::Room
-        }
-    }
-}
-
-// Runs a script from its start, and reports it.
-fn proceed<K: Sink>(alloc: Global, script: &Script, mut client: LoneClient, sink: &mut K) -> Ran
+// Runs a proper script over the disks of a place, and reports it.
+fn perform<R: Wait, K: Sink, H: Shop>(
+    rt: &R,
+    alloc: Global,
+    place: &str,
+    script: &Script,
+    sink: &mut K,
+    shop: &mut H,
+) -> Ran<H::D>
+where
+    H::D: Drop,
     requires proper { IsProper (plan_of_script script.now) }
-    requires client { client ≡ terms.fresh (plan_of_script script.now) }
-    ensures history { terms.HasHistory result.start result.trail.items (plan_of_script script.now) }
-    ensures start { result.start ≡ base_of script.now.table }
-    ensures follows { terms.RanToEnd result.status
-        → terms.Follows (plan_of_script script.now) result.trail.items }
-    ensures answer { terms.IsPerformed result.status }
-    ensures done { result.status ≡ Status.Done
-        → Appends (K.view sink.old).taken (K.view sink.new).taken
-        (terms.report_of (plan_of_script script.now) result.start result.trail.items) }
-    ensures front { result.status ≡ Status.WriteFault
-        → AppendsFront (K.view sink.old).taken (K.view sink.new).taken
-        (terms.report_of (plan_of_script script.now) result.start result.trail.items) }
-    ensures told { terms.IsTold result.status
-        → terms.TellsFault (K.view sink.old).taken (K.view sink.new).taken
-        (K.view sink.old).faults (K.view sink.new).faults result.status }
-    ensures short { result.status ≡ Status.Memory
-        → Keeps (K.view sink.old).taken (K.view sink.new).taken }
-    ensures fault { result.status ≡ Status.WriteFault
-        → Rose (K.view sink.old).faults (K.view sink.new).faults }
-    ensures room { result.status ≡ Status.Room → length result.trail.items ≡ limit }
-    ensures faults { (K.view sink.old).faults ≤ (K.view sink.new).faults }
+    requires spelled { (body.table 1).fits script.now.table }
+    ensures answer { left.IsAnswer H.D.view (plan_of_script script.now)
+        ((H.view shop.old).offers place.now) (H.view shop.old).faults (H.view shop.new).faults
+        (K.view sink.old) (K.view sink.new) result }
+    ensures disks { (p : List ℕ) (n : ℕ) → length result.disks.items ≤ n
+        → (H.view shop.new).offers p n ≡ (H.view shop.old).offers p n }
+    ensures shop_faults { (H.view shop.old).faults ≤ (H.view shop.new).faults }
 {
-    let status = match client.run(script.session.tops.as_slice()) {
-        Ok(()) => conclude(alloc, &script.table, &client, sink),
-        Err(short) => halt(short, sink),
-    };
-    let (start, trail) = client.into_parts();
-    Ran {
-        status,
-        start,
-        trail,
+    match run_stored(rt, alloc, shop, place, script, JOURNAL_LIMIT) {
+        Ok(stored) => {
+            let Ended {
+                ran,
+                start,
+                trail,
+                disks,
+            } = stored.ended;
+            let status = finish(alloc, &script.table, ran, &start, trail.as_slice(), sink);
+            Ran {
+                status,
+                start,
+                trail,
+                disks,
+            }
+        }
+        Err(refused) => unmounted(alloc, refused, sink),
     }
 }
 
-// Runs a proper script, and reports it.
-fn perform<K: Sink>(alloc: Global, script: &Script, sink: &mut K) -> Ran
-    requires { IsProper (plan_of_script script.now) }
-    ensures history { terms.NoneBegun result.start result.trail.items
-        ⊎ ((result.start ≡ base_of script.now.table)
-        × terms.HasHistory result.start result.trail.items (plan_of_script script.now)) }
-    ensures start { terms.ReadIt result.status → result.start ≡ base_of script.now.table }
-    ensures follows { terms.RanToEnd result.status
-        → terms.Follows (plan_of_script script.now) result.trail.items }
-    ensures answer { terms.IsPerformed result.status }
-    ensures done { result.status ≡ Status.Done
-        → Appends (K.view sink.old).taken (K.view sink.new).taken
-        (terms.report_of (plan_of_script script.now) result.start result.trail.items) }
-    ensures front { result.status ≡ Status.WriteFault
-        → AppendsFront (K.view sink.old).taken (K.view sink.new).taken
-        (terms.report_of (plan_of_script script.now) result.start result.trail.items) }
-    ensures told { terms.IsTold result.status
-        → terms.TellsFault (K.view sink.old).taken (K.view sink.new).taken
-        (K.view sink.old).faults (K.view sink.new).faults result.status }
-    ensures short { result.status ≡ Status.Memory
-        → Keeps (K.view sink.old).taken (K.view sink.new).taken }
-    ensures fault { result.status ≡ Status.WriteFault
-        → Rose (K.view sink.old).faults (K.view sink.new).faults }
-    ensures room { result.status ≡ Status.Room → length result.trail.items ≡ limit }
-    ensures faults { (K.view sink.old).faults ≤ (K.view sink.new).faults }
-{
-    match open(alloc, script) {
-        Ok(client) => proceed(alloc, script, client, sink),
-        Err(AllocError) => nothing(alloc, Status::Memory),
-    }
-}
-
-// Refuses to run, and tells why.
-fn refuse<K: Sink>(alloc: Global, status: Status, sink: &mut K) -> Ran
-    requires { terms.IsTold status }
-    ensures answer { terms.IsOrMemory status result.status }
-    ensures start { result.start ≡ [] }
-    ensures trail { result.trail.items ≡ [] }
-    ensures told { terms.IsTold result.status
-        → terms.TellsFault (K.view sink.old).taken (K.view sink.new).taken
-        (K.view sink.old).faults (K.view sink.new).faults result.status }
-    ensures short { result.status ≡ Status.Memory
-        → Keeps (K.view sink.old).taken (K.view sink.new).taken }
-    ensures faults { (K.view sink.old).faults ≤ (K.view sink.new).faults }
-{
-    let status = tell(alloc, status, sink);
-    nothing(alloc, status)
-}
-
-// Runs the script that the bytes are, or refuses them.
-fn over<K: Sink>(alloc: Global, bytes: &[u8], sink: &mut K) -> Ran
-    ensures history { terms.OfBytesRun bytes.now result.start result.trail.items
-        (terms.HasHistory result.start result.trail.items) }
-    ensures nothing_begun { terms.BeganNothing result.status
-        → (result.trail.items ≡ []) × (result.start ≡ []) }
-    ensures started { terms.ReadIt result.status → terms.OfBytes bytes.now result.start (λ _. ⊤) }
-    ensures follows { terms.RanToEnd result.status → terms.OfBytes bytes.now result.start
-        (λ s. terms.Follows s result.trail.items) }
-    ensures answer { terms.IsOver result.status }
-    ensures refused { terms.IsScriptFault (Some bytes.now) result.status }
-    ensures done { result.status ≡ Status.Done → terms.OfBytes bytes.now result.start
-        (λ s. Appends (K.view sink.old).taken (K.view sink.new).taken
-        (terms.report_of s result.start result.trail.items)) }
-    ensures front { result.status ≡ Status.WriteFault → terms.OfBytes bytes.now result.start
-        (λ s. AppendsFront (K.view sink.old).taken (K.view sink.new).taken
-        (terms.report_of s result.start result.trail.items)) }
-    ensures told { terms.IsTold result.status
-        → terms.TellsFault (K.view sink.old).taken (K.view sink.new).taken
-        (K.view sink.old).faults (K.view sink.new).faults result.status }
-    ensures short { result.status ≡ Status.Memory
-        → Keeps (K.view sink.old).taken (K.view sink.new).taken }
-    ensures fault { result.status ≡ Status.WriteFault
-        → Rose (K.view sink.old).faults (K.view sink.new).faults }
-    ensures room { result.status ≡ Status.Room → length result.trail.items ≡ limit }
-    ensures faults { (K.view sink.old).faults ≤ (K.view sink.new).faults }
+// Runs the script that the bytes are over the disks of a place, or refuses them.
+fn over<R: Wait, K: Sink, H: Shop>(
+    rt: &R,
+    alloc: Global,
+    place: &str,
+    bytes: &[u8],
+    sink: &mut K,
+    shop: &mut H,
+) -> Ran<H::D>
+where
+    H::D: Drop,
+    ensures answer { left.IsAnswerToBytes H.D.view bytes.now
+        ((H.view shop.old).offers place.now) (H.view shop.old).faults (H.view shop.new).faults
+        (K.view sink.old) (K.view sink.new) result }
+    ensures disks { (p : List ℕ) (n : ℕ) → length result.disks.items ≤ n
+        → (H.view shop.new).offers p n ≡ (H.view shop.old).offers p n }
+    ensures shop_faults { (H.view shop.old).faults ≤ (H.view shop.new).faults }
 {
     match Script::read(alloc, bytes) {
-        Ok(script) => perform(alloc, &script, sink),
-        Err(BadScript::Memory) => nothing(alloc, Status::Memory),
-        Err(bad) => refuse(alloc, Status::Script(bad), sink),
+        Ok(script) => {
+            is_spelled(&script);
+            perform(rt, alloc, place, &script, sink, shop)
+        }
+        Err(BadScript::Memory) => nothing(alloc, Status::Memory, Vec::new(alloc)),
+        Err(bad) => refuse(alloc, Status::Script(bad), Vec::new(alloc), sink),
     }
 }
 
 // Does what the words say.
-fn answer<S: Source, K: Sink>(alloc: Global, words: &[String], source: &mut S, sink: &mut K) -> Ran
-    ensures history { terms.OfRun (S.view source.old).left (S.view source.new).left result.start
-        result.trail.items (terms.HasHistory result.start result.trail.items) }
-    ensures nothing_begun { terms.BeganNothing result.status
-        → (result.trail.items ≡ []) × (result.start ≡ []) }
-    ensures started { terms.ReadIt result.status
-        → terms.OfScript (S.view source.old).left (S.view source.new).left result.start (λ _. ⊤) }
-    ensures follows_script { terms.RanToEnd result.status
-        → terms.OfScript (S.view source.old).left (S.view source.new).left result.start
-        (λ s. terms.Follows s result.trail.items) }
-    ensures output { result.status ≡ Status.Done
-        → terms.OfScript (S.view source.old).left (S.view source.new).left result.start
-        (λ s. Appends (K.view sink.old).taken (K.view sink.new).taken
-        (terms.report_of s result.start result.trail.items)) }
-    ensures output_front { result.status ≡ Status.WriteFault
-        → terms.OfScript (S.view source.old).left (S.view source.new).left result.start
-        (λ s. AppendsFront (K.view sink.old).taken (K.view sink.new).taken
-        (terms.report_of s result.start result.trail.items)) }
-    ensures output_line { terms.IsTold result.status
-        → terms.TellsFault (K.view sink.old).taken (K.view sink.new).taken
-        (K.view sink.old).faults (K.view sink.new).faults result.status }
-    ensures output_none { result.status ≡ Status.Memory
-        → Keeps (K.view sink.old).taken (K.view sink.new).taken }
-    ensures usage { result.status ≡ Status.Usage
-        → line.is_command (map string_bytes words.now) ≡ false }
-    ensures no_command { line.is_command (map string_bytes words.now) ≡ false
-        → terms.IsOrMemory Status.Usage result.status × (source.new ≡ source.old) }
-    ensures script_fault { terms.IsScriptFault (S.view source.old).left result.status }
-    ensures read_fault { result.status ≡ Status.ReadFault
-        → Rose (S.view source.old).faults (S.view source.new).faults }
-    ensures write_fault { result.status ≡ Status.WriteFault
-        → Rose (K.view sink.old).faults (K.view sink.new).faults }
-    ensures room { result.status ≡ Status.Room → length result.trail.items ≡ limit }
+fn answer<R: Wait, S: Source, K: Sink, H: Shop>(
+    rt: &R,
+    alloc: Global,
+    words: &[String],
+    source: &mut S,
+    sink: &mut K,
+    shop: &mut H,
+) -> Ran<H::D>
+where
+    H::D: Drop,
+    ensures answer { left.IsAnswerToWords H.D.view (map string_bytes words.now)
+        (S.view source.old) (S.view source.new) (H.view shop.old) (H.view shop.new).faults
+        (K.view sink.old) (K.view sink.new) result }
+    ensures no_command { line.IsNoCommand (map string_bytes words.now)
+        → terms.IsOrMemory Status.Usage result.status × (source.new ≡ source.old)
+        × (shop.new ≡ shop.old) }
     ensures source_faults { (S.view source.old).faults ≤ (S.view source.new).faults }
-    ensures sink_faults { (K.view sink.old).faults ≤ (K.view sink.new).faults }
     ensures source_taken { terms.ReadWhole result.status
         → Drops (S.view source.old).left (S.view source.new).left terms.most_taken }
     ensures source_within { LosesWithin (S.view source.old).left (S.view source.new).left
         terms.most_taken }
+    ensures disks { (p : List ℕ) (n : ℕ) → length result.disks.items ≤ n
+        → (H.view shop.new).offers p n ≡ (H.view shop.old).offers p n }
+    ensures shop_faults { (H.view shop.old).faults ≤ (H.view shop.new).faults }
 {
-    if !is_command(words) {
-        return refuse(alloc, Status::Usage, sink);
-    }
+    let Some(place) = place_of(words) else {
+        return refuse(alloc, Status::Usage, Vec::new(alloc), sink);
+    };
     match take_all(alloc, source, MOST_BYTES) {
-        Ok(bytes) => over(alloc, bytes.as_slice(), sink),
-        Err(Untaken::Failed) => refuse(alloc, Status::ReadFault, sink),
-        Err(Untaken::Memory) => nothing(alloc, Status::Memory),
+        Ok(bytes) => over(rt, alloc, place, bytes.as_slice(), sink, shop),
+        Err(Untaken::Failed) => refuse(alloc, Status::ReadFault, Vec::new(alloc), sink),
+        Err(Untaken::Memory) => nothing(alloc, Status::Memory, Vec::new(alloc)),
     }
 }
 
-/// Does what the words of the command line say, over these streams: `run` and `run --serial` read a
-/// script from the source, run its session over the copies of its records, by a network that loses,
-/// delays and repeats requests as the script says, and write the report; all other words are refused
-/// with the usage line.
+/// Does what the words of the command line say, over these streams and this shop: `run` reads a script from
+/// the source, runs its session over the copies of its records, whose disks it obtains from the shop at the
+/// place that `--dir` names, by a network that loses, delays and repeats requests as the script says, and
+/// writes the report. All other words are refused with the usage line.
 ///
-/// Whatever it answers, its history is legal, with the requests to copies and their grants in it, and
-/// the serial machine with one value per record accepts the order that completion gives it, in which
-/// every user transaction without an aborted ancestor has exactly its own starts, ends and answers
-/// (Goldman and Lynch; Lynch and Merritt's serial scheduler). The source is read to its end, or one
-/// byte past the longest script. Want of memory may be answered at any time; it leaves the sink as it
-/// was.
-pub fn run<S: Source, K: Sink>(alloc: Global, words: &[String], source: &mut S, sink: &mut K) -> Ran
-    // Nothing was begun, or the source held a script, the run started from its table, and the history is legal over
-    // the first configurations of that table.
+/// Whatever it answers, its history is legal, with the requests to copies and their grants in it, and the
+/// serial machine with one value per record accepts the order that completion gives it, in which every user
+/// transaction without an aborted ancestor has exactly its own starts, ends and answers (Goldman and Lynch;
+/// Lynch and Merritt's serial scheduler). The run starts from what the disks restore, and whatever a crash
+/// leaves of them then stands beside the history, so that a later run goes on from there. The source is read
+/// to its end, or one byte past the longest script. Want of memory may be answered at any time; it leaves the
+/// sink as it was.
+pub fn run<R: Wait, S: Source, K: Sink, H: Shop>(
+    rt: &R,
+    alloc: Global,
+    words: &[String],
+    source: &mut S,
+    sink: &mut K,
+    shop: &mut H,
+) -> Ran<H::D>
+where
+    H::D: Drop,
+
+    // Nothing was begun, or the source held a script, and the history is legal over the first configurations of its
+    // table and the start.
     ensures legal_history { terms.OfRun (S.view source.old).left (S.view source.new).left
         result.start result.trail.items
         (λ s. Legal (setting_of s.table result.start) (reverse result.trail.items)) }
@@ -311,17 +172,14 @@ pub fn run<S: Source, K: Sink>(alloc: Global, words: &[String], source: &mut S, 
         → (result.trail.items ≡ []) × (result.start ≡ []) }
 
     // At each moment of the history, each user transaction without an aborted ancestor has its serial order, from
-    // each map of values for which the start is sound; it is for the start values of the table.
+    // each map of values for which the start is sound.
     ensures serial_order { terms.OfRun (S.view source.old).left (S.view source.new).left
         result.start result.trail.items
         (λ s. terms.HasSerialOrders s.table result.start result.trail.items) }
-    ensures sound_start { terms.OfRun (S.view source.old).left (S.view source.new).left result.start
-        result.trail.items
-        (λ s. IsSound (setting_of s.table result.start) (first_values s.table)) }
 
     // The last values of the report, which go by versions, are then those of the serial machine.
-    ensures last_values { terms.OfRun (S.view source.old).left (S.view source.new).left result.start
-        result.trail.items
+    ensures last_values { terms.OfRun (S.view source.old).left (S.view source.new).left
+        result.start result.trail.items
         (λ s. terms.HasSerialValues s.table result.start result.trail.items) }
 
     // Whatever cut the run off, the history is a beginning of one that follows the script, with requests that meet the
@@ -329,20 +187,65 @@ pub fn run<S: Source, K: Sink>(alloc: Global, words: &[String], source: &mut S, 
     ensures begins_script { terms.OfRun (S.view source.old).left (S.view source.new).left
         result.start result.trail.items (λ s. terms.Begins s result.trail.items) }
     ensures follows_script { terms.RanToEnd result.status
-        → terms.OfScript (S.view source.old).left (S.view source.new).left result.start
+        → terms.OfScript (S.view source.old).left (S.view source.new).left
         (λ s. terms.Follows s result.trail.items) }
     ensures started { terms.ReadIt result.status
-        → terms.OfScript (S.view source.old).left (S.view source.new).left result.start (λ _. ⊤) }
+        → terms.OfScript (S.view source.old).left (S.view source.new).left (λ _. ⊤) }
+
+    // Who was in doubt when the session had run to its end.
+    ensures in_doubt { result.status ≡ Status.InDoubt
+        → (top : Name) × terms.IsInDoubt (reverse result.trail.items) top }
+    ensures none_in_doubt { result.status ≡ Status.Done
+        → (top : Name) → terms.IsInDoubt (reverse result.trail.items) top → ⊥ }
+    ensures all_ended { result.status ≡ Status.Done
+        → terms.AllEnded (reverse result.trail.items) }
+
+    // The start is what the disks restore, where the shop tells their bytes. Where no grant stands on them it is the
+    // table's own first tuples, which are sound for its start values.
+    ensures restores { terms.OfRun (S.view source.old).left (S.view source.new).left
+        result.start result.trail.items (λ s. terms.AtPlace (map string_bytes words.now)
+        (λ place. (images : List (List ℕ))
+        → terms.AllOffered s.table ((H.view shop.old).offers place) images
+        → Restores s.table images result.start)) }
+    ensures first_start { terms.OfRun (S.view source.old).left (S.view source.new).left
+        result.start result.trail.items (λ s. terms.AtPlace (map string_bytes words.now)
+        (λ place. HaveNoGrants s.table ((H.view shop.old).offers place)
+        → result.start ≡ base_of s.table)) }
+    ensures sound_start { terms.OfRun (S.view source.old).left (S.view source.new).left
+        result.start result.trail.items (λ s. terms.AtPlace (map string_bytes words.now)
+        (λ place. HaveNoGrants s.table ((H.view shop.old).offers place)
+        → IsSound (setting_of s.table result.start) (first_values s.table))) }
+
+    // Where all disks told their bytes, whatever a crash leaves of those that come back stands beside the history, in
+    // its epoch. Each failure that someone was unable for, a disk has counted.
+    ensures images_stand { terms.OfRun (S.view source.old).left (S.view source.new).left
+        result.start result.trail.items (λ s. (epoch : ℕ)
+        × terms.BeginsIn epoch s result.trail.items
+        × terms.AtPlace (map string_bytes words.now)
+        (λ place. AllTell s.table ((H.view shop.old).offers place)
+        → (images : List (List ℕ)) → AreImages H.D.view result.disks.items images
+        → ∥ IsStanding s.table result.start epoch (reverse result.trail.items) images ∥₁)) }
+    ensures paid { terms.OfRun (S.view source.old).left (S.view source.new).left
+        result.start result.trail.items
+        (λ s. HavePaid H.D.view result.disks.items (reverse result.trail.items)) }
+
+    // The disks that were obtained come back, and no others were. A mounting that was refused leaves each as it says.
+    ensures come_back { terms.IsNotMounted result.status
+        → terms.OfScript (S.view source.old).left (S.view source.new).left
+        (λ s. terms.AtPlace (map string_bytes words.now) (λ place. left.CameBack H.D.view s
+        ((H.view shop.old).offers place) result.disks.items)) }
+    ensures disks { (place : List ℕ) (n : ℕ) → length result.disks.items ≤ n
+        → (H.view shop.new).offers place n ≡ (H.view shop.old).offers place n }
 
     // The bytes written are the report, a front of it, a fault's line, or none.
-    ensures output { result.status ≡ Status.Done
-        → terms.OfScript (S.view source.old).left (S.view source.new).left result.start
+    ensures output { terms.IsReported result.status
+        → terms.OfScript (S.view source.old).left (S.view source.new).left
         (λ s. Appends (K.view sink.old).taken (K.view sink.new).taken
-        (terms.report_of s result.start result.trail.items)) }
+        (terms.report_of s.table result.start result.trail.items)) }
     ensures output_front { result.status ≡ Status.WriteFault
-        → terms.OfScript (S.view source.old).left (S.view source.new).left result.start
+        → terms.OfScript (S.view source.old).left (S.view source.new).left
         (λ s. AppendsFront (K.view sink.old).taken (K.view sink.new).taken
-        (terms.report_of s result.start result.trail.items)) }
+        (terms.report_of s.table result.start result.trail.items)) }
     ensures output_line { terms.IsTold result.status
         → terms.TellsFault (K.view sink.old).taken (K.view sink.new).taken
         (K.view sink.old).faults (K.view sink.new).faults result.status }
@@ -351,20 +254,41 @@ pub fn run<S: Source, K: Sink>(alloc: Global, words: &[String], source: &mut S, 
 
     // When each status comes.
     ensures usage { result.status ≡ Status.Usage
-        → line.is_command (map string_bytes words.now) ≡ false }
-    ensures no_command { line.is_command (map string_bytes words.now) ≡ false
-        → terms.IsOrMemory Status.Usage result.status × (source.new ≡ source.old) }
+        → line.IsNoCommand (map string_bytes words.now) }
+    ensures no_command { line.IsNoCommand (map string_bytes words.now)
+        → terms.IsOrMemory Status.Usage result.status × (source.new ≡ source.old)
+        × (shop.new ≡ shop.old) }
     ensures script_fault { terms.IsScriptFault (S.view source.old).left result.status }
-    ensures no_script { line.is_command (map string_bytes words.now) ≡ true
-        → IfSome (S.view source.old).left
-        (λ bytes. ((s : ScriptPlan) → IsScript bytes s → ⊥) → terms.IsNoRun result.status) }
+    ensures no_script { terms.AtPlace (map string_bytes words.now)
+        (λ _. IfSome (S.view source.old).left
+        (λ bytes. ((s : ScriptPlan) → IsScript bytes s → ⊥) → terms.IsNoRun result.status)) }
     ensures read_fault { result.status ≡ Status.ReadFault
         → Rose (S.view source.old).faults (S.view source.new).faults }
     ensures write_fault { result.status ≡ Status.WriteFault
         → Rose (K.view sink.old).faults (K.view sink.new).faults }
+    ensures disk_fault { (which : ℕ) → result.status ≡ Status.DiskFault which
+        → terms.IsDiskFault H.D.view (H.view shop.old).faults (H.view shop.new).faults
+        result.disks.items which }
+    ensures image_fault { (bad : BadImage) → result.status ≡ Status.Image bad
+        → terms.OfScript (S.view source.old).left (S.view source.new).left
+        (λ s. terms.AtPlace (map string_bytes words.now) (λ place. (images : List (List ℕ))
+        → terms.AllOffered s.table ((H.view shop.old).offers place) images
+        → IsFirstFault s.table terms.journal_limit bad images)) }
+    ensures sound_images { (bytes : List ℕ) (s : ScriptPlan) (images : List (List ℕ))
+        → (S.view source.old).left ≡ Some bytes → IsScript bytes s
+        → terms.AtPlace (map string_bytes words.now)
+        (λ place. terms.AllOffered s.table ((H.view shop.old).offers place) images
+        → AreSound s.table terms.journal_limit images
+        → (bad : BadImage) → result.status ≡ Status.Image bad → ⊥) }
+    ensures mounted_images { terms.RanToEnd result.status
+        → terms.OfScript (S.view source.old).left (S.view source.new).left
+        (λ s. terms.AtPlace (map string_bytes words.now) (λ place. (images : List (List ℕ))
+        → terms.AllOffered s.table ((H.view shop.old).offers place) images
+        → AreSound s.table terms.journal_limit images)) }
     ensures room { result.status ≡ Status.Room → length result.trail.items ≡ limit }
     ensures source_faults { (S.view source.old).faults ≤ (S.view source.new).faults }
     ensures sink_faults { (K.view sink.old).faults ≤ (K.view sink.new).faults }
+    ensures shop_faults { (H.view shop.old).faults ≤ (H.view shop.new).faults }
 
     // The source is taken to its end, or one byte past the longest script; never further.
     ensures source_taken { terms.ReadWhole result.status
@@ -372,13 +296,14 @@ pub fn run<S: Source, K: Sink>(alloc: Global, words: &[String], source: &mut S, 
     ensures source_within { LosesWithin (S.view source.old).left (S.view source.new).left
         terms.most_taken }
 
-    // A script is run, where neither stream fails, as far as there is memory and room.
+    // A script is run, where neither stream fails, as far as there is memory and room, or a disk or an image is refused.
     ensures completes { (bytes : List ℕ) (s : ScriptPlan)
-        → line.is_command (map string_bytes words.now) ≡ true
         → (S.view source.old).left ≡ Some bytes → IsScript bytes s
-        → (Rose (S.view source.old).faults (S.view source.new).faults → ⊥)
+        → terms.AtPlace (map string_bytes words.now)
+        (λ _. (Rose (S.view source.old).faults (S.view source.new).faults → ⊥)
         → (Rose (K.view sink.old).faults (K.view sink.new).faults → ⊥)
-        → terms.IsDoneOrShort result.status }
+        → terms.IsRun result.status) }
 {
-    answer(alloc, words, source, sink)
+    one_verdict();
+    answer(rt, alloc, words, source, sink, shop)
 }

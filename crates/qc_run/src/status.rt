@@ -1,6 +1,7 @@
 ghost use Rattle.std.specs.Prelude.{◌≡◌, ◌++◌, IfOk, OnOk};
 ghost use Rattle.qc_run.specs.FaultLine as spec;
 
+use qc_codec::{BadImage, ImageFault};
 use qc_event::BadConfig;
 use qc_report::Page;
 use qc_script::{BadScript, Member};
@@ -9,7 +10,7 @@ use std::alloc::{AllocError, Global};
 /// How a run ended.
 #[derive(Debug, Drop)]
 pub enum Status {
-    /// There is a report, and it was written.
+    /// There is a report, and it was written. No top is in doubt.
     Done,
     /// The words of the command line are no command.
     Usage,
@@ -19,6 +20,12 @@ pub enum Status {
     ReadFault,
     /// The output could not be written.
     WriteFault,
+    /// The disk of this number failed while it was obtained or mounted.
+    DiskFault(u8),
+    /// What stands on a disk is refused.
+    Image(BadImage),
+    /// There is a report, and it was written. A top is ready and has no end.
+    InDoubt,
     /// There was no memory.
     Memory,
     /// The history had no room for a further entry.
@@ -38,6 +45,9 @@ impl Status {
             Status::Script(_) => 3,
             Status::ReadFault => 4,
             Status::WriteFault => 5,
+            Status::DiskFault(_) => 6,
+            Status::Image(_) => 7,
+            Status::InDoubt => 8,
             Status::Memory => 9,
             Status::Room => 14,
         }
@@ -47,14 +57,14 @@ impl Status {
 /// The line that tells that the history had no room.
 pub(crate) const ROOM_LINE: &[u8] = b"qc: room\n";
 
-/// The line that tells a fault, with its newline. A run that is done has none, nor has one that could
-/// not write or had no memory.
+/// The line that tells a fault, with its newline. A run that has a report has none, nor has one that
+/// could not write or had no memory.
 pub fn fault_line(alloc: Global, status: &Status) -> Result<Vec<u8>, AllocError>
     ensures { IfOk result (λ text. text.items ≡ spec.fault_line status.now) }
 {
     let mut page = Page::new(alloc);
     match status {
-        Status::Done | Status::WriteFault | Status::Memory => {}
+        Status::Done | Status::WriteFault | Status::InDoubt | Status::Memory => {}
         Status::Usage => write!(page, "usage: qc run [--dir PATH] [--serial] | qc gen N\n")?,
         Status::Script(why) => {
             write!(page, "qc: script: ")?;
@@ -62,6 +72,13 @@ pub fn fault_line(alloc: Global, status: &Status) -> Result<Vec<u8>, AllocError>
             write!(page, "\n")?;
         }
         Status::ReadFault => write!(page, "qc: read fault\n")?,
+        Status::DiskFault(disk) => write!(page, "qc: disk {disk} fault\n")?,
+        Status::Image(bad) => {
+            let disk = bad.disk;
+            write!(page, "qc: image: disk {disk} ")?;
+            push_image_fault(&mut page, &bad.fault)?;
+            write!(page, "\n")?;
+        }
         Status::Room => write!(page, "qc: room\n")?,
     }
     Ok(page.into_bytes())
@@ -94,6 +111,18 @@ fn push_script_fault(page: &mut Page, why: &BadScript) -> Result<(), AllocError>
             page.push(label.as_bytes())
         }
         BadScript::Memory => write!(page, "memory"),
+    }
+}
+
+fn push_image_fault(page: &mut Page, why: &ImageFault) -> Result<(), AllocError>
+    ensures { OnOk result (page.new ≡ page.old ++ spec.image_fault why.now) }
+{
+    match why {
+        ImageFault::Broken { place } => write!(page, "broken at {place}"),
+        ImageFault::Grammar { index } => write!(page, "record {index} grammar"),
+        ImageFault::Full { place } => write!(page, "full at {place}"),
+        ImageFault::Table { .. } => write!(page, "table"),
+        ImageFault::Epoch(epoch) => write!(page, "epoch {epoch}"),
     }
 }
 

@@ -141,18 +141,10 @@ lost_elsewhere =
     ∷ by other_client (event.End top (Abort (lacking Lost)))
     ∷ [])
 
--- read x: the copy says that it is down, though there is no disk
-abbrev pub down_at_once : List Entry
-down_at_once =
-    user client top
-    ∷ by client (event.Start first_child (kind.Read x))
-    ∷ begun client (access first_child 1) Get
-    (by site (event.Unable (access first_child 1) Down)
-    ∷ by client (event.Gone (access first_child 1) Down)
-    ∷ by client (event.End (access first_child 1) (Abort cause.Missed))
-    ∷ by client (event.End first_child (Abort (lacking Down)))
-    ∷ by client (event.End top (Abort (lacking Down)))
-    ∷ [])
+-- no step: the top marks session 3
+abbrev pub marked : List Entry
+marked =
+    user client top ∷ by client (event.Mark top 3) ∷ by client (event.Ready top) ∷ by ledger_seat (event.End top (Commit answer.Nothing)) ∷ []
 
 abbrev pub far : Name
 far = number_in 7 99 ∷ []
@@ -238,6 +230,19 @@ first_run =
     ∷ by client (event.Ready top)
     ∷ by ledger_seat (event.End top (Commit answer.Nothing))
     ∷ [])))
+
+-- read x: the copy says that it is down
+abbrev pub copy_down : List Entry
+copy_down =
+    user client top
+    ∷ by client (event.Start first_child (kind.Read x))
+    ∷ begun client (access first_child 1) Get
+    (by site (event.Unable (access first_child 1) Down)
+    ∷ by client (event.Gone (access first_child 1) Down)
+    ∷ by client (event.End (access first_child 1) (Abort cause.Missed))
+    ∷ by client (event.End first_child (Abort (lacking Down)))
+    ∷ by client (event.End top (Abort (lacking Down)))
+    ∷ [])
 
 -- example orphans: a grandchild aborts the top, and all between end as orphans
 abbrev pub far_abort : List Entry
@@ -337,6 +342,10 @@ top_ready = 18
 -- the first run, cut off after so many entries
 abbrev pub first_cut : ℕ → List Entry
 first_cut many = take many first_run
+
+-- the first run, whose top stays ready, since the ledger says that it is down
+abbrev pub not_logged : List Entry
+not_logged = first_cut top_ready ++ by ledger_seat (event.Unable top Down) ∷ []
 
 -- the read before the set, cut off once both have started
 abbrev pub both_started : List Entry

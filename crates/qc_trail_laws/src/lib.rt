@@ -2,27 +2,31 @@
 #![tactic(auto)]
 
 ghost use Rattle.std.specs.Prelude.{◌≡◌, true, false, [], ◌∷◌, IsTrue, map, reverse};
+ghost use Rattle.std.specs.List.{list_all};
 ghost use Rattle.qc_event.specs.History.{children};
 ghost use Rattle.qc_interp.specs.Asking.{Asks};
 ghost use Rattle.qc_interp.specs.Follows.{FollowsBody};
-ghost use Rattle.qc_interp.specs.FollowsScript.{FollowsScript, BeginsScript};
+ghost use Rattle.qc_interp.specs.FollowsScript.{FollowsScript, BeginsScript, started};
 ghost use Rattle.qc_interp.specs.Reach.{Reach};
 ghost use Rattle.qc_interp.specs.Session.{FollowsBodies, RunsBodies};
-ghost use Rattle.qc_interp.specs.Sessions.{RunsInTurn, tops_of, meets, all_plain};
+ghost use Rattle.qc_interp.specs.Sessions.{RunsInTurn, tops_of, meets, is_settled, all_unmarked};
 ghost use Rattle.qc_script.specs.Numbers.{each, is_next_top};
 ghost use Rattle.qc_trail_laws.specs.Musts as musts;
 ghost use Rattle.qc_trail_laws.specs.Trails as trails;
 ghost use Rattle.qc_trail_laws.specs.Values as values;
 
 /// The first run follows its script, in turn, with its numbers and its messages; a try after a lost request, another
-/// configuration, and an abort from two levels below follow theirs.
+/// configuration, an abort from two levels below, a copy that is down, and a ready top that the ledger was unable to log
+/// follow theirs.
 pub fn accepts()
     ensures first_run { FollowsBodies 0 (reverse trails.first_run) trails.set_then_read
         (trails.top ∷ []) }
     ensures first_turns { RunsInTurn 0 (reverse trails.first_run) }
     ensures first_numbers { IsTrue (each (is_next_top 1) (reverse trails.first_run)) }
     ensures first_messages { IsTrue (meets 0 trails.net (reverse trails.first_run)) }
-    ensures first_plain { IsTrue (all_plain (reverse trails.first_run)) }
+    ensures first_settled { IsTrue (list_all (is_settled (reverse trails.first_run))
+        (started (reverse trails.first_run))) }
+    ensures first_unmarked { IsTrue (all_unmarked (reverse trails.first_run)) }
     ensures tried_again { FollowsBodies 0 (reverse trails.tried_again) trails.read_twice
         (trails.top ∷ trails.top2 ∷ []) }
     ensures tried_turns { RunsInTurn 0 (reverse trails.tried_again) }
@@ -30,6 +34,17 @@ pub fn accepts()
     ensures reconfigured { FollowsBodies 0 (reverse trails.reconfigured) trails.reconfigure
         (trails.top ∷ []) }
     ensures reconfigured_turns { RunsInTurn 0 (reverse trails.reconfigured) }
+    ensures copy_down { FollowsBodies 0 (reverse trails.copy_down) trails.read_alone
+        (trails.top ∷ []) }
+    ensures down_turns { RunsInTurn 0 (reverse trails.copy_down) }
+    ensures down_settled { IsTrue (list_all (is_settled (reverse trails.copy_down))
+        (started (reverse trails.copy_down))) }
+    ensures down_unmarked { IsTrue (all_unmarked (reverse trails.copy_down)) }
+    ensures not_logged { FollowsBodies 0 (reverse trails.not_logged) trails.set_then_read
+        (trails.top ∷ []) }
+    ensures not_logged_turns { RunsInTurn 0 (reverse trails.not_logged) }
+    ensures not_logged_settled { IsTrue (list_all (is_settled (reverse trails.not_logged))
+        (started (reverse trails.not_logged))) }
     ensures far_abort { FollowsBody 0 (reverse trails.far_abort) (trails.abort_body 2) trails.top }
     ensures far_turns { RunsInTurn 0 (reverse trails.far_abort) }
     ensures far_named { Asks (reverse trails.far_abort) trails.top (trails.abort_body 2).plan
@@ -37,8 +52,9 @@ pub fn accepts()
 {}
 
 /// None of these follows its script: a read before the set that stands before it, or beside it; steps that no one runs;
-/// a top before the one before it has ended; a request that is lost as no fate says, or is not lost as one says; a copy
-/// that is unable where there is no disk; another number and a mark; and a session under two seats.
+/// a top before the one before it has ended; a request that is lost as no fate says, or is not lost as one says; a top
+/// that stays ready, though no one was unable to log it; a mark; another number and a mark; and a session under two
+/// seats.
 pub fn refuses()
     ensures read_before_set { FollowsScript 0 1 trails.net trails.set_then_read
         (reverse trails.read_before_set) → ⊥ }
@@ -52,8 +68,9 @@ pub fn refuses()
         (reverse trails.lost_elsewhere) → ⊥ }
     ensures elsewhere_lossy { FollowsScript 0 1 trails.lossy trails.set_then_read
         (reverse (map trails.moved trails.first_run)) → ⊥ }
-    ensures down_at_once { FollowsScript 0 1 trails.net trails.read_alone
-        (reverse trails.down_at_once) → ⊥ }
+    ensures stays_ready { FollowsScript 0 1 trails.net trails.set_then_read
+        (reverse (trails.first_cut trails.top_ready)) → ⊥ }
+    ensures marked { FollowsScript 0 1 trails.net trails.no_step (reverse trails.marked) → ⊥ }
     ensures marked_elsewhere { FollowsScript 0 1 trails.net trails.no_step
         (reverse trails.marked_elsewhere) → ⊥ }
     ensures two_seats { FollowsScript 0 1 trails.net trails.two_steps (reverse trails.two_seats)

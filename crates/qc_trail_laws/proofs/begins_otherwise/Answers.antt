@@ -15,4 +15,4 @@ pub returns-clause-read_before_set : goal.returns-clause-read_before_set
 returns-clause-read_before_set c = λ f. true≢false (sym f.in_turn.turns)
 
 pub returns-clause-cut_off : goal.returns-clause-cut_off
-returns-clause-cut_off c = λ f. true≢false (sym f.each_ended)
+returns-clause-cut_off c = λ f. true≢false (sym f.each_settled)

@@ -20,11 +20,14 @@ returns-clause-lost_elsewhere c = λ f. true≢false (sym f.messages)
 pub returns-clause-elsewhere_lossy : goal.returns-clause-elsewhere_lossy
 returns-clause-elsewhere_lossy c = λ f. true≢false (sym f.messages)
 
-pub returns-clause-down_at_once : goal.returns-clause-down_at_once
-returns-clause-down_at_once c = λ f. true≢false (sym f.plain)
+pub returns-clause-stays_ready : goal.returns-clause-stays_ready
+returns-clause-stays_ready c = λ f. true≢false (sym f.each_settled)
+
+pub returns-clause-marked : goal.returns-clause-marked
+returns-clause-marked c = λ f. true≢false (sym f.unmarked)
 
 pub returns-clause-marked_elsewhere : goal.returns-clause-marked_elsewhere
-returns-clause-marked_elsewhere c = λ f. true≢false (sym f.plain)
+returns-clause-marked_elsewhere c = λ f. true≢false (sym f.unmarked)
 
 pub returns-clause-two_seats : goal.returns-clause-two_seats
 returns-clause-two_seats c = λ f. true≢false (sym f.in_turn.seats)

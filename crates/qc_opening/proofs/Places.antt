@@ -1,0 +1,66 @@
+-- Lists and their places.
+use Rattle.std.proofs.Common.{◌≡◌, ℕ, zero, suc, ◌+◌, ◌<◌, List, [], ◌∷◌, ◌++◌, length, map, get_or, refl, sym, ap, ap₂, ◌∙◌, subst, arith, add-one}
+use Rattle.std.specs.Prelude.{All, Some, slice_get, reverse}
+use Rattle.std.proofs.lemmas.List.{append_assoc, map-append, reverse-append, reverse-reverse}
+use Rattle.std.proofs.lemmas.Option.{get_or_from_slice_get, slice_get_within}
+use Rattle.qc_mount.specs.Numbered.{PairsFrom}
+
+-- one item goes from the end of a list to the end of another
+pub last_over : {A B : Type 0} (f : A → B) (there : List B) (all rest : List A) (last : A) → all ≡ rest ++ last ∷ [] → (there ++ f last ∷ []) ++ reverse (map f rest) ≡ there ++ reverse (map f all)
+last_over f there all rest last is =
+    append_assoc there (f last ∷ []) (reverse (map f rest))
+    ∙ ap (λ l. there ++ l) (sym (ap (λ l. reverse (map f l)) is ∙ (ap reverse (map-append f rest (last ∷ [])) ∙ reverse-append (map f rest) (f last ∷ []))))
+
+pub map_reverse : {A B : Type 0} (f : A → B) (xs : List A) → map f (reverse xs) ≡ reverse (map f xs)
+map_reverse f [] = refl
+map_reverse f (x ∷ xs) =
+    ap (map f) (reverse-append (x ∷ []) xs)
+    ∙ (map-append f (reverse xs) (x ∷ []) ∙ (ap (λ l. l ++ f x ∷ []) (map_reverse f xs) ∙ sym (reverse-append (f x ∷ []) (map f xs))))
+
+pub map_turned : {A B : Type 0} (f : A → B) (xs turned : List A) → turned ≡ reverse xs → map f turned ≡ reverse (map f xs)
+map_turned f xs turned is = ap (map f) is ∙ map_reverse f xs
+
+-- items that were turned round come out in their order, behind another
+pub turned_out : {A B : Type 0} (f : A → B) (room pushed out : List B) (value : B) (taken front : A) (all turned : List A) → room ≡ [] → value ≡ f taken → taken ≡ front → pushed ≡ room ++ value ∷ [] → turned ≡ reverse all
+    → out ≡ pushed ++ reverse (map f turned) → out ≡ f front ∷ map f all
+turned_out f room pushed out value taken front all turned none of same push turn is =
+    is
+    ∙ (ap₂ (λ p t. p ++ reverse (map f t)) (push ∙ ap₂ (λ l v. l ++ v ∷ []) none (of ∙ ap f same)) turn
+    ∙ ap (λ l. f front ∷ l) (ap reverse (map_reverse f all) ∙ reverse-reverse (map f all)))
+
+-- the item behind the first
+pub get_next : {A : Type 0} (x : A) (xs : List A) (i : ℕ) (d : A) → get_or (x ∷ xs) (i + 1) d ≡ get_or xs i d
+get_next x xs i d = ap (λ n. get_or (x ∷ xs) n d) (add-one i)
+
+-- what stands at a place
+pub at_place : {A : Type 0} (xs : List A) (i : ℕ) → i < length xs → (x : A) × (slice_get xs i ≡ Some x)
+at_place [] i there = absurd (omega (arith, there))
+at_place (x ∷ xs) zero there = (x, refl)
+at_place (x ∷ xs) (suc i) there = at_place xs i (omega (arith, there))
+
+pub mapped_at : {A B : Type 0} (f : A → B) (xs : List A) (i : ℕ) (x : A) (d : B) → slice_get xs i ≡ Some x → get_or (map f xs) i d ≡ f x
+mapped_at f [] i x d is = absurd cc
+mapped_at f (y ∷ xs) zero x d is = let same : y ≡ x = cc in ap f same
+mapped_at f (y ∷ xs) (suc i) x d is = mapped_at f xs i x d is
+
+-- the pair at a place
+pub pair_at : {A B : Type 0} (R : ℕ → A → B → Type 0) (number : ℕ) (items : List A) (others : List B) → PairsFrom R number items others → (i : ℕ) (other : B) → slice_get others i ≡ Some other
+    → (item : A) × (slice_get items i ≡ Some item) × R (number + i) item other
+pair_at R number [] [] pairs i other is = absurd cc
+pair_at R number [] (o ∷ others) pairs i other is = absurd pairs
+pair_at R number (item ∷ items) [] pairs i other is = absurd pairs
+pair_at R number (item ∷ items) (o ∷ others) pairs zero other is =
+    let same : o ≡ other = cc in
+    (item, refl, subst (λ n. R n item other) (omega arith) (subst (λ x. R number item x) same pairs.0))
+pair_at R number (item ∷ items) (o ∷ others) pairs (suc i) other is =
+    let (found, there, has) = pair_at R (number + 1) items others pairs.1 i other is in
+    (found, there, subst (λ n. R n found other) (omega arith) has)
+
+-- what holds of each holds of the one at a place
+pub all_at : {A : Type 0} (P : A → Type 0) (xs : List A) (i : ℕ) (x : A) → All P xs → slice_get xs i ≡ Some x → P x
+all_at P xs i x all is = subst P (get_or_from_slice_get xs i x x is) (all i x (slice_get_within xs i x is))
+
+-- a list without items
+pub nil_of : {A : Type 0} (items : List A) → length items ≡ 0 → items ≡ []
+nil_of [] none = refl
+nil_of (item ∷ items) none = absurd (omega (arith, none))

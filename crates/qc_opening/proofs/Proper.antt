@@ -1,0 +1,143 @@
+-- What records restore over a proper script's table is a proper base.
+use Rattle.std.proofs.Common.{◌≡◌, ℕ, ◌+◌, ◌<◌, ◌≤◌, Bool, true, false, cond, List, [], ◌∷◌, length, map, get_or, Option, Some, None, refl, sym, subst, arith}
+use Rattle.std.specs.Prelude.{All, sum, nat_lt, ◌==◌, ◌||◌, is_none, filter}
+use Rattle.std.specs.List.{range_with_len}
+use Rattle.std.proofs.lemmas.Bool.{ltb-false, leb-false, or_parts}
+use Rattle.std.proofs.lemmas.List.{length-map, get_or-replicate, get_or_default}
+use Rattle.std.proofs.lemmas.List.Elements.{All-head, All-tail, All-map, All-filter, All-from_recursion}
+use Rattle.std.proofs.lemmas.List.FromFn.{get_or-map-range_with_len, length-map-range_with_len}
+use Rattle.qc_codec.specs.Bodies.{granted, grant}
+use Rattle.qc_codec.specs.Copy.{grant_form}
+use Rattle.qc_codec.specs.Fields.{format_1, config, tuple}
+use Rattle.qc_codec.specs.Ledger.{readings}
+use Rattle.qc_codec.specs.Restored.{is_kept_at, restored_tuple}
+use Rattle.qc_codec.proofs.Fits.{config_votes}
+use Rattle.qc_config.specs.Config.{Voting, IsLegal, fault}
+use Rattle.qc_config.specs.Tuple.{after}
+use Rattle.qc_config.specs.declared.config.BadConfig.{BadConfig}
+use Rattle.qc_config.specs.declared.tuple.Op.{Op}
+use Rattle.qc_config.specs.declared.tuple.Op.TheVariants.{Get, PutData, PutConfig}
+use Rattle.qc_config.specs.declared.tuple.Tuple.{Tuple}
+use Rattle.qc_copy.proofs.PutConfigs.{GrantHas, OpHas, after_has}
+use Rattle.qc_event.proofs.Numbers.{nonzero}
+use Rattle.qc_event.specs.declared.event.Grant.{Grant}
+use Rattle.qc_event.specs.declared.table.Row.{Row}
+use Rattle.qc_event.specs.Base.{IsConfigFor, IsRowFor, no_tuple, start_tuple}
+use Rattle.qc_event.specs.Base.{IsProper as IsProperSetting}
+use Rattle.qc_event.specs.Grants.{Sets}
+use Rattle.qc_event.specs.Seen.{changed_by}
+use Rattle.qc_event.specs.Tables.{base_of, first_configs, first_tuple, setting_of}
+use Rattle.qc_script.specs.Plan.{ScriptPlan}
+use Rattle.qc_script.specs.Reading.{IsProper, IsProperRow}
+use Rattle.qc_standing.specs.Mountings.{IsMounted}
+use Rattle.qc_standing.proofs.Stands.{copy_spelled}
+
+-- CONFIGURATIONS
+
+not_first : (b : Bool) (e : BadConfig) (o : Option BadConfig) → cond b (Some e) o ≡ None → (b ≡ false) × (o ≡ None)
+not_first true e o h = absurd cc
+not_first false e o h = (refl, h)
+
+possible : (n total : ℕ) → ((n == 0) || nat_lt total n) ≡ false → (0 < n) × (n ≤ total)
+possible n total h = let p = or_parts (n == 0) (nat_lt total n) h in (nonzero n p.0, ltb-false total n p.1)
+
+legal_unless_fault : (c : Voting) → fault c.votes c.read c.write ≡ None → IsLegal c
+legal_unless_fault c h =
+    let a = not_first _ _ _ h in
+    let b = not_first _ _ _ a.1 in
+    let r = not_first _ _ _ b.1 in
+    let w = not_first _ _ _ r.1 in
+    let o = not_first _ _ _ w.1 in
+    let read = possible c.read (sum c.votes) r.0 in
+    let write = possible c.write (sum c.votes) w.0 in
+    record { some_votes = nonzero (sum c.votes) b.0; some_read = read.0; read_possible = read.1; some_write = write.0; write_possible = write.1; overlap = leb-false (c.read + c.write) (sum c.votes) o.0 }
+
+none_of : (o : Option BadConfig) → is_none o ≡ true → o ≡ None
+none_of None is = refl
+none_of (Some e) is = absurd cc
+
+-- what fits the form of configurations for so many copies is a legal one for them
+config_for : (copies : ℕ) (c : Voting) → (config (format_1 copies)).fits c → IsConfigFor copies c
+unfolding config
+config_for copies c fits = record { legal = legal_unless_fault c (none_of (fault c.votes c.read c.write) fits.1); for_copies = config_votes (format_1 copies) c fits }
+
+tuple_for : (copies : ℕ) (t : Tuple) → (tuple (format_1 copies)).fits t → IsConfigFor copies t.config
+unfolding tuple
+tuple_for copies t fits = config_for copies t.config fits.0.1.1.1
+
+-- GRANTS
+
+-- what a grant puts is a legal configuration, where it puts one
+grant_puts : (copies : ℕ) (g : Grant) → (grant (format_1 copies)).fits g → GrantHas (IsConfigFor copies) g
+unfolding grant granted
+grant_puts copies g fits = by_op g.op g.tuple fits.1 (tuple_for copies g.tuple fits.0.1.1.1)
+  where
+    by_op : (op : Op) (t : Tuple) → Sets op t → IsConfigFor copies t.config → OpHas (IsConfigFor copies) op
+    by_op Get t sets for = tt
+    by_op (PutData version value) t sets for = tt
+    by_op (PutConfig generation c) t sets for = subst (IsConfigFor copies) sets.1 for
+
+changed_has : (P : Voting → Type 0) (t : Tuple) (given : List Grant) → P t.config → All (GrantHas P) given → P (changed_by t given).config
+changed_has P t [] here all = here
+changed_has P t (g ∷ given) here all =
+    changed_has P (after t g.op) given (after_has P t g.op here (All-head (GrantHas P) g given all)) (All-tail (GrantHas P) g given all)
+
+-- THE TABLE
+
+module _ (plan : ScriptPlan) (proper : IsProper plan) where
+  rows_fit : All (λ (r : Row). IsConfigFor plan.table.copies r.config) plan.table.records
+  rows_fit = All-from_recursion (IsProperRow plan.table.copies) plan.table.records proper.rows
+
+  -- a start tuple of the table has a legal configuration
+  start_for : (copy rec : ℕ) → copy < plan.table.copies → rec < length plan.table.records → IsConfigFor plan.table.copies (start_tuple (base_of plan.table) copy rec).config
+  start_for copy rec there within =
+      let For : Tuple → Type 0 = λ t. IsConfigFor plan.table.copies t.config in
+      let row = map first_tuple plan.table.records in
+      let size : length row ≡ length plan.table.records = length-map plan.table.records first_tuple in
+      let fits : All For row = All-map For first_tuple plan.table.records rows_fit in
+      subst (λ (ts : List Tuple). For (get_or ts rec no_tuple)) (sym (get_or-replicate plan.table.copies copy row [] there)) (fits rec no_tuple (omega (arith, within, size)))
+
+  module _ (told : ℕ → Option (List ℕ)) (records : ℕ → List (List ℕ)) (epoch : ℕ) (base : List (List Tuple)) (m : IsMounted plan.table told records epoch base) where
+    puts : (copy : ℕ) → copy < plan.table.copies → All (GrantHas (IsConfigFor plan.table.copies)) (readings (grant_form plan.table) (records (copy + 1)))
+    puts copy there k d lt = grant_puts plan.table.copies _ ((copy_spelled plan.table told records epoch base m copy there).fit k d lt)
+
+    restored_for : (copy rec : ℕ) → copy < plan.table.copies → rec < length plan.table.records
+        → IsConfigFor plan.table.copies (restored_tuple m.past.tops rec (start_tuple (base_of plan.table) copy rec) (readings (grant_form plan.table) (records (copy + 1)))).config
+    restored_for copy rec there within =
+        changed_has (IsConfigFor plan.table.copies) (start_tuple (base_of plan.table) copy rec) (filter (is_kept_at m.past.tops rec) (readings (grant_form plan.table) (records (copy + 1)))) (start_for copy rec there within)
+        (All-filter (is_kept_at m.past.tops rec) (GrantHas (IsConfigFor plan.table.copies)) (readings (grant_form plan.table) (records (copy + 1))) (puts copy there))
+
+    row_for : (copy : ℕ) → copy < plan.table.copies → IsRowFor plan.table.copies (length plan.table.records) (get_or base copy [])
+    row_for copy there = subst (IsRowFor plan.table.copies (length plan.table.records)) (sym (m.starts copy there)) (record { same_records = size; configs = fits })
+      where
+        tuple_at : ℕ → Tuple
+        tuple_at rec = restored_tuple m.past.tops rec (start_tuple (base_of plan.table) copy rec) (readings (grant_form plan.table) (records (copy + 1)))
+
+        size : length (map tuple_at (range_with_len 0 (length plan.table.records))) ≡ length plan.table.records
+        size = length-map-range_with_len tuple_at 0 (length plan.table.records)
+
+        fits : All (λ (t : Tuple). IsConfigFor plan.table.copies t.config) (map tuple_at (range_with_len 0 (length plan.table.records)))
+        fits rec d lt =
+            let within : rec < length plan.table.records = omega (arith, lt, size) in
+            subst (λ (t : Tuple). IsConfigFor plan.table.copies t.config) (sym (get_or-map-range_with_len tuple_at 0 (length plan.table.records) rec rec d within (omega arith))) (restored_for copy rec there within)
+
+    -- what the copies start with is a proper setting
+    pub setting_proper : IsProperSetting (setting_of plan.table base)
+    setting_proper =
+        let many : length (first_configs plan.table) ≡ length plan.table.records = length-map plan.table.records (λ (r : Row). r.config) in
+        record {
+          base = record {
+            some_copy = omega (arith, m.as_many, proper.some_copy);
+            most_copies = omega (arith, m.as_many, proper.few_copies);
+            some_record = omega (arith, many, proper.some_records);
+            most_records = omega (arith, many, proper.few_records);
+            rows = λ copy d lt. row_at many copy d lt;
+          };
+          firsts = subst (λ n. All (IsConfigFor n) (first_configs plan.table)) (sym m.as_many) (All-map (IsConfigFor plan.table.copies) (λ (r : Row). r.config) plan.table.records rows_fit);
+        }
+      where
+        row_at : length (first_configs plan.table) ≡ length plan.table.records → (copy : ℕ) (d : List Tuple) → copy < length base → IsRowFor (length base) (length (first_configs plan.table)) (get_or base copy d)
+        row_at many copy d lt =
+            let there : copy < plan.table.copies = omega (arith, lt, m.as_many) in
+            subst (λ (row : List Tuple). IsRowFor (length base) (length (first_configs plan.table)) row) (get_or_default base copy [] d lt)
+            (subst (λ n. IsRowFor n (length (first_configs plan.table)) (get_or base copy [])) (sym m.as_many) (subst (λ n. IsRowFor plan.table.copies n (get_or base copy [])) (sym many) (row_for copy there)))

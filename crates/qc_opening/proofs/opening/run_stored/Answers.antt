@@ -1,0 +1,114 @@
+-- What the disks told that the shop gave, it offered.
+use Rattle.std.proofs.Common.{ℕ, ◌≡◌, ◌+◌, ◌⊎◌, List, map, refl, sym, arith, inr, ◌∙◌}
+use Rattle.qc_codec.specs.declared.image.BadImage.{BadImage}
+use Rattle.qc_event.specs.Tables.{base_of}
+use Rattle.qc_mount.specs.Images.{IsFirstFault}
+use Rattle.qc_mount.specs.Obtained.{IsNotGiven}
+use Rattle.qc_mount.specs.Refusing.{disks_in, reason_in, AreLeft, ComeBack, IsFaultOf, IsNotMounted, IsReasonAmong, TellImages}
+use Rattle.qc_mount.proofs.Disks.{tell}
+use Rattle.qc_mount.proofs.Stores.{by_err, fault_of, given_back, if_err, if_ok, not_mounted}
+use Rattle.qc_refine.specs.Images.{IsStanding, Restores}
+use Rattle.qc_script.specs.Steps.{plan_of_script}
+use Rattle.qc_opening.specs.Stored.{disks_of, past_of, AreImages, HasKept, HasRun, HavePaid}
+use Rattle.qc_opening.proofs.Found.{told_by}
+use Rattle.qc_opening.proofs.Told.{all_returned, first, kept, paid, restored, stands, tell_offered}
+use Rattle.qc_opening.proofs.opening.run_stored.Goals as goal
+
+pub returns-in_err-disks-clause-disks : goal.returns-in_err-disks-clause-disks
+returns-in_err-disks-clause-disks g c =
+    let view = g.H.D.Disk.view in
+    let offers = (g.H.Shop.view c.args.shop.now).offers c.args.place.now in
+    let refused = c.in_err-disks.field-0.0 in
+    by_err c.from_residual.result refused (ComeBack view offers c.args.script.now.table) c.from_residual.ensures.1
+    (given_back view c.known_now.ensures offers c.args.script.now.table refused (g.H.Shop.view c.args.shop.now).faults (g.H.Shop.view c.obtain_all.new.shop).faults c.in_err-disks.ensures.offered c.in_err-disks.ensures.not_all)
+
+pub returns-clause-restores : goal.returns-clause-restores
+returns-clause-restores g c = λ images offered many.
+    let view = g.H.D.Disk.view in
+    let plan = plan_of_script c.args.script.now in
+    let offers = (g.H.Shop.view c.args.shop.now).offers c.args.place.now in
+    let disks = c.in_ok-disks.disks.items in
+    let told = told_by (map (λ d. (view d).content) disks) in
+    let tells = tell_offered view plan.table offers disks c.in_ok-disks.ensures.offered c.in_ok-disks.ensures.all in
+    if_ok c.run_disks.result (HasRun view plan told) (λ stored. Restores plan.table images stored.ended.start) c.run_disks.ensures.ran
+    (λ stored run. restored view plan told offers tells stored run images offered many)
+
+pub returns-clause-first : goal.returns-clause-first
+returns-clause-first g c = λ none.
+    let view = g.H.D.Disk.view in
+    let plan = plan_of_script c.args.script.now in
+    let offers = (g.H.Shop.view c.args.shop.now).offers c.args.place.now in
+    let disks = c.in_ok-disks.disks.items in
+    let told = told_by (map (λ d. (view d).content) disks) in
+    let tells = tell_offered view plan.table offers disks c.in_ok-disks.ensures.offered c.in_ok-disks.ensures.all in
+    if_ok c.run_disks.result (HasRun view plan told) (λ stored. stored.ended.start ≡ base_of plan.table) c.run_disks.ensures.ran
+    (λ stored run. first view plan told offers tells stored run none)
+
+pub returns-clause-kept : goal.returns-clause-kept
+returns-clause-kept g c =
+    let view = g.H.D.Disk.view in
+    let plan = plan_of_script c.args.script.now in
+    let offers = (g.H.Shop.view c.args.shop.now).offers c.args.place.now in
+    let disks = c.in_ok-disks.disks.items in
+    let told = told_by (map (λ d. (view d).content) disks) in
+    let tells = tell_offered view plan.table offers disks c.in_ok-disks.ensures.offered c.in_ok-disks.ensures.all in
+    if_ok c.run_disks.result (HasRun view plan told) (HasKept view plan.table offers) c.run_disks.ensures.ran
+    (λ stored run. kept view plan told offers tells stored run)
+
+pub returns-clause-stands : goal.returns-clause-stands
+returns-clause-stands g c = λ all_tell.
+    let view = g.H.D.Disk.view in
+    let plan = plan_of_script c.args.script.now in
+    let offers = (g.H.Shop.view c.args.shop.now).offers c.args.place.now in
+    let disks = c.in_ok-disks.disks.items in
+    let told = told_by (map (λ d. (view d).content) disks) in
+    let tells = tell_offered view plan.table offers disks c.in_ok-disks.ensures.offered c.in_ok-disks.ensures.all in
+    if_ok c.run_disks.result (HasRun view plan told) (λ stored. (images : List (List ℕ)) → AreImages view (disks_of stored) images → ∥ IsStanding plan.table stored.ended.start stored.epoch (past_of stored) images ∥₁) c.run_disks.ensures.ran
+    (λ stored run. stands view plan told offers tells stored run all_tell)
+
+pub returns-clause-paid : goal.returns-clause-paid
+returns-clause-paid g c =
+    let view = g.H.D.Disk.view in
+    let plan = plan_of_script c.args.script.now in
+    let offers = (g.H.Shop.view c.args.shop.now).offers c.args.place.now in
+    let disks = c.in_ok-disks.disks.items in
+    let told = told_by (map (λ d. (view d).content) disks) in
+    let tells = tell_offered view plan.table offers disks c.in_ok-disks.ensures.offered c.in_ok-disks.ensures.all in
+    if_ok c.run_disks.result (HasRun view plan told) (λ stored. HavePaid view (disks_of stored) (past_of stored)) c.run_disks.ensures.ran
+    (λ stored run. paid view plan told offers tells stored run)
+
+pub returns-clause-sound : goal.returns-clause-sound
+returns-clause-sound g c = λ images offered many.
+    c.run_disks.ensures.sound images (tell g.H.D.Disk.view ((g.H.Shop.view c.args.shop.now).offers c.args.place.now) 0 c.in_ok-disks.disks.items images c.in_ok-disks.ensures.offered offered (c.in_ok-disks.ensures.all ∙ sym many))
+
+pub returns-clause-image : goal.returns-clause-image
+returns-clause-image g c = λ images offered many.
+    let view = g.H.D.Disk.view in
+    let table = c.args.script.now.table in
+    let disks = c.in_ok-disks.disks.items in
+    let told = tell view ((g.H.Shop.view c.args.shop.now).offers c.args.place.now) 0 disks images c.in_ok-disks.ensures.offered offered (c.in_ok-disks.ensures.all ∙ sym many) in
+    if_err c.run_disks.result (λ refused. AreLeft view table (reason_in refused) 0 disks (disks_in refused))
+    (λ refused. IsReasonAmong 0 table.copies (λ bad. (told : List (List ℕ)) → TellImages view disks told → IsFirstFault table c.args.limit bad told) (reason_in refused))
+    (IsFaultOf table c.args.limit images) c.run_disks.ensures.left c.run_disks.ensures.reason
+    (λ refused left among. fault_of view table c.args.limit images refused (reason_in refused) table.copies disks told among refl)
+
+pub returns-clause-refused : goal.returns-clause-refused
+returns-clause-refused g c =
+    let view = g.H.D.Disk.view in
+    let table = c.args.script.now.table in
+    let disks = c.in_ok-disks.disks.items in
+    let before = (g.H.Shop.view c.args.shop.now).faults in
+    let now = (g.H.Shop.view c.obtain_all.new.shop).faults in
+    let Among : BadImage → Type 0 = λ bad. (told : List (List ℕ)) → TellImages view disks told → IsFirstFault table c.args.limit bad told in
+    if_err c.run_disks.result (λ refused. AreLeft view table (reason_in refused) 0 disks (disks_in refused)) (λ refused. IsReasonAmong 0 table.copies Among (reason_in refused))
+    (λ refused. IsNotGiven (table.copies + 1) before now refused ⊎ IsNotMounted table.copies refused) c.run_disks.ensures.left c.run_disks.ensures.reason
+    (λ refused left among. inr (not_mounted view table refused (reason_in refused) Among disks (disks_in refused) c.in_ok-disks.ensures.all left refl refl among))
+
+pub returns-clause-others : goal.returns-clause-others
+returns-clause-others g c = λ p n from.
+    let view = g.H.D.Disk.view in
+    let plan = plan_of_script c.args.script.now in
+    let disks = c.in_ok-disks.disks.items in
+    let all = c.in_ok-disks.ensures.all in
+    let back = all_returned view plan (told_by (map (λ d. (view d).content) disks)) disks c.run_disks.result all c.run_disks.ensures.ran c.run_disks.ensures.left in
+    c.in_ok-disks.ensures.others p n (omega (arith, from, back, all))

@@ -1,0 +1,14 @@
+-- The name is what was found on the disks.
+use Rattle.std.specs.Prelude.{is_some}
+use Rattle.qc_opening.proofs.Found.{bodies_found, faults_found, told_by}
+use Rattle.qc_opening.proofs.running.run_mounted.Given as goal
+
+abbrev pub ghosts-run_named-N-Store : goal.ghosts-run_named-N-Store
+ghosts-run_named-N-Store g a = record { desk = a.parts.blank.room.shared.table_id; table = a.script.now.table; base = a.parts.blank.base }
+
+abbrev pub ghosts-run_named-N-Mounting : goal.ghosts-run_named-N-Mounting
+ghosts-run_named-N-Mounting g a = record {
+  told = λ number. is_some (told_by g.told number);
+  before = bodies_found a.parts.book a.parts.copies.items;
+  faults = faults_found a.parts.book a.parts.copies.items;
+}

@@ -1,0 +1,111 @@
+//! From a shop to what a session left.
+ghost use Rattle.std.specs.Prelude.{ℕ, ◌≡◌, ◌+◌, ◌<◌, ◌≤◌, ◌^◌, ◌⊎◌, ◌↔◌, List, length, IfOk, IfErr, OnOk, IsErrOf};
+ghost use Rattle.qc_codec.specs.Bodies as body;
+ghost use Rattle.qc_event.specs.declared.log.Short.TheVariants.{Room};
+ghost use Rattle.qc_event.specs.History.{limit as most_entries};
+ghost use Rattle.qc_event.specs.Legal.{Legal};
+ghost use Rattle.qc_event.specs.Tables.{base_of, setting_of};
+ghost use Rattle.qc_interp.specs.FollowsScript.{FollowsScript, BeginsScript};
+ghost use Rattle.qc_mount.specs.Images.{AreSound, Offers};
+ghost use Rattle.qc_mount.specs.Obtained.{IsNotGiven};
+ghost use Rattle.qc_mount.specs.Refusing.{ComeBack, IsFaultOf, IsNotMounted};
+ghost use Rattle.qc_opening.specs.Stored.{disks_of, past_of, returned, AllTell, AreImages, HasKept, HavePaid};
+ghost use Rattle.qc_refine.specs.Images.{IsStanding, Restores};
+ghost use Rattle.qc_script.specs.Reading.{IsProper};
+ghost use Rattle.qc_script.specs.Steps.{plan_of_script};
+ghost use Rattle.qc_session.specs.Session.{net_of};
+ghost use Rattle.qc_standing.specs.Mountings.{HaveNoGrants};
+
+use crate::running::run_disks;
+use crate::stored::Stored;
+use qc_disk::{Disk, Shop};
+use qc_mount::{MountNo, obtain_all};
+use qc_script::Script;
+use std::alloc::Global;
+use std::sync::Wait;
+
+/// How many disks a store has at most.
+const MOST_DISKS: usize = 17;
+
+// It makes the law of disks known for those of a shop: at this moment a disk is what a crash may leave.
+fn known_now<D: Disk>()
+    ensures { (disk : D) (c : List ℕ) → (D.view disk).left_at (D.view disk).moment c
+        ↔ (D.view disk).may_leave c }
+{}
+
+/// Mounts the disks of a place, and runs the session of a script over them. The epoch is the mounting's. Where the store is
+/// not mounted, or memory is wanting before the session begins, the disks that were obtained come back.
+pub fn run_stored<R: Wait, H: Shop>(
+    rt: &R,
+    alloc: Global,
+    shop: &mut H,
+    place: &str,
+    script: &Script,
+    limit: u64,
+) -> Result<Stored<H::D>, MountNo<H::D>>
+where
+    H::D: Drop,
+    requires proper { IsProper (plan_of_script script.now) }
+    requires spelled { (body.table 1).fits script.now.table }
+
+    // What is left is a legal history of this epoch. What ran to its end follows the script, and what was cut off is a
+    // beginning of it.
+    ensures legal { IfOk result (λ stored.
+        Legal (setting_of script.now.table stored.ended.start) (past_of stored)) }
+    ensures bounded { IfOk result (λ stored. length stored.ended.trail.items ≤ most_entries) }
+    ensures epoch { IfOk result (λ stored. (1 ≤ stored.epoch) × (stored.epoch < 2 ^ 32)) }
+    ensures follows { IfOk result (λ stored. OnOk stored.ended.ran (FollowsScript 0 stored.epoch
+        (net_of (plan_of_script script.now)) (plan_of_script script.now).tops (past_of stored))) }
+    ensures begins { IfOk result (λ stored. BeginsScript 0 stored.epoch
+        (net_of (plan_of_script script.now)) (plan_of_script script.now).tops (past_of stored)) }
+    ensures room { IfOk result (λ stored. IsErrOf stored.ended.ran Room
+        → length stored.ended.trail.items ≡ most_entries) }
+
+    // Where the shop tells the bytes of the disks, it starts from what these restore: from the table's own tuples, where no
+    // grant stands on them.
+    ensures restores { (images : List (List ℕ)) → Offers ((H.view shop.old).offers place.now) images
+        → length images ≡ script.now.table.copies + 1
+        → IfOk result (λ stored. Restores script.now.table images stored.ended.start) }
+    ensures first { HaveNoGrants script.now.table ((H.view shop.old).offers place.now)
+        → IfOk result (λ stored. stored.ended.start ≡ base_of script.now.table) }
+
+    // Each disk keeps what was found on it, and then what the history tells, where the shop told its bytes. Where it told
+    // those of all, whatever a crash leaves of them stands beside the history. For each failure of a disk that the history
+    // tells, the disk has counted a fault.
+    ensures kept { IfOk result (HasKept H.D.view script.now.table
+        ((H.view shop.old).offers place.now)) }
+    ensures stands { AllTell script.now.table ((H.view shop.old).offers place.now)
+        → IfOk result (λ stored. (images : List (List ℕ))
+        → AreImages H.D.view (disks_of stored) images
+        → ∥ IsStanding script.now.table stored.ended.start stored.epoch (past_of stored)
+        images ∥₁) }
+    ensures paid { IfOk result (λ stored. HavePaid H.D.view (disks_of stored) (past_of stored)) }
+
+    // Where the shop tells the bytes of all disks, none of them has a fault, or the answer is the first.
+    ensures sound { (images : List (List ℕ)) → Offers ((H.view shop.old).offers place.now) images
+        → length images ≡ script.now.table.copies + 1
+        → OnOk result (AreSound script.now.table limit images) }
+    ensures image { (images : List (List ℕ)) → Offers ((H.view shop.old).offers place.now) images
+        → length images ≡ script.now.table.copies + 1
+        → IfErr result (IsFaultOf script.now.table limit images) }
+
+    // The shop failed at the next disk, or one of all was refused. The disks come back.
+    ensures refused { IfErr result (λ refused. IsNotGiven (script.now.table.copies + 1)
+        (H.view shop.old).faults (H.view shop.new).faults refused
+        ⊎ IsNotMounted script.now.table.copies refused) }
+    ensures disks { IfErr result (ComeBack H.D.view ((H.view shop.old).offers place.now)
+        script.now.table) }
+
+    // No other disks were obtained, and the shop's count of faults never falls.
+    ensures others { (p : List ℕ) (n : ℕ) → returned result ≤ n
+        → (H.view shop.new).offers p n ≡ (H.view shop.old).offers p n }
+    ensures faults { (H.view shop.old).faults ≤ (H.view shop.new).faults }
+{
+    known_now::<H::D>();
+    let Ok(room) = Vec::with_capacity(alloc, MOST_DISKS) else {
+        let disks = Vec::new(alloc);
+        return Err(MountNo::Memory { disks });
+    };
+    let disks = obtain_all(alloc, shop, place, script.table.copies + 1)?;
+    run_disks(rt, alloc, disks, room, script, limit)
+}

@@ -1,0 +1,165 @@
+//! A session over a store whose disks were obtained.
+ghost use Rattle.std.specs.Prelude.{ℕ, ◌≡◌, ◌<◌, ◌≤◌, ◌+◌, ◌^◌, List, [], length, map, reverse, Option, None, IfOk, IfErr, OnOk, IsErrOf, slice_index_or};
+ghost use Rattle.std.specs.Vec.{vec_capacity};
+ghost use Rattle.qc_codec.specs.Bodies as body;
+ghost use Rattle.qc_event.specs.declared.log.Short.TheVariants.{Room};
+ghost use Rattle.qc_event.specs.Base.{IsProper as IsProperSetting};
+ghost use Rattle.qc_event.specs.History.{limit as most};
+ghost use Rattle.qc_event.specs.Legal.{Legal};
+ghost use Rattle.qc_event.specs.Tables.{setting_of};
+ghost use Rattle.qc_interp.specs.FollowsScript.{FollowsScript, BeginsScript};
+ghost use Rattle.qc_ledger.specs.Mounted as book;
+ghost use Rattle.qc_mount.specs.Images.{AreSound, IsFirstFault};
+ghost use Rattle.qc_mount.specs.Refusing.{disks_in, reason_in, AreLeft, IsReasonAmong, TellImages};
+ghost use Rattle.qc_opening.specs.Boxes.{unboxed};
+ghost use Rattle.qc_opening.specs.Parts.{disks_held, IsStoreOver};
+ghost use Rattle.qc_opening.specs.Stored.{HasRun};
+ghost use Rattle.qc_script.specs.Reading.{IsProper};
+ghost use Rattle.qc_script.specs.Steps.{plan_of_script};
+ghost use Rattle.qc_session.specs.Session.{net_of};
+ghost use Rattle.qc_system.specs.Closing.{AllKeep};
+ghost use Rattle.qc_system.specs.Parts.{AreMounted, IsFound};
+
+use crate::boxing::box_all;
+use crate::refusing::{take_apart, unbox_refusal};
+use crate::starting::{blank_over, copies_are_of_bytes};
+use crate::stored::Stored;
+use qc_disk::Disk;
+use qc_mount::{MountNo, mount_disks};
+use qc_script::Script;
+use qc_session::{Ended, run_session};
+use qc_standing::are_bytes;
+use qc_system::{Boxed, Mounting, Parts, System};
+use std::alloc::Global;
+use std::marker::Brand;
+use std::sync::Wait;
+
+// Opens a system with a name, and runs the session of a script over it.
+fn run_named<R: Wait, D: Disk + Drop, N: Mounting>(
+    rt: &R,
+    alloc: Global,
+    parts: Parts<D>,
+    script: &Script,
+) -> Ended<D>
+    requires desk { parts.blank.room.shared.table_id ≡ N.desk }
+    requires base { parts.blank.base ≡ N.base }
+    requires table { script.now.table ≡ N.table }
+    requires setting { IsProperSetting (setting_of N.table N.base) }
+    requires proper { IsProper (plan_of_script script.now) }
+    requires whole { length N.base ≡ script.now.table.copies }
+    requires none { parts.room.items ≡ [] }
+    requires room { 17 ≤ vec_capacity parts.room }
+    requires ledger { IsFound (N.told 0) (N.before 0) (N.faults 0)
+        (book.records_of parts.book) (book.journal_of parts.book) }
+    requires many { length parts.copies.items ≡ length N.base }
+    requires copies { AreMounted (record {
+      base = N.base;
+      told = N.told;
+      before = N.before;
+      faults = N.faults;
+    }) 0 parts.copies.items }
+    ensures start { result.start ≡ N.base }
+    ensures legal { Legal (setting_of N.table N.base) (reverse result.trail.items) }
+    ensures bounded { length result.trail.items ≤ most }
+    ensures follows { OnOk result.ran (FollowsScript 0 parts.blank.epoch
+        (net_of (plan_of_script script.now)) (plan_of_script script.now).tops
+        (reverse result.trail.items)) }
+    ensures begins { BeginsScript 0 parts.blank.epoch (net_of (plan_of_script script.now))
+        (plan_of_script script.now).tops (reverse result.trail.items) }
+    ensures room { IsErrOf result.ran Room → length result.trail.items ≡ most }
+    ensures disks { AllKeep (setting_of N.table N.base) (record {
+      base = N.base;
+      told = N.told;
+      before = N.before;
+      faults = N.faults;
+    }) D.view result.disks.items (reverse result.trail.items) }
+{
+    let (system, first) = System::<D, N>::open(rt, parts);
+    run_session(rt, alloc, system, first, script)
+}
+
+// It makes the range of an epoch known.
+fn known_range(epoch: u32)
+    ensures { epoch < 2 ^ 32 }
+{
+    let _ = epoch;
+}
+
+// Runs the session of a script over a store that was mounted. An error is want of memory, with the disks.
+fn run_mounted<R: Wait, D: Disk + Drop>(
+    rt: &R,
+    alloc: Global,
+    parts: qc_mount::Parts<Boxed<D>>,
+    room: Vec<D>,
+    script: &Script,
+) -> Result<Stored<D>, Vec<D>>
+    ghost told: { List (Option (List ℕ)) }
+    requires proper { IsProper (plan_of_script script.now) }
+    requires spelled { (body.table 1).fits script.now.table }
+    requires store { IsStoreOver script.now.table told parts }
+    requires all { length parts.copies.items ≡ script.now.table.copies }
+    requires none { room.items ≡ [] }
+    requires room { 17 ≤ vec_capacity room }
+    ensures ran { IfOk result (HasRun D.view (plan_of_script script.now)
+        (λ number. slice_index_or told number None)) }
+    ensures back { IfErr result (λ disks. disks.items ≡ unboxed (disks_held parts)) }
+{
+    are_bytes(parts.book.records());
+    copies_are_of_bytes(parts.copies.as_slice());
+    let epoch = parts.epoch;
+    known_range(epoch);
+    match blank_over(alloc, parts.copies.as_slice(), epoch) {
+        Ok(blank) => {
+            let qc_mount::Parts { book, copies, .. } = parts;
+            let parts = Parts {
+                blank,
+                book,
+                copies,
+                room,
+            };
+            let ended = run_named::<R, D, Brand>(rt, alloc, parts, script);
+            Ok(Stored { epoch, ended })
+        }
+        Err(_) => Err(take_apart(parts, room)),
+    }
+}
+
+/// Mounts the disks of a store, and runs the session of a script over them. A refusal hands them back in their order,
+/// each as its mounting left it.
+pub(crate) fn run_disks<R: Wait, D: Disk + Drop>(
+    rt: &R,
+    alloc: Global,
+    disks: Vec<D>,
+    room: Vec<D>,
+    script: &Script,
+    limit: u64,
+) -> Result<Stored<D>, MountNo<D>>
+    ghost told: { List (Option (List ℕ)) }
+    requires proper { IsProper (plan_of_script script.now) }
+    requires spelled { (body.table 1).fits script.now.table }
+    requires all { length disks.items ≡ script.now.table.copies + 1 }
+    requires none { room.items ≡ [] }
+    requires room { 17 ≤ vec_capacity room }
+    requires told { map (λ disk. (D.view disk).content) disks.items ≡ told }
+    ensures ran { IfOk result (HasRun D.view (plan_of_script script.now)
+        (λ number. slice_index_or told number None)) }
+    ensures sound { (images : List (List ℕ)) → TellImages D.view disks.items images
+        → OnOk result (AreSound script.now.table limit images) }
+    ensures left { IfErr result (λ refused. AreLeft D.view script.now.table (reason_in refused) 0
+        disks.items (disks_in refused)) }
+    ensures reason { IfErr result (λ refused. IsReasonAmong 0 script.now.table.copies
+        (λ bad. (images : List (List ℕ)) → TellImages D.view disks.items images
+        → IsFirstFault script.now.table limit bad images) (reason_in refused)) }
+{
+    let boxed = match box_all(alloc, disks) {
+        Ok(boxed) => boxed,
+        Err(disks) => return Err(MountNo::Memory { disks }),
+    };
+    match mount_disks(alloc, boxed, &script.table, limit) {
+        Ok(parts) => match run_mounted(rt, alloc, parts, room, script) {
+            Ok(stored) => Ok(stored),
+            Err(disks) => Err(MountNo::Memory { disks }),
+        },
+        Err(refused) => Err(unbox_refusal(refused, room)),
+    }
+}

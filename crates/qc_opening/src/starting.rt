@@ -1,0 +1,47 @@
+//! What a session starts from: a desk over the tuples that the copies restored.
+ghost use Rattle.std.specs.Prelude.{◌≡◌, ◌≤◌, All, map, IfOk};
+ghost use Rattle.qc_ledger.specs.Mounted as book;
+ghost use Rattle.qc_site.specs.Mounted.{records_of};
+ghost use Rattle.qc_site.specs.Start.{start_of};
+ghost use Rattle.qc_standing.specs.Mountings.{AreBytes};
+
+use qc_config::Tuple;
+use qc_disk::Disk;
+use qc_event::Base;
+use qc_pass::Blank;
+use qc_site::Mounted;
+use qc_standing::are_bytes;
+use std::alloc::{AllocError, Global};
+
+// The tuples with which each copy starts, in order.
+fn rows_of<D: Disk>(alloc: Global, copies: &[Mounted<D>]) -> Result<Vec<Vec<Tuple>>, AllocError>
+    ensures { IfOk result (λ rows. map (λ row. row.items) rows.items ≡ map start_of copies.now) }
+{
+    let mut rows = Vec::new(alloc);
+    for copy in copies {
+        rows.push(copy.start().to_vec(alloc)?)?;
+    }
+    Ok(rows)
+}
+
+/// A desk for a mounting's epoch, without a name, over the tuples with which the copies start.
+pub(crate) fn blank_over<D: Disk>(
+    alloc: Global,
+    copies: &[Mounted<D>],
+    epoch: u32,
+) -> Result<Blank, AllocError>
+    requires { 1 ≤ epoch }
+    ensures base { IfOk result (λ blank. blank.base ≡ map start_of copies.now) }
+    ensures epoch { IfOk result (λ blank. blank.epoch ≡ epoch) }
+{
+    Blank::new(alloc, Base::new(rows_of(alloc, copies)?), epoch)
+}
+
+/// The records of each copy are of bytes. It does nothing else.
+pub(crate) fn copies_are_of_bytes<D: Disk>(copies: &[Mounted<D>])
+    ensures { All (λ copy. AreBytes (records_of copy)) copies.now }
+{
+    for copy in copies {
+        are_bytes(copy.records());
+    }
+}

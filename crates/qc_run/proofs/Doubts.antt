@@ -1,0 +1,110 @@
+-- What a test for tops in doubt says of a history, and what follows where there is none.
+use Rattle.std.proofs.Common.{ℕ, ◌≡◌, Bool, true, false, List, [], ◌∷◌, ◌++◌, reverse, Option, None, Some, refl, sym, ap, ◌∙◌, subst, inl, inr}
+use Rattle.std.specs.Prelude.{◌⊎◌, ◌&&◌, ◌||◌, is_some, if◌then◌else◌, IsTrue}
+use Rattle.std.specs.List.{list_all, list_any}
+use Rattle.std.specs.Option.{option_or}
+use Rattle.std.proofs.lemmas.Bool.{and_parts, and_from, or_cases, or_left, or_right, true≢false, cases_Bool}
+use Rattle.std.proofs.lemmas.List.{reverse-append, reverse-reverse}
+use Rattle.std.proofs.lemmas.List.Folds.{list_any-append}
+use Rattle.qc_event.proofs.Absent.{same_itself}
+use Rattle.qc_event.proofs.OneEntry.{ready_step}
+use Rattle.qc_event.specs.Dead.{outcome, outcome_of}
+use Rattle.qc_event.specs.History.{Past, Name, earliest, end, is_ready, ready_in, same}
+use Rattle.qc_event.specs.declared.event.Entry.{Entry}
+use Rattle.qc_event.specs.declared.event.Event.{Event}
+use Rattle.qc_event.specs.declared.event.Event.TheVariants as event
+use Rattle.qc_event.specs.declared.event.How.{How}
+use Rattle.qc_event.specs.declared.event.How.TheVariants.{Commit, Abort}
+use Rattle.qc_interp.specs.FollowsScript.{started}
+use Rattle.qc_interp.specs.Sessions.{is_settled}
+use Rattle.qc_script.specs.Calls.{is_over}
+use Rattle.qc_report.specs.Report.{has_doubt, in_doubt, is_live}
+use Rattle.qc_run.specs.Run.{AllEnded, IsInDoubt}
+
+-- ALL HAVE ENDED
+
+settled_ended : (past : Past) (n : Name) → ((top : Name) → IsInDoubt past top → ⊥) → (o : Option How) → end past n ≡ o → (is_some o || (is_ready past n && is_over past n)) ≡ true → is_some o ≡ true
+settled_ended past n none (Some how) e settled = refl
+settled_ended past n none None e settled = absurd (none n (record { ready = (and_parts (is_ready past n) (is_over past n) settled).0; not_ended = e }))
+
+-- where each is settled and no top is in doubt, each has ended
+each_ended : (past : Past) (names : List Name) → ((top : Name) → IsInDoubt past top → ⊥) → list_all (is_settled past) names ≡ true → list_all (λ n. is_some (end past n)) names ≡ true
+each_ended past [] none settled = refl
+each_ended past (n ∷ names) none settled =
+    let both = and_parts (is_settled past n) (list_all (is_settled past) names) settled in
+    and_from (is_some (end past n)) (list_all (λ m. is_some (end past m)) names) (settled_ended past n none (end past n) refl both.0) (each_ended past names none both.1)
+
+pub all_ended : (past : Past) → IsTrue (list_all (is_settled past) (started past)) → ((top : Name) → IsInDoubt past top → ⊥) → AllEnded past
+all_ended past settled none = each_ended past (started past) none settled
+
+-- WHAT THE TEST SAYS
+
+last_or_before : {A : Type 0} (p : A → Bool) (x : A) (xs ys : List A) → (list_any p xs ≡ true → list_any p ys ≡ true) → (p x ≡ true) ⊎ (list_any p xs ≡ true) → (list_any p ys || list_any p (x ∷ [])) ≡ true
+last_or_before p x xs ys before (inl here) = or_right (list_any p ys) (list_any p (x ∷ [])) (or_left (p x) false here)
+last_or_before p x xs ys before (inr there) = or_left (list_any p ys) (list_any p (x ∷ [])) (before there)
+
+-- a list turned around has the same
+any_reversed : {A : Type 0} (p : A → Bool) (xs : List A) → list_any p xs ≡ true → list_any p (reverse xs) ≡ true
+any_reversed p [] e = e
+any_reversed p (x ∷ xs) e = ap (list_any p) (reverse-append (x ∷ []) xs) ∙ list_any-append p (reverse xs) (x ∷ []) ∙ last_or_before p x xs (reverse xs) (any_reversed p xs) (or_cases (p x) (list_any p xs) e)
+
+still_live : (o : Option How) → is_live (outcome_of o) ≡ true → o ≡ None
+still_live None e = refl
+still_live (Some (Commit given)) e = absurd cc
+still_live (Some (Abort cause)) e = absurd cc
+
+some_before : {A : Type 0} (a b : Option A) → is_some a ≡ true → is_some (option_or a b) ≡ true
+some_before None b e = absurd cc
+some_before (Some x) b e = refl
+
+some_now : {A : Type 0} (a b : Option A) → is_some b ≡ true → is_some (option_or a b) ≡ true
+some_now None b e = e
+some_now (Some x) b e = refl
+
+-- who is ready, and has no end in the whole
+record IsFound (trail : List Entry) (past : Past) : Type 0 where
+  top : Name
+  ready : is_ready past top ≡ true
+  unended : end (reverse trail) top ≡ None
+
+module _ (trail : List Entry) where
+  abbrev Tests : Entry → Bool
+  Tests e = in_doubt trail e.event
+
+  passes_now : (e : Entry) (past : Past) (top : Name) → end (reverse trail) top ≡ None → (is_ready past top ≡ true → list_any Tests past ≡ true) → (is_ready past top ≡ true) ⊎ (e.event ≡ event.Ready top) → (in_doubt trail e.event || list_any Tests past) ≡ true
+  passes_now e past top unended before (inl old) = or_right (in_doubt trail e.event) (list_any Tests past) (before old)
+  passes_now e past top unended before (inr is) = or_left (in_doubt trail e.event) (list_any Tests past) (ap (in_doubt trail) is ∙ ap (λ o. is_live (outcome_of o)) unended)
+
+  -- who is ready and has not ended passes the test
+  ready_passes : (past : Past) (top : Name) → is_ready past top ≡ true → end (reverse trail) top ≡ None → list_any Tests past ≡ true
+  ready_passes [] top ready unended = absurd (true≢false (sym ready))
+  ready_passes (e ∷ past) top ready unended = passes_now e past top unended (λ old. ready_passes past top old unended) (ready_step e past top ready)
+
+  found_now : (e : Entry) (past : Past) (ev : Event) → e.event ≡ ev → in_doubt trail ev ≡ true → IsFound trail (e ∷ past)
+  found_now e past (event.Ready top) is passes = record {
+    top = top;
+    ready = some_now (earliest (λ f. ready_in top f.event) past) (ready_in top e.event) (ap (λ x. is_some (ready_in top x)) is ∙ ap (λ (b : Bool). is_some {T = Unit {0}} (if b then Some tt else None)) (same_itself top));
+    unended = still_live (end (reverse trail) top) passes;
+  }
+  found_now e past _ is passes = absurd (true≢false (sym passes))
+
+  found_before : (e : Entry) (past : Past) → IsFound trail past → IsFound trail (e ∷ past)
+  found_before e past it = record { top = it.top; ready = some_before (earliest (λ f. ready_in it.top f.event) past) (ready_in it.top e.event) it.ready; unended = it.unended }
+
+  -- whoever passes the test is in doubt
+  passes_found : (past : Past) → list_any Tests past ≡ true → IsFound trail past
+  passes_found [] passes = absurd cc
+  passes_found (e ∷ past) passes = elim (or_cases (in_doubt trail e.event) (list_any Tests past) passes) [
+    | inl here ↦ found_now e past e.event refl here
+    | inr there ↦ found_before e past (passes_found past there)
+  ]
+
+  pub doubt_found : has_doubt trail ≡ true → (top : Name) × IsInDoubt (reverse trail) top
+  doubt_found doubt =
+      let it = passes_found (reverse trail) (any_reversed Tests trail doubt) in
+      (it.top, record { ready = it.ready; not_ended = it.unended })
+
+  pub no_doubt : has_doubt trail ≡ false → (top : Name) → IsInDoubt (reverse trail) top → ⊥
+  no_doubt none top is =
+      let passes : list_any Tests (reverse trail) ≡ true = ready_passes (reverse trail) top is.ready is.not_ended in
+      true≢false (sym (subst (λ l. list_any Tests l ≡ true) (reverse-reverse trail) (any_reversed Tests (reverse trail) passes)) ∙ none)

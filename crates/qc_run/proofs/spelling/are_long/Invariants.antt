@@ -1,0 +1,7 @@
+-- The start values so far are such numbers.
+use Rattle.std.proofs.Common.{◌<◌, ◌^◌, All, take}
+use Rattle.qc_event.specs.declared.table.Row.{Row}
+use Rattle.qc_run.proofs.spelling.are_long.Given as goal
+
+abbrev pub invariant-loop-row : goal.invariant-loop-row
+invariant-loop-row l = All (λ (row : Row). row.start < 2 ^ 64) (take l.row-index l.rows)

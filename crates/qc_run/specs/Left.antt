@@ -1,0 +1,140 @@
+-- What the parts of a run keep, each said once.
+use Rattle.std.specs.Prelude.{ℕ, ◌<◌, ◌≤◌, ◌^◌, ◌≡◌, ◌≢◌, ◌⊎◌, List, [], length, reverse, Option, IfSome}
+use Rattle.qc_config.specs.declared.tuple.Tuple.{Tuple}
+use Rattle.qc_disk.specs.Disk.{View}
+use Rattle.qc_disk.specs.Shop.{View as Shop}
+use Rattle.qc_event.specs.History.{Name, limit}
+use Rattle.qc_event.specs.Legal.{Legal}
+use Rattle.qc_event.specs.Tables.{base_of, setting_of}
+use Rattle.qc_event.specs.declared.event.Entry.{Entry}
+use Rattle.qc_event.specs.declared.log.Short.{Short}
+use Rattle.qc_event.specs.declared.log.Short.TheVariants as short
+use Rattle.qc_io.specs.Io.{Rose, Keeps, Appends, AppendsFront, SinkView, SourceView}
+use Rattle.qc_mount.specs.Images.{AreSound, IsFirstFault}
+use Rattle.qc_mount.specs.Refusing.{disks_in, ComeBack}
+use Rattle.qc_mount.specs.declared.refusing.MountNo.{MountNo}
+use Rattle.qc_mount.specs.declared.refusing.MountNo.TheVariants as no
+use Rattle.qc_opening.specs.Stored.{AllTell, AreImages, HavePaid}
+use Rattle.qc_refine.specs.Images.{IsStanding, Restores}
+use Rattle.qc_report.specs.Report.{Text}
+use Rattle.qc_script.specs.Plan.{ScriptPlan}
+use Rattle.qc_script.specs.Reading.{IsScript, IsRefused}
+use Rattle.qc_script.specs.declared.bad_script.BadScript.TheVariants.{Memory}
+use Rattle.qc_standing.specs.Mountings.{HaveNoGrants}
+use Rattle.qc_run.specs.Run.{journal_limit, report_of, AllOffered, BeginsIn, FollowsIn, IsDiskFault, IsInDoubt, IsOrMemory, IsReported, IsTold, NoneBegun, RanToEnd, ReadsScript, TellsFault}
+use Rattle.qc_run.specs.Words.{IsCommand, IsNoCommand}
+use Rattle.qc_run.specs.declared.ran.Ran.{Ran}
+use Rattle.qc_run.specs.declared.status.Status.{Status}
+use Rattle.qc_run.specs.declared.status.Status.TheVariants as status
+
+-- What was written, by the status: a text, a front of it, a fault's line, or nothing.
+pub record Wrote (before now : SinkView) (answer : Status) (text : Text) : Type 0 where
+  pub whole : IsReported answer → Appends before.taken now.taken text
+  pub front : answer ≡ status.WriteFault → AppendsFront before.taken now.taken text
+  pub line : IsTold answer → TellsFault before.taken now.taken before.faults now.faults answer
+  pub none : answer ≡ status.Memory → Keeps before.taken now.taken
+  pub cause : answer ≡ status.WriteFault → Rose before.faults now.faults
+  pub faults : before.faults ≤ now.faults
+
+-- what a session that was run may answer
+abbrev pub IsPerformed : Status → Type 0
+IsPerformed status.Done = Unit {0}
+IsPerformed status.InDoubt = Unit {0}
+IsPerformed status.WriteFault = Unit {0}
+IsPerformed status.Memory = Unit {0}
+IsPerformed status.Room = Unit {0}
+IsPerformed _ = ⊥
+
+-- what a session that ran to its end may answer
+abbrev pub IsConcluded : Status → Type 0
+IsConcluded status.Room = ⊥
+IsConcluded answer = IsPerformed answer
+
+-- what is answered for want of memory or room
+abbrev pub IsHalted : Short → Status → Type 0
+IsHalted short.Memory answer = answer ≡ status.Memory
+IsHalted short.Room answer = answer ≡ status.Room
+
+-- whether a top is in doubt, by the status
+abbrev pub TellsDoubt : Status → List Entry → Type 0
+TellsDoubt status.Done trail = (top : Name) → IsInDoubt (reverse trail) top → ⊥
+TellsDoubt status.InDoubt trail = (top : Name) × IsInDoubt (reverse trail) top
+TellsDoubt _ trail = Unit {0}
+
+-- Nothing was begun, and what is told is the fault, whatever a report would be.
+pub record IsRefusal {D : Type 0} (before now : SinkView) (ran : Ran D) : Type 0 where
+  pub none : NoneBegun ran.start ran.trail.items
+  pub wrote : (text : Text) → Wrote before now ran.status text
+
+module _ {D : Type 0} (view : D → View) (s : ScriptPlan) (offers : ℕ → Option (List ℕ)) where
+  -- The session of a script was run, from what the disks of a store restored, and left this.
+  pub record HasRun (ran : Ran D) : Type 0 where
+    pub answer : IsPerformed ran.status
+    pub epoch : ℕ
+    pub legal : Legal (setting_of s.table ran.start) (reverse ran.trail.items)
+    pub begins : BeginsIn epoch s ran.trail.items
+    pub follows : RanToEnd ran.status → FollowsIn epoch s ran.trail.items
+    pub room : ran.status ≡ status.Room → length ran.trail.items ≡ limit
+    pub doubt : TellsDoubt ran.status ran.trail.items
+    pub sound : (images : List (List ℕ)) → AllOffered s.table offers images → AreSound s.table journal_limit images
+    pub restores : (images : List (List ℕ)) → AllOffered s.table offers images → Restores s.table images ran.start
+    pub first : HaveNoGrants s.table offers → ran.start ≡ base_of s.table
+    pub stands : AllTell s.table offers → (images : List (List ℕ)) → AreImages view ran.disks.items images
+        → ∥ IsStanding s.table ran.start epoch (reverse ran.trail.items) images ∥₁
+    pub paid : HavePaid view ran.disks.items (reverse ran.trail.items)
+
+  -- why no store was mounted
+  abbrev pub IsUnmounted : ℕ → ℕ → List D → Status → Type 0
+  IsUnmounted before now disks (status.DiskFault which) = IsDiskFault view before now disks which
+  IsUnmounted before now disks (status.Image bad) = (images : List (List ℕ)) → AllOffered s.table offers images → IsFirstFault s.table journal_limit bad images
+  IsUnmounted before now disks status.Memory = Unit {0}
+  IsUnmounted before now disks _ = ⊥
+
+  -- the disks that the shop gave come back, each as a mounting that was refused left it
+  abbrev pub CameBack : List D → Type 0
+  CameBack disks = (refused : MountNo D) × (disks_in refused ≡ disks) × ComeBack view offers s.table refused
+
+  -- No store was mounted, and nothing was begun.
+  pub record WasUnmounted (shop_before shop_now : ℕ) (ran : Ran D) : Type 0 where
+    pub none : NoneBegun ran.start ran.trail.items
+    pub why : IsUnmounted shop_before shop_now ran.disks.items ran.status
+    pub back : CameBack ran.disks.items
+
+  -- A script was run, or no store was mounted for it. The shop's count of faults was the one, and is the other.
+  pub record IsAnswer (shop_before shop_now : ℕ) (before now : SinkView) (ran : Ran D) : Type 0 where
+    pub wrote : Wrote before now ran.status (report_of s.table ran.start ran.trail.items)
+    pub came : WasUnmounted shop_before shop_now ran ⊎ HasRun ran
+
+-- the status of a refusal to mount, or want of memory in its place
+abbrev pub IsStatusOf : {D : Type 0} → MountNo D → Status → Type 0
+IsStatusOf (no.Disk which disks) answer = IsOrMemory (status.DiskFault which) answer
+IsStatusOf (no.Image fault disks) answer = IsOrMemory (status.Image fault) answer
+IsStatusOf (no.Memory disks) answer = answer ≡ status.Memory
+
+-- why bytes are no script
+abbrev pub IsNoScript : List ℕ → Status → Type 0
+IsNoScript bytes (status.Script e) = IsRefused bytes e × (e ≢ Memory)
+IsNoScript bytes status.Memory = Unit {0}
+IsNoScript bytes _ = ⊥
+
+-- why no script was read
+abbrev pub IsUnread : List (List ℕ) → SourceView → SourceView → Status → Type 0
+IsUnread words before now status.Usage = IsNoCommand words
+IsUnread words before now status.ReadFault = Rose before.faults now.faults
+IsUnread words before now (status.Script e) = IfSome before.left (λ bytes. IsRefused bytes e) × (e ≢ Memory)
+IsUnread words before now status.Memory = Unit {0}
+IsUnread words before now _ = ⊥
+
+module _ {D : Type 0} (view : D → View) where
+  -- what is answered to bytes, over disks of a place
+  abbrev pub IsAnswerToBytes : List ℕ → (ℕ → Option (List ℕ)) → ℕ → ℕ → SinkView → SinkView → Ran D → Type 0
+  IsAnswerToBytes bytes offers shop_before shop_now before now ran =
+      (IsRefusal before now ran × IsNoScript bytes ran.status)
+      ⊎ ((s : ScriptPlan) × IsScript bytes s × IsAnswer view s offers shop_before shop_now before now ran)
+
+  -- what is answered to words
+  abbrev pub IsAnswerToWords : List (List ℕ) → SourceView → SourceView → Shop → ℕ → SinkView → SinkView → Ran D → Type 0
+  IsAnswerToWords words source_before source_now shop_before shop_faults before now ran =
+      (IsRefusal before now ran × IsUnread words source_before source_now ran.status)
+      ⊎ ((s : ScriptPlan) × ReadsScript source_before.left source_now.left s
+      × ((place : List ℕ) × IsCommand words place × IsAnswer view s (shop_before.offers place) shop_before.faults shop_faults before now ran))

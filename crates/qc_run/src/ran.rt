@@ -1,0 +1,14 @@
+//! What a run answers.
+
+use crate::status::Status;
+use qc_event::{Base, Entry};
+
+/// What a run answers: how it ended, the tuples from which it started, its history, the oldest entry
+/// first, and the disks that it obtained, in the order of their numbers.
+#[derive(Drop)]
+pub struct Ran<D> {
+    pub status: Status,
+    pub start: Base,
+    pub trail: Vec<Entry>,
+    pub disks: Vec<D>,
+}

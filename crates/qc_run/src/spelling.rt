@@ -1,0 +1,33 @@
+//! That the table of a script is one that the disks can keep.
+ghost use Rattle.std.specs.Prelude.{ℕ, ◌<◌, ◌^◌, All, List};
+ghost use Rattle.qc_codec.specs.Bodies as body;
+ghost use Rattle.qc_script.specs.Reading.{IsProper, IsScript};
+ghost use Rattle.qc_script.specs.Steps.{plan_of_script};
+
+use qc_event::Row;
+use qc_script::Script;
+
+// The start value of a row is a number of 64 bits.
+fn is_long(row: &Row)
+    ensures { row.now.start < 2 ^ 64 }
+{
+    let _start = row.start;
+}
+
+// So is each row's.
+fn are_long(rows: &[Row])
+    ensures { All (λ row. row.start < 2 ^ 64) rows.now }
+{
+    for row in rows {
+        is_long(row);
+    }
+}
+
+/// A script that was read has a table that the disks can keep. It does nothing else.
+pub(crate) fn is_spelled(script: &Script)
+    requires { IsProper (plan_of_script script.now) }
+    ensures { (bytes : List ℕ) → IsScript bytes (plan_of_script script.now)
+        → (body.table 1).fits script.now.table }
+{
+    are_long(script.table.records.as_slice());
+}

@@ -1,0 +1,38 @@
+-- A user transaction commits, or why it does not.
+use Rattle.qc_carry.proofs.Walking.{of_entered, of_looked}
+use Rattle.qc_event.specs.Tables.{setting_of}
+use Rattle.qc_event.specs.declared.event.Answer.TheVariants as answer
+use Rattle.qc_event.specs.declared.event.Event.TheVariants as event
+use Rattle.qc_event.specs.declared.event.How.TheVariants.{Commit as Commits}
+use Rattle.qc_pass.specs.Refusing.{against_commit}
+use Rattle.qc_pass.specs.declared.view.View.{View}
+use Rattle.qc_script.specs.Calls.{NotCommitted}
+use Rattle.qc_session.proofs.Committing.{below_committed}
+use Rattle.qc_session.proofs.Own.{made_so}
+use Rattle.qc_session.proofs.Refused.{commit_refused}
+use Rattle.qc_session.proofs.Tidy.{looked_tidy, user_tidy}
+use Rattle.std.proofs.Common.{[], ap, refl, sym, subst}
+use Rattle.qc_session.proofs.ends.commit_below.Goals as goal
+
+pub returns-in-Ok-clause-ok : goal.returns-in-Ok-clause-ok
+returns-in-Ok-clause-ok g c = λ client for.
+    let v = c.args.line.now.pass in
+    let w = c.end-ended.new.self.pass in
+    below_committed (setting_of g.N.Store.table g.N.Store.base) v w client for c.known.ensures.legal c.args.of.now c.requires.below (of_entered (against_commit c.args.of.now) (event.End c.args.of.now (Commits answer.Nothing)) v w c.in-Ok.ensures.ok)
+
+pub returns-in-Err-clause-err : goal.returns-in-Err-clause-err
+returns-in-Err-clause-err g c = λ client for.
+    let v = c.args.line.now.pass in
+    let w = c.end-ended.new.self.pass in
+    let r = c.in-Err.ensures.err in
+    subst (NotCommitted client c.args.of.now v.seen w.seen) (sym c.no_of.ensures) (commit_refused client v.seen w.seen (made_so (setting_of g.N.Store.table g.N.Store.base) v w client for c.known.ensures.legal [] (of_looked v w r.0)) c.args.of.now c.in-Err.no r.1)
+
+pub returns-in-Ok-clause-tidy : goal.returns-in-Ok-clause-tidy
+returns-in-Ok-clause-tidy g c = λ was.
+    let s = c.in-Ok.ensures.ok in
+    user_tidy (setting_of g.N.Store.table g.N.Store.base) c.args.line.now.pass c.end-ended.new.self.pass c.known.ensures.legal (ap (λ (x : View). x.number) s.3) was (event.End c.args.of.now (Commits answer.Nothing)) s.0 s.1 (ap (λ (x : View). x.seen) s.3) _ _ refl c.requires.user
+
+pub returns-in-Err-clause-tidy : goal.returns-in-Err-clause-tidy
+returns-in-Err-clause-tidy g c = λ was.
+    let r = c.in-Err.ensures.err in
+    looked_tidy (setting_of g.N.Store.table g.N.Store.base) c.args.line.now.pass c.end-ended.new.self.pass c.known.ensures.legal (ap (λ (x : View). x.number) r.0.1) was r.0.0

@@ -1,0 +1,16 @@
+-- A manager is aborted for its cause.
+use Rattle.qc_event.specs.Tables.{setting_of}
+use Rattle.qc_session.proofs.Managing.{closed_for, refused_may}
+use Rattle.std.specs.Prelude.{IfErr}
+use Rattle.qc_rw.specs.Managed.{IsRefused}
+use Rattle.qc_session.specs.Managing.{NotClosed}
+use Rattle.std.proofs.Common.{sym, ◌∙◌, subst}
+use Rattle.qc_session.proofs.managers.close.Goals as goal
+
+pub returns-in-Ok-abort_manager-clause-err : goal.returns-in-Ok-abort_manager-clause-err
+returns-in-Ok-abort_manager-clause-err g c =
+    let v = c.args.line.now.pass in
+    let w = c.abort_manager.new.line.pass in
+    let is = sym c.cause.ensures ∙ c.in-Some.is in
+    subst (NotClosed v w c.args.name.now) (sym c.told.ensures)
+    (closed_for (setting_of g.N.Store.table g.N.Store.base) v w c.args.name.now c.args.kind.now c.in-Err.no c.in-Some.cause is (refused_may (setting_of g.N.Store.table g.N.Store.base) v w c.args.name.now c.args.kind.now c.in-Err.no c.in-Some.cause is (subst (λ r. IfErr r (IsRefused (setting_of g.N.Store.table g.N.Store.base) v.number v.seen c.args.name.now c.args.kind.now)) c.in-Err.is c.requires.refused)) c.in-Ok-abort_manager.ensures.ok)

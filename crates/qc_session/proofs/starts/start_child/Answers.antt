@@ -1,0 +1,27 @@
+-- What a child leaves once it has started, or why it has not.
+use Rattle.qc_carry.proofs.Walking.{of_looked}
+use Rattle.qc_event.specs.Tables.{setting_of}
+use Rattle.qc_pass.specs.declared.view.View.{View}
+use Rattle.qc_script.specs.Calls.{WasRefused}
+use Rattle.qc_session.proofs.Own.{made_so}
+use Rattle.qc_session.proofs.Refused.{child_refused}
+use Rattle.qc_session.proofs.Tidy.{looked_tidy, start_tidy}
+use Rattle.std.proofs.Common.{[], ap, sym, subst}
+use Rattle.qc_session.proofs.starts.start_child.Goals as goal
+
+pub returns-in-Ok-clause-tidy : goal.returns-in-Ok-clause-tidy
+returns-in-Ok-clause-tidy g c = λ was.
+    let s = c.in-Ok.ensures.ok in
+    start_tidy (setting_of g.N.Store.table g.N.Store.base) c.args.line.now.pass c.start-started.new.self.pass c.known.ensures.legal (ap (λ (x : View). x.number) s.5) was s.1 s.0 s.3 (ap (λ (x : View). x.seen) s.5) c.in-Ok.name c.args.kind s.2.1
+
+pub returns-in-Err-clause-err : goal.returns-in-Err-clause-err
+returns-in-Err-clause-err g c = λ client for.
+    let v = c.args.line.now.pass in
+    let w = c.start-started.new.self.pass in
+    let r = c.in-Err.ensures.err in
+    subst (WasRefused client c.args.of.now v.seen w.seen) (sym c.no_of.ensures) (child_refused client v.seen w.seen (made_so (setting_of g.N.Store.table g.N.Store.base) v w client for c.known.ensures.legal [] (of_looked v w r.0)) c.args.of.now c.in-Err.no r.1)
+
+pub returns-in-Err-clause-tidy : goal.returns-in-Err-clause-tidy
+returns-in-Err-clause-tidy g c = λ was.
+    let r = c.in-Err.ensures.err in
+    looked_tidy (setting_of g.N.Store.table g.N.Store.base) c.args.line.now.pass c.start-started.new.self.pass c.known.ensures.legal (ap (λ (x : View). x.number) r.0.1) was r.0.0

@@ -1,0 +1,36 @@
+-- Who a client is, by its pass.
+use Rattle.std.specs.Prelude.{ℕ, ◌≡◌, [], Option}
+use Rattle.std.specs.Option.{option_map}
+use Rattle.qc_carry.specs.Kept.{net_of}
+use Rattle.qc_event.specs.Base.{Setting}
+use Rattle.qc_net.specs.Messages.{Net}
+use Rattle.qc_net.specs.Plan.{Plan}
+use Rattle.qc_pass.specs.declared.view.View.{View as Pass}
+use Rattle.qc_script.specs.Client.{Client, View}
+
+-- the link of a client, where it tells its plan
+abbrev pub link_told : Option Plan → ℕ → Option Net
+link_told plan patience = option_map (λ p. net_of p patience) plan
+
+-- a client that has no branches and may mark no session, by its pass
+abbrev pub client_of : Setting → ℕ → ℕ → Option Net → Pass → Client
+client_of setting session epoch net pass = record {
+  number = pass.number;
+  kin = [];
+  out = [];
+  session = session;
+  epoch = epoch;
+  setting = setting;
+  may = [];
+  net = net;
+}
+
+-- that client, and what its pass has seen
+abbrev pub view_of : Setting → ℕ → ℕ → Option Net → Pass → View
+view_of setting session epoch net pass = record { client = client_of setting session epoch net pass; seen = pass.seen }
+
+-- a pass is of a client that has no branches
+pub record IsFor (setting : Setting) (pass : Pass) (c : Client) : Type 0 where
+  pub number : c.number ≡ pass.number
+  pub kinless : c.kin ≡ []
+  pub setting_is : c.setting ≡ setting

@@ -1,0 +1,5 @@
+pub mod Acting
+pub mod Clients
+pub mod Managing
+pub mod Session
+pub mod Tidy

@@ -1,0 +1,95 @@
+//! What a session asks of a client, one call after another.
+ghost use Rattle.std.specs.Prelude.{◌≡◌, [], ◌∷◌, length, None, IfSome};
+
+use crate::client::Client;
+use crate::ends::{abort, commit_below, commit_top};
+use crate::managers::manage;
+use crate::starts::{start_child, start_top};
+use qc_disk::Disk;
+use qc_event::{Answer, Cause, Config, Kind, Name};
+use qc_net::Link;
+use qc_script::{Tx, TxNo};
+use qc_system::Mounting;
+use std::sync::Wait;
+
+// The number of a top.
+fn top_number(of: &Name) -> Option<u64>
+    ensures top { IfSome result (λ number. of.now ≡ number ∷ []) }
+    ensures none { result ≡ None → length of.now ≡ 1 → ⊥ }
+{
+    if of.len() == 1 { of.number(0) } else { None }
+}
+
+impl<'a, R: Wait, D: Disk + Drop, L: Link + Drop, N: Mounting> Tx for Client<'a, R, D, L, N> {
+    ghost use Rattle.qc_event.specs.Tables.{setting_of};
+    ghost use Rattle.qc_net.specs.Courier.{link_of};
+    ghost use Rattle.qc_session.specs.Clients.{link_told, view_of};
+
+    ghost view = { λ c. view_of (setting_of N.table N.base) c.session
+        c.line.system.now.desk.epoch (link_told (L.view (link_of c.line.courier)).plan c.line.patience)
+        c.line.pass };
+
+    fn begin(&mut self, parent: &Name, body: u32) -> Result<Name, TxNo> {
+        let session = self.session;
+        if parent.is_empty() {
+            let top = start_top(&mut self.line, session, body);
+            self.line.known();
+            return top;
+        }
+        self.line.known();
+        let child = start_child(&mut self.line, parent, Kind::User { session, body });
+        self.line.known();
+        child
+    }
+
+    fn read(&mut self, of: &Name, rec: u8) -> Result<u64, TxNo> {
+        let answer = manage(&mut self.line, self.table, of, &Kind::Read { rec });
+        self.line.known();
+        match answer {
+            Ok(Answer::Value(value)) => Ok(value),
+            Ok(_) => unreachable!(),
+            Err(why) => Err(why),
+        }
+    }
+
+    fn write(&mut self, of: &Name, rec: u8, value: u64) -> Result<(), TxNo> {
+        let answer = manage(&mut self.line, self.table, of, &Kind::Write { rec, value });
+        self.line.known();
+        match answer {
+            Ok(_) => Ok(()),
+            Err(why) => Err(why),
+        }
+    }
+
+    fn reconfigure(&mut self, of: &Name, rec: u8, config: &Config) -> Result<u64, TxNo> {
+        let kind = Kind::Reconf {
+            rec,
+            config: *config,
+        };
+        let answer = manage(&mut self.line, self.table, of, &kind);
+        self.line.known();
+        match answer {
+            Ok(Answer::Generation(generation)) => Ok(generation),
+            Ok(_) => unreachable!(),
+            Err(why) => Err(why),
+        }
+    }
+
+    fn abort(&mut self, target: &Name, cause: Cause) -> Result<(), TxNo> {
+        let aborted = abort(&mut self.line, target, &cause);
+        self.line.known();
+        aborted
+    }
+
+    fn commit(&mut self, of: &Name) -> Result<(), TxNo> {
+        self.line.known();
+        if let Some(number) = top_number(of) {
+            let committed = commit_top(&mut self.line, of, number);
+            self.line.known();
+            return committed;
+        }
+        let committed = commit_below(&mut self.line, of);
+        self.line.known();
+        committed
+    }
+}
