@@ -21,7 +21,8 @@ pub struct FileDisk {
 }
 
 impl FileDisk {
-    /// Opens a file, or makes it, empty. The folder is synced too, so that a new file outlives a crash.
+    /// Opens a file, or makes it, empty. The folder is synced too, so that a new file outlives a crash. The
+    /// file is locked until the disk is dropped: where another open of it holds the lock, that is an error.
     pub fn open(rt: &HostRuntime, folder: &str, path: &str) -> io::Result<FileDisk>
         ensures calls { IfOk result (λ disk. disk.calls ≡ 0) }
         ensures faults { IfOk result (λ disk. disk.faults ≡ 0) }
@@ -30,6 +31,7 @@ impl FileDisk {
         let mut options = OpenOptions::new();
         options.read(true).write(true).create(true);
         let file = options.open(rt, path)?;
+        file.try_lock()?;
         let syncs = Syncs::begin(rt, folder, &file)?;
         let size = file.metadata()?.len();
         Ok(FileDisk {

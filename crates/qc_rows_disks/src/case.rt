@@ -61,6 +61,7 @@ impl Case {
             "shop" => self.stock(step),
             "obtain" => Ok(self.obtain(step)),
             "home" => Ok(self.home(step)),
+            "beside" => Ok(self.beside(step)),
             "mount" | "append" | "close" | "reopen" | "reread" | "up" => Ok(self.on_journal(step)),
             _ => self.on_disk(step),
         }
@@ -122,11 +123,21 @@ impl Case {
         }
     }
 
-    // Takes a disk from the real shop. A stroke is no place.
+    // Takes a disk from the real shop. A stroke is no place. The disk before it is let go of first, since it may hold
+    // the lock of the same file.
     fn home(&mut self, step: &Step<'_>) -> Answer {
         let place = if step.last() == "-" { "" } else { step.last() };
+        self.state = State::Nothing;
         let disk = self.home.obtain(self.alloc, place, step.which());
         self.take(disk)
+    }
+
+    // Asks the real shop for a disk beside the one at hand, and lets go of it.
+    fn beside(&mut self, step: &Step<'_>) -> Answer {
+        match self.home.obtain(self.alloc, step.last(), step.which()) {
+            Ok(_) => Answer::Done,
+            Err(no) => Answer::Disk(no),
+        }
     }
 
     // Makes a step on a journal.

@@ -63,6 +63,8 @@ impl Case {
 
     // The copy's disk in a folder.
     fn file(&mut self, step: &Step<'_>) -> Result<String, AllocError> {
+        // The disk before it may hold the lock of the same file.
+        self.disk = None;
         let mut shop = HomeShop::new(self.home);
         match shop.obtain(self.alloc, step.word(0), 1) {
             Ok(disk) => {

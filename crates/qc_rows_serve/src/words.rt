@@ -11,10 +11,12 @@ use crate::answer::{said, served, strange};
 use crate::client::{Client, abort, plain, put, replied, set};
 use crate::serve::serve;
 use crate::step::{Step, bytes, number};
-use qc_disk::{Disk, HomeDisk, HomeShop, Shop};
+use qc_disk::HomeDisk;
 use qc_pass::{Desk, Pass, Store};
 use qc_site::Site;
 use std::alloc::{AllocError, Global};
+use std::fs::OpenOptions;
+use std::os::unix::fs::FileExt;
 use std::sync::Wait;
 
 /// What a run is given.
@@ -154,21 +156,19 @@ fn swap(client: &mut Client)
     client.before = before;
 }
 
-// Writes bytes into the file of the copy's disk, beside the site.
+// Writes bytes into the file of the copy's disk, beside the site, whose disk holds its lock: so it is opened as a plain
+// file.
 fn spoil(home: HostRuntime, alloc: Global, step: &Step<'_>) -> Result<String, AllocError> {
     let written = bytes(alloc, step.word(2))?;
-    let mut shop = HomeShop::new(home);
-    let Ok(mut disk) = shop.obtain(alloc, step.word(0), 1) else {
+    let path = format!(in alloc; "{}/1", step.word(0))?;
+    let mut options = OpenOptions::new();
+    options.write(true);
+    let Ok(file) = options.open(&home, path.as_str()) else {
         return said(alloc, "refused");
     };
-    let place = number(step.word(1));
-    match disk.len() {
-        Ok(length) if place <= length => {}
-        _ => return said(alloc, "refused"),
-    }
-    match disk.write_at(place, &written) {
+    match file.write_all_at(&written, number(step.word(1))) {
         Ok(()) => said(alloc, "ok"),
-        Err(no) => no.to_string(alloc),
+        Err(_) => said(alloc, "refused"),
     }
 }
 
