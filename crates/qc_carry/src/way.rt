@@ -65,7 +65,8 @@ impl<'a, R: Wait, D: Disk + Drop, N: Mounting> Port for Way<'a, R, D, N> {
     ghost use Rattle.qc_ledger.specs.Entered.{SeesMore};
     ghost use Rattle.qc_pass.specs.Consulting.{HasAsked};
     ghost use Rattle.qc_site.specs.Answers.{HasAnswered};
-    ghost use Rattle.qc_carry.specs.Seeing.{sees_itself, sees_by_both};
+    ghost use Rattle.qc_ledger.proofs.Passes.{sees_on};
+    ghost use Rattle.qc_carry.specs.Seeing.{sees_itself};
 
     ghost view = { λ way. record {
       may = λ ask. HasAsked way.pass.seen ask;
@@ -78,7 +79,7 @@ impl<'a, R: Wait, D: Disk + Drop, N: Mounting> Port for Way<'a, R, D, N> {
 
     ghost became_itself = { λ way. sees_itself way.pass };
 
-    ghost became_by_both = { λ a b c first second. sees_by_both a.pass b.pass c.pass first second };
+    ghost became_by_both = { λ a b c first second. sees_on a.pass b.pass c.pass first second };
 
     fn deliver(&mut self, ask: &Ask) -> Result<Answered, Short> {
         self.pass.known();

@@ -17,6 +17,7 @@ use Rattle.qc_event.specs.Dead.{dead, outcome_of, is_aborted}
 use Rattle.qc_event.specs.History.{Past, Name, Begun, start, end, children, same}
 use Rattle.qc_event.specs.Legal.{Legal, MayHappen, MayEnd}
 use Rattle.qc_event.specs.Standing.{IsAbort, IsOrphanOf}
+use Rattle.qc_event.proofs.Outcomes.{abort_or_alive}
 use Rattle.qc_event.proofs.Absent.{same_itself}
 use Rattle.qc_event.proofs.LastNumber.{child_last, rest_of, ends_in, same_last}
 use Rattle.qc_event.proofs.Lineage.{alive_above, alive_not_aborted}
@@ -77,7 +78,7 @@ alive_no_orphan past p n a child alive is =
           true≢false (sym (same_itself a) ∙ ap (λ x. same a x) (sym at) ∙ is_same is.not_itself)
       | inr e ↦
           let up : p ≡ a ++ e.0 = (same_last p (a ++ e.0) l.0 e.1 (sym l.1 ∙ r.1 ∙ ap (λ x. a ++ x) e.2 ∙ sym (append_assoc a e.0 (e.1 ∷ [])))).0 in
-          aborted_not (end past a) is.aborted (alive_not_aborted past a (alive_above past a e.0 (subst (λ x. dead past x ≡ None) up alive)))
+          abort_or_alive (end past a) is.aborted (alive_not_aborted past a (alive_above past a e.0 (subst (λ x. dead past x ≡ None) up alive)))
     ]
   where
     is_same : not (same a n) ≡ true → same a n ≡ false
@@ -86,11 +87,6 @@ alive_no_orphan past p n a child alive is =
         by_test : (b : Bool) → not b ≡ true → b ≡ false
         by_test true t = absurd (true≢false (sym t))
         by_test false t = refl
-
-    aborted_not : (o : Option How) → MatchOption o ⊥ IsAbort → is_aborted (outcome_of o) ≡ false → ⊥
-    aborted_not None h t = h
-    aborted_not (Some (Commit given)) h t = h
-    aborted_not (Some (Abort x)) h t = true≢false t
 
 module _ (c : Client) (of child : Name) where
   -- a child that failed is aborted ever after

@@ -16,6 +16,7 @@ use Rattle.qc_event.specs.declared.event.Kind.TheVariants as kind
 use Rattle.qc_event.specs.Base.{Setting}
 use Rattle.qc_event.specs.History.{Past, Name, Begun, every, start, start_in, end, end_in, is_ready, children, child_in, is_child, kind_of, same}
 use Rattle.qc_event.specs.Legal.{Legal}
+use Rattle.qc_event.proofs.KindsApart.{user_or_manager}
 use Rattle.qc_event.proofs.Lawful.{lawful}
 use Rattle.qc_event.proofs.Orderly.{Belongs}
 use Rattle.qc_event.proofs.LastNumber.{ends_in, front_last}
@@ -221,16 +222,9 @@ all_settled c past legal lone turns order accesses = all_started c.setting (is_s
     manager_unready : (p : Name) (b : Begun) → start past p ≡ Some b → IsManager b.kind → is_ready past p ≡ false
     manager_unready p b at manages = false_from_ne_true (is_ready past p) (λ ready. by_name p at (ready_is_top c.setting past p legal ready).0)
       where
-        no_user : (k : Kind) → IsManager k → IsUser k → ⊥
-        no_user (kind.User s b) manages user = manages
-        no_user (kind.Read rec) manages user = user
-        no_user (kind.Write rec value) manages user = user
-        no_user (kind.Reconf rec config) manages user = user
-        no_user kind.Access manages user = user
-
         by_name : (p : Name) → start past p ≡ Some b → length p ≡ 1 → ⊥
         by_name [] at top = let z : ⊥ = omega (arith, top) in z
-        by_name (x ∷ []) at top = no_user b.kind manages (top_user c.setting past x b legal at)
+        by_name (x ∷ []) at top = user_or_manager b.kind (top_user c.setting past x b legal at) manages
         by_name (x ∷ y ∷ p) at top = let z : ⊥ = omega (arith, top) in z
 
     manager_ended : (p : Name) (b : Begun) → start past p ≡ Some b → IsManager b.kind → is_some (end past p) ≡ true

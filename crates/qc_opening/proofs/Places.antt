@@ -59,8 +59,3 @@ pair_at R number (item ∷ items) (o ∷ others) pairs (suc i) other is =
 -- what holds of each holds of the one at a place
 pub all_at : {A : Type 0} (P : A → Type 0) (xs : List A) (i : ℕ) (x : A) → All P xs → slice_get xs i ≡ Some x → P x
 all_at P xs i x all is = subst P (get_or_from_slice_get xs i x x is) (all i x (slice_get_within xs i x is))
-
--- a list without items
-pub nil_of : {A : Type 0} (items : List A) → length items ≡ 0 → items ≡ []
-nil_of [] none = refl
-nil_of (item ∷ items) none = absurd (omega (arith, none))

@@ -28,29 +28,12 @@ use Rattle.qc_event.specs.Grants.{Sets}
 use Rattle.qc_event.specs.Seen.{changed_by}
 use Rattle.qc_event.specs.Tables.{base_of, first_configs, first_tuple, setting_of}
 use Rattle.qc_script.specs.Plan.{ScriptPlan}
+use Rattle.qc_script.proofs.Proper.{legal_unless_fault}
 use Rattle.qc_script.specs.Reading.{IsProper, IsProperRow}
 use Rattle.qc_standing.specs.Mountings.{IsMounted}
 use Rattle.qc_standing.proofs.Stands.{copy_spelled}
 
 -- CONFIGURATIONS
-
-not_first : (b : Bool) (e : BadConfig) (o : Option BadConfig) → cond b (Some e) o ≡ None → (b ≡ false) × (o ≡ None)
-not_first true e o h = absurd cc
-not_first false e o h = (refl, h)
-
-possible : (n total : ℕ) → ((n == 0) || nat_lt total n) ≡ false → (0 < n) × (n ≤ total)
-possible n total h = let p = or_parts (n == 0) (nat_lt total n) h in (nonzero n p.0, ltb-false total n p.1)
-
-legal_unless_fault : (c : Voting) → fault c.votes c.read c.write ≡ None → IsLegal c
-legal_unless_fault c h =
-    let a = not_first _ _ _ h in
-    let b = not_first _ _ _ a.1 in
-    let r = not_first _ _ _ b.1 in
-    let w = not_first _ _ _ r.1 in
-    let o = not_first _ _ _ w.1 in
-    let read = possible c.read (sum c.votes) r.0 in
-    let write = possible c.write (sum c.votes) w.0 in
-    record { some_votes = nonzero (sum c.votes) b.0; some_read = read.0; read_possible = read.1; some_write = write.0; write_possible = write.1; overlap = leb-false (c.read + c.write) (sum c.votes) o.0 }
 
 none_of : (o : Option BadConfig) → is_none o ≡ true → o ≡ None
 none_of None is = refl
@@ -59,7 +42,7 @@ none_of (Some e) is = absurd cc
 -- what fits the form of configurations for so many copies is a legal one for them
 config_for : (copies : ℕ) (c : Voting) → (config (format_1 copies)).fits c → IsConfigFor copies c
 unfolding config
-config_for copies c fits = record { legal = legal_unless_fault c (none_of (fault c.votes c.read c.write) fits.1); for_copies = config_votes (format_1 copies) c fits }
+config_for copies c fits = record { legal = legal_unless_fault c.votes c.read c.write (none_of (fault c.votes c.read c.write) fits.1); for_copies = config_votes (format_1 copies) c fits }
 
 tuple_for : (copies : ℕ) (t : Tuple) → (tuple (format_1 copies)).fits t → IsConfigFor copies t.config
 unfolding tuple

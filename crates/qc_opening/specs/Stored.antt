@@ -32,8 +32,8 @@ returned (Ok stored) = length (disks_of stored)
 returned (Err refused) = length (disks_in refused)
 
 -- each disk of a store of this table tells its bytes
-abbrev pub AllTell : Table → (ℕ → Option (List ℕ)) → Type 0
-AllTell table told = (number : ℕ) → number ≤ table.copies → IsSome (told number)
+abbrev pub AllTell : ℕ → (ℕ → Option (List ℕ)) → Type 0
+AllTell copies told = (number : ℕ) → number ≤ copies → IsSome (told number)
 
 module _ {D : Type 0} (view : D → View) where
   -- images are of disks, one of each in their order: each is what a crash may leave

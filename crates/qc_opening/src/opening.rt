@@ -74,7 +74,7 @@ where
     // tells, the disk has counted a fault.
     ensures kept { IfOk result (HasKept H.D.view script.now.table
         ((H.view shop.old).offers place.now)) }
-    ensures stands { AllTell script.now.table ((H.view shop.old).offers place.now)
+    ensures stands { AllTell script.now.table.copies ((H.view shop.old).offers place.now)
         → IfOk result (λ stored. (images : List (List ℕ))
         → AreImages H.D.view (disks_of stored) images
         → ∥ IsStanding script.now.table stored.ended.start stored.epoch (past_of stored)

@@ -1,9 +1,9 @@
 -- What only grows as a history goes on, and what stays of a grant that was in no one's way.
-use Rattle.std.proofs.Common.{◌≡◌, ◌⊎◌, inl, inr, ℕ, Bool, true, false, List, [], ◌∷◌, ◌++◌, refl, sym, ap, ap₂, ◌∙◌}
+use Rattle.std.proofs.Common.{◌≡◌, ◌⊎◌, inl, inr, ℕ, Bool, true, false, List, [], ◌∷◌, ◌++◌, refl, sym, ap, ◌∙◌}
 use mathlib.Core.Bool.{true≢false}
 use Rattle.std.specs.Prelude.{Option, None, Some, cond, not, ◌&&◌, ◌||◌, ◌==◌, find, filter, is_some, is_none}
 use Rattle.std.specs.List.{AllByRecursion, list_all}
-use Rattle.std.specs.Option.{option_or, option_map}
+use Rattle.std.specs.Option.{option_map}
 use Rattle.std.proofs.lemmas.Bool.{or_cases, and_parts}
 use Rattle.qc_config.specs.declared.tuple.Op.{Op}
 use Rattle.qc_config.specs.declared.tuple.Op.TheVariants.{Get, PutData, PutConfig}
@@ -15,20 +15,14 @@ use Rattle.qc_event.specs.declared.event.How.{How}
 use Rattle.qc_event.specs.declared.event.How.TheVariants.{Commit, Abort}
 use Rattle.qc_event.specs.Clear.{clear, conflict}
 use Rattle.qc_event.specs.Dead.{outcome, outcome_of, is_aborted, is_committed, ancestors, dead}
-use Rattle.qc_event.specs.History.{Past, Name, Asked, end, asked, same, end_in, ask_in, granted, grant_in, grants, grant_at}
+use Rattle.qc_event.specs.History.{Past, Name, Asked, end, asked, end_in, ask_in}
 use Rattle.qc_event.specs.Seen.{is_in_way, is_live_at, changed_by}
-use Rattle.qc_event.proofs.Histories.{earliest-append}
-use Rattle.qc_event.specs.Grants.{MayGrant, IsServed}
-use Rattle.qc_event.specs.Legal.{Legal, Allowed, MayHappen}
-use Rattle.qc_event.proofs.Absent.{same_is, if_not}
 use Rattle.qc_event.proofs.Booleans.{all_wider, or_wider}
 use Rattle.qc_event.proofs.LastNumber.{rest_of}
 use Rattle.qc_event.proofs.Later.{committed_still}
 use Rattle.qc_event.proofs.Lineage.{alive_above, alive_not_aborted}
 use Rattle.qc_event.proofs.OneEntry.{some_not_none}
-use Rattle.qc_event.proofs.Options.{some_there}
 use Rattle.qc_event.proofs.StillTold.{is_stays}
-use Rattle.qc_pass.specs.Entries.{AreOthers}
 
 -- WHAT ONLY GROWS
 

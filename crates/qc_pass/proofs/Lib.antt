@@ -20,3 +20,4 @@ pub mod Seers
 pub mod Finishing
 pub mod Consulting
 pub mod AskedTops
+pub mod NewChild

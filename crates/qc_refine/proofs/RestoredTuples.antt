@@ -1,7 +1,6 @@
 -- What disks restore is what the root was served.
 use Rattle.std.proofs.Common.{◌≡◌, ℕ, ◌⊎◌, inl, inr, Bool, true, false, List, [], ◌∷◌, ◌++◌, ◌&&◌, ◌||◌, refl, sym, ap, ap₂, ◌∙◌, subst, arith, append-nil}
-use mathlib.Core.Bool.{true≢false}
-use Rattle.std.specs.Prelude.{◌==◌, All, Option, None, Some, is_some, filter, option_to_list, if◌then◌else◌}
+use Rattle.std.specs.Prelude.{◌==◌, All, None, Some, is_some, filter, option_to_list, if◌then◌else◌}
 use Rattle.std.proofs.Math.Bool.{or-false}
 use Rattle.std.proofs.lemmas.Bool.{and_parts, and_right, eqb-true, false_from_ne_true}
 use Rattle.std.proofs.lemmas.List.Elements.{All-nil, All-cons, All-append, All-weaker, All-head, All-tail, filter-append}
@@ -14,15 +13,14 @@ use Rattle.qc_event.specs.declared.event.Event.{Event}
 use Rattle.qc_event.specs.declared.event.Event.TheVariants as event
 use Rattle.qc_event.specs.declared.event.Grant.{Grant}
 use Rattle.qc_event.specs.Base.{Setting, start_tuple}
-use Rattle.qc_event.specs.declared.event.How.{How}
-use Rattle.qc_event.specs.Dead.{outcome, outcome_of, is_committed}
+use Rattle.qc_event.specs.Dead.{outcome, is_committed}
 use Rattle.qc_event.specs.Grants.{MayGrant}
 use Rattle.qc_event.specs.History.{Past, Name, start, end, asked, granted, grants, grant_at}
 use Rattle.qc_event.specs.Legal.{Legal, MayHappen}
 use Rattle.qc_event.specs.Seen.{changed_by}
 use Rattle.qc_event.proofs.OneEntry.{some_or_none}
 use Rattle.qc_event.proofs.LastNumber.{ends_in, EndsIn}
-use Rattle.qc_event.proofs.Lawful.{lawful, started_some}
+use Rattle.qc_event.proofs.Lawful.{committed_is, lawful, started_some}
 use Rattle.qc_event.proofs.LegalOrderly.{legal_orderly}
 use Rattle.qc_event.proofs.Lineage.{above_started}
 use Rattle.qc_event.proofs.RootAndTops.{root_alive}
@@ -119,13 +117,9 @@ module _ (epoch : ℕ) (setting : Setting) (past : Past) (legal : Legal setting 
       apart (y ∷ n) l is old = false_from_ne_true (keeps (y ∷ n) l) (λ kept.
           let above : name.is_ancestor (is.number ∷ []) (y ∷ n) ≡ true = ap (λ t. name.is_ancestor t (y ∷ n)) (sym is.is_top) ∙ (and_parts (name.is_ancestor l.top (y ∷ n)) _ kept).0 in
           let same : is.number ≡ y = eqb-true is.number y (and_parts (is.number == y) _ above).0 in
-          let began : is_some (start past (is.number ∷ [])) ≡ true = (lawful past (legal_orderly setting past legal)).end_has_start (is.number ∷ []) (ended (end past (is.number ∷ [])) is.committed) in
+          let began : is_some (start past (is.number ∷ [])) ≡ true = (lawful past (legal_orderly setting past legal)).end_has_start (is.number ∷ []) (ap is_some (committed_is (end past (is.number ∷ [])) is.committed).1) in
           let here : epoch_in y ≡ epoch = ap epoch_in (sym same) ∙ of_epoch is.number began in
           omega (arith, here, old))
-        where
-          ended : (o : Option How) → is_committed (outcome_of o) ≡ true → is_some o ≡ true
-          ended None h = absurd (true≢false (sym h))
-          ended (Some how) h = refl
 
   module _ (before : List Logged) (old_tops : All (λ (l : Logged). IsOld epoch l.top) before) where
     kept_old : (a : Name) → IsOld epoch a → is_kept (before ++ logged past) a ≡ is_kept before a

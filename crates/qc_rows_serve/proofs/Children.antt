@@ -33,31 +33,9 @@ use Rattle.qc_pass.specs.Entries.{AreOthers, IsOlder, entry}
 use Rattle.qc_pass.specs.Own.{IsMine, MayAskOwn}
 use Rattle.qc_pass.specs.Refusing.{against_child}
 use Rattle.qc_pass.proofs.AskedTops.{entered_as_later}
-use Rattle.qc_pass.proofs.OwnSince.{asks_same}
-
--- WHAT WAS NOT STARTED
-
-asked_none : (setting : Setting) (past : Past) (n : Name) → Legal setting past → start past n ≡ None → asked past n ≡ None
-asked_none setting [] n legal none = refl
-asked_none setting (e ∷ past) n legal none = ap₂ option_or (asked_none setting past n legal.0 was) (by_event e.event legal.1)
-  where
-    was : start past n ≡ None
-    was = (none_before (start past n) _ none).0
-
-    by_event : (ev : Event) → MayHappen setting past e.seat ev → ask_in n e.seat ev ≡ None
-    by_event (event.Ask ask) h =
-        let may : MayAsk setting past e.seat ask = h in
-        if_not (same ask.access n) _ (false_from_ne_true (same ask.access n) (λ is. some_or_none (start past n) (subst (λ x. is_some (start past x) ≡ true) (same_is ask.access n is) (started_some _ (start past ask.access) may.started)) was))
-    by_event _ h = refl
-
-none_asked : (past : Past) (m : Name) (requests : List Ask) → AllByRecursion (IsOwn past m) requests → ((c : Name) → is_child m c ≡ true → start past c ≡ None) → requests ≡ []
-none_asked past m [] own none = refl
-none_asked past m (a ∷ rest) own none = absurd (some_or_none (start past a.access) own.0.started (none a.access own.0.child))
+use Rattle.qc_pass.proofs.NewChild.{IsNext}
 
 -- A NEW CHILD
-
-abbrev pub IsNext : Name → Kind → Name → Past → Event → Type 0
-IsNext p k n past ev = (n ≡ p ++ (length (children past p) + 1) ∷ []) × (ev ≡ event.Start n k)
 
 -- the child has entered its start
 abbrev pub Starts : Name → Kind → Name → View → View → Type 0
@@ -68,46 +46,6 @@ same_number p k n v w s = ap (λ (x : View). x.number) s.5
 
 pub later : (p : Name) (k : Kind) (n : Name) (v w : View) → Starts p k n v w → IsOlder v.seen w.seen
 later p k n v w s = entered_as_later (against_child p) (IsNext p k n) v w s
-
-module _ (setting : Setting) (seat : ℕ) (p : Name) (k : Kind) (n : Name) (v w : View) (number : v.number ≡ seat) (s : Starts p k n v w) (legal : Legal setting w.seen) (long : 0 < length p) where
-  seen : w.seen ≡ entry seat (event.Start n k) ∷ s.0
-  seen = ap (λ (x : View). x.seen) s.5 ∙ (λ i. entry (number i) (s.2.1 i) ∷ s.0)
-
-  here : Legal setting (entry seat (event.Start n k) ∷ s.0)
-  here = subst (Legal setting) seen legal
-
-  fresh : IsFresh s.0 n
-  fresh = subst (IsFresh s.0) (sym s.2.0) (fresh_child s.0 p (length (children s.0 p) + 1) [] (lawful s.0 (legal_orderly setting s.0 here.0)) long (omega arith))
-
-  pub begun : start w.seen n ≡ Some (record { seat = seat; kind = k })
-  begun = ap (λ past. start past n) seen ∙ start_is (entry seat (event.Start n k)) s.0 n k fresh.no_start refl
-
-  pub is_child_of : is_child p n ≡ true
-  is_child_of = ap (is_child p) s.2.0 ∙ is_child-last p (length (children s.0 p) + 1)
-
-  pub is_long : 0 < length n
-  is_long = omega (arith, ap length s.2.0, length_last p (length (children s.0 p) + 1))
-
-  pub is_open : end w.seen n ≡ None
-  is_open = ap (λ past. end past n) seen ∙ ap (λ o. option_or o None) fresh.no_end
-
-  pub not_asked : asked w.seen n ≡ None
-  not_asked = ap (λ past. asked past n) seen ∙ ap (λ o. option_or o None) (asked_none setting s.0 n here.0 fresh.no_start)
-
-  -- it has asked nothing
-  pub no_asks : asks w.seen n ≡ []
-  no_asks = ap (λ past. asks past n) seen ∙ append-nil (asks s.0 n) ∙ none_asked s.0 n (asks s.0 n) (asks_own setting s.0 n here.0) unstarted
-    where
-      unstarted : (x : Name) → is_child n x ≡ true → start s.0 x ≡ None
-      unstarted x is =
-          let l = child_last n x is in
-          ap (start s.0) l.1 ∙ (fresh_below s.0 n (l.0 ∷ []) (lawful s.0 (legal_orderly setting s.0 here.0)) is_long fresh.no_start).no_start
-
-  -- its parent has asked nothing meanwhile
-  pub same_asks : IsMine v.seen seat p → asks w.seen p ≡ asks v.seen p
-  same_asks mine =
-      ap (λ past. asks past p) seen ∙ append-nil (asks s.0 p) ∙ ap (λ past. asks past p) s.3.1
-      ∙ asks_same setting v.seen seat p mine s.3.0 (subst (Legal setting) s.3.1 here.0) (subst (λ i. AreOthers i s.3.0) number s.3.2)
 
 -- A MANAGER THAT WRITES
 

@@ -32,7 +32,7 @@ use Rattle.qc_pass.specs.Calling.{Entered, EnteredAs}
 use Rattle.qc_pass.specs.Consulting.{HasAsked}
 use Rattle.qc_pass.specs.Entries.{IsOlder, entry}
 use Rattle.qc_pass.specs.Own.{IsMine, MayAskOwn, MayReplyOwn}
-use Rattle.qc_pass.specs.Refusing.{against_access, against_nothing}
+use Rattle.qc_pass.specs.Refusing.{against_access, against_child, against_nothing}
 use Rattle.qc_pass.proofs.AskedTops.{IsTop, entered_as_later, entered_later, top_begun}
 use Rattle.qc_pass.proofs.Calls as calls
 use Rattle.qc_pass.proofs.Entering.{started_later}
@@ -43,6 +43,7 @@ use Rattle.qc_site.specs.AtDesk.{IsGranted}
 use Rattle.qc_rows_serve.specs.declared.client.Writer.{Writer}
 use Rattle.qc_rows_serve.specs.Requests.{IsFirst, MayPut, Stands}
 use Rattle.qc_rows_serve.specs.TwoRecords.{IsOver}
+use Rattle.qc_pass.proofs.NewChild as child
 use Rattle.qc_rows_serve.proofs.Children as children
 use Rattle.qc_rows_serve.proofs.Children.{Starts, same_number, later}
 use Rattle.qc_rows_serve.proofs.Stages.{getting, at_first, at_put, waits_for_none, waits_no_more}
@@ -79,7 +80,7 @@ module _ (over : Table) (base : List (List Tuple)) (o : IsOver over base) where
 
   module _ (rec value : ℕ) (top manager : Name) (v w : View) (m : Starts top (kind.Write rec value) manager v w) (legal_w : Legal s w.seen) (long : 0 < length top) where
     begun_by : (seat : ℕ) → v.number ≡ seat → start w.seen manager ≡ Some (record { seat = seat; kind = kind.Write rec value })
-    begun_by seat number = children.begun s seat top (kind.Write rec value) manager v w number m legal_w long
+    begun_by seat number = child.begun s seat top (kind.Write rec value) v w manager (child.child_of s (against_child top) seat top (kind.Write rec value) v w manager m legal_w number long)
 
     pub access_stands : Started w.seen manager (λ p. StandsThere s w.number p (length manager + 1) kind.Access)
     access_stands = children.may_stand s w.number manager rec value w.seen (begun_by w.number (sym (same_number top (kind.Write rec value) manager v w m)))
@@ -92,7 +93,7 @@ module _ (over : Table) (base : List (List Tuple)) (o : IsOver over base) where
       v_number = sym (same_number top (kind.Write rec value) manager v w m) ∙ w_number
 
       long_m : 0 < length manager
-      long_m = children.is_long s x.number top (kind.Write rec value) manager v w v_number m legal_w long
+      long_m = child.long s x.number top (kind.Write rec value) v w manager (child.child_of s (against_child top) x.number top (kind.Write rec value) v w manager m legal_w v_number long)
 
       mine_w : IsMine w.seen x.number manager
       mine_w = children.mine s x.number manager rec value w.seen (begun_by x.number v_number)
@@ -105,15 +106,15 @@ module _ (over : Table) (base : List (List Tuple)) (o : IsOver over base) where
 
       none : asks x.seen manager ≡ []
       none =
-          children.same_asks s x.number manager kind.Access access w x w_number a legal_x long_m mine_w
-          ∙ children.no_asks s x.number top (kind.Write rec value) manager v w v_number m legal_w long
+          child.same_asks s x.number manager kind.Access w x access (child.child_of s (against_child manager) x.number manager kind.Access w x access a legal_x w_number long_m) mine_w
+          ∙ child.no_asks s x.number top (kind.Write rec value) v w manager (child.child_of s (against_child top) x.number top (kind.Write rec value) v w manager m legal_w v_number long)
 
       pub own_request : MayAskOwn s x.seen x.number (name.front access) (getting access rec)
       own_request = children.may_ask s x.number manager rec value x.seen begun_x (getting access rec) client
-          (children.is_child_of s x.number manager kind.Access access w x w_number a legal_x long_m)
-          (children.begun s x.number manager kind.Access access w x w_number a legal_x long_m)
-          (children.is_open s x.number manager kind.Access access w x w_number a legal_x long_m)
-          (children.not_asked s x.number manager kind.Access access w x w_number a legal_x long_m)
+          (child.is_child_of s x.number manager kind.Access w x access (child.child_of s (against_child manager) x.number manager kind.Access w x access a legal_x w_number long_m))
+          (child.begun s x.number manager kind.Access w x access (child.child_of s (against_child manager) x.number manager kind.Access w x access a legal_x w_number long_m))
+          (child.still_open s x.number manager kind.Access w x access (child.child_of s (against_child manager) x.number manager kind.Access w x access a legal_x w_number long_m))
+          (child.not_asked s x.number manager kind.Access w x access (child.child_of s (against_child manager) x.number manager kind.Access w x access a legal_x w_number long_m))
           (waits_for_none x.seen manager none)
           (at_first over base rec value o less x.seen manager (getting access rec) refl refl refl none)
 
@@ -143,13 +144,13 @@ module _ (over : Table) (base : List (List Tuple)) (o : IsOver over base) where
           legal_since = subst (Legal s) q.1.1 (subst (Legal s) seen legal_y).0
 
           is_child : is_child_of manager access ≡ true
-          is_child = children.is_child_of s x.number manager kind.Access access w x w_number a legal_x long_m
+          is_child = child.is_child_of s x.number manager kind.Access w x access (child.child_of s (against_child manager) x.number manager kind.Access w x access a legal_x w_number long_m)
 
           begun_y : start y.seen manager ≡ Some (record { seat = x.number; kind = kind.Write rec value })
           begun_y = start_later x.seen y.seen manager _ (entered_later (against_access access) (event.Ask (getting access rec)) x y q) begun_x
 
           access_y : start y.seen access ≡ Some (record { seat = x.number; kind = kind.Access })
-          access_y = start_later x.seen y.seen access _ (entered_later (against_access access) (event.Ask (getting access rec)) x y q) (children.begun s x.number manager kind.Access access w x w_number a legal_x long_m)
+          access_y = start_later x.seen y.seen access _ (entered_later (against_access access) (event.Ask (getting access rec)) x y q) (child.begun s x.number manager kind.Access w x access (child.child_of s (against_child manager) x.number manager kind.Access w x access a legal_x w_number long_m))
 
           none_before : asks q.0 manager ≡ []
           none_before = ap (λ past. asks past manager) q.1.1 ∙ asks_same s x.seen x.number manager mine_x q.1.0 legal_since q.1.2 ∙ none
@@ -159,7 +160,7 @@ module _ (over : Table) (base : List (List Tuple)) (o : IsOver over base) where
               ap (λ past. end past access) seen
               ∙ ap (λ how. option_or how None) (ap (λ past. end past access) q.1.1
               ∙ access_end_same s x.seen x.number manager mine_x q.1.0 legal_since q.1.2 access is_child
-              ∙ children.is_open s x.number manager kind.Access access w x w_number a legal_x long_m)
+              ∙ child.still_open s x.number manager kind.Access w x access (child.child_of s (against_child manager) x.number manager kind.Access w x access a legal_x w_number long_m))
 
   -- THE WAY OF A NEW TOP
 
@@ -260,17 +261,17 @@ module _ (over : Table) (base : List (List Tuple)) (o : IsOver over base) where
         manager_long = nonroot w.seen manager (lawful w.seen (legal_orderly s w.seen legal_w)) (ap is_some begun_w)
 
         one_x : asks x.seen manager ≡ ask ∷ []
-        one_x = children.same_asks s x.number manager kind.Access access w x x_number a legal_x manager_long (children.mine s x.number manager ask.rec value w.seen begun_w_x) ∙ one_w
+        one_x = child.same_asks s x.number manager kind.Access w x access (child.child_of s (against_child manager) x.number manager kind.Access w x access a legal_x x_number manager_long) (children.mine s x.number manager ask.rec value w.seen begun_w_x) ∙ one_w
 
         one_get : asks x.seen manager ≡ getting ask.access ask.rec ∷ []
         one_get = one_x ∙ (λ i. record { access = ask.access; copy = f.to_copy i; rec = ask.rec; op = f.gets i } ∷ [])
 
         pub next_request : IsTrue (is_client x.number) → MayPut t → MayAskOwn s x.seen x.number (name.front access) (puts access)
         next_request client may = children.may_ask s x.number manager ask.rec value x.seen begun_there (puts access) client
-            (children.is_child_of s x.number manager kind.Access access w x x_number a legal_x manager_long)
-            (children.begun s x.number manager kind.Access access w x x_number a legal_x manager_long)
-            (children.is_open s x.number manager kind.Access access w x x_number a legal_x manager_long)
-            (children.not_asked s x.number manager kind.Access access w x x_number a legal_x manager_long)
+            (child.is_child_of s x.number manager kind.Access w x access (child.child_of s (against_child manager) x.number manager kind.Access w x access a legal_x x_number manager_long))
+            (child.begun s x.number manager kind.Access w x access (child.child_of s (against_child manager) x.number manager kind.Access w x access a legal_x x_number manager_long))
+            (child.still_open s x.number manager kind.Access w x access (child.child_of s (against_child manager) x.number manager kind.Access w x access a legal_x x_number manager_long))
+            (child.not_asked s x.number manager kind.Access w x access (child.child_of s (against_child manager) x.number manager kind.Access w x access a legal_x x_number manager_long))
             (waits_no_more x.seen manager ask t one_x ended_x)
             (at_put over base ask.rec value o f.within x.seen manager (puts access) refl refl ask.access ask.rec t may.first may.small refl one_get ended_x)
 

@@ -7,7 +7,7 @@ use Rattle.std.proofs.lemmas.Bool.{and_parts, and_from, or_cases, or_left, or_ri
 use Rattle.std.proofs.lemmas.List.{reverse-append, reverse-reverse}
 use Rattle.std.proofs.lemmas.List.Folds.{list_any-append}
 use Rattle.qc_event.proofs.Absent.{same_itself}
-use Rattle.qc_event.proofs.OneEntry.{ready_step}
+use Rattle.qc_event.proofs.OneEntry.{here_some, ready_step, stays_some}
 use Rattle.qc_event.specs.Dead.{outcome, outcome_of}
 use Rattle.qc_event.specs.History.{Past, Name, earliest, end, is_ready, ready_in, same}
 use Rattle.qc_event.specs.declared.event.Entry.{Entry}
@@ -53,14 +53,6 @@ still_live None e = refl
 still_live (Some (Commit given)) e = absurd cc
 still_live (Some (Abort cause)) e = absurd cc
 
-some_before : {A : Type 0} (a b : Option A) → is_some a ≡ true → is_some (option_or a b) ≡ true
-some_before None b e = absurd cc
-some_before (Some x) b e = refl
-
-some_now : {A : Type 0} (a b : Option A) → is_some b ≡ true → is_some (option_or a b) ≡ true
-some_now None b e = e
-some_now (Some x) b e = refl
-
 -- who is ready, and has no end in the whole
 record IsFound (trail : List Entry) (past : Past) : Type 0 where
   top : Name
@@ -83,13 +75,13 @@ module _ (trail : List Entry) where
   found_now : (e : Entry) (past : Past) (ev : Event) → e.event ≡ ev → in_doubt trail ev ≡ true → IsFound trail (e ∷ past)
   found_now e past (event.Ready top) is passes = record {
     top = top;
-    ready = some_now (earliest (λ f. ready_in top f.event) past) (ready_in top e.event) (ap (λ x. is_some (ready_in top x)) is ∙ ap (λ (b : Bool). is_some {T = Unit {0}} (if b then Some tt else None)) (same_itself top));
+    ready = here_some (earliest (λ f. ready_in top f.event) past) (ready_in top e.event) (ap (λ x. is_some (ready_in top x)) is ∙ ap (λ (b : Bool). is_some {T = Unit {0}} (if b then Some tt else None)) (same_itself top));
     unended = still_live (end (reverse trail) top) passes;
   }
   found_now e past _ is passes = absurd (true≢false (sym passes))
 
   found_before : (e : Entry) (past : Past) → IsFound trail past → IsFound trail (e ∷ past)
-  found_before e past it = record { top = it.top; ready = some_before (earliest (λ f. ready_in it.top f.event) past) (ready_in it.top e.event) it.ready; unended = it.unended }
+  found_before e past it = record { top = it.top; ready = stays_some (earliest (λ f. ready_in it.top f.event) past) (ready_in it.top e.event) it.ready; unended = it.unended }
 
   -- whoever passes the test is in doubt
   passes_found : (past : Past) → list_any Tests past ≡ true → IsFound trail past

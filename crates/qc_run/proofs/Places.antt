@@ -2,7 +2,7 @@
 use Rattle.std.proofs.Common.{ℕ, ◌≡◌, Bool, true, false, cond, List, [], ◌∷◌, ◌++◌, map, Option, None, Some, refl, sym, ap, ◌∙◌, subst, inl, inr, arith}
 use Rattle.std.specs.Prelude.{◌==◌, ◌&&◌, ◌↔◌, ◌⊎◌, ◌≢◌, codes, if◌then◌else◌, MatchOption, option_and_then, option_map}
 use Rattle.std.specs.Str.{bytes_eq}
-use Rattle.std.proofs.lemmas.Bool.{and_parts, eqb-true, eq-eqb}
+use Rattle.std.proofs.lemmas.Bool.{cond-false, cond-true, and_parts, eqb-true, eq-eqb}
 use Rattle.std.proofs.lemmas.Slice.Eq.{bytes_eq-Decides}
 use Rattle.qc_run.specs.Options.{named, behind, joined, is_serial, is_dir, place_in, place_of}
 use Rattle.qc_run.specs.Words.{Text, IsOneOf, IsCommand, options_at, placed}
@@ -13,17 +13,9 @@ is xs ys same = (bytes_eq-Decides xs ys).0 same
 
 -- WHAT IS FOUND
 
-if_true : {A : Type 0} (b : Bool) (x y : A) → b ≡ true → (if b then x else y) ≡ x
-if_true true x y e = refl
-if_true false x y e = absurd cc
-
-if_false : {A : Type 0} (b : Bool) (x y : A) → b ≡ false → (if b then x else y) ≡ y
-if_false false x y e = refl
-if_false true x y e = absurd cc
-
 -- a place that does not begin with `-` is named, and is no option
 names : (first : ℕ) (rest : Text) → (first == 45) ≡ false → named (first ∷ rest) ≡ Some (first ∷ rest)
-names first rest plain = if_false (first == 45) None (Some (first ∷ rest)) plain
+names first rest plain = cond-false (first == 45) None (Some (first ∷ rest)) plain
 
 found_named : (first : ℕ) (rest : Text) (words : List Text) → (first == 45) ≡ false → IsOneOf (map (λ options. codes "run" ∷ options) (placed (first ∷ rest))) words → place_of words ≡ Some (first ∷ rest)
 found_named first rest words plain (inl e) = subst (λ w. place_of w ≡ Some (first ∷ rest)) (sym e) (names first rest plain)
@@ -60,7 +52,7 @@ is_named (first ∷ rest) place e = by_dash first rest place (first == 45) refl 
     by_dash first rest place true is e = absurd cc
     by_dash first rest place false is e =
         let same : first ∷ rest ≡ place = cc in
-        record { word_is = same; options = subst (λ p. options_at p ≡ placed p) same (if_false (first == 45) [] (placed (first ∷ rest)) is) }
+        record { word_is = same; options = subst (λ p. options_at p ≡ placed p) same (cond-false (first == 45) [] (placed (first ∷ rest)) is) }
 
 behind_byte : (b c : ℕ) (front word rest : Text) (same : Bool) → (b == c) ≡ same → (behind front word ≡ Some rest → word ≡ front ++ rest) → (if same then behind front word else None) ≡ Some rest → c ∷ word ≡ b ∷ (front ++ rest)
 behind_byte b c front word rest true is more e = let one : b ≡ c = eqb-true b c is in let others : word ≡ front ++ rest = more e in cc
@@ -158,4 +150,4 @@ none_behind front word none = by_answer (behind front word) refl
 -- behind a front stands what is put there
 pub behind_front : (front rest : Text) → behind front (front ++ rest) ≡ Some rest
 behind_front [] rest = refl
-behind_front (b ∷ front) rest = if_true (b == b) (behind front (front ++ rest)) None (eq-eqb b b refl) ∙ behind_front front rest
+behind_front (b ∷ front) rest = cond-true (b == b) (behind front (front ++ rest)) None (eq-eqb b b refl) ∙ behind_front front rest

@@ -19,25 +19,13 @@ use Rattle.qc_event.specs.Base.{IsConfigFor}
 use Rattle.qc_event.specs.declared.table.Row.{Row}
 use Rattle.qc_event.specs.declared.table.Table.{Table}
 use Rattle.qc_script.specs.Plan.{ScriptPlan}
+use Rattle.qc_script.proofs.Proper.{then_ok, must_true, within_limits}
 use Rattle.qc_script.specs.Reading.{IsProper, IsScript}
 use Rattle.qc_script.specs.ScriptText.{Read, Text, followed, ◌>>=◌, must, each, within, limited, config_of, configured, form_of_name, fresh, name_of, names_of, records_of, row_of, rows_of, script_of, vote_of}
 use Rattle.qc_script.specs.declared.bad_script.BadScript.{BadScript}
 use Rattle.qc_script.specs.declared.bad_script.BadScript.TheVariants.{Config, Limit}
 use Rattle.qc_script.specs.declared.bad_script.Member.{Member}
 use Rattle.qc_script.specs.declared.bad_script.Member.TheVariants as part
-
--- what holds of the last of several parts, where each of them is read
-then_ok : {A B : Type 0} (P : B → Type 0) (r : Read A) (f : A → Read B) → ((x : A) → r ≡ Ok x → IfOk (f x) P) → IfOk (r >>= f) P
-unfolding followed
-then_ok P (Ok x) f h = h x refl
-then_ok P (Err e) f h = tt
-
-must_true : (b : Bool) (e : BadScript) (t : Unit {0}) → must b e ≡ Ok t → b ≡ true
-must_true true e t h = refl
-must_true false e t h = absurd cc
-
-within_limits : (low high n : ℕ) → (nat_le low n && nat_le n high) ≡ true → (low ≤ n) × (n ≤ high)
-within_limits low high n h = let p = and_parts (nat_le low n) (nat_le n high) h in (leb-true low n p.0, leb-true n high p.1)
 
 -- NAMES
 

@@ -13,7 +13,7 @@ use Rattle.qc_script.specs.Reading.{IsScript, IsRefused}
 use Rattle.qc_run.specs.Run.{ReadsScript, ReadIt, IsScriptFault, IsNoRun, IsRun}
 use Rattle.serde_json.specs.Data.{Data}
 use Rattle.qc_script.specs.ScriptText.{script_of, Read}
-use Rattle.qc_script.proofs.OneScript.{script_not_refused}
+use Rattle.qc_script.proofs.OneScript.{one_value, script_not_refused}
 
 -- one byte more than a script may have
 abbrev pub most : ℕ
@@ -104,9 +104,6 @@ script_was_run bytes s status.Usage R W is fault command read write r w = comman
 script_was_run bytes s status.ReadFault R W is fault command read write r w = r (read refl)
 script_was_run bytes s status.WriteFault R W is fault command read write r w = w (write refl)
 script_was_run bytes s (status.Script e) R W is fault command read write r w = fault.1 (script_not_refused bytes s e is fault.0)
-
-one_value : (x y : Data) (o : Option Data) → o ≡ Some x → o ≡ Some y → x ≡ y
-one_value x y o p q = cc
 
 abbrev read_as : ScriptPlan → Read ScriptPlan
 read_as s = Ok s

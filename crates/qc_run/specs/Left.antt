@@ -79,7 +79,7 @@ module _ {D : Type 0} (view : D → View) (s : ScriptPlan) (offers : ℕ → Opt
     pub sound : (images : List (List ℕ)) → AllOffered s.table offers images → AreSound s.table journal_limit images
     pub restores : (images : List (List ℕ)) → AllOffered s.table offers images → Restores s.table images ran.start
     pub first : HaveNoGrants s.table offers → ran.start ≡ base_of s.table
-    pub stands : AllTell s.table offers → (images : List (List ℕ)) → AreImages view ran.disks.items images
+    pub stands : AllTell s.table.copies offers → (images : List (List ℕ)) → AreImages view ran.disks.items images
         → ∥ IsStanding s.table ran.start epoch (reverse ran.trail.items) images ∥₁
     pub paid : HavePaid view ran.disks.items (reverse ran.trail.items)
 

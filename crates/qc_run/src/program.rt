@@ -222,7 +222,7 @@ where
         result.start result.trail.items (λ s. (epoch : ℕ)
         × terms.BeginsIn epoch s result.trail.items
         × terms.AtPlace (map string_bytes words.now)
-        (λ place. AllTell s.table ((H.view shop.old).offers place)
+        (λ place. AllTell s.table.copies ((H.view shop.old).offers place)
         → (images : List (List ℕ)) → AreImages H.D.view result.disks.items images
         → ∥ IsStanding s.table result.start epoch (reverse result.trail.items) images ∥₁)) }
     ensures paid { terms.OfRun (S.view source.old).left (S.view source.new).left

@@ -7,7 +7,7 @@ use Rattle.qc_script.specs.Reading.{IsRead, IsScript, IsRefused}
 use Rattle.qc_script.specs.declared.bad_script.BadScript.{BadScript}
 use Rattle.qc_script.specs.declared.bad_script.BadScript.TheVariants.{NotJson, Shape, Limit, Config, Unknown, TooLong, Twice, Memory}
 
-one_value : (x y : Data) (o : Option Data) → o ≡ Some x → o ≡ Some y → x ≡ y
+pub one_value : (x y : Data) (o : Option Data) → o ≡ Some x → o ≡ Some y → x ≡ y
 one_value x y o p q = cc
 
 abbrev read_as : ScriptPlan → Read ScriptPlan

@@ -28,7 +28,7 @@ use Rattle.qc_script.specs.ScriptText.{Read, Text, Front, Counted, Net, followed
 use Rattle.qc_script.specs.Reading.{Gives, IsScript, IsProperRow, IsProper}
 
 -- what holds of the last of several parts, where each of them is read
-then_ok : {A B : Type 0} (P : B → Type 0) (r : Read A) (f : A → Read B) → ((x : A) → r ≡ Ok x → IfOk (f x) P) → IfOk (r >>= f) P
+pub then_ok : {A B : Type 0} (P : B → Type 0) (r : Read A) (f : A → Read B) → ((x : A) → r ≡ Ok x → IfOk (f x) P) → IfOk (r >>= f) P
 unfolding followed
 then_ok P (Ok x) f h = h x refl
 then_ok P (Err e) f h = tt
@@ -37,7 +37,7 @@ ok_each : {A : Type 0} {P : A → Type 0} (r : Read A) → ((x : A) → r ≡ Ok
 ok_each (Ok x) h = h x refl
 ok_each (Err e) h = tt
 
-must_true : (b : Bool) (e : BadScript) (t : Unit {0}) → must b e ≡ Ok t → b ≡ true
+pub must_true : (b : Bool) (e : BadScript) (t : Unit {0}) → must b e ≡ Ok t → b ≡ true
 must_true true e t h = refl
 must_true false e t h = absurd cc
 
@@ -47,7 +47,7 @@ ok_or_some P (Some x) e h = h
 
 -- ---- limits
 
-within_limits : (low high n : ℕ) → (nat_le low n && nat_le n high) ≡ true → (low ≤ n) × (n ≤ high)
+pub within_limits : (low high n : ℕ) → (nat_le low n && nat_le n high) ≡ true → (low ≤ n) × (n ≤ high)
 within_limits low high n h = let p = and_parts (nat_le low n) (nat_le n high) h in (leb-true low n p.0, leb-true n high p.1)
 
 limited_within : (word : Member) (low high : ℕ) (d : Data) → IfOk (limited word low high d) (λ n. (low ≤ n) × (n ≤ high))
@@ -77,7 +77,7 @@ not_first false e o h = (refl, h)
 possible : (n total : ℕ) → ((n == 0) || nat_lt total n) ≡ false → (0 < n) × (n ≤ total)
 possible n total h = let p = or_parts (n == 0) (nat_lt total n) h in (nonzero n p.0, ltb-false total n p.1)
 
-legal_unless_fault : (votes : List ℕ) (read write : ℕ) → fault votes read write ≡ None → IsLegal (record { votes = votes; read = read; write = write })
+pub legal_unless_fault : (votes : List ℕ) (read write : ℕ) → fault votes read write ≡ None → IsLegal (record { votes = votes; read = read; write = write })
 legal_unless_fault votes read write h =
     let a = not_first _ _ _ h in
     let b = not_first _ _ _ a.1 in

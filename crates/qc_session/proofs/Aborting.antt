@@ -26,7 +26,7 @@ use Rattle.qc_event.proofs.Lawful.{started_wider}
 use Rattle.qc_event.proofs.Later.{started_still}
 use Rattle.qc_event.proofs.Outcomes.{aborted_is_abort}
 use Rattle.qc_event.proofs.StillTold.{some_stays}
-use Rattle.qc_moss.proofs.Ancestry.{dead_stays}
+use Rattle.qc_pass.proofs.Granting.{dead_stays}
 use Rattle.qc_gather.specs.Carrying.{entry}
 use Rattle.qc_pass.specs.declared.refusal.DeskNo.{DeskNo}
 use Rattle.qc_pass.specs.declared.view.View.{View}
@@ -193,17 +193,12 @@ all_ended_on v u w ev (Err e) first walk = tt
 pub ended_later : (newer past : Past) (n : Name) → is_some (end past n) ≡ true → is_some (end (newer ++ past) n) ≡ true
 ended_later newer past n over = some_stays (λ (e : Entry). end_in n e.event) newer past over
 
--- who was dead still is
-dead_still : (newer past : Past) (n : Name) → is_some (dead past n) ≡ true → is_some (dead (newer ++ past) n) ≡ true
-dead_still [] past n fallen = fallen
-dead_still (e ∷ newer) past n fallen = dead_stays e (newer ++ past) n (dead_still newer past n fallen)
-
 pub alive_before : (newer past : Past) (n : Name) → dead (newer ++ past) n ≡ None → dead past n ≡ None
 alive_before newer past n alive = by_found (dead past n) refl
   where
     by_found : (o : Option Name) → dead past n ≡ o → dead past n ≡ None
     by_found None at = at
-    by_found (Some a) at = absurd (true≢false (sym (dead_still newer past n (ap is_some at)) ∙ ap is_some alive))
+    by_found (Some a) at = absurd (true≢false (sym (dead_stays newer past n (ap is_some at)) ∙ ap is_some alive))
 
 pub on_any : (r : Result (Unit {0}) TxNo) (fact : Type 0) → fact → OnOk r fact
 on_any (Ok x) fact is = is

@@ -23,6 +23,7 @@ use Rattle.qc_interp.specs.FollowsScript.{RunsScript}
 use Rattle.qc_interp.specs.Reach.{Reach, AtTheEnd}
 use Rattle.qc_interp.specs.Session.{CutTops, EndsTops, EndsTopsAt, InTurnAt, RanInTurn}
 use Rattle.qc_interp.specs.Sessions.{is_unmarked}
+use Rattle.qc_interp.proofs.Ending.{at_any}
 use Rattle.qc_interp.proofs.LoneScript.{follows_begins}
 use Rattle.qc_interp.proofs.SystemScript.{all_lone_of, system_runs}
 use Rattle.qc_net.specs.declared.link.Fate.{Fate}
@@ -77,10 +78,6 @@ own_unmarked c seat (e ∷ past) number kinless none = (
 
 -- THE SESSION
 
-at_the_end : (reach : Reach) (fact : Type 0) → fact → AtTheEnd reach fact
-at_the_end Reach.to_the_end fact is = is
-at_the_end Reach.cut_off fact is = tt
-
 module _ (setting : Setting) (v : View) (c : Client) (for : IsFor setting v c) (client : is_client v.number ≡ true) (final : Past) (legal : Legal setting final) (older : IsOlder v.seen final) (none : NoOther v.number final) (own : entries_of v.number final ≡ entries_of v.number v.seen)
     (tidy : ∥ IsTidy v.number v.seen ∥₁) (fates : List Fate) (hold patience : ℕ) (met : IsTrue (meets_fates v.number (record { fates = fates; hold = hold; patience = patience }) v.seen)) (bodies : List Numbered) where
   abbrev net : Net
@@ -123,7 +120,7 @@ module _ (setting : Setting) (v : View) (c : Client) (for : IsFor setting v c) (
       subst (RunsScript reach c.session c.epoch net bodies) (sym later.1)
       (system_runs reach c net bodies v.seen newer legal_for
       (record { kinless = for.kinless; client = subst (λ n. is_client n ≡ true) (sym for.number) client })
-      lone none_mine ends ran met_now (at_the_end reach (AccessesEnd (newer ++ v.seen)) accesses))
+      lone none_mine ends ran met_now (at_any reach (AccessesEnd (newer ++ v.seen)) accesses))
 
   pub session_follows : (r : Result (Unit {0}) Short) → OnOk r (EndsTops c [] v.seen bodies) → OnOk r (RanInTurn c [] v.seen) → OnOk r (RunsScript Reach.to_the_end c.session c.epoch net bodies final)
   session_follows (Ok done) ends ran = session_runs Reach.to_the_end ends ran

@@ -12,6 +12,7 @@ use Rattle.qc_event.specs.declared.event.How.{How}
 use Rattle.qc_event.specs.Dead.{dead, outcome, outcome_of, is_committed, is_live}
 use Rattle.qc_event.specs.History.{Past, Name, start, end, is_child, is_ready, child_in, children, limit}
 use Rattle.qc_event.specs.Standing.{open_child}
+use Rattle.qc_event.proofs.Lawful.{committed_is}
 use Rattle.qc_event.proofs.OneEntry.{start_stays, start_now}
 use Rattle.qc_event.proofs.Outcomes.{aborted_is_abort}
 use Rattle.qc_pass.specs.declared.refusal.DeskNo.{DeskNo}
@@ -67,10 +68,6 @@ some_end : (o : Option How) → is_live (outcome_of o) ≡ false → is_some o �
 some_end None h = absurd (true≢false h)
 some_end (Some how) h = refl
 
-committed_ends : (o : Option How) → is_committed (outcome_of o) ≡ true → is_some o ≡ true
-committed_ends None h = absurd (true≢false (sym h))
-committed_ends (Some how) h = refl
-
 -- what a refusal by a desk's test says of a name
 abbrev Says : Past → Name → DeskNo → Type 0
 Says past n why = Refuses past n (no_of why)
@@ -86,7 +83,7 @@ committed_says : (past : Past) (n : Name) (why : DeskNo) → if_committed past n
 committed_says past n why is = by_test (is_committed (outcome past n)) refl is
   where
     by_test : (b : Bool) → is_committed (outcome past n) ≡ b → (if b then Some desk.Ended else None) ≡ Some why → (why ≡ desk.Ended) × (is_some (end past n) ≡ true)
-    by_test true h is = (sym (same_Some desk.Ended why is), committed_ends (end past n) h)
+    by_test true h is = (sym (same_Some desk.Ended why is), ap is_some (committed_is (end past n) h).1)
     by_test false h is = absurd (none-some why is)
 
 dead_says : (past : Past) (n : Name) (why : DeskNo) → if_dead past n ≡ Some why → (a : Name) × (why ≡ desk.Orphan a) × (dead past n ≡ Some a)

@@ -18,6 +18,7 @@ use Rattle.qc_event.specs.Standing.{IsManager, IsUser, Started, open_child}
 use Rattle.qc_event.proofs.LastNumber.{child_last}
 use Rattle.qc_event.proofs.Lawful.{lawful, child_starts, ends_open, nonroot, some_how, started_some, started_wider}
 use Rattle.qc_event.proofs.LegalOrderly.{legal_orderly}
+use Rattle.qc_event.proofs.SameEvents.{same_end}
 use Rattle.qc_event.proofs.OneEntry.{Ending, end_now, end_step, end_stays, some_if_not_none, some_not_none, some_or_none, start_or_end}
 use Rattle.qc_event.proofs.Later.{started_still}
 use Rattle.qc_gather.specs.Carrying.{entry, name_of}
@@ -120,9 +121,6 @@ ready_calm seat past e n is own = (subst MarksNone (sym is) tt, λ m how at. abs
   where
     differ : (m : Name) (how : How) → event.Ready n ≡ event.End m how → ⊥
     differ m how same = cc
-
-same_end : (n m : Name) (how how' : How) → event.End n how ≡ event.End m how' → n ≡ m
-same_end n m how how' is = cc
 
 ends_calm : (seat : ℕ) (past : Past) (e : Entry) (n : Name) (how : How) → e.event ≡ event.End n how → (IsMine past seat n → open_child past n ≡ None) → Calm seat past e
 ends_calm seat past e n how is closed own =

@@ -11,7 +11,6 @@ use Rattle.qc_event.specs.declared.event.Entry.{Entry}
 use Rattle.qc_event.specs.declared.event.Event.{Event}
 use Rattle.qc_event.specs.declared.event.Event.TheVariants as event
 use Rattle.qc_event.specs.declared.event.Grant.{Grant}
-use Rattle.qc_event.specs.declared.event.Kind.{Kind}
 use Rattle.qc_event.specs.declared.event.Kind.TheVariants as kind
 use Rattle.qc_event.specs.Base.{Setting, start_tuple}
 use Rattle.qc_event.specs.History.{Past, Name, Begun, Given, start, granted, grants}
@@ -20,6 +19,7 @@ use Rattle.qc_event.specs.Seen.{changed_by}
 use Rattle.qc_event.specs.Standing.{IsUser, IsManager, Started}
 use Rattle.qc_event.specs.Grants.{MayGrant}
 use Rattle.qc_event.specs.Legal.{Legal, Allowed, MayHappen}
+use Rattle.qc_event.proofs.KindsApart.{user_or_manager}
 use Rattle.qc_event.proofs.LastNumber.{EndsIn, ends_in, front_last, rest_of, is_ancestor-append}
 use Rattle.qc_event.proofs.OneEntry.{some_or_none}
 use Rattle.qc_event.proofs.Orderly.{Orderly, Belongs}
@@ -143,10 +143,6 @@ no_user_above past law t (x ∷ n) user above other =
     by_start None user other = user
     by_start (Some b) user other = other user
 
-manager_or_user : (k : Kind) → IsManager k → IsUser k → ⊥
-manager_or_user (kind.User session body) manager user = manager
-manager_or_user _ manager user = user
-
 -- the manager of an access
 record HasManager (past : Past) (n : Name) : Type 0 where
   is_above : is_ancestor (name.front n) n ≡ true
@@ -206,7 +202,7 @@ module _ (setting : Setting) (past : Past) (t : Name) (legal : Legal setting pas
       record {
         was_granted = is;
         access_committed = is_done n n shown (itself n) (started_wider _ _ (start past n) (λ b is_access is_user. subst IsUser is_access is_user) access.started);
-        manager_committed = is_done n (name.front n) shown manager.is_above (started_wider _ _ (start past (name.front n)) (λ b. manager_or_user b.kind) manager.manager);
+        manager_committed = is_done n (name.front n) shown manager.is_above (started_wider _ _ (start past (name.front n)) (λ b manager user. user_or_manager b.kind user manager) manager.manager);
         seen_by = served.seen_by n shown;
       }
     where

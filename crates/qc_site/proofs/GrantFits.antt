@@ -3,7 +3,7 @@
 use Rattle.std.proofs.Common.{◌≡◌, ℕ, ◌+◌, ◌/◌, ◌%◌, ◌^◌, ◌<◌, Bool, true, false, [], ◌∷◌, length, sym, ap, ◌∙◌, refl, subst, inl, inr, arith, List, suc}
 use Rattle.std.specs.Prelude.{None, ◌==◌, ◌||◌, nat_lt, nat_le, is_none, if◌then◌else◌, sum, slice_index}
 use Rattle.std.specs.List.{All}
-use Rattle.std.proofs.lemmas.Bool.{ltb-true, leb-true, eqb-true, lt-ltb, le-leb, and_from, or_cases, false_from_ne_true}
+use Rattle.std.proofs.lemmas.Bool.{cond-false, ltb-true, leb-true, eqb-true, lt-ltb, le-leb, and_from, or_cases, false_from_ne_true}
 use Rattle.std.proofs.lemmas.List.Elements.{All-nil, All-cons, All-head, All-tail, All-from_get_or}
 use Rattle.qc_names.specs.Name.{longest}
 use Rattle.qc_config.specs.Config.{Voting, IsLegal, votes_of, fault}
@@ -67,10 +67,6 @@ name_fits (top ∷ rest) is range =
 
 -- CONFIGURATIONS
 
-unless : {X : Type 0} (b : Bool) (x y : X) → b ≡ false → (if b then x else y) ≡ y
-unless true x y h = absurd cc
-unless false x y h = refl
-
 neither : (a b : Bool) → (a ≡ true → ⊥) → (b ≡ true → ⊥) → (a || b) ≡ false
 neither a b no_a no_b = false_from_ne_true (a || b) (λ h. elim (or_cases a b h) [
   | inl is ↦ no_a is
@@ -90,11 +86,11 @@ no_fault c legal =
     let write_possible = legal.write_possible in
     let overlap = legal.overlap in
     let none : fault c.votes c.read c.write ≡ None =
-    unless _ _ _ (false_from_ne_true (length c.votes == 0) (λ h. some_votes c.votes some (eqb-true (length c.votes) 0 h)))
-    ∙ unless _ _ _ (false_from_ne_true (sum c.votes == 0) (λ h. omega (arith, eqb-true (sum c.votes) 0 h)))
-    ∙ unless _ _ _ (neither (c.read == 0) (nat_lt (sum c.votes) c.read) (λ h. omega (arith, eqb-true c.read 0 h)) (λ h. omega (arith, ltb-true (sum c.votes) c.read h)))
-    ∙ unless _ _ _ (neither (c.write == 0) (nat_lt (sum c.votes) c.write) (λ h. omega (arith, eqb-true c.write 0 h)) (λ h. omega (arith, ltb-true (sum c.votes) c.write h)))
-    ∙ unless _ _ _ (false_from_ne_true (nat_le (c.read + c.write) (sum c.votes)) (λ h. omega (arith, leb-true (c.read + c.write) (sum c.votes) h))) in
+    cond-false _ _ _ (false_from_ne_true (length c.votes == 0) (λ h. some_votes c.votes some (eqb-true (length c.votes) 0 h)))
+    ∙ cond-false _ _ _ (false_from_ne_true (sum c.votes == 0) (λ h. omega (arith, eqb-true (sum c.votes) 0 h)))
+    ∙ cond-false _ _ _ (neither (c.read == 0) (nat_lt (sum c.votes) c.read) (λ h. omega (arith, eqb-true c.read 0 h)) (λ h. omega (arith, ltb-true (sum c.votes) c.read h)))
+    ∙ cond-false _ _ _ (neither (c.write == 0) (nat_lt (sum c.votes) c.write) (λ h. omega (arith, eqb-true c.write 0 h)) (λ h. omega (arith, ltb-true (sum c.votes) c.write h)))
+    ∙ cond-false _ _ _ (false_from_ne_true (nat_le (c.read + c.write) (sum c.votes)) (λ h. omega (arith, leb-true (c.read + c.write) (sum c.votes) h))) in
     ap is_none none
 
 tuple_fits : (copies : ℕ) (t : Tuple) → IsConfigFor copies t.config → IsTupleInRange t → (tuple (format_1 copies)).fits t

@@ -22,12 +22,13 @@ use Rattle.qc_ledger.specs.declared.fault.LedgerNo.TheVariants as no
 use Rattle.qc_site.specs.AtDesk.{hand_entries, unable_entry as copy_unable}
 use Rattle.qc_site.specs.Replica.{Standing}
 use Rattle.qc_site.specs.Sites.{AnswerEnters, EntersHand}
+use Rattle.qc_system.specs.declared.boxed.Boxed.{Boxed}
 use Rattle.qc_system.specs.Kept.{Pays, downs, is_down}
 
 -- COUNTS
 
--- the faults of a journal's disk
-abbrev pub faults_of : {D : Type 0} {g : Ghosts D} → Journal D g → ℕ
+-- the faults of the disk of a journal, which stands in a box
+abbrev pub faults_of : {D : Type 0} {g : Ghosts (Boxed D)} → Journal (Boxed D) g → ℕ
 faults_of {D} {g} journal = (g.view (disk_of journal)).faults
 
 pub pays_on : (first told old now : ℕ) → old ≤ now → Pays first told old → Pays first told now
