@@ -10,6 +10,8 @@
 //! - `image N BODY ..`: disk N is a journal of these records, each body in hex.
 //! - `fail N CALL done CALL not ..`: disk N fails at these calls, its work done or not.
 //! - `shop N ..`: the shop fails at these numbers.
+//!
+//! A line `bytes:` prints what the disks that came back from the last case have, in hex.
 #![tactic(auto)]
 
 mod case;
@@ -24,7 +26,7 @@ use std::alloc::Global;
 use std::io;
 use std::sync::Wait;
 use step::Step;
-use told::{print_outcome, print_text};
+use told::{print_disks, print_outcome, print_text};
 
 // Prints the line of each status that no case can reach.
 fn print_unreached(rt: &HostRuntime, alloc: Global) -> io::Result<()> {
@@ -56,6 +58,9 @@ fn answer<R: Wait>(
 ) -> io::Result<()> {
     if line.is_empty() || line.starts_with('#') {
         return println!(rt; "{line}");
+    }
+    if line == "bytes:" {
+        return print_disks(rt, alloc, shelf.back());
     }
     if let Some(steps) = line.strip_prefix("disks:") {
         return prepare(rt, alloc, shelf, steps);

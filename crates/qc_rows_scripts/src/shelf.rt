@@ -91,6 +91,11 @@ impl Shelf {
         Ok(MemShop::new(disks, fails))
     }
 
+    /// The bytes of the disks that came back last.
+    pub(crate) fn back(&self) -> &[Vec<u8>] {
+        &self.back
+    }
+
     /// Takes the bytes of the disks that came back.
     pub(crate) fn take_back(&mut self, disks: &[MemDisk]) -> Result<(), AllocError> {
         self.back = Vec::new(self.alloc);

@@ -3,6 +3,7 @@ use crate::case::Outcome;
 use qc_disk::MemDisk;
 use qc_event::{Entry, Event, Kind, Op};
 use qc_run::Ran;
+use std::alloc::Global;
 use std::io;
 
 /// Prints the status, the number of entries, what the copies did, and the text that was written.
@@ -22,6 +23,14 @@ pub(crate) fn print_text(rt: &HostRuntime, bytes: &[u8]) -> io::Result<()> {
         Ok(text) => print!(rt; "{text}"),
         Err(_) => println!(rt; "no text"),
     }
+}
+
+/// Prints the bytes of disks in their order, in hex.
+pub(crate) fn print_disks(rt: &HostRuntime, alloc: Global, disks: &[Vec<u8>]) -> io::Result<()> {
+    for (which, bytes) in disks.iter().enumerate() {
+        println!(rt; "disk {which} {}", hex::encode(alloc, bytes.as_slice())?)?;
+    }
+    Ok(())
 }
 
 // Prints the number of grants at each copy.
