@@ -35,10 +35,37 @@ pub fn report(
 {
     let mut page = Page::new(alloc);
     push_events(&mut page, table, history)?;
-    push_doubts(&mut page, history)?;
-    push_finals(&mut page, table, finals)?;
-    push_tally(&mut page, history)?;
+    push_summary(&mut page, table, finals, history)?;
     Ok(page.into_bytes())
+}
+
+/// The end of a report alone: a line for each top in doubt, the value of each record, and how many tops there
+/// were. Its time grows as that of the report.
+pub fn summary(
+    alloc: Global,
+    table: &Table,
+    finals: &[u64],
+    history: &History<'_>,
+) -> Result<Vec<u8>, AllocError>
+    ensures { IfOk result (λ text. text.items ≡ spec.summary table.now finals.now history.now) }
+{
+    let mut page = Page::new(alloc);
+    push_summary(&mut page, table, finals, history)?;
+    Ok(page.into_bytes())
+}
+
+fn push_summary(
+    page: &mut Page,
+    table: &Table,
+    finals: &[u64],
+    history: &History<'_>,
+) -> Result<(), AllocError>
+    ensures { OnOk result
+        (page.new ≡ page.old ++ spec.summary table.now finals.now history.now) }
+{
+    push_doubts(page, history)?;
+    push_finals(page, table, finals)?;
+    push_tally(page, history)
 }
 
 fn push_events(page: &mut Page, table: &Table, history: &History<'_>) -> Result<(), AllocError>

@@ -1,12 +1,12 @@
 //! Prints the reports of histories that no run makes today. A history is a row of entries, one a line, over one copy of
-//! one record `x` that starts with value 7; `report` prints its report so far, with the last value by versions, and
-//! an empty line begins the next history. Titles begin with `#`.
+//! one record `x` that starts with value 7; `report` prints its report so far, with the last value by versions,
+//! `summary` the end of that alone, and an empty line begins the next history. Titles begin with `#`.
 #![tactic(auto)]
 
 ghost use Rattle.std.specs.Prelude.{◌≡◌, length, IfOk};
 
 use qc_event::{Base, Config, Entry, Label, Log, Row, Rows, Table, Tuple};
-use qc_report::{History, finals, report};
+use qc_report::{History, finals, report, summary};
 use qc_trail_text::append_line;
 use std::alloc::{AllocError, Global};
 use std::io;
@@ -39,21 +39,48 @@ fn base_of(alloc: Global, config: Config) -> Result<Base, AllocError>
     Ok(Base::new(vec![in alloc; row]?))
 }
 
-fn text_of(alloc: Global, config: Config, trail: &[Entry]) -> Result<Vec<u8>, AllocError> {
+/// What is asked for of a history.
+#[derive(Clone, Copy)]
+enum Wanted {
+    Report,
+    Summary,
+}
+
+impl Wanted {
+    // What a line asks for.
+    fn of(line: &str) -> Option<Self> {
+        match line {
+            "report" => Some(Wanted::Report),
+            "summary" => Some(Wanted::Summary),
+            _ => None,
+        }
+    }
+}
+
+fn text_of(
+    alloc: Global,
+    config: Config,
+    trail: &[Entry],
+    wanted: Wanted,
+) -> Result<Vec<u8>, AllocError> {
     let table = table_of(alloc, config)?;
     let base = base_of(alloc, config)?;
     let history = History::plain(trail);
     let values = finals(alloc, &base, &history, 1)?;
-    report(alloc, &table, values.as_slice(), &history)
+    match wanted {
+        Wanted::Report => report(alloc, &table, values.as_slice(), &history),
+        Wanted::Summary => summary(alloc, &table, values.as_slice(), &history),
+    }
 }
 
-fn print_report(
+fn print_text(
     rt: &HostRuntime,
     alloc: Global,
     config: Config,
     trail: &[Entry],
+    wanted: Wanted,
 ) -> io::Result<()> {
-    let text = text_of(alloc, config, trail)?;
+    let text = text_of(alloc, config, trail, wanted)?;
     match std::str::from_utf8(text.as_slice()) {
         Ok(text) => print!(rt; "{text}"),
         Err(_) => println!(rt; "no text"),
@@ -68,8 +95,8 @@ fn answer(
     log: &mut Log,
     line: &str,
 ) -> io::Result<()> {
-    if line == "report" {
-        return print_report(rt, alloc, config, log.as_slice());
+    if let Some(wanted) = Wanted::of(line) {
+        return print_text(rt, alloc, config, log.as_slice(), wanted);
     }
     if line.is_empty() {
         *log = Log::new(alloc);
