@@ -5,12 +5,13 @@ use Rattle.std.proofs.lemmas.List.{length-take, take_all}
 use Rattle.qc_script.specs.declared.bad_script.BadScript.{BadScript}
 use Rattle.qc_script.specs.declared.bad_script.BadScript.TheVariants.{NotJson, Shape, Limit, Config, Unknown, TooLong, Twice, Memory}
 use Rattle.qc_script.specs.Plan.{ScriptPlan}
+use Rattle.qc_codec.specs.declared.image.BadImage.{BadImage}
 use Rattle.qc_run.specs.declared.status.Status.{Status}
 use Rattle.qc_run.specs.declared.status.Status.TheVariants as status
 use Rattle.qc_io.specs.Io.{Drops, IsAtEnd, SourceView}
 use Rattle.qc_run.specs.Left.{IsNoScript, IsUnread}
 use Rattle.qc_script.specs.Reading.{IsScript, IsRefused}
-use Rattle.qc_run.specs.Run.{ReadsScript, ReadIt, IsScriptFault, IsNoRun, IsRun}
+use Rattle.qc_run.specs.Run.{ReadsScript, ReadIt, IsScriptFault, IsNoRun, IsRun, IsSessionRun}
 use Rattle.serde_json.specs.Data.{Data}
 use Rattle.qc_script.specs.ScriptText.{script_of, Read}
 use Rattle.qc_script.proofs.OneScript.{one_value, script_not_refused}
@@ -104,6 +105,19 @@ script_was_run bytes s status.Usage R W is fault command read write r w = comman
 script_was_run bytes s status.ReadFault R W is fault command read write r w = r (read refl)
 script_was_run bytes s status.WriteFault R W is fault command read write r w = w (write refl)
 script_was_run bytes s (status.Script e) R W is fault command read write r w = fault.1 (script_not_refused bytes s e is fault.0)
+
+-- where no disk and no image was refused, its session was run
+pub session_was_run : (answer : Status) → IsRun answer → ((which : ℕ) → answer ≡ status.DiskFault which → ⊥) → ((bad : BadImage) → answer ≡ status.Image bad → ⊥) → IsSessionRun answer
+session_was_run status.Done ran disk image = tt
+session_was_run status.InDoubt ran disk image = tt
+session_was_run status.Memory ran disk image = tt
+session_was_run status.Room ran disk image = tt
+session_was_run (status.DiskFault which) ran disk image = disk which refl
+session_was_run (status.Image bad) ran disk image = image bad refl
+session_was_run status.Usage ran disk image = ran
+session_was_run status.ReadFault ran disk image = ran
+session_was_run status.WriteFault ran disk image = ran
+session_was_run (status.Script e) ran disk image = ran
 
 abbrev read_as : ScriptPlan → Read ScriptPlan
 read_as s = Ok s

@@ -182,6 +182,14 @@ IsRun status.Memory = Unit {0}
 IsRun status.Room = Unit {0}
 IsRun _ = ⊥
 
+-- what may be answered where no disk failed either, and no image had a fault
+abbrev pub IsSessionRun : Status → Type 0
+IsSessionRun status.Done = Unit {0}
+IsSessionRun status.InDoubt = Unit {0}
+IsSessionRun status.Memory = Unit {0}
+IsSessionRun status.Room = Unit {0}
+IsSessionRun _ = ⊥
+
 -- the status, or want of memory in its place
 abbrev pub IsOrMemory : Status → Status → Type 0
 IsOrMemory why answer = (answer ≡ why) ⊎ (answer ≡ status.Memory)

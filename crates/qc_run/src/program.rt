@@ -297,12 +297,23 @@ where
         terms.most_taken }
 
     // A script is run, where neither stream fails, as far as there is memory and room, or a disk or an image is refused.
+    // Where no disk fails either and the images have no fault, none is refused.
     ensures completes { (bytes : List ℕ) (s : ScriptPlan)
         → (S.view source.old).left ≡ Some bytes → IsScript bytes s
         → terms.AtPlace (map string_bytes words.now)
         (λ _. (Rose (S.view source.old).faults (S.view source.new).faults → ⊥)
         → (Rose (K.view sink.old).faults (K.view sink.new).faults → ⊥)
         → terms.IsRun result.status) }
+    ensures completes_over_disks { (bytes : List ℕ) (s : ScriptPlan) (images : List (List ℕ))
+        → (S.view source.old).left ≡ Some bytes → IsScript bytes s
+        → terms.AtPlace (map string_bytes words.now)
+        (λ place. (Rose (S.view source.old).faults (S.view source.new).faults → ⊥)
+        → (Rose (K.view sink.old).faults (K.view sink.new).faults → ⊥)
+        → ((which : ℕ) → terms.IsDiskFault H.D.view (H.view shop.old).faults
+        (H.view shop.new).faults result.disks.items which → ⊥)
+        → terms.AllOffered s.table ((H.view shop.old).offers place) images
+        → AreSound s.table terms.journal_limit images
+        → terms.IsSessionRun result.status) }
 {
     one_verdict();
     answer(rt, alloc, words, source, sink, shop)

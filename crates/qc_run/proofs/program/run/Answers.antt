@@ -7,7 +7,7 @@ use Rattle.qc_run.specs.Run.{journal_limit, AllOffered, IsScriptFault}
 use Rattle.qc_run.proofs.Clauses as clause
 use Rattle.qc_run.proofs.Moments.{serial_orders}
 use Rattle.qc_run.proofs.RunFacts.{serial_values, sound_from}
-use Rattle.qc_run.proofs.Taken.{none_was_run, same_script, script_was_run}
+use Rattle.qc_run.proofs.Taken.{none_was_run, same_script, script_was_run, session_was_run}
 use Rattle.qc_run.proofs.program.run.Goals as goal
 
 pub returns-clause-legal_history : goal.returns-clause-legal_history
@@ -118,3 +118,9 @@ returns-clause-completes g c = λ bytes s held is place at read_well wrote_well.
     (subst (λ left. IsScriptFault left c.answer.result.status) held (clause.script_fault _ _ _ _ _ _ _ _ _ c.answer.ensures.answer))
     (λ usage. clause.usage _ _ _ _ _ _ _ _ _ c.answer.ensures.answer usage place at)
     (clause.read_failed _ _ _ _ _ _ _ _ _ c.answer.ensures.answer) (clause.write_failed _ _ _ _ _ _ _ _ _ c.answer.ensures.answer) read_well wrote_well
+
+pub returns-clause-completes_over_disks : goal.returns-clause-completes_over_disks
+returns-clause-completes_over_disks g c = λ bytes s images held is place at read_well wrote_well disks_well offered sound.
+    session_was_run c.answer.result.status (returns-clause-completes g c bytes s held is place at read_well wrote_well)
+    (λ which fault. disks_well which (clause.disk_failed _ _ _ _ _ _ _ _ _ c.answer.ensures.answer which fault))
+    (returns-clause-sound_images g c bytes s images held is place at offered sound)
