@@ -24,7 +24,7 @@ use Rattle.qc_script.specs.declared.bad_script.BadScript.TheVariants.{Shape, Con
 use Rattle.qc_script.specs.declared.bad_script.Member.{Member}
 use Rattle.qc_script.specs.declared.bad_script.Member.TheVariants as part
 use Rattle.qc_script.specs.declared.script.Script.{Script}
-use Rattle.qc_script.specs.ScriptText.{Read, Text, Front, Counted, Net, followed, ◌>>=◌, must, each, limited, member_or, config_of, row_of, names_of, rows_of, number_of, fate_of, fates_of, net_of, is_word, read_of, amount_of, set_of, add_of, sub_of, need_of, reconf_of, child_of, abort_of, step_in, step_of, steps_of, tries_of, body_of, bodies_of, session_of, only_session, copies_of, records_of, session_at, script_of}
+use Rattle.qc_script.specs.ScriptText.{Read, Text, Front, Counted, Net, followed, ◌>>=◌, must, each, limited, member_or, config_of, row_of, names_of, rows_of, number_of, fate_of, fates_of, net_of, is_word, read_of, amount_of, set_of, add_of, sub_of, need_of, reconf_of, child_of, abort_of, crash_of, step_in, step_of, steps_of, tries_of, body_of, bodies_of, session_of, only_session, copies_of, records_of, session_at, script_of}
 use Rattle.qc_script.specs.Reading.{Gives, IsScript, IsProperRow, IsProper}
 
 -- what holds of the last of several parts, where each of them is read
@@ -203,6 +203,9 @@ reconf_within table depth next rec config =
 abort_within : (table : Table) (depth next : ℕ) (d : Data) → IfOk (abort_of depth next d) (KeepsWithin table depth)
 abort_within table depth next d = then_ok _ _ _ λ k _. then_ok _ _ _ λ t h some rest within. (ltb-true k depth (must_true _ _ t h), within)
 
+crash_within : (table : Table) (depth next : ℕ) (d : Data) → IfOk (crash_of table.copies next d) (KeepsWithin table depth)
+crash_within table depth next d = then_ok _ _ _ λ copy _. then_ok _ _ _ λ t h some rest within. (ltb-true copy table.copies (must_true _ _ t h), within)
+
 -- what is read so is a body in a body of this depth
 abbrev ReadsInner : Table → ℕ → (ℕ → Data → Counted Numbered) → Type 0
 ReadsInner table depth body = (next : ℕ) (d : Data) → IfOk (body next d) (IsInner table depth)
@@ -212,11 +215,20 @@ child_within table depth body next d inner =
     then_ok _ _ _ λ _ _. then_ok _ _ _ λ b h some rest within. let p = IfOk-at_ok (IsInner table depth) h (inner next d) in (p.0, p.1, p.2, within)
 
 -- by what the word of a step is
-two_within : (table : Table) (depth : ℕ) (body : ℕ → Data → Counted Numbered) (next : ℕ) (d : Data) (read child abort : Bool) → ReadsInner table depth body → IfOk (if read then read_of table next d else if child then child_of body next d else if abort then abort_of depth next d else Err (Shape part.Step)) (KeepsWithin table depth)
-two_within table depth body next d true child abort inner = read_within table depth next d
-two_within table depth body next d false true abort inner = child_within table depth body next d inner
-two_within table depth body next d false false true inner = abort_within table depth next d
-two_within table depth body next d false false false inner = tt
+two_within : (table : Table) (depth : ℕ) (body : ℕ → Data → Counted Numbered) (next : ℕ) (d : Data) (read child abort crash : Bool)
+    → ReadsInner table depth body
+    → IfOk (
+    if read then read_of table next d
+    else if child then child_of body next d
+    else if abort then abort_of depth next d
+    else if crash then crash_of table.copies next d
+    else Err (Shape part.Step)
+    ) (KeepsWithin table depth)
+two_within table depth body next d true child abort crash inner = read_within table depth next d
+two_within table depth body next d false true abort crash inner = child_within table depth body next d inner
+two_within table depth body next d false false true crash inner = abort_within table depth next d
+two_within table depth body next d false false false true inner = crash_within table depth next d
+two_within table depth body next d false false false false inner = tt
 
 three_within : (table : Table) (depth next : ℕ) (rec value : Data) (set add sub need reconf : Bool)
     → IfOk (
@@ -237,7 +249,7 @@ three_within table depth next rec value false false false false false = tt
 parts_within : (table : Table) (depth : ℕ) (body : ℕ → Data → Counted Numbered) (next : ℕ) (parts : List Data) → ReadsInner table depth body → IfOk (step_in body depth table next parts) (KeepsWithin table depth)
 parts_within table depth body next [] inner = tt
 parts_within table depth body next (word ∷ []) inner = tt
-parts_within table depth body next (word ∷ d ∷ []) inner = two_within table depth body next d (is_word (codes "read") word) (is_word (codes "child") word) (is_word (codes "abort") word) inner
+parts_within table depth body next (word ∷ d ∷ []) inner = two_within table depth body next d (is_word (codes "read") word) (is_word (codes "child") word) (is_word (codes "abort") word) (is_word (codes "crash") word) inner
 parts_within table depth body next (word ∷ rec ∷ value ∷ []) inner = three_within table depth next rec value (is_word (codes "set") word) (is_word (codes "add") word) (is_word (codes "sub") word) (is_word (codes "need") word) (is_word (codes "reconf") word)
 parts_within table depth body next (word ∷ rec ∷ value ∷ more ∷ others) inner = tt
 

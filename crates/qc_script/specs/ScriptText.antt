@@ -274,12 +274,20 @@ abort_of depth next levels = do
   _ ← must (nat_lt k depth) (Limit part.Levels k)
   Ok (Plan.abort_then k, next)
 
+-- ["crash", c], at so many copies
+abbrev pub crash_of : ℕ → ℕ → Data → Counted Front
+crash_of copies next copy = do
+  c ← ok_or (digits_of copy) (Shape part.Step)
+  _ ← must (nat_lt c copies) (Limit part.Copy c)
+  Ok (Plan.crash_then c, next)
+
 -- a step of two elements
 abbrev pub two_of : (ℕ → Data → Counted Numbered) → ℕ → Table → ℕ → Data → Data → Counted Front
 two_of body depth table next word d =
     if is_word (codes "read") word then read_of table next d
     else if is_word (codes "child") word then child_of body next d
     else if is_word (codes "abort") word then abort_of depth next d
+    else if is_word (codes "crash") word then crash_of table.copies next d
     else Err (Shape part.Step)
 
 -- a step of three elements

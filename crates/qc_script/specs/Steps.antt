@@ -18,6 +18,7 @@ before (Step-F.Need rec value) rest = need_then rec value rest
 before (Step-F.Reconf rec config) rest = manage_then (kind.Reconf rec config) rest
 before (Step-F.Child body) rest = Plan.child_then body.number body.tries body.must body.plan rest
 before (Step-F.Abort levels) rest = Plan.abort_then levels rest
+before (Step-F.Crash copy) rest = Plan.crash_then copy rest
 
 abbrev pub all_before : List (Plan → Plan) → Plan
 all_before [] = Plan.done

@@ -21,6 +21,8 @@ pub enum Step {
     Child(Body),
     /// Aborts the ancestor this number of levels up; 0 is the transaction itself.
     Abort { levels: u8 },
+    /// Has a copy forget its locks and its grants.
+    Crash { copy: u8 },
 }
 
 /// What a transaction does: its steps in order, how often it is tried at most, and whether, as a child, it must commit

@@ -169,6 +169,17 @@ fn abort_of(depth: u8, levels: &Value) -> Result<Step, BadScript>
     })
 }
 
+fn crash_of(copies: u8, copy: &Value) -> Result<Step, BadScript>
+    ensures { (next : ℕ)
+        → Gives (λ s. (put s, next)) result (script.crash_of copies next (view copy.now)) }
+{
+    let copy = copy.as_u64().ok_or(BadScript::Shape(Member::Step))?;
+    if copy >= copies as u64 {
+        return Err(BadScript::Limit(Member::Copy, copy));
+    }
+    Ok(Step::Crash { copy: copy as u8 })
+}
+
 #[cycle(bodies)]
 fn child_of(
     alloc: Global,
@@ -213,6 +224,8 @@ fn two_of(
         child_of(alloc, below, around, records, next, part)
     } else if is_word(word, "abort") {
         abort_of(16 - below, part)
+    } else if is_word(word, "crash") {
+        crash_of(records.table.copies, part)
     } else {
         Err(BadScript::Shape(Member::Step))
     }
