@@ -163,6 +163,7 @@ module _ (s : ℕ) (p : Entry → Bool) (setting : Setting) (newer past : Past) 
       (λ last further f a. does_behind_still n last must (FollowsPlan s old n rest further how) (Asks old n rest further by target) (Asks now n rest further by target) further how (plan_asks_still n rest further how) f a) None tries cs h d
   plan_asks_still n (Plan.abort_then levels rest) [] how h d = d
   plan_asks_still n (Plan.abort_then levels rest) (c ∷ cs) how h d = absurd d
+  plan_asks_still n (Plan.crash_then copy rest) cs how h d = plan_asks_still n rest cs how h d
 
   -- what was asked for by a transaction that has ended was asked for ever
   pub asks_still : (n : Name) (plan : Plan) → FollowsPlan s old n plan (children old n) (end old n) → Asks old n plan (children old n) by target → Asks now n plan (children now n) by target

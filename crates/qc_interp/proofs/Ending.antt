@@ -108,6 +108,7 @@ running_runs s past n how unended unready (Plan.manage_by k next) = running_stop
 running_runs s past n how unended unready (Plan.child_then number tries must inner rest) =
     no_tries (end past) _ (Stops Reach.cut_off past n how) (λ last further. AfterTries Reach.cut_off past n last must (RunsPlan Reach.cut_off s past n rest further how) further how) None (running_stops past n how unended unready) (running_runs s past n how unended unready rest) tries
 running_runs s past n how unended unready (Plan.abort_then levels rest) = inr (running_unended past n how unended unready)
+running_runs s past n how unended unready (Plan.crash_then copy rest) = running_runs s past n how unended unready rest
 
 pub unended_some : (n : Name) (how : Option How) → IsUnended n how → is_some how ≡ true → WasAsked n how
 unended_some n how (inl is) h = absurd (some_or_none how h is)

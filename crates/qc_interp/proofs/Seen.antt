@@ -184,6 +184,7 @@ module _ (c : Client) (of : Name) (past : Past) (ours : AreOurs c of past) where
   plan_seen reach s n (Plan.abort_then levels rest) [] how low all (inl is) = inl is
   plan_seen reach s n (Plan.abort_then levels rest) [] how low all (inr x) = inr (unended_seen reach n how low x)
   plan_seen reach s n (Plan.abort_then levels rest) (x ∷ cs) how low all h = absurd h
+  plan_seen reach s n (Plan.crash_then copy rest) cs how low all h = plan_seen reach s n rest cs how low all h
 
   does_after_seen : (last : Option Name) (must : Bool) (Does DoesToo : Type 0) → IfAny Low last → (Does → DoesToo) → DoesAfter made last must Does → DoesAfter past last must DoesToo
   does_after_seen None must Does DoesToo was step h = step h
@@ -213,6 +214,7 @@ module _ (c : Client) (of : Name) (past : Past) (ours : AreOurs c of past) where
       (λ last further was lf f. does_after_seen last must (Asks made n rest further by target) (Asks past n rest further by target) was (plan_asks_seen by target n rest further lf) f) None tries cs tt all h
   plan_asks_seen by target n (Plan.abort_then levels rest) [] all h = h
   plan_asks_seen by target n (Plan.abort_then levels rest) (x ∷ cs) all h = absurd h
+  plan_asks_seen by target n (Plan.crash_then copy rest) cs all h = plan_asks_seen by target n rest cs all h
 
   -- what a step asked for by what the client made, it asked for by what was seen
   pub asks_seen : (by target : Name) (plan : Plan) → 0 < length of → name.is_ancestor (take 1 of) of ≡ true → Asks made of plan (children made of) by target → Asks past of plan (children past of) by target

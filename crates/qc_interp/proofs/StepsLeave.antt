@@ -298,6 +298,12 @@ module _ (c : Client) (of : Name) where
   manage_cut k before mid now (tx_no.ChildrenOpen child) next runs none other full made = absurd none
   manage_cut k before mid now tx_no.Ledger next runs none other full made = absurd none.1
 
+  -- A COPY CRASHES
+
+  -- it enters nothing
+  pub crash_on : (copy : ℕ) (now : Past) → Runs c of now → WentOn c of now now (Plan.crash_then copy)
+  crash_on copy now runs = record { leaves = leaves_itself c of now runs.legal; runs = runs; follows = λ reach x later rest ends. ends }
+
   -- STOPPING AT ONCE
 
   pub stop_here : (now : Past) (why : TxNo) → Runs c of now → (AreOurs c of now → StopsBy of why (end (mine c now) of)) → Stopped c of why now now false

@@ -84,6 +84,7 @@ followed_done s past n (Plan.abort_then levels rest) [] how (inl is) = inl (by_l
     by_levels (suc l) is = ap is_some is
 followed_done s past n (Plan.abort_then levels rest) [] how (inr x) = inl (asked_some n how x)
 followed_done s past n (Plan.abort_then levels rest) (c ∷ cs) how h = absurd h
+followed_done s past n (Plan.crash_then copy rest) cs how h = followed_done s past n rest cs how h
 
 pub done_closed : (past : Past) (n : Name) → Done past n (end past n) → Closed past n
 done_closed past n (inl ended) = inl ended
@@ -155,6 +156,7 @@ plan_committed reach s past n (Plan.abort_then levels rest) [] given ready (inl 
     by_levels (suc l) is = cc
 plan_committed reach s past n (Plan.abort_then levels rest) [] given ready (inr x) = absurd (unended_not reach past n ready x)
 plan_committed reach s past n (Plan.abort_then levels rest) (c ∷ cs) given ready h = absurd h
+plan_committed reach s past n (Plan.crash_then copy rest) cs given ready h = plan_committed reach s past n rest cs given ready h
 
 -- who has not ended, and follows its plan, is ready
 followed_ready : (s : ℕ) (past : Past) (n : Name) (plan : Plan) (cs : List Name) → FollowsPlan s past n plan cs None → is_ready past n ≡ true
@@ -216,6 +218,7 @@ follows_runs reach s past n (Plan.child_then number tries must inner rest) cs ho
 follows_runs reach s past n (Plan.abort_then levels rest) [] how (inl is) = inl is
 follows_runs reach s past n (Plan.abort_then levels rest) [] how (inr x) = inr (asked_unended reach past n how x)
 follows_runs reach s past n (Plan.abort_then levels rest) (c ∷ cs) how h = absurd h
+follows_runs reach s past n (Plan.crash_then copy rest) cs how h = follows_runs reach s past n rest cs how h
 
 -- AND FOLLOWS IT FOR EVER
 
@@ -310,6 +313,7 @@ module _ (s : ℕ) (p : Entry → Bool) (setting : Setting) (newer past : Past) 
       (λ last further f. behind_still n last must (FollowsPlan s old n rest further how) (FollowsPlan s now n rest further how) further how (plan_still n rest further how) f) None tries cs h
   plan_still n (Plan.abort_then levels rest) [] how h = h
   plan_still n (Plan.abort_then levels rest) (c ∷ cs) how h = absurd h
+  plan_still n (Plan.crash_then copy rest) cs how h = plan_still n rest cs how h
 
   -- a transaction that follows its plan follows it for ever
   pub follows_still : (n : Name) (plan : Plan) → FollowsPlan s old n plan (children old n) (end old n) → FollowsPlan s now n plan (children now n) (end now n) × Closed old n

@@ -36,6 +36,7 @@ Asks past n (Plan.child_then number tries must inner rest) cs by target =
     TriesDo (end past) (λ c. Asks past c inner (children past c) by target) (λ last further. DoesAfter past last must (Asks past n rest further by target)) None tries cs
 Asks past n (Plan.abort_then levels rest) [] by target = (by ≡ n) × (target ≡ above n levels)
 Asks past n (Plan.abort_then levels rest) (c ∷ further) by target = ⊥
+Asks past n (Plan.crash_then copy rest) cs by target = Asks past n rest cs by target
 
 -- the same for the tops of bodies
 abbrev pub BodiesAsk : Past → List Numbered → List Name → Name → Name → Type 0

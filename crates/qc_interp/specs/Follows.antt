@@ -97,7 +97,7 @@ asked_end n zero = Some (Abort (cause.Asked n))
 asked_end n (suc below) = Some (Abort (cause.Orphan (above n (suc below))))
 
 -- The children of a transaction of a session are those that its plan asks for, as far as it goes on, or as far as the
--- run came that was cut off.
+-- run came that was cut off. The crash of a copy asks for none and ends nothing.
 abbrev pub RunsPlan : Reach → ℕ → Past → Name → Plan → List Name → Option How → Type 0
 RunsPlan reach s past n Plan.done [] how = Commits past n how ⊎ Stops reach past n how
 RunsPlan reach s past n Plan.done (c ∷ further) how = ⊥
@@ -109,6 +109,7 @@ RunsPlan reach s past n (Plan.child_then number tries must inner rest) cs how =
     (Stops reach past n how) (λ last further. AfterTries reach past n last must (RunsPlan reach s past n rest further how) further how) None tries cs
 RunsPlan reach s past n (Plan.abort_then levels rest) [] how = (how ≡ asked_end n levels) ⊎ HasNotEnded reach past n how
 RunsPlan reach s past n (Plan.abort_then levels rest) (c ∷ further) how = ⊥
+RunsPlan reach s past n (Plan.crash_then copy rest) cs how = RunsPlan reach s past n rest cs how
 
 -- a top of a session and of a body, whose children are those of the body's plan
 pub record RunsBody (reach : Reach) (s : ℕ) (past : Past) (body : Numbered) (top : Name) : Type 0 where

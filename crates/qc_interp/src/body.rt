@@ -135,6 +135,10 @@ fn step<T: Tx>(tx: &mut T, of: &Name, step: &Step) -> Result<Option<bool>, Short
             let again = ask(tx, of, *levels)?;
             Ok(Some(again))
         }
+        Step::Crash { copy } => {
+            tx.crash(*copy);
+            Ok(None)
+        }
     }
 }
 

@@ -94,6 +94,9 @@ TopsWithin copies records (b ∷ bodies) = IsTried b.tries × PlanWithin copies 
 abbrev pub KindFits : Setting → Kind → Type 0
 KindFits setting k = KindWithin (length setting.base) (length setting.firsts) k
 
+abbrev pub CopyFits : Setting → ℕ → Type 0
+CopyFits setting copy = copy < length setting.base
+
 abbrev pub PlanFits : Setting → ℕ → Plan → Type 0
 PlanFits setting depth plan = PlanWithin (length setting.base) (length setting.firsts) depth plan
 

@@ -56,7 +56,7 @@ pub trait Tx: Sized {
     ghost use Rattle.qc_script.specs.Numbers.{Numbers};
     ghost use Rattle.qc_script.specs.Calls.{Began, Answers, Fails, Aborts, IsGrounded, IsForChild, WasRefused, NotAborted, Committed, NotCommitted, MeetsLink};
     ghost use Rattle.qc_script.specs.Client.{View};
-    ghost use Rattle.qc_script.specs.Plan.{KindFits};
+    ghost use Rattle.qc_script.specs.Plan.{CopyFits, KindFits};
 
     /// Its number and branches, its session, table and link, and what it has seen.
     ghost view: { Self → View };
@@ -136,4 +136,10 @@ pub trait Tx: Sized {
             (view self.old).client of.now (view self.old).seen (view self.new).seen) }
         ensures err { IfErr result (NotCommitted
             (view self.old).client of.now (view self.old).seen (view self.new).seen) };
+
+    /// Has a copy forget its locks and its grants, which stand in its journal: it reads them there before it serves
+    /// again. It makes nothing, sees nothing, and has no answer.
+    fn crash(&mut self, copy: u8)
+        requires fits { CopyFits (view self.old).client.setting copy }
+        ensures same { view self.new ≡ view self.old };
 }

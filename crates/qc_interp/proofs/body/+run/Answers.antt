@@ -6,13 +6,14 @@ use Rattle.qc_script.specs.Calls.{WasRefused}
 use Rattle.qc_script.specs.Client.{Client, Made}
 use Rattle.qc_script.specs.Plan.{Plan, PlanFits, manage_then, change_then, need_then, plus, minus}
 use Rattle.qc_script.specs.Steps.{put, plan_of, numbered}
-use Rattle.qc_interp.specs.Running.{Runs, WhyStop, Stopped, Ended, CutOff, Stepped, QuitFor, child_step, TriesCame}
+use Rattle.qc_interp.specs.Running.{Runs, WhyStop, Stopped, Ended, CutOff, Stepped, QuitFor, WentOn, child_step, TriesCame}
 use Rattle.qc_interp.specs.declared.stops.Finish.TheVariants as finish
 use Rattle.qc_interp.proofs.Results.{if_ok, if_err, any_err}
 use Rattle.qc_interp.proofs.Growth.{made_both}
-use Rattle.qc_interp.proofs.Plans.{weight, plan_is, tries_of, number_of, must_of, put_read, put_set, put_add, put_sub, put_need, put_reconf, put_child, put_abort, step_lighter}
+use Rattle.qc_interp.proofs.Plans.{weight, plan_is, tries_of, number_of, must_of, put_read, put_set, put_add, put_sub, put_need, put_reconf, put_child, put_abort, put_crash, step_lighter}
 use Rattle.qc_interp.proofs.Loops.{fits_step, one_done, stopped_there, cut_there, cut_at_last, all_done, none_done}
 use Rattle.qc_interp.proofs.Failing.{failed_on, failed_quit, failed_cut}
+use Rattle.qc_interp.proofs.StepsLeave.{crash_on}
 use Rattle.qc_interp.proofs.Tried.{TriesLeft, Tried, runs_begun, tried_once, cut_once, tried_more, tried_failed, tried_out, all_failed, none_to_begin, tries_cut, not_begun, begin_stops, begin_cut, refused_made, none_tried, start_of}
 use Rattle.qc_interp.proofs.body.+run.Goals as goal
 
@@ -300,6 +301,13 @@ step-returns-in_ok-again-in-Abort-clause-ok g t c = λ rest.
     let v = g.T.Tx.view c.args.tx.now in
     let w = g.T.Tx.view c.ask.new.tx in
     subst (λ f. Ended v.client c.args.of.now v.seen w.seen (f rest) (finish.Stopped c.in_ok-again-in-Abort.again)) (sym (ap put c.in-Abort.is ∙ put_abort c.in-Abort.levels)) (c.in_ok-again-in-Abort.ensures.ok rest)
+
+pub step-returns-in-Crash-clause-ok : goal.step-returns-in-Crash-clause-ok
+step-returns-in-Crash-clause-ok g t c =
+    let v = g.T.Tx.view c.args.tx.now in
+    let w = g.T.Tx.view c.crash.new.self in
+    subst (λ x. WentOn v.client c.args.of.now v.seen x.seen (put c.args.step.now)) (sym c.crash.ensures.same)
+    (subst (WentOn v.client c.args.of.now v.seen v.seen) (sym (ap put c.in-Crash.is ∙ put_crash c.in-Crash.copy)) (crash_on v.client c.args.of.now c.in-Crash.copy v.seen c.requires.runs))
 
 -- where it was cut off
 
