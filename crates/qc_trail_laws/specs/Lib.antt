@@ -1,3 +1,4 @@
 pub mod Trails
 pub mod Values
 pub mod Musts
+pub mod Crashes

@@ -11,6 +11,7 @@ ghost use Rattle.qc_interp.specs.Reach.{Reach};
 ghost use Rattle.qc_interp.specs.Session.{FollowsBodies, RunsBodies};
 ghost use Rattle.qc_interp.specs.Sessions.{RunsInTurn, tops_of, meets, is_settled, all_unmarked};
 ghost use Rattle.qc_script.specs.Numbers.{each, is_next_top};
+ghost use Rattle.qc_trail_laws.specs.Crashes as crashes;
 ghost use Rattle.qc_trail_laws.specs.Musts as musts;
 ghost use Rattle.qc_trail_laws.specs.Trails as trails;
 ghost use Rattle.qc_trail_laws.specs.Values as values;
@@ -171,5 +172,24 @@ pub fn goes_by_no_other_child()
     ensures goes_on { FollowsScript 0 1 trails.net (musts.child true) (reverse musts.went_on) → ⊥ }
     ensures aborted { FollowsScript 0 1 trails.net (musts.child false) (reverse musts.aborted) → ⊥ }
     ensures no_orphan { FollowsScript 0 1 trails.net (musts.far_body ∷ []) (reverse musts.no_orphan)
+        → ⊥ }
+{}
+
+/// A step at which a copy crashes asks for nothing and ends nothing. So a trail follows its script with such steps as it
+/// does without: around a set and a read, in a child and behind it, and in a child that is aborted already.
+pub fn passes_over_crashes()
+    ensures around { FollowsBodies 0 (reverse trails.first_run) crashes.around (trails.top ∷ []) }
+    ensures in_child { FollowsBodies 0 (reverse musts.went_on) crashes.in_child (trails.top ∷ []) }
+    ensures in_aborted { FollowsBodies 0 (reverse crashes.aborts_parent) crashes.in_aborted
+        (trails.top ∷ []) }
+    ensures in_aborted_turns { RunsInTurn 0 (reverse crashes.aborts_parent) }
+{}
+
+/// None of these follows its script: a top that commits where a copy crashes, before the set that stands behind, and one
+/// that reads and leaves out the set.
+pub fn stops_at_no_crash()
+    ensures nothing_done { FollowsScript 0 1 trails.net crashes.around
+        (reverse crashes.nothing_done) → ⊥ }
+    ensures set_left_out { FollowsScript 0 1 trails.net crashes.around (reverse (values.enough 0))
         → ⊥ }
 {}
