@@ -92,4 +92,8 @@ impl<'a, R: Wait, D: Disk + Drop, L: Link + Drop, N: Mounting> Tx for Client<'a,
         self.line.known();
         committed
     }
+
+    fn crash(&mut self, copy: u8) {
+        self.line.system.crash(self.line.rt, copy);
+    }
 }
