@@ -6,3 +6,4 @@ pub mod Mounts
 pub mod Logging
 pub mod Verdicts
 pub mod Passes
+pub mod Since

@@ -12,10 +12,16 @@ use Rattle.qc_pass.specs.declared.view.View.{View}
 use Rattle.qc_pass.specs.Calling.{Entered, Refused, Shown}
 use Rattle.qc_pass.specs.Entries.{IsOlder, entries_of, entry}
 use Rattle.qc_pass.specs.Refusing.{against_nothing}
-use Rattle.qc_event.proofs.OneEntry.{no_some, none_before}
+use Rattle.qc_event.specs.Base.{Setting}
+use Rattle.qc_event.specs.Legal.{Legal}
+use Rattle.qc_event.specs.Seats.{ledger_seat}
+use Rattle.qc_event.proofs.OneEntry.{no_some, none_before, not_some, some_or_none}
+use Rattle.qc_event.proofs.RootAndTops.{ready_started}
 use Rattle.qc_event.proofs.StillTold.{some_stays}
+use Rattle.qc_pass.proofs.Finishing.{ended_by_ledger}
 use Rattle.qc_pass.proofs.Seers.{older_trans}
 use Rattle.qc_ledger.specs.Entered.{MayFinish, SeesMore}
+use Rattle.qc_ledger.specs.Since.{IsNext}
 
 pub ready_stays : (before now : Past) (top : Name) → IsOlder before now → IsTrue (is_ready before top) → IsTrue (is_ready now top)
 ready_stays before now top older ready = subst (λ (p : Past). is_ready p top ≡ true) (sym older.1) (some_stays (λ e. ready_in top e.event) older.0 before ready)
@@ -118,3 +124,20 @@ sees_on a b c one two = record {
   out = two.out ∙ one.out;
   kin = two.kin ∙ one.kin;
 }
+
+-- a top that may be finished may be committed next
+pub may_be_next : (setting : Setting) (pass : View) (top : Name) → Legal setting pass.seen → pass.mine ≡ entries_of ledger_seat pass.seen → MayFinish pass top → IsNext pass.seen top
+may_be_next setting pass top legal own may = record {
+  is_top = may.is_top;
+  ready = may.ready;
+  is_open = record {
+    started = ready_started setting pass.seen top legal may.ready;
+    not_ended = not_some (end pass.seen top) (λ ended.
+        some_or_none (end (entries_of ledger_seat pass.seen) top) (ended_by_ledger setting pass.seen top legal may.ready ended) (ap (λ p. end p top) (sym own) ∙ may.first));
+  };
+}
+
+-- what may be finished where it had not ended may be committed next
+pub may_next : (setting : Setting) (pass : View) (top : Name) (b : Bool) → Legal setting pass.seen → pass.mine ≡ entries_of ledger_seat pass.seen → OnFalse b (MayFinish pass top) → OnFalse b (IsNext pass.seen top)
+may_next setting pass top true legal own may = tt
+may_next setting pass top false legal own may = may_be_next setting pass top legal own may

@@ -6,3 +6,4 @@ pub mod Mounted
 pub mod Runs
 pub mod Shelf
 pub mod Entered
+pub mod Since

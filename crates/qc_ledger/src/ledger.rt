@@ -7,12 +7,13 @@ ghost use Rattle.qc_event.specs.History.{end, is_ready, limit};
 ghost use Rattle.qc_event.specs.Requests.{is_ledger_fault};
 ghost use Rattle.qc_event.specs.Seats.{ledger_seat};
 ghost use Rattle.qc_pass.specs.Calling.{Shown};
-ghost use Rattle.qc_pass.specs.Entries.{IsOlder};
+ghost use Rattle.qc_pass.specs.Entries.{entries_of, IsOlder};
 ghost use Rattle.qc_journal.specs.Journal.{disk_of, limit_of, place_of, IsTooLong, IsUp, Keeps};
 ghost use Rattle.qc_ledger.specs.Entered.{MayFinish, SeesMore};
 ghost use Rattle.qc_ledger.specs.Refusing.{want_no, IsWant};
 ghost use Rattle.qc_ledger.specs.Runs.{HasOrMore, Leaves, LosesNone, Falls, Costs, CostsTwo};
 ghost use Rattle.qc_ledger.specs.Shelf.{journal_in, top_in, top_body, LogLeaves, IsDeviceNo, IsIdle};
+ghost use Rattle.qc_ledger.specs.Since.{IsNext, TopsGrow};
 ghost use Rattle.qc_ledger.specs.declared.fault.LedgerNo.TheVariants.{Disk, Full, Room};
 
 use crate::fault::LedgerNo;
@@ -189,6 +190,8 @@ impl<D: Disk, N: Store> Ledger<D, N> {
         ensures mine { self.new.pass.mine ≡ self.old.pass.mine }
         ensures stands { OnTrue result (IsTrue (is_some (end self.new.pass.seen top.now))) }
         ensures may { OnFalse result (MayFinish self.new.pass top.now) }
+        ensures next { OnFalse result (IsNext self.new.pass.seen top.now) }
+        ensures own { self.new.pass.mine ≡ entries_of ledger_seat self.new.pass.seen }
         ensures seen { IsOlder self.old.pass.seen self.new.pass.seen }
         ensures seer { SeesMore seer.old seer.new }
     {
@@ -235,6 +238,14 @@ impl<D: Disk, N: Store> Ledger<D, N> {
         ensures grows { (told : List ℕ → List (List ℕ)) (before : List (List ℕ))
             → IsOver told before self.old.shelf (tops_of self.old.pass.mine)
             → LosesNone (journal_in self.old.shelf) (journal_in self.new.shelf) }
+
+        // Since a moment each image had the records from before it, and behind them those of tops up to now; and none was
+        // lost.
+        ensures grown { (told : List ℕ → List (List ℕ)) (before : List (List ℕ)) (since : ℕ)
+            → aborted.now ≡ told top.now
+            → IsOver told before self.old.shelf (tops_of self.old.pass.mine)
+            → TopsGrow told before since self.old.shelf self.old.pass.seen
+            → TopsGrow told before since self.new.shelf self.new.pass.seen }
 
         // A fault of the disk is told only where its count of faults rose, by two where the ledger was up. Full comes only
         // where the record would pass the limit at its place; the ledger is up then, with nothing in hand.
@@ -300,6 +311,14 @@ impl<D: Disk, N: Store> Ledger<D, N> {
             → IsOver told before self.old.shelf (tops_of self.old.pass.mine)
             → LosesNone (journal_in self.old.shelf) (journal_in self.new.shelf) }
 
+        // Since a moment each image had the records from before it, and behind them those of tops up to now; and none was
+        // lost.
+        ensures grown { (told : List ℕ → List (List ℕ)) (before : List (List ℕ)) (since : ℕ)
+            → aborted.now ≡ told top.now
+            → IsOver told before self.old.shelf (tops_of self.old.pass.mine)
+            → TopsGrow told before since self.old.shelf self.old.pass.seen
+            → TopsGrow told before since self.new.shelf self.new.pass.seen }
+
         // A fault of the disk is told only where its count of faults rose, by two where the ledger was up. Full comes only
         // where the record would pass the limit at its place; the ledger is up then, with nothing in hand.
         ensures full { (place : ℕ) → result ≡ Err (Full place) → IsIdle self.new.shelf place
@@ -341,6 +360,9 @@ impl<D: Disk, N: Store> Ledger<D, N> {
         ensures any_moment { Leaves (journal_in self.old.shelf) (journal_in self.new.shelf)
             (D.view (disk_of (journal_in self.old.shelf))).may_leave }
         ensures falls { Falls (journal_in self.old.shelf) (journal_in self.new.shelf) }
+        ensures grown { (told : List ℕ → List (List ℕ)) (before : List (List ℕ)) (since : ℕ)
+            → TopsGrow told before since self.old.shelf self.old.pass.seen
+            → TopsGrow told before since self.new.shelf self.new.pass.seen }
         ensures cause { Costs (journal_in self.old.shelf) (journal_in self.new.shelf)
             (IsErrOf result Disk) }
     {

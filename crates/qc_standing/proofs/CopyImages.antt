@@ -18,7 +18,8 @@ use Rattle.qc_journal.specs.Image.{HasRecords}
 use Rattle.qc_refine.specs.Images.{IsCopyImage}
 use Rattle.qc_refine.specs.Standing.{IsUntold}
 use Rattle.qc_site.specs.Back.{grant_body}
-use Rattle.qc_system.specs.Left.{KeepsGrants, OrMore}
+use Rattle.qc_ledger.specs.Since.{OrMore}
+use Rattle.qc_system.specs.Left.{KeepsGrants}
 use Rattle.qc_refine.proofs.DonesWalk.{all_front}
 
 -- of one more that may stand behind some, what stands there

@@ -25,7 +25,7 @@ use Rattle.qc_refine.specs.Images.{IsLedgerImage, ledger_records}
 use Rattle.qc_refine.specs.Listed.{logged, logged_as}
 use Rattle.qc_refine.specs.Standing.{AreNext, IsOfEpoch, IsNext}
 use Rattle.qc_refine.proofs.LoggedTops.{IsLogged, committed_ready, logged_are}
-use Rattle.qc_system.specs.Left as left
+use Rattle.qc_ledger.specs.Since as left
 use Rattle.qc_system.specs.Left.{KeepsTops}
 use Rattle.qc_standing.proofs.CopyImages.{or_more}
 use Rattle.qc_standing.proofs.LedgerRecords.{Mounted}

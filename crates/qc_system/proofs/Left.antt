@@ -22,7 +22,7 @@ use Rattle.qc_journal.specs.declared.journal.State.TheVariants as state
 use Rattle.qc_ledger.specs.Entered.{IsOver, MayFinish, pending_by, told_body, tops_of, unsure_by}
 use Rattle.qc_ledger.specs.Shelf.{journal_in, top_in}
 use Rattle.qc_ledger.specs.declared.shelf.Shelf.{Shelf}
-use Rattle.qc_ledger.proofs.Passes.{may_first, ready_stays}
+use Rattle.qc_ledger.proofs.Passes.{may_be_next, may_first, ready_stays}
 use Rattle.qc_pass.specs.Entries.{IsOlder, IsSince, entries_of}
 use Rattle.qc_pass.specs.declared.view.View.{View}
 use Rattle.qc_pass.proofs.Finishing.{ended_by_ledger}
@@ -32,7 +32,8 @@ use Rattle.qc_site.specs.Back.{grant_body}
 use Rattle.qc_site.specs.Replica.{Standing}
 use Rattle.qc_site.specs.Sites.{KeepsGranted}
 use Rattle.qc_site.specs.declared.log.GrantLog.{GrantLog}
-use Rattle.qc_system.specs.Left.{IsNext, KeepsGrants, KeepsTops, OrMore}
+use Rattle.qc_ledger.specs.Since.{IsNext, OrMore}
+use Rattle.qc_system.specs.Left.{KeepsGrants, KeepsTops}
 use Rattle.qc_system.proofs.Listed.{same_listed}
 
 -- A COPY'S GRANTS
@@ -136,18 +137,6 @@ module _ {D : Type 0} {g : Ghosts D} (setting : Setting) (before : List (List �
       (subst (λ o. Stands (journal_in shelf).place (told_of (committed ++ pending_by (journal_in shelf).state (top_in shelf))) o image) over.hand
       (subst (λ (p : Past). Stands (journal_in shelf).place (told_of (tops_of p ++ pending_by (journal_in shelf).state (top_in shelf))) (in_hand (journal_in shelf)) image) own
       (over.keeps.each image left)))
-
--- a top that may be finished may be committed next
-may_be_next : (setting : Setting) (pass : View) (top : Name) → Legal setting pass.seen → pass.mine ≡ entries_of ledger_seat pass.seen → MayFinish pass top → IsNext pass.seen top
-may_be_next setting pass top legal own may = record {
-  is_top = may.is_top;
-  ready = may.ready;
-  is_open = record {
-    started = ready_started setting pass.seen top legal may.ready;
-    not_ended = not_some (end pass.seen top) (λ ended.
-        some_or_none (end (entries_of ledger_seat pass.seen) top) (ended_by_ledger setting pass.seen top legal may.ready ended) (ap (λ p. end p top) (sym own) ∙ may.first));
-  };
-}
 
 pub keeps_tops : {D : Type 0} {g : Ghosts D} (setting : Setting) (before : List (List ℕ)) (shelf : Shelf D g) (pass : View) → Legal setting pass.seen → pass.mine ≡ entries_of ledger_seat pass.seen
     → ((top : Name) → top_in shelf ≡ Some top → MayFinish pass top) → IsOver (listed pass.seen) before shelf (tops_of pass.mine) → KeepsTops before (g.view (journal_in shelf).disk).may_leave pass.seen

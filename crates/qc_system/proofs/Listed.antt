@@ -27,7 +27,10 @@ use Rattle.qc_journal.specs.declared.journal.State.TheVariants as state
 use Rattle.qc_pass.specs.Entries.{IsOlder, entries_of}
 use Rattle.qc_pass.specs.declared.view.View.{View}
 use Rattle.qc_pass.proofs.Finishing.{commit_ready}
-use Rattle.qc_system.specs.Left.{IsNext, OrMore}
+use Rattle.qc_pass.proofs.Seers.{older_trans}
+use Rattle.qc_event.proofs.Later.{earlier_legal}
+use Rattle.qc_ledger.specs.Since.{AreTopsBy, IsNext, OrMore}
+use Rattle.qc_ledger.proofs.Since.{tops_later}
 
 -- WHAT IS LISTED
 
@@ -136,3 +139,23 @@ pub over_seen : {D : Type 0} {g : Ghosts D} (setting : Setting) (old : View) (no
     → ((top : Name) → top_in shelf ≡ Some top → MayFinish old top) → IsOver (listed old.seen) bodies shelf (tops_of old.mine) → IsOver (listed now) bodies shelf (tops_of old.mine)
 over_seen setting old now bodies shelf older legal was own may over = subst (λ p. IsOver (listed now) bodies shelf (tops_of p)) (sym own)
     (over_later setting old.seen now older legal bodies shelf ledger_seat was (λ t is. (may t is).ready) (subst (λ p. IsOver (listed old.seen) bodies shelf (tops_of p)) own over))
+
+-- the records of tops up to then are listed the same later
+module _ (setting : Setting) (seen now : Past) (older : IsOlder seen now) (legal : Legal setting now) (was : Legal setting seen) (bodies : List (List ℕ)) where
+  pub tops_retold : AreTopsBy (listed seen) seen bodies → AreTopsBy (listed now) seen bodies
+  tops_retold are =
+      let then : Legal setting are.earlier = earlier_legal setting are.older.0 are.earlier (subst (Legal setting) are.older.1 was) in
+      let first = same_listed setting are.earlier seen are.older was then ledger_seat are.untold are.next are.tops are.these in
+      let last = same_listed setting are.earlier now (older_trans are.earlier seen now are.older older) legal then ledger_seat are.untold are.next are.tops are.these in
+      record {
+        earlier = are.earlier;
+        older = are.older;
+        untold = are.untold;
+        next = are.next;
+        tops = are.tops;
+        these = are.these;
+        are = are.are ∙ (sym first ∙ last);
+      }
+
+  pub tops_told_later : AreTopsBy (listed seen) seen bodies → AreTopsBy (listed now) now bodies
+  tops_told_later are = tops_later (listed now) seen now bodies older (tops_retold are)

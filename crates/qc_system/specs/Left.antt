@@ -1,21 +1,18 @@
 -- What disks keep of a history.
-use Rattle.std.specs.Prelude.{◌≡◌, ◌⊎◌, ℕ, List, ◌++◌, All, map, length, Option, IfSome, IsTrue, option_to_list}
+use Rattle.std.specs.Prelude.{ℕ, List, ◌++◌, All, map, Option, IfSome, option_to_list}
 use Rattle.qc_codec.specs.Bodies as body
 use Rattle.qc_codec.specs.Fields.{format_1}
 use Rattle.qc_event.specs.declared.event.Grant.{Grant}
 use Rattle.qc_event.specs.Base.{Setting}
 use Rattle.qc_event.specs.Grants.{MayGrant}
-use Rattle.qc_event.specs.History.{Past, Name, IsOpen, grants, is_ready}
+use Rattle.qc_event.specs.History.{Past, Name, grants}
 use Rattle.qc_event.specs.Listed.{listed}
 use Rattle.qc_event.specs.Seats.{copy_seat, ledger_seat}
 use Rattle.qc_journal.specs.Image.{HasRecords}
 use Rattle.qc_ledger.specs.Entered.{told_body, tops_of}
+use Rattle.qc_ledger.specs.Since.{IsNext, OrMore}
 use Rattle.qc_pass.specs.Entries.{entries_of}
 use Rattle.qc_site.specs.Back.{grant_body}
-
--- these, or these and one more
-abbrev pub OrMore : {A : Type 0} → List A → Option A → List A → Type 0
-OrMore these more all = (all ≡ these) ⊎ (all ≡ these ++ option_to_list more)
 
 -- Each image of a copy's disk has the records from before, then one for each of the copy's grants in the history, and
 -- maybe one more, of a grant that may be made next.
@@ -24,12 +21,6 @@ pub record KeepsGrants (setting : Setting) (copies copy : ℕ) (before : List (L
   pub may : IfSome untold (MayGrant setting past (copy_seat copy) copy)
   pub fit : All (body.grant (format_1 copies)).fits (grants past copy ++ option_to_list untold)
   pub each : (image : List ℕ) → left image → (given : List Grant) × OrMore (grants past copy) untold given × HasRecords (before ++ map (grant_body copies) given) image
-
--- A top may be committed next.
-pub record IsNext (past : Past) (top : Name) : Type 0 where
-  pub is_top : length top ≡ 1
-  pub ready : IsTrue (is_ready past top)
-  pub is_open : IsOpen past top
 
 -- Each image of the ledger's disk has the records from before, then one for each top that the ledger committed, with the
 -- names that are listed of it, and maybe one more, of a top that may be committed next.
