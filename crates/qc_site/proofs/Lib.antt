@@ -11,3 +11,4 @@ mod Again
 mod Found
 mod Logs
 mod Refusals
+pub mod Since

@@ -1,11 +1,17 @@
 -- Why a site did not do what it was asked.
-use Rattle.std.proofs.Common.{◌≡◌, refl, sym, ap, ◌∙◌, subst}
+use Rattle.std.proofs.Common.{◌≡◌, ℕ, refl, sym, ap, ◌∙◌, subst}
+use Rattle.qc_config.specs.declared.tuple.Tuple.{Tuple}
+use Rattle.qc_copy.specs.State.{grant_with}
 use Rattle.qc_disk.specs.declared.disk.Disk.{Ghosts}
+use Rattle.qc_event.specs.declared.event.Ask.{Ask}
+use Rattle.qc_event.specs.declared.event.Grant.{Grant}
 use Rattle.qc_event.specs.declared.log.Short.TheVariants as short
+use Rattle.qc_journal.specs.Journal.{limit_of, place_of, IsTooLong}
 use Rattle.qc_journal.specs.declared.fault.Fault.{Fault}
 use Rattle.qc_journal.specs.declared.fault.Fault.TheVariants as fault
 use Rattle.qc_pass.specs.declared.refusal.DeskNo.{DeskNo}
 use Rattle.qc_pass.specs.declared.refusal.DeskNo.TheVariants as desk
+use Rattle.qc_site.specs.Back.{grant_body}
 use Rattle.qc_site.specs.Log.{WriteLeaves}
 use Rattle.qc_site.specs.Refusing.{desk_no}
 use Rattle.qc_site.specs.Serving.{of_fault, of_site}
@@ -13,7 +19,7 @@ use Rattle.qc_site.specs.declared.log.GrantLog.{GrantLog}
 use Rattle.qc_site.specs.declared.serve.ServeNo.{ServeNo}
 use Rattle.qc_site.specs.declared.serve.ServeNo.TheVariants as no_serve
 use Rattle.std.specs.Prelude.{Result, Ok, Err, IfErr, IsErrOf}
-use Rattle.qc_site.specs.Sites.{IsReviveNo, IsWantNo}
+use Rattle.qc_site.specs.Sites.{IsFullFor, IsReviveNo, IsWantNo}
 use Rattle.qc_site.specs.declared.fault.SiteNo.{SiteNo}
 use Rattle.qc_site.specs.declared.fault.SiteNo.TheVariants.{Disk, Image, Strange, Memory, Room}
 
@@ -38,6 +44,19 @@ down_is_disk old new fault.Disk e left is failed = refl
 down_is_disk old new (fault.Broken place) e left is failed = absurd left
 down_is_disk old new (fault.Full place) e left is failed = absurd (let one : e ≡ no_serve.Down = cc in let other : no_serve.Full ≡ no_serve.Down = sym is ∙ one in cc)
 down_is_disk old new fault.Memory e left is failed = absurd (let one : e ≡ no_serve.Down = cc in let other : no_serve.Short short.Memory ≡ no_serve.Down = sym is ∙ one in cc)
+
+-- it is full where the record would pass the limit
+pub full_is_full : {D : Type 0} {g : Ghosts D} {T : Type 0} (old new : GrantLog D g) (f : Fault) (e : ServeNo) (ask : Ask) (tuple : Tuple) (grant : Grant) → WriteLeaves old new f → e ≡ of_fault f → IsErrOf {T = T} (Err e) no_serve.Full
+    → ((place : ℕ) → f ≡ fault.Full place → IsTooLong (place_of old.journal) (limit_of old.journal) (grant_body old.copies grant)) → new.copies ≡ old.copies → grant ≡ grant_with ask tuple → IsFullFor ask new
+full_is_full old new fault.Disk e ask tuple grant left is failed long copies same = absurd (let one : e ≡ no_serve.Full = cc in let other : no_serve.Down ≡ no_serve.Full = sym is ∙ one in cc)
+full_is_full old new (fault.Broken place) e ask tuple grant left is failed long copies same = absurd left
+full_is_full old new (fault.Full place) e ask tuple grant left is failed long copies same = (
+  tuple,
+  subst (λ j. IsTooLong (place_of j) (limit_of j) (grant_body new.copies (grant_with ask tuple))) (sym left)
+      (subst (λ x. IsTooLong (place_of old.journal) (limit_of old.journal) (grant_body new.copies x)) same
+      (subst (λ n. IsTooLong (place_of old.journal) (limit_of old.journal) (grant_body n grant)) (sym copies) (long place refl))),
+)
+full_is_full old new fault.Memory e ask tuple grant left is failed long copies same = absurd (let one : e ≡ no_serve.Full = cc in let other : no_serve.Short short.Memory ≡ no_serve.Full = sym is ∙ one in cc)
 
 -- want at the desk is no fault of the disk
 pub desk_not_down : {T : Type 0} (refusal : DeskNo) (mid : SiteNo) (e : ServeNo) → mid ≡ desk_no refusal → e ≡ of_site mid → IsErrOf {T = T} (Err e) no_serve.Down → ⊥

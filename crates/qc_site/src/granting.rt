@@ -17,6 +17,7 @@ ghost use Rattle.qc_pass.specs.Entries.{IsOlder};
 ghost use Rattle.qc_site.specs.AtDesk.{IsGranted};
 ghost use Rattle.qc_site.specs.Log.{copies_of, journal_in, IsOver};
 ghost use Rattle.qc_site.specs.Serving as words;
+ghost use Rattle.qc_site.specs.Since.{GrantsGrow};
 
 use crate::fault::desk_no;
 use crate::log::GrantLog;
@@ -85,9 +86,16 @@ impl<D: Disk, N: Store, const C: u8> Site<D, N, C> {
             (journal_in self.new.log) bodies }
         ensures grows { (bodies : List (List ℕ)) → Keeps (journal_in self.old.log) bodies
             → LosesNone (journal_in self.old.log) (journal_in self.new.log) }
+        ensures grown { (before : List (List ℕ)) (since : ℕ)
+            → IsOver before self.old.log (grants self.old.replica.pass.seen C) None
+            → GrantsGrow (setting_of N.table N.base) C before since self.old.log
+            self.old.replica.pass.seen
+            → GrantsGrow (setting_of N.table N.base) C before since self.new.log
+            self.new.replica.pass.seen }
         ensures cause { Costs (journal_in self.old.log) (journal_in self.new.log)
             (IsErrOf result ServeNo.Down) }
     {
+        self.replica.known();
         self.replica.fits(self.log.copies, ask, tuple);
         match self.log.write(&grant_of(ask, tuple)) {
             Ok(()) => Ok(()),
@@ -137,6 +145,12 @@ impl<D: Disk, N: Store, const C: u8> Site<D, N, C> {
             (journal_in self.new.log) bodies }
         ensures grows { (bodies : List (List ℕ)) → Keeps (journal_in self.old.log) bodies
             → LosesNone (journal_in self.old.log) (journal_in self.new.log) }
+        ensures grown { (before : List (List ℕ)) (since : ℕ)
+            → IsOver before self.old.log (grants self.old.replica.pass.seen C) None
+            → GrantsGrow (setting_of N.table N.base) C before since self.old.log
+            self.old.replica.pass.seen
+            → GrantsGrow (setting_of N.table N.base) C before since self.new.log
+            self.new.replica.pass.seen }
         ensures cause { Costs (journal_in self.old.log) (journal_in self.new.log)
             (IsErrOf result ServeNo.Down) }
     {

@@ -1,6 +1,7 @@
 //! A copy that was mounted.
-ghost use Rattle.std.specs.Prelude.{◌≡◌, ◌≤◌, ◌<◌, [], true, false, None, length, slice_index_or, is_some};
+ghost use Rattle.std.specs.Prelude.{◌≡◌, ◌≤◌, ◌<◌, ℕ, [], true, false, None, length, slice_index_or, is_some};
 ghost use Rattle.qc_event.specs.Seats.{copy_seat};
+ghost use Rattle.qc_event.specs.Tables.{setting_of};
 ghost use Rattle.qc_journal.specs.Journal.{disk_of, IsDown, Keeps};
 ghost use Rattle.qc_site.specs.Log.{journal_in};
 
@@ -31,6 +32,7 @@ pub struct Mounted<D: Disk> {
 impl<D: Disk> Mounted<D> {
     ghost use Rattle.qc_journal.specs.Image.{bodies_of};
     ghost use Rattle.qc_site.specs.Mounted.{copies_of, copy_of, journal_of, records_of};
+    ghost use Rattle.qc_site.specs.Since.{GrantsGrow};
     ghost use Rattle.qc_site.specs.Sites.{KeepsGranted};
     ghost use Rattle.qc_site.specs.Start.{start_of};
 
@@ -65,6 +67,10 @@ impl<D: Disk> Mounted<D> {
         ensures journal { journal_in result.log ≡ journal_of self }
         ensures over { Keeps (journal_of self) (records_of self)
             → KeepsGranted C (records_of self) result.log result.replica }
+        ensures grown { (since : ℕ) → since ≡ (D.view (disk_of (journal_of self))).moment
+            → Keeps (journal_of self) (records_of self)
+            → GrantsGrow (setting_of N.table N.base) C (records_of self) since result.log
+            result.replica.pass.seen }
     {
         let (start, table) = self.start.into_parts();
         pass.known();

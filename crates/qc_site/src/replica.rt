@@ -72,10 +72,13 @@ impl<N: Store, const C: u8> Replica<N, C> {
         }
     }
 
-    /// What its pass keeps: what it has seen is legal, and its own entries are those seen under the copy's number.
+    /// What it keeps: what its pass has seen is legal, its own entries are those seen under the copy's number, and the grant
+    /// in hand may be made next.
     pub(crate) fn known(&self)
         ensures legal { Legal (setting_of N.table N.base) self.now.pass.seen }
         ensures mine { self.now.pass.mine ≡ entries_of (copy_seat C) self.now.pass.seen }
+        ensures may { IfSome self.now.hand (MayGrant (setting_of N.table N.base)
+            self.now.pass.seen (copy_seat C) C) }
     {
         self.pass.known();
     }

@@ -17,6 +17,7 @@ ghost use Rattle.qc_pass.specs.Entries.{IsOlder};
 ghost use Rattle.qc_site.specs.AtDesk.{unable_entry, IsGranted};
 ghost use Rattle.qc_site.specs.Log.{copies_of, journal_in};
 ghost use Rattle.qc_site.specs.Serving as words;
+ghost use Rattle.qc_site.specs.Since.{GrantsGrow};
 
 use crate::fault::{SiteNo, desk_no};
 use crate::site::Site;
@@ -130,6 +131,12 @@ impl<D: Disk, N: Store, const C: u8> Site<D, N, C> {
             (journal_in self.new.log) bodies }
         ensures grows { (bodies : List (List ℕ)) → Keeps (journal_in self.old.log) bodies
             → LosesNone (journal_in self.old.log) (journal_in self.new.log) }
+        ensures grown { (before : List (List ℕ)) (since : ℕ)
+            → KeepsGranted C before self.old.log self.old.replica
+            → GrantsGrow (setting_of N.table N.base) C before since self.old.log
+            self.old.replica.pass.seen
+            → GrantsGrow (setting_of N.table N.base) C before since self.new.log
+            self.new.replica.pass.seen }
         ensures cause { Costs (journal_in self.old.log) (journal_in self.new.log)
             (IsErrOf result ServeNo.Down) }
     {
@@ -193,6 +200,12 @@ impl<D: Disk, N: Store, const C: u8> Site<D, N, C> {
         ensures grows { (before : List (List ℕ))
             → KeepsGranted C before self.old.log self.old.replica
             → LosesNone (journal_in self.old.log) (journal_in self.new.log) }
+        ensures grown { (before : List (List ℕ)) (since : ℕ)
+            → KeepsGranted C before self.old.log self.old.replica
+            → GrantsGrow (setting_of N.table N.base) C before since self.old.log
+            self.old.replica.pass.seen
+            → GrantsGrow (setting_of N.table N.base) C before since self.new.log
+            self.new.replica.pass.seen }
         ensures cause { Costs (journal_in self.old.log) (journal_in self.new.log)
             (IsErrOf result ServeNo.Down) }
     {
@@ -283,6 +296,15 @@ impl<D: Disk, N: Store, const C: u8> Site<D, N, C> {
         ensures grows { (before : List (List ℕ))
             → KeepsGranted C before self.old.log self.old.replica
             → LosesNone (journal_in self.old.log) (journal_in self.new.log) }
+
+        // Since a moment each image had the records from before it, and behind them those of grants up to now; and none was
+        // lost.
+        ensures grown { (before : List (List ℕ)) (since : ℕ)
+            → KeepsGranted C before self.old.log self.old.replica
+            → GrantsGrow (setting_of N.table N.base) C before since self.old.log
+            self.old.replica.pass.seen
+            → GrantsGrow (setting_of N.table N.base) C before since self.new.log
+            self.new.replica.pass.seen }
 
         // Down is answered only where the disk's count of faults rose, Full only where the record would pass the limit,
         // and Strange only where it is strange. After another answer it is up with nothing in hand.

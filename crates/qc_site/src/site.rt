@@ -12,6 +12,7 @@ ghost use Rattle.qc_ledger.specs.Runs.{Costs, Falls, Leaves};
 ghost use Rattle.qc_pass.specs.Entries.{entries_of, IsOlder};
 ghost use Rattle.qc_site.specs.AtDesk.{OnlyLooks};
 ghost use Rattle.qc_site.specs.Log.{copies_of, journal_in};
+ghost use Rattle.qc_site.specs.Since.{GrantsGrow};
 ghost use Rattle.qc_site.specs.declared.fault.SiteNo.TheVariants.{Disk, Strange, Room};
 
 use crate::back::{BackNo, Strange};
@@ -229,6 +230,11 @@ impl<D: Disk, N: Store, const C: u8> Site<D, N, C> {
         ensures any_moment { Leaves (journal_in self.old.log) (journal_in self.new.log)
             (D.view (disk_of (journal_in self.old.log))).may_leave }
         ensures falls { Falls (journal_in self.old.log) (journal_in self.new.log) }
+        ensures grown { (before : List (List ℕ)) (since : ℕ)
+            → GrantsGrow (setting_of N.table N.base) C before since self.old.log
+            self.old.replica.pass.seen
+            → GrantsGrow (setting_of N.table N.base) C before since self.new.log
+            self.new.replica.pass.seen }
         ensures cause { Costs (journal_in self.old.log) (journal_in self.new.log)
             (IsErrOf result SiteNo.Disk) }
     {

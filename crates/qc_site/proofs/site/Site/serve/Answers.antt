@@ -2,10 +2,12 @@
 use Rattle.std.proofs.Common.{sym, ap, ◌∙◌, subst}
 use Rattle.std.specs.Prelude.{is_some}
 use Rattle.qc_ledger.specs.Runs.{LosesNone}
+use Rattle.qc_event.specs.Tables.{setting_of}
 use Rattle.qc_pass.proofs.Seers.{older_trans}
 use Rattle.qc_site.specs.Log.{copies_of, journal_in}
 use Rattle.qc_site.specs.Sites.{GrowsByGrant}
 use Rattle.qc_ledger.proofs.Passes.{sees_on}
+use Rattle.qc_site.proofs.Since.{grants_on}
 use Rattle.qc_site.proofs.site.Site.serve.Goals as goal
 
 pub returns-in_err-unable-in-Err-Down-clause-over : goal.returns-in_err-unable-in-Err-Down-clause-over
@@ -127,3 +129,39 @@ returns-in_ok-unable-in-Err-Strange-clause-seen g c = older_trans c.args.self.no
 
 pub returns-in_ok-unable-in-Err-Strange-clause-seer : goal.returns-in_ok-unable-in-Err-Strange-clause-seer
 returns-in_ok-unable-in-Err-Strange-clause-seer g c = sees_on c.args.seer.now c.try_serve.new.seer c.unable-in-Err-Strange.new.seer c.try_serve.ensures.seer c.unable-in-Err-Strange.ensures.seer
+
+pub returns-in_err-unable-in-Err-Down-clause-grown : goal.returns-in_err-unable-in-Err-Down-clause-grown
+returns-in_err-unable-in-Err-Down-clause-grown g c = λ before since k grown.
+    let tried = c.try_serve.new.self in
+    let now = c.unable.new.self in
+    grants_on (setting_of g.N.Store.table g.N.Store.base) g.row.C before since tried.log now.log tried.replica.pass.seen now.replica.pass.seen (ap journal_in c.unable.ensures.log) c.unable.ensures.seen (c.try_serve.ensures.grown before since k grown)
+
+pub returns-in_ok-unable-in-Err-Down-clause-grown : goal.returns-in_ok-unable-in-Err-Down-clause-grown
+returns-in_ok-unable-in-Err-Down-clause-grown g c = λ before since k grown.
+    let tried = c.try_serve.new.self in
+    let now = c.unable.new.self in
+    grants_on (setting_of g.N.Store.table g.N.Store.base) g.row.C before since tried.log now.log tried.replica.pass.seen now.replica.pass.seen (ap journal_in c.unable.ensures.log) c.unable.ensures.seen (c.try_serve.ensures.grown before since k grown)
+
+pub returns-in_err-unable-in-Err-Full-clause-grown : goal.returns-in_err-unable-in-Err-Full-clause-grown
+returns-in_err-unable-in-Err-Full-clause-grown g c = λ before since k grown.
+    let tried = c.try_serve.new.self in
+    let now = c.unable-in-Err-Full.new.self in
+    grants_on (setting_of g.N.Store.table g.N.Store.base) g.row.C before since tried.log now.log tried.replica.pass.seen now.replica.pass.seen (ap journal_in c.unable-in-Err-Full.ensures.log) c.unable-in-Err-Full.ensures.seen (c.try_serve.ensures.grown before since k grown)
+
+pub returns-in_ok-unable-in-Err-Full-clause-grown : goal.returns-in_ok-unable-in-Err-Full-clause-grown
+returns-in_ok-unable-in-Err-Full-clause-grown g c = λ before since k grown.
+    let tried = c.try_serve.new.self in
+    let now = c.unable-in-Err-Full.new.self in
+    grants_on (setting_of g.N.Store.table g.N.Store.base) g.row.C before since tried.log now.log tried.replica.pass.seen now.replica.pass.seen (ap journal_in c.unable-in-Err-Full.ensures.log) c.unable-in-Err-Full.ensures.seen (c.try_serve.ensures.grown before since k grown)
+
+pub returns-in_err-unable-in-Err-Strange-clause-grown : goal.returns-in_err-unable-in-Err-Strange-clause-grown
+returns-in_err-unable-in-Err-Strange-clause-grown g c = λ before since k grown.
+    let tried = c.try_serve.new.self in
+    let now = c.unable-in-Err-Strange.new.self in
+    grants_on (setting_of g.N.Store.table g.N.Store.base) g.row.C before since tried.log now.log tried.replica.pass.seen now.replica.pass.seen (ap journal_in c.unable-in-Err-Strange.ensures.log) c.unable-in-Err-Strange.ensures.seen (c.try_serve.ensures.grown before since k grown)
+
+pub returns-in_ok-unable-in-Err-Strange-clause-grown : goal.returns-in_ok-unable-in-Err-Strange-clause-grown
+returns-in_ok-unable-in-Err-Strange-clause-grown g c = λ before since k grown.
+    let tried = c.try_serve.new.self in
+    let now = c.unable-in-Err-Strange.new.self in
+    grants_on (setting_of g.N.Store.table g.N.Store.base) g.row.C before since tried.log now.log tried.replica.pass.seen now.replica.pass.seen (ap journal_in c.unable-in-Err-Strange.ensures.log) c.unable-in-Err-Strange.ensures.seen (c.try_serve.ensures.grown before since k grown)

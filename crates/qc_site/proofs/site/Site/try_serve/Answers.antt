@@ -1,4 +1,4 @@
-use Rattle.std.proofs.Common.{◌≡◌, ◌++◌, map, sym, ap, ◌∙◌, subst}
+use Rattle.std.proofs.Common.{◌≡◌, ◌++◌, map, refl, sym, ap, ◌∙◌, subst}
 use Rattle.std.specs.Prelude.{Ok, None, Some, is_some}
 use Rattle.qc_ledger.specs.Runs.{HasOrMore, Leaves}
 use Rattle.qc_pass.proofs.Consulting.{asked_later}
@@ -6,6 +6,7 @@ use Rattle.qc_pass.proofs.Seers.{older_trans}
 use Rattle.qc_copy.specs.State.{grant_with}
 use Rattle.qc_event.specs.Base.{no_tuple}
 use Rattle.qc_event.specs.History.{grants}
+use Rattle.qc_event.specs.Tables.{setting_of}
 use Rattle.qc_event.specs.declared.event.Answered.TheVariants.{Granted}
 use Rattle.qc_journal.specs.Journal.{disk_of}
 use Rattle.qc_site.specs.AtDesk.{IsGranted}
@@ -17,6 +18,7 @@ use Rattle.qc_ledger.proofs.Passes.{sees_on}
 use Rattle.std.proofs.lemmas.Option.{same_Some}
 use Rattle.qc_site.proofs.Logs.{cause_on, falls_grow, same_over}
 use Rattle.qc_site.proofs.Refusals.{site_down}
+use Rattle.qc_site.proofs.Since.{grants_risen}
 use Rattle.qc_site.proofs.site.Site.try_serve.Goals as goal
 
 pub returns-in-Err-clause-again : goal.returns-in-Err-clause-again
@@ -117,3 +119,25 @@ returns-clause-cause g c = cause_on _ _ _ _ _ c.rise.ensures.cause c.grant.ensur
 
 pub returns-clause-asked : goal.returns-clause-asked
 returns-clause-asked g c = asked_later c.again.new.seer.seen c.grant.new.seer.seen c.args.ask.now c.grant.ensures.seer.older c.again.ensures.asked
+
+pub returns-in-Err-clause-grown : goal.returns-in-Err-clause-grown
+returns-in-Err-clause-grown g c = λ before since k grown.
+    let old = c.args.self.now in
+    let mid = c.rise.new.self in
+    grants_risen (setting_of g.N.Store.table g.N.Store.base) g.row.C before since old.log mid.log mid.log old.replica.pass.seen mid.replica.pass.seen (g.met.D.Disk.leaves_now (disk_of (journal_in old.log))) c.rise.ensures.any_moment c.rise.ensures.falls refl
+    c.rise.ensures.seen grown
+
+pub returns-in-Some-clause-grown : goal.returns-in-Some-clause-grown
+returns-in-Some-clause-grown g c = λ before since k grown.
+    let old = c.args.self.now in
+    let mid = c.rise.new.self in
+    grants_risen (setting_of g.N.Store.table g.N.Store.base) g.row.C before since old.log mid.log mid.log old.replica.pass.seen c.again.new.self.pass.seen (g.met.D.Disk.leaves_now (disk_of (journal_in old.log))) c.rise.ensures.any_moment c.rise.ensures.falls refl
+    (older_trans old.replica.pass.seen mid.replica.pass.seen c.again.new.self.pass.seen c.rise.ensures.seen c.again.ensures.looks.older) grown
+
+pub returns-clause-grown : goal.returns-clause-grown
+returns-clause-grown g c = λ before since k grown.
+    let old = c.args.self.now in
+    let mid = c.rise.new.self in
+    c.grant.ensures.grown before since (same_over before mid.log _ _ _ _ c.again.ensures.looks.same_grants c.again.ensures.hand (c.rise.ensures.over before k))
+    (grants_risen (setting_of g.N.Store.table g.N.Store.base) g.row.C before since old.log mid.log mid.log old.replica.pass.seen c.again.new.self.pass.seen (g.met.D.Disk.leaves_now (disk_of (journal_in old.log))) c.rise.ensures.any_moment c.rise.ensures.falls refl
+    (older_trans old.replica.pass.seen mid.replica.pass.seen c.again.new.self.pass.seen c.rise.ensures.seen c.again.ensures.looks.older) grown)
