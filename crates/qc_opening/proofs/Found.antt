@@ -12,7 +12,10 @@ use Rattle.qc_event.specs.declared.table.Table.{Table}
 use Rattle.qc_event.specs.Base.{start_tuple}
 use Rattle.qc_event.specs.Tables.{base_of}
 use Rattle.qc_journal.specs.Journal.{disk_of}
+use Rattle.qc_journal.specs.Image.{HasRecords}
 use Rattle.qc_ledger.specs.Mounted as book
+use Rattle.qc_ledger.proofs.Logging.{up_by}
+use Rattle.qc_ledger.proofs.Writing.{kept_has}
 use Rattle.qc_ledger.specs.declared.book.Book.{Book}
 use Rattle.qc_mount.specs.Mounted.{copy_disk, IsCopy}
 use Rattle.qc_mount.specs.declared.parts.Parts.{Parts}
@@ -23,6 +26,7 @@ use Rattle.qc_standing.specs.Mountings.{AreBytes, IsMounted}
 use Rattle.qc_system.specs.Parts.{AreMounted, Findings, IsFound}
 use Rattle.qc_system.specs.Parts as system
 use Rattle.qc_opening.specs.Parts.{IsStoreOver}
+use Rattle.qc_opening.specs.Stored.{WasMounted}
 use Rattle.qc_opening.proofs.Places.{all_at, at_place, get_next, mapped_at, pair_at}
 
 -- what disks that told this told, by their numbers
@@ -38,12 +42,17 @@ module _ {D : Type 0} {g : Ghosts D} where
   abbrev pub faults_found : Book D g → List (Mounted D g) → ℕ → ℕ
   faults_found ledger copies number = slice_index_or ((g.view (disk_of (book.journal_of ledger))).faults ∷ map (λ m. (g.view (copy_disk m)).faults) copies) number 0
 
+  -- the moment of each disk
+  abbrev pub moments_found : Book D g → List (Mounted D g) → ℕ → ℕ
+  moments_found ledger copies number = slice_index_or ((g.view (disk_of (book.journal_of ledger))).moment ∷ map (λ m. (g.view (copy_disk m)).moment) copies) number 0
+
   abbrev pub found_of : List (Option (List ℕ)) → Book D g → List (Mounted D g) → List (List Tuple) → Findings
   found_of told ledger copies base = record {
     base = base;
     told = λ number. is_some (told_by told number);
     before = bodies_found ledger copies;
     faults = faults_found ledger copies;
+    moment = moments_found ledger copies;
   }
 
   -- the copies from one on were mounted so, where each was
@@ -65,6 +74,7 @@ module _ {D : Type 0} {g : Ghosts D} where
       pub disk_told : told_by told (i + 1) ≡ (g.view disk).content
       pub bodies : bodies_found parts.book parts.copies.items (i + 1) ≡ copy.records_of m
       pub faults : faults_found parts.book parts.copies.items (i + 1) ≡ (g.view (copy_disk m)).faults
+      pub moment : moments_found parts.book parts.copies.items (i + 1) ≡ (g.view (copy_disk m)).moment
 
     pub copy_at : (i : ℕ) (m : Mounted D g) → slice_get parts.copies.items i ≡ Some m → IsAt i m
     copy_at i m is =
@@ -78,16 +88,37 @@ module _ {D : Type 0} {g : Ghosts D} where
               ∙ (get_next (g.view store.mounted.ledger_disk).content (map (λ d. (g.view d).content) store.mounted.copy_disks) i None ∙ mapped_at (λ d. (g.view d).content) store.mounted.copy_disks i disk None there));
           bodies = get_next (book.records_of parts.book) (map copy.records_of parts.copies.items) i [] ∙ mapped_at copy.records_of parts.copies.items i m [] is;
           faults = get_next (g.view (disk_of (book.journal_of parts.book))).faults (map (λ x. (g.view (copy_disk x)).faults) parts.copies.items) i 0 ∙ mapped_at (λ x. (g.view (copy_disk x)).faults) parts.copies.items i m 0 is;
+          moment = get_next (g.view (disk_of (book.journal_of parts.book))).moment (map (λ x. (g.view (copy_disk x)).moment) parts.copies.items) i 0 ∙ mapped_at (λ x. (g.view (copy_disk x)).moment) parts.copies.items i m 0 is;
         }
 
     -- THE SYSTEM
 
-    pub ledger_found : IsFound (is_some (told_by told 0)) (bodies_found parts.book parts.copies.items 0) (faults_found parts.book parts.copies.items 0) (book.records_of parts.book) (book.journal_of parts.book)
+    pub ledger_found : IsFound (is_some (told_by told 0)) (bodies_found parts.book parts.copies.items 0) (faults_found parts.book parts.copies.items 0) (moments_found parts.book parts.copies.items 0) (book.records_of parts.book) (book.journal_of parts.book)
     ledger_found = record {
       same = refl;
       keeps = λ tells. store.mounted.ledger_is.keeps (sym (ap is_some ledger_told) ∙ tells);
       count = refl;
+      at = refl;
     }
+
+    -- each disk as it was mounted
+    pub was_found : (number : ℕ) → number ≤ table.copies → WasMounted g.view (moments_found parts.book parts.copies.items number) (bodies_found parts.book parts.copies.items number) (told_by told number)
+    was_found zero low = record {
+      disk = disk_of (book.journal_of parts.book);
+      at = refl;
+      tells = λ tells. ap is_some (ledger_found.keeps tells).told;
+      had = λ tells image left. kept_has (book.journal_of parts.book) (book.records_of parts.book) image (up_by (book.journal_of parts.book).state parts.book.up) (ledger_found.keeps tells) left;
+    }
+    was_found (suc i) low =
+        let (m, is) = at_place parts.copies.items i (omega (arith, low, all)) in
+        let at = copy_at i m is in
+        let next : i + 1 ≡ suc i = omega arith in
+        subst (λ n. WasMounted g.view (moments_found parts.book parts.copies.items n) (bodies_found parts.book parts.copies.items n) (told_by told n)) next (record {
+          disk = copy_disk m;
+          at = at.moment;
+          tells = λ tells. ap is_some (at.is_copy.keeps (sym (ap is_some at.disk_told) ∙ tells)).told;
+          had = λ tells image left. subst (λ bs. HasRecords bs image) (sym at.bodies) (kept_has (copy.journal_of m) (copy.records_of m) image (up_by (copy.journal_of m).state m.up) (at.is_copy.keeps (sym (ap is_some at.disk_told) ∙ tells)) left);
+        })
 
     module _ (base : List (List Tuple)) (rows : base ≡ map start_of parts.copies.items) where
       as_many : length base ≡ table.copies
@@ -104,6 +135,7 @@ module _ {D : Type 0} {g : Ghosts D} where
               same = at.bodies;
               keeps = λ tells. at.is_copy.keeps (sym (ap is_some at.disk_told) ∙ tells);
               count = at.faults;
+              at = at.moment;
             };
           }
 

@@ -6,3 +6,4 @@ pub mod Unboxed
 pub mod Told
 pub mod Leaving
 pub mod Ran
+pub mod Grown

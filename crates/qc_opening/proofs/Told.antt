@@ -106,13 +106,18 @@ module _ {D : Type 0} (view : D → View) (plan : ScriptPlan) (told offers : ℕ
   -- KEEPING
 
   abbrev found : (ℕ → Option (List ℕ)) → Findings
-  found by = record { base = stored.ended.start; told = λ number. is_some (by number); before = run.kept.records; faults = run.kept.faults }
+  found by = record { base = stored.ended.start; told = λ number. is_some (by number); before = run.kept.records; faults = run.kept.faults; moment = run.kept.moments }
 
   pub kept : HasKept view plan.table offers stored
   kept = record {
     records = run.kept.records;
     faults = run.kept.faults;
+    moments = run.kept.moments;
     mounted = mounted;
+    was = λ number low.
+        let w = run.kept.was number low in
+        let too : is_some (offers number) ≡ true → is_some (told number) ≡ true = λ some. some_too (offers number) (told number) (tells number low) some in
+        record { disk = w.disk; at = w.at; tells = λ some. w.tells (too some); had = λ some. w.had (too some) };
     kept = record {
       many = all.many;
       ledger = ledger all.ledger;
@@ -128,7 +133,11 @@ module _ {D : Type 0} (view : D → View) (plan : ScriptPlan) (told offers : ℕ
       ledger d = record {
         disk = d.disk;
         there = d.there;
-        kept = record { kept = ∥∥₁_map d.kept.kept (λ keeps some. keeps (some_too (offers 0) (told 0) (tells 0 (omega arith)) some)); paid = d.kept.paid };
+        kept = record {
+          kept = ∥∥₁_map d.kept.kept (λ keeps some. keeps (some_too (offers 0) (told 0) (tells 0 (omega arith)) some));
+          grown = ∥∥₁_map d.kept.grown (λ grown some. grown (some_too (offers 0) (told 0) (tells 0 (omega arith)) some));
+          paid = d.kept.paid;
+        };
       }
 
       copy_kept : (copy : ℕ) → copy < length stored.ended.start → DiskKeeps (setting_of plan.table stored.ended.start) (found told) view stored.ended.disks.items (copy + 1) (CopyKeeps (setting_of plan.table stored.ended.start) (found told) copy) (past_of stored)
@@ -138,6 +147,7 @@ module _ {D : Type 0} (view : D → View) (plan : ScriptPlan) (told offers : ℕ
         there = d.there;
         kept = record {
           kept = ∥∥₁_map d.kept.kept (λ keeps some. keeps (some_too (offers (copy + 1)) (told (copy + 1)) (tells (copy + 1) (omega (arith, there, run.kept.mounted.as_many))) some));
+          grown = ∥∥₁_map d.kept.grown (λ grown some. grown (some_too (offers (copy + 1)) (told (copy + 1)) (tells (copy + 1) (omega (arith, there, run.kept.mounted.as_many))) some));
           paid = d.kept.paid;
         };
       }

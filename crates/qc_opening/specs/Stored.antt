@@ -1,18 +1,24 @@
 -- What a session left of a store, and what its disks have to do with its history.
-use Rattle.std.specs.Prelude.{ℕ, ◌≡◌, ◌+◌, ◌<◌, ◌≤◌, ◌^◌, List, length, reverse, Option, Some, IsSome, is_some, OnOk, IsErrOf, Result, Ok, Err, slice_get}
+use Rattle.std.specs.Prelude.{ℕ, zero, suc, true, ◌≡◌, ◌+◌, ◌<◌, ◌≤◌, ◌^◌, List, length, reverse, Option, Some, IsSome, is_some, OnOk, IsErrOf, Result, Ok, Err, slice_get}
+use Rattle.qc_config.specs.declared.tuple.Tuple.{Tuple}
 use Rattle.qc_disk.specs.Disk.{View}
 use Rattle.qc_event.specs.declared.log.Short.TheVariants.{Room}
 use Rattle.qc_event.specs.declared.table.Table.{Table}
+use Rattle.qc_event.specs.Base.{Setting}
 use Rattle.qc_event.specs.History.{Past, limit}
 use Rattle.qc_event.specs.Legal.{Legal}
+use Rattle.qc_event.specs.Listed.{listed}
 use Rattle.qc_event.specs.Tables.{setting_of}
 use Rattle.qc_interp.specs.FollowsScript.{BeginsScript, FollowsScript}
+use Rattle.qc_journal.specs.Image.{HasRecords}
+use Rattle.qc_ledger.specs.Since.{AreTopsBy, GrownSince}
 use Rattle.qc_mount.specs.Numbered.{PairsFrom}
 use Rattle.qc_mount.specs.Refusing.{disks_in}
 use Rattle.qc_mount.specs.declared.refusing.MountNo.{MountNo}
 use Rattle.qc_pass.specs.Entries.{entries_of}
 use Rattle.qc_script.specs.Plan.{ScriptPlan}
 use Rattle.qc_session.specs.Session.{net_of}
+use Rattle.qc_site.specs.Since.{AreGrantsBy}
 use Rattle.qc_standing.specs.Mountings.{IsMounted}
 use Rattle.qc_system.specs.Closing.{AllKeep}
 use Rattle.qc_system.specs.Kept.{Pays, downs}
@@ -35,6 +41,11 @@ returned (Err refused) = length (disks_in refused)
 abbrev pub AllTell : ℕ → (ℕ → Option (List ℕ)) → Type 0
 AllTell copies told = (number : ℕ) → number ≤ copies → IsSome (told number)
 
+-- bodies are those of a run, up to some time: on the ledger's disk of tops, on a copy's of its grants
+abbrev pub AreOfRun : Setting → ℕ → Past → List (List ℕ) → Type 0
+AreOfRun setting zero past = AreTopsBy (listed past) past
+AreOfRun setting (suc copy) past = AreGrantsBy setting copy past
+
 module _ {D : Type 0} (view : D → View) where
   -- images are of disks, one of each in their order: each is what a crash may leave
   abbrev pub AreImages : List D → List (List ℕ) → Type 0
@@ -45,18 +56,41 @@ module _ {D : Type 0} (view : D → View) where
   abbrev pub HavePaid : List D → Past → Type 0
   HavePaid disks past = (number : ℕ) (disk : D) → slice_get disks number ≡ Some disk → Pays 0 (downs (entries_of (number + 1) past)) (view disk).faults
 
+  -- A disk as it was when its mounting had ended: this was its moment, and where it had told its bytes it told them still, and a crash left these records of it.
+  pub record WasMounted (moment : ℕ) (records : List (List ℕ)) (told : Option (List ℕ)) : Type 0 where
+    pub disk : D
+    pub at : moment ≡ (view disk).moment
+    pub tells : is_some told ≡ true → IsSome (view disk).content
+    pub had : is_some told ≡ true → (image : List ℕ) → (view disk).may_leave image → HasRecords records image
+
   -- A store was mounted over disks that told this, and its copies started so. Each disk that is left keeps, where it told its
-  -- bytes, the records of the mounting, and then what the history tells.
+  -- bytes, the records of the mounting, and then what the history tells; and so it did at each moment since.
   pub record HasKept (table : Table) (told : ℕ → Option (List ℕ)) (stored : Stored D) : Type 0 where
     pub records : ℕ → List (List ℕ)
     pub faults : ℕ → ℕ
+    pub moments : ℕ → ℕ
     pub mounted : IsMounted table told records stored.epoch stored.ended.start
+    pub was : (number : ℕ) → number ≤ table.copies → WasMounted (moments number) (records number) (told number)
     pub kept : AllKeep (setting_of table stored.ended.start) (record {
       base = stored.ended.start;
       told = λ number. is_some (told number);
       before = records;
       faults = faults;
+      moment = moments;
     }) view stored.ended.disks.items (reverse stored.ended.trail.items)
+
+  -- A disk has grown since its mounting: the disk as it was then told its bytes, and a crash left these records of it and no others; at each moment since, these and behind them some of which this is so; and no record was lost again.
+  pub record HasGrown (before : List (List ℕ)) (May : List (List ℕ) → Type 0) (disk : D) : Type 0 where
+    pub first : D
+    pub tells : IsSome (view first).content
+    pub had : (image : List ℕ) → (view first).may_leave image → HasRecords before image
+    pub grown : GrownSince (view first).moment before May (view disk)
+
+  -- A store was mounted over disks that told this, for an epoch, and its copies started so. Each disk that told its bytes has grown since by records of the run.
+  pub record HaveGrown (table : Table) (told : ℕ → Option (List ℕ)) (epoch : ℕ) (start : List (List Tuple)) (disks : List D) (past : Past) : Type 0 where
+    pub records : ℕ → List (List ℕ)
+    pub mounted : IsMounted table told records epoch start
+    pub grown : (number : ℕ) (disk : D) → slice_get disks number ≡ Some disk → is_some (told number) ≡ true → ∥ HasGrown (records number) (AreOfRun (setting_of table start) number past) disk ∥₁
 
   -- A session ran over a store that was mounted over disks that told this: all that is known of what it left.
   pub record HasRun (plan : ScriptPlan) (told : ℕ → Option (List ℕ)) (stored : Stored D) : Type 0 where

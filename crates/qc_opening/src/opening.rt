@@ -9,7 +9,7 @@ ghost use Rattle.qc_interp.specs.FollowsScript.{FollowsScript, BeginsScript};
 ghost use Rattle.qc_mount.specs.Images.{AreSound, Offers};
 ghost use Rattle.qc_mount.specs.Obtained.{IsNotGiven};
 ghost use Rattle.qc_mount.specs.Refusing.{ComeBack, IsFaultOf, IsNotMounted};
-ghost use Rattle.qc_opening.specs.Stored.{disks_of, past_of, returned, AllTell, AreImages, HasKept, HavePaid};
+ghost use Rattle.qc_opening.specs.Stored.{disks_of, past_of, returned, AllTell, AreImages, HasKept, HaveGrown, HavePaid};
 ghost use Rattle.qc_refine.specs.Images.{IsStanding, Restores};
 ghost use Rattle.qc_script.specs.Reading.{IsProper};
 ghost use Rattle.qc_script.specs.Steps.{plan_of_script};
@@ -70,8 +70,9 @@ where
         → IfOk result (λ stored. stored.ended.start ≡ base_of script.now.table) }
 
     // Each disk keeps what was found on it, and then what the history tells, where the shop told its bytes. Where it told
-    // those of all, whatever a crash leaves of them stands beside the history. For each failure of a disk that the history
-    // tells, the disk has counted a fault.
+    // those of all, whatever a crash leaves of them stands beside the history. At each moment since a disk was mounted a
+    // crash left the records of then, and behind them those of the run up to some time; and no record was lost again. For
+    // each failure of a disk that the history tells, the disk has counted a fault.
     ensures kept { IfOk result (HasKept H.D.view script.now.table
         ((H.view shop.old).offers place.now)) }
     ensures stands { AllTell script.now.table.copies ((H.view shop.old).offers place.now)
@@ -79,6 +80,9 @@ where
         → AreImages H.D.view (disks_of stored) images
         → ∥ IsStanding script.now.table stored.ended.start stored.epoch (past_of stored)
         images ∥₁) }
+    ensures grown { IfOk result (λ stored. HaveGrown H.D.view script.now.table
+        ((H.view shop.old).offers place.now) stored.epoch stored.ended.start (disks_of stored)
+        (past_of stored)) }
     ensures paid { IfOk result (λ stored. HavePaid H.D.view (disks_of stored) (past_of stored)) }
 
     // Where the shop tells the bytes of all disks, none of them has a fault, or the answer is the first.

@@ -49,7 +49,7 @@ fn run_named<R: Wait, D: Disk + Drop, N: Mounting>(
     requires whole { length N.base ≡ script.now.table.copies }
     requires none { parts.room.items ≡ [] }
     requires room { 17 ≤ vec_capacity parts.room }
-    requires ledger { IsFound (N.told 0) (N.before 0) (N.faults 0)
+    requires ledger { IsFound (N.told 0) (N.before 0) (N.faults 0) (N.moment 0)
         (book.records_of parts.book) (book.journal_of parts.book) }
     requires many { length parts.copies.items ≡ length N.base }
     requires copies { AreMounted (record {
@@ -57,6 +57,7 @@ fn run_named<R: Wait, D: Disk + Drop, N: Mounting>(
       told = N.told;
       before = N.before;
       faults = N.faults;
+      moment = N.moment;
     }) 0 parts.copies.items }
     ensures start { result.start ≡ N.base }
     ensures legal { Legal (setting_of N.table N.base) (reverse result.trail.items) }
@@ -72,6 +73,7 @@ fn run_named<R: Wait, D: Disk + Drop, N: Mounting>(
       told = N.told;
       before = N.before;
       faults = N.faults;
+      moment = N.moment;
     }) D.view result.disks.items (reverse result.trail.items) }
 {
     let (system, first) = System::<D, N>::open(rt, parts);

@@ -119,6 +119,7 @@ pub fn run_session<R: Wait, D: Disk + Drop, N: Mounting>(
       told = N.told;
       before = N.before;
       faults = N.faults;
+      moment = N.moment;
     }) D.view result.disks.items (reverse result.trail.items) }
 {
     let mut first = first;

@@ -9,6 +9,7 @@ use Rattle.qc_disk.specs.Disk.{View as Disk}
 use Rattle.qc_event.specs.Base.{Setting}
 use Rattle.qc_event.specs.History.{Past}
 use Rattle.qc_event.specs.Legal.{Legal}
+use Rattle.qc_event.specs.Listed.{listed}
 use Rattle.qc_event.specs.Seats.{copy_seat, ledger_seat}
 use Rattle.qc_pass.specs.declared.view.View.{View}
 use Rattle.qc_pass.specs.Entries.{IsOlder, entries_of}
@@ -18,7 +19,12 @@ use Rattle.qc_pass.proofs.Seers.{older_trans}
 use Rattle.qc_system.specs.Closing.{AllKeep, CopyKeeps, DiskKeeps, HaveLeft, Keeping, LedgerKeeps, WasLeft}
 use Rattle.qc_system.specs.Kept.{Pays, downs}
 use Rattle.qc_system.specs.Parts.{Findings, IsClosing, IsThere}
+use Rattle.qc_ledger.specs.Since.{AreTopsBy}
+use Rattle.qc_ledger.proofs.Since.{grown_more}
+use Rattle.qc_site.specs.Since.{AreGrantsBy}
+use Rattle.qc_site.proofs.Since.{grants_later}
 use Rattle.qc_system.proofs.Left.{keeps_grants_later, keeps_tops_later}
+use Rattle.qc_system.proofs.Listed.{tops_told_later}
 
 module _ {A : Type 0} where
   get_left : (xs ys : List A) (i : ℕ) (x : A) → slice_get xs i ≡ Some x → slice_get (xs ++ ys) i ≡ Some x
@@ -123,6 +129,7 @@ module _ (setting : Setting) (found : Findings) {D : Type 0} (view : D → Disk)
           there = was.there;
           kept = record {
             kept = ∥∥₁_map was.kept.kept (λ k told. keeps_tops_later setting was.seen log since legal was.legal own (found.before 0) (view was.disk).may_leave (k told));
+            grown = ∥∥₁_map was.kept.grown (λ k told. grown_more (found.moment 0) (found.before 0) (AreTopsBy (listed was.seen) was.seen) (AreTopsBy (listed log) log) (view was.disk) (λ bodies are. tops_told_later setting was.seen log since legal was.legal bodies are) (k told));
             paid = subst (λ p. Pays (found.faults 0) (downs p) (view was.disk).faults) (sym own) was.kept.paid;
           };
         }
@@ -136,6 +143,7 @@ module _ (setting : Setting) (found : Findings) {D : Type 0} (view : D → Disk)
           there = was.there;
           kept = record {
             kept = ∥∥₁_map was.kept.kept (λ kept told. keeps_grants_later setting k was.seen log since legal own all (found.before (k + 1)) (view was.disk).may_leave (kept told));
+            grown = ∥∥₁_map was.kept.grown (λ kept told. grown_more (found.moment (k + 1)) (found.before (k + 1)) (AreGrantsBy setting k was.seen) (AreGrantsBy setting k log) (view was.disk) (λ bodies are. grants_later setting k was.seen log bodies since are) (kept told));
             paid = subst (λ p. Pays (found.faults (k + 1)) (downs p) (view was.disk).faults) (sym own) was.kept.paid;
           };
         }

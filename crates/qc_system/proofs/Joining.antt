@@ -1,7 +1,5 @@
 -- What the first pass has once the passes of the ledger and of the copies are joined into it.
-use Rattle.std.proofs.Common.{◌≡◌, ℕ, ◌<◌, ◌≤◌, ◌⊎◌, inl, inr, List, [], ◌∷◌, ◌++◌, refl, sym, ap, ◌∙◌, arith, subst}
-use mathlib.Core.Option.{some}
-use lib.ListN.{get_elem?}
+use Rattle.std.proofs.Common.{◌≡◌, ℕ, ◌<◌, ◌≤◌, ◌⊎◌, inl, inr, [], ◌∷◌, ◌++◌, refl, sym, ap, ◌∙◌, arith, subst}
 use Rattle.qc_event.specs.History.{Past}
 use Rattle.qc_pass.specs.declared.view.View.{View}
 use Rattle.qc_pass.specs.Entries.{entries_of}

@@ -6,26 +6,29 @@ use Rattle.qc_event.specs.declared.event.Entry.{Entry}
 use Rattle.qc_event.specs.declared.event.Event.{Event}
 use Rattle.qc_event.specs.declared.event.Event.TheVariants as event
 use Rattle.qc_event.specs.declared.event.Why.TheVariants as why
+use Rattle.qc_event.specs.Base.{Setting}
 use Rattle.qc_event.specs.History.{Past, Name, limit}
 use Rattle.qc_event.specs.Listed.{listed}
 use Rattle.qc_event.specs.Requests.{was_unable}
 use Rattle.qc_ledger.specs.Entered.{IsOver, tops_of}
+use Rattle.qc_ledger.specs.Since.{TopsGrow}
 use Rattle.qc_ledger.specs.declared.fault.LedgerNo.{LedgerNo}
 use Rattle.qc_ledger.specs.declared.fault.LedgerNo.TheVariants as no
 use Rattle.qc_ledger.specs.declared.shelf.Shelf.{Shelf}
 use Rattle.qc_pass.specs.declared.view.View.{View}
 use Rattle.qc_site.specs.Replica.{Standing}
+use Rattle.qc_site.specs.Since.{GrantsGrow}
 use Rattle.qc_site.specs.Sites.{KeepsGranted}
 use Rattle.qc_site.specs.declared.log.GrantLog.{GrantLog}
 
--- where a copy's disk tells its bytes, it keeps what was found there, and what the copy granted since
-abbrev pub KeepsSince : {D : Type 0} {g : Ghosts D} → ℕ → Bool → List (List ℕ) → GrantLog D g → Standing → Type 0
-KeepsSince copy told before log standing = told ≡ true → KeepsGranted copy before log standing
+-- where a copy's disk tells its bytes, it keeps what was found there, and what the copy granted since; and it did at each moment
+abbrev pub KeepsSince : {D : Type 0} {g : Ghosts D} → Setting → ℕ → Bool → List (List ℕ) → ℕ → GrantLog D g → Standing → Type 0
+KeepsSince setting copy told before since log standing = told ≡ true → KeepsGranted copy before log standing × GrantsGrow setting copy before since log standing.pass.seen
 
 -- where the ledger's disk tells its bytes, it keeps what was found there, and the tops that were committed since, with the
--- names that are listed of each
-abbrev pub TopsSince : {D : Type 0} {g : Ghosts D} → Bool → List (List ℕ) → Shelf D g → View → Type 0
-TopsSince told before shelf pass = told ≡ true → IsOver (listed pass.seen) before shelf (tops_of pass.mine)
+-- names that are listed of each; and it did at each moment
+abbrev pub TopsSince : {D : Type 0} {g : Ghosts D} → Bool → List (List ℕ) → ℕ → Shelf D g → View → Type 0
+TopsSince told before since shelf pass = told ≡ true → IsOver (listed pass.seen) before shelf (tops_of pass.mine) × TopsGrow (listed pass.seen) before since shelf pass.seen
 
 -- what a ledger's refusal of a top rests on: that it was unable to log it, for this reason
 abbrev pub HasRefused : Past → Name → LedgerNo → Type 0

@@ -36,11 +36,12 @@ pub record JoinsLow (v w : View) : Type 0 where
 abbrev pub IsThere : ℕ → ℕ → Bool → Type 0
 IsThere copy all there = (copy < all → there ≡ true) × (all ≤ copy → there ≡ false)
 
--- What was found on a disk: its records, which it keeps where it tells its bytes, and its count of faults.
-pub record IsFound {D : Type 0} {g : Ghosts D} (told : Bool) (before : List (List ℕ)) (faults : ℕ) (records : List (List ℕ)) (journal : Journal D g) : Type 0 where
+-- What was found on a disk: its records, which it keeps where it tells its bytes, its count of faults, and its moment.
+pub record IsFound {D : Type 0} {g : Ghosts D} (told : Bool) (before : List (List ℕ)) (faults moment : ℕ) (records : List (List ℕ)) (journal : Journal D g) : Type 0 where
   pub same : before ≡ records
   pub keeps : told ≡ true → Keeps journal records
   pub count : faults ≡ (g.view (disk_of journal)).faults
+  pub at : moment ≡ (g.view (disk_of journal)).moment
 
 -- What was found of all disks, by their numbers, and with what the copies start.
 pub record Findings : Type 0 where
@@ -48,13 +49,14 @@ pub record Findings : Type 0 where
   pub told : ℕ → Bool
   pub before : ℕ → List (List ℕ)
   pub faults : ℕ → ℕ
+  pub moment : ℕ → ℕ
 
 -- This copy was mounted so.
 pub record IsMounted {D : Type 0} {g : Ghosts D} (found : Findings) (copy : ℕ) (mounted : Mounted D g) : Type 0 where
   pub number : copy_of mounted ≡ copy
   pub many : copies_of mounted ≡ length found.base
   pub starts : start_of mounted ≡ slice_index_or found.base copy []
-  pub disk : IsFound (found.told (copy + 1)) (found.before (copy + 1)) (found.faults (copy + 1)) (records_of mounted) (journal_of mounted)
+  pub disk : IsFound (found.told (copy + 1)) (found.before (copy + 1)) (found.faults (copy + 1)) (found.moment (copy + 1)) (records_of mounted) (journal_of mounted)
 
 -- the copies from this one on were mounted so, in order
 abbrev pub AreMounted : {D : Type 0} {g : Ghosts D} → Findings → ℕ → List (Mounted D g) → Type 0

@@ -37,6 +37,7 @@ fn leave_at<D: Disk + Drop, N: Mounting, const C: u8, R: Wait>(
       told = N.told;
       before = N.before;
       faults = N.faults;
+      moment = N.moment;
     }) D.view C disks.old.items
         first.old }
     ensures first { IsClosing first.new }
@@ -48,6 +49,7 @@ fn leave_at<D: Disk + Drop, N: Mounting, const C: u8, R: Wait>(
       told = N.told;
       before = N.before;
       faults = N.faults;
+      moment = N.moment;
     }) D.view (C + 1) disks.new.items
         first.new }
 {
@@ -81,6 +83,7 @@ impl<D: Disk + Drop, N: Mounting> System<D, N> {
           told = N.told;
           before = N.before;
           faults = N.faults;
+          moment = N.moment;
         }) D.view
             result.2.items (reverse result.1.items) }
     {

@@ -24,14 +24,16 @@ use qc_pass::{Desk, Pass};
 use qc_site::{Mounted, Site};
 use std::sync::Wait;
 
-/// A copy's site in its lock. Its disk keeps what was found there at the mounting, and what the copy granted since.
+/// A copy's site in its lock. Its disk keeps what was found there at the mounting, and what the copy granted since; so it
+/// did at each moment since the mounting.
 #[derive(Drop)]
 pub(crate) struct Held<D: Disk + Drop, N: Mounting, const C: u8>
 where
     Boxed<D>: Disk,
 {
     pub(crate) site: Site<Boxed<D>, N, C>,
-    ghost keeps: { ∥ KeepsSince C (N.told (C + 1)) (N.before (C + 1)) site.log site.replica ∥₁ },
+    ghost keeps: { ∥ KeepsSince (setting_of N.table N.base) C (N.told (C + 1)) (N.before (C + 1))
+        (N.moment (C + 1)) site.log site.replica ∥₁ },
     ghost pays: { Pays (N.faults (C + 1)) (downs site.replica.pass.mine)
         (D.view (disk_of (journal_in site.log)).disk.value).faults },
 }
@@ -48,6 +50,7 @@ impl<D: Disk + Drop, N: Mounting, const C: u8> Held<D, N, C> {
           told = N.told;
           before = N.before;
           faults = N.faults;
+          moment = N.moment;
         }) C mounted }
     {
         Held {
@@ -101,6 +104,7 @@ impl<D: Disk + Drop, N: Mounting, const C: u8> Held<D, N, C> {
           told = N.told;
           before = N.before;
           faults = N.faults;
+          moment = N.moment;
         }) C (D.view result.0) result.1.seen }
     {
         let (disk, pass) = self.site.into_parts();

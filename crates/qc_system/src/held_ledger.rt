@@ -11,6 +11,7 @@ ghost use Rattle.qc_journal.specs.Journal.{disk_of};
 ghost use Rattle.qc_ledger.specs.Entered.{tops_of, IsOver, SeesMore};
 ghost use Rattle.qc_ledger.specs.Mounted.{journal_of, records_of};
 ghost use Rattle.qc_ledger.specs.Shelf.{journal_in};
+ghost use Rattle.qc_ledger.specs.Since.{TopsGrow};
 ghost use Rattle.qc_pass.specs.Entries.{entries_of};
 ghost use Rattle.qc_system.specs.Closing.{LedgerKeeps};
 ghost use Rattle.qc_system.specs.Kept.{HasRefused, Pays, TopsSince, downs};
@@ -25,14 +26,14 @@ use qc_pass::{Desk, Pass};
 use std::sync::Wait;
 
 /// The ledger in its lock. Its disk keeps what was found there at the mounting, and the tops that were committed since,
-/// each with the names that are listed of it.
+/// each with the names that are listed of it; so it did at each moment since the mounting.
 #[derive(Drop)]
 pub(crate) struct HeldLedger<D: Disk + Drop, N: Mounting>
 where
     Boxed<D>: Disk,
 {
     pub(crate) ledger: Ledger<Boxed<D>, N>,
-    ghost keeps: { ∥ TopsSince (N.told 0) (N.before 0) ledger.shelf ledger.pass ∥₁ },
+    ghost keeps: { ∥ TopsSince (N.told 0) (N.before 0) (N.moment 0) ledger.shelf ledger.pass ∥₁ },
     ghost pays: { Pays (N.faults 0) (downs ledger.pass.mine)
         (D.view (disk_of (journal_in ledger.shelf)).disk.value).faults },
 }
@@ -54,6 +55,12 @@ fn log_listed<D: Disk + Drop, N: Mounting, R: Wait>(
         → IsOver (listed ledger.old.pass.seen) before ledger.old.shelf (tops_of ledger.old.pass.mine)
         → IsOver (listed ledger.new.pass.seen) before ledger.new.shelf
         (tops_of ledger.new.pass.mine) }
+    ensures grown { (before : List (List ℕ)) (since : ℕ)
+        → IsOver (listed ledger.old.pass.seen) before ledger.old.shelf
+        (tops_of ledger.old.pass.mine)
+        → TopsGrow (listed ledger.old.pass.seen) before since ledger.old.shelf ledger.old.pass.seen
+        → TopsGrow (listed ledger.new.pass.seen) before since ledger.new.shelf
+        ledger.new.pass.seen }
     ensures pays { (first : ℕ) → Pays first (downs ledger.old.pass.mine)
         (D.view (disk_of (journal_in ledger.old.shelf))).faults
         → Pays first (downs ledger.new.pass.mine)
@@ -75,7 +82,7 @@ impl<D: Disk + Drop, N: Mounting> HeldLedger<D, N> {
     pub(crate) fn new(book: Book<Boxed<D>>, pass: Pass<N>) -> Self
         requires ledger { (pass.live ≡ true) × (pass.number ≡ ledger_seat) × (pass.out ≡ []) }
         requires fresh { (pass.mine ≡ []) × (pass.kin ≡ []) }
-        requires found { IsFound (N.told 0) (N.before 0) (N.faults 0) (records_of book)
+        requires found { IsFound (N.told 0) (N.before 0) (N.faults 0) (N.moment 0) (records_of book)
             (journal_of book) }
     {
         HeldLedger {
@@ -115,6 +122,7 @@ impl<D: Disk + Drop, N: Mounting> HeldLedger<D, N> {
           told = N.told;
           before = N.before;
           faults = N.faults;
+          moment = N.moment;
         }) (D.view result.0)
             result.1.seen }
     {

@@ -16,6 +16,9 @@ pub trait Mounting: Store {
 
     /// Its count of faults.
     ghost faults: { ℕ → ℕ };
+
+    /// Its moment.
+    ghost moment: { ℕ → ℕ };
 }
 
 impl Mounting for Brand {
@@ -26,4 +29,6 @@ impl Mounting for Brand {
     ghost before = { λ _. [] };
 
     ghost faults = { λ _. 0 };
+
+    ghost moment = { λ _. 0 };
 }

@@ -9,8 +9,9 @@ use Rattle.qc_mount.proofs.Disks.{tell}
 use Rattle.qc_mount.proofs.Stores.{by_err, fault_of, given_back, if_err, if_ok, not_mounted}
 use Rattle.qc_refine.specs.Images.{IsStanding, Restores}
 use Rattle.qc_script.specs.Steps.{plan_of_script}
-use Rattle.qc_opening.specs.Stored.{disks_of, past_of, AreImages, HasKept, HasRun, HavePaid}
+use Rattle.qc_opening.specs.Stored.{disks_of, past_of, AreImages, HasKept, HasRun, HaveGrown, HavePaid}
 use Rattle.qc_opening.proofs.Found.{told_by}
+use Rattle.qc_opening.proofs.Grown.{have_grown}
 use Rattle.qc_opening.proofs.Told.{all_returned, first, kept, paid, restored, stands, tell_offered}
 use Rattle.qc_opening.proofs.opening.run_stored.Goals as goal
 
@@ -65,6 +66,17 @@ returns-clause-stands g c = λ all_tell.
     let tells = tell_offered view plan.table offers disks c.in_ok-disks.ensures.offered c.in_ok-disks.ensures.all in
     if_ok c.run_disks.result (HasRun view plan told) (λ stored. (images : List (List ℕ)) → AreImages view (disks_of stored) images → ∥ IsStanding plan.table stored.ended.start stored.epoch (past_of stored) images ∥₁) c.run_disks.ensures.ran
     (λ stored run. stands view plan told offers tells stored run all_tell)
+
+pub returns-clause-grown : goal.returns-clause-grown
+returns-clause-grown g c =
+    let view = g.H.D.Disk.view in
+    let plan = plan_of_script c.args.script.now in
+    let offers = (g.H.Shop.view c.args.shop.now).offers c.args.place.now in
+    let disks = c.in_ok-disks.disks.items in
+    let told = told_by (map (λ d. (view d).content) disks) in
+    let tells = tell_offered view plan.table offers disks c.in_ok-disks.ensures.offered c.in_ok-disks.ensures.all in
+    if_ok c.run_disks.result (HasRun view plan told) (λ stored. HaveGrown view plan.table offers stored.epoch stored.ended.start (disks_of stored) (past_of stored)) c.run_disks.ensures.ran
+    (λ stored run. have_grown view plan.table offers stored (kept view plan told offers tells stored run))
 
 pub returns-clause-paid : goal.returns-clause-paid
 returns-clause-paid g c =

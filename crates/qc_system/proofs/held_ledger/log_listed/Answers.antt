@@ -5,11 +5,14 @@ use Rattle.qc_event.specs.Listed.{listed}
 use Rattle.qc_event.specs.Seats.{ledger_seat}
 use Rattle.qc_event.specs.Tables.{setting_of}
 use Rattle.qc_ledger.specs.Entered.{IsOver, tops_of}
+use Rattle.qc_ledger.specs.Shelf.{journal_in}
+use Rattle.qc_ledger.specs.Since.{AreTopsBy, TopsGrow}
 use Rattle.qc_ledger.proofs.Passes.{sees_on}
+use Rattle.qc_ledger.proofs.Since.{grown_more, tops_on}
 use Rattle.qc_pass.specs.Entries.{IsOlder, entries_of}
 use Rattle.qc_pass.proofs.Seers.{older_trans}
 use Rattle.qc_system.specs.Kept.{Pays, downs}
-use Rattle.qc_system.proofs.Listed.{listed_stays, over_seen}
+use Rattle.qc_system.proofs.Listed.{listed_stays, over_seen, tops_retold}
 use Rattle.qc_system.proofs.Paying.{log_pays}
 use Rattle.qc_system.proofs.Standing.{ended_still, refused_still}
 use Rattle.qc_system.proofs.held_ledger.log_listed.Goals as goal
@@ -30,6 +33,25 @@ returns-clause-keeps g c = λ before over.
     let was = over_seen setting first.pass last.pass.seen before first.shelf seen legal c.known.ensures.legal own first.may over in
     let now : IsOver f before mid.shelf (tops_of mid.pass.mine) = c.log-answer.ensures.over f before told was in
     subst (λ s. IsOver f before s (tops_of last.pass.mine)) (sym c.show.ensures.shelf) (subst (λ p. IsOver f before mid.shelf (tops_of p)) (sym c.show.ensures.mine) now)
+
+pub returns-clause-grown : goal.returns-clause-grown
+returns-clause-grown g c = λ before since over grown.
+    let setting = setting_of g.N.Store.table g.N.Store.base in
+    let first = c.args.ledger.now in
+    let mid = c.log-answer.new.self in
+    let last = c.show.new.self in
+    let top = c.args.top.now in
+    let legal : Legal setting last.pass.seen = c.known-3.ensures.legal in
+    let seen : IsOlder first.pass.seen last.pass.seen = older_trans first.pass.seen mid.pass.seen last.pass.seen c.log-answer.ensures.seen c.show.ensures.seen in
+    let asked : IsOlder c.args.seer.now.seen last.pass.seen = subst (λ p. IsOlder c.args.seer.now.seen p) c.show.ensures.same (sees_on c.args.seer.now c.log-answer.new.seer c.show.new.seer c.log-answer.ensures.seer c.show.ensures.seer).older in
+    let told : c.args.aborted.now ≡ listed last.pass.seen top = c.requires.listed ∙ sym (listed_stays setting c.args.seer.now.seen last.pass.seen top asked legal c.requires.ready) in
+    let own : first.pass.mine ≡ entries_of ledger_seat first.pass.seen = c.known.ensures.mine first.live ∙ ap (λ n. entries_of n first.pass.seen) first.number in
+    let f = listed last.pass.seen in
+    let was = over_seen setting first.pass last.pass.seen before first.shelf seen legal c.known.ensures.legal own first.may over in
+    let had = grown_more since before (AreTopsBy (listed first.pass.seen) first.pass.seen) (AreTopsBy f first.pass.seen) (g.D.Disk.view first.shelf.journal.disk)
+    (λ bodies are. tops_retold setting first.pass.seen last.pass.seen seen legal c.known.ensures.legal bodies are) grown in
+    let now : TopsGrow f before since mid.shelf mid.pass.seen = c.log-answer.ensures.grown f before since told was had in
+    tops_on f before since mid.shelf last.shelf mid.pass.seen last.pass.seen (ap journal_in c.show.ensures.shelf) c.show.ensures.seen now
 
 pub returns-clause-pays : goal.returns-clause-pays
 returns-clause-pays g c = λ first pays.

@@ -1,6 +1,8 @@
 -- What was found on the disk is kept, and nothing of this run.
 use Rattle.std.proofs.Common.{◌+◌, sym, ap, ◌∙◌, subst}
 use Rattle.qc_pass.specs.declared.view.View.{View}
+use Rattle.qc_event.specs.Tables.{setting_of}
+use Rattle.qc_site.specs.Since.{GrantsGrow}
 use Rattle.qc_site.specs.Sites.{KeepsGranted}
 use Rattle.qc_system.specs.Kept.{Pays, downs}
 use Rattle.qc_system.proofs.Paying.{faults_of, pays_first}
@@ -11,7 +13,11 @@ invariant_of-result g c =
     let found = c.requires.mounted.disk in
     let none = ap (λ (v : View). downs v.mine) c.enter.ensures.pass ∙ ap downs c.requires.fresh.0 in
     record {
-      keeps = ∣ (λ told. subst (λ b. KeepsGranted g.row.C b c.enter.result.log c.enter.result.replica) (sym found.same) (c.enter.ensures.over (found.keeps told))) ∣₁;
+      keeps = ∣ (λ told. (
+        subst (λ b. KeepsGranted g.row.C b c.enter.result.log c.enter.result.replica) (sym found.same) (c.enter.ensures.over (found.keeps told)),
+        subst (λ b. GrantsGrow (setting_of g.N.Store.table g.N.Store.base) g.row.C b (g.N.Mounting.moment (g.row.C + 1)) c.enter.result.log c.enter.result.replica.pass.seen) (sym found.same)
+            (c.enter.ensures.grown (g.N.Mounting.moment (g.row.C + 1)) found.at (found.keeps told)),
+      )) ∣₁;
       pays = subst (λ n. Pays (g.N.Mounting.faults (g.row.C + 1)) n (faults_of c.enter.result.log.journal)) (sym none)
           (pays_first (g.N.Mounting.faults (g.row.C + 1)) (faults_of c.enter.result.log.journal) (found.count ∙ sym (ap faults_of c.enter.ensures.journal)));
     }

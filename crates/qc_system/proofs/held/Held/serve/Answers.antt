@@ -3,8 +3,11 @@ use Rattle.std.proofs.Common.{◌+◌, sym, ap, subst}
 use Rattle.std.proofs.Math.Logic.{∥∥₁_map}
 use Rattle.std.specs.Prelude.{Ok}
 use Rattle.qc_ledger.proofs.Passes.{sees_on}
+use Rattle.qc_event.specs.Tables.{setting_of}
 use Rattle.qc_pass.specs.Entries.{IsOlder}
 use Rattle.qc_site.specs.Answers.{HasAnswered}
+use Rattle.qc_site.specs.Log.{journal_in}
+use Rattle.qc_site.proofs.Since.{grants_on}
 use Rattle.qc_system.specs.Kept.{Pays, downs}
 use Rattle.qc_system.proofs.Paying.{faults_of, serve_pays}
 use Rattle.qc_system.proofs.Standing.{answer_stands, full_still}
@@ -12,7 +15,10 @@ use Rattle.qc_system.proofs.held.Held.serve.Goals as goal
 
 pub invariant_of-self : goal.invariant_of-self
 invariant_of-self g c = record {
-  keeps = ∥∥₁_map c.args.self.now.keeps (λ k told. c.serve.ensures.over (g.N.Mounting.before (g.row.C + 1)) (k told));
+  keeps = ∥∥₁_map c.args.self.now.keeps (λ k told. (
+    c.serve.ensures.over (g.N.Mounting.before (g.row.C + 1)) (k told).0,
+    c.serve.ensures.grown (g.N.Mounting.before (g.row.C + 1)) (g.N.Mounting.moment (g.row.C + 1)) (k told).0 (k told).1,
+  ));
   pays = serve_pays g.row.C c.args.ask.now c.args.self.now.site.replica c.serve.new.self.replica (g.N.Mounting.faults (g.row.C + 1)) _ _ c.serve.result c.serve.ensures.enters c.serve.ensures.err c.serve.ensures.cause c.args.self.now.pays;
 }
 
@@ -20,7 +26,11 @@ pub invariant_of-self-in-Err : goal.invariant_of-self-in-Err
 invariant_of-self-in-Err g c =
     let served = serve_pays g.row.C c.args.ask.now c.args.self.now.site.replica c.serve.new.self.replica (g.N.Mounting.faults (g.row.C + 1)) _ _ c.serve.result c.serve.ensures.enters c.serve.ensures.err c.serve.ensures.cause c.args.self.now.pays in
     record {
-      keeps = ∥∥₁_map c.args.self.now.keeps (λ k told. c.show.ensures.over (g.N.Mounting.before (g.row.C + 1)) (c.serve.ensures.over (g.N.Mounting.before (g.row.C + 1)) (k told)));
+      keeps = ∥∥₁_map c.args.self.now.keeps (λ k told. (
+        c.show.ensures.over (g.N.Mounting.before (g.row.C + 1)) (c.serve.ensures.over (g.N.Mounting.before (g.row.C + 1)) (k told).0),
+        grants_on (setting_of g.N.Store.table g.N.Store.base) g.row.C (g.N.Mounting.before (g.row.C + 1)) (g.N.Mounting.moment (g.row.C + 1)) c.serve.new.self.log c.show.new.self.log c.serve.new.self.replica.pass.seen c.show.new.self.replica.pass.seen
+            (ap journal_in c.show.ensures.log) c.show.ensures.looks.older (c.serve.ensures.grown (g.N.Mounting.before (g.row.C + 1)) (g.N.Mounting.moment (g.row.C + 1)) (k told).0 (k told).1),
+      ));
       pays = subst (λ l. Pays (g.N.Mounting.faults (g.row.C + 1)) (downs c.show.new.self.replica.pass.mine) (faults_of l.journal)) (sym c.show.ensures.log)
           (subst (λ p. Pays (g.N.Mounting.faults (g.row.C + 1)) (downs p) (faults_of c.serve.new.self.log.journal)) (sym c.show.ensures.looks.mine) served);
     }

@@ -1,0 +1,23 @@
+-- What was found on the disk is kept, and nothing of this run.
+use Rattle.std.proofs.Common.{sym, ap, ◌∙◌, subst}
+use Rattle.qc_event.specs.Listed.{listed}
+use Rattle.qc_ledger.specs.Entered.{IsOver, tops_of}
+use Rattle.qc_ledger.specs.Since.{TopsGrow}
+use Rattle.qc_pass.specs.declared.view.View.{View}
+use Rattle.qc_system.specs.Kept.{Pays, downs}
+use Rattle.qc_system.proofs.Paying.{faults_of, pays_first}
+use Rattle.qc_system.proofs.held_ledger.HeldLedger.new.Goals as goal
+
+pub invariant_of-result : goal.invariant_of-result
+invariant_of-result g c =
+    let found = c.requires.found in
+    let ledger = c.enter.result in
+    let told = listed ledger.pass.seen in
+    let none = ap (λ (v : View). downs v.mine) c.enter.ensures.pass ∙ ap downs c.requires.fresh.0 in
+    record {
+      keeps = ∣ (λ tells. (
+        subst (λ b. IsOver told b ledger.shelf (tops_of ledger.pass.mine)) (sym found.same) (c.enter.ensures.over told c.requires.fresh.0 (found.keeps tells)),
+        subst (λ b. TopsGrow told b (g.N.Mounting.moment 0) ledger.shelf ledger.pass.seen) (sym found.same) (c.enter.ensures.grown told (g.N.Mounting.moment 0) found.at (found.keeps tells)),
+      )) ∣₁;
+      pays = subst (λ n. Pays (g.N.Mounting.faults 0) n (faults_of ledger.shelf.journal)) (sym none) (pays_first (g.N.Mounting.faults 0) (faults_of ledger.shelf.journal) (found.count ∙ sym (ap faults_of c.enter.ensures.journal)));
+    }
