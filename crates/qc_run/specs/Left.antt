@@ -14,7 +14,7 @@ use Rattle.qc_mount.specs.Images.{AreSound, IsFirstFault}
 use Rattle.qc_mount.specs.Refusing.{disks_in, ComeBack}
 use Rattle.qc_mount.specs.declared.refusing.MountNo.{MountNo}
 use Rattle.qc_mount.specs.declared.refusing.MountNo.TheVariants as no
-use Rattle.qc_opening.specs.Stored.{AllTell, AreImages, HavePaid}
+use Rattle.qc_opening.specs.Stored.{AllTell, AreImages, HaveGrown, HavePaid}
 use Rattle.qc_refine.specs.Images.{IsStanding, Restores}
 use Rattle.qc_report.specs.Report.{Text}
 use Rattle.qc_script.specs.Plan.{ScriptPlan}
@@ -81,6 +81,7 @@ module _ {D : Type 0} (view : D → View) (s : ScriptPlan) (offers : ℕ → Opt
     pub first : HaveNoGrants s.table offers → ran.start ≡ base_of s.table
     pub stands : AllTell s.table.copies offers → (images : List (List ℕ)) → AreImages view ran.disks.items images
         → ∥ IsStanding s.table ran.start epoch (reverse ran.trail.items) images ∥₁
+    pub grown : HaveGrown view s.table offers epoch ran.start ran.disks.items (reverse ran.trail.items)
     pub paid : HavePaid view ran.disks.items (reverse ran.trail.items)
 
   -- why no store was mounted

@@ -7,7 +7,7 @@ ghost use Rattle.qc_event.specs.Sound.{IsSound};
 ghost use Rattle.qc_event.specs.Tables.{base_of, first_values, setting_of};
 ghost use Rattle.qc_io.specs.Io.{Rose, Keeps, Appends, AppendsFront, Drops, LosesWithin};
 ghost use Rattle.qc_mount.specs.Images.{AreSound, IsFirstFault};
-ghost use Rattle.qc_opening.specs.Stored.{AllTell, AreImages, HavePaid};
+ghost use Rattle.qc_opening.specs.Stored.{AllTell, AreImages, HaveGrown, HavePaid};
 ghost use Rattle.qc_refine.specs.Images.{IsStanding, Restores};
 ghost use Rattle.qc_script.specs.Plan.{ScriptPlan};
 ghost use Rattle.qc_script.specs.Reading.{IsScript, IsProper};
@@ -217,7 +217,7 @@ where
         → IsSound (setting_of s.table result.start) (first_values s.table))) }
 
     // Where all disks told their bytes, whatever a crash leaves of those that come back stands beside the history, in
-    // its epoch. Each failure that someone was unable for, a disk has counted.
+    // its epoch.
     ensures images_stand { terms.OfRun (S.view source.old).left (S.view source.new).left
         result.start result.trail.items (λ s. (epoch : ℕ)
         × terms.BeginsIn epoch s result.trail.items
@@ -225,6 +225,17 @@ where
         (λ place. AllTell s.table.copies ((H.view shop.old).offers place)
         → (images : List (List ℕ)) → AreImages H.D.view result.disks.items images
         → ∥ IsStanding s.table result.start epoch (reverse result.trail.items) images ∥₁)) }
+    // At each moment since a disk was mounted, where it told its bytes, a crash left the records that it had then, and
+    // behind them those of the history up to some time, with at most one more, which could come next then. Of two such
+    // moments each image of the later had every record that all images of the earlier had.
+    ensures images_grow { terms.OfRun (S.view source.old).left (S.view source.new).left
+        result.start result.trail.items (λ s. (epoch : ℕ)
+        × terms.BeginsIn epoch s result.trail.items
+        × terms.AtPlace (map string_bytes words.now)
+        (λ place. HaveGrown H.D.view s.table ((H.view shop.old).offers place) epoch
+        result.start result.disks.items (reverse result.trail.items))) }
+
+    // Each failure that someone was unable for, a disk has counted.
     ensures paid { terms.OfRun (S.view source.old).left (S.view source.new).left
         result.start result.trail.items
         (λ s. HavePaid H.D.view result.disks.items (reverse result.trail.items)) }

@@ -40,6 +40,7 @@ returns-in-Ok-clause-answer g c =
         restores = λ images all. has.restores images all.offered all.all;
         first = has.first;
         stands = has.stands;
+        grown = has.grown;
         paid = has.paid;
       });
     }

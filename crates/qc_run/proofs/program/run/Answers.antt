@@ -53,6 +53,9 @@ returns-clause-sound_start g c =
 pub returns-clause-images_stand : goal.returns-clause-images_stand
 returns-clause-images_stand g c = clause.of_run _ _ _ _ _ _ _ _ _ _ c.answer.ensures.answer (λ s place reads at has. (has.epoch, has.begins, clause.at_place _ place _ at has.stands))
 
+pub returns-clause-images_grow : goal.returns-clause-images_grow
+returns-clause-images_grow g c = clause.of_run _ _ _ _ _ _ _ _ _ _ c.answer.ensures.answer (λ s place reads at has. (has.epoch, has.begins, clause.at_place _ place _ at has.grown))
+
 pub returns-clause-come_back : goal.returns-clause-come_back
 returns-clause-come_back g c = clause.came_back _ _ _ _ _ _ _ _ _ c.answer.ensures.answer
 
