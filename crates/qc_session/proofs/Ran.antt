@@ -20,7 +20,7 @@ use Rattle.qc_event.specs.Legal.{Legal}
 use Rattle.qc_event.specs.Seats.{is_client}
 use Rattle.qc_interp.specs.Alone.{AccessesEnd, AreLone}
 use Rattle.qc_interp.specs.FollowsScript.{RunsScript}
-use Rattle.qc_interp.specs.Reach.{Reach, AtTheEnd}
+use Rattle.qc_interp.specs.Reach.{Reach}
 use Rattle.qc_interp.specs.Session.{CutTops, EndsTops, EndsTopsAt, InTurnAt, RanInTurn}
 use Rattle.qc_interp.specs.Sessions.{is_unmarked}
 use Rattle.qc_interp.proofs.Ending.{at_any}

@@ -1,5 +1,5 @@
 -- Bodies with steps at which the copy crashes.
-use Rattle.std.specs.Prelude.{false, List, [], ◌∷◌}
+use Rattle.std.specs.Prelude.{false, List, ◌∷◌}
 use Rattle.qc_event.specs.declared.event.Cause.TheVariants as cause
 use Rattle.qc_event.specs.declared.event.Entry.{Entry}
 use Rattle.qc_event.specs.declared.event.Event.TheVariants as event

@@ -1,4 +1,4 @@
-use Rattle.std.proofs.Common.{sym, inl, inr}
+use Rattle.std.proofs.Common.{inl, inr}
 use mathlib.Core.Bool.{true≢false}
 use Rattle.qc_trail_laws.proofs.goes_by_no_other_child.Goals as goal
 
