@@ -1,0 +1,75 @@
+"""What the scripts on runs over real disks share: the program, scripts, runs over a folder, and a journal's records."""
+import json
+import os
+import signal
+import subprocess
+import sys
+
+HOME = os.path.abspath(os.path.join(os.path.dirname(os.path.abspath(__file__)), ".."))
+PROVED = os.path.join(HOME, "crates/qc_prog/out/qc_prog")
+OPEN = 1
+
+
+def end_by_signals():
+    """Has the signals that end a script clean up as its end does."""
+    for number in (signal.SIGHUP, signal.SIGTERM):
+        signal.signal(number, lambda *_: sys.exit(1))
+
+
+def find_program():
+    """The program that QC names, else the proved one, which ./qc builds where it is not of these sources."""
+    if "QC" in os.environ:
+        program = os.path.abspath(os.environ["QC"])
+    else:
+        program = PROVED
+        # An empty script is refused, which says that the program is built.
+        subprocess.run([os.path.join(HOME, "qc"), "run"], stdin=subprocess.DEVNULL, stdout=sys.stderr, check=False)
+    if not os.access(program, os.X_OK):
+        sys.exit(f"{os.path.basename(sys.argv[0])}: there is no program {program}")
+    return program
+
+
+def script_of(tops, copies=1, records=("x",), fates=""):
+    """A script of tops with these steps, over records that start at 0, a vote at each copy, and majorities."""
+    write = copies // 2 + 1
+    config = {"votes": [1] * copies, "read": copies + 1 - write, "write": write}
+    table = [{"name": name, "start": 0, "config": config} for name in records]
+    sessions = [{"net": {"fates": fates}, "tops": [{"steps": steps} for steps in tops]}]
+    return json.dumps({"copies": copies, "records": table, "sessions": sessions}, separators=(",", ":"))
+
+
+def words(program, folder):
+    return [program, "run", "--dir", folder]
+
+
+def run(program, folder, script, **options):
+    """The status and the output of a run over a folder."""
+    ran = subprocess.run(words(program, folder), input=script.encode(), stdout=subprocess.PIPE, check=False, **options)
+    return ran.returncode, ran.stdout.decode()
+
+
+def image_of(folder, disk):
+    """The bytes of a disk's file, and none where it was not made yet."""
+    path = os.path.join(folder, str(disk))
+    if not os.path.exists(path):
+        return b""
+    with open(path, "rb") as file:
+        return file.read()
+
+
+def put_image(folder, disk, image):
+    with open(os.path.join(folder, str(disk)), "wb") as file:
+        file.write(image)
+
+
+def number_in(field):
+    return int.from_bytes(field, "big")
+
+
+def records_in(image):
+    """The bodies of the records that stand in a journal: those behind open gates, before the first closed one."""
+    place = 0
+    while place < len(image) and image[place] == OPEN:
+        end = place + 5 + number_in(image[place + 1 : place + 5])
+        yield image[place + 5 : end]
+        place = end
