@@ -1,10 +1,12 @@
 //! What a disk in memory records of its calls, and which of them fail.
-ghost use Rattle.std.specs.Prelude.{◌≡◌, ◌≤◌, ◌++◌, [], ◌∷◌, length, take, map, IfOk, OnOk, OnErr};
+ghost use Rattle.std.specs.Prelude.{◌≡◌, ◌≤◌, ◌<◌, ◌++◌, [], ◌∷◌, length, take, map, IfOk, IsOk, OnOk, OnErr};
+ghost use Rattle.std.specs.Vec.{vec_capacity};
 ghost use Rattle.qc_disk.specs.Disk.{written};
-ghost use Rattle.qc_disk.specs.Replay.{fault_at, act_of, does, latest_or, replayed, last_synced, image_after};
+ghost use Rattle.qc_disk.specs.Replay.{fault_at, act_of, does, replayed, last_synced, image_after};
 ghost use Rattle.qc_disk.specs.Tape.{tape_first, tape_acts, tape_bytes, Applied, Untouched};
 
 use std::alloc::{AllocError, Global};
+use std::mem;
 
 /// A call that fails, counted from 1, after doing its work or without.
 #[derive(Clone, Copy, PartialEq, Eq, Debug)]
@@ -49,33 +51,38 @@ pub(crate) struct Tape {
 fn append<T: Drop>(items: &mut Vec<T>, item: T) -> Result<(), AllocError>
     ensures ok { OnOk result (items.new.items ≡ items.old.items ++ item ∷ []) }
     ensures err { OnErr result (items.new.items ≡ items.old.items) }
+    ensures room { length items.old.items < vec_capacity items.old → IsOk result }
 {
     items.push(item)?;
     Ok(())
 }
 
-// The bytes with others written at a place.
-fn overwritten(alloc: Global, old: &[u8], at: usize, bytes: &[u8]) -> Result<Vec<u8>, AllocError>
-    ensures { IfOk result (λ new. new.items ≡ written at bytes.now old.now) }
+// Writes bytes at a place over others, and behind them. Its time grows with the bytes that are written, and not with those
+// that are there.
+fn overwrite(old: &mut Vec<u8>, at: usize, bytes: &[u8]) -> Result<(), AllocError>
+    ensures ok { OnOk result (old.new.items ≡ written at bytes.now old.old.items) }
+    ensures err { OnErr result (old.new.items ≡ old.old.items) }
 {
     let at = at.min(old.len());
-    let mut new = old[..at].to_vec(alloc)?;
-    new.extend_from_slice(bytes)?;
-    if bytes.len() < old.len() - at {
-        new.extend_from_slice(&old[at + bytes.len()..])?;
-    }
-    Ok(new)
+    let over = bytes.len().min(old.len() - at);
+    old.extend_from_slice(&bytes[over..])?;
+    old[at..at + over].copy_from_slice(&bytes[..over]);
+    Ok(())
 }
 
-// The bytes after a deed, where it changes them.
-fn changed(alloc: Global, old: &[u8], deed: &Deed) -> Result<Option<Vec<u8>>, AllocError>
-    ensures { IfOk result (λ next. latest_or next old.now ≡ does (act_of deed.now) old.now) }
+// Does it to the bytes. Where memory is wanting, they stay.
+fn change(bytes: &mut Vec<u8>, deed: &Deed) -> Result<(), AllocError>
+    ensures ok { OnOk result (bytes.new.items ≡ does (act_of deed.now) bytes.old.items) }
+    ensures err { OnErr result (bytes.new.items ≡ bytes.old.items) }
 {
-    Ok(match deed {
-        Deed::Wrote { at, bytes } => Some(overwritten(alloc, old, *at, bytes)?),
-        Deed::Cut(to) => Some(old[..(*to).min(old.len())].to_vec(alloc)?),
-        Deed::Nothing | Deed::Synced => None,
-    })
+    match deed {
+        Deed::Wrote { at, bytes: new } => overwrite(bytes, *at, new),
+        Deed::Cut(to) => {
+            bytes.truncate(*to);
+            Ok(())
+        }
+        Deed::Nothing | Deed::Synced => Ok(()),
+    }
 }
 
 // The bytes at the last sync and after all deeds.
@@ -91,9 +98,7 @@ fn replay(alloc: Global, first: &[u8], deeds: &[Deed]) -> Result<(Vec<u8>, Vec<u
         if let Deed::Synced = deed {
             synced = bytes.to_vec(alloc)?;
         }
-        if let Some(next) = changed(alloc, &bytes, deed)? {
-            bytes = next;
-        }
+        change(&mut bytes, deed)?;
         rest = after;
     }
     Ok((synced, bytes))
@@ -133,17 +138,31 @@ impl Tape {
         self.calls.len()
     }
 
-    /// Does it to the bytes, and records it.
+    // Does it to the bytes, of which the first change makes a copy.
+    fn change(&mut self, deed: &Deed) -> Result<(), AllocError>
+        ensures ok { OnOk result (tape_bytes self.new ≡ does (act_of deed.now) (tape_bytes self.old)) }
+        ensures err { OnErr result (tape_bytes self.new ≡ tape_bytes self.old) }
+        ensures first { self.new.first ≡ self.old.first }
+        ensures calls { self.new.calls ≡ self.old.calls }
+    {
+        let mut bytes = match mem::replace(&mut self.current, None) {
+            Some(current) => current,
+            None => self.first.clone()?,
+        };
+        let done = change(&mut bytes, deed);
+        self.current = Some(bytes);
+        done
+    }
+
+    /// Does it to the bytes, and records it. Its time grows with the bytes that are written, but that the first change
+    /// makes a copy of all.
     pub(crate) fn apply(&mut self, deed: Deed) -> Result<(), AllocError>
         ensures ok { OnOk result (Applied self.old self.new (act_of deed)) }
         ensures err { OnErr result (Untouched self.old self.new) }
     {
-        let next = changed(self.allocator(), self.bytes(), &deed)?;
-        append(&mut self.calls, deed)?;
-        if let Some(next) = next {
-            self.current = Some(next);
-        }
-        Ok(())
+        self.calls.reserve(1)?;
+        self.change(&deed)?;
+        append(&mut self.calls, deed)
     }
 
     /// What was there after the first calls, or what was synced then.
