@@ -20,9 +20,9 @@ use Rattle.qc_system.specs.Closing.{AllKeep, CopyKeeps, DiskKeeps, HaveLeft, Kee
 use Rattle.qc_system.specs.Kept.{Pays, downs}
 use Rattle.qc_system.specs.Parts.{Findings, IsClosing, IsThere}
 use Rattle.qc_ledger.specs.Since.{AreTopsBy}
-use Rattle.qc_ledger.proofs.Since.{grown_more}
 use Rattle.qc_site.specs.Since.{AreGrantsBy}
 use Rattle.qc_site.proofs.Since.{grants_later}
+use Rattle.qc_system.proofs.Grown.{from_more}
 use Rattle.qc_system.proofs.Left.{keeps_grants_later, keeps_tops_later}
 use Rattle.qc_system.proofs.Listed.{tops_told_later}
 
@@ -129,8 +129,8 @@ module _ (setting : Setting) (found : Findings) {D : Type 0} (view : D → Disk)
           there = was.there;
           kept = record {
             kept = ∥∥₁_map was.kept.kept (λ k told. keeps_tops_later setting was.seen log since legal was.legal own (found.before 0) (view was.disk).may_leave (k told));
-            grown = ∥∥₁_map was.kept.grown (λ k told. grown_more (found.moment 0) (found.before 0) (AreTopsBy (listed was.seen) was.seen) (AreTopsBy (listed log) log) (view was.disk) (λ bodies are. tops_told_later setting was.seen log since legal was.legal bodies are) (k told));
-            paid = subst (λ p. Pays (found.faults 0) (downs p) (view was.disk).faults) (sym own) was.kept.paid;
+            grown = ∥∥₁_map was.kept.grown (λ k told. from_more (found.first 0) (found.before 0) (AreTopsBy (listed was.seen) was.seen) (AreTopsBy (listed log) log) (view was.disk) (λ bodies are. tops_told_later setting was.seen log since legal was.legal bodies are) (k told));
+            paid = subst (λ p. Pays (found.first 0).faults (downs p) (view was.disk).faults) (sym own) was.kept.paid;
           };
         }
 
@@ -143,8 +143,8 @@ module _ (setting : Setting) (found : Findings) {D : Type 0} (view : D → Disk)
           there = was.there;
           kept = record {
             kept = ∥∥₁_map was.kept.kept (λ kept told. keeps_grants_later setting k was.seen log since legal own all (found.before (k + 1)) (view was.disk).may_leave (kept told));
-            grown = ∥∥₁_map was.kept.grown (λ kept told. grown_more (found.moment (k + 1)) (found.before (k + 1)) (AreGrantsBy setting k was.seen) (AreGrantsBy setting k log) (view was.disk) (λ bodies are. grants_later setting k was.seen log bodies since are) (kept told));
-            paid = subst (λ p. Pays (found.faults (k + 1)) (downs p) (view was.disk).faults) (sym own) was.kept.paid;
+            grown = ∥∥₁_map was.kept.grown (λ kept told. from_more (found.first (k + 1)) (found.before (k + 1)) (AreGrantsBy setting k was.seen) (AreGrantsBy setting k log) (view was.disk) (λ bodies are. grants_later setting k was.seen log bodies since are) (kept told));
+            paid = subst (λ p. Pays (found.first (k + 1)).faults (downs p) (view was.disk).faults) (sym own) was.kept.paid;
           };
         }
 

@@ -6,11 +6,12 @@ use Rattle.qc_event.specs.History.{Past}
 use Rattle.qc_event.specs.Legal.{Legal}
 use Rattle.qc_event.specs.Listed.{listed}
 use Rattle.qc_event.specs.Seats.{copy_seat, ledger_seat}
-use Rattle.qc_ledger.specs.Since.{AreTopsBy, GrownSince}
+use Rattle.qc_ledger.specs.Since.{AreTopsBy}
 use Rattle.qc_pass.specs.declared.view.View.{View}
 use Rattle.qc_pass.specs.Entries.{IsOlder, entries_of}
 use Rattle.qc_pass.specs.Rules.{Has}
 use Rattle.qc_site.specs.Since.{AreGrantsBy}
+use Rattle.qc_system.specs.Grown.{GrownFrom}
 use Rattle.qc_system.specs.Kept.{Pays, downs}
 use Rattle.qc_system.specs.Left.{KeepsGrants, KeepsTops}
 use Rattle.qc_system.specs.Parts.{Findings}
@@ -23,14 +24,14 @@ module _ (setting : Setting) (found : Findings) where
   -- The ledger's disk keeps the ledger's tops, where it tells its bytes, and kept those up to then at each moment since the mounting; it pays for each that was not logged.
   pub record LedgerKeeps (disk : Disk) (past : Past) : Type 0 where
     pub kept : ∥ (found.told 0 ≡ true → KeepsTops (found.before 0) disk.may_leave past) ∥₁
-    pub grown : ∥ (found.told 0 ≡ true → GrownSince (found.moment 0) (found.before 0) (AreTopsBy (listed past) past) disk) ∥₁
-    pub paid : Pays (found.faults 0) (downs (entries_of ledger_seat past)) disk.faults
+    pub grown : ∥ (found.told 0 ≡ true → GrownFrom (found.first 0) (found.before 0) (AreTopsBy (listed past) past) disk) ∥₁
+    pub paid : Pays (found.first 0).faults (downs (entries_of ledger_seat past)) disk.faults
 
   -- A copy's disk keeps the copy's grants, where it tells its bytes, and kept those up to then at each moment since the mounting; it pays for each request that it was down for.
   pub record CopyKeeps (copy : ℕ) (disk : Disk) (past : Past) : Type 0 where
     pub kept : ∥ (found.told (copy + 1) ≡ true → KeepsGrants setting (length found.base) copy (found.before (copy + 1)) disk.may_leave past) ∥₁
-    pub grown : ∥ (found.told (copy + 1) ≡ true → GrownSince (found.moment (copy + 1)) (found.before (copy + 1)) (AreGrantsBy setting copy past) disk) ∥₁
-    pub paid : Pays (found.faults (copy + 1)) (downs (entries_of (copy_seat copy) past)) disk.faults
+    pub grown : ∥ (found.told (copy + 1) ≡ true → GrownFrom (found.first (copy + 1)) (found.before (copy + 1)) (AreGrantsBy setting copy past) disk) ∥₁
+    pub paid : Pays (found.first (copy + 1)).faults (downs (entries_of (copy_seat copy) past)) disk.faults
 
   module _ {D : Type 0} (view : D → Disk) where
     -- The disk at a place was left so by a pass with a number, whose own entries were joined.

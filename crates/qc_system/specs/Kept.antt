@@ -1,6 +1,7 @@
 -- What the disks of a system keep since they were mounted.
 use Rattle.std.specs.Prelude.{◌≡◌, ◌≤◌, ◌+◌, ◌-◌, ◌^◌, ℕ, Bool, true, false, IsTrue, List, length, min}
 use Rattle.std.specs.List.{count_by}
+use Rattle.qc_disk.specs.Disk.{View as Disk}
 use Rattle.qc_disk.specs.declared.disk.Disk.{Ghosts}
 use Rattle.qc_event.specs.declared.event.Entry.{Entry}
 use Rattle.qc_event.specs.declared.event.Event.{Event}
@@ -10,25 +11,32 @@ use Rattle.qc_event.specs.Base.{Setting}
 use Rattle.qc_event.specs.History.{Past, Name, limit}
 use Rattle.qc_event.specs.Listed.{listed}
 use Rattle.qc_event.specs.Requests.{was_unable}
+use Rattle.qc_journal.specs.Journal.{disk_of}
 use Rattle.qc_ledger.specs.Entered.{IsOver, tops_of}
-use Rattle.qc_ledger.specs.Since.{TopsGrow}
+use Rattle.qc_ledger.specs.Since.{AreTopsBy}
 use Rattle.qc_ledger.specs.declared.fault.LedgerNo.{LedgerNo}
 use Rattle.qc_ledger.specs.declared.fault.LedgerNo.TheVariants as no
+use Rattle.qc_ledger.specs.Shelf.{journal_in as journal_of_shelf}
 use Rattle.qc_ledger.specs.declared.shelf.Shelf.{Shelf}
 use Rattle.qc_pass.specs.declared.view.View.{View}
+use Rattle.qc_site.specs.Log.{journal_in}
 use Rattle.qc_site.specs.Replica.{Standing}
-use Rattle.qc_site.specs.Since.{GrantsGrow}
+use Rattle.qc_site.specs.Since.{AreGrantsBy}
 use Rattle.qc_site.specs.Sites.{KeepsGranted}
 use Rattle.qc_site.specs.declared.log.GrantLog.{GrantLog}
+use Rattle.qc_system.specs.Grown.{GrownFrom}
 
 -- where a copy's disk tells its bytes, it keeps what was found there, and what the copy granted since; and it did at each moment
-abbrev pub KeepsSince : {D : Type 0} {g : Ghosts D} → Setting → ℕ → Bool → List (List ℕ) → ℕ → GrantLog D g → Standing → Type 0
-KeepsSince setting copy told before since log standing = told ≡ true → KeepsGranted copy before log standing × GrantsGrow setting copy before since log standing.pass.seen
+-- since it was this disk
+abbrev pub KeepsSince : {D : Type 0} {g : Ghosts D} → Setting → ℕ → Bool → List (List ℕ) → Disk → GrantLog D g → Standing → Type 0
+KeepsSince {D} {g} setting copy told before first log standing = told ≡ true
+    → KeepsGranted copy before log standing × GrownFrom first before (AreGrantsBy setting copy standing.pass.seen) (g.view (disk_of (journal_in log)))
 
 -- where the ledger's disk tells its bytes, it keeps what was found there, and the tops that were committed since, with the
--- names that are listed of each; and it did at each moment
-abbrev pub TopsSince : {D : Type 0} {g : Ghosts D} → Bool → List (List ℕ) → ℕ → Shelf D g → View → Type 0
-TopsSince told before since shelf pass = told ≡ true → IsOver (listed pass.seen) before shelf (tops_of pass.mine) × TopsGrow (listed pass.seen) before since shelf pass.seen
+-- names that are listed of each; and it did at each moment since it was this disk
+abbrev pub TopsSince : {D : Type 0} {g : Ghosts D} → Bool → List (List ℕ) → Disk → Shelf D g → View → Type 0
+TopsSince {D} {g} told before first shelf pass = told ≡ true
+    → IsOver (listed pass.seen) before shelf (tops_of pass.mine) × GrownFrom first before (AreTopsBy (listed pass.seen) pass.seen) (g.view (disk_of (journal_of_shelf shelf)))
 
 -- what a ledger's refusal of a top rests on: that it was unable to log it, for this reason
 abbrev pub HasRefused : Past → Name → LedgerNo → Type 0

@@ -1,6 +1,7 @@
 -- What was mounted, and what is known of the first pass while a system is opened.
 use Rattle.std.specs.Prelude.{◌≡◌, ℕ, ◌+◌, ◌-◌, ◌<◌, ◌≤◌, Bool, true, false, List, [], ◌∷◌, length, slice_index_or}
 use Rattle.qc_config.specs.declared.tuple.Tuple.{Tuple}
+use Rattle.qc_disk.specs.Disk.{View as Disk}
 use Rattle.qc_disk.specs.declared.disk.Disk.{Ghosts}
 use Rattle.qc_journal.specs.Journal.{disk_of, Keeps}
 use Rattle.qc_journal.specs.declared.journal.Journal.{Journal}
@@ -10,6 +11,7 @@ use Rattle.qc_pass.specs.Rules.{Has}
 use Rattle.qc_site.specs.Mounted.{copies_of, copy_of, journal_of, records_of}
 use Rattle.qc_site.specs.Start.{start_of}
 use Rattle.qc_site.specs.declared.mounted.Mounted.{Mounted}
+use Rattle.qc_system.specs.Grown.{LeftAlike}
 
 -- The first pass has given so many passes away, has done nothing else, and has seen nothing.
 pub record IsOpening (v : View) (count : ℕ) : Type 0 where
@@ -36,27 +38,27 @@ pub record JoinsLow (v w : View) : Type 0 where
 abbrev pub IsThere : ℕ → ℕ → Bool → Type 0
 IsThere copy all there = (copy < all → there ≡ true) × (all ≤ copy → there ≡ false)
 
--- What was found on a disk: its records, which it keeps where it tells its bytes, its count of faults, and its moment.
-pub record IsFound {D : Type 0} {g : Ghosts D} (told : Bool) (before : List (List ℕ)) (faults moment : ℕ) (records : List (List ℕ)) (journal : Journal D g) : Type 0 where
+-- What was found on a disk: its records, which it keeps where it tells its bytes; and that it was this disk then, by its count of faults, its moment, and what a crash left before that.
+pub record IsFound {D : Type 0} {g : Ghosts D} (told : Bool) (before : List (List ℕ)) (first : Disk) (records : List (List ℕ)) (journal : Journal D g) : Type 0 where
   pub same : before ≡ records
   pub keeps : told ≡ true → Keeps journal records
-  pub count : faults ≡ (g.view (disk_of journal)).faults
-  pub at : moment ≡ (g.view (disk_of journal)).moment
+  pub count : first.faults ≡ (g.view (disk_of journal)).faults
+  pub at : first.moment ≡ (g.view (disk_of journal)).moment
+  pub left : LeftAlike first (g.view (disk_of journal))
 
 -- What was found of all disks, by their numbers, and with what the copies start.
-pub record Findings : Type 0 where
+pub record Findings : Type 1 where
   pub base : List (List Tuple)
   pub told : ℕ → Bool
   pub before : ℕ → List (List ℕ)
-  pub faults : ℕ → ℕ
-  pub moment : ℕ → ℕ
+  pub first : ℕ → Disk
 
 -- This copy was mounted so.
 pub record IsMounted {D : Type 0} {g : Ghosts D} (found : Findings) (copy : ℕ) (mounted : Mounted D g) : Type 0 where
   pub number : copy_of mounted ≡ copy
   pub many : copies_of mounted ≡ length found.base
   pub starts : start_of mounted ≡ slice_index_or found.base copy []
-  pub disk : IsFound (found.told (copy + 1)) (found.before (copy + 1)) (found.faults (copy + 1)) (found.moment (copy + 1)) (records_of mounted) (journal_of mounted)
+  pub disk : IsFound (found.told (copy + 1)) (found.before (copy + 1)) (found.first (copy + 1)) (records_of mounted) (journal_of mounted)
 
 -- the copies from this one on were mounted so, in order
 abbrev pub AreMounted : {D : Type 0} {g : Ghosts D} → Findings → ℕ → List (Mounted D g) → Type 0

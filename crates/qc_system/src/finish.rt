@@ -36,8 +36,7 @@ fn leave_at<D: Disk + Drop, N: Mounting, const C: u8, R: Wait>(
       base = N.base;
       told = N.told;
       before = N.before;
-      faults = N.faults;
-      moment = N.moment;
+      first = N.first;
     }) D.view C disks.old.items
         first.old }
     ensures first { IsClosing first.new }
@@ -48,8 +47,7 @@ fn leave_at<D: Disk + Drop, N: Mounting, const C: u8, R: Wait>(
       base = N.base;
       told = N.told;
       before = N.before;
-      faults = N.faults;
-      moment = N.moment;
+      first = N.first;
     }) D.view (C + 1) disks.new.items
         first.new }
 {
@@ -82,8 +80,7 @@ impl<D: Disk + Drop, N: Mounting> System<D, N> {
           base = N.base;
           told = N.told;
           before = N.before;
-          faults = N.faults;
-          moment = N.moment;
+          first = N.first;
         }) D.view
             result.2.items (reverse result.1.items) }
     {

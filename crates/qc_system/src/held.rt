@@ -33,8 +33,8 @@ where
 {
     pub(crate) site: Site<Boxed<D>, N, C>,
     ghost keeps: { ∥ KeepsSince (setting_of N.table N.base) C (N.told (C + 1)) (N.before (C + 1))
-        (N.moment (C + 1)) site.log site.replica ∥₁ },
-    ghost pays: { Pays (N.faults (C + 1)) (downs site.replica.pass.mine)
+        (N.first (C + 1)) site.log site.replica ∥₁ },
+    ghost pays: { Pays (N.first (C + 1)).faults (downs site.replica.pass.mine)
         (D.view (disk_of (journal_in site.log)).disk.value).faults },
 }
 
@@ -49,8 +49,7 @@ impl<D: Disk + Drop, N: Mounting, const C: u8> Held<D, N, C> {
           base = N.base;
           told = N.told;
           before = N.before;
-          faults = N.faults;
-          moment = N.moment;
+          first = N.first;
         }) C mounted }
     {
         Held {
@@ -103,8 +102,7 @@ impl<D: Disk + Drop, N: Mounting, const C: u8> Held<D, N, C> {
           base = N.base;
           told = N.told;
           before = N.before;
-          faults = N.faults;
-          moment = N.moment;
+          first = N.first;
         }) C (D.view result.0) result.1.seen }
     {
         let (disk, pass) = self.site.into_parts();

@@ -8,9 +8,10 @@ ghost use Rattle.qc_event.specs.Listed.{listed};
 ghost use Rattle.qc_event.specs.Seats.{ledger_seat};
 ghost use Rattle.qc_event.specs.Tables.{setting_of};
 ghost use Rattle.qc_journal.specs.Journal.{disk_of};
-ghost use Rattle.qc_ledger.specs.Entered.{tops_of, IsOver, SeesMore};
+ghost use Rattle.qc_ledger.specs.Entered.{tops_of, GrowsBy, IsOver, SeesMore};
 ghost use Rattle.qc_ledger.specs.Mounted.{journal_of, records_of};
-ghost use Rattle.qc_ledger.specs.Shelf.{journal_in};
+ghost use Rattle.qc_ledger.specs.Runs.{Leaves};
+ghost use Rattle.qc_ledger.specs.Shelf.{journal_in, top_body};
 ghost use Rattle.qc_ledger.specs.Since.{TopsGrow};
 ghost use Rattle.qc_pass.specs.Entries.{entries_of};
 ghost use Rattle.qc_system.specs.Closing.{LedgerKeeps};
@@ -33,8 +34,8 @@ where
     Boxed<D>: Disk,
 {
     pub(crate) ledger: Ledger<Boxed<D>, N>,
-    ghost keeps: { ∥ TopsSince (N.told 0) (N.before 0) (N.moment 0) ledger.shelf ledger.pass ∥₁ },
-    ghost pays: { Pays (N.faults 0) (downs ledger.pass.mine)
+    ghost keeps: { ∥ TopsSince (N.told 0) (N.before 0) (N.first 0) ledger.shelf ledger.pass ∥₁ },
+    ghost pays: { Pays (N.first 0).faults (downs ledger.pass.mine)
         (D.view (disk_of (journal_in ledger.shelf)).disk.value).faults },
 }
 
@@ -61,6 +62,12 @@ fn log_listed<D: Disk + Drop, N: Mounting, R: Wait>(
         → TopsGrow (listed ledger.old.pass.seen) before since ledger.old.shelf ledger.old.pass.seen
         → TopsGrow (listed ledger.new.pass.seen) before since ledger.new.shelf
         ledger.new.pass.seen }
+    ensures any_moment { (before : List (List ℕ))
+        → IsOver (listed ledger.old.pass.seen) before ledger.old.shelf
+        (tops_of ledger.old.pass.mine)
+        → Leaves (journal_in ledger.old.shelf) (journal_in ledger.new.shelf)
+        (GrowsBy (top_body top.now aborted.now)
+        (D.view (disk_of (journal_in ledger.old.shelf))).may_leave) }
     ensures pays { (first : ℕ) → Pays first (downs ledger.old.pass.mine)
         (D.view (disk_of (journal_in ledger.old.shelf))).faults
         → Pays first (downs ledger.new.pass.mine)
@@ -82,7 +89,7 @@ impl<D: Disk + Drop, N: Mounting> HeldLedger<D, N> {
     pub(crate) fn new(book: Book<Boxed<D>>, pass: Pass<N>) -> Self
         requires ledger { (pass.live ≡ true) × (pass.number ≡ ledger_seat) × (pass.out ≡ []) }
         requires fresh { (pass.mine ≡ []) × (pass.kin ≡ []) }
-        requires found { IsFound (N.told 0) (N.before 0) (N.faults 0) (N.moment 0) (records_of book)
+        requires found { IsFound (N.told 0) (N.before 0) (N.first 0) (records_of book)
             (journal_of book) }
     {
         HeldLedger {
@@ -121,8 +128,7 @@ impl<D: Disk + Drop, N: Mounting> HeldLedger<D, N> {
           base = N.base;
           told = N.told;
           before = N.before;
-          faults = N.faults;
-          moment = N.moment;
+          first = N.first;
         }) (D.view result.0)
             result.1.seen }
     {

@@ -7,6 +7,7 @@ use std::marker::Brand;
 /// call that names a system picks it.
 pub trait Mounting: Store {
     ghost use Rattle.std.specs.Prelude.{ℕ, Bool, List};
+    ghost use Rattle.qc_disk.specs.Disk.{View};
 
     /// Whether the disk tells its bytes.
     ghost told: { ℕ → Bool };
@@ -14,21 +15,17 @@ pub trait Mounting: Store {
     /// The bodies of its records.
     ghost before: { ℕ → List (List ℕ) };
 
-    /// Its count of faults.
-    ghost faults: { ℕ → ℕ };
-
-    /// Its moment.
-    ghost moment: { ℕ → ℕ };
+    /// The disk as it was then: its count of faults, its moment, and what a crash left before.
+    ghost first: { ℕ → View };
 }
 
 impl Mounting for Brand {
     ghost use Rattle.std.specs.Prelude.{[], false};
+    ghost use Rattle.qc_system.specs.Grown.{no_disk};
 
     ghost told = { λ _. false };
 
     ghost before = { λ _. [] };
 
-    ghost faults = { λ _. 0 };
-
-    ghost moment = { λ _. 0 };
+    ghost first = { λ _. no_disk };
 }

@@ -31,16 +31,14 @@ fn enter_at<D: Disk + Drop, N: Mounting, const C: u8, R: Wait>(
       base = N.base;
       told = N.told;
       before = N.before;
-      faults = N.faults;
-      moment = N.moment;
+      first = N.first;
     }) C copies.old.items }
     ensures first { IsOpening first.new (C + 2) }
     ensures waiting { AreWaiting (record {
       base = N.base;
       told = N.told;
       before = N.before;
-      faults = N.faults;
-      moment = N.moment;
+      first = N.first;
     }) (C + 1) copies.new.items }
     ensures there { IsThere C all (is_some result) }
 {
@@ -66,15 +64,14 @@ impl<D: Disk + Drop, N: Mounting> System<D, N> {
         requires base { parts.blank.base ≡ N.base }
         requires proper { IsProper (setting_of N.table N.base) }
         requires room { (parts.room.items ≡ []) × (17 ≤ vec_capacity parts.room) }
-        requires ledger { IsFound (N.told 0) (N.before 0) (N.faults 0) (N.moment 0)
+        requires ledger { IsFound (N.told 0) (N.before 0) (N.first 0)
             (book.records_of parts.book) (book.journal_of parts.book) }
         requires many { length parts.copies.items ≡ length N.base }
         requires copies { AreMounted (record {
           base = N.base;
           told = N.told;
           before = N.before;
-          faults = N.faults;
-          moment = N.moment;
+          first = N.first;
         }) 0 parts.copies.items }
         ensures first { IsOpening result.1 17 }
         ensures epoch { result.0.desk.epoch ≡ parts.blank.epoch }

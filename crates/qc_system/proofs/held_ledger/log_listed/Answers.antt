@@ -4,8 +4,10 @@ use Rattle.qc_event.specs.Legal.{Legal}
 use Rattle.qc_event.specs.Listed.{listed}
 use Rattle.qc_event.specs.Seats.{ledger_seat}
 use Rattle.qc_event.specs.Tables.{setting_of}
-use Rattle.qc_ledger.specs.Entered.{IsOver, tops_of}
-use Rattle.qc_ledger.specs.Shelf.{journal_in}
+use Rattle.qc_journal.specs.Journal.{disk_of}
+use Rattle.qc_ledger.specs.Entered.{GrowsBy, IsOver, tops_of}
+use Rattle.qc_ledger.specs.Runs.{Leaves}
+use Rattle.qc_ledger.specs.Shelf.{journal_in, top_body}
 use Rattle.qc_ledger.specs.Since.{AreTopsBy, TopsGrow}
 use Rattle.qc_ledger.proofs.Passes.{sees_on}
 use Rattle.qc_ledger.proofs.Since.{grown_more, tops_on}
@@ -52,6 +54,12 @@ returns-clause-grown g c = λ before since over grown.
     (λ bodies are. tops_retold setting first.pass.seen last.pass.seen seen legal c.known.ensures.legal bodies are) grown in
     let now : TopsGrow f before since mid.shelf mid.pass.seen = c.log-answer.ensures.grown f before since told was had in
     tops_on f before since mid.shelf last.shelf mid.pass.seen last.pass.seen (ap journal_in c.show.ensures.shelf) c.show.ensures.seen now
+
+pub returns-clause-any_moment : goal.returns-clause-any_moment
+returns-clause-any_moment g c = λ before over.
+    let old = c.args.ledger.now.shelf in
+    let left = c.log-answer.ensures.any_moment (listed c.args.ledger.now.pass.seen) before over in
+    subst (λ s. Leaves (journal_in old) (journal_in s) (GrowsBy (top_body c.args.top.now c.args.aborted.now) (g.D.Disk.view (disk_of (journal_in old))).may_leave)) (sym c.show.ensures.shelf) left
 
 pub returns-clause-pays : goal.returns-clause-pays
 returns-clause-pays g c = λ first pays.

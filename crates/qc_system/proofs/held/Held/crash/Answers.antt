@@ -2,9 +2,9 @@
 use Rattle.std.proofs.Common.{ℕ, ◌+◌, sym, ap, subst}
 use Rattle.std.proofs.Math.Logic.{∥∥₁_map}
 use Rattle.qc_event.specs.Tables.{setting_of}
-use Rattle.qc_ledger.specs.Since.{GrownSince}
-use Rattle.qc_site.specs.Since.{AreGrantsBy, GrantsGrow}
+use Rattle.qc_site.specs.Since.{AreGrantsBy}
 use Rattle.qc_pass.specs.declared.view.View.{View}
+use Rattle.qc_system.specs.Grown.{GrownFrom}
 use Rattle.qc_system.specs.Kept.{Pays, downs}
 use Rattle.qc_system.proofs.held.Held.crash.Goals as goal
 
@@ -12,8 +12,8 @@ pub invariant_of-self : goal.invariant_of-self
 invariant_of-self g c = let setting = setting_of g.N.Store.table g.N.Store.base in record {
   keeps = ∥∥₁_map c.args.self.now.keeps (λ k told. (
     c.crash.ensures.over (g.N.Mounting.before (g.row.C + 1)) (k told).0,
-    subst (λ (v : View). GrantsGrow setting g.row.C (g.N.Mounting.before (g.row.C + 1)) (g.N.Mounting.moment (g.row.C + 1)) c.crash.new.self.log v.seen) (sym c.crash.ensures.pass)
-        (subst (λ b. GrownSince (g.N.Mounting.moment (g.row.C + 1)) (g.N.Mounting.before (g.row.C + 1)) (AreGrantsBy setting g.row.C c.args.self.now.site.replica.pass.seen) (g.D.Disk.view b.disk.value)) (sym c.crash.ensures.disk) (k told).1),
+    subst (λ (v : View). GrownFrom (g.N.Mounting.first (g.row.C + 1)) (g.N.Mounting.before (g.row.C + 1)) (AreGrantsBy setting g.row.C v.seen) (g.D.Disk.view c.crash.new.self.log.journal.disk.disk.value)) (sym c.crash.ensures.pass)
+        (subst (λ b. GrownFrom (g.N.Mounting.first (g.row.C + 1)) (g.N.Mounting.before (g.row.C + 1)) (AreGrantsBy setting g.row.C c.args.self.now.site.replica.pass.seen) (g.D.Disk.view b.disk.value)) (sym c.crash.ensures.disk) (k told).1),
   ));
-  pays = subst (λ (p : View × ℕ). Pays (g.N.Mounting.faults (g.row.C + 1)) (downs p.0.mine) p.1) (λ i. (sym c.crash.ensures.pass i, sym (ap (λ b. (g.D.Disk.view b.disk.value).faults) c.crash.ensures.disk) i)) c.args.self.now.pays;
+  pays = subst (λ (p : View × ℕ). Pays (g.N.Mounting.first (g.row.C + 1)).faults (downs p.0.mine) p.1) (λ i. (sym c.crash.ensures.pass i, sym (ap (λ b. (g.D.Disk.view b.disk.value).faults) c.crash.ensures.disk) i)) c.args.self.now.pays;
 }

@@ -6,8 +6,8 @@ use Rattle.qc_event.specs.Seats.{copy_seat}
 use Rattle.qc_event.specs.Tables.{setting_of}
 use Rattle.qc_pass.specs.Entries.{entries_of}
 use Rattle.qc_pass.specs.declared.view.View.{View}
-use Rattle.qc_ledger.specs.Since.{GrownSince}
 use Rattle.qc_site.specs.Since.{AreGrantsBy}
+use Rattle.qc_system.specs.Grown.{GrownFrom}
 use Rattle.qc_system.specs.Kept.{Pays, downs}
 use Rattle.qc_system.specs.Left.{KeepsGrants}
 use Rattle.qc_system.proofs.Left.{keeps_grants}
@@ -19,7 +19,7 @@ returns-clause-kept g c =
     let site = c.args.self.site in
     let out = c.into_parts-disk.result.1 in
     let before = g.N.Mounting.before (g.row.C + 1) in
-    let since = g.N.Mounting.moment (g.row.C + 1) in
+    let first = g.N.Mounting.first (g.row.C + 1) in
     let disk = sym (c.into_disk.ensures ∙ ap (λ b. b.disk.value) c.into_parts-disk.ensures.disk) in
     let pass = sym c.into_parts-disk.ensures.pass in
     let own : out.mine ≡ entries_of (copy_seat g.row.C) out.seen = c.known.ensures.mine c.into_parts-disk.ensures.copy.0 ∙ ap (λ n. entries_of n out.seen) c.into_parts-disk.ensures.copy.1 in
@@ -30,8 +30,8 @@ returns-clause-kept g c =
           (subst (λ n. KeepsGrants setting n g.row.C before (g.D.Disk.view site.log.journal.disk.disk.value).may_leave site.replica.pass.seen) site.copies
           (keeps_grants setting g.row.C before site.log site.replica (k told).0 c.into_parts-disk.ensures.may))));
       grown = ∥∥₁_map c.args.self.keeps (λ k told.
-          subst (λ d. GrownSince since before (AreGrantsBy setting g.row.C out.seen) (g.D.Disk.view d)) disk
-          (subst (λ (v : View). GrownSince since before (AreGrantsBy setting g.row.C v.seen) (g.D.Disk.view site.log.journal.disk.disk.value)) pass (k told).1));
-      paid = subst (λ d. Pays (g.N.Mounting.faults (g.row.C + 1)) (downs (entries_of (copy_seat g.row.C) out.seen)) (g.D.Disk.view d).faults) disk
-          (subst (λ p. Pays (g.N.Mounting.faults (g.row.C + 1)) (downs p) (g.D.Disk.view site.log.journal.disk.disk.value).faults) (ap (λ (v : View). v.mine) pass ∙ own) c.args.self.pays);
+          subst (λ d. GrownFrom first before (AreGrantsBy setting g.row.C out.seen) (g.D.Disk.view d)) disk
+          (subst (λ (v : View). GrownFrom first before (AreGrantsBy setting g.row.C v.seen) (g.D.Disk.view site.log.journal.disk.disk.value)) pass (k told).1));
+      paid = subst (λ d. Pays first.faults (downs (entries_of (copy_seat g.row.C) out.seen)) (g.D.Disk.view d).faults) disk
+          (subst (λ p. Pays first.faults (downs p) (g.D.Disk.view site.log.journal.disk.disk.value).faults) (ap (λ (v : View). v.mine) pass ∙ own) c.args.self.pays);
     }

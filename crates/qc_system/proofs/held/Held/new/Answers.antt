@@ -4,20 +4,25 @@ use Rattle.qc_pass.specs.declared.view.View.{View}
 use Rattle.qc_event.specs.Tables.{setting_of}
 use Rattle.qc_site.specs.Since.{GrantsGrow}
 use Rattle.qc_site.specs.Sites.{KeepsGranted}
+use Rattle.qc_system.specs.Grown.{LeftAlike}
 use Rattle.qc_system.specs.Kept.{Pays, downs}
+use Rattle.qc_system.proofs.Grown.{disk_in}
 use Rattle.qc_system.proofs.Paying.{faults_of, pays_first}
 use Rattle.qc_system.proofs.held.Held.new.Goals as goal
 
 pub invariant_of-result : goal.invariant_of-result
 invariant_of-result g c =
     let found = c.requires.mounted.disk in
+    let first = g.N.Mounting.first (g.row.C + 1) in
     let none = ap (λ (v : View). downs v.mine) c.enter.ensures.pass ∙ ap downs c.requires.fresh.0 in
     record {
       keeps = ∣ (λ told. (
         subst (λ b. KeepsGranted g.row.C b c.enter.result.log c.enter.result.replica) (sym found.same) (c.enter.ensures.over (found.keeps told)),
-        subst (λ b. GrantsGrow (setting_of g.N.Store.table g.N.Store.base) g.row.C b (g.N.Mounting.moment (g.row.C + 1)) c.enter.result.log c.enter.result.replica.pass.seen) (sym found.same)
-            (c.enter.ensures.grown (g.N.Mounting.moment (g.row.C + 1)) found.at (found.keeps told)),
+        record {
+          began = subst (λ j. LeftAlike first (disk_in j)) (sym c.enter.ensures.journal) found.left;
+          grown = subst (λ b. GrantsGrow (setting_of g.N.Store.table g.N.Store.base) g.row.C b first.moment c.enter.result.log c.enter.result.replica.pass.seen) (sym found.same) (c.enter.ensures.grown first.moment found.at (found.keeps told));
+        },
       )) ∣₁;
-      pays = subst (λ n. Pays (g.N.Mounting.faults (g.row.C + 1)) n (faults_of c.enter.result.log.journal)) (sym none)
-          (pays_first (g.N.Mounting.faults (g.row.C + 1)) (faults_of c.enter.result.log.journal) (found.count ∙ sym (ap faults_of c.enter.ensures.journal)));
+      pays = subst (λ n. Pays first.faults n (faults_of c.enter.result.log.journal)) (sym none)
+          (pays_first first.faults (faults_of c.enter.result.log.journal) (found.count ∙ sym (ap faults_of c.enter.ensures.journal)));
     }

@@ -4,35 +4,49 @@ use Rattle.std.proofs.Math.Logic.{∥∥₁_map}
 use Rattle.std.specs.Prelude.{Ok}
 use Rattle.qc_ledger.proofs.Passes.{sees_on}
 use Rattle.qc_event.specs.Tables.{setting_of}
+use Rattle.qc_journal.specs.Journal.{disk_of}
 use Rattle.qc_pass.specs.Entries.{IsOlder}
 use Rattle.qc_site.specs.Answers.{HasAnswered}
 use Rattle.qc_site.specs.Log.{journal_in}
 use Rattle.qc_site.proofs.Since.{grants_on}
+use Rattle.qc_system.specs.Grown.{LeftAlike}
 use Rattle.qc_system.specs.Kept.{Pays, downs}
+use Rattle.qc_system.proofs.Grown.{disk_in, left_on}
 use Rattle.qc_system.proofs.Paying.{faults_of, serve_pays}
 use Rattle.qc_system.proofs.Standing.{answer_stands, full_still}
 use Rattle.qc_system.proofs.held.Held.serve.Goals as goal
 
 pub invariant_of-self : goal.invariant_of-self
 invariant_of-self g c = record {
-  keeps = ∥∥₁_map c.args.self.now.keeps (λ k told. (
-    c.serve.ensures.over (g.N.Mounting.before (g.row.C + 1)) (k told).0,
-    c.serve.ensures.grown (g.N.Mounting.before (g.row.C + 1)) (g.N.Mounting.moment (g.row.C + 1)) (k told).0 (k told).1,
-  ));
-  pays = serve_pays g.row.C c.args.ask.now c.args.self.now.site.replica c.serve.new.self.replica (g.N.Mounting.faults (g.row.C + 1)) _ _ c.serve.result c.serve.ensures.enters c.serve.ensures.err c.serve.ensures.cause c.args.self.now.pays;
+  keeps = ∥∥₁_map c.args.self.now.keeps (λ k told.
+      let before = g.N.Mounting.before (g.row.C + 1) in
+      let first = g.N.Mounting.first (g.row.C + 1) in (
+        c.serve.ensures.over before (k told).0,
+        record {
+          began = left_on first (disk_of (journal_in c.args.self.now.site.log)) (disk_of (journal_in c.serve.new.self.log)) (λ d. g.D.Disk.view d.disk.value) (c.serve.ensures.any_moment before (k told).0).1.earlier (k told).1.grown.later (k told).1.began;
+          grown = c.serve.ensures.grown before first.moment (k told).0 (k told).1.grown;
+        },
+      ));
+  pays = serve_pays g.row.C c.args.ask.now c.args.self.now.site.replica c.serve.new.self.replica (g.N.Mounting.first (g.row.C + 1)).faults _ _ c.serve.result c.serve.ensures.enters c.serve.ensures.err c.serve.ensures.cause c.args.self.now.pays;
 }
 
 pub invariant_of-self-in-Err : goal.invariant_of-self-in-Err
 invariant_of-self-in-Err g c =
-    let served = serve_pays g.row.C c.args.ask.now c.args.self.now.site.replica c.serve.new.self.replica (g.N.Mounting.faults (g.row.C + 1)) _ _ c.serve.result c.serve.ensures.enters c.serve.ensures.err c.serve.ensures.cause c.args.self.now.pays in
+    let before = g.N.Mounting.before (g.row.C + 1) in
+    let first = g.N.Mounting.first (g.row.C + 1) in
+    let served = serve_pays g.row.C c.args.ask.now c.args.self.now.site.replica c.serve.new.self.replica first.faults _ _ c.serve.result c.serve.ensures.enters c.serve.ensures.err c.serve.ensures.cause c.args.self.now.pays in
     record {
       keeps = ∥∥₁_map c.args.self.now.keeps (λ k told. (
-        c.show.ensures.over (g.N.Mounting.before (g.row.C + 1)) (c.serve.ensures.over (g.N.Mounting.before (g.row.C + 1)) (k told).0),
-        grants_on (setting_of g.N.Store.table g.N.Store.base) g.row.C (g.N.Mounting.before (g.row.C + 1)) (g.N.Mounting.moment (g.row.C + 1)) c.serve.new.self.log c.show.new.self.log c.serve.new.self.replica.pass.seen c.show.new.self.replica.pass.seen
-            (ap journal_in c.show.ensures.log) c.show.ensures.looks.older (c.serve.ensures.grown (g.N.Mounting.before (g.row.C + 1)) (g.N.Mounting.moment (g.row.C + 1)) (k told).0 (k told).1),
+        c.show.ensures.over before (c.serve.ensures.over before (k told).0),
+        record {
+          began = subst (λ l. LeftAlike first (disk_in (journal_in l))) (sym c.show.ensures.log)
+              (left_on first (disk_of (journal_in c.args.self.now.site.log)) (disk_of (journal_in c.serve.new.self.log)) (λ d. g.D.Disk.view d.disk.value) (c.serve.ensures.any_moment before (k told).0).1.earlier (k told).1.grown.later (k told).1.began);
+          grown = grants_on (setting_of g.N.Store.table g.N.Store.base) g.row.C before first.moment c.serve.new.self.log c.show.new.self.log c.serve.new.self.replica.pass.seen c.show.new.self.replica.pass.seen
+              (ap journal_in c.show.ensures.log) c.show.ensures.looks.older (c.serve.ensures.grown before first.moment (k told).0 (k told).1.grown);
+        },
       ));
-      pays = subst (λ l. Pays (g.N.Mounting.faults (g.row.C + 1)) (downs c.show.new.self.replica.pass.mine) (faults_of l.journal)) (sym c.show.ensures.log)
-          (subst (λ p. Pays (g.N.Mounting.faults (g.row.C + 1)) (downs p) (faults_of c.serve.new.self.log.journal)) (sym c.show.ensures.looks.mine) served);
+      pays = subst (λ l. Pays first.faults (downs c.show.new.self.replica.pass.mine) (faults_of l.journal)) (sym c.show.ensures.log)
+          (subst (λ p. Pays first.faults (downs p) (faults_of c.serve.new.self.log.journal)) (sym c.show.ensures.looks.mine) served);
     }
 
 pub returns-in-Ok-clause-answered : goal.returns-in-Ok-clause-answered

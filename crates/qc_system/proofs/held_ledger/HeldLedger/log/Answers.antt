@@ -1,12 +1,22 @@
 -- What the ledger logs its disk keeps and pays for.
 use Rattle.std.proofs.Math.Logic.{∥∥₁_map}
+use Rattle.qc_journal.specs.Journal.{disk_of}
+use Rattle.qc_ledger.specs.Shelf.{journal_in}
+use Rattle.qc_system.proofs.Grown.{left_on}
 use Rattle.qc_system.proofs.held_ledger.HeldLedger.log.Goals as goal
 
 pub invariant_of-self : goal.invariant_of-self
-invariant_of-self g c = record {
-  keeps = ∥∥₁_map c.args.self.now.keeps (λ k told. (
-    c.log_listed.ensures.keeps (g.N.Mounting.before 0) (k told).0,
-    c.log_listed.ensures.grown (g.N.Mounting.before 0) (g.N.Mounting.moment 0) (k told).0 (k told).1,
-  ));
-  pays = c.log_listed.ensures.pays (g.N.Mounting.faults 0) c.args.self.now.pays;
-}
+invariant_of-self g c =
+    let before = g.N.Mounting.before 0 in
+    let first = g.N.Mounting.first 0 in
+    let old = c.args.self.now.ledger in
+    record {
+      keeps = ∥∥₁_map c.args.self.now.keeps (λ k told. (
+        c.log_listed.ensures.keeps before (k told).0,
+        record {
+          began = left_on first (disk_of (journal_in old.shelf)) (disk_of (journal_in c.log_listed.new.ledger.shelf)) (λ d. g.D.Disk.view d.disk.value) (c.log_listed.ensures.any_moment before (k told).0).earlier (k told).1.grown.later (k told).1.began;
+          grown = c.log_listed.ensures.grown before first.moment (k told).0 (k told).1.grown;
+        },
+      ));
+      pays = c.log_listed.ensures.pays first.faults c.args.self.now.pays;
+    }

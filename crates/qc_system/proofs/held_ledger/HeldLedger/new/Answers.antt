@@ -4,7 +4,9 @@ use Rattle.qc_event.specs.Listed.{listed}
 use Rattle.qc_ledger.specs.Entered.{IsOver, tops_of}
 use Rattle.qc_ledger.specs.Since.{TopsGrow}
 use Rattle.qc_pass.specs.declared.view.View.{View}
+use Rattle.qc_system.specs.Grown.{LeftAlike}
 use Rattle.qc_system.specs.Kept.{Pays, downs}
+use Rattle.qc_system.proofs.Grown.{disk_in}
 use Rattle.qc_system.proofs.Paying.{faults_of, pays_first}
 use Rattle.qc_system.proofs.held_ledger.HeldLedger.new.Goals as goal
 
@@ -13,11 +15,15 @@ invariant_of-result g c =
     let found = c.requires.found in
     let ledger = c.enter.result in
     let told = listed ledger.pass.seen in
+    let first = g.N.Mounting.first 0 in
     let none = ap (λ (v : View). downs v.mine) c.enter.ensures.pass ∙ ap downs c.requires.fresh.0 in
     record {
       keeps = ∣ (λ tells. (
         subst (λ b. IsOver told b ledger.shelf (tops_of ledger.pass.mine)) (sym found.same) (c.enter.ensures.over told c.requires.fresh.0 (found.keeps tells)),
-        subst (λ b. TopsGrow told b (g.N.Mounting.moment 0) ledger.shelf ledger.pass.seen) (sym found.same) (c.enter.ensures.grown told (g.N.Mounting.moment 0) found.at (found.keeps tells)),
+        record {
+          began = subst (λ j. LeftAlike first (disk_in j)) (sym c.enter.ensures.journal) found.left;
+          grown = subst (λ b. TopsGrow told b first.moment ledger.shelf ledger.pass.seen) (sym found.same) (c.enter.ensures.grown told first.moment found.at (found.keeps tells));
+        },
       )) ∣₁;
-      pays = subst (λ n. Pays (g.N.Mounting.faults 0) n (faults_of ledger.shelf.journal)) (sym none) (pays_first (g.N.Mounting.faults 0) (faults_of ledger.shelf.journal) (found.count ∙ sym (ap faults_of c.enter.ensures.journal)));
+      pays = subst (λ n. Pays first.faults n (faults_of ledger.shelf.journal)) (sym none) (pays_first first.faults (faults_of ledger.shelf.journal) (found.count ∙ sym (ap faults_of c.enter.ensures.journal)));
     }
