@@ -4,4 +4,5 @@ pub mod Plans
 pub mod Refusals
 pub mod Names
 pub mod Proper
+pub mod ProperScript
 pub mod OneScript

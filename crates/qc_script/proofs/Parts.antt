@@ -9,6 +9,10 @@ use Rattle.qc_script.specs.Steps.{put}
 abbrev pub with_front : {B : Type 0} → List B → Read (List B) → Read (List B)
 with_front front r = r >>= λ ys. Ok (front ++ ys)
 
+-- the same, where bodies are counted
+abbrev pub with_counted : {B : Type 0} → List B → Counted (List B) → Counted (List B)
+with_counted front r = r >>= λ rest. Ok (front ++ rest.0, rest.1)
+
 -- the plan that steps and those after them make, from the plan of those after them
 abbrev pub put_all : List Step → Plan → Plan
 put_all [] rest = rest

@@ -1,6 +1,6 @@
--- A script that is read is proper: its numbers are within their limits, its records have legal configurations,
--- and its steps are about these.
-use Rattle.std.proofs.Common.{◌≡◌, ℕ, zero, suc, ◌+◌, ◌-◌, ◌*◌, ◌<◌, ◌≤◌, Bool, true, false, cond, List, [], ◌∷◌, ◌++◌, length, Option, Some, None, Result, Ok, Err, refl, sym, ap, ◌∙◌, subst, arith}
+-- Parts of a script that are read are proper: numbers are within their limits, records have legal configurations, and
+-- steps are about these records.
+use Rattle.std.proofs.Common.{◌≡◌, ℕ, zero, suc, ◌+◌, ◌-◌, ◌*◌, ◌<◌, ◌≤◌, Bool, true, false, cond, List, [], ◌∷◌, ◌++◌, length, Option, Some, None, Ok, Err, refl, ap, ◌∙◌, subst, arith}
 use Rattle.std.specs.Prelude.{◌==◌, ◌||◌, ◌&&◌, nat_lt, nat_le, sum, IfOk, IfSome, ok_or, if◌then◌else◌, codes}
 use Rattle.std.specs.List.{AllByRecursion, position}
 use Rattle.std.specs.Str.{bytes_eq}
@@ -16,16 +16,13 @@ use Rattle.qc_config.specs.Config.{IsLegal, fault}
 use Rattle.qc_config.specs.declared.config.BadConfig.{BadConfig}
 use Rattle.qc_event.specs.declared.table.Row.{Row}
 use Rattle.qc_event.specs.declared.table.Table.{Table}
-use Rattle.qc_net.specs.declared.link.Fate.{Fate}
-use Rattle.qc_script.specs.Plan.{Plan, Numbered, ScriptPlan, SessionPlan, IsTried, PlanWithin, TopsWithin, value_of}
-use Rattle.qc_script.specs.Steps.{plan_of_script}
+use Rattle.qc_script.specs.Plan.{Plan, Numbered, IsTried, PlanWithin, TopsWithin, value_of}
 use Rattle.qc_script.specs.declared.bad_script.BadScript.{BadScript}
 use Rattle.qc_script.specs.declared.bad_script.BadScript.TheVariants.{Shape, Config, Unknown}
 use Rattle.qc_script.specs.declared.bad_script.Member.{Member}
 use Rattle.qc_script.specs.declared.bad_script.Member.TheVariants as part
-use Rattle.qc_script.specs.declared.script.Script.{Script}
-use Rattle.qc_script.specs.ScriptText.{Read, Text, Front, Counted, Net, followed, ◌>>=◌, must, each, limited, member_or, config_of, row_of, names_of, rows_of, number_of, fate_of, fates_of, net_of, is_word, read_of, amount_of, set_of, add_of, sub_of, need_of, reconf_of, child_of, abort_of, crash_of, step_in, step_of, steps_of, tries_of, body_of, bodies_of, session_of, only_session, copies_of, records_of, session_at, script_of}
-use Rattle.qc_script.specs.Reading.{Gives, IsScript, IsProperRow, IsProper}
+use Rattle.qc_script.specs.ScriptText.{Read, Text, Front, Counted, followed, ◌>>=◌, must, each, limited, member_or, config_of, row_of, names_of, rows_of, number_of, is_word, read_of, amount_of, set_of, add_of, sub_of, need_of, reconf_of, child_of, abort_of, crash_of, step_in, step_of, steps_of, tries_of, body_of, bodies_of}
+use Rattle.qc_script.specs.Reading.{IsProperRow}
 
 -- what holds of the last of several parts, where each of them is read
 pub then_ok : {A B : Type 0} (P : B → Type 0) (r : Read A) (f : A → Read B) → ((x : A) → r ≡ Ok x → IfOk (f x) P) → IfOk (r >>= f) P
@@ -58,14 +55,14 @@ found_or P default read None p h = p
 found_or P default read (Some d) p h = h d
 
 -- what holds of the default and of what is read
-given_or : {A : Type 0} (P : A → Type 0) (name : Text) (default : A) (read : Data → Read A) (d : Data) → P default → ((d : Data) → IfOk (read d) P) → IfOk (member_or name default read d) P
+pub given_or : {A : Type 0} (P : A → Type 0) (name : Text) (default : A) (read : Data → Read A) (d : Data) → P default → ((d : Data) → IfOk (read d) P) → IfOk (member_or name default read d) P
 given_or P name default read d p h = found_or P default read (get name d) p h
 
 -- a number of 1 to 64
-abbrev IsFew : ℕ → Type 0
+abbrev pub IsFew : ℕ → Type 0
 IsFew n = (1 ≤ n) × (n ≤ 64)
 
-few_or : (word : Member) (name : Text) (default : ℕ) (d : Data) → IsFew default → IfOk (member_or name default (limited word 1 64) d) IsFew
+pub few_or : (word : Member) (name : Text) (default : ℕ) (d : Data) → IsFew default → IfOk (member_or name default (limited word 1 64) d) IsFew
 few_or word name default d few = given_or IsFew name default (limited word 1 64) d few (limited_within word 1 64)
 
 -- ---- configurations
@@ -92,7 +89,7 @@ no_fault : {A : Type 0} (P : A → Type 0) (o : Option BadConfig) (x : A) → (o
 no_fault P None x h = h refl
 no_fault P (Some e) x h = tt
 
-length-each : {A B : Type 0} (f : A → Read B) (xs : List A) → IfOk (each f xs) (λ ys. length ys ≡ length xs)
+pub length-each : {A B : Type 0} (f : A → Read B) (xs : List A) → IfOk (each f xs) (λ ys. length ys ≡ length xs)
 length-each f [] = refl
 length-each f (x ∷ xs) = then_ok _ _ _ λ y _. then_ok _ _ _ λ ys h. ap suc (IfOk-at_ok (λ zs. length zs ≡ length xs) h (length-each f xs))
 
@@ -116,7 +113,7 @@ All-push : {A : Type 0} (P : A → Type 0) (xs : List A) (y : A) → AllByRecurs
 All-push P [] y all h = (h, tt)
 All-push P (x ∷ xs) y all h = (all.0, All-push P xs y all.1 h)
 
-rows_proper : (copies : ℕ) (rows : List Row) (ds : List Data) → AllByRecursion (IsProperRow copies) rows → IfOk (rows_of copies rows ds) (AllByRecursion (IsProperRow copies))
+pub rows_proper : (copies : ℕ) (rows : List Row) (ds : List Data) → AllByRecursion (IsProperRow copies) rows → IfOk (rows_of copies rows ds) (AllByRecursion (IsProperRow copies))
 rows_proper copies rows [] all = all
 rows_proper copies rows (d ∷ ds) all = then_ok _ _ _ λ row h. rows_proper copies (rows ++ row ∷ []) ds (All-push (IsProperRow copies) rows row all (IfOk-at_ok (IsProperRow copies) h (row_proper copies (names_of rows) d)))
 
@@ -124,7 +121,7 @@ length_push : (rows : List Row) (row : Row) (n : ℕ) → length (rows ++ row �
 length_push [] row n = omega arith
 length_push (r ∷ rows) row n = let h = length_push rows row n in omega arith
 
-length-rows_of : (copies : ℕ) (rows : List Row) (ds : List Data) → IfOk (rows_of copies rows ds) (λ all. length all ≡ length rows + length ds)
+pub length-rows_of : (copies : ℕ) (rows : List Row) (ds : List Data) → IfOk (rows_of copies rows ds) (λ all. length all ≡ length rows + length ds)
 length-rows_of copies rows [] = omega arith
 length-rows_of copies rows (d ∷ ds) =
     then_ok _ _ _ λ row _. IfOk-weaker (rows_of copies (rows ++ row ∷ []) ds) _ _ (λ all h. h ∙ length_push rows row (length ds)) (length-rows_of copies (rows ++ row ∷ []) ds)
@@ -293,103 +290,13 @@ body_within table (suc below) around next d few =
           (steps_within table (16 - below) (body_of below (around * tries) table) (next + 1) list (omega arith) (λ n x. inner_within table below (around * tries) n x (omega arith) (body_within table below (around * tries) n x (omega arith))))),
     )
 
-bodies_within : (table : Table) (next : ℕ) (ds : List Data) → IfOk (bodies_of table next ds) (TopsWithin table.copies (length table.records))
+-- bodies of tops over the records of a table
+abbrev pub AreTops : Table → List Numbered × ℕ → Type 0
+AreTops table p = TopsWithin table.copies (length table.records) p.0
+
+pub bodies_within : (table : Table) (next : ℕ) (ds : List Data) → IfOk (bodies_of table next ds) (AreTops table)
 bodies_within table next [] = tt
 bodies_within table next (d ∷ ds) =
-    then_ok _ _ _ λ b h. then_ok _ _ _ λ bodies hs.
+    then_ok _ _ _ λ b h. then_ok _ _ _ λ rest hs.
     let top = IfOk-at_ok (IsBody table 1) h (body_within table 16 1 next d (omega arith)) in
-    (top.0, top.1, IfOk-at_ok (TopsWithin table.copies (length table.records)) hs (bodies_within table b.1 ds))
-
--- ---- sessions
-
-fates_few : (d : Data) → IfOk (fates_of d) (λ fates. length fates ≤ 64)
-fates_few d =
-    then_ok _ _ _ λ text _. then_ok _ _ _ λ fates h. then_ok _ _ _ λ t limited.
-    let counted = IfOk-at_ok (λ (ys : List Fate). length ys ≡ length text) h (length-each fate_of text) in
-    let few = within_limits 0 64 (length text) (must_true _ _ t limited) in
-    omega arith
-
--- few fates, and a hold within its limits
-abbrev IsProperNet : Net → Type 0
-IsProperNet net = (length net.0 ≤ 64) × IsFew net.1
-
-net_proper : (d : Data) → IfOk (net_of d) IsProperNet
-net_proper d =
-    then_ok _ _ _ λ _ _. then_ok _ _ _ λ fates f. then_ok _ _ _ λ hold h. (
-      IfOk-at_ok (λ (fs : List Fate). length fs ≤ 64) f (given_or (λ fs. length fs ≤ 64) (codes "fates") [] fates_of d (omega arith) fates_few),
-      IfOk-at_ok IsFew h (few_or part.Hold (codes "hold") 1 d (omega arith, omega arith)),
-    )
-
--- a session over the records of a table
-record IsProperSession (table : Table) (s : SessionPlan) : Type 0 where
-  net : IsProperNet (s.fates, s.hold)
-  within : TopsWithin table.copies (length table.records) s.tops
-
-session_proper : (table : Table) (d : Data) → IfOk (session_of table d) (IsProperSession table)
-session_proper table d =
-    then_ok _ _ _ λ _ _. then_ok _ _ _ λ net n. then_ok _ _ _ λ list _. then_ok _ _ _ λ tops t.
-    record {
-      net = IfOk-at_ok IsProperNet n (given_or IsProperNet (codes "net") ([], 1) net_of d (omega arith, (omega arith, omega arith)) net_proper);
-      within = IfOk-at_ok (TopsWithin table.copies (length table.records)) t (bodies_within table 0 list);
-    }
-
-only_proper : (table : Table) (ds : List Data) → IfOk (only_session table ds) (IsProperSession table)
-only_proper table [] = tt
-only_proper table (d ∷ []) = session_proper table d
-only_proper table (d ∷ e ∷ ds) = tt
-
-one_proper : (table : Table) (d : Data) → IfOk (session_at table d) (IsProperSession table)
-one_proper table d = then_ok _ _ _ λ sessions _. then_ok _ _ _ λ _ _. only_proper table sessions
-
--- ---- scripts
-
-some_copies : (d : Data) → IfOk (copies_of d) (λ copies. (1 ≤ copies) × (copies ≤ 16))
-some_copies d = then_ok _ _ _ λ copies _. then_ok _ _ _ λ t limited. within_limits 1 16 copies (must_true _ _ t limited)
-
--- a table of 1 to 64 proper records at so many copies
-record IsProperTable (copies : ℕ) (table : Table) : Type 0 where
-  at_copies : table.copies ≡ copies
-  some : 0 < length table.records
-  few : length table.records ≤ 64
-  each_one : AllByRecursion (IsProperRow copies) table.records
-
-all_proper : (copies : ℕ) (list : List Data) (rows : List Row) → rows_of copies [] list ≡ Ok rows → IsFew (length list) → IsProperTable copies (record { copies = copies; records = rows })
-all_proper copies list rows h l =
-    let counted : length rows ≡ 0 + length list = IfOk-at_ok (λ (all : List Row). length all ≡ 0 + length list) h (length-rows_of copies [] list) in
-    record { at_copies = refl; some = omega arith; few = omega arith; each_one = IfOk-at_ok (AllByRecursion (IsProperRow copies)) h (rows_proper copies [] list tt) }
-
-records_proper : (copies : ℕ) (d : Data) → IfOk (records_of copies d) (IsProperTable copies)
-records_proper copies d =
-    then_ok _ _ _ λ list _. then_ok _ _ _ λ t limited. then_ok _ _ _ λ rows h.
-    all_proper copies list rows h (within_limits 1 64 (length list) (must_true _ _ t limited))
-
--- what is a script is proper
-pub script_proper : (d : Data) → IfOk (script_of d) IsProper
-script_proper d =
-    then_ok _ _ _ λ _ _. then_ok _ _ _ λ copies c. then_ok _ _ _ λ patience w. then_ok _ _ _ λ table r. then_ok _ _ _ λ session s.
-    let limits = IfOk-at_ok (λ n. (1 ≤ n) × (n ≤ 16)) c (some_copies d) in
-    let patient = IfOk-at_ok IsFew w (few_or part.Patience (codes "patience") 4 d (omega arith, omega arith)) in
-    let records = IfOk-at_ok (IsProperTable copies) r (records_proper copies d) in
-    let proper = IfOk-at_ok (IsProperSession table) s (one_proper table d) in
-    record {
-      some_copy = omega arith;
-      few_copies = omega arith;
-      some_patience = omega arith;
-      little_patience = patient.1;
-      some_records = records.some;
-      few_records = records.few;
-      rows = subst (λ n. AllByRecursion (IsProperRow n) table.records) (sym records.at_copies) records.each_one;
-      few_fates = proper.net.0;
-      some_hold = omega arith;
-      short_hold = proper.net.1.1;
-      tops = proper.within;
-    }
-
--- so is what bytes are
-pub proper_script : (bytes : List ℕ) (s : ScriptPlan) → IsScript bytes s → IsProper s
-proper_script bytes s is = subst (λ r. IfOk r IsProper) is.reads (script_proper is.value)
-
--- so is what a reader gives as what the value is
-pub gives_proper : (d : Data) (r : Result Script BadScript) → Gives plan_of_script r (script_of d) → IfOk r (λ s. IsProper (plan_of_script s))
-gives_proper d (Ok s) h = IfOk-at_ok IsProper h (script_proper d)
-gives_proper d (Err e) h = tt
+    (top.0, top.1, IfOk-at_ok (AreTops table) hs (bodies_within table b.1 ds))

@@ -11,7 +11,7 @@ use Rattle.qc_script.specs.declared.bad_script.Member.TheVariants as part
 use Rattle.qc_script.specs.Plan.{Plan, Numbered}
 use Rattle.qc_script.specs.Reading.{Fails}
 use Rattle.qc_script.specs.ScriptText.{Read, Counted, followed, ◌>>=◌, list_at, steps_of, step_in, body_object, tries_of, must_of, body_of, bodies_of}
-use Rattle.qc_script.proofs.Parts.{with_front}
+use Rattle.qc_script.proofs.Parts.{with_counted}
 
 fails_first : {A B : Type 0} (e : BadScript) (r : Read A) (f : A → Read B) → Fails e r → Fails e (r >>= f)
 unfolding followed
@@ -62,10 +62,10 @@ body_read levels below around tries must table next d list plan after is steps r
     rw level (is_then _ _ tt is.checked ∙ is_then _ _ tries is.tried ∙ is_then _ _ must is.needed ∙ is_then _ _ list steps ∙ is_then _ _ (plan, after) read)
 
 -- the bodies of a list are refused for what the next of them is
-pub bodies_refused : (table : Table) (next : ℕ) (front : List Numbered) (list : List Value) (i : ℕ) (x : Value) (e : BadScript) → i < length list → x ≡ get_or list i x → Fails e (body_of 16 1 table next (view x)) → Fails e (with_front front (bodies_of table next (map view (drop i list))))
+pub bodies_refused : (table : Table) (next : ℕ) (front : List Numbered) (list : List Value) (i : ℕ) (x : Value) (e : BadScript) → i < length list → x ≡ get_or list i x → Fails e (body_of 16 1 table next (view x)) → Fails e (with_counted front (bodies_of table next (map view (drop i list))))
 bodies_refused table next front list i x e below is fails =
     let split : drop i list ≡ x ∷ drop (i + 1) list = rw add-one (drop-cons list i x below ∙ ap (λ y. y ∷ drop (suc i) list) (sym is)) in
-    subst (λ (vs : List Value). Fails e (with_front front (bodies_of table next (map view vs)))) (sym split)
+    subst (λ (vs : List Value). Fails e (with_counted front (bodies_of table next (map view vs)))) (sym split)
     (fails_first e _ _ (fails_first e _ _ fails))
 
 -- a step has two elements or three

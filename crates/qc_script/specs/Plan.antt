@@ -1,5 +1,6 @@
--- What a body does: its steps one after another; and what a script is.
+-- What a body does: its steps one after another; and what sessions and a script are.
 use Rattle.std.specs.Prelude.{ℕ, Bool, ◌+◌, ◌-◌, ◌%◌, ◌^◌, ◌<◌, ◌≤◌, nat_lt, if◌then◌else◌, List, [], ◌∷◌, length}
+use Rattle.std.specs.List.{AllByRecursion}
 use Rattle.qc_event.specs.declared.event.Answer.{Answer}
 use Rattle.qc_event.specs.declared.event.Answer.TheVariants as answer
 use Rattle.qc_event.specs.Base.{Setting, IsConfigFor}
@@ -55,14 +56,11 @@ pub record SessionPlan : Type 0 where
   pub hold : ℕ
   pub tops : List Numbered
 
--- A script: its table, how many due steps a sender waits, the fates of its session's requests, after how many
--- due steps a held one is delivered, and the bodies of the session's tops.
+-- A script: its table, how many due steps a sender waits, and its sessions in order.
 pub record ScriptPlan : Type 0 where
   pub table : Table
   pub patience : ℕ
-  pub fates : List Fate
-  pub hold : ℕ
-  pub tops : List Numbered
+  pub sessions : List SessionPlan
 
 -- a body is tried once or more
 abbrev pub IsTried : ℕ → Type 0
@@ -90,6 +88,16 @@ abbrev pub TopsWithin : ℕ → ℕ → List Numbered → Type 0
 TopsWithin copies records [] = Unit {0}
 TopsWithin copies records (b ∷ bodies) = IsTried b.tries × PlanWithin copies records 1 b.plan × TopsWithin copies records bodies
 
+-- a session with at most 64 fates and a hold of 1 to 64, whose tops are about so many records at so many copies
+pub record SessionWithin (copies records : ℕ) (s : SessionPlan) : Type 0 where
+  pub few_fates : length s.fates ≤ 64
+  pub some_hold : 0 < s.hold
+  pub short_hold : s.hold ≤ 64
+  pub tops : TopsWithin copies records s.tops
+
+abbrev pub SessionsWithin : ℕ → ℕ → List SessionPlan → Type 0
+SessionsWithin copies records sessions = AllByRecursion (SessionWithin copies records) sessions
+
 -- what may be asked for over the records and copies of a setting
 abbrev pub KindFits : Setting → Kind → Type 0
 KindFits setting k = KindWithin (length setting.base) (length setting.firsts) k
@@ -102,3 +110,6 @@ PlanFits setting depth plan = PlanWithin (length setting.base) (length setting.f
 
 abbrev pub BodiesFit : Setting → List Numbered → Type 0
 BodiesFit setting bodies = TopsWithin (length setting.base) (length setting.firsts) bodies
+
+abbrev pub SessionsFit : Setting → List SessionPlan → Type 0
+SessionsFit setting sessions = SessionsWithin (length setting.base) (length setting.firsts) sessions

@@ -7,7 +7,7 @@ use Rattle.serde_json.specs.Read.{read}
 use Rattle.qc_event.specs.Base.{IsConfigFor}
 use Rattle.qc_event.specs.declared.table.Row.{Row}
 use Rattle.qc_script.specs.ScriptText.{Read, script_of}
-use Rattle.qc_script.specs.Plan.{ScriptPlan, TopsWithin}
+use Rattle.qc_script.specs.Plan.{ScriptPlan, SessionsWithin}
 use Rattle.qc_script.specs.declared.bad_script.BadScript.{BadScript}
 use Rattle.qc_script.specs.declared.bad_script.BadScript.TheVariants.{NotJson, TooLong, Memory}
 
@@ -58,8 +58,8 @@ texts_of names = map (λ n. n.now) names
 abbrev pub IsProperRow : ℕ → Row → Type 0
 IsProperRow copies row = IsConfigFor copies row.config
 
--- A script with 1 to 16 copies and 1 to 64 records, whose sender and link wait for 1 to 64 due steps, with at
--- most 64 fates, and whose steps are about these records.
+-- A script with 1 to 16 copies, 1 to 64 records and 1 to 16 sessions, whose senders wait for 1 to 64 due steps, and whose
+-- sessions are about these records at these copies.
 pub record IsProper (s : ScriptPlan) : Type 0 where
   pub some_copy : 0 < s.table.copies
   pub few_copies : s.table.copies ≤ 16
@@ -68,7 +68,6 @@ pub record IsProper (s : ScriptPlan) : Type 0 where
   pub some_records : 0 < length s.table.records
   pub few_records : length s.table.records ≤ 64
   pub rows : AllByRecursion (IsProperRow s.table.copies) s.table.records
-  pub few_fates : length s.fates ≤ 64
-  pub some_hold : 0 < s.hold
-  pub short_hold : s.hold ≤ 64
-  pub tops : TopsWithin s.table.copies (length s.table.records) s.tops
+  pub some_sessions : 0 < length s.sessions
+  pub few_sessions : length s.sessions ≤ 16
+  pub sessions : SessionsWithin s.table.copies (length s.table.records) s.sessions

@@ -342,26 +342,29 @@ body_of (suc below) around table next d = do
   plan ← steps_of (body_of below (around * tries) table) (16 - below) table (next + 1) steps
   Ok (record { number = next; tries = tries; must = needed; plan = plan.0 }, plan.1)
 
+-- each element of a list, in order, where the numbers of bodies go on from one element to the next
+abbrev pub each_counted : {A : Type 0} → (ℕ → Data → Counted A) → ℕ → List Data → Counted (List A)
+each_counted f next [] = Ok ([], next)
+each_counted f next (d ∷ ds) = f next d >>= λ x. each_counted f x.1 ds >>= λ rest. Ok (x.0 ∷ rest.0, rest.1)
+
 -- the bodies of tops, the first of them with this number
-abbrev pub bodies_of : Table → ℕ → List Data → Read (List Numbered)
-bodies_of table next [] = Ok []
-bodies_of table next (d ∷ ds) = body_of 16 1 table next d >>= λ b. bodies_of table b.1 ds >>= λ rest. Ok (b.0 ∷ rest)
+abbrev pub bodies_of : Table → ℕ → List Data → Counted (List Numbered)
+bodies_of table next ds = each_counted (body_of 16 1 table) next ds
 
 -- SESSIONS
 
--- a session; without a net every request is delivered
-abbrev pub session_of : Table → Data → Read SessionPlan
-session_of table d = do
+-- a session, whose first body has this number; without a net every request is delivered
+abbrev pub session_of : Table → ℕ → Data → Counted SessionPlan
+session_of table next d = do
   _ ← object_of part.Session (codes "tops" ∷ []) (codes "net" ∷ []) d
   net ← member_or (codes "net") ([], 1) net_of d
   tops ← list_at (codes "tops") part.Tops d
-  bodies ← bodies_of table 0 tops
-  Ok (record { fates = net.0; hold = net.1; tops = bodies })
+  bodies ← bodies_of table next tops
+  Ok (record { fates = net.0; hold = net.1; tops = bodies.0 }, bodies.1)
 
--- the one session: more of them are not built yet
-abbrev pub only_session : Table → List Data → Read SessionPlan
-only_session table (d ∷ []) = session_of table d
-only_session table _ = Err (Shape part.Sessions)
+-- sessions in order, through all of which bodies are numbered from 0 on
+abbrev pub sessions_of : Table → List Data → Read (List SessionPlan)
+sessions_of table ds = each_counted (session_of table) 0 ds >>= λ sessions. Ok sessions.0
 
 -- SCRIPTS
 
@@ -378,11 +381,11 @@ records_of copies d = do
   rows ← rows_of copies [] records
   Ok (record { copies = copies; records = rows })
 
-abbrev pub session_at : Table → Data → Read SessionPlan
-session_at table d = do
+abbrev pub sessions_at : Table → Data → Read (List SessionPlan)
+sessions_at table d = do
   sessions ← list_at (codes "sessions") part.Sessions d
   _ ← within part.Sessions 1 16 (length sessions)
-  only_session table sessions
+  sessions_of table sessions
 
 abbrev pub script_of : Data → Read ScriptPlan
 script_of d = do
@@ -390,5 +393,5 @@ script_of d = do
   copies ← copies_of d
   patience ← member_or (codes "patience") 4 (limited part.Patience 1 64) d
   table ← records_of copies d
-  session ← session_at table d
-  Ok (record { table = table; patience = patience; fates = session.fates; hold = session.hold; tops = session.tops })
+  sessions ← sessions_at table d
+  Ok (record { table = table; patience = patience; sessions = sessions })

@@ -1,4 +1,4 @@
--- The plan that a body is.
+-- The plans that a body, a session and a script are.
 use Rattle.std.specs.Prelude.{List, [], ◌∷◌, map}
 use Rattle.qc_event.specs.declared.event.Kind.TheVariants as kind
 use Rattle.qc_script.specs.declared.script.Body.{Body, fold-Body}
@@ -46,5 +46,4 @@ plan_of_session s = record { fates = s.fates.items; hold = s.hold; tops = map nu
 
 -- what a script is
 abbrev pub plan_of_script : Script → ScriptPlan
-plan_of_script s =
-    record { table = s.table; patience = s.patience; fates = s.session.fates.items; hold = s.session.hold; tops = map numbered s.session.tops.items }
+plan_of_script s = record { table = s.table; patience = s.patience; sessions = map plan_of_session s.sessions.items }

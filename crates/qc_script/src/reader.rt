@@ -2,7 +2,7 @@
 //! the want of memory.
 #![tactic(auto, unfolding(crate::specs::ScriptText::followed))]
 
-ghost use Rattle.std.specs.Prelude.{◌≡◌, ◌≤◌, IfOk, IfErr};
+ghost use Rattle.std.specs.Prelude.{◌≡◌, ◌≤◌, map, IfOk, IfErr};
 ghost use Rattle.serde_json.specs.View.{view};
 ghost use Rattle.qc_script.specs.ScriptText as script;
 ghost use Rattle.qc_script.specs.Steps.{plan_of_session, plan_of_script};
@@ -18,7 +18,7 @@ use crate::script::{Script, Session};
 use object::{check_object, check_within, list_at, number_at, number_or};
 use rows::{Records, rows_of};
 use serde_json::Value;
-use session::session_of;
+use session::sessions_of;
 use std::alloc::Global;
 
 /// The most bytes of a script.
@@ -42,15 +42,17 @@ fn records_of<'v>(alloc: Global, copies: u8, value: &'v Value) -> Result<Records
     rows_of(alloc, copies, records)
 }
 
-fn session_at(alloc: Global, records: &Records<'_>, value: &Value) -> Result<Session, BadScript>
-    ensures { Gives plan_of_session result (script.session_at records.now.table (view value.now)) }
+fn sessions_at(
+    alloc: Global,
+    records: &Records<'_>,
+    value: &Value,
+) -> Result<Vec<Session>, BadScript>
+    ensures { Gives (λ sessions. map plan_of_session sessions.items) result
+        (script.sessions_at records.now.table (view value.now)) }
 {
     let sessions = list_at(value, "sessions", Member::Sessions)?;
     check_within(Member::Sessions, 1, 16, sessions.len() as u64)?;
-    match sessions {
-        [session] => session_of(alloc, records, session),
-        _ => Err(BadScript::Shape(Member::Sessions)),
-    }
+    sessions_of(alloc, records, sessions)
 }
 
 fn script_of(alloc: Global, value: &Value) -> Result<Script, BadScript>
@@ -65,11 +67,11 @@ fn script_of(alloc: Global, value: &Value) -> Result<Script, BadScript>
     let copies = copies_of(value)?;
     let patience = number_or(value, "patience", 4, Member::Patience, 1, 64)?;
     let records = records_of(alloc, copies, value)?;
-    let session = session_at(alloc, &records, value)?;
+    let sessions = sessions_at(alloc, &records, value)?;
     Ok(Script {
         table: records.table,
         patience: patience as u32,
-        session,
+        sessions,
     })
 }
 

@@ -26,7 +26,8 @@ pub enum Step {
 }
 
 /// What a transaction does: its steps in order, how often it is tried at most, and whether, as a child, it must commit
-/// for its parent to go on. Bodies are numbered from 0 in the order in which they begin in a script.
+/// for its parent to go on. Bodies are numbered from 0 in the order in which they begin in a script, through all its
+/// sessions.
 #[cycle(script)]
 #[derive(Debug, Drop)]
 pub struct Body {
@@ -45,10 +46,10 @@ pub struct Session {
     pub tops: Vec<Body>,
 }
 
-/// A script: a table of records, how many due steps the sender of a held request waits, and its one session.
+/// A script: a table of records, how many due steps the sender of a held request waits, and its sessions in order.
 #[derive(Debug, Drop)]
 pub struct Script {
     pub table: Table,
     pub patience: u32,
-    pub session: Session,
+    pub sessions: Vec<Session>,
 }

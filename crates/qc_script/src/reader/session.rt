@@ -1,4 +1,4 @@
-//! A session: its net and its tops.
+//! Sessions: their nets and their tops.
 #![tactic(auto, unfolding(crate::specs::ScriptText::followed))]
 
 ghost use Rattle.std.specs.Prelude.{◌≡◌, ◌≢◌, ◌≤◌, [], map, length, vec_len, codes, IfOk, IfErr};
@@ -89,17 +89,36 @@ fn net_at(alloc: Global, session: &Value) -> Result<Net, BadScript>
     }
 }
 
-/// A session over these records.
-pub(crate) fn session_of(
+fn session_of(
     alloc: Global,
     records: &Records<'_>,
+    next: &mut u32,
     value: &Value,
 ) -> Result<Session, BadScript>
-    ensures { Gives plan_of_session result (script.session_of records.now.table (view value.now)) }
+    ensures { Gives (λ s. (plan_of_session s, next.new)) result
+        (script.session_of records.now.table next.old (view value.now)) }
 {
     check_object(value, Member::Session, &["tops"], &["net"])?;
     let Net { fates, hold } = net_at(alloc, value)?;
     let list = list_at(value, "tops", Member::Tops)?;
-    let tops = bodies_of(alloc, records, list)?;
+    let tops = bodies_of(alloc, records, next, list)?;
     Ok(Session { fates, hold, tops })
+}
+
+/// The sessions over these records, in order. Bodies are numbered from 0 on through all of them.
+pub(crate) fn sessions_of(
+    alloc: Global,
+    records: &Records<'_>,
+    list: &[Value],
+) -> Result<Vec<Session>, BadScript>
+    ensures { Gives (λ sessions. map plan_of_session sessions.items) result
+        (script.sessions_of records.now.table (map view list.now)) }
+{
+    let mut next = 0;
+    let mut sessions = Vec::new(alloc);
+    for value in list {
+        let session = session_of(alloc, records, &mut next, value)?;
+        sessions.push(session)?;
+    }
+    Ok(sessions)
 }

@@ -362,15 +362,15 @@ fn body_of(
 pub(crate) fn bodies_of(
     alloc: Global,
     records: &Records<'_>,
+    next: &mut u32,
     list: &[Value],
 ) -> Result<Vec<Body>, BadScript>
-    ensures { Gives (λ bodies. map numbered bodies.items) result
-        (script.bodies_of records.now.table 0 (map view list.now)) }
+    ensures { Gives (λ bodies. (map numbered bodies.items, next.new)) result
+        (script.bodies_of records.now.table next.old (map view list.now)) }
 {
-    let mut next = 0;
     let mut bodies = Vec::new(alloc);
     for value in list {
-        let body = body_of(alloc, 16, 1, records, &mut next, value)?;
+        let body = body_of(alloc, 16, 1, records, next, value)?;
         bodies.push(body)?;
     }
     Ok(bodies)

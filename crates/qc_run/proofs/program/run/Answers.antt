@@ -2,7 +2,7 @@ use Rattle.std.proofs.Common.{◌≡◌, ℕ, List, sym, subst, map}
 use Rattle.std.specs.Prelude.{Option, string_bytes}
 use Rattle.qc_mount.specs.Images.{IsFirstFault}
 use Rattle.qc_script.specs.Plan.{ScriptPlan}
-use Rattle.qc_script.proofs.Proper.{proper_script}
+use Rattle.qc_script.proofs.ProperScript.{proper_script}
 use Rattle.qc_run.specs.Run.{journal_limit, AllOffered, IsScriptFault}
 use Rattle.qc_run.proofs.Clauses as clause
 use Rattle.qc_run.proofs.Moments.{serial_orders}
