@@ -6,11 +6,12 @@ use Rattle.std.specs.List.{AllByRecursion, list_all, list_any}
 use Rattle.std.specs.Option.{option_map_or}
 use Rattle.std.proofs.lemmas.List.Elements.{filter-append}
 use Rattle.std.proofs.lemmas.List.Folds.{list_all-append}
-use Rattle.std.proofs.lemmas.Bool.{and_parts, and_from, or_right}
+use Rattle.std.proofs.lemmas.Bool.{and_parts, and_from, or_right, eq-eqb}
 use Rattle.qc_event.specs.declared.event.Entry.{Entry}
 use Rattle.qc_event.specs.declared.event.Event.{Event}
 use Rattle.qc_event.specs.declared.event.Event.TheVariants as event
 use Rattle.qc_event.specs.declared.event.Kind.{Kind}
+use Rattle.qc_event.specs.declared.event.Kind.TheVariants as kind
 use Rattle.qc_event.specs.History.{Past, Name, every, end, children, is_child}
 use Rattle.qc_event.proofs.Histories.{earliest-append}
 use Rattle.qc_event.proofs.OneEntry.{stays_some}
@@ -20,8 +21,9 @@ use Rattle.qc_names.specs.Name as name
 use Rattle.qc_script.specs.Calls.{IsOfAccess}
 use Rattle.qc_script.specs.Client.{Client, mine, is_own, about, IsLater}
 use Rattle.qc_script.specs.Numbers.{any_top, own_next}
-use Rattle.qc_interp.specs.Adding.{own_after, all_over, stays_in, AllStayIn, is_of_one, AllOfOne}
+use Rattle.qc_interp.specs.Adding.{own_after, all_over, stays_in, AllStayIn, is_of_one, AllOfOne, starts_for, AllForIts}
 use Rattle.qc_script.specs.Calls.{is_over, unable_in}
+use Rattle.qc_interp.specs.Sessions.{top_in}
 use Rattle.qc_script.specs.Numbers.{each}
 
 module _ (f : Entry → Bool) where
@@ -156,3 +158,16 @@ stays_one t e h = about_wider (λ n. name.is_ancestor t n) _ (about e.event) (λ
 
 pub all_one : (c : Client) (t : Name) (newer : Past) → AllStayIn c t newer → AllOfOne c (t ∷ []) newer
 all_one c t newer stay = all_wider (stays_in t) (is_of_one (t ∷ [])) (mine c newer) (stays_one t) stay
+
+-- FOR THE CLIENT'S SESSION
+
+-- what stays below a top starts none
+pub all_for : (c : Client) (t : Name) (newer : Past) → AllStayIn c t newer → AllForIts c newer
+all_for c t newer stay = all_wider (stays_in t) (starts_for c.session) (mine c newer) (λ e h. ap (λ b. b || is_some (top_in c.session e.event)) (and_parts _ _ h).0) stay
+
+-- a top that starts for a session does
+pub top_for : (s number : ℕ) (t : Name) (e : Entry) → is_child [] t ≡ true → e.event ≡ event.Start t (kind.User s number) → starts_for s e ≡ true
+top_for s number t e child is =
+    let top = child_last [] t child in
+    ap (λ ev. is_none (any_top ev) || is_some (top_in s ev)) (is ∙ ap (λ n. event.Start n (kind.User s number)) top.1)
+    ∙ ap (λ b. is_some (if b then Some (top.0 ∷ []) else None)) (eq-eqb s s refl)

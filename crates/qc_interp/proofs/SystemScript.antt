@@ -24,7 +24,7 @@ use Rattle.qc_net.specs.Messages.{Net, meets_fates}
 use Rattle.qc_script.specs.Client.{Client, mine, is_own, is_commit, AreOurs}
 use Rattle.qc_script.specs.Numbers.{each}
 use Rattle.qc_script.specs.Plan.{Numbered}
-use Rattle.qc_interp.specs.Adding.{is_of_one, stays_in, all_over, AllStayIn}
+use Rattle.qc_interp.specs.Adding.{is_of_one, stays_in, starts_for, all_over, AllStayIn}
 use Rattle.qc_interp.specs.Alone.{is_lone, AreLone, AccessesEnd}
 use Rattle.qc_interp.specs.Asking.{BodiesAsk, IsAskedBy}
 use Rattle.qc_interp.specs.FollowsScript.{RunsScript}
@@ -74,6 +74,7 @@ turns_later reach c seen newer none legal ran = record {
   more = tops_still c seen newer none ∙ ran.more;
   later = record { newer = newer ++ seen; grown = sym (append-nil (newer ++ seen)); legal = legal };
   inside = ap (list_all (is_of_one ran.made)) same ∙ subst (λ h. list_all (is_of_one ran.made) (mine c h) ≡ true) (sym (append-nil ran.later.newer) ∙ sym ran.later.grown) ran.inside;
+  of_session = ap (list_all (starts_for c.session)) same ∙ subst (λ h. list_all (starts_for c.session) (mine c h) ≡ true) (sym (append-nil ran.later.newer) ∙ sym ran.later.grown) ran.of_session;
   numbers = λ was. numbers_stay c [] newer seen stay (ran.numbers was);
   order = λ ours was over.
       let now = ran.order (ours_before c seen newer none ours) was over in (

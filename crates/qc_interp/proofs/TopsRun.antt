@@ -31,7 +31,7 @@ use Rattle.qc_interp.specs.Session.{tops, NotBegun, RunsBodies, AreAllOurs, Ends
 use Rattle.qc_script.specs.Plan.{BodiesFit}
 use Rattle.qc_interp.specs.Turns.{is_done}
 use Rattle.qc_script.specs.Numbers.{each}
-use Rattle.qc_interp.proofs.Adding.{numbers_stay, one_both, all_one, all_later, after_stay, begun_after, all_over_more, over_ended}
+use Rattle.qc_interp.proofs.Adding.{numbers_stay, one_both, all_one, all_later, all_for, top_for, after_stay, begun_after, all_over_more, over_ended}
 use Rattle.qc_interp.proofs.Turning.{InTurn, Alone, start_turns, alone_up, some_done, itself}
 use Rattle.qc_interp.specs.Tries.{Tries, is_tried_again, is_again, TriesDo}
 use Rattle.qc_interp.specs.declared.stops.Finish.{Finish}
@@ -42,7 +42,7 @@ use Rattle.qc_interp.proofs.Ending.{unended_again}
 use Rattle.qc_interp.proofs.Growth.{made_is, made_later, later_itself, later_trans, ours_before}
 use Rattle.qc_interp.proofs.Managers.{children_quiet, found_quiet, absent, came_after, none_kept, children_rest}
 use Rattle.qc_interp.proofs.StepsLeave.{kind_later}
-use Rattle.qc_interp.specs.Adding.{AllStayIn, is_of_one, AllOfOne, own_after, all_over}
+use Rattle.qc_interp.specs.Adding.{AllStayIn, is_of_one, AllOfOne, starts_for, AllForIts, own_after, all_over}
 use Rattle.qc_script.specs.Numbers.{Numbers, own_next}
 use Rattle.qc_script.specs.Calls.{is_over}
 use Rattle.qc_interp.specs.Asking.{Asks, BodiesAsk, AllAsked}
@@ -122,13 +122,14 @@ all_front P Q [] ys step h = tt
 all_front P Q (x ∷ xs) ys step h = (step x h.0, all_front P Q xs ys step h.1)
 
 pub turn_itself : (c : Client) (now : Past) → Legal c.setting now → RanInTurn c now now
-turn_itself c now legal = record { later = later_itself c now legal; inside = refl; numbers = λ was. was; order = λ ours after over. (after, over); made = []; more = sym (append-nil _); turns = λ ours turns alone. (turns, alone) }
+turn_itself c now legal = record { later = later_itself c now legal; inside = refl; of_session = refl; numbers = λ was. was; order = λ ours after over. (after, over); made = []; more = sym (append-nil _); turns = λ ours turns alone. (turns, alone) }
 
 pub turn_trans : {reach : Reach} (c : Client) (a b d : Past) → IsLater c b d → RanInTurn c a b → InTurnAt reach c b d → InTurnAt reach c a d
 turn_trans c a b d later f g = record {
   made = f.made ++ g.made;
   later = later_trans c a b d f.later g.later;
   inside = one_both c f.made g.made f.later.newer g.later.newer f.inside g.inside;
+  of_session = all_later (starts_for c.session) c f.later.newer g.later.newer f.of_session g.of_session;
   numbers = λ was. g.numbers (f.numbers was);
   order = λ ours after over.
       let mid = f.order (all_front (λ n. AreOurs c n d) (λ n. AreOurs c n b) (tops c b) g.made (λ n o. ours_before c n b d later o) (subst (AllByRecursion (λ n. AreOurs c n d)) g.more ours)) after over in
@@ -148,6 +149,7 @@ turn_cut c before now m =
       more = ap (λ h. children h []) own ∙ sym (append-nil _);
       later = made_later c [] before now m;
       inside = ap (list_all (is_of_one [])) m.made;
+      of_session = ap (list_all (starts_for c.session)) m.made;
       numbers = λ was. subst (λ h. each (own_next c) h ≡ true) (sym m.grown) (numbers_stay c [] m.newer before (ap (list_all (Rattle.qc_interp.specs.Adding.stays_in [])) m.made) was);
       order = λ ours after over. (subst (λ h. each (own_after c) h ≡ true) (sym m.grown) (after_stay c [] m.newer before (ap (list_all (Rattle.qc_interp.specs.Adding.stays_in [])) m.made) after), tt);
       turns = λ ours turns alone. (subst InTurn (sym own) turns, tt);
@@ -190,6 +192,9 @@ module _ (c : Client) (t : Name) (body : Numbered) (before mid now : Past) (top 
   begun_one : AllOfOne c (t ∷ []) m.newer
   begun_one = ap (list_all (is_of_one (t ∷ []))) m.made ∙ ap (λ b. (b || false) && true) (itself t)
 
+  begun_for : AllForIts c m.newer
+  begun_for = ap (list_all (starts_for c.session)) m.made ∙ ap (λ b. b && true) (top_for c.session body.number t (by_client c (event.Start t (kind.User c.session body.number))) top refl)
+
   one_one : (older newer : Past) → AllOfOne c (t ∷ []) older → AllOfOne c (t ∷ []) newer → AllOfOne c (t ∷ []) (newer ++ older)
   one_one older newer a b = all_later (is_of_one (t ∷ [])) c older newer a b
 
@@ -206,6 +211,9 @@ module _ (c : Client) (t : Name) (body : Numbered) (before mid now : Past) (top 
 
     inside_is : AllOfOne c (t ∷ []) later_is.newer
     inside_is = one_one (made_later c _ before mid m).newer leaves.later.newer begun_one (all_one c t leaves.later.newer (subst (λ x. AllStayIn c x leaves.later.newer) whole leaves.inside))
+
+    for_it : AllForIts c later_is.newer
+    for_it = all_later (starts_for c.session) c (made_later c _ before mid m).newer leaves.later.newer begun_for (all_for c (take 1 t) leaves.later.newer leaves.inside)
 
     numbers_are : Numbers c before now
     numbers_are was = subst (λ h. each (own_next c) h ≡ true) (sym leaves.later.grown) (numbers_stay c (take 1 t) leaves.later.newer mid leaves.inside (numbers was))
@@ -242,6 +250,7 @@ module _ (c : Client) (t : Name) (body : Numbered) (before mid now : Past) (top 
       more = more_is Reach.to_the_end ended.leaves;
       later = later_is Reach.to_the_end ended.leaves;
       inside = inside_is Reach.to_the_end ended.leaves;
+      of_session = for_it Reach.to_the_end ended.leaves;
       numbers = numbers_are Reach.to_the_end ended.leaves;
       order = λ ours after over. (after_is Reach.to_the_end ended.leaves after over, all_later_over (ours_new Reach.to_the_end ended.leaves ours) (later_is Reach.to_the_end ended.leaves) over);
       turns = λ ours turns alone.
@@ -289,6 +298,7 @@ module _ (c : Client) (t : Name) (body : Numbered) (before mid now : Past) (top 
       more = more_is Reach.cut_off cut.leaves;
       later = later_is Reach.cut_off cut.leaves;
       inside = inside_is Reach.cut_off cut.leaves;
+      of_session = for_it Reach.cut_off cut.leaves;
       numbers = numbers_are Reach.cut_off cut.leaves;
       order = λ ours after over. (after_is Reach.cut_off cut.leaves after over, tt);
       turns = λ ours turns alone.

@@ -1,5 +1,5 @@
 -- What a client adds: about whom, and when its tops start.
-use Rattle.std.specs.Prelude.{◌≡◌, Bool, true, not, ◌&&◌, ◌||◌, List, [], is_none}
+use Rattle.std.specs.Prelude.{ℕ, ◌≡◌, Bool, true, not, ◌&&◌, ◌||◌, List, [], is_none, is_some}
 use Rattle.std.specs.List.{list_all, list_any}
 use Rattle.std.specs.Option.{option_map_or}
 use Rattle.qc_names.specs.Name as name
@@ -8,6 +8,7 @@ use Rattle.qc_event.specs.History.{Past, Name, children}
 use Rattle.qc_script.specs.Client.{Client, mine, is_own, about}
 use Rattle.qc_script.specs.Numbers.{any_top}
 use Rattle.qc_script.specs.Calls.{is_over}
+use Rattle.qc_interp.specs.Sessions.{top_in}
 
 -- an entry starts no top, and whom it is about is at or below one
 abbrev pub stays_in : Name → Entry → Bool
@@ -23,6 +24,14 @@ is_of_one tops e = option_map_or (λ n. list_any (λ t. name.is_ancestor t n) to
 
 abbrev pub AllOfOne : Client → List Name → Past → Type 0
 AllOfOne c tops newer = list_all (is_of_one tops) (mine c newer) ≡ true
+
+-- an entry starts no top, or one for this session
+abbrev pub starts_for : ℕ → Entry → Bool
+starts_for s e = is_none (any_top e.event) || is_some (top_in s e.event)
+
+-- among some newer entries, each top that the client started it started for its session
+abbrev pub AllForIts : Client → Past → Type 0
+AllForIts c newer = list_all (starts_for c.session) (mine c newer) ≡ true
 
 -- whether all tops that the client started are over
 abbrev pub all_over : Client → Past → Bool

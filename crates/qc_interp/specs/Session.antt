@@ -2,7 +2,7 @@
 use Rattle.std.specs.Prelude.{ℕ, ◌≡◌, true, List, [], ◌∷◌, ◌++◌, None}
 use Rattle.std.specs.List.{AllByRecursion}
 use Rattle.qc_event.specs.History.{Past, Name, end, children}
-use Rattle.qc_interp.specs.Adding.{AllOfOne, own_after, all_over}
+use Rattle.qc_interp.specs.Adding.{AllOfOne, AllForIts, own_after, all_over}
 use Rattle.qc_script.specs.Numbers.{Numbers}
 use Rattle.qc_script.specs.Client.{Client, mine, IsLater, AreOurs}
 use Rattle.qc_interp.specs.Follows.{RunsBody}
@@ -44,13 +44,14 @@ EndsTopsAt reach c before now bodies = AreAllOurs c now → (further : List Name
 abbrev pub EndsTops : Client → Past → Past → List Numbered → Type 0
 EndsTops c before now bodies = EndsTopsAt Reach.to_the_end c before now bodies
 
--- What was made meanwhile is about these tops alone, which had the next numbers and started once those before were over;
--- it was made in turn, and all of it is done where the run came to its end.
+-- What was made meanwhile is about these tops alone, which are of the client's session, had the next numbers and started
+-- once those before were over; it was made in turn, and all of it is done where the run came to its end.
 pub record InTurnAt (reach : Reach) (c : Client) (before now : Past) : Type 0 where
   pub made : List Name
   pub more : tops c now ≡ tops c before ++ made
   pub later : IsLater c before now
   pub inside : AllOfOne c made later.newer
+  pub of_session : AllForIts c later.newer
   pub numbers : Numbers c before now
   pub order : AreAllOurs c now → each (own_after c) before ≡ true → all_over c before ≡ true → (each (own_after c) now ≡ true) × AtTheEnd reach (all_over c now ≡ true)
   pub turns : AreAllOurs c now → each takes_turn (mine c before) ≡ true → is_alone (mine c before) [] ≡ true → (each takes_turn (mine c now) ≡ true) × AtTheEnd reach (is_alone (mine c now) [] ≡ true)

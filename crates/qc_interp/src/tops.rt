@@ -39,11 +39,11 @@ fn top_tries<T: Tx>(tx: &mut T, body: &Body) -> Result<(), Short>
     Ok(())
 }
 
-/// Runs the tops of these bodies one after another. They get the next numbers, and nothing is made but of them. Where all
-/// about them is its own, but for their commits, they are tries of the bodies in order, each follows its body and starts
-/// once those before it are over, whoever acts does so in turn, and whoever is aborted as another asked is named by a step
-/// `abort` to which that one came; where the link is told, its requests meet the fates. Where want of memory or room cuts it off, all of that holds of what was made, as far
-/// as it came.
+/// Runs the tops of these bodies one after another. They are of the client's session and get the next numbers, and nothing
+/// is made but of them. Where all about them is its own, but for their commits, they are tries of the bodies in order,
+/// each follows its body and starts once those before it are over, whoever acts does so in turn, and whoever is aborted as
+/// another asked is named by a step `abort` to which that one came; where the link is told, its requests meet the fates.
+/// Where want of memory or room cuts it off, all of that holds of what was made, as far as it came.
 pub fn run_tops<T: Tx>(tx: &mut T, bodies: &[Body]) -> Result<(), Short>
     requires legal { Legal (T.view tx.old).client.setting (T.view tx.old).seen }
     requires fits { BodiesFit (T.view tx.old).client.setting (map numbered bodies.now) }
