@@ -49,14 +49,3 @@ tries_do_alike first second Does DoesToo Rest RestToo Good alike try rest last (
 pub no_tries : (ended : Name → Option How) (IsTry : Name → Type 0) (Stopped : Type 0) (Rest : Option Name → List Name → Type 0) (last : Option Name) → Stopped → Rest last [] → (left : ℕ) → Tries ended IsTry Stopped Rest last left []
 no_tries ended IsTry Stopped Rest last stopped rest zero = rest
 no_tries ended IsTry Stopped Rest last stopped rest (suc left) = stopped
-
--- what holds of each try, and of what stands behind the last
-pub tries_all : (ended : Name → Option How) (IsTry Good : Name → Type 0) (Stopped : Type 0) (Rest : Option Name → List Name → Type 0) → ((x : Name) → IsTry x → Good x) → ((last : Option Name) (cs : List Name) → Rest last cs → AllByRecursion Good cs)
-    → (last : Option Name) (left : ℕ) (cs : List Name) → Tries ended IsTry Stopped Rest last left cs → AllByRecursion Good cs
-tries_all ended IsTry Good Stopped Rest try rest last zero cs h = rest last cs h
-tries_all ended IsTry Good Stopped Rest try rest last (suc left) [] h = tt
-tries_all ended IsTry Good Stopped Rest try rest last (suc left) (x ∷ cs) h = (try x h.0, by_test (is_tried_again (ended x)) h.1 (tries_all ended IsTry Good Stopped Rest try rest (Some x) left cs))
-  where
-    by_test : (again : Bool) → MatchBool again (Tries ended IsTry Stopped Rest (Some x) left cs) (Rest (Some x) cs) → (Tries ended IsTry Stopped Rest (Some x) left cs → AllByRecursion Good cs) → AllByRecursion Good cs
-    by_test true h more = more h
-    by_test false h more = rest (Some x) cs h

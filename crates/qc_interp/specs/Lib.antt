@@ -1,6 +1,5 @@
 pub mod Change
 pub mod Adding
-pub mod Alone
 pub mod Asking
 pub mod Tries
 pub mod Reach
@@ -10,3 +9,4 @@ pub mod Turns
 pub mod Running
 pub mod Session
 pub mod Sessions
+pub mod Together

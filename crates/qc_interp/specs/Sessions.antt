@@ -1,5 +1,5 @@
 -- What is of a session in a history: its tops, its part, its seats, and its messages.
-use Rattle.std.specs.Prelude.{ℕ, ◌==◌, Bool, true, false, ◌&&◌, ◌||◌, if◌then◌else◌, IsTrue, List, [], ◌∷◌, filter, Option, None, Some, is_some}
+use Rattle.std.specs.Prelude.{ℕ, ◌≡◌, ◌==◌, Bool, true, false, ◌&&◌, ◌||◌, if◌then◌else◌, IsTrue, List, [], ◌∷◌, filter, Option, None, Some, is_some}
 use Rattle.std.specs.List.{list_all, list_any}
 use Rattle.std.specs.Option.{option_map_or}
 use Rattle.qc_names.specs.Name as name
@@ -10,8 +10,9 @@ use Rattle.qc_event.specs.declared.event.Kind.{Kind}
 use Rattle.qc_event.specs.declared.event.Kind.TheVariants as kind
 use Rattle.qc_event.specs.History.{Past, Name, Begun, every, start, end, is_ready}
 use Rattle.qc_event.specs.Seats.{is_client}
+use Rattle.qc_event.specs.Standing.{Started}
 use Rattle.qc_net.specs.Messages.{Net, meets_fates}
-use Rattle.qc_script.specs.Calls.{is_over}
+use Rattle.qc_script.specs.Calls.{is_access, is_over}
 use Rattle.qc_script.specs.Client.{about}
 use Rattle.qc_script.specs.Numbers.{each}
 use Rattle.qc_interp.specs.Turns.{begun_in, takes_turn}
@@ -83,6 +84,10 @@ meets s net past = list_all (λ seat. meets_fates seat net past) (every seat_in 
 -- it has ended, or is a ready top that was unable to be logged
 abbrev pub is_settled : Past → Name → Bool
 is_settled past n = is_some (end past n) || (is_ready past n && is_over past n)
+
+-- each access whose manager has ended has ended
+abbrev pub AccessesEnd : Past → Type 0
+AccessesEnd past = (n : Name) → Started past n (λ b. IsTrue (is_access b.kind)) → is_some (end past (name.front n)) ≡ true → is_some (end past n) ≡ true
 
 -- WHERE NO STEP MARKS
 

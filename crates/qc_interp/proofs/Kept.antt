@@ -1,4 +1,4 @@
--- A lone client's session runs in turn, keeps its seat, and has all tops.
+-- Some entries of a history, as far as a look goes: whoever takes turns does so without the entries about no one.
 use Rattle.std.proofs.Common.{◌≡◌, Bool, true, false, List, [], ◌∷◌, ◌++◌, refl, sym, ap, ◌∙◌, filter, append-nil}
 use Rattle.std.specs.Prelude.{Option, None, Some, is_some, option_to_list, ◌&&◌, ◌||◌, if◌then◌else◌}
 use Rattle.std.specs.List.{AllByRecursion, list_all}

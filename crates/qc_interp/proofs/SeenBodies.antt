@@ -16,12 +16,12 @@ use Rattle.qc_interp.specs.Follows.{RunsBody}
 use Rattle.qc_interp.specs.Reach.{Reach}
 use Rattle.qc_interp.specs.Session.{NotBegun, RunsBodies}
 use Rattle.qc_interp.specs.Tries.{is_tried_again}
-use Rattle.qc_interp.proofs.LoneEntries.{top_is}
 use Rattle.qc_interp.proofs.Mine.{kept_some}
 use Rattle.qc_interp.proofs.Adding.{at_top}
 use Rattle.qc_interp.proofs.Ending.{committed_ready}
 use Rattle.qc_interp.proofs.Seen.{same_kind, runs_seen, asks_seen, own_abort, own_once}
-use Rattle.qc_interp.proofs.TriesAlike.{AreAlike, tries_alike, tries_do_alike, tries_all}
+use Rattle.qc_interp.proofs.Starts.{top_is}
+use Rattle.qc_interp.proofs.TriesAlike.{AreAlike, tries_alike, tries_do_alike}
 
 -- BODIES
 
@@ -71,13 +71,3 @@ module _ (c : Client) (past : Past) (legal : Legal c.setting past) where
       tries_do_alike (end (mine c past)) (end past) (λ t. Asks (mine c past) t b.plan (children (mine c past) t) by target) (λ t. Asks past t b.plan (children past t) by target)
       (λ last further. BodiesAsk (mine c past) bodies further by target) (λ last further. BodiesAsk past bodies further by target) (IsOurTop c past)
       again_alike (λ t o a. asks_seen c t past o.1 by target b.plan (long t o.0) (at_top t) a) (λ last further was o a. bodies_ask_seen by target bodies further o a) None b.tries ts tt ours h
-
--- each top that follows a body is a user transaction of the session
-abbrev pub IsOfSession : ℕ → Past → Name → Type 0
-IsOfSession s past t = (b : ℕ) × (Rattle.qc_event.specs.History.kind_of past t ≡ Some (Rattle.qc_event.specs.declared.event.Kind.Kind.User s b))
-
-pub each_of_session : (reach : Reach) (s : ℕ) (past : Past) (bodies : List Numbered) (ts : List Name) → RunsBodies reach s past bodies ts → AllByRecursion (IsOfSession s past) ts
-each_of_session reach s past [] [] h = tt
-each_of_session reach s past [] (t ∷ ts) h = absurd h
-each_of_session reach s past (b ∷ bodies) ts h =
-    tries_all (end past) (RunsBody reach s past b) (IsOfSession s past) (NotBegun reach) (λ last further. RunsBodies reach s past bodies further) (λ t f. (b.number, f.kind)) (λ last further r. each_of_session reach s past bodies further r) None b.tries ts h
