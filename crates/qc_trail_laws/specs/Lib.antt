@@ -2,3 +2,4 @@ pub mod Trails
 pub mod Values
 pub mod Musts
 pub mod Crashes
+pub mod Scripts

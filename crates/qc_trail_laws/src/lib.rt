@@ -6,13 +6,14 @@ ghost use Rattle.std.specs.List.{list_all};
 ghost use Rattle.qc_event.specs.History.{children};
 ghost use Rattle.qc_interp.specs.Asking.{Asks};
 ghost use Rattle.qc_interp.specs.Follows.{FollowsBody};
-ghost use Rattle.qc_interp.specs.FollowsScript.{FollowsScript, BeginsScript, started};
+ghost use Rattle.qc_interp.specs.FollowsScript.{started};
 ghost use Rattle.qc_interp.specs.Reach.{Reach};
 ghost use Rattle.qc_interp.specs.Session.{FollowsBodies, RunsBodies};
 ghost use Rattle.qc_interp.specs.Sessions.{RunsInTurn, tops_of, meets, is_settled, all_unmarked};
 ghost use Rattle.qc_script.specs.Numbers.{each, is_next_top};
 ghost use Rattle.qc_trail_laws.specs.Crashes as crashes;
 ghost use Rattle.qc_trail_laws.specs.Musts as musts;
+ghost use Rattle.qc_trail_laws.specs.Scripts.{Begins, Follows};
 ghost use Rattle.qc_trail_laws.specs.Trails as trails;
 ghost use Rattle.qc_trail_laws.specs.Values as values;
 
@@ -57,24 +58,24 @@ pub fn accepts()
 /// that stays ready, though no one was unable to log it; a mark; another number and a mark; and a session under two
 /// seats.
 pub fn refuses()
-    ensures read_before_set { FollowsScript 0 1 trails.net trails.set_then_read
+    ensures read_before_set { Follows trails.net trails.set_then_read
         (reverse trails.read_before_set) → ⊥ }
-    ensures own_conflict { FollowsScript 0 1 trails.net trails.set_then_read
+    ensures own_conflict { Follows trails.net trails.set_then_read
         (reverse trails.own_conflict) → ⊥ }
-    ensures dropped_steps { FollowsScript 0 1 trails.net trails.child_and_abort
+    ensures dropped_steps { Follows trails.net trails.child_and_abort
         (reverse trails.dropped_steps) → ⊥ }
-    ensures late_commit { FollowsScript 0 1 trails.net trails.set_and_read
+    ensures late_commit { Follows trails.net trails.set_and_read
         (reverse trails.late_commit) → ⊥ }
-    ensures lost_elsewhere { FollowsScript 0 1 trails.net trails.read_alone
+    ensures lost_elsewhere { Follows trails.net trails.read_alone
         (reverse trails.lost_elsewhere) → ⊥ }
-    ensures elsewhere_lossy { FollowsScript 0 1 trails.lossy trails.set_then_read
+    ensures elsewhere_lossy { Follows trails.lossy trails.set_then_read
         (reverse (map trails.moved trails.first_run)) → ⊥ }
-    ensures stays_ready { FollowsScript 0 1 trails.net trails.set_then_read
+    ensures stays_ready { Follows trails.net trails.set_then_read
         (reverse (trails.first_cut trails.top_ready)) → ⊥ }
-    ensures marked { FollowsScript 0 1 trails.net trails.no_step (reverse trails.marked) → ⊥ }
-    ensures marked_elsewhere { FollowsScript 0 1 trails.net trails.no_step
+    ensures marked { Follows trails.net trails.no_step (reverse trails.marked) → ⊥ }
+    ensures marked_elsewhere { Follows trails.net trails.no_step
         (reverse trails.marked_elsewhere) → ⊥ }
-    ensures two_seats { FollowsScript 0 1 trails.net trails.two_steps (reverse trails.two_seats)
+    ensures two_seats { Follows trails.net trails.two_steps (reverse trails.two_seats)
         → ⊥ }
 {}
 
@@ -83,7 +84,7 @@ pub fn refuses()
 pub fn names_no_other()
     ensures parent_named { Asks (reverse trails.aborts_two) trails.top (trails.abort_body 1).plan
         (children (reverse trails.aborts_two) trails.top) trails.grandchild trails.first_child }
-    ensures top_not_named { FollowsScript 0 1 trails.net (trails.abort_body 1 ∷ [])
+    ensures top_not_named { Follows trails.net (trails.abort_body 1 ∷ [])
         (reverse trails.aborts_two) → ⊥ }
 {}
 
@@ -108,13 +109,13 @@ pub fn begins()
 /// is left out, and a read before the set has ended that stands before it. Nor does a run follow its script that was cut
 /// off.
 pub fn begins_otherwise()
-    ensures ready_too_soon { BeginsScript 0 1 trails.net trails.set_then_read
+    ensures ready_too_soon { Begins trails.net trails.set_then_read
         (reverse trails.ready_too_soon) → ⊥ }
-    ensures set_skipped { BeginsScript 0 1 trails.net trails.set_then_read
+    ensures set_skipped { Begins trails.net trails.set_then_read
         (reverse trails.set_skipped) → ⊥ }
-    ensures read_before_set { BeginsScript 0 1 trails.net trails.set_then_read
+    ensures read_before_set { Begins trails.net trails.set_then_read
         (reverse trails.both_started) → ⊥ }
-    ensures cut_off { FollowsScript 0 1 trails.net trails.set_then_read
+    ensures cut_off { Follows trails.net trails.set_then_read
         (reverse (trails.first_cut trails.read_asked)) → ⊥ }
 {}
 
@@ -138,17 +139,17 @@ pub fn goes_by_values()
 /// None of these follows its script: an `add` that writes what it read, stops at the last number, or writes nothing; a
 /// `sub` that stops at 0; and a `need` that fails with as much as is needed, or holds with less.
 pub fn goes_by_no_other_value()
-    ensures nothing_added { FollowsScript 0 1 trails.net (values.add 3)
+    ensures nothing_added { Follows trails.net (values.add 3)
         (reverse (values.changed 4 4)) → ⊥ }
-    ensures stops_at_the_last { FollowsScript 0 1 trails.net (values.add 1)
+    ensures stops_at_the_last { Follows trails.net (values.add 1)
         (reverse (values.changed values.last_value values.last_value)) → ⊥ }
-    ensures not_written { FollowsScript 0 1 trails.net (values.add 3) (reverse (values.enough 4))
+    ensures not_written { Follows trails.net (values.add 3) (reverse (values.enough 4))
         → ⊥ }
-    ensures stops_at_0 { FollowsScript 0 1 trails.net (values.sub 1) (reverse (values.changed 0 0))
+    ensures stops_at_0 { Follows trails.net (values.sub 1) (reverse (values.changed 0 0))
         → ⊥ }
-    ensures fails_with_enough { FollowsScript 0 1 trails.net (values.need 30)
+    ensures fails_with_enough { Follows trails.net (values.need 30)
         (reverse (values.too_little 30)) → ⊥ }
-    ensures holds_with_less { FollowsScript 0 1 trails.net (values.need 30)
+    ensures holds_with_less { Follows trails.net (values.need 30)
         (reverse (values.enough 29)) → ⊥ }
 {}
 
@@ -169,9 +170,9 @@ pub fn goes_by_children()
 /// None of these follows its script: a top that goes on behind a child that must commit and did not; one that is aborted
 /// for a child that need not; and a transaction that is aborted for an orphan, and no orphan.
 pub fn goes_by_no_other_child()
-    ensures goes_on { FollowsScript 0 1 trails.net (musts.child true) (reverse musts.went_on) → ⊥ }
-    ensures aborted { FollowsScript 0 1 trails.net (musts.child false) (reverse musts.aborted) → ⊥ }
-    ensures no_orphan { FollowsScript 0 1 trails.net (musts.far_body ∷ []) (reverse musts.no_orphan)
+    ensures goes_on { Follows trails.net (musts.child true) (reverse musts.went_on) → ⊥ }
+    ensures aborted { Follows trails.net (musts.child false) (reverse musts.aborted) → ⊥ }
+    ensures no_orphan { Follows trails.net (musts.far_body ∷ []) (reverse musts.no_orphan)
         → ⊥ }
 {}
 
@@ -188,8 +189,8 @@ pub fn passes_over_crashes()
 /// None of these follows its script: a top that commits where a copy crashes, before the set that stands behind, and one
 /// that reads and leaves out the set.
 pub fn stops_at_no_crash()
-    ensures nothing_done { FollowsScript 0 1 trails.net crashes.around
+    ensures nothing_done { Follows trails.net crashes.around
         (reverse crashes.nothing_done) → ⊥ }
-    ensures set_left_out { FollowsScript 0 1 trails.net crashes.around (reverse (values.enough 0))
+    ensures set_left_out { Follows trails.net crashes.around (reverse (values.enough 0))
         → ⊥ }
 {}

@@ -17,8 +17,11 @@ returns-clause-parent_named c = inl (inl (refl, refl))
 pub returns-clause-top_not_named : goal.returns-clause-top_not_named
 returns-clause-top_not_named c = λ f. elim (f.as_asked top grandchild refl) [
   | inl same ↦ absurd cc
-  | inr asks ↦ elim asks [
-    | inl named ↦ top_not_named named
+  | inr one ↦ elim one [
+    | inl asks ↦ elim asks [
+      | inl named ↦ top_not_named named
+      | inr none ↦ absurd none
+    ]
     | inr none ↦ absurd none
   ]
 ]
