@@ -3,3 +3,4 @@ pub mod Values
 pub mod Musts
 pub mod Crashes
 pub mod Scripts
+pub mod TwoSessions

@@ -1,20 +1,21 @@
 //! Laws that tell by example what it is to follow a script: trails that do, and trails that only seem to.
 #![tactic(auto)]
 
-ghost use Rattle.std.specs.Prelude.{◌≡◌, true, false, [], ◌∷◌, IsTrue, map, reverse};
+ghost use Rattle.std.specs.Prelude.{◌≡◌, true, false, [], ◌∷◌, ◌++◌, IsTrue, map, reverse};
 ghost use Rattle.std.specs.List.{list_all};
 ghost use Rattle.qc_event.specs.History.{children};
 ghost use Rattle.qc_interp.specs.Asking.{Asks};
 ghost use Rattle.qc_interp.specs.Follows.{FollowsBody};
-ghost use Rattle.qc_interp.specs.FollowsScript.{started};
+ghost use Rattle.qc_interp.specs.FollowsScript.{EachRuns, is_in_session, started};
 ghost use Rattle.qc_interp.specs.Reach.{Reach};
 ghost use Rattle.qc_interp.specs.Session.{FollowsBodies, RunsBodies};
 ghost use Rattle.qc_interp.specs.Sessions.{RunsInTurn, tops_of, meets, is_settled, all_unmarked};
 ghost use Rattle.qc_script.specs.Numbers.{each, is_next_top};
 ghost use Rattle.qc_trail_laws.specs.Crashes as crashes;
 ghost use Rattle.qc_trail_laws.specs.Musts as musts;
-ghost use Rattle.qc_trail_laws.specs.Scripts.{Begins, Follows};
+ghost use Rattle.qc_trail_laws.specs.Scripts.{Begins, Follows, session_of};
 ghost use Rattle.qc_trail_laws.specs.Trails as trails;
+ghost use Rattle.qc_trail_laws.specs.TwoSessions as two;
 ghost use Rattle.qc_trail_laws.specs.Values as values;
 
 /// The first run follows its script, in turn, with its numbers and its messages; a try after a lost request, another
@@ -193,4 +194,34 @@ pub fn stops_at_no_crash()
         (reverse crashes.nothing_done) → ⊥ }
     ensures set_left_out { Follows trails.net crashes.around (reverse (values.enough 0))
         → ⊥ }
+{}
+
+/// Two sessions whose tops run between each other's entries, each under its seat, follow their script: each runs its own
+/// bodies in turn, and tops are numbered in order, whatever their sessions.
+pub fn runs_together()
+    ensures only { IsTrue (list_all (is_in_session 2 (reverse two.interleaved))
+        (children (reverse two.interleaved) [])) }
+    ensures each_runs { EachRuns Reach.to_the_end 0 trails.net.patience two.reader_and_idler
+        (reverse two.interleaved) }
+    ensures numbers { IsTrue (each (is_next_top 1) (reverse two.interleaved)) }
+    ensures settled { IsTrue (list_all (is_settled (reverse two.interleaved))
+        (started (reverse two.interleaved))) }
+    ensures unmarked { IsTrue (all_unmarked (reverse two.interleaved)) }
+{}
+
+/// None of these follows its script: two sessions where the script has one, or has the bodies of each for the other, or
+/// has a third; one session that runs its next top before the one before it is over; and a top that another session's
+/// aborts.
+pub fn runs_not_together()
+    ensures not_in_script { Follows trails.net trails.read_alone (reverse two.interleaved) → ⊥ }
+    ensures swapped { two.FollowsBoth (session_of trails.net trails.no_step
+        ∷ session_of trails.net trails.read_alone ∷ [])
+        (reverse two.interleaved) → ⊥ }
+    ensures third { two.FollowsBoth (two.reader_and_idler
+        ++ session_of trails.net trails.no_step ∷ [])
+        (reverse two.interleaved) → ⊥ }
+    ensures of_one_session { Follows trails.net (trails.read_alone ++ trails.no_step)
+        (reverse two.of_one_session) → ⊥ }
+    ensures aborts_the_other { two.FollowsBoth two.reader_and_idler
+        (reverse two.aborts_the_other) → ⊥ }
 {}
