@@ -62,9 +62,6 @@ manages setting (kind.User s body) h = h
 manages setting kind.Access h = h
 
 module _ (c : Client) (of : Name) where
-  own_mine : (a b : Past) (p : IsLater c a b) → mine c b ≡ mine c (p.newer ++ a)
-  own_mine a b p = ap (mine c) p.grown
-
   pub end_later : (a b : Past) → IsLater c a b → (n : Name) (how : How) → end (mine c a) n ≡ Some how → end (mine c b) n ≡ Some how
   end_later a b p n how is = ap (λ h. end (mine c h) n) p.grown ∙ end_some (λ (e : Entry). is_own c e.seat) c.setting p.newer a n how is
 

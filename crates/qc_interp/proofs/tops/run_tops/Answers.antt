@@ -2,7 +2,7 @@ use Rattle.std.proofs.Common.{◌∙◌, subst, ◌∷◌, refl, arith}
 use Rattle.qc_script.specs.Steps.{numbered}
 use Rattle.qc_interp.specs.Session.{RanTops, CutTops}
 use Rattle.qc_interp.proofs.Results.{any_err}
-use Rattle.qc_interp.proofs.TopsRun.{one_body, no_body, bodies_cut, all_bodies}
+use Rattle.qc_interp.proofs.TopLoops.{one_body, no_body, bodies_cut, all_bodies}
 use Rattle.qc_interp.proofs.tops.run_tops.Goals as goal
 
 pub loop-body-preserved : goal.loop-body-preserved

@@ -11,7 +11,8 @@ use Rattle.qc_interp.specs.Session.{CutTops}
 use Rattle.qc_script.specs.Steps.{plan_of, numbered}
 use Rattle.qc_interp.specs.Running.{Runs, Ended, CutOff}
 use Rattle.qc_interp.proofs.Plans.{plan_is, tries_of, number_of}
-use Rattle.qc_interp.proofs.TopsRun.{TopTriesLeft, TriedTop, runs_top, top_once, top_cut, top_more, top_out, try_cut, top_not_begun, no_top, tops_out}
+use Rattle.qc_interp.proofs.TopLoops.{TopTriesLeft, top_more, top_out, try_cut, top_not_begun, no_top, tops_out}
+use Rattle.qc_interp.proofs.TopsRun.{TriedTop, runs_top, top_once, top_cut}
 use Rattle.qc_interp.proofs.Tried.{refused_made, start_of}
 use Rattle.qc_interp.proofs.Results.{any_err}
 use Rattle.qc_interp.proofs.tops.top_tries.Goals as goal

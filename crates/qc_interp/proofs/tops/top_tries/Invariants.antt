@@ -1,7 +1,7 @@
 use Rattle.qc_script.specs.Calls.{MeetsLink}
 use Rattle.std.proofs.Common.{◌≡◌, ◌-◌}
 use Rattle.qc_script.specs.Steps.{numbered}
-use Rattle.qc_interp.proofs.TopsRun.{TopTriesLeft}
+use Rattle.qc_interp.proofs.TopLoops.{TopTriesLeft}
 use Rattle.qc_interp.proofs.tops.top_tries.Given as goal
 
 abbrev pub invariant-loop : goal.invariant-loop

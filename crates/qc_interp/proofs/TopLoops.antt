@@ -1,0 +1,96 @@
+-- What is left of the tries of a body that run as tops after some of them, and of the bodies of a session.
+use Rattle.std.proofs.Common.{◌≡◌, ℕ, suc, ◌<◌, ◌+◌, ◌≤◌, true, false, List, [], ◌∷◌, length, drop, map, get_or, refl, sym, ap, ◌∙◌, subst, append-nil, add-one, drop-cons}
+use Rattle.std.specs.Prelude.{Option, None, Some}
+use Rattle.std.proofs.lemmas.List.{drop_all}
+use Rattle.qc_event.specs.History.{Past, Name, children}
+use Rattle.qc_event.specs.Legal.{Legal}
+use Rattle.qc_script.specs.declared.script.Body.{Body}
+use Rattle.qc_script.specs.Client.{Client, Made, IsLater}
+use Rattle.qc_interp.specs.Reach.{Reach}
+use Rattle.qc_script.specs.Plan.{Numbered, PlanFits}
+use Rattle.qc_script.specs.Steps.{numbered}
+use Rattle.qc_interp.specs.Session.{EndsTopsAt, EndsTops, RanTops, RanInTurn, CutTops}
+use Rattle.qc_script.specs.Plan.{BodiesFit}
+use Rattle.qc_interp.proofs.Growth.{made_is, made_later, later_itself, later_trans}
+use Rattle.qc_interp.proofs.Asked.{asked_made}
+use Rattle.qc_interp.proofs.TopsRun.{TriedTop, CutTop, EndsTopTries, turn_itself, turn_trans, turn_cut, top_again, top_last, cut_last}
+
+pub record TopTriesLeft (c : Client) (body : Numbered) (before now : Past) (left : ℕ) : Type 0 where
+  pub later : IsLater c before now
+  pub in_turn : RanInTurn c before now
+  pub last : Option Name
+  pub front : (reach : Reach) (x : Past) → IsLater c now x → (rest : List Numbered) → EndsTopTries reach c now x body last left rest → EndsTopsAt reach c before x (body ∷ rest)
+
+module _ (c : Client) (body : Numbered) where
+  pub no_top : (now : Past) → Legal c.setting now → TopTriesLeft c body now now body.tries
+  no_top now legal = record { in_turn = turn_itself c now legal; later = later_itself c now legal; last = None; front = λ reach x later rest ends. ends }
+
+  pub top_more : (before now next : Past) (left : ℕ) → TopTriesLeft c body before now (suc left) → TriedTop c body now next true → TopTriesLeft c body before next left
+  top_more before now next left l t = record {
+    in_turn = turn_trans c before now next t.later l.in_turn t.in_turn;
+    later = later_trans c before now next l.later t.later;
+    last = Some t.top;
+    front = λ reach x later rest ends. l.front reach x (later_trans c now next x t.later later) rest (top_again c body now next true t refl reach x later l.last left rest ends);
+  }
+
+  pub top_out : (before now next : Past) (left : ℕ) → TopTriesLeft c body before now (suc left) → TriedTop c body now next false → RanTops c before next (λ rest. body ∷ rest)
+  top_out before now next left l t = record {
+    in_turn = turn_trans c before now next t.later l.in_turn t.in_turn;
+    later = later_trans c before now next l.later t.later;
+    follows = λ reach x later rest ends. l.front reach x (later_trans c now next x t.later later) rest (top_last c body now next false t refl reach x later l.last left rest ends);
+  }
+
+  pub tops_out : (before now : Past) → TopTriesLeft c body before now 0 → RanTops c before now (λ rest. body ∷ rest)
+  tops_out before now l = record { in_turn = l.in_turn; later = l.later; follows = λ reach x later rest ends. l.front reach x later rest ends }
+
+module _ (c : Client) (body : Numbered) where
+  pub try_cut : (before now next : Past) (left : ℕ) (rest : List Numbered) → TopTriesLeft c body before now (suc left) → CutTop c body now next → CutTops c before next (body ∷ rest)
+  try_cut before now next left rest l t = record {
+    in_turn = turn_trans c before now next t.in_turn.later l.in_turn t.in_turn;
+    begins = l.front Reach.cut_off next t.in_turn.later rest (cut_last c body now next t l.last left rest);
+  }
+
+  -- a top was not begun
+  pub top_not_begun : (before now next : Past) (left : ℕ) (rest : List Numbered) → TopTriesLeft c body before now (suc left) → Made c [] now next → CutTops c before next (body ∷ rest)
+  top_not_begun before now next left rest l m =
+      let own = made_is c [] now next m in
+      let later = made_later c [] now next m in
+      record {
+        in_turn = turn_trans c before now next later l.in_turn (turn_cut c now next m);
+        begins = l.front Reach.cut_off next later rest (λ ours. ([], ap (λ h. children h []) own ∙ sym (append-nil _), tt, asked_made c [] now next _ m tt));
+      }
+
+pub record BodiesLeft (c : Client) (bodies : List Body) (before now : Past) (i : ℕ) : Type 0 where
+  pub later : IsLater c before now
+  pub in_turn : RanInTurn c before now
+  pub fits : BodiesFit c.setting (map numbered (drop i bodies))
+  pub front : (reach : Reach) (x : Past) → IsLater c now x → EndsTopsAt reach c now x (map numbered (drop i bodies)) → EndsTopsAt reach c before x (map numbered bodies)
+
+module _ (c : Client) (bodies : List Body) where
+  pub no_body : (now : Past) → Legal c.setting now → BodiesFit c.setting (map numbered bodies) → BodiesLeft c bodies now now 0
+  no_body now legal fits = record { in_turn = turn_itself c now legal; later = later_itself c now legal; fits = fits; front = λ reach x later ends. ends }
+
+  split : (i : ℕ) (b : Body) → i < length bodies → b ≡ get_or bodies i b → map numbered (drop i bodies) ≡ numbered b ∷ map numbered (drop (i + 1) bodies)
+  split i b below is = ap (map numbered) (let s : drop i bodies ≡ b ∷ drop (i + 1) bodies = rw add-one (drop-cons bodies i b below ∙ ap (λ y. y ∷ drop (suc i) bodies) (sym is)) in s)
+
+  pub fits_body : (before now : Past) (i : ℕ) (b : Body) → BodiesLeft c bodies before now i → i < length bodies → b ≡ get_or bodies i b → PlanFits c.setting 1 (numbered b).plan
+  fits_body before now i b l below is = (subst (BodiesFit c.setting) (split i b below is) l.fits).1
+
+  pub one_body : (before now next : Past) (i : ℕ) (b : Body) → BodiesLeft c bodies before now i → i < length bodies → b ≡ get_or bodies i b → RanTops c now next (λ rest. numbered b ∷ rest) → BodiesLeft c bodies before next (i + 1)
+  one_body before now next i b l below is ran = record {
+    in_turn = turn_trans c before now next ran.later l.in_turn ran.in_turn;
+    later = later_trans c before now next l.later ran.later;
+    fits = (subst (BodiesFit c.setting) (split i b below is) l.fits).2;
+    front = λ reach x later ends. l.front reach x (later_trans c now next x ran.later later) (subst (EndsTopsAt reach c now x) (sym (split i b below is)) (ran.follows reach x later (map numbered (drop (i + 1) bodies)) ends));
+  }
+
+  pub bodies_cut : (before now next : Past) (i : ℕ) (b : Body) → BodiesLeft c bodies before now i → i < length bodies → b ≡ get_or bodies i b → ((rest : List Numbered) → CutTops c now next (numbered b ∷ rest)) → CutTops c before next (map numbered bodies)
+  bodies_cut before now next i b l below is cut =
+      let one = cut (map numbered (drop (i + 1) bodies)) in
+      record {
+        in_turn = turn_trans c before now next one.in_turn.later l.in_turn one.in_turn;
+        begins = l.front Reach.cut_off next one.in_turn.later (subst (EndsTopsAt Reach.cut_off c now next) (sym (split i b below is)) one.begins);
+      }
+
+  pub all_bodies : (before now : Past) (i : ℕ) → BodiesLeft c bodies before now i → length bodies ≤ i → EndsTops c before now (map numbered bodies)
+  all_bodies before now i l past = l.front Reach.to_the_end now (later_itself c now l.later.legal) (subst (EndsTops c now now) (sym (ap (map numbered) (drop_all i bodies past))) (λ ours. ([], sym (append-nil _), tt, ([], refl, tt))))
