@@ -16,11 +16,11 @@ use Rattle.qc_script.specs.Plan.{Numbered, SessionPlan}
 use Rattle.qc_interp.specs.Adding.{is_of_one, stays_in, starts_for, all_over, AllStayIn}
 use Rattle.qc_interp.specs.Asking.{BodiesAsk, IsAskedBy}
 use Rattle.qc_interp.specs.Follows.{RunsBody, FollowsBody}
-use Rattle.qc_interp.specs.FollowsScript.{net_of, RunsSession, EachRuns, FollowsScript, BeginsScript}
+use Rattle.qc_interp.specs.FollowsScript.{net_of}
 use Rattle.qc_interp.specs.Reach.{Reach, AtTheEnd}
-use Rattle.qc_interp.specs.Session.{tops, NotBegun, AreAllOurs, RunsBodies, FollowsBodies, EndsTopsAt, InTurnAt}
-use Rattle.qc_interp.specs.Sessions.{is_unmarked, tops_of}
-use Rattle.qc_interp.specs.Together.{IsSingle, HasRun, EachHasRun}
+use Rattle.qc_interp.specs.Session.{tops, NotBegun, AreAllOurs, RunsBodies, FollowsBodies, EndsTops, EndsTopsAt, InTurnAt}
+use Rattle.qc_interp.specs.Sessions.{is_unmarked}
+use Rattle.qc_interp.specs.Together.{IsSingle, HasRun}
 use Rattle.qc_interp.specs.Turns.{takes_turn, is_alone}
 use Rattle.qc_interp.proofs.Adding.{numbers_stay, after_stay, all_over_more}
 use Rattle.qc_interp.proofs.Ending.{at_the_end}
@@ -108,7 +108,10 @@ module _ (s : ℕ) (past : Past) where
       tries_wider (end past) (FollowsBody s past b) (RunsBody Reach.cut_off s past b) ⊥ (NotBegun Reach.cut_off) (λ last further. FollowsBodies s past bodies further) (λ last further. RunsBodies Reach.cut_off s past bodies further)
       (body_begins b) (λ none. tt) (λ last further r. bodies_begin bodies further r) None b.tries ts h
 
-turns_begun : (c : Client) (before now : Past) → InTurnAt Reach.to_the_end c before now → InTurnAt Reach.cut_off c before now
+pub ends_begun : (c : Client) (before now : Past) (bodies : List Numbered) → EndsTops c before now bodies → EndsTopsAt Reach.cut_off c before now bodies
+ends_begun c before now bodies ends = λ ours. let e = ends ours in (e.0, e.1, bodies_begin c.session (mine c now) bodies e.0 e.2, e.3)
+
+pub turns_begun : (c : Client) (before now : Past) → InTurnAt Reach.to_the_end c before now → InTurnAt Reach.cut_off c before now
 turns_begun c before now ran = record {
   made = ran.made;
   more = ran.more;
@@ -118,41 +121,4 @@ turns_begun c before now ran = record {
   numbers = ran.numbers;
   order = λ ours was over. ((ran.order ours was over).0, tt);
   turns = λ ours was alone. ((ran.turns ours was alone).0, tt);
-}
-
-pub has_begun : (setting : Setting) (session epoch patience : ℕ) (c : Client) (plan : SessionPlan) (past : Past) → HasRun Reach.to_the_end setting session epoch patience c plan past → HasRun Reach.cut_off setting session epoch patience c plan past
-has_begun setting session epoch patience c plan past ran = record {
-  session_is = ran.session_is;
-  epoch_is = ran.epoch_is;
-  setting_is = ran.setting_is;
-  single = ran.single;
-  ends = λ ours. let e = ran.ends ours in (e.0, e.1, bodies_begin c.session (mine c past) plan.tops e.0 e.2, e.3);
-  in_turn = turns_begun c [] past ran.in_turn;
-  met = ran.met;
-  unmarked = ran.unmarked;
-}
-
-pub each_has_begun : (setting : Setting) (session epoch patience : ℕ) (clients : List Client) (sessions : List SessionPlan) (past : Past) → EachHasRun Reach.to_the_end setting session epoch patience clients sessions past → EachHasRun Reach.cut_off setting session epoch patience clients sessions past
-each_has_begun setting session epoch patience [] [] past all = tt
-each_has_begun setting session epoch patience [] (s ∷ sessions) past all = absurd all
-each_has_begun setting session epoch patience (c ∷ clients) [] past all = absurd all
-each_has_begun setting session epoch patience (c ∷ clients) (s ∷ sessions) past all =
-    (has_begun setting session epoch patience c s past all.0, each_has_begun setting (session + 1) epoch patience clients sessions past all.1)
-
-sessions_begin : (session patience : ℕ) (sessions : List SessionPlan) (past : Past) → EachRuns Reach.to_the_end session patience sessions past → EachRuns Reach.cut_off session patience sessions past
-sessions_begin session patience [] past each_runs = tt
-sessions_begin session patience (s ∷ sessions) past each_runs = (one each_runs.0, sessions_begin (session + 1) patience sessions past each_runs.1)
-  where
-    one : RunsSession Reach.to_the_end session patience s past → RunsSession Reach.cut_off session patience s past
-    one runs = record { bodies_run = bodies_begin session past s.tops (tops_of session past) runs.bodies_run; in_turn = runs.in_turn; messages = runs.messages }
-
--- who follows a script has begun it
-pub follows_begins : (epoch patience : ℕ) (sessions : List SessionPlan) (past : Past) → FollowsScript epoch patience sessions past → BeginsScript epoch patience sessions past
-follows_begins epoch patience sessions past follows = record {
-  only = follows.only;
-  each_runs = sessions_begin 0 patience sessions past follows.each_runs;
-  numbers = follows.numbers;
-  as_asked = follows.as_asked;
-  each_settled = tt;
-  unmarked = follows.unmarked;
 }

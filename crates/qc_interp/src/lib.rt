@@ -2,10 +2,12 @@
 #![tactic(auto)]
 
 mod body;
+mod gate;
 mod managing;
 mod stops;
 mod tops;
 
 pub use body::steps;
+pub use gate::{Gate, Mode, NoGate};
 pub use stops::Finish;
 pub use tops::run_tops;
