@@ -1,35 +1,24 @@
--- A client of a session at its start, over a pass that has seen nothing.
-use Rattle.std.proofs.Common.{◌≡◌, ℕ, List, [], refl, sym, ap, ◌∙◌, subst}
+-- A client of a session at its start.
+use Rattle.std.proofs.Common.{◌≡◌, ℕ, List, ap, ◌∙◌}
 use Rattle.std.specs.Prelude.{Some}
 use Rattle.qc_event.specs.Base.{Setting}
-use Rattle.qc_event.specs.History.{Past}
-use Rattle.qc_event.specs.Legal.{Legal}
 use Rattle.qc_net.specs.Plan.{Plan, starting}
 use Rattle.qc_net.specs.Messages.{Net}
 use Rattle.qc_net.specs.declared.link.Fate.{Fate}
 use Rattle.qc_pass.specs.declared.view.View.{View}
-use Rattle.qc_script.specs.Client.{Client, Made}
 use Rattle.qc_session.specs.Clients.{client_of, link_told}
 
 abbrev pub net_with : List Fate → ℕ → ℕ → Net
 net_with fates hold patience = record { fates = fates; hold = hold; patience = patience }
 
 -- the client is the session's, by what its parts are
-pub client_is : (setting : Setting) (session epoch first_epoch patience first_patience hold : ℕ) (told : Plan) (fates first_fates : List Fate) (v first : View)
-    → session ≡ 0 → epoch ≡ first_epoch → told ≡ starting fates hold → fates ≡ first_fates → patience ≡ first_patience → v ≡ first
-    → client_of setting session epoch (link_told (Some told) patience) v ≡ client_of setting 0 first_epoch (Some (net_with first_fates hold first_patience)) first
-client_is setting session epoch first_epoch patience first_patience hold told fates first_fates v first s e t f p w =
+pub client_is : (setting : Setting) (session first_session epoch first_epoch patience first_patience hold : ℕ) (told : Plan) (fates first_fates : List Fate) (v first : View)
+    → session ≡ first_session → epoch ≡ first_epoch → told ≡ starting fates hold → fates ≡ first_fates → patience ≡ first_patience → v ≡ first
+    → client_of setting session epoch (link_told (Some told) patience) v ≡ client_of setting first_session first_epoch (Some (net_with first_fates hold first_patience)) first
+client_is setting session first_session epoch first_epoch patience first_patience hold told fates first_fates v first s e t f p w =
     ap (λ x. client_of setting x epoch (link_told (Some told) patience) v) s
-    ∙ ap (λ x. client_of setting 0 x (link_told (Some told) patience) v) e
-    ∙ ap (λ x. client_of setting 0 first_epoch (link_told (Some x) patience) v) t
-    ∙ ap (λ x. client_of setting 0 first_epoch (Some (net_with x hold patience)) v) f
-    ∙ ap (λ x. client_of setting 0 first_epoch (Some (net_with first_fates hold x)) v) p
-    ∙ ap (λ x. client_of setting 0 first_epoch (Some (net_with first_fates hold first_patience)) x) w
-
--- what holds of a client, what it had seen and what it has seen then, however these are told
-pub as_told : (P : Client → Past → Past → Type 0) {c d : Client} {before now then : Past} → c ≡ d → before ≡ [] → then ≡ now → P c before now → P d [] then
-as_told P {c} {d} {before} {now} {then} same nothing is h = subst (λ x. P d [] x) (sym is) (subst (λ x. P d x now) nothing (subst (λ x. P x before now) same h))
-
--- it made nothing, and has seen nothing
-pub made_none : (c : Client) (past : Past) → past ≡ [] → Legal c.setting past → Made c [] [] past
-made_none c past nothing legal = record { newer = []; grown = nothing; made = refl; legal = legal }
+    ∙ ap (λ x. client_of setting first_session x (link_told (Some told) patience) v) e
+    ∙ ap (λ x. client_of setting first_session first_epoch (link_told (Some x) patience) v) t
+    ∙ ap (λ x. client_of setting first_session first_epoch (Some (net_with x hold patience)) v) f
+    ∙ ap (λ x. client_of setting first_session first_epoch (Some (net_with first_fates hold x)) v) p
+    ∙ ap (λ x. client_of setting first_session first_epoch (Some (net_with first_fates hold first_patience)) x) w

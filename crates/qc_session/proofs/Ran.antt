@@ -1,60 +1,41 @@
--- What a session leaves in the closed history, whatever the ledger and the copies entered after its last call.
-use Rattle.std.proofs.Common.{◌≡◌, ℕ, ◌≤◌, true, [], ◌∷◌, ◌++◌, length, reverse, refl, sym, ap, ◌∙◌, subst, arith, List}
+-- What the clients of a script's sessions left follows the script, in the closed history.
+use Rattle.std.proofs.Common.{◌≡◌, ℕ, ◌+◌, ◌==◌, ◌≤◌, ◌⊎◌, inl, inr, Bool, true, false, List, [], ◌∷◌, ◌++◌, length, reverse, refl, sym, ap, ◌∙◌, subst, arith}
 use mathlib.Core.Bool.{true≢false, Bool-set}
 use Rattle.std.proofs.Math.Logic.{∥∥₁_elim, ∥∥₁_map}
-use Rattle.std.specs.Prelude.{Some, Result, Ok, Err, OnOk, IfErr, IsTrue}
-use Rattle.std.specs.List.{AllByRecursion}
-use Rattle.std.proofs.lemmas.Bool.{eqb-true}
+use Rattle.std.specs.Prelude.{IsTrue, ◌||◌, not}
+use Rattle.std.specs.List.{AllByRecursion, list_all, list_any}
+use Rattle.std.proofs.lemmas.Bool.{and_from, and_parts, eqb-true}
 use Rattle.std.proofs.lemmas.List.{length-append, length-reverse}
-use Rattle.qc_carry.specs.Kept.{IsKept}
-use Rattle.qc_carry.specs.Walk.{Walk}
-use Rattle.qc_carry.proofs.KeepsStill.{keeps_met, keeps_still}
 use Rattle.qc_carry.proofs.Walking.{none_own}
 use Rattle.qc_event.specs.declared.event.Entry.{Entry}
 use Rattle.qc_event.specs.declared.event.Event.{Event}
 use Rattle.qc_event.specs.declared.event.Event.TheVariants as event
 use Rattle.qc_event.specs.Base.{Setting}
-use Rattle.qc_event.specs.declared.log.Short.{Short}
 use Rattle.qc_event.specs.History.{Past, limit}
 use Rattle.qc_event.specs.Legal.{Legal}
-use Rattle.qc_event.specs.Seats.{is_client}
-use Rattle.qc_interp.specs.Alone.{AccessesEnd, AreLone}
 use Rattle.qc_interp.specs.FollowsScript.{RunsScript}
 use Rattle.qc_interp.specs.Reach.{Reach}
-use Rattle.qc_interp.specs.Session.{CutTops, EndsTops, EndsTopsAt, InTurnAt, RanInTurn}
 use Rattle.qc_interp.specs.Sessions.{is_unmarked}
+use Rattle.qc_interp.specs.Together.{AreOf, EachHasRun, HasRun}
 use Rattle.qc_interp.proofs.Ending.{at_any}
-use Rattle.qc_interp.proofs.LoneScript.{follows_begins}
-use Rattle.qc_interp.proofs.SystemScript.{all_lone_of, system_runs}
-use Rattle.qc_net.specs.declared.link.Fate.{Fate}
-use Rattle.qc_net.specs.Messages.{Net, meets_fates}
-use Rattle.qc_net.specs.Plan.{starting}
+use Rattle.qc_interp.proofs.FromStart.{ends_from_start, turns_from_start}
+use Rattle.qc_interp.proofs.RanLater.{has_run_later}
+use Rattle.qc_interp.proofs.Together.{together}
 use Rattle.qc_pass.specs.declared.view.View.{View}
-use Rattle.qc_pass.specs.Entries.{AreOthers, IsOlder, IsSince, entries_of}
-use Rattle.qc_pass.specs.Rules.{sees}
+use Rattle.qc_pass.specs.Entries.{IsOlder, IsSince}
+use Rattle.qc_pass.specs.Rules.{Has, IsSettled}
+use Rattle.qc_pass.proofs.Moves.{has_none}
 use Rattle.qc_pass.proofs.Since as since
+use Rattle.qc_pass.proofs.Seers.{older_trans}
 use Rattle.qc_script.specs.Client.{Client, is_own, mine}
-use Rattle.qc_script.specs.Plan.{Numbered}
-use Rattle.qc_session.specs.Clients.{IsFor}
+use Rattle.qc_script.specs.Plan.{SessionPlan}
+use Rattle.qc_session.specs.Clients.{client_for}
+use Rattle.qc_session.specs.Session.{EachJoined, HaveRun, IsFirst, Joined}
 use Rattle.qc_session.specs.Tidy.{IsTidy, MarksNone}
 use Rattle.qc_session.proofs.Own.{mine_is, own_alone}
-use Rattle.qc_session.proofs.Settled.{NoOther, accesses_end, seats_own}
+use Rattle.qc_session.proofs.Requests.{met_later}
+use Rattle.qc_session.proofs.Settled.{AreTheirs, accesses_end, all_theirs, client_above, is_one}
 use Rattle.qc_session.proofs.Tidy.{others_tidy}
-
--- REQUESTS
-
--- requests that met their fates still do
-met_later : (setting : Setting) (v : View) (newer : Past) (fates : List Fate) (hold patience : ℕ) → Legal setting (newer ++ v.seen) → AreOthers v.number newer
-    → IsTrue (meets_fates v.number (record { fates = fates; hold = hold; patience = patience }) v.seen) → IsTrue (meets_fates v.number (record { fates = fates; hold = hold; patience = patience }) (newer ++ v.seen))
-met_later setting v newer fates hold patience legal others met =
-    keeps_met v.number (Some (starting fates hold)) [] patience (newer ++ v.seen) true
-    (keeps_still setting v (sees (newer ++ v.seen) v) [] legal walk refl (λ n access. (refl, refl)) (Some (starting fates hold)) [] patience true ∣ kept ∣₁)
-  where
-    walk : Walk v (sees (newer ++ v.seen) v) []
-    walk = record { newer = newer; grown = refl; own = none_own v.number newer others; number = refl; live = refl; out = refl; kin = refl }
-
-    kept : IsKept v.number (starting fates hold) [] patience v.seen true
-    kept = record { met = met; in_step = λ whole. absurd (true≢false whole) }
 
 -- MARKS
 
@@ -69,69 +50,111 @@ unmarked_event (event.Unable n why) none = refl
 unmarked_event (event.Ready n) none = refl
 unmarked_event (event.End n how) none = refl
 
-own_unmarked : (c : Client) (seat : ℕ) (past : Past) → c.number ≡ seat → c.kin ≡ [] → AllByRecursion (λ (e : Entry). e.seat ≡ seat → MarksNone e.event) past → AllByRecursion (λ (e : Entry). is_own c e.seat ≡ true → is_unmarked e.event ≡ true) past
-own_unmarked c seat [] number kinless none = tt
-own_unmarked c seat (e ∷ past) number kinless none = (
-  λ own. unmarked_event e.event (none.0 (eqb-true e.seat seat (sym (own_alone c seat e.seat number kinless) ∙ own))),
-  own_unmarked c seat past number kinless none.1,
-)
+-- whether each of a client's entries marks no session
+abbrev own_unmarked : Client → Past → Bool
+own_unmarked c past = list_all (λ (e : Entry). not (is_own c e.seat) || is_unmarked e.event) past
 
--- THE SESSION
+tidy_unmarked : (c : Client) (seat : ℕ) (past : Past) → c.number ≡ seat → c.kin ≡ [] → AllByRecursion (λ (e : Entry). e.seat ≡ seat → MarksNone e.event) past → own_unmarked c past ≡ true
+tidy_unmarked c seat [] number kinless none = refl
+tidy_unmarked c seat (e ∷ past) number kinless none = and_from _ _ (by_own (is_own c e.seat) refl) (tidy_unmarked c seat past number kinless none.1)
+  where
+    by_own : (b : Bool) → is_own c e.seat ≡ b → (not b || is_unmarked e.event) ≡ true
+    by_own false other = refl
+    by_own true own = unmarked_event e.event (none.0 (eqb-true e.seat seat (sym (own_alone c seat e.seat number kinless) ∙ own)))
 
-module _ (setting : Setting) (v : View) (c : Client) (for : IsFor setting v c) (client : is_client v.number ≡ true) (final : Past) (legal : Legal setting final) (older : IsOlder v.seen final) (none : NoOther v.number final) (own : entries_of v.number final ≡ entries_of v.number v.seen)
-    (tidy : ∥ IsTidy v.number v.seen ∥₁) (fates : List Fate) (hold patience : ℕ) (met : IsTrue (meets_fates v.number (record { fates = fates; hold = hold; patience = patience }) v.seen)) (bodies : List Numbered) where
-  abbrev net : Net
-  net = record { fates = fates; hold = hold; patience = patience }
+each_unmarked : (c : Client) (past : Past) → own_unmarked c past ≡ true → AllByRecursion (λ (e : Entry). is_own c e.seat ≡ true → is_unmarked e.event ≡ true) past
+each_unmarked c [] none = tt
+each_unmarked c (e ∷ past) none =
+    let both = and_parts (not (is_own c e.seat) || is_unmarked e.event) _ none in
+    (λ own. sym (ap (λ b. not b || is_unmarked e.event) own) ∙ both.0, each_unmarked c past both.1)
 
-  later : IsSince v.number v.seen final
-  later = since.since v.number v.seen final older own
+-- ONE SESSION
 
-  abbrev newer : Past
-  newer = later.0
+module _ (reach : Reach) (setting : Setting) (epoch patience : ℕ) (final : Past) (legal : Legal setting final) (first : View) (older : IsOlder first.seen final) (settled : IsSettled final first) where
+  module _ (session : ℕ) (plan : SessionPlan) (one : View) (j : Joined reach setting epoch patience session plan one first) where
+    abbrev c : Client
+    c = client_for setting epoch patience session plan one
 
-  legal_now : Legal setting (newer ++ v.seen)
-  legal_now = subst (Legal setting) later.1 legal
+    later : IsSince one.number one.seen final
+    later = since.since one.number one.seen final (older_trans one.seen first.seen final j.seen older) (settled.1 one.number one.mine j.joined ∙ j.own)
 
-  legal_for : Legal c.setting (newer ++ v.seen)
-  legal_for = subst (λ s. Legal s (newer ++ v.seen)) (sym for.setting_is) legal_now
+    abbrev newer : Past
+    newer = later.0
 
-  none_now : NoOther v.number (newer ++ v.seen)
-  none_now = subst (NoOther v.number) later.1 none
+    legal_now : Legal setting (newer ++ one.seen)
+    legal_now = subst (Legal setting) later.1 legal
 
-  tidy_now : ∥ IsTidy v.number (newer ++ v.seen) ∥₁
-  tidy_now = ∥∥₁_map tidy (λ t. others_tidy setting v.number newer v.seen legal_now later.2 t)
+    still_tidy : ∥ IsTidy one.number final ∥₁
+    still_tidy = ∥∥₁_map j.leaves.tidy (λ t. subst (IsTidy one.number) (sym later.1) (others_tidy setting one.number newer one.seen legal_now later.2 t))
 
-  lone : AreLone c (newer ++ v.seen)
-  lone = ∥∥₁_elim tidy_now (hlevel Bool-set) (λ (t : IsTidy v.number (newer ++ v.seen)).
-      all_lone_of c (newer ++ v.seen) legal_for (seats_own c v.number (newer ++ v.seen) for.number for.kinless none_now) (own_unmarked c v.number (newer ++ v.seen) for.number for.kinless t.unmarked))
+    unmarked : own_unmarked c (newer ++ one.seen) ≡ true
+    unmarked = subst (λ h. own_unmarked c h ≡ true) later.1 (∥∥₁_elim still_tidy (hlevel Bool-set) (λ (t : IsTidy one.number final). tidy_unmarked c one.number final refl refl t.unmarked))
 
-  accesses : AccessesEnd (newer ++ v.seen)
-  accesses n access over = ∥∥₁_elim tidy_now (hlevel Bool-set) (λ (t : IsTidy v.number (newer ++ v.seen)).
-      accesses_end setting c v.number (newer ++ v.seen) legal_now for.number for.kinless lone t n access over)
+    none_before : mine c j.before ≡ []
+    none_before = mine_is c one.number j.before refl refl ∙ j.none
 
-  none_mine : mine c newer ≡ []
-  none_mine = mine_is c v.number newer for.number for.kinless ∙ none_own v.number newer later.2
+    has_run : HasRun reach setting session epoch patience c plan final
+    has_run =
+        subst (HasRun reach setting session epoch patience c plan) (sym later.1)
+        (has_run_later reach setting session epoch patience c plan one.seen newer refl refl refl (record { kinless = refl; client = client_above one.number j.number })
+        (ends_from_start c j.before one.seen none_before reach plan.tops j.leaves.ends) (turns_from_start c j.before one.seen none_before reach j.leaves.in_turn)
+        (mine_is c one.number newer refl refl ∙ none_own one.number newer later.2) legal_now
+        (met_later setting one newer plan.fates plan.hold patience legal_now later.2 j.leaves.met) (each_unmarked c (newer ++ one.seen) unmarked))
 
-  met_now : meets_fates c.number net (newer ++ v.seen) ≡ true
-  met_now = ap (λ n. meets_fates n net (newer ++ v.seen)) for.number ∙ met_later setting v newer fates hold patience legal_now later.2 met
+  -- ALL SESSIONS
 
-  pub session_runs : (reach : Reach) → EndsTopsAt reach c [] v.seen bodies → InTurnAt reach c [] v.seen → RunsScript reach c.session c.epoch net bodies final
-  session_runs reach ends ran =
-      subst (RunsScript reach c.session c.epoch net bodies) (sym later.1)
-      (system_runs reach c net bodies v.seen newer legal_for
-      (record { kinless = for.kinless; client = subst (λ n. is_client n ≡ true) (sym for.number) client })
-      lone none_mine ends ran met_now (at_any reach (AccessesEnd (newer ++ v.seen)) accesses))
+  -- the sessions' clients, by their passes
+  abbrev clients : ℕ → List SessionPlan → List View → List Client
+  clients session [] ones = []
+  clients session (plan ∷ plans) [] = []
+  clients session (plan ∷ plans) (one ∷ ones) = client_for setting epoch patience session plan one ∷ clients (session + 1) plans ones
 
-  pub session_follows : (r : Result (Unit {0}) Short) → OnOk r (EndsTops c [] v.seen bodies) → OnOk r (RanInTurn c [] v.seen) → OnOk r (RunsScript Reach.to_the_end c.session c.epoch net bodies final)
-  session_follows (Ok done) ends ran = session_runs Reach.to_the_end ends ran
-  session_follows (Err why) ends ran = tt
+  each_has_run : (session : ℕ) (plans : List SessionPlan) (ones : List View) → EachJoined reach setting epoch patience session plans ones first → EachHasRun reach setting session epoch patience (clients session plans ones) plans final
+  each_has_run session [] [] each = tt
+  each_has_run session [] (one ∷ ones) each = absurd each
+  each_has_run session (plan ∷ plans) [] each = absurd each
+  each_has_run session (plan ∷ plans) (one ∷ ones) each = (has_run session plan one each.0, each_has_run (session + 1) plans ones each.1)
 
-  pub session_begins : (r : Result (Unit {0}) Short) → OnOk r (EndsTops c [] v.seen bodies) → OnOk r (RanInTurn c [] v.seen) → IfErr r (λ _. CutTops c [] v.seen bodies) → RunsScript Reach.cut_off c.session c.epoch net bodies final
-  session_begins (Ok done) ends ran cut = follows_begins c.session c.epoch net bodies final (session_runs Reach.to_the_end ends ran)
-  session_begins (Err why) ends ran cut = session_runs Reach.cut_off cut.begins cut.in_turn
+  -- a seat that is one of the passes' is one of the clients'
+  one_client : (session : ℕ) (plans : List SessionPlan) (ones : List View) (k : ℕ) → EachJoined reach setting epoch patience session plans ones first → is_one ones k ≡ true → list_any (λ (x : Client). is_own x k) (clients session plans ones) ≡ true
+  one_client session [] [] k each is = absurd (true≢false (sym is))
+  one_client session [] (one ∷ ones) k each is = absurd each
+  one_client session (plan ∷ plans) [] k each is = absurd each
+  one_client session (plan ∷ plans) (one ∷ ones) k each is = by_test (one.number == k) is (λ h. one_client (session + 1) plans ones k each.1 h)
+    where
+      by_test : (b : Bool) → (b || is_one ones k) ≡ true → (is_one ones k ≡ true → list_any (λ (x : Client). is_own x k) (clients (session + 1) plans ones) ≡ true)
+          → ((b || false) || list_any (λ (x : Client). is_own x k) (clients (session + 1) plans ones)) ≡ true
+      by_test true h rest = refl
+      by_test false h rest = rest h
+
+  tidy_at : (session : ℕ) (plans : List SessionPlan) (ones : List View) (k : ℕ) → EachJoined reach setting epoch patience session plans ones first → is_one ones k ≡ true → ∥ IsTidy k final ∥₁
+  tidy_at session [] [] k each is = absurd (true≢false (sym is))
+  tidy_at session [] (one ∷ ones) k each is = absurd each
+  tidy_at session (plan ∷ plans) [] k each is = absurd each
+  tidy_at session (plan ∷ plans) (one ∷ ones) k each is = by_test (one.number == k) refl is (λ h. tidy_at (session + 1) plans ones k each.1 h)
+    where
+      by_test : (b : Bool) → (one.number == k) ≡ b → (b || is_one ones k) ≡ true → (is_one ones k ≡ true → ∥ IsTidy k final ∥₁) → ∥ IsTidy k final ∥₁
+      by_test true at h rest = subst (λ n. ∥ IsTidy n final ∥₁) (eqb-true one.number k at) (still_tidy session plan one each.0)
+      by_test false at h rest = rest h
+
+  are_of : (plans : List SessionPlan) (ones : List View) (past : Past) → EachJoined reach setting epoch patience 0 plans ones first → AreTheirs ones past → AreOf (clients 0 plans ones) past
+  are_of plans ones [] each all = tt
+  are_of plans ones (e ∷ past) each all = (λ client. one_client 0 plans ones e.seat each (all.0 client), are_of plans ones past each all.1)
+
+  pub script_runs : (plans : List SessionPlan) (before : View) → before.kin ≡ [] → IsFirst first → HaveRun reach setting epoch patience 0 plans before first → RunsScript reach epoch patience plans final
+  script_runs plans before none is ran =
+      together reach setting epoch patience (clients 0 plans ran.ones) plans final legal (are_of plans ran.ones final ran.each all) (each_has_run 0 plans ran.ones ran.each)
+      (at_any reach _ (accesses_end setting ran.ones final legal all (λ k is. tidy_at 0 plans ran.ones k ran.each is)))
+    where
+      all : AreTheirs ran.ones final
+      all = all_theirs ran.ones final first is.mine settled (λ k m h. by_kin k m (ran.only k m h))
+        where
+          by_kin : (k : ℕ) (m : Past) → Has before.kin (k, m) ⊎ IsTrue (list_any (λ (v : View). v.number == k) ran.ones) → is_one ran.ones k ≡ true
+          by_kin k m (inl old) = absurd (has_none (k, m) (subst (λ ks. Has ks (k, m)) none old))
+          by_kin k m (inr one) = one
 
 -- ROOM
 
 -- a history that was full is the closed one
-pub full_still : (seen items : Past) → IsOlder seen (reverse items) → length items ≤ limit → length seen ≡ limit → length items ≡ limit
+pub full_still : (seen items : Past) → IsOlder seen (reverse items) → length items ≤ limit → limit ≤ length seen → length items ≡ limit
 full_still seen items older few full = omega (arith, few, full, ap (λ (p : Past). length p) older.1, length-append older.0 seen, length-reverse items)

@@ -1,16 +1,18 @@
 -- Who a client is, by its pass.
-use Rattle.std.specs.Prelude.{ℕ, ◌≡◌, [], Option}
+use Rattle.std.specs.Prelude.{ℕ, ◌≡◌, [], Option, Some}
 use Rattle.std.specs.Option.{option_map}
-use Rattle.qc_carry.specs.Kept.{net_of}
+use Rattle.qc_carry.specs.Kept as kept
 use Rattle.qc_event.specs.Base.{Setting}
+use Rattle.qc_interp.specs.FollowsScript.{net_of}
 use Rattle.qc_net.specs.Messages.{Net}
 use Rattle.qc_net.specs.Plan.{Plan}
 use Rattle.qc_pass.specs.declared.view.View.{View as Pass}
 use Rattle.qc_script.specs.Client.{Client, View}
+use Rattle.qc_script.specs.Plan.{SessionPlan}
 
 -- the link of a client, where it tells its plan
 abbrev pub link_told : Option Plan → ℕ → Option Net
-link_told plan patience = option_map (λ p. net_of p patience) plan
+link_told plan patience = option_map (λ p. kept.net_of p patience) plan
 
 -- a client that has no branches and may mark no session, by its pass
 abbrev pub client_of : Setting → ℕ → ℕ → Option Net → Pass → Client
@@ -24,6 +26,10 @@ client_of setting session epoch net pass = record {
   may = [];
   net = net;
 }
+
+-- the client of a script's session, over its link
+abbrev pub client_for : Setting → ℕ → ℕ → ℕ → SessionPlan → Pass → Client
+client_for setting epoch patience session plan pass = client_of setting session epoch (Some (net_of patience plan)) pass
 
 -- that client, and what its pass has seen
 abbrev pub view_of : Setting → ℕ → ℕ → Option Net → Pass → View

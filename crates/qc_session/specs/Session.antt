@@ -1,7 +1,93 @@
--- What a session of a script is over.
-use Rattle.qc_net.specs.Messages.{Net}
-use Rattle.qc_script.specs.Plan.{ScriptPlan}
+-- What the client of a session leaves in its pass, and what the clients of a script's sessions leave in the first pass.
+use Rattle.std.specs.Prelude.{ℕ, ◌≡◌, ◌+◌, ◌<◌, ◌≤◌, ◌==◌, ◌⊎◌, true, IsTrue, List, [], ◌∷◌, length, OnOk, IsErrOf, Result}
+use Rattle.std.specs.List.{list_any}
+use Rattle.qc_event.specs.declared.log.Short.{Short}
+use Rattle.qc_event.specs.declared.log.Short.TheVariants.{Room}
+use Rattle.qc_event.specs.Base.{Setting}
+use Rattle.qc_event.specs.History.{Past, limit}
+use Rattle.qc_interp.specs.FollowsScript.{net_of}
+use Rattle.qc_interp.specs.Reach.{Reach}
+use Rattle.qc_interp.specs.Session.{EndsTopsAt, InTurnAt}
+use Rattle.qc_net.specs.Messages.{meets_fates}
+use Rattle.qc_pass.specs.declared.view.View.{View as Pass}
+use Rattle.qc_pass.specs.Entries.{IsOlder, entries_of}
+use Rattle.qc_pass.specs.Rules.{Has}
+use Rattle.qc_script.specs.Plan.{SessionPlan, SessionWithin}
+use Rattle.qc_session.specs.Clients.{client_for}
+use Rattle.qc_session.specs.Tidy.{IsTidy}
 
--- the link of a script's session
-abbrev pub net_of : ScriptPlan → Net
-net_of s = record { fates = s.fates; hold = s.hold; patience = s.patience }
+-- ONE CLIENT
+
+-- what a session may ask for over the records and copies of a setting
+abbrev pub SessionFits : Setting → SessionPlan → Type 0
+SessionFits setting plan = SessionWithin (length setting.base) (length setting.firsts) plan
+
+-- a pass is a client's, and has entered nothing
+pub record IsNew (v : Pass) : Type 0 where
+  pub live : v.live ≡ true
+  pub number : 17 < v.number
+  pub mine : v.mine ≡ []
+  pub kin : v.kin ≡ []
+  pub out : v.out ≡ []
+  pub none : entries_of v.number v.seen ≡ []
+
+-- What the client of a session left in its pass, which had seen this before, as far as the run came: tops that are tries
+-- of the session's bodies, run in turn, and requests that meet the fates of its link.
+pub record Leaves (reach : Reach) (setting : Setting) (epoch patience session : ℕ) (plan : SessionPlan) (before : Past) (v : Pass) : Type 0 where
+  pub ends : EndsTopsAt reach (client_for setting epoch patience session plan v) before v.seen plan.tops
+  pub in_turn : InTurnAt reach (client_for setting epoch patience session plan v) before v.seen
+  pub met : IsTrue (meets_fates v.number (net_of patience plan) v.seen)
+  pub tidy : ∥ IsTidy v.number v.seen ∥₁
+
+-- the client of a session ran by this pass, and gave it back so
+pub record RanOne (setting : Setting) (epoch patience session : ℕ) (plan : SessionPlan) (given : Pass) (ran : Result (Unit {0}) Short) (back : Pass) : Type 0 where
+  pub number : back.number ≡ given.number
+  pub live : back.live ≡ true
+  pub kin : back.kin ≡ []
+  pub out : back.out ≡ []
+  pub follows : OnOk ran (Leaves Reach.to_the_end setting epoch patience session plan given.seen back)
+  pub begins : Leaves Reach.cut_off setting epoch patience session plan given.seen back
+  pub room : IsErrOf ran Room → length back.seen ≡ limit
+
+-- EACH OF THEM
+
+-- the first pass, which has given the numbers of the ledger and the copies, and has entered nothing
+pub record IsFirst (v : Pass) : Type 0 where
+  pub live : v.live ≡ true
+  pub number : v.number ≡ 0
+  pub given : v.count ≡ 17
+  pub mine : v.mine ≡ []
+
+-- The client of a session, whose pass had seen this and was new, ran and joined it to the first pass.
+pub record Joined (reach : Reach) (setting : Setting) (epoch patience session : ℕ) (plan : SessionPlan) (one first : Pass) : Type 0 where
+  pub number : 17 < one.number
+  pub own : one.mine ≡ entries_of one.number one.seen
+  pub before : Past
+  pub none : entries_of one.number before ≡ []
+  pub leaves : Leaves reach setting epoch patience session plan before one
+  pub joined : Has first.kin (one.number, one.mine)
+  pub seen : IsOlder one.seen first.seen
+
+-- so did the clients of these sessions, numbered from this one on
+abbrev pub EachJoined : Reach → Setting → ℕ → ℕ → ℕ → List SessionPlan → List Pass → Pass → Type 0
+EachJoined reach setting epoch patience session [] [] first = Unit {0}
+EachJoined reach setting epoch patience session (plan ∷ plans) (one ∷ ones) first =
+    Joined reach setting epoch patience session plan one first × EachJoined reach setting epoch patience (session + 1) plans ones first
+EachJoined reach setting epoch patience session _ _ first = ⊥
+
+-- The clients of these sessions, and no others, joined their passes to the first pass meanwhile, and none is out that was
+-- not.
+pub record HaveRun (reach : Reach) (setting : Setting) (epoch patience session : ℕ) (plans : List SessionPlan) (before now : Pass) : Type 0 where
+  pub ones : List Pass
+  pub each : EachJoined reach setting epoch patience session plans ones now
+  pub only : (k : ℕ) (m : Past) → Has now.kin (k, m) → Has before.kin (k, m) ⊎ IsTrue (list_any (λ (v : Pass). v.number == k) ones)
+  pub kept : (k : ℕ) (m : Past) → Has before.kin (k, m) → Has now.kin (k, m)
+  pub out : (k : ℕ) → Has now.out k → Has before.out k
+  pub older : IsOlder before.seen now.seen
+
+-- the sessions ran so, all to their end or as far as memory and room went
+pub record RanEach (setting : Setting) (epoch patience session : ℕ) (plans : List SessionPlan) (before : Pass) (ran : Result (Unit {0}) Short) (now : Pass) : Type 0 where
+  pub first : IsFirst now
+  pub follows : OnOk ran (HaveRun Reach.to_the_end setting epoch patience session plans before now)
+  pub begins : HaveRun Reach.cut_off setting epoch patience session plans before now
+  pub room : IsErrOf ran Room → limit ≤ length now.seen

@@ -6,8 +6,9 @@ mod client;
 mod ends;
 mod managers;
 mod refusals;
-mod session;
+mod sessions;
+mod stage;
 mod starts;
 
 pub use client::Client;
-pub use session::{Ended, run_session};
+pub use sessions::{Ended, run_sessions};

@@ -1,0 +1,90 @@
+//! The sessions of a script, run over a system from its opening to its end.
+ghost use Rattle.std.specs.Prelude.{◌≡◌, ◌≤◌, length, reverse, OnOk, IsErrOf};
+ghost use Rattle.qc_event.specs.declared.log.Short.TheVariants.{Room};
+ghost use Rattle.qc_event.specs.History.{limit};
+ghost use Rattle.qc_event.specs.Legal.{Legal};
+ghost use Rattle.qc_event.specs.Tables.{setting_of};
+ghost use Rattle.qc_interp.specs.FollowsScript.{BeginsScript, FollowsScript};
+ghost use Rattle.qc_script.specs.Reading.{IsProper};
+ghost use Rattle.qc_script.specs.Steps.{plan_of_script};
+ghost use Rattle.qc_system.specs.Closing.{AllKeep};
+ghost use Rattle.qc_system.specs.Parts.{IsOpening};
+
+use crate::stage::Stage;
+use qc_disk::Disk;
+use qc_event::{Base, Entry, Short};
+use qc_interp::{Gate, Mode};
+use qc_pass::Pass;
+use qc_script::Script;
+use qc_system::{Mounting, System};
+use std::alloc::Global;
+use std::sync::Wait;
+use std::thread::Threads;
+
+/// What is left of a store once its sessions have run: whether all came to their end, the tuples from which the copies
+/// started, the history, the oldest entry first, and the disks, the ledger's first.
+#[derive(Drop)]
+pub struct Ended<D> {
+    pub ran: Result<(), Short>,
+    pub start: Base,
+    pub trail: Vec<Entry>,
+    pub disks: Vec<D>,
+}
+
+/// Runs the sessions of a script over a system that was just opened, in threads or in order, and takes that apart. Each
+/// passes the gate before its first top. Where memory or room is wanting, a session stops, and what it made before stands;
+/// the others go on.
+pub fn run_sessions<
+    R: Threads + Wait + Sync,
+    D: Disk + Drop + Send,
+    N: Mounting + Send + Sync,
+    G: Gate + Sync,
+>(
+    rt: &R,
+    alloc: Global,
+    system: System<D, N>,
+    first: Pass<N>,
+    script: &Script,
+    gate: &G,
+    mode: Mode,
+) -> Ended<D>
+    requires first { IsOpening first 17 }
+    requires proper { IsProper (plan_of_script script.now) }
+    requires table { script.now.table ≡ N.table }
+    requires copies { length N.base ≡ script.now.table.copies }
+    ensures start { result.start ≡ N.base }
+    ensures legal { Legal (setting_of N.table N.base) (reverse result.trail.items) }
+    ensures bounded { length result.trail.items ≤ limit }
+
+    // What ran to its end follows the script, and what was cut off is a beginning of it.
+    ensures follows { OnOk result.ran (FollowsScript system.desk.epoch script.now.patience
+        (plan_of_script script.now).sessions (reverse result.trail.items)) }
+    ensures begins { BeginsScript system.desk.epoch script.now.patience
+        (plan_of_script script.now).sessions (reverse result.trail.items) }
+    ensures room { IsErrOf result.ran Room → length result.trail.items ≡ limit }
+
+    // Each disk keeps what was found on it, and then what the history tells.
+    ensures disks { AllKeep (setting_of N.table N.base) (record {
+      base = N.base;
+      told = N.told;
+      before = N.before;
+      first = N.first;
+    }) D.view result.disks.items (reverse result.trail.items) }
+{
+    let stage = Stage {
+        rt,
+        alloc,
+        system: &system,
+        script,
+        gate,
+        mode,
+    };
+    let (ran, first) = stage.run_from(first, script.sessions.as_slice(), 0);
+    let (start, trail, disks) = system.finish(rt, first);
+    Ended {
+        ran,
+        start,
+        trail,
+        disks,
+    }
+}

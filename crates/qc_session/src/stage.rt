@@ -1,0 +1,165 @@
+//! The sessions of a script, each run by a client of its own over a system.
+ghost use Rattle.std.specs.Prelude.{◌≡◌, ◌+◌, ◌≤◌, length, map, IfOk};
+ghost use Rattle.qc_event.specs.Tables.{setting_of};
+ghost use Rattle.qc_script.specs.Plan.{SessionsFit};
+ghost use Rattle.qc_script.specs.Steps.{plan_of_session};
+ghost use Rattle.qc_session.specs.Session.{IsFirst, IsNew, RanEach, RanOne, SessionFits};
+
+use crate::client::Client;
+use qc_carry::Line;
+use qc_disk::Disk;
+use qc_event::Short;
+use qc_interp::{Gate, Mode, run_tops};
+use qc_net::{Courier, Fate, PlanLink};
+use qc_pass::Pass;
+use qc_script::{Script, Session};
+use qc_system::{Boxed, Mounting, System};
+use std::alloc::{AllocError, Global};
+use std::sync::Wait;
+use std::thread::{Threads, join};
+
+/// What the sessions of a script run over, and whether they do so in threads or in order.
+#[derive(Drop)]
+pub(crate) struct Stage<'a, R, D: Disk + Drop, N: Mounting, G>
+where
+    Boxed<D>: Disk,
+{
+    pub(crate) rt: &'a R,
+    pub(crate) alloc: Global,
+    pub(crate) system: &'a System<D, N>,
+    pub(crate) script: &'a Script,
+    pub(crate) gate: &'a G,
+    pub(crate) mode: Mode,
+}
+
+// The fates of a session's requests.
+fn fates_of(session: &Session) -> Result<Vec<Fate>, AllocError>
+    ensures { IfOk result (λ v. v.items ≡ session.now.fates.items) }
+{
+    session.fates.clone()
+}
+
+// Runs a session, with this number, by a client of a pass, and gives the pass back. Where memory or room is wanting the
+// session stops, and what it made before stands.
+fn run_client<R: Wait, D: Disk + Drop, N: Mounting, G: Gate>(
+    rt: &R,
+    alloc: Global,
+    system: &System<D, N>,
+    script: &Script,
+    gate: &G,
+    pass: Pass<N>,
+    session: &Session,
+    number: u8,
+) -> (Result<(), Short>, Pass<N>)
+    requires new { IsNew pass }
+    requires fits { SessionFits (setting_of N.table N.base) (plan_of_session session.now) }
+    requires table { script.now.table ≡ N.table }
+    ensures { RanOne (setting_of N.table N.base) system.now.desk.epoch script.now.patience number
+        (plan_of_session session.now) pass result.0 result.1 }
+{
+    pass.known();
+    let fates = match fates_of(session) {
+        Ok(fates) => fates,
+        Err(AllocError) => return (Err(Short::Memory), pass),
+    };
+    let courier = Courier::new(alloc, PlanLink::new(fates, session.hold));
+    let line = Line::new(rt, system, pass, courier, script.patience);
+    let mut client = Client::new(line, &script.table, number);
+    client.line.known();
+    gate.pass(number);
+    let ran = run_tops(&mut client, session.tops.as_slice());
+    client.line.known();
+    (ran, client.into_pass())
+}
+
+impl<
+    'a,
+    R: Threads + Wait + Sync,
+    D: Disk + Drop + Send,
+    N: Mounting + Send + Sync,
+    G: Gate + Sync,
+> Stage<'a, R, D, N, G> {
+    // Runs a session and those after it, each by a client of its own.
+    #[cycle(sessions)]
+    fn run_both(
+        &self,
+        pass: Pass<N>,
+        session: &Session,
+        first: Pass<N>,
+        rest: &[Session],
+        number: u8,
+    ) -> ((Result<(), Short>, Pass<N>), (Result<(), Short>, Pass<N>))
+        requires new { IsNew pass }
+        requires first { IsFirst first }
+        requires fits { SessionFits (setting_of N.table N.base) (plan_of_session session.now) }
+        requires all_fit { SessionsFit (setting_of N.table N.base) (map plan_of_session rest.now) }
+        requires few { number + 1 + length rest.now ≤ 16 }
+        requires table { self.now.script.now.table ≡ N.table }
+        ensures one { RanOne (setting_of N.table N.base) self.now.system.now.desk.epoch
+            self.now.script.now.patience number (plan_of_session session.now) pass result.0.0
+            result.0.1 }
+        ensures others { RanEach (setting_of N.table N.base) self.now.system.now.desk.epoch
+            self.now.script.now.patience (number + 1) (map plan_of_session rest.now) first
+            result.1.0 result.1.1 }
+    {
+        let (rt, alloc, system) = (self.rt, self.alloc, self.system);
+        let (script, gate) = (self.script, self.gate);
+        if self.mode == Mode::Serial || rest.is_empty() {
+            let one = run_client(rt, alloc, system, script, gate, pass, session, number);
+            let others = self.run_from(first, rest, number + 1);
+            return (one, others);
+        }
+        join(
+            rt,
+            || -> (Result<(), Short>, Pass<N>)
+                requires { IsNew pass
+                    × SessionFits (setting_of N.table N.base) (plan_of_session session.now)
+                    × (script.now.table ≡ N.table) }
+                ensures { RanOne (setting_of N.table N.base) system.entry.now.desk.epoch
+                    script.entry.now.patience number (plan_of_session session.entry.now) pass
+                    result.0 result.1 }
+            { run_client(rt, alloc, system, script, gate, pass, session, number) },
+            || -> (Result<(), Short>, Pass<N>)
+                requires { IsFirst first
+                    × SessionsFit (setting_of N.table N.base) (map plan_of_session rest.now)
+                    × (number + 1 + length rest.now ≤ 16)
+                    × (self.now.script.now.table ≡ N.table) }
+                ensures { RanEach (setting_of N.table N.base) self.entry.now.system.now.desk.epoch
+                    self.entry.now.script.now.patience (number + 1)
+                    (map plan_of_session rest.entry.now) first result.0 result.1 }
+            { self.run_from(first, rest, number + 1) },
+        )
+    }
+
+    /// Runs sessions, numbered from this one on, each by a client of its own, and joins what these saw to the first pass.
+    /// One that stops for want of memory or room stops alone; the want of the first such session is told.
+    #[cycle(sessions)]
+    pub(crate) fn run_from(
+        &self,
+        first: Pass<N>,
+        sessions: &[Session],
+        number: u8,
+    ) -> (Result<(), Short>, Pass<N>)
+        requires first { IsFirst first }
+        requires fit { SessionsFit (setting_of N.table N.base) (map plan_of_session sessions.now) }
+        requires few { number + length sessions.now ≤ 16 }
+        requires table { self.now.script.now.table ≡ N.table }
+        ensures { RanEach (setting_of N.table N.base) self.now.system.now.desk.epoch
+            self.now.script.now.patience number (map plan_of_session sessions.now) first
+            result.0 result.1 }
+    {
+        let [session, rest @ ..] = sessions else {
+            return (Ok(()), first);
+        };
+        let mut first = first;
+        let pass = self.system.desk().split(self.rt, &mut first);
+        pass.known();
+        let ((ran, pass), (others, mut first)) = self.run_both(pass, session, first, rest, number);
+        pass.known();
+        self.system.desk().join(self.rt, &mut first, pass);
+        match ran {
+            Ok(()) => (others, first),
+            Err(short) => (Err(short), first),
+        }
+    }
+}
