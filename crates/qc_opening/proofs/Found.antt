@@ -3,6 +3,7 @@ use Rattle.std.proofs.Common.{◌≡◌, ℕ, zero, suc, ◌+◌, ◌<◌, ◌�
 use Rattle.std.specs.Prelude.{All, Option, None, Some, is_some, slice_get, slice_index_or}
 use Rattle.std.proofs.lemmas.List.{length-map}
 use Rattle.qc_config.specs.declared.tuple.Tuple.{Tuple}
+use Rattle.qc_disk.specs.Disk.{View}
 use Rattle.qc_disk.specs.declared.disk.Disk.{Ghosts}
 use Rattle.qc_codec.specs.Bodies as body
 use Rattle.qc_codec.specs.Copy.{grant_form}
@@ -23,6 +24,7 @@ use Rattle.qc_site.specs.Mounted as copy
 use Rattle.qc_site.specs.Start.{start_of}
 use Rattle.qc_site.specs.declared.mounted.Mounted.{Mounted}
 use Rattle.qc_standing.specs.Mountings.{AreBytes, IsMounted}
+use Rattle.qc_system.specs.Grown.{LeftAlike}
 use Rattle.qc_system.specs.Parts.{AreMounted, Findings, IsFound}
 use Rattle.qc_system.specs.Parts as system
 use Rattle.qc_opening.specs.Parts.{IsStoreOver}
@@ -33,26 +35,25 @@ use Rattle.qc_opening.proofs.Places.{all_at, at_place, get_next, mapped_at, pair
 abbrev pub told_by : List (Option (List ℕ)) → ℕ → Option (List ℕ)
 told_by told number = slice_index_or told number None
 
+-- a disk leaves what it leaves
+alike_itself : (disk : View) → LeftAlike disk disk
+alike_itself disk = λ t c early. (λ left. left, λ left. left)
+
 module _ {D : Type 0} {g : Ghosts D} where
   -- the bodies of the records of each disk
   abbrev pub bodies_found : Book D g → List (Mounted D g) → ℕ → List (List ℕ)
   bodies_found ledger copies number = slice_index_or (book.records_of ledger ∷ map copy.records_of copies) number []
 
-  -- the count of faults of each disk
-  abbrev pub faults_found : Book D g → List (Mounted D g) → ℕ → ℕ
-  faults_found ledger copies number = slice_index_or ((g.view (disk_of (book.journal_of ledger))).faults ∷ map (λ m. (g.view (copy_disk m)).faults) copies) number 0
-
-  -- the moment of each disk
-  abbrev pub moments_found : Book D g → List (Mounted D g) → ℕ → ℕ
-  moments_found ledger copies number = slice_index_or ((g.view (disk_of (book.journal_of ledger))).moment ∷ map (λ m. (g.view (copy_disk m)).moment) copies) number 0
+  -- each disk as it was mounted
+  abbrev pub disk_found : Book D g → List (Mounted D g) → ℕ → D
+  disk_found ledger copies number = slice_index_or (disk_of (book.journal_of ledger) ∷ map copy_disk copies) number (disk_of (book.journal_of ledger))
 
   abbrev pub found_of : List (Option (List ℕ)) → Book D g → List (Mounted D g) → List (List Tuple) → Findings
   found_of told ledger copies base = record {
     base = base;
     told = λ number. is_some (told_by told number);
     before = bodies_found ledger copies;
-    faults = faults_found ledger copies;
-    moment = moments_found ledger copies;
+    first = λ number. g.view (disk_found ledger copies number);
   }
 
   -- the copies from one on were mounted so, where each was
@@ -73,8 +74,7 @@ module _ {D : Type 0} {g : Ghosts D} where
       pub is_copy : IsCopy table parts.past store.limit i disk m
       pub disk_told : told_by told (i + 1) ≡ (g.view disk).content
       pub bodies : bodies_found parts.book parts.copies.items (i + 1) ≡ copy.records_of m
-      pub faults : faults_found parts.book parts.copies.items (i + 1) ≡ (g.view (copy_disk m)).faults
-      pub moment : moments_found parts.book parts.copies.items (i + 1) ≡ (g.view (copy_disk m)).moment
+      pub mounted : disk_found parts.book parts.copies.items (i + 1) ≡ copy_disk m
 
     pub copy_at : (i : ℕ) (m : Mounted D g) → slice_get parts.copies.items i ≡ Some m → IsAt i m
     copy_at i m is =
@@ -87,25 +87,23 @@ module _ {D : Type 0} {g : Ghosts D} where
               ∙ (ap (λ (l : List D). told_by (map (λ d. (g.view d).content) l) (i + 1)) store.mounted.disks_are
               ∙ (get_next (g.view store.mounted.ledger_disk).content (map (λ d. (g.view d).content) store.mounted.copy_disks) i None ∙ mapped_at (λ d. (g.view d).content) store.mounted.copy_disks i disk None there));
           bodies = get_next (book.records_of parts.book) (map copy.records_of parts.copies.items) i [] ∙ mapped_at copy.records_of parts.copies.items i m [] is;
-          faults = get_next (g.view (disk_of (book.journal_of parts.book))).faults (map (λ x. (g.view (copy_disk x)).faults) parts.copies.items) i 0 ∙ mapped_at (λ x. (g.view (copy_disk x)).faults) parts.copies.items i m 0 is;
-          moment = get_next (g.view (disk_of (book.journal_of parts.book))).moment (map (λ x. (g.view (copy_disk x)).moment) parts.copies.items) i 0 ∙ mapped_at (λ x. (g.view (copy_disk x)).moment) parts.copies.items i m 0 is;
+          mounted = get_next (disk_of (book.journal_of parts.book)) (map copy_disk parts.copies.items) i (disk_of (book.journal_of parts.book)) ∙ mapped_at copy_disk parts.copies.items i m (disk_of (book.journal_of parts.book)) is;
         }
 
     -- THE SYSTEM
 
-    pub ledger_found : IsFound (is_some (told_by told 0)) (bodies_found parts.book parts.copies.items 0) (faults_found parts.book parts.copies.items 0) (moments_found parts.book parts.copies.items 0) (book.records_of parts.book) (book.journal_of parts.book)
+    pub ledger_found : IsFound (is_some (told_by told 0)) (bodies_found parts.book parts.copies.items 0) (g.view (disk_found parts.book parts.copies.items 0)) (book.records_of parts.book) (book.journal_of parts.book)
     ledger_found = record {
       same = refl;
       keeps = λ tells. store.mounted.ledger_is.keeps (sym (ap is_some ledger_told) ∙ tells);
       count = refl;
       at = refl;
+      left = alike_itself (g.view (disk_of (book.journal_of parts.book)));
     }
 
     -- each disk as it was mounted
-    pub was_found : (number : ℕ) → number ≤ table.copies → WasMounted g.view (moments_found parts.book parts.copies.items number) (bodies_found parts.book parts.copies.items number) (told_by told number)
+    pub was_found : (number : ℕ) → number ≤ table.copies → WasMounted g.view (disk_found parts.book parts.copies.items number) (bodies_found parts.book parts.copies.items number) (told_by told number)
     was_found zero low = record {
-      disk = disk_of (book.journal_of parts.book);
-      at = refl;
       tells = λ tells. ap is_some (ledger_found.keeps tells).told;
       had = λ tells image left. kept_has (book.journal_of parts.book) (book.records_of parts.book) image (up_by (book.journal_of parts.book).state parts.book.up) (ledger_found.keeps tells) left;
     }
@@ -113,12 +111,11 @@ module _ {D : Type 0} {g : Ghosts D} where
         let (m, is) = at_place parts.copies.items i (omega (arith, low, all)) in
         let at = copy_at i m is in
         let next : i + 1 ≡ suc i = omega arith in
-        subst (λ n. WasMounted g.view (moments_found parts.book parts.copies.items n) (bodies_found parts.book parts.copies.items n) (told_by told n)) next (record {
-          disk = copy_disk m;
-          at = at.moment;
+        subst (λ n. WasMounted g.view (disk_found parts.book parts.copies.items n) (bodies_found parts.book parts.copies.items n) (told_by told n)) next
+        (subst (λ d. WasMounted g.view d (bodies_found parts.book parts.copies.items (i + 1)) (told_by told (i + 1))) (sym at.mounted) (record {
           tells = λ tells. ap is_some (at.is_copy.keeps (sym (ap is_some at.disk_told) ∙ tells)).told;
           had = λ tells image left. subst (λ bs. HasRecords bs image) (sym at.bodies) (kept_has (copy.journal_of m) (copy.records_of m) image (up_by (copy.journal_of m).state m.up) (at.is_copy.keeps (sym (ap is_some at.disk_told) ∙ tells)) left);
-        })
+        }))
 
     module _ (base : List (List Tuple)) (rows : base ≡ map start_of parts.copies.items) where
       as_many : length base ≡ table.copies
@@ -134,8 +131,9 @@ module _ {D : Type 0} {g : Ghosts D} where
             disk = record {
               same = at.bodies;
               keeps = λ tells. at.is_copy.keeps (sym (ap is_some at.disk_told) ∙ tells);
-              count = at.faults;
-              at = at.moment;
+              count = ap (λ d. (g.view d).faults) at.mounted;
+              at = ap (λ d. (g.view d).moment) at.mounted;
+              left = subst (λ d. LeftAlike (g.view d) (g.view (copy_disk m))) (sym at.mounted) (alike_itself (g.view (copy_disk m)));
             };
           }
 

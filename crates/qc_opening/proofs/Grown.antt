@@ -6,7 +6,7 @@ use Rattle.std.proofs.lemmas.Option.{slice_get_within}
 use Rattle.qc_disk.specs.Disk.{View}
 use Rattle.qc_event.specs.Tables.{setting_of}
 use Rattle.qc_event.specs.declared.table.Table.{Table}
-use Rattle.qc_ledger.specs.Since.{GrownSince}
+use Rattle.qc_system.specs.Grown.{GrownFrom}
 use Rattle.qc_opening.specs.Stored.{disks_of, past_of, AreOfRun, HasGrown, HasKept, HaveGrown}
 use Rattle.qc_opening.specs.declared.stored.Stored.{Stored}
 
@@ -19,15 +19,15 @@ module _ {D : Type 0} (view : D → View) (table : Table) (told : ℕ → Option
 
   -- the disk at a place
   grown_at : (number : ℕ) (disk other : D) → number ≤ table.copies → slice_get (disks_of stored) number ≡ Some other → slice_get (disks_of stored) number ≡ Some disk → is_some (told number) ≡ true
-      → ∥ (is_some (told number) ≡ true → GrownSince (kept.moments number) (kept.records number) (May number) (view other)) ∥₁ → ∥ HasGrown view (kept.records number) (May number) disk ∥₁
+      → ∥ (is_some (told number) ≡ true → GrownFrom (view (kept.firsts number)) (kept.records number) (May number) (view other)) ∥₁ → ∥ HasGrown view (kept.records number) (May number) disk ∥₁
   grown_at number disk other low there is tells grown =
       let was = kept.was number low in
       let same : other ≡ disk = same_item other disk (sym there ∙ is) in
       ∥∥₁_map grown (λ k. record {
-        first = was.disk;
+        first = kept.firsts number;
         tells = was.tells tells;
         had = was.had tells;
-        grown = subst (λ d. GrownSince (view was.disk).moment (kept.records number) (May number) (view d)) same (subst (λ m. GrownSince m (kept.records number) (May number) (view other)) was.at (k tells));
+        grown = subst (λ d. GrownFrom (view (kept.firsts number)) (kept.records number) (May number) (view d)) same (k tells);
       })
 
   each_grown : (number : ℕ) (disk : D) → slice_get (disks_of stored) number ≡ Some disk → is_some (told number) ≡ true → ∥ HasGrown view (kept.records number) (May number) disk ∥₁
@@ -37,7 +37,7 @@ module _ {D : Type 0} (view : D → View) (table : Table) (told : ℕ → Option
       let c = kept.kept.copies copy (omega (arith, within, kept.kept.many)) in
       let next : copy + 1 ≡ suc copy = omega arith in
       grown_at (suc copy) disk c.disk (omega (arith, within, kept.kept.many, kept.mounted.as_many)) (subst (λ n. slice_get (disks_of stored) n ≡ Some c.disk) next c.there) is tells
-      (subst (λ n. ∥ (is_some (told n) ≡ true → GrownSince (kept.moments n) (kept.records n) (May (suc copy)) (view c.disk)) ∥₁) next c.kept.grown)
+      (subst (λ n. ∥ (is_some (told n) ≡ true → GrownFrom (view (kept.firsts n)) (kept.records n) (May (suc copy)) (view c.disk)) ∥₁) next c.kept.grown)
 
   pub have_grown : HaveGrown view table told stored.epoch stored.ended.start (disks_of stored) (past_of stored)
   have_grown = record { records = kept.records; mounted = kept.mounted; grown = each_grown }

@@ -106,18 +106,17 @@ module _ {D : Type 0} (view : D → View) (plan : ScriptPlan) (told offers : ℕ
   -- KEEPING
 
   abbrev found : (ℕ → Option (List ℕ)) → Findings
-  found by = record { base = stored.ended.start; told = λ number. is_some (by number); before = run.kept.records; faults = run.kept.faults; moment = run.kept.moments }
+  found by = record { base = stored.ended.start; told = λ number. is_some (by number); before = run.kept.records; first = λ number. view (run.kept.firsts number) }
 
   pub kept : HasKept view plan.table offers stored
   kept = record {
     records = run.kept.records;
-    faults = run.kept.faults;
-    moments = run.kept.moments;
+    firsts = run.kept.firsts;
     mounted = mounted;
     was = λ number low.
         let w = run.kept.was number low in
         let too : is_some (offers number) ≡ true → is_some (told number) ≡ true = λ some. some_too (offers number) (told number) (tells number low) some in
-        record { disk = w.disk; at = w.at; tells = λ some. w.tells (too some); had = λ some. w.had (too some) };
+        record { tells = λ some. w.tells (too some); had = λ some. w.had (too some) };
     kept = record {
       many = all.many;
       ledger = ledger all.ledger;
@@ -196,11 +195,11 @@ module _ {D : Type 0} (view : D → View) (plan : ScriptPlan) (told offers : ℕ
       (subst (λ d. Pays 0 (downs (entries_of seat (past_of stored))) (view d).faults) same (from_none count _ _ pays))
 
   pub paid : HavePaid view stored.ended.disks.items (past_of stored)
-  paid zero disk is = let l = run.kept.kept.ledger in paid_at zero 0 ledger_seat (run.kept.faults 0) disk l.disk refl refl l.there l.kept.paid is
+  paid zero disk is = let l = run.kept.kept.ledger in paid_at zero 0 ledger_seat (view (run.kept.firsts 0)).faults disk l.disk refl refl l.there l.kept.paid is
   paid (suc copy) disk is =
       let within = slice_get_within stored.ended.disks.items (suc copy) disk is in
       let c = run.kept.kept.copies copy (omega (arith, within, run.kept.kept.many)) in
-      paid_at (suc copy) (copy + 1) (copy_seat copy) (run.kept.faults (copy + 1)) disk c.disk (omega arith) (omega arith) c.there c.kept.paid is
+      paid_at (suc copy) (copy + 1) (copy_seat copy) (view (run.kept.firsts (copy + 1))).faults disk c.disk (omega arith) (omega arith) c.there c.kept.paid is
 
 -- whatever the answer, all disks are handed back
 pub all_returned : {D : Type 0} (view : D → View) (plan : ScriptPlan) (told : ℕ → Option (List ℕ)) (disks : List D) (answer : Result (Stored D) (MountNo D)) → length disks ≡ plan.table.copies + 1 → IfOk answer (HasRun view plan told)

@@ -11,16 +11,16 @@ use Rattle.qc_event.specs.Listed.{listed}
 use Rattle.qc_event.specs.Tables.{setting_of}
 use Rattle.qc_interp.specs.FollowsScript.{BeginsScript, FollowsScript}
 use Rattle.qc_journal.specs.Image.{HasRecords}
-use Rattle.qc_ledger.specs.Since.{AreTopsBy, GrownSince}
+use Rattle.qc_ledger.specs.Since.{AreTopsBy}
 use Rattle.qc_mount.specs.Numbered.{PairsFrom}
 use Rattle.qc_mount.specs.Refusing.{disks_in}
 use Rattle.qc_mount.specs.declared.refusing.MountNo.{MountNo}
 use Rattle.qc_pass.specs.Entries.{entries_of}
 use Rattle.qc_script.specs.Plan.{ScriptPlan}
-use Rattle.qc_session.specs.Session.{net_of}
 use Rattle.qc_site.specs.Since.{AreGrantsBy}
 use Rattle.qc_standing.specs.Mountings.{IsMounted}
 use Rattle.qc_system.specs.Closing.{AllKeep}
+use Rattle.qc_system.specs.Grown.{GrownFrom}
 use Rattle.qc_system.specs.Kept.{Pays, downs}
 use Rattle.qc_opening.specs.declared.stored.Stored.{Stored}
 
@@ -56,35 +56,32 @@ module _ {D : Type 0} (view : D → View) where
   abbrev pub HavePaid : List D → Past → Type 0
   HavePaid disks past = (number : ℕ) (disk : D) → slice_get disks number ≡ Some disk → Pays 0 (downs (entries_of (number + 1) past)) (view disk).faults
 
-  -- A disk as it was when its mounting had ended: this was its moment, and where it had told its bytes it told them still, and a crash left these records of it.
-  pub record WasMounted (moment : ℕ) (records : List (List ℕ)) (told : Option (List ℕ)) : Type 0 where
-    pub disk : D
-    pub at : moment ≡ (view disk).moment
+  -- A disk as it was when its mounting had ended: where it had told its bytes it told them still, and a crash left these records of it.
+  pub record WasMounted (disk : D) (records : List (List ℕ)) (told : Option (List ℕ)) : Type 0 where
     pub tells : is_some told ≡ true → IsSome (view disk).content
     pub had : is_some told ≡ true → (image : List ℕ) → (view disk).may_leave image → HasRecords records image
 
-  -- A store was mounted over disks that told this, and its copies started so. Each disk that is left keeps, where it told its
-  -- bytes, the records of the mounting, and then what the history tells; and so it did at each moment since.
+  -- A store was mounted over disks that told this, and its copies started so; then the disks were the firsts. Each disk that is
+  -- left keeps, where it told its bytes, the records of the mounting, and then what the history tells; and so it did at each
+  -- moment since it was the first.
   pub record HasKept (table : Table) (told : ℕ → Option (List ℕ)) (stored : Stored D) : Type 0 where
     pub records : ℕ → List (List ℕ)
-    pub faults : ℕ → ℕ
-    pub moments : ℕ → ℕ
+    pub firsts : ℕ → D
     pub mounted : IsMounted table told records stored.epoch stored.ended.start
-    pub was : (number : ℕ) → number ≤ table.copies → WasMounted (moments number) (records number) (told number)
+    pub was : (number : ℕ) → number ≤ table.copies → WasMounted (firsts number) (records number) (told number)
     pub kept : AllKeep (setting_of table stored.ended.start) (record {
       base = stored.ended.start;
       told = λ number. is_some (told number);
       before = records;
-      faults = faults;
-      moment = moments;
+      first = λ number. view (firsts number);
     }) view stored.ended.disks.items (reverse stored.ended.trail.items)
 
-  -- A disk has grown since its mounting: the disk as it was then told its bytes, and a crash left these records of it and no others; at each moment since, these and behind them some of which this is so; and no record was lost again.
+  -- A disk has grown since its mounting: the disk as it was then told its bytes, and a crash left these records of it and no others; at each moment before its own a crash left of the disk what it left of that one; at each since, these and behind them some of which this is so; and no record was lost again.
   pub record HasGrown (before : List (List ℕ)) (May : List (List ℕ) → Type 0) (disk : D) : Type 0 where
     pub first : D
     pub tells : IsSome (view first).content
     pub had : (image : List ℕ) → (view first).may_leave image → HasRecords before image
-    pub grown : GrownSince (view first).moment before May (view disk)
+    pub grown : GrownFrom (view first) before May (view disk)
 
   -- A store was mounted over disks that told this, for an epoch, and its copies started so. Each disk that told its bytes has grown since by records of the run.
   pub record HaveGrown (table : Table) (told : ℕ → Option (List ℕ)) (epoch : ℕ) (start : List (List Tuple)) (disks : List D) (past : Past) : Type 0 where
@@ -97,7 +94,7 @@ module _ {D : Type 0} (view : D → View) where
     pub legal : Legal (setting_of plan.table stored.ended.start) (past_of stored)
     pub bounded : length stored.ended.trail.items ≤ limit
     pub epoch : (1 ≤ stored.epoch) × (stored.epoch < 2 ^ 32)
-    pub follows : OnOk stored.ended.ran (FollowsScript 0 stored.epoch (net_of plan) plan.tops (past_of stored))
-    pub begins : BeginsScript 0 stored.epoch (net_of plan) plan.tops (past_of stored)
+    pub follows : OnOk stored.ended.ran (FollowsScript stored.epoch plan.patience plan.sessions (past_of stored))
+    pub begins : BeginsScript stored.epoch plan.patience plan.sessions (past_of stored)
     pub room : IsErrOf stored.ended.ran Room → length stored.ended.trail.items ≡ limit
     pub kept : HasKept plan.table told stored

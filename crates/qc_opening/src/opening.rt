@@ -1,5 +1,5 @@
-//! From a shop to what a session left.
-ghost use Rattle.std.specs.Prelude.{ℕ, ◌≡◌, ◌+◌, ◌<◌, ◌≤◌, ◌^◌, ◌⊎◌, ◌↔◌, List, length, IfOk, IfErr, OnOk, IsErrOf};
+//! From a shop to what the sessions left.
+ghost use Rattle.std.specs.Prelude.{ℕ, ◌≡◌, ◌+◌, ◌<◌, ◌≤◌, ◌^◌, ◌⊎◌, List, length, IfOk, IfErr, OnOk, IsErrOf};
 ghost use Rattle.qc_codec.specs.Bodies as body;
 ghost use Rattle.qc_event.specs.declared.log.Short.TheVariants.{Room};
 ghost use Rattle.qc_event.specs.History.{limit as most_entries};
@@ -13,38 +13,36 @@ ghost use Rattle.qc_opening.specs.Stored.{disks_of, past_of, returned, AllTell, 
 ghost use Rattle.qc_refine.specs.Images.{IsStanding, Restores};
 ghost use Rattle.qc_script.specs.Reading.{IsProper};
 ghost use Rattle.qc_script.specs.Steps.{plan_of_script};
-ghost use Rattle.qc_session.specs.Session.{net_of};
 ghost use Rattle.qc_standing.specs.Mountings.{HaveNoGrants};
 
-use crate::running::run_disks;
+use crate::running::{known_now, run_disks};
 use crate::stored::Stored;
 use qc_disk::{Disk, Shop};
+use qc_interp::{Gate, Mode};
 use qc_mount::{MountNo, obtain_all};
 use qc_script::Script;
 use std::alloc::Global;
 use std::sync::Wait;
+use std::thread::Threads;
 
 /// How many disks a store has at most.
 const MOST_DISKS: usize = 17;
 
-// It makes the law of disks known for those of a shop: at this moment a disk is what a crash may leave.
-fn known_now<D: Disk>()
-    ensures { (disk : D) (c : List ℕ) → (D.view disk).left_at (D.view disk).moment c
-        ↔ (D.view disk).may_leave c }
-{}
-
-/// Mounts the disks of a place, and runs the session of a script over them. The epoch is the mounting's. Where the store is
-/// not mounted, or memory is wanting before the session begins, the disks that were obtained come back.
-pub fn run_stored<R: Wait, H: Shop>(
+/// Mounts the disks of a place, and runs the sessions of a script over them, in threads or in order, each once it has
+/// passed the gate. The epoch is the mounting's. Where the store is not mounted, or memory is wanting before the sessions
+/// begin, the disks that were obtained come back.
+pub fn run_stored<R: Threads + Wait + Sync, H: Shop, G: Gate + Sync>(
     rt: &R,
     alloc: Global,
     shop: &mut H,
     place: &str,
     script: &Script,
     limit: u64,
+    gate: &G,
+    mode: Mode,
 ) -> Result<Stored<H::D>, MountNo<H::D>>
 where
-    H::D: Drop,
+    H::D: Drop + Send,
     requires proper { IsProper (plan_of_script script.now) }
     requires spelled { (body.table 1).fits script.now.table }
 
@@ -54,10 +52,10 @@ where
         Legal (setting_of script.now.table stored.ended.start) (past_of stored)) }
     ensures bounded { IfOk result (λ stored. length stored.ended.trail.items ≤ most_entries) }
     ensures epoch { IfOk result (λ stored. (1 ≤ stored.epoch) × (stored.epoch < 2 ^ 32)) }
-    ensures follows { IfOk result (λ stored. OnOk stored.ended.ran (FollowsScript 0 stored.epoch
-        (net_of (plan_of_script script.now)) (plan_of_script script.now).tops (past_of stored))) }
-    ensures begins { IfOk result (λ stored. BeginsScript 0 stored.epoch
-        (net_of (plan_of_script script.now)) (plan_of_script script.now).tops (past_of stored)) }
+    ensures follows { IfOk result (λ stored. OnOk stored.ended.ran (FollowsScript stored.epoch
+        script.now.patience (plan_of_script script.now).sessions (past_of stored))) }
+    ensures begins { IfOk result (λ stored. BeginsScript stored.epoch script.now.patience
+        (plan_of_script script.now).sessions (past_of stored)) }
     ensures room { IfOk result (λ stored. IsErrOf stored.ended.ran Room
         → length stored.ended.trail.items ≡ most_entries) }
 
@@ -71,8 +69,9 @@ where
 
     // Each disk keeps what was found on it, and then what the history tells, where the shop told its bytes. Where it told
     // those of all, whatever a crash leaves of them stands beside the history. At each moment since a disk was mounted a
-    // crash left the records of then, and behind them those of the run up to some time; and no record was lost again. For
-    // each failure of a disk that the history tells, the disk has counted a fault.
+    // crash left the records of then, and behind them those of the run up to some time; and no record was lost again.
+    // Before, it left what it left of the disk as it was then. For each failure of a disk that the history tells, the disk
+    // has counted a fault.
     ensures kept { IfOk result (HasKept H.D.view script.now.table
         ((H.view shop.old).offers place.now)) }
     ensures stands { AllTell script.now.table.copies ((H.view shop.old).offers place.now)
@@ -111,5 +110,5 @@ where
         return Err(MountNo::Memory { disks });
     };
     let disks = obtain_all(alloc, shop, place, script.table.copies + 1)?;
-    run_disks(rt, alloc, disks, room, script, limit)
+    run_disks(rt, alloc, disks, room, script, limit, gate, mode)
 }

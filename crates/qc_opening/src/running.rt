@@ -1,5 +1,5 @@
 //! A session over a store whose disks were obtained.
-ghost use Rattle.std.specs.Prelude.{ℕ, ◌≡◌, ◌<◌, ◌≤◌, ◌+◌, ◌^◌, List, [], length, map, reverse, Option, None, IfOk, IfErr, OnOk, IsErrOf, slice_index_or};
+ghost use Rattle.std.specs.Prelude.{ℕ, ◌≡◌, ◌<◌, ◌≤◌, ◌+◌, ◌^◌, ◌↔◌, List, [], length, map, reverse, Option, None, IfOk, IfErr, OnOk, IsErrOf, slice_index_or};
 ghost use Rattle.std.specs.Vec.{vec_capacity};
 ghost use Rattle.qc_codec.specs.Bodies as body;
 ghost use Rattle.qc_event.specs.declared.log.Short.TheVariants.{Room};
@@ -16,7 +16,6 @@ ghost use Rattle.qc_opening.specs.Parts.{disks_held, IsStoreOver};
 ghost use Rattle.qc_opening.specs.Stored.{HasRun};
 ghost use Rattle.qc_script.specs.Reading.{IsProper};
 ghost use Rattle.qc_script.specs.Steps.{plan_of_script};
-ghost use Rattle.qc_session.specs.Session.{net_of};
 ghost use Rattle.qc_system.specs.Closing.{AllKeep};
 ghost use Rattle.qc_system.specs.Parts.{AreMounted, IsFound};
 
@@ -25,22 +24,24 @@ use crate::refusing::{take_apart, unbox_refusal};
 use crate::starting::{blank_over, copies_are_of_bytes};
 use crate::stored::Stored;
 use qc_disk::Disk;
+use qc_interp::{Gate, Mode};
 use qc_mount::{MountNo, mount_disks};
 use qc_script::Script;
-use qc_session::{Ended, run_session};
+use qc_session::{Ended, run_sessions};
 use qc_standing::are_bytes;
 use qc_system::{Boxed, Mounting, Parts, System};
 use std::alloc::Global;
 use std::marker::Brand;
 use std::sync::Wait;
+use std::thread::Threads;
 
-// Opens a system with a name, and runs the session of a script over it.
-fn run_named<R: Wait, D: Disk + Drop, N: Mounting>(
-    rt: &R,
-    alloc: Global,
-    parts: Parts<D>,
-    script: &Script,
-) -> Ended<D>
+// Opens a system with a name, and runs the sessions of a script over it.
+fn run_named<
+    R: Threads + Wait + Sync,
+    D: Disk + Drop + Send,
+    N: Mounting + Send + Sync,
+    G: Gate + Sync,
+>(rt: &R, alloc: Global, parts: Parts<D>, script: &Script, gate: &G, mode: Mode) -> Ended<D>
     requires desk { parts.blank.room.shared.table_id ≡ N.desk }
     requires base { parts.blank.base ≡ N.base }
     requires table { script.now.table ≡ N.table }
@@ -49,36 +50,39 @@ fn run_named<R: Wait, D: Disk + Drop, N: Mounting>(
     requires whole { length N.base ≡ script.now.table.copies }
     requires none { parts.room.items ≡ [] }
     requires room { 17 ≤ vec_capacity parts.room }
-    requires ledger { IsFound (N.told 0) (N.before 0) (N.faults 0) (N.moment 0)
+    requires ledger { IsFound (N.told 0) (N.before 0) (N.first 0)
         (book.records_of parts.book) (book.journal_of parts.book) }
     requires many { length parts.copies.items ≡ length N.base }
     requires copies { AreMounted (record {
       base = N.base;
       told = N.told;
       before = N.before;
-      faults = N.faults;
-      moment = N.moment;
+      first = N.first;
     }) 0 parts.copies.items }
     ensures start { result.start ≡ N.base }
     ensures legal { Legal (setting_of N.table N.base) (reverse result.trail.items) }
     ensures bounded { length result.trail.items ≤ most }
-    ensures follows { OnOk result.ran (FollowsScript 0 parts.blank.epoch
-        (net_of (plan_of_script script.now)) (plan_of_script script.now).tops
-        (reverse result.trail.items)) }
-    ensures begins { BeginsScript 0 parts.blank.epoch (net_of (plan_of_script script.now))
-        (plan_of_script script.now).tops (reverse result.trail.items) }
+    ensures follows { OnOk result.ran (FollowsScript parts.blank.epoch script.now.patience
+        (plan_of_script script.now).sessions (reverse result.trail.items)) }
+    ensures begins { BeginsScript parts.blank.epoch script.now.patience
+        (plan_of_script script.now).sessions (reverse result.trail.items) }
     ensures room { IsErrOf result.ran Room → length result.trail.items ≡ most }
     ensures disks { AllKeep (setting_of N.table N.base) (record {
       base = N.base;
       told = N.told;
       before = N.before;
-      faults = N.faults;
-      moment = N.moment;
+      first = N.first;
     }) D.view result.disks.items (reverse result.trail.items) }
 {
     let (system, first) = System::<D, N>::open(rt, parts);
-    run_session(rt, alloc, system, first, script)
+    run_sessions(rt, alloc, system, first, script, gate, mode)
 }
+
+/// It makes the law of disks known for those of a shop: at this moment a disk is what a crash may leave.
+pub(crate) fn known_now<D: Disk>()
+    ensures { (disk : D) (c : List ℕ) → (D.view disk).left_at (D.view disk).moment c
+        ↔ (D.view disk).may_leave c }
+{}
 
 // It makes the range of an epoch known.
 fn known_range(epoch: u32)
@@ -87,13 +91,15 @@ fn known_range(epoch: u32)
     let _ = epoch;
 }
 
-// Runs the session of a script over a store that was mounted. An error is want of memory, with the disks.
-fn run_mounted<R: Wait, D: Disk + Drop>(
+// Runs the sessions of a script over a store that was mounted. An error is want of memory, with the disks.
+fn run_mounted<R: Threads + Wait + Sync, D: Disk + Drop + Send, G: Gate + Sync>(
     rt: &R,
     alloc: Global,
     parts: qc_mount::Parts<Boxed<D>>,
     room: Vec<D>,
     script: &Script,
+    gate: &G,
+    mode: Mode,
 ) -> Result<Stored<D>, Vec<D>>
     ghost told: { List (Option (List ℕ)) }
     requires proper { IsProper (plan_of_script script.now) }
@@ -119,22 +125,24 @@ fn run_mounted<R: Wait, D: Disk + Drop>(
                 copies,
                 room,
             };
-            let ended = run_named::<R, D, Brand>(rt, alloc, parts, script);
+            let ended = run_named::<R, D, Brand, G>(rt, alloc, parts, script, gate, mode);
             Ok(Stored { epoch, ended })
         }
         Err(_) => Err(take_apart(parts, room)),
     }
 }
 
-/// Mounts the disks of a store, and runs the session of a script over them. A refusal hands them back in their order,
+/// Mounts the disks of a store, and runs the sessions of a script over them. A refusal hands them back in their order,
 /// each as its mounting left it.
-pub(crate) fn run_disks<R: Wait, D: Disk + Drop>(
+pub(crate) fn run_disks<R: Threads + Wait + Sync, D: Disk + Drop + Send, G: Gate + Sync>(
     rt: &R,
     alloc: Global,
     disks: Vec<D>,
     room: Vec<D>,
     script: &Script,
     limit: u64,
+    gate: &G,
+    mode: Mode,
 ) -> Result<Stored<D>, MountNo<D>>
     ghost told: { List (Option (List ℕ)) }
     requires proper { IsProper (plan_of_script script.now) }
@@ -153,12 +161,13 @@ pub(crate) fn run_disks<R: Wait, D: Disk + Drop>(
         (λ bad. (images : List (List ℕ)) → TellImages D.view disks.items images
         → IsFirstFault script.now.table limit bad images) (reason_in refused)) }
 {
+    known_now::<D>();
     let boxed = match box_all(alloc, disks) {
         Ok(boxed) => boxed,
         Err(disks) => return Err(MountNo::Memory { disks }),
     };
     match mount_disks(alloc, boxed, &script.table, limit) {
-        Ok(parts) => match run_mounted(rt, alloc, parts, room, script) {
+        Ok(parts) => match run_mounted(rt, alloc, parts, room, script, gate, mode) {
             Ok(stored) => Ok(stored),
             Err(disks) => Err(MountNo::Memory { disks }),
         },

@@ -19,7 +19,7 @@ pub returns-in-Err-clause-left : goal.returns-in-Err-clause-left
 returns-in-Err-clause-left g c =
     let none = no.Memory c.in-Err.disks in
     subst (λ (l : List g.row.D.Denot). AreLeft g.D.Disk.view c.args.script.now.table (reason_in none) 0 c.args.disks.items l) (sym c.in-Err.ensures.back)
-    (unreached g.D.Disk.view g.met.D.Disk.leaves_now c.args.script.now.table (reason_in none) 0 c.args.disks.items (λ n from low failed. failed))
+    (unreached g.D.Disk.view c.known_now.ensures c.args.script.now.table (reason_in none) 0 c.args.disks.items (λ n from low failed. failed))
 
 pub run_mounted-requires : goal.run_mounted-requires
 run_mounted-requires g c κs within =
@@ -36,7 +36,7 @@ run_mounted-requires g c κs within =
     let mounted = c.in-Ok-mount_disks.ensures.store in
     let store = store_over table c.args.limit g.told boxed parts mounted (contents_boxed g.D.Disk.view boxed disks c.in-Ok.ensures.boxed ∙ told) in
     let many = store_size table c.args.limit boxed parts table.copies mounted (boxed_length g.D.Disk.view boxed disks c.in-Ok.ensures.boxed ∙ all) in
-    (within.0, (within.1, (proper, (spelled, (store, (many, (none, room)))))))
+    (within.0, (within.1.0, (within.1.1, (search rules, (search rules, (search rules, (proper, (spelled, (store, (many, (none, room)))))))))))
 
 pub unbox_refusal-requires-clause-room : goal.unbox_refusal-requires-clause-room
 unbox_refusal-requires-clause-room g c =

@@ -5,7 +5,7 @@ use Rattle.qc_script.specs.Reading.{IsProper}
 use Rattle.qc_script.specs.Steps.{plan_of_script}
 use Rattle.qc_site.specs.Start.{start_of}
 use Rattle.qc_opening.specs.Parts.{IsStoreOver}
-use Rattle.qc_opening.proofs.Found.{bodies_found, copies_found, faults_found, moments_found, mounted_by, told_by, was_found}
+use Rattle.qc_opening.proofs.Found.{bodies_found, copies_found, disk_found, ledger_found, mounted_by, told_by, was_found}
 use Rattle.qc_opening.proofs.Proper.{setting_proper}
 use Rattle.qc_opening.proofs.Ran.{has_run}
 use Rattle.qc_opening.proofs.running.run_mounted.Goals as goal
@@ -16,7 +16,7 @@ blank_over-requires g c =
     omega (arith, store.mounted.ledger_is.mounts.next)
 
 pub run_named-ended-requires-clause-setting : goal.run_named-ended-requires-clause-setting
-run_named-ended-requires-clause-setting g c =
+run_named-ended-requires-clause-setting g c κs within =
     let table = c.args.script.now.table in
     let parts = c.args.parts in
     let proper : IsProper (plan_of_script c.args.script.now) = search rules in
@@ -27,8 +27,15 @@ run_named-ended-requires-clause-setting g c =
     setting_proper (plan_of_script c.args.script.now) proper (told_by g.told) (bodies_found parts.book parts.copies.items) parts.epoch c.in-Ok.blank.base
     (mounted_by table g.told parts store all c.in-Ok.blank.base rows spelled c.known_range.ensures _ c.are_bytes.ensures c.records.ensures c.as_slice.result.now c.copies_are_of_bytes.ensures c.as_slice.ensures.value)
 
+pub run_named-ended-requires-clause-ledger : goal.run_named-ended-requires-clause-ledger
+run_named-ended-requires-clause-ledger g c κs within =
+    let table = c.args.script.now.table in
+    let store : IsStoreOver table g.told c.args.parts = search rules in
+    let all : length c.args.parts.copies.items ≡ table.copies = search rules in
+    ledger_found table g.told c.args.parts store all
+
 pub run_named-ended-requires-clause-copies : goal.run_named-ended-requires-clause-copies
-run_named-ended-requires-clause-copies g c =
+run_named-ended-requires-clause-copies g c κs within =
     let table = c.args.script.now.table in
     let parts = c.args.parts in
     let store : IsStoreOver table g.told parts = search rules in
@@ -45,7 +52,7 @@ returns-in-Ok-clause-ran g c =
     let rows = c.in-Ok.ensures.base ∙ ap (map start_of) c.as_slice-2.ensures.value in
     let ran = c.run_named-ended.ensures in
     has_run g.D.Disk.view (plan_of_script c.args.script.now) (told_by g.told) (record { epoch = parts.epoch; ended = c.run_named-ended.result }) c.in-Ok.blank.base c.in-Ok.blank.epoch
-    (bodies_found parts.book parts.copies.items) (faults_found parts.book parts.copies.items) (moments_found parts.book parts.copies.items) ran.start c.in-Ok.ensures.epoch
+    (bodies_found parts.book parts.copies.items) (λ number. (disk_found parts.book parts.copies.items number).disk.value) ran.start c.in-Ok.ensures.epoch
     (mounted_by table g.told parts store all c.in-Ok.blank.base rows spelled c.known_range.ensures _ c.are_bytes.ensures c.records.ensures c.as_slice.result.now c.copies_are_of_bytes.ensures c.as_slice.ensures.value)
-    (λ number low. let w = was_found table g.told parts store all number low in record { disk = w.disk.disk.value; at = w.at; tells = w.tells; had = w.had })
+    (λ number low. let w = was_found table g.told parts store all number low in record { tells = w.tells; had = w.had })
     ran.legal ran.bounded ran.follows ran.begins ran.room ran.disks
