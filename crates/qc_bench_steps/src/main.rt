@@ -10,10 +10,11 @@ use qc_script::MOST_BYTES;
 use std::io;
 use std::process::ExitCode;
 use std::sync::Wait;
+use std::thread::Threads;
 use std::time::Duration;
 use trouble::Trouble;
 
-fn measured<R: Wait>(handle: &R, rt: &HostRuntime) -> Result<Times, Trouble> {
+fn measured<R: Threads + Wait + Sync>(handle: &R, rt: &HostRuntime) -> Result<Times, Trouble> {
     let alloc = rt.alloc();
     match take_all(alloc, &mut StdSource::new(rt.stdin()), MOST_BYTES) {
         Ok(bytes) => both_times(handle, rt, alloc, bytes),

@@ -9,10 +9,11 @@ use qc_disk::{MemDisk, MemShop};
 use qc_event::Table;
 use qc_report::{History, finals, index_of, report};
 use qc_run::io::{MemSink, MemSource};
-use qc_run::{Ran, Status, run};
+use qc_run::{NoGate, Ran, Status, run};
 use qc_script::Script;
 use std::alloc::{AllocError, Global};
 use std::sync::Wait;
+use std::thread::Threads;
 use std::time::{Clock, Duration, Instant};
 
 /// How long the whole run took and how long its report took alone, and how many entries its history has.
@@ -51,7 +52,7 @@ fn report_of(
 }
 
 /// Runs the script that the bytes are, over streams and disks in memory, and then makes its report once more.
-pub(crate) fn both_times<R: Wait>(
+pub(crate) fn both_times<R: Threads + Wait + Sync>(
     handle: &R,
     clock: &impl Clock,
     alloc: Global,
@@ -64,7 +65,15 @@ pub(crate) fn both_times<R: Wait>(
     let mut shop = MemShop::new(Vec::new(alloc), Vec::new(alloc));
     let words = words.as_slice();
     let start = Instant::now(clock)?;
-    let ran = run(handle, alloc, words, &mut source, &mut sink, &mut shop);
+    let ran = run(
+        handle,
+        alloc,
+        words,
+        &mut source,
+        &mut sink,
+        &mut shop,
+        &NoGate,
+    );
     let run = start.elapsed(clock)?;
     let Status::Done = ran.status else {
         return Err(Trouble::Script);

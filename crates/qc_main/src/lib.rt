@@ -7,11 +7,12 @@ ghost use Rattle.qc_run.specs.FaultLine.{exit_code};
 
 use qc_disk::HomeShop;
 use qc_run::io::{StdSink, StdSource};
-use qc_run::{Status, run};
+use qc_run::{NoGate, Status, run};
 use std::alloc::{AllocError, Global};
 use std::env;
 use std::process::ExitCode;
 use std::sync::Wait;
+use std::thread::Threads;
 
 // The words after the program's name. Words that cannot be told as text are no command, as none are.
 fn words(rt: &HostRuntime, alloc: Global) -> Result<Vec<String>, AllocError> {
@@ -31,8 +32,8 @@ fn ended(status: &Status) -> ExitCode
 }
 
 /// Does what the program's words say over the standard streams and the real shop, and tells how it ended.
-/// The handle is that of the runtime, which alone may wait.
-pub fn start<R: Wait>(handle: &R, rt: HostRuntime) -> ExitCode {
+/// The handle is that of the runtime, which alone may wait and make threads.
+pub fn start<R: Threads + Wait + Sync>(handle: &R, rt: HostRuntime) -> ExitCode {
     let alloc = rt.alloc();
     let Ok(words) = words(&rt, alloc) else {
         return ended(&Status::Memory);
@@ -41,6 +42,14 @@ pub fn start<R: Wait>(handle: &R, rt: HostRuntime) -> ExitCode {
     let mut sink = StdSink::new(rt.stdout());
     let mut shop = HomeShop::new(rt);
     let words = words.as_slice();
-    let ran = run(handle, alloc, words, &mut source, &mut sink, &mut shop);
+    let ran = run(
+        handle,
+        alloc,
+        words,
+        &mut source,
+        &mut sink,
+        &mut shop,
+        &NoGate,
+    );
     ended(&ran.status)
 }

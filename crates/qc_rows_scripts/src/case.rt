@@ -2,9 +2,10 @@
 use crate::shelf::Shelf;
 use qc_disk::MemDisk;
 use qc_run::io::{MemSink, MemSource};
-use qc_run::{Ran, run};
+use qc_run::{NoGate, Ran, run};
 use std::alloc::{AllocError, Global};
 use std::sync::Wait;
+use std::thread::Threads;
 
 /// What a line asks for.
 #[derive(Drop)]
@@ -37,7 +38,7 @@ impl<'l> Case<'l> {
     }
 
     /// Runs it over the disks on the shelf, and puts back what came back.
-    pub(crate) fn run<R: Wait>(
+    pub(crate) fn run<R: Threads + Wait + Sync>(
         &self,
         handle: &R,
         alloc: Global,
@@ -48,7 +49,15 @@ impl<'l> Case<'l> {
         let mut source = MemSource::new(script, vec![in alloc; self.source_fails]?);
         let mut sink = MemSink::new(alloc, vec![in alloc; self.sink_fails]?);
         let mut shop = shelf.shop()?;
-        let ran = run(handle, alloc, &words, &mut source, &mut sink, &mut shop);
+        let ran = run(
+            handle,
+            alloc,
+            &words,
+            &mut source,
+            &mut sink,
+            &mut shop,
+            &NoGate,
+        );
         shelf.take_back(&ran.disks)?;
         Ok(Outcome { ran, sink })
     }

@@ -25,6 +25,7 @@ use shelf::Shelf;
 use std::alloc::Global;
 use std::io;
 use std::sync::Wait;
+use std::thread::Threads;
 use step::Step;
 use told::{print_disks, print_outcome, print_text};
 
@@ -49,7 +50,7 @@ fn prepare(rt: &HostRuntime, alloc: Global, shelf: &mut Shelf, steps: &str) -> i
 }
 
 // Prints a line, makes its steps, or runs the case that it is.
-fn answer<R: Wait>(
+fn answer<R: Threads + Wait + Sync>(
     handle: &R,
     rt: &HostRuntime,
     alloc: Global,

@@ -1,6 +1,8 @@
--- How a place is found among the words behind `run`.
-use Rattle.std.specs.Prelude.{ℕ, ◌==◌, ◌&&◌, Bool, List, [], ◌∷◌, codes, if◌then◌else◌, Option, None, Some, option_and_then}
+-- How a place, and whether sessions run in order, is found among the words behind `run`.
+use Rattle.std.specs.Prelude.{ℕ, ◌==◌, ◌&&◌, Bool, true, false, List, [], ◌∷◌, codes, if◌then◌else◌, Option, None, Some, option_and_then}
 use Rattle.std.specs.Str.{bytes_eq}
+use Rattle.qc_interp.specs.declared.gate.Mode.{Mode}
+use Rattle.qc_interp.specs.declared.gate.Mode.TheVariants.{Serial, Threads}
 use Rattle.qc_run.specs.Words.{Text}
 
 -- the place that a word names
@@ -20,6 +22,11 @@ joined word = option_and_then named (behind (codes "--dir=") word)
 
 abbrev pub is_serial : Text → Bool
 is_serial word = bytes_eq word (codes "--serial")
+
+-- in order where one of the words is `--serial`, else in threads
+abbrev pub mode_by : Bool → Mode
+mode_by true = Serial
+mode_by false = Threads
 
 abbrev pub is_dir : Text → Bool
 is_dir word = bytes_eq word (codes "--dir")

@@ -16,7 +16,6 @@ use Rattle.qc_report.specs.Report.{Text, report}
 use Rattle.qc_script.specs.Plan.{ScriptPlan}
 use Rattle.qc_script.specs.Reading.{IsScript, IsRefused}
 use Rattle.qc_script.specs.declared.bad_script.BadScript.TheVariants.{Memory}
-use Rattle.qc_session.specs.Session.{net_of}
 use Rattle.qc_simlock.specs.Serial.{IsSerialThroughout, final_values}
 use Rattle.qc_run.specs.FaultLine.{fault_line}
 use Rattle.qc_run.specs.Words.{IsCommand}
@@ -35,14 +34,14 @@ most_taken = 2 ^ 20 + 1
 
 -- a trail follows a script, whose one session runs in an epoch
 abbrev pub FollowsIn : ℕ → ScriptPlan → List Entry → Type 0
-FollowsIn epoch s trail = FollowsScript 0 epoch (net_of s) s.tops (reverse trail)
+FollowsIn epoch s trail = FollowsScript epoch s.patience s.sessions (reverse trail)
 
 abbrev pub Follows : ScriptPlan → List Entry → Type 0
 Follows s trail = (epoch : ℕ) × FollowsIn epoch s trail
 
 -- a trail is a beginning of one that follows a script
 abbrev pub BeginsIn : ℕ → ScriptPlan → List Entry → Type 0
-BeginsIn epoch s trail = BeginsScript 0 epoch (net_of s) s.tops (reverse trail)
+BeginsIn epoch s trail = BeginsScript epoch s.patience s.sessions (reverse trail)
 
 abbrev pub Begins : ScriptPlan → List Entry → Type 0
 Begins s trail = (epoch : ℕ) × BeginsIn epoch s trail

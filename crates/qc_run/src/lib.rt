@@ -10,6 +10,7 @@ mod status;
 mod words;
 
 pub use program::run;
+pub use qc_interp::{Gate, NoGate};
 pub use qc_io as io;
 pub use qc_script::{BadScript, Member};
 pub use ran::Ran;

@@ -24,29 +24,33 @@ use crate::ran::Ran;
 use crate::refusing::{nothing, refuse, unmounted};
 use crate::spelling::is_spelled;
 use crate::status::Status;
-use crate::words::place_of;
+use crate::words::{mode_of, place_of};
 use qc_disk::Shop;
+use qc_interp::{Gate, Mode};
 use qc_mount::one_verdict;
 use qc_opening::run_stored;
 use qc_script::{BadScript, MOST_BYTES, Script};
 use qc_session::Ended;
 use std::alloc::Global;
 use std::sync::Wait;
+use std::thread::Threads;
 
 /// The most bytes of a journal.
 const JOURNAL_LIMIT: u64 = 1 << 40;
 
 // Runs a proper script over the disks of a place, and reports it.
-fn perform<R: Wait, K: Sink, H: Shop>(
+fn perform<R: Threads + Wait + Sync, K: Sink, H: Shop, G: Gate + Sync>(
     rt: &R,
     alloc: Global,
     place: &str,
     script: &Script,
     sink: &mut K,
     shop: &mut H,
+    gate: &G,
+    mode: Mode,
 ) -> Ran<H::D>
 where
-    H::D: Drop,
+    H::D: Drop + Send,
     requires proper { IsProper (plan_of_script script.now) }
     requires spelled { (body.table 1).fits script.now.table }
     ensures answer { left.IsAnswer H.D.view (plan_of_script script.now)
@@ -56,7 +60,7 @@ where
         → (H.view shop.new).offers p n ≡ (H.view shop.old).offers p n }
     ensures shop_faults { (H.view shop.old).faults ≤ (H.view shop.new).faults }
 {
-    match run_stored(rt, alloc, shop, place, script, JOURNAL_LIMIT) {
+    match run_stored(rt, alloc, shop, place, script, JOURNAL_LIMIT, gate, mode) {
         Ok(stored) => {
             let Ended {
                 ran,
@@ -77,16 +81,18 @@ where
 }
 
 // Runs the script that the bytes are over the disks of a place, or refuses them.
-fn over<R: Wait, K: Sink, H: Shop>(
+fn over<R: Threads + Wait + Sync, K: Sink, H: Shop, G: Gate + Sync>(
     rt: &R,
     alloc: Global,
     place: &str,
     bytes: &[u8],
     sink: &mut K,
     shop: &mut H,
+    gate: &G,
+    mode: Mode,
 ) -> Ran<H::D>
 where
-    H::D: Drop,
+    H::D: Drop + Send,
     ensures answer { left.IsAnswerToBytes H.D.view bytes.now
         ((H.view shop.old).offers place.now) (H.view shop.old).faults (H.view shop.new).faults
         (K.view sink.old) (K.view sink.new) result }
@@ -97,7 +103,7 @@ where
     match Script::read(alloc, bytes) {
         Ok(script) => {
             is_spelled(&script);
-            perform(rt, alloc, place, &script, sink, shop)
+            perform(rt, alloc, place, &script, sink, shop, gate, mode)
         }
         Err(BadScript::Memory) => nothing(alloc, Status::Memory, Vec::new(alloc)),
         Err(bad) => refuse(alloc, Status::Script(bad), Vec::new(alloc), sink),
@@ -105,16 +111,17 @@ where
 }
 
 // Does what the words say.
-fn answer<R: Wait, S: Source, K: Sink, H: Shop>(
+fn answer<R: Threads + Wait + Sync, S: Source, K: Sink, H: Shop, G: Gate + Sync>(
     rt: &R,
     alloc: Global,
     words: &[String],
     source: &mut S,
     sink: &mut K,
     shop: &mut H,
+    gate: &G,
 ) -> Ran<H::D>
 where
-    H::D: Drop,
+    H::D: Drop + Send,
     ensures answer { left.IsAnswerToWords H.D.view (map string_bytes words.now)
         (S.view source.old) (S.view source.new) (H.view shop.old) (H.view shop.new).faults
         (K.view sink.old) (K.view sink.new) result }
@@ -134,16 +141,20 @@ where
         return refuse(alloc, Status::Usage, Vec::new(alloc), sink);
     };
     match take_all(alloc, source, MOST_BYTES) {
-        Ok(bytes) => over(rt, alloc, place, bytes.as_slice(), sink, shop),
+        Ok(bytes) => {
+            let mode = mode_of(words);
+            over(rt, alloc, place, bytes.as_slice(), sink, shop, gate, mode)
+        }
         Err(Untaken::Failed) => refuse(alloc, Status::ReadFault, Vec::new(alloc), sink),
         Err(Untaken::Memory) => nothing(alloc, Status::Memory, Vec::new(alloc)),
     }
 }
 
 /// Does what the words of the command line say, over these streams and this shop: `run` reads a script from
-/// the source, runs its session over the copies of its records, whose disks it obtains from the shop at the
+/// the source, runs its sessions over the copies of its records, whose disks it obtains from the shop at the
 /// place that `--dir` names, by a network that loses, delays and repeats requests as the script says, and
-/// writes the report. All other words are refused with the usage line.
+/// writes the report. Sessions run in threads of their own, or one after another with `--serial`; each passes
+/// the gate before its first top. All other words are refused with the usage line.
 ///
 /// Whatever it answers, its history is legal, with the requests to copies and their grants in it, and the
 /// serial machine with one value per record accepts the order that completion gives it, in which every user
@@ -152,16 +163,17 @@ where
 /// leaves of them then stands beside the history, so that a later run goes on from there. The source is read
 /// to its end, or one byte past the longest script. Want of memory may be answered at any time; it leaves the
 /// sink as it was.
-pub fn run<R: Wait, S: Source, K: Sink, H: Shop>(
+pub fn run<R: Threads + Wait + Sync, S: Source, K: Sink, H: Shop, G: Gate + Sync>(
     rt: &R,
     alloc: Global,
     words: &[String],
     source: &mut S,
     sink: &mut K,
     shop: &mut H,
+    gate: &G,
 ) -> Ran<H::D>
 where
-    H::D: Drop,
+    H::D: Drop + Send,
 
     // Nothing was begun, or the source held a script, and the history is legal over the first configurations of its
     // table and the start.
@@ -192,7 +204,7 @@ where
     ensures started { terms.ReadIt result.status
         → terms.OfScript (S.view source.old).left (S.view source.new).left (λ _. ⊤) }
 
-    // Who was in doubt when the session had run to its end.
+    // Who was in doubt when the sessions had run to their end.
     ensures in_doubt { result.status ≡ Status.InDoubt
         → (top : Name) × terms.IsInDoubt (reverse result.trail.items) top }
     ensures none_in_doubt { result.status ≡ Status.Done
@@ -227,7 +239,8 @@ where
         → ∥ IsStanding s.table result.start epoch (reverse result.trail.items) images ∥₁)) }
     // At each moment since a disk was mounted, where it told its bytes, a crash left the records that it had then, and
     // behind them those of the history up to some time, with at most one more, which could come next then. Of two such
-    // moments each image of the later had every record that all images of the earlier had.
+    // moments each image of the later had every record that all images of the earlier had. Before, a crash left of the
+    // disk what it left of it as it was when it had been mounted.
     ensures images_grow { terms.OfRun (S.view source.old).left (S.view source.new).left
         result.start result.trail.items (λ s. (epoch : ℕ)
         × terms.BeginsIn epoch s result.trail.items
@@ -327,5 +340,5 @@ where
         → terms.IsSessionRun result.status) }
 {
     one_verdict();
-    answer(rt, alloc, words, source, sink, shop)
+    answer(rt, alloc, words, source, sink, shop, gate)
 }

@@ -1,7 +1,10 @@
 //! The words of the command line.
 ghost use Rattle.std.specs.Prelude.{ℕ, ◌≡◌, ◌↔◌, List, Some, codes, map, option_map, string_bytes};
+ghost use Rattle.std.specs.List.{list_any};
 ghost use Rattle.qc_run.specs.Options as found;
 ghost use Rattle.qc_run.specs.Words as line;
+
+use qc_interp::Mode;
 
 // The place that a word names.
 fn named(word: &str) -> Option<&str>
@@ -68,4 +71,29 @@ pub(crate) fn place_of(words: &[String]) -> Option<&str>
         ↔ line.IsCommand (map string_bytes words.now) place }
 {
     found(words)
+}
+
+// Whether a word asks for order.
+fn is_serial(word: &String) -> bool
+    ensures { result ≡ found.is_serial (string_bytes word.now) }
+{
+    word.as_str() == "--serial"
+}
+
+fn any_serial(words: &[String]) -> bool
+    ensures { result ≡ list_any (λ word. found.is_serial (string_bytes word)) words.now }
+{
+    words.iter().any(|word| is_serial(word))
+}
+
+/// In order where one of the words is `--serial`, else in threads.
+pub(crate) fn mode_of(words: &[String]) -> Mode
+    ensures { result ≡ found.mode_by
+        (list_any (λ word. found.is_serial (string_bytes word)) words.now) }
+{
+    if any_serial(words) {
+        Mode::Serial
+    } else {
+        Mode::Threads
+    }
 }
