@@ -24,10 +24,13 @@ pub(crate) struct Times {
     pub(crate) entries: usize,
 }
 
-// The words of the command.
-fn run_words(alloc: Global) -> Result<Vec<String>, AllocError> {
+/// The words of the command, with an option where there is one.
+pub(crate) fn run_words(alloc: Global, option: Option<&str>) -> Result<Vec<String>, AllocError> {
     let mut words = Vec::new(alloc);
     words.push(String::from_str(alloc, "run")?)?;
+    if let Some(option) = option {
+        words.push(String::from_str(alloc, option)?)?;
+    }
     Ok(words)
 }
 
@@ -59,7 +62,7 @@ pub(crate) fn both_times<R: Threads + Wait + Sync>(
     bytes: Vec<u8>,
 ) -> Result<Times, Trouble> {
     let script = Script::read(alloc, bytes.as_slice())?;
-    let words = run_words(alloc)?;
+    let words = run_words(alloc, None)?;
     let mut source = MemSource::new(bytes, Vec::new(alloc));
     let mut sink = MemSink::new(alloc, Vec::new(alloc));
     let mut shop = MemShop::new(Vec::new(alloc), Vec::new(alloc));

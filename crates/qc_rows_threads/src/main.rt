@@ -1,0 +1,114 @@
+//! Runs sessions in threads, and prints what came of it, which is the same however the threads are scheduled.
+//!
+//! Each line is printed, and where it is a question, its answer behind it:
+//! - `gate OPTION ..`: two sessions pass a gate at which each waits for the other; the status, and whether they met there.
+//! - `disks OPTION ..`: each of two sessions writes at a copy of its own, where its first write waits for that of the
+//!   other; the status, and whether the writes met.
+//! - `adds SESSIONS RUNS`: each session adds to one record; how many runs counted each top that was committed, and no
+//!   other.
+//! - `audit SEED RUNS`: scripts made from a seed; how many of their histories the checker finds legal.
+//!
+//! The options are those of `run`.
+#![tactic(auto)]
+
+mod adds;
+mod audits;
+mod command;
+mod crossing;
+mod made;
+mod meeting;
+mod random;
+
+use adds::count_agreed;
+use audits::count_legal;
+use command::run_text;
+use crossing::Crossing;
+use meeting::Meeting;
+use qc_disk::MemShop;
+use qc_watched::WatchedShop;
+use std::alloc::Global;
+use std::io;
+use std::sync::Wait;
+use std::thread::Threads;
+
+/// Two sessions with a top each.
+const AT_ONE_COPY: &str = r#"{"copies":1,"records":[
+{"name":"x","start":0,"config":{"votes":[1],"read":1,"write":1}}],
+"sessions":[{"tops":[{"steps":[["read","x"]]}]},{"tops":[{"steps":[["read","x"]]}]}]}"#;
+
+/// Two sessions, each of which writes a record at a copy of its own.
+const AT_TWO_COPIES: &str = r#"{"copies":2,"records":[
+{"name":"x","start":0,"config":{"votes":[1,0],"read":1,"write":1}},
+{"name":"y","start":0,"config":{"votes":[0,1],"read":1,"write":1}}],
+"sessions":[{"tops":[{"steps":[["set","x",1]]}]},{"tops":[{"steps":[["set","y",1]]}]}]}"#;
+
+// Runs two sessions that meet at a gate.
+fn print_gate<R: Threads + Wait + Sync>(
+    handle: &R,
+    rt: &HostRuntime,
+    alloc: Global,
+    options: &str,
+) -> io::Result<()> {
+    let gate = Meeting::new();
+    let mut shop = MemShop::new(Vec::new(alloc), Vec::new(alloc));
+    let outcome = run_text(handle, alloc, options, AT_ONE_COPY, &mut shop, &gate)?;
+    println!(rt; ": status {}, {}", outcome.ran.status.code(), gate.met())
+}
+
+// Runs two sessions whose first writes meet.
+fn print_disks<R: Threads + Wait + Sync>(
+    handle: &R,
+    rt: &HostRuntime,
+    alloc: Global,
+    options: &str,
+) -> io::Result<()> {
+    let crossing = Crossing::new();
+    let mut shop = WatchedShop {
+        shop: MemShop::new(Vec::new(alloc), Vec::new(alloc)),
+        watch: &crossing,
+    };
+    let outcome = run_text(handle, alloc, options, AT_TWO_COPIES, &mut shop, &crossing)?;
+    println!(rt;
+        ": status {}, {}",
+        outcome.ran.status.code(),
+        crossing.met()
+    )
+}
+
+// A number; what is none is 0.
+fn number(word: &str) -> u64 {
+    word.parse::<u64>().unwrap_or(0)
+}
+
+// Answers a question.
+fn answer<R: Threads + Wait + Sync>(
+    handle: &R,
+    rt: &HostRuntime,
+    alloc: Global,
+    line: &str,
+) -> io::Result<()> {
+    print!(rt; "{line}")?;
+    let (name, rest) = line.split_once(' ').unwrap_or((line, ""));
+    let (first, second) = rest.split_once(' ').unwrap_or((rest, ""));
+    match name {
+        "gate" => print_gate(handle, rt, alloc, rest),
+        "disks" => print_disks(handle, rt, alloc, rest),
+        "adds" => {
+            let agreed = count_agreed(handle, alloc, number(first), number(second))?;
+            println!(rt; ": {agreed} agreed")
+        }
+        "audit" => {
+            let legal = count_legal(handle, alloc, number(first), number(second))?;
+            println!(rt; ": {legal} legal")
+        }
+        _ => println!(rt;),
+    }
+}
+
+fn main(rt: HostRuntime) -> io::Result<()> {
+    let alloc = rt.alloc();
+    for line in rt.lines(alloc) {
+        answer(&rt, &rt, alloc, line?.as_str())?;
+    }
+    Ok(())
+}
