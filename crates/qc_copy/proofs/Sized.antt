@@ -1,6 +1,6 @@
 -- Every configuration that a legal history tells of is for as many copies as there are.
-use Rattle.std.proofs.Common.{◌≡◌, ℕ, Bool, true, false, List, [], ◌∷◌, length, refl, sym, ap, ◌∙◌, subst, inl, inr, ◌++◌}
-use Rattle.std.specs.Prelude.{Option, None, Some, MatchOption, if◌then◌else◌, nat_lt, filter, filter_map, fold, option_to_list, cond}
+use Rattle.std.proofs.Common.{◌≡◌, ℕ, List, [], ◌∷◌, length, refl, sym, ap, ◌∙◌, subst, inl, inr}
+use Rattle.std.specs.Prelude.{Option, None, Some, MatchOption, filter, filter_map}
 use Rattle.std.specs.List.{AllByRecursion, cons_option}
 use Rattle.qc_config.specs.Config.{Voting}
 use Rattle.qc_config.specs.declared.tuple.Op.{Op}
@@ -24,8 +24,8 @@ use Rattle.qc_event.specs.Commits.{MayCommit, manager_answer}
 use Rattle.qc_event.specs.Grants.{MayGrant, Sets}
 use Rattle.qc_event.specs.History.{Past, Name, Begun, Given, same, start, end, granted, grant_in, gone, refused, asks}
 use Rattle.qc_event.specs.Legal.{Legal, MayHappen, MayEnd}
-use Rattle.qc_event.specs.Manager.{result_by, reply_of, reply, replies, newer, Newest, newest}
-use Rattle.qc_event.specs.Seen.{seen, is_live_at, changed_by}
+use Rattle.qc_event.specs.Manager.{result_by, reply_of, reply, replies, newest}
+use Rattle.qc_event.specs.Seen.{seen}
 use Rattle.qc_event.proofs.OneEntry.{if_is, first_is, end_step}
 use Rattle.qc_copy.proofs.PutConfigs.{OpHas, after_has, seen_has}
 use Rattle.qc_event.proofs.Sizes as sizes
