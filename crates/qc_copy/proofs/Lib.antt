@@ -1,4 +1,3 @@
-pub mod Halving
 pub mod Replaying
 pub mod Serving
 pub mod Begun

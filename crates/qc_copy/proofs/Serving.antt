@@ -19,7 +19,7 @@ use Rattle.qc_moss.proofs.Answering.{free, tuple}
 use Rattle.std.proofs.lemmas.List.Folds.{find-append}
 use Rattle.qc_event.specs.declared.event.Answered.{Answered}
 use Rattle.qc_event.specs.History.{same}
-use Rattle.qc_copy.specs.Rising.{first_with}
+use Rattle.qc_copy.specs.Firsts.{first_with}
 use Rattle.qc_copy.specs.declared.state.Verdict.{Verdict}
 use Rattle.qc_copy.specs.declared.state.Verdict.TheVariants as verdicts
 use Rattle.qc_copy.specs.State.{State, verdict, again, blocker, tuple_after, answer, grants_after, grant_with, grant_of}

@@ -1,3 +1,3 @@
 pub mod State
-pub mod Rising
+pub mod Firsts
 pub mod Repeats

@@ -1,7 +1,7 @@
 //! A copy: it grants what it is asked, by its locks and by the history that it is told.
 #![tactic(auto)]
 
-mod firsts;
+mod accesses;
 mod repeats;
 mod sources;
 mod state;

@@ -9,7 +9,7 @@ ghost use Rattle.qc_moss.specs.Locks.{unheld, StaysAt};
 ghost use Rattle.qc_copy.specs.State as words;
 ghost use Rattle.qc_copy.specs.declared.state.Verdict.TheVariants.{Free};
 
-use crate::firsts::{First, enter, first_of, firsts_of};
+use crate::repeats::Repeats;
 use crate::sources::Entries;
 use qc_config::{Op, Tuple};
 use qc_event::{Answered, Ask, Entry, Grant, Name};
@@ -32,14 +32,13 @@ pub struct CopyState {
     copy: u8,
     locks: Locks,
     grants: Vec<Grant>,
-    firsts: Vec<First>,
+    repeats: Repeats,
 }
 
 impl Model for CopyState {
     ghost use Rattle.std.specs.Prelude.{◌≡◌, ◌<◌, true, vec_len, vec_capacity};
-    ghost use Rattle.qc_event.specs.History.{Name};
-    ghost use Rattle.qc_copy.specs.Rising.{IsRising, first_of};
-    ghost use Rattle.qc_copy.specs.State.{State, again};
+    ghost use Rattle.qc_copy.specs.Repeats.{AreOf, HasRoom};
+    ghost use Rattle.qc_copy.specs.State.{State};
 
     ghost Value = { State };
 
@@ -47,9 +46,8 @@ impl Model for CopyState {
 
     ghost invariant = { λ s. record {
       room : s.locks.reserved ≡ true → vec_len s.grants < vec_capacity s.grants;
-      room_first : s.locks.reserved ≡ true → vec_len s.firsts < vec_capacity s.firsts;
-      rising : IsRising s.firsts.items;
-      tells : (access : Name) → first_of s.firsts.items access ≡ again s.grants.items access;
+      room_first : s.locks.reserved ≡ true → HasRoom s.repeats;
+      tells : AreOf s.repeats s.grants.items;
     } };
 }
 
@@ -130,7 +128,7 @@ impl CopyState {
             copy,
             locks,
             grants: grants.to_vec(alloc)?,
-            firsts: firsts_of(alloc, grants)?,
+            repeats: Repeats::of(alloc, grants)?,
         })
     }
 
@@ -155,12 +153,11 @@ impl CopyState {
         &self.locks
     }
 
-    /// The tuple that an access was granted first, where it was granted one. It takes time in the logarithm of the
-    /// number of grants.
+    /// The tuple that an access was granted first, where it was granted one. It takes constant time on average.
     pub fn again(&self, access: &Name) -> Option<Tuple>
         ensures { result ≡ words.again self.now.grants access.now }
     {
-        first_of(self.firsts.as_slice(), access)
+        self.repeats.tuple(access)
     }
 
     /// Makes room for one more grant. An error leaves all as it was.
@@ -169,7 +166,7 @@ impl CopyState {
         ensures err { OnErr result (self.new ≡ self.old) }
     {
         self.grants.reserve(1)?;
-        self.firsts.reserve(1)?;
+        self.repeats.reserve()?;
         self.locks.reserve()
     }
 
@@ -183,7 +180,7 @@ impl CopyState {
     {
         let tuple = self.locks.grant(&ask.access, ask.rec, &ask.op);
         self.grants.push_reserved(grant_of(ask, &tuple));
-        enter(&mut self.firsts, &ask.access, &tuple);
+        self.repeats.enter(&ask.access, &tuple);
         grant_of(ask, &tuple)
     }
 

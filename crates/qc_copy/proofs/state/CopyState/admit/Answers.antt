@@ -2,7 +2,7 @@ use Rattle.std.proofs.Common.{sym, ap, ◌∙◌, ◌++◌, ◌∷◌, [], List}
 use mathlib.Core.Bool.{true≢false}
 use Rattle.qc_event.specs.declared.event.Grant.{Grant}
 use Rattle.qc_moss.specs.Locks.{Table}
-use Rattle.qc_copy.specs.Rising.{first_with}
+use Rattle.qc_copy.specs.Firsts.{first_with}
 use Rattle.qc_copy.specs.State.{again, grant_with}
 use Rattle.qc_copy.proofs.Serving.{again_more}
 use Rattle.qc_copy.proofs.state.CopyState.admit.Goals as goal
@@ -11,7 +11,6 @@ pub invariant_of-self : goal.invariant_of-self
 invariant_of-self c = record {
   room = λ is. absurd (true≢false (sym is ∙ ap (λ (t : Table). t.reserved) c.grant-tuple.ensures.granted));
   room_first = λ is. absurd (true≢false (sym is ∙ ap (λ (t : Table). t.reserved) c.grant-tuple.ensures.granted));
-  rising = c.enter.ensures.rising;
   tells = λ access.
       let ask = c.args.ask.now in
       let grants = c.self.inside.grants.items in

@@ -1,7 +1,7 @@
 use Rattle.std.proofs.Common.{◌<◌, ◌∷◌, ◌++◌, [], length, sym, ap, ◌∙◌, subst, arith}
 use Rattle.qc_moss.specs.Follows.{Follows}
 use Rattle.qc_moss.proofs.Tables.{granted}
-use Rattle.qc_copy.specs.Rising.{first_with}
+use Rattle.qc_copy.specs.Firsts.{first_with}
 use Rattle.qc_copy.proofs.Serving.{again_more}
 use Rattle.qc_site.proofs.lock_table.LockTable.admit.Goals as goal
 
