@@ -424,7 +424,7 @@ has_without n k (x ∷ xs) (suc i) ne e = go (x == n) (has_without n k xs i ne e
 pub has_left : {A : Type 0} (xs ys : List A) (x : A) → Has xs x → Has (xs ++ ys) x
 has_left xs ys x h = (h.0, at_longer xs ys h.0 x h.1)
 
-has_right : {A : Type 0} (xs ys : List A) (x : A) → Has ys x → Has (xs ++ ys) x
+pub has_right : {A : Type 0} (xs ys : List A) (x : A) → Has ys x → Has (xs ++ ys) x
 has_right [] ys x h = h
 has_right (y ∷ xs) ys x h = let r = has_right xs ys x h in (suc r.0, r.1)
 

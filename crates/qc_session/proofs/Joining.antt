@@ -15,7 +15,7 @@ use Rattle.qc_pass.specs.declared.view.View.{View}
 use Rattle.qc_pass.specs.Entries.{IsOlder, entries_of}
 use Rattle.qc_pass.specs.Rules.{Has, IsSplit, joined, knows, pass, without}
 use Rattle.qc_pass.proofs.Moves.{has_none}
-use Rattle.qc_pass.proofs.Numbers.{has_both, has_cons, has_left}
+use Rattle.qc_pass.proofs.Numbers.{has_both, has_cons, has_left, has_right}
 use Rattle.qc_pass.proofs.Seers.{older_trans}
 use Rattle.qc_script.specs.Plan.{SessionPlan}
 use Rattle.qc_session.specs.Session.{EachJoined, HaveRun, IsFirst, IsNew, Leaves, RanEach, RanOne}
@@ -72,18 +72,13 @@ module _ (first split given : View) (is : IsFirst first) (splits : IsSplit first
 
 -- IT IS JOINED BACK
 
--- what is behind others is there
-has_behind : {A : Type 0} (xs ys : List A) (x : A) → Has ys x → Has (xs ++ ys) x
-has_behind [] ys x h = h
-has_behind (y ∷ xs) ys x h = let r = has_behind xs ys x h in (suc r.0, r.1)
-
 -- what is left without a number is of the list, and another
 has_without : (n k : ℕ) (xs : List ℕ) → Has (without n xs) k → Has xs k × (k ≡ n → ⊥)
 has_without n k [] h = absurd (has_none k h)
 has_without n k (x ∷ xs) h = by_test (x == n) refl h (λ rest. has_without n k xs rest)
   where
     more : Has xs k × (k ≡ n → ⊥) → Has (x ∷ xs) k × (k ≡ n → ⊥)
-    more t = (has_behind (x ∷ []) xs k t.0, t.1)
+    more t = (has_right (x ∷ []) xs k t.0, t.1)
 
     by_test : (b : Bool) → (x == n) ≡ b → Has (cond b (without n xs) (x ∷ without n xs)) k → (Has (without n xs) k → Has xs k × (k ≡ n → ⊥)) → Has (x ∷ xs) k × (k ≡ n → ⊥)
     by_test true at h before = more (before h)
@@ -108,7 +103,7 @@ module _ (mid back now : View) (kinless : back.kin ≡ []) (joins : now ≡ know
   kept_joined k m h = subst (λ ks. Has ks (pair k m)) (sym kin_joined) (has_left mid.kin (pair back.number back.mine ∷ []) (pair k m) h)
 
   pub one_joined : Has now.kin (pair back.number back.mine)
-  one_joined = subst (λ ks. Has ks (pair back.number back.mine)) (sym kin_joined) (has_behind mid.kin (pair back.number back.mine ∷ []) (pair back.number back.mine) (0, refl))
+  one_joined = subst (λ ks. Has ks (pair back.number back.mine)) (sym kin_joined) (has_right mid.kin (pair back.number back.mine ∷ []) (pair back.number back.mine) (0, refl))
 
   pub only_joined : (k : ℕ) (m : Past) → Has now.kin (pair k m) → Has mid.kin (pair k m) ⊎ (k ≡ back.number)
   only_joined k m h = by_both (subst (λ ks. Has ks (pair k m)) kin_joined h)
