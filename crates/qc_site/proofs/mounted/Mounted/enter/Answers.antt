@@ -1,4 +1,4 @@
-use Rattle.std.proofs.Common.{[], length, sym, ap, ◌∙◌, subst, arith}
+use Rattle.std.proofs.Common.{[], length, sym, ap, ◌∙◌, subst, arith, true≢false}
 use Rattle.std.specs.Prelude.{None, Vec}
 use Rattle.std.specs.declared.alloc.Global.{Global}
 use Rattle.std.proofs.Common.{ℕ, List}
@@ -42,6 +42,13 @@ new-requires g c =
         ),
       ),
     )
+
+pub invariant_of-result-2 : goal.invariant_of-result-2
+invariant_of-result-2 g c = record {
+  journal = λ up. c.args.self.up;
+  sound = λ strange. absurd (true≢false (sym strange));
+  copies = c.requires.copies;
+}
 
 pub returns-clause-over : goal.returns-clause-over
 returns-clause-over g c = λ keeps.
