@@ -16,6 +16,7 @@ use Rattle.qc_journal.specs.Image.{HasRecords, IsBroken}
 use Rattle.qc_journal.specs.declared.fault.Fault.{Fault}
 use Rattle.qc_journal.specs.declared.fault.Fault.TheVariants as journal
 use Rattle.qc_ledger.specs.Image.{IsFirstFault}
+use Rattle.qc_ledger.specs.Refusing.{IsOfWriting}
 use Rattle.qc_ledger.proofs.Mounts.{first_told}
 use Rattle.qc_site.specs.Image.{AreMadeFor, IsFault}
 use Rattle.qc_site.specs.Reading.{IsFirstBad, IsLaterBad}
@@ -67,6 +68,13 @@ module _ (copy : ℕ) where
   image_also P Q also Strange is = is
   image_also P Q also Memory is = tt
   image_also P Q also Room is = is
+
+  -- a fault of writing is that there is no room, or one of the disk or the memory
+  pub write_refusal : (P : ImageFault → Type 0) (fault : Fault) → IsOfWriting fault → ((place : ℕ) → fault ≡ journal.Full place → P (Full place)) → IsImage copy P (mount_no copy fault)
+  write_refusal P journal.Disk of full = tt
+  write_refusal P (journal.Broken place) of full = absurd of
+  write_refusal P (journal.Full place) of full = (refl, full place refl)
+  write_refusal P journal.Memory of full = tt
 
   -- THE FIRST
 

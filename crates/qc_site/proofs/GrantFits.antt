@@ -1,7 +1,7 @@
 -- A grant of what was asked, with the tuple that its copy has then, fits the form in which grants are written. What the
 -- rules of histories do not say, the types of numbers do.
 use Rattle.std.proofs.Common.{◌≡◌, ℕ, ◌+◌, ◌/◌, ◌%◌, ◌^◌, ◌<◌, Bool, true, false, [], ◌∷◌, length, sym, ap, ◌∙◌, refl, subst, inl, inr, arith, List, suc}
-use Rattle.std.specs.Prelude.{None, ◌==◌, ◌||◌, nat_lt, nat_le, is_none, if◌then◌else◌, sum, slice_index}
+use Rattle.std.specs.Prelude.{None, ◌==◌, ◌||◌, nat_lt, nat_le, is_none, sum, slice_index}
 use Rattle.std.specs.List.{All}
 use Rattle.std.proofs.lemmas.Bool.{cond-false, ltb-true, leb-true, eqb-true, lt-ltb, le-leb, and_from, or_cases, false_from_ne_true}
 use Rattle.std.proofs.lemmas.List.Elements.{All-nil, All-cons, All-head, All-tail, All-from_get_or}
