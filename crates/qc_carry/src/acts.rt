@@ -12,10 +12,11 @@ ghost use Rattle.qc_event.specs.declared.event.Kind.TheVariants as kind;
 ghost use Rattle.qc_event.specs.History.{children, end, is_ready, limit, start};
 ghost use Rattle.qc_event.specs.Listed.{listed};
 ghost use Rattle.qc_event.specs.Seats as seats;
-ghost use Rattle.qc_event.specs.Standing.{Started};
+ghost use Rattle.qc_event.specs.Standing.{IsUser, Started};
 ghost use Rattle.qc_event.specs.Starts.{Stands};
 ghost use Rattle.qc_event.specs.Tables.{setting_of};
 ghost use Rattle.qc_pass.specs.Calling.{EnteredAs, Entered, Refused, Shown};
+ghost use Rattle.qc_pass.specs.Looking.{is_marked_for};
 ghost use Rattle.qc_pass.specs.Own.{CommitsOwn};
 ghost use Rattle.qc_pass.specs.Refusing.{against_abort, against_child, against_commit, against_nothing, against_ready};
 ghost use Rattle.qc_system.specs.Kept.{HasRefused};
@@ -116,6 +117,32 @@ impl<'a, R: Wait, D: Disk + Drop, L: Link + Drop, N: Mounting> Line<'a, R, D, L,
             × (self.new.system ≡ self.old.system) }
     {
         desk_calls::dead(self.rt, self.system.desk(), &mut self.pass, name)
+    }
+
+    /// A user transaction marks a session. The only errors are want of memory and of room.
+    pub fn mark(&mut self, by: &Name, session: u8) -> Result<(), DeskNo>
+        requires user { Started self.old.pass.seen by.now (λ b. IsUser b.kind) }
+        requires small { session ≤ 15 }
+        ensures ok { OnOk result (Entered against_nothing (event.Mark by.now session)
+            self.old.pass self.new.pass) }
+        ensures err { IfErr result (Refused against_nothing self.old.pass self.new.pass) }
+        ensures rest { (self.new.courier ≡ self.old.courier)
+            × (self.new.patience ≡ self.old.patience) × (self.new.torn ≡ self.old.torn)
+            × (self.new.system ≡ self.old.system) }
+    {
+        desk_calls::mark(self.rt, self.system.desk(), &mut self.pass, by, session)
+    }
+
+    /// Whether a mark stands, in the history at this step, that lets a user transaction be killed: of its session, by
+    /// a transaction whose top has at least the number of its own.
+    pub fn marked(&mut self, of: &Name) -> bool
+        ensures looked { Shown self.old.pass self.new.pass }
+        ensures marked { result ≡ is_marked_for self.new.pass.seen of.now }
+        ensures rest { (self.new.courier ≡ self.old.courier)
+            × (self.new.patience ≡ self.old.patience) × (self.new.torn ≡ self.old.torn)
+            × (self.new.system ≡ self.old.system) }
+    {
+        desk_calls::marked(self.rt, self.system.desk(), &mut self.pass, of)
     }
 
     /// Looks at the history, which has no more entries than it takes.

@@ -11,10 +11,11 @@ ghost use Rattle.qc_event.specs.declared.event.Kind.TheVariants as kind;
 ghost use Rattle.qc_event.specs.History.{children, end, is_ready, limit, start};
 ghost use Rattle.qc_event.specs.Listed.{listed};
 ghost use Rattle.qc_event.specs.Seats as seats;
-ghost use Rattle.qc_event.specs.Standing.{Started};
+ghost use Rattle.qc_event.specs.Standing.{IsUser, Started};
 ghost use Rattle.qc_event.specs.Starts.{Stands};
 ghost use Rattle.qc_event.specs.Tables.{setting_of};
 ghost use Rattle.qc_pass.specs.Calling.{EnteredAs, Entered, Refused, Shown};
+ghost use Rattle.qc_pass.specs.Looking.{is_marked_for};
 ghost use Rattle.qc_pass.specs.Own.{CommitsOwn};
 ghost use Rattle.qc_pass.specs.Refusing.{against_abort, against_child, against_commit, against_nothing, against_ready};
 ghost use Rattle.qc_system.specs.Kept.{HasRefused};
@@ -142,6 +143,43 @@ pub(crate) fn dead<R: Wait, N: Store>(
     let ancestor = desk.dead(rt, pass, name);
     pass.known();
     ancestor
+}
+
+/// Marks a session.
+pub(crate) fn mark<R: Wait, N: Store>(
+    rt: &R,
+    desk: &Desk<N>,
+    pass: &mut Pass<N>,
+    by: &Name,
+    session: u8,
+) -> Result<(), DeskNo>
+    requires client { IsClient pass.old }
+    requires user { Started pass.old.seen by.now (λ b. IsUser b.kind) }
+    requires small { session ≤ 15 }
+    ensures ok { OnOk result
+        (Entered against_nothing (event.Mark by.now session) pass.old pass.new) }
+    ensures err { IfErr result (Refused against_nothing pass.old pass.new) }
+    ensures legal { Legal (setting_of N.table N.base) pass.new.seen }
+{
+    let marked = desk.mark(rt, pass, by, session);
+    pass.known();
+    marked
+}
+
+/// Looks whether a user transaction is marked to be killed.
+pub(crate) fn marked<R: Wait, N: Store>(
+    rt: &R,
+    desk: &Desk<N>,
+    pass: &mut Pass<N>,
+    of: &Name,
+) -> bool
+    ensures looked { Shown pass.old pass.new }
+    ensures marked { result ≡ is_marked_for pass.new.seen of.now }
+    ensures legal { Legal (setting_of N.table N.base) pass.new.seen }
+{
+    let is_marked = desk.marked(rt, pass, of);
+    pass.known();
+    is_marked
 }
 
 /// Looks at the history.

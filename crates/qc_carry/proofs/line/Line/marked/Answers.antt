@@ -1,0 +1,13 @@
+-- The line stays one: its client looked.
+use Rattle.qc_carry.proofs.Acting.{none_still}
+use Rattle.qc_carry.proofs.Walking.{of_shown}
+use Rattle.qc_event.specs.Tables.{setting_of}
+use Rattle.qc_net.specs.Courier.{held_of, link_of}
+use Rattle.qc_carry.proofs.line.Line.marked.Goals as goal
+
+pub invariant_of-self : goal.invariant_of-self
+invariant_of-self g c =
+    let line = c.args.self.now in
+    let w = c.marked.new.pass in
+    let still = none_still (setting_of g.N.Store.table g.N.Store.base) line.pass w line.client c.marked.ensures.legal (g.L.Link.view (link_of line.courier)).plan (held_of line.courier) line.patience line.torn line.held line.keeps (of_shown line.pass w line.client c.marked.ensures.looked) in
+    record { client = still.0; legal = ∣ c.marked.ensures.legal ∣₁; held = still.1; keeps = still.2 }
