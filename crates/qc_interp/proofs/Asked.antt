@@ -1,7 +1,7 @@
 -- Who is aborted as another asked, over several calls, and for ever.
 use Rattle.std.proofs.Common.{◌≡◌, inl, inr, ℕ, zero, suc, Bool, true, false, List, [], ◌∷◌, ◌++◌, refl, sym, ap, ◌∙◌, subst, append_assoc, filter}
 use mathlib.Core.Bool.{true≢false}
-use Rattle.std.specs.Prelude.{Option, None, Some, MatchBool, IsTrue, not}
+use Rattle.std.specs.Prelude.{◌==◌, Option, None, Some, MatchBool, IsTrue, not}
 use Rattle.std.specs.List.{AllByRecursion}
 use Rattle.qc_event.specs.declared.event.Answer.{Answer}
 use Rattle.qc_event.specs.declared.event.Cause.{Cause}
@@ -12,19 +12,22 @@ use Rattle.qc_event.specs.declared.event.Event.TheVariants as event
 use Rattle.qc_event.specs.declared.event.How.{How}
 use Rattle.qc_event.specs.declared.event.How.TheVariants.{Commit, Abort}
 use Rattle.qc_event.specs.Base.{Setting}
-use Rattle.qc_event.specs.History.{Past, Name, end, children}
+use Rattle.qc_event.specs.History.{Past, Name, end}
 use Rattle.qc_event.specs.Legal.{Legal}
 use Rattle.qc_interp.specs.Asking.{DoesOn, DoesAfter, Asks, IsAskedBy, AllAsked, ByItself}
 use Rattle.qc_script.specs.Calls.{IsOfAccess}
 use Rattle.qc_script.specs.Client.{Client, mine, Made}
-use Rattle.qc_interp.specs.Follows.{GoesOn, GoesOnAfter, AfterTries, FollowsPlan, StopsEarly}
+use Rattle.qc_interp.specs.Follows.{GoesOn, GoesOnAfter, AfterTries, FollowsPlan, StopsEarly, StopsBefore, WasAsked, WasKilled}
 use Rattle.qc_script.specs.Plan.{Plan}
 use Rattle.qc_interp.specs.Reach.{Reach}
 use Rattle.qc_interp.specs.Tries.{Tries, TriesDo, is_tried_again}
 use Rattle.qc_script.specs.Calls.{is_asked}
 use Rattle.qc_interp.proofs.Growth.{made_is}
-use Rattle.qc_interp.proofs.Mine.{Closed, children_still, end_some}
-use Rattle.qc_interp.proofs.Still.{again_still, child_still, plan_still}
+use Rattle.qc_interp.specs.Deeds.{Deed, deeds, deed_end, OfChild}
+use Rattle.qc_interp.proofs.Deeds.{deeds_still}
+use Rattle.qc_interp.proofs.Mine.{Closed, CommittedSince, how_still, end_some}
+use Rattle.qc_interp.proofs.Stopping.{stopped_runs}
+use Rattle.qc_interp.proofs.Still.{IsTryOf, deed_again_still, child_still, plan_still}
 
 abbrev pub NoOne : Name → Name → Type 0
 NoOne by target = ⊥
@@ -117,56 +120,87 @@ module _ (s : ℕ) (p : Entry → Bool) (setting : Setting) (newer past : Past) 
   abbrev now : Past
   now = filter p (newer ++ past)
 
-  does_still : (n c : Name) (Follows Does DoesNow : Answer → Type 0) (further : List Name) (how : Option How) → ((given : Answer) → Follows given → Does given → DoesNow given) → (o : Option How) → end old c ≡ o → GoesOn Reach.to_the_end old n o Follows further how → DoesOn o Does → DoesOn (end now c) DoesNow
+  does_still : (n c : Name) (Follows Does DoesNow : Answer → Type 0) (further : List Deed) (how : Option How) → ((given : Answer) → Follows given → Does given → DoesNow given) → (o : Option How) → end old c ≡ o → GoesOn Reach.to_the_end old n o Follows further how → DoesOn o Does → DoesOn (end now c) DoesNow
   does_still n c Follows Does DoesNow further how step None is follows h = absurd h
   does_still n c Follows Does DoesNow further how step (Some (Abort x)) is follows h = absurd h
   does_still n c Follows Does DoesNow further how step (Some (Commit given)) is follows h = subst (λ o. DoesOn o DoesNow) (sym (end_some p setting newer past c (Commit given) is)) (step given follows h)
 
-  tries_do_still : (IsTry Does DoesNow : Name → Type 0) (Stopped : Type 0) (Rest RestDoes RestDoesNow : Option Name → List Name → Type 0)
-      → ((c : Name) → IsTry c → Closed old c × (Does c → DoesNow c)) → ((last : Option Name) (cs : List Name) → Rest last cs → RestDoes last cs → RestDoesNow last cs)
-      → (last : Option Name) (left : ℕ) (cs : List Name) → Tries (end old) IsTry Stopped Rest last left cs → TriesDo (end old) Does RestDoes last left cs → TriesDo (end now) DoesNow RestDoesNow last left cs
+  tries_do_still : (IsTry Does DoesNow : Deed → Type 0) (Stopped : Type 0) (Rest RestDoes RestDoesNow : Option Deed → List Deed → Type 0)
+      → ((c : Deed) → IsTry c → OfChild (Closed old) c × (Does c → DoesNow c)) → ((last : Option Deed) (cs : List Deed) → Rest last cs → RestDoes last cs → RestDoesNow last cs)
+      → (last : Option Deed) (left : ℕ) (cs : List Deed) → Tries (deed_end old) IsTry Stopped Rest last left cs → TriesDo (deed_end old) Does RestDoes last left cs → TriesDo (deed_end now) DoesNow RestDoesNow last left cs
   tries_do_still IsTry Does DoesNow Stopped Rest RestDoes RestDoesNow try rest last zero cs h d = rest last cs h d
   tries_do_still IsTry Does DoesNow Stopped Rest RestDoes RestDoesNow try rest last (suc left) [] h d = absurd d
   tries_do_still IsTry Does DoesNow Stopped Rest RestDoes RestDoesNow try rest last (suc left) (c ∷ cs) h (inl d) = inl ((try c h.0).1 d)
   tries_do_still IsTry Does DoesNow Stopped Rest RestDoes RestDoesNow try rest last (suc left) (c ∷ cs) h (inr d) =
-      inr (subst (λ b. MatchBool b (TriesDo (end now) DoesNow RestDoesNow (Some c) left cs) (RestDoesNow (Some c) cs)) (sym (again_still s p setting newer past legal c (try c h.0).0))
-      (by_test (is_tried_again (end old c)) h.1 d (tries_do_still IsTry Does DoesNow Stopped Rest RestDoes RestDoesNow try rest (Some c) left cs)))
+      inr (subst (λ b. MatchBool b (TriesDo (deed_end now) DoesNow RestDoesNow (Some c) left cs) (RestDoesNow (Some c) cs)) (sym (deed_again_still s p setting newer past legal c (try c h.0).0))
+      (by_test (is_tried_again (deed_end old c)) h.1 d (tries_do_still IsTry Does DoesNow Stopped Rest RestDoes RestDoesNow try rest (Some c) left cs)))
     where
-      by_test : (b : Bool) → MatchBool b (Tries (end old) IsTry Stopped Rest (Some c) left cs) (Rest (Some c) cs) → MatchBool b (TriesDo (end old) Does RestDoes (Some c) left cs) (RestDoes (Some c) cs)
-          → (Tries (end old) IsTry Stopped Rest (Some c) left cs → TriesDo (end old) Does RestDoes (Some c) left cs → TriesDo (end now) DoesNow RestDoesNow (Some c) left cs)
-          → MatchBool b (TriesDo (end now) DoesNow RestDoesNow (Some c) left cs) (RestDoesNow (Some c) cs)
+      by_test : (b : Bool) → MatchBool b (Tries (deed_end old) IsTry Stopped Rest (Some c) left cs) (Rest (Some c) cs) → MatchBool b (TriesDo (deed_end old) Does RestDoes (Some c) left cs) (RestDoes (Some c) cs)
+          → (Tries (deed_end old) IsTry Stopped Rest (Some c) left cs → TriesDo (deed_end old) Does RestDoes (Some c) left cs → TriesDo (deed_end now) DoesNow RestDoesNow (Some c) left cs)
+          → MatchBool b (TriesDo (deed_end now) DoesNow RestDoesNow (Some c) left cs) (RestDoesNow (Some c) cs)
       by_test true h d more = more h d
       by_test false h d more = rest (Some c) cs h d
 
-  does_after_still : (n child : Name) (Follows Does DoesNow : Type 0) (further : List Name) (how : Option How) → (Follows → Does → DoesNow) → (o : Option How) → end old child ≡ o → GoesOnAfter Reach.to_the_end old n child o Follows further how → DoesOn o (λ given. Does) → DoesOn (end now child) (λ given. DoesNow)
+  try_asks_still : (number : ℕ) (inner : Plan) → ((c : Name) → Closed old c → FollowsPlan s old c inner (deeds old c) (end old c) → Asks old c inner (deeds old c) by target → Asks now c inner (deeds old c) by target)
+      → (d : Deed) → OfChild (IsTryOf Reach.to_the_end s old number inner) d → OfChild (Closed old) d × (OfChild (λ c. Asks old c inner (deeds old c) by target) d → OfChild (λ c. Asks now c inner (deeds now c) by target) d)
+  try_asks_still number inner step (Deed.child c) t =
+      let closed = (child_still s p setting newer past legal c inner (plan_still s p setting newer past legal c inner) t.1).1 in
+      (closed, λ a. subst (λ xs. Asks now c inner xs by target) (sym (deeds_still p setting newer past c legal closed)) (step c closed t.1 a))
+  try_asks_still number inner step (Deed.mark m) t = absurd t
+
+  does_after_still : (n child : Name) (Follows Does DoesNow : Type 0) (further : List Deed) (how : Option How) → (Follows → Does → DoesNow) → (o : Option How) → end old child ≡ o → GoesOnAfter Reach.to_the_end old n child o Follows further how → DoesOn o (λ given. Does) → DoesOn (end now child) (λ given. DoesNow)
   does_after_still n child Follows Does DoesNow further how step None is follows h = absurd h
   does_after_still n child Follows Does DoesNow further how step (Some (Abort x)) is follows h = absurd h
   does_after_still n child Follows Does DoesNow further how step (Some (Commit given)) is follows h = subst (λ o. DoesOn o (λ told. DoesNow)) (sym (end_some p setting newer past child (Commit given) is)) (step follows h)
 
-  does_behind_still : (n : Name) (last : Option Name) (must : Bool) (Follows Does DoesNow : Type 0) (further : List Name) (how : Option How) → (Follows → Does → DoesNow) → AfterTries Reach.to_the_end old n last must Follows further how → DoesAfter old last must Does → DoesAfter now last must DoesNow
+  does_behind_still : (n : Name) (last : Option Deed) (must : Bool) (Follows Does DoesNow : Type 0) (further : List Deed) (how : Option How) → (Follows → Does → DoesNow) → AfterTries Reach.to_the_end old n last must Follows further how → DoesAfter old last must Does → DoesAfter now last must DoesNow
   does_behind_still n None must Follows Does DoesNow further how step h d = step h d
-  does_behind_still n (Some child) false Follows Does DoesNow further how step h d = step h d
-  does_behind_still n (Some child) true Follows Does DoesNow further how step h d = does_after_still n child Follows Does DoesNow further how step (end old child) refl h d
+  does_behind_still n (Some tried) false Follows Does DoesNow further how step h d = step h d
+  does_behind_still n (Some (Deed.child child)) true Follows Does DoesNow further how step h d = does_after_still n child Follows Does DoesNow further how step (end old child) refl h d
+  does_behind_still n (Some (Deed.mark m)) true Follows Does DoesNow further how step h d = absurd h
 
-  plan_asks_still : (n : Name) (plan : Plan) (cs : List Name) (how : Option How) → FollowsPlan s old n plan cs how → Asks old n plan cs by target → Asks now n plan cs by target
-  plan_asks_still n Plan.done cs how h d = absurd d
-  plan_asks_still n (Plan.manage_by k next) [] how h d = absurd d
-  plan_asks_still n (Plan.manage_by k next) (c ∷ cs) how h d =
+  -- who was not killed never is, where it is closed
+  unkilled_still : (n : Name) → Closed old n → (WasKilled (end old n) → ⊥) → WasKilled (end now n) → ⊥
+  unkilled_still n closed alive = elim (how_still p setting newer past n legal closed) [
+    | inl is ↦ λ killed. alive (subst WasKilled is killed)
+    | inr since ↦ by_end (end old n) (end now n) since
+  ]
+    where
+      by_end : (a b : Option How) → CommittedSince a b → WasKilled b → ⊥
+      by_end a None since killed = since
+      by_end a (Some (Abort c)) since killed = since
+      by_end a (Some (Commit given)) since killed = killed
+
+  asked_still : (n : Name) (o : Option How) → end old n ≡ o → WasAsked n o → WasAsked n (end now n)
+  asked_still n None is h = absurd h
+  asked_still n (Some how) is h = subst (WasAsked n) (sym (end_some p setting newer past n how is)) h
+
+  plan_asks_still : (n : Name) → Closed old n → (plan : Plan) (cs : List Deed) (how : Option How) → FollowsPlan s old n plan cs how → Asks old n plan cs by target → Asks now n plan cs by target
+  plan_asks_still n closed Plan.done cs how h d = absurd d
+  plan_asks_still n closed (Plan.manage_by k next) [] how h d = absurd d
+  plan_asks_still n closed (Plan.manage_by k next) (Deed.child c ∷ cs) how h d =
       does_still n c (λ given. FollowsPlan s old n (next given) cs how) (λ given. Asks old n (next given) cs by target) (λ given. Asks now n (next given) cs by target) cs how
-      (λ given. plan_asks_still n (next given) cs how) (end old c) refl h.1 d
-  plan_asks_still n (Plan.child_then number tries must inner rest) cs how h d =
-      tries_do_still _ (λ c. Asks old c inner (children old c) by target) (λ c. Asks now c inner (children now c) by target) (StopsEarly n how) (λ last further. AfterTries Reach.to_the_end old n last must (FollowsPlan s old n rest further how) further how)
+      (λ given. plan_asks_still n closed (next given) cs how) (end old c) refl h.1 d
+  plan_asks_still n closed (Plan.manage_by k next) (Deed.mark m ∷ cs) how h d = absurd h
+  plan_asks_still n closed (Plan.child_then number tries must inner rest) cs how h d =
+      tries_do_still (OfChild (IsTryOf Reach.to_the_end s old number inner)) (OfChild (λ c. Asks old c inner (deeds old c) by target)) (OfChild (λ c. Asks now c inner (deeds now c) by target)) (StopsEarly n how) (λ last further. AfterTries Reach.to_the_end old n last must (FollowsPlan s old n rest further how) further how)
       (λ last further. DoesAfter old last must (Asks old n rest further by target)) (λ last further. DoesAfter now last must (Asks now n rest further by target))
-      (λ c t.
-      let closed = (child_still s p setting newer past legal c inner (plan_still s p setting newer past legal c inner) t.1).1 in
-      (closed, λ a. subst (λ xs. Asks now c inner xs by target) (sym (children_still p setting newer past c legal closed)) (plan_asks_still c inner (children old c) (end old c) t.1 a)))
-      (λ last further f a. does_behind_still n last must (FollowsPlan s old n rest further how) (Asks old n rest further by target) (Asks now n rest further by target) further how (plan_asks_still n rest further how) f a) None tries cs h d
-  plan_asks_still n (Plan.abort_then levels rest) [] how h d = d
-  plan_asks_still n (Plan.abort_then levels rest) (c ∷ cs) how h d = absurd d
-  plan_asks_still n (Plan.crash_then copy rest) cs how h d = plan_asks_still n rest cs how h d
+      (try_asks_still number inner (λ c below. plan_asks_still c below inner (deeds old c) (end old c)))
+      (λ last further f a. does_behind_still n last must (FollowsPlan s old n rest further how) (Asks old n rest further by target) (Asks now n rest further by target) further how (plan_asks_still n closed rest further how) f a) None tries cs h d
+  plan_asks_still n closed (Plan.abort_then levels rest) [] how h d = (d.0, d.1, unkilled_still n closed d.2)
+  plan_asks_still n closed (Plan.abort_then levels rest) (c ∷ cs) how h d = absurd d
+  plan_asks_still n closed (Plan.crash_then copy rest) cs how h d = plan_asks_still n closed rest cs how h d
+  plan_asks_still n closed (Plan.kill_then session rest) [] how h d =
+      (asked_still n (end old n) refl d.0, plan_asks_still n closed rest [] how (stopped_runs Reach.to_the_end s old n how h rest) d.1)
+  plan_asks_still n closed (Plan.kill_then session rest) (Deed.child c ∷ cs) how h d = absurd h
+  plan_asks_still n closed (Plan.kill_then session rest) (Deed.mark m ∷ cs) how h d = by_test (session == s) h.1 (plan_asks_still n closed rest cs how)
+    where
+      by_test : (b : Bool) → MatchBool b ((cs ≡ []) × StopsBefore Reach.to_the_end old n how) (FollowsPlan s old n rest cs how) → (FollowsPlan s old n rest cs how → Asks old n rest cs by target → Asks now n rest cs by target) → Asks now n rest cs by target
+      by_test true x more = more (subst (λ l. FollowsPlan s old n rest l how) (sym x.0) (stopped_runs Reach.to_the_end s old n how x.1 rest)) d
+      by_test false x more = more x d
 
   -- what was asked for by a transaction that has ended was asked for ever
-  pub asks_still : (n : Name) (plan : Plan) → FollowsPlan s old n plan (children old n) (end old n) → Asks old n plan (children old n) by target → Asks now n plan (children now n) by target
+  pub asks_still : (n : Name) (plan : Plan) → FollowsPlan s old n plan (deeds old n) (end old n) → Asks old n plan (deeds old n) by target → Asks now n plan (deeds now n) by target
   asks_still n plan h d =
       let closed = (child_still s p setting newer past legal n plan (plan_still s p setting newer past legal n plan) h).1 in
-      subst (λ xs. Asks now n plan xs by target) (sym (children_still p setting newer past n legal closed)) (plan_asks_still n plan (children old n) (end old n) h d)
+      subst (λ xs. Asks now n plan xs by target) (sym (deeds_still p setting newer past n legal closed)) (plan_asks_still n closed plan (deeds old n) (end old n) h d)

@@ -18,9 +18,11 @@ use Rattle.qc_event.proofs.Lineage.{above_user}
 use Rattle.qc_event.proofs.OneEntry.{end_now, some_not_none, some_if_not_none}
 use Rattle.qc_event.proofs.Later.{started_still}
 use Rattle.qc_names.specs.Name as name
-use Rattle.qc_script.specs.Calls.{by_client, NotAborted, Committed, MadeReady, NotCommitted}
+use Rattle.qc_script.specs.Calls.{by_client, NotAborted, Committed, MadeReady, NotCommitted, IsOfSession}
 use Rattle.qc_script.specs.Client.{Client, mine, is_own, Made}
-use Rattle.qc_interp.specs.Follows.{WasAsked, IsUnended, FollowsPlan, asked_end, above}
+use Rattle.qc_interp.specs.Deeds.{deeds}
+use Rattle.qc_interp.proofs.Deeds.{same_children, deeds_quiet}
+use Rattle.qc_interp.specs.Follows.{WasAsked, WasKilled, IsUnended, StopsBefore, FollowsPlan, asked_end, above}
 use Rattle.qc_script.specs.Plan.{Plan}
 use Rattle.qc_interp.specs.Reach.{Reach, AtTheEnd}
 use Rattle.qc_interp.specs.Running.{Runs, LeavesAt, Leaves, CutOff, Quit, WhyStop, Stopped, CameTo, Ended}
@@ -34,8 +36,9 @@ use Rattle.qc_interp.proofs.Turning.{InTurn, Alone, act_turns, itself}
 use Rattle.qc_interp.proofs.Growth.{made_is, made_later, ours_before}
 use Rattle.qc_interp.proofs.Still.{follows_runs}
 use Rattle.qc_event.proofs.Orderly.{KeepsOrder}
-use Rattle.qc_interp.proofs.Managers.{children_quiet, found_quiet, absent, came_after}
-use Rattle.qc_interp.proofs.Ending.{at_any, at_the_end, asked_early, unended_stopped, running_unended, top_above, not_ready, leaves_trans, leaves_cut, cut_still, still, leaves_still, runs_still, leaves_end, children_end, ends_so}
+use Rattle.qc_interp.proofs.Managers.{found_quiet, absent, came_after}
+use Rattle.qc_interp.proofs.Stopping.{asked_early, unended_stopped, unended_unkilled, running_unended}
+use Rattle.qc_interp.proofs.Ending.{at_any, at_the_end, top_above, not_ready, leaves_trans, leaves_cut, cut_still, still, leaves_still, runs_still, user_is, leaves_end, deeds_end, ends_so}
 use Rattle.qc_interp.proofs.StepsLeave.{orphan_early, stopped_still, some_later, none_open}
 use Rattle.std.specs.List.{list_all}
 use Rattle.qc_interp.specs.Adding.{stays_in}
@@ -43,32 +46,40 @@ use Rattle.qc_script.specs.Calls.{is_over}
 use Rattle.qc_interp.specs.Asking.{AllAsked}
 use Rattle.qc_interp.proofs.Asked.{NoOne, asked_made, asked_none, asked_wider, asked_trans}
 
-orphaned : (of t : Name) (levels : ℕ) (how : Option How) → t ≡ above of levels → (levels ≡ 0 → ⊥) → (how ≡ Some (Abort (cause.Orphan t))) ⊎ WasAsked of how → (how ≡ asked_end of levels) ⊎ WasAsked of how
+orphaned : (of t : Name) (levels : ℕ) (how : Option How) → t ≡ above of levels → (levels ≡ 0 → ⊥) → (how ≡ Some (Abort (cause.Orphan t))) ⊎ WasAsked of how → (how ≡ asked_end of levels) ⊎ StopsBefore Reach.to_the_end [] of how
 orphaned of t zero how named some h = absurd (some refl)
 orphaned of t (suc levels) how named some (inl e) = inl (e ∙ ap (λ a. Some (Abort (cause.Orphan a))) named)
-orphaned of t (suc levels) how named some (inr s) = inr s
+orphaned of t (suc levels) how named some (inr s) = inr (inl s)
+
+asked_once : (of : Name) (past : Past) (how : Option How) → (how ≡ Some (Abort (cause.Asked of))) ⊎ WasAsked of how → (how ≡ asked_end of 0) ⊎ StopsBefore Reach.to_the_end past of how
+asked_once of past how (inl is) = inl is
+asked_once of past how (inr s) = inr (inl s)
+
+orphan_unkilled : (of t : Name) (how : Option How) → (how ≡ Some (Abort (cause.Orphan t))) ⊎ WasAsked of how → WasKilled how → ⊥
+orphan_unkilled of t how (inl is) h = subst WasKilled is h
+orphan_unkilled of t how (inr s) h = unended_unkilled of how (inr s) h
 
 module _ (c : Client) (of : Name) where
   -- an orphan after a step `abort`
-  pub asked_orphan : (t : Name) (levels : ℕ) → t ≡ above of levels → (levels ≡ 0 → ⊥) → (before mid now : Past) (again : Bool) (rest : Plan) → Leaves c of before mid → AllAsked c before mid (λ by x. (by ≡ of) × (x ≡ t)) → children (mine c mid) of ≡ children (mine c before) of → Quit c of (Abort (cause.Orphan t)) mid now again → Ended c of before now (Plan.abort_then levels rest) (finish.Stopped again)
-  asked_orphan t levels named some before mid now again rest leaves asked same_children quit = record {
+  pub asked_orphan : (t : Name) (levels : ℕ) → t ≡ above of levels → (levels ≡ 0 → ⊥) → (before mid now : Past) (again : Bool) (rest : Plan) → Leaves c of before mid → AllAsked c before mid (λ by x. (by ≡ of) × (x ≡ t)) → deeds (mine c mid) of ≡ deeds (mine c before) of → Quit c of (Abort (cause.Orphan t)) mid now again → Ended c of before now (Plan.abort_then levels rest) (finish.Stopped again)
+  asked_orphan t levels named some before mid now again rest leaves asked same_deeds quit = record {
     leaves = leaves_trans c of before mid now leaves quit.leaves;
     tried = quit.tried;
-    ends = λ ours. ([], quit.children ∙ same_children ∙ sym (append-nil _), orphaned of t levels _ named some (quit.ended ours), asked_trans c before mid now _ (asked_wider _ _ (λ by x a. (a.0, a.1 ∙ named)) c before mid asked) (asked_none c mid now _ quit.asked));
+    ends = λ ours. ([], quit.deeds ∙ same_deeds ∙ sym (append-nil _), orphaned of t levels _ named some (quit.ended ours), asked_trans c before mid now _ (asked_wider _ _ (λ by x a. (a.0, a.1 ∙ named, orphan_unkilled of t _ (quit.ended ours))) c before mid asked) (asked_none c mid now _ quit.asked));
   }
 
   -- the run was cut off after a step `abort`
-  pub asked_cut : (t : Name) (levels : ℕ) → t ≡ above of levels → (before mid now : Past) (rest : Plan) → Runs c of mid → Leaves c of before mid → AllAsked c before mid (λ by x. (by ≡ of) × (x ≡ t)) → children (mine c mid) of ≡ children (mine c before) of → Made c [] mid now → CutOff c of before now (Plan.abort_then levels rest)
-  asked_cut t levels named before mid now rest runs leaves asked same_children made =
+  pub asked_cut : (t : Name) (levels : ℕ) → t ≡ above of levels → (before mid now : Past) (rest : Plan) → Runs c of mid → Leaves c of before mid → AllAsked c before mid (λ by x. (by ≡ of) × (x ≡ t)) → deeds (mine c mid) of ≡ deeds (mine c before) of → Made c [] mid now → CutOff c of before now (Plan.abort_then levels rest)
+  asked_cut t levels named before mid now rest runs leaves asked same_deeds made =
       let at = (runs_still c of mid now made runs).above of [] (sym (append-nil of)) runs.nonroot in
       record {
         leaves = leaves_trans c of before mid now leaves (leaves_cut c of mid now (leaves_still c of mid now made));
         unended = at.0;
         begins = λ ours. (
           [],
-          ap (λ h. children h of) (still c of mid now made) ∙ same_children ∙ sym (append-nil _),
-          inr (running_unended (mine c now) of _ at.0 at.1),
-          asked_trans c before mid now _ (asked_wider _ _ (λ by x a. (a.0, a.1 ∙ named)) c before mid asked) (asked_none c mid now _ (asked_made c [] mid now NoOne made tt)),
+          ap (λ h. deeds h of) (still c of mid now made) ∙ same_deeds ∙ sym (append-nil _),
+          inr (inl (running_unended (mine c now) of _ at.0 at.1)),
+          asked_trans c before mid now _ (asked_wider _ _ (λ by x a. (a.0, a.1 ∙ named, unended_unkilled of _ at.0)) c before mid asked) (asked_none c mid now _ (asked_made c [] mid now NoOne made tt)),
         );
       }
 
@@ -76,7 +87,7 @@ module _ (c : Client) (of : Name) where
   asked_itself zero before now again rest none quit = record {
     leaves = quit.leaves;
     tried = quit.tried;
-    ends = λ ours. ([], quit.children ∙ sym (append-nil _), quit.ended ours, asked_none c before now _ quit.asked);
+    ends = λ ours. ([], quit.deeds ∙ sym (append-nil _), asked_once of (mine c now) _ (quit.ended ours), asked_none c before now _ quit.asked);
   }
   asked_itself (suc levels) before now again rest none quit = let z : ⊥ = omega (arith, none) in absurd z
 
@@ -88,8 +99,8 @@ module _ (c : Client) (of : Name) where
     shorter : length t < length of
     shorter = omega (arith, ap length is, length-append t s, far)
 
-    children_asked : (p : Name) → children (mine c mid) p ≡ children (mine c before) p
-    children_asked p = ap (λ h. children h p) now_is ∙ children_quiet p (by_client c (event.End t (Abort (cause.Asked of))) ∷ []) (mine c before) (refl, tt)
+    deeds_asked : (p : Name) → deeds (mine c mid) p ≡ deeds (mine c before) p
+    deeds_asked p = ap (λ h. deeds h p) now_is ∙ deeds_quiet p (by_client c (event.End t (Abort (cause.Asked of))) ∷ []) (mine c before) ((λ past. refl), tt)
 
     ready_asked : (p : Name) → is_ready (mine c mid) p ≡ is_ready (mine c before) p
     ready_asked p = ap (λ h. is_ready h p) now_is ∙ ap is_some (found_quiet _ (by_client c (event.End t (Abort (cause.Asked of))) ∷ []) (mine c before) (refl, tt))
@@ -103,7 +114,7 @@ module _ (c : Client) (of : Name) where
         by_test true so None x = inr (ap not (other_length of p (λ l. omega (arith, l, ap length (same_is t p so), shorter))))
 
     pub leaves_asked : Leaves c of before mid
-    leaves_asked = record { turns = λ ours turns alone. subst (λ h. InTurn h × Alone h of) (sym now_is) (act_turns (by_client c (event.End t (Abort (cause.Asked of)))) (mine c before) of of refl refl turns alone alone); later = made_later c _ before mid m; inside = ap (list_all (stays_in (take 1 of))) m.made ∙ ap (λ b. b && true) (top_above of t s is nonroot); over = λ was r. over_later c before mid (made_later c _ before mid m) of (was (sym (ready_asked of) ∙ r)); above = λ p r so more. record { children = children_asked p; ready = ready_asked p; unended = unended_asked p } }
+    leaves_asked = record { turns = λ ours turns alone. subst (λ h. InTurn h × Alone h of) (sym now_is) (act_turns (by_client c (event.End t (Abort (cause.Asked of)))) (mine c before) of of refl refl turns alone alone); later = made_later c _ before mid m; inside = ap (list_all (stays_in (take 1 of))) m.made ∙ ap (λ b. b && true) (top_above of t s is nonroot); over = λ was r. over_later c before mid (made_later c _ before mid m) of (was (sym (ready_asked of) ∙ r)); above = λ p r so more. record { deeds = deeds_asked p; ready = ready_asked p; unended = unended_asked p } }
 
     pub asked_one : AllAsked c before mid (λ by x. (by ≡ of) × (x ≡ t))
     asked_one = asked_made c _ before mid _ m (inr (refl, refl), tt)
@@ -111,16 +122,16 @@ module _ (c : Client) (of : Name) where
     pub runs_asked : Runs c of before → Runs c of mid
     runs_asked runs = record {
       legal = m.legal;
-      user = subst (λ h. Started h of (λ b. IsUser b.kind)) (sym m.grown) (started_still m.newer before of _ runs.user);
+      user = subst (λ h. Started h of (λ b. IsOfSession c.session b.kind)) (sym m.grown) (started_still m.newer before of _ runs.user);
       nonroot = runs.nonroot;
       above = λ p r so more. (unended_asked p (runs.above p r so more).0, ready_asked p ∙ (runs.above p r so more).1);
       closed = λ ours.
-          ap (find (λ x. is_none (end (mine c mid) x))) (children_asked of)
+          ap (find (λ x. is_none (end (mine c mid) x))) (same_children (mine c mid) (mine c before) of (deeds_asked of))
           ∙ none_open _ _ (children (mine c before) of) (λ x h. some_not_none _ (some_later c of before mid (made_later c _ before mid m) x (some_if_not_none _ h))) (runs.closed (ours_before c of before mid (made_later c _ before mid m) ours));
     }
 
-    pub same_asked : children (mine c mid) of ≡ children (mine c before) of
-    same_asked = children_asked of
+    pub same_asked : deeds (mine c mid) of ≡ deeds (mine c before) of
+    same_asked = deeds_asked of
 
     pub ended_asked : is_some (end mid t) ≡ true
     ended_asked = kept_some (λ (e : Entry). is_own c e.seat) _ mid (subst (λ h. is_some (end h t) ≡ true) (sym now_is) (by_old (end (mine c before) t) (end_in t (event.End t (Abort (cause.Asked of)))) (end_now t (event.End t (Abort (cause.Asked of))) (Abort (cause.Asked of)) refl)))
@@ -162,7 +173,7 @@ module _ (c : Client) (of : Name) where
       positive (suc k) h = omega arith
 
   pub user_above : (now : Past) (t : Name) (levels : ℕ) → Runs c of now → Above t levels → Started now t (λ b. IsUser b.kind)
-  user_above now t levels runs a = above_user now t a.rest (lawful now (legal_orderly c.setting now runs.legal)) a.nonroot (subst (λ n. Started now n (λ b. IsUser b.kind)) a.is runs.user)
+  user_above now t levels runs a = above_user now t a.rest (lawful now (legal_orderly c.setting now runs.legal)) a.nonroot (subst (λ n. Started now n (λ b. IsUser b.kind)) a.is (user_is c.session now of runs.user))
 
   -- an ancestor that could not be aborted, as it was ready
   pub ask_no : (t : Name) (levels : ℕ) (before now : Past) (why : TxNo) (rest : Plan) → Above t levels → Runs c of before → NotAborted c t (cause.Asked of) before now why → (why ≡ tx_no.Memory → ⊥) → (why ≡ tx_no.Room → ⊥) → (why ≡ tx_no.Ended → ⊥) → Ended c of before now (Plan.abort_then levels rest) (finish.Stopped false)
@@ -215,8 +226,8 @@ module _ (c : Client) (of : Name) where
     ready_now : mine c now ≡ by_client c (event.Ready of) ∷ mine c before
     ready_now = made_is c _ before now m
 
-    children_ready : (p : Name) → children (mine c now) p ≡ children (mine c before) p
-    children_ready p = ap (λ h. children h p) ready_now ∙ children_quiet p (by_client c (event.Ready of) ∷ []) (mine c before) (refl, tt)
+    deeds_ready : (p : Name) → deeds (mine c now) p ≡ deeds (mine c before) p
+    deeds_ready p = ap (λ h. deeds h p) ready_now ∙ deeds_quiet p (by_client c (event.Ready of) ∷ []) (mine c before) ((λ past. refl), tt)
 
     end_ready : (p : Name) → end (mine c now) p ≡ end (mine c before) p
     end_ready p = ap (λ h. end h p) ready_now ∙ found_quiet _ (by_client c (event.Ready of) ∷ []) (mine c before) (refl, tt)
@@ -248,7 +259,7 @@ module _ (c : Client) (of : Name) where
       over = at_the_end reach _ _ (λ so was r. so) over;
       above = λ p r is far.
           record {
-            children = children_ready p;
+            deeds = deeds_ready p;
             ready = ap (λ h. is_ready h p) ready_now ∙ ap is_some (found_quiet _ (by_client c (event.Ready of) ∷ []) (mine c before) (if_not (same of p) (Some tt) (other_length of p (λ l. omega (arith, l, far, ap length is, length-append p r))), tt));
             unended = subst (λ o. IsUnended p o) (sym (end_ready p));
           };
@@ -265,7 +276,7 @@ module _ (c : Client) (of : Name) where
     ready_made to came over = record {
       leaves = leaves_ready Reach.to_the_end over;
       tried = subst (CameTo to) (sym none_ready) came;
-      ends = λ ours. ([], children_ready of ∙ sym (append-nil _), done_ready, asked_made c _ before now _ m (tt, tt));
+      ends = λ ours. ([], deeds_ready of ∙ sym (append-nil _), done_ready, asked_made c _ before now _ m (tt, tt));
     }
 
     -- a top was made ready, and the run was cut off
@@ -273,7 +284,7 @@ module _ (c : Client) (of : Name) where
     ready_cut = record {
       leaves = leaves_ready Reach.cut_off tt;
       unended = unended_ready;
-      begins = λ ours. ([], children_ready of ∙ sym (append-nil _), follows_runs Reach.cut_off c.session (mine c now) of Plan.done [] _ done_ready, asked_made c _ before now _ m (tt, tt));
+      begins = λ ours. ([], deeds_ready of ∙ sym (append-nil _), follows_runs Reach.cut_off c.session (mine c now) of Plan.done [] _ done_ready, asked_made c _ before now _ m (tt, tt));
     }
 
   -- a commit was refused for want of memory or room
@@ -291,7 +302,7 @@ module _ (c : Client) (of : Name) where
   end_made before now runs m = record {
     leaves = leaves_end c of (Commit answer.Nothing) before now m (of, refl, itself of);
     tried = subst (CameTo finish.Committed) (sym (ends_so c of (Commit answer.Nothing) before now m)) tt;
-    ends = λ ours. ([], children_end c of (Commit answer.Nothing) before now m ∙ sym (append-nil _), inl (subst (λ x. Rattle.qc_interp.specs.Follows.Commits (mine c now) of x) (sym (ends_so c of (Commit answer.Nothing) before now m)) tt), asked_made c _ before now _ m (tt, tt));
+    ends = λ ours. ([], deeds_end c of (Commit answer.Nothing) before now m ∙ sym (append-nil _), inl (subst (λ x. Rattle.qc_interp.specs.Follows.Commits (mine c now) of x) (sym (ends_so c of (Commit answer.Nothing) before now m)) tt), asked_made c _ before now _ m (tt, tt));
   }
 
   pub commit_ledger : (before now : Past) (why : TxNo) → why ≡ tx_no.Ledger → Runs c of before → NotCommitted c of before now why → Ended c of before now Plan.done (finish.Stopped false)

@@ -15,7 +15,7 @@ use Rattle.qc_event.specs.declared.event.Kind.{Kind}
 use Rattle.qc_event.specs.declared.event.Kind.TheVariants as kind
 use Rattle.qc_event.specs.Base.{Setting}
 use Rattle.qc_event.specs.Dead.{outcome, outcome_of, is_committed}
-use Rattle.qc_event.specs.History.{Past, Name, Begun, earliest, start, end, end_in, ready_in, is_ready, children, same}
+use Rattle.qc_event.specs.History.{Past, Name, Begun, earliest, start, end, end_in, ready_in, is_ready, same}
 use Rattle.qc_event.specs.Legal.{Legal, MayHappen, MayEnd}
 use Rattle.qc_event.specs.Commits.{MayCommit}
 use Rattle.qc_event.specs.Standing.{Started, IsUser, open_child}
@@ -27,11 +27,11 @@ use Rattle.qc_event.proofs.OneEntry.{end_now, end_step, ending, marking, stays_s
 use Rattle.qc_event.proofs.Orderly.{KeepsOrder, Begins}
 use Rattle.qc_event.proofs.Later.{started_still}
 use Rattle.qc_names.specs.Name as name
-use Rattle.qc_script.specs.Calls.{by_client, NotAborted, IsGrounded, IsForChild, IsNone}
+use Rattle.qc_script.specs.Calls.{by_client, NotAborted, IsGrounded, IsForChild, IsNone, IsOfSession}
 use Rattle.qc_script.specs.Client.{Client, mine, concerns, Made, AreOurs}
-use Rattle.qc_interp.specs.Follows.{StopsEarly, WasAsked, IsUnended, Stops, HasNotEnded, AfterTries, RunsPlan}
+use Rattle.qc_interp.specs.Follows.{WasAsked, IsUnended}
 use Rattle.qc_script.specs.Plan.{Plan}
-use Rattle.qc_interp.proofs.TriesAlike.{no_tries}
+use Rattle.qc_interp.proofs.Stopping.{unended_stopped, running_runs}
 use Rattle.qc_interp.specs.Reach.{Reach, AtTheEnd}
 use Rattle.qc_interp.specs.Running.{Runs, LeavesAt, Leaves, CutOff, CameTo, Quit}
 use Rattle.qc_interp.specs.declared.stops.Finish.TheVariants as finish
@@ -42,7 +42,9 @@ use Rattle.qc_interp.specs.Tries.{is_tried_again}
 use Rattle.qc_script.specs.declared.tx.TxNo.{TxNo}
 use Rattle.qc_script.specs.declared.tx.TxNo.TheVariants as tx_no
 use Rattle.qc_interp.proofs.Growth.{made_is, made_later, later_itself, later_trans, ours_before, own_found}
-use Rattle.qc_interp.proofs.Managers.{children_quiet, found_quiet, absent, came_after}
+use Rattle.qc_interp.specs.Deeds.{deeds}
+use Rattle.qc_interp.proofs.Deeds.{deeds_quiet}
+use Rattle.qc_interp.proofs.Managers.{found_quiet, absent, came_after}
 use Rattle.std.specs.List.{list_all}
 use Rattle.qc_interp.specs.Adding.{stays_in}
 use Rattle.qc_interp.specs.Asking.{ByItself}
@@ -56,59 +58,6 @@ at_the_end Reach.cut_off P Q step h = tt
 pub at_any : (reach : Reach) (P : Type 0) → P → AtTheEnd reach P
 at_any Reach.to_the_end P h = h
 at_any Reach.cut_off P h = tt
-
--- who was aborted as another asked was stopped early
-pub asked_early : (n : Name) (how : Option How) → WasAsked n how → StopsEarly n how
-asked_early n None h = absurd h
-asked_early n (Some (Commit given)) h = absurd h
-asked_early n (Some (Abort (cause.Asked by))) h = h
-asked_early n (Some (Abort (cause.Orphan a))) h = absurd h
-asked_early n (Some (Abort (cause.Conflict copy holder))) h = absurd h
-asked_early n (Some (Abort (cause.NoQuorum lack))) h = absurd h
-asked_early n (Some (Abort cause.Last)) h = absurd h
-asked_early n (Some (Abort cause.Killed)) h = absurd h
-asked_early n (Some (Abort (cause.Child x))) h = absurd h
-asked_early n (Some (Abort cause.Missed)) h = absurd h
-
--- who has not ended itself is not tried again
-pub unended_again : (n : Name) (how : Option How) → IsUnended n how → is_tried_again how ≡ false
-unended_again n how (inl is) = ap is_tried_again is
-unended_again n None (inr h) = refl
-unended_again n (Some (Commit given)) (inr h) = refl
-unended_again n (Some (Abort (cause.Asked by))) (inr h) = refl
-unended_again n (Some (Abort (cause.Orphan a))) (inr h) = absurd h
-unended_again n (Some (Abort (cause.Conflict copy holder))) (inr h) = absurd h
-unended_again n (Some (Abort (cause.NoQuorum lack))) (inr h) = absurd h
-unended_again n (Some (Abort cause.Last)) (inr h) = absurd h
-unended_again n (Some (Abort cause.Killed)) (inr h) = absurd h
-unended_again n (Some (Abort (cause.Child x))) (inr h) = absurd h
-unended_again n (Some (Abort cause.Missed)) (inr h) = absurd h
-
-pub unended_stopped : (n : Name) (how : Option How) → IsUnended n how → CameTo (finish.Stopped false) how
-unended_stopped n None h = refl
-unended_stopped n (Some (Commit given)) h = elim h [
-  | inl is ↦ absurd cc
-  | inr s ↦ absurd s
-]
-unended_stopped n (Some (Abort x)) h = sym (unended_again n (Some (Abort x)) h)
-
--- who has not ended itself and is not ready stops where the run was cut off
-pub running_stops : (past : Past) (n : Name) (how : Option How) → IsUnended n how → is_ready past n ≡ false → Stops Reach.cut_off past n how
-running_stops past n how (inl none) unready = inr (none, unready)
-running_stops past n how (inr asked) unready = inl (asked_early n how asked)
-
-pub running_unended : (past : Past) (n : Name) (how : Option How) → IsUnended n how → is_ready past n ≡ false → HasNotEnded Reach.cut_off past n how
-running_unended past n how (inl none) unready = inr (none, unready)
-running_unended past n how (inr asked) unready = inl asked
-
--- and with no child it has come as far with any plan
-pub running_runs : (s : ℕ) (past : Past) (n : Name) (how : Option How) → IsUnended n how → is_ready past n ≡ false → (plan : Plan) → RunsPlan Reach.cut_off s past n plan [] how
-running_runs s past n how unended unready Plan.done = inr (running_stops past n how unended unready)
-running_runs s past n how unended unready (Plan.manage_by k next) = running_stops past n how unended unready
-running_runs s past n how unended unready (Plan.child_then number tries must inner rest) =
-    no_tries (end past) _ (Stops Reach.cut_off past n how) (λ last further. AfterTries Reach.cut_off past n last must (RunsPlan Reach.cut_off s past n rest further how) further how) None (running_stops past n how unended unready) (running_runs s past n how unended unready rest) tries
-running_runs s past n how unended unready (Plan.abort_then levels rest) = inr (running_unended past n how unended unready)
-running_runs s past n how unended unready (Plan.crash_then copy rest) = running_runs s past n how unended unready rest
 
 pub unended_some : (n : Name) (how : Option How) → IsUnended n how → is_some how ≡ true → WasAsked n how
 unended_some n how (inl is) h = absurd (some_or_none how h is)
@@ -180,6 +129,21 @@ cause_actor seen n cause.Killed h = (n, refl, itself n)
 cause_actor seen n (cause.Child x) h = (n, refl, itself n)
 cause_actor seen n cause.Missed h = (n, refl, itself n)
 
+-- who is of a session is a user transaction
+pub user_is : (session : ℕ) (past : Past) (n : Name) → Started past n (λ b. IsOfSession session b.kind) → Started past n (λ b. IsUser b.kind)
+user_is session past n h = by_start (start past n) h
+  where
+    by_kind : (k : Kind) → IsOfSession session k → IsUser k
+    by_kind (kind.User s body) h = tt
+    by_kind (kind.Read rec) h = h
+    by_kind (kind.Write rec value) h = h
+    by_kind (kind.Reconf rec config) h = h
+    by_kind kind.Access h = h
+
+    by_start : (o : Option Begun) → MatchOption o ⊥ (λ (b : Begun). IsOfSession session b.kind) → MatchOption o ⊥ (λ (b : Begun). IsUser b.kind)
+    by_start None h = h
+    by_start (Some b) h = by_kind b.kind h
+
 module _ (c : Client) (of : Name) where
   -- WHERE ALL IS ONE'S OWN
 
@@ -228,7 +192,7 @@ module _ (c : Client) (of : Name) where
   -- WHAT IS LEFT
 
   pub leaves_itself : (now : Past) → Legal c.setting now → Leaves c of now now
-  leaves_itself now legal = record { inside = refl; over = λ was. was; later = later_itself c now legal; above = λ p r is far. record { children = refl; ready = refl; unended = λ h. h }; turns = λ ours turns alone. (turns, alone) }
+  leaves_itself now legal = record { inside = refl; over = λ was. was; later = later_itself c now legal; above = λ p r is far. record { deeds = refl; ready = refl; unended = λ h. h }; turns = λ ours turns alone. (turns, alone) }
 
   pub leaves_trans : {reach : Reach} (a b d : Past) → Leaves c of a b → LeavesAt reach c of b d → LeavesAt reach c of a d
   leaves_trans {reach = reach} a b d f g = record {
@@ -236,7 +200,7 @@ module _ (c : Client) (of : Name) where
     inside = all_later _ c f.later.newer g.later.newer f.inside g.inside;
     over = at_the_end reach _ _ (λ over was. over (f.over was)) g.over;
     above = λ p r is far. record {
-      children = (g.above p r is far).children ∙ (f.above p r is far).children;
+      deeds = (g.above p r is far).deeds ∙ (f.above p r is far).deeds;
       ready = (g.above p r is far).ready ∙ (f.above p r is far).ready;
       unended = λ h. (g.above p r is far).unended ((f.above p r is far).unended h);
     };
@@ -256,14 +220,14 @@ module _ (c : Client) (of : Name) where
       later = made_later c [] before now m;
       inside = ap (list_all (stays_in (take 1 of))) m.made;
       over = λ was r. over_later c before now (made_later c [] before now m) of (was (sym (ap (λ h. is_ready h of) still) ∙ r));
-      above = λ p r is far. record { children = ap (λ h. children h p) still; ready = ap (λ h. is_ready h p) still; unended = subst (λ h. IsUnended p (end h p)) (sym still) };
+      above = λ p r is far. record { deeds = ap (λ h. deeds h p) still; ready = ap (λ h. is_ready h p) still; unended = subst (λ h. IsUnended p (end h p)) (sym still) };
       turns = λ ours turns alone. subst (λ h. InTurn h × Alone h of) (sym still) (turns, alone);
     }
 
     pub runs_still : Runs c of before → Runs c of now
     runs_still runs = record {
       legal = m.legal;
-      user = subst (λ h. Started h of (λ b. IsUser b.kind)) (sym m.grown) (started_still m.newer before of _ runs.user);
+      user = subst (λ h. Started h of (λ b. IsOfSession c.session b.kind)) (sym m.grown) (started_still m.newer before of _ runs.user);
       nonroot = runs.nonroot;
       above = λ p r is far. subst (λ h. IsUnended p (end h p) × (is_ready h p ≡ false)) (sym still) (runs.above p r is far);
       closed = λ ours. ap (λ h. open_child h of) still ∙ runs.closed (ours_before c of before now (made_later c [] before now m) ours);
@@ -276,7 +240,7 @@ module _ (c : Client) (of : Name) where
       record {
         leaves = leaves_cut before now (leaves_still before now m);
         unended = at.0;
-        begins = λ ours. ([], ap (λ h. children h of) (still before now m) ∙ sym (append-nil _), running_runs c.session (mine c now) of _ at.0 at.1 plan, asked_none c before now _ (asked_made c [] before now NoOne m tt));
+        begins = λ ours. ([], ap (λ h. deeds h of) (still before now m) ∙ sym (append-nil _), running_runs c.session (mine c now) of _ at.0 at.1 plan, asked_none c before now _ (asked_made c [] before now NoOne m tt));
       }
 
   -- an end that is made
@@ -293,14 +257,14 @@ module _ (c : Client) (of : Name) where
       above = λ p r is far.
           let quiet : end_in p (event.End of how) ≡ None = if_not (same of p) (Some how) (other_length of p (λ l. omega (arith, l, far, ap length is ∙ length-append p r))) in
           record {
-            children = ap (λ h. children h p) now_is ∙ children_quiet p (by_client c (event.End of how) ∷ []) (mine c before) (refl, tt);
+            deeds = ap (λ h. deeds h p) now_is ∙ deeds_quiet p (by_client c (event.End of how) ∷ []) (mine c before) ((λ past. refl), tt);
             ready = ap (λ h. is_ready h p) now_is ∙ ap is_some (found_quiet _ (by_client c (event.End of how) ∷ []) (mine c before) (refl, tt));
             unended = subst (λ o. IsUnended p o) (sym (ap (λ h. end h p) now_is ∙ found_quiet _ (by_client c (event.End of how) ∷ []) (mine c before) (quiet, tt)));
           };
     }
 
-    pub children_end : children (mine c now) of ≡ children (mine c before) of
-    children_end = ap (λ h. children h of) now_is ∙ children_quiet of (by_client c (event.End of how) ∷ []) (mine c before) (refl, tt)
+    pub deeds_end : deeds (mine c now) of ≡ deeds (mine c before) of
+    deeds_end = ap (λ h. deeds h of) now_is ∙ deeds_quiet of (by_client c (event.End of how) ∷ []) (mine c before) ((λ past. refl), tt)
 
     pub ends_so : end (mine c now) of ≡ Some how
     ends_so =
@@ -316,7 +280,7 @@ module _ (c : Client) (of : Name) where
     asked = asked_made c _ before now NoOne m (itself_end of cause itself, tt);
     leaves = leaves_end (Abort cause) before now m (cause_actor before of cause grounded);
     tried = subst (CameTo (finish.Stopped (is_tried_again (Some (Abort cause))))) (sym (ends_so (Abort cause) before now m)) refl;
-    children = children_end (Abort cause) before now m;
+    deeds = deeds_end (Abort cause) before now m;
     ended = λ ours. inl (ends_so (Abort cause) before now m);
   }
 
@@ -327,7 +291,7 @@ module _ (c : Client) (of : Name) where
         leaves = leaves_still before now m;
         asked = asked_made c [] before now NoOne m tt;
         tried = unended_stopped of _ (after.above of [] (sym (append-nil of)) after.nonroot).0;
-        children = ap (λ h. children h of) (still before now m);
+        deeds = ap (λ h. deeds h of) (still before now m);
         ended = λ ours. inr (early after ours);
       }
 

@@ -14,7 +14,7 @@ use Rattle.qc_event.specs.declared.event.Kind.TheVariants as kind
 use Rattle.qc_event.specs.Aborts.{Licensed}
 use Rattle.qc_event.specs.Base.{Setting}
 use Rattle.qc_event.specs.Dead.{dead, outcome_of, is_aborted}
-use Rattle.qc_event.specs.History.{Past, Name, Begun, start, end, children, same}
+use Rattle.qc_event.specs.History.{Past, Name, Begun, start, end, same}
 use Rattle.qc_event.specs.Legal.{Legal, MayHappen, MayEnd}
 use Rattle.qc_event.specs.Standing.{IsAbort, IsOrphanOf}
 use Rattle.qc_event.proofs.Outcomes.{abort_or_alive}
@@ -27,13 +27,15 @@ use Rattle.qc_script.specs.Client.{Client, mine, Made, IsLater, AreOurs}
 use Rattle.qc_script.specs.Plan.{Plan, Numbered}
 use Rattle.qc_script.specs.declared.tx.TxNo.{TxNo}
 use Rattle.qc_script.specs.declared.tx.TxNo.TheVariants as tx_no
+use Rattle.qc_interp.specs.Deeds.{Deed, deeds}
 use Rattle.qc_interp.specs.Follows.{WasAsked, GoesOnAfter, AfterTries, is_of_orphan, FollowsPlan}
 use Rattle.qc_interp.specs.Asking.{DoesAfter}
 use Rattle.qc_interp.specs.Reach.{Reach}
 use Rattle.qc_interp.specs.Running.{Runs, CameTo, Ended, CutOff, WentOn, HasFailed, WasOrphan, QuitFor, Stopped, child_step, Failed}
 use Rattle.qc_interp.specs.declared.stops.Finish.TheVariants as finish
 use Rattle.qc_interp.proofs.Asked.{NoOne, asked_made, asked_none, asked_wider, asked_trans}
-use Rattle.qc_interp.proofs.Ending.{asked_early, unended_stopped, running_runs, not_ready, ended_early, leaves_trans, leaves_cut, still, leaves_still, runs_still, leaves_end, children_end, ends_so}
+use Rattle.qc_interp.proofs.Stopping.{asked_early, unended_stopped, running_runs}
+use Rattle.qc_interp.proofs.Ending.{not_ready, ended_early, leaves_trans, leaves_cut, still, leaves_still, runs_still, leaves_end, deeds_end, ends_so}
 use Rattle.qc_interp.proofs.Growth.{made_later, ours_before}
 use Rattle.qc_interp.proofs.Seen.{own_once}
 use Rattle.qc_interp.proofs.StepsLeave.{end_later, orphan_early}
@@ -104,7 +106,7 @@ module _ (c : Client) (of child : Name) where
   quit_for_ok before now runs failed alive m = record {
     leaves = leaves_end c of (Abort (cause.Child child)) before now m (of, refl, itself of);
     tried = subst (CameTo (finish.Stopped true)) (sym (ends_so c of (Abort (cause.Child child)) before now m)) refl;
-    children = children_end c of (Abort (cause.Child child)) before now m;
+    deeds = deeds_end c of (Abort (cause.Child child)) before now m;
     asked = asked_made c _ before now NoOne m (tt, tt);
     ended = λ ours. inl (no_orphan ours, ends_so c of (Abort (cause.Child child)) before now m);
   }
@@ -133,7 +135,7 @@ module _ (c : Client) (of child : Name) where
       record {
         leaves = leaves_still c of before now m;
         tried = unended_stopped of _ (after.above of [] (sym (append-nil of)) after.nonroot).0;
-        children = ap (λ h. children h of) (still c of before now m);
+        deeds = ap (λ h. deeds h of) (still c of before now m);
         asked = asked_made c [] before now NoOne m tt;
         ended = λ ours. inr (asked_early of _ (early after ours));
       }
@@ -161,18 +163,18 @@ module _ (c : Client) (of child : Name) where
   quit_for_dead before mid now a again m stopped = record {
     leaves = leaves_trans c of before mid now (leaves_still c of before mid m) stopped.leaves;
     tried = stopped.tried;
-    children = stopped.children ∙ ap (λ h. children h of) (still c of before mid m);
+    deeds = stopped.deeds ∙ ap (λ h. deeds h of) (still c of before mid m);
     asked = asked_trans c before mid now NoOne (asked_made c [] before mid NoOne m tt) stopped.asked;
     ended = λ ours. inr (orphan_early c of a _ (stopped.ended ours));
   }
 
 -- BEHIND THE LAST TRY
 
-after_any : (reach : Reach) (past : Past) (n child : Name) (must : Bool) (Rest : Type 0) (further : List Name) (how : Option How) → must ≡ false → Rest → AfterTries reach past n (Some child) must Rest further how
-after_any reach past n child must Rest further how is h = subst (λ b. AfterTries reach past n (Some child) b Rest further how) (sym is) h
+after_any : (reach : Reach) (past : Past) (n child : Name) (must : Bool) (Rest : Type 0) (further : List Deed) (how : Option How) → must ≡ false → Rest → AfterTries reach past n (Some (Deed.child child)) must Rest further how
+after_any reach past n child must Rest further how is h = subst (λ b. AfterTries reach past n (Some (Deed.child child)) b Rest further how) (sym is) h
 
-does_any : (past : Past) (child : Name) (must : Bool) (Does : Type 0) → must ≡ false → Does → DoesAfter past (Some child) must Does
-does_any past child must Does is h = subst (λ b. DoesAfter past (Some child) b Does) (sym is) h
+does_any : (past : Past) (child : Name) (must : Bool) (Does : Type 0) → must ≡ false → Does → DoesAfter past (Some (Deed.child child)) must Does
+does_any past child must Does is h = subst (λ b. DoesAfter past (Some (Deed.child child)) b Does) (sym is) h
 
 module _ (c : Client) (of : Name) (body : Numbered) (before mid : Past) (last : Name) (f : Failed c of before mid body last) where
   -- the transaction goes on, where the child need not commit
@@ -197,8 +199,8 @@ module _ (c : Client) (of : Name) (body : Numbered) (before mid : Past) (last : 
       tried = quit.tried;
       ends = f.follows Reach.to_the_end now quit.leaves.later rest (λ ours. (
         [],
-        quit.children ∙ sym (append-nil _),
-        subst (λ b. AfterTries Reach.to_the_end (mine c now) of (Some last) b (FollowsPlan c.session (mine c now) of rest [] (end (mine c now) of)) [] (end (mine c now) of)) (sym must) (behind ours),
+        quit.deeds ∙ sym (append-nil _),
+        subst (λ b. AfterTries Reach.to_the_end (mine c now) of (Some (Deed.child last)) b (FollowsPlan c.session (mine c now) of rest [] (end (mine c now) of)) [] (end (mine c now) of)) (sym must) (behind ours),
         asked_none c mid now _ quit.asked,
       ));
     }
@@ -230,7 +232,7 @@ module _ (c : Client) (of : Name) (body : Numbered) (before mid : Past) (last : 
           unended = at.0;
           begins = f.follows Reach.cut_off now (made_later c [] mid now m) rest (λ ours. (
             [],
-            ap (λ h. children h of) (still c of mid now m) ∙ sym (append-nil _),
+            ap (λ h. deeds h of) (still c of mid now m) ∙ sym (append-nil _),
             cut_behind (mine c now) of last body.must _ (end (mine c now) of) at.0 at.1 (running_runs c.session (mine c now) of _ at.0 at.1 rest),
             asked_none c mid now _ (asked_made c [] mid now NoOne m tt),
           ));

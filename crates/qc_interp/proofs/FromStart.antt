@@ -1,5 +1,5 @@
--- What a client ran that had made nothing before is all that it made.
-use Rattle.std.proofs.Common.{◌≡◌, true, List, [], ◌++◌, refl, sym, ap, ◌∙◌, subst, append-nil}
+-- What a client ran that had made nothing before is all that it made, and who made nothing has begun any script.
+use Rattle.std.proofs.Common.{◌≡◌, ℕ, ◌+◌, true, List, [], ◌∷◌, ◌++◌, refl, sym, ap, ◌∙◌, subst, append-nil}
 use Rattle.std.specs.List.{list_all}
 use Rattle.std.proofs.lemmas.List.Elements.{filter-append}
 use Rattle.qc_event.specs.declared.event.Entry.{Entry}
@@ -7,11 +7,13 @@ use Rattle.qc_event.specs.History.{Past, children}
 use Rattle.qc_script.specs.Client.{Client, mine, is_own}
 use Rattle.qc_script.specs.Numbers.{each, own_next}
 use Rattle.qc_script.specs.Calls.{is_over}
-use Rattle.qc_script.specs.Plan.{Numbered}
+use Rattle.qc_script.specs.Plan.{Numbered, SessionPlan}
 use Rattle.qc_interp.specs.Adding.{is_of_one, own_after, starts_for, stays_in, AllStayIn}
 use Rattle.qc_interp.specs.Reach.{Reach}
 use Rattle.qc_interp.specs.Session.{tops, EndsTopsAt, InTurnAt}
 use Rattle.qc_interp.specs.Turns.{is_alone, takes_turn}
+use Rattle.qc_interp.specs.FollowsScript.{EachRuns, BeginsScript}
+use Rattle.qc_interp.proofs.TopsRun.{none_begun}
 use Rattle.qc_interp.proofs.Adding.{after_stay, numbers_stay}
 
 module _ (c : Client) (before now : Past) (none : mine c before ≡ []) where
@@ -40,3 +42,22 @@ module _ (c : Client) (before now : Past) (none : mine c before ≡ []) where
     where
       all_mine : mine c now ≡ mine c ran.later.newer
       all_mine = ap (mine c) ran.later.grown ∙ filter-append (λ (e : Entry). is_own c e.seat) ran.later.newer before ∙ ap (λ h. mine c ran.later.newer ++ h) none ∙ append-nil (mine c ran.later.newer)
+
+-- WHERE NO ONE MADE ANYTHING
+
+each_begins : (session patience : ℕ) (sessions : List SessionPlan) → EachRuns Reach.cut_off session patience sessions []
+each_begins session patience [] = tt
+each_begins session patience (s ∷ sessions) = (
+  record { bodies_run = none_begun session [] s.tops; in_turn = record { turns = refl; seats = refl; in_order = refl }; messages = refl },
+  each_begins (session + 1) patience sessions,
+)
+
+-- The empty history is a beginning of any script.
+pub begins_none : (epoch patience : ℕ) (sessions : List SessionPlan) → BeginsScript epoch patience sessions []
+begins_none epoch patience sessions = record {
+  only = refl;
+  each_runs = each_begins 0 patience sessions;
+  numbers = refl;
+  as_asked = λ n by is. absurd cc;
+  each_settled = tt;
+}

@@ -1,15 +1,17 @@
 -- What is left of the steps of a transaction after some of them.
-use Rattle.std.proofs.Common.{◌≡◌, ℕ, ◌+◌, ◌<◌, ◌≤◌, List, drop, length, get_or, sym, ap, subst}
+use Rattle.std.proofs.Common.{◌≡◌, ℕ, ◌+◌, ◌<◌, ◌≤◌, List, [], ◌++◌, drop, length, get_or, sym, ap, ◌∙◌, subst}
 use Rattle.std.proofs.lemmas.List.{drop_all}
 use Rattle.qc_event.specs.History.{Past, Name}
 use Rattle.qc_script.specs.declared.script.Step.{Step}
-use Rattle.qc_script.specs.Client.{Client, IsLater}
+use Rattle.qc_script.specs.Client.{Client, Made, IsLater}
 use Rattle.qc_script.specs.Plan.{Plan, PlanFits}
 use Rattle.qc_script.specs.Steps.{put, plan_of}
 use Rattle.qc_interp.specs.Reach.{Reach}
 use Rattle.qc_interp.specs.declared.stops.Finish.{Finish}
 use Rattle.qc_interp.specs.Running.{Runs, Leaves, EndsAt, Ends, Ended, WentOn, CutOff}
-use Rattle.qc_interp.proofs.Ending.{leaves_itself, leaves_trans}
+use Rattle.qc_interp.specs.Deeds.{deeds}
+use Rattle.qc_interp.proofs.Asked.{asked_made, asked_trans}
+use Rattle.qc_interp.proofs.Ending.{leaves_trans, still, leaves_still, runs_still}
 use Rattle.qc_interp.proofs.Growth.{later_trans}
 use Rattle.qc_interp.proofs.Plans.{plan_at, fits_at}
 
@@ -20,8 +22,15 @@ pub record StepsLeft (c : Client) (of : Name) (steps : List Step) (before now : 
   pub front : (reach : Reach) (x : Past) → IsLater c now x → EndsAt reach c of now x (plan_of (drop i steps)) → EndsAt reach c of before x (plan_of steps)
 
 module _ (c : Client) (of : Name) (steps : List Step) where
-  pub none_done : (now : Past) → Runs c of now → PlanFits c.setting (length of) (plan_of steps) → StepsLeft c of steps now now 0
-  none_done now runs fits = record { leaves = leaves_itself c of now runs.legal; runs = runs; fits = fits; front = λ reach x later ends. ends }
+  pub none_done : (before now : Past) → Runs c of before → Made c [] before now → PlanFits c.setting (length of) (plan_of steps) → StepsLeft c of steps before now 0
+  none_done before now runs m fits = record {
+    leaves = leaves_still c of before now m;
+    runs = runs_still c of before now m runs;
+    fits = fits;
+    front = λ reach x later ends ours.
+        let e = ends ours in
+        (e.0, e.1 ∙ ap (λ h. deeds h of ++ e.0) (still c of before now m), e.2, asked_trans c before now x _ (asked_made c [] before now _ m tt) e.3);
+  }
 
   module _ (before now next : Past) (i : ℕ) (s : Step) (left : StepsLeft c of steps before now i) (below : i < length steps) (is : s ≡ get_or steps i s) where
     pub fits_step : PlanFits c.setting (length of) (put s Plan.done)

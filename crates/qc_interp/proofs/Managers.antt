@@ -16,12 +16,14 @@ use Rattle.qc_event.proofs.LastNumber.{child_last, child_longer, no_child_length
 use Rattle.qc_event.proofs.Lawful.{lawful, child_starts, ends_open}
 use Rattle.qc_event.proofs.LegalOrderly.{legal_orderly}
 use Rattle.qc_event.proofs.Lineage.{fresh_child, IsFresh}
-use Rattle.qc_event.proofs.OneEntry.{start_is, end_now, stays_some, some_or_none, not_some, child_added, both_empty}
+use Rattle.qc_event.proofs.OneEntry.{start_is, end_now, stays_some, some_or_none, not_some, none_before, both_empty}
 use Rattle.qc_event.proofs.Orderly.{KeepsOrder}
 use Rattle.qc_event.proofs.Later.{earlier_legal, start_still}
 use Rattle.qc_script.specs.Calls.{Ran, WasCut, IsOfAccess, AreOfAccesses, by_client}
 use Rattle.qc_script.specs.Client.{Client, mine, is_own, Made, IsLater}
 use Rattle.qc_interp.proofs.Growth.{FirstMade, first_made, made_is, made_later}
+use Rattle.qc_interp.specs.Deeds.{Deed, deeds}
+use Rattle.qc_interp.proofs.Deeds.{Silent, start_silent, deeds_quiet, child_deed, no_deeds}
 use Rattle.qc_interp.proofs.Mine.{kept_some}
 use Rattle.qc_interp.proofs.Adding.{all_both, start_stays_in, accesses_stay, child_top}
 use Rattle.qc_interp.proofs.Turning.{InTurn, Alone, start_turns, access_turns, end_turns, own_actor, alone_up, some_done}
@@ -48,16 +50,16 @@ all_wider P Q [] step h = h
 all_wider P Q (e ∷ es) step h = (step e h.0, all_wider P Q es step h.1)
 
 module _ (m p : Name) (shorter : length p < length m) where
-  access_child : (ev : Event) → IsOfAccess m ev → child_in p ev ≡ None
-  access_child (event.Start n k) h = if_not (is_child p n) (Some n) (no_child_length p n (λ l. omega (arith, l, child_longer m n h.0, shorter)))
-  access_child (event.Ask ask) h = refl
-  access_child (event.Gone n why) h = refl
-  access_child (event.Granted copy grant) h = refl
-  access_child (event.Refused n copy refusal) h = refl
-  access_child (event.Unable n why) h = refl
-  access_child (event.Mark n session) h = refl
-  access_child (event.Ready n) h = refl
-  access_child (event.End n how) h = refl
+  access_silent : (ev : Event) → IsOfAccess m ev → Silent p ev
+  access_silent (event.Start n k) h = start_silent p n k (no_child_length p n (λ l. omega (arith, l, child_longer m n h.0, shorter)))
+  access_silent (event.Ask ask) h = λ past. refl
+  access_silent (event.Gone n why) h = λ past. refl
+  access_silent (event.Granted copy grant) h = λ past. refl
+  access_silent (event.Refused n copy refusal) h = λ past. refl
+  access_silent (event.Unable n why) h = λ past. refl
+  access_silent (event.Mark n session) h = absurd h
+  access_silent (event.Ready n) h = λ past. refl
+  access_silent (event.End n how) h = λ past. refl
 
 access_end : (m p : Name) → length p < length m + 1 → (ev : Event) → IsOfAccess m ev → end_in p ev ≡ None
 access_end m p shorter (event.End n how) h = if_not (same n p) (Some how) (other_length n p (λ l. omega (arith, l, child_longer m n h.0, shorter)))
@@ -90,6 +92,10 @@ grouped (x ∷ a) mid b e = ap (λ l. x ∷ l) (grouped a mid b e)
 pub children_rest : (newer past : Past) (n : Name) → children (newer ++ past) n ≡ [] → children past n ≡ []
 children_rest [] past n h = h
 children_rest (e ∷ newer) past n h = children_rest newer past n (both_empty _ _ h).0
+
+pub start_rest : (newer past : Past) (n : Name) → start (newer ++ past) n ≡ None → start past n ≡ None
+start_rest [] past n h = h
+start_rest (e ∷ newer) past n h = start_rest newer past n (none_before (start (newer ++ past) n) _ h).0
 
 module _ (c : Client) where
   pub absent : {Y : Type 0} (f : Entry → Option Y) (mid before : Past) → earliest f (mid ++ before) ≡ None → earliest f (mine c before) ≡ None
@@ -132,6 +138,7 @@ module _ (c : Client) where
   -- a child that started meanwhile was new, and is there
   pub record NewChild (of n : Name) (k : Kind) (before now : Past) : Type 0 where
     pub fresh : IsFresh (mine c before) n
+    pub idle : deeds (mine c before) n ≡ []
     pub started : start now n ≡ Some (record { seat = c.number; kind = k })
 
   pub new_child : (es fs : Past) (of n : Name) (k : Kind) (before now : Past) → 0 < length of → is_child of n ≡ true → Made c (es ++ by_client c (event.Start n k) ∷ fs) before now → NewChild of n k before now
@@ -142,8 +149,10 @@ module _ (c : Client) where
       let begun = child_starts (at.mid ++ before) (by_client c (event.Start n k)) of l.0 nonroot (k, ap (λ x. event.Start x k) l.1) keeps in
       let low = lawful (at.mid ++ before) (legal_orderly c.setting _ at.legal.0) in
       let was : IsFresh (at.mid ++ before) n = subst (IsFresh (at.mid ++ before)) (sym l.1) (fresh_child (at.mid ++ before) of l.0 [] low nonroot (omega (arith, begun.next))) in
+      let childless = children_rest at.mid before n was.no_children in
       record {
-        fresh = record { no_start = absent _ at.mid before was.no_start; no_end = absent _ at.mid before was.no_end; no_children = none_kept before n (children_rest at.mid before n was.no_children) };
+        fresh = record { no_start = absent _ at.mid before was.no_start; no_end = absent _ at.mid before was.no_end; no_children = none_kept before n childless };
+        idle = no_deeds (λ (e : Entry). is_own c e.seat) c.setting before n (earlier_legal c.setting at.mid before at.legal.0) (start_rest at.mid before n was.no_start) childless;
         started = ap (λ h. start h n) at.is ∙ start_still at.after _ n _ (start_is (by_client c (event.Start n k)) (at.mid ++ before) n k was.no_start refl);
       }
 
@@ -189,14 +198,14 @@ module _ (c : Client) where
       same_ready_running =
           ap is_some (found_quiet _ inner (begins ∷ h0) (all_wider _ _ inner (λ e. access_ready m p e.event) of_accesses) ∙ found_quiet _ (begins ∷ []) h0 (refl, tt))
 
-      inner_quiet : children running p ≡ children (begins ∷ h0) p
-      inner_quiet = children_quiet p inner (begins ∷ h0) (all_wider _ _ inner (λ e. access_child m p (omega (arith, longer, short)) e.event) of_accesses)
+      inner_quiet : deeds running p ≡ deeds (begins ∷ h0) p
+      inner_quiet = deeds_quiet p inner (begins ∷ h0) (all_wider (λ e. IsOfAccess m e.event) (λ e. Silent p e.event) inner (λ e. access_silent m p (omega (arith, longer, short)) e.event) of_accesses)
 
-      pub same_children_running : 0 < length r → children running p ≡ children h0 p
-      same_children_running far = inner_quiet ∙ children_quiet p (begins ∷ []) h0 (if_not (is_child p m) (Some m) (no_child_length p m (λ l. omega (arith, l, longer, short, far))), tt)
+      pub same_deeds_running : 0 < length r → deeds running p ≡ deeds h0 p
+      same_deeds_running far = inner_quiet ∙ deeds_quiet p (begins ∷ []) h0 (start_silent p m k (no_child_length p m (λ l. omega (arith, l, longer, short, far))), tt)
 
-    pub children_running : children running of ≡ children h0 of ++ m ∷ []
-    children_running = inner_quiet of [] (sym (append-nil of)) ∙ child_added begins h0 of m k refl is_one
+    pub deeds_running : deeds running of ≡ deeds h0 of ++ Deed.child m ∷ []
+    deeds_running = inner_quiet of [] (sym (append-nil of)) ∙ child_deed begins h0 of m k refl is_one
 
     pub turns_running : InTurn h0 → Alone h0 of → InTurn running × Alone running m
     turns_running turns alone =
@@ -219,8 +228,8 @@ module _ (c : Client) where
     pub end : end (mine c now) m ≡ Some how
     pub started : start now m ≡ Some (record { seat = c.number; kind = k })
     pub ended : Rattle.qc_event.specs.History.end now m ≡ Some how
-    pub children : children (mine c now) of ≡ children (mine c before) of ++ m ∷ []
-    pub same_children : (p r : Name) → of ≡ p ++ r → 0 < length r → Rattle.qc_event.specs.History.children (mine c now) p ≡ Rattle.qc_event.specs.History.children (mine c before) p
+    pub deeds : deeds (mine c now) of ≡ deeds (mine c before) of ++ Deed.child m ∷ []
+    pub same_deeds : (p r : Name) → of ≡ p ++ r → 0 < length r → Rattle.qc_interp.specs.Deeds.deeds (mine c now) p ≡ Rattle.qc_interp.specs.Deeds.deeds (mine c before) p
     pub same_end : (p r : Name) → of ≡ p ++ r → Rattle.qc_event.specs.History.end (mine c now) p ≡ Rattle.qc_event.specs.History.end (mine c before) p
     pub same_ready : (p r : Name) → of ≡ p ++ r → is_ready (mine c now) p ≡ is_ready (mine c before) p
 
@@ -274,8 +283,8 @@ module _ (c : Client) where
         ∙ ap is_some (found_quiet _ (ends ∷ []) h1 (refl, tt))
         ∙ same_ready_running of m k ran.inner h0 ran.is_one new.fresh ran.of_accesses p r above
 
-    end_quiet : (p : Name) → children (mine c now) p ≡ children h1 p
-    end_quiet p = ap (λ h. children h p) now_is ∙ children_quiet p (ends ∷ []) h1 (refl, tt)
+    end_quiet : (p : Name) → deeds (mine c now) p ≡ deeds h1 p
+    end_quiet p = ap (λ h. deeds h p) now_is ∙ deeds_quiet p (ends ∷ []) h1 ((λ past. refl), tt)
 
     turns_is : InTurn (mine c before) → Alone (mine c before) of → InTurn (mine c now) × Alone (mine c now) of
     turns_is turns alone =
@@ -299,8 +308,8 @@ module _ (c : Client) where
       end = end_is;
       started = new.started;
       ended = ended_is;
-      children = end_quiet of ∙ children_running of m k ran.inner h0 ran.is_one new.fresh ran.of_accesses;
-      same_children = λ p r above far. end_quiet p ∙ same_children_running of m k ran.inner h0 ran.is_one new.fresh ran.of_accesses p r above far;
+      deeds = end_quiet of ∙ deeds_running of m k ran.inner h0 ran.is_one new.fresh ran.of_accesses;
+      same_deeds = λ p r above far. end_quiet p ∙ same_deeds_running of m k ran.inner h0 ran.is_one new.fresh ran.of_accesses p r above far;
       same_end = same_end_at;
       same_ready = same_ready_at;
     }
@@ -314,8 +323,8 @@ module _ (c : Client) where
     pub asked : AllAsked c before now NoOne
     pub kind : kind_of (mine c now) m ≡ Some k
     pub end : end (mine c now) m ≡ None
-    pub children : children (mine c now) of ≡ children (mine c before) of ++ m ∷ []
-    pub same_children : (p r : Name) → of ≡ p ++ r → 0 < length r → Rattle.qc_event.specs.History.children (mine c now) p ≡ Rattle.qc_event.specs.History.children (mine c before) p
+    pub deeds : deeds (mine c now) of ≡ deeds (mine c before) of ++ Deed.child m ∷ []
+    pub same_deeds : (p r : Name) → of ≡ p ++ r → 0 < length r → Rattle.qc_interp.specs.Deeds.deeds (mine c now) p ≡ Rattle.qc_interp.specs.Deeds.deeds (mine c before) p
     pub same_end : (p r : Name) → of ≡ p ++ r → Rattle.qc_event.specs.History.end (mine c now) p ≡ Rattle.qc_event.specs.History.end (mine c before) p
     pub same_ready : (p r : Name) → of ≡ p ++ r → is_ready (mine c now) p ≡ is_ready (mine c before) p
 
@@ -327,8 +336,8 @@ module _ (c : Client) where
     asked = asked_made c _ before now NoOne cut.made (accesses_unasked cut.manager cut.inner (by_client c (event.Start cut.manager k) ∷ []) cut.of_accesses (tt, tt));
     kind = ap (λ h. kind_of h cut.manager) now_is ∙ kind_running of cut.manager k cut.inner (mine c before) cut.is_one new.fresh cut.of_accesses;
     end = ap (λ h. end h cut.manager) now_is ∙ end_running of cut.manager k cut.inner (mine c before) cut.is_one new.fresh cut.of_accesses;
-    children = ap (λ h. children h of) now_is ∙ children_running of cut.manager k cut.inner (mine c before) cut.is_one new.fresh cut.of_accesses;
-    same_children = λ p r above far. ap (λ h. children h p) now_is ∙ same_children_running of cut.manager k cut.inner (mine c before) cut.is_one new.fresh cut.of_accesses p r above far;
+    deeds = ap (λ h. deeds h of) now_is ∙ deeds_running of cut.manager k cut.inner (mine c before) cut.is_one new.fresh cut.of_accesses;
+    same_deeds = λ p r above far. ap (λ h. deeds h p) now_is ∙ same_deeds_running of cut.manager k cut.inner (mine c before) cut.is_one new.fresh cut.of_accesses p r above far;
     same_end = λ p r above. ap (λ h. end h p) now_is ∙ same_end_running of cut.manager k cut.inner (mine c before) cut.is_one new.fresh cut.of_accesses p r above;
     same_ready = λ p r above. ap (λ h. is_ready h p) now_is ∙ same_ready_running of cut.manager k cut.inner (mine c before) cut.is_one new.fresh cut.of_accesses p r above;
   }

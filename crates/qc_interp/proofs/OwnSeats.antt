@@ -14,10 +14,12 @@ use Rattle.qc_event.specs.Base.{Setting}
 use Rattle.qc_event.specs.History.{Past, Name, Begun, start, start_in, children, is_child, same}
 use Rattle.qc_event.specs.Legal.{Legal, MayHappen}
 use Rattle.qc_event.specs.Seats.{is_client}
+use Rattle.qc_event.specs.Standing.{IsUser}
 use Rattle.qc_event.proofs.Absent.{same_is}
 use Rattle.qc_event.proofs.LastNumber.{length_last}
 use Rattle.qc_event.proofs.LegalOrderly.{legal_orderly}
 use Rattle.qc_event.proofs.OneEntry.{first_is, start_stays, start_now}
+use Rattle.qc_event.proofs.Options.{some_match}
 use Rattle.qc_event.proofs.Orderly.{KeepsOrder, IsNextChild}
 use Rattle.qc_event.proofs.Booleans.{all_wider}
 use Rattle.qc_names.specs.Name as name
@@ -123,6 +125,10 @@ seats_kept c s ts (e ∷ past) legal single its tops =
     by_event (event.Start (x ∷ []) k) is seat under low =
         subst (λ n. list_all (is_under h n) (tops_of s h) ≡ true) seat (all_wider (λ t. is_some (start h t)) (is_under h c.number) (tops_of s h) (λ t some. under_started c.number h t under some) (tops_started s h))
     by_event (event.Start (x ∷ y ∷ r) k) is seat under low = subst (λ n. is_under h n (name.front (x ∷ y ∷ r)) ≡ true) seat (parent_under x y r k is low under)
+    by_event (event.Mark n session) is seat under low =
+        let may : MayHappen c.setting past e.seat (event.Mark n session) = subst (MayHappen c.setting past e.seat) is legal.1 in
+        let kept = earliest_kept (is_of ts) (λ e. start_in n e.seat e.event) past (start_answers c.setting ts n past legal.0 low) in
+        subst (λ k. is_under h k n ≡ true) seat (under_started c.number h n under (ap is_some kept ∙ some_match (start past n) (λ b. IsUser b.kind) may.by_user))
     by_event _ is seat under low = refl
 
     by_test : (b : Bool) → is_of ts e ≡ b → each (keeps_seat s) h ≡ true → AllUnder c.number h → each (keeps_seat s) (if b then e ∷ h else h) ≡ true

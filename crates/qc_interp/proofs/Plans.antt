@@ -58,6 +58,9 @@ put_abort levels = ap put (sym (step.rolls-Abort levels)) ∙ fold-roll-Step (Pl
 pub put_crash : (copy : ℕ) → put (step.Crash copy) ≡ Plan.crash_then copy
 put_crash copy = ap put (sym (step.rolls-Crash copy)) ∙ fold-roll-Step (Plan → Plan) Numbered before layer (Step-F.Crash copy)
 
+pub put_kill : (session : ℕ) → put (step.Kill session) ≡ Plan.kill_then session
+put_kill session = ap put (sym (step.rolls-Kill session)) ∙ fold-roll-Step (Plan → Plan) Numbered before layer (Step-F.Kill session)
+
 -- a number that falls from the tries of a child to each of them, from a body to its steps, and from steps to each
 abbrev pub weight : Plan → ℕ
 weight Plan.done = 0
@@ -65,6 +68,7 @@ weight (Plan.manage_by k next) = weight (next answer.Nothing)
 weight (Plan.child_then number tries must inner rest) = weight inner + weight rest + 5
 weight (Plan.abort_then levels rest) = weight rest
 weight (Plan.crash_then copy rest) = weight rest
+weight (Plan.kill_then session rest) = weight rest
 
 -- one step as it is open
 layered : (s : Step) → put s ≡ before (map-Step Step Body (Plan → Plan) Numbered put numbered (out-Step s))
@@ -85,6 +89,7 @@ lighter (Step-F.Reconf rec config) rest = omega arith
 lighter (Step-F.Child body) rest = omega arith
 lighter (Step-F.Abort levels) rest = omega arith
 lighter (Step-F.Crash copy) rest = omega arith
+lighter (Step-F.Kill session) rest = omega arith
 
 alone : (s : Step-F (Plan → Plan) Numbered) (rest : Plan) → weight (before s Plan.done) ≤ weight (before s rest)
 alone (Step-F.Read rec) rest = omega arith
@@ -96,6 +101,7 @@ alone (Step-F.Reconf rec config) rest = omega arith
 alone (Step-F.Child body) rest = omega arith
 alone (Step-F.Abort levels) rest = omega arith
 alone (Step-F.Crash copy) rest = omega arith
+alone (Step-F.Kill session) rest = omega arith
 
 pub rest_lighter : (j : ℕ) (steps : List Step) → weight (plan_of (drop j steps)) ≤ weight (plan_of steps)
 rest_lighter zero steps = omega arith
@@ -138,6 +144,7 @@ fits_layer setting depth (Step-F.Reconf rec config) rest h = ((h.0, λ given. tt
 fits_layer setting depth (Step-F.Child body) rest h = ((h.0, h.1, h.2, tt), h.3)
 fits_layer setting depth (Step-F.Abort levels) rest h = ((h.0, tt), h.1)
 fits_layer setting depth (Step-F.Crash copy) rest h = ((h.0, tt), h.1)
+fits_layer setting depth (Step-F.Kill session) rest h = ((h.0, tt), h.1)
 
 pub fits_at : (setting : Setting) (depth : ℕ) (steps : List Step) (i : ℕ) (s : Step) → i < length steps → s ≡ get_or steps i s → PlanFits setting depth (plan_of (drop i steps)) → PlanFits setting depth (put s Plan.done) × PlanFits setting depth (plan_of (drop (i + 1) steps))
 fits_at setting depth steps i s below is h =

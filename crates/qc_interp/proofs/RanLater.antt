@@ -1,5 +1,5 @@
 -- What a client ran stands where others' entries come after its last call, and what came to its end has begun.
-use Rattle.std.proofs.Common.{◌≡◌, ◌+◌, ℕ, true, List, [], ◌∷◌, ◌++◌, refl, sym, ap, ◌∙◌, subst, append-nil}
+use Rattle.std.proofs.Common.{◌≡◌, ℕ, true, List, [], ◌∷◌, ◌++◌, refl, sym, ap, ◌∙◌, subst, append-nil}
 use Rattle.std.specs.Prelude.{None}
 use Rattle.std.specs.List.{AllByRecursion, list_all}
 use Rattle.std.proofs.lemmas.Bool.{and_parts}
@@ -15,11 +15,11 @@ use Rattle.qc_script.specs.Numbers.{each}
 use Rattle.qc_script.specs.Plan.{Numbered, SessionPlan}
 use Rattle.qc_interp.specs.Adding.{is_of_one, stays_in, starts_for, all_over, AllStayIn}
 use Rattle.qc_interp.specs.Asking.{BodiesAsk, IsAskedBy}
+use Rattle.qc_interp.specs.Deeds.{deeds}
 use Rattle.qc_interp.specs.Follows.{RunsBody, FollowsBody}
 use Rattle.qc_interp.specs.FollowsScript.{net_of}
 use Rattle.qc_interp.specs.Reach.{Reach, AtTheEnd}
 use Rattle.qc_interp.specs.Session.{tops, NotBegun, AreAllOurs, RunsBodies, FollowsBodies, EndsTops, EndsTopsAt, InTurnAt}
-use Rattle.qc_interp.specs.Sessions.{is_unmarked}
 use Rattle.qc_interp.specs.Together.{IsSingle, HasRun}
 use Rattle.qc_interp.specs.Turns.{takes_turn, is_alone}
 use Rattle.qc_interp.proofs.Adding.{numbers_stay, after_stay, all_over_more}
@@ -82,9 +82,8 @@ turns_later reach c seen newer none legal ran = record {
 
 pub has_run_later : (reach : Reach) (setting : Setting) (session epoch patience : ℕ) (c : Client) (plan : SessionPlan) (seen newer : Past)
     → c.session ≡ session → c.epoch ≡ epoch → c.setting ≡ setting → IsSingle c → EndsTopsAt reach c [] seen plan.tops → InTurnAt reach c [] seen → mine c newer ≡ [] → Legal c.setting (newer ++ seen)
-    → meets_fates c.number (net_of patience plan) (newer ++ seen) ≡ true → AllByRecursion (λ (e : Entry). is_own c e.seat ≡ true → is_unmarked e.event ≡ true) (newer ++ seen)
-    → HasRun reach setting session epoch patience c plan (newer ++ seen)
-has_run_later reach setting session epoch patience c plan seen newer session_is epoch_is setting_is single ends ran none legal met unmarked = record {
+    → meets_fates c.number (net_of patience plan) (newer ++ seen) ≡ true → HasRun reach setting session epoch patience c plan (newer ++ seen)
+has_run_later reach setting session epoch patience c plan seen newer session_is epoch_is setting_is single ends ran none legal met = record {
   session_is = session_is;
   epoch_is = epoch_is;
   setting_is = setting_is;
@@ -92,14 +91,13 @@ has_run_later reach setting session epoch patience c plan seen newer session_is 
   ends = ends_later reach c seen newer plan.tops none legal ends;
   in_turn = turns_later reach c seen newer none legal ran;
   met = met;
-  unmarked = unmarked;
 }
 
 -- WHAT CAME TO ITS END HAS BEGUN
 
 module _ (s : ℕ) (past : Past) where
   body_begins : (b : Numbered) (t : Name) → FollowsBody s past b t → RunsBody Reach.cut_off s past b t
-  body_begins b t follows = record { kind = follows.kind; steps = follows_runs Reach.cut_off s past t b.plan (children past t) (end past t) follows.steps }
+  body_begins b t follows = record { kind = follows.kind; steps = follows_runs Reach.cut_off s past t b.plan (deeds past t) (end past t) follows.steps }
 
   bodies_begin : (bodies : List Numbered) (ts : List Name) → FollowsBodies s past bodies ts → RunsBodies Reach.cut_off s past bodies ts
   bodies_begin [] [] h = h

@@ -1,7 +1,7 @@
 -- Who follows a plan by what a client made follows it by what was seen, where all about its top is the client's.
 use Rattle.std.proofs.Common.{◌≡◌, inl, inr, ℕ, ◌<◌, Bool, true, false, List, [], ◌∷◌, ◌++◌, length, take, refl, sym, ap, ◌∙◌, subst, append-nil, arith}
 use mathlib.Core.Bool.{true≢false}
-use Rattle.std.specs.Prelude.{Option, None, Some, is_some, not, ◌&&◌, ◌||◌, if◌then◌else◌, option_map, option_to_list}
+use Rattle.std.specs.Prelude.{◌==◌, Option, None, Some, MatchBool, is_some, not, ◌&&◌, ◌||◌, if◌then◌else◌, option_map, option_to_list}
 use Rattle.std.specs.List.{AllByRecursion}
 use Rattle.std.specs.Option.{option_or}
 use Rattle.qc_event.specs.declared.event.Answer.{Answer}
@@ -10,7 +10,7 @@ use Rattle.qc_event.specs.declared.event.Event.{Event}
 use Rattle.qc_event.specs.declared.event.Event.TheVariants as event
 use Rattle.qc_event.specs.declared.event.How.{How}
 use Rattle.qc_event.specs.declared.event.How.TheVariants.{Commit, Abort}
-use Rattle.qc_event.specs.History.{Past, Name, Begun, earliest, start, end, end_in, is_ready, children, child_in, is_child, kind_of, same}
+use Rattle.qc_event.specs.History.{Past, Name, Begun, earliest, start, end, end_in, is_ready, is_child, kind_of, same}
 use Rattle.qc_event.specs.Legal.{Legal}
 use Rattle.qc_event.proofs.Lawful.{ends_open}
 use Rattle.qc_event.proofs.LegalOrderly.{legal_orderly}
@@ -19,7 +19,10 @@ use Rattle.qc_event.proofs.LastNumber.{child_last, child_longer, below_more}
 use Rattle.qc_event.proofs.OneEntry.{starting, ending, marking, some_or_none, not_some, all_children}
 use Rattle.qc_names.specs.Name as name
 use Rattle.qc_script.specs.Client.{Client, mine, is_own, concerns, is_commit, AreOurs, all_ours}
-use Rattle.qc_interp.specs.Follows.{Stops, HasNotEnded, GoesOn, GoesOnAfter, AfterTries, Commits, RunsPlan}
+use Rattle.qc_interp.specs.Deeds.{Deed, deed_in, deeds, deed_end, OfChild}
+use Rattle.qc_interp.specs.Turns.{is_done}
+use Rattle.qc_interp.proofs.Deeds.{Silent, mark_silent, begun, children_are}
+use Rattle.qc_interp.specs.Follows.{Stops, HasNotEnded, StopsBefore, WasAsked, WasKilled, GoesOn, GoesOnAfter, AfterTries, Commits, RunsPlan}
 use Rattle.qc_interp.specs.Reach.{Reach}
 use Rattle.qc_script.specs.Plan.{Plan}
 use Rattle.qc_interp.specs.Asking.{DoesOn, DoesAfter, Asks}
@@ -27,23 +30,20 @@ use Rattle.qc_interp.specs.Tries.{is_tried_again}
 use Rattle.qc_interp.proofs.Mine.{kept_some, some_is}
 use Rattle.qc_interp.proofs.Growth.{implied, own_found}
 use Rattle.qc_interp.proofs.Adding.{at_top}
-use Rattle.qc_interp.proofs.Still.{plan_committed}
+use Rattle.qc_interp.proofs.Ending.{committed_ready}
+use Rattle.qc_interp.proofs.Still.{IsTryOf, plan_committed}
 use Rattle.qc_interp.proofs.TriesAlike.{AreAlike, IfAny, tries_alike, tries_do_alike}
 use Rattle.std.proofs.Math.Bool.{and-false}
 use Rattle.std.proofs.lemmas.Bool.{and_parts}
 use Rattle.qc_event.specs.declared.event.Cause.{Cause}
-use Rattle.qc_event.proofs.Absent.{other_length}
+use Rattle.qc_event.specs.declared.event.Cause.TheVariants as cause
+use Rattle.qc_event.specs.declared.event.Kind.{Kind}
+use Rattle.qc_event.proofs.Absent.{same_is, other_length}
 
 below_child : (a n c : Name) → name.is_ancestor a n ≡ true → is_child n c ≡ true → name.is_ancestor a c ≡ true
 below_child a n c h child = let l = child_last n c child in ap (name.is_ancestor a) l.1 ∙ below_more a n (l.0 ∷ []) h
 
 module _ (c : Client) (of : Name) (past : Past) (ours : AreOurs c of past) where
-  abbrev top : Name
-  top = take 1 of
-
-  abbrev made : Past
-  made = mine c past
-
   same_found : {Y : Type 0} (f : Entry → Option Y) → ((e : Entry) (y : Y) → f e ≡ Some y → concerns (take 1 of) e.event ≡ true) → earliest f (mine c past) ≡ earliest f past
   same_found {Y = Y} f about = by_past (earliest f past) refl
     where
@@ -59,167 +59,11 @@ module _ (c : Client) (of : Name) (past : Past) (ours : AreOurs c of past) where
     pub same_kind : kind_of (mine c past) n ≡ kind_of past n
     same_kind = ap (option_map (λ (b : Begun). b.kind)) same_start
 
-    same_ready : is_ready (mine c past) n ≡ is_ready past n
+    pub same_ready : is_ready (mine c past) n ≡ is_ready past n
     same_ready = ap is_some (same_found _ (λ e y h. subst (λ ev. concerns (take 1 of) ev ≡ true) (sym (marking n e.event (ap is_some h))) low))
 
-    same_end : same n (take 1 of) ≡ false → end (mine c past) n ≡ end past n
+    pub same_end : same n (take 1 of) ≡ false → end (mine c past) n ≡ end past n
     same_end apart = same_found _ (λ e how h. subst (λ ev. concerns (take 1 of) ev ≡ true) (sym (ending n e.event how h)) (ap (λ b. name.is_ancestor (take 1 of) n && not (b && is_commit how)) apart ∙ ap (λ b. b && true) low))
-
-  same_children : (n : Name) → name.is_ancestor (take 1 of) n ≡ true → children (mine c past) n ≡ children past n
-  same_children n low = by_past past ours
-    where
-      by_event : (ev : Event) (own : Bool) → (not (concerns (take 1 of) ev) || own) ≡ true → own ≡ false → child_in n ev ≡ None
-      by_event (event.Start m k) own h other = by_test (is_child n m) refl
-        where
-          by_test : (b : Bool) → is_child n m ≡ b → (if b then Some m else None) ≡ None
-          by_test false is = refl
-          by_test true is = absurd (true≢false (sym (implied (concerns (take 1 of) (event.Start m k)) own h (below_child (take 1 of) n m low is)) ∙ other))
-      by_event (event.Ask ask) own h other = refl
-      by_event (event.Gone m why) own h other = refl
-      by_event (event.Granted copy grant) own h other = refl
-      by_event (event.Refused m copy refusal) own h other = refl
-      by_event (event.Unable m why) own h other = refl
-      by_event (event.Mark m session) own h other = refl
-      by_event (event.Ready m) own h other = refl
-      by_event (event.End m how) own h other = refl
-
-      by_past : (h : Past) → AreOurs c of h → children (mine c h) n ≡ children h n
-      by_past [] all = refl
-      by_past (e ∷ h) all =
-          let both = and_parts (not (concerns (take 1 of) e.event) || is_own c e.seat) (all_ours c of h) all in
-          by_test (is_own c e.seat) refl both.0 (by_past h both.1)
-        where
-          by_test : (b : Bool) → is_own c e.seat ≡ b → (not (concerns (take 1 of) e.event) || is_own c e.seat) ≡ true → children (mine c h) n ≡ children h n → children (if b then e ∷ mine c h else mine c h) n ≡ children h n ++ option_to_list (child_in n e.event)
-          by_test true is passes before = ap (λ l. l ++ option_to_list (child_in n e.event)) before
-          by_test false is passes before = before ∙ sym (ap (λ o. children h n ++ option_to_list o) (by_event e.event (is_own c e.seat) passes is) ∙ append-nil _)
-
-  -- below the top, and not the top
-  abbrev Low : Name → Type 0
-  Low n = (name.is_ancestor (take 1 of) n ≡ true) × (same n (take 1 of) ≡ false)
-
-  low_children : (n : Name) → name.is_ancestor (take 1 of) n ≡ true → 0 < length n → (cs : List Name) → AllByRecursion (λ x. is_child n x ≡ true) cs → AllByRecursion Low cs
-  low_children n low far [] all = tt
-  low_children n low far (x ∷ cs) all = ((below_child (take 1 of) n x low all.0, other_length x (take 1 of) (λ l. omega (arith, l, child_longer n x all.0, far, short of))), low_children n low far cs all.1)
-    where
-      short : (n : Name) → length (take 1 n) < 2
-      short [] = omega arith
-      short (x ∷ n) = omega arith
-
-  longer : (n : Name) → Low n → 0 < length n
-  longer [] low = absurd (by_top of low.1 low.0)
-    where
-      by_top : (n : Name) → same [] (take 1 n) ≡ false → name.is_ancestor (take 1 n) [] ≡ true → ⊥
-      by_top [] apart is = true≢false apart
-      by_top (x ∷ n) apart is = true≢false (sym is)
-  longer (x ∷ n) low = omega arith
-
-  again_low : (n : Name) → Low n → AreAlike (end made) (end past) n
-  again_low n low = ap is_tried_again (same_end n low.0 low.1)
-
-  stops_seen : (reach : Reach) (n : Name) (how : Option How) → name.is_ancestor (take 1 of) n ≡ true → Stops reach made n how → Stops reach past n how
-  stops_seen Reach.to_the_end n how low h = h
-  stops_seen Reach.cut_off n how low (inl h) = inl h
-  stops_seen Reach.cut_off n how low (inr h) = inr (h.0, sym (same_ready n low) ∙ h.1)
-
-  unended_seen : (reach : Reach) (n : Name) (how : Option How) → name.is_ancestor (take 1 of) n ≡ true → HasNotEnded reach made n how → HasNotEnded reach past n how
-  unended_seen Reach.to_the_end n how low h = h
-  unended_seen Reach.cut_off n how low (inl h) = inl h
-  unended_seen Reach.cut_off n how low (inr h) = inr (h.0, sym (same_ready n low) ∙ h.1)
-
-  goes_seen : (reach : Reach) (n : Name) (o : Option How) (Rest RestToo : Answer → Type 0) (further : List Name) (how : Option How) → name.is_ancestor (take 1 of) n ≡ true → ((given : Answer) → Rest given → RestToo given) → GoesOn reach made n o Rest further how → GoesOn reach past n o RestToo further how
-  goes_seen Reach.to_the_end n None Rest RestToo further how low step h = h
-  goes_seen Reach.cut_off n None Rest RestToo further how low step h = (h.0, unended_seen Reach.cut_off n how low h.1)
-  goes_seen reach n (Some (Commit given)) Rest RestToo further how low step h = step given h
-  goes_seen reach n (Some (Abort y)) Rest RestToo further how low step h = (
-    h.0,
-    elim h.1 [
-      | inl is ↦ inl is
-      | inr x ↦ inr (stops_seen reach n how low x)
-    ],
-  )
-
-  after_seen : (reach : Reach) (n child : Name) (o : Option How) (Rest RestToo : Type 0) (further : List Name) (how : Option How) → name.is_ancestor (take 1 of) n ≡ true → (Rest → RestToo) → GoesOnAfter reach made n child o Rest further how → GoesOnAfter reach past n child o RestToo further how
-  after_seen Reach.to_the_end n child None Rest RestToo further how low step h = h
-  after_seen Reach.cut_off n child None Rest RestToo further how low step h = (h.0, unended_seen Reach.cut_off n how low h.1)
-  after_seen reach n child (Some (Commit given)) Rest RestToo further how low step h = step h
-  after_seen reach n child (Some (Abort y)) Rest RestToo further how low step h = (
-    h.0,
-    elim h.1 [
-      | inl is ↦ inl is
-      | inr x ↦ inr (stops_seen reach n how low x)
-    ],
-  )
-
-  behind_seen : (reach : Reach) (n : Name) (last : Option Name) (must : Bool) (Rest RestToo : Type 0) (further : List Name) (how : Option How) → name.is_ancestor (take 1 of) n ≡ true → IfAny Low last → (Rest → RestToo) → AfterTries reach made n last must Rest further how → AfterTries reach past n last must RestToo further how
-  behind_seen reach n None must Rest RestToo further how low was step h = step h
-  behind_seen reach n (Some child) false Rest RestToo further how low was step h = step h
-  behind_seen reach n (Some child) true Rest RestToo further how low was step h =
-      subst (λ o. GoesOnAfter reach past n child o RestToo further how) (same_end child was.0 was.1) (after_seen reach n child (end made child) Rest RestToo further how low step h)
-
-  plan_seen : (reach : Reach) (s : ℕ) (n : Name) (plan : Plan) (cs : List Name) (how : Option How) → name.is_ancestor (take 1 of) n ≡ true → AllByRecursion Low cs → RunsPlan reach s made n plan cs how → RunsPlan reach s past n plan cs how
-  plan_seen reach s n Plan.done [] how low all (inl is) = inl (by_how how is)
-    where
-      by_how : (o : Option How) → Commits made n o → Commits past n o
-      by_how None h = sym (same_ready n low) ∙ h
-      by_how (Some (Commit given)) h = tt
-      by_how (Some (Abort x)) h = h
-  plan_seen reach s n Plan.done [] how low all (inr x) = inr (stops_seen reach n how low x)
-  plan_seen reach s n Plan.done (x ∷ cs) how low all h = absurd h
-  plan_seen reach s n (Plan.manage_by k next) [] how low all h = stops_seen reach n how low h
-  plan_seen reach s n (Plan.manage_by k next) (x ∷ cs) how low all h = (
-    sym (same_kind x all.0.0) ∙ h.0,
-    subst (λ o. GoesOn reach past n o (λ given. RunsPlan reach s past n (next given) cs how) cs how) (same_end x all.0.0 all.0.1)
-        (goes_seen reach n (end made x) (λ given. RunsPlan reach s made n (next given) cs how) (λ given. RunsPlan reach s past n (next given) cs how) cs how low (λ given. plan_seen reach s n (next given) cs how low all.1) h.1),
-  )
-  plan_seen reach s n (Plan.child_then number tries must inner rest) cs how low all h =
-      tries_alike (end made) (end past) _ _ (Stops reach made n how) (Stops reach past n how) (λ last further. AfterTries reach made n last must (RunsPlan reach s made n rest further how) further how)
-      (λ last further. AfterTries reach past n last must (RunsPlan reach s past n rest further how) further how) Low again_low (stops_seen reach n how low)
-      (λ x lx t. (
-        sym (same_kind x lx.0) ∙ t.0,
-        subst (λ o. RunsPlan reach s past x inner (children past x) o) (same_end x lx.0 lx.1)
-            (subst (λ xs. RunsPlan reach s past x inner xs (end made x)) (same_children x lx.0)
-            (plan_seen reach s x inner (children made x) (end made x) lx.0 (low_children x lx.0 (longer x lx) (children made x) (all_children made x)) t.1)),
-      ))
-      (λ last further was lf f. behind_seen reach n last must (RunsPlan reach s made n rest further how) (RunsPlan reach s past n rest further how) further how low was (plan_seen reach s n rest further how low lf) f) None tries cs tt all h
-  plan_seen reach s n (Plan.abort_then levels rest) [] how low all (inl is) = inl is
-  plan_seen reach s n (Plan.abort_then levels rest) [] how low all (inr x) = inr (unended_seen reach n how low x)
-  plan_seen reach s n (Plan.abort_then levels rest) (x ∷ cs) how low all h = absurd h
-  plan_seen reach s n (Plan.crash_then copy rest) cs how low all h = plan_seen reach s n rest cs how low all h
-
-  does_after_seen : (last : Option Name) (must : Bool) (Does DoesToo : Type 0) → IfAny Low last → (Does → DoesToo) → DoesAfter made last must Does → DoesAfter past last must DoesToo
-  does_after_seen None must Does DoesToo was step h = step h
-  does_after_seen (Some child) false Does DoesToo was step h = step h
-  does_after_seen (Some child) true Does DoesToo was step h = subst (λ o. DoesOn o (λ given. DoesToo)) (same_end child was.0 was.1) (by_end (end made child) h)
-    where
-      by_end : (o : Option How) → DoesOn o (λ given. Does) → DoesOn o (λ given. DoesToo)
-      by_end None g = g
-      by_end (Some (Commit given)) g = step g
-      by_end (Some (Abort y)) g = g
-
-  plan_asks_seen : (by target n : Name) (plan : Plan) (cs : List Name) → AllByRecursion Low cs → Asks made n plan cs by target → Asks past n plan cs by target
-  plan_asks_seen by target n Plan.done cs all h = absurd h
-  plan_asks_seen by target n (Plan.manage_by k next) [] all h = absurd h
-  plan_asks_seen by target n (Plan.manage_by k next) (x ∷ cs) all h =
-      subst (λ o. DoesOn o (λ given. Asks past n (next given) cs by target)) (same_end x all.0.0 all.0.1) (by_end (end made x) (λ given. plan_asks_seen by target n (next given) cs all.1) h)
-    where
-      by_end : (o : Option How) → ((given : Answer) → Asks made n (next given) cs by target → Asks past n (next given) cs by target)
-          → DoesOn o (λ given. Asks made n (next given) cs by target) → DoesOn o (λ given. Asks past n (next given) cs by target)
-      by_end None step g = g
-      by_end (Some (Commit given)) step g = step given g
-      by_end (Some (Abort y)) step g = g
-  plan_asks_seen by target n (Plan.child_then number tries must inner rest) cs all h =
-      tries_do_alike (end made) (end past) (λ x. Asks made x inner (children made x) by target) (λ x. Asks past x inner (children past x) by target) (λ last further. DoesAfter made last must (Asks made n rest further by target))
-      (λ last further. DoesAfter past last must (Asks past n rest further by target)) Low again_low
-      (λ x lx t. subst (λ xs. Asks past x inner xs by target) (same_children x lx.0) (plan_asks_seen by target x inner (children made x) (low_children x lx.0 (longer x lx) (children made x) (all_children made x)) t))
-      (λ last further was lf f. does_after_seen last must (Asks made n rest further by target) (Asks past n rest further by target) was (plan_asks_seen by target n rest further lf) f) None tries cs tt all h
-  plan_asks_seen by target n (Plan.abort_then levels rest) [] all h = h
-  plan_asks_seen by target n (Plan.abort_then levels rest) (x ∷ cs) all h = absurd h
-  plan_asks_seen by target n (Plan.crash_then copy rest) cs all h = plan_asks_seen by target n rest cs all h
-
-  -- what a step asked for by what the client made, it asked for by what was seen
-  pub asks_seen : (by target : Name) (plan : Plan) → 0 < length of → name.is_ancestor (take 1 of) of ≡ true → Asks made of plan (children made of) by target → Asks past of plan (children past of) by target
-  asks_seen by target plan far low h =
-      subst (λ xs. Asks past of plan xs by target) (same_children of low) (plan_asks_seen by target of plan (children made of) (low_children of low far (children made of) (all_children made of)) h)
 
 -- an end is entered once, so one that the client made is the end
 pub own_once : (c : Client) (past : Past) (n : Name) (how : How) → Legal c.setting past → end (mine c past) n ≡ Some how → end past n ≡ Some how
@@ -242,22 +86,299 @@ pub own_abort : (c : Client) (n : Name) (past : Past) (x : Cause) → AreOurs c 
 own_abort c n past x ours is =
     own_found c (λ e. end_in n e.event) (Abort x) n past (λ e g. subst (λ ev. concerns (take 1 n) ev ≡ true) (sym (ending n e.event (Abort x) g)) (ap (λ b. name.is_ancestor (take 1 n) n && not b) (and-false (same n (take 1 n))) ∙ ap (λ b. b && true) (at_top n))) ours is
 
+-- WHAT IS DONE AT AND BELOW THE TOP
+
+-- A top is done by what the client made where it is by what was seen: only its commit is not the client's, and it is ready
+-- then.
+done_top : (c : Client) (x : ℕ) (past : Past) → AreOurs c (x ∷ []) past → Legal c.setting past → is_done (mine c past) (x ∷ []) ≡ is_done past (x ∷ [])
+done_top c x past ours legal = by_end (end past (x ∷ [])) refl
+  where
+    ready : is_ready (mine c past) (x ∷ []) ≡ is_ready past (x ∷ [])
+    ready = same_ready c (x ∷ []) past ours (x ∷ []) (at_top (x ∷ []))
+
+    both_ready : (a b p q : Bool) → p ≡ true → q ≡ true → (a || p) ≡ (b || q)
+    both_ready a b p q first second = ap (λ z. a || z) first ∙ or_true a ∙ sym (ap (λ z. b || z) second ∙ or_true b)
+      where
+        or_true : (z : Bool) → (z || true) ≡ true
+        or_true true = refl
+        or_true false = refl
+
+    by_same : end (mine c past) (x ∷ []) ≡ end past (x ∷ []) → is_done (mine c past) (x ∷ []) ≡ is_done past (x ∷ [])
+    by_same is = ap (λ o. is_some o || is_ready (mine c past) (x ∷ [])) is ∙ ap (λ b. is_some (end past (x ∷ [])) || b) ready
+
+    by_end : (o : Option How) → end past (x ∷ []) ≡ o → is_done (mine c past) (x ∷ []) ≡ is_done past (x ∷ [])
+    by_end None is = by_same (not_some (end (mine c past) (x ∷ [])) (λ h. some_or_none (end past (x ∷ [])) (kept_some (λ (e : Entry). is_own c e.seat) _ past h) is) ∙ sym is)
+    by_end (Some (Abort y)) is = by_same (own_abort c (x ∷ []) past y ours is ∙ sym is)
+    by_end (Some (Commit given)) is =
+        let was = committed_ready c.setting past x given legal is in
+        both_ready (is_some (end (mine c past) (x ∷ []))) (is_some (end past (x ∷ []))) (is_ready (mine c past) (x ∷ [])) (is_ready past (x ∷ [])) (ready ∙ was) was
+
+done_alike : (c : Client) (of : Name) (past : Past) → AreOurs c of past → Legal c.setting past → 0 < length of → (n : Name) → name.is_ancestor (take 1 of) n ≡ true → is_done (mine c past) n ≡ is_done past n
+done_alike c of past ours legal far n low = by_top (same n (take 1 of)) refl
+  where
+    by_name : (m : Name) → 0 < length m → AreOurs c m past → n ≡ take 1 m → is_done (mine c past) n ≡ is_done past n
+    by_name [] long at is = let z : ⊥ = omega (arith, long) in absurd z
+    by_name (x ∷ r) long at is = subst (λ y. is_done (mine c past) y ≡ is_done past y) (sym is) (done_top c x past at legal)
+
+    by_top : (b : Bool) → same n (take 1 of) ≡ b → is_done (mine c past) n ≡ is_done past n
+    by_top false apart =
+        ap (λ o. is_some o || is_ready (mine c past) n) (same_end c of past ours n low apart)
+        ∙ ap (λ b. is_some (end past n) || b) (same_ready c of past ours n low)
+    by_top true top = by_name of far ours (same_is n (take 1 of) top)
+
+same_deeds : (c : Client) (of : Name) (past : Past) → AreOurs c of past → Legal c.setting past → 0 < length of → (n : Name) → name.is_ancestor (take 1 of) n ≡ true → deeds (mine c past) n ≡ deeds past n
+same_deeds c of [] ours legal far n low = refl
+same_deeds c of (e ∷ past) ours legal far n low =
+    let both = and_parts (not (concerns (take 1 of) e.event) || is_own c e.seat) (all_ours c of past) ours in
+    by_test (is_own c e.seat) refl both.0 (same_deeds c of past both.1 legal.0 far n low) (done_alike c of past both.1 legal.0 far n low)
+  where
+    by_child : (m : Name) (k : Kind) (own b : Bool) → (not (concerns (take 1 of) (event.Start m k)) || own) ≡ true → own ≡ false → is_child n m ≡ b → (if b then Some (Deed.child m) else None) ≡ None
+    by_child m k own false h other is = refl
+    by_child m k own true h other is = absurd (true≢false (sym (implied (concerns (take 1 of) (event.Start m k)) own h (below_child (take 1 of) n m low is)) ∙ other))
+
+    by_mark : (by : Name) (session : ℕ) (own b : Bool) → (not (concerns (take 1 of) (event.Mark by session)) || own) ≡ true → own ≡ false → same by n ≡ b → Silent n (event.Mark by session)
+    by_mark by session own false h other is = mark_silent n by session is
+    by_mark by session own true h other is =
+        absurd (true≢false (sym (implied (concerns (take 1 of) (event.Mark by session)) own h (ap (name.is_ancestor (take 1 of)) (same_is by n is) ∙ low)) ∙ other))
+
+    other_silent : (ev : Event) (own : Bool) → (not (concerns (take 1 of) ev) || own) ≡ true → own ≡ false → deed_in past n ev ≡ None
+    other_silent (event.Start m k) own h other = by_child m k own (is_child n m) h other refl
+    other_silent (event.Mark by session) own h other = by_mark by session own (same by n) h other refl past
+    other_silent (event.Ask ask) own h other = refl
+    other_silent (event.Gone m why) own h other = refl
+    other_silent (event.Granted copy grant) own h other = refl
+    other_silent (event.Refused m copy refusal) own h other = refl
+    other_silent (event.Unable m why) own h other = refl
+    other_silent (event.Ready m) own h other = refl
+    other_silent (event.End m how) own h other = refl
+
+    own_alike : is_done (mine c past) n ≡ is_done past n → (ev : Event) → deed_in (mine c past) n ev ≡ deed_in past n ev
+    own_alike done (event.Mark by session) = ap (λ b. if same by n && not b then Some (Deed.mark session) else None) done
+    own_alike done (event.Start m k) = refl
+    own_alike done (event.Ask ask) = refl
+    own_alike done (event.Gone m why) = refl
+    own_alike done (event.Granted copy grant) = refl
+    own_alike done (event.Refused m copy refusal) = refl
+    own_alike done (event.Unable m why) = refl
+    own_alike done (event.Ready m) = refl
+    own_alike done (event.End m how) = refl
+
+    by_test : (b : Bool) → is_own c e.seat ≡ b → (not (concerns (take 1 of) e.event) || is_own c e.seat) ≡ true → deeds (mine c past) n ≡ deeds past n → is_done (mine c past) n ≡ is_done past n
+        → deeds (if b then e ∷ mine c past else mine c past) n ≡ deeds past n ++ option_to_list (deed_in past n e.event)
+    by_test true is passes before done = ap (λ l. l ++ option_to_list (deed_in (mine c past) n e.event)) before ∙ ap (λ o. deeds past n ++ option_to_list o) (own_alike done e.event)
+    by_test false is passes before done = before ∙ sym (ap (λ o. deeds past n ++ option_to_list o) (other_silent e.event (is_own c e.seat) passes is) ∙ append-nil _)
+
+-- WHOEVER FOLLOWS A PLAN
+
+module _ (c : Client) (of : Name) (past : Past) (ours : AreOurs c of past) (legal : Legal c.setting past) (far : 0 < length of) where
+  abbrev made : Past
+  made = mine c past
+
+  -- below the top, and not the top
+  abbrev Low : Name → Type 0
+  Low n = (name.is_ancestor (take 1 of) n ≡ true) × (same n (take 1 of) ≡ false)
+
+  abbrev LowDeed : Deed → Type 0
+  LowDeed (Deed.child x) = Low x
+  LowDeed (Deed.mark session) = Unit {0}
+
+  low_deeds : (n : Name) → name.is_ancestor (take 1 of) n ≡ true → 0 < length n → (ds : List Deed) → AllByRecursion (λ x. is_child n x ≡ true) (begun ds) → AllByRecursion LowDeed ds
+  low_deeds n low long [] all = tt
+  low_deeds n low long (Deed.mark session ∷ ds) all = (tt, low_deeds n low long ds all)
+  low_deeds n low long (Deed.child x ∷ ds) all = ((below_child (take 1 of) n x low all.0, other_length x (take 1 of) (λ l. omega (arith, l, child_longer n x all.0, long, short of))), low_deeds n low long ds all.1)
+    where
+      short : (n : Name) → length (take 1 n) < 2
+      short [] = omega arith
+      short (x ∷ n) = omega arith
+
+  all_low : (h : Past) (n : Name) → name.is_ancestor (take 1 of) n ≡ true → 0 < length n → AllByRecursion LowDeed (deeds h n)
+  all_low h n low long = low_deeds n low long (deeds h n) (subst (AllByRecursion (λ x. is_child n x ≡ true)) (children_are h n) (all_children h n))
+
+  longer : (n : Name) → Low n → 0 < length n
+  longer [] low = absurd (by_top of low.1 low.0)
+    where
+      by_top : (n : Name) → same [] (take 1 n) ≡ false → name.is_ancestor (take 1 n) [] ≡ true → ⊥
+      by_top [] apart is = true≢false apart
+      by_top (x ∷ n) apart is = true≢false (sym is)
+  longer (x ∷ n) low = omega arith
+
+  again_low : (d : Deed) → LowDeed d → AreAlike (deed_end made) (deed_end past) d
+  again_low (Deed.child n) low = ap is_tried_again (same_end c of past ours n low.0 low.1)
+  again_low (Deed.mark session) low = refl
+
+  stops_seen : (reach : Reach) (n : Name) (how : Option How) → name.is_ancestor (take 1 of) n ≡ true → Stops reach made n how → Stops reach past n how
+  stops_seen Reach.to_the_end n how low h = h
+  stops_seen Reach.cut_off n how low (inl h) = inl h
+  stops_seen Reach.cut_off n how low (inr h) = inr (h.0, sym (same_ready c of past ours n low) ∙ h.1)
+
+  unended_seen : (reach : Reach) (n : Name) (how : Option How) → name.is_ancestor (take 1 of) n ≡ true → HasNotEnded reach made n how → HasNotEnded reach past n how
+  unended_seen Reach.to_the_end n how low h = h
+  unended_seen Reach.cut_off n how low (inl h) = inl h
+  unended_seen Reach.cut_off n how low (inr h) = inr (h.0, sym (same_ready c of past ours n low) ∙ h.1)
+
+  before_seen : (reach : Reach) (n : Name) (how : Option How) → name.is_ancestor (take 1 of) n ≡ true → StopsBefore reach made n how → StopsBefore reach past n how
+  before_seen reach n how low (inl h) = inl (unended_seen reach n how low h)
+  before_seen reach n how low (inr h) = inr h
+
+  goes_seen : (reach : Reach) (n : Name) (o : Option How) (Rest RestToo : Answer → Type 0) (further : List Deed) (how : Option How) → name.is_ancestor (take 1 of) n ≡ true → ((given : Answer) → Rest given → RestToo given) → GoesOn reach made n o Rest further how → GoesOn reach past n o RestToo further how
+  goes_seen Reach.to_the_end n None Rest RestToo further how low step h = h
+  goes_seen Reach.cut_off n None Rest RestToo further how low step h = (h.0, unended_seen Reach.cut_off n how low h.1)
+  goes_seen reach n (Some (Commit given)) Rest RestToo further how low step h = step given h
+  goes_seen reach n (Some (Abort y)) Rest RestToo further how low step h = (
+    h.0,
+    elim h.1 [
+      | inl is ↦ inl is
+      | inr x ↦ inr (stops_seen reach n how low x)
+    ],
+  )
+
+  after_seen : (reach : Reach) (n child : Name) (o : Option How) (Rest RestToo : Type 0) (further : List Deed) (how : Option How) → name.is_ancestor (take 1 of) n ≡ true → (Rest → RestToo) → GoesOnAfter reach made n child o Rest further how → GoesOnAfter reach past n child o RestToo further how
+  after_seen Reach.to_the_end n child None Rest RestToo further how low step h = h
+  after_seen Reach.cut_off n child None Rest RestToo further how low step h = (h.0, unended_seen Reach.cut_off n how low h.1)
+  after_seen reach n child (Some (Commit given)) Rest RestToo further how low step h = step h
+  after_seen reach n child (Some (Abort y)) Rest RestToo further how low step h = (
+    h.0,
+    elim h.1 [
+      | inl is ↦ inl is
+      | inr x ↦ inr (stops_seen reach n how low x)
+    ],
+  )
+
+  behind_seen : (reach : Reach) (n : Name) (last : Option Deed) (must : Bool) (Rest RestToo : Type 0) (further : List Deed) (how : Option How) → name.is_ancestor (take 1 of) n ≡ true → IfAny LowDeed last → (Rest → RestToo) → AfterTries reach made n last must Rest further how → AfterTries reach past n last must RestToo further how
+  behind_seen reach n None must Rest RestToo further how low was step h = step h
+  behind_seen reach n (Some d) false Rest RestToo further how low was step h = step h
+  behind_seen reach n (Some (Deed.mark m)) true Rest RestToo further how low was step h = absurd h
+  behind_seen reach n (Some (Deed.child child)) true Rest RestToo further how low was step h =
+      subst (λ o. GoesOnAfter reach past n child o RestToo further how) (same_end c of past ours child was.0 was.1) (after_seen reach n child (end made child) Rest RestToo further how low step h)
+
+  try_seen : (reach : Reach) (s number : ℕ) (inner : Plan) → ((x : Name) → Low x → RunsPlan reach s made x inner (deeds made x) (end made x) → RunsPlan reach s past x inner (deeds made x) (end made x))
+      → (d : Deed) → LowDeed d → OfChild (IsTryOf reach s made number inner) d → OfChild (IsTryOf reach s past number inner) d
+  try_seen reach s number inner step (Deed.mark m) low t = t
+  try_seen reach s number inner step (Deed.child x) lx t = (
+    sym (same_kind c of past ours x lx.0) ∙ t.0,
+    subst (λ o. RunsPlan reach s past x inner (deeds past x) o) (same_end c of past ours x lx.0 lx.1)
+        (subst (λ xs. RunsPlan reach s past x inner xs (end made x)) (same_deeds c of past ours legal far x lx.0) (step x lx t.1)),
+  )
+
+  plan_seen : (reach : Reach) (s : ℕ) (n : Name) (plan : Plan) (cs : List Deed) (how : Option How) → name.is_ancestor (take 1 of) n ≡ true → AllByRecursion LowDeed cs → RunsPlan reach s made n plan cs how → RunsPlan reach s past n plan cs how
+  plan_seen reach s n Plan.done [] how low all (inl is) = inl (by_how how is)
+    where
+      by_how : (o : Option How) → Commits made n o → Commits past n o
+      by_how None h = sym (same_ready c of past ours n low) ∙ h
+      by_how (Some (Commit given)) h = tt
+      by_how (Some (Abort x)) h = h
+  plan_seen reach s n Plan.done [] how low all (inr x) = inr (stops_seen reach n how low x)
+  plan_seen reach s n Plan.done (x ∷ cs) how low all h = absurd h
+  plan_seen reach s n (Plan.manage_by k next) [] how low all h = stops_seen reach n how low h
+  plan_seen reach s n (Plan.manage_by k next) (Deed.mark m ∷ cs) how low all h = absurd h
+  plan_seen reach s n (Plan.manage_by k next) (Deed.child x ∷ cs) how low all h = (
+    sym (same_kind c of past ours x all.0.0) ∙ h.0,
+    subst (λ o. GoesOn reach past n o (λ given. RunsPlan reach s past n (next given) cs how) cs how) (same_end c of past ours x all.0.0 all.0.1)
+        (goes_seen reach n (end made x) (λ given. RunsPlan reach s made n (next given) cs how) (λ given. RunsPlan reach s past n (next given) cs how) cs how low (λ given. plan_seen reach s n (next given) cs how low all.1) h.1),
+  )
+  plan_seen reach s n (Plan.child_then number tries must inner rest) cs how low all h =
+      tries_alike (deed_end made) (deed_end past) (OfChild (IsTryOf reach s made number inner)) (OfChild (IsTryOf reach s past number inner)) (Stops reach made n how) (Stops reach past n how) (λ last further. AfterTries reach made n last must (RunsPlan reach s made n rest further how) further how)
+      (λ last further. AfterTries reach past n last must (RunsPlan reach s past n rest further how) further how) LowDeed again_low (stops_seen reach n how low)
+      (try_seen reach s number inner (λ x lx. plan_seen reach s x inner (deeds made x) (end made x) lx.0 (all_low made x lx.0 (longer x lx))))
+      (λ last further was lf f. behind_seen reach n last must (RunsPlan reach s made n rest further how) (RunsPlan reach s past n rest further how) further how low was (plan_seen reach s n rest further how low lf) f) None tries cs tt all h
+  plan_seen reach s n (Plan.abort_then levels rest) [] how low all (inl is) = inl is
+  plan_seen reach s n (Plan.abort_then levels rest) [] how low all (inr x) = inr (before_seen reach n how low x)
+  plan_seen reach s n (Plan.abort_then levels rest) (x ∷ cs) how low all h = absurd h
+  plan_seen reach s n (Plan.crash_then copy rest) cs how low all h = plan_seen reach s n rest cs how low all h
+  plan_seen reach s n (Plan.kill_then session rest) [] how low all h = before_seen reach n how low h
+  plan_seen reach s n (Plan.kill_then session rest) (Deed.child x ∷ cs) how low all h = absurd h
+  plan_seen reach s n (Plan.kill_then session rest) (Deed.mark m ∷ cs) how low all h = (h.0, by_own (session == s) h.1 (plan_seen reach s n rest cs how low all.1))
+    where
+      by_own : (b : Bool) → MatchBool b ((cs ≡ []) × StopsBefore reach made n how) (RunsPlan reach s made n rest cs how) → (RunsPlan reach s made n rest cs how → RunsPlan reach s past n rest cs how)
+          → MatchBool b ((cs ≡ []) × StopsBefore reach past n how) (RunsPlan reach s past n rest cs how)
+      by_own true x more = (x.0, before_seen reach n how low x.1)
+      by_own false x more = more x
+
+  does_after_seen : (last : Option Deed) (must : Bool) (Does DoesToo : Type 0) → IfAny LowDeed last → (Does → DoesToo) → DoesAfter made last must Does → DoesAfter past last must DoesToo
+  does_after_seen None must Does DoesToo was step h = step h
+  does_after_seen (Some d) false Does DoesToo was step h = step h
+  does_after_seen (Some (Deed.mark m)) true Does DoesToo was step h = absurd h
+  does_after_seen (Some (Deed.child child)) true Does DoesToo was step h = subst (λ o. DoesOn o (λ given. DoesToo)) (same_end c of past ours child was.0 was.1) (by_end (end made child) h)
+    where
+      by_end : (o : Option How) → DoesOn o (λ given. Does) → DoesOn o (λ given. DoesToo)
+      by_end None g = g
+      by_end (Some (Commit given)) g = step g
+      by_end (Some (Abort y)) g = g
+
+  -- who was killed by what was seen was killed by what the client made
+  unkilled_seen : (n : Name) → name.is_ancestor (take 1 of) n ≡ true → (WasKilled (end made n) → ⊥) → WasKilled (end past n) → ⊥
+  unkilled_seen n low alive killed = alive (subst WasKilled (sym (by_end (end past n) refl killed)) tt)
+    where
+      own : end past n ≡ Some (Abort cause.Killed) → end made n ≡ Some (Abort cause.Killed)
+      own is =
+          own_found c (λ e. end_in n e.event) (Abort cause.Killed) of past (λ e g. subst (λ ev. concerns (take 1 of) ev ≡ true) (sym (ending n e.event (Abort cause.Killed) g))
+          (ap (λ b. name.is_ancestor (take 1 of) n && not b) (and-false (same n (take 1 of))) ∙ ap (λ b. b && true) low)) ours is
+
+      by_end : (o : Option How) → end past n ≡ o → WasKilled o → end made n ≡ Some (Abort cause.Killed)
+      by_end None is h = absurd h
+      by_end (Some (Commit given)) is h = absurd h
+      by_end (Some (Abort cause.Killed)) is h = own is
+      by_end (Some (Abort (cause.Asked by))) is h = absurd h
+      by_end (Some (Abort (cause.Orphan a))) is h = absurd h
+      by_end (Some (Abort (cause.Conflict copy holder))) is h = absurd h
+      by_end (Some (Abort (cause.NoQuorum lack))) is h = absurd h
+      by_end (Some (Abort cause.Last)) is h = absurd h
+      by_end (Some (Abort (cause.Child x))) is h = absurd h
+      by_end (Some (Abort cause.Missed)) is h = absurd h
+
+  was_asked_seen : (n : Name) (o : Option How) → end made n ≡ o → WasAsked n o → WasAsked n (end past n)
+  was_asked_seen n None is h = absurd h
+  was_asked_seen n (Some how) is h = subst (WasAsked n) (sym (own_once c past n how legal is)) h
+
+  try_asks_seen : (by target : Name) (inner : Plan) → ((x : Name) → Low x → Asks made x inner (deeds made x) by target → Asks past x inner (deeds made x) by target)
+      → (d : Deed) → LowDeed d → OfChild (λ x. Asks made x inner (deeds made x) by target) d → OfChild (λ x. Asks past x inner (deeds past x) by target) d
+  try_asks_seen by target inner step (Deed.mark m) low t = t
+  try_asks_seen by target inner step (Deed.child x) lx t = subst (λ xs. Asks past x inner xs by target) (same_deeds c of past ours legal far x lx.0) (step x lx t)
+
+  plan_asks_seen : (by target n : Name) → name.is_ancestor (take 1 of) n ≡ true → (plan : Plan) (cs : List Deed) → AllByRecursion LowDeed cs → Asks made n plan cs by target → Asks past n plan cs by target
+  plan_asks_seen by target n low Plan.done cs all h = absurd h
+  plan_asks_seen by target n low (Plan.manage_by k next) [] all h = absurd h
+  plan_asks_seen by target n low (Plan.manage_by k next) (Deed.mark m ∷ cs) all h = absurd h
+  plan_asks_seen by target n low (Plan.manage_by k next) (Deed.child x ∷ cs) all h =
+      subst (λ o. DoesOn o (λ given. Asks past n (next given) cs by target)) (same_end c of past ours x all.0.0 all.0.1) (by_end (end made x) (λ given. plan_asks_seen by target n low (next given) cs all.1) h)
+    where
+      by_end : (o : Option How) → ((given : Answer) → Asks made n (next given) cs by target → Asks past n (next given) cs by target)
+          → DoesOn o (λ given. Asks made n (next given) cs by target) → DoesOn o (λ given. Asks past n (next given) cs by target)
+      by_end None step g = g
+      by_end (Some (Commit given)) step g = step given g
+      by_end (Some (Abort y)) step g = g
+  plan_asks_seen by target n low (Plan.child_then number tries must inner rest) cs all h =
+      tries_do_alike (deed_end made) (deed_end past) (OfChild (λ x. Asks made x inner (deeds made x) by target)) (OfChild (λ x. Asks past x inner (deeds past x) by target)) (λ last further. DoesAfter made last must (Asks made n rest further by target))
+      (λ last further. DoesAfter past last must (Asks past n rest further by target)) LowDeed again_low
+      (try_asks_seen by target inner (λ x lx. plan_asks_seen by target x lx.0 inner (deeds made x) (all_low made x lx.0 (longer x lx))))
+      (λ last further was lf f. does_after_seen last must (Asks made n rest further by target) (Asks past n rest further by target) was (plan_asks_seen by target n low rest further lf) f) None tries cs tt all h
+  plan_asks_seen by target n low (Plan.abort_then levels rest) [] all h = (h.0, h.1, unkilled_seen n low h.2)
+  plan_asks_seen by target n low (Plan.abort_then levels rest) (x ∷ cs) all h = absurd h
+  plan_asks_seen by target n low (Plan.crash_then copy rest) cs all h = plan_asks_seen by target n low rest cs all h
+  plan_asks_seen by target n low (Plan.kill_then session rest) [] all h = (was_asked_seen n (end made n) refl h.0, plan_asks_seen by target n low rest [] all h.1)
+  plan_asks_seen by target n low (Plan.kill_then session rest) (d ∷ cs) all h = plan_asks_seen by target n low rest cs all.1 h
+
+  -- what a step asked for by what the client made, it asked for by what was seen
+  pub asks_seen : (by target : Name) (plan : Plan) → name.is_ancestor (take 1 of) of ≡ true → Asks made of plan (deeds made of) by target → Asks past of plan (deeds past of) by target
+  asks_seen by target plan low h =
+      subst (λ xs. Asks past of plan xs by target) (same_deeds c of past ours legal far of low) (plan_asks_seen by target of low plan (deeds made of) (all_low made of low far) h)
+
 -- A transaction that does its plan by what a client made does so by what was seen, where it is ready if it has committed.
 pub runs_seen : (reach : Reach) (c : Client) (s : ℕ) (of : Name) (past : Past) (plan : Plan) → Legal c.setting past → 0 < length of → AreOurs c of past → ((given : Answer) → end past of ≡ Some (Commit given) → is_ready past of ≡ true)
-    → RunsPlan reach s (mine c past) of plan (children (mine c past) of) (end (mine c past) of) → RunsPlan reach s past of plan (children past of) (end past of)
+    → RunsPlan reach s (mine c past) of plan (deeds (mine c past) of) (end (mine c past) of) → RunsPlan reach s past of plan (deeds past of) (end past of)
 runs_seen reach c s of past plan legal far ours ready h =
     let low : name.is_ancestor (take 1 of) of ≡ true = at_top of in
-    let f = plan_seen c of past ours reach s of plan (children (mine c past) of) (end (mine c past) of) low (low_children c of past ours of low far (children (mine c past) of) (all_children (mine c past) of)) h in
-    subst (λ cs. RunsPlan reach s past of plan cs (end past of)) (same_children c of past ours of low) (by_end (end past of) refl f)
+    let f = plan_seen c of past ours legal far reach s of plan (deeds (mine c past) of) (end (mine c past) of) low (all_low c of past ours legal far (mine c past) of low far) h in
+    subst (λ cs. RunsPlan reach s past of plan cs (end past of)) (same_deeds c of past ours legal far of low) (by_end (end past of) refl f)
   where
-    with_how : (given : Answer) (o : Option How) → is_ready past of ≡ true → (is_some o ≡ true → o ≡ Some (Commit given)) → RunsPlan reach s past of plan (children (mine c past) of) o → RunsPlan reach s past of plan (children (mine c past) of) (Some (Commit given))
-    with_how given None is_so agrees f = plan_committed reach s past of plan (children (mine c past) of) given is_so f
-    with_how given (Some how) is_so agrees f = subst (λ o. RunsPlan reach s past of plan (children (mine c past) of) o) (agrees refl) f
+    with_how : (given : Answer) (o : Option How) → is_ready past of ≡ true → (is_some o ≡ true → o ≡ Some (Commit given)) → RunsPlan reach s past of plan (deeds (mine c past) of) o → RunsPlan reach s past of plan (deeds (mine c past) of) (Some (Commit given))
+    with_how given None is_so agrees f = plan_committed reach s past of plan (deeds (mine c past) of) given is_so f
+    with_how given (Some how) is_so agrees f = subst (λ o. RunsPlan reach s past of plan (deeds (mine c past) of) o) (agrees refl) f
 
-    by_end : (o : Option How) → end past of ≡ o → RunsPlan reach s past of plan (children (mine c past) of) (end (mine c past) of) → RunsPlan reach s past of plan (children (mine c past) of) o
-    by_end None is f = subst (λ o. RunsPlan reach s past of plan (children (mine c past) of) o) (not_some (end (mine c past) of) (λ h. some_or_none (end past of) (kept_some (λ (e : Entry). is_own c e.seat) _ past h) is)) f
+    by_end : (o : Option How) → end past of ≡ o → RunsPlan reach s past of plan (deeds (mine c past) of) (end (mine c past) of) → RunsPlan reach s past of plan (deeds (mine c past) of) o
+    by_end None is f = subst (λ o. RunsPlan reach s past of plan (deeds (mine c past) of) o) (not_some (end (mine c past) of) (λ h. some_or_none (end past of) (kept_some (λ (e : Entry). is_own c e.seat) _ past h) is)) f
     by_end (Some (Abort x)) is f =
-        subst (λ o. RunsPlan reach s past of plan (children (mine c past) of) o)
+        subst (λ o. RunsPlan reach s past of plan (deeds (mine c past) of) o)
         (own_abort c of past x ours is) f
     by_end (Some (Commit given)) is f = with_how given (end (mine c past) of) (ready given is) (λ some. once some) f
       where

@@ -6,12 +6,13 @@ use Rattle.qc_event.specs.declared.event.Answer.{Answer}
 use Rattle.qc_event.specs.declared.event.Entry.{Entry}
 use Rattle.qc_event.specs.declared.event.How.{How}
 use Rattle.qc_event.specs.declared.event.How.TheVariants.{Commit, Abort}
-use Rattle.qc_event.specs.History.{Past, Name, end, is_ready, children, is_child}
+use Rattle.qc_event.specs.History.{Past, Name, end, is_ready, is_child}
 use Rattle.qc_event.specs.Legal.{Legal}
 use Rattle.qc_event.proofs.OneEntry.{some_or_none, not_some}
 use Rattle.qc_script.specs.Client.{Client, mine, is_own, AreOurs}
 use Rattle.qc_script.specs.Plan.{Numbered}
 use Rattle.qc_interp.specs.Asking.{BodiesAsk, Asks}
+use Rattle.qc_interp.specs.Deeds.{deeds}
 use Rattle.qc_interp.specs.Follows.{RunsBody}
 use Rattle.qc_interp.specs.Reach.{Reach}
 use Rattle.qc_interp.specs.Session.{NotBegun, RunsBodies}
@@ -68,6 +69,6 @@ module _ (c : Client) (past : Past) (legal : Legal c.setting past) where
   pub bodies_ask_seen : (by target : Name) (bodies : List Numbered) (ts : List Name) → AllByRecursion (IsOurTop c past) ts → BodiesAsk (mine c past) bodies ts by target → BodiesAsk past bodies ts by target
   bodies_ask_seen by target [] ts ours h = absurd h
   bodies_ask_seen by target (b ∷ bodies) ts ours h =
-      tries_do_alike (end (mine c past)) (end past) (λ t. Asks (mine c past) t b.plan (children (mine c past) t) by target) (λ t. Asks past t b.plan (children past t) by target)
+      tries_do_alike (end (mine c past)) (end past) (λ t. Asks (mine c past) t b.plan (deeds (mine c past) t) by target) (λ t. Asks past t b.plan (deeds past t) by target)
       (λ last further. BodiesAsk (mine c past) bodies further by target) (λ last further. BodiesAsk past bodies further by target) (IsOurTop c past)
-      again_alike (λ t o a. asks_seen c t past o.1 by target b.plan (long t o.0) (at_top t) a) (λ last further was o a. bodies_ask_seen by target bodies further o a) None b.tries ts tt ours h
+      again_alike (λ t o a. asks_seen c t past o.1 legal (long t o.0) by target b.plan (at_top t) a) (λ last further was o a. bodies_ask_seen by target bodies further o a) None b.tries ts tt ours h

@@ -11,15 +11,17 @@ use Rattle.qc_event.specs.declared.event.Kind.{Kind}
 use Rattle.qc_event.specs.declared.event.Kind.TheVariants as kind
 use Rattle.qc_event.specs.Base.{Setting}
 use Rattle.qc_event.specs.History.{Past, Name, Begun, start, end, is_ready, children, kind_of}
-use Rattle.qc_event.specs.Standing.{Started, IsUser, IsManager, IsAbort, open_child}
+use Rattle.qc_event.specs.Standing.{Started, IsManager, IsAbort, open_child}
 use Rattle.qc_event.proofs.LastNumber.{child_last, below_more}
 use Rattle.qc_event.proofs.Lawful.{no_open_child}
 use Rattle.qc_event.proofs.OneEntry.{some_or_none, starting, some_not_none, some_if_not_none}
 use Rattle.qc_event.proofs.Later.{started_still}
 use Rattle.qc_event.proofs.Options.{some_match}
 use Rattle.qc_names.specs.Name as name
-use Rattle.qc_script.specs.Calls.{HasRun, Refuses, GaveNone, WasCut}
+use Rattle.qc_script.specs.Calls.{HasRun, Refuses, GaveNone, WasCut, IsOfSession}
 use Rattle.qc_script.specs.Client.{Client, mine, is_own, concerns, Made, IsLater, AreOurs}
+use Rattle.qc_interp.specs.Deeds.{Deed, deeds}
+use Rattle.qc_interp.proofs.Deeds.{one_child_more}
 use Rattle.qc_interp.specs.Follows.{StopsEarly, WasAsked, IsUnended, RunsPlan, FollowsPlan, GoesOn, is_handed_on}
 use Rattle.qc_interp.specs.Reach.{Reach}
 use Rattle.qc_script.specs.Plan.{Plan, manage_then}
@@ -31,7 +33,8 @@ use Rattle.qc_script.specs.declared.tx.TxNo.TheVariants as tx_no
 use Rattle.qc_interp.proofs.Mine.{end_some, kind_still, kept_some, some_is}
 use Rattle.qc_interp.proofs.Growth.{made_both, ours_before, own_found}
 use Rattle.qc_interp.proofs.Managers.{Managed, managed, Interrupted, interrupted}
-use Rattle.qc_interp.proofs.Ending.{asked_early, unended_stopped, running_stops, running_unended, top_above, not_ready, ended_early, leaves_itself, leaves_trans, leaves_cut, cut_still, still, leaves_still, runs_still}
+use Rattle.qc_interp.proofs.Stopping.{asked_early, unended_stopped, running_stops, running_unended}
+use Rattle.qc_interp.proofs.Ending.{top_above, not_ready, ended_early, leaves_itself, leaves_trans, leaves_cut, cut_still, still, leaves_still, runs_still}
 use Rattle.qc_interp.specs.Asking.{DoesOn, Asks, AllAsked}
 use Rattle.qc_interp.proofs.Asked.{NoOne, asked_made, asked_none, asked_wider, asked_trans}
 use Rattle.qc_interp.proofs.Adding.{over_later}
@@ -72,9 +75,9 @@ module _ (c : Client) (of : Name) where
   some_later a b p n h = let how = some_is (end (mine c a) n) h in ap is_some (end_later a b p n how.0 how.1)
 
   -- one child more, which has ended, as the others have
-  pub closed_more : (before now : Past) (m : Name) → IsLater c before now → children (mine c now) of ≡ children (mine c before) of ++ m ∷ [] → open_child (mine c before) of ≡ None → is_some (end (mine c now) m) ≡ true → open_child (mine c now) of ≡ None
+  pub closed_more : (before now : Past) (m : Name) → IsLater c before now → deeds (mine c now) of ≡ deeds (mine c before) of ++ Deed.child m ∷ [] → open_child (mine c before) of ≡ None → is_some (end (mine c now) m) ≡ true → open_child (mine c now) of ≡ None
   closed_more before now m later more none last =
-      ap (find (λ x. is_none (end (mine c now) x))) more
+      ap (find (λ x. is_none (end (mine c now) x))) (one_child_more (mine c now) (mine c before) of m more)
       ∙ none_more _ (children (mine c before) of) m
       (none_open _ _ (children (mine c before) of) (λ x h. some_not_none _ (some_later before now later x (some_if_not_none _ h))) none)
       (some_not_none _ last)
@@ -89,7 +92,7 @@ module _ (c : Client) (of : Name) where
       inside = ran.inside;
       over = λ was r. over_later c before now ran.later of (was (sym (ran.same_ready of [] (sym (append-nil of))) ∙ r));
       above = λ p r is far. record {
-        children = ran.same_children p r is far;
+        deeds = ran.same_deeds p r is far;
         ready = ran.same_ready p r is;
         unended = subst (λ o. IsUnended p o) (sym (ran.same_end p r is));
       };
@@ -98,17 +101,17 @@ module _ (c : Client) (of : Name) where
     pub runs_managed : Runs c of before → Runs c of now
     runs_managed runs = record {
       legal = ran.later.legal;
-      user = subst (λ h. Started h of (λ b. IsUser b.kind)) (sym ran.later.grown) (started_still ran.later.newer before of _ runs.user);
+      user = subst (λ h. Started h of (λ b. IsOfSession c.session b.kind)) (sym ran.later.grown) (started_still ran.later.newer before of _ runs.user);
       nonroot = runs.nonroot;
       above = λ p r is far. (subst (λ o. IsUnended p o) (sym (ran.same_end p r is)) (runs.above p r is far).0, ran.same_ready p r is ∙ (runs.above p r is far).1);
-      closed = λ ours. closed_more before now m ran.later ran.children (runs.closed (ours_before c of before now ran.later ours)) (ap is_some ran.end);
+      closed = λ ours. closed_more before now m ran.later ran.deeds (runs.closed (ours_before c of before now ran.later ours)) (ap is_some ran.end);
     }
 
     -- whatever follows it follows the step
-    pub more_follows : (x : Past) (Rest Asked : List Name → Type 0) → IsLater c now x
-        → (further : List Name) × (children (mine c x) of ≡ children (mine c now) of ++ further) × Rest further × Asked further
-        → (further : List Name) × (children (mine c x) of ≡ children (mine c before) of ++ m ∷ further) × Rest further × Asked further
-    more_follows x Rest Asked later h = (h.0, h.1 ∙ ap (λ l. l ++ h.0) ran.children ∙ append_assoc (children (mine c before) of) (m ∷ []) h.0, h.2, h.3)
+    pub more_follows : (x : Past) (Rest Asked : List Deed → Type 0) → IsLater c now x
+        → (further : List Deed) × (deeds (mine c x) of ≡ deeds (mine c now) of ++ further) × Rest further × Asked further
+        → (further : List Deed) × (deeds (mine c x) of ≡ deeds (mine c before) of ++ Deed.child m ∷ further) × Rest further × Asked further
+    more_follows x Rest Asked later h = (h.0, h.1 ∙ ap (λ l. l ++ h.0) ran.deeds ∙ append_assoc (deeds (mine c before) of) (Deed.child m ∷ []) h.0, h.2, h.3)
 
   user_cause : (k : Kind) (x : Cause) (m : Name) (before now : Past) → IsManager k → Managed c of k (Abort x) m before now → Rattle.qc_event.specs.Users.ChildAborted now of x
   user_cause k x m before now may ran = record {
@@ -128,7 +131,7 @@ module _ (c : Client) (of : Name) where
         follows = λ reach x later next ends ours.
             let rest = next has.given in
             let h = more_follows k _ _ before now ran x (λ further. RunsPlan reach c.session (mine c x) of rest further (end (mine c x) of)) (λ further. AllAsked c now x (λ by t. Asks (mine c x) of rest further by t)) later (ends ours) in (
-              has.ran.manager ∷ h.0,
+              Deed.child has.ran.manager ∷ h.0,
               h.1,
               (
                 kind_later now x later _ k ran.kind,
@@ -171,7 +174,7 @@ module _ (c : Client) (of : Name) where
   stopped_still before mid now why again plan m stopped follows = record {
     leaves = leaves_trans c of before mid now (leaves_still c of before mid m) stopped.leaves;
     tried = stopped.tried;
-    ends = λ ours. ([], stopped.children ∙ ap (λ h. children h of) (still c of before mid m) ∙ sym (append-nil _), follows (stopped.ended ours), asked_none c before now _ (asked_trans c before mid now NoOne (asked_made c [] before mid NoOne m tt) stopped.asked));
+    ends = λ ours. ([], stopped.deeds ∙ ap (λ h. deeds h of) (still c of before mid m) ∙ sym (append-nil _), follows (stopped.ended ours), asked_none c before now _ (asked_trans c before mid now NoOne (asked_made c [] before mid NoOne m tt) stopped.asked));
   }
 
   -- it stops with the manager as its last child
@@ -181,8 +184,8 @@ module _ (c : Client) (of : Name) where
     leaves = leaves_trans c of before mid now (leaves_managed k _ m before mid ran) stopped.leaves;
     tried = stopped.tried;
     ends = λ ours. (
-      m ∷ [],
-      stopped.children ∙ ran.children,
+      Deed.child m ∷ [],
+      stopped.deeds ∙ ran.deeds,
       (
         kind_later mid now stopped.leaves.later m k ran.kind,
         subst (λ o. GoesOn Reach.to_the_end (mine c now) of o (λ given. FollowsPlan c.session (mine c now) of (next given) [] (end (mine c now) of)) [] (end (mine c now) of)) (sym (end_later mid now stopped.leaves.later m _ ran.end)) (refl, handed (stopped.ended ours)),
@@ -229,8 +232,8 @@ module _ (c : Client) (of : Name) where
         leaves = leaves_trans c of before mid now (leaves_managed k _ m before mid ran) (leaves_cut c of mid now (leaves_still c of mid now made));
         unended = at.0;
         begins = λ ours. (
-          m ∷ [],
-          ap (λ h. children h of) (still c of mid now made) ∙ ran.children,
+          Deed.child m ∷ [],
+          ap (λ h. deeds h of) (still c of mid now made) ∙ ran.deeds,
           (
             kind_later mid now later m k ran.kind,
             subst (λ o. GoesOn Reach.cut_off (mine c now) of o (λ given. RunsPlan Reach.cut_off c.session (mine c now) of (next given) [] (end (mine c now) of)) [] (end (mine c now) of)) (sym (end_later mid now later m _ ran.end)) (refl, inr (running_stops (mine c now) of _ at.0 at.1)),
@@ -250,7 +253,7 @@ module _ (c : Client) (of : Name) where
           inside = ran.inside;
           over = tt;
           above = λ p r is far. record {
-            children = ran.same_children p r is far;
+            deeds = ran.same_deeds p r is far;
             ready = ran.same_ready p r is;
             unended = subst (λ o. IsUnended p o) (sym (ran.same_end p r is));
           };
@@ -258,8 +261,8 @@ module _ (c : Client) (of : Name) where
         };
         unended = unended;
         begins = λ ours. (
-          m ∷ [],
-          ran.children,
+          Deed.child m ∷ [],
+          ran.deeds,
           (
             ran.kind,
             subst (λ o. GoesOn Reach.cut_off (mine c now) of o (λ given. RunsPlan Reach.cut_off c.session (mine c now) of (next given) [] (end (mine c now) of)) [] (end (mine c now) of)) (sym ran.end) (refl, running_unended (mine c now) of _ unended unready),
@@ -308,7 +311,7 @@ module _ (c : Client) (of : Name) where
     leaves = leaves_itself c of now runs.legal;
     asked = ([], refl, tt);
     tried = unended_stopped of _ (runs.above of [] (sym (append-nil of)) runs.nonroot).0;
-    children = refl;
+    deeds = refl;
     ended = early;
   }
 

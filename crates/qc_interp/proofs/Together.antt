@@ -25,12 +25,12 @@ use Rattle.qc_interp.specs.Asking.{BodiesAsk, IsAskedBy}
 use Rattle.qc_interp.specs.FollowsScript.{net_of, RunsSession, EachRuns, OneAsks, is_of_session, is_in_session, RunsScript, started}
 use Rattle.qc_interp.specs.Reach.{Reach, AtTheEnd}
 use Rattle.qc_interp.specs.Session.{tops, RunsBodies, AreAllOurs}
-use Rattle.qc_interp.specs.Sessions.{tops_of, is_settled, AccessesEnd, is_unmarked, all_unmarked}
+use Rattle.qc_interp.specs.Sessions.{tops_of, is_settled, AccessesEnd}
 use Rattle.qc_interp.specs.Together.{HasRun, EachHasRun, AreOf}
 use Rattle.qc_interp.proofs.Owners.{starts_client, aborts_client, IsItsOwn, ran_inside, for_at, ran_client, ran_plan, Owner, owner, its_own, all_its_own}
 use Rattle.qc_interp.proofs.OwnSeats.{seats_own}
 use Rattle.qc_interp.proofs.OwnSessions.{AreIts, same_tops, turns_own, messages_own, order_own}
-use Rattle.qc_interp.proofs.Places.{some_same, at_place, each_place, all_from, any_place, kept_place, earliest_place, every_passes}
+use Rattle.qc_interp.proofs.Places.{some_same, at_place, each_place, any_place, kept_place, earliest_place, every_passes}
 use Rattle.qc_interp.proofs.SeenBodies.{IsOurTop, bodies_seen, bodies_ask_seen}
 use Rattle.qc_interp.proofs.Settled.{begun_settled, all_settled}
 use Rattle.qc_interp.proofs.Starts.{legal_at, started_at, start_seat, starts_top, starts_user}
@@ -205,22 +205,6 @@ module _ (reach : Reach) (setting : Setting) (epoch patience : ℕ) (clients : L
       by_named i s at (inl same) = inl same
       by_named i s at (inr asks) = inr (one_asks past by n 0 sessions i s at (subst (λ k. BodiesAsk past s.tops (tops_of k past) by n) (let e : i ≡ 0 + i = omega arith in e) asks))
 
-  none_marked : all_unmarked past ≡ true
-  none_marked = all_from (λ (e : Entry). is_unmarked e.event) past at
-    where
-      at : (i : ℕ) (e : Entry) → slice_get past i ≡ Some e → is_unmarked e.event ≡ true
-      at i e is = by_event e.event refl
-        where
-          by_owner : OwnerOf e.seat → is_unmarked e.event ≡ true
-          by_owner o = at_place _ past i e o.ran.unmarked is o.owns
-
-          by_event : (ev : Event) → e.event ≡ ev → is_unmarked ev ≡ true
-          by_event (event.Mark n session) marks =
-              let may = legal_at setting past i e legal is in
-              let marker = subst (MayHappen setting may.0 e.seat) marks may.1 in
-              subst (λ ev. is_unmarked ev ≡ true) marks (by_owner (owner reach setting epoch patience past clients sessions legal of all i e is marker.by_client))
-          by_event _ marks = refl
-
   -- who began is of one of them
   began : (n : Name) (b : Begun) → start past n ≡ Some b → OwnerOf b.seat
   began n b is =
@@ -249,5 +233,4 @@ together reach setting epoch patience clients sessions past legal of all accesse
   numbers = all_numbered reach setting epoch patience clients sessions past legal of all;
   as_asked = all_asked reach setting epoch patience clients sessions past legal of all;
   each_settled = settled_together reach setting epoch patience clients sessions past legal of all accesses;
-  unmarked = none_marked reach setting epoch patience clients sessions past legal of all;
 }

@@ -9,17 +9,18 @@ use Rattle.qc_event.specs.declared.event.Event.TheVariants as event
 use Rattle.qc_event.specs.declared.event.Kind.TheVariants as kind
 use Rattle.qc_event.specs.History.{Past, Name, Begun, start, end, is_ready, children, is_child, kind_of}
 use Rattle.qc_event.specs.Legal.{Legal}
-use Rattle.qc_event.specs.Standing.{IsUser}
 use Rattle.qc_event.proofs.LastNumber.{child_last, child_longer, no_child_length}
 use Rattle.qc_event.proofs.Lawful.{lawful}
 use Rattle.qc_event.proofs.LegalOrderly.{legal_orderly}
 use Rattle.qc_event.proofs.Lineage.{IsFresh, fresh_below}
 use Rattle.qc_event.proofs.OneEntry.{child_added, start_is, stays_some, some_or_none}
 use Rattle.qc_event.proofs.Orderly.{Begins}
-use Rattle.qc_event.proofs.Later.{start_still}
+use Rattle.qc_event.proofs.Later.{earlier_legal, start_still}
 use Rattle.qc_event.proofs.RootAndTops.{ready_started}
-use Rattle.qc_script.specs.Calls.{by_client}
+use Rattle.qc_script.specs.Calls.{by_client, IsOfSession}
 use Rattle.qc_script.specs.Client.{Client, mine, is_own, Made, IsLater, AreOurs}
+use Rattle.qc_interp.specs.Deeds.{Deed, deeds}
+use Rattle.qc_interp.proofs.Deeds.{start_silent, deeds_quiet, no_deeds, same_children}
 use Rattle.qc_interp.specs.Follows.{RunsPlan, FollowsPlan, RunsBody, IsUnended}
 use Rattle.qc_interp.specs.Reach.{Reach}
 use Rattle.qc_script.specs.Plan.{Numbered}
@@ -34,9 +35,9 @@ use Rattle.qc_interp.specs.declared.stops.Finish.{Finish}
 use Rattle.qc_interp.proofs.TriesAlike.{no_tries}
 use Rattle.qc_interp.proofs.Mine.{kept_some}
 use Rattle.qc_interp.proofs.Still.{follows_runs, follows_still, followed_done, done_closed, again_still}
-use Rattle.qc_interp.proofs.Ending.{unended_again}
+use Rattle.qc_interp.proofs.Stopping.{unended_again}
 use Rattle.qc_interp.proofs.Growth.{made_is, made_later, later_itself, later_trans, ours_before}
-use Rattle.qc_interp.proofs.Managers.{children_quiet, found_quiet, absent, came_after, none_kept, children_rest}
+use Rattle.qc_interp.proofs.Managers.{found_quiet, absent, came_after, none_kept, children_rest, start_rest}
 use Rattle.qc_interp.proofs.StepsLeave.{kind_later}
 use Rattle.qc_interp.specs.Adding.{AllStayIn, is_of_one, AllOfOne, starts_for, AllForIts, own_after, all_over}
 use Rattle.qc_script.specs.Numbers.{Numbers, own_next}
@@ -60,6 +61,7 @@ module _ (c : Client) (t : Name) (number : ℕ) (before now : Past) (top : is_ch
   -- it was new
   pub record NewTop : Type 0 where
     pub fresh : IsFresh (mine c before) t
+    pub idle : deeds (mine c before) t ≡ []
     pub unready : is_ready (mine c before) t ≡ false
     pub started : start now t ≡ Some (record { seat = c.number; kind = kind.User c.session number })
 
@@ -74,6 +76,7 @@ module _ (c : Client) (t : Name) (number : ℕ) (before now : Past) (top : is_ch
       let was : IsFresh old t = subst (IsFresh old) (append-nil t) (fresh_below old t [] (lawful old (legal_orderly c.setting old at.legal.0)) (omega (arith, long)) none) in
       record {
         fresh = record { no_start = absent c _ at.mid before was.no_start; no_end = absent c _ at.mid before was.no_end; no_children = none_kept c before t (children_rest at.mid before t was.no_children) };
+        idle = no_deeds (λ (e : Entry). is_own c e.seat) c.setting before t (earlier_legal c.setting at.mid before at.legal.0) (start_rest at.mid before t was.no_start) (children_rest at.mid before t was.no_children);
         unready = false_from_ne_true _ (λ h. some_or_none (start old t) (ready_started c.setting old t at.legal.0 (later_ready at.mid (kept_some (λ (e : Entry). is_own c e.seat) _ before h))) none);
         started = ap (λ h. start h t) at.is ∙ start_still at.after _ t _ (start_is begins old t (kind.User c.session number) none refl);
       }
@@ -90,19 +93,19 @@ module _ (c : Client) (t : Name) (number : ℕ) (before now : Past) (top : is_ch
   pub turns_top : InTurn (mine c before) → Alone (mine c before) [] → InTurn (mine c now) × Alone (mine c now) t
   turns_top turns alone = subst (λ h. InTurn h × Alone h t) (sym now_is) (start_turns begins (mine c before) [] t (kind.User c.session number) refl top turns alone)
 
-  pub none_top : children (mine c now) t ≡ []
-  none_top = ap (λ h. children h t) now_is ∙ children_quiet t (begins ∷ []) (mine c before) (Rattle.qc_event.proofs.Absent.if_not (is_child t t) (Some t) (no_child_length t t (λ l. omega (arith, l))), tt) ∙ new.fresh.no_children
+  pub none_top : deeds (mine c now) t ≡ []
+  none_top = ap (λ h. deeds h t) now_is ∙ deeds_quiet t (begins ∷ []) (mine c before) (start_silent t t (kind.User c.session number) (no_child_length t t (λ l. omega (arith, l))), tt) ∙ new.idle
 
   pub runs_top : Runs c t now
   runs_top = record {
     legal = m.legal;
-    user = subst (λ o. MatchOption o ⊥ (λ (b : Begun). IsUser b.kind)) (sym new.started) tt;
+    user = subst (λ o. MatchOption o ⊥ (λ (b : Begun). IsOfSession c.session b.kind)) (sym new.started) refl;
     nonroot = omega (arith, long);
     above = λ p r is far. subst (λ n. IsUnended n (end (mine c now) n) × (is_ready (mine c now) n ≡ false)) (itself p r is far) (
       inl (ap (λ h. end h t) now_is ∙ found_quiet _ (begins ∷ []) (mine c before) (refl, tt) ∙ new.fresh.no_end),
       ap (λ h. is_ready h t) now_is ∙ ap is_some (found_quiet _ (begins ∷ []) (mine c before) (refl, tt)) ∙ new.unready,
     );
-    closed = λ ours. ap (find (λ x. is_none (end (mine c now) x))) none_top;
+    closed = λ ours. ap (find (λ x. is_none (end (mine c now) x))) (same_children (mine c now) [] t none_top);
   }
     where
       itself : (p r : Name) → t ≡ p ++ r → 0 < length p → t ≡ p
@@ -159,8 +162,8 @@ pub record TriedTop (c : Client) (body : Numbered) (before now : Past) (again : 
   pub top : Name
   pub more : tops c now ≡ tops c before ++ top ∷ []
   pub kind : kind_of (mine c now) top ≡ Some (kind.User c.session body.number)
-  pub follows : AreOurs c top now → FollowsPlan c.session (mine c now) top body.plan (children (mine c now) top) (end (mine c now) top)
-  pub asked : AreOurs c top now → AllAsked c before now (λ by t. Asks (mine c now) top body.plan (children (mine c now) top) by t)
+  pub follows : AreOurs c top now → FollowsPlan c.session (mine c now) top body.plan (deeds (mine c now) top) (end (mine c now) top)
+  pub asked : AreOurs c top now → AllAsked c before now (λ by t. Asks (mine c now) top body.plan (deeds (mine c now) top) by t)
   pub tried : again ≡ is_tried_again (end (mine c now) top)
 
 -- A try of a top that was cut off.
@@ -169,8 +172,8 @@ pub record CutTop (c : Client) (body : Numbered) (before now : Past) : Type 0 wh
   pub top : Name
   pub more : tops c now ≡ tops c before ++ top ∷ []
   pub kind : kind_of (mine c now) top ≡ Some (kind.User c.session body.number)
-  pub begins : AreOurs c top now → RunsPlan Reach.cut_off c.session (mine c now) top body.plan (children (mine c now) top) (end (mine c now) top)
-  pub asked : AreOurs c top now → AllAsked c before now (λ by t. Asks (mine c now) top body.plan (children (mine c now) top) by t)
+  pub begins : AreOurs c top now → RunsPlan Reach.cut_off c.session (mine c now) top body.plan (deeds (mine c now) top) (end (mine c now) top)
+  pub asked : AreOurs c top now → AllAsked c before now (λ by t. Asks (mine c now) top body.plan (deeds (mine c now) top) by t)
   pub tried : is_tried_again (end (mine c now) top) ≡ false
 
 module _ (c : Client) (t : Name) (body : Numbered) (before mid now : Past) (top : is_child [] t ≡ true) (m : Made c (by_client c (event.Start t (kind.User c.session body.number)) ∷ []) before mid) (numbers : Numbers c before mid) where
@@ -200,7 +203,7 @@ module _ (c : Client) (t : Name) (body : Numbered) (before mid now : Past) (top 
     later_is = later_trans c before mid now (made_later c _ before mid m) leaves.later
 
     more_is : tops c now ≡ tops c before ++ t ∷ []
-    more_is = (leaves.above [] t refl (let l : length t ≡ 1 = child_longer [] t top in omega (arith, l))).children ∙ tops_begun c t body.number before mid top m
+    more_is = same_children (mine c now) (mine c mid) [] (leaves.above [] t refl (let l : length t ≡ 1 = child_longer [] t top in omega (arith, l))).deeds ∙ tops_begun c t body.number before mid top m
 
     kind_is : kind_of (mine c now) t ≡ Some (kind.User c.session body.number)
     kind_is = kind_later c [] mid now leaves.later t _ (kind_top c t body.number before mid top m)
@@ -221,16 +224,16 @@ module _ (c : Client) (t : Name) (body : Numbered) (before mid now : Past) (top 
     ours_new : AreAllOurs c now → AreOurs c t now
     ours_new ours = all_last (λ n. AreOurs c n now) (tops c before) t [] (subst (AllByRecursion (λ n. AreOurs c n now)) more_is ours)
 
-    all_are : (further : List Name) → children (mine c now) t ≡ children (mine c mid) t ++ further → children (mine c now) t ≡ further
+    all_are : (further : List Deed) → deeds (mine c now) t ≡ deeds (mine c mid) t ++ further → deeds (mine c now) t ≡ further
     all_are further is = is ∙ ap (λ l. l ++ further) (none_top c t body.number before mid top m)
 
     module _ (ends : EndsAt reach c t mid now body.plan) where
-      runs_is : AreOurs c t now → RunsPlan reach c.session (mine c now) t body.plan (children (mine c now) t) (end (mine c now) t)
+      runs_is : AreOurs c t now → RunsPlan reach c.session (mine c now) t body.plan (deeds (mine c now) t) (end (mine c now) t)
       runs_is ours =
           let e = ends ours in
           subst (λ cs. RunsPlan reach c.session (mine c now) t body.plan cs (end (mine c now) t)) (sym (all_are e.0 e.1)) e.2
 
-      asked_is : AreOurs c t now → AllAsked c before now (λ by n. Asks (mine c now) t body.plan (children (mine c now) t) by n)
+      asked_is : AreOurs c t now → AllAsked c before now (λ by n. Asks (mine c now) t body.plan (deeds (mine c now) t) by n)
       asked_is ours =
           let e = ends ours in
           asked_trans c before mid now _ (asked_made c _ before mid _ m (tt, tt)) (asked_wider _ _ (λ by n a. subst (λ cs. Asks (mine c now) t body.plan cs by n) (sym (all_are e.0 e.1)) a) c mid now e.3)
@@ -260,11 +263,11 @@ module _ (c : Client) (t : Name) (body : Numbered) (before mid now : Past) (top 
     tried = sym (again_is to (end (mine c now) t) ended.tried);
   }
     where
-      follows_is : AreOurs c t now → FollowsPlan c.session (mine c now) t body.plan (children (mine c now) t) (end (mine c now) t)
+      follows_is : AreOurs c t now → FollowsPlan c.session (mine c now) t body.plan (deeds (mine c now) t) (end (mine c now) t)
       follows_is ours = runs_is Reach.to_the_end ended.leaves ended.ends ours
 
       over_is : AreOurs c t now → is_over now t ≡ true
-      over_is ours = elim (done_closed (mine c now) t (followed_done c.session (mine c now) t body.plan (children (mine c now) t) (end (mine c now) t) (follows_is ours))) [
+      over_is ours = elim (done_closed (mine c now) t (followed_done c.session (mine c now) t body.plan (deeds (mine c now) t) (end (mine c now) t) (follows_is ours))) [
         | inl some ↦ over_ended now t (kept_some (λ (e : Entry). is_own c e.seat) _ now some)
         | inr ready ↦ ended.leaves.over (λ was. absurd (true≢false (sym was ∙ ((runs_top c t body.number before mid top m).above t [] (sym (append-nil t)) (omega (arith, long_top))).1))) ready
       ]
@@ -274,8 +277,8 @@ module _ (c : Client) (t : Name) (body : Numbered) (before mid now : Past) (top 
           subst (λ h. all_over c h ≡ true) (sym later.grown)
           (all_over_more c later.newer before (t ∷ []) (ap (tops c) (sym later.grown) ∙ more_is Reach.to_the_end ended.leaves) was (subst (λ h. list_all (is_over h) (t ∷ []) ≡ true) later.grown (ap (λ b. b && true) (over_is ours))))
 
-      done_is : FollowsPlan c.session (mine c now) t body.plan (children (mine c now) t) (end (mine c now) t) → is_done (mine c now) t ≡ true
-      done_is f = elim (done_closed (mine c now) t (followed_done c.session (mine c now) t body.plan (children (mine c now) t) (end (mine c now) t) f)) [
+      done_is : FollowsPlan c.session (mine c now) t body.plan (deeds (mine c now) t) (end (mine c now) t) → is_done (mine c now) t ≡ true
+      done_is f = elim (done_closed (mine c now) t (followed_done c.session (mine c now) t body.plan (deeds (mine c now) t) (end (mine c now) t) f)) [
         | inl some ↦ some_done (mine c now) t some
         | inr ready ↦ ready_done (is_some (end (mine c now) t)) (is_ready (mine c now) t) ready
       ]
@@ -311,7 +314,7 @@ abbrev pub EndsTopTries : Reach → Client → Past → Past → Numbered → Op
 EndsTopTries reach c before now body last left rest =
     AreAllOurs c now → (further : List Name) × (tops c now ≡ tops c before ++ further)
     × Tries (end (mine c now)) (RunsBody reach c.session (mine c now) body) (NotBegun reach) (λ latest more. RunsBodies reach c.session (mine c now) rest more) last left further
-    × AllAsked c before now (λ by t. TriesDo (end (mine c now)) (λ n. Asks (mine c now) n body.plan (children (mine c now) n) by t) (λ latest more. BodiesAsk (mine c now) rest more by t) last left further)
+    × AllAsked c before now (λ by t. TriesDo (end (mine c now)) (λ n. Asks (mine c now) n body.plan (deeds (mine c now) n) by t) (λ latest more. BodiesAsk (mine c now) rest more by t) last left further)
 
 module _ (c : Client) (body : Numbered) (before now : Past) (again : Bool) (t : TriedTop c body before now again) where
   module _ (reach : Reach) (x : Past) (later : IsLater c now x) (further : List Name) (more : tops c x ≡ tops c now ++ further) (ours : AreAllOurs c x) where
@@ -321,35 +324,35 @@ module _ (c : Client) (body : Numbered) (before now : Past) (again : Bool) (t : 
     ours_top : AreOurs c t.top x
     ours_top = all_last (λ n. AreOurs c n x) (tops c before) t.top further (subst (AllByRecursion (λ n. AreOurs c n x)) more_later ours)
 
-    follows_now : FollowsPlan c.session (mine c now) t.top body.plan (children (mine c now) t.top) (end (mine c now) t.top)
+    follows_now : FollowsPlan c.session (mine c now) t.top body.plan (deeds (mine c now) t.top) (end (mine c now) t.top)
     follows_now = t.follows (ours_before c t.top now x later ours_top)
 
     one_top : RunsBody reach c.session (mine c x) body t.top
     one_top = record {
       kind = kind_later c [] now x later t.top _ t.kind;
-      steps = follows_runs reach c.session (mine c x) t.top body.plan _ _ (subst (λ h. FollowsPlan c.session (mine c h) t.top body.plan (children (mine c h) t.top) (end (mine c h) t.top)) (sym later.grown)
+      steps = follows_runs reach c.session (mine c x) t.top body.plan _ _ (subst (λ h. FollowsPlan c.session (mine c h) t.top body.plan (deeds (mine c h) t.top) (end (mine c h) t.top)) (sym later.grown)
           (follows_still c.session (λ (e : Entry). is_own c e.seat) c.setting later.newer now (subst (Legal c.setting) later.grown later.legal) t.top body.plan follows_now).0);
     }
 
     again_later : is_tried_again (end (mine c x) t.top) ≡ again
     again_later =
         ap (λ h. is_tried_again (end (mine c h) t.top)) later.grown
-        ∙ again_still c.session (λ (e : Entry). is_own c e.seat) c.setting later.newer now (subst (Legal c.setting) later.grown later.legal) t.top (done_closed (mine c now) t.top (followed_done c.session (mine c now) t.top body.plan (children (mine c now) t.top) (end (mine c now) t.top) follows_now))
+        ∙ again_still c.session (λ (e : Entry). is_own c e.seat) c.setting later.newer now (subst (Legal c.setting) later.grown later.legal) t.top (done_closed (mine c now) t.top (followed_done c.session (mine c now) t.top body.plan (deeds (mine c now) t.top) (end (mine c now) t.top) follows_now))
         ∙ sym t.tried
 
-    asked_later : AllAsked c before now (λ by n. Asks (mine c x) t.top body.plan (children (mine c x) t.top) by n)
+    asked_later : AllAsked c before now (λ by n. Asks (mine c x) t.top body.plan (deeds (mine c x) t.top) by n)
     asked_later = asked_wider _ _ (λ by n a.
-        subst (λ h. Asks (mine c h) t.top body.plan (children (mine c h) t.top) by n) (sym later.grown)
+        subst (λ h. Asks (mine c h) t.top body.plan (deeds (mine c h) t.top) by n) (sym later.grown)
         (asks_still c.session (λ (e : Entry). is_own c e.seat) c.setting later.newer now (subst (Legal c.setting) later.grown later.legal) by n t.top body.plan follows_now a)) c before now (t.asked (ours_before c t.top now x later ours_top))
 
     abbrev DoTries : Option Name → ℕ → List Numbered → Name → Name → Type 0
-    DoTries last left rest by n = TriesDo (end (mine c x)) (λ y. Asks (mine c x) y body.plan (children (mine c x) y) by n) (λ latest more. BodiesAsk (mine c x) rest more by n) last left further
+    DoTries last left rest by n = TriesDo (end (mine c x)) (λ y. Asks (mine c x) y body.plan (deeds (mine c x) y) by n) (λ latest more. BodiesAsk (mine c x) rest more by n) last left further
 
     abbrev MoreDo : ℕ → List Numbered → Name → Name → Bool → Type 0
     MoreDo left rest by n b = MatchBool b (DoTries (Some t.top) left rest by n) (BodiesAsk (mine c x) rest further by n)
 
     with_asked : (last : Option Name) (left : ℕ) (rest : List Numbered) → AllAsked c now x (λ by n. MoreDo left rest by n again)
-        → AllAsked c before x (λ by n. TriesDo (end (mine c x)) (λ y. Asks (mine c x) y body.plan (children (mine c x) y) by n) (λ latest more. BodiesAsk (mine c x) rest more by n) last (suc left) (t.top ∷ further))
+        → AllAsked c before x (λ by n. TriesDo (end (mine c x)) (λ y. Asks (mine c x) y body.plan (deeds (mine c x) y) by n) (λ latest more. BodiesAsk (mine c x) rest more by n) last (suc left) (t.top ∷ further))
     with_asked last left rest h = asked_trans c before now x _ (asked_wider _ _ (λ by n a. inl a) c before now asked_later) (asked_wider _ _ (λ by n a. inr (subst (MoreDo left rest by n) (sym again_later) a)) c now x h)
 
   pub top_again : again ≡ true → (reach : Reach) (x : Past) → IsLater c now x → (last : Option Name) (left : ℕ) (rest : List Numbered) → EndsTopTries reach c now x body (Some t.top) left rest → EndsTopTries reach c before x body last (suc left) rest

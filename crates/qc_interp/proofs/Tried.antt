@@ -9,16 +9,17 @@ use Rattle.qc_event.specs.declared.event.Answer.{Answer}
 use Rattle.qc_event.specs.declared.event.How.{How}
 use Rattle.qc_event.specs.declared.event.How.TheVariants.{Commit, Abort}
 use Rattle.qc_event.specs.declared.event.Kind.TheVariants as kind
-use Rattle.qc_event.specs.History.{Past, Name, Begun, end, is_ready, children, is_child, kind_of}
+use Rattle.qc_event.specs.History.{Past, Name, Begun, end, is_ready, is_child, kind_of}
 use Rattle.qc_event.specs.Legal.{Legal}
 use Rattle.qc_event.specs.Standing.{Started, IsUser, IsAbort}
-use Rattle.qc_event.proofs.Absent.{if_not}
 use Rattle.qc_event.proofs.LastNumber.{child_last, length_last, child_longer, no_child_length}
-use Rattle.qc_event.proofs.OneEntry.{child_added, start_is}
+use Rattle.qc_event.proofs.OneEntry.{start_is}
 use Rattle.qc_event.proofs.Later.{started_still}
 use Rattle.qc_event.proofs.LegalOrderly.{ready_top}
-use Rattle.qc_script.specs.Calls.{by_client, WasRefused}
+use Rattle.qc_script.specs.Calls.{by_client, WasRefused, IsOfSession}
 use Rattle.qc_script.specs.Client.{Client, mine, is_own, Made, IsLater, AreOurs}
+use Rattle.qc_interp.specs.Deeds.{Deed, deeds, deed_end, OfChild}
+use Rattle.qc_interp.proofs.Deeds.{start_silent, deeds_quiet, child_deed, same_children}
 use Rattle.qc_interp.specs.Follows.{StopsEarly, Stops, IsUnended, GoesOnAfter, AfterTries, RunsPlan, FollowsPlan}
 use Rattle.qc_interp.specs.Reach.{Reach}
 use Rattle.qc_script.specs.Plan.{Plan, Numbered}
@@ -33,8 +34,9 @@ use Rattle.qc_interp.proofs.Turning.{InTurn, Alone, start_turns, alone_up, some_
 use Rattle.qc_interp.proofs.Mine.{kept_some}
 use Rattle.qc_interp.proofs.Still.{follows_runs, follows_still, followed_done, done_closed, again_still}
 use Rattle.qc_interp.proofs.Growth.{made_is, made_later, later_trans, ours_before}
-use Rattle.qc_interp.proofs.Managers.{children_quiet, found_quiet, NewChild, new_child}
-use Rattle.qc_interp.proofs.Ending.{unended_again, running_stops, running_unended, running_runs, leaves_trans, leaves_cut, still, leaves_still, runs_still}
+use Rattle.qc_interp.proofs.Managers.{found_quiet, NewChild, new_child}
+use Rattle.qc_interp.proofs.Stopping.{unended_again, running_stops, running_unended, running_runs}
+use Rattle.qc_interp.proofs.Ending.{leaves_trans, leaves_cut, still, leaves_still, runs_still, user_is}
 use Rattle.qc_interp.proofs.StepsLeave.{end_later, kind_later, closed_more}
 use Rattle.qc_interp.proofs.TriesAlike.{IfAny}
 use Rattle.std.specs.List.{list_all}
@@ -72,17 +74,17 @@ module _ (c : Client) (of n : Name) (number : ℕ) (before now : Past) (runs : R
     pub ready_begun : is_ready (mine c now) p ≡ is_ready (mine c before) p
     ready_begun = ap (λ h. is_ready h p) now_is ∙ ap is_some (found_quiet _ (begins ∷ []) (mine c before) (refl, tt))
 
-    pub children_above : 0 < length r → children (mine c now) p ≡ children (mine c before) p
-    children_above far = ap (λ h. children h p) now_is ∙ children_quiet p (begins ∷ []) (mine c before) (if_not (is_child p n) (Some n) (no_child_length p n (λ l. omega (arith, l, longer, short, far))), tt)
+    pub deeds_above : 0 < length r → deeds (mine c now) p ≡ deeds (mine c before) p
+    deeds_above far = ap (λ h. deeds h p) now_is ∙ deeds_quiet p (begins ∷ []) (mine c before) (start_silent p n (kind.User c.session number) (no_child_length p n (λ l. omega (arith, l, longer, short, far))), tt)
 
-  pub children_begun : children (mine c now) of ≡ children (mine c before) of ++ n ∷ []
-  children_begun = ap (λ h. children h of) now_is ∙ child_added begins (mine c before) of n (kind.User c.session number) refl child
+  pub deeds_begun : deeds (mine c now) of ≡ deeds (mine c before) of ++ Deed.child n ∷ []
+  deeds_begun = ap (λ h. deeds h of) now_is ∙ child_deed begins (mine c before) of n (kind.User c.session number) refl child
 
   pub kind_begun : kind_of (mine c now) n ≡ Some (kind.User c.session number)
   kind_begun = ap (λ h. kind_of h n) now_is ∙ ap (option_map (λ (b : Begun). b.kind)) (start_is begins (mine c before) n (kind.User c.session number) new.fresh.no_start refl)
 
   pub above_begun : (p r : Name) → of ≡ p ++ r → 0 < length r → LeavesIt c p before now
-  above_begun p r is far = record { children = children_above p r is far; ready = ready_begun p r is; unended = subst (λ o. IsUnended p o) (sym (end_begun p r is)) }
+  above_begun p r is far = record { deeds = deeds_above p r is far; ready = ready_begun p r is; unended = subst (λ o. IsUnended p o) (sym (end_begun p r is)) }
 
   pub inside_begun : AllStayIn c (take 1 of) later_begun.newer
   inside_begun = ap (list_all (stays_in (take 1 of))) m.made ∙ ap (λ b. b && true) (start_stays_in (take 1 of) n (kind.User c.session number) begins refl (omega (arith, longer, runs.nonroot)) (child_top of n child))
@@ -90,8 +92,8 @@ module _ (c : Client) (of n : Name) (number : ℕ) (before now : Past) (runs : R
   pub turns_begun : InTurn (mine c before) → Alone (mine c before) of → InTurn (mine c now) × Alone (mine c now) n
   turns_begun turns alone = subst (λ h. InTurn h × Alone h n) (sym now_is) (start_turns begins (mine c before) of n (kind.User c.session number) refl child turns alone)
 
-  pub none_begun : children (mine c now) n ≡ []
-  none_begun = ap (λ h. children h n) now_is ∙ children_quiet n (begins ∷ []) (mine c before) (if_not (is_child n n) (Some n) (no_child_length n n (λ l. omega (arith, l))), tt) ∙ new.fresh.no_children
+  pub none_begun : deeds (mine c now) n ≡ []
+  none_begun = ap (λ h. deeds h n) now_is ∙ deeds_quiet n (begins ∷ []) (mine c before) (start_silent n n (kind.User c.session number) (no_child_length n n (λ l. omega (arith, l))), tt) ∙ new.idle
 
   unready_begun : is_ready (mine c now) n ≡ false
   unready_begun = false_from_ne_true _ (λ h. ready_child h)
@@ -105,10 +107,10 @@ module _ (c : Client) (of n : Name) (number : ℕ) (before now : Past) (runs : R
   pub runs_begun : Runs c n now
   runs_begun = record {
     legal = m.legal;
-    user = subst (λ o. MatchOption o ⊥ (λ (b : Begun). IsUser b.kind)) (sym new.started) tt;
+    user = subst (λ o. MatchOption o ⊥ (λ (b : Begun). IsOfSession c.session b.kind)) (sym new.started) refl;
     nonroot = omega (arith, longer);
     above = above_child;
-    closed = λ ours. ap (find (λ x. is_none (end (mine c now) x))) none_begun;
+    closed = λ ours. ap (find (λ x. is_none (end (mine c now) x))) (same_children (mine c now) [] n none_begun);
   }
     where
       l : (j : ℕ) × (n ≡ of ++ j ∷ [])
@@ -132,10 +134,10 @@ pub record Tried (c : Client) (of child : Name) (body : Numbered) (before now : 
   pub runs : Runs c of now
   pub is_one : is_child of child ≡ true
   pub user : Started now child (λ b. IsUser b.kind)
-  pub more : children (mine c now) of ≡ children (mine c before) of ++ child ∷ []
+  pub more : deeds (mine c now) of ≡ deeds (mine c before) of ++ Deed.child child ∷ []
   pub kind : kind_of (mine c now) child ≡ Some (kind.User c.session body.number)
-  pub follows : AreOurs c of now → FollowsPlan c.session (mine c now) child body.plan (children (mine c now) child) (end (mine c now) child)
-  pub asked : AreOurs c of now → AllAsked c before now (λ by t. Asks (mine c now) child body.plan (children (mine c now) child) by t)
+  pub follows : AreOurs c of now → FollowsPlan c.session (mine c now) child body.plan (deeds (mine c now) child) (end (mine c now) child)
+  pub asked : AreOurs c of now → AllAsked c before now (λ by t. Asks (mine c now) child body.plan (deeds (mine c now) child) by t)
   pub tried : CameTo to (end (mine c now) child)
   pub ended : AreOurs c of now → is_some (end (mine c now) child) ≡ true
 
@@ -145,10 +147,10 @@ pub record CutTry (c : Client) (of : Name) (body : Numbered) (before now : Past)
   pub unended : IsUnended of (end (mine c now) of)
   pub unready : is_ready (mine c now) of ≡ false
   pub child : Name
-  pub more : children (mine c now) of ≡ children (mine c before) of ++ child ∷ []
+  pub more : deeds (mine c now) of ≡ deeds (mine c before) of ++ Deed.child child ∷ []
   pub kind : kind_of (mine c now) child ≡ Some (kind.User c.session body.number)
-  pub begins : AreOurs c of now → RunsPlan Reach.cut_off c.session (mine c now) child body.plan (children (mine c now) child) (end (mine c now) child)
-  pub asked : AreOurs c of now → AllAsked c before now (λ by t. Asks (mine c now) child body.plan (children (mine c now) child) by t)
+  pub begins : AreOurs c of now → RunsPlan Reach.cut_off c.session (mine c now) child body.plan (deeds (mine c now) child) (end (mine c now) child)
+  pub asked : AreOurs c of now → AllAsked c before now (λ by t. Asks (mine c now) child body.plan (deeds (mine c now) child) by t)
   pub tried : is_tried_again (end (mine c now) child) ≡ false
 
 module _ (c : Client) (of n : Name) (body : Numbered) (before mid now : Past) (runs : Runs c of before) (child : is_child of n ≡ true)
@@ -171,8 +173,8 @@ module _ (c : Client) (of n : Name) (body : Numbered) (before mid now : Past) (r
     left : (p r : Name) → of ≡ p ++ r → LeavesIt c p mid now
     left p r is = leaves.above p (r ++ last.0 ∷ []) (last.1 ∙ ap (λ x. x ++ last.0 ∷ []) is ∙ append_assoc p r (last.0 ∷ [])) (let l : length (r ++ last.0 ∷ []) ≡ length r + 1 = length_last r last.0 in omega (arith, l))
 
-    more_is : children (mine c now) of ≡ children (mine c before) of ++ n ∷ []
-    more_is = (left of [] (sym (append-nil of))).children ∙ children_begun c of n body.number before mid runs child m
+    more_is : deeds (mine c now) of ≡ deeds (mine c before) of ++ Deed.child n ∷ []
+    more_is = (left of [] (sym (append-nil of))).deeds ∙ deeds_begun c of n body.number before mid runs child m
 
     abbrev later_is : IsLater c before now
     later_is = later_trans c before mid now (later_begun c of n body.number before mid runs child m) leaves.later
@@ -189,28 +191,28 @@ module _ (c : Client) (of n : Name) (body : Numbered) (before mid now : Past) (r
     above_is : (p r : Name) → of ≡ p ++ r → 0 < length r → LeavesIt c p before now
     above_is p r is far =
         let a = above_begun c of n body.number before mid runs child m p r is far in
-        record { children = (left p r is).children ∙ a.children; ready = ready_is p r is; unended = unended_is p r is }
+        record { deeds = (left p r is).deeds ∙ a.deeds; ready = ready_is p r is; unended = unended_is p r is }
 
     kind_is : kind_of (mine c now) n ≡ Some (kind.User c.session body.number)
     kind_is = kind_later c of mid now leaves.later n _ (kind_begun c of n body.number before mid runs child m)
 
-    all_are : (further : List Name) → children (mine c now) n ≡ children (mine c mid) n ++ further → children (mine c now) n ≡ further
+    all_are : (further : List Deed) → deeds (mine c now) n ≡ deeds (mine c mid) n ++ further → deeds (mine c now) n ≡ further
     all_are further is = is ∙ ap (λ l. l ++ further) (none_begun c of n body.number before mid runs child m)
 
     module _ (ends : EndsAt reach c n mid now body.plan) where
-      runs_is : AreOurs c of now → RunsPlan reach c.session (mine c now) n body.plan (children (mine c now) n) (end (mine c now) n)
+      runs_is : AreOurs c of now → RunsPlan reach c.session (mine c now) n body.plan (deeds (mine c now) n) (end (mine c now) n)
       runs_is ours =
           let e = ends (ours_child ours) in
           subst (λ cs. RunsPlan reach c.session (mine c now) n body.plan cs (end (mine c now) n)) (sym (all_are e.0 e.1)) e.2
 
-      asked_is : AreOurs c of now → AllAsked c before now (λ by t. Asks (mine c now) n body.plan (children (mine c now) n) by t)
+      asked_is : AreOurs c of now → AllAsked c before now (λ by t. Asks (mine c now) n body.plan (deeds (mine c now) n) by t)
       asked_is ours =
           let e = ends (ours_child ours) in
           asked_trans c before mid now _ (asked_made c _ before mid _ m (tt, tt)) (asked_wider _ _ (λ by t a. subst (λ cs. Asks (mine c now) n body.plan cs by t) (sym (all_are e.0 e.1)) a) c mid now e.3)
 
   module _ (to : Finish) (ended : Ended c n mid now body.plan to) where
     ended_is : AreOurs c of now → is_some (end (mine c now) n) ≡ true
-    ended_is ours = elim (done_closed (mine c now) n (followed_done c.session (mine c now) n body.plan (children (mine c now) n) (end (mine c now) n) (runs_is Reach.to_the_end ended.leaves ended.ends ours))) [
+    ended_is ours = elim (done_closed (mine c now) n (followed_done c.session (mine c now) n body.plan (deeds (mine c now) n) (end (mine c now) n) (runs_is Reach.to_the_end ended.leaves ended.ends ours))) [
       | inl some ↦ some
       | inr ready ↦
           let short = ready_top c.setting now n ended.leaves.later.legal (kept_some (λ (e : Entry). is_own c e.seat) _ now ready) in
@@ -234,13 +236,13 @@ module _ (c : Client) (of n : Name) (body : Numbered) (before mid now : Past) (r
       leaves = leaves_is;
       runs = record {
         legal = ended.leaves.later.legal;
-        user = subst (λ h. Started h of (λ b. IsUser b.kind)) (sym (later_is Reach.to_the_end ended.leaves).grown) (started_still (later_is Reach.to_the_end ended.leaves).newer before of _ runs.user);
+        user = subst (λ h. Started h of (λ b. IsOfSession c.session b.kind)) (sym (later_is Reach.to_the_end ended.leaves).grown) (started_still (later_is Reach.to_the_end ended.leaves).newer before of _ runs.user);
         nonroot = runs.nonroot;
         above = λ p r is far. (unended_is Reach.to_the_end ended.leaves p r is (runs.above p r is far).0, ready_is Reach.to_the_end ended.leaves p r is ∙ (runs.above p r is far).1);
         closed = λ ours. closed_more c of before now n (later_is Reach.to_the_end ended.leaves) (more_is Reach.to_the_end ended.leaves) (runs.closed (ours_before c of before now (later_is Reach.to_the_end ended.leaves) ours)) (ended_is ours);
       };
       is_one = child;
-      user = subst (λ h. Started h n (λ b. IsUser b.kind)) (sym ended.leaves.later.grown) (started_still ended.leaves.later.newer mid n _ (runs_begun c of n body.number before mid runs child m).user);
+      user = subst (λ h. Started h n (λ b. IsUser b.kind)) (sym ended.leaves.later.grown) (started_still ended.leaves.later.newer mid n _ (user_is c.session mid n (runs_begun c of n body.number before mid runs child m).user));
       more = more_is Reach.to_the_end ended.leaves;
       kind = kind_is Reach.to_the_end ended.leaves;
       follows = runs_is Reach.to_the_end ended.leaves ended.ends;
@@ -285,16 +287,16 @@ match_false P Q false is h = h
 match_false P Q true is h = absurd (true≢false is)
 
 -- behind a child that committed a transaction goes on
-goes_behind : (reach : Reach) (past : Past) (n child : Name) (must : Bool) (Rest : Type 0) (further : List Name) (how : Option How) (given : Answer) → end past child ≡ Some (Commit given) → Rest → AfterTries reach past n (Some child) must Rest further how
+goes_behind : (reach : Reach) (past : Past) (n child : Name) (must : Bool) (Rest : Type 0) (further : List Deed) (how : Option How) (given : Answer) → end past child ≡ Some (Commit given) → Rest → AfterTries reach past n (Some (Deed.child child)) must Rest further how
 goes_behind reach past n child false Rest further how given is h = h
 goes_behind reach past n child true Rest further how given is h = subst (λ o. GoesOnAfter reach past n child o Rest further how) (sym is) h
 
-does_behind : (past : Past) (child : Name) (must : Bool) (Does : Type 0) (given : Answer) → end past child ≡ Some (Commit given) → Does → DoesAfter past (Some child) must Does
+does_behind : (past : Past) (child : Name) (must : Bool) (Does : Type 0) (given : Answer) → end past child ≡ Some (Commit given) → Does → DoesAfter past (Some (Deed.child child)) must Does
 does_behind past child false Does given is h = h
 does_behind past child true Does given is h = subst (λ o. DoesOn o (λ told. Does)) (sym is) h
 
 -- where the run was cut off at a child, the transaction came no further
-pub cut_behind : (past : Past) (n child : Name) (must : Bool) (Rest : Type 0) (how : Option How) → IsUnended n how → is_ready past n ≡ false → Rest → AfterTries Reach.cut_off past n (Some child) must Rest [] how
+pub cut_behind : (past : Past) (n child : Name) (must : Bool) (Rest : Type 0) (how : Option How) → IsUnended n how → is_ready past n ≡ false → Rest → AfterTries Reach.cut_off past n (Some (Deed.child child)) must Rest [] how
 cut_behind past n child false Rest how unended unready rest = rest
 cut_behind past n child true Rest how unended unready rest = by_end (end past child)
   where
@@ -315,74 +317,74 @@ again_is (finish.Stopped again) (Some (Abort x)) h = sym h
 module _ (c : Client) (of child : Name) (body : Numbered) (before now : Past) (to : Finish) (t : Tried c of child body before now to) where
   -- the try by what was seen later
   module _ (reach : Reach) (x : Past) (later : IsLater c now x) (ours : AreOurs c of x) where
-    follows_now : FollowsPlan c.session (mine c now) child body.plan (children (mine c now) child) (end (mine c now) child)
+    follows_now : FollowsPlan c.session (mine c now) child body.plan (deeds (mine c now) child) (end (mine c now) child)
     follows_now = t.follows (ours_before c of now x later ours)
 
-    one_try : (kind_of (mine c x) child ≡ Some (kind.User c.session body.number)) × RunsPlan reach c.session (mine c x) child body.plan (children (mine c x) child) (end (mine c x) child)
+    one_try : (kind_of (mine c x) child ≡ Some (kind.User c.session body.number)) × RunsPlan reach c.session (mine c x) child body.plan (deeds (mine c x) child) (end (mine c x) child)
     one_try = (
       kind_later c of now x later child _ t.kind,
-      follows_runs reach c.session (mine c x) child body.plan _ _ (subst (λ h. FollowsPlan c.session (mine c h) child body.plan (children (mine c h) child) (end (mine c h) child)) (sym later.grown)
+      follows_runs reach c.session (mine c x) child body.plan _ _ (subst (λ h. FollowsPlan c.session (mine c h) child body.plan (deeds (mine c h) child) (end (mine c h) child)) (sym later.grown)
           (follows_still c.session (λ (e : Entry). is_own c e.seat) c.setting later.newer now (subst (Legal c.setting) later.grown later.legal) child body.plan follows_now).0),
     )
 
     again_later : is_tried_again (end (mine c x) child) ≡ is_again to
     again_later =
         ap (λ h. is_tried_again (end (mine c h) child)) later.grown
-        ∙ again_still c.session (λ (e : Entry). is_own c e.seat) c.setting later.newer now (subst (Legal c.setting) later.grown later.legal) child (done_closed (mine c now) child (followed_done c.session (mine c now) child body.plan (children (mine c now) child) (end (mine c now) child) follows_now))
+        ∙ again_still c.session (λ (e : Entry). is_own c e.seat) c.setting later.newer now (subst (Legal c.setting) later.grown later.legal) child (done_closed (mine c now) child (followed_done c.session (mine c now) child body.plan (deeds (mine c now) child) (end (mine c now) child) follows_now))
         ∙ again_is to (end (mine c now) child) t.tried
 
-    asked_later : AllAsked c before now (λ by n. Asks (mine c x) child body.plan (children (mine c x) child) by n)
+    asked_later : AllAsked c before now (λ by n. Asks (mine c x) child body.plan (deeds (mine c x) child) by n)
     asked_later = asked_wider _ _ (λ by n a.
-        subst (λ h. Asks (mine c h) child body.plan (children (mine c h) child) by n) (sym later.grown)
+        subst (λ h. Asks (mine c h) child body.plan (deeds (mine c h) child) by n) (sym later.grown)
         (asks_still c.session (λ (e : Entry). is_own c e.seat) c.setting later.newer now (subst (Legal c.setting) later.grown later.legal) by n child body.plan follows_now a)) c before now (t.asked (ours_before c of now x later ours))
 
-    abbrev Rest : Plan → Option Name → List Name → Type 0
+    abbrev Rest : Plan → Option Deed → List Deed → Type 0
     Rest rest last further = AfterTries reach (mine c x) of last body.must (RunsPlan reach c.session (mine c x) of rest further (end (mine c x) of)) further (end (mine c x) of)
 
-    abbrev RestDoes : Plan → Name → Name → Option Name → List Name → Type 0
+    abbrev RestDoes : Plan → Name → Name → Option Deed → List Deed → Type 0
     RestDoes rest by n last further = DoesAfter (mine c x) last body.must (Asks (mine c x) of rest further by n)
 
     abbrev Try : Name → Type 0
-    Try n = (kind_of (mine c x) n ≡ Some (kind.User c.session body.number)) × RunsPlan reach c.session (mine c x) n body.plan (children (mine c x) n) (end (mine c x) n)
+    Try n = (kind_of (mine c x) n ≡ Some (kind.User c.session body.number)) × RunsPlan reach c.session (mine c x) n body.plan (deeds (mine c x) n) (end (mine c x) n)
 
-    abbrev DoTries : Option Name → ℕ → Plan → List Name → Name → Name → Type 0
-    DoTries last left rest further by n = TriesDo (end (mine c x)) (λ y. Asks (mine c x) y body.plan (children (mine c x) y) by n) (RestDoes rest by n) last left further
+    abbrev DoTries : Option Deed → ℕ → Plan → List Deed → Name → Name → Type 0
+    DoTries last left rest further by n = TriesDo (deed_end (mine c x)) (OfChild (λ y. Asks (mine c x) y body.plan (deeds (mine c x) y) by n)) (RestDoes rest by n) last left further
 
-    abbrev AreTries : Option Name → ℕ → Plan → List Name → Type 0
-    AreTries last left rest further = Tries (end (mine c x)) Try (Stops reach (mine c x) of (end (mine c x) of)) (Rest rest) last left further
+    abbrev AreTries : Option Deed → ℕ → Plan → List Deed → Type 0
+    AreTries last left rest further = Tries (deed_end (mine c x)) (OfChild Try) (Stops reach (mine c x) of (end (mine c x) of)) (Rest rest) last left further
 
     -- one try more, and then as many as are left: none where it is not tried again
-    module _ (last : Option Name) (left : ℕ) (rest : Plan) (further : List Name) where
+    module _ (last : Option Deed) (left : ℕ) (rest : Plan) (further : List Deed) where
       abbrev MoreDo : Name → Name → Bool → Type 0
-      MoreDo by n b = MatchBool b (DoTries (Some child) left rest further by n) (RestDoes rest by n (Some child) further)
+      MoreDo by n b = MatchBool b (DoTries (Some (Deed.child child)) left rest further by n) (RestDoes rest by n (Some (Deed.child child)) further)
 
-      with_asked : AllAsked c now x (λ by n. MoreDo by n (is_again to)) → AllAsked c before x (λ by n. DoTries last (suc left) rest (child ∷ further) by n)
+      with_asked : AllAsked c now x (λ by n. MoreDo by n (is_again to)) → AllAsked c before x (λ by n. DoTries last (suc left) rest (Deed.child child ∷ further) by n)
       with_asked h = asked_trans c before now x _ (asked_wider _ _ (λ by n a. inl a) c before now asked_later) (asked_wider _ _ (λ by n a. inr (subst (MoreDo by n) (sym again_later) a)) c now x h)
 
-      with_try : MatchBool (is_again to) (AreTries (Some child) left rest further) (Rest rest (Some child) further) → AreTries last (suc left) rest (child ∷ further)
-      with_try h = (one_try, subst (λ b. MatchBool b (AreTries (Some child) left rest further) (Rest rest (Some child) further)) (sym again_later) h)
+      with_try : MatchBool (is_again to) (AreTries (Some (Deed.child child)) left rest further) (Rest rest (Some (Deed.child child)) further) → AreTries last (suc left) rest (Deed.child child ∷ further)
+      with_try h = (one_try, subst (λ b. MatchBool b (AreTries (Some (Deed.child child)) left rest further) (Rest rest (Some (Deed.child child)) further)) (sym again_later) h)
 
-    more_later : (further : List Name) → children (mine c x) of ≡ children (mine c now) of ++ further → children (mine c x) of ≡ children (mine c before) of ++ child ∷ further
-    more_later further is = is ∙ ap (λ l. l ++ further) t.more ∙ append_assoc (children (mine c before) of) (child ∷ []) further
+    more_later : (further : List Deed) → deeds (mine c x) of ≡ deeds (mine c now) of ++ further → deeds (mine c x) of ≡ deeds (mine c before) of ++ Deed.child child ∷ further
+    more_later further is = is ∙ ap (λ l. l ++ further) t.more ∙ append_assoc (deeds (mine c before) of) (Deed.child child ∷ []) further
 
   -- one try more, after which there is another
   pub try_again : is_again to ≡ true → (reach : Reach) (x : Past) → IsLater c now x → (last : Option Name) (left : ℕ) (rest : Plan) → EndsTries reach c of now x body (Some child) left rest → EndsTries reach c of before x body last (suc left) rest
   try_again is reach x later last left rest ends ours =
       let e = ends ours in (
-        child ∷ e.0,
+        Deed.child child ∷ e.0,
         more_later reach x later ours e.0 e.1,
-        with_try reach x later ours last left rest e.0 (match_true _ (Rest reach x later ours rest (Some child) e.0) (is_again to) is e.2),
-        with_asked reach x later ours last left rest e.0 (asked_wider _ _ (λ by n a. match_true _ (RestDoes reach x later ours rest by n (Some child) e.0) (is_again to) is a) c now x e.3),
+        with_try reach x later ours (option_map Deed.child last) left rest e.0 (match_true _ (Rest reach x later ours rest (Some (Deed.child child)) e.0) (is_again to) is e.2),
+        with_asked reach x later ours (option_map Deed.child last) left rest e.0 (asked_wider _ _ (λ by n a. match_true _ (RestDoes reach x later ours rest by n (Some (Deed.child child)) e.0) (is_again to) is a) c now x e.3),
       )
 
   -- one try more, which is the last
   pub try_last : is_again to ≡ false → (reach : Reach) (x : Past) → IsLater c now x → (last : Option Name) (left : ℕ) (rest : Plan) → EndsTries reach c of now x body (Some child) 0 rest → EndsTries reach c of before x body last (suc left) rest
   try_last is reach x later last left rest ends ours =
       let e = ends ours in (
-        child ∷ e.0,
+        Deed.child child ∷ e.0,
         more_later reach x later ours e.0 e.1,
-        with_try reach x later ours last left rest e.0 (match_false (AreTries reach x later ours (Some child) left rest e.0) _ (is_again to) is e.2),
-        with_asked reach x later ours last left rest e.0 (asked_wider _ _ (λ by n a. match_false (DoTries reach x later ours (Some child) left rest e.0 by n) _ (is_again to) is a) c now x e.3),
+        with_try reach x later ours (option_map Deed.child last) left rest e.0 (match_false (AreTries reach x later ours (Some (Deed.child child)) left rest e.0) _ (is_again to) is e.2),
+        with_asked reach x later ours (option_map Deed.child last) left rest e.0 (asked_wider _ _ (λ by n a. match_false (DoTries reach x later ours (Some (Deed.child child)) left rest e.0 by n) _ (is_again to) is a) c now x e.3),
       )
 
   -- the child was aborted, or committed
@@ -417,7 +419,7 @@ module _ (c : Client) (of child : Name) (body : Numbered) (before now : Past) (t
 -- A try that was cut off is the last, and the run came no further.
 pub try_cut : (c : Client) (of : Name) (body : Numbered) (before now : Past) → CutTry c of body before now → (last : Option Name) (left : ℕ) (rest : Plan) → EndsTries Reach.cut_off c of before now body last (suc left) rest
 try_cut c of body before now t last left rest ours = (
-  t.child ∷ [],
+  Deed.child t.child ∷ [],
   t.more,
   ((t.kind, t.begins ours), match_false _ _ _ t.tried (cut_behind (mine c now) of t.child body.must _ (end (mine c now) of) t.unended t.unready (running_runs c.session (mine c now) of _ t.unended t.unready rest))),
   asked_wider _ _ (λ by n a. inl a) c before now (t.asked ours),
@@ -480,15 +482,15 @@ module _ (c : Client) (of : Name) (body : Numbered) where
         leaves = leaves_trans c of before mid next (leaves_trans c of before now mid l.leaves (leaves_still c of now mid m)) stopped.leaves;
         tried = stopped.tried;
         ends = l.front Reach.to_the_end next (later_trans c now mid next (made_later c [] now mid m) stopped.leaves.later) rest (λ ours.
-            ([], stopped.children ∙ ap (λ h. children h of) (still c of now mid m) ∙ sym (append-nil _), early (stopped.ended ours), asked_none c now next _ (asked_trans c now mid next NoOne (asked_made c [] now mid NoOne m tt) stopped.asked)));
+            ([], stopped.deeds ∙ ap (λ h. deeds h of) (still c of now mid m) ∙ sym (append-nil _), early (stopped.ended ours), asked_none c now next _ (asked_trans c now mid next NoOne (asked_made c [] now mid NoOne m tt) stopped.asked)));
       }
 
       by_why : (why : TxNo) → WasRefused c of now mid why → (why ≡ tx_no.Memory → ⊥) → (why ≡ tx_no.Room → ⊥) → Stopped c of why mid next again → Ended c of before next (child_step body rest) (finish.Stopped again)
       by_why tx_no.Memory refused other full stopped = absurd (other refl)
       by_why tx_no.Room refused other full stopped = absurd (full refl)
       by_why (tx_no.Orphan a) refused other full stopped = stops (tx_no.Orphan a) refused.0 stopped (λ s. Rattle.qc_interp.proofs.StepsLeave.orphan_early c of a _ s)
-      by_why tx_no.Ended refused other full stopped = stops tx_no.Ended refused.0 stopped (λ s. Rattle.qc_interp.proofs.Ending.asked_early of _ s)
-      by_why tx_no.Ready refused other full stopped = stops tx_no.Ready refused.0 stopped (λ s. Rattle.qc_interp.proofs.Ending.asked_early of _ s)
+      by_why tx_no.Ended refused other full stopped = stops tx_no.Ended refused.0 stopped (λ s. Rattle.qc_interp.proofs.Stopping.asked_early of _ s)
+      by_why tx_no.Ready refused other full stopped = stops tx_no.Ready refused.0 stopped (λ s. Rattle.qc_interp.proofs.Stopping.asked_early of _ s)
       by_why (tx_no.ChildrenOpen child) refused other full stopped = absurd refused
       by_why (tx_no.Conflict copy holder) refused other full stopped = absurd refused.1
       by_why (tx_no.NoQuorum lack) refused other full stopped = absurd refused.1
@@ -509,7 +511,7 @@ module _ (c : Client) (of : Name) (body : Numbered) where
       record {
         leaves = leaves_trans c of before now next l.leaves (leaves_cut c of now next (leaves_still c of now next m));
         unended = at.0;
-        begins = l.front Reach.cut_off next (made_later c [] now next m) rest (λ ours. ([], ap (λ h. children h of) (still c of now next m) ∙ sym (append-nil _), running_stops (mine c next) of _ at.0 at.1, asked_none c now next _ (asked_made c [] now next NoOne m tt)));
+        begins = l.front Reach.cut_off next (made_later c [] now next m) rest (λ ours. ([], ap (λ h. deeds h of) (still c of now next m) ∙ sym (append-nil _), running_stops (mine c next) of _ at.0 at.1, asked_none c now next _ (asked_made c [] now next NoOne m tt)));
       }
 
   -- whatever a refusal to begin tells, nothing was made

@@ -3,21 +3,20 @@ use Rattle.std.proofs.Common.{◌≡◌, inl, inr, ℕ, zero, suc, Bool, true, f
 use Rattle.std.specs.Prelude.{Option, None, Some, MatchBool}
 use Rattle.std.specs.List.{AllByRecursion}
 use Rattle.qc_event.specs.declared.event.How.{How}
-use Rattle.qc_event.specs.History.{Name}
 use Rattle.qc_interp.specs.Tries.{Tries, TriesDo, is_tried_again}
 
--- names that are tried again alike by two ways of ending
-abbrev pub AreAlike : (Name → Option How) → (Name → Option How) → Name → Type 0
-AreAlike first second n = is_tried_again (first n) ≡ is_tried_again (second n)
+-- what is tried again alike by two ways of ending
+abbrev pub AreAlike : {A : Type 0} → (A → Option How) → (A → Option How) → A → Type 0
+AreAlike first second t = is_tried_again (first t) ≡ is_tried_again (second t)
 
--- what holds of the name, if there is one
-abbrev pub IfAny : (Name → Type 0) → Option Name → Type 0
+-- what holds of the thing, if there is one
+abbrev pub IfAny : {A : Type 0} → (A → Type 0) → Option A → Type 0
 IfAny Good None = Unit {0}
-IfAny Good (Some n) = Good n
+IfAny Good (Some t) = Good t
 
-pub tries_alike : (first second : Name → Option How) (IsTry IsTryToo : Name → Type 0) (Stopped StoppedToo : Type 0) (Rest RestToo : Option Name → List Name → Type 0) (Good : Name → Type 0)
-    → ((x : Name) → Good x → AreAlike first second x) → (Stopped → StoppedToo) → ((x : Name) → Good x → IsTry x → IsTryToo x) → ((last : Option Name) (cs : List Name) → IfAny Good last → AllByRecursion Good cs → Rest last cs → RestToo last cs)
-    → (last : Option Name) (left : ℕ) (cs : List Name) → IfAny Good last → AllByRecursion Good cs → Tries first IsTry Stopped Rest last left cs → Tries second IsTryToo StoppedToo RestToo last left cs
+pub tries_alike : {A : Type 0} (first second : A → Option How) (IsTry IsTryToo : A → Type 0) (Stopped StoppedToo : Type 0) (Rest RestToo : Option A → List A → Type 0) (Good : A → Type 0)
+    → ((x : A) → Good x → AreAlike first second x) → (Stopped → StoppedToo) → ((x : A) → Good x → IsTry x → IsTryToo x) → ((last : Option A) (cs : List A) → IfAny Good last → AllByRecursion Good cs → Rest last cs → RestToo last cs)
+    → (last : Option A) (left : ℕ) (cs : List A) → IfAny Good last → AllByRecursion Good cs → Tries first IsTry Stopped Rest last left cs → Tries second IsTryToo StoppedToo RestToo last left cs
 tries_alike first second IsTry IsTryToo Stopped StoppedToo Rest RestToo Good alike stop try rest last zero cs was good h = rest last cs was good h
 tries_alike first second IsTry IsTryToo Stopped StoppedToo Rest RestToo Good alike stop try rest last (suc left) [] was good h = stop h
 tries_alike first second IsTry IsTryToo Stopped StoppedToo Rest RestToo Good alike stop try rest last (suc left) (x ∷ cs) was good h = (
@@ -31,9 +30,9 @@ tries_alike first second IsTry IsTryToo Stopped StoppedToo Rest RestToo Good ali
     by_test true h more = more h
     by_test false h more = rest (Some x) cs good.0 good.1 h
 
-pub tries_do_alike : (first second : Name → Option How) (Does DoesToo : Name → Type 0) (Rest RestToo : Option Name → List Name → Type 0) (Good : Name → Type 0)
-    → ((x : Name) → Good x → AreAlike first second x) → ((x : Name) → Good x → Does x → DoesToo x) → ((last : Option Name) (cs : List Name) → IfAny Good last → AllByRecursion Good cs → Rest last cs → RestToo last cs)
-    → (last : Option Name) (left : ℕ) (cs : List Name) → IfAny Good last → AllByRecursion Good cs → TriesDo first Does Rest last left cs → TriesDo second DoesToo RestToo last left cs
+pub tries_do_alike : {A : Type 0} (first second : A → Option How) (Does DoesToo : A → Type 0) (Rest RestToo : Option A → List A → Type 0) (Good : A → Type 0)
+    → ((x : A) → Good x → AreAlike first second x) → ((x : A) → Good x → Does x → DoesToo x) → ((last : Option A) (cs : List A) → IfAny Good last → AllByRecursion Good cs → Rest last cs → RestToo last cs)
+    → (last : Option A) (left : ℕ) (cs : List A) → IfAny Good last → AllByRecursion Good cs → TriesDo first Does Rest last left cs → TriesDo second DoesToo RestToo last left cs
 tries_do_alike first second Does DoesToo Rest RestToo Good alike try rest last zero cs was good h = rest last cs was good h
 tries_do_alike first second Does DoesToo Rest RestToo Good alike try rest last (suc left) [] was good h = absurd h
 tries_do_alike first second Does DoesToo Rest RestToo Good alike try rest last (suc left) (x ∷ cs) was good (inl h) = inl (try x good.0 h)
@@ -46,6 +45,6 @@ tries_do_alike first second Does DoesToo Rest RestToo Good alike try rest last (
     by_test false h more = rest (Some x) cs good.0 good.1 h
 
 -- where none stands, it stopped, or there were none to stand
-pub no_tries : (ended : Name → Option How) (IsTry : Name → Type 0) (Stopped : Type 0) (Rest : Option Name → List Name → Type 0) (last : Option Name) → Stopped → Rest last [] → (left : ℕ) → Tries ended IsTry Stopped Rest last left []
+pub no_tries : {A : Type 0} (ended : A → Option How) (IsTry : A → Type 0) (Stopped : Type 0) (Rest : Option A → List A → Type 0) (last : Option A) → Stopped → Rest last [] → (left : ℕ) → Tries ended IsTry Stopped Rest last left []
 no_tries ended IsTry Stopped Rest last stopped rest zero = rest
 no_tries ended IsTry Stopped Rest last stopped rest (suc left) = stopped

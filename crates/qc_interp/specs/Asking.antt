@@ -9,9 +9,10 @@ use Rattle.qc_event.specs.declared.event.Event.{Event}
 use Rattle.qc_event.specs.declared.event.Event.TheVariants as event
 use Rattle.qc_event.specs.declared.event.How.{How}
 use Rattle.qc_event.specs.declared.event.How.TheVariants.{Commit, Abort}
-use Rattle.qc_event.specs.History.{Past, Name, end, children}
+use Rattle.qc_event.specs.History.{Past, Name, end}
 use Rattle.qc_script.specs.Client.{Client, mine}
-use Rattle.qc_interp.specs.Follows.{above}
+use Rattle.qc_interp.specs.Deeds.{Deed, deeds, deed_end, OfChild}
+use Rattle.qc_interp.specs.Follows.{above, WasAsked, WasKilled}
 use Rattle.qc_script.specs.Plan.{Plan, Numbered}
 use Rattle.qc_interp.specs.Tries.{TriesDo}
 
@@ -21,28 +22,31 @@ DoesOn (Some (Commit given)) rest = rest given
 DoesOn _ rest = ⊥
 
 -- it is done behind the last try of a child, which has committed if it must
-abbrev pub DoesAfter : Past → Option Name → Bool → Type 0 → Type 0
+abbrev pub DoesAfter : Past → Option Deed → Bool → Type 0 → Type 0
 DoesAfter past None must rest = rest
-DoesAfter past (Some child) false rest = rest
-DoesAfter past (Some child) true rest = DoesOn (end past child) (λ given. rest)
+DoesAfter past (Some d) false rest = rest
+DoesAfter past (Some d) true rest = DoesOn (deed_end past d) (λ given. rest)
 
--- As a transaction with these children follows its plan, one of its body or below, `by`, comes to a step `abort` that
--- names its ancestor `target`.
-abbrev pub Asks : Past → Name → Plan → List Name → Name → Name → Type 0
-Asks past n Plan.done cs by target = ⊥
+-- As a transaction that does this follows its plan, one of its body or below, `by`, comes to a step `abort` that names its
+-- ancestor `target`. One that was killed before the step did not come to it. One that was aborted as another asked goes on,
+-- and what it marks then counts for nothing.
+abbrev pub Asks : Past → Name → Plan → List Deed → Name → Name → Type 0
+Asks past n Plan.done ds by target = ⊥
 Asks past n (Plan.manage_by k next) [] by target = ⊥
-Asks past n (Plan.manage_by k next) (c ∷ further) by target = DoesOn (end past c) (λ given. Asks past n (next given) further by target)
-Asks past n (Plan.child_then number tries must inner rest) cs by target =
-    TriesDo (end past) (λ c. Asks past c inner (children past c) by target) (λ last further. DoesAfter past last must (Asks past n rest further by target)) None tries cs
-Asks past n (Plan.abort_then levels rest) [] by target = (by ≡ n) × (target ≡ above n levels)
-Asks past n (Plan.abort_then levels rest) (c ∷ further) by target = ⊥
-Asks past n (Plan.crash_then copy rest) cs by target = Asks past n rest cs by target
+Asks past n (Plan.manage_by k next) (d ∷ further) by target = DoesOn (deed_end past d) (λ given. Asks past n (next given) further by target)
+Asks past n (Plan.child_then number tries must inner rest) ds by target =
+    TriesDo (deed_end past) (OfChild (λ c. Asks past c inner (deeds past c) by target)) (λ last further. DoesAfter past last must (Asks past n rest further by target)) None tries ds
+Asks past n (Plan.abort_then levels rest) [] by target = (by ≡ n) × (target ≡ above n levels) × (WasKilled (end past n) → ⊥)
+Asks past n (Plan.abort_then levels rest) (d ∷ further) by target = ⊥
+Asks past n (Plan.crash_then copy rest) ds by target = Asks past n rest ds by target
+Asks past n (Plan.kill_then session rest) [] by target = WasAsked n (end past n) × Asks past n rest [] by target
+Asks past n (Plan.kill_then session rest) (d ∷ further) by target = Asks past n rest further by target
 
 -- the same for the tops of bodies
 abbrev pub BodiesAsk : Past → List Numbered → List Name → Name → Name → Type 0
 BodiesAsk past [] ts by target = ⊥
 BodiesAsk past (b ∷ bodies) ts by target =
-    TriesDo (end past) (λ t. Asks past t b.plan (children past t) by target) (λ last further. BodiesAsk past bodies further by target) None b.tries ts
+    TriesDo (end past) (λ t. Asks past t b.plan (deeds past t) by target) (λ last further. BodiesAsk past bodies further by target) None b.tries ts
 
 -- whoever the event aborts as another asked, that one may ask so
 abbrev pub IsAskedBy : (Name → Name → Type 0) → Event → Type 0

@@ -15,7 +15,7 @@ use Rattle.qc_script.specs.Plan.{SessionPlan}
 use Rattle.qc_interp.specs.Asking.{BodiesAsk}
 use Rattle.qc_interp.specs.Reach.{Reach, AtTheEnd}
 use Rattle.qc_interp.specs.Session.{RunsBodies}
-use Rattle.qc_interp.specs.Sessions.{tops_of, RunsInTurn, meets, is_settled, all_unmarked}
+use Rattle.qc_interp.specs.Sessions.{tops_of, RunsInTurn, meets, is_settled}
 
 abbrev pub started_in : Event → Option Name
 started_in (Start n k) = Some n
@@ -31,8 +31,8 @@ started past = every (λ e. started_in e.event) past
 abbrev pub net_of : ℕ → SessionPlan → Net
 net_of patience s = record { fates = s.fates; hold = s.hold; patience = patience }
 
--- A history has a session: its tops are tries of the session's bodies in order, each with the children that its plan asks
--- for, as far as the run came; the session runs in turn; and its requests meet the fates of its link.
+-- A history has a session: its tops are tries of the session's bodies in order, each of which does what its plan asks for,
+-- as far as the run came; the session runs in turn; and its requests meet the fates of its link.
 pub record RunsSession (reach : Reach) (session patience : ℕ) (plan : SessionPlan) (past : Past) : Type 0 where
   pub bodies_run : RunsBodies reach session past plan.tops (tops_of session past)
   pub in_turn : RunsInTurn session past
@@ -61,15 +61,14 @@ is_in_session count past t = option_map_or (is_of_session count) (kind_of past t
 
 -- A history is of a script of sessions, in an epoch, with so much patience. Each top is of a session of the script, and
 -- the history has each session; tops are numbered in order, whatever their sessions; whoever was aborted as another asked
--- is named by a step `abort` to which that one came; where the run came to its end, each that has started has ended, or
--- is a ready top that was unable to be logged; and nothing was marked.
+-- is named by a step `abort` to which that one came; and where the run came to its end, each that has started has ended, or
+-- is a ready top that was unable to be logged.
 pub record RunsScript (reach : Reach) (epoch patience : ℕ) (sessions : List SessionPlan) (past : Past) : Type 0 where
   pub only : IsTrue (list_all (is_in_session (length sessions) past) (children past []))
   pub each_runs : EachRuns reach 0 patience sessions past
   pub numbers : IsTrue (each (is_next_top epoch) past)
   pub as_asked : (n by : Name) → end past n ≡ Some (Abort (Asked by)) → (n ≡ by) ⊎ OneAsks 0 sessions past by n
   pub each_settled : AtTheEnd reach (IsTrue (list_all (is_settled past) (started past)))
-  pub unmarked : IsTrue (all_unmarked past)
 
 -- It follows the script.
 abbrev pub FollowsScript : ℕ → ℕ → List SessionPlan → Past → Type 0

@@ -2,10 +2,11 @@ pub mod Change
 pub mod Adding
 pub mod Asking
 pub mod Tries
+pub mod Turns
+pub mod Deeds
 pub mod Reach
 pub mod Follows
 pub mod FollowsScript
-pub mod Turns
 pub mod Running
 pub mod Session
 pub mod Sessions

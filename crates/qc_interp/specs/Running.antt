@@ -1,23 +1,24 @@
 -- What holds of a transaction between two of its steps, and what a step leaves.
-use Rattle.std.specs.Prelude.{ℕ, ◌≡◌, ◌<◌, ◌⊎◌, Bool, true, false, List, ◌++◌, length, take, Option, None, Some, MatchOption}
+use Rattle.std.specs.Prelude.{ℕ, ◌≡◌, ◌<◌, ◌⊎◌, Bool, true, false, List, [], ◌++◌, length, take, Option, None, Some, MatchOption, option_map}
 use Rattle.qc_event.specs.declared.event.Answer.{Answer}
 use Rattle.qc_event.specs.declared.event.Answer.TheVariants as answer
 use Rattle.qc_event.specs.declared.event.Cause.TheVariants as cause
-use Rattle.qc_event.specs.Users.{UserCause}
+use Rattle.qc_event.specs.Users.{UserCause, is_marked, top_number}
 use Rattle.qc_script.specs.declared.tx.TxNo.{TxNo}
 use Rattle.qc_script.specs.declared.tx.TxNo.TheVariants as tx_no
-use Rattle.qc_script.specs.Calls.{Refuses}
+use Rattle.qc_script.specs.Calls.{Refuses, IsOfSession}
 use Rattle.qc_event.specs.declared.event.How.{How}
 use Rattle.qc_event.specs.declared.event.How.TheVariants.{Commit, Abort}
 use Rattle.qc_event.specs.declared.event.Kind.{Kind}
 use Rattle.qc_event.specs.declared.event.Kind.TheVariants as kind
-use Rattle.qc_event.specs.History.{Past, Name, end, is_ready, is_child, children, kind_of}
+use Rattle.qc_event.specs.History.{Past, Name, end, is_ready, is_child, kind_of}
 use Rattle.qc_event.specs.Legal.{Legal}
 use Rattle.qc_event.specs.Standing.{Started, IsUser, IsAbort, open_child}
 use Rattle.qc_interp.specs.Adding.{AllStayIn}
 use Rattle.qc_script.specs.Calls.{is_over}
-use Rattle.qc_script.specs.Client.{Client, mine, IsLater, AreOurs}
-use Rattle.qc_interp.specs.Follows.{StopsEarly, Stops, WasAsked, IsUnended, is_of_orphan, AfterTries, RunsPlan}
+use Rattle.qc_script.specs.Client.{Client, mine, Made, IsLater, AreOurs}
+use Rattle.qc_interp.specs.Deeds.{Deed, deeds, deed_end, OfChild}
+use Rattle.qc_interp.specs.Follows.{StopsEarly, Stops, StopsBefore, WasAsked, IsUnended, is_of_orphan, AfterTries, RunsPlan}
 use Rattle.qc_interp.specs.declared.body.Came.{Came}
 use Rattle.qc_interp.specs.declared.body.Came.TheVariants as came
 use Rattle.qc_interp.specs.declared.managing.Look.{Look}
@@ -31,17 +32,17 @@ use Rattle.qc_interp.specs.Turns.{takes_turn, is_alone}
 use Rattle.qc_interp.specs.Tries.{Tries, is_tried_again, TriesDo}
 use Rattle.qc_interp.specs.Asking.{DoesAfter, Asks, AllAsked}
 
--- A transaction that runs: by what the client made neither it nor one above it has ended itself or is ready, and no child is open.
+-- A user transaction of the client's session that runs: by what the client made neither it nor one above it has ended itself or is ready, and no child is open.
 pub record Runs (c : Client) (of : Name) (now : Past) : Type 0 where
   pub legal : Legal c.setting now
-  pub user : Started now of (λ b. IsUser b.kind)
+  pub user : Started now of (λ b. IsOfSession c.session b.kind)
   pub nonroot : 0 < length of
   pub above : (p r : Name) → of ≡ p ++ r → 0 < length p → IsUnended p (end (mine c now) p) × (is_ready (mine c now) p ≡ false)
   pub closed : AreOurs c of now → open_child (mine c now) of ≡ None
 
 -- what is left as it was of a transaction above
 pub record LeavesIt (c : Client) (p : Name) (before now : Past) : Type 0 where
-  pub children : children (mine c now) p ≡ children (mine c before) p
+  pub deeds : deeds (mine c now) p ≡ deeds (mine c before) p
   pub ready : is_ready (mine c now) p ≡ is_ready (mine c before) p
   pub unended : IsUnended p (end (mine c before) p) → IsUnended p (end (mine c now) p)
 
@@ -61,7 +62,7 @@ Leaves c of before now = LeavesAt Reach.to_the_end c of before now
 -- meanwhile as another asked, that one came to a step `abort` that names it.
 abbrev pub EndsAt : Reach → Client → Name → Past → Past → Plan → Type 0
 EndsAt reach c of before now plan =
-    AreOurs c of now → (further : List Name) × (children (mine c now) of ≡ children (mine c before) of ++ further) × RunsPlan reach c.session (mine c now) of plan further (end (mine c now) of)
+    AreOurs c of now → (further : List Deed) × (deeds (mine c now) of ≡ deeds (mine c before) of ++ further) × RunsPlan reach c.session (mine c now) of plan further (end (mine c now) of)
     × AllAsked c before now (λ by t. Asks (mine c now) of plan further by t)
 
 abbrev pub Ends : Client → Name → Past → Past → Plan → Type 0
@@ -90,7 +91,7 @@ pub record CutOff (c : Client) (of : Name) (before now : Past) (plan : Plan) : T
 pub record Quit (c : Client) (of : Name) (how : How) (before now : Past) (again : Bool) : Type 0 where
   pub leaves : Leaves c of before now
   pub tried : CameTo (finish.Stopped again) (end (mine c now) of)
-  pub children : children (mine c now) of ≡ children (mine c before) of
+  pub deeds : deeds (mine c now) of ≡ deeds (mine c before) of
   pub asked : AllAsked c before now (λ by t. ⊥)
   pub ended : AreOurs c of now → (end (mine c now) of ≡ Some how) ⊎ WasAsked of (end (mine c now) of)
 
@@ -114,7 +115,7 @@ StopsBy of why how = WasAsked of how
 pub record Stopped (c : Client) (of : Name) (why : TxNo) (before now : Past) (again : Bool) : Type 0 where
   pub leaves : Leaves c of before now
   pub tried : CameTo (finish.Stopped again) (end (mine c now) of)
-  pub children : children (mine c now) of ≡ children (mine c before) of
+  pub deeds : deeds (mine c now) of ≡ deeds (mine c before) of
   pub asked : AllAsked c before now (λ by t. ⊥)
   pub ended : AreOurs c of now → StopsBy of why (end (mine c now) of)
 
@@ -133,7 +134,7 @@ WasOrphan _ = ⊥
 pub record QuitFor (c : Client) (of child : Name) (before now : Past) (again : Bool) : Type 0 where
   pub leaves : Leaves c of before now
   pub tried : CameTo (finish.Stopped again) (end (mine c now) of)
-  pub children : children (mine c now) of ≡ children (mine c before) of
+  pub deeds : deeds (mine c now) of ≡ deeds (mine c before) of
   pub asked : AllAsked c before now (λ by t. ⊥)
   pub ended : AreOurs c of now → ((WasOrphan (end (mine c now) child) → ⊥) × (end (mine c now) of ≡ Some (Abort (cause.Child child)))) ⊎ StopsEarly of (end (mine c now) of)
 
@@ -147,6 +148,37 @@ pub record WentOn (c : Client) (of : Name) (before now : Past) (front : Plan →
   pub leaves : Leaves c of before now
   pub runs : Runs c of now
   pub follows : FrontFollows c of before now front
+
+-- MARKS
+
+-- the client has not marked its session by a transaction whose top has at least the number of this one's
+abbrev pub HasNotMarked : Client → Name → Past → Type 0
+HasNotMarked c of now = is_marked (mine c now) c.session (top_number of) ≡ false
+
+-- From `now` on a transaction does nothing: it was killed, or aborted as another asked, or the run was cut off while it ran.
+abbrev pub StopsThere : Reach → Client → Name → Past → Past → Type 0
+StopsThere reach c of now x =
+    AreOurs c of x → (deeds (mine c x) of ≡ deeds (mine c now) of) × StopsBefore reach (mine c x) of (end (mine c x) of) × AllAsked c now x (λ by t. ⊥)
+
+-- A step was done, and the transaction looks whether it is killed before it does more. It may stop there, and goes on only
+-- where the client has not marked its session.
+pub record Acted (c : Client) (of : Name) (before now : Past) (front : Plan → Plan) : Type 0 where
+  pub leaves : Leaves c of before now
+  pub runs : Runs c of now
+  pub follows : HasNotMarked c of now → FrontFollows c of before now front
+  pub stops : (reach : Reach) (x : Past) → IsLater c now x → StopsThere reach c of now x → (rest : Plan) → EndsAt reach c of before x (front rest)
+
+-- A step was done, and the transaction has not ended, or has ended so that its body is tried again, or not.
+abbrev pub HasActed : Client → Name → Past → Past → (Plan → Plan) → Option Bool → Type 0
+HasActed c of before now front None = Acted c of before now front
+HasActed c of before now front (Some again) = (rest : Plan) → Ended c of before now (front rest) (finish.Stopped again)
+
+-- A transaction has looked whether it is killed, and goes on, or was killed.
+abbrev pub HasLooked : Client → Name → Past → Past → Option Bool → Type 0
+HasLooked c of before now None = Made c [] before now × HasNotMarked c of now
+HasLooked c of before now (Some again) = Quit c of (Abort cause.Killed) before now again
+
+-- BY ANSWERS, AND IN TRIES
 
 -- A transaction goes on after a manager that committed, and does what follows by its answer.
 pub record WentBy (c : Client) (of : Name) (before now : Past) (k : Kind) (given : Answer) : Type 0 where
@@ -168,11 +200,11 @@ Stepped c of before now front (Some again) = (rest : Plan) → Ended c of before
 -- far as the run.
 abbrev pub EndsTries : Reach → Client → Name → Past → Past → Numbered → Option Name → ℕ → Plan → Type 0
 EndsTries reach c of before now body last left rest =
-    AreOurs c of now → (further : List Name) × (children (mine c now) of ≡ children (mine c before) of ++ further)
-    × Tries (end (mine c now)) (λ n. (kind_of (mine c now) n ≡ Some (kind.User c.session body.number)) × RunsPlan reach c.session (mine c now) n body.plan (children (mine c now) n) (end (mine c now) n))
+    AreOurs c of now → (further : List Deed) × (deeds (mine c now) of ≡ deeds (mine c before) of ++ further)
+    × Tries (deed_end (mine c now)) (OfChild (λ n. (kind_of (mine c now) n ≡ Some (kind.User c.session body.number)) × RunsPlan reach c.session (mine c now) n body.plan (deeds (mine c now) n) (end (mine c now) n)))
     (Stops reach (mine c now) of (end (mine c now) of))
-    (λ latest more. AfterTries reach (mine c now) of latest body.must (RunsPlan reach c.session (mine c now) of rest more (end (mine c now) of)) more (end (mine c now) of)) last left further
-    × AllAsked c before now (λ by t. TriesDo (end (mine c now)) (λ n. Asks (mine c now) n body.plan (children (mine c now) n) by t) (λ latest more. DoesAfter (mine c now) latest body.must (Asks (mine c now) of rest more by t)) last left further)
+    (λ latest more. AfterTries reach (mine c now) of latest body.must (RunsPlan reach c.session (mine c now) of rest more (end (mine c now) of)) more (end (mine c now) of)) (option_map Deed.child last) left further
+    × AllAsked c before now (λ by t. TriesDo (deed_end (mine c now)) (OfChild (λ n. Asks (mine c now) n body.plan (deeds (mine c now) n) by t)) (λ latest more. DoesAfter (mine c now) latest body.must (Asks (mine c now) of rest more by t)) (option_map Deed.child last) left further)
 
 -- a step that runs a child of a body
 abbrev pub child_step : Numbered → Plan → Plan

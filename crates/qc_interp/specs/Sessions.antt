@@ -50,9 +50,11 @@ is_under past seat n = option_map_or (λ (b : Begun). b.seat == seat) (start pas
 abbrev pub seat_for : ℕ → Past → ℕ → Event → Bool
 seat_for s past seat (event.Start (number ∷ []) k) = list_all (is_under past seat) (tops_of s past)
 seat_for s past seat (event.Start n k) = is_under past seat (name.front n)
+seat_for s past seat (event.Mark n session) = is_under past seat n
 seat_for s past seat _ = true
 
--- A top starts under the seat of the session's earlier tops, and a child under its parent's.
+-- A top starts under the seat of the session's earlier tops, a child under its parent's, and a mark is made under the seat
+-- of who makes it.
 abbrev pub keeps_seat : ℕ → Entry → Past → Bool
 keeps_seat s e past = seat_for s past e.seat e.event
 
@@ -62,7 +64,7 @@ keeps_seat s e past = seat_for s past e.seat e.event
 abbrev pub after_others : ℕ → Entry → Past → Bool
 after_others s e past = option_map_or (λ t. list_all (is_over past) (tops_of s past)) (top_in s e.event) true
 
--- A session runs in turn: whoever starts, is ready or ends does so while each user transaction and manager of the
+-- A session runs in turn: whoever starts, marks, is ready or ends does so while each user transaction and manager of the
 -- session that is not done is an ancestor of who acts; it keeps its seat; and its tops start one after another.
 pub record RunsInTurn (s : ℕ) (past : Past) : Type 0 where
   pub turns : IsTrue (each takes_turn (part_of s past))
@@ -88,12 +90,3 @@ is_settled past n = is_some (end past n) || (is_ready past n && is_over past n)
 -- each access whose manager has ended has ended
 abbrev pub AccessesEnd : Past → Type 0
 AccessesEnd past = (n : Name) → Started past n (λ b. IsTrue (is_access b.kind)) → is_some (end past (name.front n)) ≡ true → is_some (end past n) ≡ true
-
--- WHERE NO STEP MARKS
-
-abbrev pub is_unmarked : Event → Bool
-is_unmarked (event.Mark n session) = false
-is_unmarked _ = true
-
-abbrev pub all_unmarked : Past → Bool
-all_unmarked past = list_all (λ (e : Entry). is_unmarked e.event) past

@@ -11,15 +11,14 @@ use Rattle.qc_script.specs.Plan.{SessionPlan}
 use Rattle.qc_interp.specs.FollowsScript.{net_of}
 use Rattle.qc_interp.specs.Reach.{Reach}
 use Rattle.qc_interp.specs.Session.{EndsTopsAt, InTurnAt}
-use Rattle.qc_interp.specs.Sessions.{is_unmarked}
 
 -- a client that has no branches, under a client's seat
 pub record IsSingle (c : Client) : Type 0 where
   pub kinless : c.kin ≡ []
   pub client : is_client c.number ≡ true
 
--- A client ran its session: what it made is tops that are tries of the session's bodies, made in turn; its requests meet
--- the fates of the session's link; and it marked nothing.
+-- A client ran its session: what it made is tops that are tries of the session's bodies, made in turn; and its requests
+-- meet the fates of the session's link.
 pub record HasRun (reach : Reach) (setting : Setting) (session epoch patience : ℕ) (c : Client) (plan : SessionPlan) (past : Past) : Type 0 where
   pub session_is : c.session ≡ session
   pub epoch_is : c.epoch ≡ epoch
@@ -28,7 +27,6 @@ pub record HasRun (reach : Reach) (setting : Setting) (session epoch patience : 
   pub ends : EndsTopsAt reach c [] past plan.tops
   pub in_turn : InTurnAt reach c [] past
   pub met : meets_fates c.number (net_of patience plan) past ≡ true
-  pub unmarked : AllByRecursion (λ (e : Entry). is_own c e.seat ≡ true → is_unmarked e.event ≡ true) past
 
 -- as many clients as sessions, numbered from this one on: each ran its own
 abbrev pub EachHasRun : Reach → Setting → ℕ → ℕ → ℕ → List Client → List SessionPlan → Past → Type 0

@@ -16,9 +16,10 @@ abbrev pub begun_in : Event → Option Name
 begun_in (event.Start n k) = if is_access k then None else Some n
 begun_in _ = None
 
--- who acts: the parent of one that starts, who asked for an abort, and else who is ready or ends
+-- who acts: the parent of one that starts, who asked for an abort, and else who marks, is ready or ends
 abbrev pub acts : Event → Option Name
 acts (event.Start n k) = if is_access k then None else Some (name.front n)
+acts (event.Mark n session) = Some n
 acts (event.Ready n) = Some n
 acts (event.End n (Abort (Asked by))) = Some by
 acts (event.End n how) = Some n

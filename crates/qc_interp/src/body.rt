@@ -4,9 +4,11 @@ ghost use Rattle.qc_event.specs.History.{limit};
 ghost use Rattle.qc_script.specs.Calls.{MeetsLink};
 ghost use Rattle.qc_script.specs.Plan.{Plan, PlanFits};
 ghost use Rattle.qc_script.specs.Steps.{put, plan_of, numbered};
-ghost use Rattle.qc_interp.specs.Running.{Runs, Ended, CutOff, Stepped, TriesCame, child_step};
+ghost use Rattle.qc_interp.specs.Running.{Runs, Ended, CutOff, HasActed, Stepped, TriesCame, child_step};
 
 use crate::managing::{Change, change_value, manage, need};
+use crate::marks::{look, mark};
+use crate::pause::Pause;
 use crate::stops::{Finish, ask, commit, quit_for, stop};
 use qc_event::{Kind, Name, Short};
 use qc_script::{Body, Step, Tx, TxNo};
@@ -38,7 +40,9 @@ fn tries<T: Tx>(tx: &mut T, of: &Name, body: &Body) -> Result<Came, Short>
     ensures room { IfErr result (λ e. e ≡ Short.Room → length (T.view tx.new).seen ≡ limit) }
 {
     let mut last = None;
+    let mut pause = Pause::none();
     for _ in 0..body.tries {
+        pause.take();
         match tx.begin(of, body.number) {
             Ok(name) => match steps(tx, &name, body.steps.as_slice())? {
                 Finish::Committed => return Ok(Came::Through),
@@ -46,6 +50,7 @@ fn tries<T: Tx>(tx: &mut T, of: &Name, body: &Body) -> Result<Came, Short>
                     if !again {
                         return Ok(Came::Failed { last: name });
                     }
+                    pause.grow(&name);
                     last = Some(name);
                 }
             },
@@ -96,16 +101,16 @@ fn child<T: Tx>(tx: &mut T, of: &Name, body: &Body) -> Result<Option<bool>, Shor
     }
 }
 
-// One step.
+// Does one step.
 #[cycle(run)]
-fn step<T: Tx>(tx: &mut T, of: &Name, step: &Step) -> Result<Option<bool>, Short>
+fn act<T: Tx>(tx: &mut T, of: &Name, step: &Step) -> Result<Option<bool>, Short>
     requires runs { Runs (T.view tx.old).client of.now (T.view tx.old).seen }
     requires fits { PlanFits (T.view tx.old).client.setting (length of.now)
         (put step.now Plan.done) }
     requires met { MeetsLink (T.view tx.old) }
     ensures met { MeetsLink (T.view tx.new) }
     ensures client { (T.view tx.new).client ≡ (T.view tx.old).client }
-    ensures ok { IfOk result (Stepped (T.view tx.old).client of.now (T.view tx.old).seen
+    ensures ok { IfOk result (HasActed (T.view tx.old).client of.now (T.view tx.old).seen
         (T.view tx.new).seen (put step.now)) }
     ensures cut { IfErr result (λ _. (rest : Plan) → CutOff (T.view tx.old).client of.now
         (T.view tx.old).seen (T.view tx.new).seen (put step.now rest)) }
@@ -139,6 +144,31 @@ fn step<T: Tx>(tx: &mut T, of: &Name, step: &Step) -> Result<Option<bool>, Short
             tx.crash(*copy);
             Ok(None)
         }
+        Step::Kill { session } => {
+            mark(tx, of, *session)?;
+            Ok(None)
+        }
+    }
+}
+
+// One step. Behind it the transaction looks whether it is killed.
+#[cycle(run)]
+fn step<T: Tx>(tx: &mut T, of: &Name, step: &Step) -> Result<Option<bool>, Short>
+    requires runs { Runs (T.view tx.old).client of.now (T.view tx.old).seen }
+    requires fits { PlanFits (T.view tx.old).client.setting (length of.now)
+        (put step.now Plan.done) }
+    requires met { MeetsLink (T.view tx.old) }
+    ensures met { MeetsLink (T.view tx.new) }
+    ensures client { (T.view tx.new).client ≡ (T.view tx.old).client }
+    ensures ok { IfOk result (Stepped (T.view tx.old).client of.now (T.view tx.old).seen
+        (T.view tx.new).seen (put step.now)) }
+    ensures cut { IfErr result (λ _. (rest : Plan) → CutOff (T.view tx.old).client of.now
+        (T.view tx.old).seen (T.view tx.new).seen (put step.now rest)) }
+    ensures room { IfErr result (λ e. e ≡ Short.Room → length (T.view tx.new).seen ≡ limit) }
+{
+    match act(tx, of, step)? {
+        Some(again) => Ok(Some(again)),
+        None => look(tx, of),
     }
 }
 
@@ -157,6 +187,9 @@ pub fn steps<T: Tx>(tx: &mut T, of: &Name, steps: &[Step]) -> Result<Finish, Sho
         (T.view tx.old).seen (T.view tx.new).seen (plan_of steps.now)) }
     ensures room { IfErr result (λ e. e ≡ Short.Room → length (T.view tx.new).seen ≡ limit) }
 {
+    if let Some(again) = look(tx, of)? {
+        return Ok(Finish::Stopped { again });
+    }
     for s in steps {
         if let Some(again) = step(tx, of, s)? {
             return Ok(Finish::Stopped { again });

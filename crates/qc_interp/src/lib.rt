@@ -4,6 +4,8 @@
 mod body;
 mod gate;
 mod managing;
+mod marks;
+mod pause;
 mod stops;
 mod tops;
 

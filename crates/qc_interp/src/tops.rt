@@ -9,6 +9,7 @@ ghost use Rattle.qc_interp.specs.Session.{EndsTops, RanTops, RanInTurn, CutTops}
 ghost use Rattle.qc_script.specs.Plan.{BodiesFit};
 
 use crate::body::steps;
+use crate::pause::Pause;
 use qc_event::{Name, Short};
 use qc_script::{Body, Tx, TxNo};
 
@@ -25,12 +26,15 @@ fn top_tries<T: Tx>(tx: &mut T, body: &Body) -> Result<(), Short>
         (T.view tx.old).seen (T.view tx.new).seen (numbered body.now ∷ rest)) }
     ensures room { IfErr result (λ e. e ≡ Short.Room → length (T.view tx.new).seen ≡ limit) }
 {
+    let mut pause = Pause::none();
     for _ in 0..body.tries {
+        pause.take();
         match tx.begin(&Name::root(), body.number) {
             Ok(name) => {
                 if !steps(tx, &name, body.steps.as_slice())?.is_again() {
                     return Ok(());
                 }
+                pause.grow(&name);
             }
             Err(TxNo::Room) => return Err(Short::Room),
             Err(_) => return Err(Short::Memory),

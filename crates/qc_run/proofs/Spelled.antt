@@ -21,7 +21,8 @@ use Rattle.qc_event.specs.declared.table.Table.{Table}
 use Rattle.qc_script.specs.Plan.{ScriptPlan}
 use Rattle.qc_script.proofs.Proper.{then_ok, must_true, within_limits}
 use Rattle.qc_script.specs.Reading.{IsProper, IsScript}
-use Rattle.qc_script.specs.ScriptText.{Read, Text, followed, ◌>>=◌, must, each, within, limited, config_of, configured, form_of_name, fresh, name_of, names_of, records_of, row_of, rows_of, script_of, vote_of}
+use Rattle.qc_script.specs.JsonText.{Read, Text, followed, ◌>>=◌, must, each, within, limited}
+use Rattle.qc_script.specs.ScriptText.{config_of, configured, form_of_name, fresh, name_of, names_of, records_of, row_of, rows_of, script_of, vote_of}
 use Rattle.qc_script.specs.declared.bad_script.BadScript.{BadScript}
 use Rattle.qc_script.specs.declared.bad_script.BadScript.TheVariants.{Config, Limit}
 use Rattle.qc_script.specs.declared.bad_script.Member.{Member}

@@ -13,7 +13,8 @@ use Rattle.qc_run.specs.Left.{IsNoScript, IsUnread}
 use Rattle.qc_script.specs.Reading.{IsScript, IsRefused}
 use Rattle.qc_run.specs.Run.{ReadsScript, ReadIt, IsScriptFault, IsNoRun, IsRun, IsSessionRun}
 use Rattle.serde_json.specs.Data.{Data}
-use Rattle.qc_script.specs.ScriptText.{script_of, Read}
+use Rattle.qc_script.specs.JsonText.{Read}
+use Rattle.qc_script.specs.ScriptText.{script_of}
 use Rattle.qc_script.proofs.OneScript.{one_value, script_not_refused}
 
 -- one byte more than a script may have

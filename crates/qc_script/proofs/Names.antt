@@ -9,7 +9,8 @@ use Rattle.serde_json.specs.Data.{Data}
 use Rattle.qc_script.specs.declared.bad_script.BadScript.TheVariants.{Twice}
 use Rattle.qc_script.specs.declared.bad_script.Member.TheVariants as part
 use Rattle.qc_script.specs.Reading.{texts_of}
-use Rattle.qc_script.specs.ScriptText.{Text, followed, ◌>>=◌, must, text_at, form_of_name, name_of}
+use Rattle.qc_script.specs.JsonText.{Text, followed, ◌>>=◌, must, text_at}
+use Rattle.qc_script.specs.ScriptText.{form_of_name, name_of}
 use Rattle.qc_script.proofs.Objects.{list_any-map}
 use Rattle.qc_script.proofs.Refusals.{is_then}
 

@@ -2,7 +2,8 @@
 use Rattle.std.proofs.Common.{◌≡◌, ℕ, List, Option, Some, Ok, Err, refl, sym, ap, ◌∙◌, arith}
 use Rattle.serde_json.specs.Data.{Data}
 use Rattle.qc_script.specs.Plan.{ScriptPlan}
-use Rattle.qc_script.specs.ScriptText.{Read, script_of}
+use Rattle.qc_script.specs.JsonText.{Read}
+use Rattle.qc_script.specs.ScriptText.{script_of}
 use Rattle.qc_script.specs.Reading.{IsRead, IsScript, IsRefused}
 use Rattle.qc_script.specs.declared.bad_script.BadScript.{BadScript}
 use Rattle.qc_script.specs.declared.bad_script.BadScript.TheVariants.{NotJson, Shape, Limit, Config, Unknown, TooLong, Twice, Memory}

@@ -2,7 +2,8 @@
 use Rattle.std.specs.Prelude.{List, [], ◌∷◌, ◌++◌, Ok}
 use Rattle.qc_script.specs.declared.script.Step.{Step}
 use Rattle.qc_script.specs.Plan.{Plan}
-use Rattle.qc_script.specs.ScriptText.{Read, Counted, ◌>>=◌}
+use Rattle.qc_script.specs.JsonText.{Read, ◌>>=◌}
+use Rattle.qc_script.specs.ScriptText.{Counted}
 use Rattle.qc_script.specs.Steps.{put}
 
 -- the elements that were read, and those that are still read

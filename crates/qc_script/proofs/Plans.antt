@@ -4,12 +4,12 @@ use Rattle.std.proofs.lemmas.List.{drop_all}
 use Rattle.serde_json.specs.Data.{Data}
 use Rattle.serde_json.specs.View.{view}
 use Rattle.serde_json.specs.declared.value.Value.{Value}
-use Rattle.qc_event.specs.declared.table.Table.{Table}
 use Rattle.qc_script.specs.declared.script.Body.{Body, roll-Body, fold-roll-Body}
 use Rattle.qc_script.specs.declared.script.Step.{Step}
 use Rattle.qc_script.specs.declared.script.Step.TheOpen.{Body-F}
 use Rattle.qc_script.specs.Plan.{Plan, Numbered}
-use Rattle.qc_script.specs.ScriptText.{Counted, Front, followed, ◌>>=◌, step_of, steps_of}
+use Rattle.qc_script.specs.JsonText.{followed, ◌>>=◌}
+use Rattle.qc_script.specs.ScriptText.{Counted, Front, Scope, step_of, steps_of}
 use Rattle.qc_script.specs.Steps.{before, all_before, layer, numbered, put, plan_of}
 use Rattle.qc_script.proofs.Parts.{put_all, with_steps}
 
@@ -36,22 +36,22 @@ unfolding followed
 put_next front s (Ok rest) = ap (λ (p : Plan). Ok (p, rest.1)) (sym (put_all-push front s rest.0))
 put_next front s (Err e) = refl
 
-with_steps-cons : (body : ℕ → Data → Counted Numbered) (depth : ℕ) (table : Table) (next after : ℕ) (front : List Step) (s : Step) (d : Data) (ds : List Data) → step_of body depth table next d ≡ Ok (put s, after) → with_steps front (steps_of body depth table next (d ∷ ds)) ≡ with_steps (front ++ s ∷ []) (steps_of body depth table after ds)
+with_steps-cons : (body : ℕ → Data → Counted Numbered) (depth : ℕ) (scope : Scope) (next after : ℕ) (front : List Step) (s : Step) (d : Data) (ds : List Data) → step_of body depth scope next d ≡ Ok (put s, after) → with_steps front (steps_of body depth scope next (d ∷ ds)) ≡ with_steps (front ++ s ∷ []) (steps_of body depth scope after ds)
 unfolding followed
-with_steps-cons body depth table next after front s d ds h =
-    ap (λ (r : Counted Front). with_steps front (r >>= λ first. steps_of body depth table first.1 ds >>= λ rest. Ok (first.0 rest.0, rest.1))) h
-    ∙ put_next front s (steps_of body depth table after ds)
+with_steps-cons body depth scope next after front s d ds h =
+    ap (λ (r : Counted Front). with_steps front (r >>= λ first. steps_of body depth scope first.1 ds >>= λ rest. Ok (first.0 rest.0, rest.1))) h
+    ∙ put_next front s (steps_of body depth scope after ds)
 
 -- one more step is read
-pub with_steps-next : (body : ℕ → Data → Counted Numbered) (depth : ℕ) (table : Table) (next after : ℕ) (front : List Step) (s : Step) (list : List Value) (i : ℕ) (x : Value) → i < length list → x ≡ get_or list i x → step_of body depth table next (view x) ≡ Ok (put s, after) → with_steps front (steps_of body depth table next (map view (drop i list))) ≡ with_steps (front ++ s ∷ []) (steps_of body depth table after (map view (drop (i + 1) list)))
-with_steps-next body depth table next after front s list i x below is h =
+pub with_steps-next : (body : ℕ → Data → Counted Numbered) (depth : ℕ) (scope : Scope) (next after : ℕ) (front : List Step) (s : Step) (list : List Value) (i : ℕ) (x : Value) → i < length list → x ≡ get_or list i x → step_of body depth scope next (view x) ≡ Ok (put s, after) → with_steps front (steps_of body depth scope next (map view (drop i list))) ≡ with_steps (front ++ s ∷ []) (steps_of body depth scope after (map view (drop (i + 1) list)))
+with_steps-next body depth scope next after front s list i x below is h =
     let split : drop i list ≡ x ∷ drop (i + 1) list = rw add-one (drop-cons list i x below ∙ ap (λ y. y ∷ drop (suc i) list) (sym is)) in
-    ap (λ (vs : List Value). with_steps front (steps_of body depth table next (map view vs))) split
-    ∙ with_steps-cons body depth table next after front s (view x) (map view (drop (i + 1) list)) h
+    ap (λ (vs : List Value). with_steps front (steps_of body depth scope next (map view vs))) split
+    ∙ with_steps-cons body depth scope next after front s (view x) (map view (drop (i + 1) list)) h
 
 -- none is left
-pub with_steps-end : (body : ℕ → Data → Counted Numbered) (depth : ℕ) (table : Table) (next : ℕ) (front : List Step) (list : List Value) (i : ℕ) → length list ≤ i → with_steps front (steps_of body depth table next (map view (drop i list))) ≡ Ok (plan_of front, next)
+pub with_steps-end : (body : ℕ → Data → Counted Numbered) (depth : ℕ) (scope : Scope) (next : ℕ) (front : List Step) (list : List Value) (i : ℕ) → length list ≤ i → with_steps front (steps_of body depth scope next (map view (drop i list))) ≡ Ok (plan_of front, next)
 unfolding followed
-with_steps-end body depth table next front list i past =
-    ap (λ (vs : List Value). with_steps front (steps_of body depth table next (map view vs))) (drop_all i list past)
+with_steps-end body depth scope next front list i past =
+    ap (λ (vs : List Value). with_steps front (steps_of body depth scope next (map view vs))) (drop_all i list past)
     ∙ ap (λ (p : Plan). Ok (p, next)) (put_all-done front)

@@ -21,7 +21,8 @@ use Rattle.qc_script.specs.declared.bad_script.BadScript.{BadScript}
 use Rattle.qc_script.specs.declared.bad_script.BadScript.TheVariants.{Shape, Config, Unknown}
 use Rattle.qc_script.specs.declared.bad_script.Member.{Member}
 use Rattle.qc_script.specs.declared.bad_script.Member.TheVariants as part
-use Rattle.qc_script.specs.ScriptText.{Read, Text, Front, Counted, followed, ◌>>=◌, must, each, limited, member_or, config_of, row_of, names_of, rows_of, number_of, is_word, read_of, amount_of, set_of, add_of, sub_of, need_of, reconf_of, child_of, abort_of, crash_of, step_in, step_of, steps_of, tries_of, body_of, bodies_of}
+use Rattle.qc_script.specs.JsonText.{Read, Text, followed, ◌>>=◌, must, each, limited, member_or}
+use Rattle.qc_script.specs.ScriptText.{Front, Counted, Scope, config_of, row_of, names_of, rows_of, number_of, is_word, read_of, amount_of, set_of, add_of, sub_of, need_of, reconf_of, child_of, abort_of, crash_of, kill_of, step_in, step_of, steps_of, tries_of, body_of, bodies_of}
 use Rattle.qc_script.specs.Reading.{IsProperRow}
 
 -- what holds of the last of several parts, where each of them is read
@@ -203,6 +204,12 @@ abort_within table depth next d = then_ok _ _ _ λ k _. then_ok _ _ _ λ t h som
 crash_within : (table : Table) (depth next : ℕ) (d : Data) → IfOk (crash_of table.copies next d) (KeepsWithin table depth)
 crash_within table depth next d = then_ok _ _ _ λ copy _. then_ok _ _ _ λ t h some rest within. (ltb-true copy table.copies (must_true _ _ t h), within)
 
+kill_within : (table : Table) (depth sessions next : ℕ) (d : Data) → sessions ≤ 16 → IfOk (kill_of sessions next d) (KeepsWithin table depth)
+kill_within table depth sessions next d few =
+    then_ok _ _ _ λ session _. then_ok _ _ _ λ t h some rest within.
+    let there = ltb-true session sessions (must_true _ _ t h) in
+    (omega arith, within)
+
 -- what is read so is a body in a body of this depth
 abbrev ReadsInner : Table → ℕ → (ℕ → Data → Counted Numbered) → Type 0
 ReadsInner table depth body = (next : ℕ) (d : Data) → IfOk (body next d) (IsInner table depth)
@@ -212,20 +219,22 @@ child_within table depth body next d inner =
     then_ok _ _ _ λ _ _. then_ok _ _ _ λ b h some rest within. let p = IfOk-at_ok (IsInner table depth) h (inner next d) in (p.0, p.1, p.2, within)
 
 -- by what the word of a step is
-two_within : (table : Table) (depth : ℕ) (body : ℕ → Data → Counted Numbered) (next : ℕ) (d : Data) (read child abort crash : Bool)
-    → ReadsInner table depth body
+two_within : (scope : Scope) (depth : ℕ) (body : ℕ → Data → Counted Numbered) (next : ℕ) (d : Data) (read child abort crash kill : Bool)
+    → scope.sessions ≤ 16 → ReadsInner scope.table depth body
     → IfOk (
-    if read then read_of table next d
+    if read then read_of scope.table next d
     else if child then child_of body next d
     else if abort then abort_of depth next d
-    else if crash then crash_of table.copies next d
+    else if crash then crash_of scope.table.copies next d
+    else if kill then kill_of scope.sessions next d
     else Err (Shape part.Step)
-    ) (KeepsWithin table depth)
-two_within table depth body next d true child abort crash inner = read_within table depth next d
-two_within table depth body next d false true abort crash inner = child_within table depth body next d inner
-two_within table depth body next d false false true crash inner = abort_within table depth next d
-two_within table depth body next d false false false true inner = crash_within table depth next d
-two_within table depth body next d false false false false inner = tt
+    ) (KeepsWithin scope.table depth)
+two_within scope depth body next d true child abort crash kill few inner = read_within scope.table depth next d
+two_within scope depth body next d false true abort crash kill few inner = child_within scope.table depth body next d inner
+two_within scope depth body next d false false true crash kill few inner = abort_within scope.table depth next d
+two_within scope depth body next d false false false true kill few inner = crash_within scope.table depth next d
+two_within scope depth body next d false false false false true few inner = kill_within scope.table depth scope.sessions next d few
+two_within scope depth body next d false false false false false few inner = tt
 
 three_within : (table : Table) (depth next : ℕ) (rec value : Data) (set add sub need reconf : Bool)
     → IfOk (
@@ -243,22 +252,22 @@ three_within table depth next rec value false false false true reconf = need_wit
 three_within table depth next rec value false false false false true = reconf_within table depth next rec value
 three_within table depth next rec value false false false false false = tt
 
-parts_within : (table : Table) (depth : ℕ) (body : ℕ → Data → Counted Numbered) (next : ℕ) (parts : List Data) → ReadsInner table depth body → IfOk (step_in body depth table next parts) (KeepsWithin table depth)
-parts_within table depth body next [] inner = tt
-parts_within table depth body next (word ∷ []) inner = tt
-parts_within table depth body next (word ∷ d ∷ []) inner = two_within table depth body next d (is_word (codes "read") word) (is_word (codes "child") word) (is_word (codes "abort") word) (is_word (codes "crash") word) inner
-parts_within table depth body next (word ∷ rec ∷ value ∷ []) inner = three_within table depth next rec value (is_word (codes "set") word) (is_word (codes "add") word) (is_word (codes "sub") word) (is_word (codes "need") word) (is_word (codes "reconf") word)
-parts_within table depth body next (word ∷ rec ∷ value ∷ more ∷ others) inner = tt
+parts_within : (scope : Scope) (depth : ℕ) (body : ℕ → Data → Counted Numbered) (next : ℕ) (parts : List Data) → scope.sessions ≤ 16 → ReadsInner scope.table depth body → IfOk (step_in body depth scope next parts) (KeepsWithin scope.table depth)
+parts_within scope depth body next [] few inner = tt
+parts_within scope depth body next (word ∷ []) few inner = tt
+parts_within scope depth body next (word ∷ d ∷ []) few inner = two_within scope depth body next d (is_word (codes "read") word) (is_word (codes "child") word) (is_word (codes "abort") word) (is_word (codes "crash") word) (is_word (codes "kill") word) few inner
+parts_within scope depth body next (word ∷ rec ∷ value ∷ []) few inner = three_within scope.table depth next rec value (is_word (codes "set") word) (is_word (codes "add") word) (is_word (codes "sub") word) (is_word (codes "need") word) (is_word (codes "reconf") word)
+parts_within scope depth body next (word ∷ rec ∷ value ∷ more ∷ others) few inner = tt
 
-step_within : (table : Table) (depth : ℕ) (body : ℕ → Data → Counted Numbered) (next : ℕ) (d : Data) → ReadsInner table depth body → IfOk (step_of body depth table next d) (KeepsWithin table depth)
-step_within table depth body next d inner = then_ok _ _ _ λ parts _. parts_within table depth body next parts inner
+step_within : (scope : Scope) (depth : ℕ) (body : ℕ → Data → Counted Numbered) (next : ℕ) (d : Data) → scope.sessions ≤ 16 → ReadsInner scope.table depth body → IfOk (step_of body depth scope next d) (KeepsWithin scope.table depth)
+step_within scope depth body next d few inner = then_ok _ _ _ λ parts _. parts_within scope depth body next parts few inner
 
-steps_within : (table : Table) (depth : ℕ) (body : ℕ → Data → Counted Numbered) (next : ℕ) (ds : List Data) → 0 < depth → ReadsInner table depth body → IfOk (steps_of body depth table next ds) (λ p. Within table depth p.0)
-steps_within table depth body next [] some inner = tt
-steps_within table depth body next (d ∷ ds) some inner =
+steps_within : (scope : Scope) (depth : ℕ) (body : ℕ → Data → Counted Numbered) (next : ℕ) (ds : List Data) → 0 < depth → scope.sessions ≤ 16 → ReadsInner scope.table depth body → IfOk (steps_of body depth scope next ds) (λ p. Within scope.table depth p.0)
+steps_within scope depth body next [] some few inner = tt
+steps_within scope depth body next (d ∷ ds) some few inner =
     then_ok _ _ _ λ first h. then_ok _ _ _ λ rest hs.
-    IfOk-at_ok (KeepsWithin table depth) h (step_within table depth body next d inner) some rest.0
-    (IfOk-at_ok (λ (p : Plan × ℕ). Within table depth p.0) hs (steps_within table depth body first.1 ds some inner))
+    IfOk-at_ok (KeepsWithin scope.table depth) h (step_within scope depth body next d few inner) some rest.0
+    (IfOk-at_ok (λ (p : Plan × ℕ). Within scope.table depth p.0) hs (steps_within scope depth body first.1 ds some few inner))
 
 tried : (around : ℕ) (d : Data) → IfOk (tries_of around d) IsTried
 tried around d =
@@ -270,33 +279,33 @@ abbrev IsBody : Table → ℕ → Numbered × ℕ → Type 0
 IsBody table depth p = IsTried p.0.tries × Within table depth p.0.plan
 
 -- a body that may have so many levels, in the body above it
-inner_within : (table : Table) (levels around next : ℕ) (d : Data) → levels ≤ 15 → IfOk (body_of levels around table next d) (IsBody table (17 - levels)) → IfOk (body_of levels around table next d) (IsInner table (16 - levels))
-inner_within table zero around next d few h = then_ok _ _ _ λ _ _. tt
-inner_within table (suc below) around next d few h =
-    IfOk-weaker (body_of (suc below) around table next d) _ _ (λ p within.
+inner_within : (scope : Scope) (levels around next : ℕ) (d : Data) → levels ≤ 15 → IfOk (body_of levels around scope next d) (IsBody scope.table (17 - levels)) → IfOk (body_of levels around scope next d) (IsInner scope.table (16 - levels))
+inner_within scope zero around next d low h = then_ok _ _ _ λ _ _. tt
+inner_within scope (suc below) around next d low h =
+    IfOk-weaker (body_of (suc below) around scope next d) _ _ (λ p within.
     let depth : 17 - suc below ≡ 16 - suc below + 1 = omega arith in
-    let P : ℕ → Type 0 = λ n. Within table n p.0.plan in
+    let P : ℕ → Type 0 = λ n. Within scope.table n p.0.plan in
     (omega arith, within.0, subst P depth within.1)) h
 
-body_within : (table : Table) (levels around next : ℕ) (d : Data) → levels ≤ 16 → IfOk (body_of levels around table next d) (IsBody table (17 - levels))
-body_within table zero around next d few = then_ok _ _ _ λ _ _. tt
-body_within table (suc below) around next d few =
+body_within : (scope : Scope) (levels around next : ℕ) (d : Data) → levels ≤ 16 → scope.sessions ≤ 16 → IfOk (body_of levels around scope next d) (IsBody scope.table (17 - levels))
+body_within scope zero around next d low few = then_ok _ _ _ λ _ _. tt
+body_within scope (suc below) around next d low few =
     then_ok _ _ _ λ _ _. then_ok _ _ _ λ tries t. then_ok _ _ _ λ _ _. then_ok _ _ _ λ list _. then_ok _ _ _ λ steps h.
     let depth : 16 - below ≡ 17 - suc below = omega arith in
-    let P : ℕ → Type 0 = λ n. Within table n steps.0 in (
+    let P : ℕ → Type 0 = λ n. Within scope.table n steps.0 in (
       IfOk-at_ok IsTried t (tried around d),
       subst P depth (
-          IfOk-at_ok (λ (p : Plan × ℕ). Within table (16 - below) p.0) h
-          (steps_within table (16 - below) (body_of below (around * tries) table) (next + 1) list (omega arith) (λ n x. inner_within table below (around * tries) n x (omega arith) (body_within table below (around * tries) n x (omega arith))))),
+          IfOk-at_ok (λ (p : Plan × ℕ). Within scope.table (16 - below) p.0) h
+          (steps_within scope (16 - below) (body_of below (around * tries) scope) (next + 1) list (omega arith) few (λ n x. inner_within scope below (around * tries) n x (omega arith) (body_within scope below (around * tries) n x (omega arith) few)))),
     )
 
 -- bodies of tops over the records of a table
 abbrev pub AreTops : Table → List Numbered × ℕ → Type 0
 AreTops table p = TopsWithin table.copies (length table.records) p.0
 
-pub bodies_within : (table : Table) (next : ℕ) (ds : List Data) → IfOk (bodies_of table next ds) (AreTops table)
-bodies_within table next [] = tt
-bodies_within table next (d ∷ ds) =
+pub bodies_within : (scope : Scope) (next : ℕ) (ds : List Data) → scope.sessions ≤ 16 → IfOk (bodies_of scope next ds) (AreTops scope.table)
+bodies_within scope next [] few = tt
+bodies_within scope next (d ∷ ds) few =
     then_ok _ _ _ λ b h. then_ok _ _ _ λ rest hs.
-    let top = IfOk-at_ok (IsBody table 1) h (body_within table 16 1 next d (omega arith)) in
-    (top.0, top.1, IfOk-at_ok (AreTops table) hs (bodies_within table b.1 ds))
+    let top = IfOk-at_ok (IsBody scope.table 1) h (body_within scope 16 1 next d (omega arith) few) in
+    (top.0, top.1, IfOk-at_ok (AreTops scope.table) hs (bodies_within scope b.1 ds few))

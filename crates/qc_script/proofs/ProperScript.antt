@@ -12,7 +12,7 @@ use Rattle.qc_script.specs.Steps.{plan_of_script}
 use Rattle.qc_script.specs.declared.bad_script.BadScript.{BadScript}
 use Rattle.qc_script.specs.declared.bad_script.Member.TheVariants as part
 use Rattle.qc_script.specs.declared.script.Script.{Script}
-use Rattle.qc_script.specs.ScriptText.{Net, rows_of, fate_of, fates_of, net_of, each_counted, session_of, copies_of, records_of, sessions_at, script_of}
+use Rattle.qc_script.specs.ScriptText.{Net, Scope, rows_of, fate_of, fates_of, net_of, each_counted, session_of, copies_of, records_of, sessions_at, script_of}
 use Rattle.qc_script.specs.Reading.{Gives, IsScript, IsProperRow, IsProper}
 use Rattle.qc_script.proofs.Proper.{then_ok, must_true, within_limits, given_or, IsFew, few_or, length-each, rows_proper, length-rows_of, AreTops, bodies_within}
 
@@ -40,22 +40,22 @@ net_proper d =
 abbrev IsProperSession : Table → SessionPlan × ℕ → Type 0
 IsProperSession table p = SessionWithin table.copies (length table.records) p.0
 
-session_proper : (table : Table) (next : ℕ) (d : Data) → IfOk (session_of table next d) (IsProperSession table)
-session_proper table next d =
+session_proper : (scope : Scope) (next : ℕ) (d : Data) → scope.sessions ≤ 16 → IfOk (session_of scope next d) (IsProperSession scope.table)
+session_proper scope next d few =
     then_ok _ _ _ λ _ _. then_ok _ _ _ λ net n. then_ok _ _ _ λ list _. then_ok _ _ _ λ tops t.
     let proper = IfOk-at_ok IsProperNet n (given_or IsProperNet (codes "net") ([], 1) net_of d (omega arith, (omega arith, omega arith)) net_proper) in
-    record { few_fates = proper.0; some_hold = omega arith; short_hold = proper.1.1; tops = IfOk-at_ok (AreTops table) t (bodies_within table next list) }
+    record { few_fates = proper.0; some_hold = omega arith; short_hold = proper.1.1; tops = IfOk-at_ok (AreTops scope.table) t (bodies_within scope next list few) }
 
 -- so many sessions over the records of a table
 abbrev AreSessions : Table → ℕ → List SessionPlan × ℕ → Type 0
 AreSessions table many p = (length p.0 ≡ many) × SessionsWithin table.copies (length table.records) p.0
 
-each_session : (table : Table) (next : ℕ) (ds : List Data) → IfOk (each_counted (session_of table) next ds) (AreSessions table (length ds))
-each_session table next [] = (refl, tt)
-each_session table next (d ∷ ds) =
+each_session : (scope : Scope) (next : ℕ) (ds : List Data) → scope.sessions ≤ 16 → IfOk (each_counted (session_of scope) next ds) (AreSessions scope.table (length ds))
+each_session scope next [] few = (refl, tt)
+each_session scope next (d ∷ ds) few =
     then_ok _ _ _ λ s h. then_ok _ _ _ λ rest hs.
-    let others = IfOk-at_ok (AreSessions table (length ds)) hs (each_session table s.1 ds) in
-    (ap suc others.0, (IfOk-at_ok (IsProperSession table) h (session_proper table next d), others.1))
+    let others = IfOk-at_ok (AreSessions scope.table (length ds)) hs (each_session scope s.1 ds few) in
+    (ap suc others.0, (IfOk-at_ok (IsProperSession scope.table) h (session_proper scope next d few), others.1))
 
 -- 1 to 16 sessions over the records of a table
 record AreFewSessions (table : Table) (sessions : List SessionPlan) : Type 0 where
@@ -67,7 +67,8 @@ sessions_proper : (table : Table) (d : Data) → IfOk (sessions_at table d) (Are
 sessions_proper table d =
     then_ok _ _ _ λ list _. then_ok _ _ _ λ t limited. then_ok _ _ _ λ sessions h.
     let limits = within_limits 1 16 (length list) (must_true _ _ t limited) in
-    let all = IfOk-at_ok (AreSessions table (length list)) h (each_session table 0 list) in
+    let scope : Scope = record { table = table; sessions = length list } in
+    let all = IfOk-at_ok (AreSessions table (length list)) h (each_session scope 0 list limits.1) in
     let many = all.0 in
     record { some = omega arith; few = omega arith; each_one = all.1 }
 

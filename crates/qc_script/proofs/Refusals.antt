@@ -4,13 +4,13 @@ use Rattle.std.specs.Prelude.{◌⊎◌, codes}
 use Rattle.serde_json.specs.Data.{Data}
 use Rattle.serde_json.specs.View.{view}
 use Rattle.serde_json.specs.declared.value.Value.{Value}
-use Rattle.qc_event.specs.declared.table.Table.{Table}
 use Rattle.qc_script.specs.declared.bad_script.BadScript.{BadScript}
 use Rattle.qc_script.specs.declared.bad_script.BadScript.TheVariants.{NotJson, Shape, Limit, Config, Unknown, TooLong, Twice, Memory}
 use Rattle.qc_script.specs.declared.bad_script.Member.TheVariants as part
 use Rattle.qc_script.specs.Plan.{Plan, Numbered}
 use Rattle.qc_script.specs.Reading.{Fails}
-use Rattle.qc_script.specs.ScriptText.{Read, Counted, followed, ◌>>=◌, list_at, steps_of, step_in, body_object, tries_of, must_of, body_of, bodies_of}
+use Rattle.qc_script.specs.JsonText.{Read, followed, ◌>>=◌, list_at}
+use Rattle.qc_script.specs.ScriptText.{Counted, Scope, steps_of, step_in, body_object, tries_of, must_of, body_of, bodies_of}
 use Rattle.qc_script.proofs.Parts.{with_counted}
 
 fails_first : {A B : Type 0} (e : BadScript) (r : Read A) (f : A → Read B) → Fails e r → Fails e (r >>= f)
@@ -31,11 +31,11 @@ is_then r f x h = ap (λ y. y >>= f) h
 fails_then : {A B : Type 0} (e : BadScript) (r : Read A) (f : A → Read B) (x : A) → r ≡ Ok x → Fails e (f x) → Fails e (r >>= f)
 fails_then e r f x h fails = subst (λ y. Fails e y) (sym (is_then r f x h)) fails
 
-pub tries_refused : (levels below around : ℕ) (table : Table) (next : ℕ) (d : Data) (e : BadScript) → levels ≡ suc below → body_object d ≡ Ok tt → Fails e (tries_of around d) → Fails e (body_of levels around table next d)
-tries_refused levels below around table next d e level checked fails = rw level (fails_then e _ _ tt checked (fails_first e _ _ fails))
+pub tries_refused : (levels below around : ℕ) (scope : Scope) (next : ℕ) (d : Data) (e : BadScript) → levels ≡ suc below → body_object d ≡ Ok tt → Fails e (tries_of around d) → Fails e (body_of levels around scope next d)
+tries_refused levels below around scope next d e level checked fails = rw level (fails_then e _ _ tt checked (fails_first e _ _ fails))
 
-pub must_refused : (levels below around : ℕ) (table : Table) (next : ℕ) (d : Data) (e : BadScript) (tries : ℕ) → levels ≡ suc below → body_object d ≡ Ok tt → tries_of around d ≡ Ok tries → Fails e (must_of d) → Fails e (body_of levels around table next d)
-must_refused levels below around table next d e tries level checked tried fails =
+pub must_refused : (levels below around : ℕ) (scope : Scope) (next : ℕ) (d : Data) (e : BadScript) (tries : ℕ) → levels ≡ suc below → body_object d ≡ Ok tt → tries_of around d ≡ Ok tries → Fails e (must_of d) → Fails e (body_of levels around scope next d)
+must_refused levels below around scope next d e tries level checked tried fails =
     rw level (fails_then e _ _ tt checked (fails_then e _ _ tries tried (fails_first e _ _ fails)))
 
 -- An object that is tried so often at most, and must commit or need not, in a body that may have so many levels below
@@ -46,32 +46,32 @@ pub record IsBody (levels below around tries : ℕ) (must : Bool) (d : Data) : T
   pub tried : tries_of around d ≡ Ok tries
   pub needed : must_of d ≡ Ok must
 
-pub list_refused : (levels below around tries : ℕ) (must : Bool) (table : Table) (next : ℕ) (d : Data) (e : BadScript) → IsBody levels below around tries must d → Fails e (list_at (codes "steps") part.Steps d) → Fails e (body_of levels around table next d)
-list_refused levels below around tries must table next d e is fails =
+pub list_refused : (levels below around tries : ℕ) (must : Bool) (scope : Scope) (next : ℕ) (d : Data) (e : BadScript) → IsBody levels below around tries must d → Fails e (list_at (codes "steps") part.Steps d) → Fails e (body_of levels around scope next d)
+list_refused levels below around tries must scope next d e is fails =
     let level = is.level in
     rw level (fails_then e _ _ tt is.checked (fails_then e _ _ tries is.tried (fails_then e _ _ must is.needed (fails_first e _ _ fails))))
 
-pub steps_refused : (levels below around tries : ℕ) (must : Bool) (table : Table) (next : ℕ) (d : Data) (e : BadScript) (list : List Data) → IsBody levels below around tries must d → list_at (codes "steps") part.Steps d ≡ Ok list → Fails e (steps_of (body_of below (around * tries) table) (16 - below) table (next + 1) list) → Fails e (body_of levels around table next d)
-steps_refused levels below around tries must table next d e list is steps fails =
+pub steps_refused : (levels below around tries : ℕ) (must : Bool) (scope : Scope) (next : ℕ) (d : Data) (e : BadScript) (list : List Data) → IsBody levels below around tries must d → list_at (codes "steps") part.Steps d ≡ Ok list → Fails e (steps_of (body_of below (around * tries) scope) (16 - below) scope (next + 1) list) → Fails e (body_of levels around scope next d)
+steps_refused levels below around tries must scope next d e list is steps fails =
     let level = is.level in
     rw level (fails_then e _ _ tt is.checked (fails_then e _ _ tries is.tried (fails_then e _ _ must is.needed (fails_then e _ _ list steps (fails_first e _ _ fails)))))
 
-pub body_read : (levels below around tries : ℕ) (must : Bool) (table : Table) (next : ℕ) (d : Data) (list : List Data) (plan : Plan) (after : ℕ) → IsBody levels below around tries must d → list_at (codes "steps") part.Steps d ≡ Ok list → steps_of (body_of below (around * tries) table) (16 - below) table (next + 1) list ≡ Ok (plan, after) → body_of levels around table next d ≡ Ok (record { number = next; tries = tries; must = must; plan = plan }, after)
-body_read levels below around tries must table next d list plan after is steps read =
+pub body_read : (levels below around tries : ℕ) (must : Bool) (scope : Scope) (next : ℕ) (d : Data) (list : List Data) (plan : Plan) (after : ℕ) → IsBody levels below around tries must d → list_at (codes "steps") part.Steps d ≡ Ok list → steps_of (body_of below (around * tries) scope) (16 - below) scope (next + 1) list ≡ Ok (plan, after) → body_of levels around scope next d ≡ Ok (record { number = next; tries = tries; must = must; plan = plan }, after)
+body_read levels below around tries must scope next d list plan after is steps read =
     let level = is.level in
     rw level (is_then _ _ tt is.checked ∙ is_then _ _ tries is.tried ∙ is_then _ _ must is.needed ∙ is_then _ _ list steps ∙ is_then _ _ (plan, after) read)
 
 -- the bodies of a list are refused for what the next of them is
-pub bodies_refused : (table : Table) (next : ℕ) (front : List Numbered) (list : List Value) (i : ℕ) (x : Value) (e : BadScript) → i < length list → x ≡ get_or list i x → Fails e (body_of 16 1 table next (view x)) → Fails e (with_counted front (bodies_of table next (map view (drop i list))))
-bodies_refused table next front list i x e below is fails =
+pub bodies_refused : (scope : Scope) (next : ℕ) (front : List Numbered) (list : List Value) (i : ℕ) (x : Value) (e : BadScript) → i < length list → x ≡ get_or list i x → Fails e (body_of 16 1 scope next (view x)) → Fails e (with_counted front (bodies_of scope next (map view (drop i list))))
+bodies_refused scope next front list i x e below is fails =
     let split : drop i list ≡ x ∷ drop (i + 1) list = rw add-one (drop-cons list i x below ∙ ap (λ y. y ∷ drop (suc i) list) (sym is)) in
-    subst (λ (vs : List Value). Fails e (with_counted front (bodies_of table next (map view vs)))) (sym split)
+    subst (λ (vs : List Value). Fails e (with_counted front (bodies_of scope next (map view vs)))) (sym split)
     (fails_first e _ _ (fails_first e _ _ fails))
 
 -- a step has two elements or three
-pub step_in-other : (body : ℕ → Data → Counted Numbered) (depth : ℕ) (table : Table) (next : ℕ) (parts : List Value) → (length parts < 2) ⊎ (4 ≤ length parts) → step_in body depth table next (map view parts) ≡ Err (Shape part.Step)
-step_in-other body depth table next [] h = refl
-step_in-other body depth table next (word ∷ []) h = refl
-step_in-other body depth table next (word ∷ rec ∷ []) h = elim h [ inl few ↦ absurd (omega arith) | inr many ↦ absurd (omega arith) ]
-step_in-other body depth table next (word ∷ rec ∷ value ∷ []) h = elim h [ inl few ↦ absurd (omega arith) | inr many ↦ absurd (omega arith) ]
-step_in-other body depth table next (word ∷ rec ∷ value ∷ more ∷ others) h = refl
+pub step_in-other : (body : ℕ → Data → Counted Numbered) (depth : ℕ) (scope : Scope) (next : ℕ) (parts : List Value) → (length parts < 2) ⊎ (4 ≤ length parts) → step_in body depth scope next (map view parts) ≡ Err (Shape part.Step)
+step_in-other body depth scope next [] h = refl
+step_in-other body depth scope next (word ∷ []) h = refl
+step_in-other body depth scope next (word ∷ rec ∷ []) h = elim h [ inl few ↦ absurd (omega arith) | inr many ↦ absurd (omega arith) ]
+step_in-other body depth scope next (word ∷ rec ∷ value ∷ []) h = elim h [ inl few ↦ absurd (omega arith) | inr many ↦ absurd (omega arith) ]
+step_in-other body depth scope next (word ∷ rec ∷ value ∷ more ∷ others) h = refl

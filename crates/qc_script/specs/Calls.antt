@@ -12,6 +12,8 @@ use Rattle.qc_event.specs.declared.event.How.{How}
 use Rattle.qc_event.specs.declared.event.How.TheVariants.{Commit, Abort}
 use Rattle.qc_event.specs.declared.event.Kind.{Kind}
 use Rattle.qc_event.specs.declared.event.Kind.TheVariants as kind
+use Rattle.qc_event.specs.declared.log.Short.{Short}
+use Rattle.qc_event.specs.declared.log.Short.TheVariants as short
 use Rattle.qc_event.specs.Dead.{outcome, is_committed, is_aborted}
 use Rattle.qc_event.specs.History.{Past, Name, limit, same, start, end, is_ready, is_child}
 use Rattle.qc_event.specs.Standing.{Started, IsAbort, IsUser}
@@ -178,6 +180,19 @@ Answers old new of k given = Ran old.client of k (Commit given) old.seen new.see
 -- a manager gave no answer
 abbrev pub Fails : View → View → Name → Kind → TxNo → Type 0
 Fails old new of k why = GaveNone old.client of k old.seen new.seen why
+
+-- a user transaction is of a session
+abbrev pub IsOfSession : ℕ → Kind → Type 0
+IsOfSession session (kind.User s body) = s ≡ session
+IsOfSession session _ = ⊥
+
+-- a transaction marked a session
+abbrev pub Marks : View → View → Name → ℕ → Type 0
+Marks old new by session = Made old.client (by_client old.client (event.Mark by session) ∷ []) old.seen new.seen
+
+-- A mark was not made, for want of memory or room.
+abbrev pub MarksNone : View → View → Short → Type 0
+MarksNone old new why = Made old.client [] old.seen new.seen × (why ≡ short.Room → length new.seen ≡ limit)
 
 -- a transaction was aborted for a cause
 abbrev pub Aborts : View → View → Name → Cause → Type 0

@@ -1,5 +1,6 @@
 pub mod Plan
 pub mod Steps
+pub mod JsonText
 pub mod ScriptText
 pub mod Reading
 pub mod Client

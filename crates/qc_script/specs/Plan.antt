@@ -11,13 +11,15 @@ use Rattle.qc_net.specs.declared.link.Fate.{Fate}
 
 -- A plan is what a body does, one thing before the plan of what follows. A manager of a kind reads, sets or gives a
 -- record another configuration, and what follows may go by its answer. The body of a child has a number, how often it is
--- tried at most, whether it must commit for what follows, and a plan of its own. A copy that crashes is told by its number.
+-- tried at most, whether it must commit for what follows, and a plan of its own. A copy that crashes and a session that
+-- is marked to be killed are told by their numbers.
 pub data Plan : Type 0 where
   done : Plan
   manage_by : Kind → (Answer → Plan) → Plan
   child_then : ℕ → ℕ → Bool → Plan → Plan → Plan
   abort_then : ℕ → Plan → Plan
   crash_then : ℕ → Plan → Plan
+  kill_then : ℕ → Plan → Plan
 
 -- whatever the manager answers
 abbrev pub manage_then : Kind → Plan → Plan
@@ -75,7 +77,7 @@ KindWithin copies records _ = ⊥
 
 -- Each step of a body of this depth is about one of so many records at so many copies, its configurations are
 -- for these copies, its bodies are no deeper than 16 and tried, what it aborts is the transaction itself or an
--- ancestor below the root, and what crashes is one of the copies.
+-- ancestor below the root, what crashes is one of the copies, and what it marks is one of sixteen sessions.
 abbrev pub PlanWithin : ℕ → ℕ → ℕ → Plan → Type 0
 PlanWithin copies records depth Plan.done = Unit {0}
 PlanWithin copies records depth (Plan.manage_by k next) = KindWithin copies records k × ((given : Answer) → PlanWithin copies records depth (next given))
@@ -83,6 +85,7 @@ PlanWithin copies records depth (Plan.child_then number tries must inner rest) =
     (depth < 16) × IsTried tries × PlanWithin copies records (depth + 1) inner × PlanWithin copies records depth rest
 PlanWithin copies records depth (Plan.abort_then levels rest) = (levels < depth) × PlanWithin copies records depth rest
 PlanWithin copies records depth (Plan.crash_then copy rest) = (copy < copies) × PlanWithin copies records depth rest
+PlanWithin copies records depth (Plan.kill_then session rest) = (session < 16) × PlanWithin copies records depth rest
 
 abbrev pub TopsWithin : ℕ → ℕ → List Numbered → Type 0
 TopsWithin copies records [] = Unit {0}

@@ -6,7 +6,8 @@ use Rattle.serde_json.specs.Data.{Data}
 use Rattle.serde_json.specs.Read.{read}
 use Rattle.qc_event.specs.Base.{IsConfigFor}
 use Rattle.qc_event.specs.declared.table.Row.{Row}
-use Rattle.qc_script.specs.ScriptText.{Read, script_of}
+use Rattle.qc_script.specs.JsonText.{Read}
+use Rattle.qc_script.specs.ScriptText.{script_of}
 use Rattle.qc_script.specs.Plan.{ScriptPlan, SessionsWithin}
 use Rattle.qc_script.specs.declared.bad_script.BadScript.{BadScript}
 use Rattle.qc_script.specs.declared.bad_script.BadScript.TheVariants.{NotJson, TooLong, Memory}

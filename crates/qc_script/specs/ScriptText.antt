@@ -1,111 +1,22 @@
 -- What a script is, as a function on a JSON value: its parts from outside in, and the first refusal.
-use Rattle.std.specs.Prelude.{ℕ, ◌+◌, ◌-◌, ◌*◌, ◌==◌, Bool, true, false, not, ◌&&◌, ◌||◌, nat_lt, nat_le, if◌then◌else◌, List, [], ◌∷◌, ◌++◌, length, map, codes, Option, None, Some, is_some, ok_or, option_map, option_and_then, Result, Ok, Err}
+use Rattle.std.specs.Prelude.{ℕ, ◌+◌, ◌-◌, ◌*◌, ◌==◌, Bool, false, not, nat_lt, if◌then◌else◌, List, [], ◌∷◌, ◌++◌, length, map, codes, None, Some, is_some, ok_or, Ok, Err}
 use Rattle.std.proofs.Common.{zero, suc}
 use Rattle.std.specs.Char.{is_ascii_alphanumeric}
 use Rattle.std.specs.List.{list_all, list_any, position}
 use Rattle.std.specs.Result.{is_ok}
 use Rattle.std.specs.Str.{bytes_eq}
-use Rattle.serde_json.specs.Data.{Data, Items, no_items, item, Members, no_members, member}
-use Rattle.serde_json.specs.Find.{get, as_number, as_str, as_array, as_object, as_u64, as_bool}
+use Rattle.serde_json.specs.Data.{Data}
+use Rattle.serde_json.specs.Find.{as_str, as_object, as_bool}
 use Rattle.qc_event.specs.declared.event.Kind.TheVariants as kind
 use Rattle.qc_config.specs.Config.{Voting, fault}
 use Rattle.qc_event.specs.declared.table.Row.{Row}
 use Rattle.qc_event.specs.declared.table.Table.{Table}
 use Rattle.qc_net.specs.declared.link.Fate.{Fate}
 use Rattle.qc_net.specs.declared.link.Fate.TheVariants.{Deliver, LoseAsk, LoseReply, Hold, Twice as TwoTimes}
-use Rattle.qc_script.specs.declared.bad_script.BadScript.{BadScript}
 use Rattle.qc_script.specs.declared.bad_script.BadScript.TheVariants.{Shape, Limit, Config, Unknown, Twice}
-use Rattle.qc_script.specs.declared.bad_script.Member.{Member}
 use Rattle.qc_script.specs.declared.bad_script.Member.TheVariants as part
 use Rattle.qc_script.specs.Plan.{Plan, Numbered, SessionPlan, ScriptPlan, manage_then, change_then, need_then, plus, minus}
-
--- a text, as its bytes
-abbrev pub Text : Type 0
-Text = List ℕ
-
--- what is read, or the first refusal
-abbrev pub Read : Type 0 → Type 0
-Read A = Result A BadScript
-
--- One thing is read after another. A refusal is the answer.
-unfoldable pub followed : {A B : Type 0} → Read A → (A → Read B) → Read B
-followed (Ok x) f = f x
-followed (Err e) f = Err e
-
-infixl 10 ◌>>=◌
-abbrev pub ◌>>=◌ : {A B : Type 0} → Read A → (A → Read B) → Read B
-r >>= f = followed r f
-
--- a check that passes, or its refusal
-abbrev pub must : Bool → BadScript → Read (Unit {0})
-must true e = Ok tt
-must false e = Err e
-
--- each element of a list, in order
-abbrev pub each : {A B : Type 0} → (A → Read B) → List A → Read (List B)
-each f [] = Ok []
-each f (x ∷ xs) = f x >>= λ y. each f xs >>= λ ys. Ok (y ∷ ys)
-
--- OBJECTS AND THEIR MEMBERS
-
-abbrev pub among : List Text → Text → Bool
-among names name = list_any (λ n. bytes_eq n name) names
-
--- each member's name is one of the needed or of the others
-abbrev pub has_only : List Text → List Text → Members → Bool
-has_only needed others no_members = true
-has_only needed others (member name d rest) = (among needed name || among others name) && has_only needed others rest
-
--- a member of each name is there
-abbrev pub has_all : List Text → Data → Bool
-has_all names d = list_all (λ name. is_some (get name d)) names
-
--- an object with all the needed members, and no members but those and the others
-abbrev pub is_object : List Text → List Text → Data → Bool
-is_object needed others d = elim (as_object d) [ None ↦ false | Some members ↦ has_only needed others members && has_all needed d ]
-
-abbrev pub object_of : Member → List Text → List Text → Data → Read (Unit {0})
-object_of word needed others d = must (is_object needed others d) (Shape word)
-
--- the elements of an array
-abbrev pub elements : Items → List Data
-elements no_items = []
-elements (item d ds) = d ∷ elements ds
-
-abbrev pub list_of : Data → Option (List Data)
-list_of d = option_map elements (as_array d)
-
--- a number written in digits alone, of at most 2 ^ 64 - 1
-abbrev pub digits_of : Data → Option ℕ
-digits_of d = option_and_then as_u64 (as_number d)
-
--- a member of an object, of a type
-abbrev pub member_at : Text → Member → Data → Read Data
-member_at name word d = ok_or (get name d) (Shape word)
-
-abbrev pub number_at : Text → Member → Data → Read ℕ
-number_at name word d = ok_or (option_and_then digits_of (get name d)) (Shape word)
-
-abbrev pub text_at : Text → Member → Data → Read Text
-text_at name word d = ok_or (option_and_then as_str (get name d)) (Shape word)
-
-abbrev pub list_at : Text → Member → Data → Read (List Data)
-list_at name word d = ok_or (option_and_then list_of (get name d)) (Shape word)
-
--- a number, or the length of a list or a text, within its limits
-abbrev pub within : Member → ℕ → ℕ → ℕ → Read (Unit {0})
-within word low high n = must (nat_le low n && nat_le n high) (Limit word n)
-
--- a number within limits
-abbrev pub limited : Member → ℕ → ℕ → Data → Read ℕ
-limited word low high d = do
-  n ← ok_or (digits_of d) (Shape word)
-  _ ← within word low high n
-  Ok n
-
--- a member that may be absent, and then is this
-abbrev pub member_or : {A : Type 0} → Text → A → (Data → Read A) → Data → Read A
-member_or name default read d = elim (get name d) [ None ↦ Ok default | Some value ↦ read value ]
+use Rattle.qc_script.specs.JsonText.{Text, Read, ◌>>=◌, must, each, object_of, list_of, digits_of, member_at, number_at, text_at, list_at, within, limited, member_or}
 
 -- RECORDS
 
@@ -220,6 +131,11 @@ Front = Plan → Plan
 abbrev pub Counted : Type 0 → Type 0
 Counted A = Read (A × ℕ)
 
+-- what steps may speak of: the records and copies of a table, and so many sessions
+pub record Scope : Type 0 where
+  pub table : Table
+  pub sessions : ℕ
+
 -- ["read", R]
 abbrev pub read_of : Table → ℕ → Data → Counted Front
 read_of table next rec = do
@@ -281,13 +197,21 @@ crash_of copies next copy = do
   _ ← must (nat_lt c copies) (Limit part.Copy c)
   Ok (Plan.crash_then c, next)
 
+-- ["kill", s], of so many sessions
+abbrev pub kill_of : ℕ → ℕ → Data → Counted Front
+kill_of sessions next session = do
+  s ← ok_or (digits_of session) (Shape part.Step)
+  _ ← must (nat_lt s sessions) (Limit part.Session s)
+  Ok (Plan.kill_then s, next)
+
 -- a step of two elements
-abbrev pub two_of : (ℕ → Data → Counted Numbered) → ℕ → Table → ℕ → Data → Data → Counted Front
-two_of body depth table next word d =
-    if is_word (codes "read") word then read_of table next d
+abbrev pub two_of : (ℕ → Data → Counted Numbered) → ℕ → Scope → ℕ → Data → Data → Counted Front
+two_of body depth scope next word d =
+    if is_word (codes "read") word then read_of scope.table next d
     else if is_word (codes "child") word then child_of body next d
     else if is_word (codes "abort") word then abort_of depth next d
-    else if is_word (codes "crash") word then crash_of table.copies next d
+    else if is_word (codes "crash") word then crash_of scope.table.copies next d
+    else if is_word (codes "kill") word then kill_of scope.sessions next d
     else Err (Shape part.Step)
 
 -- a step of three elements
@@ -301,19 +225,19 @@ three_of table next word rec value =
     else Err (Shape part.Step)
 
 -- the elements of a step
-abbrev pub step_in : (ℕ → Data → Counted Numbered) → ℕ → Table → ℕ → List Data → Counted Front
-step_in body depth table next (word ∷ d ∷ []) = two_of body depth table next word d
-step_in body depth table next (word ∷ rec ∷ value ∷ []) = three_of table next word rec value
-step_in body depth table next _ = Err (Shape part.Step)
+abbrev pub step_in : (ℕ → Data → Counted Numbered) → ℕ → Scope → ℕ → List Data → Counted Front
+step_in body depth scope next (word ∷ d ∷ []) = two_of body depth scope next word d
+step_in body depth scope next (word ∷ rec ∷ value ∷ []) = three_of scope.table next word rec value
+step_in body depth scope next _ = Err (Shape part.Step)
 
 -- a step of a body of this depth, where bodies in it are read so
-abbrev pub step_of : (ℕ → Data → Counted Numbered) → ℕ → Table → ℕ → Data → Counted Front
-step_of body depth table next d = ok_or (list_of d) (Shape part.Step) >>= step_in body depth table next
+abbrev pub step_of : (ℕ → Data → Counted Numbered) → ℕ → Scope → ℕ → Data → Counted Front
+step_of body depth scope next d = ok_or (list_of d) (Shape part.Step) >>= step_in body depth scope next
 
-abbrev pub steps_of : (ℕ → Data → Counted Numbered) → ℕ → Table → ℕ → List Data → Counted Plan
-steps_of body depth table next [] = Ok (Plan.done, next)
-steps_of body depth table next (d ∷ ds) =
-    step_of body depth table next d >>= λ first. steps_of body depth table first.1 ds >>= λ rest. Ok (first.0 rest.0, rest.1)
+abbrev pub steps_of : (ℕ → Data → Counted Numbered) → ℕ → Scope → ℕ → List Data → Counted Plan
+steps_of body depth scope next [] = Ok (Plan.done, next)
+steps_of body depth scope next (d ∷ ds) =
+    step_of body depth scope next d >>= λ first. steps_of body depth scope first.1 ds >>= λ rest. Ok (first.0 rest.0, rest.1)
 
 abbrev pub body_object : Data → Read (Unit {0})
 body_object d = object_of part.Body (codes "steps" ∷ []) (codes "tries" ∷ codes "must" ∷ []) d
@@ -332,14 +256,14 @@ must_of d = member_or (codes "must") false (λ value. ok_or (as_bool value) (Sha
 
 -- A body that may have so many levels of bodies, itself among them, with this number, where the tries of the
 -- bodies around it have this product. The depth of a top's body is 1, and no body is deeper than 16.
-abbrev pub body_of : ℕ → ℕ → Table → ℕ → Data → Counted Numbered
-body_of zero around table next d = body_object d >>= λ _. Err (Limit part.Body 17)
-body_of (suc below) around table next d = do
+abbrev pub body_of : ℕ → ℕ → Scope → ℕ → Data → Counted Numbered
+body_of zero around scope next d = body_object d >>= λ _. Err (Limit part.Body 17)
+body_of (suc below) around scope next d = do
   _ ← body_object d
   tries ← tries_of around d
   needed ← must_of d
   steps ← list_at (codes "steps") part.Steps d
-  plan ← steps_of (body_of below (around * tries) table) (16 - below) table (next + 1) steps
+  plan ← steps_of (body_of below (around * tries) scope) (16 - below) scope (next + 1) steps
   Ok (record { number = next; tries = tries; must = needed; plan = plan.0 }, plan.1)
 
 -- each element of a list, in order, where the numbers of bodies go on from one element to the next
@@ -348,23 +272,23 @@ each_counted f next [] = Ok ([], next)
 each_counted f next (d ∷ ds) = f next d >>= λ x. each_counted f x.1 ds >>= λ rest. Ok (x.0 ∷ rest.0, rest.1)
 
 -- the bodies of tops, the first of them with this number
-abbrev pub bodies_of : Table → ℕ → List Data → Counted (List Numbered)
-bodies_of table next ds = each_counted (body_of 16 1 table) next ds
+abbrev pub bodies_of : Scope → ℕ → List Data → Counted (List Numbered)
+bodies_of scope next ds = each_counted (body_of 16 1 scope) next ds
 
 -- SESSIONS
 
 -- a session, whose first body has this number; without a net every request is delivered
-abbrev pub session_of : Table → ℕ → Data → Counted SessionPlan
-session_of table next d = do
+abbrev pub session_of : Scope → ℕ → Data → Counted SessionPlan
+session_of scope next d = do
   _ ← object_of part.Session (codes "tops" ∷ []) (codes "net" ∷ []) d
   net ← member_or (codes "net") ([], 1) net_of d
   tops ← list_at (codes "tops") part.Tops d
-  bodies ← bodies_of table next tops
+  bodies ← bodies_of scope next tops
   Ok (record { fates = net.0; hold = net.1; tops = bodies.0 }, bodies.1)
 
 -- sessions in order, through all of which bodies are numbered from 0 on
-abbrev pub sessions_of : Table → List Data → Read (List SessionPlan)
-sessions_of table ds = each_counted (session_of table) 0 ds >>= λ sessions. Ok sessions.0
+abbrev pub sessions_of : Scope → List Data → Read (List SessionPlan)
+sessions_of scope ds = each_counted (session_of scope) 0 ds >>= λ sessions. Ok sessions.0
 
 -- SCRIPTS
 
@@ -385,7 +309,7 @@ abbrev pub sessions_at : Table → Data → Read (List SessionPlan)
 sessions_at table d = do
   sessions ← list_at (codes "sessions") part.Sessions d
   _ ← within part.Sessions 1 16 (length sessions)
-  sessions_of table sessions
+  sessions_of (record { table = table; sessions = length sessions }) sessions
 
 abbrev pub script_of : Data → Read ScriptPlan
 script_of d = do

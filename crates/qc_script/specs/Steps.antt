@@ -19,6 +19,7 @@ before (Step-F.Reconf rec config) rest = manage_then (kind.Reconf rec config) re
 before (Step-F.Child body) rest = Plan.child_then body.number body.tries body.must body.plan rest
 before (Step-F.Abort levels) rest = Plan.abort_then levels rest
 before (Step-F.Crash copy) rest = Plan.crash_then copy rest
+before (Step-F.Kill session) rest = Plan.kill_then session rest
 
 abbrev pub all_before : List (Plan → Plan) → Plan
 all_before [] = Plan.done

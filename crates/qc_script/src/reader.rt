@@ -1,6 +1,6 @@
 //! Scripts from JSON texts. Each function gives what the definition of its name says of the value, or
 //! the want of memory.
-#![tactic(auto, unfolding(crate::specs::ScriptText::followed))]
+#![tactic(auto, unfolding(crate::specs::JsonText::followed))]
 
 ghost use Rattle.std.specs.Prelude.{◌≡◌, ◌≤◌, map, IfOk, IfErr};
 ghost use Rattle.serde_json.specs.View.{view};
@@ -10,6 +10,7 @@ ghost use Rattle.qc_script.specs.Reading.{Gives, IsScript, IsRefused, IsProper};
 
 mod object;
 mod rows;
+mod scope;
 mod session;
 mod steps;
 
@@ -17,6 +18,7 @@ use crate::bad_script::{BadScript, Member};
 use crate::script::{Script, Session};
 use object::{check_object, check_within, list_at, number_at, number_or};
 use rows::{Records, rows_of};
+use scope::Scope;
 use serde_json::Value;
 use session::sessions_of;
 use std::alloc::Global;
@@ -52,7 +54,11 @@ fn sessions_at(
 {
     let sessions = list_at(value, "sessions", Member::Sessions)?;
     check_within(Member::Sessions, 1, 16, sessions.len() as u64)?;
-    sessions_of(alloc, records, sessions)
+    let scope = Scope {
+        records,
+        sessions: sessions.len() as u8,
+    };
+    sessions_of(alloc, &scope, sessions)
 }
 
 fn script_of(alloc: Global, value: &Value) -> Result<Script, BadScript>

@@ -23,6 +23,8 @@ pub enum Step {
     Abort { levels: u8 },
     /// Has a copy forget its locks and its grants.
     Crash { copy: u8 },
+    /// Marks a session to be killed, up to the top of the transaction that does it.
+    Kill { session: u8 },
 }
 
 /// What a transaction does: its steps in order, how often it is tried at most, and whether, as a child, it must commit

@@ -2,7 +2,7 @@
 ghost use Rattle.std.specs.Prelude.{◌≡◌};
 ghost use Rattle.qc_script.specs.Client.{View};
 
-use qc_event::{Cause, Config, Lack, Name};
+use qc_event::{Cause, Config, Lack, Name, Short};
 use thiserror::Error;
 
 /// Why a call was refused.
@@ -47,15 +47,16 @@ pub enum TxNo {
 /// history that it has seen only grows. Each answer is the one that the history then seen gives. Where the link is told,
 /// the requests go on to meet its fates.
 pub trait Tx: Sized {
-    ghost use Rattle.std.specs.Prelude.{◌≡◌, ◌<◌, ◌⊎◌, [], length, None, IfOk, IfErr, OnOk, IsTrue};
+    ghost use Rattle.std.specs.Prelude.{◌≡◌, ◌<◌, ◌⊎◌, [], length, None, IfOk, IfErr, OnOk, IsTrue, false};
     ghost use Rattle.qc_event.specs.declared.event.Answer.TheVariants as answer;
+    ghost use Rattle.qc_event.specs.declared.event.Cause.TheVariants as cause;
     ghost use Rattle.qc_event.specs.declared.event.Kind.TheVariants as kind;
     ghost use Rattle.qc_event.specs.Dead.{dead};
     ghost use Rattle.qc_event.specs.History.{is_child};
     ghost use Rattle.qc_event.specs.Standing.{Started, IsUser};
     ghost use Rattle.qc_script.specs.Numbers.{Numbers};
-    ghost use Rattle.qc_script.specs.Calls.{Began, Answers, Fails, Aborts, IsGrounded, IsForChild, WasRefused, NotAborted, Committed, NotCommitted, MeetsLink};
-    ghost use Rattle.qc_script.specs.Client.{View};
+    ghost use Rattle.qc_script.specs.Calls.{Began, Answers, Fails, Aborts, IsGrounded, IsForChild, WasRefused, NotAborted, Committed, NotCommitted, MeetsLink, IsOfSession, Marks, MarksNone};
+    ghost use Rattle.qc_script.specs.Client.{Made, View, has_marked_itself};
     ghost use Rattle.qc_script.specs.Plan.{CopyFits, KindFits};
 
     /// Its number and branches, its session, table and link, and what it has seen.
@@ -136,6 +137,30 @@ pub trait Tx: Sized {
             (view self.old).client of.now (view self.old).seen (view self.new).seen) }
         ensures err { IfErr result (NotCommitted
             (view self.old).client of.now (view self.old).seen (view self.new).seen) };
+
+    /// Whether a mark of its client's session, by a transaction whose top has at least the number of this one's, is seen:
+    /// one that licenses that this one is killed. Such a mark of the client's own it never misses; that another made it
+    /// may see late.
+    fn killed(&mut self, of: &Name) -> bool
+        requires own { Started (view self.old).seen of.now
+            (λ b. IsOfSession (view self.old).client.session b.kind) }
+        requires met { MeetsLink (view self.old) }
+        ensures met { MeetsLink (view self.new) }
+        ensures client { (view self.new).client ≡ (view self.old).client }
+        ensures made { Made (view self.old).client [] (view self.old).seen (view self.new).seen }
+        ensures marked { IsTrue result → IsGrounded (view self.new).seen of.now cause.Killed }
+        ensures unmarked { result ≡ false → has_marked_itself (view self.new) of.now ≡ false };
+
+    /// Marks a session, so that its transactions up to the top of this one are to be killed. The only errors are want of
+    /// memory and of room.
+    fn kill(&mut self, by: &Name, session: u8) -> Result<(), Short>
+        requires user { Started (view self.old).seen by.now (λ b. IsUser b.kind) }
+        requires session { session < 16 }
+        requires met { MeetsLink (view self.old) }
+        ensures met { MeetsLink (view self.new) }
+        ensures client { (view self.new).client ≡ (view self.old).client }
+        ensures ok { OnOk result (Marks (view self.old) (view self.new) by.now session) }
+        ensures err { IfErr result (MarksNone (view self.old) (view self.new)) };
 
     /// Has a copy forget its locks and its grants, which stand in its journal: it reads them there before it serves
     /// again. It makes nothing, sees nothing, and has no answer.

@@ -1,5 +1,5 @@
 -- The first pass, as it gives a client its pass and that is joined back.
-use Rattle.std.proofs.Common.{◌≡◌, ℕ, suc, ◌<◌, ◌≤◌, ◌+◌, ◌==◌, ◌⊎◌, inl, inr, Bool, true, false, cond, List, [], ◌∷◌, ◌++◌, length, refl, sym, ap, ◌∙◌, subst, arith, eq-eqb}
+use Rattle.std.proofs.Common.{◌≡◌, ℕ, ◌<◌, ◌≤◌, ◌+◌, ◌==◌, ◌⊎◌, inl, inr, Bool, true, false, cond, List, [], ◌∷◌, ◌++◌, length, refl, sym, ap, ◌∙◌, subst, arith, eq-eqb}
 use mathlib.Core.Bool.{true≢false}
 use mathlib.Core.Option.{some}
 use Rattle.std.specs.Prelude.{MatchBool, nat_lt, ◌&&◌, ◌||◌, Result, Ok, Err, OnOk, IsErrOf}

@@ -5,11 +5,15 @@ pub mod Beginning
 pub mod Closed
 pub mod Committing
 pub mod Fallen
+pub mod Followed
 pub mod Joining
+pub mod Killing
 pub mod Leaving
 pub mod Managing
+pub mod MarksKept
 pub mod Names
 pub mod Own
+pub mod OwnMarks
 pub mod Ran
 pub mod Refused
 pub mod Requests
@@ -18,4 +22,5 @@ pub mod Settled
 pub mod Standing
 pub mod Starting
 pub mod Tidy
+pub mod Unrun
 pub mod Walks

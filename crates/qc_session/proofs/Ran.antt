@@ -1,21 +1,17 @@
 -- What the clients of a script's sessions left follows the script, in the closed history.
 use Rattle.std.proofs.Common.{◌≡◌, ℕ, ◌+◌, ◌==◌, ◌≤◌, ◌⊎◌, inl, inr, Bool, true, false, List, [], ◌∷◌, ◌++◌, length, reverse, refl, sym, ap, ◌∙◌, subst, arith}
-use mathlib.Core.Bool.{true≢false, Bool-set}
-use Rattle.std.proofs.Math.Logic.{∥∥₁_elim, ∥∥₁_map}
-use Rattle.std.specs.Prelude.{IsTrue, ◌||◌, not}
-use Rattle.std.specs.List.{AllByRecursion, list_all, list_any}
-use Rattle.std.proofs.lemmas.Bool.{and_from, and_parts, eqb-true}
+use mathlib.Core.Bool.{true≢false}
+use Rattle.std.proofs.Math.Logic.{∥∥₁_map}
+use Rattle.std.specs.Prelude.{IsTrue, ◌||◌}
+use Rattle.std.specs.List.{list_any}
+use Rattle.std.proofs.lemmas.Bool.{eqb-true}
 use Rattle.std.proofs.lemmas.List.{length-append, length-reverse}
 use Rattle.qc_carry.proofs.Walking.{none_own}
-use Rattle.qc_event.specs.declared.event.Entry.{Entry}
-use Rattle.qc_event.specs.declared.event.Event.{Event}
-use Rattle.qc_event.specs.declared.event.Event.TheVariants as event
 use Rattle.qc_event.specs.Base.{Setting}
 use Rattle.qc_event.specs.History.{Past, limit}
 use Rattle.qc_event.specs.Legal.{Legal}
 use Rattle.qc_interp.specs.FollowsScript.{RunsScript}
 use Rattle.qc_interp.specs.Reach.{Reach}
-use Rattle.qc_interp.specs.Sessions.{is_unmarked}
 use Rattle.qc_interp.specs.Together.{AreOf, EachHasRun, HasRun}
 use Rattle.qc_interp.proofs.Ending.{at_any}
 use Rattle.qc_interp.proofs.FromStart.{ends_from_start, turns_from_start}
@@ -31,42 +27,11 @@ use Rattle.qc_script.specs.Client.{Client, is_own, mine}
 use Rattle.qc_script.specs.Plan.{SessionPlan}
 use Rattle.qc_session.specs.Clients.{client_for}
 use Rattle.qc_session.specs.Session.{EachJoined, HaveRun, IsFirst, Joined}
-use Rattle.qc_session.specs.Tidy.{IsTidy, MarksNone}
-use Rattle.qc_session.proofs.Own.{mine_is, own_alone}
+use Rattle.qc_session.specs.Tidy.{IsTidy}
+use Rattle.qc_session.proofs.Own.{mine_is}
 use Rattle.qc_session.proofs.Requests.{met_later}
 use Rattle.qc_session.proofs.Settled.{AreTheirs, accesses_end, all_theirs, client_above, is_one}
 use Rattle.qc_session.proofs.Tidy.{others_tidy}
-
--- MARKS
-
-unmarked_event : (ev : Event) → MarksNone ev → is_unmarked ev ≡ true
-unmarked_event (event.Mark by session) none = absurd none
-unmarked_event (event.Start n k) none = refl
-unmarked_event (event.Ask ask) none = refl
-unmarked_event (event.Gone n why) none = refl
-unmarked_event (event.Granted copy grant) none = refl
-unmarked_event (event.Refused n copy refusal) none = refl
-unmarked_event (event.Unable n why) none = refl
-unmarked_event (event.Ready n) none = refl
-unmarked_event (event.End n how) none = refl
-
--- whether each of a client's entries marks no session
-abbrev own_unmarked : Client → Past → Bool
-own_unmarked c past = list_all (λ (e : Entry). not (is_own c e.seat) || is_unmarked e.event) past
-
-tidy_unmarked : (c : Client) (seat : ℕ) (past : Past) → c.number ≡ seat → c.kin ≡ [] → AllByRecursion (λ (e : Entry). e.seat ≡ seat → MarksNone e.event) past → own_unmarked c past ≡ true
-tidy_unmarked c seat [] number kinless none = refl
-tidy_unmarked c seat (e ∷ past) number kinless none = and_from _ _ (by_own (is_own c e.seat) refl) (tidy_unmarked c seat past number kinless none.1)
-  where
-    by_own : (b : Bool) → is_own c e.seat ≡ b → (not b || is_unmarked e.event) ≡ true
-    by_own false other = refl
-    by_own true own = unmarked_event e.event (none.0 (eqb-true e.seat seat (sym (own_alone c seat e.seat number kinless) ∙ own)))
-
-each_unmarked : (c : Client) (past : Past) → own_unmarked c past ≡ true → AllByRecursion (λ (e : Entry). is_own c e.seat ≡ true → is_unmarked e.event ≡ true) past
-each_unmarked c [] none = tt
-each_unmarked c (e ∷ past) none =
-    let both = and_parts (not (is_own c e.seat) || is_unmarked e.event) _ none in
-    (λ own. sym (ap (λ b. not b || is_unmarked e.event) own) ∙ both.0, each_unmarked c past both.1)
 
 -- ONE SESSION
 
@@ -87,9 +52,6 @@ module _ (reach : Reach) (setting : Setting) (epoch patience : ℕ) (final : Pas
     still_tidy : ∥ IsTidy one.number final ∥₁
     still_tidy = ∥∥₁_map j.leaves.tidy (λ t. subst (IsTidy one.number) (sym later.1) (others_tidy setting one.number newer one.seen legal_now later.2 t))
 
-    unmarked : own_unmarked c (newer ++ one.seen) ≡ true
-    unmarked = subst (λ h. own_unmarked c h ≡ true) later.1 (∥∥₁_elim still_tidy (hlevel Bool-set) (λ (t : IsTidy one.number final). tidy_unmarked c one.number final refl refl t.unmarked))
-
     none_before : mine c j.before ≡ []
     none_before = mine_is c one.number j.before refl refl ∙ j.none
 
@@ -99,7 +61,7 @@ module _ (reach : Reach) (setting : Setting) (epoch patience : ℕ) (final : Pas
         (has_run_later reach setting session epoch patience c plan one.seen newer refl refl refl (record { kinless = refl; client = client_above one.number j.number })
         (ends_from_start c j.before one.seen none_before reach plan.tops j.leaves.ends) (turns_from_start c j.before one.seen none_before reach j.leaves.in_turn)
         (mine_is c one.number newer refl refl ∙ none_own one.number newer later.2) legal_now
-        (met_later setting one newer plan.fates plan.hold patience legal_now later.2 j.leaves.met) (each_unmarked c (newer ++ one.seen) unmarked))
+        (met_later setting one newer plan.fates plan.hold patience legal_now later.2 j.leaves.met))
 
   -- ALL SESSIONS
 

@@ -11,18 +11,17 @@ use Rattle.qc_names.specs.Name as name
 use Rattle.qc_event.specs.declared.event.Entry.{Entry}
 use Rattle.qc_event.specs.declared.event.Event.{Event}
 use Rattle.qc_event.specs.declared.event.Event.TheVariants as event
-use Rattle.qc_event.specs.declared.event.Kind.{Kind}
 use Rattle.qc_event.specs.Base.{Setting}
 use Rattle.qc_event.specs.History.{Past, Name, Begun, end, same, start, start_in}
 use Rattle.qc_event.specs.Legal.{Legal, MayHappen}
 use Rattle.qc_event.specs.Seats.{is_client}
 use Rattle.qc_event.specs.Standing.{IsManager, Started, open_child}
-use Rattle.qc_event.specs.Starts.{Starts}
 use Rattle.qc_event.proofs.LastNumber.{EndsIn, ends_in, front_last}
 use Rattle.qc_event.proofs.Lawful.{lawful, no_open_child, started_some}
 use Rattle.qc_event.proofs.LegalOrderly.{legal_orderly}
 use Rattle.qc_event.proofs.OneEntry.{first_is, if_is, some_or_none}
 use Rattle.qc_interp.specs.Sessions.{AccessesEnd}
+use Rattle.qc_interp.proofs.Owners.{starts_client}
 use Rattle.qc_pass.specs.declared.view.View.{View}
 use Rattle.qc_pass.specs.Entries.{entries_of}
 use Rattle.qc_pass.specs.Own.{IsMine}
@@ -94,11 +93,6 @@ all_theirs ones past first nothing settled kin = theirs ones past none
     none k client other = by_seat k other (client_seats k client)
 
 -- THEIR ACCESSES
-
-starts_client : (setting : Setting) (past : Past) (seat : ℕ) (n : Name) (k : Kind) → Starts setting past seat n k → is_client seat ≡ true
-starts_client setting past seat [] k may = absurd may
-starts_client setting past seat (x ∷ []) k may = may.by_client
-starts_client setting past seat (x ∷ y ∷ n) k may = may.by_client
 
 -- who has started was started by one of them
 started_theirs : (setting : Setting) (ones : List View) (past : Past) (n : Name) (b : Begun) → Legal setting past → AreTheirs ones past → start past n ≡ Some b → is_one ones b.seat ≡ true

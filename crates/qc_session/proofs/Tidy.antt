@@ -27,14 +27,13 @@ use Rattle.qc_pass.specs.Entries.{AreOthers, IsSince, entries_of}
 use Rattle.qc_pass.specs.Own.{IsMine}
 use Rattle.qc_pass.proofs.Others as others
 use Rattle.qc_pass.proofs.Since.{others_where_none}
-use Rattle.qc_script.specs.Calls.{IsOfAccess}
-use Rattle.qc_session.specs.Tidy.{IsTidy, MarksNone}
-use Rattle.qc_session.proofs.Accesses.{OfManager, access_does}
+use Rattle.qc_session.specs.Tidy.{IsTidy}
+use Rattle.qc_session.proofs.Accesses.{OfManager}
 use Rattle.qc_session.proofs.Standing.{access_of, not_access_too, not_both, start_same}
 
--- an own entry marks no session, and ends no manager with an open access
+-- an own entry ends no manager with an open access
 abbrev pub Calm : ℕ → Past → Entry → Type 0
-Calm seat past e = e.seat ≡ seat → MarksNone e.event × ((m : Name) (how : How) → e.event ≡ event.End m how → IsMine past seat m → open_child past m ≡ None)
+Calm seat past e = e.seat ≡ seat → ((m : Name) (how : How) → e.event ≡ event.End m how → IsMine past seat m → open_child past m ≡ None)
 
 -- CHILDREN OF WHO HAS ENDED
 
@@ -89,7 +88,7 @@ module _ (setting : Setting) (seat : ℕ) (past : Past) (e : Entry) (legal : Leg
       own_before = mine_before m (ends_open past e m how new.1 (legal_orderly setting (e ∷ past) legal).1).started own
 
       by_seat : (b : Bool) → (e.seat == seat) ≡ b → open_child (e ∷ past) m ≡ None
-      by_seat true is = closed_more e past m ((calm (eqb-true e.seat seat is)).1 m how new.1 own_before) (ap (child_in m) new.1)
+      by_seat true is = closed_more e past m (calm (eqb-true e.seat seat is) m how new.1 own_before) (ap (child_in m) new.1)
       by_seat false is = absurd (none-some how (sym (others.no_end setting e past seat m (λ s. true≢false (sym (eq-eqb e.seat seat s) ∙ is)) legal.0 legal.1 own_before) ∙ end_now m e.event how new.1))
 
   closed_now : (m : Name) → IsMine (e ∷ past) seat m → is_some (end (e ∷ past) m) ≡ true → open_child (e ∷ past) m ≡ None
@@ -103,7 +102,7 @@ module _ (setting : Setting) (seat : ℕ) (past : Past) (e : Entry) (legal : Leg
       ]
 
   pub one_tidy : IsTidy seat (e ∷ past)
-  one_tidy = record { closed = closed_now; unmarked = (λ own. (calm own).0, was.unmarked) }
+  one_tidy = record { closed = closed_now }
 
 -- OTHERS' ENTRIES
 
@@ -114,41 +113,34 @@ others_tidy setting seat (e ∷ newer) past legal apart was = one_tidy setting s
 -- OWN ENTRIES
 
 starts_calm : (seat : ℕ) (past : Past) (e : Entry) (n : Name) (k : Kind) → e.event ≡ event.Start n k → Calm seat past e
-starts_calm seat past e n k is own = (subst MarksNone (sym is) tt, λ m how at. absurd (start_or_end n m k how (sym is ∙ at)))
+starts_calm seat past e n k is own = λ m how at. absurd (start_or_end n m k how (sym is ∙ at))
 
 ready_calm : (seat : ℕ) (past : Past) (e : Entry) (n : Name) → e.event ≡ event.Ready n → Calm seat past e
-ready_calm seat past e n is own = (subst MarksNone (sym is) tt, λ m how at. absurd (differ m how (sym is ∙ at)))
+ready_calm seat past e n is own = λ m how at. absurd (differ m how (sym is ∙ at))
   where
     differ : (m : Name) (how : How) → event.Ready n ≡ event.End m how → ⊥
     differ m how same = cc
 
+marks_calm : (seat : ℕ) (past : Past) (e : Entry) (by : Name) (session : ℕ) → e.event ≡ event.Mark by session → Calm seat past e
+marks_calm seat past e by session is own = λ m how at. absurd (differ m how (sym is ∙ at))
+  where
+    differ : (m : Name) (how : How) → event.Mark by session ≡ event.End m how → ⊥
+    differ m how same = cc
+
 ends_calm : (seat : ℕ) (past : Past) (e : Entry) (n : Name) (how : How) → e.event ≡ event.End n how → (IsMine past seat n → open_child past n ≡ None) → Calm seat past e
 ends_calm seat past e n how is closed own =
-    (subst MarksNone (sym is) tt, λ m how' at mine. let same = same_end n m how how' (sym is ∙ at) in subst (λ x. open_child past x ≡ None) same (closed (subst (λ x. IsMine past seat x) (sym same) mine)))
+    λ m how' at mine. let same = same_end n m how how' (sym is ∙ at) in subst (λ x. open_child past x ≡ None) same (closed (subst (λ x. IsMine past seat x) (sym same) mine))
 
 -- THE ENTRIES OF A MANAGER'S ACCESSES
-
-marks_none : (n : Name) (ev : Event) → IsOfAccess n ev → MarksNone ev
-marks_none n (event.Mark by session) does = does
-marks_none n (event.Start m k) does = tt
-marks_none n (event.Ask ask) does = tt
-marks_none n (event.Gone m why) does = tt
-marks_none n (event.Granted copy grant) does = tt
-marks_none n (event.Refused m copy refusal) does = tt
-marks_none n (event.Unable m why) does = tt
-marks_none n (event.Ready m) does = tt
-marks_none n (event.End m how) does = tt
 
 module _ (setting : Setting) (seat : ℕ) (n : Name) (past : Past) (pos : 0 < length n) (manager : Started past n (λ b. IsManager b.kind)) where
   access_calm : (newer : Past) (e : Entry) → Legal setting (e ∷ newer ++ past) → OfManager seat n e → Calm seat (newer ++ past) e
   access_calm newer e legal (inr other) own = absurd (true≢false (sym (eq-eqb e.seat seat own) ∙ not-true (e.seat == seat) other))
   access_calm newer e legal (inl access) own =
-      let still = started_still newer past n (λ b. IsManager b.kind) manager in (
-        marks_none n e.event (access_does setting (newer ++ past) n e.seat e.event legal.0 pos still access legal.1),
-        λ m how at mine. absurd (not_access_too (newer ++ past) m
-            (access_of setting (newer ++ past) n m legal.0 pos still (ap (λ ev. is_child n (name_of ev)) (sym at) ∙ access) (started_some (λ b. IsManager b.kind × (b.seat ≡ seat)) (start (newer ++ past) m) mine))
-            (started_wider (λ b. IsManager b.kind × (b.seat ≡ seat)) (λ b. IsManager b.kind) (start (newer ++ past) m) (λ b h. h.0) mine)),
-      )
+      let still = started_still newer past n (λ b. IsManager b.kind) manager in
+      λ m how at mine. absurd (not_access_too (newer ++ past) m
+      (access_of setting (newer ++ past) n m legal.0 pos still (ap (λ ev. is_child n (name_of ev)) (sym at) ∙ access) (started_some (λ b. IsManager b.kind × (b.seat ≡ seat)) (start (newer ++ past) m) mine))
+      (started_wider (λ b. IsManager b.kind × (b.seat ≡ seat)) (λ b. IsManager b.kind) (start (newer ++ past) m) (λ b h. h.0) mine))
 
   pub accesses_tidy : (newer : Past) → Legal setting (newer ++ past) → All (OfManager seat n) newer → IsTidy seat past → IsTidy seat (newer ++ past)
   accesses_tidy [] legal each was = was
@@ -192,6 +184,9 @@ module _ (setting : Setting) (v w : View) (legal : Legal setting w.seen) (number
     pub ready_tidy : (n : Name) → ev ≡ event.Ready n → IsTidy w.number w.seen
     ready_tidy n at = entered (ready_calm v.number before (entry v.number ev) n at)
 
+    pub mark_tidy : (by : Name) (session : ℕ) → ev ≡ event.Mark by session → IsTidy w.number w.seen
+    mark_tidy by session at = entered (marks_calm v.number before (entry v.number ev) by session at)
+
     -- a user transaction ended
     pub user_tidy : (n : Name) (how : How) → ev ≡ event.End n how → Started v.seen n (λ b. IsUser b.kind) → IsTidy w.number w.seen
     user_tidy n how at user = entered (ends_calm v.number before (entry v.number ev) n how at (λ mine.
@@ -210,4 +205,4 @@ walked_tidy setting v w legal walk was = looked_tidy setting v w legal walk.numb
 -- a client that has entered nothing is tidy
 pub fresh_tidy : (setting : Setting) (seat : ℕ) (past : Past) → Legal setting past → entries_of seat past ≡ [] → IsTidy seat past
 fresh_tidy setting seat past legal none =
-    subst (IsTidy seat) (append-nil past) (others_tidy setting seat past [] (subst (Legal setting) (sym (append-nil past)) legal) (others_where_none seat past none) (record { closed = λ m own over. absurd own; unmarked = tt }))
+    subst (IsTidy seat) (append-nil past) (others_tidy setting seat past [] (subst (Legal setting) (sym (append-nil past)) legal) (others_where_none seat past none) (record { closed = λ m own over. absurd own }))

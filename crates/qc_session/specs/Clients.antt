@@ -14,7 +14,7 @@ use Rattle.qc_script.specs.Plan.{SessionPlan}
 abbrev pub link_told : Option Plan → ℕ → Option Net
 link_told plan patience = option_map (λ p. kept.net_of p patience) plan
 
--- a client that has no branches and may mark no session, by its pass
+-- a client that has no branches, by its pass
 abbrev pub client_of : Setting → ℕ → ℕ → Option Net → Pass → Client
 client_of setting session epoch net pass = record {
   number = pass.number;
@@ -23,7 +23,6 @@ client_of setting session epoch net pass = record {
   session = session;
   epoch = epoch;
   setting = setting;
-  may = [];
   net = net;
 }
 

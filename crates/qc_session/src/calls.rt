@@ -4,9 +4,10 @@ ghost use Rattle.std.specs.Prelude.{◌≡◌, [], ◌∷◌, length, None, IfSo
 use crate::client::Client;
 use crate::ends::{abort, commit_below, commit_top};
 use crate::managers::manage;
+use crate::marks::{mark, marked, number_of_top};
 use crate::starts::{start_child, start_top};
 use qc_disk::Disk;
-use qc_event::{Answer, Cause, Config, Kind, Name};
+use qc_event::{Answer, Cause, Config, Kind, Name, Short};
 use qc_net::Link;
 use qc_script::{Tx, TxNo};
 use qc_system::Mounting;
@@ -46,8 +47,10 @@ impl<'a, R: Wait, D: Disk + Drop, L: Link + Drop, N: Mounting> Tx for Client<'a,
         let answer = manage(&mut self.line, self.table, of, &Kind::Read { rec });
         self.line.known();
         match answer {
-            Ok(Answer::Value(value)) => Ok(value),
-            Ok(_) => unreachable!(),
+            Ok(given) => match given {
+                Answer::Value(value) => Ok(value),
+                _ => unreachable!(),
+            },
             Err(why) => Err(why),
         }
     }
@@ -69,8 +72,10 @@ impl<'a, R: Wait, D: Disk + Drop, L: Link + Drop, N: Mounting> Tx for Client<'a,
         let answer = manage(&mut self.line, self.table, of, &kind);
         self.line.known();
         match answer {
-            Ok(Answer::Generation(generation)) => Ok(generation),
-            Ok(_) => unreachable!(),
+            Ok(given) => match given {
+                Answer::Generation(generation) => Ok(generation),
+                _ => unreachable!(),
+            },
             Err(why) => Err(why),
         }
     }
@@ -91,6 +96,28 @@ impl<'a, R: Wait, D: Disk + Drop, L: Link + Drop, N: Mounting> Tx for Client<'a,
         let committed = commit_below(&mut self.line, of);
         self.line.known();
         committed
+    }
+
+    fn killed(&mut self, of: &Name) -> bool {
+        self.line.known();
+        let top = number_of_top(of);
+        if !self.board.look(&mut self.seat, self.session, top) {
+            return false;
+        }
+        let seen = marked(&mut self.line, of);
+        self.line.known();
+        seen
+    }
+
+    fn kill(&mut self, by: &Name, session: u8) -> Result<(), Short> {
+        let made = mark(&mut self.line, by, session);
+        self.line.known();
+        if let Err(short) = made {
+            return Err(short);
+        }
+        let upto = number_of_top(by);
+        self.board.doom(&mut self.seat, session, upto);
+        Ok(())
     }
 
     fn crash(&mut self, copy: u8) {

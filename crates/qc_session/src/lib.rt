@@ -5,6 +5,7 @@ mod calls;
 mod client;
 mod ends;
 mod managers;
+mod marks;
 mod refusals;
 mod sessions;
 mod stage;

@@ -1,6 +1,6 @@
 //! The sessions of a script, run over a system from its opening to its end.
-ghost use Rattle.std.specs.Prelude.{◌≡◌, ◌≤◌, length, reverse, OnOk, IsErrOf};
-ghost use Rattle.qc_event.specs.declared.log.Short.TheVariants.{Room};
+ghost use Rattle.std.specs.Prelude.{◌≡◌, ◌≤◌, [], length, reverse, OnOk, IsErrOf, Err};
+ghost use Rattle.qc_event.specs.declared.log.Short.TheVariants.{Memory, Room};
 ghost use Rattle.qc_event.specs.History.{limit};
 ghost use Rattle.qc_event.specs.Legal.{Legal};
 ghost use Rattle.qc_event.specs.Tables.{setting_of};
@@ -11,15 +11,21 @@ ghost use Rattle.qc_system.specs.Closing.{AllKeep};
 ghost use Rattle.qc_system.specs.Parts.{IsOpening};
 
 use crate::stage::Stage;
+use qc_board::Board;
 use qc_disk::Disk;
 use qc_event::{Base, Entry, Short};
 use qc_interp::{Gate, Mode};
 use qc_pass::Pass;
 use qc_script::Script;
 use qc_system::{Mounting, System};
-use std::alloc::Global;
+use std::alloc::{AllocError, Global};
 use std::sync::Wait;
 use std::thread::Threads;
+
+// How many sessions may be marked, and that each of them may.
+const SESSIONS: u8 = 16;
+
+const EACH: u16 = 0xffff;
 
 /// What is left of a store once its sessions have run: whether all came to their end, the tuples from which the copies
 /// started, the history, the oldest entry first, and the disks, the ledger's first.
@@ -31,9 +37,35 @@ pub struct Ended<D> {
     pub disks: Vec<D>,
 }
 
+// Takes apart a system over which no session began, for want of memory.
+fn none_ran<R: Wait, D: Disk + Drop, N: Mounting>(
+    rt: &R,
+    system: System<D, N>,
+    first: Pass<N>,
+) -> Ended<D>
+    requires first { IsOpening first 17 }
+    ensures ran { result.ran ≡ Err Memory }
+    ensures start { result.start ≡ N.base }
+    ensures nothing { result.trail.items ≡ [] }
+    ensures disks { AllKeep (setting_of N.table N.base) (record {
+      base = N.base;
+      told = N.told;
+      before = N.before;
+      first = N.first;
+    }) D.view result.disks.items [] }
+{
+    let (start, trail, disks) = system.finish(rt, first);
+    Ended {
+        ran: Err(Short::Memory),
+        start,
+        trail,
+        disks,
+    }
+}
+
 /// Runs the sessions of a script over a system that was just opened, in threads or in order, and takes that apart. Each
 /// passes the gate before its first top. Where memory or room is wanting, a session stops, and what it made before stands;
-/// the others go on.
+/// the others go on. Where memory is wanting for the board, none begins.
 pub fn run_sessions<
     R: Threads + Wait + Sync,
     D: Disk + Drop + Send,
@@ -71,15 +103,20 @@ pub fn run_sessions<
       first = N.first;
     }) D.view result.disks.items (reverse result.trail.items) }
 {
+    let (board, seat) = match Board::new(alloc, SESSIONS, EACH) {
+        Ok(made) => made,
+        Err(AllocError) => return none_ran(rt, system, first),
+    };
     let stage = Stage {
         rt,
         alloc,
         system: &system,
+        board: &board,
         script,
         gate,
         mode,
     };
-    let (ran, first) = stage.run_from(first, script.sessions.as_slice(), 0);
+    let (ran, first) = stage.run_from(first, seat, script.sessions.as_slice(), 0);
     let (start, trail, disks) = system.finish(rt, first);
     Ended {
         ran,

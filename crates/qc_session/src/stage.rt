@@ -1,11 +1,13 @@
 //! The sessions of a script, each run by a client of its own over a system.
-ghost use Rattle.std.specs.Prelude.{◌≡◌, ◌+◌, ◌≤◌, length, map, IfOk};
+ghost use Rattle.std.specs.Prelude.{◌≡◌, ◌+◌, ◌<◌, ◌≤◌, length, map, IfOk};
 ghost use Rattle.qc_event.specs.Tables.{setting_of};
 ghost use Rattle.qc_script.specs.Plan.{SessionsFit};
 ghost use Rattle.qc_script.specs.Steps.{plan_of_session};
+ghost use Rattle.qc_session.specs.Marking.{IsSeatAt};
 ghost use Rattle.qc_session.specs.Session.{IsFirst, IsNew, RanEach, RanOne, SessionFits};
 
 use crate::client::Client;
+use qc_board::{Board, BoardSeat};
 use qc_carry::Line;
 use qc_disk::Disk;
 use qc_event::Short;
@@ -27,6 +29,7 @@ where
     pub(crate) rt: &'a R,
     pub(crate) alloc: Global,
     pub(crate) system: &'a System<D, N>,
+    pub(crate) board: &'a Board,
     pub(crate) script: &'a Script,
     pub(crate) gate: &'a G,
     pub(crate) mode: Mode,
@@ -39,19 +42,23 @@ fn fates_of(session: &Session) -> Result<Vec<Fate>, AllocError>
     session.fates.clone()
 }
 
-// Runs a session, with this number, by a client of a pass, and gives the pass back. Where memory or room is wanting the
-// session stops, and what it made before stands.
+// Runs a session, with this number, by a client of a pass with a seat at a board, and gives the pass back. Where memory
+// or room is wanting the session stops, and what it made before stands.
 fn run_client<R: Wait, D: Disk + Drop, N: Mounting, G: Gate>(
     rt: &R,
     alloc: Global,
     system: &System<D, N>,
+    board: &Board,
     script: &Script,
     gate: &G,
     pass: Pass<N>,
+    seat: BoardSeat,
     session: &Session,
     number: u8,
 ) -> (Result<(), Short>, Pass<N>)
     requires new { IsNew pass }
+    requires seated { IsSeatAt board.now seat }
+    requires low { number < 16 }
     requires fits { SessionFits (setting_of N.table N.base) (plan_of_session session.now) }
     requires table { script.now.table ≡ N.table }
     ensures { RanOne (setting_of N.table N.base) system.now.desk.epoch script.now.patience number
@@ -64,7 +71,7 @@ fn run_client<R: Wait, D: Disk + Drop, N: Mounting, G: Gate>(
     };
     let courier = Courier::new(alloc, PlanLink::new(fates, session.hold));
     let line = Line::new(rt, system, pass, courier, script.patience);
-    let mut client = Client::new(line, &script.table, number);
+    let mut client = Client::new(line, &script.table, number, board, seat);
     client.line.known();
     gate.pass(number);
     let ran = run_tops(&mut client, session.tops.as_slice());
@@ -84,13 +91,17 @@ impl<
     fn run_both(
         &self,
         pass: Pass<N>,
+        seat: BoardSeat,
         session: &Session,
         first: Pass<N>,
+        first_seat: BoardSeat,
         rest: &[Session],
         number: u8,
     ) -> ((Result<(), Short>, Pass<N>), (Result<(), Short>, Pass<N>))
         requires new { IsNew pass }
         requires first { IsFirst first }
+        requires seated { IsSeatAt self.now.board.now seat
+            × IsSeatAt self.now.board.now first_seat }
         requires fits { SessionFits (setting_of N.table N.base) (plan_of_session session.now) }
         requires all_fit { SessionsFit (setting_of N.table N.base) (map plan_of_session rest.now) }
         requires few { number + 1 + length rest.now ≤ 16 }
@@ -102,11 +113,13 @@ impl<
             self.now.script.now.patience (number + 1) (map plan_of_session rest.now) first
             result.1.0 result.1.1 }
     {
-        let (rt, alloc, system) = (self.rt, self.alloc, self.system);
+        let (rt, alloc, system, board) = (self.rt, self.alloc, self.system, self.board);
         let (script, gate) = (self.script, self.gate);
         if self.mode == Mode::Serial || rest.is_empty() {
-            let one = run_client(rt, alloc, system, script, gate, pass, session, number);
-            let others = self.run_from(first, rest, number + 1);
+            let one = run_client(
+                rt, alloc, system, board, script, gate, pass, seat, session, number,
+            );
+            let others = self.run_from(first, first_seat, rest, number + 1);
             return (one, others);
         }
         join(
@@ -114,20 +127,25 @@ impl<
             || -> (Result<(), Short>, Pass<N>)
                 requires { IsNew pass
                     × SessionFits (setting_of N.table N.base) (plan_of_session session.now)
-                    × (script.now.table ≡ N.table) }
+                    × (script.now.table ≡ N.table) × IsSeatAt board.now seat × (number < 16) }
                 ensures { RanOne (setting_of N.table N.base) system.entry.now.desk.epoch
                     script.entry.now.patience number (plan_of_session session.entry.now) pass
                     result.0 result.1 }
-            { run_client(rt, alloc, system, script, gate, pass, session, number) },
+            {
+                run_client(
+                    rt, alloc, system, board, script, gate, pass, seat, session, number,
+                )
+            },
             || -> (Result<(), Short>, Pass<N>)
                 requires { IsFirst first
                     × SessionsFit (setting_of N.table N.base) (map plan_of_session rest.now)
                     × (number + 1 + length rest.now ≤ 16)
-                    × (self.now.script.now.table ≡ N.table) }
+                    × (self.now.script.now.table ≡ N.table)
+                    × IsSeatAt self.now.board.now first_seat }
                 ensures { RanEach (setting_of N.table N.base) self.entry.now.system.now.desk.epoch
                     self.entry.now.script.now.patience (number + 1)
                     (map plan_of_session rest.entry.now) first result.0 result.1 }
-            { self.run_from(first, rest, number + 1) },
+            { self.run_from(first, first_seat, rest, number + 1) },
         )
     }
 
@@ -137,10 +155,12 @@ impl<
     pub(crate) fn run_from(
         &self,
         first: Pass<N>,
+        first_seat: BoardSeat,
         sessions: &[Session],
         number: u8,
     ) -> (Result<(), Short>, Pass<N>)
         requires first { IsFirst first }
+        requires seated { IsSeatAt self.now.board.now first_seat }
         requires fit { SessionsFit (setting_of N.table N.base) (map plan_of_session sessions.now) }
         requires few { number + length sessions.now ≤ 16 }
         requires table { self.now.script.now.table ≡ N.table }
@@ -151,10 +171,13 @@ impl<
         let [session, rest @ ..] = sessions else {
             return (Ok(()), first);
         };
-        let mut first = first;
+        let (mut first, mut first_seat) = (first, first_seat);
         let pass = self.system.desk().split(self.rt, &mut first);
+        let seat = self.board.split(&mut first_seat);
         pass.known();
-        let ((ran, pass), (others, mut first)) = self.run_both(pass, session, first, rest, number);
+        let ((ran, pass), (others, mut first)) = self.run_both(
+            pass, seat, session, first, first_seat, rest, number,
+        );
         pass.known();
         self.system.desk().join(self.rt, &mut first, pass);
         match ran {

@@ -1,5 +1,6 @@
 pub mod Trails
 pub mod Values
+pub mod Marks
 pub mod Musts
 pub mod Crashes
 pub mod Scripts

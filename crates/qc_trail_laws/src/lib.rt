@@ -3,15 +3,18 @@
 
 ghost use Rattle.std.specs.Prelude.{◌≡◌, true, false, [], ◌∷◌, ◌++◌, IsTrue, map, reverse};
 ghost use Rattle.std.specs.List.{list_all};
+ghost use Rattle.qc_event.specs.declared.event.Event.TheVariants as event;
 ghost use Rattle.qc_event.specs.History.{children};
 ghost use Rattle.qc_interp.specs.Asking.{Asks};
+ghost use Rattle.qc_interp.specs.Deeds.{deeds};
 ghost use Rattle.qc_interp.specs.Follows.{FollowsBody};
 ghost use Rattle.qc_interp.specs.FollowsScript.{EachRuns, is_in_session, started};
 ghost use Rattle.qc_interp.specs.Reach.{Reach};
 ghost use Rattle.qc_interp.specs.Session.{FollowsBodies, RunsBodies};
-ghost use Rattle.qc_interp.specs.Sessions.{RunsInTurn, tops_of, meets, is_settled, all_unmarked};
+ghost use Rattle.qc_interp.specs.Sessions.{RunsInTurn, tops_of, meets, is_settled};
 ghost use Rattle.qc_script.specs.Numbers.{each, is_next_top};
 ghost use Rattle.qc_trail_laws.specs.Crashes as crashes;
+ghost use Rattle.qc_trail_laws.specs.Marks as marks;
 ghost use Rattle.qc_trail_laws.specs.Musts as musts;
 ghost use Rattle.qc_trail_laws.specs.Scripts.{Begins, Follows, session_of};
 ghost use Rattle.qc_trail_laws.specs.Trails as trails;
@@ -29,7 +32,6 @@ pub fn accepts()
     ensures first_messages { IsTrue (meets 0 trails.net (reverse trails.first_run)) }
     ensures first_settled { IsTrue (list_all (is_settled (reverse trails.first_run))
         (started (reverse trails.first_run))) }
-    ensures first_unmarked { IsTrue (all_unmarked (reverse trails.first_run)) }
     ensures tried_again { FollowsBodies 0 (reverse trails.tried_again) trails.read_twice
         (trails.top ∷ trails.top2 ∷ []) }
     ensures tried_turns { RunsInTurn 0 (reverse trails.tried_again) }
@@ -42,7 +44,6 @@ pub fn accepts()
     ensures down_turns { RunsInTurn 0 (reverse trails.copy_down) }
     ensures down_settled { IsTrue (list_all (is_settled (reverse trails.copy_down))
         (started (reverse trails.copy_down))) }
-    ensures down_unmarked { IsTrue (all_unmarked (reverse trails.copy_down)) }
     ensures not_logged { FollowsBodies 0 (reverse trails.not_logged) trails.set_then_read
         (trails.top ∷ []) }
     ensures not_logged_turns { RunsInTurn 0 (reverse trails.not_logged) }
@@ -51,13 +52,12 @@ pub fn accepts()
     ensures far_abort { FollowsBody 0 (reverse trails.far_abort) (trails.abort_body 2) trails.top }
     ensures far_turns { RunsInTurn 0 (reverse trails.far_abort) }
     ensures far_named { Asks (reverse trails.far_abort) trails.top (trails.abort_body 2).plan
-        (children (reverse trails.far_abort) trails.top) trails.grandchild trails.top }
+        (deeds (reverse trails.far_abort) trails.top) trails.grandchild trails.top }
 {}
 
 /// None of these follows its script: a read before the set that stands before it, or beside it; steps that no one runs;
 /// a top before the one before it has ended; a request that is lost as no fate says, or is not lost as one says; a top
-/// that stays ready, though no one was unable to log it; a mark; another number and a mark; and a session under two
-/// seats.
+/// that stays ready, though no one was unable to log it; another number and a mark; and a session under two seats.
 pub fn refuses()
     ensures read_before_set { Follows trails.net trails.set_then_read
         (reverse trails.read_before_set) → ⊥ }
@@ -73,7 +73,6 @@ pub fn refuses()
         (reverse (map trails.moved trails.first_run)) → ⊥ }
     ensures stays_ready { Follows trails.net trails.set_then_read
         (reverse (trails.first_cut trails.top_ready)) → ⊥ }
-    ensures marked { Follows trails.net trails.no_step (reverse trails.marked) → ⊥ }
     ensures marked_elsewhere { Follows trails.net trails.no_step
         (reverse trails.marked_elsewhere) → ⊥ }
     ensures two_seats { Follows trails.net trails.two_steps (reverse trails.two_seats)
@@ -84,7 +83,7 @@ pub fn refuses()
 /// of that body.
 pub fn names_no_other()
     ensures parent_named { Asks (reverse trails.aborts_two) trails.top (trails.abort_body 1).plan
-        (children (reverse trails.aborts_two) trails.top) trails.grandchild trails.first_child }
+        (deeds (reverse trails.aborts_two) trails.top) trails.grandchild trails.first_child }
     ensures top_not_named { Follows trails.net (trails.abort_body 1 ∷ [])
         (reverse trails.aborts_two) → ⊥ }
 {}
@@ -196,6 +195,55 @@ pub fn stops_at_no_crash()
         → ⊥ }
 {}
 
+/// A step `kill` follows its script where its transaction marks the session: its own, for which it is killed before it
+/// does more, or another, and then it goes on. A transaction is killed before any step, whoever marked its session, and
+/// what is marked by one that is aborted already counts for nothing.
+pub fn goes_by_marks()
+    ensures itself { FollowsBodies 0 (reverse (marks.marks_then 0 marks.is_killed))
+        (marks.kill_then_read 0)
+        (trails.top ∷ []) }
+    ensures itself_turns { RunsInTurn 0 (reverse (marks.marks_then 0 marks.is_killed)) }
+    ensures itself_at_last { FollowsBodies 0 (reverse (marks.marks_then 0 marks.is_killed))
+        (marks.kill_alone 0)
+        (trails.top ∷ []) }
+    ensures another { FollowsBodies 0 (reverse (marks.marks_then 1 marks.reads_on))
+        (marks.kill_then_read 1)
+        (trails.top ∷ []) }
+    ensures another_turns { RunsInTurn 0 (reverse (marks.marks_then 1 marks.reads_on)) }
+    ensures killed { FollowsBodies 0 (reverse (trails.user trails.client trails.top
+        ∷ marks.is_killed))
+        trails.read_alone
+        (trails.top ∷ []) }
+    ensures late { FollowsBodies 0 (reverse marks.marks_late) marks.kills_in_aborted
+        (trails.top ∷ []) }
+    ensures late_turns { RunsInTurn 0 (reverse marks.marks_late) }
+{}
+
+/// None of these follows its script: a mark that no step asks for; a step's mark that is left out, made twice, of another
+/// session, by another transaction, or under another seat; a top that goes on, or commits, though it marked its own
+/// session; and one that is aborted by a step `abort` of a transaction that was killed before it.
+pub fn goes_by_no_other_mark()
+    ensures of_no_step { Follows trails.net trails.no_step (reverse trails.marked) → ⊥ }
+    ensures left_out { Follows trails.net (marks.kill_then_read 1)
+        (reverse (trails.user trails.client trails.top ∷ marks.reads_on)) → ⊥ }
+    ensures left_out_at_last { Follows trails.net (marks.kill_alone 1)
+        (reverse crashes.nothing_done) → ⊥ }
+    ensures twice { Follows trails.net (marks.kill_then_read 1) (reverse (marks.marks_then 1
+        (trails.by trails.client (event.Mark trails.top 1) ∷ marks.reads_on))) → ⊥ }
+    ensures another_session { Follows trails.net (marks.kill_then_read 1)
+        (reverse (marks.marks_then 2 marks.reads_on)) → ⊥ }
+    ensures by_another { Follows trails.net marks.child_kills
+        (reverse marks.parent_marks) → ⊥ }
+    ensures another_seat { Follows trails.net (marks.kill_alone 1)
+        (reverse marks.marks_elsewhere) → ⊥ }
+    ensures goes_on { Follows trails.net (marks.kill_then_read 0)
+        (reverse (marks.marks_then 0 marks.reads_on)) → ⊥ }
+    ensures commits { Follows trails.net (marks.kill_alone 0)
+        (reverse (marks.marks_then 0 values.commits)) → ⊥ }
+    ensures killed_asks { Follows trails.net (trails.abort_body 2 ∷ [])
+        (reverse marks.killed_asks) → ⊥ }
+{}
+
 /// Two sessions whose tops run between each other's entries, each under its seat, follow their script: each runs its own
 /// bodies in turn, and tops are numbered in order, whatever their sessions.
 pub fn runs_together()
@@ -206,7 +254,6 @@ pub fn runs_together()
     ensures numbers { IsTrue (each (is_next_top 1) (reverse two.interleaved)) }
     ensures settled { IsTrue (list_all (is_settled (reverse two.interleaved))
         (started (reverse two.interleaved))) }
-    ensures unmarked { IsTrue (all_unmarked (reverse two.interleaved)) }
 {}
 
 /// None of these follows its script: two sessions where the script has one, or has the bodies of each for the other, or

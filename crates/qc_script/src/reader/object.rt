@@ -1,7 +1,7 @@
 //! Members of JSON objects, and checks on them.
 ghost use Rattle.std.specs.Prelude.{◌≡◌, ◌≢◌, ◌≤◌, map, IfOk, IfErr, OnOk};
 ghost use Rattle.serde_json.specs.View.{view, members_view};
-ghost use Rattle.qc_script.specs.ScriptText as script;
+ghost use Rattle.qc_script.specs.JsonText as json;
 ghost use Rattle.qc_script.specs.Reading.{Gives};
 
 use crate::bad_script::{BadScript, Member};
@@ -9,14 +9,14 @@ use serde_json::{Map, Value};
 
 // Whether a name is one of these.
 fn is_among(names: &[&str], name: &str) -> bool
-    ensures { result ≡ script.among (map (λ n. n.now) names.now) name.now }
+    ensures { result ≡ json.among (map (λ n. n.now) names.now) name.now }
 {
     names.contains(&name)
 }
 
 // Whether the members of an object are among the needed and the others.
 fn has_only(members: &Map<String, Value>, needed: &[&str], others: &[&str]) -> bool
-    ensures { result ≡ script.has_only (map (λ n. n.now) needed.now) (map (λ n. n.now) others.now)
+    ensures { result ≡ json.has_only (map (λ n. n.now) needed.now) (map (λ n. n.now) others.now)
         (members_view members.now.entries) }
 {
     for (name, _) in members.iter() {
@@ -29,7 +29,7 @@ fn has_only(members: &Map<String, Value>, needed: &[&str], others: &[&str]) -> b
 
 // Whether an object has a member of each name.
 fn has_all(object: &Value, names: &[&str]) -> bool
-    ensures { result ≡ script.has_all (map (λ n. n.now) names.now) (view object.now) }
+    ensures { result ≡ json.has_all (map (λ n. n.now) names.now) (view object.now) }
 {
     names.iter().all(|name| object.get(*name).is_some())
 }
@@ -42,7 +42,7 @@ pub(crate) fn check_object(
     others: &[&str],
 ) -> Result<(), BadScript>
     ensures exact { Gives (λ _. tt) result
-        (script.object_of word (map (λ n. n.now) needed.now) (map (λ n. n.now) others.now)
+        (json.object_of word (map (λ n. n.now) needed.now) (map (λ n. n.now) others.now)
         (view value.now)) }
     ensures no_memory { IfErr result (λ e. e ≢ BadScript.Memory) }
 {
@@ -62,7 +62,7 @@ pub(crate) fn member_at<'v>(
     word: Member,
 ) -> Result<&'v Value, BadScript>
     ensures exact { Gives (λ v. view v.now) result
-        (script.member_at name.now word (view object.now)) }
+        (json.member_at name.now word (view object.now)) }
     ensures no_memory { IfErr result (λ e. e ≢ BadScript.Memory) }
 {
     object.get(name).ok_or(BadScript::Shape(word))
@@ -70,7 +70,7 @@ pub(crate) fn member_at<'v>(
 
 /// A member that is a number, written in digits alone.
 pub(crate) fn number_at(object: &Value, name: &str, word: Member) -> Result<u64, BadScript>
-    ensures exact { Gives (λ n. n) result (script.number_at name.now word (view object.now)) }
+    ensures exact { Gives (λ n. n) result (json.number_at name.now word (view object.now)) }
     ensures no_memory { IfErr result (λ e. e ≢ BadScript.Memory) }
 {
     object
@@ -81,7 +81,7 @@ pub(crate) fn number_at(object: &Value, name: &str, word: Member) -> Result<u64,
 
 /// A member that is a text.
 pub(crate) fn text_at<'v>(object: &'v Value, name: &str, word: Member) -> Result<&'v str, BadScript>
-    ensures exact { Gives (λ t. t.now) result (script.text_at name.now word (view object.now)) }
+    ensures exact { Gives (λ t. t.now) result (json.text_at name.now word (view object.now)) }
     ensures no_memory { IfErr result (λ e. e ≢ BadScript.Memory) }
 {
     object
@@ -97,7 +97,7 @@ pub(crate) fn list_at<'v>(
     word: Member,
 ) -> Result<&'v [Value], BadScript>
     ensures exact { Gives (λ vs. map view vs.now) result
-        (script.list_at name.now word (view object.now)) }
+        (json.list_at name.now word (view object.now)) }
     ensures no_memory { IfErr result (λ e. e ≢ BadScript.Memory) }
 {
     match object.get(name).and_then(Value::as_array) {
@@ -108,7 +108,7 @@ pub(crate) fn list_at<'v>(
 
 /// Checks a number, or a length, against its limits.
 pub(crate) fn check_within(word: Member, low: u64, high: u64, number: u64) -> Result<(), BadScript>
-    ensures exact { Gives (λ _. tt) result (script.within word low high number) }
+    ensures exact { Gives (λ _. tt) result (json.within word low high number) }
     ensures inside { OnOk result ((low ≤ number) × (number ≤ high)) }
     ensures no_memory { IfErr result (λ e. e ≢ BadScript.Memory) }
 {
@@ -120,7 +120,7 @@ pub(crate) fn check_within(word: Member, low: u64, high: u64, number: u64) -> Re
 
 /// A number within its limits, written in digits alone.
 pub(crate) fn limited(word: Member, low: u64, high: u64, value: &Value) -> Result<u64, BadScript>
-    ensures exact { Gives (λ n. n) result (script.limited word low high (view value.now)) }
+    ensures exact { Gives (λ n. n) result (json.limited word low high (view value.now)) }
     ensures inside { IfOk result (λ n. (low ≤ n) × (n ≤ high)) }
     ensures no_memory { IfErr result (λ e. e ≢ BadScript.Memory) }
 {
@@ -140,7 +140,7 @@ pub(crate) fn number_or(
 ) -> Result<u64, BadScript>
     requires { default ≤ high }
     ensures exact { Gives (λ n. n) result
-        (script.member_or name.now default (script.limited word low high) (view object.now)) }
+        (json.member_or name.now default (json.limited word low high) (view object.now)) }
     ensures inside { IfOk result (λ n. n ≤ high) }
     ensures no_memory { IfErr result (λ e. e ≢ BadScript.Memory) }
 {

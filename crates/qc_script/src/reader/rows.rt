@@ -1,10 +1,11 @@
 //! Records: their names, start values and configurations.
-#![tactic(auto, unfolding(crate::specs::ScriptText::followed))]
+#![tactic(auto, unfolding(crate::specs::JsonText::followed))]
 
 ghost use Rattle.std.specs.Prelude.{◌≡◌, ◌≢◌, ◌≤◌, [], ◌∷◌, ◌++◌, map, length, vec_len, IfOk, IfErr};
 ghost use Rattle.std.specs.Char.{is_ascii_alphanumeric};
 ghost use Rattle.std.specs.List.{list_all};
 ghost use Rattle.serde_json.specs.View.{view};
+ghost use Rattle.qc_script.specs.JsonText as json;
 ghost use Rattle.qc_script.specs.ScriptText as script;
 ghost use Rattle.qc_script.specs.Reading.{Gives, texts_of};
 
@@ -85,7 +86,7 @@ fn vote_of(value: &Value) -> Result<u8, BadScript>
 
 fn votes_of(alloc: Global, list: &[Value]) -> Result<Vec<u8>, BadScript>
     ensures exact { Gives (λ votes. votes.items) result
-        (script.each script.vote_of (map view list.now)) }
+        (json.each script.vote_of (map view list.now)) }
     ensures counted { IfOk result (λ votes. vec_len votes ≡ length list.now) }
 {
     let mut votes = Vec::new(alloc);

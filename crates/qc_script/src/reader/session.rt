@@ -1,15 +1,16 @@
 //! Sessions: their nets and their tops.
-#![tactic(auto, unfolding(crate::specs::ScriptText::followed))]
+#![tactic(auto, unfolding(crate::specs::JsonText::followed))]
 
 ghost use Rattle.std.specs.Prelude.{◌≡◌, ◌≢◌, ◌≤◌, [], map, length, vec_len, codes, IfOk, IfErr};
 ghost use Rattle.serde_json.specs.View.{view};
+ghost use Rattle.qc_script.specs.JsonText as json;
 ghost use Rattle.qc_script.specs.ScriptText as script;
 ghost use Rattle.qc_script.specs.Steps.{plan_of_session};
 ghost use Rattle.qc_script.specs.Reading.{Gives};
 
 use crate::bad_script::{BadScript, Member};
 use crate::reader::object::{check_object, check_within, list_at, number_or};
-use crate::reader::rows::Records;
+use crate::reader::scope::Scope;
 use crate::reader::steps::bodies_of;
 use crate::script::Session;
 use qc_net::Fate;
@@ -38,7 +39,7 @@ fn fate_of(letter: u8) -> Result<Fate, BadScript>
 }
 
 fn letters_of(alloc: Global, text: &str) -> Result<Vec<Fate>, BadScript>
-    ensures { Gives (λ fates. fates.items) result (script.each script.fate_of text.now) }
+    ensures { Gives (λ fates. fates.items) result (json.each script.fate_of text.now) }
 {
     let mut fates = Vec::new(alloc);
     for letter in text.as_bytes() {
@@ -59,7 +60,7 @@ fn fates_of(alloc: Global, value: &Value) -> Result<Vec<Fate>, BadScript>
 
 fn fates_at(alloc: Global, net: &Value) -> Result<Vec<Fate>, BadScript>
     ensures { Gives (λ fates. fates.items) result
-        (script.member_or (codes "fates") [] script.fates_of (view net.now)) }
+        (json.member_or (codes "fates") [] script.fates_of (view net.now)) }
 {
     match net.get("fates") {
         Some(text) => fates_of(alloc, text),
@@ -78,7 +79,7 @@ fn net_of(alloc: Global, value: &Value) -> Result<Net, BadScript>
 
 fn net_at(alloc: Global, session: &Value) -> Result<Net, BadScript>
     ensures { Gives (λ net. (net.fates.items, net.hold)) result
-        (script.member_or (codes "net") ([], 1) script.net_of (view session.now)) }
+        (json.member_or (codes "net") ([], 1) script.net_of (view session.now)) }
 {
     match session.get("net") {
         Some(net) => net_of(alloc, net),
@@ -91,33 +92,33 @@ fn net_at(alloc: Global, session: &Value) -> Result<Net, BadScript>
 
 fn session_of(
     alloc: Global,
-    records: &Records<'_>,
+    scope: &Scope<'_, '_>,
     next: &mut u32,
     value: &Value,
 ) -> Result<Session, BadScript>
     ensures { Gives (λ s. (plan_of_session s, next.new)) result
-        (script.session_of records.now.table next.old (view value.now)) }
+        (script.session_of scope.now next.old (view value.now)) }
 {
     check_object(value, Member::Session, &["tops"], &["net"])?;
     let Net { fates, hold } = net_at(alloc, value)?;
     let list = list_at(value, "tops", Member::Tops)?;
-    let tops = bodies_of(alloc, records, next, list)?;
+    let tops = bodies_of(alloc, scope, next, list)?;
     Ok(Session { fates, hold, tops })
 }
 
-/// The sessions over these records, in order. Bodies are numbered from 0 on through all of them.
+/// The sessions of this scope, in order. Bodies are numbered from 0 on through all of them.
 pub(crate) fn sessions_of(
     alloc: Global,
-    records: &Records<'_>,
+    scope: &Scope<'_, '_>,
     list: &[Value],
 ) -> Result<Vec<Session>, BadScript>
     ensures { Gives (λ sessions. map plan_of_session sessions.items) result
-        (script.sessions_of records.now.table (map view list.now)) }
+        (script.sessions_of scope.now (map view list.now)) }
 {
     let mut next = 0;
     let mut sessions = Vec::new(alloc);
     for value in list {
-        let session = session_of(alloc, records, &mut next, value)?;
+        let session = session_of(alloc, scope, &mut next, value)?;
         sessions.push(session)?;
     }
     Ok(sessions)

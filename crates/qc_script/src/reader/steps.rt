@@ -1,5 +1,5 @@
 //! The bodies of tops, and their steps.
-#![tactic(auto, unfolding(crate::specs::ScriptText::followed))]
+#![tactic(auto, unfolding(crate::specs::JsonText::followed))]
 
 ghost use Rattle.std.specs.Prelude.{◌≡◌, ◌≢◌, ℕ, ◌-◌, ◌*◌, ◌≤◌, map, length, IfOk, IfErr};
 ghost use Rattle.serde_json.specs.View.{view};
@@ -10,6 +10,7 @@ ghost use Rattle.qc_script.specs.Reading.{Gives};
 use crate::bad_script::{BadScript, Member};
 use crate::reader::object::{check_object, check_within, list_at, number_or};
 use crate::reader::rows::{Records, check_name, config_of};
+use crate::reader::scope::Scope;
 use crate::script::{Body, Step};
 use serde_json::Value;
 use std::alloc::Global;
@@ -180,24 +181,37 @@ fn crash_of(copies: u8, copy: &Value) -> Result<Step, BadScript>
     Ok(Step::Crash { copy: copy as u8 })
 }
 
+fn kill_of(sessions: u8, session: &Value) -> Result<Step, BadScript>
+    ensures { (next : ℕ)
+        → Gives (λ s. (put s, next)) result (script.kill_of sessions next (view session.now)) }
+{
+    let session = session.as_u64().ok_or(BadScript::Shape(Member::Step))?;
+    if session >= sessions as u64 {
+        return Err(BadScript::Limit(Member::Session, session));
+    }
+    Ok(Step::Kill {
+        session: session as u8,
+    })
+}
+
 #[cycle(bodies)]
 fn child_of(
     alloc: Global,
     below: u8,
     around: u32,
-    records: &Records<'_>,
+    scope: &Scope<'_, '_>,
     next: &mut u32,
     body: &Value,
 ) -> Result<Step, BadScript>
     requires bounded { below ≤ 16 }
     requires tried { around ≤ 256 }
     ensures { Gives (λ s. (put s, next.new)) result
-        (script.child_of (script.body_of below around records.now.table) next.old (view body.now)) }
+        (script.child_of (script.body_of below around scope.now) next.old (view body.now)) }
 {
     if body.as_object().is_none() {
         return Err(BadScript::Shape(Member::Step));
     }
-    let body = body_of(alloc, below, around, records, next, body)?;
+    let body = body_of(alloc, below, around, scope, next, body)?;
     Ok(Step::Child(body))
 }
 
@@ -206,7 +220,7 @@ fn two_of(
     alloc: Global,
     below: u8,
     around: u32,
-    records: &Records<'_>,
+    scope: &Scope<'_, '_>,
     next: &mut u32,
     word: &Value,
     part: &Value,
@@ -214,18 +228,19 @@ fn two_of(
     requires bounded { below ≤ 16 }
     requires tried { around ≤ 256 }
     ensures { Gives (λ s. (put s, next.new)) result
-        (script.two_of (script.body_of below around records.now.table) (16 - below)
-        records.now.table
+        (script.two_of (script.body_of below around scope.now) (16 - below) scope.now
         next.old (view word.now) (view part.now)) }
 {
     if is_word(word, "read") {
-        read_of(alloc, records, part)
+        read_of(alloc, scope.records, part)
     } else if is_word(word, "child") {
-        child_of(alloc, below, around, records, next, part)
+        child_of(alloc, below, around, scope, next, part)
     } else if is_word(word, "abort") {
         abort_of(16 - below, part)
     } else if is_word(word, "crash") {
-        crash_of(records.table.copies, part)
+        crash_of(scope.records.table.copies, part)
+    } else if is_word(word, "kill") {
+        kill_of(scope.sessions, part)
     } else {
         Err(BadScript::Shape(Member::Step))
     }
@@ -236,20 +251,19 @@ fn step_in(
     alloc: Global,
     below: u8,
     around: u32,
-    records: &Records<'_>,
+    scope: &Scope<'_, '_>,
     next: &mut u32,
     parts: &[Value],
 ) -> Result<Step, BadScript>
     requires bounded { below ≤ 16 }
     requires tried { around ≤ 256 }
     ensures { Gives (λ s. (put s, next.new)) result
-        (script.step_in (script.body_of below around records.now.table) (16 - below)
-        records.now.table
+        (script.step_in (script.body_of below around scope.now) (16 - below) scope.now
         next.old (map view parts.now)) }
 {
     match parts {
-        [word, part] => two_of(alloc, below, around, records, next, word, part),
-        [word, rec, value] => three_of(alloc, records, word, rec, value),
+        [word, part] => two_of(alloc, below, around, scope, next, word, part),
+        [word, rec, value] => three_of(alloc, scope.records, word, rec, value),
         _ => Err(BadScript::Shape(Member::Step)),
     }
 }
@@ -260,19 +274,18 @@ fn step_of(
     alloc: Global,
     below: u8,
     around: u32,
-    records: &Records<'_>,
+    scope: &Scope<'_, '_>,
     next: &mut u32,
     value: &Value,
 ) -> Result<Step, BadScript>
     requires bounded { below ≤ 16 }
     requires tried { around ≤ 256 }
     ensures { Gives (λ s. (put s, next.new)) result
-        (script.step_of (script.body_of below around records.now.table) (16 - below)
-        records.now.table
+        (script.step_of (script.body_of below around scope.now) (16 - below) scope.now
         next.old (view value.now)) }
 {
     match value.as_array() {
-        Some(parts) => step_in(alloc, below, around, records, next, parts.as_slice()),
+        Some(parts) => step_in(alloc, below, around, scope, next, parts.as_slice()),
         None => Err(BadScript::Shape(Member::Step)),
     }
 }
@@ -282,20 +295,19 @@ fn steps_of(
     alloc: Global,
     below: u8,
     around: u32,
-    records: &Records<'_>,
+    scope: &Scope<'_, '_>,
     next: &mut u32,
     list: &[Value],
 ) -> Result<Vec<Step>, BadScript>
     requires bounded { below ≤ 16 }
     requires tried { around ≤ 256 }
     ensures { Gives (λ steps. (plan_of steps.items, next.new)) result
-        (script.steps_of (script.body_of below around records.now.table) (16 - below)
-        records.now.table
+        (script.steps_of (script.body_of below around scope.now) (16 - below) scope.now
         next.old (map view list.now)) }
 {
     let mut steps = Vec::new(alloc);
     for value in list {
-        let step = step_of(alloc, below, around, records, next, value)?;
+        let step = step_of(alloc, below, around, scope, next, value)?;
         steps.push(step)?;
     }
     Ok(steps)
@@ -331,14 +343,14 @@ fn body_of(
     alloc: Global,
     levels: u8,
     around: u32,
-    records: &Records<'_>,
+    scope: &Scope<'_, '_>,
     next: &mut u32,
     value: &Value,
 ) -> Result<Body, BadScript>
     requires bounded { levels ≤ 16 }
     requires tried { around ≤ 256 }
     ensures { Gives (λ b. (numbered b, next.new)) result
-        (script.body_of levels around records.now.table next.old (view value.now)) }
+        (script.body_of levels around scope.now next.old (view value.now)) }
 {
     check_object(value, Member::Body, &["steps"], &["tries", "must"])?;
     if levels == 0 {
@@ -349,7 +361,7 @@ fn body_of(
     let list = list_at(value, "steps", Member::Steps)?;
     let number = *next;
     *next = number.checked_add(1).ok_or(BadScript::Memory)?;
-    let steps = steps_of(alloc, levels - 1, around * tries, records, next, list)?;
+    let steps = steps_of(alloc, levels - 1, around * tries, scope, next, list)?;
     Ok(Body {
         number,
         tries,
@@ -361,16 +373,16 @@ fn body_of(
 /// The bodies of tops, in order.
 pub(crate) fn bodies_of(
     alloc: Global,
-    records: &Records<'_>,
+    scope: &Scope<'_, '_>,
     next: &mut u32,
     list: &[Value],
 ) -> Result<Vec<Body>, BadScript>
     ensures { Gives (λ bodies. (map numbered bodies.items, next.new)) result
-        (script.bodies_of records.now.table next.old (map view list.now)) }
+        (script.bodies_of scope.now next.old (map view list.now)) }
 {
     let mut bodies = Vec::new(alloc);
     for value in list {
-        let body = body_of(alloc, 16, 1, records, next, value)?;
+        let body = body_of(alloc, 16, 1, scope, next, value)?;
         bodies.push(body)?;
     }
     Ok(bodies)

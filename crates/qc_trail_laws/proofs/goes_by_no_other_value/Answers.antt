@@ -35,5 +35,8 @@ returns-clause-fails_with_enough c = λ f. elim f.each_runs.0.bodies_run.0.steps
 pub returns-clause-holds_with_less : goal.returns-clause-holds_with_less
 returns-clause-holds_with_less c = λ f. elim f.each_runs.0.bodies_run.0.steps.1 [
   | inl asked ↦ absurd cc
-  | inr early ↦ absurd early
+  | inr before ↦ elim before [
+    | inl early ↦ absurd early
+    | inr killed ↦ absurd killed
+  ]
 ]

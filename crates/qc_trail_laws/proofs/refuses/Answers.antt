@@ -23,11 +23,8 @@ returns-clause-elsewhere_lossy c = λ f. true≢false (sym f.each_runs.0.message
 pub returns-clause-stays_ready : goal.returns-clause-stays_ready
 returns-clause-stays_ready c = λ f. true≢false (sym f.each_settled)
 
-pub returns-clause-marked : goal.returns-clause-marked
-returns-clause-marked c = λ f. true≢false (sym f.unmarked)
-
 pub returns-clause-marked_elsewhere : goal.returns-clause-marked_elsewhere
-returns-clause-marked_elsewhere c = λ f. true≢false (sym f.unmarked)
+returns-clause-marked_elsewhere c = λ f. f.each_runs.0.bodies_run.0.steps
 
 pub returns-clause-two_seats : goal.returns-clause-two_seats
 returns-clause-two_seats c = λ f. true≢false (sym f.each_runs.0.in_turn.seats)

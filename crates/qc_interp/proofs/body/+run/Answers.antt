@@ -6,13 +6,15 @@ use Rattle.qc_script.specs.Calls.{WasRefused}
 use Rattle.qc_script.specs.Client.{Client, Made}
 use Rattle.qc_script.specs.Plan.{Plan, PlanFits, manage_then, change_then, need_then, plus, minus}
 use Rattle.qc_script.specs.Steps.{put, plan_of, numbered}
-use Rattle.qc_interp.specs.Running.{Runs, WhyStop, Stopped, Ended, CutOff, Stepped, QuitFor, WentOn, child_step, TriesCame}
+use Rattle.qc_interp.specs.Running.{Runs, WhyStop, Stopped, Ended, CutOff, Acted, HasActed, HasLooked, Stepped, QuitFor, WentOn, child_step, TriesCame}
 use Rattle.qc_interp.specs.declared.stops.Finish.TheVariants as finish
 use Rattle.qc_interp.proofs.Results.{if_ok, if_err, any_err}
+use Rattle.qc_interp.proofs.Ending.{cut_still}
 use Rattle.qc_interp.proofs.Growth.{made_both}
-use Rattle.qc_interp.proofs.Plans.{weight, plan_is, tries_of, number_of, must_of, put_read, put_set, put_add, put_sub, put_need, put_reconf, put_child, put_abort, put_crash, step_lighter}
+use Rattle.qc_interp.proofs.Plans.{weight, plan_is, tries_of, number_of, must_of, put_read, put_set, put_add, put_sub, put_need, put_reconf, put_child, put_abort, put_crash, put_kill, step_lighter}
 use Rattle.qc_interp.proofs.Loops.{fits_step, one_done, stopped_there, cut_there, cut_at_last, all_done, none_done}
 use Rattle.qc_interp.proofs.Failing.{failed_on, failed_quit, failed_cut}
+use Rattle.qc_interp.proofs.Marking.{acted_on, acted_by, looked_behind, acted_cut, killed_first}
 use Rattle.qc_interp.proofs.StepsLeave.{crash_on}
 use Rattle.qc_interp.proofs.Tried.{TriesLeft, Tried, runs_begun, tried_once, cut_once, tried_more, tried_failed, tried_out, all_failed, none_to_begin, tries_cut, not_begun, begin_stops, begin_cut, refused_made, none_tried, start_of}
 use Rattle.qc_interp.proofs.body.+run.Goals as goal
@@ -246,140 +248,189 @@ child-returns-in_err-again-in-Failed-clause-cut g t c =
 
 -- ONE STEP
 
-pub step-returns-in-Read-clause-ok : goal.step-returns-in-Read-clause-ok
-step-returns-in-Read-clause-ok g t c =
+pub act-returns-in-Read-clause-ok : goal.act-returns-in-Read-clause-ok
+act-returns-in-Read-clause-ok g t c =
     let v = g.T.Tx.view c.args.tx.now in
     let w = g.T.Tx.view c.manage.new.tx in
-    if_ok (Stepped v.client c.args.of.now v.seen w.seen (manage_then (kind.Read c.in-Read.rec))) (Stepped v.client c.args.of.now v.seen w.seen (put c.args.step.now)) c.manage.result
-    (λ r h. subst (λ f. Stepped v.client c.args.of.now v.seen w.seen f r) (sym (ap put c.in-Read.is ∙ put_read c.in-Read.rec)) h) c.manage.ensures.ok
+    if_ok (Stepped v.client c.args.of.now v.seen w.seen (manage_then (kind.Read c.in-Read.rec))) (HasActed v.client c.args.of.now v.seen w.seen (put c.args.step.now)) c.manage.result
+    (λ r h. acted_by v.client c.args.of.now v.seen w.seen (put c.args.step.now) r (subst (λ f. Stepped v.client c.args.of.now v.seen w.seen f r) (sym (ap put c.in-Read.is ∙ put_read c.in-Read.rec)) h)) c.manage.ensures.ok
 
-pub step-returns-in-Set-clause-ok : goal.step-returns-in-Set-clause-ok
-step-returns-in-Set-clause-ok g t c =
+pub act-returns-in-Set-clause-ok : goal.act-returns-in-Set-clause-ok
+act-returns-in-Set-clause-ok g t c =
     let v = g.T.Tx.view c.args.tx.now in
     let w = g.T.Tx.view c.manage-in-Set.new.tx in
-    if_ok (Stepped v.client c.args.of.now v.seen w.seen (manage_then (kind.Write c.in-Set.rec c.in-Set.value))) (Stepped v.client c.args.of.now v.seen w.seen (put c.args.step.now)) c.manage-in-Set.result
-    (λ r h. subst (λ f. Stepped v.client c.args.of.now v.seen w.seen f r) (sym (ap put c.in-Set.is ∙ put_set c.in-Set.rec c.in-Set.value)) h) c.manage-in-Set.ensures.ok
+    if_ok (Stepped v.client c.args.of.now v.seen w.seen (manage_then (kind.Write c.in-Set.rec c.in-Set.value))) (HasActed v.client c.args.of.now v.seen w.seen (put c.args.step.now)) c.manage-in-Set.result
+    (λ r h. acted_by v.client c.args.of.now v.seen w.seen (put c.args.step.now) r (subst (λ f. Stepped v.client c.args.of.now v.seen w.seen f r) (sym (ap put c.in-Set.is ∙ put_set c.in-Set.rec c.in-Set.value)) h)) c.manage-in-Set.ensures.ok
 
-pub step-returns-in-Add-clause-ok : goal.step-returns-in-Add-clause-ok
-step-returns-in-Add-clause-ok g t c =
+pub act-returns-in-Add-clause-ok : goal.act-returns-in-Add-clause-ok
+act-returns-in-Add-clause-ok g t c =
     let v = g.T.Tx.view c.args.tx.now in
     let w = g.T.Tx.view c.change_value.new.tx in
-    if_ok (Stepped v.client c.args.of.now v.seen w.seen (change_then c.in-Add.rec (λ old. plus old c.in-Add.value))) (Stepped v.client c.args.of.now v.seen w.seen (put c.args.step.now)) c.change_value.result
-    (λ r h. subst (λ f. Stepped v.client c.args.of.now v.seen w.seen f r) (sym (ap put c.in-Add.is ∙ put_add c.in-Add.rec c.in-Add.value)) h) c.change_value.ensures.ok
+    if_ok (Stepped v.client c.args.of.now v.seen w.seen (change_then c.in-Add.rec (λ old. plus old c.in-Add.value))) (HasActed v.client c.args.of.now v.seen w.seen (put c.args.step.now)) c.change_value.result
+    (λ r h. acted_by v.client c.args.of.now v.seen w.seen (put c.args.step.now) r (subst (λ f. Stepped v.client c.args.of.now v.seen w.seen f r) (sym (ap put c.in-Add.is ∙ put_add c.in-Add.rec c.in-Add.value)) h)) c.change_value.ensures.ok
 
-pub step-returns-in-Sub-clause-ok : goal.step-returns-in-Sub-clause-ok
-step-returns-in-Sub-clause-ok g t c =
+pub act-returns-in-Sub-clause-ok : goal.act-returns-in-Sub-clause-ok
+act-returns-in-Sub-clause-ok g t c =
     let v = g.T.Tx.view c.args.tx.now in
     let w = g.T.Tx.view c.change_value-in-Sub.new.tx in
-    if_ok (Stepped v.client c.args.of.now v.seen w.seen (change_then c.in-Sub.rec (λ old. minus old c.in-Sub.value))) (Stepped v.client c.args.of.now v.seen w.seen (put c.args.step.now)) c.change_value-in-Sub.result
-    (λ r h. subst (λ f. Stepped v.client c.args.of.now v.seen w.seen f r) (sym (ap put c.in-Sub.is ∙ put_sub c.in-Sub.rec c.in-Sub.value)) h) c.change_value-in-Sub.ensures.ok
+    if_ok (Stepped v.client c.args.of.now v.seen w.seen (change_then c.in-Sub.rec (λ old. minus old c.in-Sub.value))) (HasActed v.client c.args.of.now v.seen w.seen (put c.args.step.now)) c.change_value-in-Sub.result
+    (λ r h. acted_by v.client c.args.of.now v.seen w.seen (put c.args.step.now) r (subst (λ f. Stepped v.client c.args.of.now v.seen w.seen f r) (sym (ap put c.in-Sub.is ∙ put_sub c.in-Sub.rec c.in-Sub.value)) h)) c.change_value-in-Sub.ensures.ok
 
-pub step-returns-in-Need-clause-ok : goal.step-returns-in-Need-clause-ok
-step-returns-in-Need-clause-ok g t c =
+pub act-returns-in-Need-clause-ok : goal.act-returns-in-Need-clause-ok
+act-returns-in-Need-clause-ok g t c =
     let v = g.T.Tx.view c.args.tx.now in
     let w = g.T.Tx.view c.need.new.tx in
-    if_ok (Stepped v.client c.args.of.now v.seen w.seen (need_then c.in-Need.rec c.in-Need.value)) (Stepped v.client c.args.of.now v.seen w.seen (put c.args.step.now)) c.need.result
-    (λ r h. subst (λ f. Stepped v.client c.args.of.now v.seen w.seen f r) (sym (ap put c.in-Need.is ∙ put_need c.in-Need.rec c.in-Need.value)) h) c.need.ensures.ok
+    if_ok (Stepped v.client c.args.of.now v.seen w.seen (need_then c.in-Need.rec c.in-Need.value)) (HasActed v.client c.args.of.now v.seen w.seen (put c.args.step.now)) c.need.result
+    (λ r h. acted_by v.client c.args.of.now v.seen w.seen (put c.args.step.now) r (subst (λ f. Stepped v.client c.args.of.now v.seen w.seen f r) (sym (ap put c.in-Need.is ∙ put_need c.in-Need.rec c.in-Need.value)) h)) c.need.ensures.ok
 
-pub step-returns-in-Reconf-clause-ok : goal.step-returns-in-Reconf-clause-ok
-step-returns-in-Reconf-clause-ok g t c =
+pub act-returns-in-Reconf-clause-ok : goal.act-returns-in-Reconf-clause-ok
+act-returns-in-Reconf-clause-ok g t c =
     let v = g.T.Tx.view c.args.tx.now in
     let w = g.T.Tx.view c.manage-in-Reconf.new.tx in
-    if_ok (Stepped v.client c.args.of.now v.seen w.seen (manage_then (kind.Reconf c.in-Reconf.rec c.in-Reconf.config))) (Stepped v.client c.args.of.now v.seen w.seen (put c.args.step.now)) c.manage-in-Reconf.result
-    (λ r h. subst (λ f. Stepped v.client c.args.of.now v.seen w.seen f r) (sym (ap put c.in-Reconf.is ∙ put_reconf c.in-Reconf.rec c.in-Reconf.config)) h) c.manage-in-Reconf.ensures.ok
+    if_ok (Stepped v.client c.args.of.now v.seen w.seen (manage_then (kind.Reconf c.in-Reconf.rec c.in-Reconf.config))) (HasActed v.client c.args.of.now v.seen w.seen (put c.args.step.now)) c.manage-in-Reconf.result
+    (λ r h. acted_by v.client c.args.of.now v.seen w.seen (put c.args.step.now) r (subst (λ f. Stepped v.client c.args.of.now v.seen w.seen f r) (sym (ap put c.in-Reconf.is ∙ put_reconf c.in-Reconf.rec c.in-Reconf.config)) h)) c.manage-in-Reconf.ensures.ok
 
-pub step-returns-in-Child-clause-ok : goal.step-returns-in-Child-clause-ok
-step-returns-in-Child-clause-ok g t c =
+pub act-returns-in-Child-clause-ok : goal.act-returns-in-Child-clause-ok
+act-returns-in-Child-clause-ok g t c =
     let v = g.T.Tx.view c.args.tx.now in
     let w = g.T.Tx.view c.child.new.tx in
     let body = numbered c.in-Child.body in
-    if_ok (Stepped v.client c.args.of.now v.seen w.seen (child_step body)) (Stepped v.client c.args.of.now v.seen w.seen (put c.args.step.now)) c.child.result
-    (λ r h. subst (λ f. Stepped v.client c.args.of.now v.seen w.seen f r) (sym (ap put c.in-Child.is ∙ put_child c.in-Child.body)) h) c.child.ensures.ok
+    if_ok (Stepped v.client c.args.of.now v.seen w.seen (child_step body)) (HasActed v.client c.args.of.now v.seen w.seen (put c.args.step.now)) c.child.result
+    (λ r h. acted_by v.client c.args.of.now v.seen w.seen (put c.args.step.now) r (subst (λ f. Stepped v.client c.args.of.now v.seen w.seen f r) (sym (ap put c.in-Child.is ∙ put_child c.in-Child.body)) h)) c.child.ensures.ok
 
-pub step-returns-in_ok-again-in-Abort-clause-ok : goal.step-returns-in_ok-again-in-Abort-clause-ok
-step-returns-in_ok-again-in-Abort-clause-ok g t c = λ rest.
+pub act-returns-in_ok-again-in-Abort-clause-ok : goal.act-returns-in_ok-again-in-Abort-clause-ok
+act-returns-in_ok-again-in-Abort-clause-ok g t c = λ rest.
     let v = g.T.Tx.view c.args.tx.now in
     let w = g.T.Tx.view c.ask.new.tx in
     subst (λ f. Ended v.client c.args.of.now v.seen w.seen (f rest) (finish.Stopped c.in_ok-again-in-Abort.again)) (sym (ap put c.in-Abort.is ∙ put_abort c.in-Abort.levels)) (c.in_ok-again-in-Abort.ensures.ok rest)
 
-pub step-returns-in-Crash-clause-ok : goal.step-returns-in-Crash-clause-ok
-step-returns-in-Crash-clause-ok g t c =
+pub act-returns-in-Crash-clause-ok : goal.act-returns-in-Crash-clause-ok
+act-returns-in-Crash-clause-ok g t c =
     let v = g.T.Tx.view c.args.tx.now in
     let w = g.T.Tx.view c.crash.new.self in
-    subst (λ x. WentOn v.client c.args.of.now v.seen x.seen (put c.args.step.now)) (sym c.crash.ensures.same)
-    (subst (WentOn v.client c.args.of.now v.seen v.seen) (sym (ap put c.in-Crash.is ∙ put_crash c.in-Crash.copy)) (crash_on v.client c.args.of.now c.in-Crash.copy v.seen c.requires.runs))
+    acted_on v.client c.args.of.now v.seen w.seen (put c.args.step.now)
+    (subst (λ x. WentOn v.client c.args.of.now v.seen x.seen (put c.args.step.now)) (sym c.crash.ensures.same)
+    (subst (WentOn v.client c.args.of.now v.seen v.seen) (sym (ap put c.in-Crash.is ∙ put_crash c.in-Crash.copy)) (crash_on v.client c.args.of.now c.in-Crash.copy v.seen c.requires.runs)))
+
+pub act-returns-in_ok-mark-in-Kill-clause-ok : goal.act-returns-in_ok-mark-in-Kill-clause-ok
+act-returns-in_ok-mark-in-Kill-clause-ok g t c =
+    let v = g.T.Tx.view c.args.tx.now in
+    let w = g.T.Tx.view c.mark.new.tx in
+    subst (Acted v.client c.args.of.now v.seen w.seen) (sym (ap put c.in-Kill.is ∙ put_kill c.in-Kill.session)) c.in_ok-mark-in-Kill.ensures.ok
 
 -- where it was cut off
 
-pub step-returns-in-Read-clause-cut : goal.step-returns-in-Read-clause-cut
-step-returns-in-Read-clause-cut g t c =
+pub act-returns-in-Read-clause-cut : goal.act-returns-in-Read-clause-cut
+act-returns-in-Read-clause-cut g t c =
     let v = g.T.Tx.view c.args.tx.now in
     let w = g.T.Tx.view c.manage.new.tx in
     if_err ((rest : Plan) → CutOff v.client c.args.of.now v.seen w.seen (manage_then (kind.Read c.in-Read.rec) rest)) ((rest : Plan) → CutOff v.client c.args.of.now v.seen w.seen (put c.args.step.now rest)) c.manage.result
     (λ h rest. subst (λ f. CutOff v.client c.args.of.now v.seen w.seen (f rest)) (sym (ap put c.in-Read.is ∙ put_read c.in-Read.rec)) (h rest)) c.manage.ensures.cut
 
-pub step-returns-in-Set-clause-cut : goal.step-returns-in-Set-clause-cut
-step-returns-in-Set-clause-cut g t c =
+pub act-returns-in-Set-clause-cut : goal.act-returns-in-Set-clause-cut
+act-returns-in-Set-clause-cut g t c =
     let v = g.T.Tx.view c.args.tx.now in
     let w = g.T.Tx.view c.manage-in-Set.new.tx in
     if_err ((rest : Plan) → CutOff v.client c.args.of.now v.seen w.seen (manage_then (kind.Write c.in-Set.rec c.in-Set.value) rest)) ((rest : Plan) → CutOff v.client c.args.of.now v.seen w.seen (put c.args.step.now rest)) c.manage-in-Set.result
     (λ h rest. subst (λ f. CutOff v.client c.args.of.now v.seen w.seen (f rest)) (sym (ap put c.in-Set.is ∙ put_set c.in-Set.rec c.in-Set.value)) (h rest)) c.manage-in-Set.ensures.cut
 
-pub step-returns-in-Add-clause-cut : goal.step-returns-in-Add-clause-cut
-step-returns-in-Add-clause-cut g t c =
+pub act-returns-in-Add-clause-cut : goal.act-returns-in-Add-clause-cut
+act-returns-in-Add-clause-cut g t c =
     let v = g.T.Tx.view c.args.tx.now in
     let w = g.T.Tx.view c.change_value.new.tx in
     if_err ((rest : Plan) → CutOff v.client c.args.of.now v.seen w.seen ((change_then c.in-Add.rec (λ old. plus old c.in-Add.value)) rest)) ((rest : Plan) → CutOff v.client c.args.of.now v.seen w.seen (put c.args.step.now rest)) c.change_value.result
     (λ h rest. subst (λ f. CutOff v.client c.args.of.now v.seen w.seen (f rest)) (sym (ap put c.in-Add.is ∙ put_add c.in-Add.rec c.in-Add.value)) (h rest)) c.change_value.ensures.cut
 
-pub step-returns-in-Sub-clause-cut : goal.step-returns-in-Sub-clause-cut
-step-returns-in-Sub-clause-cut g t c =
+pub act-returns-in-Sub-clause-cut : goal.act-returns-in-Sub-clause-cut
+act-returns-in-Sub-clause-cut g t c =
     let v = g.T.Tx.view c.args.tx.now in
     let w = g.T.Tx.view c.change_value-in-Sub.new.tx in
     if_err ((rest : Plan) → CutOff v.client c.args.of.now v.seen w.seen ((change_then c.in-Sub.rec (λ old. minus old c.in-Sub.value)) rest)) ((rest : Plan) → CutOff v.client c.args.of.now v.seen w.seen (put c.args.step.now rest)) c.change_value-in-Sub.result
     (λ h rest. subst (λ f. CutOff v.client c.args.of.now v.seen w.seen (f rest)) (sym (ap put c.in-Sub.is ∙ put_sub c.in-Sub.rec c.in-Sub.value)) (h rest)) c.change_value-in-Sub.ensures.cut
 
-pub step-returns-in-Need-clause-cut : goal.step-returns-in-Need-clause-cut
-step-returns-in-Need-clause-cut g t c =
+pub act-returns-in-Need-clause-cut : goal.act-returns-in-Need-clause-cut
+act-returns-in-Need-clause-cut g t c =
     let v = g.T.Tx.view c.args.tx.now in
     let w = g.T.Tx.view c.need.new.tx in
     if_err ((rest : Plan) → CutOff v.client c.args.of.now v.seen w.seen ((need_then c.in-Need.rec c.in-Need.value) rest)) ((rest : Plan) → CutOff v.client c.args.of.now v.seen w.seen (put c.args.step.now rest)) c.need.result
     (λ h rest. subst (λ f. CutOff v.client c.args.of.now v.seen w.seen (f rest)) (sym (ap put c.in-Need.is ∙ put_need c.in-Need.rec c.in-Need.value)) (h rest)) c.need.ensures.cut
 
-pub step-returns-in-Reconf-clause-cut : goal.step-returns-in-Reconf-clause-cut
-step-returns-in-Reconf-clause-cut g t c =
+pub act-returns-in-Reconf-clause-cut : goal.act-returns-in-Reconf-clause-cut
+act-returns-in-Reconf-clause-cut g t c =
     let v = g.T.Tx.view c.args.tx.now in
     let w = g.T.Tx.view c.manage-in-Reconf.new.tx in
     if_err ((rest : Plan) → CutOff v.client c.args.of.now v.seen w.seen (manage_then (kind.Reconf c.in-Reconf.rec c.in-Reconf.config) rest)) ((rest : Plan) → CutOff v.client c.args.of.now v.seen w.seen (put c.args.step.now rest)) c.manage-in-Reconf.result
     (λ h rest. subst (λ f. CutOff v.client c.args.of.now v.seen w.seen (f rest)) (sym (ap put c.in-Reconf.is ∙ put_reconf c.in-Reconf.rec c.in-Reconf.config)) (h rest)) c.manage-in-Reconf.ensures.cut
 
-pub step-returns-in-Child-clause-cut : goal.step-returns-in-Child-clause-cut
-step-returns-in-Child-clause-cut g t c =
+pub act-returns-in-Child-clause-cut : goal.act-returns-in-Child-clause-cut
+act-returns-in-Child-clause-cut g t c =
     let v = g.T.Tx.view c.args.tx.now in
     let w = g.T.Tx.view c.child.new.tx in
     let body = numbered c.in-Child.body in
     if_err ((rest : Plan) → CutOff v.client c.args.of.now v.seen w.seen (child_step body rest)) ((rest : Plan) → CutOff v.client c.args.of.now v.seen w.seen (put c.args.step.now rest)) c.child.result
     (λ h rest. subst (λ f. CutOff v.client c.args.of.now v.seen w.seen (f rest)) (sym (ap put c.in-Child.is ∙ put_child c.in-Child.body)) (h rest)) c.child.ensures.cut
 
-pub step-returns-in_err-again-in-Abort-clause-cut : goal.step-returns-in_err-again-in-Abort-clause-cut
-step-returns-in_err-again-in-Abort-clause-cut g t c =
+pub act-returns-in_err-again-in-Abort-clause-cut : goal.act-returns-in_err-again-in-Abort-clause-cut
+act-returns-in_err-again-in-Abort-clause-cut g t c =
     let v = g.T.Tx.view c.args.tx.now in
     let w = g.T.Tx.view c.ask.new.tx in
     any_err _ c.from_residual.result
     (λ rest. subst (λ f. CutOff v.client c.args.of.now v.seen w.seen (f rest)) (sym (ap put c.in-Abort.is ∙ put_abort c.in-Abort.levels)) (c.in_err-again-in-Abort.ensures.cut rest))
 
+pub act-returns-in_err-mark-in-Kill-clause-cut : goal.act-returns-in_err-mark-in-Kill-clause-cut
+act-returns-in_err-mark-in-Kill-clause-cut g t c =
+    let v = g.T.Tx.view c.args.tx.now in
+    let w = g.T.Tx.view c.mark.new.tx in
+    any_err _ c.from_residual-in_err-mark-in-Kill.result
+    (λ rest. subst (λ f. CutOff v.client c.args.of.now v.seen w.seen (f rest)) (sym (ap put c.in-Kill.is ∙ put_kill c.in-Kill.session))
+    (cut_still v.client c.args.of.now v.seen w.seen c.requires.runs c.in_err-mark-in-Kill.ensures.cut (Plan.kill_then c.in-Kill.session rest)))
+
+-- BEHIND A STEP
+
+pub step-returns-in-None-clause-ok : goal.step-returns-in-None-clause-ok
+step-returns-in-None-clause-ok g t c =
+    let v = g.T.Tx.view c.args.tx.now in
+    let w = g.T.Tx.view c.act.new.tx in
+    let x = g.T.Tx.view c.look.new.tx in
+    let of = c.args.of.now in
+    let acted = subst (HasActed v.client of v.seen w.seen (put c.args.step.now)) c.in-None.is c.in_ok-again.ensures.ok in
+    if_ok (HasLooked w.client of w.seen x.seen) (Stepped v.client of v.seen x.seen (put c.args.step.now)) c.look.result
+    (λ r h. looked_behind v.client of v.seen w.seen (put c.args.step.now) acted x.seen r (subst (λ d. HasLooked d of w.seen x.seen r) c.act.ensures.client h)) c.look.ensures.ok
+
+pub step-returns-in-None-clause-cut : goal.step-returns-in-None-clause-cut
+step-returns-in-None-clause-cut g t c =
+    let v = g.T.Tx.view c.args.tx.now in
+    let w = g.T.Tx.view c.act.new.tx in
+    let x = g.T.Tx.view c.look.new.tx in
+    let of = c.args.of.now in
+    let acted = subst (HasActed v.client of v.seen w.seen (put c.args.step.now)) c.in-None.is c.in_ok-again.ensures.ok in
+    if_err (Made w.client [] w.seen x.seen) ((rest : Plan) → CutOff v.client of v.seen x.seen (put c.args.step.now rest)) c.look.result
+    (λ m. acted_cut v.client of v.seen w.seen (put c.args.step.now) acted x.seen (subst (λ d. Made d [] w.seen x.seen) c.act.ensures.client m)) c.look.ensures.cut
+
 -- STEPS
 
 pub steps-returns-in_err-again-clause-cut : goal.steps-returns-in_err-again-clause-cut
 steps-returns-in_err-again-clause-cut g t c =
+    let v = g.T.Tx.view c.args.tx.now in
+    let w = g.T.Tx.view c.look.new.tx in
+    any_err _ c.from_residual.result (cut_still v.client c.args.of.now v.seen w.seen c.requires.runs c.in_err-again.ensures.cut (plan_of c.args.steps.now))
+
+pub steps-returns-in-Some-clause-ok : goal.steps-returns-in-Some-clause-ok
+steps-returns-in-Some-clause-ok g t c =
+    let v = g.T.Tx.view c.args.tx.now in
+    let w = g.T.Tx.view c.look.new.tx in
+    killed_first v.client c.args.of.now v.seen w.seen c.in-Some.again (plan_of c.args.steps.now) (subst (HasLooked v.client c.args.of.now v.seen w.seen) c.in-Some.is c.in_ok-again.ensures.ok)
+
+pub steps-returns-in_err-again-2-clause-cut : goal.steps-returns-in_err-again-2-clause-cut
+steps-returns-in_err-again-2-clause-cut g t c =
     let inv = c.loop-s.invariant in
     let v = g.T.Tx.view c.args.tx.now in
     let w = g.T.Tx.view c.loop-s.tx in
     let x = g.T.Tx.view c.step.new.tx in
     let of = c.args.of.now in
-    any_err _ c.from_residual.result
+    any_err _ c.from_residual-in_err-again-2.result
     (cut_there v.client of c.args.steps.now v.seen w.seen x.seen c.loop-s.s-index c.s-item.result inv.left c.loop-s-test.true c.s-item.is
-    (λ rest. subst (λ d. CutOff d of w.seen x.seen (put c.s-item.result rest)) inv.client (c.in_err-again.ensures.cut rest)))
+    (λ rest. subst (λ d. CutOff d of w.seen x.seen (put c.s-item.result rest)) inv.client (c.in_err-again-2.ensures.cut rest)))
 
 pub steps-returns-clause-cut : goal.steps-returns-clause-cut
 steps-returns-clause-cut g t c =
@@ -407,16 +458,16 @@ steps-step-requires g t c κs within =
       ),
     )
 
-pub steps-returns-in-Some-clause-ok : goal.steps-returns-in-Some-clause-ok
-steps-returns-in-Some-clause-ok g t c =
+pub steps-returns-in-Some-2-clause-ok : goal.steps-returns-in-Some-2-clause-ok
+steps-returns-in-Some-2-clause-ok g t c =
     let inv = c.loop-s.invariant in
     let v = g.T.Tx.view c.args.tx.now in
     let w = g.T.Tx.view c.loop-s.tx in
     let x = g.T.Tx.view c.step.new.tx in
     let of = c.args.of.now in
-    let stepped = subst (λ d. Stepped d of w.seen x.seen (put c.s-item.result) c.in_ok-again.field-0) inv.client c.in_ok-again.ensures.ok in
-    stopped_there v.client of c.args.steps.now v.seen w.seen x.seen c.loop-s.s-index c.s-item.result inv.left c.loop-s-test.true c.s-item.is (finish.Stopped c.in-Some.again)
-    (subst (Stepped v.client of w.seen x.seen (put c.s-item.result)) c.in-Some.is stepped)
+    let stepped = subst (λ d. Stepped d of w.seen x.seen (put c.s-item.result) c.in_ok-again-2.field-0) inv.client c.in_ok-again-2.ensures.ok in
+    stopped_there v.client of c.args.steps.now v.seen w.seen x.seen c.loop-s.s-index c.s-item.result inv.left c.loop-s-test.true c.s-item.is (finish.Stopped c.in-Some-2.again)
+    (subst (Stepped v.client of w.seen x.seen (put c.s-item.result)) c.in-Some-2.is stepped)
 
 pub steps-loop-s-preserved : goal.steps-loop-s-preserved
 steps-loop-s-preserved g t c =
@@ -425,12 +476,12 @@ steps-loop-s-preserved g t c =
     let w = g.T.Tx.view c.loop-s.tx in
     let x = g.T.Tx.view c.step.new.tx in
     let of = c.args.of.now in
-    let stepped = subst (λ d. Stepped d of w.seen x.seen (put c.s-item.result) c.in_ok-again.field-0) inv.client c.in_ok-again.ensures.ok in
+    let stepped = subst (λ d. Stepped d of w.seen x.seen (put c.s-item.result) c.in_ok-again-2.field-0) inv.client c.in_ok-again-2.ensures.ok in
     record {
       met = c.step.ensures.met;
       client = c.step.ensures.client ∙ inv.client;
       left = one_done v.client of c.args.steps.now v.seen w.seen x.seen c.loop-s.s-index c.s-item.result inv.left c.loop-s-test.true c.s-item.is
-          (subst (Stepped v.client of w.seen x.seen (put c.s-item.result)) c.in_default.is stepped);
+          (subst (Stepped v.client of w.seen x.seen (put c.s-item.result)) c.in_default-2.is stepped);
     }
 
 pub steps-returns-clause-ok : goal.steps-returns-clause-ok
@@ -452,4 +503,6 @@ tries-loop-init g t c =
 pub steps-loop-s-init : goal.steps-loop-s-init
 steps-loop-s-init g t c =
     let v = g.T.Tx.view c.args.tx.now in
-    record { met = c.requires.met; client = refl; left = none_done v.client c.args.of.now c.args.steps.now v.seen c.requires.runs c.requires.fits }
+    let w = g.T.Tx.view c.look.new.tx in
+    let looked = subst (HasLooked v.client c.args.of.now v.seen w.seen) c.in_default.is c.in_ok-again.ensures.ok in
+    record { met = c.look.ensures.met; client = c.look.ensures.client; left = none_done v.client c.args.of.now c.args.steps.now v.seen w.seen c.requires.runs looked.0 c.requires.fits }

@@ -21,15 +21,18 @@ invariant-steps-loop-s g l =
     let view = g.T.Tx.view in
     record {
       met : MeetsLink (view l.tx);
-      client : (view l.tx).client ≡ (view l.initial.tx).client;
-      left : StepsLeft (view l.initial.tx).client l.of l.steps (view l.initial.tx).seen (view l.tx).seen l.s-index;
+      client : (view l.tx).client ≡ (view l.fn.tx).client;
+      left : StepsLeft (view l.fn.tx).client l.of l.steps (view l.fn.tx).seen (view l.tx).seen l.s-index;
     }
 
 abbrev pub decreases-steps : goal.decreases-steps
-decreases-steps g l = weight (plan_of l.steps.now) + 1
+decreases-steps g l = weight (plan_of l.steps.now) + 2
 
 abbrev pub decreases-step : goal.decreases-step
-decreases-step g l = weight (put l.step.now Plan.done)
+decreases-step g l = weight (put l.step.now Plan.done) + 1
+
+abbrev pub decreases-act : goal.decreases-act
+decreases-act g l = weight (put l.step.now Plan.done)
 
 abbrev pub decreases-child : goal.decreases-child
 decreases-child g l = weight (numbered l.body.now).plan + 4

@@ -10,14 +10,16 @@ use Rattle.qc_interp.proofs.Growth.{made_both}
 use Rattle.qc_interp.specs.Running.{Runs, Quit, Ended, CutOff}
 use Rattle.qc_interp.specs.declared.stops.Finish.TheVariants as finish
 use Rattle.qc_interp.proofs.Results.{if_ok, if_err}
-use Rattle.qc_interp.proofs.Ending.{runs_still, leaves_still, still, cut_still}
+use Rattle.qc_interp.proofs.Ending.{user_is, runs_still, leaves_still, still, cut_still}
 use Rattle.qc_interp.proofs.Asked.{asked_made}
 use Rattle.qc_interp.proofs.Asking.{above_is, user_above, asked_orphan, runs_asked, leaves_asked, asked_one, same_asked, ended_asked, ask_no, ask_ended, asked_itself, asked_cut, not_aborted_made}
-use Rattle.qc_event.specs.History.{children}
+use Rattle.qc_interp.specs.Deeds.{deeds}
 use Rattle.qc_interp.proofs.stops.ask.Goals as goal
 
 pub quit-requires-clause-grounded : goal.quit-requires-clause-grounded
-quit-requires-clause-grounded g c session = (c.requires.runs.user, ap (name.is_ancestor c.args.of.now) (sym (append-nil c.args.of.now)) ∙ is_ancestor-append c.args.of.now [])
+quit-requires-clause-grounded g c session =
+    let v = g.T.Tx.view c.args.tx.now in
+    (user_is v.client.session v.seen c.args.of.now c.requires.runs.user, ap (name.is_ancestor c.args.of.now) (sym (append-nil c.args.of.now)) ∙ is_ancestor-append c.args.of.now [])
 
 pub abort-requires-clause-user : goal.abort-requires-clause-user
 abort-requires-clause-user g c =
@@ -29,7 +31,7 @@ pub abort-requires-clause-grounded : goal.abort-requires-clause-grounded
 abort-requires-clause-grounded g c session =
     let v = g.T.Tx.view c.args.tx.now in
     let up = above_is v.client c.args.of.now c.ancestor-ancestor.result c.args.levels c.len.result c.len.ensures.length c.ancestor-ancestor.ensures c.if-levels-eq0.false c.requires.within in
-    (c.requires.runs.user, up.is_ancestor)
+    (user_is v.client.session v.seen c.args.of.now c.requires.runs.user, up.is_ancestor)
 
 pub quit-requires-in-Ok-clause-runs : goal.quit-requires-in-Ok-clause-runs
 quit-requires-in-Ok-clause-runs g c =
@@ -86,7 +88,7 @@ returns-in-Ended-clause-ok g c =
     let m = (ask_ended v.client of t v.seen w.seen c.in-Err.why c.in-Ended.is c.in-Err.ensures.err).0 in
     if_ok (Quit (g.T.Tx.view c.abort.new.self).client of (Abort (cause.Orphan t)) w.seen x.seen) (λ again. (rest : Plan) → Ended v.client of v.seen x.seen (Plan.abort_then c.args.levels rest) (finish.Stopped again)) c.quit-in-Ended.result
     (λ again quit rest.
-    asked_orphan v.client of t c.args.levels up.named c.if-levels-eq0.false v.seen w.seen x.seen again rest (leaves_still v.client of v.seen w.seen m) (asked_made v.client [] v.seen w.seen _ m tt) (ap (λ h. children h of) (still v.client of v.seen w.seen m))
+    asked_orphan v.client of t c.args.levels up.named c.if-levels-eq0.false v.seen w.seen x.seen again rest (leaves_still v.client of v.seen w.seen m) (asked_made v.client [] v.seen w.seen _ m tt) (ap (λ h. deeds h of) (still v.client of v.seen w.seen m))
     (subst (λ d. Quit d of (Abort (cause.Orphan t)) w.seen x.seen again) c.abort.ensures.client quit)) c.quit-in-Ended.ensures.ok
 
 pub returns-in_default : goal.returns-in_default

@@ -1,12 +1,17 @@
 -- A transaction is aborted for its cause, or was not.
+use Rattle.qc_carry.specs.Walk.{Walk}
 use Rattle.qc_event.specs.Tables.{setting_of}
 use Rattle.qc_event.specs.declared.event.Cause.TheVariants as cause
 use Rattle.qc_event.specs.declared.event.Cause.{Cause}
+use Rattle.qc_event.specs.declared.event.Event.TheVariants as event
+use Rattle.qc_event.specs.declared.event.How.TheVariants.{Abort as Aborts}
+use Rattle.qc_gather.specs.Carrying.{entry}
 use Rattle.qc_pass.specs.declared.view.View.{View}
-use Rattle.qc_session.proofs.Aborting.{all_licensed, grounded, is_other, none_aborted, all_unfounded}
+use Rattle.qc_script.specs.declared.tx.TxNo.{TxNo}
+use Rattle.qc_session.proofs.Aborting.{aborted_made, all_licensed, grounded, is_other, none_aborted, all_unfounded}
 use Rattle.qc_session.specs.Acting.{IsUnaborted, IsUnfounded}
-use Rattle.std.proofs.Common.{sym, subst, ap}
-use Rattle.std.specs.Prelude.{IfErr}
+use Rattle.std.proofs.Common.{[], ◌∷◌, sym, subst, ap}
+use Rattle.std.specs.Prelude.{IfErr, OnOk, Result}
 use Rattle.qc_session.proofs.ends.abort.Goals.{in-Orphan, in-Child, in_default}
 use Rattle.qc_session.proofs.ends.abort.Goals as goal
 
@@ -37,3 +42,21 @@ returns-clause-err g c = λ client for.
           (subst (λ r. IfErr r (IsUnaborted v end target)) (sym w.aborted-is)
           (subst (λ (u : View). IfErr w.abort_licensed-aborted.result (IsUnaborted v u target)) (sym (ap (λ l. l.pass) w.line-is)) w.abort_licensed-aborted.ensures.err))
     ]
+
+pub returns-clause-ok : goal.returns-clause-ok
+returns-clause-ok g c = λ client for.
+    let v = c.args.line.now.pass in
+    let end = c.match-cause.line.pass in
+    let target = c.args.target.now in
+    let MadeAt : Cause → Result (Unit {0}) TxNo → View → Type 0 = λ why r u. OnOk r (Walk v u (entry v.number (event.End target (Aborts why)) ∷ [])) in
+    aborted_made (setting_of g.N.Store.table g.N.Store.base) v end client for c.known-2.ensures.legal target c.args.cause.now c.match-cause.aborted
+    (elim c.match-cause.branch [
+      | in-Orphan w ↦ subst (λ why. MadeAt why c.match-cause.aborted end) (sym w.in-Orphan.is)
+          (subst (λ r. MadeAt (cause.Orphan w.in-Orphan.ancestor) r end) (sym w.aborted-is)
+          (subst (λ u. MadeAt (cause.Orphan w.in-Orphan.ancestor) w.abort_orphan-aborted.result u) (sym (ap (λ l. l.pass) w.line-is)) w.abort_orphan-aborted.ensures.ok))
+      | in-Child w ↦ subst (λ why. MadeAt why c.match-cause.aborted end) (sym w.in-Child.is)
+          (subst (λ r. MadeAt (cause.Child w.in-Child.child) r end) (sym w.aborted-is)
+          (subst (λ u. MadeAt (cause.Child w.in-Child.child) w.abort_for_child-aborted.result u) (sym (ap (λ l. l.pass) w.line-is)) w.abort_for_child-aborted.ensures.ok))
+      | in_default w ↦ subst (λ r. MadeAt c.args.cause.now r end) (sym w.aborted-is)
+          (subst (λ u. MadeAt c.args.cause.now w.abort_licensed-aborted.result u) (sym (ap (λ l. l.pass) w.line-is)) w.abort_licensed-aborted.ensures.ok)
+    ])

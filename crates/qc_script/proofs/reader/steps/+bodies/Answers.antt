@@ -12,8 +12,8 @@ use Rattle.qc_script.proofs.reader.steps.+bodies.Goals.{step_in-in_default-via-t
 pub step_in-returns-in_default : goal.step_in-returns-in_default
 step_in-returns-in_default t c =
     elim c.in_default.branch [
-      | step_in-in_default-via-then-parts-lt2 w ↦ step_in-other (script.body_of c.args.below c.args.around c.args.records.now.table) (16 - c.args.below) _ _ c.args.parts.now (inl (omega (arith, ltb-true)))
-      | step_in-in_default-via-else-parts-lt2+else-parts-lt3+else-parts-lt4 w ↦ step_in-other (script.body_of c.args.below c.args.around c.args.records.now.table) (16 - c.args.below) _ _ c.args.parts.now (inr (omega (arith, ltb-false)))
+      | step_in-in_default-via-then-parts-lt2 w ↦ step_in-other (script.body_of c.args.below c.args.around c.args.scope.now) (16 - c.args.below) _ _ c.args.parts.now (inl (omega (arith, ltb-true)))
+      | step_in-in_default-via-else-parts-lt2+else-parts-lt3+else-parts-lt4 w ↦ step_in-other (script.body_of c.args.below c.args.around c.args.scope.now) (16 - c.args.below) _ _ c.args.parts.now (inr (omega (arith, ltb-false)))
     ]
 
 pub steps_of-loop-value-preserved : goal.steps_of-loop-value-preserved

@@ -26,5 +26,5 @@ decreases-steps_of l = 6 * l.below + 5
 -- the elements that are left decide
 abbrev pub invariant-steps_of-loop-value : goal.invariant-steps_of-loop-value
 invariant-steps_of-loop-value l =
-    with_steps l.steps.items (script.steps_of (script.body_of l.below l.around l.records.table) (16 - l.below) l.records.table l.next (map view (drop l.value-index l.list)))
-    ≡ script.steps_of (script.body_of l.below l.around l.records.table) (16 - l.below) l.records.table l.initial.next (map view l.list)
+    with_steps l.steps.items (script.steps_of (script.body_of l.below l.around l.scope) (16 - l.below) l.scope l.next (map view (drop l.value-index l.list)))
+    ≡ script.steps_of (script.body_of l.below l.around l.scope) (16 - l.below) l.scope l.initial.next (map view l.list)

@@ -1,0 +1,30 @@
+-- A session is marked, or memory or room was wanting.
+use Rattle.qc_carry.proofs.Walking.{of_entered}
+use Rattle.qc_event.specs.Tables.{setting_of}
+use Rattle.qc_event.specs.declared.event.Event.TheVariants as event
+use Rattle.qc_pass.specs.Refusing.{against_nothing}
+use Rattle.qc_pass.specs.declared.view.View.{View}
+use Rattle.qc_session.proofs.Killing.{unmarked}
+use Rattle.qc_session.proofs.Tidy.{looked_tidy, mark_tidy}
+use Rattle.qc_session.specs.Acting.{IsWanting}
+use Rattle.std.proofs.Common.{ap, refl, sym, subst}
+use Rattle.qc_session.proofs.marks.mark.Goals as goal
+
+pub returns-in-Ok-clause-ok : goal.returns-in-Ok-clause-ok
+returns-in-Ok-clause-ok g c = of_entered against_nothing (event.Mark c.args.by.now c.args.session) c.args.line.now.pass c.mark-marked.new.self.pass c.in-Ok.ensures.ok
+
+pub returns-in-Err-clause-err : goal.returns-in-Err-clause-err
+returns-in-Err-clause-err g c =
+    let v = c.args.line.now.pass in
+    let w = c.mark-marked.new.self.pass in
+    subst (IsWanting v w) (sym c.short_of.ensures) (unmarked v w c.in-Err.no c.in-Err.ensures.err)
+
+pub returns-in-Ok-clause-tidy : goal.returns-in-Ok-clause-tidy
+returns-in-Ok-clause-tidy g c = λ was.
+    let s = c.in-Ok.ensures.ok in
+    mark_tidy (setting_of g.N.Store.table g.N.Store.base) c.args.line.now.pass c.mark-marked.new.self.pass c.known.ensures.legal (ap (λ (x : View). x.number) s.3) was (event.Mark c.args.by.now c.args.session) s.0 s.1 (ap (λ (x : View). x.seen) s.3) _ _ refl
+
+pub returns-in-Err-clause-tidy : goal.returns-in-Err-clause-tidy
+returns-in-Err-clause-tidy g c = λ was.
+    let r = c.in-Err.ensures.err in
+    looked_tidy (setting_of g.N.Store.table g.N.Store.base) c.args.line.now.pass c.mark-marked.new.self.pass c.known.ensures.legal (ap (λ (x : View). x.number) r.0.1) was r.0.0

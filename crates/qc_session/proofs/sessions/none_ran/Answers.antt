@@ -1,0 +1,21 @@
+-- Nothing has happened, as no client acted.
+use Rattle.std.proofs.Common.{◌≡◌, [], ap, sym, subst, reverse, ◌∙◌}
+use Rattle.std.proofs.lemmas.List.{reverse-reverse}
+use Rattle.qc_event.specs.Tables.{setting_of}
+use Rattle.qc_system.specs.Closing.{AllKeep}
+use Rattle.qc_session.proofs.Unrun.{none_acted}
+use Rattle.qc_session.proofs.sessions.none_ran.Given.{Over}
+use Rattle.qc_session.proofs.sessions.none_ran.Goals as goal
+
+pub finish-start-requires : goal.finish-start-requires
+finish-start-requires g c = record { first = (c.requires.first.live, c.requires.first.number, c.requires.first.out) }
+
+nothing : (g : Over) (c : goal.After-finish-start g) → reverse c.finish-start.result.1.items ≡ []
+nothing g c = none_acted (setting_of g.N.Store.table g.N.Store.base) (reverse c.finish-start.result.1.items) c.args.first c.requires.first c.finish-start.ensures.legal c.finish-start.ensures.settled
+
+pub returns-clause-nothing : goal.returns-clause-nothing
+returns-clause-nothing g c = sym (reverse-reverse c.finish-start.result.1.items) ∙ ap reverse (nothing g c)
+
+pub returns-clause-disks : goal.returns-clause-disks
+returns-clause-disks g c =
+    subst (AllKeep (setting_of g.N.Store.table g.N.Store.base) (record { base = g.N.Store.base; told = g.N.Mounting.told; before = g.N.Mounting.before; first = g.N.Mounting.first }) g.D.Disk.view c.finish-start.result.2.items) (nothing g c) c.finish-start.ensures.disks
