@@ -1,15 +1,17 @@
--- What a client adds stays at or below a top.
-use Rattle.std.proofs.Common.{◌≡◌, ◌<◌, ℕ, Bool, true, false, List, [], ◌∷◌, ◌++◌, length, take, refl, sym, ap, ◌∙◌, subst, arith, ◌+◌, ◌*◌}
+-- What a client adds stays in a scope.
+use Rattle.std.proofs.Common.{◌≡◌, ◌⊎◌, inl, inr, ◌<◌, ℕ, Bool, true, false, List, [], ◌∷◌, ◌++◌, length, refl, sym, ap, ◌∙◌, subst, arith, ◌+◌, ◌*◌}
 use mathlib.Core.Bool.{true≢false}
-use Rattle.std.specs.Prelude.{Option, None, Some, is_none, is_some, not, ◌==◌, ◌||◌, if◌then◌else◌, ◌^◌}
+use Rattle.std.specs.Prelude.{Option, None, Some, is_none, is_some, not, ◌==◌, ◌||◌, ◌&&◌, if◌then◌else◌, ◌^◌}
 use Rattle.std.specs.List.{AllByRecursion, list_all, list_any}
 use Rattle.std.specs.Option.{option_map_or}
 use Rattle.std.proofs.lemmas.List.Elements.{filter-append}
 use Rattle.std.proofs.lemmas.List.Folds.{list_all-append}
-use Rattle.std.proofs.lemmas.Bool.{and_parts, and_from, or_right, eq-eqb}
+use Rattle.std.proofs.lemmas.Bool.{and_parts, and_from, or_left, or_right, eq-eqb}
+use Rattle.qc_event.specs.declared.event.Cause.TheVariants.{Asked}
 use Rattle.qc_event.specs.declared.event.Entry.{Entry}
 use Rattle.qc_event.specs.declared.event.Event.{Event}
 use Rattle.qc_event.specs.declared.event.Event.TheVariants as event
+use Rattle.qc_event.specs.declared.event.How.TheVariants.{Abort}
 use Rattle.qc_event.specs.declared.event.Kind.{Kind}
 use Rattle.qc_event.specs.declared.event.Kind.TheVariants as kind
 use Rattle.qc_event.specs.History.{Past, Name, every, end, children, is_child}
@@ -19,10 +21,11 @@ use Rattle.qc_event.proofs.LastNumber.{child_last, is_ancestor-append, child_lon
 use Rattle.qc_event.proofs.Booleans.{or_wider, all_wider, any_right}
 use Rattle.qc_names.specs.Name as name
 use Rattle.qc_script.specs.Calls.{IsOfAccess}
-use Rattle.qc_script.specs.Client.{Client, mine, is_own, about, IsLater}
+use Rattle.qc_script.specs.Client.{Client, mine, is_own, about, is_upward, IsLater}
 use Rattle.qc_script.specs.Numbers.{any_top, own_next}
-use Rattle.qc_interp.specs.Adding.{own_after, all_over, stays_in, AllStayIn, is_of_one, AllOfOne, starts_for, AllForIts}
+use Rattle.qc_interp.specs.Adding.{own_after, all_over, asks_above, stays_in, AllStayIn, is_of_one, AllOfOne, starts_for, AllForIts}
 use Rattle.qc_script.specs.Calls.{is_over, unable_in}
+use Rattle.qc_interp.proofs.Scope.{upward_top}
 use Rattle.qc_interp.specs.Sessions.{top_in}
 use Rattle.qc_script.specs.Numbers.{each}
 
@@ -38,20 +41,26 @@ no_top [] k far = refl
 no_top (x ∷ []) k far = let z : ⊥ = omega (arith, far) in absurd z
 no_top (x ∷ y ∷ n) k far = refl
 
-pub below_top : (of r : Name) → name.is_ancestor (take 1 of) (of ++ r) ≡ true
-below_top [] r = is_ancestor-append [] r
-below_top (x ∷ of) r = is_ancestor-append (x ∷ []) (of ++ r)
+-- an entry about a name in a scope that starts no top
+pub stays_at : (t n : Name) (e : Entry) → any_top e.event ≡ None → about e.event ≡ Some n → name.is_ancestor t n ≡ true → stays_in t e ≡ true
+stays_at t n e none is low = and_from _ _ (ap is_none none) (or_left _ _ (ap (λ o. option_map_or (λ m. name.is_ancestor t m) o true) is ∙ low))
 
-pub at_top : (of : Name) → name.is_ancestor (take 1 of) of ≡ true
-at_top of = ap (name.is_ancestor (take 1 of)) (sym (Rattle.std.proofs.Common.append-nil of)) ∙ below_top of []
+pub one_stays : (t n : Name) (e : Entry) → any_top e.event ≡ None → about e.event ≡ Some n → name.is_ancestor t n ≡ true → list_all (stays_in t) (e ∷ []) ≡ true
+one_stays t n e none is low = ap (λ b. b && true) (stays_at t n e none is low)
 
-pub child_top : (of n : Name) → is_child of n ≡ true → name.is_ancestor (take 1 of) n ≡ true
-child_top of n child = let l = child_last of n child in ap (name.is_ancestor (take 1 of)) l.1 ∙ below_top of (l.0 ∷ [])
+-- an entry about no name
+stays_none : (t : Name) (e : Entry) → any_top e.event ≡ None → about e.event ≡ None → stays_in t e ≡ true
+stays_none t e none is = and_from _ _ (ap is_none none) (or_left _ _ (ap (λ o. option_map_or (λ m. name.is_ancestor t m) o true) is))
+
+-- an abort of one at or above a name, as that one asked
+pub asks_stays : (t p by : Name) (seat : ℕ) → (name.is_ancestor t p ≡ true) ⊎ (is_upward t p ≡ true) → name.is_ancestor t by ≡ true → stays_in t (record { seat = seat; event = event.End p (Abort (Asked by)) }) ≡ true
+asks_stays t p by seat (inl low) at = or_left (name.is_ancestor t p) _ low
+asks_stays t p by seat (inr up) at = or_right (name.is_ancestor t p) _ (and_from (is_upward t p) (name.is_ancestor t by) up at)
 
 -- a child starts below one that is no root
 pub start_stays_in : (t n : Name) (k : Kind) (e : Entry) → e.event ≡ event.Start n k → 1 < length n → name.is_ancestor t n ≡ true → stays_in t e ≡ true
 start_stays_in t n k e is far low =
-    and_from _ _ (ap (λ ev. is_none (any_top ev)) is ∙ ap is_none (no_top n k far)) (ap (λ ev. option_map_or (λ m. name.is_ancestor t m) (about ev) true) is ∙ low)
+    stays_at t n e (ap any_top is ∙ no_top n k far) (ap about is) low
 
 -- the entries of accesses stay
 pub accesses_stay : (t m : Name) (inner : Past) → 0 < length m → name.is_ancestor t m ≡ true → AllByRecursion (λ (e : Entry). IsOfAccess m e.event) inner → list_all (stays_in t) inner ≡ true
@@ -66,14 +75,14 @@ accesses_stay t m (e ∷ inner) long low all = and_from _ _ (by_event e.event re
 
     by_event : (ev : Event) → e.event ≡ ev → IsOfAccess m ev → stays_in t e ≡ true
     by_event (event.Start n k) is of = start_stays_in t n k e is (let l : length n ≡ length m + 1 = child_longer m n of.0 in omega (arith, l, long)) (child n of.0)
-    by_event (event.End n how) is of = and_from _ _ (ap (λ ev. is_none (any_top ev)) is) (ap (λ ev. option_map_or (λ x. name.is_ancestor t x) (about ev) true) is ∙ child n of.0)
+    by_event (event.End n how) is of = stays_at t n e (ap any_top is) (ap about is) (child n of.0)
     by_event (event.Ready n) is of = absurd of
     by_event (event.Mark n session) is of = absurd of
-    by_event (event.Ask ask) is of = and_from _ _ (ap (λ ev. is_none (any_top ev)) is) (ap (λ ev. option_map_or (λ x. name.is_ancestor t x) (about ev) true) is)
-    by_event (event.Gone n why) is of = and_from _ _ (ap (λ ev. is_none (any_top ev)) is) (ap (λ ev. option_map_or (λ x. name.is_ancestor t x) (about ev) true) is)
-    by_event (event.Granted copy grant) is of = and_from _ _ (ap (λ ev. is_none (any_top ev)) is) (ap (λ ev. option_map_or (λ x. name.is_ancestor t x) (about ev) true) is)
-    by_event (event.Refused n copy refusal) is of = and_from _ _ (ap (λ ev. is_none (any_top ev)) is) (ap (λ ev. option_map_or (λ x. name.is_ancestor t x) (about ev) true) is)
-    by_event (event.Unable n why) is of = and_from _ _ (ap (λ ev. is_none (any_top ev)) is) (ap (λ ev. option_map_or (λ x. name.is_ancestor t x) (about ev) true) is)
+    by_event (event.Ask ask) is of = stays_none t e (ap any_top is) (ap about is)
+    by_event (event.Gone n why) is of = stays_none t e (ap any_top is) (ap about is)
+    by_event (event.Granted copy grant) is of = stays_none t e (ap any_top is) (ap about is)
+    by_event (event.Refused n copy refusal) is of = stays_none t e (ap any_top is) (ap about is)
+    by_event (event.Unable n why) is of = stays_none t e (ap any_top is) (ap about is)
 
 -- where no top starts, what holds of tops as they start holds as before
 module _ (c : Client) (t : Name) (G : Past → ℕ → Bool) where
@@ -153,11 +162,22 @@ one_both c xs ys older newer a b = all_later (is_of_one (xs ++ ys)) c older newe
     (all_wider (is_of_one xs) (is_of_one (xs ++ ys)) (mine c older) (λ e. about_wider _ _ (about e.event) (λ n. any_left (λ t. name.is_ancestor t n) xs ys)) a)
     (all_wider (is_of_one ys) (is_of_one (xs ++ ys)) (mine c newer) (λ e. about_wider _ _ (about e.event) (λ n. any_right (λ t. name.is_ancestor t n) xs ys)) b)
 
-pub stays_one : (t : Name) (e : Entry) → stays_in t e ≡ true → is_of_one (t ∷ []) e ≡ true
-stays_one t e h = about_wider (λ n. name.is_ancestor t n) _ (about e.event) (λ n a. ap (λ b. b || false) a) (and_parts _ _ h).1
+-- an abort as another asked of one that leads up from a top is of the top
+asks_low : (number : ℕ) (ev : Event) → asks_above (number ∷ []) ev ≡ true → option_map_or (λ n. name.is_ancestor (number ∷ []) n) (about ev) true ≡ true
+asks_low number (event.End n (Abort (Asked by))) h = upward_top number n (and_parts (is_upward (number ∷ []) n) (name.is_ancestor (number ∷ []) by) h).0
+asks_low number _ h = absurd (true≢false (sym h))
 
-pub all_one : (c : Client) (t : Name) (newer : Past) → AllStayIn c t newer → AllOfOne c (t ∷ []) newer
-all_one c t newer stay = all_wider (stays_in t) (is_of_one (t ∷ [])) (mine c newer) (stays_one t) stay
+stays_one : (number : ℕ) (e : Entry) → stays_in (number ∷ []) e ≡ true → is_of_one ((number ∷ []) ∷ []) e ≡ true
+stays_one number e h = about_wider (λ n. name.is_ancestor (number ∷ []) n) _ (about e.event) (λ n a. ap (λ b. b || false) a) (either (option_map_or (λ n. name.is_ancestor (number ∷ []) n) (about e.event) true) (asks_above (number ∷ []) e.event) (asks_low number e.event) (and_parts _ _ h).1)
+  where
+    either : (a b : Bool) → (b ≡ true → a ≡ true) → (a || b) ≡ true → a ≡ true
+    either true b step h = refl
+    either false b step h = step h
+
+pub all_one : (c : Client) (t : Name) (newer : Past) → length t ≡ 1 → AllStayIn c t newer → AllOfOne c (t ∷ []) newer
+all_one c [] newer long stay = let z : ⊥ = omega (arith, long) in absurd z
+all_one c (x ∷ []) newer long stay = all_wider (stays_in (x ∷ [])) (is_of_one ((x ∷ []) ∷ [])) (mine c newer) (stays_one x) stay
+all_one c (x ∷ y ∷ t) newer long stay = let z : ⊥ = omega (arith, long) in absurd z
 
 -- FOR THE CLIENT'S SESSION
 

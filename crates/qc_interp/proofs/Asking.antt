@@ -19,7 +19,7 @@ use Rattle.qc_event.proofs.OneEntry.{end_now, some_not_none, some_if_not_none}
 use Rattle.qc_event.proofs.Later.{started_still}
 use Rattle.qc_names.specs.Name as name
 use Rattle.qc_script.specs.Calls.{by_client, NotAborted, Committed, MadeReady, NotCommitted, IsOfSession}
-use Rattle.qc_script.specs.Client.{Client, mine, is_own, Made}
+use Rattle.qc_script.specs.Client.{Client, mine, is_own, scope, Made}
 use Rattle.qc_interp.specs.Deeds.{deeds}
 use Rattle.qc_interp.proofs.Deeds.{same_children, deeds_quiet}
 use Rattle.qc_interp.specs.Follows.{WasAsked, WasKilled, IsUnended, StopsBefore, FollowsPlan, asked_end, above}
@@ -31,14 +31,15 @@ use Rattle.qc_interp.specs.declared.stops.Finish.TheVariants as finish
 use Rattle.qc_script.specs.declared.tx.TxNo.{TxNo}
 use Rattle.qc_script.specs.declared.tx.TxNo.TheVariants as tx_no
 use Rattle.qc_interp.proofs.Mine.{kept_some}
-use Rattle.qc_interp.proofs.Adding.{at_top, over_later, over_ended}
+use Rattle.qc_interp.proofs.Scope.{at_scope, in_or_upward}
+use Rattle.qc_interp.proofs.Adding.{asks_stays, one_stays, over_later, over_ended}
 use Rattle.qc_interp.proofs.Turning.{InTurn, Alone, act_turns, itself}
 use Rattle.qc_interp.proofs.Growth.{made_is, made_later, ours_before}
 use Rattle.qc_interp.proofs.Still.{follows_runs}
 use Rattle.qc_event.proofs.Orderly.{KeepsOrder}
 use Rattle.qc_interp.proofs.Managers.{found_quiet, absent, came_after}
 use Rattle.qc_interp.proofs.Stopping.{asked_early, unended_stopped, unended_unkilled, running_unended}
-use Rattle.qc_interp.proofs.Ending.{at_any, at_the_end, top_above, not_ready, leaves_trans, leaves_cut, cut_still, still, leaves_still, runs_still, user_is, leaves_end, deeds_end, ends_so}
+use Rattle.qc_interp.proofs.Ending.{at_any, at_the_end, not_ready, leaves_trans, leaves_cut, cut_still, still, leaves_still, runs_still, user_is, leaves_end, deeds_end, ends_so}
 use Rattle.qc_interp.proofs.StepsLeave.{orphan_early, stopped_still, some_later, none_open}
 use Rattle.std.specs.List.{list_all}
 use Rattle.qc_interp.specs.Adding.{stays_in}
@@ -114,7 +115,7 @@ module _ (c : Client) (of : Name) where
         by_test true so None x = inr (ap not (other_length of p (λ l. omega (arith, l, ap length (same_is t p so), shorter))))
 
     pub leaves_asked : Leaves c of before mid
-    leaves_asked = record { turns = λ ours turns alone. subst (λ h. InTurn h × Alone h of) (sym now_is) (act_turns (by_client c (event.End t (Abort (cause.Asked of)))) (mine c before) of of refl refl turns alone alone); later = made_later c _ before mid m; inside = ap (list_all (stays_in (take 1 of))) m.made ∙ ap (λ b. b && true) (top_above of t s is nonroot); over = λ was r. over_later c before mid (made_later c _ before mid m) of (was (sym (ready_asked of) ∙ r)); above = λ p r so more. record { deeds = deeds_asked p; ready = ready_asked p; unended = unended_asked p } }
+    leaves_asked = record { turns = λ ours turns alone. subst (λ h. InTurn h × Alone h of) (sym now_is) (act_turns (by_client c (event.End t (Abort (cause.Asked of)))) (mine c before) of of refl refl turns alone alone); later = made_later c _ before mid m; inside = ap (list_all (stays_in (scope c of))) m.made ∙ ap (λ b. b && true) (asks_stays (scope c of) t of c.number (in_or_upward c of t s is nonroot) (at_scope c of)); over = λ was r. over_later c before mid (made_later c _ before mid m) of (was (sym (ready_asked of) ∙ r)); above = λ p r so more. record { deeds = deeds_asked p; ready = ready_asked p; unended = unended_asked p } }
 
     pub asked_one : AllAsked c before mid (λ by x. (by ≡ of) × (x ≡ t))
     asked_one = asked_made c _ before mid _ m (inr (refl, refl), tt)
@@ -124,6 +125,7 @@ module _ (c : Client) (of : Name) where
       legal = m.legal;
       user = subst (λ h. Started h of (λ b. IsOfSession c.session b.kind)) (sym m.grown) (started_still m.newer before of _ runs.user);
       nonroot = runs.nonroot;
+      below = runs.below;
       above = λ p r so more. (unended_asked p (runs.above p r so more).0, ready_asked p ∙ (runs.above p r so more).1);
       closed = λ ours.
           ap (find (λ x. is_none (end (mine c mid) x))) (same_children (mine c mid) (mine c before) of (deeds_asked of))
@@ -255,7 +257,7 @@ module _ (c : Client) (of : Name) where
           let t = subst (λ h. InTurn h × Alone h of) (sym ready_now) (act_turns (by_client c (event.Ready of)) (mine c before) of of refl refl turns alone alone) in
           (t.0, at_any reach _ t.1);
       later = made_later c _ before now m;
-      inside = ap (list_all (stays_in (take 1 of))) m.made ∙ ap (λ b. b && true) (at_top of);
+      inside = ap (list_all (stays_in (scope c of))) m.made ∙ one_stays (scope c of) of (by_client c (event.Ready of)) refl refl (at_scope c of);
       over = at_the_end reach _ _ (λ so was r. so) over;
       above = λ p r is far.
           record {

@@ -11,7 +11,7 @@ use Rattle.qc_interp.specs.declared.stops.Finish.{Finish}
 use Rattle.qc_interp.specs.declared.stops.Finish.TheVariants as finish
 use Rattle.qc_interp.specs.Running.{Ends, EndsAt, Ended, CutOff, WentOn, WentBy, Stepped}
 use Rattle.qc_interp.proofs.Ending.{leaves_trans}
-use Rattle.qc_interp.proofs.Growth.{later_trans}
+use Rattle.qc_interp.proofs.Joined.{joined_itself, joined_before, joined_since}
 
 module _ (c : Client) (of : Name) (k : Kind) (given : Answer) (before mid : Past) (by : WentBy c of before mid k given) where
   -- it goes on at once
@@ -19,7 +19,7 @@ module _ (c : Client) (of : Name) (k : Kind) (given : Answer) (before mid : Past
   by_here next same = record {
     leaves = by.leaves;
     runs = by.runs;
-    follows = λ reach x later rest ends. by.follows reach x later (next rest) (subst (EndsAt reach c of mid x) (sym (same rest)) ends);
+    follows = λ reach d x j later rest ends. by.follows reach d x j later (next rest) (subst (EndsAt reach d of mid x) (sym (same rest)) ends);
   }
 
   -- it goes on after what follows
@@ -27,8 +27,9 @@ module _ (c : Client) (of : Name) (k : Kind) (given : Answer) (before mid : Past
   by_on now front next same on = record {
     leaves = leaves_trans c of before mid now by.leaves on.leaves;
     runs = on.runs;
-    follows = λ reach x later rest ends.
-        by.follows reach x (later_trans c mid now x on.leaves.later later) (next rest) (subst (EndsAt reach c of mid x) (sym (same rest)) (on.follows reach x later rest ends));
+    follows = λ reach d x j later rest ends.
+        by.follows reach d x (joined_before c d mid now on.leaves.later j) (joined_since c d now j mid x on.leaves.later later) (next rest)
+        (subst (EndsAt reach d of mid x) (sym (same rest)) (on.follows reach d x j later rest ends));
   }
 
   -- it ends in what follows
@@ -36,7 +37,7 @@ module _ (c : Client) (of : Name) (k : Kind) (given : Answer) (before mid : Past
   by_ended now plan next to same e = record {
     leaves = leaves_trans c of before mid now by.leaves e.leaves;
     tried = e.tried;
-    ends = by.follows Reach.to_the_end now e.leaves.later next (subst (Ends c of mid now) (sym same) e.ends);
+    ends = by.follows Reach.to_the_end c now (joined_itself c mid) e.leaves.later next (subst (Ends c of mid now) (sym same) e.ends);
   }
 
   -- it is cut off in what follows
@@ -44,7 +45,7 @@ module _ (c : Client) (of : Name) (k : Kind) (given : Answer) (before mid : Past
   by_cut now plan next same e = record {
     leaves = leaves_trans c of before mid now by.leaves e.leaves;
     unended = e.unended;
-    begins = by.follows Reach.cut_off now e.leaves.later next (subst (EndsAt Reach.cut_off c of mid now) (sym same) e.begins);
+    begins = by.follows Reach.cut_off c now (joined_itself c mid) e.leaves.later next (subst (EndsAt Reach.cut_off c of mid now) (sym same) e.begins);
   }
 
   -- a step is done in what follows

@@ -1,9 +1,8 @@
 -- How a transaction ends that runs, and what a refusal tells of it.
-use Rattle.std.proofs.Common.{◌≡◌, inl, inr, ℕ, ◌<◌, true, false, [], ◌∷◌, ◌++◌, length, take, refl, sym, ap, ◌∙◌, subst, append-nil, arith, length-append}
+use Rattle.std.proofs.Common.{◌≡◌, inl, inr, ℕ, ◌<◌, true, false, [], ◌∷◌, ◌++◌, length, refl, sym, ap, ◌∙◌, subst, append-nil, arith, length-append}
 use mathlib.Core.Bool.{true≢false}
-use Rattle.std.specs.Prelude.{Option, None, Some, MatchOption, is_some, not, ◌&&◌}
+use Rattle.std.specs.Prelude.{Option, None, Some, MatchOption, is_some}
 use Rattle.std.specs.Option.{option_or}
-use Rattle.std.proofs.Math.Bool.{and-false}
 use Rattle.qc_event.specs.declared.event.Cause.{Cause}
 use Rattle.qc_event.specs.declared.event.Cause.TheVariants as cause
 use Rattle.qc_event.specs.declared.event.Entry.{Entry}
@@ -28,7 +27,7 @@ use Rattle.qc_event.proofs.Orderly.{KeepsOrder, Begins}
 use Rattle.qc_event.proofs.Later.{started_still}
 use Rattle.qc_names.specs.Name as name
 use Rattle.qc_script.specs.Calls.{by_client, NotAborted, IsGrounded, IsForChild, IsNone, IsOfSession}
-use Rattle.qc_script.specs.Client.{Client, mine, concerns, Made, AreOurs}
+use Rattle.qc_script.specs.Client.{Client, mine, scope, concerns, Made, AreOurs}
 use Rattle.qc_interp.specs.Follows.{WasAsked, IsUnended}
 use Rattle.qc_script.specs.Plan.{Plan}
 use Rattle.qc_interp.proofs.Stopping.{unended_stopped, running_runs}
@@ -36,7 +35,8 @@ use Rattle.qc_interp.specs.Reach.{Reach, AtTheEnd}
 use Rattle.qc_interp.specs.Running.{Runs, LeavesAt, Leaves, CutOff, CameTo, Quit}
 use Rattle.qc_interp.specs.declared.stops.Finish.TheVariants as finish
 use Rattle.qc_interp.specs.Turns.{acts}
-use Rattle.qc_interp.proofs.Adding.{all_later, at_top, over_later}
+use Rattle.qc_interp.proofs.Adding.{all_later, one_stays, over_later}
+use Rattle.qc_interp.proofs.Scope.{at_scope, in_or_upward, concerns_abort, concerns_commit, concerns_ready}
 use Rattle.qc_interp.proofs.Turning.{InTurn, Alone, end_turns, alone_below, itself}
 use Rattle.qc_interp.specs.Tries.{is_tried_again}
 use Rattle.qc_script.specs.declared.tx.TxNo.{TxNo}
@@ -68,10 +68,6 @@ unended_commit n how (inl is) = ap (λ o. is_committed (outcome_of o)) is
 unended_commit n None (inr h) = absurd h
 unended_commit n (Some (Commit given)) (inr h) = absurd h
 unended_commit n (Some (Abort x)) (inr h) = refl
-
-pub top_above : (of p r : Name) → of ≡ p ++ r → 0 < length p → name.is_ancestor (take 1 of) p ≡ true
-top_above of [] r is far = let z : ⊥ = omega (arith, far) in absurd z
-top_above of (x ∷ xs) r is far = ap (λ n. name.is_ancestor (take 1 n) (x ∷ xs)) is ∙ is_ancestor-append (x ∷ []) xs
 
 -- A TOP THAT COMMITS IS A READY USER TRANSACTION
 
@@ -148,16 +144,14 @@ module _ (c : Client) (of : Name) where
   -- WHERE ALL IS ONE'S OWN
 
   module _ (now : Past) (runs : Runs c of now) (ours : AreOurs c of now) where
-    own_end : (p r : Name) (how : How) → of ≡ p ++ r → 0 < length p → (same p (take 1 of) && Rattle.qc_script.specs.Client.is_commit how) ≡ false → end now p ≡ Some how → end (mine c now) p ≡ Some how
-    own_end p r how is far other h =
-        own_found c (λ e. end_in p e.event) how of now (λ e f. subst (λ ev. concerns (take 1 of) ev ≡ true) (sym (ending p e.event how f))
-        (ap (λ b. name.is_ancestor (take 1 of) p && not b) other ∙ ap (λ b. b && true) (top_above of p r is far))) ours h
+    own_end : (p : Name) (how : How) → concerns (scope c of) (event.End p how) ≡ true → end now p ≡ Some how → end (mine c now) p ≡ Some how
+    own_end p how low h = own_found c (λ e. end_in p e.event) how of now (λ e f. subst (λ ev. concerns (scope c of) ev ≡ true) (sym (ending p e.event how f)) low) ours h
 
     own_ready : (p r : Name) → of ≡ p ++ r → 0 < length p → is_ready now p ≡ true → is_ready (mine c now) p ≡ true
     own_ready p r is far h =
         let found = Rattle.qc_interp.proofs.Mine.some_is (earliest (λ (e : Entry). ready_in p e.event) now) h in
         ap is_some (own_found c (λ e. ready_in p e.event) found.0 of now
-        (λ e f. subst (λ ev. concerns (take 1 of) ev ≡ true) (sym (marking p e.event (ap is_some f))) (top_above of p r is far)) ours found.1)
+        (λ e f. subst (λ ev. concerns (scope c of) ev ≡ true) (sym (marking p e.event (ap is_some f))) (concerns_ready (scope c of) p (in_or_upward c of p r is far))) ours found.1)
 
     pub not_ready : (p r : Name) → of ≡ p ++ r → 0 < length p → is_ready now p ≡ true → ⊥
     not_ready p r is far h = true≢false (sym (own_ready p r is far h) ∙ (runs.above p r is far).1)
@@ -171,12 +165,9 @@ module _ (c : Client) (of : Name) where
         not_ready (x ∷ []) r is (omega arith) (committed_ready c.setting now x g.0 runs.legal g.1)
     not_committed (x ∷ y ∷ p) r is h =
         let g = committed_is (end now (x ∷ y ∷ p)) h in
-        let apart : (same (x ∷ y ∷ p) (take 1 of) && true) ≡ false = ap (λ b. b && true) (other_length (x ∷ y ∷ p) (take 1 of) (λ l. omega (arith, l, short))) in
-        let found = own_end (x ∷ y ∷ p) r (Commit g.0) is (omega arith) apart g.1 in
+        let low = concerns_commit (scope c of) (x ∷ y ∷ p) g.0 (in_or_upward c of (x ∷ y ∷ p) r is (omega arith)) (omega arith) in
+        let found = own_end (x ∷ y ∷ p) (Commit g.0) low g.1 in
         true≢false (sym (ap (λ o. is_committed (outcome_of o)) found) ∙ unended_commit (x ∷ y ∷ p) _ (runs.above (x ∷ y ∷ p) r is (omega arith)).0)
-      where
-        short : length (take 1 of) ≡ 1
-        short = ap (λ n. length (take 1 n)) is
 
     -- who has ended was stopped early
     pub ended_early : is_some (end now of) ≡ true → WasAsked of (end (mine c now) of)
@@ -186,7 +177,7 @@ module _ (c : Client) (of : Name) where
         by_end None is h = absurd (true≢false (sym h))
         by_end (Some (Commit given)) is h = absurd (not_committed of [] (sym (append-nil of)) (ap (λ o. is_committed (outcome_of o)) is))
         by_end (Some (Abort x)) is h =
-            let found = own_end of [] (Abort x) (sym (append-nil of)) runs.nonroot (and-false (same of (take 1 of))) is in
+            let found = own_end of (Abort x) (concerns_abort (scope c of) of x (at_scope c of)) is in
             unended_some of _ (runs.above of [] (sym (append-nil of)) runs.nonroot).0 (ap is_some found)
 
   -- WHAT IS LEFT
@@ -218,7 +209,7 @@ module _ (c : Client) (of : Name) where
     pub leaves_still : Leaves c of before now
     leaves_still = record {
       later = made_later c [] before now m;
-      inside = ap (list_all (stays_in (take 1 of))) m.made;
+      inside = ap (list_all (stays_in (scope c of))) m.made;
       over = λ was r. over_later c before now (made_later c [] before now m) of (was (sym (ap (λ h. is_ready h of) still) ∙ r));
       above = λ p r is far. record { deeds = ap (λ h. deeds h p) still; ready = ap (λ h. is_ready h p) still; unended = subst (λ h. IsUnended p (end h p)) (sym still) };
       turns = λ ours turns alone. subst (λ h. InTurn h × Alone h of) (sym still) (turns, alone);
@@ -229,6 +220,7 @@ module _ (c : Client) (of : Name) where
       legal = m.legal;
       user = subst (λ h. Started h of (λ b. IsOfSession c.session b.kind)) (sym m.grown) (started_still m.newer before of _ runs.user);
       nonroot = runs.nonroot;
+      below = runs.below;
       above = λ p r is far. subst (λ h. IsUnended p (end h p) × (is_ready h p ≡ false)) (sym still) (runs.above p r is far);
       closed = λ ours. ap (λ h. open_child h of) still ∙ runs.closed (ours_before c of before now (made_later c [] before now m) ours);
     }
@@ -252,7 +244,7 @@ module _ (c : Client) (of : Name) where
     leaves_end actor = record {
       turns = λ ours turns alone. subst (λ h. InTurn h × Alone h of) (sym now_is) (end_turns (by_client c (event.End of how)) (mine c before) actor.0 of how refl actor.1 turns (alone_below (mine c before) of actor.0 actor.2 alone) alone);
       later = made_later c _ before now m;
-      inside = ap (list_all (stays_in (take 1 of))) m.made ∙ ap (λ b. b && true) (at_top of);
+      inside = ap (list_all (stays_in (scope c of))) m.made ∙ one_stays (scope c of) of (by_client c (event.End of how)) refl refl (at_scope c of);
       over = λ was r. over_later c before now (made_later c _ before now m) of (was (sym (ap (λ h. is_ready h of) now_is ∙ ap is_some (found_quiet _ (by_client c (event.End of how) ∷ []) (mine c before) (refl, tt))) ∙ r));
       above = λ p r is far.
           let quiet : end_in p (event.End of how) ≡ None = if_not (same of p) (Some how) (other_length of p (λ l. omega (arith, l, far, ap length is ∙ length-append p r))) in

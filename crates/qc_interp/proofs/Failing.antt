@@ -37,6 +37,7 @@ use Rattle.qc_interp.proofs.Asked.{NoOne, asked_made, asked_none, asked_wider, a
 use Rattle.qc_interp.proofs.Stopping.{asked_early, unended_stopped, running_runs}
 use Rattle.qc_interp.proofs.Ending.{not_ready, ended_early, leaves_trans, leaves_cut, still, leaves_still, runs_still, leaves_end, deeds_end, ends_so}
 use Rattle.qc_interp.proofs.Growth.{made_later, ours_before}
+use Rattle.qc_interp.proofs.Joined.{joined_itself}
 use Rattle.qc_interp.proofs.Seen.{own_once}
 use Rattle.qc_interp.proofs.StepsLeave.{end_later, orphan_early}
 use Rattle.qc_interp.proofs.Tried.{cut_behind}
@@ -182,12 +183,12 @@ module _ (c : Client) (of : Name) (body : Numbered) (before mid : Past) (last : 
   failed_on is = record {
     leaves = f.leaves;
     runs = f.runs;
-    follows = λ reach x later rest ends. f.follows reach x later rest (λ ours.
+    follows = λ reach d x j later rest ends. f.follows reach d x j later rest (λ ours.
         let e = ends ours in (
           e.0,
           e.1,
-          after_any reach (mine c x) of last body.must _ e.0 (end (mine c x) of) is e.2,
-          asked_wider _ _ (λ by t a. does_any (mine c x) last body.must _ is a) c mid x e.3,
+          after_any reach (mine d x) of last body.must _ e.0 (end (mine d x) of) is e.2,
+          asked_wider _ _ (λ by t a. does_any (mine d x) last body.must _ is a) d mid x e.3,
         ));
   }
 
@@ -197,7 +198,7 @@ module _ (c : Client) (of : Name) (body : Numbered) (before mid : Past) (last : 
     failed_quit again rest must quit = record {
       leaves = leaves_trans c of before mid now f.leaves quit.leaves;
       tried = quit.tried;
-      ends = f.follows Reach.to_the_end now quit.leaves.later rest (λ ours. (
+      ends = f.follows Reach.to_the_end c now (joined_itself c mid) quit.leaves.later rest (λ ours. (
         [],
         quit.deeds ∙ sym (append-nil _),
         subst (λ b. AfterTries Reach.to_the_end (mine c now) of (Some (Deed.child last)) b (FollowsPlan c.session (mine c now) of rest [] (end (mine c now) of)) [] (end (mine c now) of)) (sym must) (behind ours),
@@ -230,7 +231,7 @@ module _ (c : Client) (of : Name) (body : Numbered) (before mid : Past) (last : 
         record {
           leaves = leaves_trans c of before mid now f.leaves (leaves_cut c of mid now (leaves_still c of mid now m));
           unended = at.0;
-          begins = f.follows Reach.cut_off now (made_later c [] mid now m) rest (λ ours. (
+          begins = f.follows Reach.cut_off c now (joined_itself c mid) (made_later c [] mid now m) rest (λ ours. (
             [],
             ap (λ h. deeds h of) (still c of mid now m) ∙ sym (append-nil _),
             cut_behind (mine c now) of last body.must _ (end (mine c now) of) at.0 at.1 (running_runs c.session (mine c now) of _ at.0 at.1 rest),

@@ -1,5 +1,5 @@
 -- What a client has seen grows, by its own entries and others'.
-use Rattle.std.proofs.Common.{◌≡◌, Bool, true, false, [], ◌∷◌, ◌++◌, refl, sym, ap, ◌∙◌, subst, append_assoc, take}
+use Rattle.std.proofs.Common.{◌≡◌, Bool, true, false, [], ◌∷◌, ◌++◌, refl, sym, ap, ◌∙◌, subst, append_assoc}
 use mathlib.Core.Bool.{true≢false}
 use Rattle.std.specs.Prelude.{Option, None, Some, MatchOption, not, ◌||◌, if◌then◌else◌}
 use Rattle.std.specs.Option.{option_or}
@@ -11,7 +11,7 @@ use Rattle.qc_event.specs.History.{Past, Name, earliest, end}
 use Rattle.qc_event.specs.Legal.{Legal}
 use Rattle.qc_event.proofs.Histories.{earliest-append}
 use Rattle.qc_event.proofs.OneEntry.{some_or_none, not_some}
-use Rattle.qc_script.specs.Client.{Client, mine, is_own, concerns, Made, IsLater, AreOurs, all_ours}
+use Rattle.qc_script.specs.Client.{Client, mine, is_own, scope, concerns, Made, IsLater, AreOurs, all_ours}
 use Rattle.qc_interp.proofs.Mine.{kept_some}
 
 pub implied : (a b : Bool) → (not a || b) ≡ true → a ≡ true → b ≡ true
@@ -51,16 +51,16 @@ module _ (c : Client) where
       (and_parts _ _ (sym (list_all-append _ p.newer before) ∙ ap (all_ours c n) (sym p.grown) ∙ ours)).1
 
   -- what all is one's own about a name is found among one's own
-  pub own_found : {Y : Type 0} (f : Entry → Option Y) (y : Y) (n : Name) (past : Past) → ((e : Entry) → f e ≡ Some y → concerns (take 1 n) e.event ≡ true) → AreOurs c n past → earliest f past ≡ Some y → earliest f (mine c past) ≡ Some y
+  pub own_found : {Y : Type 0} (f : Entry → Option Y) (y : Y) (n : Name) (past : Past) → ((e : Entry) → f e ≡ Some y → concerns (scope c n) e.event ≡ true) → AreOurs c n past → earliest f past ≡ Some y → earliest f (mine c past) ≡ Some y
   own_found f y n [] about ours is = absurd cc
   own_found {Y = Y} f y n (e ∷ past) about ours is =
-      let both = and_parts (not (concerns (take 1 n) e.event) || is_own c e.seat) _ ours in
-      by_old (earliest f past) refl (own_found f y n past about both.1) (implied (concerns (take 1 n) e.event) (is_own c e.seat) both.0) is
+      let both = and_parts (not (concerns (scope c n) e.event) || is_own c e.seat) _ ours in
+      by_old (earliest f past) refl (own_found f y n past about both.1) (implied (concerns (scope c n) e.event) (is_own c e.seat) both.0) is
     where
       found : Past → Type 0
       found h = earliest f h ≡ Some y
 
-      by_old : (o : Option Y) → earliest f past ≡ o → (earliest f past ≡ Some y → earliest f (mine c past) ≡ Some y) → (concerns (take 1 n) e.event ≡ true → is_own c e.seat ≡ true) → option_or o (f e) ≡ Some y → found (if is_own c e.seat then e ∷ mine c past else mine c past)
+      by_old : (o : Option Y) → earliest f past ≡ o → (earliest f past ≡ Some y → earliest f (mine c past) ≡ Some y) → (concerns (scope c n) e.event ≡ true → is_own c e.seat ≡ true) → option_or o (f e) ≡ Some y → found (if is_own c e.seat then e ∷ mine c past else mine c past)
       by_old (Some x) was before own is = by_test (is_own c e.seat) (before (was ∙ is))
         where
           by_test : (b : Bool) → earliest f (mine c past) ≡ Some y → found (if b then e ∷ mine c past else mine c past)

@@ -1,8 +1,9 @@
 -- What a manager leaves that a client made: its transaction has one child more, and all else is as it was.
-use Rattle.std.proofs.Common.{◌≡◌, ◌<◌, ◌+◌, Bool, true, false, [], ◌∷◌, ◌++◌, length, take, refl, sym, ap, ◌∙◌, subst, append-nil, append_assoc, arith, length-append}
+use Rattle.std.proofs.Common.{◌≡◌, ◌<◌, ◌+◌, Bool, true, false, [], ◌∷◌, ◌++◌, length, refl, sym, ap, ◌∙◌, subst, append-nil, append_assoc, arith, length-append}
 use Rattle.std.specs.Prelude.{Option, None, Some, is_some, option_to_list, option_map, if◌then◌else◌, ◌&&◌}
 use Rattle.std.specs.List.{AllByRecursion, list_all}
 use Rattle.std.specs.Option.{option_or}
+use Rattle.std.proofs.lemmas.Bool.{and_from}
 use Rattle.qc_event.specs.declared.event.Entry.{Entry}
 use Rattle.qc_event.specs.declared.event.Event.{Event}
 use Rattle.qc_event.specs.declared.event.Event.TheVariants as event
@@ -20,12 +21,13 @@ use Rattle.qc_event.proofs.OneEntry.{start_is, end_now, stays_some, some_or_none
 use Rattle.qc_event.proofs.Orderly.{KeepsOrder}
 use Rattle.qc_event.proofs.Later.{earlier_legal, start_still}
 use Rattle.qc_script.specs.Calls.{Ran, WasCut, IsOfAccess, AreOfAccesses, by_client}
-use Rattle.qc_script.specs.Client.{Client, mine, is_own, Made, IsLater}
+use Rattle.qc_script.specs.Client.{Client, mine, is_own, scope, Made, IsLater}
 use Rattle.qc_interp.proofs.Growth.{FirstMade, first_made, made_is, made_later}
 use Rattle.qc_interp.specs.Deeds.{Deed, deeds}
 use Rattle.qc_interp.proofs.Deeds.{Silent, start_silent, deeds_quiet, child_deed, no_deeds}
 use Rattle.qc_interp.proofs.Mine.{kept_some}
-use Rattle.qc_interp.proofs.Adding.{all_both, start_stays_in, accesses_stay, child_top}
+use Rattle.qc_interp.proofs.Adding.{all_both, stays_at, start_stays_in, accesses_stay}
+use Rattle.qc_interp.proofs.Scope.{child_scope}
 use Rattle.qc_interp.proofs.Turning.{InTurn, Alone, start_turns, access_turns, end_turns, own_actor, alone_up, some_done}
 use Rattle.qc_interp.specs.Adding.{stays_in, AllStayIn}
 use Rattle.qc_interp.specs.Asking.{AllAsked}
@@ -212,16 +214,16 @@ module _ (c : Client) where
         let a = start_turns begins h0 of m k refl is_one turns alone in
         access_turns m inner (begins ∷ h0) of_accesses a.0 a.1
 
-    pub inside_running : 0 < length of → list_all (stays_in (take 1 of)) (inner ++ begins ∷ []) ≡ true
+    pub inside_running : 0 < length of → list_all (stays_in (scope c of)) (inner ++ begins ∷ []) ≡ true
     inside_running nonroot =
-        let low = child_top of m is_one in
-        all_both (stays_in (take 1 of)) inner (begins ∷ []) (accesses_stay (take 1 of) m inner (omega (arith, longer)) low of_accesses)
-        (ap (λ b. b && true) (start_stays_in (take 1 of) m k begins refl (omega (arith, longer, nonroot)) low))
+        let low = child_scope c of m is_one in
+        all_both (stays_in (scope c of)) inner (begins ∷ []) (accesses_stay (scope c of) m inner (omega (arith, longer)) low of_accesses)
+        (ap (λ b. b && true) (start_stays_in (scope c of) m k begins refl (omega (arith, longer, nonroot)) low))
 
   pub record Managed (of : Name) (k : Kind) (how : How) (m : Name) (before now : Past) : Type 0 where
     pub turns : InTurn (mine c before) → Alone (mine c before) of → InTurn (mine c now) × Alone (mine c now) of
     pub later : IsLater c before now
-    pub inside : AllStayIn c (take 1 of) later.newer
+    pub inside : AllStayIn c (scope c of) later.newer
     pub asked : AllAsked c before now NoOne
     pub is_one : is_child of m ≡ true
     pub kind : kind_of (mine c now) m ≡ Some k
@@ -292,16 +294,15 @@ module _ (c : Client) where
         let d = end_turns ends h1 m m how refl (own_actor m how ran.not_asked) b.0 b.1 b.1 in
         subst (λ h. InTurn h × Alone h of) (sym now_is) (d.0, alone_up (ends ∷ h1) of m ran.is_one (some_done (ends ∷ h1) m (ap is_some (ap (λ h. end h m) (sym now_is) ∙ end_is))) d.1)
 
-    inside_is : list_all (stays_in (take 1 of)) (ends ∷ ran.inner ++ by_client c (event.Start m k) ∷ []) ≡ true
+    inside_is : list_all (stays_in (scope c of)) (ends ∷ ran.inner ++ by_client c (event.Start m k) ∷ []) ≡ true
     inside_is =
-        ap (λ b. b && list_all (stays_in (take 1 of)) (ran.inner ++ by_client c (event.Start m k) ∷ [])) (child_top of m ran.is_one)
-        ∙ inside_running of m k ran.inner h0 ran.is_one new.fresh ran.of_accesses nonroot
+        and_from _ _ (stays_at (scope c of) m ends refl refl (child_scope c of m ran.is_one)) (inside_running of m k ran.inner h0 ran.is_one new.fresh ran.of_accesses nonroot)
 
     pub managed : Managed of k how m before now
     managed = record {
       turns = turns_is;
       later = made_later c _ before now ran.made;
-      inside = ap (list_all (stays_in (take 1 of))) ran.made.made ∙ inside_is;
+      inside = ap (list_all (stays_in (scope c of))) ran.made.made ∙ inside_is;
       asked = asked_made c _ before now NoOne ran.made (unasked_end m how ran.not_asked, accesses_unasked m ran.inner (by_client c (event.Start m k) ∷ []) ran.of_accesses (tt, tt));
       is_one = ran.is_one;
       kind = kind_is;
@@ -319,7 +320,7 @@ module _ (c : Client) where
   pub record Interrupted (of : Name) (k : Kind) (m : Name) (before now : Past) : Type 0 where
     pub turns : InTurn (mine c before) → Alone (mine c before) of → InTurn (mine c now)
     pub later : IsLater c before now
-    pub inside : AllStayIn c (take 1 of) later.newer
+    pub inside : AllStayIn c (scope c of) later.newer
     pub asked : AllAsked c before now NoOne
     pub kind : kind_of (mine c now) m ≡ Some k
     pub end : end (mine c now) m ≡ None
@@ -332,7 +333,7 @@ module _ (c : Client) where
   interrupted of k before now nonroot cut = record {
     turns = λ turns alone. subst InTurn (sym now_is) (turns_running of cut.manager k cut.inner (mine c before) cut.is_one new.fresh cut.of_accesses turns alone).0;
     later = made_later c _ before now cut.made;
-    inside = ap (list_all (stays_in (take 1 of))) cut.made.made ∙ inside_running of cut.manager k cut.inner (mine c before) cut.is_one new.fresh cut.of_accesses nonroot;
+    inside = ap (list_all (stays_in (scope c of))) cut.made.made ∙ inside_running of cut.manager k cut.inner (mine c before) cut.is_one new.fresh cut.of_accesses nonroot;
     asked = asked_made c _ before now NoOne cut.made (accesses_unasked cut.manager cut.inner (by_client c (event.Start cut.manager k) ∷ []) cut.of_accesses (tt, tt));
     kind = ap (λ h. kind_of h cut.manager) now_is ∙ kind_running of cut.manager k cut.inner (mine c before) cut.is_one new.fresh cut.of_accesses;
     end = ap (λ h. end h cut.manager) now_is ∙ end_running of cut.manager k cut.inner (mine c before) cut.is_one new.fresh cut.of_accesses;

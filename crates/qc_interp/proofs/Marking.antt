@@ -1,5 +1,5 @@
 -- What a mark leaves, and what a transaction does that looks whether it is killed.
-use Rattle.std.proofs.Common.{◌≡◌, ◌⊎◌, inl, inr, ℕ, Bool, true, false, List, [], ◌∷◌, ◌++◌, length, take, refl, sym, ap, ◌∙◌, subst, append-nil, append_assoc, arith, length-append}
+use Rattle.std.proofs.Common.{◌≡◌, ◌⊎◌, inl, inr, ℕ, Bool, true, false, List, [], ◌∷◌, ◌++◌, length, refl, sym, ap, ◌∙◌, subst, append-nil, append_assoc, arith, length-append}
 use mathlib.Core.Bool.{true≢false}
 use Rattle.std.specs.Prelude.{◌==◌, Option, None, Some, MatchBool, is_some, is_none, nat_le, find, ◌&&◌, ◌||◌}
 use Rattle.std.specs.List.{list_all}
@@ -15,7 +15,7 @@ use Rattle.qc_event.proofs.Absent.{other_length}
 use Rattle.qc_event.proofs.Later.{started_still}
 use Rattle.qc_event.proofs.OneEntry.{some_not_none, some_if_not_none}
 use Rattle.qc_script.specs.Calls.{by_client, IsOfSession}
-use Rattle.qc_script.specs.Client.{Client, mine, is_own, Made, IsLater}
+use Rattle.qc_script.specs.Client.{Client, mine, is_own, scope, Made, IsLater, HasJoined}
 use Rattle.qc_script.specs.Plan.{Plan}
 use Rattle.qc_interp.specs.Adding.{stays_in}
 use Rattle.qc_interp.specs.Asking.{Asks}
@@ -25,11 +25,13 @@ use Rattle.qc_interp.specs.Reach.{Reach}
 use Rattle.qc_interp.specs.Running.{Runs, Leaves, EndsAt, Ended, CutOff, Quit, WentOn, Stepped, HasNotMarked, StopsThere, Acted, HasActed, HasLooked}
 use Rattle.qc_interp.specs.Turns.{is_done}
 use Rattle.qc_interp.specs.declared.stops.Finish.TheVariants as finish
-use Rattle.qc_interp.proofs.Adding.{at_top, over_later}
+use Rattle.qc_interp.proofs.Scope.{at_scope}
+use Rattle.qc_interp.proofs.Adding.{one_stays, over_later}
 use Rattle.qc_interp.proofs.Asked.{NoOne, asked_made, asked_none, asked_trans, asked_wider}
 use Rattle.qc_interp.proofs.Deeds.{mark_silent, deeds_quiet, mark_deed, late_deed, deeds_still}
 use Rattle.qc_interp.proofs.Ending.{unended_some, leaves_trans, leaves_cut, still, leaves_still, runs_still}
 use Rattle.qc_interp.proofs.Growth.{made_is, made_later, later_trans, ours_before}
+use Rattle.qc_interp.proofs.Joined.{joined_itself, joined_before, joined_runs, joined_made, joined_none, joined_unmarked}
 use Rattle.qc_interp.proofs.Managers.{children_quiet, found_quiet}
 use Rattle.qc_interp.proofs.StepsLeave.{end_later, none_open, some_later}
 use Rattle.qc_interp.proofs.Still.{asked_unended}
@@ -53,9 +55,9 @@ module _ (c : Client) (of : Name) where
     leaves = on.leaves;
     runs = on.runs;
     follows = λ unmarked. on.follows;
-    stops = λ reach x later stops rest. on.follows reach x later rest (λ ours.
+    stops = λ reach d x j later stops rest. on.follows reach d x j later rest (λ ours.
         let s = stops ours in
-        ([], s.0 ∙ sym (append-nil _), stopped_runs reach c.session (mine c x) of _ s.1 rest, asked_none c now x _ s.2));
+        ([], s.0 ∙ sym (append-nil _), stopped_runs reach d.session (mine d x) of _ s.1 rest, asked_none d now x _ s.2));
   }
 
   pub acted_by : (before now : Past) (front : Plan → Plan) (r : Option Bool) → Stepped c of before now front r → HasActed c of before now front r
@@ -84,7 +86,7 @@ module _ (c : Client) (of : Name) where
     leaves_marked = record {
       turns = λ ours turns alone. subst (λ h. InTurn h × Alone h of) (sym now_is) (act_turns marks (mine c before) of of refl refl turns alone alone);
       later = later_is;
-      inside = ap (list_all (stays_in (take 1 of))) m.made ∙ ap (λ b. b && true) (at_top of);
+      inside = ap (list_all (stays_in (scope c of))) m.made ∙ one_stays (scope c of) of marks refl refl (at_scope c of);
       over = λ was r. over_later c before now later_is of (was (sym (same_ready of) ∙ r));
       above = λ p r is far. record {
         deeds = ap (λ h. deeds h p) now_is ∙ deeds_quiet p (marks ∷ []) (mine c before) (mark_silent p of session (other_length of p (λ l. omega (arith, l, far, ap length is ∙ length-append p r))), tt);
@@ -98,6 +100,7 @@ module _ (c : Client) (of : Name) where
       legal = m.legal;
       user = subst (λ h. Started h of (λ b. IsOfSession c.session b.kind)) (sym m.grown) (started_still m.newer before of _ runs.user);
       nonroot = runs.nonroot;
+      below = runs.below;
       above = λ p r is far. (subst (λ o. IsUnended p o) (sym (same_end p)) (runs.above p r is far).0, same_ready p ∙ (runs.above p r is far).1);
       closed = λ ours.
           ap (find (λ x. is_none (end (mine c now) x))) (ap (λ h. children h of) now_is ∙ children_quiet of (marks ∷ []) (mine c before) (refl, tt))
@@ -203,22 +206,19 @@ module _ (c : Client) (of : Name) where
           let s = stops ours in
           ([], s.0 ∙ nothing ∙ sym (append-nil _), s.1, asked_none c before x _ (asked_trans c before now x NoOne (asked_made c _ before now NoOne m (tt, tt)) s.2))
 
-    pub marked_on : Acted c of before now (Plan.kill_then session)
-    marked_on = by_done (is_done (mine c before) of) refl
+    mark_follows : HasNotMarked c of now → (reach : Reach) (x : Past) → IsLater c now x → (rest : Plan) → EndsAt reach c of now x rest → EndsAt reach c of before x (Plan.kill_then session rest)
+    mark_follows unmarked reach x later rest = by_done (is_done (mine c before) of) refl
       where
-        by_done : (b : Bool) → is_done (mine c before) of ≡ b → Acted c of before now (Plan.kill_then session)
-        by_done false going = record {
-          leaves = leaves_marked;
-          runs = runs_marked;
-          follows = λ unmarked reach x later rest. going_follows going (other_session unmarked) reach x rest;
-          stops = λ reach x later. going_stops going reach x;
-        }
-        by_done true done = record {
-          leaves = leaves_marked;
-          runs = runs_marked;
-          follows = λ unmarked. done_follows done;
-          stops = λ reach x later. done_stops done reach x;
-        }
+        by_done : (b : Bool) → is_done (mine c before) of ≡ b → EndsAt reach c of now x rest → EndsAt reach c of before x (Plan.kill_then session rest)
+        by_done false going = going_follows going (other_session unmarked) reach x rest
+        by_done true done = done_follows done reach x later rest
+
+    mark_stops : (reach : Reach) (x : Past) → StopsThere reach c of now x → (rest : Plan) → EndsAt reach c of before x (Plan.kill_then session rest)
+    mark_stops reach x stops rest = by_done (is_done (mine c before) of) refl
+      where
+        by_done : (b : Bool) → is_done (mine c before) of ≡ b → EndsAt reach c of before x (Plan.kill_then session rest)
+        by_done false going = going_stops going reach x stops rest
+        by_done true done = done_stops done reach x stops rest
 
   -- LOOKS
 
@@ -249,17 +249,18 @@ module _ (c : Client) (of : Name) where
     goes_on m unmarked = record {
       leaves = leaves_trans c of before mid now acted.leaves (leaves_still c of mid now m);
       runs = runs_still c of mid now m acted.runs;
-      follows = λ reach x later rest ends.
-          acted.follows (sym (ap (λ h. is_marked h c.session (top_number of)) (still c of mid now m)) ∙ unmarked) reach x (later_trans c mid now x (made_later c [] mid now m) later) rest (λ ours.
+      follows = λ reach d x j later rest ends.
+          let same = joined_none c d now j mid m in
+          acted.follows (sym (ap (λ h. is_marked h c.session (top_number of)) (still c of mid now m)) ∙ unmarked) reach d x (joined_before c d mid now (made_later c [] mid now m) j) (later_trans d mid now x (made_later d [] mid now same) later) rest (λ ours.
           let e = ends ours in
-          (e.0, e.1 ∙ ap (λ h. deeds h of ++ e.0) (still c of mid now m), e.2, asked_trans c mid now x _ (asked_made c [] mid now _ m tt) e.3));
+          (e.0, e.1 ∙ ap (λ h. deeds h of ++ e.0) (still d of mid now same), e.2, asked_trans d mid now x _ (asked_made d [] mid now _ same tt) e.3));
     }
 
     was_killed : (again : Bool) → Quit c of (Abort cause.Killed) mid now again → (rest : Plan) → Ended c of before now (front rest) (finish.Stopped again)
     was_killed again quit rest = record {
       leaves = leaves_trans c of before mid now acted.leaves quit.leaves;
       tried = quit.tried;
-      ends = acted.stops Reach.to_the_end now quit.leaves.later (λ ours. (quit.deeds, killed_before (mine c now) _ (quit.ended ours), quit.asked)) rest;
+      ends = acted.stops Reach.to_the_end c now (joined_itself c mid) quit.leaves.later (λ ours. (quit.deeds, killed_before (mine c now) _ (quit.ended ours), quit.asked)) rest;
     }
 
     -- behind a step a transaction has looked, and goes on or was killed
@@ -274,5 +275,22 @@ module _ (c : Client) (of : Name) where
         record {
           leaves = leaves_trans c of before mid now acted.leaves (leaves_cut c of mid now (leaves_still c of mid now m));
           unended = at.0;
-          begins = acted.stops Reach.cut_off now (made_later c [] mid now m) (λ ours. (ap (λ h. deeds h of) (still c of mid now m), inl (running_unended (mine c now) of _ at.0 at.1), asked_made c [] mid now NoOne m tt)) rest;
+          begins = acted.stops Reach.cut_off c now (joined_itself c mid) (made_later c [] mid now m) (λ ours. (ap (λ h. deeds h of) (still c of mid now m), inl (running_unended (mine c now) of _ at.0 at.1), asked_made c [] mid now NoOne m tt)) rest;
         }
+
+-- A session is marked, and whatever branches the client merges later, the step is done.
+module _ (c : Client) (of : Name) (session : ℕ) (before now : Past) (runs : Runs c of before) (m : Made c (by_client c (event.Mark of session) ∷ []) before now) where
+  module _ (d : Client) (j : HasJoined c now d) where
+    runs_with : Runs d of before
+    runs_with = joined_runs c d before (joined_before c d before now (made_later c _ before now m) j) of runs
+
+    made_with : Made d (by_client d (event.Mark of session) ∷ []) before now
+    made_with = joined_made c d now j (event.Mark of session) before m
+
+  pub marked_on : Acted c of before now (Plan.kill_then session)
+  marked_on = record {
+    leaves = leaves_marked c of session before now runs m;
+    runs = runs_marked c of session before now runs m;
+    follows = λ unmarked reach d x j later rest. mark_follows d of session before now (runs_with d j) (made_with d j) (joined_unmarked c d now j of unmarked) reach x later rest;
+    stops = λ reach d x j later stops rest. mark_stops d of session before now (runs_with d j) (made_with d j) reach x stops rest;
+  }

@@ -4,7 +4,8 @@ use mathlib.Core.Bool.{true≢false}
 use Rattle.std.specs.Prelude.{Option, None, Some, MatchOption, slice_get, is_some, not, ◌==◌, ◌&&◌, ◌||◌}
 use Rattle.std.specs.List.{AllByRecursion, list_all, list_any}
 use Rattle.std.specs.Option.{option_map, option_map_or}
-use Rattle.std.proofs.lemmas.Bool.{eqb-true, and_parts, and_from, or_left, or_right}
+use Rattle.std.proofs.Math.Bool.{and-false}
+use Rattle.std.proofs.lemmas.Bool.{and_parts, and_from, or_left, or_right}
 use Rattle.qc_event.specs.declared.event.Answer.{Answer}
 use Rattle.qc_event.specs.declared.event.Cause.{Cause}
 use Rattle.qc_event.specs.declared.event.Entry.{Entry}
@@ -16,22 +17,21 @@ use Rattle.qc_event.specs.declared.event.Kind.{Kind}
 use Rattle.qc_event.specs.declared.event.Kind.TheVariants as kind
 use Rattle.qc_event.specs.Base.{Setting}
 use Rattle.qc_event.specs.Commits.{MayCommit}
-use Rattle.qc_event.specs.History.{Past, Name, Begun, start, child_in, is_child, kind_of, same}
+use Rattle.qc_event.specs.History.{Past, Name, Begun, start, child_in, is_child, kind_of}
 use Rattle.qc_event.specs.Legal.{Legal, MayHappen, MayEnd}
 use Rattle.qc_event.specs.Seats.{is_client}
 use Rattle.qc_event.specs.Starts.{Starts}
 use Rattle.qc_event.specs.Users.{MayCommitUserOrTop}
-use Rattle.qc_event.proofs.Absent.{same_itself}
-use Rattle.qc_event.proofs.LastNumber.{rest_of}
 use Rattle.qc_event.proofs.OneEntry.{all_children}
 use Rattle.qc_names.specs.Name as name
-use Rattle.qc_script.specs.Client.{Client, mine, is_own, is_commit, about, concerns, AreOurs}
+use Rattle.qc_script.specs.Client.{Client, mine, is_own, is_commit, is_upward, about, concerns, AreOurs}
 use Rattle.qc_script.specs.Plan.{SessionPlan}
 use Rattle.qc_interp.specs.Adding.{is_of_one, starts_for}
 use Rattle.qc_interp.specs.Reach.{Reach}
 use Rattle.qc_interp.specs.Session.{tops, AreAllOurs}
 use Rattle.qc_interp.specs.Sessions.{top_in, is_of}
 use Rattle.qc_interp.specs.Together.{HasRun, EachHasRun, AreOf}
+use Rattle.qc_interp.proofs.Scope.{whole_scope, upward_top}
 use Rattle.qc_interp.proofs.Places.{some_same, at_place, each_place, all_from, any_place, kept_at, any_answered}
 use Rattle.qc_interp.proofs.Starts.{legal_at, started_at, top_is, one_top, StartsTop, starts_top, starts_user, starts_of}
 
@@ -49,27 +49,11 @@ aborts_client setting past seat n why may = by_start (start past n) may
     by_start None may = absurd may
     by_start (Some b) may = may.by_client
 
-not_both : (a b : Bool) → a ≡ true → b ≡ true → not (a && b) ≡ false
-not_both true true h g = refl
-not_both true false h g = absurd (true≢false (sym g))
-not_both false b h g = absurd (true≢false (sym h))
-
-only_one : (r : Name) → length r + 1 ≡ 1 → r ≡ []
-only_one [] h = refl
-only_one (x ∷ r) h = let z : ⊥ = omega (arith, h) in absurd z
-
 -- a top's commit does not concern a top
 commits_none : (number : ℕ) (n : Name) (how : How) → (length n == 1) ≡ true → is_commit how ≡ true → concerns (number ∷ []) (event.End n how) ≡ false
-commits_none number n how short commits = by_test (name.is_ancestor (number ∷ []) n) refl
-  where
-    by_test : (b : Bool) → name.is_ancestor (number ∷ []) n ≡ b → (b && not (same n (number ∷ []) && is_commit how)) ≡ false
-    by_test false is = refl
-    by_test true is =
-        let r = rest_of (number ∷ []) n is in
-        let long : length n ≡ length r.0 + 1 = ap length r.1 ∙ (let e : length (number ∷ r.0) ≡ length r.0 + 1 = omega arith in e) in
-        let none = only_one r.0 (sym long ∙ eqb-true (length n) 1 short) in
-        let top : n ≡ number ∷ [] = r.1 ∙ ap (λ x. number ∷ x) none in
-        not_both (same n (number ∷ [])) (is_commit how) (ap (λ x. same x (number ∷ [])) top ∙ same_itself (number ∷ [])) commits
+commits_none number n how short commits =
+    let low = name.is_ancestor (number ∷ []) n || (is_upward (number ∷ []) n && is_commit how) in
+    ap (λ b. low && not (b && is_commit how)) short ∙ ap (λ b. low && not b) commits ∙ and-false low
 
 module _ (setting : Setting) (past : Past) (seat number : ℕ) where
   -- who commits is a client, but for a top, which the ledger commits
@@ -98,13 +82,19 @@ module _ (setting : Setting) (past : Past) (seat number : ℕ) where
   concern_client (event.Mark n session) may h = may.by_client
   concern_client _ may h = absurd (true≢false (sym h))
 
+low_or_top : (a b : Bool) → (b ≡ true → a ≡ true) → (a || b) ≡ true → a ≡ true
+low_or_top true b step h = refl
+low_or_top false b step h = step h
+
 -- and is about a name at or below that top
-concern_about : (t : Name) (ev : Event) → concerns t ev ≡ true → (n : Name) × (about ev ≡ Some n) × (name.is_ancestor t n ≡ true)
-concern_about t (event.Start n k) h = (n, refl, h)
-concern_about t (event.Ready n) h = (n, refl, h)
-concern_about t (event.End n how) h = (n, refl, (and_parts (name.is_ancestor t n) _ h).0)
-concern_about t (event.Mark n session) h = (n, refl, h)
-concern_about t _ h = absurd (true≢false (sym h))
+concern_about : (number : ℕ) (ev : Event) → concerns (number ∷ []) ev ≡ true → (n : Name) × (about ev ≡ Some n) × (name.is_ancestor (number ∷ []) n ≡ true)
+concern_about number (event.Start n k) h = (n, refl, h)
+concern_about number (event.Ready n) h = (n, refl, low_or_top (name.is_ancestor (number ∷ []) n) (is_upward (number ∷ []) n) (upward_top number n) h)
+concern_about number (event.End n how) h =
+    let parts = and_parts (name.is_ancestor (number ∷ []) n || (is_upward (number ∷ []) n && is_commit how)) _ h in
+    (n, refl, low_or_top (name.is_ancestor (number ∷ []) n) _ (λ up. upward_top number n (and_parts (is_upward (number ∷ []) n) (is_commit how) up).0) parts.0)
+concern_about number (event.Mark n session) h = (n, refl, h)
+concern_about number _ h = absurd (true≢false (sym h))
 
 -- WHAT ONE CLIENT RAN
 
@@ -277,7 +267,7 @@ all_its_own setting c s past legal its = by_tops (tops c past) (λ n low. low) (
     own : (number : ℕ) → ((n : Name) → name.is_ancestor (number ∷ []) n ≡ true → IsAmong (tops c past) n) → (i : ℕ) (e : Entry) → slice_get past i ≡ Some e → concerns (number ∷ []) e.event ≡ true → is_own c e.seat ≡ true
     own number low i e at h =
         let may = legal_at setting past i e legal at in
-        let whom = concern_about (number ∷ []) e.event h in
+        let whom = concern_about number e.event h in
         at_place _ past i e its.below at (and_from _ _ (concern_client setting may.0 e.seat number e.event may.1 h)
         (ap (λ o. option_map_or (λ n. list_any (λ t. name.is_ancestor t n) (tops c past)) o false) whom.1 ∙ low whom.0 whom.2))
 
@@ -285,8 +275,8 @@ all_its_own setting c s past legal its = by_tops (tops c past) (λ n low. low) (
     ours t child low =
         let top = top_is t child in
         subst (λ x. AreOurs c x past) (sym top.1)
-        (all_from (λ (e : Entry). not (concerns (top.0 ∷ []) e.event) || is_own c e.seat) past
-        (λ i e at. implies (concerns (top.0 ∷ []) e.event) (is_own c e.seat) (λ h. own top.0 (λ n is. low n (ap (λ x. name.is_ancestor x n) top.1 ∙ is)) i e at h)))
+        (subst (λ x. list_all (λ (e : Entry). not (concerns x e.event) || is_own c e.seat) past ≡ true) (sym (whole_scope c (top.0 ∷ []) refl)) (all_from (λ (e : Entry). not (concerns (top.0 ∷ []) e.event) || is_own c e.seat) past
+        (λ i e at. implies (concerns (top.0 ∷ []) e.event) (is_own c e.seat) (λ h. own top.0 (λ n is. low n (ap (λ x. name.is_ancestor x n) top.1 ∙ is)) i e at h))))
 
     by_tops : (ts : List Name) → ((n : Name) → IsAmong ts n → IsAmong (tops c past) n) → AllByRecursion (λ t. is_child [] t ≡ true) ts → AllByRecursion (λ t. AreOurs c t past) ts
     by_tops [] among all = tt

@@ -1,5 +1,5 @@
 -- Who follows a plan by what a client made follows it by what was seen, where all about its top is the client's.
-use Rattle.std.proofs.Common.{◌≡◌, inl, inr, ℕ, ◌<◌, Bool, true, false, List, [], ◌∷◌, ◌++◌, length, take, refl, sym, ap, ◌∙◌, subst, append-nil, arith}
+use Rattle.std.proofs.Common.{◌≡◌, inl, inr, ℕ, ◌<◌, Bool, true, false, List, [], ◌∷◌, ◌++◌, length, refl, sym, ap, ◌∙◌, subst, append-nil, arith}
 use mathlib.Core.Bool.{true≢false}
 use Rattle.std.specs.Prelude.{◌==◌, Option, None, Some, MatchBool, is_some, not, ◌&&◌, ◌||◌, if◌then◌else◌, option_map, option_to_list}
 use Rattle.std.specs.List.{AllByRecursion}
@@ -18,7 +18,7 @@ use Rattle.qc_event.proofs.Orderly.{KeepsOrder}
 use Rattle.qc_event.proofs.LastNumber.{child_last, child_longer, below_more}
 use Rattle.qc_event.proofs.OneEntry.{starting, ending, marking, some_or_none, not_some, all_children}
 use Rattle.qc_names.specs.Name as name
-use Rattle.qc_script.specs.Client.{Client, mine, is_own, concerns, is_commit, AreOurs, all_ours}
+use Rattle.qc_script.specs.Client.{Client, mine, is_own, scope, concerns, is_commit, AreOurs, all_ours}
 use Rattle.qc_interp.specs.Deeds.{Deed, deed_in, deeds, deed_end, OfChild}
 use Rattle.qc_interp.specs.Turns.{is_done}
 use Rattle.qc_interp.proofs.Deeds.{Silent, mark_silent, begun, children_are}
@@ -29,41 +29,44 @@ use Rattle.qc_interp.specs.Asking.{DoesOn, DoesAfter, Asks}
 use Rattle.qc_interp.specs.Tries.{is_tried_again}
 use Rattle.qc_interp.proofs.Mine.{kept_some, some_is}
 use Rattle.qc_interp.proofs.Growth.{implied, own_found}
-use Rattle.qc_interp.proofs.Adding.{at_top}
+use Rattle.qc_interp.proofs.Scope.{at_scope, scope_some, not_one, concerns_end, concerns_abort, concerns_ready}
 use Rattle.qc_interp.proofs.Ending.{committed_ready}
 use Rattle.qc_interp.proofs.Still.{IsTryOf, plan_committed}
 use Rattle.qc_interp.proofs.TriesAlike.{AreAlike, IfAny, tries_alike, tries_do_alike}
-use Rattle.std.proofs.Math.Bool.{and-false}
 use Rattle.std.proofs.lemmas.Bool.{and_parts}
 use Rattle.qc_event.specs.declared.event.Cause.{Cause}
 use Rattle.qc_event.specs.declared.event.Cause.TheVariants as cause
 use Rattle.qc_event.specs.declared.event.Kind.{Kind}
-use Rattle.qc_event.proofs.Absent.{same_is, other_length}
+use Rattle.qc_event.proofs.Absent.{same_is}
 
 below_child : (a n c : Name) → name.is_ancestor a n ≡ true → is_child n c ≡ true → name.is_ancestor a c ≡ true
 below_child a n c h child = let l = child_last n c child in ap (name.is_ancestor a) l.1 ∙ below_more a n (l.0 ∷ []) h
 
 module _ (c : Client) (of : Name) (past : Past) (ours : AreOurs c of past) where
-  same_found : {Y : Type 0} (f : Entry → Option Y) → ((e : Entry) (y : Y) → f e ≡ Some y → concerns (take 1 of) e.event ≡ true) → earliest f (mine c past) ≡ earliest f past
+  same_found : {Y : Type 0} (f : Entry → Option Y) → ((e : Entry) (y : Y) → f e ≡ Some y → concerns (scope c of) e.event ≡ true) → earliest f (mine c past) ≡ earliest f past
   same_found {Y = Y} f about = by_past (earliest f past) refl
     where
       by_past : (o : Option Y) → earliest f past ≡ o → earliest f (mine c past) ≡ o
       by_past (Some y) is = own_found c f y of past (λ e h. about e y h) ours is
       by_past None is = not_some (earliest f (mine c past)) (λ h. some_or_none (earliest f past) (kept_some (λ (e : Entry). is_own c e.seat) f past h) is)
 
-  -- a name at or below the top
-  module _ (n : Name) (low : name.is_ancestor (take 1 of) n ≡ true) where
+  -- a name in the scope
+  module _ (n : Name) (low : name.is_ancestor (scope c of) n ≡ true) where
     same_start : start (mine c past) n ≡ start past n
-    same_start = same_found _ (λ e y h. let s = starting n e.seat e.event (ap is_some h) in subst (λ ev. concerns (take 1 of) ev ≡ true) (sym s.1) low)
+    same_start = same_found _ (λ e y h. let s = starting n e.seat e.event (ap is_some h) in subst (λ ev. concerns (scope c of) ev ≡ true) (sym s.1) low)
 
     pub same_kind : kind_of (mine c past) n ≡ kind_of past n
     same_kind = ap (option_map (λ (b : Begun). b.kind)) same_start
 
     pub same_ready : is_ready (mine c past) n ≡ is_ready past n
-    same_ready = ap is_some (same_found _ (λ e y h. subst (λ ev. concerns (take 1 of) ev ≡ true) (sym (marking n e.event (ap is_some h))) low))
+    same_ready = ap is_some (same_found _ (λ e y h. subst (λ ev. concerns (scope c of) ev ≡ true) (sym (marking n e.event (ap is_some h))) (concerns_ready (scope c of) n (inl low))))
 
-    pub same_end : same n (take 1 of) ≡ false → end (mine c past) n ≡ end past n
-    same_end apart = same_found _ (λ e how h. subst (λ ev. concerns (take 1 of) ev ≡ true) (sym (ending n e.event how h)) (ap (λ b. name.is_ancestor (take 1 of) n && not (b && is_commit how)) apart ∙ ap (λ b. b && true) low))
+    pub same_end : (length n == 1) ≡ false → end (mine c past) n ≡ end past n
+    same_end apart = same_found _ (λ e how h. subst (λ ev. concerns (scope c of) ev ≡ true) (sym (ending n e.event how h)) (concerns_end (scope c of) n how low (ap (λ b. b && is_commit how) apart)))
+
+    -- an abort of it is the client's
+    pub low_abort : (x : Cause) → end past n ≡ Some (Abort x) → end (mine c past) n ≡ Some (Abort x)
+    low_abort x is = own_found c (λ e. end_in n e.event) (Abort x) of past (λ e g. subst (λ ev. concerns (scope c of) ev ≡ true) (sym (ending n e.event (Abort x) g)) (concerns_abort (scope c of) n x low)) ours is
 
 -- an end is entered once, so one that the client made is the end
 pub own_once : (c : Client) (past : Past) (n : Name) (how : How) → Legal c.setting past → end (mine c past) n ≡ Some how → end past n ≡ Some how
@@ -81,20 +84,19 @@ own_once c (e ∷ past) n how legal is = by_test (is_own c e.seat) (own_once c p
     by_test false before h = ap (λ o. option_or o (end_in n e.event)) (before h)
     by_test true before h = by_old (end (mine c past) n) refl before h
 
--- an abort of a name about whose top all is the client's is the client's
+-- an abort of a name about whose scope all is the client's is the client's
 pub own_abort : (c : Client) (n : Name) (past : Past) (x : Cause) → AreOurs c n past → end past n ≡ Some (Abort x) → end (mine c past) n ≡ Some (Abort x)
-own_abort c n past x ours is =
-    own_found c (λ e. end_in n e.event) (Abort x) n past (λ e g. subst (λ ev. concerns (take 1 n) ev ≡ true) (sym (ending n e.event (Abort x) g)) (ap (λ b. name.is_ancestor (take 1 n) n && not b) (and-false (same n (take 1 n))) ∙ ap (λ b. b && true) (at_top n))) ours is
+own_abort c n past x ours is = low_abort c n past ours n (at_scope c n) x is
 
--- WHAT IS DONE AT AND BELOW THE TOP
+-- WHAT IS DONE IN THE SCOPE
 
 -- A top is done by what the client made where it is by what was seen: only its commit is not the client's, and it is ready
 -- then.
-done_top : (c : Client) (x : ℕ) (past : Past) → AreOurs c (x ∷ []) past → Legal c.setting past → is_done (mine c past) (x ∷ []) ≡ is_done past (x ∷ [])
-done_top c x past ours legal = by_end (end past (x ∷ [])) refl
+done_top : (c : Client) (of : Name) (x : ℕ) (past : Past) → AreOurs c of past → Legal c.setting past → name.is_ancestor (scope c of) (x ∷ []) ≡ true → is_done (mine c past) (x ∷ []) ≡ is_done past (x ∷ [])
+done_top c of x past ours legal low = by_end (end past (x ∷ [])) refl
   where
     ready : is_ready (mine c past) (x ∷ []) ≡ is_ready past (x ∷ [])
-    ready = same_ready c (x ∷ []) past ours (x ∷ []) (at_top (x ∷ []))
+    ready = same_ready c of past ours (x ∷ []) low
 
     both_ready : (a b p q : Bool) → p ≡ true → q ≡ true → (a || p) ≡ (b || q)
     both_ready a b p q first second = ap (λ z. a || z) first ∙ or_true a ∙ sym (ap (λ z. b || z) second ∙ or_true b)
@@ -108,40 +110,34 @@ done_top c x past ours legal = by_end (end past (x ∷ [])) refl
 
     by_end : (o : Option How) → end past (x ∷ []) ≡ o → is_done (mine c past) (x ∷ []) ≡ is_done past (x ∷ [])
     by_end None is = by_same (not_some (end (mine c past) (x ∷ [])) (λ h. some_or_none (end past (x ∷ [])) (kept_some (λ (e : Entry). is_own c e.seat) _ past h) is) ∙ sym is)
-    by_end (Some (Abort y)) is = by_same (own_abort c (x ∷ []) past y ours is ∙ sym is)
+    by_end (Some (Abort y)) is = by_same (low_abort c of past ours (x ∷ []) low y is ∙ sym is)
     by_end (Some (Commit given)) is =
         let was = committed_ready c.setting past x given legal is in
         both_ready (is_some (end (mine c past) (x ∷ []))) (is_some (end past (x ∷ []))) (is_ready (mine c past) (x ∷ [])) (is_ready past (x ∷ [])) (ready ∙ was) was
 
-done_alike : (c : Client) (of : Name) (past : Past) → AreOurs c of past → Legal c.setting past → 0 < length of → (n : Name) → name.is_ancestor (take 1 of) n ≡ true → is_done (mine c past) n ≡ is_done past n
-done_alike c of past ours legal far n low = by_top (same n (take 1 of)) refl
-  where
-    by_name : (m : Name) → 0 < length m → AreOurs c m past → n ≡ take 1 m → is_done (mine c past) n ≡ is_done past n
-    by_name [] long at is = let z : ⊥ = omega (arith, long) in absurd z
-    by_name (x ∷ r) long at is = subst (λ y. is_done (mine c past) y ≡ is_done past y) (sym is) (done_top c x past at legal)
+done_alike : (c : Client) (of : Name) (past : Past) → AreOurs c of past → Legal c.setting past → 0 < length of → (n : Name) → name.is_ancestor (scope c of) n ≡ true → is_done (mine c past) n ≡ is_done past n
+done_alike c of past ours legal far [] low = absurd (scope_some c of far low)
+done_alike c of past ours legal far (x ∷ []) low = done_top c of x past ours legal low
+done_alike c of past ours legal far (x ∷ y ∷ n) low =
+    ap (λ o. is_some o || is_ready (mine c past) (x ∷ y ∷ n)) (same_end c of past ours (x ∷ y ∷ n) low (not_one (x ∷ y ∷ n) (omega arith)))
+    ∙ ap (λ b. is_some (end past (x ∷ y ∷ n)) || b) (same_ready c of past ours (x ∷ y ∷ n) low)
 
-    by_top : (b : Bool) → same n (take 1 of) ≡ b → is_done (mine c past) n ≡ is_done past n
-    by_top false apart =
-        ap (λ o. is_some o || is_ready (mine c past) n) (same_end c of past ours n low apart)
-        ∙ ap (λ b. is_some (end past n) || b) (same_ready c of past ours n low)
-    by_top true top = by_name of far ours (same_is n (take 1 of) top)
-
-same_deeds : (c : Client) (of : Name) (past : Past) → AreOurs c of past → Legal c.setting past → 0 < length of → (n : Name) → name.is_ancestor (take 1 of) n ≡ true → deeds (mine c past) n ≡ deeds past n
+same_deeds : (c : Client) (of : Name) (past : Past) → AreOurs c of past → Legal c.setting past → 0 < length of → (n : Name) → name.is_ancestor (scope c of) n ≡ true → deeds (mine c past) n ≡ deeds past n
 same_deeds c of [] ours legal far n low = refl
 same_deeds c of (e ∷ past) ours legal far n low =
-    let both = and_parts (not (concerns (take 1 of) e.event) || is_own c e.seat) (all_ours c of past) ours in
+    let both = and_parts (not (concerns (scope c of) e.event) || is_own c e.seat) (all_ours c of past) ours in
     by_test (is_own c e.seat) refl both.0 (same_deeds c of past both.1 legal.0 far n low) (done_alike c of past both.1 legal.0 far n low)
   where
-    by_child : (m : Name) (k : Kind) (own b : Bool) → (not (concerns (take 1 of) (event.Start m k)) || own) ≡ true → own ≡ false → is_child n m ≡ b → (if b then Some (Deed.child m) else None) ≡ None
+    by_child : (m : Name) (k : Kind) (own b : Bool) → (not (concerns (scope c of) (event.Start m k)) || own) ≡ true → own ≡ false → is_child n m ≡ b → (if b then Some (Deed.child m) else None) ≡ None
     by_child m k own false h other is = refl
-    by_child m k own true h other is = absurd (true≢false (sym (implied (concerns (take 1 of) (event.Start m k)) own h (below_child (take 1 of) n m low is)) ∙ other))
+    by_child m k own true h other is = absurd (true≢false (sym (implied (concerns (scope c of) (event.Start m k)) own h (below_child (scope c of) n m low is)) ∙ other))
 
-    by_mark : (by : Name) (session : ℕ) (own b : Bool) → (not (concerns (take 1 of) (event.Mark by session)) || own) ≡ true → own ≡ false → same by n ≡ b → Silent n (event.Mark by session)
+    by_mark : (by : Name) (session : ℕ) (own b : Bool) → (not (concerns (scope c of) (event.Mark by session)) || own) ≡ true → own ≡ false → same by n ≡ b → Silent n (event.Mark by session)
     by_mark by session own false h other is = mark_silent n by session is
     by_mark by session own true h other is =
-        absurd (true≢false (sym (implied (concerns (take 1 of) (event.Mark by session)) own h (ap (name.is_ancestor (take 1 of)) (same_is by n is) ∙ low)) ∙ other))
+        absurd (true≢false (sym (implied (concerns (scope c of) (event.Mark by session)) own h (ap (name.is_ancestor (scope c of)) (same_is by n is) ∙ low)) ∙ other))
 
-    other_silent : (ev : Event) (own : Bool) → (not (concerns (take 1 of) ev) || own) ≡ true → own ≡ false → deed_in past n ev ≡ None
+    other_silent : (ev : Event) (own : Bool) → (not (concerns (scope c of) ev) || own) ≡ true → own ≡ false → deed_in past n ev ≡ None
     other_silent (event.Start m k) own h other = by_child m k own (is_child n m) h other refl
     other_silent (event.Mark by session) own h other = by_mark by session own (same by n) h other refl past
     other_silent (event.Ask ask) own h other = refl
@@ -163,7 +159,7 @@ same_deeds c of (e ∷ past) ours legal far n low =
     own_alike done (event.Ready m) = refl
     own_alike done (event.End m how) = refl
 
-    by_test : (b : Bool) → is_own c e.seat ≡ b → (not (concerns (take 1 of) e.event) || is_own c e.seat) ≡ true → deeds (mine c past) n ≡ deeds past n → is_done (mine c past) n ≡ is_done past n
+    by_test : (b : Bool) → is_own c e.seat ≡ b → (not (concerns (scope c of) e.event) || is_own c e.seat) ≡ true → deeds (mine c past) n ≡ deeds past n → is_done (mine c past) n ≡ is_done past n
         → deeds (if b then e ∷ mine c past else mine c past) n ≡ deeds past n ++ option_to_list (deed_in past n e.event)
     by_test true is passes before done = ap (λ l. l ++ option_to_list (deed_in (mine c past) n e.event)) before ∙ ap (λ o. deeds past n ++ option_to_list o) (own_alike done e.event)
     by_test false is passes before done = before ∙ sym (ap (λ o. deeds past n ++ option_to_list o) (other_silent e.event (is_own c e.seat) passes is) ∙ append-nil _)
@@ -174,53 +170,45 @@ module _ (c : Client) (of : Name) (past : Past) (ours : AreOurs c of past) (lega
   abbrev made : Past
   made = mine c past
 
-  -- below the top, and not the top
+  -- in the scope, and not a top
   abbrev Low : Name → Type 0
-  Low n = (name.is_ancestor (take 1 of) n ≡ true) × (same n (take 1 of) ≡ false)
+  Low n = (name.is_ancestor (scope c of) n ≡ true) × ((length n == 1) ≡ false)
 
   abbrev LowDeed : Deed → Type 0
   LowDeed (Deed.child x) = Low x
   LowDeed (Deed.mark session) = Unit {0}
 
-  low_deeds : (n : Name) → name.is_ancestor (take 1 of) n ≡ true → 0 < length n → (ds : List Deed) → AllByRecursion (λ x. is_child n x ≡ true) (begun ds) → AllByRecursion LowDeed ds
+  low_deeds : (n : Name) → name.is_ancestor (scope c of) n ≡ true → 0 < length n → (ds : List Deed) → AllByRecursion (λ x. is_child n x ≡ true) (begun ds) → AllByRecursion LowDeed ds
   low_deeds n low long [] all = tt
   low_deeds n low long (Deed.mark session ∷ ds) all = (tt, low_deeds n low long ds all)
-  low_deeds n low long (Deed.child x ∷ ds) all = ((below_child (take 1 of) n x low all.0, other_length x (take 1 of) (λ l. omega (arith, l, child_longer n x all.0, long, short of))), low_deeds n low long ds all.1)
-    where
-      short : (n : Name) → length (take 1 n) < 2
-      short [] = omega arith
-      short (x ∷ n) = omega arith
+  low_deeds n low long (Deed.child x ∷ ds) all = ((below_child (scope c of) n x low all.0, not_one x (omega (arith, child_longer n x all.0, long))), low_deeds n low long ds all.1)
 
-  all_low : (h : Past) (n : Name) → name.is_ancestor (take 1 of) n ≡ true → 0 < length n → AllByRecursion LowDeed (deeds h n)
+  all_low : (h : Past) (n : Name) → name.is_ancestor (scope c of) n ≡ true → 0 < length n → AllByRecursion LowDeed (deeds h n)
   all_low h n low long = low_deeds n low long (deeds h n) (subst (AllByRecursion (λ x. is_child n x ≡ true)) (children_are h n) (all_children h n))
 
   longer : (n : Name) → Low n → 0 < length n
-  longer [] low = absurd (by_top of low.1 low.0)
-    where
-      by_top : (n : Name) → same [] (take 1 n) ≡ false → name.is_ancestor (take 1 n) [] ≡ true → ⊥
-      by_top [] apart is = true≢false apart
-      by_top (x ∷ n) apart is = true≢false (sym is)
+  longer [] low = absurd (scope_some c of far low.0)
   longer (x ∷ n) low = omega arith
 
   again_low : (d : Deed) → LowDeed d → AreAlike (deed_end made) (deed_end past) d
   again_low (Deed.child n) low = ap is_tried_again (same_end c of past ours n low.0 low.1)
   again_low (Deed.mark session) low = refl
 
-  stops_seen : (reach : Reach) (n : Name) (how : Option How) → name.is_ancestor (take 1 of) n ≡ true → Stops reach made n how → Stops reach past n how
+  stops_seen : (reach : Reach) (n : Name) (how : Option How) → name.is_ancestor (scope c of) n ≡ true → Stops reach made n how → Stops reach past n how
   stops_seen Reach.to_the_end n how low h = h
   stops_seen Reach.cut_off n how low (inl h) = inl h
   stops_seen Reach.cut_off n how low (inr h) = inr (h.0, sym (same_ready c of past ours n low) ∙ h.1)
 
-  unended_seen : (reach : Reach) (n : Name) (how : Option How) → name.is_ancestor (take 1 of) n ≡ true → HasNotEnded reach made n how → HasNotEnded reach past n how
+  unended_seen : (reach : Reach) (n : Name) (how : Option How) → name.is_ancestor (scope c of) n ≡ true → HasNotEnded reach made n how → HasNotEnded reach past n how
   unended_seen Reach.to_the_end n how low h = h
   unended_seen Reach.cut_off n how low (inl h) = inl h
   unended_seen Reach.cut_off n how low (inr h) = inr (h.0, sym (same_ready c of past ours n low) ∙ h.1)
 
-  before_seen : (reach : Reach) (n : Name) (how : Option How) → name.is_ancestor (take 1 of) n ≡ true → StopsBefore reach made n how → StopsBefore reach past n how
+  before_seen : (reach : Reach) (n : Name) (how : Option How) → name.is_ancestor (scope c of) n ≡ true → StopsBefore reach made n how → StopsBefore reach past n how
   before_seen reach n how low (inl h) = inl (unended_seen reach n how low h)
   before_seen reach n how low (inr h) = inr h
 
-  goes_seen : (reach : Reach) (n : Name) (o : Option How) (Rest RestToo : Answer → Type 0) (further : List Deed) (how : Option How) → name.is_ancestor (take 1 of) n ≡ true → ((given : Answer) → Rest given → RestToo given) → GoesOn reach made n o Rest further how → GoesOn reach past n o RestToo further how
+  goes_seen : (reach : Reach) (n : Name) (o : Option How) (Rest RestToo : Answer → Type 0) (further : List Deed) (how : Option How) → name.is_ancestor (scope c of) n ≡ true → ((given : Answer) → Rest given → RestToo given) → GoesOn reach made n o Rest further how → GoesOn reach past n o RestToo further how
   goes_seen Reach.to_the_end n None Rest RestToo further how low step h = h
   goes_seen Reach.cut_off n None Rest RestToo further how low step h = (h.0, unended_seen Reach.cut_off n how low h.1)
   goes_seen reach n (Some (Commit given)) Rest RestToo further how low step h = step given h
@@ -232,7 +220,7 @@ module _ (c : Client) (of : Name) (past : Past) (ours : AreOurs c of past) (lega
     ],
   )
 
-  after_seen : (reach : Reach) (n child : Name) (o : Option How) (Rest RestToo : Type 0) (further : List Deed) (how : Option How) → name.is_ancestor (take 1 of) n ≡ true → (Rest → RestToo) → GoesOnAfter reach made n child o Rest further how → GoesOnAfter reach past n child o RestToo further how
+  after_seen : (reach : Reach) (n child : Name) (o : Option How) (Rest RestToo : Type 0) (further : List Deed) (how : Option How) → name.is_ancestor (scope c of) n ≡ true → (Rest → RestToo) → GoesOnAfter reach made n child o Rest further how → GoesOnAfter reach past n child o RestToo further how
   after_seen Reach.to_the_end n child None Rest RestToo further how low step h = h
   after_seen Reach.cut_off n child None Rest RestToo further how low step h = (h.0, unended_seen Reach.cut_off n how low h.1)
   after_seen reach n child (Some (Commit given)) Rest RestToo further how low step h = step h
@@ -244,7 +232,7 @@ module _ (c : Client) (of : Name) (past : Past) (ours : AreOurs c of past) (lega
     ],
   )
 
-  behind_seen : (reach : Reach) (n : Name) (last : Option Deed) (must : Bool) (Rest RestToo : Type 0) (further : List Deed) (how : Option How) → name.is_ancestor (take 1 of) n ≡ true → IfAny LowDeed last → (Rest → RestToo) → AfterTries reach made n last must Rest further how → AfterTries reach past n last must RestToo further how
+  behind_seen : (reach : Reach) (n : Name) (last : Option Deed) (must : Bool) (Rest RestToo : Type 0) (further : List Deed) (how : Option How) → name.is_ancestor (scope c of) n ≡ true → IfAny LowDeed last → (Rest → RestToo) → AfterTries reach made n last must Rest further how → AfterTries reach past n last must RestToo further how
   behind_seen reach n None must Rest RestToo further how low was step h = step h
   behind_seen reach n (Some d) false Rest RestToo further how low was step h = step h
   behind_seen reach n (Some (Deed.mark m)) true Rest RestToo further how low was step h = absurd h
@@ -260,7 +248,7 @@ module _ (c : Client) (of : Name) (past : Past) (ours : AreOurs c of past) (lega
         (subst (λ xs. RunsPlan reach s past x inner xs (end made x)) (same_deeds c of past ours legal far x lx.0) (step x lx t.1)),
   )
 
-  plan_seen : (reach : Reach) (s : ℕ) (n : Name) (plan : Plan) (cs : List Deed) (how : Option How) → name.is_ancestor (take 1 of) n ≡ true → AllByRecursion LowDeed cs → RunsPlan reach s made n plan cs how → RunsPlan reach s past n plan cs how
+  plan_seen : (reach : Reach) (s : ℕ) (n : Name) (plan : Plan) (cs : List Deed) (how : Option How) → name.is_ancestor (scope c of) n ≡ true → AllByRecursion LowDeed cs → RunsPlan reach s made n plan cs how → RunsPlan reach s past n plan cs how
   plan_seen reach s n Plan.done [] how low all (inl is) = inl (by_how how is)
     where
       by_how : (o : Option How) → Commits made n o → Commits past n o
@@ -306,13 +294,11 @@ module _ (c : Client) (of : Name) (past : Past) (ours : AreOurs c of past) (lega
       by_end (Some (Abort y)) g = g
 
   -- who was killed by what was seen was killed by what the client made
-  unkilled_seen : (n : Name) → name.is_ancestor (take 1 of) n ≡ true → (WasKilled (end made n) → ⊥) → WasKilled (end past n) → ⊥
+  unkilled_seen : (n : Name) → name.is_ancestor (scope c of) n ≡ true → (WasKilled (end made n) → ⊥) → WasKilled (end past n) → ⊥
   unkilled_seen n low alive killed = alive (subst WasKilled (sym (by_end (end past n) refl killed)) tt)
     where
       own : end past n ≡ Some (Abort cause.Killed) → end made n ≡ Some (Abort cause.Killed)
-      own is =
-          own_found c (λ e. end_in n e.event) (Abort cause.Killed) of past (λ e g. subst (λ ev. concerns (take 1 of) ev ≡ true) (sym (ending n e.event (Abort cause.Killed) g))
-          (ap (λ b. name.is_ancestor (take 1 of) n && not b) (and-false (same n (take 1 of))) ∙ ap (λ b. b && true) low)) ours is
+      own is = low_abort c of past ours n low cause.Killed is
 
       by_end : (o : Option How) → end past n ≡ o → WasKilled o → end made n ≡ Some (Abort cause.Killed)
       by_end None is h = absurd h
@@ -335,7 +321,7 @@ module _ (c : Client) (of : Name) (past : Past) (ours : AreOurs c of past) (lega
   try_asks_seen by target inner step (Deed.mark m) low t = t
   try_asks_seen by target inner step (Deed.child x) lx t = subst (λ xs. Asks past x inner xs by target) (same_deeds c of past ours legal far x lx.0) (step x lx t)
 
-  plan_asks_seen : (by target n : Name) → name.is_ancestor (take 1 of) n ≡ true → (plan : Plan) (cs : List Deed) → AllByRecursion LowDeed cs → Asks made n plan cs by target → Asks past n plan cs by target
+  plan_asks_seen : (by target n : Name) → name.is_ancestor (scope c of) n ≡ true → (plan : Plan) (cs : List Deed) → AllByRecursion LowDeed cs → Asks made n plan cs by target → Asks past n plan cs by target
   plan_asks_seen by target n low Plan.done cs all h = absurd h
   plan_asks_seen by target n low (Plan.manage_by k next) [] all h = absurd h
   plan_asks_seen by target n low (Plan.manage_by k next) (Deed.mark m ∷ cs) all h = absurd h
@@ -359,7 +345,7 @@ module _ (c : Client) (of : Name) (past : Past) (ours : AreOurs c of past) (lega
   plan_asks_seen by target n low (Plan.kill_then session rest) (d ∷ cs) all h = plan_asks_seen by target n low rest cs all.1 h
 
   -- what a step asked for by what the client made, it asked for by what was seen
-  pub asks_seen : (by target : Name) (plan : Plan) → name.is_ancestor (take 1 of) of ≡ true → Asks made of plan (deeds made of) by target → Asks past of plan (deeds past of) by target
+  pub asks_seen : (by target : Name) (plan : Plan) → name.is_ancestor (scope c of) of ≡ true → Asks made of plan (deeds made of) by target → Asks past of plan (deeds past of) by target
   asks_seen by target plan low h =
       subst (λ xs. Asks past of plan xs by target) (same_deeds c of past ours legal far of low) (plan_asks_seen by target of low plan (deeds made of) (all_low made of low far) h)
 
@@ -367,7 +353,7 @@ module _ (c : Client) (of : Name) (past : Past) (ours : AreOurs c of past) (lega
 pub runs_seen : (reach : Reach) (c : Client) (s : ℕ) (of : Name) (past : Past) (plan : Plan) → Legal c.setting past → 0 < length of → AreOurs c of past → ((given : Answer) → end past of ≡ Some (Commit given) → is_ready past of ≡ true)
     → RunsPlan reach s (mine c past) of plan (deeds (mine c past) of) (end (mine c past) of) → RunsPlan reach s past of plan (deeds past of) (end past of)
 runs_seen reach c s of past plan legal far ours ready h =
-    let low : name.is_ancestor (take 1 of) of ≡ true = at_top of in
+    let low : name.is_ancestor (scope c of) of ≡ true = at_scope c of in
     let f = plan_seen c of past ours legal far reach s of plan (deeds (mine c past) of) (end (mine c past) of) low (all_low c of past ours legal far (mine c past) of low far) h in
     subst (λ cs. RunsPlan reach s past of plan cs (end past of)) (same_deeds c of past ours legal far of low) (by_end (end past of) refl f)
   where

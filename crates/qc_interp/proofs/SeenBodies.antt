@@ -18,7 +18,7 @@ use Rattle.qc_interp.specs.Reach.{Reach}
 use Rattle.qc_interp.specs.Session.{NotBegun, RunsBodies}
 use Rattle.qc_interp.specs.Tries.{is_tried_again}
 use Rattle.qc_interp.proofs.Mine.{kept_some}
-use Rattle.qc_interp.proofs.Adding.{at_top}
+use Rattle.qc_interp.proofs.Scope.{at_scope}
 use Rattle.qc_interp.proofs.Ending.{committed_ready}
 use Rattle.qc_interp.proofs.Seen.{same_kind, runs_seen, asks_seen, own_abort, own_once}
 use Rattle.qc_interp.proofs.Starts.{top_is}
@@ -50,7 +50,7 @@ module _ (c : Client) (past : Past) (legal : Legal c.setting past) where
   module _ (reach : Reach) (s : ℕ) where
     body_seen : (b : Numbered) (t : Name) → IsOurTop c past t → RunsBody reach s (mine c past) b t → RunsBody reach s past b t
     body_seen b t ours runs = record {
-      kind = sym (same_kind c t past ours.1 t (at_top t)) ∙ runs.kind;
+      kind = sym (same_kind c t past ours.1 t (at_scope c t)) ∙ runs.kind;
       steps = runs_seen reach c s t past b.plan legal (long t ours.0) ours.1 ready runs.steps;
     }
       where
@@ -71,4 +71,4 @@ module _ (c : Client) (past : Past) (legal : Legal c.setting past) where
   bodies_ask_seen by target (b ∷ bodies) ts ours h =
       tries_do_alike (end (mine c past)) (end past) (λ t. Asks (mine c past) t b.plan (deeds (mine c past) t) by target) (λ t. Asks past t b.plan (deeds past t) by target)
       (λ last further. BodiesAsk (mine c past) bodies further by target) (λ last further. BodiesAsk past bodies further by target) (IsOurTop c past)
-      again_alike (λ t o a. asks_seen c t past o.1 legal (long t o.0) by target b.plan (at_top t) a) (λ last further was o a. bodies_ask_seen by target bodies further o a) None b.tries ts tt ours h
+      again_alike (λ t o a. asks_seen c t past o.1 legal (long t o.0) by target b.plan (at_scope c t) a) (λ last further was o a. bodies_ask_seen by target bodies further o a) None b.tries ts tt ours h

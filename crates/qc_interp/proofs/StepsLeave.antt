@@ -1,5 +1,5 @@
 -- What each step of a transaction leaves.
-use Rattle.std.proofs.Common.{◌≡◌, ◌⊎◌, inl, inr, ℕ, Bool, true, false, List, [], ◌∷◌, ◌++◌, take, refl, sym, ap, ◌∙◌, subst, append-nil, append_assoc}
+use Rattle.std.proofs.Common.{◌≡◌, ◌⊎◌, inl, inr, ℕ, Bool, true, false, List, [], ◌∷◌, ◌++◌, refl, sym, ap, ◌∙◌, subst, append-nil, append_assoc}
 use Rattle.std.specs.Prelude.{Option, None, Some, MatchOption, is_some, is_none, find, if◌then◌else◌}
 use Rattle.qc_event.specs.declared.event.Answer.{Answer}
 use Rattle.qc_event.specs.declared.event.Cause.{Cause}
@@ -12,21 +12,21 @@ use Rattle.qc_event.specs.declared.event.Kind.TheVariants as kind
 use Rattle.qc_event.specs.Base.{Setting}
 use Rattle.qc_event.specs.History.{Past, Name, Begun, start, end, is_ready, children, kind_of}
 use Rattle.qc_event.specs.Standing.{Started, IsManager, IsAbort, open_child}
-use Rattle.qc_event.proofs.LastNumber.{child_last, below_more}
+use Rattle.qc_event.proofs.LastNumber.{child_last}
 use Rattle.qc_event.proofs.Lawful.{no_open_child}
 use Rattle.qc_event.proofs.OneEntry.{some_or_none, starting, some_not_none, some_if_not_none}
 use Rattle.qc_event.proofs.Later.{started_still}
 use Rattle.qc_event.proofs.Options.{some_match}
 use Rattle.qc_names.specs.Name as name
 use Rattle.qc_script.specs.Calls.{HasRun, Refuses, GaveNone, WasCut, IsOfSession}
-use Rattle.qc_script.specs.Client.{Client, mine, is_own, concerns, Made, IsLater, AreOurs}
+use Rattle.qc_script.specs.Client.{Client, mine, is_own, scope, concerns, Made, IsLater, AreOurs}
 use Rattle.qc_interp.specs.Deeds.{Deed, deeds}
 use Rattle.qc_interp.proofs.Deeds.{one_child_more}
 use Rattle.qc_interp.specs.Follows.{StopsEarly, WasAsked, IsUnended, RunsPlan, FollowsPlan, GoesOn, is_handed_on}
 use Rattle.qc_interp.specs.Reach.{Reach}
 use Rattle.qc_script.specs.Plan.{Plan, manage_then}
 use Rattle.qc_script.specs.Plan.{KindFits}
-use Rattle.qc_interp.specs.Running.{Runs, Leaves, WhyStop, StopsBy, Stopped, Ended, CutOff, WentOn, WentBy}
+use Rattle.qc_interp.specs.Running.{Runs, Leaves, WhyStop, StopsBy, Stopped, EndsAt, Ended, CutOff, WentOn, WentBy}
 use Rattle.qc_interp.specs.declared.stops.Finish.TheVariants as finish
 use Rattle.qc_script.specs.declared.tx.TxNo.{TxNo}
 use Rattle.qc_script.specs.declared.tx.TxNo.TheVariants as tx_no
@@ -34,7 +34,9 @@ use Rattle.qc_interp.proofs.Mine.{end_some, kind_still, kept_some, some_is}
 use Rattle.qc_interp.proofs.Growth.{made_both, ours_before, own_found}
 use Rattle.qc_interp.proofs.Managers.{Managed, managed, Interrupted, interrupted}
 use Rattle.qc_interp.proofs.Stopping.{asked_early, unended_stopped, running_stops, running_unended}
-use Rattle.qc_interp.proofs.Ending.{top_above, not_ready, ended_early, leaves_itself, leaves_trans, leaves_cut, cut_still, still, leaves_still, runs_still}
+use Rattle.qc_interp.proofs.Scope.{child_scope}
+use Rattle.qc_interp.proofs.Joined.{joined_before, joined_runs, joined_has_run}
+use Rattle.qc_interp.proofs.Ending.{not_ready, ended_early, leaves_itself, leaves_trans, leaves_cut, cut_still, still, leaves_still, runs_still}
 use Rattle.qc_interp.specs.Asking.{DoesOn, Asks, AllAsked}
 use Rattle.qc_interp.proofs.Asked.{NoOne, asked_made, asked_none, asked_wider, asked_trans}
 use Rattle.qc_interp.proofs.Adding.{over_later}
@@ -103,6 +105,7 @@ module _ (c : Client) (of : Name) where
       legal = ran.later.legal;
       user = subst (λ h. Started h of (λ b. IsOfSession c.session b.kind)) (sym ran.later.grown) (started_still ran.later.newer before of _ runs.user);
       nonroot = runs.nonroot;
+      below = runs.below;
       above = λ p r is far. (subst (λ o. IsUnended p o) (sym (ran.same_end p r is)) (runs.above p r is far).0, ran.same_ready p r is ∙ (runs.above p r is far).1);
       closed = λ ours. closed_more before now m ran.later ran.deeds (runs.closed (ours_before c of before now ran.later ours)) (ap is_some ran.end);
     }
@@ -121,30 +124,20 @@ module _ (c : Client) (of : Name) where
     ended = ran.ended;
   }
 
-  -- a manager that committed, whatever follows by its answer
-  pub manage_by_on : (k : Kind) (before now : Past) → Runs c of before → (has : HasRun c of k before now) → WentBy c of before now k has.given
-  manage_by_on k before now runs has =
+  -- a manager that committed, and what follows by its answer
+  manage_follows : (k : Kind) (before now : Past) → Runs c of before → (has : HasRun c of k before now) → (reach : Reach) (x : Past) → IsLater c now x → (next : Answer → Plan) → EndsAt reach c of now x (next has.given) → EndsAt reach c of before x (Plan.manage_by k next)
+  manage_follows k before now runs has reach x later next ends ours =
       let ran = managed c of k (Commit has.given) before now runs.nonroot has.ran in
-      record {
-        leaves = leaves_managed k _ _ before now ran;
-        runs = runs_managed k _ _ before now ran runs;
-        follows = λ reach x later next ends ours.
-            let rest = next has.given in
-            let h = more_follows k _ _ before now ran x (λ further. RunsPlan reach c.session (mine c x) of rest further (end (mine c x) of)) (λ further. AllAsked c now x (λ by t. Asks (mine c x) of rest further by t)) later (ends ours) in (
-              Deed.child has.ran.manager ∷ h.0,
-              h.1,
-              (
-                kind_later now x later _ k ran.kind,
-                subst (λ o. GoesOn reach (mine c x) of o (λ given. RunsPlan reach c.session (mine c x) of (next given) h.0 (end (mine c x) of)) h.0 (end (mine c x) of)) (sym (end_later now x later _ _ ran.end)) h.2,
-              ),
-              asked_trans c before now x _ (asked_none c before now _ ran.asked) (asked_wider _ _ (λ by t a. subst (λ o. DoesOn o (λ given. Asks (mine c x) of (next given) h.0 by t)) (sym (end_later now x later _ _ ran.end)) a) c now x h.3),
-            );
-      }
-
-  pub manage_on : (k : Kind) (before now : Past) → Runs c of before → HasRun c of k before now → WentOn c of before now (manage_then k)
-  manage_on k before now runs has =
-      let by = manage_by_on k before now runs has in
-      record { leaves = by.leaves; runs = by.runs; follows = λ reach x later rest ends. by.follows reach x later (λ given. rest) ends }
+      let rest = next has.given in
+      let h = more_follows k _ _ before now ran x (λ further. RunsPlan reach c.session (mine c x) of rest further (end (mine c x) of)) (λ further. AllAsked c now x (λ by t. Asks (mine c x) of rest further by t)) later (ends ours) in (
+        Deed.child has.ran.manager ∷ h.0,
+        h.1,
+        (
+          kind_later now x later _ k ran.kind,
+          subst (λ o. GoesOn reach (mine c x) of o (λ given. RunsPlan reach c.session (mine c x) of (next given) h.0 (end (mine c x) of)) h.0 (end (mine c x) of)) (sym (end_later now x later _ _ ran.end)) h.2,
+        ),
+        asked_trans c before now x _ (asked_none c before now _ ran.asked) (asked_wider _ _ (λ by t a. subst (λ o. DoesOn o (λ given. Asks (mine c x) of (next given) h.0 by t)) (sym (end_later now x later _ _ ran.end)) a) c now x h.3),
+      )
 
   -- why a transaction stops whose manager gave no answer
   pub manage_stops : (k : Kind) (before mid : Past) (why : TxNo) → KindFits c.setting k → Runs c of before → GaveNone c of k before mid why → (why ≡ tx_no.Memory → ⊥) → (why ≡ tx_no.Room → ⊥) → Runs c of mid × WhyStop c mid of why
@@ -302,7 +295,7 @@ module _ (c : Client) (of : Name) where
 
   -- it enters nothing
   pub crash_on : (copy : ℕ) (now : Past) → Runs c of now → WentOn c of now now (Plan.crash_then copy)
-  crash_on copy now runs = record { leaves = leaves_itself c of now runs.legal; runs = runs; follows = λ reach x later rest ends. ends }
+  crash_on copy now runs = record { leaves = leaves_itself c of now runs.legal; runs = runs; follows = λ reach d x j later rest ends. ends }
 
   -- STOPPING AT ONCE
 
@@ -322,9 +315,9 @@ module _ (c : Client) (of : Name) where
   open_not now child runs ours why =
       let l = child_last of child why.0 in
       let b = some_is (start now child) why.1 in
-      let top : name.is_ancestor (take 1 of) child ≡ true = ap (name.is_ancestor (take 1 of)) l.1 ∙ below_more (take 1 of) of (l.0 ∷ []) (top_above of of [] (sym (append-nil of)) runs.nonroot) in
+      let top : name.is_ancestor (scope c of) child ≡ true = child_scope c of child why.0 in
       let found = own_found c (λ e. Rattle.qc_event.specs.History.start_in child e.seat e.event) b.0 of now
-      (λ e f. let s = starting child e.seat e.event (ap is_some f) in subst (λ ev. concerns (take 1 of) ev ≡ true) (sym s.1) top) ours b.1 in
+      (λ e f. let s = starting child e.seat e.event (ap is_some f) in subst (λ ev. concerns (scope c of) ev ≡ true) (sym s.1) top) ours b.1 in
       let ended = no_open_child (mine c now) of l.0 (runs.closed ours) (subst (λ n. is_some (start (mine c now) n) ≡ true) l.1 (ap is_some found)) in
       some_or_none (end now child) (kept_some (λ (e : Entry). is_own c e.seat) _ now (subst (λ n. is_some (end (mine c now) n) ≡ true) (sym l.1) ended)) why.2
 
@@ -340,3 +333,23 @@ module _ (c : Client) (of : Name) where
   stop_other now tx_no.Ready runs why n1 n2 n3 n4 = stop_here now tx_no.Ready runs (λ ours. absurd (not_ready c of now runs ours of [] (sym (append-nil of)) runs.nonroot why))
   stop_other now (tx_no.ChildrenOpen child) runs why n1 n2 n3 n4 = stop_here now (tx_no.ChildrenOpen child) runs (λ ours. absurd (open_not now child runs ours why))
   stop_other now tx_no.Ledger runs why n1 n2 n3 n4 = absurd why
+
+-- A MANAGER THAT COMMITTED
+
+module _ (c : Client) (of : Name) (k : Kind) (before now : Past) (runs : Runs c of before) where
+  -- whatever follows by its answer, and whatever branches the client merges later
+  pub manage_by_on : (has : HasRun c of k before now) → WentBy c of before now k has.given
+  manage_by_on has =
+      let ran = managed c of k (Commit has.given) before now runs.nonroot has.ran in
+      record {
+        leaves = leaves_managed c of k _ _ before now ran;
+        runs = runs_managed c of k _ _ before now ran runs;
+        follows = λ reach d x j later next ends.
+            let h = joined_has_run c d now j of k before has in
+            manage_follows d of k before now (joined_runs c d before (joined_before c d before now ran.later j) of runs) h.0 reach x later next (subst (λ given. EndsAt reach d of now x (next given)) (sym h.1) ends);
+      }
+
+  pub manage_on : HasRun c of k before now → WentOn c of before now (manage_then k)
+  manage_on has =
+      let by = manage_by_on has in
+      record { leaves = by.leaves; runs = by.runs; follows = λ reach d x j later rest ends. by.follows reach d x j later (λ given. rest) ends }

@@ -1,5 +1,5 @@
 -- What a try of a body leaves that runs as a top.
-use Rattle.std.proofs.Common.{◌≡◌, inl, inr, ℕ, suc, ◌<◌, Bool, true, false, List, [], ◌∷◌, ◌++◌, length, refl, sym, ap, ◌∙◌, subst, append-nil, append_assoc, arith, length-append, take}
+use Rattle.std.proofs.Common.{◌≡◌, inl, inr, ℕ, suc, ◌<◌, Bool, true, false, List, [], ◌∷◌, ◌++◌, length, refl, sym, ap, ◌∙◌, subst, append-nil, append_assoc, arith, length-append}
 use mathlib.Core.Bool.{true≢false}
 use Rattle.std.specs.Prelude.{Option, None, Some, MatchOption, MatchBool, is_some, is_none, find, option_map, ◌&&◌, ◌||◌}
 use Rattle.std.specs.List.{AllByRecursion, list_all}
@@ -18,16 +18,17 @@ use Rattle.qc_event.proofs.Orderly.{Begins}
 use Rattle.qc_event.proofs.Later.{earlier_legal, start_still}
 use Rattle.qc_event.proofs.RootAndTops.{ready_started}
 use Rattle.qc_script.specs.Calls.{by_client, IsOfSession}
-use Rattle.qc_script.specs.Client.{Client, mine, is_own, Made, IsLater, AreOurs}
+use Rattle.qc_script.specs.Client.{Client, mine, is_own, scope, Made, IsLater, AreOurs}
 use Rattle.qc_interp.specs.Deeds.{Deed, deeds}
 use Rattle.qc_interp.proofs.Deeds.{start_silent, deeds_quiet, no_deeds, same_children}
 use Rattle.qc_interp.specs.Follows.{RunsPlan, FollowsPlan, RunsBody, IsUnended}
 use Rattle.qc_interp.specs.Reach.{Reach}
 use Rattle.qc_script.specs.Plan.{Numbered}
-use Rattle.qc_interp.specs.Running.{Runs, LeavesAt, EndsAt, Ended, CutOff}
+use Rattle.qc_interp.specs.Running.{IsBelow, Runs, LeavesAt, EndsAt, Ended, CutOff}
 use Rattle.qc_interp.specs.Session.{tops, NotBegun, RunsBodies, AreAllOurs, EndsTopsAt, InTurnAt, RanInTurn, CutTops}
 use Rattle.qc_interp.specs.Turns.{is_done}
 use Rattle.qc_script.specs.Numbers.{each}
+use Rattle.qc_interp.proofs.Scope.{whole_scope}
 use Rattle.qc_interp.proofs.Adding.{numbers_stay, one_both, all_one, all_later, all_for, top_for, after_stay, begun_after, all_over_more, over_ended}
 use Rattle.qc_interp.proofs.Turning.{InTurn, Alone, start_turns, alone_up, some_done, itself}
 use Rattle.qc_interp.specs.Tries.{Tries, is_tried_again, is_again, TriesDo}
@@ -96,21 +97,25 @@ module _ (c : Client) (t : Name) (number : ℕ) (before now : Past) (top : is_ch
   pub none_top : deeds (mine c now) t ≡ []
   none_top = ap (λ h. deeds h t) now_is ∙ deeds_quiet t (begins ∷ []) (mine c before) (start_silent t t (kind.User c.session number) (no_child_length t t (λ l. omega (arith, l))), tt) ∙ new.idle
 
-  pub runs_top : Runs c t now
-  runs_top = record {
-    legal = m.legal;
-    user = subst (λ o. MatchOption o ⊥ (λ (b : Begun). IsOfSession c.session b.kind)) (sym new.started) refl;
-    nonroot = omega (arith, long);
-    above = λ p r is far. subst (λ n. IsUnended n (end (mine c now) n) × (is_ready (mine c now) n ≡ false)) (itself p r is far) (
-      inl (ap (λ h. end h t) now_is ∙ found_quiet _ (begins ∷ []) (mine c before) (refl, tt) ∙ new.fresh.no_end),
-      ap (λ h. is_ready h t) now_is ∙ ap is_some (found_quiet _ (begins ∷ []) (mine c before) (refl, tt)) ∙ new.unready,
-    );
-    closed = λ ours. ap (find (λ x. is_none (end (mine c now) x))) (same_children (mine c now) [] t none_top);
-  }
+  above_top : (p r : Name) → t ≡ p ++ r → 0 < length p → IsUnended p (end (mine c now) p) × (is_ready (mine c now) p ≡ false)
+  above_top p r is far = subst (λ n. IsUnended n (end (mine c now) n) × (is_ready (mine c now) n ≡ false)) (itself p r is far) (
+    inl (ap (λ h. end h t) now_is ∙ found_quiet _ (begins ∷ []) (mine c before) (refl, tt) ∙ new.fresh.no_end),
+    ap (λ h. is_ready h t) now_is ∙ ap is_some (found_quiet _ (begins ∷ []) (mine c before) (refl, tt)) ∙ new.unready,
+  )
     where
       itself : (p r : Name) → t ≡ p ++ r → 0 < length p → t ≡ p
       itself p [] is far = is ∙ append-nil p
       itself p (x ∷ r) is far = let z : ⊥ = omega (arith, long, ap length is, length-append p (x ∷ r), far) in absurd z
+
+  pub runs_top : c.root ≡ [] → Runs c t now
+  runs_top rootless = record {
+    legal = m.legal;
+    user = subst (λ o. MatchOption o ⊥ (λ (b : Begun). IsOfSession c.session b.kind)) (sym new.started) refl;
+    nonroot = omega (arith, long);
+    below = subst (λ r. IsBelow r t) (sym rootless) (omega (arith, long), refl);
+    above = above_top;
+    closed = λ ours. ap (find (λ x. is_none (end (mine c now) x))) (same_children (mine c now) [] t none_top);
+  }
 
 all_last : (P : Name → Type 0) (xs : List Name) (t : Name) (ys : List Name) → AllByRecursion P (xs ++ t ∷ ys) → P t
 all_last P [] t ys h = h.0
@@ -180,13 +185,8 @@ module _ (c : Client) (t : Name) (body : Numbered) (before mid now : Past) (top 
   long_top : length t ≡ 1
   long_top = child_longer [] t top
 
-  whole : take 1 t ≡ t
-  whole = by_name t long_top
-    where
-      by_name : (n : Name) → length n ≡ 1 → take 1 n ≡ n
-      by_name [] l = let z : ⊥ = omega (arith, l) in absurd z
-      by_name (x ∷ []) l = refl
-      by_name (x ∷ y ∷ n) l = let z : ⊥ = omega (arith, l) in absurd z
+  whole : scope c t ≡ t
+  whole = whole_scope c t long_top
 
   begun_one : AllOfOne c (t ∷ []) m.newer
   begun_one = ap (list_all (is_of_one (t ∷ []))) m.made ∙ ap (λ b. (b || false) && true) (itself t)
@@ -209,17 +209,17 @@ module _ (c : Client) (t : Name) (body : Numbered) (before mid now : Past) (top 
     kind_is = kind_later c [] mid now leaves.later t _ (kind_top c t body.number before mid top m)
 
     inside_is : AllOfOne c (t ∷ []) later_is.newer
-    inside_is = one_one (made_later c _ before mid m).newer leaves.later.newer begun_one (all_one c t leaves.later.newer (subst (λ x. AllStayIn c x leaves.later.newer) whole leaves.inside))
+    inside_is = one_one (made_later c _ before mid m).newer leaves.later.newer begun_one (all_one c t leaves.later.newer long_top (subst (λ x. AllStayIn c x leaves.later.newer) whole leaves.inside))
 
     for_it : AllForIts c later_is.newer
-    for_it = all_later (starts_for c.session) c (made_later c _ before mid m).newer leaves.later.newer begun_for (all_for c (take 1 t) leaves.later.newer leaves.inside)
+    for_it = all_later (starts_for c.session) c (made_later c _ before mid m).newer leaves.later.newer begun_for (all_for c (scope c t) leaves.later.newer leaves.inside)
 
     numbers_are : Numbers c before now
-    numbers_are was = subst (λ h. each (own_next c) h ≡ true) (sym leaves.later.grown) (numbers_stay c (take 1 t) leaves.later.newer mid leaves.inside (numbers was))
+    numbers_are was = subst (λ h. each (own_next c) h ≡ true) (sym leaves.later.grown) (numbers_stay c (scope c t) leaves.later.newer mid leaves.inside (numbers was))
 
     after_is : each (own_after c) before ≡ true → all_over c before ≡ true → each (own_after c) now ≡ true
     after_is after over =
-        subst (λ h. each (own_after c) h ≡ true) (sym leaves.later.grown) (after_stay c (take 1 t) leaves.later.newer mid leaves.inside (subst (λ h. each (own_after c) h ≡ true) (sym m.grown) (begun_after c _ m.newer before m.made after over)))
+        subst (λ h. each (own_after c) h ≡ true) (sym leaves.later.grown) (after_stay c (scope c t) leaves.later.newer mid leaves.inside (subst (λ h. each (own_after c) h ≡ true) (sym m.grown) (begun_after c _ m.newer before m.made after over)))
 
     ours_new : AreAllOurs c now → AreOurs c t now
     ours_new ours = all_last (λ n. AreOurs c n now) (tops c before) t [] (subst (AllByRecursion (λ n. AreOurs c n now)) more_is ours)
@@ -269,7 +269,7 @@ module _ (c : Client) (t : Name) (body : Numbered) (before mid now : Past) (top 
       over_is : AreOurs c t now → is_over now t ≡ true
       over_is ours = elim (done_closed (mine c now) t (followed_done c.session (mine c now) t body.plan (deeds (mine c now) t) (end (mine c now) t) (follows_is ours))) [
         | inl some ↦ over_ended now t (kept_some (λ (e : Entry). is_own c e.seat) _ now some)
-        | inr ready ↦ ended.leaves.over (λ was. absurd (true≢false (sym was ∙ ((runs_top c t body.number before mid top m).above t [] (sym (append-nil t)) (omega (arith, long_top))).1))) ready
+        | inr ready ↦ ended.leaves.over (λ was. absurd (true≢false (sym was ∙ (above_top c t body.number before mid top m t [] (sym (append-nil t)) (omega (arith, long_top))).1))) ready
       ]
 
       all_later_over : AreOurs c t now → IsLater c before now → all_over c before ≡ true → all_over c now ≡ true

@@ -1,5 +1,5 @@
 -- What the tries of a child leave, what `abort` leaves, and how a transaction commits.
-use Rattle.std.proofs.Common.{◌≡◌, inl, inr, ℕ, suc, ◌<◌, ◌+◌, Bool, true, false, List, [], ◌∷◌, ◌++◌, length, take, refl, sym, ap, ◌∙◌, subst, append-nil, append_assoc, arith, length-append}
+use Rattle.std.proofs.Common.{◌≡◌, inl, inr, ℕ, suc, ◌<◌, ◌+◌, Bool, true, false, List, [], ◌∷◌, ◌++◌, length, refl, sym, ap, ◌∙◌, subst, append-nil, append_assoc, arith, length-append}
 use mathlib.Core.Bool.{true≢false}
 use Rattle.std.specs.Prelude.{Option, None, Some, MatchOption, MatchBool, is_some, is_none, IsTrue, not, find, option_map, ◌&&◌}
 use Rattle.std.proofs.lemmas.Bool.{false_from_ne_true}
@@ -12,37 +12,36 @@ use Rattle.qc_event.specs.declared.event.Kind.TheVariants as kind
 use Rattle.qc_event.specs.History.{Past, Name, Begun, end, is_ready, is_child, kind_of}
 use Rattle.qc_event.specs.Legal.{Legal}
 use Rattle.qc_event.specs.Standing.{Started, IsUser, IsAbort}
-use Rattle.qc_event.proofs.LastNumber.{child_last, length_last, child_longer, no_child_length}
+use Rattle.qc_event.proofs.LastNumber.{child_last, length_last, child_longer, no_child_length, below_more}
 use Rattle.qc_event.proofs.OneEntry.{start_is}
 use Rattle.qc_event.proofs.Later.{started_still}
 use Rattle.qc_event.proofs.LegalOrderly.{ready_top}
-use Rattle.qc_script.specs.Calls.{by_client, WasRefused, IsOfSession}
-use Rattle.qc_script.specs.Client.{Client, mine, is_own, Made, IsLater, AreOurs}
+use Rattle.qc_names.specs.Name as name
+use Rattle.qc_script.specs.Calls.{by_client, IsOfSession}
+use Rattle.qc_script.specs.Client.{Client, mine, is_own, scope, Made, IsLater, AreOurs}
 use Rattle.qc_interp.specs.Deeds.{Deed, deeds, deed_end, OfChild}
 use Rattle.qc_interp.proofs.Deeds.{start_silent, deeds_quiet, child_deed, same_children}
-use Rattle.qc_interp.specs.Follows.{StopsEarly, Stops, IsUnended, GoesOnAfter, AfterTries, RunsPlan, FollowsPlan}
+use Rattle.qc_interp.specs.Follows.{Stops, IsUnended, GoesOnAfter, AfterTries, RunsPlan, FollowsPlan}
 use Rattle.qc_interp.specs.Reach.{Reach}
 use Rattle.qc_script.specs.Plan.{Plan, Numbered}
-use Rattle.qc_interp.specs.Running.{Runs, LeavesIt, LeavesAt, Leaves, WhyStop, StopsBy, Stopped, EndsAt, CameTo, Ended, CutOff, WentOn, HasFailed, EndsTries, child_step, FrontTries, Failed}
+use Rattle.qc_interp.specs.Running.{Runs, LeavesIt, LeavesAt, Leaves, EndsAt, CameTo, Ended, CutOff, HasFailed, EndsTries}
 use Rattle.qc_interp.specs.Tries.{Tries, is_tried_again, is_again, TriesDo}
 use Rattle.qc_interp.specs.declared.stops.Finish.{Finish}
 use Rattle.qc_interp.specs.declared.stops.Finish.TheVariants as finish
-use Rattle.qc_script.specs.declared.tx.TxNo.{TxNo}
-use Rattle.qc_script.specs.declared.tx.TxNo.TheVariants as tx_no
-use Rattle.qc_interp.proofs.Adding.{all_later, start_stays_in, child_top, over_later}
+use Rattle.qc_interp.proofs.Adding.{all_later, start_stays_in, over_later}
+use Rattle.qc_interp.proofs.Scope.{child_scope, same_scope}
 use Rattle.qc_interp.proofs.Turning.{InTurn, Alone, start_turns, alone_up, some_done}
 use Rattle.qc_interp.proofs.Mine.{kept_some}
 use Rattle.qc_interp.proofs.Still.{follows_runs, follows_still, followed_done, done_closed, again_still}
 use Rattle.qc_interp.proofs.Growth.{made_is, made_later, later_trans, ours_before}
 use Rattle.qc_interp.proofs.Managers.{found_quiet, NewChild, new_child}
 use Rattle.qc_interp.proofs.Stopping.{unended_again, running_stops, running_unended, running_runs}
-use Rattle.qc_interp.proofs.Ending.{leaves_trans, leaves_cut, still, leaves_still, runs_still, user_is}
+use Rattle.qc_interp.proofs.Ending.{user_is}
 use Rattle.qc_interp.proofs.StepsLeave.{end_later, kind_later, closed_more}
-use Rattle.qc_interp.proofs.TriesAlike.{IfAny}
 use Rattle.std.specs.List.{list_all}
 use Rattle.qc_interp.specs.Adding.{stays_in, AllStayIn}
 use Rattle.qc_interp.specs.Asking.{DoesOn, DoesAfter, Asks, AllAsked}
-use Rattle.qc_interp.proofs.Asked.{NoOne, asked_made, asked_none, asked_wider, asked_trans, asks_still}
+use Rattle.qc_interp.proofs.Asked.{asked_made, asked_wider, asked_trans, asks_still}
 
 -- A CHILD THAT BEGINS
 
@@ -86,8 +85,8 @@ module _ (c : Client) (of n : Name) (number : ℕ) (before now : Past) (runs : R
   pub above_begun : (p r : Name) → of ≡ p ++ r → 0 < length r → LeavesIt c p before now
   above_begun p r is far = record { deeds = deeds_above p r is far; ready = ready_begun p r is; unended = subst (λ o. IsUnended p o) (sym (end_begun p r is)) }
 
-  pub inside_begun : AllStayIn c (take 1 of) later_begun.newer
-  inside_begun = ap (list_all (stays_in (take 1 of))) m.made ∙ ap (λ b. b && true) (start_stays_in (take 1 of) n (kind.User c.session number) begins refl (omega (arith, longer, runs.nonroot)) (child_top of n child))
+  pub inside_begun : AllStayIn c (scope c of) later_begun.newer
+  inside_begun = ap (list_all (stays_in (scope c of))) m.made ∙ ap (λ b. b && true) (start_stays_in (scope c of) n (kind.User c.session number) begins refl (omega (arith, longer, runs.nonroot)) (child_scope c of n child))
 
   pub turns_begun : InTurn (mine c before) → Alone (mine c before) of → InTurn (mine c now) × Alone (mine c now) n
   turns_begun turns alone = subst (λ h. InTurn h × Alone h n) (sym now_is) (start_turns begins (mine c before) of n (kind.User c.session number) refl child turns alone)
@@ -109,6 +108,7 @@ module _ (c : Client) (of n : Name) (number : ℕ) (before now : Past) (runs : R
     legal = m.legal;
     user = subst (λ o. MatchOption o ⊥ (λ (b : Begun). IsOfSession c.session b.kind)) (sym new.started) refl;
     nonroot = omega (arith, longer);
+    below = (omega (arith, longer, runs.below.0), ap (name.is_ancestor c.root) l.1 ∙ below_more c.root of (l.0 ∷ []) runs.below.1);
     above = above_child;
     closed = λ ours. ap (find (λ x. is_none (end (mine c now) x))) (same_children (mine c now) [] n none_begun);
   }
@@ -158,15 +158,11 @@ module _ (c : Client) (of n : Name) (body : Numbered) (before mid now : Past) (r
   last : (j : ℕ) × (n ≡ of ++ j ∷ [])
   last = child_last of n child
 
-  same_top : take 1 n ≡ take 1 of
-  same_top = ap (take 1) last.1 ∙ by_parent of runs.nonroot
-    where
-      by_parent : (p : Name) → 0 < length p → take 1 (p ++ last.0 ∷ []) ≡ take 1 p
-      by_parent [] far = let z : ⊥ = omega (arith, far) in absurd z
-      by_parent (x ∷ p) far = refl
+  scope_is : scope c n ≡ scope c of
+  scope_is = same_scope c of n runs.below child
 
   ours_child : AreOurs c of now → AreOurs c n now
-  ours_child ours = subst (λ t. IsTrue (Rattle.std.specs.List.list_all (λ (e : Entry). Rattle.std.specs.Prelude.◌||◌ (not (Rattle.qc_script.specs.Client.concerns t e.event)) (is_own c e.seat)) now)) (sym same_top) ours
+  ours_child ours = subst (λ t. IsTrue (Rattle.std.specs.List.list_all (λ (e : Entry). Rattle.std.specs.Prelude.◌||◌ (not (Rattle.qc_script.specs.Client.concerns t e.event)) (is_own c e.seat)) now)) (sym scope_is) ours
 
   -- by what the child left, which has ended or was cut off
   module _ (reach : Reach) (leaves : LeavesAt reach c n mid now) where
@@ -179,8 +175,8 @@ module _ (c : Client) (of n : Name) (body : Numbered) (before mid now : Past) (r
     abbrev later_is : IsLater c before now
     later_is = later_trans c before mid now (later_begun c of n body.number before mid runs child m) leaves.later
 
-    inside_is : AllStayIn c (take 1 of) later_is.newer
-    inside_is = all_later _ c _ leaves.later.newer (inside_begun c of n body.number before mid runs child m) (subst (λ t. AllStayIn c t leaves.later.newer) same_top leaves.inside)
+    inside_is : AllStayIn c (scope c of) later_is.newer
+    inside_is = all_later _ c _ leaves.later.newer (inside_begun c of n body.number before mid runs child m) (subst (λ t. AllStayIn c t leaves.later.newer) scope_is leaves.inside)
 
     unended_is : (p r : Name) → of ≡ p ++ r → IsUnended p (end (mine c before) p) → IsUnended p (end (mine c now) p)
     unended_is p r is h = (left p r is).unended (subst (λ o. IsUnended p o) (sym (end_begun c of n body.number before mid runs child m p r is)) h)
@@ -238,6 +234,7 @@ module _ (c : Client) (of n : Name) (body : Numbered) (before mid now : Past) (r
         legal = ended.leaves.later.legal;
         user = subst (λ h. Started h of (λ b. IsOfSession c.session b.kind)) (sym (later_is Reach.to_the_end ended.leaves).grown) (started_still (later_is Reach.to_the_end ended.leaves).newer before of _ runs.user);
         nonroot = runs.nonroot;
+        below = runs.below;
         above = λ p r is far. (unended_is Reach.to_the_end ended.leaves p r is (runs.above p r is far).0, ready_is Reach.to_the_end ended.leaves p r is ∙ (runs.above p r is far).1);
         closed = λ ours. closed_more c of before now n (later_is Reach.to_the_end ended.leaves) (more_is Reach.to_the_end ended.leaves) (runs.closed (ours_before c of before now (later_is Reach.to_the_end ended.leaves) ours)) (ended_is ours);
       };
@@ -273,10 +270,6 @@ module _ (c : Client) (of n : Name) (body : Numbered) (before mid now : Past) (r
   }
 
 -- WHAT TRIES LEAD TO
-
--- a start told of one client is told of the same
-pub start_of : (c d : Client) (n : Name) (number other : ℕ) (before now : Past) → d ≡ c → number ≡ other → Made d (by_client d (event.Start n (kind.User d.session number)) ∷ []) before now → Made c (by_client c (event.Start n (kind.User c.session other)) ∷ []) before now
-start_of c d n number other before now same is m = subst (λ k. Made c (by_client c (event.Start n (kind.User c.session k)) ∷ []) before now) is (subst (λ x. Made x (by_client x (event.Start n (kind.User x.session number)) ∷ []) before now) same m)
 
 pub match_true : (P Q : Type 0) (b : Bool) → b ≡ true → P → MatchBool b P Q
 match_true P Q true is h = h
@@ -424,117 +417,3 @@ try_cut c of body before now t last left rest ours = (
   ((t.kind, t.begins ours), match_false _ _ _ t.tried (cut_behind (mine c now) of t.child body.must _ (end (mine c now) of) t.unended t.unready (running_runs c.session (mine c now) of _ t.unended t.unready rest))),
   asked_wider _ _ (λ by n a. inl a) c before now (t.asked ours),
 )
-
--- THE LOOP OVER TRIES
-
--- so many tries are left behind this one, which failed
-pub record TriesLeft (c : Client) (of : Name) (body : Numbered) (before now : Past) (last : Option Name) (left : ℕ) : Type 0 where
-  pub leaves : Leaves c of before now
-  pub runs : Runs c of now
-  pub failed : IfAny (HasFailed c of now) last
-  pub front : FrontTries c of before now body last left
-
-module _ (c : Client) (of : Name) (body : Numbered) where
-  pub none_tried : (now : Past) → Runs c of now → TriesLeft c of body now now None body.tries
-  none_tried now runs = record { leaves = Rattle.qc_interp.proofs.Ending.leaves_itself c of now runs.legal; runs = runs; failed = tt; front = λ reach x later rest ends. ends }
-
-  pub tried_more : (before now next : Past) (last : Option Name) (left : ℕ) (child : Name) → TriesLeft c of body before now last (suc left) → Tried c of child body now next (finish.Stopped true) → TriesLeft c of body before next (Some child) left
-  tried_more before now next last left child l t = record {
-    leaves = leaves_trans c of before now next l.leaves t.leaves;
-    runs = t.runs;
-    failed = has_failed c of child body now next (finish.Stopped true) t true refl;
-    front = λ reach x later rest ends. l.front reach x (later_trans c now next x t.leaves.later later) rest (try_again c of child body now next (finish.Stopped true) t refl reach x later last left rest ends);
-  }
-
-  -- the last try failed
-  pub tried_failed : (before now next : Past) (last : Option Name) (left : ℕ) (child : Name) → TriesLeft c of body before now last (suc left) → Tried c of child body now next (finish.Stopped false) → Failed c of before next body child
-  tried_failed before now next last left child l t = record {
-    leaves = leaves_trans c of before now next l.leaves t.leaves;
-    runs = t.runs;
-    failed = has_failed c of child body now next (finish.Stopped false) t false refl;
-    follows = λ reach x later rest ends. l.front reach x (later_trans c now next x t.leaves.later later) rest (try_last c of child body now next (finish.Stopped false) t refl reach x later last left rest ends);
-  }
-
-  -- a try committed
-  pub tried_out : (before now next : Past) (last : Option Name) (left : ℕ) (child : Name) → TriesLeft c of body before now last (suc left) → Tried c of child body now next finish.Committed → WentOn c of before next (child_step body)
-  tried_out before now next last left child l t = record {
-    leaves = leaves_trans c of before now next l.leaves t.leaves;
-    runs = t.runs;
-    follows = λ reach x later rest ends.
-        l.front reach x (later_trans c now next x t.leaves.later later) rest
-        (try_last c of child body now next finish.Committed t refl reach x later last left rest (try_through c of child body now next finish.Committed t refl reach x later rest ends));
-  }
-
-  -- no try is left
-  pub all_failed : (before now : Past) (last : Name) → TriesLeft c of body before now (Some last) 0 → Failed c of before now body last
-  all_failed before now last l = record { leaves = l.leaves; runs = l.runs; failed = l.failed; follows = l.front }
-
-  pub none_to_begin : (before now : Past) → TriesLeft c of body before now None 0 → WentOn c of before now (child_step body)
-  none_to_begin before now l = record { leaves = l.leaves; runs = l.runs; follows = λ reach x later rest ends. l.front reach x later rest ends }
-
-  -- a try was not begun, and the parent has stopped
-  pub not_begun : (before now mid next : Past) (last : Option Name) (left : ℕ) (why : TxNo) (again : Bool) (rest : Plan) → TriesLeft c of body before now last (suc left) → WasRefused c of now mid why → (why ≡ tx_no.Memory → ⊥) → (why ≡ tx_no.Room → ⊥) → Stopped c of why mid next again
-      → Ended c of before next (child_step body rest) (finish.Stopped again)
-  not_begun before now mid next last left why again rest l refused other full stopped = by_why why refused other full stopped
-    where
-      stops : (why : TxNo) → Made c [] now mid → Stopped c of why mid next again → (StopsBy of why (end (mine c next) of) → StopsEarly of (end (mine c next) of)) → Ended c of before next (child_step body rest) (finish.Stopped again)
-      stops why m stopped early = record {
-        leaves = leaves_trans c of before mid next (leaves_trans c of before now mid l.leaves (leaves_still c of now mid m)) stopped.leaves;
-        tried = stopped.tried;
-        ends = l.front Reach.to_the_end next (later_trans c now mid next (made_later c [] now mid m) stopped.leaves.later) rest (λ ours.
-            ([], stopped.deeds ∙ ap (λ h. deeds h of) (still c of now mid m) ∙ sym (append-nil _), early (stopped.ended ours), asked_none c now next _ (asked_trans c now mid next NoOne (asked_made c [] now mid NoOne m tt) stopped.asked)));
-      }
-
-      by_why : (why : TxNo) → WasRefused c of now mid why → (why ≡ tx_no.Memory → ⊥) → (why ≡ tx_no.Room → ⊥) → Stopped c of why mid next again → Ended c of before next (child_step body rest) (finish.Stopped again)
-      by_why tx_no.Memory refused other full stopped = absurd (other refl)
-      by_why tx_no.Room refused other full stopped = absurd (full refl)
-      by_why (tx_no.Orphan a) refused other full stopped = stops (tx_no.Orphan a) refused.0 stopped (λ s. Rattle.qc_interp.proofs.StepsLeave.orphan_early c of a _ s)
-      by_why tx_no.Ended refused other full stopped = stops tx_no.Ended refused.0 stopped (λ s. Rattle.qc_interp.proofs.Stopping.asked_early of _ s)
-      by_why tx_no.Ready refused other full stopped = stops tx_no.Ready refused.0 stopped (λ s. Rattle.qc_interp.proofs.Stopping.asked_early of _ s)
-      by_why (tx_no.ChildrenOpen child) refused other full stopped = absurd refused
-      by_why (tx_no.Conflict copy holder) refused other full stopped = absurd refused.1
-      by_why (tx_no.NoQuorum lack) refused other full stopped = absurd refused.1
-      by_why tx_no.Last refused other full stopped = absurd refused.1
-      by_why tx_no.Ledger refused other full stopped = absurd refused.1
-
-  pub tries_cut : (before now next : Past) (last : Option Name) (left : ℕ) (rest : Plan) → TriesLeft c of body before now last (suc left) → CutTry c of body now next → CutOff c of before next (child_step body rest)
-  tries_cut before now next last left rest l t = record {
-    leaves = leaves_trans c of before now next l.leaves t.leaves;
-    unended = t.unended;
-    begins = l.front Reach.cut_off next t.leaves.later rest (try_cut c of body now next t last left rest);
-  }
-
-  -- a try was not begun, and nothing was made after it
-  pub begin_cut : (before now next : Past) (last : Option Name) (left : ℕ) (rest : Plan) → TriesLeft c of body before now last (suc left) → Made c [] now next → CutOff c of before next (child_step body rest)
-  begin_cut before now next last left rest l m =
-      let at = (runs_still c of now next m l.runs).above of [] (sym (append-nil of)) l.runs.nonroot in
-      record {
-        leaves = leaves_trans c of before now next l.leaves (leaves_cut c of now next (leaves_still c of now next m));
-        unended = at.0;
-        begins = l.front Reach.cut_off next (made_later c [] now next m) rest (λ ours. ([], ap (λ h. deeds h of) (still c of now next m) ∙ sym (append-nil _), running_stops (mine c next) of _ at.0 at.1, asked_none c now next _ (asked_made c [] now next NoOne m tt)));
-      }
-
-  -- whatever a refusal to begin tells, nothing was made
-  pub refused_made : (now mid : Past) (why : TxNo) → WasRefused c of now mid why → Made c [] now mid
-  refused_made now mid tx_no.Memory refused = refused.0
-  refused_made now mid tx_no.Room refused = refused.0
-  refused_made now mid (tx_no.Orphan a) refused = refused.0
-  refused_made now mid tx_no.Ended refused = refused.0
-  refused_made now mid tx_no.Ready refused = refused.0
-  refused_made now mid (tx_no.ChildrenOpen child) refused = absurd refused
-  refused_made now mid (tx_no.Conflict copy holder) refused = refused.0
-  refused_made now mid (tx_no.NoQuorum lack) refused = refused.0
-  refused_made now mid tx_no.Last refused = refused.0
-  refused_made now mid tx_no.Ledger refused = refused.0
-
-  pub begin_stops : (now mid : Past) (why : TxNo) → Runs c of now → WasRefused c of now mid why → (why ≡ tx_no.Memory → ⊥) → (why ≡ tx_no.Room → ⊥) → Runs c of mid × WhyStop c mid of why
-  begin_stops now mid tx_no.Memory runs refused other full = absurd (other refl)
-  begin_stops now mid tx_no.Room runs refused other full = absurd (full refl)
-  begin_stops now mid (tx_no.Orphan a) runs refused other full = (runs_still c of now mid refused.0 runs, refused.1)
-  begin_stops now mid tx_no.Ended runs refused other full = (runs_still c of now mid refused.0 runs, refused.1)
-  begin_stops now mid tx_no.Ready runs refused other full = (runs_still c of now mid refused.0 runs, refused.1)
-  begin_stops now mid (tx_no.ChildrenOpen child) runs refused other full = absurd refused
-  begin_stops now mid (tx_no.Conflict copy holder) runs refused other full = absurd refused.1
-  begin_stops now mid (tx_no.NoQuorum lack) runs refused other full = absurd refused.1
-  begin_stops now mid tx_no.Last runs refused other full = absurd refused.1
-  begin_stops now mid tx_no.Ledger runs refused other full = absurd refused.1

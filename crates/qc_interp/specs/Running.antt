@@ -1,5 +1,5 @@
 -- What holds of a transaction between two of its steps, and what a step leaves.
-use Rattle.std.specs.Prelude.{ℕ, ◌≡◌, ◌<◌, ◌⊎◌, Bool, true, false, List, [], ◌++◌, length, take, Option, None, Some, MatchOption, option_map}
+use Rattle.std.specs.Prelude.{ℕ, ◌≡◌, ◌<◌, ◌⊎◌, Bool, true, false, IsTrue, List, [], ◌++◌, length, Option, None, Some, MatchOption, option_map}
 use Rattle.qc_event.specs.declared.event.Answer.{Answer}
 use Rattle.qc_event.specs.declared.event.Answer.TheVariants as answer
 use Rattle.qc_event.specs.declared.event.Cause.TheVariants as cause
@@ -13,10 +13,11 @@ use Rattle.qc_event.specs.declared.event.Kind.{Kind}
 use Rattle.qc_event.specs.declared.event.Kind.TheVariants as kind
 use Rattle.qc_event.specs.History.{Past, Name, end, is_ready, is_child, kind_of}
 use Rattle.qc_event.specs.Legal.{Legal}
+use Rattle.qc_names.specs.Name as name
 use Rattle.qc_event.specs.Standing.{Started, IsUser, IsAbort, open_child}
 use Rattle.qc_interp.specs.Adding.{AllStayIn}
 use Rattle.qc_script.specs.Calls.{is_over}
-use Rattle.qc_script.specs.Client.{Client, mine, Made, IsLater, AreOurs}
+use Rattle.qc_script.specs.Client.{Client, mine, scope, Made, IsLater, HasJoined, AreOurs}
 use Rattle.qc_interp.specs.Deeds.{Deed, deeds, deed_end, OfChild}
 use Rattle.qc_interp.specs.Follows.{StopsEarly, Stops, StopsBefore, WasAsked, IsUnended, is_of_orphan, AfterTries, RunsPlan}
 use Rattle.qc_interp.specs.declared.body.Came.{Came}
@@ -32,11 +33,16 @@ use Rattle.qc_interp.specs.Turns.{takes_turn, is_alone}
 use Rattle.qc_interp.specs.Tries.{Tries, is_tried_again, TriesDo}
 use Rattle.qc_interp.specs.Asking.{DoesAfter, Asks, AllAsked}
 
--- A user transaction of the client's session that runs: by what the client made neither it nor one above it has ended itself or is ready, and no child is open.
+-- a name is strictly below another
+abbrev pub IsBelow : Name → Name → Type 0
+IsBelow above n = (length above < length n) × IsTrue (name.is_ancestor above n)
+
+-- A user transaction of the client's session that runs, below the client's root: by what the client made neither it nor one above it has ended itself or is ready, and no child is open.
 pub record Runs (c : Client) (of : Name) (now : Past) : Type 0 where
   pub legal : Legal c.setting now
   pub user : Started now of (λ b. IsOfSession c.session b.kind)
   pub nonroot : 0 < length of
+  pub below : IsBelow c.root of
   pub above : (p r : Name) → of ≡ p ++ r → 0 < length p → IsUnended p (end (mine c now) p) × (is_ready (mine c now) p ≡ false)
   pub closed : AreOurs c of now → open_child (mine c now) of ≡ None
 
@@ -47,11 +53,11 @@ pub record LeavesIt (c : Client) (p : Name) (before now : Past) : Type 0 where
   pub unended : IsUnended p (end (mine c before) p) → IsUnended p (end (mine c now) p)
 
 -- What a transaction did left those above it as they were, but that it may have aborted them as it asked. All that was
--- added is about its top or names below it.
+-- added stays in its scope.
 pub record LeavesAt (reach : Reach) (c : Client) (of : Name) (before now : Past) : Type 0 where
   pub later : IsLater c before now
   pub above : (p r : Name) → of ≡ p ++ r → 0 < length r → LeavesIt c p before now
-  pub inside : AllStayIn c (take 1 of) later.newer
+  pub inside : AllStayIn c (scope c of) later.newer
   pub over : AtTheEnd reach ((is_ready (mine c before) of ≡ true → is_over before of ≡ true) → is_ready (mine c now) of ≡ true → is_over now of ≡ true)
   pub turns : AreOurs c of now → each takes_turn (mine c before) ≡ true → is_alone (mine c before) of ≡ true → (each takes_turn (mine c now) ≡ true) × AtTheEnd reach (is_alone (mine c now) of ≡ true)
 
@@ -139,9 +145,10 @@ pub record QuitFor (c : Client) (of child : Name) (before now : Past) (again : B
   pub ended : AreOurs c of now → ((WasOrphan (end (mine c now) child) → ⊥) × (end (mine c now) of ≡ Some (Abort (cause.Child child)))) ⊎ StopsEarly of (end (mine c now) of)
 
 -- The front of a plan was done: however the transaction goes on from `now` and ends, or is cut off, whatever is entered
--- until then, from `before` on it did the whole plan, or came as far.
+-- and whatever branches the client merges until then, from `before` on it did the whole plan, or came as far.
 abbrev pub FrontFollows : Client → Name → Past → Past → (Plan → Plan) → Type 0
-FrontFollows c of before now front = (reach : Reach) (x : Past) → IsLater c now x → (rest : Plan) → EndsAt reach c of now x rest → EndsAt reach c of before x (front rest)
+FrontFollows c of before now front =
+    (reach : Reach) (d : Client) (x : Past) → HasJoined c now d → IsLater d now x → (rest : Plan) → EndsAt reach d of now x rest → EndsAt reach d of before x (front rest)
 
 -- A transaction goes on after a step.
 pub record WentOn (c : Client) (of : Name) (before now : Past) (front : Plan → Plan) : Type 0 where
@@ -166,7 +173,7 @@ pub record Acted (c : Client) (of : Name) (before now : Past) (front : Plan → 
   pub leaves : Leaves c of before now
   pub runs : Runs c of now
   pub follows : HasNotMarked c of now → FrontFollows c of before now front
-  pub stops : (reach : Reach) (x : Past) → IsLater c now x → StopsThere reach c of now x → (rest : Plan) → EndsAt reach c of before x (front rest)
+  pub stops : (reach : Reach) (d : Client) (x : Past) → HasJoined c now d → IsLater d now x → StopsThere reach d of now x → (rest : Plan) → EndsAt reach d of before x (front rest)
 
 -- A step was done, and the transaction has not ended, or has ended so that its body is tried again, or not.
 abbrev pub HasActed : Client → Name → Past → Past → (Plan → Plan) → Option Bool → Type 0
@@ -184,7 +191,7 @@ HasLooked c of before now (Some again) = Quit c of (Abort cause.Killed) before n
 pub record WentBy (c : Client) (of : Name) (before now : Past) (k : Kind) (given : Answer) : Type 0 where
   pub leaves : Leaves c of before now
   pub runs : Runs c of now
-  pub follows : (reach : Reach) (x : Past) → IsLater c now x → (next : Answer → Plan) → EndsAt reach c of now x (next given) → EndsAt reach c of before x (Plan.manage_by k next)
+  pub follows : (reach : Reach) (d : Client) (x : Past) → HasJoined c now d → IsLater d now x → (next : Answer → Plan) → EndsAt reach d of now x (next given) → EndsAt reach d of before x (Plan.manage_by k next)
 
 -- A step's read gave a value, or the transaction stopped there.
 abbrev pub Looked : Client → Name → Past → Past → ℕ → Look → Type 0
@@ -213,7 +220,7 @@ child_step body rest = Plan.child_then body.number body.tries body.must body.pla
 -- Some tries were done, the last of them this: what is left of them leads to all of them.
 abbrev pub FrontTries : Client → Name → Past → Past → Numbered → Option Name → ℕ → Type 0
 FrontTries c of before now body last left =
-    (reach : Reach) (x : Past) → IsLater c now x → (rest : Plan) → EndsTries reach c of now x body last left rest → EndsAt reach c of before x (child_step body rest)
+    (reach : Reach) (d : Client) (x : Past) → HasJoined c now d → IsLater d now x → (rest : Plan) → EndsTries reach d of now x body last left rest → EndsAt reach d of before x (child_step body rest)
 
 -- The tries of a child were done, and the last of them failed.
 pub record Failed (c : Client) (of : Name) (before now : Past) (body : Numbered) (last : Name) : Type 0 where

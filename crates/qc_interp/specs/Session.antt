@@ -4,7 +4,7 @@ use Rattle.std.specs.List.{AllByRecursion}
 use Rattle.qc_event.specs.History.{Past, Name, end, children}
 use Rattle.qc_interp.specs.Adding.{AllOfOne, AllForIts, own_after, all_over}
 use Rattle.qc_script.specs.Numbers.{Numbers}
-use Rattle.qc_script.specs.Client.{Client, mine, IsLater, AreOurs}
+use Rattle.qc_script.specs.Client.{Client, mine, IsLater, HasJoined, AreOurs}
 use Rattle.qc_interp.specs.Follows.{RunsBody}
 use Rattle.qc_interp.specs.Reach.{Reach, AtTheEnd}
 use Rattle.qc_script.specs.Plan.{Numbered}
@@ -63,7 +63,7 @@ RanInTurn c before now = InTurnAt Reach.to_the_end c before now
 pub record RanTops (c : Client) (before now : Past) (front : List Numbered → List Numbered) : Type 0 where
   pub later : IsLater c before now
   pub in_turn : RanInTurn c before now
-  pub follows : (reach : Reach) (x : Past) → IsLater c now x → (rest : List Numbered) → EndsTopsAt reach c now x rest → EndsTopsAt reach c before x (front rest)
+  pub follows : (reach : Reach) (d : Client) (x : Past) → HasJoined c now d → IsLater d now x → (rest : List Numbered) → EndsTopsAt reach d now x rest → EndsTopsAt reach d before x (front rest)
 
 -- The tops of these bodies were cut off, for want of memory or room.
 pub record CutTops (c : Client) (before now : Past) (bodies : List Numbered) : Type 0 where

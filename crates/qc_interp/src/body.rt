@@ -2,6 +2,7 @@
 ghost use Rattle.std.specs.Prelude.{◌≡◌, ◌<◌, ◌+◌, length, IfOk, IfErr};
 ghost use Rattle.qc_event.specs.History.{limit};
 ghost use Rattle.qc_script.specs.Calls.{MeetsLink};
+ghost use Rattle.qc_script.specs.Client.{HasJoined};
 ghost use Rattle.qc_script.specs.Plan.{Plan, PlanFits};
 ghost use Rattle.qc_script.specs.Steps.{put, plan_of, numbered};
 ghost use Rattle.qc_interp.specs.Running.{Runs, Ended, CutOff, HasActed, Stepped, TriesCame, child_step};
@@ -32,10 +33,11 @@ fn tries<T: Tx>(tx: &mut T, of: &Name, body: &Body) -> Result<Came, Short>
         (numbered body.now).plan }
     requires met { MeetsLink (T.view tx.old) }
     ensures met { MeetsLink (T.view tx.new) }
-    ensures client { (T.view tx.new).client ≡ (T.view tx.old).client }
-    ensures ok { IfOk result (TriesCame (T.view tx.old).client of.now (T.view tx.old).seen
+    ensures joined { HasJoined (T.view tx.old).client (T.view tx.old).seen
+        (T.view tx.new).client }
+    ensures ok { IfOk result (TriesCame (T.view tx.new).client of.now (T.view tx.old).seen
         (T.view tx.new).seen (numbered body.now)) }
-    ensures cut { IfErr result (λ _. (rest : Plan) → CutOff (T.view tx.old).client of.now
+    ensures cut { IfErr result (λ _. (rest : Plan) → CutOff (T.view tx.new).client of.now
         (T.view tx.old).seen (T.view tx.new).seen (child_step (numbered body.now) rest)) }
     ensures room { IfErr result (λ e. e ≡ Short.Room → length (T.view tx.new).seen ≡ limit) }
 {
@@ -81,10 +83,11 @@ fn child<T: Tx>(tx: &mut T, of: &Name, body: &Body) -> Result<Option<bool>, Shor
         (numbered body.now).plan }
     requires met { MeetsLink (T.view tx.old) }
     ensures met { MeetsLink (T.view tx.new) }
-    ensures client { (T.view tx.new).client ≡ (T.view tx.old).client }
-    ensures ok { IfOk result (Stepped (T.view tx.old).client of.now (T.view tx.old).seen
+    ensures joined { HasJoined (T.view tx.old).client (T.view tx.old).seen
+        (T.view tx.new).client }
+    ensures ok { IfOk result (Stepped (T.view tx.new).client of.now (T.view tx.old).seen
         (T.view tx.new).seen (child_step (numbered body.now))) }
-    ensures cut { IfErr result (λ _. (rest : Plan) → CutOff (T.view tx.old).client of.now
+    ensures cut { IfErr result (λ _. (rest : Plan) → CutOff (T.view tx.new).client of.now
         (T.view tx.old).seen (T.view tx.new).seen (child_step (numbered body.now) rest)) }
     ensures room { IfErr result (λ e. e ≡ Short.Room → length (T.view tx.new).seen ≡ limit) }
 {
@@ -109,10 +112,11 @@ fn act<T: Tx>(tx: &mut T, of: &Name, step: &Step) -> Result<Option<bool>, Short>
         (put step.now Plan.done) }
     requires met { MeetsLink (T.view tx.old) }
     ensures met { MeetsLink (T.view tx.new) }
-    ensures client { (T.view tx.new).client ≡ (T.view tx.old).client }
-    ensures ok { IfOk result (HasActed (T.view tx.old).client of.now (T.view tx.old).seen
+    ensures joined { HasJoined (T.view tx.old).client (T.view tx.old).seen
+        (T.view tx.new).client }
+    ensures ok { IfOk result (HasActed (T.view tx.new).client of.now (T.view tx.old).seen
         (T.view tx.new).seen (put step.now)) }
-    ensures cut { IfErr result (λ _. (rest : Plan) → CutOff (T.view tx.old).client of.now
+    ensures cut { IfErr result (λ _. (rest : Plan) → CutOff (T.view tx.new).client of.now
         (T.view tx.old).seen (T.view tx.new).seen (put step.now rest)) }
     ensures room { IfErr result (λ e. e ≡ Short.Room → length (T.view tx.new).seen ≡ limit) }
 {
@@ -159,10 +163,11 @@ fn step<T: Tx>(tx: &mut T, of: &Name, step: &Step) -> Result<Option<bool>, Short
         (put step.now Plan.done) }
     requires met { MeetsLink (T.view tx.old) }
     ensures met { MeetsLink (T.view tx.new) }
-    ensures client { (T.view tx.new).client ≡ (T.view tx.old).client }
-    ensures ok { IfOk result (Stepped (T.view tx.old).client of.now (T.view tx.old).seen
+    ensures joined { HasJoined (T.view tx.old).client (T.view tx.old).seen
+        (T.view tx.new).client }
+    ensures ok { IfOk result (Stepped (T.view tx.new).client of.now (T.view tx.old).seen
         (T.view tx.new).seen (put step.now)) }
-    ensures cut { IfErr result (λ _. (rest : Plan) → CutOff (T.view tx.old).client of.now
+    ensures cut { IfErr result (λ _. (rest : Plan) → CutOff (T.view tx.new).client of.now
         (T.view tx.old).seen (T.view tx.new).seen (put step.now rest)) }
     ensures room { IfErr result (λ e. e ≡ Short.Room → length (T.view tx.new).seen ≡ limit) }
 {
@@ -173,17 +178,18 @@ fn step<T: Tx>(tx: &mut T, of: &Name, step: &Step) -> Result<Option<bool>, Short
 }
 
 /// Runs the steps of a transaction that has started and has done nothing, and ends it. It answers what the transaction
-/// came to. Want of memory or room cuts it off: it has then done the first of its steps.
+/// came to. The client is told as it is then, with the branches that it has merged. Want of memory or room cuts it off: it has then done the first of its steps.
 #[cycle(run)]
 pub fn steps<T: Tx>(tx: &mut T, of: &Name, steps: &[Step]) -> Result<Finish, Short>
     requires runs { Runs (T.view tx.old).client of.now (T.view tx.old).seen }
     requires fits { PlanFits (T.view tx.old).client.setting (length of.now) (plan_of steps.now) }
     requires met { MeetsLink (T.view tx.old) }
     ensures met { MeetsLink (T.view tx.new) }
-    ensures client { (T.view tx.new).client ≡ (T.view tx.old).client }
-    ensures ok { IfOk result (Ended (T.view tx.old).client of.now (T.view tx.old).seen
+    ensures joined { HasJoined (T.view tx.old).client (T.view tx.old).seen
+        (T.view tx.new).client }
+    ensures ok { IfOk result (Ended (T.view tx.new).client of.now (T.view tx.old).seen
         (T.view tx.new).seen (plan_of steps.now)) }
-    ensures cut { IfErr result (λ _. CutOff (T.view tx.old).client of.now
+    ensures cut { IfErr result (λ _. CutOff (T.view tx.new).client of.now
         (T.view tx.old).seen (T.view tx.new).seen (plan_of steps.now)) }
     ensures room { IfErr result (λ e. e ≡ Short.Room → length (T.view tx.new).seen ≡ limit) }
 {

@@ -59,7 +59,7 @@ pub trait Tx: Sized {
     ghost use Rattle.qc_script.specs.Client.{Made, View, has_marked_itself};
     ghost use Rattle.qc_script.specs.Plan.{CopyFits, KindFits};
 
-    /// Its number and branches, its session, table and link, and what it has seen.
+    /// Its number, root and branches, its session, table and link, and what it has seen.
     ghost view: { Self → View };
 
     /// Starts a child of a body, under the root a top with the next number.

@@ -14,10 +14,11 @@ use Rattle.qc_script.specs.Plan.{SessionPlan}
 abbrev pub link_told : Option Plan → ℕ → Option Net
 link_told plan patience = option_map (λ p. kept.net_of p patience) plan
 
--- a client that has no branches, by its pass
+-- a client of a session that has no branches, by its pass
 abbrev pub client_of : Setting → ℕ → ℕ → Option Net → Pass → Client
 client_of setting session epoch net pass = record {
   number = pass.number;
+  root = [];
   kin = [];
   out = [];
   session = session;

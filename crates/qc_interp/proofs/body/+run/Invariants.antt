@@ -1,10 +1,11 @@
-use Rattle.std.proofs.Common.{◌≡◌, ◌+◌, ◌-◌}
+use Rattle.std.proofs.Common.{◌+◌, ◌-◌}
 use Rattle.qc_script.specs.Calls.{MeetsLink}
+use Rattle.qc_script.specs.Client.{HasJoined}
 use Rattle.qc_script.specs.Plan.{Plan}
 use Rattle.qc_script.specs.Steps.{put, plan_of, numbered}
 use Rattle.qc_interp.proofs.Loops.{StepsLeft}
 use Rattle.qc_interp.proofs.Plans.{weight}
-use Rattle.qc_interp.proofs.Tried.{TriesLeft}
+use Rattle.qc_interp.proofs.TriesLeft.{TriesLeft}
 use Rattle.qc_interp.proofs.body.+run.Given as goal
 
 abbrev pub invariant-tries-loop : goal.invariant-tries-loop
@@ -12,8 +13,8 @@ invariant-tries-loop g l =
     let view = g.T.Tx.view in
     record {
       met : MeetsLink (view l.tx);
-      client : (view l.tx).client ≡ (view l.initial.tx).client;
-      left : TriesLeft (view l.initial.tx).client l.of (numbered l.body) (view l.initial.tx).seen (view l.tx).seen l.last ((numbered l.body).tries - l.counter);
+      joined : HasJoined (view l.initial.tx).client (view l.initial.tx).seen (view l.tx).client;
+      left : TriesLeft (view l.tx).client l.of (numbered l.body) (view l.initial.tx).seen (view l.tx).seen l.last ((numbered l.body).tries - l.counter);
     }
 
 abbrev pub invariant-steps-loop-s : goal.invariant-steps-loop-s
@@ -21,8 +22,8 @@ invariant-steps-loop-s g l =
     let view = g.T.Tx.view in
     record {
       met : MeetsLink (view l.tx);
-      client : (view l.tx).client ≡ (view l.fn.tx).client;
-      left : StepsLeft (view l.fn.tx).client l.of l.steps (view l.fn.tx).seen (view l.tx).seen l.s-index;
+      joined : HasJoined (view l.fn.tx).client (view l.fn.tx).seen (view l.tx).client;
+      left : StepsLeft (view l.tx).client l.of l.steps (view l.fn.tx).seen (view l.tx).seen l.s-index;
     }
 
 abbrev pub decreases-steps : goal.decreases-steps
