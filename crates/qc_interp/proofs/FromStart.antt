@@ -48,7 +48,7 @@ module _ (c : Client) (before now : Past) (none : mine c before ≡ []) where
 each_begins : (session patience : ℕ) (sessions : List SessionPlan) → EachRuns Reach.cut_off session patience sessions []
 each_begins session patience [] = tt
 each_begins session patience (s ∷ sessions) = (
-  record { bodies_run = none_begun session [] s.tops; in_turn = record { turns = refl; seats = refl; in_order = refl }; messages = refl },
+  record { bodies_run = none_begun session [] s.tops; in_turn = record { turns = refl; seats = refl; steps = refl; in_order = refl }; messages = refl },
   each_begins (session + 1) patience sessions,
 )
 

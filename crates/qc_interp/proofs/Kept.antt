@@ -1,18 +1,18 @@
 -- Some entries of a history, as far as a look goes: whoever takes turns does so without the entries about no one.
-use Rattle.std.proofs.Common.{◌≡◌, Bool, true, false, List, [], ◌∷◌, ◌++◌, refl, sym, ap, ◌∙◌, filter, append-nil}
+use Rattle.std.proofs.Common.{◌≡◌, ℕ, Bool, true, false, List, [], ◌∷◌, ◌++◌, refl, sym, ap, ◌∙◌, filter, append-nil}
 use Rattle.std.specs.Prelude.{Option, None, Some, is_some, option_to_list, ◌&&◌, ◌||◌, if◌then◌else◌}
 use Rattle.std.specs.List.{AllByRecursion, list_all}
-use Rattle.std.specs.Option.{option_or, option_map_or}
+use Rattle.std.specs.Option.{option_map, option_or, option_map_or}
 use Rattle.std.proofs.lemmas.Bool.{and_parts, and_from}
 use Rattle.qc_event.specs.declared.event.Entry.{Entry}
 use Rattle.qc_event.specs.declared.event.Event.{Event}
 use Rattle.qc_event.specs.declared.event.Event.TheVariants as event
-use Rattle.qc_event.specs.History.{Past, Name, earliest, every, end, end_in, is_ready, ready_in}
+use Rattle.qc_event.specs.History.{Past, Name, Begun, earliest, every, start_in, end, end_in, is_ready, ready_in}
 use Rattle.qc_event.proofs.Histories.{or_none}
 use Rattle.qc_names.specs.Name as name
 use Rattle.qc_script.specs.Client.{about}
 use Rattle.qc_script.specs.Numbers.{each}
-use Rattle.qc_interp.specs.Turns.{acts, begun_in, is_done, is_alone, takes_turn}
+use Rattle.qc_interp.specs.Turns.{acts, begun_in, is_done, seat_of, all_differ, child_above, are_apart, has_turn, takes_turn}
 
 -- SOME ENTRIES OF SOME, AS FAR AS A LOOK GOES
 
@@ -68,6 +68,17 @@ none_ready n (event.Refused m copy refusal) is = refl
 none_ready n (event.Unable m why) is = refl
 none_ready n (event.Mark m session) is = refl
 
+none_starts : (n : Name) (seat : ℕ) (ev : Event) → about ev ≡ None → start_in n seat ev ≡ None
+none_starts n seat (event.Start m k) is = absurd cc
+none_starts n seat (event.End m how) is = refl
+none_starts n seat (event.Ready m) is = refl
+none_starts n seat (event.Ask ask) is = refl
+none_starts n seat (event.Gone m why) is = refl
+none_starts n seat (event.Granted copy grant) is = refl
+none_starts n seat (event.Refused m copy refusal) is = refl
+none_starts n seat (event.Unable m why) is = refl
+none_starts n seat (event.Mark m session) is = refl
+
 none_begun : (ev : Event) → about ev ≡ None → begun_in ev ≡ None
 none_begun (event.Start m k) is = absurd cc
 none_begun (event.End m how) is = refl
@@ -88,14 +99,30 @@ done_kept keep h drops n =
     ap (λ o. is_some o || is_ready (filter keep h) n) (earliest_kept keep (λ e. end_in n e.event) h (drops_wider keep _ h (λ e is. none_ends n e.event is) drops))
     ∙ ap (λ o. is_some (end h n) || is_some o) (earliest_kept keep (λ e. ready_in n e.event) h (drops_wider keep _ h (λ e is. none_ready n e.event is) drops))
 
-alone_kept : (keep : Entry → Bool) (h : Past) → DropsNone keep h → (n : Name) → is_alone (filter keep h) n ≡ is_alone h n
-alone_kept keep h drops n =
-    ap (list_all (λ m. is_done (filter keep h) m || name.is_ancestor m n)) (every_kept keep (λ e. begun_in e.event) h (drops_wider keep _ h (λ e is. none_begun e.event is) drops))
-    ∙ alike _ _ (every (λ e. begun_in e.event) h) (λ m. ap (λ b. b || name.is_ancestor m n) (done_kept keep h drops m))
+seat_kept : (keep : Entry → Bool) (e : Entry) (h : Past) → DropsNone keep h → (n : Name) → seat_of (e ∷ filter keep h) n ≡ seat_of (e ∷ h) n
+seat_kept keep e h drops n =
+    ap (λ o. option_map (λ (b : Begun). b.seat) (option_or o (start_in n e.seat e.event)))
+    (earliest_kept keep (λ e. start_in n e.seat e.event) h (drops_wider keep _ h (λ e is. none_starts n e.seat e.event is) drops))
 
-turn_kept : (keep : Entry → Bool) (h : Past) → DropsNone keep h → (o : Option Name) → option_map_or (is_alone (filter keep h)) o true ≡ option_map_or (is_alone h) o true
-turn_kept keep h drops None = refl
-turn_kept keep h drops (Some n) = alone_kept keep h drops n
+apart_kept : (keep : Entry → Bool) (e : Entry) (h : Past) → DropsNone keep h → (m n : Name) → are_apart (e ∷ filter keep h) m n ≡ are_apart (e ∷ h) m n
+apart_kept keep e h drops m n =
+    let p = name.meet m n in
+    let few : Past = e ∷ filter keep h in
+    ap (λ o. all_differ o (seat_of few (child_above p m)) (seat_of few (child_above p n))) (seat_kept keep e h drops p)
+    ∙ ap (λ o. all_differ (seat_of (e ∷ h) p) o (seat_of few (child_above p n))) (seat_kept keep e h drops (child_above p m))
+    ∙ ap (λ o. all_differ (seat_of (e ∷ h) p) (seat_of (e ∷ h) (child_above p m)) o) (seat_kept keep e h drops (child_above p n))
+
+has_turn_kept : (keep : Entry → Bool) (e : Entry) (h : Past) → DropsNone keep h → (n : Name) → has_turn e (filter keep h) n ≡ has_turn e h n
+has_turn_kept keep e h drops n =
+    let few : Past = filter keep h in
+    ap (list_all (λ m. is_done few m || (name.is_ancestor m n || are_apart (e ∷ few) m n))) (every_kept keep (λ e. begun_in e.event) h (drops_wider keep _ h (λ e is. none_begun e.event is) drops))
+    ∙ alike _ _ (every (λ e. begun_in e.event) h) (λ m.
+    ap (λ b. b || (name.is_ancestor m n || are_apart (e ∷ few) m n)) (done_kept keep h drops m)
+    ∙ ap (λ b. is_done h m || (name.is_ancestor m n || b)) (apart_kept keep e h drops m n))
+
+turn_kept : (keep : Entry → Bool) (e : Entry) (h : Past) → DropsNone keep h → (o : Option Name) → option_map_or (has_turn e (filter keep h)) o true ≡ option_map_or (has_turn e h) o true
+turn_kept keep e h drops None = refl
+turn_kept keep e h drops (Some n) = has_turn_kept keep e h drops n
 
 -- whoever takes turns does so without the entries about no one
 pub turns_kept : (keep : Entry → Bool) (h : Past) → DropsNone keep h → each takes_turn h ≡ true → each takes_turn (filter keep h) ≡ true
@@ -103,5 +130,5 @@ turns_kept keep [] drops turns = refl
 turns_kept keep (e ∷ h) drops turns = let both = and_parts (each takes_turn h) (takes_turn e h) turns in by_test (keep e) (turns_kept keep h drops.1 both.0) both.1
   where
     by_test : (b : Bool) → each takes_turn (filter keep h) ≡ true → takes_turn e h ≡ true → each takes_turn (if b then e ∷ filter keep h else filter keep h) ≡ true
-    by_test true rest turn = and_from _ _ rest (turn_kept keep h drops.1 (acts e.event) ∙ turn)
+    by_test true rest turn = and_from _ _ rest (turn_kept keep e h drops.1 (acts e.event) ∙ turn)
     by_test false rest turn = rest

@@ -25,7 +25,8 @@ use Rattle.qc_event.proofs.Booleans.{all_wider}
 use Rattle.qc_names.specs.Name as name
 use Rattle.qc_script.specs.Client.{Client, about}
 use Rattle.qc_script.specs.Numbers.{each}
-use Rattle.qc_interp.specs.Sessions.{top_by, top_in, tops_of, is_of, part_of, is_under, seat_for, keeps_seat}
+use Rattle.qc_interp.specs.Sessions.{top_by, top_in, tops_of, is_of, part_of, is_under, child_seat, seat_for, keeps_seat, starts_of_step, after_steps}
+use Rattle.qc_interp.specs.FollowsScript.{no_branch}
 use Rattle.qc_interp.specs.Together.{IsSingle}
 use Rattle.qc_interp.proofs.Kept.{Answers, earliest_kept}
 use Rattle.qc_interp.proofs.Owners.{starts_client}
@@ -99,7 +100,12 @@ start_answers setting ts p (e ∷ past) legal low = ((λ other. by_event e.event
     by_event (event.Start m k) is other = by_test m k (record { seat = e.seat; kind = k }) (same m p) refl is other
     by_event _ is other = refl
 
-seats_kept : (c : Client) (s : ℕ) (ts : List Name) (past : Past) → Legal c.setting past → IsSingle c → AreIts c ts past → AllTops ts → each (keeps_seat s) (filter (is_of ts) past) ≡ true
+-- a child that is no branch starts under its parent's seat
+parent_seat : (past : Past) (seat : ℕ) (n : Name) (k : Kind) → child_seat no_branch past seat n k ≡ is_under past seat (name.front n)
+parent_seat past seat n (kind.User of body) = refl
+parent_seat past seat n _ = refl
+
+seats_kept : (c : Client) (s : ℕ) (ts : List Name) (past : Past) → Legal c.setting past → IsSingle c → AreIts c ts past → AllTops ts → each (keeps_seat no_branch s) (filter (is_of ts) past) ≡ true
 seats_kept c s ts [] legal single its tops = refl
 seats_kept c s ts (e ∷ past) legal single its tops =
     by_test (is_of ts e) refl (seats_kept c s ts past legal.0 single its.1 tops) (part_under c ts past single its.1)
@@ -120,20 +126,31 @@ seats_kept c s ts (e ∷ past) legal single its tops =
         let low_parent = parent_low ts p j tops far (sym (ap (λ n. list_any (λ t. name.is_ancestor t n) ts) next.next_child) ∙ low) in
         under_started c.number h p under (ap is_some (earliest_kept (is_of ts) (λ e. start_in p e.seat e.event) past (start_answers c.setting ts p past legal.0 low_parent)) ∙ next.parent_going.is_open.started)
 
-    by_event : (ev : Event) → e.event ≡ ev → c.number ≡ e.seat → AllUnder c.number h → option_map_or (λ n. list_any (λ t. name.is_ancestor t n) ts) (about ev) false ≡ true → seat_for s h e.seat ev ≡ true
+    by_event : (ev : Event) → e.event ≡ ev → c.number ≡ e.seat → AllUnder c.number h → option_map_or (λ n. list_any (λ t. name.is_ancestor t n) ts) (about ev) false ≡ true → seat_for no_branch s h e.seat ev ≡ true
     by_event (event.Start [] k) is seat under low = absurd (let z : KeepsOrder past (event.Start [] k) = subst (KeepsOrder past) is keeps in z)
     by_event (event.Start (x ∷ []) k) is seat under low =
         subst (λ n. list_all (is_under h n) (tops_of s h) ≡ true) seat (all_wider (λ t. is_some (start h t)) (is_under h c.number) (tops_of s h) (λ t some. under_started c.number h t under some) (tops_started s h))
-    by_event (event.Start (x ∷ y ∷ r) k) is seat under low = subst (λ n. is_under h n (name.front (x ∷ y ∷ r)) ≡ true) seat (parent_under x y r k is low under)
+    by_event (event.Start (x ∷ y ∷ r) k) is seat under low =
+        parent_seat h e.seat (x ∷ y ∷ r) k ∙ subst (λ n. is_under h n (name.front (x ∷ y ∷ r)) ≡ true) seat (parent_under x y r k is low under)
     by_event (event.Mark n session) is seat under low =
         let may : MayHappen c.setting past e.seat (event.Mark n session) = subst (MayHappen c.setting past e.seat) is legal.1 in
         let kept = earliest_kept (is_of ts) (λ e. start_in n e.seat e.event) past (start_answers c.setting ts n past legal.0 low) in
         subst (λ k. is_under h k n ≡ true) seat (under_started c.number h n under (ap is_some kept ∙ some_match (start past n) (λ b. IsUser b.kind) may.by_user))
     by_event _ is seat under low = refl
 
-    by_test : (b : Bool) → is_of ts e ≡ b → each (keeps_seat s) h ≡ true → AllUnder c.number h → each (keeps_seat s) (if b then e ∷ h else h) ≡ true
+    by_test : (b : Bool) → is_of ts e ≡ b → each (keeps_seat no_branch s) h ≡ true → AllUnder c.number h → each (keeps_seat no_branch s) (if b then e ∷ h else h) ≡ true
     by_test true of rest under = and_from _ _ rest (by_event e.event refl (own_seat c e.seat single (its.0 of)) under (and_parts (is_client e.seat) _ of).1)
     by_test false of rest under = rest
 
-pub seats_own : (c : Client) (s : ℕ) (past : Past) → Legal c.setting past → IsSingle c → AreIts c (tops_of s past) past → AllTops (tops_of s past) → each (keeps_seat s) (part_of s past) ≡ true
+pub seats_own : (c : Client) (s : ℕ) (past : Past) → Legal c.setting past → IsSingle c → AreIts c (tops_of s past) past → AllTops (tops_of s past) → each (keeps_seat no_branch s) (part_of s past) ≡ true
 seats_own c s past legal single its tops = seats_kept c s (tops_of s past) past legal single its tops
+
+-- who is no branch starts after no step
+no_step : (past : Past) (ev : Event) → starts_of_step no_branch past ev ≡ true
+no_step past (event.Start n (kind.User of body)) = refl
+no_step past (event.Start n _) = refl
+no_step past _ = refl
+
+pub no_steps : (h : Past) → each (after_steps no_branch) h ≡ true
+no_steps [] = refl
+no_steps (e ∷ h) = and_from _ _ (no_steps h) (no_step h e.event)

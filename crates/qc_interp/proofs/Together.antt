@@ -25,10 +25,10 @@ use Rattle.qc_interp.specs.Asking.{BodiesAsk, IsAskedBy}
 use Rattle.qc_interp.specs.FollowsScript.{net_of, RunsSession, EachRuns, OneAsks, is_of_session, is_in_session, RunsScript, started}
 use Rattle.qc_interp.specs.Reach.{Reach, AtTheEnd}
 use Rattle.qc_interp.specs.Session.{tops, RunsBodies, AreAllOurs}
-use Rattle.qc_interp.specs.Sessions.{tops_of, is_settled, AccessesEnd}
+use Rattle.qc_interp.specs.Sessions.{tops_of, part_of, is_settled, AccessesEnd}
 use Rattle.qc_interp.specs.Together.{HasRun, EachHasRun, AreOf}
 use Rattle.qc_interp.proofs.Owners.{starts_client, aborts_client, IsItsOwn, ran_inside, for_at, ran_client, ran_plan, Owner, owner, its_own, all_its_own}
-use Rattle.qc_interp.proofs.OwnSeats.{seats_own}
+use Rattle.qc_interp.proofs.OwnSeats.{seats_own, no_steps}
 use Rattle.qc_interp.proofs.OwnSessions.{AreIts, same_tops, turns_own, messages_own, order_own}
 use Rattle.qc_interp.proofs.Places.{some_same, at_place, each_place, any_place, kept_place, earliest_place, every_passes}
 use Rattle.qc_interp.proofs.SeenBodies.{IsOurTop, bodies_seen, bodies_ask_seen}
@@ -122,6 +122,7 @@ module _ (reach : Reach) (setting : Setting) (s epoch patience : ℕ) (c : Clien
     in_turn = record {
       turns = turns_own c s past ran.single its_part (subst (λ ts. list_all (is_of_one ts) (mine c past) ≡ true) only (ran_inside reach setting s epoch patience c plan past ran)) (ran.in_turn.turns all_ours refl refl).0;
       seats = seats_own c s past its_legal ran.single its_part (subst (AllByRecursion (λ t. is_child [] t ≡ true)) only (all_children (mine c past) []));
+      steps = no_steps (part_of s past);
       in_order = order_own c s past its.starts its.for_it (ran.in_turn.order all_ours refl refl).0;
     };
     messages = messages_own c s (net_of patience plan) past ran.single its_part ran.met;

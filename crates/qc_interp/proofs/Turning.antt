@@ -14,14 +14,14 @@ use Rattle.qc_event.specs.declared.event.How.{How}
 use Rattle.qc_event.specs.declared.event.How.TheVariants.{Commit, Abort}
 use Rattle.qc_event.specs.declared.event.Kind.{Kind}
 use Rattle.qc_event.specs.History.{Past, Name, every, end, is_ready, is_child}
-use Rattle.qc_event.proofs.LastNumber.{child_last, rest_of, is_ancestor-append, front_last, ends_in, same_last, below_more}
+use Rattle.qc_event.proofs.LastNumber.{child_last, rest_of, is_ancestor-append, ends_in, same_last, below_more}
 use Rattle.qc_event.proofs.OneEntry.{stays_some}
 use Rattle.qc_event.proofs.Booleans.{or_wider, all_wider}
 use Rattle.qc_names.specs.Name as name
 use Rattle.qc_script.specs.Calls.{IsOfAccess}
 use Rattle.qc_script.specs.Numbers.{each}
 use Rattle.qc_script.specs.Calls.{is_access, is_asked}
-use Rattle.qc_interp.specs.Turns.{begun_in, acts, is_done, is_alone, takes_turn}
+use Rattle.qc_interp.specs.Turns.{begun_in, acts, is_done, is_alone, are_apart, has_turn, takes_turn}
 
 abbrev pub InTurn : Past → Type 0
 InTurn h = each takes_turn h ≡ true
@@ -81,6 +81,15 @@ alone_up h of m child done alone = all_wider _ _ (every (λ e. begun_in e.event)
       | inr a ↦ ap (λ b. b || name.is_ancestor x of) is ∙ a
     ]
 
+-- who is alone takes its turn, and so does an entry by which no one acts
+alone_takes_turn : (e : Entry) (h : Past) (n : Name) → acts e.event ≡ Some n → Alone h n → takes_turn e h ≡ true
+alone_takes_turn e h n is alone =
+    ap (λ o. option_map_or (has_turn e h) o true) is
+    ∙ all_wider _ _ (every (λ x. begun_in x.event) h) (λ m. or_wider (is_done h m) (name.is_ancestor m n) (is_done h m) (name.is_ancestor m n || are_apart (e ∷ h) m n) (λ d. d) (λ a. ap (λ b. b || are_apart (e ∷ h) m n) a)) alone
+
+quiet_takes_turn : (e : Entry) (h : Past) → acts e.event ≡ None → takes_turn e h ≡ true
+quiet_takes_turn e h none = ap (λ o. option_map_or (has_turn e h) o true) none
+
 turn_more : (e : Entry) (h : Past) → InTurn h → takes_turn e h ≡ true → InTurn (e ∷ h)
 turn_more e h turns takes = and_from (each takes_turn h) (takes_turn e h) turns takes
 
@@ -96,11 +105,11 @@ start_turns e h of m k is child turns alone = by_kind (is_access k) refl
 
     by_kind : (b : Bool) → is_access k ≡ b → InTurn (e ∷ h) × Alone (e ∷ h) m
     by_kind true so = (
-      turn_more e h turns (ap (λ ev. option_map_or (is_alone h) (acts ev) true) is ∙ ap (λ b. option_map_or (is_alone h) (if b then None else Some (name.front m)) true) so),
+      turn_more e h turns (quiet_takes_turn e h (ap acts is ∙ ap (λ b. if b then None else Some m) so)),
       alone_still e h m (ap begun_in is ∙ ap (λ b. if b then None else Some m) so) (alone_below h of m low alone),
     )
     by_kind false so = (
-      turn_more e h turns (ap (λ ev. option_map_or (is_alone h) (acts ev) true) is ∙ ap (λ b. option_map_or (is_alone h) (if b then None else Some (name.front m)) true) so ∙ ap (is_alone h) (ap name.front l.1 ∙ front_last of l.0) ∙ alone),
+      turn_more e h turns (alone_takes_turn e h m (ap acts is ∙ ap (λ b. if b then None else Some m) so) (alone_below h of m low alone)),
       alone_more e h m m (ap begun_in is ∙ ap (λ b. if b then None else Some m) so) (itself m) (alone_below h of m low alone),
     )
 
@@ -118,7 +127,7 @@ own_actor n (Abort cause.Missed) h = refl
 
 -- one acts by an entry that starts no one, and another stays alone
 pub act_turns : (e : Entry) (h : Past) (by n : Name) → acts e.event ≡ Some by → begun_in e.event ≡ None → InTurn h → Alone h by → Alone h n → InTurn (e ∷ h) × Alone (e ∷ h) n
-act_turns e h by n is none turns alone other = (turn_more e h turns (ap (λ o. option_map_or (is_alone h) o true) is ∙ alone), alone_still e h n none other)
+act_turns e h by n is none turns alone other = (turn_more e h turns (alone_takes_turn e h by is alone), alone_still e h n none other)
 
 pub end_turns : (e : Entry) (h : Past) (by n : Name) (how : How) → e.event ≡ event.End n how → acts (event.End n how) ≡ Some by → InTurn h → Alone h by → Alone h n → InTurn (e ∷ h) × Alone (e ∷ h) n
 end_turns e h by n how is actor turns alone other = act_turns e h by n (ap acts is ∙ actor) (ap begun_in is) turns alone other
@@ -129,10 +138,10 @@ access_turns m [] h all turns alone = (turns, alone)
 access_turns m (e ∷ inner) h all turns alone = by_event e.event refl all.0 (access_turns m inner h all.1 turns alone)
   where
     quiet : acts e.event ≡ None → begun_in e.event ≡ None → InTurn (inner ++ h) × Alone (inner ++ h) m → InTurn (e ∷ inner ++ h) × Alone (e ∷ inner ++ h) m
-    quiet none start before = (turn_more e (inner ++ h) before.0 (ap (λ o. option_map_or (is_alone (inner ++ h)) o true) none), alone_still e (inner ++ h) m start before.1)
+    quiet none start before = (turn_more e (inner ++ h) before.0 (quiet_takes_turn e (inner ++ h) none), alone_still e (inner ++ h) m start before.1)
 
     by_event : (ev : Event) → e.event ≡ ev → IsOfAccess m ev → InTurn (inner ++ h) × Alone (inner ++ h) m → InTurn (e ∷ inner ++ h) × Alone (e ∷ inner ++ h) m
-    by_event (event.Start n k) is of before = quiet (ap acts is ∙ ap (λ b. if b then None else Some (name.front n)) of.1) (ap begun_in is ∙ ap (λ b. if b then None else Some n) of.1) before
+    by_event (event.Start n k) is of before = quiet (ap acts is ∙ ap (λ b. if b then None else Some n) of.1) (ap begun_in is ∙ ap (λ b. if b then None else Some n) of.1) before
     by_event (event.End n how) is of before =
         let l = child_last m n of.0 in
         act_turns e (inner ++ h) n m (ap acts is ∙ own_actor n how of.1) (ap begun_in is) before.0 (alone_below (inner ++ h) m n (ap (name.is_ancestor m) l.1 ∙ is_ancestor-append m (l.0 ∷ [])) before.1) before.1

@@ -4,4 +4,5 @@ pub mod Marks
 pub mod Musts
 pub mod Crashes
 pub mod Scripts
+pub mod Branches
 pub mod TwoSessions

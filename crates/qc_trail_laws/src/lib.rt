@@ -8,11 +8,12 @@ ghost use Rattle.qc_event.specs.History.{children};
 ghost use Rattle.qc_interp.specs.Asking.{Asks};
 ghost use Rattle.qc_interp.specs.Deeds.{deeds};
 ghost use Rattle.qc_interp.specs.Follows.{FollowsBody};
-ghost use Rattle.qc_interp.specs.FollowsScript.{EachRuns, is_in_session, started};
+ghost use Rattle.qc_interp.specs.FollowsScript.{EachRuns, is_in_session, no_branch, started};
 ghost use Rattle.qc_interp.specs.Reach.{Reach};
 ghost use Rattle.qc_interp.specs.Session.{FollowsBodies, RunsBodies};
 ghost use Rattle.qc_interp.specs.Sessions.{RunsInTurn, tops_of, meets, is_settled};
 ghost use Rattle.qc_script.specs.Numbers.{each, is_next_top};
+ghost use Rattle.qc_trail_laws.specs.Branches as branches;
 ghost use Rattle.qc_trail_laws.specs.Crashes as crashes;
 ghost use Rattle.qc_trail_laws.specs.Marks as marks;
 ghost use Rattle.qc_trail_laws.specs.Musts as musts;
@@ -27,30 +28,30 @@ ghost use Rattle.qc_trail_laws.specs.Values as values;
 pub fn accepts()
     ensures first_run { FollowsBodies 0 (reverse trails.first_run) trails.set_then_read
         (trails.top ∷ []) }
-    ensures first_turns { RunsInTurn 0 (reverse trails.first_run) }
+    ensures first_turns { RunsInTurn no_branch 0 (reverse trails.first_run) }
     ensures first_numbers { IsTrue (each (is_next_top 1) (reverse trails.first_run)) }
     ensures first_messages { IsTrue (meets 0 trails.net (reverse trails.first_run)) }
     ensures first_settled { IsTrue (list_all (is_settled (reverse trails.first_run))
         (started (reverse trails.first_run))) }
     ensures tried_again { FollowsBodies 0 (reverse trails.tried_again) trails.read_twice
         (trails.top ∷ trails.top2 ∷ []) }
-    ensures tried_turns { RunsInTurn 0 (reverse trails.tried_again) }
+    ensures tried_turns { RunsInTurn no_branch 0 (reverse trails.tried_again) }
     ensures tried_messages { IsTrue (meets 0 trails.first_lost (reverse trails.tried_again)) }
     ensures reconfigured { FollowsBodies 0 (reverse trails.reconfigured) trails.reconfigure
         (trails.top ∷ []) }
-    ensures reconfigured_turns { RunsInTurn 0 (reverse trails.reconfigured) }
+    ensures reconfigured_turns { RunsInTurn no_branch 0 (reverse trails.reconfigured) }
     ensures copy_down { FollowsBodies 0 (reverse trails.copy_down) trails.read_alone
         (trails.top ∷ []) }
-    ensures down_turns { RunsInTurn 0 (reverse trails.copy_down) }
+    ensures down_turns { RunsInTurn no_branch 0 (reverse trails.copy_down) }
     ensures down_settled { IsTrue (list_all (is_settled (reverse trails.copy_down))
         (started (reverse trails.copy_down))) }
     ensures not_logged { FollowsBodies 0 (reverse trails.not_logged) trails.set_then_read
         (trails.top ∷ []) }
-    ensures not_logged_turns { RunsInTurn 0 (reverse trails.not_logged) }
+    ensures not_logged_turns { RunsInTurn no_branch 0 (reverse trails.not_logged) }
     ensures not_logged_settled { IsTrue (list_all (is_settled (reverse trails.not_logged))
         (started (reverse trails.not_logged))) }
     ensures far_abort { FollowsBody 0 (reverse trails.far_abort) (trails.abort_body 2) trails.top }
-    ensures far_turns { RunsInTurn 0 (reverse trails.far_abort) }
+    ensures far_turns { RunsInTurn no_branch 0 (reverse trails.far_abort) }
     ensures far_named { Asks (reverse trails.far_abort) trails.top (trails.abort_body 2).plan
         (deeds (reverse trails.far_abort) trails.top) trails.grandchild trails.top }
 {}
@@ -94,11 +95,12 @@ pub fn begins()
     ensures in_manager { RunsBodies Reach.cut_off 0 (reverse (trails.first_cut trails.read_asked))
         trails.set_then_read
         (trails.top ∷ []) }
-    ensures in_manager_turns { RunsInTurn 0 (reverse (trails.first_cut trails.read_asked)) }
+    ensures in_manager_turns { RunsInTurn no_branch 0
+        (reverse (trails.first_cut trails.read_asked)) }
     ensures between_steps { RunsBodies Reach.cut_off 0 (reverse (trails.first_cut trails.set_ended))
         trails.set_then_read
         (trails.top ∷ []) }
-    ensures between_turns { RunsInTurn 0 (reverse (trails.first_cut trails.set_ended)) }
+    ensures between_turns { RunsInTurn no_branch 0 (reverse (trails.first_cut trails.set_ended)) }
     ensures ready { RunsBodies Reach.cut_off 0 (reverse (trails.first_cut trails.top_ready))
         trails.set_then_read
         (trails.top ∷ []) }
@@ -158,12 +160,12 @@ pub fn goes_by_no_other_value()
 /// child must commit.
 pub fn goes_by_children()
     ensures aborted { FollowsBodies 0 (reverse musts.aborted) (musts.child true) (trails.top ∷ []) }
-    ensures aborted_turns { RunsInTurn 0 (reverse musts.aborted) }
+    ensures aborted_turns { RunsInTurn no_branch 0 (reverse musts.aborted) }
     ensures aborted_twice { FollowsBodies 0 (reverse musts.aborted_twice) musts.child_twice
         (trails.top ∷ trails.top2 ∷ []) }
     ensures went_on { FollowsBodies 0 (reverse musts.went_on) (musts.child false)
         (trails.top ∷ []) }
-    ensures went_on_turns { RunsInTurn 0 (reverse musts.went_on) }
+    ensures went_on_turns { RunsInTurn no_branch 0 (reverse musts.went_on) }
     ensures orphan { FollowsBody 0 (reverse trails.far_abort) musts.far_body trails.top }
 {}
 
@@ -183,7 +185,7 @@ pub fn passes_over_crashes()
     ensures in_child { FollowsBodies 0 (reverse musts.went_on) crashes.in_child (trails.top ∷ []) }
     ensures in_aborted { FollowsBodies 0 (reverse crashes.aborts_parent) crashes.in_aborted
         (trails.top ∷ []) }
-    ensures in_aborted_turns { RunsInTurn 0 (reverse crashes.aborts_parent) }
+    ensures in_aborted_turns { RunsInTurn no_branch 0 (reverse crashes.aborts_parent) }
 {}
 
 /// None of these follows its script: a top that commits where a copy crashes, before the set that stands behind, and one
@@ -202,21 +204,21 @@ pub fn goes_by_marks()
     ensures itself { FollowsBodies 0 (reverse (marks.marks_then 0 marks.is_killed))
         (marks.kill_then_read 0)
         (trails.top ∷ []) }
-    ensures itself_turns { RunsInTurn 0 (reverse (marks.marks_then 0 marks.is_killed)) }
+    ensures itself_turns { RunsInTurn no_branch 0 (reverse (marks.marks_then 0 marks.is_killed)) }
     ensures itself_at_last { FollowsBodies 0 (reverse (marks.marks_then 0 marks.is_killed))
         (marks.kill_alone 0)
         (trails.top ∷ []) }
     ensures another { FollowsBodies 0 (reverse (marks.marks_then 1 marks.reads_on))
         (marks.kill_then_read 1)
         (trails.top ∷ []) }
-    ensures another_turns { RunsInTurn 0 (reverse (marks.marks_then 1 marks.reads_on)) }
+    ensures another_turns { RunsInTurn no_branch 0 (reverse (marks.marks_then 1 marks.reads_on)) }
     ensures killed { FollowsBodies 0 (reverse (trails.user trails.client trails.top
         ∷ marks.is_killed))
         trails.read_alone
         (trails.top ∷ []) }
     ensures late { FollowsBodies 0 (reverse marks.marks_late) marks.kills_in_aborted
         (trails.top ∷ []) }
-    ensures late_turns { RunsInTurn 0 (reverse marks.marks_late) }
+    ensures late_turns { RunsInTurn no_branch 0 (reverse marks.marks_late) }
 {}
 
 /// None of these follows its script: a mark that no step asks for; a step's mark that is left out, made twice, of another
@@ -271,4 +273,31 @@ pub fn runs_not_together()
         (reverse two.of_one_session) → ⊥ }
     ensures aborts_the_other { two.FollowsBoth two.reader_and_idler
         (reverse two.aborts_the_other) → ⊥ }
+{}
+
+/// Branches run at once, each under a seat of its own, and each is tried again under its seat; those of the next step run
+/// once they have ended: so the session runs in turn.
+pub fn runs_branches()
+    ensures at_once { RunsInTurn branches.step_of 0
+        (reverse (branches.at_once branches.third_client)) }
+    ensures tried_again { RunsInTurn branches.step_of 0
+        (reverse (branches.tried_under trails.other_client)) }
+    ensures in_a_row { RunsInTurn branches.step_of 0 (reverse branches.steps_in_a_row) }
+{}
+
+/// In none of these does a session run in turn: children at once that are no branches; two branches under one seat, at
+/// once or one after the other; a branch that is tried again under another seat, or before its first try has ended; a
+/// parent that marks, or starts a child that is no branch, as a branch runs; and branches of two steps at once.
+pub fn runs_no_branches()
+    ensures no_branches { RunsInTurn no_branch 0
+        (reverse (branches.at_once branches.third_client)) → ⊥ }
+    ensures one_seat_at_once { RunsInTurn branches.step_of 0
+        (reverse (branches.at_once trails.other_client)) → ⊥ }
+    ensures one_seat { RunsInTurn branches.step_of 0 (reverse branches.under_one_seat) → ⊥ }
+    ensures tried_elsewhere { RunsInTurn branches.step_of 0
+        (reverse (branches.tried_under branches.third_client)) → ⊥ }
+    ensures tried_at_once { RunsInTurn branches.step_of 0 (reverse branches.tried_at_once) → ⊥ }
+    ensures parent_marks { RunsInTurn branches.step_of 0 (reverse branches.parent_marks) → ⊥ }
+    ensures child_beside { RunsInTurn branches.step_of 0 (reverse branches.child_beside) → ⊥ }
+    ensures steps_at_once { RunsInTurn branches.step_of 0 (reverse branches.steps_at_once) → ⊥ }
 {}
