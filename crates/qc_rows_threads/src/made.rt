@@ -9,7 +9,7 @@ const RECORDS: &str = r#"{"copies":2,"records":[
 {"name":"x","start":5,"config":{"votes":[1,1],"read":1,"write":2}},
 {"name":"y","start":5,"config":{"votes":[1,2],"read":2,"write":2}}],"sessions":["#;
 
-/// Steps, of which the last is one of a child alone.
+/// Steps, but those that abort or mark.
 const STEPS: [&str; 11] = [
     r#"["read","x"]"#,
     r#"["read","y"]"#,
@@ -20,9 +20,12 @@ const STEPS: [&str; 11] = [
     r#"["sub","y",1]"#,
     r#"["need","y",5]"#,
     r#"["reconf","x",{"votes":[2,1],"read":2,"write":2}]"#,
-    r#"["abort",0]"#,
-    r#"["abort",1]"#,
+    r#"["crash",0]"#,
+    r#"["crash",1]"#,
 ];
+
+/// Numbers of sessions and of levels.
+const DIGITS: [&str; 6] = ["0", "1", "2", "3", "4", "5"];
 
 /// What becomes of a session's requests.
 const NETS: [&str; 5] = [
@@ -40,12 +43,44 @@ fn pick<'t>(random: &mut Random, texts: &[&'t str]) -> &'t str {
     texts.get(place).copied().unwrap_or("")
 }
 
-// One or two of these steps, up to the end of the body.
-fn add_steps(random: &mut Random, text: &mut String, steps: &[&str]) -> Result<(), AllocError> {
-    text.push_str(pick(random, steps))?;
+// A step with a number below a limit, of at most 6.
+fn add_numbered(
+    random: &mut Random,
+    text: &mut String,
+    word: &str,
+    limit: usize,
+) -> Result<(), AllocError> {
+    text.push_str(word)?;
+    text.push_str(pick(random, &DIGITS[..limit.min(6)]))?;
+    text.push_str("]")?;
+    Ok(())
+}
+
+// A step of a transaction at a depth, in a script of so many sessions.
+fn add_step(
+    random: &mut Random,
+    text: &mut String,
+    depth: usize,
+    sessions: usize,
+) -> Result<(), AllocError> {
+    match random.below(14) {
+        0 => add_numbered(random, text, r#"["kill","#, sessions),
+        1 | 2 => add_numbered(random, text, r#"["abort","#, depth),
+        _ => Ok(text.push_str(pick(random, &STEPS))?),
+    }
+}
+
+// One or two steps, up to the end of the body.
+fn add_steps(
+    random: &mut Random,
+    text: &mut String,
+    depth: usize,
+    sessions: usize,
+) -> Result<(), AllocError> {
+    add_step(random, text, depth, sessions)?;
     for _ in 0..random.below(2) {
         text.push_str(",")?;
-        text.push_str(pick(random, steps))?;
+        add_step(random, text, depth, sessions)?;
     }
     text.push_str("]}")?;
     Ok(())
@@ -64,44 +99,57 @@ fn add_head(random: &mut Random, text: &mut String) -> Result<(), AllocError> {
     Ok(())
 }
 
-// A top, which may begin with a child.
-fn add_top(random: &mut Random, text: &mut String) -> Result<(), AllocError> {
+// A top, which may begin with a child, and that with another.
+fn add_top(random: &mut Random, text: &mut String, sessions: usize) -> Result<(), AllocError> {
     add_head(random, text)?;
-    if random.below(2) == 0 {
+    let below = random.below(5);
+    if below < 3 {
         text.push_str(r#"["child","#)?;
         add_head(random, text)?;
-        add_steps(random, text, &STEPS)?;
+        if below == 0 {
+            text.push_str(r#"["child","#)?;
+            add_head(random, text)?;
+            add_steps(random, text, 3, sessions)?;
+            text.push_str("],")?;
+        }
+        add_steps(random, text, 2, sessions)?;
         text.push_str("],")?;
     }
-    add_steps(random, text, &STEPS[..10])
+    add_steps(random, text, 1, sessions)
 }
 
 // A session of one top or more, up to so many.
-fn add_session(random: &mut Random, text: &mut String, most: u64) -> Result<(), AllocError>
+fn add_session(
+    random: &mut Random,
+    text: &mut String,
+    most: u64,
+    sessions: usize,
+) -> Result<(), AllocError>
     requires { 0 < most }
 {
     text.push_str(r#"{"net":"#)?;
     text.push_str(pick(random, &NETS))?;
     text.push_str(r#","tops":["#)?;
-    add_top(random, text)?;
+    add_top(random, text, sessions)?;
     for _ in 0..random.below(most) {
         text.push_str(",")?;
-        add_top(random, text)?;
+        add_top(random, text, sessions)?;
     }
     text.push_str("]}")?;
     Ok(())
 }
 
-/// A script of two to six sessions, with at most four tops each and twelve together: the checker's time grows with the
+/// A script of two to six sessions, with at most three tops each and eight together: the checker's time grows with the
 /// fourth power of the history's length.
 pub(crate) fn make_script(alloc: Global, random: &mut Random) -> Result<String, AllocError> {
     let others = random.below(5) + 1;
-    let most = (12 / (others + 1)).clamp(1, 4);
+    let most = (8 / (others + 1)).clamp(1, 3);
+    let sessions = others as usize + 1;
     let mut text = String::from_str(alloc, RECORDS)?;
-    add_session(random, &mut text, most)?;
+    add_session(random, &mut text, most, sessions)?;
     for _ in 0..others {
         text.push_str(",")?;
-        add_session(random, &mut text, most)?;
+        add_session(random, &mut text, most, sessions)?;
     }
     text.push_str("]}")?;
     Ok(text)

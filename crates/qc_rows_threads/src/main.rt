@@ -6,7 +6,10 @@
 //!   other; the status, and whether the writes met.
 //! - `adds SESSIONS RUNS`: each session adds to one record; how many runs counted each top that was committed, and no
 //!   other.
-//! - `audit SEED RUNS`: scripts made from a seed; how many of their histories the checker finds legal.
+//! - `follow SEED RUNS OPTION ..`: scripts made from a seed; how many of their histories are legal as the checker has it and
+//!   follow their script as the judge has it, and whether a transaction was killed.
+//! - `slip KIND SEED`: the first of such scripts, in order, whose trail can be spoilt in this way; the fault that the judge
+//!   then finds.
 //!
 //! The options are those of `run`.
 #![tactic(auto)]
@@ -15,17 +18,25 @@ mod adds;
 mod audits;
 mod command;
 mod crossing;
+mod ends;
+mod judged;
 mod made;
 mod meeting;
 mod random;
+mod renamed;
+mod slips;
+mod spoiled;
+mod spots;
+mod starts;
 
 use adds::count_agreed;
-use audits::count_legal;
+use audits::count_following;
 use command::run_text;
 use crossing::Crossing;
 use meeting::Meeting;
 use qc_disk::MemShop;
 use qc_watched::WatchedShop;
+use slips::fault_of_slip;
 use std::alloc::Global;
 use std::io;
 use std::sync::Wait;
@@ -75,6 +86,20 @@ fn print_disks<R: Threads + Wait + Sync>(
     )
 }
 
+// Spoils a trail.
+fn print_slip<R: Threads + Wait + Sync>(
+    handle: &R,
+    rt: &HostRuntime,
+    alloc: Global,
+    kind: &str,
+    seed: u64,
+) -> io::Result<()> {
+    match fault_of_slip(handle, alloc, kind, seed)? {
+        Some(fault) => println!(rt; ": {fault}"),
+        None => println!(rt; ": no fault"),
+    }
+}
+
 // A number; what is none is 0.
 fn number(word: &str) -> u64 {
     word.parse::<u64>().unwrap_or(0)
@@ -97,10 +122,12 @@ fn answer<R: Threads + Wait + Sync>(
             let agreed = count_agreed(handle, alloc, number(first), number(second))?;
             println!(rt; ": {agreed} agreed")
         }
-        "audit" => {
-            let legal = count_legal(handle, alloc, number(first), number(second))?;
-            println!(rt; ": {legal} legal")
+        "follow" => {
+            let (runs, options) = second.split_once(' ').unwrap_or((second, ""));
+            let count = count_following(handle, alloc, number(first), number(runs), options)?;
+            println!(rt; ": {count}")
         }
+        "slip" => print_slip(handle, rt, alloc, first, number(second)),
         _ => println!(rt;),
     }
 }
