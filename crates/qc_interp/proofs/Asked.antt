@@ -1,5 +1,5 @@
 -- Who is aborted as another asked, over several calls, and for ever.
-use Rattle.std.proofs.Common.{◌≡◌, inl, inr, ℕ, zero, suc, Bool, true, false, List, [], ◌∷◌, ◌++◌, refl, sym, ap, ◌∙◌, subst, append_assoc, filter}
+use Rattle.std.proofs.Common.{◌≡◌, ◌⊎◌, inl, inr, ℕ, zero, suc, Bool, true, false, List, [], ◌∷◌, ◌++◌, refl, sym, ap, ◌∙◌, subst, append_assoc, filter}
 use mathlib.Core.Bool.{true≢false}
 use Rattle.std.specs.Prelude.{◌==◌, Option, None, Some, MatchBool, IsTrue, not}
 use Rattle.std.specs.List.{AllByRecursion}
@@ -14,20 +14,23 @@ use Rattle.qc_event.specs.declared.event.How.TheVariants.{Commit, Abort}
 use Rattle.qc_event.specs.Base.{Setting}
 use Rattle.qc_event.specs.History.{Past, Name, end}
 use Rattle.qc_event.specs.Legal.{Legal}
-use Rattle.qc_interp.specs.Asking.{DoesOn, DoesAfter, Asks, IsAskedBy, AllAsked, ByItself}
+use Rattle.qc_interp.specs.Asking.{DoesOn, DoesAfter, DoesInRow, Asks, RowAsks, IsAskedBy, AllAsked, ByItself}
 use Rattle.qc_script.specs.Calls.{IsOfAccess}
 use Rattle.qc_script.specs.Client.{Client, mine, Made}
-use Rattle.qc_interp.specs.Follows.{GoesOn, GoesOnAfter, AfterTries, FollowsPlan, StopsEarly, StopsBefore, WasAsked, WasKilled}
+use Rattle.qc_interp.specs.Follows.{GoesOn, GoesOnAfter, AfterTries, AfterRow, RunsRow, FollowsPlan, StopsEarly, StopsBefore, WasAsked, WasKilled}
 use Rattle.qc_script.specs.Plan.{Plan}
 use Rattle.qc_interp.specs.Reach.{Reach}
+use Rattle.qc_interp.specs.Rows.{OneOf, each_tried, first_failed, tries_among}
 use Rattle.qc_interp.specs.Tries.{Tries, TriesDo, is_tried_again}
 use Rattle.qc_script.specs.Calls.{is_asked}
 use Rattle.qc_interp.proofs.Growth.{made_is}
 use Rattle.qc_interp.specs.Deeds.{Deed, deeds, deed_end, OfChild}
 use Rattle.qc_interp.proofs.Deeds.{deeds_still}
 use Rattle.qc_interp.proofs.Mine.{Closed, CommittedSince, how_still, end_some}
+use Rattle.qc_interp.proofs.Rows.{IsSameTry, one_map, among_alike, each_alike, at_once_alike, same_front}
 use Rattle.qc_interp.proofs.Stopping.{stopped_runs}
-use Rattle.qc_interp.proofs.Still.{IsTryOf, deed_again_still, child_still, plan_still}
+use Rattle.qc_interp.proofs.Followed.{IsTryOf}
+use Rattle.qc_interp.proofs.Still.{deed_again_still, child_still, plan_still, same_tries, first_failed_still}
 
 abbrev pub NoOne : Name → Name → Type 0
 NoOne by target = ⊥
@@ -111,6 +114,10 @@ pub accesses_unasked : (m : Name) (inner rest : Past) → AllByRecursion (λ (e 
 accesses_unasked m [] rest all more = more
 accesses_unasked m (e ∷ inner) rest all more = (access_unasked m e.event all.0, accesses_unasked m inner rest all.1 more)
 
+-- by branches at once, or behind them
+abbrev RowDoes : Past → Plan → List Deed → Name → Name → List Deed → Type 0 → Type 0
+RowDoes past branches here by target further Does = DoesInRow past (each_tried past false branches here) (first_failed past branches here) (RowAsks past branches here by target) further Does
+
 -- FOR EVER
 
 module _ (s : ℕ) (p : Entry → Bool) (setting : Setting) (newer past : Past) (legal : Legal setting (newer ++ past)) (by target : Name) where
@@ -175,29 +182,71 @@ module _ (s : ℕ) (p : Entry → Bool) (setting : Setting) (newer past : Past) 
   asked_still n None is h = absurd h
   asked_still n (Some how) is h = subst (WasAsked n) (sym (end_some p setting newer past n how is)) h
 
-  plan_asks_still : (n : Name) → Closed old n → (plan : Plan) (cs : List Deed) (how : Option How) → FollowsPlan s old n plan cs how → Asks old n plan cs by target → Asks now n plan cs by target
-  plan_asks_still n closed Plan.done cs how h d = absurd d
-  plan_asks_still n closed (Plan.manage_by k next) [] how h d = absurd d
-  plan_asks_still n closed (Plan.manage_by k next) (Deed.child c ∷ cs) how h d =
-      does_still n c (λ given. FollowsPlan s old n (next given) cs how) (λ given. Asks old n (next given) cs by target) (λ given. Asks now n (next given) cs by target) cs how
-      (λ given. plan_asks_still n closed (next given) cs how) (end old c) refl h.1 d
-  plan_asks_still n closed (Plan.manage_by k next) (Deed.mark m ∷ cs) how h d = absurd h
-  plan_asks_still n closed (Plan.child_then number tries must inner rest) cs how h d =
-      tries_do_still (OfChild (IsTryOf Reach.to_the_end s old number inner)) (OfChild (λ c. Asks old c inner (deeds old c) by target)) (OfChild (λ c. Asks now c inner (deeds now c) by target)) (StopsEarly n how) (λ last further. AfterTries Reach.to_the_end old n last must (FollowsPlan s old n rest further how) further how)
-      (λ last further. DoesAfter old last must (Asks old n rest further by target)) (λ last further. DoesAfter now last must (Asks now n rest further by target))
-      (try_asks_still number inner (λ c below. plan_asks_still c below inner (deeds old c) (end old c)))
-      (λ last further f a. does_behind_still n last must (FollowsPlan s old n rest further how) (Asks old n rest further by target) (Asks now n rest further by target) further how (plan_asks_still n closed rest further how) f a) None tries cs h d
-  plan_asks_still n closed (Plan.abort_then levels rest) [] how h d = (d.0, d.1, unkilled_still n closed d.2)
-  plan_asks_still n closed (Plan.abort_then levels rest) (c ∷ cs) how h d = absurd d
-  plan_asks_still n closed (Plan.crash_then copy rest) cs how h d = plan_asks_still n closed rest cs how h d
-  plan_asks_still n closed (Plan.kill_then session rest) [] how h d =
-      (asked_still n (end old n) refl d.0, plan_asks_still n closed rest [] how (stopped_runs Reach.to_the_end s old n how h rest) d.1)
-  plan_asks_still n closed (Plan.kill_then session rest) (Deed.child c ∷ cs) how h d = absurd h
-  plan_asks_still n closed (Plan.kill_then session rest) (Deed.mark m ∷ cs) how h d = by_test (session == s) h.1 (plan_asks_still n closed rest cs how)
-    where
-      by_test : (b : Bool) → MatchBool b ((cs ≡ []) × StopsBefore Reach.to_the_end old n how) (FollowsPlan s old n rest cs how) → (FollowsPlan s old n rest cs how → Asks old n rest cs by target → Asks now n rest cs by target) → Asks now n rest cs by target
-      by_test true x more = more (subst (λ l. FollowsPlan s old n rest l how) (sym x.0) (stopped_runs Reach.to_the_end s old n how x.1 rest)) d
-      by_test false x more = more x d
+  row_out : (n : Name) (tried : Bool) (failed : Option Deed) (Rest : Type 0) (further : List Deed) (how : Option How) → AfterRow Reach.to_the_end old n tried failed Rest further how → (tried ≡ true) ⊎ (further ≡ [])
+  row_out n true failed Rest further how h = inl refl
+  row_out n false failed Rest further how h = inr h.0
+
+  does_out : (tried : Bool) (failed : Option Deed) (One : Type 0) (further : List Deed) (Does : Type 0) → DoesInRow old tried failed One further Does → (tried ≡ true) ⊎ (further ≡ [])
+  does_out true failed One further Does h = inl refl
+  does_out false failed One further Does h = inr h.0
+
+  does_in_row_still : (n : Name) (branches : Plan) (here further : List Deed) (how : Option How) (Follows Does DoesNow : Type 0) → AllByRecursion (IsSameTry old now) here → (tried : Bool)
+      → (RowAsks old branches here by target → RowAsks now branches here by target) → (Follows → Does → DoesNow) → AfterRow Reach.to_the_end old n tried (first_failed old branches here) Follows further how
+      → DoesInRow old tried (first_failed old branches here) (RowAsks old branches here by target) further Does → DoesInRow now tried (first_failed now branches here) (RowAsks now branches here by target) further DoesNow
+  does_in_row_still n branches here further how Follows Does DoesNow same true one step h (inl d) = inl (one d)
+  does_in_row_still n branches here further how Follows Does DoesNow same true one step h (inr d) =
+      inr (subst (λ o. DoesAfter now o true DoesNow) (first_failed_still s p setting newer past legal n branches here further how Follows same h)
+      (does_behind_still n (first_failed old branches here) true Follows Does DoesNow further how step h d))
+  does_in_row_still n branches here further how Follows Does DoesNow same false one step h d = (d.0, one d.1)
+
+  mutual
+    plan_asks_still : (n : Name) → Closed old n → (plan : Plan) (cs : List Deed) (how : Option How) → FollowsPlan s old n plan cs how → Asks old n plan cs by target → Asks now n plan cs by target
+    plan_asks_still n closed Plan.done cs how h d = absurd d
+    plan_asks_still n closed (Plan.manage_by k next) [] how h d = absurd d
+    plan_asks_still n closed (Plan.manage_by k next) (Deed.child c ∷ cs) how h d =
+        does_still n c (λ given. FollowsPlan s old n (next given) cs how) (λ given. Asks old n (next given) cs by target) (λ given. Asks now n (next given) cs by target) cs how
+        (λ given. plan_asks_still n closed (next given) cs how) (end old c) refl h.1 d
+    plan_asks_still n closed (Plan.manage_by k next) (Deed.mark m ∷ cs) how h d = absurd h
+    plan_asks_still n closed (Plan.child_then number tries must inner rest) cs how h d =
+        tries_do_still (OfChild (IsTryOf Reach.to_the_end s old number inner)) (OfChild (λ c. Asks old c inner (deeds old c) by target)) (OfChild (λ c. Asks now c inner (deeds now c) by target)) (StopsEarly n how) (λ last further. AfterTries Reach.to_the_end old n last must (FollowsPlan s old n rest further how) further how)
+        (λ last further. DoesAfter old last must (Asks old n rest further by target)) (λ last further. DoesAfter now last must (Asks now n rest further by target))
+        (try_asks_still number inner (λ c below. plan_asks_still c below inner (deeds old c) (end old c)))
+        (λ last further f a. does_behind_still n last must (FollowsPlan s old n rest further how) (Asks old n rest further by target) (Asks now n rest further by target) further how (plan_asks_still n closed rest further how) f a) None tries cs h d
+    plan_asks_still n closed (Plan.par_then branches rest) cs how h d =
+        let same = same_tries s p setting newer past legal branches h.0 h.3 h.4 in
+        let front = same_front old branches h.0 h.1 d.0 d.1 (sym h.2 ∙ d.2) h.3 d.3 (row_out n (each_tried old false branches h.0) (first_failed old branches h.0) _ h.1 how h.5) (does_out (each_tried old false branches d.0) (first_failed old branches d.0) _ d.1 _ d.4) in
+        let there = subst (λ l. RowDoes old branches l by target d.1 (Asks old n rest d.1 by target)) (sym front.0) d.4 in
+        let does = subst (λ l. RowDoes old branches h.0 by target l (Asks old n rest l by target)) (sym front.1) there in (
+          h.0,
+          h.1,
+          h.2,
+          sym (at_once_alike old now branches h.0 same) ∙ h.3,
+          subst (λ b. DoesInRow now b (first_failed now branches h.0) (RowAsks now branches h.0 by target) h.1 (Asks now n rest h.1 by target)) (each_alike old now false branches h.0 same)
+              (does_in_row_still n branches h.0 h.1 how (FollowsPlan s old n rest h.1 how) (Asks old n rest h.1 by target) (Asks now n rest h.1 by target) same (each_tried old false branches h.0) (row_asks_still branches h.0 same h.4) (plan_asks_still n closed rest h.1 how) h.5 does),
+        )
+    plan_asks_still n closed (Plan.abort_then levels rest) [] how h d = (d.0, d.1, unkilled_still n closed d.2)
+    plan_asks_still n closed (Plan.abort_then levels rest) (c ∷ cs) how h d = absurd d
+    plan_asks_still n closed (Plan.crash_then copy rest) cs how h d = plan_asks_still n closed rest cs how h d
+    plan_asks_still n closed (Plan.kill_then session rest) [] how h d =
+        (asked_still n (end old n) refl d.0, plan_asks_still n closed rest [] how (stopped_runs Reach.to_the_end s old n how h rest) d.1)
+    plan_asks_still n closed (Plan.kill_then session rest) (Deed.child c ∷ cs) how h d = absurd h
+    plan_asks_still n closed (Plan.kill_then session rest) (Deed.mark m ∷ cs) how h d = by_test (session == s) h.1 (plan_asks_still n closed rest cs how)
+      where
+        by_test : (b : Bool) → MatchBool b ((cs ≡ []) × StopsBefore Reach.to_the_end old n how) (FollowsPlan s old n rest cs how) → (FollowsPlan s old n rest cs how → Asks old n rest cs by target → Asks now n rest cs by target) → Asks now n rest cs by target
+        by_test true x more = more (subst (λ l. FollowsPlan s old n rest l how) (sym x.0) (stopped_runs Reach.to_the_end s old n how x.1 rest)) d
+        by_test false x more = more x d
+
+    row_asks_still : (branches : Plan) (ds : List Deed) → AllByRecursion (IsSameTry old now) ds → RunsRow Reach.to_the_end s old branches ds → RowAsks old branches ds by target → RowAsks now branches ds by target
+    row_asks_still (Plan.child_then number tries must inner others) ds same h (inl one) =
+        inl (subst (OneOf (OfChild (λ c. Asks now c inner (deeds now c) by target))) (among_alike old now number ds same)
+        (one_map _ _ _ (λ d t. (try_asks_still number inner (λ c below. plan_asks_still c below inner (deeds old c) (end old c)) d t).1) (tries_among old number ds) h.0 one))
+    row_asks_still (Plan.child_then number tries must inner others) ds same h (inr more) = inr (row_asks_still others ds same h.1 more)
+    row_asks_still Plan.done ds same h d = absurd d
+    row_asks_still (Plan.manage_by k next) ds same h d = absurd d
+    row_asks_still (Plan.par_then branches rest) ds same h d = absurd d
+    row_asks_still (Plan.abort_then levels rest) ds same h d = absurd d
+    row_asks_still (Plan.crash_then copy rest) ds same h d = absurd d
+    row_asks_still (Plan.kill_then session rest) ds same h d = absurd d
 
   -- what was asked for by a transaction that has ended was asked for ever
   pub asks_still : (n : Name) (plan : Plan) → FollowsPlan s old n plan (deeds old n) (end old n) → Asks old n plan (deeds old n) by target → Asks now n plan (deeds now n) by target

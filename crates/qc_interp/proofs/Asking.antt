@@ -35,7 +35,7 @@ use Rattle.qc_interp.proofs.Scope.{at_scope, in_or_upward}
 use Rattle.qc_interp.proofs.Adding.{asks_stays, one_stays, over_later, over_ended}
 use Rattle.qc_interp.proofs.Turning.{InTurn, Alone, act_turns, itself}
 use Rattle.qc_interp.proofs.Growth.{made_is, made_later, ours_before}
-use Rattle.qc_interp.proofs.Still.{follows_runs}
+use Rattle.qc_interp.proofs.Followed.{follows_runs}
 use Rattle.qc_event.proofs.Orderly.{KeepsOrder}
 use Rattle.qc_interp.proofs.Managers.{found_quiet, absent, came_after}
 use Rattle.qc_interp.proofs.Stopping.{asked_early, unended_stopped, unended_unkilled, running_unended}

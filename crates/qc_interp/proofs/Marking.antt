@@ -34,7 +34,7 @@ use Rattle.qc_interp.proofs.Growth.{made_is, made_later, later_trans, ours_befor
 use Rattle.qc_interp.proofs.Joined.{joined_itself, joined_before, joined_runs, joined_made, joined_none, joined_unmarked}
 use Rattle.qc_interp.proofs.Managers.{children_quiet, found_quiet}
 use Rattle.qc_interp.proofs.StepsLeave.{end_later, none_open, some_later}
-use Rattle.qc_interp.proofs.Still.{asked_unended}
+use Rattle.qc_interp.proofs.Followed.{asked_unended}
 use Rattle.qc_interp.proofs.Stopping.{running_unended, stopped_runs}
 use Rattle.qc_interp.proofs.Turning.{InTurn, Alone, act_turns}
 

@@ -66,6 +66,7 @@ abbrev pub weight : Plan → ℕ
 weight Plan.done = 0
 weight (Plan.manage_by k next) = weight (next answer.Nothing)
 weight (Plan.child_then number tries must inner rest) = weight inner + weight rest + 5
+weight (Plan.par_then branches rest) = weight branches + weight rest + 5
 weight (Plan.abort_then levels rest) = weight rest
 weight (Plan.crash_then copy rest) = weight rest
 weight (Plan.kill_then session rest) = weight rest

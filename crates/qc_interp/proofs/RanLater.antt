@@ -24,7 +24,7 @@ use Rattle.qc_interp.specs.Together.{IsSingle, HasRun}
 use Rattle.qc_interp.specs.Turns.{takes_turn, is_alone}
 use Rattle.qc_interp.proofs.Adding.{numbers_stay, after_stay, all_over_more}
 use Rattle.qc_interp.proofs.Ending.{at_the_end}
-use Rattle.qc_interp.proofs.Still.{tries_wider, follows_runs}
+use Rattle.qc_interp.proofs.Followed.{tries_wider, follows_runs}
 
 -- WHERE THE CLIENT MAKES NOTHING MORE
 

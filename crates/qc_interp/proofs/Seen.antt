@@ -1,7 +1,7 @@
 -- Who follows a plan by what a client made follows it by what was seen, where all about its top is the client's.
-use Rattle.std.proofs.Common.{◌≡◌, inl, inr, ℕ, ◌<◌, Bool, true, false, List, [], ◌∷◌, ◌++◌, length, refl, sym, ap, ◌∙◌, subst, append-nil, arith}
+use Rattle.std.proofs.Common.{◌≡◌, inl, ℕ, ◌<◌, Bool, true, false, List, [], ◌∷◌, ◌++◌, length, refl, sym, ap, ◌∙◌, subst, append-nil, arith}
 use mathlib.Core.Bool.{true≢false}
-use Rattle.std.specs.Prelude.{◌==◌, Option, None, Some, MatchBool, is_some, not, ◌&&◌, ◌||◌, if◌then◌else◌, option_map, option_to_list}
+use Rattle.std.specs.Prelude.{◌==◌, Option, None, Some, is_some, not, ◌&&◌, ◌||◌, if◌then◌else◌, option_map, option_to_list}
 use Rattle.std.specs.List.{AllByRecursion}
 use Rattle.std.specs.Option.{option_or}
 use Rattle.qc_event.specs.declared.event.Answer.{Answer}
@@ -15,32 +15,28 @@ use Rattle.qc_event.specs.Legal.{Legal}
 use Rattle.qc_event.proofs.Lawful.{ends_open}
 use Rattle.qc_event.proofs.LegalOrderly.{legal_orderly}
 use Rattle.qc_event.proofs.Orderly.{KeepsOrder}
-use Rattle.qc_event.proofs.LastNumber.{child_last, child_longer, below_more}
+use Rattle.qc_event.proofs.LastNumber.{child_longer}
 use Rattle.qc_event.proofs.OneEntry.{starting, ending, marking, some_or_none, not_some, all_children}
 use Rattle.qc_names.specs.Name as name
 use Rattle.qc_script.specs.Client.{Client, mine, is_own, scope, concerns, is_commit, AreOurs, all_ours}
-use Rattle.qc_interp.specs.Deeds.{Deed, deed_in, deeds, deed_end, OfChild}
+use Rattle.qc_interp.specs.Deeds.{Deed, deed_in, deeds}
 use Rattle.qc_interp.specs.Turns.{is_done}
 use Rattle.qc_interp.proofs.Deeds.{Silent, mark_silent, begun, children_are}
-use Rattle.qc_interp.specs.Follows.{Stops, HasNotEnded, StopsBefore, WasAsked, WasKilled, GoesOn, GoesOnAfter, AfterTries, Commits, RunsPlan}
+use Rattle.qc_interp.specs.Follows.{WasAsked, WasKilled, RunsPlan}
 use Rattle.qc_interp.specs.Reach.{Reach}
 use Rattle.qc_script.specs.Plan.{Plan}
-use Rattle.qc_interp.specs.Asking.{DoesOn, DoesAfter, Asks}
-use Rattle.qc_interp.specs.Tries.{is_tried_again}
+use Rattle.qc_interp.specs.Asking.{Asks}
 use Rattle.qc_interp.proofs.Mine.{kept_some, some_is}
 use Rattle.qc_interp.proofs.Growth.{implied, own_found}
 use Rattle.qc_interp.proofs.Scope.{at_scope, scope_some, not_one, concerns_end, concerns_abort, concerns_ready}
 use Rattle.qc_interp.proofs.Ending.{committed_ready}
-use Rattle.qc_interp.proofs.Still.{IsTryOf, plan_committed}
-use Rattle.qc_interp.proofs.TriesAlike.{AreAlike, IfAny, tries_alike, tries_do_alike}
+use Rattle.qc_interp.proofs.Followed.{plan_committed}
+use Rattle.qc_interp.proofs.Alike.{AgreesAt, OfAnyChild, below_child, plan_alike, plan_asks_alike}
 use Rattle.std.proofs.lemmas.Bool.{and_parts}
 use Rattle.qc_event.specs.declared.event.Cause.{Cause}
 use Rattle.qc_event.specs.declared.event.Cause.TheVariants as cause
 use Rattle.qc_event.specs.declared.event.Kind.{Kind}
 use Rattle.qc_event.proofs.Absent.{same_is}
-
-below_child : (a n c : Name) → name.is_ancestor a n ≡ true → is_child n c ≡ true → name.is_ancestor a c ≡ true
-below_child a n c h child = let l = child_last n c child in ap (name.is_ancestor a) l.1 ∙ below_more a n (l.0 ∷ []) h
 
 module _ (c : Client) (of : Name) (past : Past) (ours : AreOurs c of past) where
   same_found : {Y : Type 0} (f : Entry → Option Y) → ((e : Entry) (y : Y) → f e ≡ Some y → concerns (scope c of) e.event ≡ true) → earliest f (mine c past) ≡ earliest f past
@@ -175,8 +171,7 @@ module _ (c : Client) (of : Name) (past : Past) (ours : AreOurs c of past) (lega
   Low n = (name.is_ancestor (scope c of) n ≡ true) × ((length n == 1) ≡ false)
 
   abbrev LowDeed : Deed → Type 0
-  LowDeed (Deed.child x) = Low x
-  LowDeed (Deed.mark session) = Unit {0}
+  LowDeed = OfAnyChild Low
 
   low_deeds : (n : Name) → name.is_ancestor (scope c of) n ≡ true → 0 < length n → (ds : List Deed) → AllByRecursion (λ x. is_child n x ≡ true) (begun ds) → AllByRecursion LowDeed ds
   low_deeds n low long [] all = tt
@@ -190,112 +185,23 @@ module _ (c : Client) (of : Name) (past : Past) (ours : AreOurs c of past) (lega
   longer [] low = absurd (scope_some c of far low.0)
   longer (x ∷ n) low = omega arith
 
-  again_low : (d : Deed) → LowDeed d → AreAlike (deed_end made) (deed_end past) d
-  again_low (Deed.child n) low = ap is_tried_again (same_end c of past ours n low.0 low.1)
-  again_low (Deed.mark session) low = refl
+  agrees : (x : Name) → Low x → AgreesAt made past x
+  agrees x low = record {
+    kind = same_kind c of past ours x low.0;
+    ended = same_end c of past ours x low.0 low.1;
+    ready = same_ready c of past ours x low.0;
+    deeds = same_deeds c of past ours legal far x low.0;
+  }
 
-  stops_seen : (reach : Reach) (n : Name) (how : Option How) → name.is_ancestor (scope c of) n ≡ true → Stops reach made n how → Stops reach past n how
-  stops_seen Reach.to_the_end n how low h = h
-  stops_seen Reach.cut_off n how low (inl h) = inl h
-  stops_seen Reach.cut_off n how low (inr h) = inr (h.0, sym (same_ready c of past ours n low) ∙ h.1)
+  down : (x : Name) → Low x → AllByRecursion LowDeed (deeds made x)
+  down x low = all_low made x low.0 (longer x low)
 
-  unended_seen : (reach : Reach) (n : Name) (how : Option How) → name.is_ancestor (scope c of) n ≡ true → HasNotEnded reach made n how → HasNotEnded reach past n how
-  unended_seen Reach.to_the_end n how low h = h
-  unended_seen Reach.cut_off n how low (inl h) = inl h
-  unended_seen Reach.cut_off n how low (inr h) = inr (h.0, sym (same_ready c of past ours n low) ∙ h.1)
-
-  before_seen : (reach : Reach) (n : Name) (how : Option How) → name.is_ancestor (scope c of) n ≡ true → StopsBefore reach made n how → StopsBefore reach past n how
-  before_seen reach n how low (inl h) = inl (unended_seen reach n how low h)
-  before_seen reach n how low (inr h) = inr h
-
-  goes_seen : (reach : Reach) (n : Name) (o : Option How) (Rest RestToo : Answer → Type 0) (further : List Deed) (how : Option How) → name.is_ancestor (scope c of) n ≡ true → ((given : Answer) → Rest given → RestToo given) → GoesOn reach made n o Rest further how → GoesOn reach past n o RestToo further how
-  goes_seen Reach.to_the_end n None Rest RestToo further how low step h = h
-  goes_seen Reach.cut_off n None Rest RestToo further how low step h = (h.0, unended_seen Reach.cut_off n how low h.1)
-  goes_seen reach n (Some (Commit given)) Rest RestToo further how low step h = step given h
-  goes_seen reach n (Some (Abort y)) Rest RestToo further how low step h = (
-    h.0,
-    elim h.1 [
-      | inl is ↦ inl is
-      | inr x ↦ inr (stops_seen reach n how low x)
-    ],
-  )
-
-  after_seen : (reach : Reach) (n child : Name) (o : Option How) (Rest RestToo : Type 0) (further : List Deed) (how : Option How) → name.is_ancestor (scope c of) n ≡ true → (Rest → RestToo) → GoesOnAfter reach made n child o Rest further how → GoesOnAfter reach past n child o RestToo further how
-  after_seen Reach.to_the_end n child None Rest RestToo further how low step h = h
-  after_seen Reach.cut_off n child None Rest RestToo further how low step h = (h.0, unended_seen Reach.cut_off n how low h.1)
-  after_seen reach n child (Some (Commit given)) Rest RestToo further how low step h = step h
-  after_seen reach n child (Some (Abort y)) Rest RestToo further how low step h = (
-    h.0,
-    elim h.1 [
-      | inl is ↦ inl is
-      | inr x ↦ inr (stops_seen reach n how low x)
-    ],
-  )
-
-  behind_seen : (reach : Reach) (n : Name) (last : Option Deed) (must : Bool) (Rest RestToo : Type 0) (further : List Deed) (how : Option How) → name.is_ancestor (scope c of) n ≡ true → IfAny LowDeed last → (Rest → RestToo) → AfterTries reach made n last must Rest further how → AfterTries reach past n last must RestToo further how
-  behind_seen reach n None must Rest RestToo further how low was step h = step h
-  behind_seen reach n (Some d) false Rest RestToo further how low was step h = step h
-  behind_seen reach n (Some (Deed.mark m)) true Rest RestToo further how low was step h = absurd h
-  behind_seen reach n (Some (Deed.child child)) true Rest RestToo further how low was step h =
-      subst (λ o. GoesOnAfter reach past n child o RestToo further how) (same_end c of past ours child was.0 was.1) (after_seen reach n child (end made child) Rest RestToo further how low step h)
-
-  try_seen : (reach : Reach) (s number : ℕ) (inner : Plan) → ((x : Name) → Low x → RunsPlan reach s made x inner (deeds made x) (end made x) → RunsPlan reach s past x inner (deeds made x) (end made x))
-      → (d : Deed) → LowDeed d → OfChild (IsTryOf reach s made number inner) d → OfChild (IsTryOf reach s past number inner) d
-  try_seen reach s number inner step (Deed.mark m) low t = t
-  try_seen reach s number inner step (Deed.child x) lx t = (
-    sym (same_kind c of past ours x lx.0) ∙ t.0,
-    subst (λ o. RunsPlan reach s past x inner (deeds past x) o) (same_end c of past ours x lx.0 lx.1)
-        (subst (λ xs. RunsPlan reach s past x inner xs (end made x)) (same_deeds c of past ours legal far x lx.0) (step x lx t.1)),
-  )
-
-  plan_seen : (reach : Reach) (s : ℕ) (n : Name) (plan : Plan) (cs : List Deed) (how : Option How) → name.is_ancestor (scope c of) n ≡ true → AllByRecursion LowDeed cs → RunsPlan reach s made n plan cs how → RunsPlan reach s past n plan cs how
-  plan_seen reach s n Plan.done [] how low all (inl is) = inl (by_how how is)
-    where
-      by_how : (o : Option How) → Commits made n o → Commits past n o
-      by_how None h = sym (same_ready c of past ours n low) ∙ h
-      by_how (Some (Commit given)) h = tt
-      by_how (Some (Abort x)) h = h
-  plan_seen reach s n Plan.done [] how low all (inr x) = inr (stops_seen reach n how low x)
-  plan_seen reach s n Plan.done (x ∷ cs) how low all h = absurd h
-  plan_seen reach s n (Plan.manage_by k next) [] how low all h = stops_seen reach n how low h
-  plan_seen reach s n (Plan.manage_by k next) (Deed.mark m ∷ cs) how low all h = absurd h
-  plan_seen reach s n (Plan.manage_by k next) (Deed.child x ∷ cs) how low all h = (
-    sym (same_kind c of past ours x all.0.0) ∙ h.0,
-    subst (λ o. GoesOn reach past n o (λ given. RunsPlan reach s past n (next given) cs how) cs how) (same_end c of past ours x all.0.0 all.0.1)
-        (goes_seen reach n (end made x) (λ given. RunsPlan reach s made n (next given) cs how) (λ given. RunsPlan reach s past n (next given) cs how) cs how low (λ given. plan_seen reach s n (next given) cs how low all.1) h.1),
-  )
-  plan_seen reach s n (Plan.child_then number tries must inner rest) cs how low all h =
-      tries_alike (deed_end made) (deed_end past) (OfChild (IsTryOf reach s made number inner)) (OfChild (IsTryOf reach s past number inner)) (Stops reach made n how) (Stops reach past n how) (λ last further. AfterTries reach made n last must (RunsPlan reach s made n rest further how) further how)
-      (λ last further. AfterTries reach past n last must (RunsPlan reach s past n rest further how) further how) LowDeed again_low (stops_seen reach n how low)
-      (try_seen reach s number inner (λ x lx. plan_seen reach s x inner (deeds made x) (end made x) lx.0 (all_low made x lx.0 (longer x lx))))
-      (λ last further was lf f. behind_seen reach n last must (RunsPlan reach s made n rest further how) (RunsPlan reach s past n rest further how) further how low was (plan_seen reach s n rest further how low lf) f) None tries cs tt all h
-  plan_seen reach s n (Plan.abort_then levels rest) [] how low all (inl is) = inl is
-  plan_seen reach s n (Plan.abort_then levels rest) [] how low all (inr x) = inr (before_seen reach n how low x)
-  plan_seen reach s n (Plan.abort_then levels rest) (x ∷ cs) how low all h = absurd h
-  plan_seen reach s n (Plan.crash_then copy rest) cs how low all h = plan_seen reach s n rest cs how low all h
-  plan_seen reach s n (Plan.kill_then session rest) [] how low all h = before_seen reach n how low h
-  plan_seen reach s n (Plan.kill_then session rest) (Deed.child x ∷ cs) how low all h = absurd h
-  plan_seen reach s n (Plan.kill_then session rest) (Deed.mark m ∷ cs) how low all h = (h.0, by_own (session == s) h.1 (plan_seen reach s n rest cs how low all.1))
-    where
-      by_own : (b : Bool) → MatchBool b ((cs ≡ []) × StopsBefore reach made n how) (RunsPlan reach s made n rest cs how) → (RunsPlan reach s made n rest cs how → RunsPlan reach s past n rest cs how)
-          → MatchBool b ((cs ≡ []) × StopsBefore reach past n how) (RunsPlan reach s past n rest cs how)
-      by_own true x more = (x.0, before_seen reach n how low x.1)
-      by_own false x more = more x
-
-  does_after_seen : (last : Option Deed) (must : Bool) (Does DoesToo : Type 0) → IfAny LowDeed last → (Does → DoesToo) → DoesAfter made last must Does → DoesAfter past last must DoesToo
-  does_after_seen None must Does DoesToo was step h = step h
-  does_after_seen (Some d) false Does DoesToo was step h = step h
-  does_after_seen (Some (Deed.mark m)) true Does DoesToo was step h = absurd h
-  does_after_seen (Some (Deed.child child)) true Does DoesToo was step h = subst (λ o. DoesOn o (λ given. DoesToo)) (same_end c of past ours child was.0 was.1) (by_end (end made child) h)
-    where
-      by_end : (o : Option How) → DoesOn o (λ given. Does) → DoesOn o (λ given. DoesToo)
-      by_end None g = g
-      by_end (Some (Commit given)) g = step g
-      by_end (Some (Abort y)) g = g
+  plan_seen : (reach : Reach) (s : ℕ) (plan : Plan) (how : Option How) → name.is_ancestor (scope c of) of ≡ true → RunsPlan reach s made of plan (deeds made of) how → RunsPlan reach s past of plan (deeds made of) how
+  plan_seen reach s plan how low h = plan_alike made past Low agrees down reach s of plan (deeds made of) how (same_ready c of past ours of low) (all_low made of low far) h
 
   -- who was killed by what was seen was killed by what the client made
-  unkilled_seen : (n : Name) → name.is_ancestor (scope c of) n ≡ true → (WasKilled (end made n) → ⊥) → WasKilled (end past n) → ⊥
-  unkilled_seen n low alive killed = alive (subst WasKilled (sym (by_end (end past n) refl killed)) tt)
+  was_killed_seen : (n : Name) → name.is_ancestor (scope c of) n ≡ true → WasKilled (end past n) → WasKilled (end made n)
+  was_killed_seen n low killed = subst WasKilled (sym (by_end (end past n) refl killed)) tt
     where
       own : end past n ≡ Some (Abort cause.Killed) → end made n ≡ Some (Abort cause.Killed)
       own is = low_abort c of past ours n low cause.Killed is
@@ -316,45 +222,17 @@ module _ (c : Client) (of : Name) (past : Past) (ours : AreOurs c of past) (lega
   was_asked_seen n None is h = absurd h
   was_asked_seen n (Some how) is h = subst (WasAsked n) (sym (own_once c past n how legal is)) h
 
-  try_asks_seen : (by target : Name) (inner : Plan) → ((x : Name) → Low x → Asks made x inner (deeds made x) by target → Asks past x inner (deeds made x) by target)
-      → (d : Deed) → LowDeed d → OfChild (λ x. Asks made x inner (deeds made x) by target) d → OfChild (λ x. Asks past x inner (deeds past x) by target) d
-  try_asks_seen by target inner step (Deed.mark m) low t = t
-  try_asks_seen by target inner step (Deed.child x) lx t = subst (λ xs. Asks past x inner xs by target) (same_deeds c of past ours legal far x lx.0) (step x lx t)
-
-  plan_asks_seen : (by target n : Name) → name.is_ancestor (scope c of) n ≡ true → (plan : Plan) (cs : List Deed) → AllByRecursion LowDeed cs → Asks made n plan cs by target → Asks past n plan cs by target
-  plan_asks_seen by target n low Plan.done cs all h = absurd h
-  plan_asks_seen by target n low (Plan.manage_by k next) [] all h = absurd h
-  plan_asks_seen by target n low (Plan.manage_by k next) (Deed.mark m ∷ cs) all h = absurd h
-  plan_asks_seen by target n low (Plan.manage_by k next) (Deed.child x ∷ cs) all h =
-      subst (λ o. DoesOn o (λ given. Asks past n (next given) cs by target)) (same_end c of past ours x all.0.0 all.0.1) (by_end (end made x) (λ given. plan_asks_seen by target n low (next given) cs all.1) h)
-    where
-      by_end : (o : Option How) → ((given : Answer) → Asks made n (next given) cs by target → Asks past n (next given) cs by target)
-          → DoesOn o (λ given. Asks made n (next given) cs by target) → DoesOn o (λ given. Asks past n (next given) cs by target)
-      by_end None step g = g
-      by_end (Some (Commit given)) step g = step given g
-      by_end (Some (Abort y)) step g = g
-  plan_asks_seen by target n low (Plan.child_then number tries must inner rest) cs all h =
-      tries_do_alike (deed_end made) (deed_end past) (OfChild (λ x. Asks made x inner (deeds made x) by target)) (OfChild (λ x. Asks past x inner (deeds past x) by target)) (λ last further. DoesAfter made last must (Asks made n rest further by target))
-      (λ last further. DoesAfter past last must (Asks past n rest further by target)) LowDeed again_low
-      (try_asks_seen by target inner (λ x lx. plan_asks_seen by target x lx.0 inner (deeds made x) (all_low made x lx.0 (longer x lx))))
-      (λ last further was lf f. does_after_seen last must (Asks made n rest further by target) (Asks past n rest further by target) was (plan_asks_seen by target n low rest further lf) f) None tries cs tt all h
-  plan_asks_seen by target n low (Plan.abort_then levels rest) [] all h = (h.0, h.1, unkilled_seen n low h.2)
-  plan_asks_seen by target n low (Plan.abort_then levels rest) (x ∷ cs) all h = absurd h
-  plan_asks_seen by target n low (Plan.crash_then copy rest) cs all h = plan_asks_seen by target n low rest cs all h
-  plan_asks_seen by target n low (Plan.kill_then session rest) [] all h = (was_asked_seen n (end made n) refl h.0, plan_asks_seen by target n low rest [] all h.1)
-  plan_asks_seen by target n low (Plan.kill_then session rest) (d ∷ cs) all h = plan_asks_seen by target n low rest cs all.1 h
-
   -- what a step asked for by what the client made, it asked for by what was seen
   pub asks_seen : (by target : Name) (plan : Plan) → name.is_ancestor (scope c of) of ≡ true → Asks made of plan (deeds made of) by target → Asks past of plan (deeds past of) by target
   asks_seen by target plan low h =
-      subst (λ xs. Asks past of plan xs by target) (same_deeds c of past ours legal far of low) (plan_asks_seen by target of low plan (deeds made of) (all_low made of low far) h)
+      subst (λ xs. Asks past of plan xs by target) (same_deeds c of past ours legal far of low) (plan_asks_alike made past Low agrees down by target of (record { killed = was_killed_seen of low; asked = was_asked_seen of (end made of) refl }) plan (deeds made of) (all_low made of low far) h)
 
 -- A transaction that does its plan by what a client made does so by what was seen, where it is ready if it has committed.
 pub runs_seen : (reach : Reach) (c : Client) (s : ℕ) (of : Name) (past : Past) (plan : Plan) → Legal c.setting past → 0 < length of → AreOurs c of past → ((given : Answer) → end past of ≡ Some (Commit given) → is_ready past of ≡ true)
     → RunsPlan reach s (mine c past) of plan (deeds (mine c past) of) (end (mine c past) of) → RunsPlan reach s past of plan (deeds past of) (end past of)
 runs_seen reach c s of past plan legal far ours ready h =
     let low : name.is_ancestor (scope c of) of ≡ true = at_scope c of in
-    let f = plan_seen c of past ours legal far reach s of plan (deeds (mine c past) of) (end (mine c past) of) low (all_low c of past ours legal far (mine c past) of low far) h in
+    let f = plan_seen c of past ours legal far reach s plan (end (mine c past) of) low h in
     subst (λ cs. RunsPlan reach s past of plan cs (end past of)) (same_deeds c of past ours legal far of low) (by_end (end past of) refl f)
   where
     with_how : (given : Answer) (o : Option How) → is_ready past of ≡ true → (is_some o ≡ true → o ≡ Some (Commit given)) → RunsPlan reach s past of plan (deeds (mine c past) of) o → RunsPlan reach s past of plan (deeds (mine c past) of) (Some (Commit given))

@@ -1,17 +1,19 @@
 -- How a transaction stops, and with what plan it came as far.
-use Rattle.std.proofs.Common.{◌≡◌, inl, inr, ℕ, false, [], refl, sym, ap, subst}
+use Rattle.std.proofs.Common.{◌≡◌, inl, inr, ℕ, Bool, true, false, [], refl, sym, ap, subst}
 use Rattle.std.specs.Prelude.{Option, None, Some}
 use Rattle.qc_event.specs.declared.event.Cause.TheVariants as cause
 use Rattle.qc_event.specs.declared.event.How.{How}
 use Rattle.qc_event.specs.declared.event.How.TheVariants.{Commit, Abort}
 use Rattle.qc_event.specs.History.{Past, Name, is_ready}
 use Rattle.qc_script.specs.Plan.{Plan}
-use Rattle.qc_interp.specs.Deeds.{deed_end}
-use Rattle.qc_interp.specs.Follows.{StopsEarly, WasAsked, WasKilled, IsUnended, Stops, HasNotEnded, StopsBefore, AfterTries, RunsPlan}
+use Rattle.qc_interp.specs.Deeds.{Deed, deed_end}
+use Rattle.qc_interp.specs.Follows.{StopsEarly, WasAsked, WasKilled, IsUnended, Stops, HasNotEnded, StopsBefore, AfterTries, AfterRow, RunsPlan, RunsRow}
 use Rattle.qc_interp.specs.Reach.{Reach}
+use Rattle.qc_interp.specs.Rows.{each_tried, first_failed}
 use Rattle.qc_interp.specs.Running.{CameTo}
 use Rattle.qc_interp.specs.Tries.{is_tried_again}
 use Rattle.qc_interp.specs.declared.stops.Finish.TheVariants as finish
+use Rattle.qc_interp.proofs.Rows.{none_at_once, none_failed}
 use Rattle.qc_interp.proofs.TriesAlike.{no_tries}
 
 -- who was aborted as another asked was stopped early
@@ -93,12 +95,28 @@ before_stops Reach.cut_off past n how (inl (inr runs)) = inr runs
 before_stops Reach.to_the_end past n how (inr killed) = killed_early n how killed
 before_stops Reach.cut_off past n how (inr killed) = inl (killed_early n how killed)
 
+no_row : (reach : Reach) (s : ℕ) (past : Past) (branches : Plan) → RunsRow reach s past branches []
+no_row reach s past (Plan.child_then number tries must inner others) = (tt, no_row reach s past others)
+no_row reach s past _ = tt
+
+stopped_row : (reach : Reach) (past : Past) (n : Name) (how : Option How) → StopsBefore reach past n how → (tried : Bool) (failed : Option Deed) → failed ≡ None → (Rest : Type 0) → Rest → AfterRow reach past n tried failed Rest [] how
+stopped_row reach past n how stops true failed none Rest behind = subst (λ o. AfterTries reach past n o true Rest [] how) (sym none) behind
+stopped_row reach past n how stops false failed none Rest behind = (refl, before_stops reach past n how stops)
+
 -- and where it did nothing it came as far with any plan
 pub stopped_runs : (reach : Reach) (s : ℕ) (past : Past) (n : Name) (how : Option How) → StopsBefore reach past n how → (plan : Plan) → RunsPlan reach s past n plan [] how
 stopped_runs reach s past n how stops Plan.done = inr (before_stops reach past n how stops)
 stopped_runs reach s past n how stops (Plan.manage_by k next) = before_stops reach past n how stops
 stopped_runs reach s past n how stops (Plan.child_then number tries must inner rest) =
     no_tries (deed_end past) _ (Stops reach past n how) (λ last further. AfterTries reach past n last must (RunsPlan reach s past n rest further how) further how) None (before_stops reach past n how stops) (stopped_runs reach s past n how stops rest) tries
+stopped_runs reach s past n how stops (Plan.par_then branches rest) = (
+  [],
+  [],
+  refl,
+  none_at_once past branches,
+  no_row reach s past branches,
+  stopped_row reach past n how stops (each_tried past false branches []) (first_failed past branches []) (none_failed past branches) (RunsPlan reach s past n rest [] how) (stopped_runs reach s past n how stops rest),
+)
 stopped_runs reach s past n how stops (Plan.abort_then levels rest) = inr stops
 stopped_runs reach s past n how stops (Plan.crash_then copy rest) = stopped_runs reach s past n how stops rest
 stopped_runs reach s past n how stops (Plan.kill_then session rest) = stops

@@ -35,7 +35,8 @@ use Rattle.qc_interp.specs.Tries.{Tries, is_tried_again, is_again, TriesDo}
 use Rattle.qc_interp.specs.declared.stops.Finish.{Finish}
 use Rattle.qc_interp.proofs.TriesAlike.{no_tries}
 use Rattle.qc_interp.proofs.Mine.{kept_some}
-use Rattle.qc_interp.proofs.Still.{follows_runs, follows_still, followed_done, done_closed, again_still}
+use Rattle.qc_interp.proofs.Followed.{follows_runs, followed_done, done_closed}
+use Rattle.qc_interp.proofs.Still.{follows_still, again_still}
 use Rattle.qc_interp.proofs.Stopping.{unended_again}
 use Rattle.qc_interp.proofs.Growth.{made_is, made_later, later_itself, later_trans, ours_before}
 use Rattle.qc_interp.proofs.Managers.{found_quiet, absent, came_after, none_kept, children_rest, start_rest}

@@ -32,7 +32,8 @@ use Rattle.qc_interp.proofs.Adding.{all_later, start_stays_in, over_later}
 use Rattle.qc_interp.proofs.Scope.{child_scope, same_scope}
 use Rattle.qc_interp.proofs.Turning.{InTurn, Alone, start_turns, alone_up, some_done}
 use Rattle.qc_interp.proofs.Mine.{kept_some}
-use Rattle.qc_interp.proofs.Still.{follows_runs, follows_still, followed_done, done_closed, again_still}
+use Rattle.qc_interp.proofs.Followed.{follows_runs, followed_done, done_closed}
+use Rattle.qc_interp.proofs.Still.{follows_still, again_still}
 use Rattle.qc_interp.proofs.Growth.{made_is, made_later, later_trans, ours_before}
 use Rattle.qc_interp.proofs.Managers.{found_quiet, NewChild, new_child}
 use Rattle.qc_interp.proofs.Stopping.{unended_again, running_stops, running_unended, running_runs}

@@ -1,6 +1,7 @@
 -- What it is for a transaction to do what the steps of its body ask for: to start children, and to mark sessions. All of it
 -- is said of one list of entries: the history, or those of it that one client made.
-use Rattle.std.specs.Prelude.{ℕ, ◌≡◌, ◌==◌, ◌-◌, ◌⊎◌, Bool, true, false, not, IsTrue, MatchBool, List, [], ◌∷◌, length, take, Option, None, Some}
+use Rattle.std.specs.Prelude.{ℕ, ◌≡◌, ◌==◌, ◌-◌, ◌⊎◌, Bool, true, false, not, IsTrue, MatchBool, List, [], ◌∷◌, ◌++◌, length, take, Option, None, Some}
+use Rattle.std.specs.List.{AllByRecursion}
 use Rattle.std.proofs.Common.{zero, suc}
 use Rattle.qc_event.specs.declared.event.Answer.{Answer}
 use Rattle.qc_event.specs.declared.event.Cause.{Cause}
@@ -12,6 +13,7 @@ use Rattle.qc_event.specs.History.{Past, Name, same, end, is_ready, kind_of}
 use Rattle.qc_script.specs.Plan.{Plan, Numbered}
 use Rattle.qc_interp.specs.Deeds.{Deed, deeds, deed_end, OfChild}
 use Rattle.qc_interp.specs.Reach.{Reach}
+use Rattle.qc_interp.specs.Rows.{are_tries_at_once, each_tried, first_failed, tries_among}
 use Rattle.qc_interp.specs.Tries.{Tries}
 
 -- the ancestor so many levels up
@@ -97,6 +99,12 @@ AfterTries reach past n (Some d) false Rest further how = Rest
 AfterTries reach past n (Some (Deed.child c)) true Rest further how = GoesOnAfter reach past n c (end past c) Rest further how
 AfterTries reach past n (Some (Deed.mark m)) true Rest further how = ⊥
 
+-- Behind branches at once a transaction goes on where each was tried as often as it is, but by the first that must commit
+-- and failed. Else it stopped meanwhile.
+abbrev pub AfterRow : Reach → Past → Name → Bool → Option Deed → Type 0 → List Deed → Option How → Type 0
+AfterRow reach past n true failed Rest further how = AfterTries reach past n failed true Rest further how
+AfterRow reach past n false failed Rest further how = (further ≡ []) × Stops reach past n how
+
 -- it has committed, or is a ready top
 abbrev pub Commits : Past → Name → Option How → Type 0
 Commits past n (Some (Commit given)) = Unit {0}
@@ -110,23 +118,34 @@ asked_end n (suc below) = Some (Abort (cause.Orphan (above n (suc below))))
 
 -- A transaction of a session does what its plan asks for, as far as it goes on, or as far as the run came that was cut
 -- off. The crash of a copy asks for nothing and ends nothing. Whoever marks its own session stops before the next step.
-abbrev pub RunsPlan : Reach → ℕ → Past → Name → Plan → List Deed → Option How → Type 0
-RunsPlan reach s past n Plan.done [] how = Commits past n how ⊎ Stops reach past n how
-RunsPlan reach s past n Plan.done (d ∷ further) how = ⊥
-RunsPlan reach s past n (Plan.manage_by k next) [] how = Stops reach past n how
-RunsPlan reach s past n (Plan.manage_by k next) (Deed.child c ∷ further) how =
-    (kind_of past c ≡ Some k) × GoesOn reach past n (end past c) (λ given. RunsPlan reach s past n (next given) further how) further how
-RunsPlan reach s past n (Plan.manage_by k next) (Deed.mark m ∷ further) how = ⊥
-RunsPlan reach s past n (Plan.child_then number tries must inner rest) ds how =
-    Tries (deed_end past) (OfChild (λ c. (kind_of past c ≡ Some (kind.User s number)) × RunsPlan reach s past c inner (deeds past c) (end past c)))
-    (Stops reach past n how) (λ last further. AfterTries reach past n last must (RunsPlan reach s past n rest further how) further how) None tries ds
-RunsPlan reach s past n (Plan.abort_then levels rest) [] how = (how ≡ asked_end n levels) ⊎ StopsBefore reach past n how
-RunsPlan reach s past n (Plan.abort_then levels rest) (d ∷ further) how = ⊥
-RunsPlan reach s past n (Plan.crash_then copy rest) ds how = RunsPlan reach s past n rest ds how
-RunsPlan reach s past n (Plan.kill_then session rest) [] how = StopsBefore reach past n how
-RunsPlan reach s past n (Plan.kill_then session rest) (Deed.child c ∷ further) how = ⊥
-RunsPlan reach s past n (Plan.kill_then session rest) (Deed.mark m ∷ further) how =
-    (m ≡ session) × MatchBool (session == s) ((further ≡ []) × StopsBefore reach past n how) (RunsPlan reach s past n rest further how)
+abbrev mutual
+  pub RunsPlan : Reach → ℕ → Past → Name → Plan → List Deed → Option How → Type 0
+  RunsPlan reach s past n Plan.done [] how = Commits past n how ⊎ Stops reach past n how
+  RunsPlan reach s past n Plan.done (d ∷ further) how = ⊥
+  RunsPlan reach s past n (Plan.manage_by k next) [] how = Stops reach past n how
+  RunsPlan reach s past n (Plan.manage_by k next) (Deed.child c ∷ further) how =
+      (kind_of past c ≡ Some k) × GoesOn reach past n (end past c) (λ given. RunsPlan reach s past n (next given) further how) further how
+  RunsPlan reach s past n (Plan.manage_by k next) (Deed.mark m ∷ further) how = ⊥
+  RunsPlan reach s past n (Plan.child_then number tries must inner rest) ds how =
+      Tries (deed_end past) (OfChild (λ c. (kind_of past c ≡ Some (kind.User s number)) × RunsPlan reach s past c inner (deeds past c) (end past c)))
+      (Stops reach past n how) (λ last further. AfterTries reach past n last must (RunsPlan reach s past n rest further how) further how) None tries ds
+  RunsPlan reach s past n (Plan.par_then branches rest) ds how =
+      (here : List Deed) × (further : List Deed) × (ds ≡ here ++ further) × IsTrue (are_tries_at_once past branches here) × RunsRow reach s past branches here
+      × AfterRow reach past n (each_tried past false branches here) (first_failed past branches here) (RunsPlan reach s past n rest further how) further how
+  RunsPlan reach s past n (Plan.abort_then levels rest) [] how = (how ≡ asked_end n levels) ⊎ StopsBefore reach past n how
+  RunsPlan reach s past n (Plan.abort_then levels rest) (d ∷ further) how = ⊥
+  RunsPlan reach s past n (Plan.crash_then copy rest) ds how = RunsPlan reach s past n rest ds how
+  RunsPlan reach s past n (Plan.kill_then session rest) [] how = StopsBefore reach past n how
+  RunsPlan reach s past n (Plan.kill_then session rest) (Deed.child c ∷ further) how = ⊥
+  RunsPlan reach s past n (Plan.kill_then session rest) (Deed.mark m ∷ further) how =
+      (m ≡ session) × MatchBool (session == s) ((further ≡ []) × StopsBefore reach past n how) (RunsPlan reach s past n rest further how)
+
+  -- each try of each branch of a row does what the branch's plan asks for
+  pub RunsRow : Reach → ℕ → Past → Plan → List Deed → Type 0
+  RunsRow reach s past (Plan.child_then number tries must inner others) ds =
+      AllByRecursion (OfChild (λ c. (kind_of past c ≡ Some (kind.User s number)) × RunsPlan reach s past c inner (deeds past c) (end past c))) (tries_among past number ds)
+      × RunsRow reach s past others ds
+  RunsRow reach s past _ ds = Unit {0}
 
 -- a top of a session and of a body, which does what the body's plan asks for
 pub record RunsBody (reach : Reach) (s : ℕ) (past : Past) (body : Numbered) (top : Name) : Type 0 where

@@ -5,6 +5,7 @@ pub mod Tries
 pub mod Turns
 pub mod Deeds
 pub mod Reach
+pub mod Rows
 pub mod Follows
 pub mod FollowsScript
 pub mod Running

@@ -11,12 +11,13 @@ use Rattle.qc_net.specs.declared.link.Fate.{Fate}
 
 -- A plan is what a body does, one thing before the plan of what follows. A manager of a kind reads, sets or gives a
 -- record another configuration, and what follows may go by its answer. The body of a child has a number, how often it is
--- tried at most, whether it must commit for what follows, and a plan of its own. A copy that crashes and a session that
--- is marked to be killed are told by their numbers.
+-- tried at most, whether it must commit for what follows, and a plan of its own. Children at once are told by a plan that
+-- is a row of them. A copy that crashes and a session that is marked to be killed are told by their numbers.
 pub data Plan : Type 0 where
   done : Plan
   manage_by : Kind → (Answer → Plan) → Plan
   child_then : ℕ → ℕ → Bool → Plan → Plan → Plan
+  par_then : Plan → Plan → Plan
   abort_then : ℕ → Plan → Plan
   crash_then : ℕ → Plan → Plan
   kill_then : ℕ → Plan → Plan
@@ -52,6 +53,11 @@ pub record Numbered : Type 0 where
   pub must : Bool
   pub plan : Plan
 
+-- a row of bodies, as the plan of children one after another
+abbrev pub row_of : List Numbered → Plan
+row_of [] = Plan.done
+row_of (b ∷ bodies) = Plan.child_then b.number b.tries b.must b.plan (row_of bodies)
+
 -- A session: the fates of its requests, after how many due steps a held one is delivered, and the bodies of its tops.
 pub record SessionPlan : Type 0 where
   pub fates : List Fate
@@ -75,14 +81,28 @@ KindWithin copies records (kind.Write rec value) = rec < records
 KindWithin copies records (kind.Reconf rec config) = (rec < records) × IsConfigFor copies config
 KindWithin copies records _ = ⊥
 
+-- a plan of nothing but children
+abbrev pub IsRow : Plan → Type 0
+IsRow Plan.done = Unit {0}
+IsRow (Plan.child_then number tries must inner rest) = IsRow rest
+IsRow _ = ⊥
+
+-- how many children stand in a row
+abbrev pub row_length : Plan → ℕ
+row_length (Plan.child_then number tries must inner rest) = row_length rest + 1
+row_length _ = 0
+
 -- Each step of a body of this depth is about one of so many records at so many copies, its configurations are
--- for these copies, its bodies are no deeper than 16 and tried, what it aborts is the transaction itself or an
--- ancestor below the root, what crashes is one of the copies, and what it marks is one of sixteen sessions.
+-- for these copies, its bodies are no deeper than 16 and tried, those that run at once are a row of 1 to 8, what it
+-- aborts is the transaction itself or an ancestor below the root, what crashes is one of the copies, and what it marks
+-- is one of sixteen sessions.
 abbrev pub PlanWithin : ℕ → ℕ → ℕ → Plan → Type 0
 PlanWithin copies records depth Plan.done = Unit {0}
 PlanWithin copies records depth (Plan.manage_by k next) = KindWithin copies records k × ((given : Answer) → PlanWithin copies records depth (next given))
 PlanWithin copies records depth (Plan.child_then number tries must inner rest) =
     (depth < 16) × IsTried tries × PlanWithin copies records (depth + 1) inner × PlanWithin copies records depth rest
+PlanWithin copies records depth (Plan.par_then branches rest) =
+    IsRow branches × (1 ≤ row_length branches) × (row_length branches ≤ 8) × PlanWithin copies records depth branches × PlanWithin copies records depth rest
 PlanWithin copies records depth (Plan.abort_then levels rest) = (levels < depth) × PlanWithin copies records depth rest
 PlanWithin copies records depth (Plan.crash_then copy rest) = (copy < copies) × PlanWithin copies records depth rest
 PlanWithin copies records depth (Plan.kill_then session rest) = (session < 16) × PlanWithin copies records depth rest

@@ -1,108 +1,125 @@
--- Trails in which children of a top are branches: those of bodies 1 and 2 of one step, and that of body 4 of the next.
-use Rattle.std.specs.Prelude.{ℕ, ◌+◌, ◌==◌, ◌||◌, if◌then◌else◌, List, ◌∷◌, Option, None, Some}
+-- Trails in which branches of a top run at once.
+use Rattle.std.specs.Prelude.{ℕ, Bool, true, false, List, [], ◌∷◌, ◌++◌}
 use Rattle.qc_event.specs.declared.event.Answer.TheVariants as answer
+use Rattle.qc_event.specs.declared.event.Cause.TheVariants as cause
 use Rattle.qc_event.specs.declared.event.Entry.{Entry}
 use Rattle.qc_event.specs.declared.event.Event.TheVariants as event
 use Rattle.qc_event.specs.declared.event.How.TheVariants.{Commit, Abort}
 use Rattle.qc_event.specs.declared.event.Kind.TheVariants as kind
-use Rattle.qc_event.specs.declared.event.Why.TheVariants.{Lost}
 use Rattle.qc_event.specs.History.{Name}
-use Rattle.qc_event.specs.Seats.{client_seat}
-use Rattle.qc_trail_laws.specs.Trails.{client, other_client, x, top, first_child, second_child, grandchild, lacking, by, user}
+use Rattle.qc_event.specs.Seats.{number_in}
+use Rattle.qc_script.specs.Plan.{Plan, Numbered, manage_then}
+use Rattle.qc_trail_laws.specs.Trails.{client, x, top, first_child, second_child, access, conflict, by, user, body_of}
 use Rattle.qc_trail_laws.specs.Values.{commits}
 
--- the step of which a body is a branch
-abbrev pub step_of : ℕ → Option ℕ
-step_of body = if (body == 1) || (body == 2) then Some 0 else if body == 4 then Some 1 else None
+abbrev pub third_child : Name
+third_child = number_in 1 1 ∷ 3 ∷ []
 
--- the seat of a third client
-abbrev pub third_client : ℕ
-third_client = client_seat + 2
+abbrev pub fourth_child : Name
+fourth_child = number_in 1 1 ∷ 4 ∷ []
 
--- a try of a body starts below the top, or commits
-abbrev pub starts : ℕ → Name → ℕ → Entry
-starts seat n body = by seat (event.Start n (kind.User 0 body))
+-- BODIES
 
-abbrev pub ends : ℕ → Name → Entry
-ends seat n = by seat (event.End n (Commit answer.Nothing))
+abbrev pub read_then_done : Plan
+read_then_done = manage_then (kind.Read x) Plan.done
 
--- both branches run at once, the second under a seat
-abbrev pub at_once : ℕ → List Entry
-at_once seat =
+-- two branches that read x, of which the first is tried twice, and must commit or need not
+abbrev pub two_branches : Bool → Plan
+two_branches must = Plan.child_then 1 2 must read_then_done (Plan.child_then 2 1 false read_then_done Plan.done)
+
+-- they run at once; then read x
+abbrev pub two_read : Bool → List Numbered
+two_read must = body_of (Plan.par_then (two_branches must) read_then_done)
+
+-- the second aborts the top
+abbrev pub one_aborts : List Numbered
+one_aborts = body_of (Plan.par_then (Plan.child_then 1 2 true read_then_done (Plan.child_then 2 1 false (Plan.abort_then 1 Plan.done) Plan.done)) read_then_done)
+
+-- WHAT A BRANCH DOES
+
+-- a try of a body starts
+abbrev pub begins : Name → ℕ → Entry
+begins n body = by client (event.Start n (kind.User 0 body))
+
+-- its read starts
+abbrev pub looks : Name → Entry
+looks n = by client (event.Start (access n 1) (kind.Read x))
+
+-- its read gives a value, and it commits
+abbrev pub reads : Name → List Entry
+reads n = by client (event.End (access n 1) (Commit (answer.Value 0))) ∷ by client (event.End n (Commit answer.Nothing)) ∷ []
+
+-- its read is in conflict, and it is aborted
+abbrev pub fails : Name → List Entry
+fails n = by client (event.End (access n 1) (Abort conflict)) ∷ by client (event.End n (Abort conflict)) ∷ []
+
+-- TRAILS
+
+-- the top reads x, and commits
+abbrev pub goes_on : Name → List Entry
+goes_on n = by client (event.Start n (kind.Read x)) ∷ by client (event.End n (Commit (answer.Value 0))) ∷ commits
+
+-- both begin, and the first fails
+abbrev pub first_fails : List Entry
+first_fails = user client top ∷ begins first_child 1 ∷ begins second_child 2 ∷ looks first_child ∷ looks second_child ∷ fails first_child
+
+-- it is tried again before the second commits
+abbrev pub tried_again : List Entry
+tried_again = first_fails ++ begins third_child 1 ∷ looks third_child ∷ reads second_child ++ reads third_child ++ goes_on fourth_child
+
+-- and fails again
+abbrev pub fails_again : List Entry
+fails_again = first_fails ++ begins third_child 1 ∷ looks third_child ∷ fails third_child ++ reads second_child
+
+-- the top is aborted for its last try
+abbrev pub aborted : List Entry
+aborted = fails_again ++ by client (event.End top (Abort (cause.Child third_child))) ∷ []
+
+-- the top goes on
+abbrev pub went_on : List Entry
+went_on = fails_again ++ goes_on fourth_child
+
+-- the second aborts the top, and the first is not tried again
+abbrev pub stopped : List Entry
+stopped =
     user client top
-    ∷ starts other_client first_child 1
-    ∷ starts seat second_child 2
-    ∷ by other_client (event.Start grandchild (kind.Read x))
-    ∷ ends seat second_child
-    ∷ by other_client (event.End grandchild (Commit (answer.Value 0)))
-    ∷ ends other_client first_child
-    ∷ commits
+    ∷ begins first_child 1
+    ∷ begins second_child 2
+    ∷ looks first_child
+    ∷ by client (event.End top (Abort (cause.Asked second_child)))
+    ∷ by client (event.End second_child (Abort (cause.Orphan top)))
+    ∷ fails first_child
 
--- the second runs once the first has ended, under the same seat
-abbrev pub under_one_seat : List Entry
-under_one_seat =
-    user client top
-    ∷ starts other_client first_child 1
-    ∷ ends other_client first_child
-    ∷ starts other_client second_child 2
-    ∷ ends other_client second_child
-    ∷ commits
+-- the first alone runs
+abbrev pub one_left_out : List Entry
+one_left_out = user client top ∷ begins first_child 1 ∷ looks first_child ∷ reads first_child ++ goes_on second_child
 
--- a branch is tried again, under a seat
-abbrev pub tried_under : ℕ → List Entry
-tried_under seat =
+-- the first fails, and is tried again before the second begins
+abbrev pub tried_too_early : List Entry
+tried_too_early =
     user client top
-    ∷ starts other_client first_child 1
-    ∷ by other_client (event.End first_child (Abort (lacking Lost)))
-    ∷ starts seat second_child 1
-    ∷ ends seat second_child
-    ∷ commits
+    ∷ begins first_child 1
+    ∷ looks first_child
+    ∷ fails first_child
+    ++ begins second_child 1
+    ∷ begins third_child 2
+    ∷ looks second_child
+    ∷ looks third_child
+    ∷ reads second_child
+    ++ reads third_child
+    ++ goes_on fourth_child
 
--- it is tried again before the first try has ended
-abbrev pub tried_at_once : List Entry
-tried_at_once =
+-- the first commits, and is tried again
+abbrev pub tried_too_often : List Entry
+tried_too_often =
     user client top
-    ∷ starts other_client first_child 1
-    ∷ starts other_client second_child 1
-    ∷ by other_client (event.End first_child (Abort (lacking Lost)))
-    ∷ ends other_client second_child
-    ∷ commits
-
--- the top marks session 1 as a branch runs
-abbrev pub parent_marks : List Entry
-parent_marks =
-    user client top
-    ∷ starts other_client first_child 1
-    ∷ by client (event.Mark top 1)
-    ∷ ends other_client first_child
-    ∷ commits
-
--- a child that is no branch starts as a branch runs
-abbrev pub child_beside : List Entry
-child_beside =
-    user client top
-    ∷ starts other_client first_child 1
-    ∷ starts client second_child 3
-    ∷ ends client second_child
-    ∷ ends other_client first_child
-    ∷ commits
-
--- the branch of the next step starts as one of the first runs
-abbrev pub steps_at_once : List Entry
-steps_at_once =
-    user client top
-    ∷ starts other_client first_child 1
-    ∷ starts third_client second_child 4
-    ∷ ends other_client first_child
-    ∷ ends third_client second_child
-    ∷ commits
-
--- it starts once that has ended
-abbrev pub steps_in_a_row : List Entry
-steps_in_a_row =
-    user client top
-    ∷ starts other_client first_child 1
-    ∷ ends other_client first_child
-    ∷ starts third_client second_child 4
-    ∷ ends third_client second_child
-    ∷ commits
+    ∷ begins first_child 1
+    ∷ begins second_child 2
+    ∷ looks first_child
+    ∷ looks second_child
+    ∷ reads first_child
+    ++ begins third_child 1
+    ∷ looks third_child
+    ∷ reads second_child
+    ++ reads third_child
+    ++ goes_on fourth_child

@@ -4,5 +4,6 @@ pub mod Marks
 pub mod Musts
 pub mod Crashes
 pub mod Scripts
-pub mod Branches
 pub mod TwoSessions
+pub mod Branches
+pub mod BranchSeats

@@ -5,7 +5,7 @@ ghost use Rattle.std.specs.Prelude.{◌≡◌, true, false, [], ◌∷◌, ◌++
 ghost use Rattle.std.specs.List.{list_all};
 ghost use Rattle.qc_event.specs.declared.event.Event.TheVariants as event;
 ghost use Rattle.qc_event.specs.History.{children};
-ghost use Rattle.qc_interp.specs.Asking.{Asks};
+ghost use Rattle.qc_interp.specs.Asking.{Asks, BodiesAsk};
 ghost use Rattle.qc_interp.specs.Deeds.{deeds};
 ghost use Rattle.qc_interp.specs.Follows.{FollowsBody};
 ghost use Rattle.qc_interp.specs.FollowsScript.{EachRuns, is_in_session, no_branch, started};
@@ -14,6 +14,7 @@ ghost use Rattle.qc_interp.specs.Session.{FollowsBodies, RunsBodies};
 ghost use Rattle.qc_interp.specs.Sessions.{RunsInTurn, tops_of, meets, is_settled};
 ghost use Rattle.qc_script.specs.Numbers.{each, is_next_top};
 ghost use Rattle.qc_trail_laws.specs.Branches as branches;
+ghost use Rattle.qc_trail_laws.specs.BranchSeats as seats;
 ghost use Rattle.qc_trail_laws.specs.Crashes as crashes;
 ghost use Rattle.qc_trail_laws.specs.Marks as marks;
 ghost use Rattle.qc_trail_laws.specs.Musts as musts;
@@ -246,6 +247,35 @@ pub fn goes_by_no_other_mark()
         (reverse marks.killed_asks) → ⊥ }
 {}
 
+/// A top follows its body whose branches run at once: both begin in order, one is tried again between the other's steps,
+/// and the top goes on behind both; where one that must commit failed at last, the top is aborted for its last try, and
+/// else goes on; and where one aborts the top meanwhile, the other is not tried again.
+pub fn goes_by_branches()
+    ensures tried_again { FollowsBodies 0 (reverse branches.tried_again) (branches.two_read true)
+        (trails.top ∷ []) }
+    ensures aborted { FollowsBodies 0 (reverse branches.aborted) (branches.two_read true)
+        (trails.top ∷ []) }
+    ensures went_on { FollowsBodies 0 (reverse branches.went_on) (branches.two_read false)
+        (trails.top ∷ []) }
+    ensures stopped { FollowsBodies 0 (reverse branches.stopped) branches.one_aborts
+        (trails.top ∷ []) }
+    ensures stopped_named { BodiesAsk (reverse branches.stopped) branches.one_aborts
+        (trails.top ∷ []) trails.second_child trails.top }
+{}
+
+/// None of these follows its body: a top that goes on though a branch was left out, or one that must commit failed; and
+/// one with a branch that is tried again before the other has begun, or though it committed.
+pub fn goes_by_no_other_branch()
+    ensures left_out { FollowsBodies 0 (reverse branches.one_left_out) (branches.two_read false)
+        (trails.top ∷ []) → ⊥ }
+    ensures goes_on { FollowsBodies 0 (reverse branches.went_on) (branches.two_read true)
+        (trails.top ∷ []) → ⊥ }
+    ensures too_early { FollowsBodies 0 (reverse branches.tried_too_early)
+        (branches.two_read false) (trails.top ∷ []) → ⊥ }
+    ensures too_often { FollowsBodies 0 (reverse branches.tried_too_often)
+        (branches.two_read false) (trails.top ∷ []) → ⊥ }
+{}
+
 /// Two sessions whose tops run between each other's entries, each under its seat, follow their script: each runs its own
 /// bodies in turn, and tops are numbered in order, whatever their sessions.
 pub fn runs_together()
@@ -278,11 +308,11 @@ pub fn runs_not_together()
 /// Branches run at once, each under a seat of its own, and each is tried again under its seat; those of the next step run
 /// once they have ended: so the session runs in turn.
 pub fn runs_branches()
-    ensures at_once { RunsInTurn branches.step_of 0
-        (reverse (branches.at_once branches.third_client)) }
-    ensures tried_again { RunsInTurn branches.step_of 0
-        (reverse (branches.tried_under trails.other_client)) }
-    ensures in_a_row { RunsInTurn branches.step_of 0 (reverse branches.steps_in_a_row) }
+    ensures at_once { RunsInTurn seats.step_of 0
+        (reverse (seats.at_once seats.third_client)) }
+    ensures tried_again { RunsInTurn seats.step_of 0
+        (reverse (seats.tried_under trails.other_client)) }
+    ensures in_a_row { RunsInTurn seats.step_of 0 (reverse seats.steps_in_a_row) }
 {}
 
 /// In none of these does a session run in turn: children at once that are no branches; two branches under one seat, at
@@ -290,14 +320,14 @@ pub fn runs_branches()
 /// parent that marks, or starts a child that is no branch, as a branch runs; and branches of two steps at once.
 pub fn runs_no_branches()
     ensures no_branches { RunsInTurn no_branch 0
-        (reverse (branches.at_once branches.third_client)) → ⊥ }
-    ensures one_seat_at_once { RunsInTurn branches.step_of 0
-        (reverse (branches.at_once trails.other_client)) → ⊥ }
-    ensures one_seat { RunsInTurn branches.step_of 0 (reverse branches.under_one_seat) → ⊥ }
-    ensures tried_elsewhere { RunsInTurn branches.step_of 0
-        (reverse (branches.tried_under branches.third_client)) → ⊥ }
-    ensures tried_at_once { RunsInTurn branches.step_of 0 (reverse branches.tried_at_once) → ⊥ }
-    ensures parent_marks { RunsInTurn branches.step_of 0 (reverse branches.parent_marks) → ⊥ }
-    ensures child_beside { RunsInTurn branches.step_of 0 (reverse branches.child_beside) → ⊥ }
-    ensures steps_at_once { RunsInTurn branches.step_of 0 (reverse branches.steps_at_once) → ⊥ }
+        (reverse (seats.at_once seats.third_client)) → ⊥ }
+    ensures one_seat_at_once { RunsInTurn seats.step_of 0
+        (reverse (seats.at_once trails.other_client)) → ⊥ }
+    ensures one_seat { RunsInTurn seats.step_of 0 (reverse seats.under_one_seat) → ⊥ }
+    ensures tried_elsewhere { RunsInTurn seats.step_of 0
+        (reverse (seats.tried_under seats.third_client)) → ⊥ }
+    ensures tried_at_once { RunsInTurn seats.step_of 0 (reverse seats.tried_at_once) → ⊥ }
+    ensures parent_marks { RunsInTurn seats.step_of 0 (reverse seats.parent_marks) → ⊥ }
+    ensures child_beside { RunsInTurn seats.step_of 0 (reverse seats.child_beside) → ⊥ }
+    ensures steps_at_once { RunsInTurn seats.step_of 0 (reverse seats.steps_at_once) → ⊥ }
 {}
