@@ -7,6 +7,7 @@ use Rattle.qc_disk.specs.Disk.{View}
 use Rattle.qc_event.specs.Tables.{setting_of}
 use Rattle.qc_event.specs.declared.table.Table.{Table}
 use Rattle.qc_system.specs.Grown.{GrownFrom}
+use Rattle.qc_interp.proofs.Places.{some_same}
 use Rattle.qc_opening.specs.Stored.{disks_of, past_of, AreOfRun, HasGrown, HasKept, HaveGrown}
 use Rattle.qc_opening.specs.declared.stored.Stored.{Stored}
 
@@ -14,15 +15,12 @@ module _ {D : Type 0} (view : D → View) (table : Table) (told : ℕ → Option
   abbrev May : ℕ → List (List ℕ) → Type 0
   May number = AreOfRun (setting_of table stored.ended.start) number (past_of stored)
 
-  same_item : (a b : D) → Some a ≡ Some b → a ≡ b
-  same_item a b e = cc
-
   -- the disk at a place
   grown_at : (number : ℕ) (disk other : D) → number ≤ table.copies → slice_get (disks_of stored) number ≡ Some other → slice_get (disks_of stored) number ≡ Some disk → is_some (told number) ≡ true
       → ∥ (is_some (told number) ≡ true → GrownFrom (view (kept.firsts number)) (kept.records number) (May number) (view other)) ∥₁ → ∥ HasGrown view (kept.records number) (May number) disk ∥₁
   grown_at number disk other low there is tells grown =
       let was = kept.was number low in
-      let same : other ≡ disk = same_item other disk (sym there ∙ is) in
+      let same : other ≡ disk = some_same other disk (sym there ∙ is) in
       ∥∥₁_map grown (λ k. record {
         first = kept.firsts number;
         tells = was.tells tells;

@@ -12,6 +12,7 @@ use Rattle.qc_event.specs.declared.table.Table.{Table}
 use Rattle.qc_event.specs.History.{limit}
 use Rattle.qc_event.specs.Seats.{copy_seat, ledger_seat}
 use Rattle.qc_event.specs.Tables.{base_of, setting_of}
+use Rattle.qc_interp.proofs.Places.{some_same}
 use Rattle.qc_mount.specs.Disks.{AreOffered}
 use Rattle.qc_mount.specs.Images.{Offers}
 use Rattle.qc_mount.specs.Numbered.{EachFrom, PairsFrom}
@@ -182,15 +183,12 @@ module _ {D : Type 0} (view : D → View) (plan : ScriptPlan) (told offers : ℕ
   from_none : (first count now : ℕ) → Pays first count now → Pays 0 count now
   from_none first count now pays = omega (arith, pays)
 
-  same_item : {A : Type 0} (a b : A) → Some a ≡ Some b → a ≡ b
-  same_item a b e = cc
-
   -- the disk at a place, by its seat
   paid_at : (number place seat count : ℕ) (disk other : D) → place ≡ number → seat ≡ number + 1 → slice_get stored.ended.disks.items place ≡ Some other → Pays count (downs (entries_of seat (past_of stored))) (view other).faults
       → slice_get stored.ended.disks.items number ≡ Some disk → Pays 0 (downs (entries_of (number + 1) (past_of stored))) (view disk).faults
   paid_at number place seat count disk other at by there pays is =
       let here : slice_get stored.ended.disks.items place ≡ Some disk = subst (λ n. slice_get stored.ended.disks.items n ≡ Some disk) (sym at) is in
-      let same : other ≡ disk = same_item other disk (sym there ∙ here) in
+      let same : other ≡ disk = some_same other disk (sym there ∙ here) in
       subst (λ n. Pays 0 (downs (entries_of n (past_of stored))) (view disk).faults) by
       (subst (λ d. Pays 0 (downs (entries_of seat (past_of stored))) (view d).faults) same (from_none count _ _ pays))
 

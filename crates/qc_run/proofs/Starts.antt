@@ -15,6 +15,7 @@ use Rattle.qc_event.specs.Sound.{Carries, IsSound, HasValue, column, greatest_ve
 use Rattle.qc_event.specs.Tables.{base_of, setting_of, first_tuple, first_configs, first_values}
 use Rattle.qc_event.specs.declared.table.Row.{Row}
 use Rattle.qc_event.specs.declared.table.Table.{Table}
+use Rattle.qc_interp.proofs.Places.{at_place}
 use Rattle.qc_script.specs.Plan.{ScriptPlan}
 use Rattle.qc_script.specs.Reading.{IsProper, IsProperRow}
 
@@ -27,11 +28,6 @@ map_map f g (x ∷ xs) = ap (λ ys. f (g x) ∷ ys) (map_map f g xs)
 map_replicate : {X Y : Type 0} (f : X → Y) (n : ℕ) (x : X) → map f (replicate n x) ≡ replicate n (f x)
 map_replicate f zero x = refl
 map_replicate f (suc n) x = ap (λ ys. f x ∷ ys) (map_replicate f n x)
-
-at_place : {X : Type 0} (P : X → Type 0) (xs : List X) (k : ℕ) (x : X) → AllByRecursion P xs → slice_get xs k ≡ Some x → P x
-at_place P [] k x all is = absurd cc
-at_place P (y ∷ xs) zero x all is = let same : y ≡ x = cc in subst P same all.0
-at_place P (y ∷ xs) (suc k) x all is = at_place P xs k x all.1 is
 
 -- ONE RECORD
 

@@ -27,8 +27,8 @@ impl<'a, R: Wait, D: Disk + Drop, L: Link + Drop, N: Mounting> Tx for Client<'a,
     ghost use Rattle.qc_session.specs.Clients.{link_told, view_of};
 
     ghost view = { λ c. view_of (setting_of N.table N.base) c.session
-        c.line.system.now.desk.epoch (link_told (L.view (link_of c.line.courier)).plan c.line.patience)
-        c.line.pass };
+        c.line.system.now.desk.epoch
+        (link_told (L.view (link_of c.line.courier)).plan c.line.patience) c.line.pass };
 
     fn begin(&mut self, parent: &Name, body: u32) -> Result<Name, TxNo> {
         let session = self.session;
