@@ -23,6 +23,13 @@ impl Spoiled {
         }
     }
 
+    fn append_all(&mut self, entries: &[Entry]) -> Result<(), AllocError> {
+        for entry in entries {
+            append(&mut self.entries, *entry)?;
+        }
+        Ok(())
+    }
+
     /// Without the entry at a place.
     pub(crate) fn without(alloc: Global, trail: &[Entry], at: usize) -> Result<Self, AllocError> {
         let mut spoiled = Spoiled::new(alloc);
@@ -72,12 +79,10 @@ impl Spoiled {
         more: Entry,
     ) -> Result<Self, AllocError> {
         let mut spoiled = Spoiled::new(alloc);
-        for (place, entry) in trail.iter().enumerate() {
-            append(&mut spoiled.entries, *entry)?;
-            if place == at {
-                append(&mut spoiled.entries, more)?;
-            }
-        }
+        let (front, back) = trail.split_at(at.saturating_add(1).min(trail.len()));
+        spoiled.append_all(front)?;
+        append(&mut spoiled.entries, more)?;
+        spoiled.append_all(back)?;
         Ok(spoiled)
     }
 
