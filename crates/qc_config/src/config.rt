@@ -31,7 +31,7 @@ pub enum BadConfig {
 #[derive(Clone, Copy)]
 pub struct Config {
     votes: [u8; 16],
-    count: usize,
+    count: u8,
     read: u16,
     write: u16,
 }
@@ -55,7 +55,7 @@ impl Model for Config {
 impl fmt::Debug for Config {
     fn fmt<W: fmt::Write>(&self, f: &mut fmt::Formatter<W>) -> fmt::Result {
         f.debug_struct("Config")
-            .field("votes", &&self.votes[..self.count])
+            .field("votes", &&self.votes[..self.count()])
             .field("read", &self.read)
             .field("write", &self.write)
             .finish()
@@ -113,7 +113,7 @@ impl Config {
         kept[..votes.len()].copy_from_slice(votes);
         Ok(Config {
             votes: kept,
-            count: votes.len(),
+            count: votes.len() as u8,
             read: read as u16,
             write: write as u16,
         })
@@ -135,7 +135,7 @@ impl Config {
         ensures count { result ≡ length self.now.votes }
         ensures bounded { length self.now.votes ≤ 16 }
     {
-        self.count
+        self.count as usize
     }
 
     /// The votes of a copy, none past the list.
@@ -143,15 +143,18 @@ impl Config {
         requires { c < 16 }
         ensures { result ≡ config.votes_of self.now c }
     {
-        let c = c as usize;
-        if c < self.count { self.votes[c] } else { 0 }
+        if c < self.count {
+            self.votes[c as usize]
+        } else {
+            0
+        }
     }
 
     /// All votes together.
     pub fn total(&self) -> u16
         ensures { result ≡ sum self.now.votes }
     {
-        total_of(&self.votes[..self.count])
+        total_of(&self.votes[..self.count()])
     }
 
     /// How many votes a reader needs.
@@ -172,7 +175,7 @@ impl Config {
     fn weight(&self, copies: Copies) -> u16
         ensures { result ≡ config.weight self.now.votes copies }
     {
-        let votes = &self.votes[..self.count];
+        let votes = &self.votes[..self.count()];
         let mut weight = 0;
         for (c, v) in votes.iter().enumerate() {
             if copies.has(c as u8) {
