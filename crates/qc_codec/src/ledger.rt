@@ -19,10 +19,7 @@ use std::alloc::{AllocError, Global};
 fn is_below(top: u64, name: &Name) -> bool
     ensures { result ≡ body.is_below top name.now }
 {
-    match name.as_slice() {
-        [] => false,
-        [first, ..] => *first == top,
-    }
+    name.number(0) == Some(top)
 }
 
 impl Cursor<'_> {
@@ -111,7 +108,7 @@ fn put_top(out: &mut Vec<u8>, top: &Name, names: &[Name]) -> Result<(), AllocErr
     requires some { 0 < length top.now }
     ensures { Puts body.top (slice_index top.now 0, names.now) result out.old.items out.new.items }
 {
-    put_long(out, top.as_slice()[0])?;
+    put_long(out, top.number(0).unwrap_or(0))?;
     put_word(out, names.len() as u32)?;
     put_names(out, names)
 }

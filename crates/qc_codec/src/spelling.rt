@@ -66,11 +66,10 @@ pub fn put_name(out: &mut Vec<u8>, name: &Name) -> Result<(), AllocError>
     requires { 0 < length name.now }
     ensures { Puts (field.name 1) name.now result out.old.items out.new.items }
 {
-    let numbers = name.as_slice();
-    out.push(numbers.len() as u8)?;
-    put_long(out, numbers[0])?;
-    for number in &numbers[1..] {
-        put_word(out, *number as u32)?;
+    out.push(name.len() as u8)?;
+    put_long(out, name.number(0).unwrap_or(0))?;
+    for number in name.rest() {
+        put_word(out, *number)?;
     }
     Ok(())
 }
