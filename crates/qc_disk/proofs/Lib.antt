@@ -1,3 +1,4 @@
 pub mod Moments
 pub mod Turns
 pub mod Between
+pub mod Marks

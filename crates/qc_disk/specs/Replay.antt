@@ -1,10 +1,10 @@
 -- What a record of calls says of a disk: its content, and what a crash may leave of it.
-use Rattle.std.specs.Prelude.{◌≡◌, ℕ, ◌+◌, List, [], ◌∷◌, length, take, Option, Some, None, Bool, if◌then◌else◌, ◌==◌, Vec}
+use Rattle.std.specs.Prelude.{◌≡◌, ℕ, ◌+◌, List, [], ◌∷◌, length, take, drop, Option, Some, None, Bool, if◌then◌else◌, ◌==◌, Vec}
 use Rattle.std.specs.declared.alloc.Global.{Global}
 use Rattle.qc_disk.specs.Disk.{written, Torn, Cut}
 use Rattle.qc_disk.specs.declared.record.FailAt.{FailAt}
-use Rattle.qc_disk.specs.declared.record.Deed.{Deed}
-use Rattle.qc_disk.specs.declared.record.Deed.TheVariants as deed
+use Rattle.qc_disk.specs.declared.record.Mark.{Mark}
+use Rattle.qc_disk.specs.declared.record.Mark.TheVariants as mark
 
 -- what a call did
 pub data Act : Type 0 where
@@ -13,12 +13,29 @@ pub data Act : Type 0 where
   cut_to : ℕ → Act
   synced : Act
 
--- a deed without where its bytes lie in memory
-abbrev pub act_of : Deed → Act
-act_of deed.Nothing = nothing
-act_of (deed.Wrote at bytes) = wrote at bytes.items
-act_of (deed.Cut to) = cut_to to
-act_of deed.Synced = synced
+-- how many bytes a call wrote
+abbrev pub span : Mark → ℕ
+span mark.Nothing = 0
+span (mark.Wrote len at) = len
+span (mark.Cut to) = 0
+span mark.Synced = 0
+
+-- and all these calls
+abbrev pub spans : List Mark → ℕ
+spans [] = 0
+spans (m ∷ marks) = span m + spans marks
+
+-- what a mark tells, with the bytes that were written
+abbrev pub act_of : Mark → List ℕ → Act
+act_of mark.Nothing bytes = nothing
+act_of (mark.Wrote len at) bytes = wrote at bytes
+act_of (mark.Cut to) bytes = cut_to to
+act_of mark.Synced bytes = synced
+
+-- what marks tell, with all bytes that were written, one call's behind another's
+abbrev pub acts_of : List Mark → List ℕ → List Act
+acts_of [] bytes = []
+acts_of (m ∷ marks) bytes = act_of m (take (span m) bytes) ∷ acts_of marks (drop (span m) bytes)
 
 -- whether a call is listed, and whether it does its work then
 abbrev pub fault_at : List FailAt → ℕ → Option Bool

@@ -1,6 +1,6 @@
 -- The parts of a tape, and what a call may do to it.
-use Rattle.std.specs.Prelude.{◌≡◌, List, [], ◌∷◌, ◌++◌, ℕ, map}
-use Rattle.qc_disk.specs.Replay.{Act, act_of, does, latest_or}
+use Rattle.std.specs.Prelude.{◌≡◌, List, [], ◌∷◌, ◌++◌, ℕ}
+use Rattle.qc_disk.specs.Replay.{Act, acts_of, does, latest_or}
 use Rattle.qc_disk.specs.declared.record.Tape.{Tape}
 
 -- what it was made with
@@ -9,7 +9,7 @@ tape_first tape = tape.first.items
 
 -- what each call did, the oldest first
 abbrev pub tape_acts : Tape → List Act
-tape_acts tape = map act_of tape.calls.items
+tape_acts tape = acts_of tape.calls.items tape.written.items
 
 -- what is there now
 abbrev pub tape_bytes : Tape → List ℕ

@@ -4,7 +4,7 @@ ghost use Rattle.qc_disk.specs.Replay.{replayed};
 ghost use Rattle.qc_disk.specs.Tape.{tape_first, tape_acts, tape_bytes};
 
 use crate::disk::{Disk, DiskNo};
-use crate::record::{Deed, FailAt, Tape, fault_of};
+use crate::record::{FailAt, Mark, Tape, fault_of};
 use std::alloc::{AllocError, Global};
 
 /// A disk in memory, with a record of its calls.
@@ -19,7 +19,7 @@ pub struct MemDisk {
 impl MemDisk {
     ghost use Rattle.std.specs.Prelude.{◌≤◌, ◌+◌, ◌-◌, take, Some, IfOk, IsErrOf};
     ghost use Rattle.qc_disk.specs.Disk.{HasCause, Elapses, Advances, Stays};
-    ghost use Rattle.qc_disk.specs.Replay.{act_of, image_after};
+    ghost use Rattle.qc_disk.specs.Replay.{act_of, span, image_after};
     ghost use Rattle.qc_disk.specs.MemDisk.{mem_first, mem_acts, mem_bytes, mem_fails, mem_faults, mem_at, mem_view, next_fault, Turned};
 
     /// A disk of these bytes, all of them synced, which fails at the listed calls.
@@ -67,11 +67,12 @@ impl MemDisk {
     fn next_fault(&self) -> Option<bool>
         ensures { result ≡ next_fault self.now }
     {
-        fault_of(&self.fails, self.calls() + 1)
+        fault_of(&self.fails, self.tape.count() as u64 + 1)
     }
 
-    // Makes a call whose work is a deed.
-    fn turn(&mut self, deed: Deed) -> Result<(), DiskNo>
+    // Makes a call whose work a mark tells, with the bytes that it writes.
+    fn turn(&mut self, mark: Mark, new: &[u8]) -> Result<(), DiskNo>
+        requires { span mark ≡ length new.now }
         ensures time { Elapses (mem_view self.old) (mem_view self.new) }
         ensures advances { Advances (length (mem_acts self.old)) (length (mem_acts self.new))
             (IsErrOf result DiskNo.Memory) }
@@ -79,15 +80,15 @@ impl MemDisk {
             (IsErrOf result DiskNo.Failed) }
         ensures memory { IsErrOf result DiskNo.Memory
             → Stays (mem_view self.old) (mem_view self.new) }
-        ensures turned { Turned self.old self.new (act_of deed) result }
+        ensures turned { Turned self.old self.new (act_of mark new.now) result }
     {
         let fault = self.next_fault();
-        let deed = if fault == Some(false) {
-            Deed::Nothing
+        let (mark, new) = if fault == Some(false) {
+            (Mark::Nothing, &[][..])
         } else {
-            deed
+            (mark, new)
         };
-        self.tape.apply(deed)?;
+        self.tape.apply(mark, new)?;
         if fault.is_some() {
             self.faults = self.faults.saturating_add(1);
             return Err(DiskNo::Failed);
@@ -125,7 +126,7 @@ impl Disk for MemDisk {
             → Stays (mem_view self.old) (mem_view self.new) }
         ensures turned { Turned self.old self.new nothing result }
     {
-        self.turn(Deed::Nothing)?;
+        self.turn(Mark::Nothing, &[])?;
         Ok(self.tape.bytes().len() as u64)
     }
 
@@ -144,7 +145,7 @@ impl Disk for MemDisk {
             → Stays (mem_view self.old) (mem_view self.new) }
         ensures turned { Turned self.old self.new nothing result }
     {
-        self.turn(Deed::Nothing)?;
+        self.turn(Mark::Nothing, &[])?;
         let at = at as usize;
         into.copy_from_slice(&self.tape.bytes()[at..at + into.len()]);
         Ok(())
@@ -170,11 +171,16 @@ impl Disk for MemDisk {
             → Stays (mem_view self.old) (mem_view self.new) }
         ensures turned { Turned self.old self.new (wrote at bytes.now) result }
     {
-        let bytes = bytes.to_vec(self.tape.allocator())?;
-        self.turn(Deed::Wrote {
-            at: at as usize,
+        let Ok(len) = u32::try_from(bytes.len()) else {
+            return Err(DiskNo::Memory);
+        };
+        self.turn(
+            Mark::Wrote {
+                len,
+                at: at as usize,
+            },
             bytes,
-        })
+        )
     }
 
     fn cut(&mut self, to: u64) -> Result<(), DiskNo>
@@ -194,7 +200,7 @@ impl Disk for MemDisk {
             → Stays (mem_view self.old) (mem_view self.new) }
         ensures turned { Turned self.old self.new (cut_to to) result }
     {
-        self.turn(Deed::Cut(to as usize))
+        self.turn(Mark::Cut(to as usize), &[])
     }
 
     fn sync(&mut self) -> Result<(), DiskNo>
@@ -212,6 +218,6 @@ impl Disk for MemDisk {
             → Stays (mem_view self.old) (mem_view self.new) }
         ensures turned { Turned self.old self.new synced result }
     {
-        self.turn(Deed::Synced)
+        self.turn(Mark::Synced, &[])
     }
 }

@@ -1,12 +1,13 @@
--- The rest of the deeds leads from here where all of them lead from the first bytes.
-use Rattle.std.proofs.Common.{◌≡◌, length, map}
-use Rattle.qc_disk.specs.Replay.{act_of, replayed, last_synced}
+-- The rest of the marks leads from here where all of them lead from the first bytes.
+use Rattle.std.proofs.Common.{◌≡◌, ◌≤◌, length}
+use Rattle.qc_disk.specs.Replay.{acts_of, spans, replayed, last_synced}
 use Rattle.qc_disk.proofs.record.replay.Given as goal
 
 abbrev pub invariant-loop-rest : goal.invariant-loop-rest
 invariant-loop-rest l = record {
-  now : replayed l.bytes.items (map act_of l.rest) ≡ replayed l.first (map act_of l.deeds);
-  synced : last_synced l.synced.items l.bytes.items (map act_of l.rest) ≡ last_synced l.first l.first (map act_of l.deeds);
+  within : spans l.rest ≤ length l.left;
+  now : replayed l.bytes.items (acts_of l.rest l.left) ≡ replayed l.first (acts_of l.marks l.written);
+  synced : last_synced l.synced.items l.bytes.items (acts_of l.rest l.left) ≡ last_synced l.first l.first (acts_of l.marks l.written);
 }
 
 abbrev pub decreases-loop-rest : goal.decreases-loop-rest
