@@ -1,6 +1,7 @@
 use Rattle.std.proofs.Common.{◌≡◌, ◌+◌, ◌<◌, true, false, [], ◌∷◌, length, take, get_or, sym, ap, ◌∙◌, subst, arith, take_all}
 use Rattle.std.specs.Prelude.{Some, None, slice_get}
 use Rattle.std.specs.Option.{option_copied}
+use Rattle.std.proofs.lemmas.Option.{unwrap_or-slice_get}
 use Rattle.std.proofs.lemmas.List.{take_more, length-take-le}
 use Rattle.qc_event.specs.Dead.{outcome, is_aborted, dead}
 use Rattle.qc_event.proofs.Ancestors.{find_no_ancestor}
@@ -55,7 +56,8 @@ returns-in_default-child-clause-dead g c = λ setting past is legal.
     let placed = c.loop-k.invariant.place setting past is legal in
     let pos : 0 < length (take k n) = omega (arith, length-take-le k n (omega arith)) in
     let next = next_place setting past c.args.self.now (take k n) number c.loop-k.at s is legal pos placed found in
-    let below : child_at s.children number ≡ None = ap (λ ns. child_at s.children (get_or ns k 0)) (sym c.as_slice.ensures.numbers) ∙ sym c.child.ensures ∙ c.in_default-child.is in
+    let told : c.unwrap_or-number.result ≡ number = rw (c.unwrap_or-number.ensures, c.number-in-loop-k.ensures) (unwrap_or-slice_get n k 0) in
+    let below : child_at s.children number ≡ None = ap (child_at s.children) (sym told) ∙ sym c.child.ensures ∙ c.in_default-child.is in
     let here : is_aborted (outcome past (take k n)) ≡ false = ap is_aborted (sym (stands_so past c.args.self.now (take k n) c.loop-k.at s is placed found) ∙ sym c.outcome.ensures) ∙ sym c.is_aborted.ensures ∙ c.if-is_aborted.false in
     sym (no_dead setting past n (k + 1) legal (omega arith) (omega arith) (alive_more past n k (c.loop-k.invariant.alive setting past is legal) here)
     (ap (place past) (take_more n k 0 (omega arith)) ∙ sym next ∙ below))
@@ -68,7 +70,8 @@ loop-k-preserved g c =
     let s = spot c.node-node.result.now in
     let found = ap (λ (x : Shape). slice_get x.spots c.loop-k.at) (sym c.self.view_is) ∙ c.node-node.ensures.node in
     let pos : 0 < length (take k n) = omega (arith, length-take-le k n (omega arith)) in
-    let below : child_at s.children number ≡ Some c.in-Some-child.next = ap (λ ns. child_at s.children (get_or ns k 0)) (sym c.as_slice.ensures.numbers) ∙ sym c.child.ensures ∙ c.in-Some-child.is in
+    let told : c.unwrap_or-number.result ≡ number = rw (c.unwrap_or-number.ensures, c.number-in-loop-k.ensures) (unwrap_or-slice_get n k 0) in
+    let below : child_at s.children number ≡ Some c.in-Some-child.next = ap (child_at s.children) (sym told) ∙ sym c.child.ensures ∙ c.in-Some-child.is in
     record {
       place = λ setting past is legal.
           ap (place past) (take_more n k 0 (omega arith)) ∙ sym (next_place setting past c.args.self.now (take k n) number c.loop-k.at s is legal pos (c.loop-k.invariant.place setting past is legal) found) ∙ below;

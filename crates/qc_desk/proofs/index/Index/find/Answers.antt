@@ -1,6 +1,7 @@
 use Rattle.std.proofs.Common.{◌≡◌, ◌+◌, ◌<◌, [], ◌∷◌, length, take, drop, get_or, sym, ap, ◌∙◌, subst, arith, take-append-drop}
 use Rattle.std.specs.Prelude.{Some, None, slice_get}
 use Rattle.std.specs.Option.{option_copied}
+use Rattle.std.proofs.lemmas.Option.{unwrap_or-slice_get}
 use Rattle.std.proofs.lemmas.List.{take_more, length-take-le}
 use Rattle.qc_desk.specs.Spots.{spot, child_at}
 use Rattle.qc_desk.specs.Places.{place}
@@ -28,7 +29,8 @@ returns-in_default-child-clause-place g c = λ setting past is legal.
     let pos : 0 < length (take k n) = omega (arith, length-take-le k n (omega arith)) in
     let next = next_place setting past c.args.self.now (take k n) number c.loop-k.at s is legal pos (c.loop-k.invariant.place setting past is legal)
     (ap (λ (x : Shape). slice_get x.spots c.loop-k.at) (sym c.self.view_is) ∙ c.node.ensures.node) in
-    let here : child_at s.children number ≡ None = ap (λ ns. child_at s.children (get_or ns k 0)) (sym c.as_slice.ensures.numbers) ∙ sym c.child.ensures ∙ c.in_default-child.is in
+    let told : c.unwrap_or-number.result ≡ number = rw (c.unwrap_or-number.ensures, c.number-in-loop-k.ensures) (unwrap_or-slice_get n k 0) in
+    let here : child_at s.children number ≡ None = ap (child_at s.children) (sym told) ∙ sym c.child.ensures ∙ c.in_default-child.is in
     let none : place past (take (k + 1) n) ≡ None = ap (place past) (take_more n k 0 (omega arith)) ∙ sym next ∙ here in
     sym (no_place_below setting past (take (k + 1) n) (drop (k + 1) n) legal (omega (arith, length-take-le (k + 1) n (omega arith))) none)
     ∙ ap (place past) (take-append-drop (k + 1) n)
@@ -40,7 +42,8 @@ loop-k-preserved g c =
     let number = get_or n k 0 in
     let s = spot c.node.result.now in
     let pos : 0 < length (take k n) = omega (arith, length-take-le k n (omega arith)) in
-    let here : child_at s.children number ≡ Some c.in-Some-child.next = ap (λ ns. child_at s.children (get_or ns k 0)) (sym c.as_slice.ensures.numbers) ∙ sym c.child.ensures ∙ c.in-Some-child.is in
+    let told : c.unwrap_or-number.result ≡ number = rw (c.unwrap_or-number.ensures, c.number-in-loop-k.ensures) (unwrap_or-slice_get n k 0) in
+    let here : child_at s.children number ≡ Some c.in-Some-child.next = ap (child_at s.children) (sym told) ∙ sym c.child.ensures ∙ c.in-Some-child.is in
     record {
       place = λ setting past is legal.
           let next = next_place setting past c.args.self.now (take k n) number c.loop-k.at s is legal pos (c.loop-k.invariant.place setting past is legal)
