@@ -1,5 +1,5 @@
 //! Names of accesses as keys of a map.
-ghost use Rattle.std.specs.Prelude.{◌≡◌};
+ghost use Rattle.std.specs.Prelude.{◌≡◌, ◌++◌, drop, slice_index};
 ghost use Rattle.std.proofs.Common.{rules};
 ghost use Rattle.std.specs.Cmp.{partial_equiv_from_equiv};
 ghost use Rattle.std.specs.Cmp.Lexicographic.{nat_list_eq_equiv};
@@ -46,11 +46,12 @@ impl Eq for Access {
 }
 
 impl Hash for Access {
-    ghost hash_input = { fed.slice fed.u64 };
+    ghost hash_input = { λ access. fed.u64 (slice_index access 0) ++ fed.slice fed.u32 (drop 1 access) };
 
     ghost respects_eq = { Prim.search (hashing, rules) };
 
     fn hash<H: Hasher>(&self, state: &mut H) {
-        self.0.as_slice().hash(state);
+        self.0.number(0).unwrap_or(0).hash(state);
+        self.0.rest().hash(state);
     }
 }
