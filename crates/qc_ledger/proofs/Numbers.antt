@@ -1,7 +1,8 @@
 -- The numbers of tops, with one more.
 use Rattle.std.proofs.Common.{◌≡◌, ◌≢◌, inl, inr, ℕ, ◌<◌, ◌≤◌, List, [], ◌∷◌, ◌++◌, length, refl, sym, ap, ◌∙◌, subst, arith, cond, length-append}
 use mathlib.Core.Bool.{true≢false}
-use Rattle.std.specs.Prelude.{All, true, false, slice_index}
+use Rattle.std.specs.Prelude.{All, Some, true, false, slice_get}
+use Rattle.std.proofs.lemmas.Option.{same_Some}
 use Rattle.std.specs.Ordering.{is_eq, nat_cmp}
 use Rattle.std.specs.Cmp.{nat_cmp_is}
 use Rattle.std.specs.declared.cmp.Ordering.TheVariants.{Less, Greater}
@@ -48,7 +49,8 @@ numbers_more old new tops n l is updates numbers q = elim (cases_eq n q) [
 ]
 
 -- a list of one
-pub alone : (xs : List ℕ) → 1 ≤ length xs → length xs < 2 → xs ≡ slice_index xs 0 ∷ []
-alone [] some few = absurd (omega (arith, some))
-alone (x ∷ []) some few = refl
-alone (x ∷ y ∷ xs) some few = absurd (omega (arith, few))
+-- a list of one number is that number's
+pub alone : (xs : List ℕ) (n : ℕ) → length xs ≡ 1 → slice_get xs 0 ≡ Some n → xs ≡ n ∷ []
+alone [] n one first = absurd (omega (arith, one))
+alone (x ∷ []) n one first = ap (λ k. k ∷ []) (same_Some x n first)
+alone (x ∷ y ∷ xs) n one first = absurd (omega (arith, one))

@@ -68,7 +68,7 @@ impl Seen {
             (told_by self.old) (Top top aborted))) }
         ensures numbers { IfOk result (λ taken. OnTrue taken (HasNumbers self.new)) }
     {
-        let [number] = *top.as_slice() else {
+        let (1, Some(number)) = (top.len(), top.number(0)) else {
             return Ok(false);
         };
         if number / EPOCH != u64::from(self.epoch) || !self.numbers.insert(number)? {
