@@ -55,8 +55,8 @@ pub(crate) fn top_number(name: &Name) -> u64 {
 
 /// The number that a child of this parent has; none where it is no child of it.
 pub(crate) fn number_below(parent: &Name, child: &Name) -> Option<u64> {
-    match child.as_slice() {
-        [front @ .., last] if front == parent.as_slice() => Some(*last),
+    match child.parent() {
+        Some(front) if front == *parent => child.number(parent.len()),
         _ => None,
     }
 }

@@ -21,12 +21,12 @@ fn narrowed(number: u64) -> u32 {
 
 /// The sibling with the next number.
 pub(crate) fn next_to(name: &Name) -> Name {
-    match name.as_slice() {
-        [] => *name,
-        [top] => Name::top(top.wrapping_add(1)),
-        [.., last] => match name.parent() {
+    match (name.number(0), name.rest()) {
+        (None, _) => *name,
+        (Some(top), []) => Name::top(top.wrapping_add(1)),
+        (Some(_), [.., last]) => match name.parent() {
             Some(parent) if !parent.is_empty() && parent.len() < 17 => {
-                parent.child(narrowed(*last).wrapping_add(1))
+                parent.child(last.wrapping_add(1))
             }
             _ => *name,
         },
@@ -39,11 +39,11 @@ fn moved(name: &Name, from: &Name, to: &Name) -> Name {
         return *name;
     }
     let mut made = *to;
-    for number in name.as_slice().iter().skip(from.len()) {
+    for at in from.len()..name.len() {
         if made.is_empty() || made.len() > 17 {
             return made;
         }
-        made = made.child(narrowed(*number));
+        made = made.child(narrowed(name.number(at).unwrap_or(0)));
     }
     made
 }

@@ -53,9 +53,9 @@ fn may_start_next(setting: &Setting, h: &[Entry], seat: u32, n: &Name, kind: &Ki
 pub fn may_start(setting: &Setting, h: &[Entry], seat: u32, n: &Name, kind: &Kind) -> bool
     ensures { IsTrue result ↔ words.Starts setting.now (reverse h.now) seat n.now kind.now }
 {
-    match n.as_slice() {
-        [] => false,
-        [number] => may_start_top(h, seat, *number, kind),
+    match (n.len(), n.number(0)) {
+        (1, Some(number)) => may_start_top(h, seat, number, kind),
+        (_, None) => false,
         _ => may_start_next(setting, h, seat, n, kind),
     }
 }

@@ -80,8 +80,8 @@ fn may_commit_top(h: &[Entry], seat: u32, n: &Name, given: &Answer) -> bool
 pub fn may_commit_user_or_top(h: &[Entry], seat: u32, n: &Name, given: &Answer) -> bool
     ensures { IsTrue result ↔ words.MayCommitUserOrTop (reverse h.now) seat n.now given.now }
 {
-    match n.as_slice() {
-        [_] => may_commit_top(h, seat, n, given),
+    match n.len() {
+        1 => may_commit_top(h, seat, n, given),
         _ => may_commit_user(h, seat, n, given),
     }
 }
