@@ -1,7 +1,7 @@
 -- The places of logged tops, with one more; and what they keep, by their places.
-use Rattle.std.proofs.Common.{◌≡◌, inl, inr, ℕ, ◌+◌, ◌<◌, ◌≤◌, List, [], ◌∷◌, ◌++◌, length, get_or, drop, take, refl, sym, ap, ◌∙◌, subst, arith, length-append}
+use Rattle.std.proofs.Common.{◌≡◌, inl, inr, ℕ, ◌+◌, ◌<◌, List, [], ◌∷◌, ◌++◌, length, get_or, drop, take, refl, sym, ap, ◌∙◌, subst, arith, length-append}
 use mathlib.Core.Bool.{true≢false}
-use Rattle.std.specs.Prelude.{◌==◌, ◌&&◌, Bool, true, false, not, None, Some, slice_index}
+use Rattle.std.specs.Prelude.{◌==◌, ◌&&◌, Bool, true, false, not, None, Some, slice_get}
 use Rattle.std.specs.List.{list_any}
 use Rattle.std.specs.BTreeMap.{BTreeMap, Updates, get, is_at}
 use Rattle.std.specs.Ordering.{nat_cmp}
@@ -12,6 +12,7 @@ use Rattle.std.proofs.lemmas.List.Elements.{All-push}
 use Rattle.std.proofs.lemmas.List.Folds.{list_any_at, list_any_none}
 use Rattle.std.proofs.lemmas.Option.{none-some, same_Some}
 use Rattle.std.specs.Map.{lookup}
+use Rattle.qc_desk.proofs.Finding.{only_root, first_and_rest}
 use Rattle.qc_ledger.proofs.Numbers.{is_at_apart}
 use Rattle.qc_names.specs.Name as name
 use Rattle.qc_event.specs.History.{Name}
@@ -55,26 +56,18 @@ module _ (places : BTreeMap ℕ ℕ) (tops : List Logged) (are : ArePlaces place
       true≢false (sym kept ∙ ap (keeps (n ∷ rest)) (ap (λ i. get_or tops i d) same ∙ get_or_default tops p d l (are.within n p found) ∙ sym is) ∙ dropped))))
 
 -- an access, by its first number
-first_of : (xs : List ℕ) → 1 ≤ length xs → xs ≡ slice_index xs 0 ∷ drop 1 xs
-first_of [] some = absurd (omega (arith, some))
-first_of (x ∷ xs) some = refl
+module _ (places : BTreeMap ℕ ℕ) (tops : List Logged) (are : ArePlaces places tops) (access : Name) where
+  pub none_kept : slice_get access 0 ≡ None → false ≡ is_kept tops access
+  none_kept none = sym (ap (is_kept tops) (only_root access none) ∙ kept_root places tops are)
 
-root_of : (xs : List ℕ) → length xs < 1 → xs ≡ []
-root_of [] none = refl
-root_of (x ∷ xs) none = absurd (omega (arith, none))
+  pub not_kept : (n : ℕ) → slice_get access 0 ≡ Some n → None ≡ get nat_cmp places n → false ≡ is_kept tops access
+  not_kept n first none = sym (ap (is_kept tops) (first_and_rest access n first) ∙ kept_nowhere places tops are n (drop 1 access) (sym none))
 
-module _ (places : BTreeMap ℕ ℕ) (tops : List Logged) (are : ArePlaces places tops) (access : Name) (xs : List ℕ) (same : xs ≡ access) where
-  pub none_kept : length xs < 1 → false ≡ is_kept tops access
-  none_kept none = sym (ap (is_kept tops) (sym same ∙ root_of xs none) ∙ kept_root places tops are)
-
-  pub not_kept : 1 ≤ length xs → None ≡ get nat_cmp places (slice_index xs 0) → false ≡ is_kept tops access
-  not_kept some none = sym (ap (is_kept tops) (sym same ∙ first_of xs some) ∙ kept_nowhere places tops are (slice_index xs 0) (drop 1 xs) (sym none))
-
-  pub kept_by_place : 1 ≤ length xs → (p : ℕ) (l : Logged) → Some p ≡ get nat_cmp places (slice_index xs 0) → l ≡ get_or tops p l → keeps access l ≡ is_kept tops access
-  kept_by_place some p l found is =
-      let parted = sym same ∙ first_of xs some in
-      ap (λ (n : Name). keeps n l) parted
-      ∙ sym (ap (is_kept tops) parted ∙ kept_there places tops are (slice_index xs 0) (drop 1 xs) p l (sym found) is)
+  pub kept_by_place : (n : ℕ) → slice_get access 0 ≡ Some n → (p : ℕ) (l : Logged) → Some p ≡ get nat_cmp places n → l ≡ get_or tops p l → keeps access l ≡ is_kept tops access
+  kept_by_place n first p l found is =
+      let parted : access ≡ n ∷ drop 1 access = first_and_rest access n first in
+      ap (λ (a : Name). keeps a l) parted
+      ∙ sym (ap (is_kept tops) parted ∙ kept_there places tops are n (drop 1 access) p l (sym found) is)
 
 -- ONE MORE
 

@@ -19,10 +19,7 @@ fn name_in_range(name: &Name)
     ensures first { slice_index name.now 0 < 2 ^ 64 }
     ensures rest { (k : ℕ) → 0 < k → slice_index name.now k < 2 ^ 32 }
 {
-    let numbers = name.as_slice();
-    if !numbers.is_empty() {
-        let _top = numbers[0];
-    }
+    let (_top, _rest) = (name.number(0), name.rest());
 }
 
 // The votes and thresholds of a configuration are in range. Each vote is read, since its range is known only then.

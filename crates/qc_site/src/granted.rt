@@ -24,9 +24,9 @@ pub(crate) struct Granted {
 fn is_old(access: &Name, last: u32) -> bool
     ensures { IsTrue result ↔ IsOld (last + 1) access.now }
 {
-    match access.as_slice() {
-        [] => false,
-        [top, ..] => *top / EPOCH <= u64::from(last),
+    match access.number(0) {
+        None => false,
+        Some(top) => top / EPOCH <= u64::from(last),
     }
 }
 

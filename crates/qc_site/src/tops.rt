@@ -49,7 +49,7 @@ fn is_kept_at(tops: &[Logged], places: &BTreeMap<u64, usize>, access: &Name) -> 
     requires { ArePlaces places.now tops.now }
     ensures { result ≡ kept.is_kept tops.now access.now }
 {
-    let [number, ..] = *access.as_slice() else {
+    let Some(number) = access.number(0) else {
         return false;
     };
     match places.get(&number) {
@@ -64,7 +64,8 @@ pub(crate) fn places_of(alloc: Global, tops: &[Logged]) -> Result<Places, AllocE
 {
     let mut places = BTreeMap::new(alloc);
     for index in 0..tops.len() {
-        let [number] = *tops[index].top.as_slice() else {
+        let top = &tops[index].top;
+        let (1, Some(number)) = (top.len(), top.number(0)) else {
             return Ok(None);
         };
         if places.insert(number, index)?.is_some() {

@@ -5,7 +5,7 @@ use Rattle.qc_journal.specs.Image.{bodies_of}
 use Rattle.qc_journal.specs.Journal.{disk_of}
 use Rattle.qc_site.specs.Back.{IsAnswer, Says}
 use Rattle.qc_site.specs.declared.back.BackNo.{BackNo}
-use Rattle.qc_site.proofs.Backs.{fault_told, on_err}
+use Rattle.qc_site.proofs.Backs.{answer_told, fault_told, on_err}
 use Rattle.qc_site.proofs.Found.{kept_answer, left_found, left_same}
 use Rattle.qc_site.proofs.back.read_back.Goals as goal
 
@@ -14,6 +14,11 @@ returns-in-Ok-clause-keeps g c =
     kept_answer c.args.copies c.args.old c.args.given.now c.args.hand.now c.args.journal.now c.reread.new.self (bodies_of c.in-Ok.found.items) c.said.result (subst (λ found. Says c.args.copies c.args.old c.args.given.now c.args.hand.now (bodies_of found) c.said.result) c.deref.ensures.value c.said.ensures.says)
     (λ bodies k. left_found c.args.journal.now bodies k (g.met.D.Disk.reads_as_image (disk_of c.args.journal.now)) c.reread.new.self (bodies_of c.in-Ok.found.items) c.in-Ok.ensures.records c.in-Ok.ensures.up (c.in-Ok.ensures.tells bodies k))
     (λ bodies k. refl)
+
+pub returns-in-Ok-clause-says : goal.returns-in-Ok-clause-says
+returns-in-Ok-clause-says g c =
+    answer_told c.args.copies c.args.old c.args.given.now c.args.hand.now (g.D.Disk.view (disk_of c.args.journal.now)).content (bodies_of c.in-Ok.found.items) c.said.result c.in-Ok.ensures.records
+    (subst (λ found. Says c.args.copies c.args.old c.args.given.now c.args.hand.now (bodies_of found) c.said.result) c.deref.ensures.value c.said.ensures.says)
 
 pub returns-in-Ok-clause-kept : goal.returns-in-Ok-clause-kept
 returns-in-Ok-clause-kept g c = on_err c.said.result (λ bodies k. left_found c.args.journal.now bodies k (g.met.D.Disk.reads_as_image (disk_of c.args.journal.now)) c.reread.new.self (bodies_of c.in-Ok.found.items) c.in-Ok.ensures.records c.in-Ok.ensures.up (c.in-Ok.ensures.tells bodies k))
