@@ -42,7 +42,7 @@ fn on_calls<D: Disk>(alloc: Global, disk: &mut D, step: &Step<'_>) -> Answer {
 
 // What a crash just before a call may leave.
 fn images(alloc: Global, disk: &MemDisk, call: u64) -> Result<Answer, AllocError> {
-    let call = call.min(disk.calls() + 1);
+    let call = call.min(disk.calls().saturating_add(1));
     let synced = disk.image_at(alloc, call, false)?;
     let there = disk.image_at(alloc, call, true)?;
     Ok(Answer::Images(synced, there))
