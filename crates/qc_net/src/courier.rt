@@ -10,7 +10,7 @@ ghost use Rattle.qc_net.specs.Sending.{waiting, meeting, sending, IsSending};
 use crate::link::{Fate, Link};
 use crate::port::{Port, deliver_twice};
 use qc_event::{Answered, Ask, Short};
-use std::alloc::Global;
+use std::alloc::{AllocError, Global};
 
 /// What came back of a request.
 #[derive(Clone, Copy, Debug)]
@@ -50,6 +50,18 @@ impl<L: Link> Courier<L> {
             link,
             held: Vec::new(alloc),
         }
+    }
+
+    /// A courier that holds nothing, over a link with the same fates and hold from the start on. The only error is want of
+    /// memory.
+    pub fn fresh(&self) -> Result<Self, AllocError>
+        ensures plan { IfOk result (λ courier. (L.view (link_of courier)).plan ≡ option_map anew
+            (L.view (link_of self.now)).plan) }
+        ensures held { IfOk result (λ courier. held_of courier ≡ []) }
+    {
+        let link = self.link.fresh()?;
+        let alloc = *self.held.allocator();
+        Ok(Courier::new(alloc, link))
     }
 
     // One due step: the place of the request that was delivered, and its answer. A request that the port does not

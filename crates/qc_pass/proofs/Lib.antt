@@ -1,6 +1,9 @@
 pub mod Lists
+pub mod Having
+pub mod Apart
 pub mod Moves
 pub mod Numbers
+pub mod Rests
 pub mod Since
 pub mod Begun
 pub mod Counting

@@ -1,20 +1,19 @@
 -- Each step keeps the rule of the desk.
-use Rattle.std.proofs.Common.{◌≡◌, ◌≢◌, ◌⊎◌, ℕ, zero, suc, ◌+◌, ◌<◌, ◌≤◌, ◌==◌, Bool, true, false, List, [], ◌∷◌, ◌++◌, length, set, Some, None, Option, Result, Ok, Err, refl, sym, ap, ◌∙◌, subst, inl, inr, ⊎_elim, true≢false, arith, eq-eqb}
-use Rattle.std.specs.Prelude.{slice_index, slice_set, OnOk, OnErr}
-use Rattle.qc_event.specs.declared.log.Short.{Short}
+use Rattle.std.proofs.Common.{◌≡◌, ◌≢◌, ◌⊎◌, ℕ, zero, suc, ◌+◌, ◌<◌, ◌≤◌, ◌==◌, Bool, true, false, List, [], ◌∷◌, ◌++◌, length, set, Some, None, Option, refl, sym, ap, ◌∙◌, subst, inl, inr, ⊎_elim, true≢false, arith, eq-eqb}
+use Rattle.std.specs.Prelude.{slice_index, slice_set}
 use mathlib.Core.Option.{some, none, some-ne-none, some-injective}
 use lib.ListN.{get_elem?}
 use prog.Atomic.{either}
 use Rattle.atomic_table.specs.Table.{step, keeps, Allows, Splits, Joins}
 use Rattle.atomic_table.proofs.Lists.{at_set, at_longer, set_again}
-use Rattle.qc_event.specs.Base.{Setting}
 use Rattle.qc_event.specs.declared.event.Entry.{Entry}
-use Rattle.qc_event.specs.Legal.{Allowed}
 use Rattle.qc_event.specs.Seats.{client_seat}
 use Rattle.qc_pass.specs.declared.view.View.{View}
-use Rattle.qc_pass.specs.Entries.{entries_of, IsLegal, IsOlder}
-use Rattle.qc_pass.specs.Rules.{Role, nobody_yet, held, kin_of, ruler, note, spent, with_right, first_of_all, lent, returned, right_of, looked, posted, taken, noted, Has, IsHolder, IsKinHolder, Fits, Kept, Posts, Takes, Looks, IsAtRest, IsHeld, extends}
-use Rattle.qc_pass.proofs.Lists.{prefix_self, prefix_nil, prefix_more, entries_here, entries_else, legal_snoc}
+use Rattle.qc_pass.specs.Entries.{entries_of, IsOlder}
+use Rattle.qc_pass.specs.Rules.{Role, nobody_yet, held, kin_of, ruler, note, spent, with_right, first_of_all, lent, returned, right_of, looked, posted, taken, noted, Has, IsHolder, IsKinHolder, Fits, Kept, Posts, Takes, Looks}
+use Rattle.qc_pass.proofs.Apart.{one_apart}
+use Rattle.qc_pass.proofs.Having.{has_none}
+use Rattle.qc_pass.proofs.Lists.{prefix_self, prefix_nil, prefix_more, entries_here, entries_else}
 
 abbrev pub Eq : (A : Type 0) → A → A → Type 0
 Eq A x y = x ≡ y
@@ -47,9 +46,6 @@ snoc_at (x ∷ xs) w v (suc by) e = ⊎_elim (λ t. inl (t.0, omega (arith, t.1)
 pub snoc_each : (Q : ℕ → View → Type 0) (views : List View) (w : View) → ((by : ℕ) (v : View) → get_elem? views by ≡ some v → Q by v) → Q (length views) w → (by : ℕ) (v : View) → get_elem? (views ++ w ∷ []) by ≡ some v → Q by v
 snoc_each Q views w all here by v e =
     ⊎_elim (λ t. all by v t.0) (λ (t : (by ≡ length views) × (w ≡ v)). subst (λ (x : ℕ × View). Q x.0 x.1) (λ i. (sym t.0 i, t.1 i)) here) (snoc_at views w v by e)
-
-pub has_none : {A : Type 0} (x : A) → Has [] x → ⊥
-has_none x h = some-ne-none x (sym h.1)
 
 -- a view stays, or it was the one that changed
 pub at_kept : {A : Type 0} (views : List A) (id by : ℕ) (v w u : A) → get_elem? views id ≡ some v → get_elem? views by ≡ some u
@@ -100,17 +96,17 @@ pub kin_snoc : (views : List View) (w : View) (k by : ℕ) → IsKinHolder views
 kin_snoc views w k by h = (h.0, at_longer views (w ∷ []) by h.0 h.1, h.2, h.3, h.4)
 
 pub fits_spent : (log : List Entry) (role : ℕ → Role) (by : ℕ) → Fits log role by spent
-fits_spent log role by = record { prefix = prefix_nil log; whole = λ e. absurd (off e); holds = λ e. absurd (off e); mine = λ e. absurd (off e); landed = λ _. refl; draws = λ k e. absurd (no_some k e); kin = λ k m h. absurd (has_none (k, m) h); low = λ e. absurd (off e); count = λ e. absurd (off e) }
+fits_spent log role by = record { prefix = prefix_nil log; whole = λ e. absurd (off e); holds = λ e. absurd (off e); mine = λ e. absurd (off e); landed = λ _. refl; draws = λ k e. absurd (no_some k e); kin = λ k m h. absurd (has_none (k, m) h); low = λ e. absurd (off e); count = λ e. absurd (off e); apart = λ e. absurd (off e); out = λ k h. absurd (has_none k h) }
 
 pub fits_note : (log seen : List Entry) (role : ℕ → Role) (by : ℕ) → IsOlder seen log → Fits log role by (note seen)
-fits_note log seen role by p = record { prefix = p; whole = λ e. absurd (off e); holds = λ e. absurd (off e); mine = λ e. absurd (off e); landed = λ _. refl; draws = λ k e. absurd (no_some k e); kin = λ k m h. absurd (has_none (k, m) h); low = λ e. absurd (off e); count = λ e. absurd (off e) }
+fits_note log seen role by p = record { prefix = p; whole = λ e. absurd (off e); holds = λ e. absurd (off e); mine = λ e. absurd (off e); landed = λ _. refl; draws = λ k e. absurd (no_some k e); kin = λ k m h. absurd (has_none (k, m) h); low = λ e. absurd (off e); count = λ e. absurd (off e); apart = λ e. absurd (off e); out = λ k h. absurd (has_none k h) }
 
 pub fits_ruler : (log : List Entry) (role : ℕ → Role) (by : ℕ) → Fits log role by (ruler log)
-fits_ruler log role by = record { prefix = prefix_nil log; whole = λ _. refl; holds = λ e. absurd (off e); mine = λ e. absurd (off e); landed = λ _. refl; draws = λ k e. absurd (no_some k e); kin = λ k m h. absurd (has_none (k, m) h); low = λ e. absurd (off e); count = λ e. absurd (off e) }
+fits_ruler log role by = record { prefix = prefix_nil log; whole = λ _. refl; holds = λ e. absurd (off e); mine = λ e. absurd (off e); landed = λ _. refl; draws = λ k e. absurd (no_some k e); kin = λ k m h. absurd (has_none (k, m) h); low = λ e. absurd (off e); count = λ e. absurd (off e); apart = λ e. absurd (off e); out = λ k h. absurd (has_none k h) }
 
 -- the right may change
 pub fits_right : (log all : List Entry) (role : ℕ → Role) (by : ℕ) (rules : Bool) (v : View) → (rules ≡ true → all ≡ log) → (rules ≡ false → v.flight ≡ []) → Fits log role by v → Fits log role by (with_right rules all v)
-fits_right log all role by rules v q n f = record { prefix = f.prefix; whole = q; holds = f.holds; mine = f.mine; landed = n; draws = f.draws; kin = f.kin; low = f.low; count = f.count }
+fits_right log all role by rules v q n f = record { prefix = f.prefix; whole = q; holds = f.holds; mine = f.mine; landed = n; draws = f.draws; kin = f.kin; low = f.low; count = f.count; apart = f.apart; out = f.out }
 
 pub begins : Kept record { words = 0 ∷ client_seat ∷ []; homes = []; views = first_of_all ∷ [] }
 begins = ([], role, 0, client_seat, record { cells = refl; each = one; one = only; quiet = λ k e. refl; undrawn = λ k by e. refl; holder = holders; kin_holder = kins; fresh = fresh; high = omega arith })
@@ -128,7 +124,7 @@ begins = ([], role, 0, client_seat, record { cells = refl; each = one; one = onl
     counts (suc k) h l = refl
 
     one : (by : ℕ) (v : View) → get_elem? (first_of_all ∷ []) by ≡ some v → Fits [] role by v
-    one zero v e = subst (Fits [] role 0) (some-injective first_of_all v e) record { prefix = prefix_nil []; whole = λ _. refl; holds = λ _. refl; mine = λ _. refl; landed = λ _. refl; draws = λ k d. absurd (no_some k d); kin = λ k m h. absurd (has_none (k, m) h); low = λ _ l. absurd (omega arith); count = λ _ _ k. counts k }
+    one zero v e = subst (Fits [] role 0) (some-injective first_of_all v e) record { prefix = prefix_nil []; whole = λ _. refl; holds = λ _. refl; mine = λ _. refl; landed = λ _. refl; draws = λ k d. absurd (no_some k d); kin = λ k m h. absurd (has_none (k, m) h); low = λ _ l. absurd (omega arith); count = λ _ _ k. counts k; apart = λ _. one_apart 0; out = λ k h. absurd (has_none k h) }
     one (suc by) v e = absurd (some-ne-none v (sym e))
 
     holders : (k by : ℕ) → role k ≡ held by → IsHolder (first_of_all ∷ []) k by
@@ -178,6 +174,8 @@ posts slots id v c e rules live is s h few at range =
                 kin = λ n m x. ((f.kin n m x).0, other n (λ y. absurd (cc ((f.kin n m x).0, y))) ∙ (f.kin n m x).1);
                 low = f.low;
                 count = f.count;
+                apart = f.apart;
+                out = f.out;
               })
               record {
                 prefix = prefix_more v.seen log e mine.prefix;
@@ -189,6 +187,8 @@ posts slots id v c e rules live is s h few at range =
                 kin = λ n m x. ((mine.kin n m x).0, other n (λ y. absurd (cc ((mine.kin n m x).0, y))) ∙ (mine.kin n m x).1);
                 low = mine.low;
                 count = mine.count;
+                apart = mine.apart;
+                out = mine.out;
               };
           one = set_each (λ by u. u.rules ≡ true → by ≡ h.2) (λ by u. u.rules ≡ true → by ≡ h.2) s.views id w k.one (λ by u ne there f. f) (λ _. k.one id v at rules);
           quiet = λ n q. other n (λ x. absurd (cc (q, x))) ∙ k.quiet n q;
@@ -337,7 +337,7 @@ looks slots id v c rules s h few at range =
         h.3,
         record {
           cells = same_cells s.words (length h.0) h.3 k.cells;
-          each = set_each (Fits h.0 h.1) (Fits h.0 h.1) s.views id w k.each (λ by u _ _ f. f) record { prefix = subst (λ (x : List Entry). IsOlder x h.0) (sym whole) (prefix_self h.0); whole = mine.whole; holds = mine.holds; mine = mine.mine; landed = mine.landed; draws = mine.draws; kin = mine.kin; low = mine.low; count = mine.count };
+          each = set_each (Fits h.0 h.1) (Fits h.0 h.1) s.views id w k.each (λ by u _ _ f. f) record { prefix = subst (λ (x : List Entry). IsOlder x h.0) (sym whole) (prefix_self h.0); whole = mine.whole; holds = mine.holds; mine = mine.mine; landed = mine.landed; draws = mine.draws; kin = mine.kin; low = mine.low; count = mine.count; apart = mine.apart; out = mine.out };
           one = set_each (λ by u. u.rules ≡ true → by ≡ h.2) (λ by u. u.rules ≡ true → by ≡ h.2) s.views id w k.one (λ by u ne there f. f) (λ _. k.one id v at rules);
           quiet = k.quiet;
           undrawn = k.undrawn;
@@ -347,7 +347,7 @@ looks slots id v c rules s h few at range =
           high = k.high;
         },
       ),
-      (refl, subst (λ (x : List Entry). IsOlder v.seen x) (sym whole) mine.prefix, λ l. ap (entries_of v.number) whole ∙ mine.mine l),
+      (refl, subst (λ (x : List Entry). IsOlder v.seen x) (sym whole) mine.prefix, (λ l. ap (entries_of v.number) whole ∙ mine.mine l), (λ n m e. ap (entries_of n) whole ∙ (mine.kin n m e).1), mine.apart),
     )
 
 -- the moves, at a view that is known
@@ -378,7 +378,7 @@ takes slots id v c rules s h few at range =
         h.3,
         record {
           cells = same_cells s.words (length h.0) h.3 k.cells;
-          each = set_each (Fits h.0 h.1) (Fits h.0 h.1) s.views id w k.each (λ by u _ _ f. f) record { prefix = subst (λ (x : List Entry). IsOlder x h.0) (sym whole) (prefix_self h.0); whole = mine.whole; holds = mine.holds; mine = mine.mine; landed = λ _. refl; draws = mine.draws; kin = mine.kin; low = mine.low; count = mine.count };
+          each = set_each (Fits h.0 h.1) (Fits h.0 h.1) s.views id w k.each (λ by u _ _ f. f) record { prefix = subst (λ (x : List Entry). IsOlder x h.0) (sym whole) (prefix_self h.0); whole = mine.whole; holds = mine.holds; mine = mine.mine; landed = λ _. refl; draws = mine.draws; kin = mine.kin; low = mine.low; count = mine.count; apart = mine.apart; out = mine.out };
           one = set_each (λ by u. u.rules ≡ true → by ≡ h.2) (λ by u. u.rules ≡ true → by ≡ h.2) s.views id w k.one (λ by u ne there f. f) (λ _. k.one id v at rules);
           quiet = k.quiet;
           undrawn = k.undrawn;
@@ -390,39 +390,3 @@ takes slots id v c rules s h few at range =
       ),
       refl,
     )
-
--- what a push leaves
-pub held_after : (setting : Setting) (log log' : List Entry) (v v' : View) (e : Entry) (r : Result (Unit {0}) Short) → e.seat ≡ v.number → Allowed (setting) log e
-    → OnOk r ((log' ≡ e ∷ log) × (v' ≡ taken (posted e v)))
-    → OnErr r ((log' ≡ log) × (v' ≡ v)) → IsHeld setting log v → IsHeld setting log' v'
-held_after setting log log' v v' e (Ok x) own may ok err h =
-    let all : e ∷ v.all ≡ e ∷ log = ap (λ (l : List Entry). e ∷ l) h.1 in
-    subst (λ (t : List Entry × View). IsHeld setting t.0 t.1) (λ i. (sym ok.0 i, sym ok.1 i)) (
-      h.0,
-      all,
-      all,
-      h.3,
-      legal_snoc setting log e h.4 may,
-      (λ l. ap (λ n. entries_of n (e ∷ log)) (sym own) ∙ entries_here e log ∙ ap (λ n. e ∷ entries_of n log) own ∙ ap (λ (m : List Entry). e ∷ m) (h.5 l) ∙ ap (λ (f : List Entry). e ∷ (f ++ v.mine)) (sym h.6)),
-      refl,
-    )
-held_after setting log log' v v' e (Err why) own may ok err h = subst (λ (t : List Entry × View). IsHeld setting t.0 t.1) (λ i. (sym err.0 i, sym err.1 i)) h
-
--- a pass at rest that was lent the right
-pub held_lent : (setting : Setting) (log : List Entry) (v m v' : View) → IsAtRest setting v → IsLegal setting log → m ≡ ruler log → v' ≡ looked (lent v m) → (v.live ≡ true → entries_of v.number m.all ≡ v.flight ++ v.mine) → IsHeld setting log v'
-held_lent setting log v m v' rest legal is to mine =
-    let same = ap (λ (x : View). x.all) is in
-    subst (IsHeld setting log) (sym to) (refl, same, same, rest.2, legal, (λ l. ap (entries_of v.number) (sym same) ∙ mine l ∙ ap (λ (f : List Entry). f ++ v.mine) rest.5), rest.5)
-
-pub rest_after : (setting : Setting) (log : List Entry) (v w : View) → w ≡ returned v → IsHeld setting log v → IsAtRest setting w
-rest_after setting log v w is h = subst (IsAtRest setting) (sym is) (refl, refl, h.3, subst (IsLegal setting) (sym h.2) h.4, (λ l. sym (h.5 l) ∙ ap (entries_of v.number) (sym h.2)), h.6)
-
--- the pass afterwards
-pub own_after : (log log' : List Entry) (v m v' v'' w : View) (e : Entry) (r : Result (Unit {0}) Short) → m ≡ ruler log → v' ≡ looked (lent v m) → w ≡ returned v''
-    → OnOk r ((log' ≡ e ∷ log) × (v'' ≡ taken (posted e v'))) → v.flight ≡ [] → OnOk r ((log' ≡ e ∷ log) × (w ≡ extends e log v))
-own_after log log' v m v' v'' w e (Err why) is to back ok clear = tt
-own_after log log' v m v' v'' w e (Ok x) is to back ok clear =
-    (ok.0, back ∙ ap returned (ok.1 ∙ ap (λ (x : View). taken (posted e x)) (to ∙ ap (λ (x : View). looked (lent v x)) is)) ∙ ap (λ (f : List Entry). shown_with f e log v) clear)
-  where
-    shown_with : List Entry → Entry → List Entry → View → View
-    shown_with f e before v = record { live = v.live; rules = false; number = v.number; seen = e ∷ before; all = []; mine = (e ∷ f) ++ v.mine; flight = []; out = v.out; kin = v.kin; count = v.count; drawn = v.drawn }

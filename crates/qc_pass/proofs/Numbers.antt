@@ -8,13 +8,15 @@ use lib.ListN.{get_elem?}
 use prog.Atomic.{either}
 use Rattle.atomic_table.specs.Table.{State, Me, step, keeps, Allows, Splits, Joins}
 use Rattle.atomic_table.proofs.Lists.{at_set, at_last, at_longer, set_again, set_else}
-use Rattle.qc_event.specs.Base.{Setting}
 use Rattle.qc_event.specs.declared.event.Entry.{Entry}
 use Rattle.qc_pass.specs.declared.view.View.{View}
-use Rattle.qc_pass.specs.Entries.{entries_of, IsLegal, IsOlder}
-use Rattle.qc_pass.specs.Rules.{Role, nobody_yet, held, drawn_by, kin_of, spent, pass, sees, with_drawn, gave, given, counted, next_of, longer, without, told, joined, Has, IsHolder, IsKinHolder, Fits, IsKept, Kept, Draws, IsSettled, Settles, Counting, IsAtRest}
+use Rattle.qc_pass.specs.Entries.{entries_of, IsOlder}
+use Rattle.qc_pass.specs.Rules.{Role, nobody_yet, held, drawn_by, kin_of, spent, pass, sees, with_drawn, gave, given, counted, next_of, longer, without, told, joined, Has, IsHolder, IsKinHolder, Fits, IsKept, Kept, Draws, IsSettled, Settles, Counting, Knows, IsNewTo, numbers}
+use Rattle.std.proofs.lemmas.List.{map-append}
+use Rattle.qc_pass.proofs.Apart.{Apart, both_apart, kin_of_number, none_is, one_apart}
 use Rattle.qc_pass.proofs.Lists.{entries_append}
-use Rattle.qc_pass.proofs.Moves.{Eq, off, no_some, apart, set_each, snoc_each, has_none, Grows, holder_set, kin_set, holder_snoc, kin_snoc, fits_spent}
+use Rattle.qc_pass.proofs.Having.{has_both, has_cons, has_left, has_none, has_right}
+use Rattle.qc_pass.proofs.Moves.{Eq, off, no_some, apart, set_each, snoc_each, Grows, holder_set, kin_set, holder_snoc, kin_snoc, fits_spent}
 
 -- a number gets another role
 abbrev put : ℕ → Role → (ℕ → Role) → ℕ → Role
@@ -30,10 +32,18 @@ put_else n r role k ne = ap (λ b. cond b r (role k)) (ne_eqb k n ne)
 put_cases : (n : ℕ) (r : Role) (role : ℕ → Role) (k : ℕ) → ((k ≡ n) × (put n r role k ≡ r)) ⊎ ((k ≢ n) × (put n r role k ≡ role k))
 put_cases n r role k = dite (ℕ_discrete k n) (λ e. inl (e, subst (λ j. put n r role j ≡ r) (sym e) (put_here n r role))) (λ ne. inr (ne, put_else n r role k ne))
 
+-- a number that has another role than the new one had it before
+put_old : (n : ℕ) (r : Role) (role : ℕ → Role) (k : ℕ) (x : Role) → put n r role k ≡ x → (r ≡ x → ⊥) → (k ≢ n) × (role k ≡ x)
+put_old n r role k x e not = ⊎_elim (λ (t : (k ≡ n) × (put n r role k ≡ r)). absurd (not (sym t.1 ∙ e))) (λ (t : (k ≢ n) × (put n r role k ≡ role k)). (t.0, sym t.1 ∙ e)) (put_cases n r role k)
+
+-- a number that a view has out is somebody's still
+out_put : (log : List Entry) (role : ℕ → Role) (n : ℕ) (r : Role) (by : ℕ) (u : View) → (r ≡ nobody_yet → ⊥) → Fits log role by u → (k : ℕ) → Has u.out k → put n r role k ≡ nobody_yet → ⊥
+out_put log role n r by u given f k h e = f.out k h (put_old n r role k nobody_yet e given).1
+
 -- another view keeps what it has where a number that is nobody's or drawn gets a new role
 fits_put : (log : List Entry) (role : ℕ → Role) (n : ℕ) (r : Role) (by : ℕ) (u : View) → ((k : ℕ) → role k ≡ held by → k ≢ n) → ((k : ℕ) → role k ≡ drawn_by by → k ≢ n) → ((k : ℕ) → role k ≡ kin_of by → k ≢ n)
-    → ((k : ℕ) → role k ≡ nobody_yet → (u.live ≡ true) → (u.number ≡ 0) → u.count < k → k ≤ 17 → k ≢ n) → Fits log role by u → Fits log (put n r role) by u
-fits_put log role n r by u h d c z f = record {
+    → ((k : ℕ) → role k ≡ nobody_yet → (u.live ≡ true) → (u.number ≡ 0) → u.count < k → k ≤ 17 → k ≢ n) → (r ≡ nobody_yet → ⊥) → Fits log role by u → Fits log (put n r role) by u
+fits_put log role n r by u h d c z given f = record {
   prefix = f.prefix;
   whole = f.whole;
   holds = λ l. put_else n r role u.number (h u.number (f.holds l)) ∙ f.holds l;
@@ -43,14 +53,12 @@ fits_put log role n r by u h d c z f = record {
   kin = λ k m e. let x = f.kin k m e in (put_else n r role k (c k x.0) ∙ x.0, x.1);
   low = f.low;
   count = λ l q k a b. put_else n r role k (z k (f.count l q k a b) l q a b) ∙ f.count l q k a b;
+  apart = f.apart;
+  out = out_put log role n r by u given f;
 }
 
 role_ne : (role : ℕ → Role) {a b : Role} (k n : ℕ) → role k ≡ a → role n ≡ b → (a ≡ b → ⊥) → k ≢ n
 role_ne role k n p q ne e = ne (sym p ∙ ap role e ∙ q)
-
--- a number that has another role than the new one had it before
-put_old : (n : ℕ) (r : Role) (role : ℕ → Role) (k : ℕ) (x : Role) → put n r role k ≡ x → (r ≡ x → ⊥) → (k ≢ n) × (role k ≡ x)
-put_old n r role k x e not = ⊎_elim (λ (t : (k ≡ n) × (put n r role k ≡ r)). absurd (not (sym t.1 ∙ e))) (λ (t : (k ≢ n) × (put n r role k ≡ role k)). (t.0, sym t.1 ∙ e)) (put_cases n r role k)
 
 -- the number that changed, or one that has its role as before
 put_either : (n : ℕ) (r : Role) (role : ℕ → Role) (k : ℕ) (x : Role) → put n r role k ≡ x → ((k ≡ n) × (r ≡ x)) ⊎ ((k ≢ n) × (role k ≡ x))
@@ -73,6 +81,21 @@ entries_none n xs ys p e = back_nil (entries_of n p.0) (entries_of n xs) (sym (e
     back_nil [] ys e = e
     back_nil (a ∷ xs) ys e = absurd (cc (e))
 
+-- each of a pass's numbers is its own or its kin's
+whose : (log : List Entry) (role : ℕ → Role) (by : ℕ) (v : View) → v.live ≡ true → Fits log role by v → (k : ℕ) → Has (numbers v) k → (role k ≡ held by) ⊎ (role k ≡ kin_of by)
+whose log role by v live f k (zero, at) = inl (subst (λ (n : ℕ). role n ≡ held by) (some-injective v.number k at) (f.holds live))
+whose log role by v live f k (suc i, at) = let m = kin_of_number v.kin k i at in inr (f.kin k m.0 m.1).0
+
+-- a number that is nobody's is new to it
+new_to : (log : List Entry) (role : ℕ → Role) (by : ℕ) (v : View) (n : ℕ) → v.live ≡ true → Fits log role by v → role n ≡ nobody_yet → IsNewTo v n
+new_to log role by v n live f free = (
+  none_is n (numbers v) (λ k h same. elim (whose log role by v live f k h) [
+    | inl own ↦ role_ne role k n own free (λ x. absurd (cc (x))) same
+    | inr kin ↦ role_ne role k n kin free (λ x. absurd (cc (x))) same
+  ]),
+  none_is n v.out (λ k h same. f.out k h (ap role same ∙ free)),
+)
+
 -- a pass draws a number, or another was faster
 pub draws : (slots id : ℕ) (v : View) (c : List (ℕ × Entry)) (n : ℕ) → v.live ≡ true
     → Allows Kept slots id (v, c) 1 (λ k. either (k == n) (n + 1) k) (Draws (step slots 1 n (n + 1) none) (v, c))
@@ -81,7 +104,7 @@ draws slots id v c n live s h few at range = go (slice_index s.words 1 == n) ref
     go : (b : Bool) → (slice_index s.words 1 == n) ≡ b
         → (w : View) × (a : Rattle.atomic_table.specs.Table.Act Entry) × Rattle.atomic_table.specs.Table.Valid s.homes c a
         × Kept (Rattle.atomic_table.specs.Table.stepped s 1 (either b (n + 1) (slice_index s.words 1)) id c w a)
-        × MatchBool b (IsMe (w, Rattle.atomic_table.specs.Table.carried_after c a) (with_drawn (Some n) v, c) × (17 < n) × (entries_of n v.seen ≡ [])) (IsMe (w, Rattle.atomic_table.specs.Table.carried_after c a) (v, c))
+        × MatchBool b (IsMe (w, Rattle.atomic_table.specs.Table.carried_after c a) (with_drawn (Some n) v, c) × (17 < n) × (entries_of n v.seen ≡ []) × IsNewTo v n) (IsMe (w, Rattle.atomic_table.specs.Table.carried_after c a) (v, c))
     go true is =
         let k = h.4 in
         let log = h.0 in
@@ -92,7 +115,7 @@ draws slots id v c n live s h few at range = go (slice_index s.words 1 == n) ref
         let high : 17 < n = omega (arith, k.high, next_is) in
         let free : role n ≡ nobody_yet = k.fresh n (omega (arith, next_is)) high in
         let below : v.number < n = dite (dec_le n v.number) (λ le. absurd (cc (k.fresh v.number (omega (arith, le, next_is)) (omega (arith, le, high)), mine.holds live))) (λ not. lt_of_not-le not) in
-        let own : Fits log (put n (drawn_by id) role) id v = fits_put log role n (drawn_by id) id v (λ j e. role_ne role j n e free (λ x. absurd (cc (x)))) (λ j e. role_ne role j n e free (λ x. absurd (cc (x)))) (λ j e. role_ne role j n e free (λ x. absurd (cc (x)))) (λ j e l q a b x. absurd (omega (arith, x, b, high))) mine in (
+        let own : Fits log (put n (drawn_by id) role) id v = fits_put log role n (drawn_by id) id v (λ j e. role_ne role j n e free (λ x. absurd (cc (x)))) (λ j e. role_ne role j n e free (λ x. absurd (cc (x)))) (λ j e. role_ne role j n e free (λ x. absurd (cc (x)))) (λ j e l q a b x. absurd (omega (arith, x, b, high))) (λ x. absurd (cc (x))) mine in (
           w,
           keeps,
           tt,
@@ -104,8 +127,8 @@ draws slots id v c n live s h few at range = go (slice_index s.words 1 == n) ref
             record {
               cells = set_next s.words (length log) h.3 n k.cells;
               each = set_each (Fits log role) (Fits log (put n (drawn_by id) role)) s.views id w k.each
-                  (λ by u ne there f. fits_put log role n (drawn_by id) by u (λ j e. role_ne role j n e free (λ x. absurd (cc (x)))) (λ j e. role_ne role j n e free (λ x. absurd (cc (x)))) (λ j e. role_ne role j n e free (λ x. absurd (cc (x)))) (λ j e l q a b x. absurd (omega (arith, x, b, high))) f)
-                  record { prefix = own.prefix; whole = own.whole; holds = own.holds; mine = own.mine; landed = own.landed; draws = λ j e. subst (λ (x : ℕ). (put n (drawn_by id) role x ≡ drawn_by id) × (v.number < x) × (17 < x) × (v.live ≡ true)) (some_is n j e) (put_here n (drawn_by id) role, below, high, live); kin = own.kin; low = own.low; count = own.count };
+                  (λ by u ne there f. fits_put log role n (drawn_by id) by u (λ j e. role_ne role j n e free (λ x. absurd (cc (x)))) (λ j e. role_ne role j n e free (λ x. absurd (cc (x)))) (λ j e. role_ne role j n e free (λ x. absurd (cc (x)))) (λ j e l q a b x. absurd (omega (arith, x, b, high))) (λ x. absurd (cc (x))) f)
+                  record { prefix = own.prefix; whole = own.whole; holds = own.holds; mine = own.mine; landed = own.landed; draws = λ j e. subst (λ (x : ℕ). (put n (drawn_by id) role x ≡ drawn_by id) × (v.number < x) × (17 < x) × (v.live ≡ true)) (some_is n j e) (put_here n (drawn_by id) role, below, high, live); kin = own.kin; low = own.low; count = own.count; apart = own.apart; out = own.out };
               one = set_each (λ by u. u.rules ≡ true → by ≡ h.2) (λ by u. u.rules ≡ true → by ≡ h.2) s.views id w k.one (λ by u ne there f. f) (λ r. k.one id v at r);
               quiet = λ j e. k.quiet j (put_old n (drawn_by id) role j nobody_yet e (λ x. absurd (cc (x)))).1;
               undrawn = λ j by e. ⊎_elim (λ (t : (j ≡ n) × (drawn_by id ≡ drawn_by by)). subst (λ (x : ℕ). entries_of x log ≡ []) (sym t.0) (k.quiet n free)) (λ (t : (j ≢ n) × (role j ≡ drawn_by by)). k.undrawn j by t.1) (put_either n (drawn_by id) role j (drawn_by by) e);
@@ -115,7 +138,7 @@ draws slots id v c n live s h few at range = go (slice_index s.words 1 == n) ref
               high = omega (arith, high);
             },
           ),
-          (refl, high, entries_none n v.seen log mine.prefix (k.quiet n free)),
+          (refl, high, entries_none n v.seen log mine.prefix (k.quiet n free), new_to log role id v n live mine free),
         )
       where
         set_next : (ws : List ℕ) (m next n : ℕ) → ws ≡ m ∷ next ∷ [] → slice_set ws 1 (n + 1) ≡ m ∷ (n + 1) ∷ []
@@ -171,7 +194,7 @@ gives id v n live drew client s h at =
         cells = k.cells;
         each = snoc_each (Fits log (put n (held L) role)) views right
             (set_each (Fits log role) (Fits log (put n (held L) role)) s.views id left k.each
-            (λ by u ne there f. fits_put log role n (held L) by u (λ j e. role_ne role j n e d.0 (λ x. absurd (cc (x)))) (λ j e. role_ne role j n e d.0 (λ x. ne (drawn_is by id x))) (λ j e. role_ne role j n e d.0 (λ x. absurd (cc (x)))) (λ j e l q a b x. absurd (omega (arith, x, b, d.2))) f)
+            (λ by u ne there f. fits_put log role n (held L) by u (λ j e. role_ne role j n e d.0 (λ x. absurd (cc (x)))) (λ j e. role_ne role j n e d.0 (λ x. ne (drawn_is by id x))) (λ j e. role_ne role j n e d.0 (λ x. absurd (cc (x)))) (λ j e l q a b x. absurd (omega (arith, x, b, d.2))) (λ x. absurd (cc (x))) f)
             record {
               prefix = mine.prefix;
               whole = mine.whole;
@@ -182,6 +205,11 @@ gives id v n live drew client s h at =
               kin = λ j m e. let x = mine.kin j m e in (put_else n (held L) role j (role_ne role j n x.0 d.0 (λ y. absurd (cc (y)))) ∙ x.0, x.1);
               low = λ l a b. absurd (omega (arith, client a, b));
               count = λ l q j a b. put_else n (held L) role j (λ x. absurd (omega (arith, x, b, d.2))) ∙ mine.count l q j a b;
+              apart = mine.apart;
+              out = λ j o e. elim (has_cons n j v.out o.0 o.1) [
+                | inl is ↦ absurd (cc (sym (put_here n (held L) role) ∙ ap (put n (held L) role) is ∙ e))
+                | inr old ↦ out_put log role n (held L) id v (λ x. absurd (cc (x))) mine j old e
+              ];
             })
             record {
               prefix = mine.prefix;
@@ -193,6 +221,8 @@ gives id v n live drew client s h at =
               kin = λ j m e. absurd (has_none (j, m) e);
               low = λ _ a b. absurd (omega (arith, b, d.2));
               count = λ _ q. absurd (omega (arith, q, d.2));
+              apart = λ _. one_apart n;
+              out = λ j o. absurd (has_none j o);
             };
         one = snoc_each (λ by u. u.rules ≡ true → by ≡ h.2) views right (set_each (λ by u. u.rules ≡ true → by ≡ h.2) (λ by u. u.rules ≡ true → by ≡ h.2) s.views id left k.one (λ by u ne there f. f) (λ r. k.one id v at r)) (λ e. absurd (off e));
         quiet = λ j e. k.quiet j (put_old n (held L) role j nobody_yet e (λ x. absurd (cc (x)))).1;
@@ -230,7 +260,7 @@ counts id v live zero_is few s h at =
         each = snoc_each (Fits log (put n (held L) role)) views right
             (set_each (Fits log role) (Fits log (put n (held L) role)) s.views id left k.each
             (λ by u ne there f. fits_put log role n (held L) by u (λ j e. role_ne role j n e free (λ x. absurd (cc (x)))) (λ j e. role_ne role j n e free (λ x. absurd (cc (x)))) (λ j e. role_ne role j n e free (λ x. absurd (cc (x))))
-            (λ j e l q a b. absurd (ne (apart by id (sym (f.holds l) ∙ ap role (q ∙ sym zero_is) ∙ mine.holds live)))) f)
+            (λ j e l q a b. absurd (ne (apart by id (sym (f.holds l) ∙ ap role (q ∙ sym zero_is) ∙ mine.holds live)))) (λ x. absurd (cc (x))) f)
             record {
               prefix = mine.prefix;
               whole = mine.whole;
@@ -241,6 +271,8 @@ counts id v live zero_is few s h at =
               kin = λ j m e. let x = mine.kin j m e in (put_else n (held L) role j (role_ne role j n x.0 free (λ y. absurd (cc (y)))) ∙ x.0, x.1);
               low = mine.low;
               count = λ l q j a b. put_else n (held L) role j (λ x. absurd (omega (arith, x, a))) ∙ mine.count l q j (omega (arith, a)) b;
+              apart = mine.apart;
+              out = out_put log role n (held L) id v (λ x. absurd (cc (x))) mine;
             })
             record {
               prefix = mine.prefix;
@@ -252,6 +284,8 @@ counts id v live zero_is few s h at =
               kin = λ j m e. absurd (has_none (j, m) e);
               low = λ _ a b. (refl, refl);
               count = λ _ q. absurd (omega (arith, q));
+              apart = λ _. one_apart n;
+              out = λ j o. absurd (has_none j o);
             };
         one = snoc_each (λ by u. u.rules ≡ true → by ≡ h.2) views right (set_each (λ by u. u.rules ≡ true → by ≡ h.2) (λ by u. u.rules ≡ true → by ≡ h.2) s.views id left k.one (λ by u ne there f. f) (λ r. k.one id v at r)) (λ e. absurd (off e));
         quiet = λ j e. k.quiet j (put_old n (held L) role j nobody_yet e (λ x. absurd (cc (x)))).1;
@@ -274,7 +308,7 @@ prefix_longer xs ys log p q = go (nat_lt (length xs) (length ys))
     go false = p
 
 fits_told : (log seen : List Entry) (role : ℕ → Role) (by : ℕ) (v : View) → IsOlder seen log → Fits log role by v → Fits log role by (sees seen v)
-fits_told log seen role by v p f = record { prefix = p; whole = f.whole; holds = f.holds; mine = f.mine; landed = f.landed; draws = f.draws; kin = f.kin; low = f.low; count = f.count }
+fits_told log seen role by v p f = record { prefix = p; whole = f.whole; holds = f.holds; mine = f.mine; landed = f.landed; draws = f.draws; kin = f.kin; low = f.low; count = f.count; apart = f.apart; out = f.out }
 
 -- a note is joined into a pass
 pub tells : (id : ℕ) (v : View) (other : ℕ) (w : View) → w.live ≡ false → Joins Kept id v other w (told v w) spent
@@ -373,6 +407,19 @@ settles slots id v c rules live zero_is out clear s h few at range =
       (refl, settled s id v h at rules live zero_is out clear),
     )
 
+-- a pass learns that its numbers are apart
+pub learns : (slots id : ℕ) (v : View) (c : List (ℕ × Entry)) → Allows Kept slots id (v, c) 0 (λ n. n) (Knows (step slots 0 0 0 none) (v, c))
+learns slots id v c s h few at range =
+    let k = h.4 in
+    let words : slice_set s.words 0 (slice_index s.words 0) ≡ s.words = kept_length s.words (length h.0) h.3 k.cells in
+    let views : set s.views id v ≡ s.views = set_again s.views id v at in (
+      v,
+      keeps,
+      tt,
+      (h.0, h.1, h.2, h.3, subst (λ (x : List ℕ × List View). IsKept x.0 x.1 h.0 h.1 h.2 h.3) (λ i. (sym words i, sym views i)) k),
+      (refl, (k.each id v at).apart),
+    )
+
 -- the kin of one pass become another's
 abbrev redirect : ℕ → ℕ → Role → Role
 redirect other id nobody_yet = nobody_yet
@@ -421,21 +468,28 @@ has_without n k (x ∷ xs) (suc i) ne e = go (x == n) (has_without n k xs i ne e
     go true h = h
     go false h = (suc h.0, h.1)
 
-pub has_left : {A : Type 0} (xs ys : List A) (x : A) → Has xs x → Has (xs ++ ys) x
-has_left xs ys x h = (h.0, at_longer xs ys h.0 x h.1)
+-- what is left without a number was there
+without_has : (n k : ℕ) (xs : List ℕ) (i : ℕ) → get_elem? (without n xs) i ≡ some k → Has xs k
+without_has n k [] i e = absurd (some-ne-none k (sym e))
+without_has n k (x ∷ xs) i e = go (x == n) i e (λ j f. without_has n k xs j f)
+  where
+    go : (b : Bool) (i : ℕ) → get_elem? (cond b (without n xs) (x ∷ without n xs)) i ≡ some k → ((j : ℕ) → get_elem? (without n xs) j ≡ some k → Has xs k) → Has (x ∷ xs) k
+    go true i e rest = let h = rest i e in (suc h.0, h.1)
+    go false zero e rest = (0, e)
+    go false (suc i) e rest = let h = rest i e in (suc h.0, h.1)
 
-pub has_right : {A : Type 0} (xs ys : List A) (x : A) → Has ys x → Has (xs ++ ys) x
-has_right [] ys x h = h
-has_right (y ∷ xs) ys x h = let r = has_right xs ys x h in (suc r.0, r.1)
-
-pub has_both : {A : Type 0} (xs ys : List A) (x : A) (k : ℕ) → get_elem? (xs ++ ys) k ≡ some x → Has xs x ⊎ Has ys x
-has_both [] ys x k e = inr (k, e)
-has_both (y ∷ xs) ys x zero e = inl (0, e)
-has_both (y ∷ xs) ys x (suc k) e = ⊎_elim (λ t. inl (suc t.0, t.1)) (λ t. inr t) (has_both xs ys x k e)
-
-pub has_cons : {A : Type 0} (y x : A) (xs : List A) (k : ℕ) → get_elem? (y ∷ xs) k ≡ some x → (y ≡ x) ⊎ Has xs x
-has_cons y x xs zero e = inl (some-injective y x e)
-has_cons y x xs (suc k) e = inr (k, e)
+-- the numbers of two passes are apart
+joined_apart : (log : List Entry) (role : ℕ → Role) (id other : ℕ) (v w : View) → other ≢ id → v.live ≡ true → w.live ≡ true → Fits log role id v → Fits log role other w → Apart (numbers (joined v w))
+joined_apart log role id other v w ne live lives mine theirs =
+    subst Apart (ap (λ ks. v.number ∷ ks) (sym (map-append (λ (p : ℕ × List Entry). p.0) v.kin ((w.number, w.mine) ∷ w.kin))))
+    (both_apart (numbers v) (numbers w) (mine.apart live) (theirs.apart lives)
+    (λ k h t. by_roles k (whose log role id v live mine k h) (whose log role other w lives theirs k t)))
+  where
+    by_roles : (k : ℕ) → (role k ≡ held id) ⊎ (role k ≡ kin_of id) → (role k ≡ held other) ⊎ (role k ≡ kin_of other) → ⊥
+    by_roles k (inl a) (inl b) = ne (apart other id (sym b ∙ a))
+    by_roles k (inl a) (inr b) = absurd (cc (a, b))
+    by_roles k (inr a) (inl b) = absurd (cc (a, b))
+    by_roles k (inr a) (inr b) = ne (kin_is other id (sym b ∙ a))
 
 -- a live view that is neither of two stays where both change
 stays : (views : List View) (id other by : ℕ) (b c u : View) → get_elem? views by ≡ some u → by ≢ id → by ≢ other → get_elem? (set (set views id b) other c) by ≡ some u
@@ -462,6 +516,7 @@ joins id v other w live client lives nothing clear s h at ne there =
     let drawn' : (j by : ℕ) → role j ≡ drawn_by by → role' j ≡ drawn_by by = λ j by e. else_is j (role_ne role j n e ours (λ x. absurd (cc (x)))) ∙ ap (redirect other id) e in
     let kin' : (j by : ℕ) → by ≢ other → role j ≡ kin_of by → role' j ≡ kin_of by = λ j by no e. else_is j (role_ne role j n e ours (λ x. absurd (cc (x)))) ∙ ap (redirect other id) e ∙ redirect_else other id by no in
     let theirs' : (j : ℕ) → role j ≡ kin_of other → role' j ≡ kin_of id = λ j e. else_is j (role_ne role j n e ours (λ x. absurd (cc (x)))) ∙ ap (redirect other id) e ∙ redirect_here other id in
+    let was_nobody : (j : ℕ) → role' j ≡ nobody_yet → role j ≡ nobody_yet = λ j e. redirect_nobody other id (role j) (put_old n (kin_of id) (λ y. redirect other id (role y)) j nobody_yet e (λ y. absurd (cc (y)))).1 in
     let not_other : id ≢ other = λ x. ne (sym x) in (
       log,
       role',
@@ -481,6 +536,8 @@ joins id v other w live client lives nothing clear s h at ne there =
               kin = λ j m e. let x = f.kin j m e in (kin' j by far x.0, x.1);
               low = f.low;
               count = λ l q j a b. nobody' j (f.count l q j a b);
+              apart = f.apart;
+              out = λ j o e. f.out j o (was_nobody j e);
             })
             (λ far. record {
               prefix = prefix_longer v.seen w.seen log mine.prefix theirs.prefix;
@@ -498,6 +555,8 @@ joins id v other w live client lives nothing clear s h at ne there =
                   (has_both v.kin ((n, w.mine) ∷ w.kin) (j, m) e.0 e.1);
               low = λ l a b. absurd (omega (arith, client a, b));
               count = λ l q j a b. nobody' j (mine.count l q j a b);
+              apart = λ _. joined_apart log role id other v w ne live lives mine theirs;
+              out = λ j o e. mine.out j (without_has n j v.out o.0 o.1) (was_nobody j e);
             }))
             (λ by u no _ f. f no) (fits_spent log role' other);
         one = set_each (λ by u. u.rules ≡ true → by ≡ h.2) (λ by u. u.rules ≡ true → by ≡ h.2) (set s.views id both) other spent
@@ -554,9 +613,9 @@ unused slots id v c live zero_is less s h few at range =
       keeps,
       tt,
       (h.0, h.1, h.2, h.3, subst (λ (x : List ℕ × List View). IsKept x.0 x.1 h.0 h.1 h.2 h.3) (λ i. (sym words i, sym views i)) k),
-      (refl, entries_none (v.count + 1) v.seen h.0 mine.prefix (k.quiet (v.count + 1) (mine.count live zero_is (v.count + 1) (omega arith) (omega (arith, less))))),
+      (
+        refl,
+        entries_none (v.count + 1) v.seen h.0 mine.prefix (k.quiet (v.count + 1) (mine.count live zero_is (v.count + 1) (omega arith) (omega (arith, less)))),
+        new_to h.0 h.1 id v (v.count + 1) live mine (mine.count live zero_is (v.count + 1) (omega arith) (omega (arith, less))),
+      ),
     )
-
--- a new pass
-pub new_rest : (setting : Setting) (n : ℕ) (seen : List Entry) (w : View) → w ≡ pass n seen → IsLegal setting seen → entries_of n seen ≡ [] → IsAtRest setting w
-new_rest setting n seen w is legal nothing = subst (IsAtRest setting) (sym is) (refl, refl, refl, legal, (λ _. sym nothing), refl)

@@ -1,5 +1,6 @@
 -- The rule of the desk: one history, and what the views have to do with it.
-use Rattle.std.specs.Prelude.{◌≡◌, ℕ, ◌+◌, ◌<◌, ◌≤◌, List, [], ◌∷◌, ◌++◌, length, ◌==◌, nat_lt, cond, Bool, true, false, Some, None, Option, MatchBool, ◌⊎◌, ◌&&◌}
+use Rattle.std.specs.Prelude.{◌≡◌, ℕ, ◌+◌, ◌<◌, ◌≤◌, List, [], ◌∷◌, ◌++◌, length, ◌==◌, nat_lt, cond, Bool, true, false, Some, None, Option, MatchBool, ◌⊎◌, ◌&&◌, map}
+use Rattle.std.specs.List.{IsDistinct, list_any}
 use mathlib.Core.Option.{some}
 use lib.ListN.{get_elem?}
 use Rattle.atomic_table.specs.Table.{State, Step, Me}
@@ -112,6 +113,26 @@ joined v w = record { live = v.live; rules = v.rules; number = v.number; seen = 
 abbrev pub Has : {A : Type 0} → List A → A → Type 0
 Has xs x = (i : ℕ) × (get_elem? xs i ≡ some x)
 
+-- KIN
+
+-- the numbers of a pass and of those that were joined into it
+abbrev pub numbers : View → List ℕ
+numbers v = v.number ∷ map (λ (p : ℕ × List Entry). p.0) v.kin
+
+-- no two of the numbers of a live pass are the same
+abbrev pub AreApart : View → Type 0
+AreApart v = v.live ≡ true → IsDistinct (λ a b. a == b) (numbers v)
+
+-- each that was joined has these entries in a history
+abbrev pub AreKin : List (ℕ × List Entry) → List Entry → Type 0
+AreKin kin log = (k : ℕ) (m : List Entry) → Has kin (k, m) → entries_of k log ≡ m
+
+-- a number is neither a pass's own, nor of one that was joined into it, nor out with it
+abbrev pub IsNewTo : View → ℕ → Type 0
+IsNewTo v n = (list_any (λ k. k == n) (numbers v) ≡ false) × (list_any (λ k. k == n) v.out ≡ false)
+
+-- THE RULE
+
 pub record Fits (log : List Entry) (role : ℕ → Role) (by : ℕ) (v : View) : Type 0 where
   pub prefix : IsOlder v.seen log
   pub whole : v.rules ≡ true → v.all ≡ log
@@ -122,6 +143,8 @@ pub record Fits (log : List Entry) (role : ℕ → Role) (by : ℕ) (v : View) :
   pub kin : (k : ℕ) (m : List Entry) → Has v.kin (k, m) → (role k ≡ kin_of by) × (entries_of k log ≡ m)
   pub low : v.live ≡ true → 1 ≤ v.number → v.number ≤ 17 → (v.out ≡ []) × (v.kin ≡ [])
   pub count : v.live ≡ true → v.number ≡ 0 → (k : ℕ) → v.count < k → k ≤ 17 → role k ≡ nobody_yet
+  pub apart : AreApart v
+  pub out : (k : ℕ) → Has v.out k → role k ≡ nobody_yet → ⊥
 
 -- the number is that of a live view; if it is above 17, it is out with a live view of a smaller number
 abbrev pub IsHolder : List View → ℕ → ℕ → Type 0
@@ -155,15 +178,15 @@ Takes s v found w = w ≡ (taken v.0, v.1)
 
 -- the pass with the right looks at the history, which begins with what it had seen
 abbrev pub Looks : Step Entry → Me Entry View → ℕ → Me Entry View → Type 0
-Looks s v found w = (w ≡ (looked v.0, v.1)) × IsOlder v.0.seen v.0.all × (v.0.live ≡ true → entries_of v.0.number v.0.all ≡ v.0.flight ++ v.0.mine)
+Looks s v found w = (w ≡ (looked v.0, v.1)) × IsOlder v.0.seen v.0.all × (v.0.live ≡ true → entries_of v.0.number v.0.all ≡ v.0.flight ++ v.0.mine) × AreKin v.0.kin v.0.all × AreApart v.0
 
 -- the number found was drawn, or another drew first
 abbrev pub Draws : Step Entry → Me Entry View → ℕ → Me Entry View → Type 0
-Draws s v found w = MatchBool (found == s.first) ((w ≡ (with_drawn (Some s.first) v.0, v.1)) × (17 < s.first) × (entries_of s.first v.0.seen ≡ [])) (w ≡ v)
+Draws s v found w = MatchBool (found == s.first) ((w ≡ (with_drawn (Some s.first) v.0, v.1)) × (17 < s.first) × (entries_of s.first v.0.seen ≡ []) × IsNewTo v.0 s.first) (w ≡ v)
 
 -- the first pass learns that the next number has no entry
 abbrev pub Counting : Step Entry → Me Entry View → ℕ → Me Entry View → Type 0
-Counting s v found w = (w ≡ v) × (entries_of (v.0.count + 1) v.0.seen ≡ [])
+Counting s v found w = (w ≡ v) × (entries_of (v.0.count + 1) v.0.seen ≡ []) × IsNewTo v.0 (v.0.count + 1)
 
 -- a pass of a client, which may split and append
 abbrev pub IsClient : View → Type 0
@@ -171,7 +194,7 @@ IsClient v = (v.live ≡ true) × (1 ≤ v.number → 17 < v.number)
 
 -- what is known of a pass between two calls
 abbrev pub IsAtRest : Setting → View → Type 0
-IsAtRest setting v = (v.rules ≡ false) × (v.all ≡ []) × (v.drawn ≡ None) × IsLegal setting v.seen × (v.live ≡ true → v.mine ≡ entries_of v.number v.seen) × (v.flight ≡ [])
+IsAtRest setting v = (v.rules ≡ false) × (v.all ≡ []) × (v.drawn ≡ None) × IsLegal setting v.seen × (v.live ≡ true → v.mine ≡ entries_of v.number v.seen) × (v.flight ≡ []) × AreKin v.kin v.seen × AreApart v
 
 -- a pass between two calls that has seen this history
 abbrev pub knows : List Entry → View → View
@@ -189,7 +212,7 @@ IsSplit v w new = MatchBool ((v.number == 0) && nat_lt v.count 17)
 
 -- what is known of a pass that has the right
 abbrev pub IsHeld : Setting → List Entry → View → Type 0
-IsHeld setting log v = (v.rules ≡ true) × (v.all ≡ log) × (v.seen ≡ log) × (v.drawn ≡ None) × IsLegal setting log × (v.live ≡ true → entries_of v.number log ≡ v.mine) × (v.flight ≡ [])
+IsHeld setting log v = (v.rules ≡ true) × (v.all ≡ log) × (v.seen ≡ log) × (v.drawn ≡ None) × IsLegal setting log × (v.live ≡ true → entries_of v.number log ≡ v.mine) × (v.flight ≡ []) × AreKin v.kin log × AreApart v
 
 -- what the first pass knows once its passes are joined back: its own entries, those of its kin, and that no other client has an entry
 abbrev pub IsSettled : List Entry → View → Type 0
@@ -201,3 +224,7 @@ IsSettled log v =
 -- the first pass, with the right and nothing out, learns that
 abbrev pub Settles : Step Entry → Me Entry View → ℕ → Me Entry View → Type 0
 Settles s v found w = (w ≡ v) × IsSettled v.0.all v.0
+
+-- a pass learns that its numbers are apart
+abbrev pub Knows : Step Entry → Me Entry View → ℕ → Me Entry View → Type 0
+Knows s v found w = (w ≡ v) × AreApart v.0

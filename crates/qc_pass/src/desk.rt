@@ -5,7 +5,7 @@ ghost use Rattle.qc_event.specs.History.{limit};
 ghost use Rattle.qc_event.specs.Legal.{Legal};
 ghost use Rattle.qc_pass.specs.Calling.{Shown};
 ghost use Rattle.qc_pass.specs.Entries.{IsOlder};
-ghost use Rattle.qc_pass.specs.Rules.{first_of_all, knows, pass, note, joined, IsClient, IsSplit, IsSettled};
+ghost use Rattle.qc_pass.specs.Rules.{first_of_all, knows, pass, note, joined, IsClient, IsNewTo, IsSplit, IsSettled};
 
 use crate::history::History;
 use crate::locked::Locked;
@@ -111,7 +111,8 @@ impl<N: Store> Desk<N> {
     /// copies; every other number is above 17, and is out with the pass until it is joined back. It takes no memory.
     pub fn split<R: Wait>(&self, rt: &R, pass: &mut Pass<N>) -> Pass<N>
         requires client { IsClient pass.old }
-        ensures { IsSplit pass.old pass.new result }
+        ensures split { IsSplit pass.old pass.new result }
+        ensures other { IsNewTo pass.old result.number }
     {
         if pass.number == 0 && pass.count < LOW {
             pass.count += 1;
@@ -166,8 +167,11 @@ impl<N: Store> Desk<N> {
         requires other { (other.live ≡ true) × (other.out ≡ []) }
         ensures seen { IsOlder pass.old.seen pass.new.seen × IsOlder other.seen pass.new.seen }
         ensures joined { pass.new ≡ knows pass.new.seen (joined pass.old other) }
+        ensures bounded { length pass.new.seen ≤ limit }
     {
-        self.locked.lock(rt).join(&self.room, pass, other);
+        let mut locked = self.locked.lock(rt);
+        locked.known();
+        locked.join(&self.room, pass, other);
     }
 
     /// The start tuples and the history, the oldest entry first. Each entry of a client is the pass's own, or that

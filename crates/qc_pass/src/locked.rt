@@ -13,7 +13,7 @@ use crate::pass::Pass;
 use crate::refusal::{DeskNo, no_of};
 use crate::steps::{give_back, lend, push};
 use crate::store::{Room, Store};
-use crate::view::{Joining, Settling, View};
+use crate::view::{Joining, Knowing, Settling, View};
 use atomic_table::Seat;
 use qc_event::{Entry, Event, Short};
 use std::marker::{Model, PhantomData};
@@ -132,6 +132,7 @@ impl<N: Store> Locked<N> {
         self.look(room, &mut other);
         let Pass { seat, .. } = other;
         room.shared.join_seat::<Joining>(&mut pass.seat, seat);
+        room.shared.load::<Knowing>(&mut pass.seat, 0);
     }
 
     /// The history. The pass is the first, and has nothing out.

@@ -3,6 +3,7 @@ ghost use Rattle.std.specs.Prelude.{◌≡◌, true};
 ghost use Rattle.qc_event.specs.Tables.{setting_of};
 ghost use Rattle.qc_event.specs.Legal.{Legal};
 ghost use Rattle.qc_pass.specs.Entries.{entries_of};
+ghost use Rattle.qc_pass.specs.Rules.{AreApart, AreKin};
 
 use crate::store::Store;
 use crate::view::View;
@@ -43,11 +44,14 @@ impl<N: Store> Pass<N> {
         self.number
     }
 
-    /// What every pass keeps: what it has seen is legal, and its own entries are those seen under its number.
+    /// What every pass keeps: what it has seen is legal, its own entries are those seen under its number, and so are
+    /// those of each that was joined into it. All these numbers are different.
     pub fn known(&self)
         ensures legal { Legal (setting_of N.table N.base) self.now.seen }
         ensures mine { self.now.live ≡ true →
             self.now.mine ≡ entries_of self.now.number self.now.seen }
+        ensures kin { AreKin self.now.kin self.now.seen }
+        ensures apart { AreApart self.now }
     {
         let _ = &self.number;
     }

@@ -4,7 +4,7 @@ ghost use Rattle.qc_event.specs.Base.{Setting};
 ghost use Rattle.qc_event.specs.History.{limit};
 ghost use Rattle.qc_event.specs.Legal.{Legal};
 ghost use Rattle.qc_pass.specs.Entries.{IsOlder, entries_of};
-ghost use Rattle.qc_pass.specs.Rules.{ruler, posted, taken, lent, looked, returned, right_of, with_drawn};
+ghost use Rattle.qc_pass.specs.Rules.{AreApart, AreKin, IsNewTo, ruler, posted, taken, lent, looked, returned, right_of, with_drawn};
 
 use crate::history::History;
 use crate::store::Room;
@@ -23,7 +23,8 @@ pub(crate) fn draw<R: Wait>(rt: &R, room: &Room, seat: &mut Seat<Entry, View>) -
     requires live { seat.old.me.0.live ≡ true }
     ensures room { seat.new.table_id ≡ seat.old.table_id }
     ensures drawn { (seat.new.me ≡ (with_drawn (Some result) seat.old.me.0, seat.old.me.1))
-        × (17 < result) × (entries_of result seat.old.me.0.seen ≡ []) }
+        × (17 < result) × (entries_of result seat.old.me.0.seen ≡ [])
+        × IsNewTo seat.old.me.0 result }
 {
     for _ in rt.forever() {
         let next = room.shared.peek(1);
@@ -51,6 +52,8 @@ pub(crate) fn lend(room: &Room, seat: &mut Seat<Entry, View>, right: &mut Seat<E
     ensures mine { seat.old.me.0.live ≡ true →
         entries_of seat.old.me.0.number right.old.me.0.all
         ≡ seat.old.me.0.flight ++ seat.old.me.0.mine }
+    ensures kin { AreKin seat.old.me.0.kin right.old.me.0.all }
+    ensures apart { AreApart seat.old.me.0 }
 {
     let lent = room.shared.split_seat::<Cut>(right);
     room.shared.join_seat::<Lends>(seat, lent);

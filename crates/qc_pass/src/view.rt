@@ -65,6 +65,15 @@ impl Play<Entry, View> for Settling {
     ghost then = { Settles };
 }
 
+/// The step with which a pass looks whether its numbers are apart.
+pub struct Knowing;
+
+impl Play<Entry, View> for Knowing {
+    ghost use Rattle.qc_pass.specs.Rules.{Knows};
+
+    ghost then = { Knows };
+}
+
 /// The step that draws a number.
 pub struct Drawing;
 

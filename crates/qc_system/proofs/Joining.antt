@@ -4,8 +4,7 @@ use Rattle.qc_event.specs.History.{Past}
 use Rattle.qc_pass.specs.declared.view.View.{View}
 use Rattle.qc_pass.specs.Entries.{entries_of}
 use Rattle.qc_pass.specs.Rules.{Has, IsSettled, joined, knows}
-use Rattle.qc_pass.proofs.Moves.{has_none}
-use Rattle.qc_pass.proofs.Numbers.{has_both, has_cons, has_left}
+use Rattle.qc_pass.proofs.Having.{has_both, has_cons, has_left, has_none}
 use Rattle.qc_system.specs.Parts.{JoinsLow}
 
 pub low_itself : (v : View) → JoinsLow v v

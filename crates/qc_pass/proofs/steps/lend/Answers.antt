@@ -1,7 +1,7 @@
 use Rattle.std.proofs.Common.{◌++◌, ◌≡◌, true, ap, ◌∙◌, subst, arith}
 use Rattle.qc_pass.specs.Entries.{IsOlder}
 use Rattle.qc_pass.specs.Entries.{entries_of}
-use Rattle.qc_pass.specs.Rules.{lent, looked}
+use Rattle.qc_pass.specs.Rules.{AreApart, AreKin, lent, looked}
 use Rattle.qc_pass.proofs.Moves.{cuts_as, lends_as, looks}
 use Rattle.qc_pass.proofs.steps.lend.Goals as goal
 
@@ -22,3 +22,9 @@ returns-clause-seen c = let j = c.join_seat.ensures in let sp = c.split_seat-len
 
 pub returns-clause-mine : goal.returns-clause-mine
 returns-clause-mine c = let j = c.join_seat.ensures in let sp = c.split_seat-lent.ensures in subst (λ m. c.args.seat.now.me.0.live ≡ true → entries_of c.args.seat.now.me.0.number m.0.all ≡ c.args.seat.now.me.0.flight ++ c.args.seat.now.me.0.mine) sp.4 (subst (λ m. m.0.live ≡ true → entries_of m.0.number m.0.all ≡ m.0.flight ++ m.0.mine) j.2 c.load.ensures.2.2)
+
+pub returns-clause-kin : goal.returns-clause-kin
+returns-clause-kin c = let j = c.join_seat.ensures in let sp = c.split_seat-lent.ensures in subst (λ m. AreKin c.args.seat.now.me.0.kin m.0.all) sp.4 (subst (λ m. AreKin m.0.kin m.0.all) j.2 c.load.ensures.2.3)
+
+pub returns-clause-apart : goal.returns-clause-apart
+returns-clause-apart c = let j = c.join_seat.ensures in subst (λ m. AreApart m.0) j.2 c.load.ensures.2.4

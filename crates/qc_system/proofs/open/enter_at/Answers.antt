@@ -11,7 +11,7 @@ new-requires g c =
     let found : Findings = record { base = g.N.Store.base; told = g.N.Mounting.told; before = g.N.Mounting.before; first = g.N.Mounting.first } in
     let copies = c.args.copies.now.items in
     let low = c.requires.low in
-    let given = (given_next c.args.first.now c.split-pass.new.pass c.split-pass.result (g.row.C + 1) c.requires.first (omega (arith, low)) c.split-pass.ensures).1 in
+    let given = (given_next c.args.first.now c.split-pass.new.pass c.split-pass.result (g.row.C + 1) c.requires.first (omega (arith, low)) c.split-pass.ensures.split).1 in
     let number : c.split-pass.result.number ≡ copy_seat g.row.C = ap (λ (v : View). v.number) given ∙ omega arith in
     let some : 0 < length copies = omega (arith, c.remove-mounted.ensures.len, c.args.copies.now.ok.0) in (
       omega arith,

@@ -1,9 +1,10 @@
 use Rattle.qc_event.specs.Tables.{setting_of}
-use Rattle.std.proofs.Common.{◌≡◌, ◌+◌, ◌<◌, ◌≤◌, [], sym, ap, ◌∙◌, subst, arith}
+use Rattle.std.proofs.Common.{◌≡◌, ◌+◌, ◌<◌, ◌≤◌, [], refl, sym, ap, ◌∙◌, subst, arith}
 use Rattle.qc_pass.specs.declared.view.View.{View}
 use Rattle.qc_pass.specs.Entries.{IsLegal, entries_of}
-use Rattle.qc_pass.specs.Rules.{given}
-use Rattle.qc_pass.proofs.Numbers.{counts, gives, unused, new_rest}
+use Rattle.qc_pass.specs.Rules.{IsAtRest, IsNewTo, counted, gave, given}
+use Rattle.qc_pass.proofs.Numbers.{counts, gives, unused}
+use Rattle.qc_pass.proofs.Rests.{new_rest}
 use Rattle.qc_pass.proofs.desk.Desk.split.Goals as goal
 
 pub load-requires : goal.load-requires
@@ -45,3 +46,32 @@ invariant_of-result-2 g c =
     let sp = c.split_seat-seat-2.ensures in
     let n = ap (λ m. m.0) sp.4 ∙ ap given m in
     (sp.3 ∙ d.room ∙ i.0, ap (λ m. m.1) sp.4, sym (ap (λ m. m.number) n), sym (ap (λ m. m.count) n), new_rest (setting_of g.N.Store.table g.N.Store.base) c.draw-number.result _ _ n i.4.3 d.drawn.2)
+
+pub returns-clause-other : goal.returns-clause-other
+returns-clause-other g c =
+    let d = c.draw-number.ensures in
+    let m = ap (λ m. m.0) d.drawn.0 in
+    let n = ap (λ m. m.0) c.split_seat-seat-2.ensures.4 ∙ ap given m in
+    subst (λ (x : View). IsNewTo x c.split_seat-seat-2.result.me.0.number) c.pass.view_is
+    (subst (IsNewTo c.pass.inside.seat.me.0) (sym (ap (λ m. m.number) n)) d.drawn.3)
+
+pub invariant_of-pass : goal.invariant_of-pass
+invariant_of-pass g c =
+    let i = c.pass.invariant in
+    let l = c.load.ensures in
+    let sp = c.split_seat-seat.ensures in
+    let n = ap (λ m. m.0) sp.2 ∙ ap (λ m. counted m.0) l.2.0 in
+    (sp.0 ∙ l.0 ∙ i.0, ap (λ m. m.1) sp.2 ∙ ap (λ m. m.1) l.2.0 ∙ i.1, i.2 ∙ sym (ap (λ m. m.number) n), ap (λ k. k + 1) i.3 ∙ sym (ap (λ m. m.count) n), subst (IsAtRest (setting_of g.N.Store.table g.N.Store.base)) (sym n) i.4)
+
+pub invariant_of-pass-2 : goal.invariant_of-pass-2
+invariant_of-pass-2 g c =
+    let i = c.pass.invariant in
+    let d = c.draw-number.ensures in
+    let sp = c.split_seat-seat-2.ensures in
+    let n = ap (λ m. m.0) sp.2 ∙ ap (λ m. gave m.0) d.drawn.0 in (
+      sp.0 ∙ d.room ∙ i.0,
+      ap (λ m. m.1) sp.2 ∙ ap (λ m. m.1) d.drawn.0 ∙ i.1,
+      i.2 ∙ sym (ap (λ m. m.number) n),
+      i.3 ∙ sym (ap (λ m. m.count) n),
+      subst (IsAtRest (setting_of g.N.Store.table g.N.Store.base)) (sym n) (i.4.0, i.4.1, refl, i.4.3, i.4.4, i.4.5, i.4.6, i.4.7),
+    )

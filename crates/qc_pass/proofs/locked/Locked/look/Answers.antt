@@ -1,7 +1,9 @@
-use Rattle.std.proofs.Common.{◌≡◌, true, List, ◌++◌, ap, ◌∙◌, subst}
+use Rattle.std.proofs.Common.{◌≡◌, true, List, ◌++◌, sym, ap, ◌∙◌, subst}
+use Rattle.qc_event.specs.Tables.{setting_of}
 use Rattle.qc_event.specs.declared.event.Entry.{Entry}
 use Rattle.qc_pass.specs.declared.view.View.{View}
 use Rattle.qc_pass.specs.Entries.{entries_of, IsSince}
+use Rattle.qc_pass.proofs.Rests.{held_lent, rest_after}
 use Rattle.qc_pass.proofs.Since.{since}
 use Rattle.qc_pass.proofs.locked.Locked.look.Goals as goal
 
@@ -16,3 +18,15 @@ returns-clause-since g c live =
     let l : c.pass.inside.seat.me.0.live ≡ true = ap (λ (m : View). m.live) c.pass.view_is ∙ live in
     subst (λ (x : View × List Entry). IsSince x.0.number x.0.seen x.1) (λ k. (c.pass.view_is k, all k))
     (since c.pass.inside.seat.me.0.number c.pass.inside.seat.me.0.seen c.self.inside.seat.me.0.all c.lend.ensures.seen (c.lend.ensures.mine l ∙ ap (λ (x : List Entry). x ++ c.pass.inside.seat.me.0.mine) c.pass.invariant.4.5 ∙ c.pass.invariant.4.4 l))
+
+pub invariant_of-pass : goal.invariant_of-pass
+invariant_of-pass g c =
+    let i = c.pass.invariant in
+    let s = c.self.invariant in
+    let l = c.lend.ensures in
+    let b = c.give_back.ensures in
+    let held = held_lent (setting_of g.N.Store.table g.N.Store.base) c.self.inside.history _ _ _ i.4 s.2 (ap (λ m. m.0) s.1) (ap (λ m. m.0) l.seat) l.mine l.kin l.apart in
+    let rest = rest_after (setting_of g.N.Store.table g.N.Store.base) _ _ _ (ap (λ m. m.0) b.seat) held in
+    let number = ap (λ m. m.0.number) b.seat ∙ ap (λ m. m.0.number) l.seat in
+    let count = ap (λ m. m.0.count) b.seat ∙ ap (λ m. m.0.count) l.seat in
+    (b.room.0 ∙ l.room.0 ∙ i.0, ap (λ m. m.1) b.seat ∙ ap (λ m. m.1) l.seat ∙ i.1, i.2 ∙ sym number, i.3 ∙ sym count, rest)

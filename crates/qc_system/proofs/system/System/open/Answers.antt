@@ -9,7 +9,7 @@ enter_at-s0-requires g c =
     let whole : c.len-all.result ≡ length g.N.Store.base = c.len-all.ensures ∙ c.args.parts.copies.ok.0 ∙ c.requires.many in
     let named = c.name-desk.result.1 in
     let opens : IsOpening named 0 = named_opens named c.name-desk.ensures.pass in
-    let first = opens_next named c.split-pass.new.pass 0 opens (given_next named c.split-pass.new.pass c.split-pass.result 0 opens (omega arith) c.split-pass.ensures).0 in
+    let first = opens_next named c.split-pass.new.pass 0 opens (given_next named c.split-pass.new.pass c.split-pass.result 0 opens (omega arith) c.split-pass.ensures.split).0 in
     (omega arith, (omega arith, (whole, (first, (omega (arith, c.requires.many), c.requires.copies)))))
 
 pub enter_at-s1-requires : goal.enter_at-s1-requires
