@@ -18,3 +18,4 @@ pub mod Keeping
 pub mod KeepsOn
 pub mod KeepsStill
 pub mod Acting
+pub mod Branching

@@ -4,3 +4,4 @@ pub mod Kept
 pub mod Seeing
 pub mod Carried
 pub mod Acting
+pub mod Branching

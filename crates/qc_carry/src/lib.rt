@@ -3,6 +3,7 @@
 
 mod acts;
 mod begin;
+mod branches;
 mod calls;
 mod carry;
 mod desk_calls;
