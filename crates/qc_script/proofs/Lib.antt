@@ -2,6 +2,10 @@ pub mod Objects
 pub mod Parts
 pub mod Plans
 pub mod Refusals
+pub mod Counted
+pub mod Rows
+pub mod Following
+pub mod Numbering
 pub mod Names
 pub mod Proper
 pub mod ProperScript

@@ -16,32 +16,18 @@ use Rattle.qc_config.specs.Config.{IsLegal, fault}
 use Rattle.qc_config.specs.declared.config.BadConfig.{BadConfig}
 use Rattle.qc_event.specs.declared.table.Row.{Row}
 use Rattle.qc_event.specs.declared.table.Table.{Table}
-use Rattle.qc_script.specs.Plan.{Plan, Numbered, IsTried, PlanWithin, TopsWithin, value_of}
+use Rattle.qc_script.specs.Plan.{Plan, Numbered, IsTried, PlanWithin, TopsWithin, value_of, row_of as row_of_bodies}
 use Rattle.qc_script.specs.declared.bad_script.BadScript.{BadScript}
 use Rattle.qc_script.specs.declared.bad_script.BadScript.TheVariants.{Shape, Config, Unknown}
 use Rattle.qc_script.specs.declared.bad_script.Member.{Member}
 use Rattle.qc_script.specs.declared.bad_script.Member.TheVariants as part
 use Rattle.qc_script.specs.JsonText.{Read, Text, followed, ◌>>=◌, must, each, limited, member_or}
-use Rattle.qc_script.specs.ScriptText.{Front, Counted, Scope, config_of, row_of, names_of, rows_of, number_of, is_word, read_of, amount_of, set_of, add_of, sub_of, need_of, reconf_of, child_of, abort_of, crash_of, kill_of, step_in, step_of, steps_of, tries_of, body_of, bodies_of}
+use Rattle.qc_script.specs.ScriptText.{Front, Counted, Scope, config_of, row_of, names_of, rows_of, number_of, is_word, read_of, amount_of, set_of, add_of, sub_of, need_of, reconf_of, child_of, branches_of, par_of, each_counted, abort_of, crash_of, kill_of, step_in, step_of, steps_of, tries_of, body_of, bodies_of}
 use Rattle.qc_script.specs.Reading.{IsProperRow}
-
--- what holds of the last of several parts, where each of them is read
-pub then_ok : {A B : Type 0} (P : B → Type 0) (r : Read A) (f : A → Read B) → ((x : A) → r ≡ Ok x → IfOk (f x) P) → IfOk (r >>= f) P
-unfolding followed
-then_ok P (Ok x) f h = h x refl
-then_ok P (Err e) f h = tt
-
-ok_each : {A : Type 0} {P : A → Type 0} (r : Read A) → ((x : A) → r ≡ Ok x → P x) → IfOk r P
-ok_each (Ok x) h = h x refl
-ok_each (Err e) h = tt
-
-pub must_true : (b : Bool) (e : BadScript) (t : Unit {0}) → must b e ≡ Ok t → b ≡ true
-must_true true e t h = refl
-must_true false e t h = absurd cc
-
-ok_or_some : {A : Type 0} (P : A → Type 0) (o : Option A) (e : BadScript) → IfSome o P → IfOk (ok_or o e) P
-ok_or_some P None e h = tt
-ok_or_some P (Some x) e h = h
+pub use Rattle.qc_script.proofs.Following.{then_ok, must_true}
+use Rattle.qc_script.proofs.Following.{ok_or_some}
+use Rattle.qc_script.proofs.Rows.{is_row, row_length-row_of}
+use Rattle.qc_script.proofs.Numbering.{ReadsOn, AreNumberedOn, body_numbered, list_numbered, row_distinct}
 
 -- ---- limits
 
@@ -210,31 +196,58 @@ kill_within table depth sessions next d few =
     let there = ltb-true session sessions (must_true _ _ t h) in
     (omega arith, within)
 
--- what is read so is a body in a body of this depth
+-- what is read so is a body in a body of this depth, and is numbered on
 abbrev ReadsInner : Table → ℕ → (ℕ → Data → Counted Numbered) → Type 0
-ReadsInner table depth body = (next : ℕ) (d : Data) → IfOk (body next d) (IsInner table depth)
+ReadsInner table depth body = ((next : ℕ) (d : Data) → IfOk (body next d) (IsInner table depth)) × ReadsOn body
 
 child_within : (table : Table) (depth : ℕ) (body : ℕ → Data → Counted Numbered) (next : ℕ) (d : Data) → ReadsInner table depth body → IfOk (child_of body next d) (KeepsWithin table depth)
 child_within table depth body next d inner =
-    then_ok _ _ _ λ _ _. then_ok _ _ _ λ b h some rest within. let p = IfOk-at_ok (IsInner table depth) h (inner next d) in (p.0, p.1, p.2, within)
+    then_ok _ _ _ λ _ _. then_ok _ _ _ λ b h some rest within. let p = IfOk-at_ok (IsInner table depth) h (inner.0 next d) in (p.0, p.1, p.2, within)
+
+-- branches, in a body of this depth
+abbrev AreInner : Table → ℕ → ℕ → List Numbered × ℕ → Type 0
+AreInner table depth many p = (length p.0 ≡ many) × Within table depth (row_of_bodies p.0)
+
+branches_within : (table : Table) (depth : ℕ) (body : ℕ → Data → Counted Numbered) (next : ℕ) (ds : List Data) → ReadsInner table depth body → IfOk (each_counted body next ds) (AreInner table depth (length ds))
+branches_within table depth body next [] inner = (refl, tt)
+branches_within table depth body next (d ∷ ds) inner =
+    then_ok _ _ _ λ b h. then_ok _ _ _ λ rest hs.
+    let p = IfOk-at_ok (IsInner table depth) h (inner.0 next d) in
+    let others = IfOk-at_ok (AreInner table depth (length ds)) hs (branches_within table depth body b.1 ds inner) in
+    (ap suc others.0, (p.0, p.1, p.2, others.1))
+
+branches_few : (d : Data) → IfOk (branches_of d) (λ ds. (1 ≤ length ds) × (length ds ≤ 8))
+branches_few d = then_ok _ _ _ λ ds _. then_ok _ _ _ λ t h. within_limits 1 8 (length ds) (must_true _ _ t h)
+
+par_within : (table : Table) (depth : ℕ) (body : ℕ → Data → Counted Numbered) (next : ℕ) (d : Data) → ReadsInner table depth body → IfOk (par_of body next d) (KeepsWithin table depth)
+par_within table depth body next d inner =
+    then_ok _ _ _ λ ds few. then_ok _ _ _ λ bodies h some rest within.
+    let limits = IfOk-at_ok (λ (xs : List Data). (1 ≤ length xs) × (length xs ≤ 8)) few (branches_few d) in
+    let all = IfOk-at_ok (AreInner table depth (length ds)) h (branches_within table depth body next ds inner) in
+    let numbered = IfOk-at_ok (AreNumberedOn next) h (list_numbered body next ds inner.1) in
+    let many = all.0 in
+    let counted = row_length-row_of bodies.0 in
+    (is_row bodies.0, omega arith, omega arith, all.1, within, row_distinct next bodies.1 (row_of_bodies bodies.0) numbered)
 
 -- by what the word of a step is
-two_within : (scope : Scope) (depth : ℕ) (body : ℕ → Data → Counted Numbered) (next : ℕ) (d : Data) (read child abort crash kill : Bool)
+two_within : (scope : Scope) (depth : ℕ) (body : ℕ → Data → Counted Numbered) (next : ℕ) (d : Data) (read child par abort crash kill : Bool)
     → scope.sessions ≤ 16 → ReadsInner scope.table depth body
     → IfOk (
     if read then read_of scope.table next d
     else if child then child_of body next d
+    else if par then par_of body next d
     else if abort then abort_of depth next d
     else if crash then crash_of scope.table.copies next d
     else if kill then kill_of scope.sessions next d
     else Err (Shape part.Step)
     ) (KeepsWithin scope.table depth)
-two_within scope depth body next d true child abort crash kill few inner = read_within scope.table depth next d
-two_within scope depth body next d false true abort crash kill few inner = child_within scope.table depth body next d inner
-two_within scope depth body next d false false true crash kill few inner = abort_within scope.table depth next d
-two_within scope depth body next d false false false true kill few inner = crash_within scope.table depth next d
-two_within scope depth body next d false false false false true few inner = kill_within scope.table depth scope.sessions next d few
-two_within scope depth body next d false false false false false few inner = tt
+two_within scope depth body next d true child par abort crash kill few inner = read_within scope.table depth next d
+two_within scope depth body next d false true par abort crash kill few inner = child_within scope.table depth body next d inner
+two_within scope depth body next d false false true abort crash kill few inner = par_within scope.table depth body next d inner
+two_within scope depth body next d false false false true crash kill few inner = abort_within scope.table depth next d
+two_within scope depth body next d false false false false true kill few inner = crash_within scope.table depth next d
+two_within scope depth body next d false false false false false true few inner = kill_within scope.table depth scope.sessions next d few
+two_within scope depth body next d false false false false false false few inner = tt
 
 three_within : (table : Table) (depth next : ℕ) (rec value : Data) (set add sub need reconf : Bool)
     → IfOk (
@@ -255,7 +268,7 @@ three_within table depth next rec value false false false false false = tt
 parts_within : (scope : Scope) (depth : ℕ) (body : ℕ → Data → Counted Numbered) (next : ℕ) (parts : List Data) → scope.sessions ≤ 16 → ReadsInner scope.table depth body → IfOk (step_in body depth scope next parts) (KeepsWithin scope.table depth)
 parts_within scope depth body next [] few inner = tt
 parts_within scope depth body next (word ∷ []) few inner = tt
-parts_within scope depth body next (word ∷ d ∷ []) few inner = two_within scope depth body next d (is_word (codes "read") word) (is_word (codes "child") word) (is_word (codes "abort") word) (is_word (codes "crash") word) (is_word (codes "kill") word) few inner
+parts_within scope depth body next (word ∷ d ∷ []) few inner = two_within scope depth body next d (is_word (codes "read") word) (is_word (codes "child") word) (is_word (codes "par") word) (is_word (codes "abort") word) (is_word (codes "crash") word) (is_word (codes "kill") word) few inner
 parts_within scope depth body next (word ∷ rec ∷ value ∷ []) few inner = three_within scope.table depth next rec value (is_word (codes "set") word) (is_word (codes "add") word) (is_word (codes "sub") word) (is_word (codes "need") word) (is_word (codes "reconf") word)
 parts_within scope depth body next (word ∷ rec ∷ value ∷ more ∷ others) few inner = tt
 
@@ -296,7 +309,8 @@ body_within scope (suc below) around next d low few =
       IfOk-at_ok IsTried t (tried around d),
       subst P depth (
           IfOk-at_ok (λ (p : Plan × ℕ). Within scope.table (16 - below) p.0) h
-          (steps_within scope (16 - below) (body_of below (around * tries) scope) (next + 1) list (omega arith) few (λ n x. inner_within scope below (around * tries) n x (omega arith) (body_within scope below (around * tries) n x (omega arith) few)))),
+          (steps_within scope (16 - below) (body_of below (around * tries) scope) (next + 1) list (omega arith) few
+          (λ n x. inner_within scope below (around * tries) n x (omega arith) (body_within scope below (around * tries) n x (omega arith) few), body_numbered scope below (around * tries)))),
     )
 
 -- bodies of tops over the records of a table

@@ -8,6 +8,7 @@ use Rattle.qc_event.specs.declared.table.Row.{Row}
 use Rattle.qc_event.specs.declared.table.Table.{Table}
 use Rattle.qc_net.specs.declared.link.Fate.{Fate}
 use Rattle.qc_script.specs.Plan.{ScriptPlan, SessionPlan, SessionWithin, SessionsWithin}
+use Rattle.qc_script.specs.BodyNumbers.{SessionsNumberedOn}
 use Rattle.qc_script.specs.Steps.{plan_of_script}
 use Rattle.qc_script.specs.declared.bad_script.BadScript.{BadScript}
 use Rattle.qc_script.specs.declared.bad_script.Member.TheVariants as part
@@ -15,6 +16,7 @@ use Rattle.qc_script.specs.declared.script.Script.{Script}
 use Rattle.qc_script.specs.ScriptText.{Net, Scope, rows_of, fate_of, fates_of, net_of, each_counted, session_of, copies_of, records_of, sessions_at, script_of}
 use Rattle.qc_script.specs.Reading.{Gives, IsScript, IsProperRow, IsProper}
 use Rattle.qc_script.proofs.Proper.{then_ok, must_true, within_limits, given_or, IsFew, few_or, length-each, rows_proper, length-rows_of, AreTops, bodies_within}
+use Rattle.qc_script.proofs.Numbering.{AreSessionsOn, sessions_numbered}
 
 -- ---- sessions
 
@@ -57,11 +59,12 @@ each_session scope next (d ∷ ds) few =
     let others = IfOk-at_ok (AreSessions scope.table (length ds)) hs (each_session scope s.1 ds few) in
     (ap suc others.0, (IfOk-at_ok (IsProperSession scope.table) h (session_proper scope next d few), others.1))
 
--- 1 to 16 sessions over the records of a table
+-- 1 to 16 sessions over the records of a table, whose bodies are numbered from 0 on
 record AreFewSessions (table : Table) (sessions : List SessionPlan) : Type 0 where
   some : 0 < length sessions
   few : length sessions ≤ 16
   each_one : SessionsWithin table.copies (length table.records) sessions
+  numbered : SessionsNumberedOn 0 sessions
 
 sessions_proper : (table : Table) (d : Data) → IfOk (sessions_at table d) (AreFewSessions table)
 sessions_proper table d =
@@ -70,7 +73,8 @@ sessions_proper table d =
     let scope : Scope = record { table = table; sessions = length list } in
     let all = IfOk-at_ok (AreSessions table (length list)) h (each_session scope 0 list limits.1) in
     let many = all.0 in
-    record { some = omega arith; few = omega arith; each_one = all.1 }
+    let numbered = IfOk-at_ok (AreSessionsOn 0) h (sessions_numbered scope 0 list) in
+    record { some = omega arith; few = omega arith; each_one = all.1; numbered = numbered }
 
 -- ---- scripts
 
@@ -113,6 +117,7 @@ script_proper d =
       some_sessions = all.some;
       few_sessions = all.few;
       sessions = all.each_one;
+      numbered = all.numbered;
     }
 
 -- so is what bytes are

@@ -10,10 +10,9 @@ use Rattle.qc_script.specs.declared.bad_script.Member.TheVariants as part
 use Rattle.qc_script.specs.Plan.{Plan, Numbered}
 use Rattle.qc_script.specs.Reading.{Fails}
 use Rattle.qc_script.specs.JsonText.{Read, followed, ◌>>=◌, list_at}
-use Rattle.qc_script.specs.ScriptText.{Counted, Scope, steps_of, step_in, body_object, tries_of, must_of, body_of, bodies_of}
-use Rattle.qc_script.proofs.Parts.{with_counted}
+use Rattle.qc_script.specs.ScriptText.{Counted, Scope, steps_of, step_in, body_object, tries_of, must_of, body_of}
 
-fails_first : {A B : Type 0} (e : BadScript) (r : Read A) (f : A → Read B) → Fails e r → Fails e (r >>= f)
+pub fails_first : {A B : Type 0} (e : BadScript) (r : Read A) (f : A → Read B) → Fails e r → Fails e (r >>= f)
 unfolding followed
 fails_first Memory r f h = tt
 fails_first NotJson r f h = h
@@ -60,13 +59,6 @@ pub body_read : (levels below around tries : ℕ) (must : Bool) (scope : Scope) 
 body_read levels below around tries must scope next d list plan after is steps read =
     let level = is.level in
     rw level (is_then _ _ tt is.checked ∙ is_then _ _ tries is.tried ∙ is_then _ _ must is.needed ∙ is_then _ _ list steps ∙ is_then _ _ (plan, after) read)
-
--- the bodies of a list are refused for what the next of them is
-pub bodies_refused : (scope : Scope) (next : ℕ) (front : List Numbered) (list : List Value) (i : ℕ) (x : Value) (e : BadScript) → i < length list → x ≡ get_or list i x → Fails e (body_of 16 1 scope next (view x)) → Fails e (with_counted front (bodies_of scope next (map view (drop i list))))
-bodies_refused scope next front list i x e below is fails =
-    let split : drop i list ≡ x ∷ drop (i + 1) list = rw add-one (drop-cons list i x below ∙ ap (λ y. y ∷ drop (suc i) list) (sym is)) in
-    subst (λ (vs : List Value). Fails e (with_counted front (bodies_of scope next (map view vs)))) (sym split)
-    (fails_first e _ _ (fails_first e _ _ fails))
 
 -- a step has two elements or three
 pub step_in-other : (body : ℕ → Data → Counted Numbered) (depth : ℕ) (scope : Scope) (next : ℕ) (parts : List Value) → (length parts < 2) ⊎ (4 ≤ length parts) → step_in body depth scope next (map view parts) ≡ Err (Shape part.Step)

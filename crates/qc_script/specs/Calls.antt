@@ -1,6 +1,6 @@
 -- What each call of a client makes, or why it makes nothing.
-use Rattle.std.specs.Prelude.{ℕ, ◌≡◌, ◌⊎◌, Bool, true, false, not, ◌||◌, IsTrue, [], ◌∷◌, ◌++◌, length, None, Some, MatchOption, is_some}
-use Rattle.std.specs.List.{AllByRecursion, list_any}
+use Rattle.std.specs.Prelude.{ℕ, ◌≡◌, ◌==◌, ◌≤◌, ◌⊎◌, Bool, true, false, not, ◌||◌, IsTrue, [], ◌∷◌, ◌++◌, length, filter, None, Some, MatchOption, is_some}
+use Rattle.std.specs.List.{AllByRecursion, IsDistinct, list_all, list_any}
 use Rattle.qc_event.specs.declared.event.Answer.{Answer}
 use Rattle.qc_event.specs.declared.event.Answer.TheVariants as answer
 use Rattle.qc_event.specs.declared.event.Cause.{Cause}
@@ -16,13 +16,14 @@ use Rattle.qc_event.specs.declared.log.Short.{Short}
 use Rattle.qc_event.specs.declared.log.Short.TheVariants as short
 use Rattle.qc_event.specs.Dead.{outcome, is_committed, is_aborted}
 use Rattle.qc_event.specs.History.{Past, Name, limit, same, start, end, is_ready, is_child}
+use Rattle.qc_event.specs.Seats.{is_client}
 use Rattle.qc_event.specs.Standing.{Started, IsAbort, IsUser}
 use Rattle.qc_event.specs.Users.{UserCause}
 use Rattle.qc_names.specs.Name as name
 use Rattle.qc_net.specs.Messages.{meets_fates}
 use Rattle.qc_script.specs.declared.tx.TxNo.{TxNo}
 use Rattle.qc_script.specs.declared.tx.TxNo.TheVariants as tx_no
-use Rattle.qc_script.specs.Client.{Client, View, Made}
+use Rattle.qc_script.specs.Client.{Client, View, Made, branch_of, is_own}
 
 abbrev pub by_client : Client → Event → Entry
 by_client c event = record { seat = c.number; event = event }
@@ -165,9 +166,9 @@ NotCommitted c of before now why = Made c [] before now × Refuses now of why
 
 -- WHAT A CALL DOES TO A VIEW
 
--- where the link is told, the requests under the client's seat meet its fates
+-- where the link is told, the requests under the client's seat, and under each of its merged branches', meet its fates
 abbrev pub MeetsLink : View → Type 0
-MeetsLink view = MatchOption view.client.net (Unit {0}) (λ net. IsTrue (meets_fates view.client.number net view.seen))
+MeetsLink view = MatchOption view.client.net (Unit {0}) (λ net. IsTrue (list_all (λ seat. meets_fates seat net view.seen) (view.client.number ∷ view.client.kin)))
 
 -- a user transaction of the client's session and of a body was started
 abbrev pub Began : View → View → ℕ → Name → Type 0
@@ -197,3 +198,37 @@ MarksNone old new why = Made old.client [] old.seen new.seen × (why ≡ short.R
 -- a transaction was aborted for a cause
 abbrev pub Aborts : View → View → Name → Cause → Type 0
 Aborts old new n why = Made old.client (by_client old.client (event.End n (Abort why)) ∷ []) old.seen new.seen
+
+-- BRANCHES
+
+-- nothing was entered under a seat
+abbrev pub NoneUnder : ℕ → Past → Type 0
+NoneUnder seat past = AllByRecursion (λ (e : Entry). e.seat ≡ seat → ⊥) past
+
+-- A branch of a client was made, which stands below a transaction. It has seen the same, and has a client's number that no
+-- other branch has, under which nothing was entered.
+pub record Branched (old new : View) (of : Name) (b : View) : Type 0 where
+  pub number : ℕ
+  pub is_one : IsTrue (is_client number)
+  pub other : is_own old.client number ≡ false
+  pub not_out : list_any (λ k. k == number) old.client.out ≡ false
+  pub none : NoneUnder number old.seen
+  pub branch : b ≡ record { client = branch_of old.client number of; seen = old.seen }
+  pub left : new ≡ record { client = record old.client { out = number ∷ old.client.out }; seen = old.seen }
+
+-- A client and a branch have then seen the same, and made nothing meanwhile.
+pub record Showed (old new branch shown : View) : Type 0 where
+  pub client : new.client ≡ old.client
+  pub branch_client : shown.client ≡ branch.client
+  pub seen : shown.seen ≡ new.seen
+  pub made : Made old.client [] old.seen new.seen
+  pub branch_made : Made branch.client [] branch.seen new.seen
+
+-- A branch was merged: its number and its kin are then the client's kin, which has seen what both had. Neither made anything
+-- meanwhile, no two of these numbers are the same, and the history is within its limit.
+pub record Merged (old branch new : View) : Type 0 where
+  pub client : new.client ≡ record old.client { kin = old.client.kin ++ branch.client.number ∷ branch.client.kin; out = filter (λ k. not (k == branch.client.number)) old.client.out }
+  pub apart : IsDistinct (λ a b. a == b) (new.client.number ∷ new.client.kin)
+  pub bounded : length new.seen ≤ limit
+  pub made : Made old.client [] old.seen new.seen
+  pub branch_made : Made branch.client [] branch.seen new.seen

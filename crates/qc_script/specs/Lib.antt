@@ -1,4 +1,5 @@
 pub mod Plan
+pub mod BodyNumbers
 pub mod Steps
 pub mod JsonText
 pub mod ScriptText

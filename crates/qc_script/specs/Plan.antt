@@ -1,6 +1,6 @@
 -- What a body does: its steps one after another; and what sessions and a script are.
-use Rattle.std.specs.Prelude.{ℕ, Bool, ◌+◌, ◌-◌, ◌%◌, ◌^◌, ◌<◌, ◌≤◌, nat_lt, if◌then◌else◌, List, [], ◌∷◌, length}
-use Rattle.std.specs.List.{AllByRecursion}
+use Rattle.std.specs.Prelude.{ℕ, Bool, ◌+◌, ◌-◌, ◌%◌, ◌^◌, ◌<◌, ◌≤◌, ◌==◌, nat_lt, if◌then◌else◌, List, [], ◌∷◌, length}
+use Rattle.std.specs.List.{AllByRecursion, IsDistinct}
 use Rattle.qc_event.specs.declared.event.Answer.{Answer}
 use Rattle.qc_event.specs.declared.event.Answer.TheVariants as answer
 use Rattle.qc_event.specs.Base.{Setting, IsConfigFor}
@@ -92,10 +92,15 @@ abbrev pub row_length : Plan → ℕ
 row_length (Plan.child_then number tries must inner rest) = row_length rest + 1
 row_length _ = 0
 
+-- the numbers of the bodies in a row
+abbrev pub row_numbers : Plan → List ℕ
+row_numbers (Plan.child_then number tries must inner rest) = number ∷ row_numbers rest
+row_numbers _ = []
+
 -- Each step of a body of this depth is about one of so many records at so many copies, its configurations are
--- for these copies, its bodies are no deeper than 16 and tried, those that run at once are a row of 1 to 8, what it
--- aborts is the transaction itself or an ancestor below the root, what crashes is one of the copies, and what it marks
--- is one of sixteen sessions.
+-- for these copies, its bodies are no deeper than 16 and tried, those that run at once are a row of 1 to 8
+-- with different numbers, what it aborts is the transaction itself or an ancestor below the root, what crashes is one of
+-- the copies, and what it marks is one of sixteen sessions.
 abbrev pub PlanWithin : ℕ → ℕ → ℕ → Plan → Type 0
 PlanWithin copies records depth Plan.done = Unit {0}
 PlanWithin copies records depth (Plan.manage_by k next) = KindWithin copies records k × ((given : Answer) → PlanWithin copies records depth (next given))
@@ -103,6 +108,7 @@ PlanWithin copies records depth (Plan.child_then number tries must inner rest) =
     (depth < 16) × IsTried tries × PlanWithin copies records (depth + 1) inner × PlanWithin copies records depth rest
 PlanWithin copies records depth (Plan.par_then branches rest) =
     IsRow branches × (1 ≤ row_length branches) × (row_length branches ≤ 8) × PlanWithin copies records depth branches × PlanWithin copies records depth rest
+    × IsDistinct ◌==◌ (row_numbers branches)
 PlanWithin copies records depth (Plan.abort_then levels rest) = (levels < depth) × PlanWithin copies records depth rest
 PlanWithin copies records depth (Plan.crash_then copy rest) = (copy < copies) × PlanWithin copies records depth rest
 PlanWithin copies records depth (Plan.kill_then session rest) = (session < 16) × PlanWithin copies records depth rest

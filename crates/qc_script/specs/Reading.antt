@@ -9,6 +9,7 @@ use Rattle.qc_event.specs.declared.table.Row.{Row}
 use Rattle.qc_script.specs.JsonText.{Read}
 use Rattle.qc_script.specs.ScriptText.{script_of}
 use Rattle.qc_script.specs.Plan.{ScriptPlan, SessionsWithin}
+use Rattle.qc_script.specs.BodyNumbers.{SessionsNumberedOn}
 use Rattle.qc_script.specs.declared.bad_script.BadScript.{BadScript}
 use Rattle.qc_script.specs.declared.bad_script.BadScript.TheVariants.{NotJson, TooLong, Memory}
 
@@ -59,8 +60,8 @@ texts_of names = map (λ n. n.now) names
 abbrev pub IsProperRow : ℕ → Row → Type 0
 IsProperRow copies row = IsConfigFor copies row.config
 
--- A script with 1 to 16 copies, 1 to 64 records and 1 to 16 sessions, whose senders wait for 1 to 64 due steps, and whose
--- sessions are about these records at these copies.
+-- A script with 1 to 16 copies, 1 to 64 records and 1 to 16 sessions, whose senders wait for 1 to 64 due steps, whose
+-- sessions are about these records at these copies, and whose bodies are numbered from 0 on through all sessions.
 pub record IsProper (s : ScriptPlan) : Type 0 where
   pub some_copy : 0 < s.table.copies
   pub few_copies : s.table.copies ≤ 16
@@ -72,3 +73,4 @@ pub record IsProper (s : ScriptPlan) : Type 0 where
   pub some_sessions : 0 < length s.sessions
   pub few_sessions : length s.sessions ≤ 16
   pub sessions : SessionsWithin s.table.copies (length s.table.records) s.sessions
+  pub numbered : SessionsNumberedOn 0 s.sessions

@@ -15,7 +15,7 @@ use Rattle.qc_net.specs.declared.link.Fate.{Fate}
 use Rattle.qc_net.specs.declared.link.Fate.TheVariants.{Deliver, LoseAsk, LoseReply, Hold, Twice as TwoTimes}
 use Rattle.qc_script.specs.declared.bad_script.BadScript.TheVariants.{Shape, Limit, Config, Unknown, Twice}
 use Rattle.qc_script.specs.declared.bad_script.Member.TheVariants as part
-use Rattle.qc_script.specs.Plan.{Plan, Numbered, SessionPlan, ScriptPlan, manage_then, change_then, need_then, plus, minus}
+use Rattle.qc_script.specs.Plan.{Plan, Numbered, SessionPlan, ScriptPlan, manage_then, change_then, need_then, plus, minus, row_of as row_of_bodies}
 use Rattle.qc_script.specs.JsonText.{Text, Read, ◌>>=◌, must, each, object_of, list_of, digits_of, member_at, number_at, text_at, list_at, within, limited, member_or}
 
 -- RECORDS
@@ -131,10 +131,19 @@ Front = Plan → Plan
 abbrev pub Counted : Type 0 → Type 0
 Counted A = Read (A × ℕ)
 
+-- each element of a list, in order, where the numbers of bodies go on from one element to the next
+abbrev pub each_counted : {A : Type 0} → (ℕ → Data → Counted A) → ℕ → List Data → Counted (List A)
+each_counted f next [] = Ok ([], next)
+each_counted f next (d ∷ ds) = f next d >>= λ x. each_counted f x.1 ds >>= λ rest. Ok (x.0 ∷ rest.0, rest.1)
+
 -- what steps may speak of: the records and copies of a table, and so many sessions
 pub record Scope : Type 0 where
   pub table : Table
   pub sessions : ℕ
+
+-- a step, or a part of one, that is a list
+abbrev pub list_in_step : Data → Read (List Data)
+list_in_step d = ok_or (list_of d) (Shape part.Step)
 
 -- ["read", R]
 abbrev pub read_of : Table → ℕ → Data → Counted Front
@@ -183,6 +192,20 @@ child_of body next d = do
   inner ← body next d
   Ok (Plan.child_then inner.0.number inner.0.tries inner.0.must inner.0.plan, inner.1)
 
+-- the elements of a list of 1 to 8 branches
+abbrev pub branches_of : Data → Read (List Data)
+branches_of d = do
+  branches ← list_in_step d
+  _ ← within part.Branches 1 8 (length branches)
+  Ok branches
+
+-- ["par", [body, ..]], where each body is read so
+abbrev pub par_of : (ℕ → Data → Counted Numbered) → ℕ → Data → Counted Front
+par_of body next d = do
+  branches ← branches_of d
+  bodies ← each_counted body next branches
+  Ok (Plan.par_then (row_of_bodies bodies.0), bodies.1)
+
 -- ["abort", k], in a body of this depth
 abbrev pub abort_of : ℕ → ℕ → Data → Counted Front
 abort_of depth next levels = do
@@ -209,6 +232,7 @@ abbrev pub two_of : (ℕ → Data → Counted Numbered) → ℕ → Scope → �
 two_of body depth scope next word d =
     if is_word (codes "read") word then read_of scope.table next d
     else if is_word (codes "child") word then child_of body next d
+    else if is_word (codes "par") word then par_of body next d
     else if is_word (codes "abort") word then abort_of depth next d
     else if is_word (codes "crash") word then crash_of scope.table.copies next d
     else if is_word (codes "kill") word then kill_of scope.sessions next d
@@ -232,7 +256,7 @@ step_in body depth scope next _ = Err (Shape part.Step)
 
 -- a step of a body of this depth, where bodies in it are read so
 abbrev pub step_of : (ℕ → Data → Counted Numbered) → ℕ → Scope → ℕ → Data → Counted Front
-step_of body depth scope next d = ok_or (list_of d) (Shape part.Step) >>= step_in body depth scope next
+step_of body depth scope next d = list_in_step d >>= step_in body depth scope next
 
 abbrev pub steps_of : (ℕ → Data → Counted Numbered) → ℕ → Scope → ℕ → List Data → Counted Plan
 steps_of body depth scope next [] = Ok (Plan.done, next)
@@ -265,11 +289,6 @@ body_of (suc below) around scope next d = do
   steps ← list_at (codes "steps") part.Steps d
   plan ← steps_of (body_of below (around * tries) scope) (16 - below) scope (next + 1) steps
   Ok (record { number = next; tries = tries; must = needed; plan = plan.0 }, plan.1)
-
--- each element of a list, in order, where the numbers of bodies go on from one element to the next
-abbrev pub each_counted : {A : Type 0} → (ℕ → Data → Counted A) → ℕ → List Data → Counted (List A)
-each_counted f next [] = Ok ([], next)
-each_counted f next (d ∷ ds) = f next d >>= λ x. each_counted f x.1 ds >>= λ rest. Ok (x.0 ∷ rest.0, rest.1)
 
 -- the bodies of tops, the first of them with this number
 abbrev pub bodies_of : Scope → ℕ → List Data → Counted (List Numbered)

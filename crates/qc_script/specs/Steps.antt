@@ -6,7 +6,7 @@ use Rattle.qc_script.specs.declared.script.Script.{Script}
 use Rattle.qc_script.specs.declared.script.Session.{Session}
 use Rattle.qc_script.specs.declared.script.Step.{Step, fold-Step, Step-F}
 use Rattle.qc_script.specs.declared.script.Step.TheOpen.{Body-F}
-use Rattle.qc_script.specs.Plan.{Plan, Numbered, SessionPlan, ScriptPlan, manage_then, change_then, need_then, plus, minus}
+use Rattle.qc_script.specs.Plan.{Plan, Numbered, SessionPlan, ScriptPlan, manage_then, change_then, need_then, plus, minus, row_of}
 
 -- a step, before the plan of the steps after it
 abbrev pub before : Step-F (Plan → Plan) Numbered → Plan → Plan
@@ -17,6 +17,7 @@ before (Step-F.Sub rec value) rest = change_then rec (λ old. minus old value) r
 before (Step-F.Need rec value) rest = need_then rec value rest
 before (Step-F.Reconf rec config) rest = manage_then (kind.Reconf rec config) rest
 before (Step-F.Child body) rest = Plan.child_then body.number body.tries body.must body.plan rest
+before (Step-F.Par bodies) rest = Plan.par_then (row_of bodies.items) rest
 before (Step-F.Abort levels) rest = Plan.abort_then levels rest
 before (Step-F.Crash copy) rest = Plan.crash_then copy rest
 before (Step-F.Kill session) rest = Plan.kill_then session rest

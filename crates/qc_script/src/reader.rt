@@ -8,6 +8,7 @@ ghost use Rattle.qc_script.specs.ScriptText as script;
 ghost use Rattle.qc_script.specs.Steps.{plan_of_session, plan_of_script};
 ghost use Rattle.qc_script.specs.Reading.{Gives, IsScript, IsRefused, IsProper};
 
+mod bodies;
 mod object;
 mod rows;
 mod scope;

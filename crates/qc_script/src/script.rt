@@ -19,6 +19,8 @@ pub enum Step {
     Reconf { rec: u8, config: Config },
     /// Runs a child.
     Child(Body),
+    /// Runs children at once.
+    Par(Vec<Body>),
     /// Aborts the ancestor this number of levels up; 0 is the transaction itself.
     Abort { levels: u8 },
     /// Has a copy forget its locks and its grants.

@@ -3,6 +3,7 @@ ghost use Rattle.std.specs.Prelude.{◌≡◌};
 ghost use Rattle.qc_script.specs.Client.{View};
 
 use qc_event::{Cause, Config, Lack, Name, Short};
+use std::alloc::AllocError;
 use thiserror::Error;
 
 /// Why a call was refused.
@@ -43,11 +44,12 @@ pub enum TxNo {
     Room,
 }
 
-/// Carries out what a session asks, in one transaction after another. No call changes what stays of its client, and the
-/// history that it has seen only grows. Each answer is the one that the history then seen gives. Where the link is told,
+/// Carries out what a session asks, in one transaction after another. No call but `branch` and `merge` changes what stays of
+/// its client, and the history that it has seen only grows. Each answer is the one that the history then seen gives. Where the link is told,
 /// the requests go on to meet its fates.
 pub trait Tx: Sized {
-    ghost use Rattle.std.specs.Prelude.{◌≡◌, ◌<◌, ◌⊎◌, [], length, None, IfOk, IfErr, OnOk, IsTrue, false};
+    ghost use Rattle.std.specs.Prelude.{◌≡◌, ◌==◌, ◌<◌, ◌⊎◌, [], length, None, IfOk, IfErr, OnOk, IsTrue, true, false};
+    ghost use Rattle.std.specs.List.{list_any};
     ghost use Rattle.qc_event.specs.declared.event.Answer.TheVariants as answer;
     ghost use Rattle.qc_event.specs.declared.event.Cause.TheVariants as cause;
     ghost use Rattle.qc_event.specs.declared.event.Kind.TheVariants as kind;
@@ -55,7 +57,7 @@ pub trait Tx: Sized {
     ghost use Rattle.qc_event.specs.History.{is_child};
     ghost use Rattle.qc_event.specs.Standing.{Started, IsUser};
     ghost use Rattle.qc_script.specs.Numbers.{Numbers};
-    ghost use Rattle.qc_script.specs.Calls.{Began, Answers, Fails, Aborts, IsGrounded, IsForChild, WasRefused, NotAborted, Committed, NotCommitted, MeetsLink, IsOfSession, Marks, MarksNone};
+    ghost use Rattle.qc_script.specs.Calls.{Began, Answers, Fails, Aborts, IsGrounded, IsForChild, WasRefused, NotAborted, Committed, NotCommitted, MeetsLink, IsOfSession, Marks, MarksNone, Branched, Showed, Merged};
     ghost use Rattle.qc_script.specs.Client.{Made, View, has_marked_itself};
     ghost use Rattle.qc_script.specs.Plan.{CopyFits, KindFits};
 
@@ -161,6 +163,35 @@ pub trait Tx: Sized {
         ensures client { (view self.new).client ≡ (view self.old).client }
         ensures ok { OnOk result (Marks (view self.old) (view self.new) by.now session) }
         ensures err { IfErr result (MarksNone (view self.old) (view self.new)) };
+
+    /// A branch of its client, which carries out what is asked below a transaction, at the same time as others: it has seen the
+    /// same, stands under a number of its own, and begins its link's fates anew. Want of memory leaves all as it was.
+    fn branch(&mut self, of: &Name) -> Result<Self, AllocError>
+        requires met { MeetsLink (view self.old) }
+        ensures met { MeetsLink (view self.new) }
+        ensures branch_met { IfOk result (λ b. MeetsLink (view b)) }
+        ensures ok { IfOk result (λ b. Branched (view self.old) (view self.new) of.now (view b)) }
+        ensures err { IfErr result (λ _. view self.new ≡ view self.old) };
+
+    /// Both have then seen the history as it stands at one step.
+    fn show(&mut self, branch: &mut Self)
+        requires met { MeetsLink (view self.old) }
+        requires branch_met { MeetsLink (view branch.old) }
+        ensures met { MeetsLink (view self.new) }
+        ensures branch_met { MeetsLink (view branch.new) }
+        ensures showed { Showed (view self.old) (view self.new) (view branch.old)
+            (view branch.new) };
+
+    /// Merges a branch of its own that has merged all of its own.
+    fn merge(&mut self, branch: Self)
+        requires out { list_any (λ k. k == (view branch).client.number)
+            (view self.old).client.out ≡ true }
+        requires none_out { (view branch).client.out ≡ [] }
+        requires net { (view branch).client.net ≡ (view self.old).client.net }
+        requires met { MeetsLink (view self.old) }
+        requires branch_met { MeetsLink (view branch) }
+        ensures met { MeetsLink (view self.new) }
+        ensures merged { Merged (view self.old) (view branch) (view self.new) };
 
     /// Has a copy forget its locks and its grants, which stand in its journal: it reads them there before it serves
     /// again. It makes nothing, sees nothing, and has no answer.

@@ -9,9 +9,9 @@ ghost use Rattle.qc_script.specs.Steps.{plan_of_session};
 ghost use Rattle.qc_script.specs.Reading.{Gives};
 
 use crate::bad_script::{BadScript, Member};
+use crate::reader::bodies::bodies_in;
 use crate::reader::object::{check_object, check_within, list_at, number_or};
 use crate::reader::scope::Scope;
-use crate::reader::steps::bodies_of;
 use crate::script::Session;
 use qc_net::Fate;
 use serde_json::Value;
@@ -102,7 +102,7 @@ fn session_of(
     check_object(value, Member::Session, &["tops"], &["net"])?;
     let Net { fates, hold } = net_at(alloc, value)?;
     let list = list_at(value, "tops", Member::Tops)?;
-    let tops = bodies_of(alloc, scope, next, list)?;
+    let tops = bodies_in(alloc, 16, 1, scope, next, list)?;
     Ok(Session { fates, hold, tops })
 }
 

@@ -1,13 +1,16 @@
 -- What each function of the cycle returns is what the definition of its name says.
-use Rattle.std.proofs.Common.{◌≡◌, ◌+◌, ◌-◌, sym, ◌∙◌, inl, inr, arith}
+use Rattle.std.proofs.Common.{◌≡◌, ◌+◌, ◌-◌, map, sym, ◌∙◌, subst, inl, inr, arith}
 use Rattle.std.proofs.lemmas.Grind.{common_steps}
 use Rattle.std.proofs.lemmas.Result.{err_from_is_err_and}
 use Rattle.std.proofs.lemmas.Bool.{ltb-true, ltb-false}
 use Rattle.qc_script.specs.ScriptText as script
+use Rattle.qc_script.specs.Reading.{Fails}
+use Rattle.qc_script.specs.Steps.{numbered}
+use Rattle.qc_script.proofs.Counted.{counted_next, counted_end, counted_refused}
 use Rattle.qc_script.proofs.Plans.{numbered_roll, with_steps-next, with_steps-end}
 use Rattle.qc_script.proofs.Refusals.{tries_refused, must_refused, list_refused, steps_refused, body_read, step_in-other}
-use Rattle.qc_script.proofs.reader.steps.+bodies.Goals as goal
-use Rattle.qc_script.proofs.reader.steps.+bodies.Goals.{step_in-in_default-via-then-parts-lt2, step_in-in_default-via-else-parts-lt2+else-parts-lt3+else-parts-lt4}
+use Rattle.qc_script.proofs.reader.bodies.+bodies.Goals as goal
+use Rattle.qc_script.proofs.reader.bodies.+bodies.Goals.{step_in-in_default-via-then-parts-lt2, step_in-in_default-via-else-parts-lt2+else-parts-lt3+else-parts-lt4}
 
 pub step_in-returns-in_default : goal.step_in-returns-in_default
 step_in-returns-in_default t c =
@@ -70,3 +73,19 @@ body_of-returns t c =
       tried = c.in_ok-tries.ensures.exact;
       needed = c.in_ok-must.ensures.exact;
     }) c.in_ok-list.ensures.exact (rw next at c.in_ok-steps.ensures))
+
+pub bodies_in-loop-value-preserved : goal.bodies_in-loop-value-preserved
+bodies_in-loop-value-preserved t c =
+    rw c.in_ok-push.ensures.items
+    (sym (counted_next _ _ _ numbered c.loop-value.bodies.items _ c.args.list.now c.loop-value.value-index c.value-item.result (omega arith) c.value-item.is c.in_ok-body.ensures) ∙ c.loop-value.invariant)
+
+pub bodies_in-returns : goal.bodies_in-returns
+bodies_in-returns t c =
+    sym c.loop-value.invariant ∙ counted_end _ _ (map numbered c.loop-value.bodies.items) c.args.list.now c.loop-value.value-index c.loop-value-test.false
+
+pub bodies_in-returns-in_err-body : goal.bodies_in-returns-in_err-body
+bodies_in-returns-in_err-body t c =
+    let p = err_from_is_err_and c.from_residual.result c.from_residual.ensures.1 in
+    rw (p.1, p.2)
+    (subst (λ r. Fails c.in_err-body.field-0.0 r) c.loop-value.invariant
+    (counted_refused _ _ (map numbered c.loop-value.bodies.items) _ _ _ _ c.loop-value-test.true c.value-item.is c.in_err-body.ensures))
