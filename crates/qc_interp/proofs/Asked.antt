@@ -20,16 +20,16 @@ use Rattle.qc_script.specs.Client.{Client, mine, Made}
 use Rattle.qc_interp.specs.Follows.{GoesOn, GoesOnAfter, AfterTries, AfterRow, RunsRow, FollowsPlan, StopsEarly, StopsBefore, WasAsked, WasKilled}
 use Rattle.qc_script.specs.Plan.{Plan}
 use Rattle.qc_interp.specs.Reach.{Reach}
-use Rattle.qc_interp.specs.Rows.{OneOf, each_tried, first_failed, tries_among}
+use Rattle.qc_interp.specs.Rows.{OneOf, each_begun, each_tried, first_failed, tries_among}
 use Rattle.qc_interp.specs.Tries.{Tries, TriesDo, is_tried_again}
 use Rattle.qc_script.specs.Calls.{is_asked}
 use Rattle.qc_interp.proofs.Growth.{made_is}
 use Rattle.qc_interp.specs.Deeds.{Deed, deeds, deed_end, OfChild}
 use Rattle.qc_interp.proofs.Deeds.{deeds_still}
 use Rattle.qc_interp.proofs.Mine.{Closed, CommittedSince, how_still, end_some}
-use Rattle.qc_interp.proofs.Rows.{IsSameTry, one_map, among_alike, each_alike, at_once_alike, same_front}
+use Rattle.qc_interp.proofs.Rows.{IsSameTry, one_map, among_alike, begun_alike, each_alike, at_once_alike, same_front}
 use Rattle.qc_interp.proofs.Stopping.{stopped_runs}
-use Rattle.qc_interp.proofs.Followed.{IsTryOf}
+use Rattle.qc_interp.proofs.Followed.{IsTryBeside, IsRowTry}
 use Rattle.qc_interp.proofs.Still.{deed_again_still, child_still, plan_still, same_tries, first_failed_still}
 
 abbrev pub NoOne : Name → Name → Type 0
@@ -114,9 +114,13 @@ pub accesses_unasked : (m : Name) (inner rest : Past) → AllByRecursion (λ (e 
 accesses_unasked m [] rest all more = more
 accesses_unasked m (e ∷ inner) rest all more = (access_unasked m e.event all.0, accesses_unasked m inner rest all.1 more)
 
+-- by one of the branches at once, each of which was begun
+abbrev BranchAsks : Past → Plan → List Deed → Name → Name → Type 0
+BranchAsks past branches here by target = IsTrue (each_begun past branches here) × RowAsks past branches here by target
+
 -- by branches at once, or behind them
 abbrev RowDoes : Past → Plan → List Deed → Name → Name → List Deed → Type 0 → Type 0
-RowDoes past branches here by target further Does = DoesInRow past (each_tried past false branches here) (first_failed past branches here) (RowAsks past branches here by target) further Does
+RowDoes past branches here by target further Does = DoesInRow past (each_tried past false branches here) (first_failed past branches here) (BranchAsks past branches here by target) further Does
 
 -- FOR EVER
 
@@ -148,12 +152,21 @@ module _ (s : ℕ) (p : Entry → Bool) (setting : Setting) (newer past : Past) 
       by_test true h d more = more h d
       by_test false h d more = rest (Some c) cs h d
 
-  try_asks_still : (number : ℕ) (inner : Plan) → ((c : Name) → Closed old c → FollowsPlan s old c inner (deeds old c) (end old c) → Asks old c inner (deeds old c) by target → Asks now c inner (deeds old c) by target)
-      → (d : Deed) → OfChild (IsTryOf Reach.to_the_end s old number inner) d → OfChild (Closed old) d × (OfChild (λ c. Asks old c inner (deeds old c) by target) d → OfChild (λ c. Asks now c inner (deeds now c) by target) d)
-  try_asks_still number inner step (Deed.child c) t =
-      let closed = (child_still s p setting newer past legal c inner (plan_still s p setting newer past legal c inner) t.1).1 in
-      (closed, λ a. subst (λ xs. Asks now c inner xs by target) (sym (deeds_still p setting newer past c legal closed)) (step c closed t.1 a))
-  try_asks_still number inner step (Deed.mark m) t = absurd t
+  child_asks_still : (inner : Plan) → ((c : Name) → Closed old c → FollowsPlan s old c inner (deeds old c) (end old c) → Asks old c inner (deeds old c) by target → Asks now c inner (deeds old c) by target)
+      → (c : Name) → FollowsPlan s old c inner (deeds old c) (end old c) → Closed old c × (Asks old c inner (deeds old c) by target → Asks now c inner (deeds now c) by target)
+  child_asks_still inner step c f =
+      let closed = (child_still s p setting newer past legal c inner (plan_still s p setting newer past legal c inner) f).1 in
+      (closed, λ a. subst (λ xs. Asks now c inner xs by target) (sym (deeds_still p setting newer past c legal closed)) (step c closed f a))
+
+  try_asks_still : (n : Name) (number : ℕ) (inner : Plan) → ((c : Name) → Closed old c → FollowsPlan s old c inner (deeds old c) (end old c) → Asks old c inner (deeds old c) by target → Asks now c inner (deeds old c) by target)
+      → (d : Deed) → OfChild (IsTryBeside Reach.to_the_end s old n number inner) d → OfChild (Closed old) d × (OfChild (λ c. Asks old c inner (deeds old c) by target) d → OfChild (λ c. Asks now c inner (deeds now c) by target) d)
+  try_asks_still n number inner step (Deed.child c) t = child_asks_still inner step c t.2
+  try_asks_still n number inner step (Deed.mark m) t = absurd t
+
+  row_try_asks_still : (number : ℕ) (inner : Plan) → ((c : Name) → Closed old c → FollowsPlan s old c inner (deeds old c) (end old c) → Asks old c inner (deeds old c) by target → Asks now c inner (deeds old c) by target)
+      → (d : Deed) → OfChild (IsRowTry Reach.to_the_end s old true number inner) d → OfChild (λ c. Asks old c inner (deeds old c) by target) d → OfChild (λ c. Asks now c inner (deeds now c) by target) d
+  row_try_asks_still number inner step (Deed.child c) t = (child_asks_still inner step c t.1).1
+  row_try_asks_still number inner step (Deed.mark m) t = absurd t
 
   does_after_still : (n child : Name) (Follows Does DoesNow : Type 0) (further : List Deed) (how : Option How) → (Follows → Does → DoesNow) → (o : Option How) → end old child ≡ o → GoesOnAfter Reach.to_the_end old n child o Follows further how → DoesOn o (λ given. Does) → DoesOn (end now child) (λ given. DoesNow)
   does_after_still n child Follows Does DoesNow further how step None is follows h = absurd h
@@ -191,8 +204,8 @@ module _ (s : ℕ) (p : Entry → Bool) (setting : Setting) (newer past : Past) 
   does_out false failed One further Does h = inr h.0
 
   does_in_row_still : (n : Name) (branches : Plan) (here further : List Deed) (how : Option How) (Follows Does DoesNow : Type 0) → AllByRecursion (IsSameTry old now) here → (tried : Bool)
-      → (RowAsks old branches here by target → RowAsks now branches here by target) → (Follows → Does → DoesNow) → AfterRow Reach.to_the_end old n tried (first_failed old branches here) Follows further how
-      → DoesInRow old tried (first_failed old branches here) (RowAsks old branches here by target) further Does → DoesInRow now tried (first_failed now branches here) (RowAsks now branches here by target) further DoesNow
+      → (BranchAsks old branches here by target → BranchAsks now branches here by target) → (Follows → Does → DoesNow) → AfterRow Reach.to_the_end old n tried (first_failed old branches here) Follows further how
+      → DoesInRow old tried (first_failed old branches here) (BranchAsks old branches here by target) further Does → DoesInRow now tried (first_failed now branches here) (BranchAsks now branches here by target) further DoesNow
   does_in_row_still n branches here further how Follows Does DoesNow same true one step h (inl d) = inl (one d)
   does_in_row_still n branches here further how Follows Does DoesNow same true one step h (inr d) =
       inr (subst (λ o. DoesAfter now o true DoesNow) (first_failed_still s p setting newer past legal n branches here further how Follows same h)
@@ -205,24 +218,24 @@ module _ (s : ℕ) (p : Entry → Bool) (setting : Setting) (newer past : Past) 
     plan_asks_still n closed (Plan.manage_by k next) [] how h d = absurd d
     plan_asks_still n closed (Plan.manage_by k next) (Deed.child c ∷ cs) how h d =
         does_still n c (λ given. FollowsPlan s old n (next given) cs how) (λ given. Asks old n (next given) cs by target) (λ given. Asks now n (next given) cs by target) cs how
-        (λ given. plan_asks_still n closed (next given) cs how) (end old c) refl h.1 d
+        (λ given. plan_asks_still n closed (next given) cs how) (end old c) refl h.2 d
     plan_asks_still n closed (Plan.manage_by k next) (Deed.mark m ∷ cs) how h d = absurd h
     plan_asks_still n closed (Plan.child_then number tries must inner rest) cs how h d =
-        tries_do_still (OfChild (IsTryOf Reach.to_the_end s old number inner)) (OfChild (λ c. Asks old c inner (deeds old c) by target)) (OfChild (λ c. Asks now c inner (deeds now c) by target)) (StopsEarly n how) (λ last further. AfterTries Reach.to_the_end old n last must (FollowsPlan s old n rest further how) further how)
+        tries_do_still (OfChild (IsTryBeside Reach.to_the_end s old n number inner)) (OfChild (λ c. Asks old c inner (deeds old c) by target)) (OfChild (λ c. Asks now c inner (deeds now c) by target)) (StopsEarly n how) (λ last further. AfterTries Reach.to_the_end old n last must (FollowsPlan s old n rest further how) further how)
         (λ last further. DoesAfter old last must (Asks old n rest further by target)) (λ last further. DoesAfter now last must (Asks now n rest further by target))
-        (try_asks_still number inner (λ c below. plan_asks_still c below inner (deeds old c) (end old c)))
+        (try_asks_still n number inner (λ c below. plan_asks_still c below inner (deeds old c) (end old c)))
         (λ last further f a. does_behind_still n last must (FollowsPlan s old n rest further how) (Asks old n rest further by target) (Asks now n rest further by target) further how (plan_asks_still n closed rest further how) f a) None tries cs h d
     plan_asks_still n closed (Plan.par_then branches rest) cs how h d =
-        let same = same_tries s p setting newer past legal branches h.0 h.3 h.4 in
-        let front = same_front old branches h.0 h.1 d.0 d.1 (sym h.2 ∙ d.2) h.3 d.3 (row_out n (each_tried old false branches h.0) (first_failed old branches h.0) _ h.1 how h.5) (does_out (each_tried old false branches d.0) (first_failed old branches d.0) _ d.1 _ d.4) in
+        let same = same_tries s p setting newer past legal (each_begun old branches h.0) branches h.0 h.3.0 h.4 in
+        let front = same_front old branches h.0 h.1 d.0 d.1 (sym h.2 ∙ d.2) h.3.0 d.3 (row_out n (each_tried old false branches h.0) (first_failed old branches h.0) _ h.1 how h.5) (does_out (each_tried old false branches d.0) (first_failed old branches d.0) _ d.1 _ d.4) in
         let there = subst (λ l. RowDoes old branches l by target d.1 (Asks old n rest d.1 by target)) (sym front.0) d.4 in
         let does = subst (λ l. RowDoes old branches h.0 by target l (Asks old n rest l by target)) (sym front.1) there in (
           h.0,
           h.1,
           h.2,
-          sym (at_once_alike old now branches h.0 same) ∙ h.3,
-          subst (λ b. DoesInRow now b (first_failed now branches h.0) (RowAsks now branches h.0 by target) h.1 (Asks now n rest h.1 by target)) (each_alike old now false branches h.0 same)
-              (does_in_row_still n branches h.0 h.1 how (FollowsPlan s old n rest h.1 how) (Asks old n rest h.1 by target) (Asks now n rest h.1 by target) same (each_tried old false branches h.0) (row_asks_still branches h.0 same h.4) (plan_asks_still n closed rest h.1 how) h.5 does),
+          sym (at_once_alike old now branches h.0 same) ∙ h.3.0,
+          subst (λ b. DoesInRow now b (first_failed now branches h.0) (BranchAsks now branches h.0 by target) h.1 (Asks now n rest h.1 by target)) (each_alike old now false branches h.0 same)
+              (does_in_row_still n branches h.0 h.1 how (FollowsPlan s old n rest h.1 how) (Asks old n rest h.1 by target) (Asks now n rest h.1 by target) same (each_tried old false branches h.0) (λ asks. (sym (begun_alike old now branches h.0 same) ∙ asks.0, row_asks_still branches h.0 same (subst (λ b. RunsRow Reach.to_the_end s old b branches h.0) asks.0 h.4) asks.1)) (plan_asks_still n closed rest h.1 how) h.5 does),
         )
     plan_asks_still n closed (Plan.abort_then levels rest) [] how h d = (d.0, d.1, unkilled_still n closed d.2)
     plan_asks_still n closed (Plan.abort_then levels rest) (c ∷ cs) how h d = absurd d
@@ -236,10 +249,10 @@ module _ (s : ℕ) (p : Entry → Bool) (setting : Setting) (newer past : Past) 
         by_test true x more = more (subst (λ l. FollowsPlan s old n rest l how) (sym x.0) (stopped_runs Reach.to_the_end s old n how x.1 rest)) d
         by_test false x more = more x d
 
-    row_asks_still : (branches : Plan) (ds : List Deed) → AllByRecursion (IsSameTry old now) ds → RunsRow Reach.to_the_end s old branches ds → RowAsks old branches ds by target → RowAsks now branches ds by target
+    row_asks_still : (branches : Plan) (ds : List Deed) → AllByRecursion (IsSameTry old now) ds → RunsRow Reach.to_the_end s old true branches ds → RowAsks old branches ds by target → RowAsks now branches ds by target
     row_asks_still (Plan.child_then number tries must inner others) ds same h (inl one) =
         inl (subst (OneOf (OfChild (λ c. Asks now c inner (deeds now c) by target))) (among_alike old now number ds same)
-        (one_map _ _ _ (λ d t. (try_asks_still number inner (λ c below. plan_asks_still c below inner (deeds old c) (end old c)) d t).1) (tries_among old number ds) h.0 one))
+        (one_map _ _ _ (row_try_asks_still number inner (λ c below. plan_asks_still c below inner (deeds old c) (end old c))) (tries_among old number ds) h.0 one))
     row_asks_still (Plan.child_then number tries must inner others) ds same h (inr more) = inr (row_asks_still others ds same h.1 more)
     row_asks_still Plan.done ds same h d = absurd d
     row_asks_still (Plan.manage_by k next) ds same h d = absurd d

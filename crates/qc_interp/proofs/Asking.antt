@@ -34,6 +34,7 @@ use Rattle.qc_interp.proofs.Mine.{kept_some}
 use Rattle.qc_interp.proofs.Scope.{at_scope, in_or_upward}
 use Rattle.qc_interp.proofs.Adding.{asks_stays, one_stays, over_later, over_ended}
 use Rattle.qc_interp.proofs.Turning.{InTurn, Alone, act_turns, itself}
+use Rattle.qc_interp.proofs.Seats.{later_seat}
 use Rattle.qc_interp.proofs.Growth.{made_is, made_later, ours_before}
 use Rattle.qc_interp.proofs.Followed.{follows_runs}
 use Rattle.qc_event.proofs.Orderly.{KeepsOrder}
@@ -115,7 +116,7 @@ module _ (c : Client) (of : Name) where
         by_test true so None x = inr (ap not (other_length of p (λ l. omega (arith, l, ap length (same_is t p so), shorter))))
 
     pub leaves_asked : Leaves c of before mid
-    leaves_asked = record { turns = λ ours turns alone. subst (λ h. InTurn h × Alone h of) (sym now_is) (act_turns (by_client c (event.End t (Abort (cause.Asked of)))) (mine c before) of of refl refl turns alone alone); later = made_later c _ before mid m; inside = ap (list_all (stays_in (scope c of))) m.made ∙ ap (λ b. b && true) (asks_stays (scope c of) t of c.number (in_or_upward c of t s is nonroot) (at_scope c of)); over = λ was r. over_later c before mid (made_later c _ before mid m) of (was (sym (ready_asked of) ∙ r)); above = λ p r so more. record { deeds = deeds_asked p; ready = ready_asked p; unended = unended_asked p } }
+    leaves_asked = record { turns = λ ours turns alone. subst (λ h. InTurn h × Alone h of) (sym now_is) (act_turns (by_client c (event.End t (Abort (cause.Asked of)))) (mine c before) of of refl refl refl turns alone alone); later = made_later c _ before mid m; inside = ap (list_all (stays_in (scope c of))) m.made ∙ ap (λ b. b && true) (asks_stays (scope c of) t of c.number (in_or_upward c of t s is nonroot) (at_scope c of)); over = λ was r. over_later c before mid (made_later c _ before mid m) of (was (sym (ready_asked of) ∙ r)); above = λ p r so more. record { deeds = deeds_asked p; ready = ready_asked p; unended = unended_asked p } }
 
     pub asked_one : AllAsked c before mid (λ by x. (by ≡ of) × (x ≡ t))
     asked_one = asked_made c _ before mid _ m (inr (refl, refl), tt)
@@ -124,6 +125,7 @@ module _ (c : Client) (of : Name) where
     runs_asked runs = record {
       legal = m.legal;
       user = subst (λ h. Started h of (λ b. IsOfSession c.session b.kind)) (sym m.grown) (started_still m.newer before of _ runs.user);
+      seat = later_seat c before mid (made_later c _ before mid m) of c.number runs.seat;
       nonroot = runs.nonroot;
       below = runs.below;
       above = λ p r so more. (unended_asked p (runs.above p r so more).0, ready_asked p ∙ (runs.above p r so more).1);
@@ -254,7 +256,7 @@ module _ (c : Client) (of : Name) where
     leaves_ready : (reach : Reach) → AtTheEnd reach (is_over now of ≡ true) → LeavesAt reach c of before now
     leaves_ready reach over = record {
       turns = λ ours turns alone.
-          let t = subst (λ h. InTurn h × Alone h of) (sym ready_now) (act_turns (by_client c (event.Ready of)) (mine c before) of of refl refl turns alone alone) in
+          let t = subst (λ h. InTurn h × Alone h of) (sym ready_now) (act_turns (by_client c (event.Ready of)) (mine c before) of of refl refl refl turns alone alone) in
           (t.0, at_any reach _ t.1);
       later = made_later c _ before now m;
       inside = ap (list_all (stays_in (scope c of))) m.made ∙ one_stays (scope c of) of (by_client c (event.Ready of)) refl refl (at_scope c of);

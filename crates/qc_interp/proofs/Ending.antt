@@ -19,7 +19,6 @@ use Rattle.qc_event.specs.Legal.{Legal, MayHappen, MayEnd}
 use Rattle.qc_event.specs.Commits.{MayCommit}
 use Rattle.qc_event.specs.Standing.{Started, IsUser, open_child}
 use Rattle.qc_event.proofs.Absent.{if_not, other_length}
-use Rattle.qc_event.proofs.LastNumber.{is_ancestor-append}
 use Rattle.qc_event.proofs.Lawful.{lawful, ends_open, committed_is}
 use Rattle.qc_event.proofs.LegalOrderly.{legal_orderly}
 use Rattle.qc_event.proofs.OneEntry.{end_now, end_step, ending, marking, stays_some, some_or_none, first_is, if_is}
@@ -41,6 +40,7 @@ use Rattle.qc_interp.proofs.Turning.{InTurn, Alone, end_turns, alone_below, itse
 use Rattle.qc_interp.specs.Tries.{is_tried_again}
 use Rattle.qc_script.specs.declared.tx.TxNo.{TxNo}
 use Rattle.qc_script.specs.declared.tx.TxNo.TheVariants as tx_no
+use Rattle.qc_interp.proofs.Seats.{later_seat}
 use Rattle.qc_interp.proofs.Growth.{made_is, made_later, later_itself, later_trans, ours_before, own_found}
 use Rattle.qc_interp.specs.Deeds.{deeds}
 use Rattle.qc_interp.proofs.Deeds.{deeds_quiet}
@@ -219,6 +219,7 @@ module _ (c : Client) (of : Name) where
     runs_still runs = record {
       legal = m.legal;
       user = subst (λ h. Started h of (λ b. IsOfSession c.session b.kind)) (sym m.grown) (started_still m.newer before of _ runs.user);
+      seat = later_seat c before now (made_later c [] before now m) of c.number runs.seat;
       nonroot = runs.nonroot;
       below = runs.below;
       above = λ p r is far. subst (λ h. IsUnended p (end h p) × (is_ready h p ≡ false)) (sym still) (runs.above p r is far);

@@ -28,10 +28,10 @@ use Rattle.qc_script.specs.Plan.{Plan, Numbered}
 use Rattle.qc_script.specs.declared.tx.TxNo.{TxNo}
 use Rattle.qc_script.specs.declared.tx.TxNo.TheVariants as tx_no
 use Rattle.qc_interp.specs.Deeds.{Deed, deeds}
-use Rattle.qc_interp.specs.Follows.{WasAsked, GoesOnAfter, AfterTries, is_of_orphan, FollowsPlan}
+use Rattle.qc_interp.specs.Follows.{WasAsked, GoesOnAfter, AfterTries, is_of_orphan, WasOrphan, FollowsPlan}
 use Rattle.qc_interp.specs.Asking.{DoesAfter}
 use Rattle.qc_interp.specs.Reach.{Reach}
-use Rattle.qc_interp.specs.Running.{Runs, CameTo, Ended, CutOff, WentOn, HasFailed, WasOrphan, QuitFor, Stopped, child_step, Failed}
+use Rattle.qc_interp.specs.Running.{Runs, CameTo, Ended, CutOff, WentOn, HasFailed, QuitFor, Stopped, child_step, Failed}
 use Rattle.qc_interp.specs.declared.stops.Finish.TheVariants as finish
 use Rattle.qc_interp.proofs.Asked.{NoOne, asked_made, asked_none, asked_wider, asked_trans}
 use Rattle.qc_interp.proofs.Stopping.{asked_early, unended_stopped, running_runs}
@@ -40,7 +40,7 @@ use Rattle.qc_interp.proofs.Growth.{made_later, ours_before}
 use Rattle.qc_interp.proofs.Joined.{joined_itself}
 use Rattle.qc_interp.proofs.Seen.{own_once}
 use Rattle.qc_interp.proofs.StepsLeave.{end_later, orphan_early}
-use Rattle.qc_interp.proofs.Tried.{cut_behind}
+use Rattle.qc_interp.proofs.TriesLead.{cut_behind}
 use Rattle.qc_interp.proofs.Turning.{itself}
 
 -- AN ORPHAN HAS AN ABORTED ANCESTOR

@@ -1,7 +1,7 @@
 -- Who follows a plan has ended or is ready, follows it where a ready top commits, and runs it however far the run came.
 use Rattle.std.proofs.Common.{◌≡◌, ◌⊎◌, inl, inr, ℕ, zero, suc, Bool, true, false, List, [], ◌∷◌, refl, sym, ap, ◌∙◌}
 use mathlib.Core.Bool.{true≢false}
-use Rattle.std.specs.Prelude.{◌==◌, Option, None, Some, MatchBool, is_some}
+use Rattle.std.specs.Prelude.{◌==◌, Option, None, Some, IsTrue, MatchBool, is_some}
 use Rattle.qc_event.specs.declared.event.Answer.{Answer}
 use Rattle.qc_event.specs.declared.event.How.{How}
 use Rattle.qc_event.specs.declared.event.How.TheVariants.{Commit, Abort}
@@ -10,8 +10,9 @@ use Rattle.qc_event.specs.History.{Past, Name, end, is_ready, kind_of}
 use Rattle.qc_script.specs.Plan.{Plan}
 use Rattle.qc_interp.specs.Deeds.{Deed, deeds, deed_end, OfChild}
 use Rattle.qc_interp.specs.Tries.{Tries, is_tried_again}
-use Rattle.qc_interp.specs.Follows.{StopsEarly, WasAsked, Stops, HasNotEnded, StopsBefore, GoesOn, GoesOnAfter, AfterTries, AfterRow, Commits, RunsPlan, RunsRow, FollowsPlan, asked_end}
-use Rattle.qc_interp.specs.Rows.{tries_among, each_tried, first_failed}
+use Rattle.qc_interp.specs.Follows.{StopsEarly, WasAsked, WasOrphan, WasTurnedBack, Stops, HasNotEnded, StopsBefore, GoesOn, GoesOnAfter, AfterTries, AfterRow, Commits, RunsPlan, RunsRow, FollowsPlan, asked_end}
+use Rattle.qc_interp.specs.Rows.{tries_among, each_begun, each_tried, first_failed}
+use Rattle.qc_interp.specs.Turns.{is_beside}
 use Rattle.qc_interp.specs.Reach.{Reach}
 use Rattle.qc_interp.proofs.Mine.{Closed}
 use Rattle.qc_interp.proofs.Rows.{all_map}
@@ -78,7 +79,7 @@ followed_done s past n Plan.done [] how (inr x) = inl (stopped_some n how x)
 followed_done s past n Plan.done (c ∷ cs) how h = absurd h
 followed_done s past n (Plan.manage_by k next) [] how h = inl (stopped_some n how h)
 followed_done s past n (Plan.manage_by k next) (Deed.child c ∷ cs) how h =
-    goes_done past n (end past c) (λ given. FollowsPlan s past n (next given) cs how) cs how (λ given. followed_done s past n (next given) cs how) h.1
+    goes_done past n (end past c) (λ given. FollowsPlan s past n (next given) cs how) cs how (λ given. followed_done s past n (next given) cs how) h.2
 followed_done s past n (Plan.manage_by k next) (Deed.mark m ∷ cs) how h = absurd h
 followed_done s past n (Plan.child_then number tries must inner rest) cs how h =
     tries_done (deed_end past) _ (StopsEarly n how) (λ last further. AfterTries Reach.to_the_end past n last must (FollowsPlan s past n rest further how) further how) (Done past n how) (λ x. inl (stopped_some n how x))
@@ -166,8 +167,9 @@ plan_committed reach s past n Plan.done (c ∷ cs) given ready h = absurd h
 plan_committed reach s past n (Plan.manage_by k next) [] given ready h = absurd (ready_not reach past n ready h)
 plan_committed reach s past n (Plan.manage_by k next) (Deed.child c ∷ cs) given ready h = (
   h.0,
+  h.1,
   goes_committed reach past n (end past c) (λ told. RunsPlan reach s past n (next told) cs None) (λ told. RunsPlan reach s past n (next told) cs (Some (Commit given))) cs (Commit given) ready
-      (λ told. plan_committed reach s past n (next told) cs given ready) h.1,
+      (λ told. plan_committed reach s past n (next told) cs given ready) h.2,
 )
 plan_committed reach s past n (Plan.manage_by k next) (Deed.mark m ∷ cs) given ready h = absurd h
 plan_committed reach s past n (Plan.child_then number tries must inner rest) cs given ready h =
@@ -256,10 +258,53 @@ row_any reach past n false failed Rest Rest2 further how step h = (h.0, stops_ea
 abbrev pub IsTryOf : Reach → ℕ → Past → ℕ → Plan → Name → Type 0
 IsTryOf reach s past number inner c = (kind_of past c ≡ Some (kind.User s number)) × RunsPlan reach s past c inner (deeds past c) (end past c)
 
-try_runs : (reach : Reach) (s : ℕ) (past : Past) (number : ℕ) (inner : Plan) → ((c : Name) → FollowsPlan s past c inner (deeds past c) (end past c) → RunsPlan reach s past c inner (deeds past c) (end past c))
-    → (d : Deed) → OfChild (IsTryOf Reach.to_the_end s past number inner) d → OfChild (IsTryOf reach s past number inner) d
-try_runs reach s past number inner step (Deed.child c) h = (h.0, step c h.1)
-try_runs reach s past number inner step (Deed.mark m) h = h
+-- and it was started under the seat of this name
+abbrev pub IsTryBeside : Reach → ℕ → Past → Name → ℕ → Plan → Name → Type 0
+IsTryBeside reach s past n number inner c = IsTrue (is_beside past n c) × (kind_of past c ≡ Some (kind.User s number)) × RunsPlan reach s past c inner (deeds past c) (end past c)
+
+-- a try of a branch of a row, all of which were begun or not
+abbrev pub IsRowTry : Reach → ℕ → Past → Bool → ℕ → Plan → Name → Type 0
+IsRowTry reach s past all_begun number inner c = (kind_of past c ≡ Some (kind.User s number)) × MatchBool all_begun (RunsPlan reach s past c inner (deeds past c) (end past c)) (WasTurnedBack reach past c)
+
+-- a branch that was turned back in a run that came to its end has ended
+pub turned_ended : (past : Past) (c : Name) → WasTurnedBack Reach.to_the_end past c → is_some (end past c) ≡ true
+turned_ended past c h = elim h.1 [
+  | inl orphan ↦ by_orphan (end past c) orphan
+  | inr asked ↦ by_asked (end past c) asked
+]
+  where
+    by_orphan : (o : Option How) → WasOrphan o → is_some o ≡ true
+    by_orphan None g = absurd g
+    by_orphan (Some how) g = refl
+
+    by_asked : (o : Option How) → WasAsked c o → is_some o ≡ true
+    by_asked None g = absurd g
+    by_asked (Some how) g = refl
+
+turned_any : (reach : Reach) (past : Past) (c : Name) → WasTurnedBack Reach.to_the_end past c → WasTurnedBack reach past c
+turned_any reach past c h = (
+  h.0,
+  elim h.1 [
+    | inl orphan ↦ inl orphan
+    | inr asked ↦ inr (asked_unended reach past c (end past c) asked)
+  ],
+)
+
+-- a try of a row has ended, or is ready
+pub row_try_done : (s : ℕ) (past : Past) (all_begun : Bool) (number : ℕ) (inner : Plan) (c : Name) → IsRowTry Reach.to_the_end s past all_begun number inner c → Closed past c
+row_try_done s past true number inner c h = done_closed past c (followed_done s past c inner (deeds past c) (end past c) h.1)
+row_try_done s past false number inner c h = inl (turned_ended past c h.1)
+
+beside_runs : (reach : Reach) (s : ℕ) (past : Past) (n : Name) (number : ℕ) (inner : Plan) → ((c : Name) → FollowsPlan s past c inner (deeds past c) (end past c) → RunsPlan reach s past c inner (deeds past c) (end past c))
+    → (d : Deed) → OfChild (IsTryBeside Reach.to_the_end s past n number inner) d → OfChild (IsTryBeside reach s past n number inner) d
+beside_runs reach s past n number inner step (Deed.child c) h = (h.0, h.1, step c h.2)
+beside_runs reach s past n number inner step (Deed.mark m) h = h
+
+row_try_runs : (reach : Reach) (s : ℕ) (past : Past) (all_begun : Bool) (number : ℕ) (inner : Plan) → ((c : Name) → FollowsPlan s past c inner (deeds past c) (end past c) → RunsPlan reach s past c inner (deeds past c) (end past c))
+    → (d : Deed) → OfChild (IsRowTry Reach.to_the_end s past all_begun number inner) d → OfChild (IsRowTry reach s past all_begun number inner) d
+row_try_runs reach s past true number inner step (Deed.child c) h = (h.0, step c h.1)
+row_try_runs reach s past false number inner step (Deed.child c) h = (h.0, turned_any reach past c h.1)
+row_try_runs reach s past all_begun number inner step (Deed.mark m) h = h
 
 mutual
   pub follows_runs : (reach : Reach) (s : ℕ) (past : Past) (n : Name) (plan : Plan) (cs : List Deed) (how : Option How) → FollowsPlan s past n plan cs how → RunsPlan reach s past n plan cs how
@@ -269,19 +314,20 @@ mutual
   follows_runs reach s past n (Plan.manage_by k next) [] how h = stops_early reach past n how h
   follows_runs reach s past n (Plan.manage_by k next) (Deed.child c ∷ cs) how h = (
     h.0,
-    goes_any reach past n (end past c) (λ given. FollowsPlan s past n (next given) cs how) (λ given. RunsPlan reach s past n (next given) cs how) cs how (λ given. follows_runs reach s past n (next given) cs how) h.1,
+    h.1,
+    goes_any reach past n (end past c) (λ given. FollowsPlan s past n (next given) cs how) (λ given. RunsPlan reach s past n (next given) cs how) cs how (λ given. follows_runs reach s past n (next given) cs how) h.2,
   )
   follows_runs reach s past n (Plan.manage_by k next) (Deed.mark m ∷ cs) how h = absurd h
   follows_runs reach s past n (Plan.child_then number tries must inner rest) cs how h =
       tries_wider (deed_end past) _ _ (StopsEarly n how) (Stops reach past n how) (λ last further. AfterTries Reach.to_the_end past n last must (FollowsPlan s past n rest further how) further how)
-      (λ last further. AfterTries reach past n last must (RunsPlan reach s past n rest further how) further how) (try_runs reach s past number inner (λ c. follows_runs reach s past c inner (deeds past c) (end past c))) (stops_early reach past n how)
+      (λ last further. AfterTries reach past n last must (RunsPlan reach s past n rest further how) further how) (beside_runs reach s past n number inner (λ c. follows_runs reach s past c inner (deeds past c) (end past c))) (stops_early reach past n how)
       (λ last further f. behind_any reach past n last must (FollowsPlan s past n rest further how) (RunsPlan reach s past n rest further how) further how (follows_runs reach s past n rest further how) f) None tries cs h
   follows_runs reach s past n (Plan.par_then branches rest) cs how h = (
     h.0,
     h.1,
     h.2,
     h.3,
-    row_runs reach s past branches h.0 h.4,
+    row_runs reach s past (each_begun past branches h.0) branches h.0 h.4,
     row_any reach past n (each_tried past false branches h.0) (first_failed past branches h.0) (FollowsPlan s past n rest h.1 how) (RunsPlan reach s past n rest h.1 how) h.1 how (follows_runs reach s past n rest h.1 how) h.5,
   )
   follows_runs reach s past n (Plan.abort_then levels rest) [] how (inl is) = inl is
@@ -297,9 +343,9 @@ mutual
       by_test true x more = (x.0, before_any reach past n how x.1)
       by_test false x more = more x
 
-  row_runs : (reach : Reach) (s : ℕ) (past : Past) (branches : Plan) (ds : List Deed) → RunsRow Reach.to_the_end s past branches ds → RunsRow reach s past branches ds
-  row_runs reach s past (Plan.child_then number tries must inner others) ds h = (
-    all_map _ _ (try_runs reach s past number inner (λ c. follows_runs reach s past c inner (deeds past c) (end past c))) (tries_among past number ds) h.0,
-    row_runs reach s past others ds h.1,
+  row_runs : (reach : Reach) (s : ℕ) (past : Past) (all_begun : Bool) (branches : Plan) (ds : List Deed) → RunsRow Reach.to_the_end s past all_begun branches ds → RunsRow reach s past all_begun branches ds
+  row_runs reach s past all_begun (Plan.child_then number tries must inner others) ds h = (
+    all_map _ _ (row_try_runs reach s past all_begun number inner (λ c. follows_runs reach s past c inner (deeds past c) (end past c))) (tries_among past number ds) h.0,
+    row_runs reach s past all_begun others ds h.1,
   )
-  row_runs reach s past _ ds h = h
+  row_runs reach s past all_begun _ ds h = h

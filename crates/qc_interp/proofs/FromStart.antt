@@ -10,8 +10,8 @@ use Rattle.qc_script.specs.Calls.{is_over}
 use Rattle.qc_script.specs.Plan.{Numbered, SessionPlan}
 use Rattle.qc_interp.specs.Adding.{is_of_one, own_after, starts_for, stays_in, AllStayIn}
 use Rattle.qc_interp.specs.Reach.{Reach}
-use Rattle.qc_interp.specs.Session.{tops, EndsTopsAt, InTurnAt}
-use Rattle.qc_interp.specs.Turns.{is_alone, takes_turn}
+use Rattle.qc_interp.specs.Session.{tops, AreUnderIts, EndsTopsAt, InTurnAt}
+use Rattle.qc_interp.specs.Turns.{is_alone, is_under, takes_turn}
 use Rattle.qc_interp.specs.FollowsScript.{EachRuns, BeginsScript}
 use Rattle.qc_interp.proofs.TopsRun.{none_begun}
 use Rattle.qc_interp.proofs.Adding.{after_stay, numbers_stay}
@@ -37,9 +37,13 @@ module _ (c : Client) (before now : Past) (none : mine c before ≡ []) where
     of_session = ap (list_all (starts_for c.session)) all_mine ∙ ran.of_session;
     numbers = λ was. ran.numbers (subst (λ h. each (own_next c) h ≡ true) (append-nil before) (numbers_stay c [] before [] stay refl));
     order = λ ours was over. ran.order ours (subst (λ h. each (own_after c) h ≡ true) (append-nil before) (after_stay c [] before [] stay refl)) (ap (list_all (is_over before)) tops_none);
-    turns = λ ours was alone. ran.turns ours (ap (λ h. each takes_turn h) none) (ap (λ h. is_alone h []) none);
+    seats = λ was. ran.seats under;
+    turns = λ ours unders was alone. ran.turns ours under (ap (λ h. each takes_turn h) none) (ap (λ h. is_alone h []) none);
   }
     where
+      under : AreUnderIts c before
+      under = ap (list_all (is_under (mine c before) c.number)) tops_none
+
       all_mine : mine c now ≡ mine c ran.later.newer
       all_mine = ap (mine c) ran.later.grown ∙ filter-append (λ (e : Entry). is_own c e.seat) ran.later.newer before ∙ ap (λ h. mine c ran.later.newer ++ h) none ∙ append-nil (mine c ran.later.newer)
 
@@ -48,7 +52,7 @@ module _ (c : Client) (before now : Past) (none : mine c before ≡ []) where
 each_begins : (session patience : ℕ) (sessions : List SessionPlan) → EachRuns Reach.cut_off session patience sessions []
 each_begins session patience [] = tt
 each_begins session patience (s ∷ sessions) = (
-  record { bodies_run = none_begun session [] s.tops; in_turn = record { turns = refl; seats = refl; steps = refl; in_order = refl }; messages = refl },
+  record { bodies_run = none_begun session [] s.tops; in_turn = record { turns = refl; in_order = refl }; messages = refl },
   each_begins (session + 1) patience sessions,
 )
 

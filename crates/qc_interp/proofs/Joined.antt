@@ -24,7 +24,7 @@ use Rattle.qc_interp.specs.Reach.{Reach, AtTheEnd}
 use Rattle.qc_interp.specs.Running.{Runs, LeavesIt, LeavesAt, EndsAt, HasFailed, HasNotMarked}
 use Rattle.qc_interp.specs.Session.{tops, AreAllOurs, InTurnAt}
 use Rattle.qc_interp.proofs.Growth.{later_itself, later_trans, made_later}
-use Rattle.qc_interp.specs.Turns.{takes_turn, is_alone}
+use Rattle.qc_interp.specs.Turns.{takes_turn, is_alone, is_under}
 
 -- a client owns the same entries of a history as another
 abbrev pub OwnAlike : Client → Client → Past → Type 0
@@ -111,6 +111,7 @@ module _ (c : Client) (kin : List ℕ) where
     more_runs of runs = record {
       legal = runs.legal;
       user = runs.user;
+      seat = runs.seat;
       nonroot = runs.nonroot;
       below = runs.below;
       above = λ p r is far. subst (λ h. IsUnended p (end h p) × (is_ready h p ≡ false)) (sym more_mine) (runs.above p r is far);
@@ -216,12 +217,13 @@ module _ (c : Client) (kin : List ℕ) where
       later = more_later a b turn.later;
       inside = ap (list_all (is_of_one turn.made)) (newer_mine a b turn.later all) ∙ turn.inside;
       of_session = ap (list_all (starts_for c.session)) (newer_mine a b turn.later all) ∙ turn.of_session;
+      seats = both a b turn.later all (λ x y. list_all (is_under x c.number) (children x []) ≡ true → list_all (is_under y c.number) (children y []) ≡ true) turn.seats;
       numbers = λ was. more_next b all ∙ turn.numbers (sym (more_next a older) ∙ was);
       order = λ ours after over.
           let now = turn.order (tops_back b all ours) (sym (more_after a older) ∙ after) (sym (more_over a older) ∙ over) in
           (more_after b all ∙ now.0, subst (λ o. AtTheEnd reach (o ≡ true)) (sym (more_over b all)) now.1);
       turns = λ ours.
-          both a b turn.later all (λ x y. each takes_turn x ≡ true → is_alone x [] ≡ true → (each takes_turn y ≡ true) × AtTheEnd reach (is_alone y [] ≡ true)) (turn.turns (tops_back b all ours));
+          both a b turn.later all (λ x y. list_all (is_under x c.number) (children x []) ≡ true → each takes_turn x ≡ true → is_alone x [] ≡ true → (each takes_turn y ≡ true) × AtTheEnd reach (is_alone y [] ≡ true)) (turn.turns (tops_back b all ours));
     }
 
 -- A CLIENT THAT HAS JOINED

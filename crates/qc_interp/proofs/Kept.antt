@@ -1,18 +1,19 @@
 -- Some entries of a history, as far as a look goes: whoever takes turns does so without the entries about no one.
 use Rattle.std.proofs.Common.{◌≡◌, ℕ, Bool, true, false, List, [], ◌∷◌, ◌++◌, refl, sym, ap, ◌∙◌, filter, append-nil}
-use Rattle.std.specs.Prelude.{Option, None, Some, is_some, option_to_list, ◌&&◌, ◌||◌, if◌then◌else◌}
+use mathlib.Core.Bool.{true≢false}
+use Rattle.std.specs.Prelude.{◌==◌, Option, None, Some, is_some, option_to_list, ◌&&◌, ◌||◌, if◌then◌else◌}
 use Rattle.std.specs.List.{AllByRecursion, list_all}
 use Rattle.std.specs.Option.{option_map, option_or, option_map_or}
 use Rattle.std.proofs.lemmas.Bool.{and_parts, and_from}
 use Rattle.qc_event.specs.declared.event.Entry.{Entry}
 use Rattle.qc_event.specs.declared.event.Event.{Event}
 use Rattle.qc_event.specs.declared.event.Event.TheVariants as event
-use Rattle.qc_event.specs.History.{Past, Name, Begun, earliest, every, start_in, end, end_in, is_ready, ready_in}
+use Rattle.qc_event.specs.History.{Past, Name, Begun, earliest, every, start_in, end, end_in, is_ready, ready_in, children, child_in}
 use Rattle.qc_event.proofs.Histories.{or_none}
 use Rattle.qc_names.specs.Name as name
 use Rattle.qc_script.specs.Client.{about}
 use Rattle.qc_script.specs.Numbers.{each}
-use Rattle.qc_interp.specs.Turns.{acts, begun_in, is_done, seat_of, all_differ, child_above, are_apart, has_turn, takes_turn}
+use Rattle.qc_interp.specs.Turns.{acts, begun_in, is_done, seat_of, is_under, seat_for, all_differ, child_above, are_apart, has_turn, takes_turn}
 
 -- SOME ENTRIES OF SOME, AS FAR AS A LOOK GOES
 
@@ -35,6 +36,20 @@ every_kept {Y = Y} keep f (e ∷ h) all = by_test (keep e) refl (every_kept keep
     by_test : (b : Bool) → keep e ≡ b → every f (filter keep h) ≡ every f h → every f (if b then e ∷ filter keep h else filter keep h) ≡ every f h ++ option_to_list (f e)
     by_test true is rest = ap (λ l. l ++ option_to_list (f e)) rest
     by_test false is rest = rest ∙ sym (append-nil _) ∙ sym (ap (λ o. every f h ++ option_to_list o) (all.0 is))
+
+-- what a narrower choice keeps of a wider one's, it keeps of all
+pub kept_again : (narrow wide : Entry → Bool) (h : Past) → AllByRecursion (λ (e : Entry). narrow e ≡ true → wide e ≡ true) h → filter narrow (filter wide h) ≡ filter narrow h
+kept_again narrow wide [] all = refl
+kept_again narrow wide (e ∷ h) all = by_tests (narrow e) (wide e) refl refl (kept_again narrow wide h all.1)
+  where
+    one : (b : Bool) → narrow e ≡ b → filter narrow (e ∷ filter wide h) ≡ (if b then e ∷ filter narrow (filter wide h) else filter narrow (filter wide h))
+    one b is = ap (λ x. if x then e ∷ filter narrow (filter wide h) else filter narrow (filter wide h)) is
+
+    by_tests : (x y : Bool) → narrow e ≡ x → wide e ≡ y → filter narrow (filter wide h) ≡ filter narrow h → filter narrow (if y then e ∷ filter wide h else filter wide h) ≡ (if x then e ∷ filter narrow h else filter narrow h)
+    by_tests true true is also rest = one true is ∙ ap (λ l. e ∷ l) rest
+    by_tests true false is also rest = absurd (true≢false (sym (all.0 is) ∙ also))
+    by_tests false true is also rest = one false is ∙ rest
+    by_tests false false is also rest = rest
 
 -- WHO IS ABOUT NO ONE
 
@@ -120,6 +135,37 @@ has_turn_kept keep e h drops n =
     ap (λ b. b || (name.is_ancestor m n || are_apart (e ∷ few) m n)) (done_kept keep h drops m)
     ∙ ap (λ b. is_done h m || (name.is_ancestor m n || b)) (apart_kept keep e h drops m n))
 
+none_child : (n : Name) (ev : Event) → about ev ≡ None → child_in n ev ≡ None
+none_child n (event.Start m k) is = absurd cc
+none_child n (event.End m how) is = refl
+none_child n (event.Ready m) is = refl
+none_child n (event.Ask ask) is = refl
+none_child n (event.Gone m why) is = refl
+none_child n (event.Granted copy grant) is = refl
+none_child n (event.Refused m copy refusal) is = refl
+none_child n (event.Unable m why) is = refl
+none_child n (event.Mark m session) is = refl
+
+under_kept : (keep : Entry → Bool) (h : Past) → DropsNone keep h → (seat : ℕ) (n : Name) → is_under (filter keep h) seat n ≡ is_under h seat n
+under_kept keep h drops seat n =
+    ap (λ o. option_map_or (λ s. s == seat) (option_map (λ (b : Begun). b.seat) o) false)
+    (earliest_kept keep (λ e. start_in n e.seat e.event) h (drops_wider keep _ h (λ e is. none_starts n e.seat e.event is) drops))
+
+seats_kept : (keep : Entry → Bool) (h : Past) → DropsNone keep h → (seat : ℕ) (ev : Event) → seat_for (filter keep h) seat ev ≡ seat_for h seat ev
+seats_kept keep h drops seat (event.Start [] k) = refl
+seats_kept keep h drops seat (event.Start (x ∷ y ∷ n) k) = refl
+seats_kept keep h drops seat (event.Start (x ∷ []) k) =
+    ap (list_all (is_under (filter keep h) seat)) (every_kept keep (λ e. child_in [] e.event) h (drops_wider keep _ h (λ e is. none_child [] e.event is) drops))
+    ∙ alike (is_under (filter keep h) seat) (is_under h seat) (children h []) (under_kept keep h drops seat)
+seats_kept keep h drops seat (event.Mark n session) = under_kept keep h drops seat n
+seats_kept keep h drops seat (event.End m how) = refl
+seats_kept keep h drops seat (event.Ready m) = refl
+seats_kept keep h drops seat (event.Ask ask) = refl
+seats_kept keep h drops seat (event.Gone m why) = refl
+seats_kept keep h drops seat (event.Granted copy grant) = refl
+seats_kept keep h drops seat (event.Refused m copy refusal) = refl
+seats_kept keep h drops seat (event.Unable m why) = refl
+
 turn_kept : (keep : Entry → Bool) (e : Entry) (h : Past) → DropsNone keep h → (o : Option Name) → option_map_or (has_turn e (filter keep h)) o true ≡ option_map_or (has_turn e h) o true
 turn_kept keep e h drops None = refl
 turn_kept keep e h drops (Some n) = has_turn_kept keep e h drops n
@@ -130,5 +176,8 @@ turns_kept keep [] drops turns = refl
 turns_kept keep (e ∷ h) drops turns = let both = and_parts (each takes_turn h) (takes_turn e h) turns in by_test (keep e) (turns_kept keep h drops.1 both.0) both.1
   where
     by_test : (b : Bool) → each takes_turn (filter keep h) ≡ true → takes_turn e h ≡ true → each takes_turn (if b then e ∷ filter keep h else filter keep h) ≡ true
-    by_test true rest turn = and_from _ _ rest (turn_kept keep e h drops.1 (acts e.event) ∙ turn)
+    by_test true rest turn =
+        and_from _ _ rest
+        (ap (λ b. b && option_map_or (has_turn e (filter keep h)) (acts e.event) true) (seats_kept keep h drops.1 e.seat e.event)
+        ∙ ap (λ b. seat_for h e.seat e.event && b) (turn_kept keep e h drops.1 (acts e.event)) ∙ turn)
     by_test false rest turn = rest

@@ -28,7 +28,7 @@ use Rattle.qc_interp.proofs.Deeds.{Silent, start_silent, deeds_quiet, child_deed
 use Rattle.qc_interp.proofs.Mine.{kept_some}
 use Rattle.qc_interp.proofs.Adding.{all_both, stays_at, start_stays_in, accesses_stay}
 use Rattle.qc_interp.proofs.Scope.{child_scope}
-use Rattle.qc_interp.proofs.Turning.{InTurn, Alone, start_turns, access_turns, end_turns, own_actor, alone_up, some_done}
+use Rattle.qc_interp.proofs.Turning.{InTurn, Alone, child_keeps, start_turns, access_turns, end_turns, own_actor, alone_up, some_done}
 use Rattle.qc_interp.specs.Adding.{stays_in, AllStayIn}
 use Rattle.qc_interp.specs.Asking.{AllAsked}
 use Rattle.qc_interp.proofs.Asked.{NoOne, asked_made, unasked_end, accesses_unasked}
@@ -209,10 +209,10 @@ module _ (c : Client) where
     pub deeds_running : deeds running of ≡ deeds h0 of ++ Deed.child m ∷ []
     deeds_running = inner_quiet of [] (sym (append-nil of)) ∙ child_deed begins h0 of m k refl is_one
 
-    pub turns_running : InTurn h0 → Alone h0 of → InTurn running × Alone running m
-    turns_running turns alone =
-        let a = start_turns begins h0 of m k refl is_one turns alone in
-        access_turns m inner (begins ∷ h0) of_accesses a.0 a.1
+    pub turns_running : 0 < length of → InTurn h0 → Alone h0 of → InTurn running × Alone running m
+    turns_running nonroot turns alone =
+        let a = start_turns begins h0 of m k refl is_one (child_keeps begins h0 of m k nonroot is_one refl) turns alone in
+        access_turns m inner (begins ∷ h0) (omega (arith, longer)) of_accesses a.0 a.1
 
     pub inside_running : 0 < length of → list_all (stays_in (scope c of)) (inner ++ begins ∷ []) ≡ true
     inside_running nonroot =
@@ -290,7 +290,7 @@ module _ (c : Client) where
 
     turns_is : InTurn (mine c before) → Alone (mine c before) of → InTurn (mine c now) × Alone (mine c now) of
     turns_is turns alone =
-        let b = turns_running of m k ran.inner h0 ran.is_one new.fresh ran.of_accesses turns alone in
+        let b = turns_running of m k ran.inner h0 ran.is_one new.fresh ran.of_accesses nonroot turns alone in
         let d = end_turns ends h1 m m how refl (own_actor m how ran.not_asked) b.0 b.1 b.1 in
         subst (λ h. InTurn h × Alone h of) (sym now_is) (d.0, alone_up (ends ∷ h1) of m ran.is_one (some_done (ends ∷ h1) m (ap is_some (ap (λ h. end h m) (sym now_is) ∙ end_is))) d.1)
 
@@ -324,6 +324,7 @@ module _ (c : Client) where
     pub asked : AllAsked c before now NoOne
     pub kind : kind_of (mine c now) m ≡ Some k
     pub end : end (mine c now) m ≡ None
+    pub started : start now m ≡ Some (record { seat = c.number; kind = k })
     pub deeds : deeds (mine c now) of ≡ deeds (mine c before) of ++ Deed.child m ∷ []
     pub same_deeds : (p r : Name) → of ≡ p ++ r → 0 < length r → Rattle.qc_interp.specs.Deeds.deeds (mine c now) p ≡ Rattle.qc_interp.specs.Deeds.deeds (mine c before) p
     pub same_end : (p r : Name) → of ≡ p ++ r → Rattle.qc_event.specs.History.end (mine c now) p ≡ Rattle.qc_event.specs.History.end (mine c before) p
@@ -331,11 +332,12 @@ module _ (c : Client) where
 
   pub interrupted : (of : Name) (k : Kind) (before now : Past) → 0 < length of → (cut : WasCut c of k before now) → Interrupted of k cut.manager before now
   interrupted of k before now nonroot cut = record {
-    turns = λ turns alone. subst InTurn (sym now_is) (turns_running of cut.manager k cut.inner (mine c before) cut.is_one new.fresh cut.of_accesses turns alone).0;
+    turns = λ turns alone. subst InTurn (sym now_is) (turns_running of cut.manager k cut.inner (mine c before) cut.is_one new.fresh cut.of_accesses nonroot turns alone).0;
     later = made_later c _ before now cut.made;
     inside = ap (list_all (stays_in (scope c of))) cut.made.made ∙ inside_running of cut.manager k cut.inner (mine c before) cut.is_one new.fresh cut.of_accesses nonroot;
     asked = asked_made c _ before now NoOne cut.made (accesses_unasked cut.manager cut.inner (by_client c (event.Start cut.manager k) ∷ []) cut.of_accesses (tt, tt));
     kind = ap (λ h. kind_of h cut.manager) now_is ∙ kind_running of cut.manager k cut.inner (mine c before) cut.is_one new.fresh cut.of_accesses;
+    started = new.started;
     end = ap (λ h. end h cut.manager) now_is ∙ end_running of cut.manager k cut.inner (mine c before) cut.is_one new.fresh cut.of_accesses;
     deeds = ap (λ h. deeds h of) now_is ∙ deeds_running of cut.manager k cut.inner (mine c before) cut.is_one new.fresh cut.of_accesses;
     same_deeds = λ p r above far. ap (λ h. deeds h p) now_is ∙ same_deeds_running of cut.manager k cut.inner (mine c before) cut.is_one new.fresh cut.of_accesses p r above far;

@@ -36,6 +36,7 @@ use Rattle.qc_interp.proofs.Managers.{children_quiet, found_quiet}
 use Rattle.qc_interp.proofs.StepsLeave.{end_later, none_open, some_later}
 use Rattle.qc_interp.proofs.Followed.{asked_unended}
 use Rattle.qc_interp.proofs.Stopping.{running_unended, stopped_runs}
+use Rattle.qc_interp.proofs.Seats.{later_seat, own_under}
 use Rattle.qc_interp.proofs.Turning.{InTurn, Alone, act_turns}
 
 -- A list that goes on by nothing else is the same.
@@ -84,7 +85,7 @@ module _ (c : Client) (of : Name) where
 
     leaves_marked : Leaves c of before now
     leaves_marked = record {
-      turns = λ ours turns alone. subst (λ h. InTurn h × Alone h of) (sym now_is) (act_turns marks (mine c before) of of refl refl turns alone alone);
+      turns = λ ours turns alone. subst (λ h. InTurn h × Alone h of) (sym now_is) (act_turns marks (mine c before) of of refl refl (own_under c before of runs.seat) turns alone alone);
       later = later_is;
       inside = ap (list_all (stays_in (scope c of))) m.made ∙ one_stays (scope c of) of marks refl refl (at_scope c of);
       over = λ was r. over_later c before now later_is of (was (sym (same_ready of) ∙ r));
@@ -99,6 +100,7 @@ module _ (c : Client) (of : Name) where
     runs_marked = record {
       legal = m.legal;
       user = subst (λ h. Started h of (λ b. IsOfSession c.session b.kind)) (sym m.grown) (started_still m.newer before of _ runs.user);
+      seat = later_seat c before now later_is of c.number runs.seat;
       nonroot = runs.nonroot;
       below = runs.below;
       above = λ p r is far. (subst (λ o. IsUnended p o) (sym (same_end p)) (runs.above p r is far).0, same_ready p ∙ (runs.above p r is far).1);

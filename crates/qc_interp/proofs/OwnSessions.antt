@@ -7,7 +7,6 @@ use Rattle.std.specs.List.{AllByRecursion, list_all, list_any}
 use Rattle.std.specs.Option.{option_map_or}
 use Rattle.std.proofs.lemmas.Bool.{eqb-true, and_parts, and_from}
 use Rattle.std.proofs.lemmas.List.Folds.{list_all-append}
-use Rattle.std.proofs.Math.Bool.{or-false}
 use Rattle.qc_event.specs.declared.event.Entry.{Entry}
 use Rattle.qc_event.specs.declared.event.Event.{Event}
 use Rattle.qc_event.specs.declared.event.Event.TheVariants as event
@@ -25,7 +24,7 @@ use Rattle.qc_script.specs.Numbers.{each, any_top}
 use Rattle.qc_interp.specs.Adding.{all_over, own_after, is_of_one, starts_for}
 use Rattle.qc_interp.specs.Session.{tops}
 use Rattle.qc_interp.specs.Sessions.{top_by, top_in, tops_of, is_of, part_of, after_others, seat_in}
-use Rattle.qc_interp.specs.Together.{IsSingle}
+use Rattle.qc_interp.specs.Together.{IsWhole}
 use Rattle.qc_interp.specs.Turns.{begun_in, takes_turn}
 use Rattle.qc_interp.proofs.Kept.{DropsNone, turns_kept}
 use Rattle.qc_interp.proofs.Starts.{user_of, top_some, starts_of}
@@ -91,55 +90,54 @@ within {X = X} p q (x ∷ xs) h = by_tests (p x) refl (q x) refl h.0 (within p q
 part_mine : (c : Client) (s : ℕ) (past : Past) → AreIts c (tops_of s past) past → filter (is_of (tops_of s past)) (mine c past) ≡ part_of s past
 part_mine c s past its = within (is_of (tops_of s past)) (λ (e : Entry). is_own c e.seat) past its
 
--- who is its own stands under its number
-pub own_seat : (c : Client) (seat : ℕ) → IsSingle c → is_own c seat ≡ true → c.number ≡ seat
-own_seat c seat single own = eqb-true c.number seat (sym (or-false (c.number == seat)) ∙ (ap (λ kin. list_any (λ k. k == seat) (c.number ∷ kin)) (sym single.kinless) ∙ own))
-
-own_client : (c : Client) (seat : ℕ) → IsSingle c → is_own c seat ≡ true → is_client seat ≡ true
-own_client c seat single own = ap is_client (sym (own_seat c seat single own)) ∙ single.client
-
-abbrev pub AllUnder : ℕ → Past → Type 0
-AllUnder seat h = AllByRecursion (λ (e : Entry). seat ≡ e.seat) h
-
-pub part_under : (c : Client) (ts : List Name) (past : Past) → IsSingle c → AreIts c ts past → AllUnder c.number (filter (is_of ts) past)
-part_under c ts past single its = kept_all _ (is_of ts) past (by_past past its)
+-- what passes of all of a client's seats passes of each that is its own
+pub own_passes : (c : Client) (passes : ℕ → Bool) (seat : ℕ) → list_all passes (c.number ∷ c.kin) ≡ true → is_own c seat ≡ true → passes seat ≡ true
+own_passes c passes seat all own = among (c.number ∷ c.kin) all own
   where
-    by_past : (past : Past) → AreIts c ts past → AllByRecursion (λ (e : Entry). is_of ts e ≡ true → c.number ≡ e.seat) past
-    by_past [] its = tt
-    by_past (e ∷ past) its = ((λ of. own_seat c e.seat single (its.0 of)), by_past past its.1)
+    by_test : (k : ℕ) (rest : List ℕ) → passes k ≡ true → (list_any (λ x. x == seat) rest ≡ true → passes seat ≡ true) → (b : Bool) → (k == seat) ≡ b → (b || list_any (λ x. x == seat) rest) ≡ true → passes seat ≡ true
+    by_test k rest passing further true is h = subst (λ x. passes x ≡ true) (eqb-true k seat is) passing
+    by_test k rest passing further false is h = further h
+
+    among : (ks : List ℕ) → list_all passes ks ≡ true → list_any (λ x. x == seat) ks ≡ true → passes seat ≡ true
+    among [] all own = absurd (true≢false (sym own))
+    among (k ∷ ks) all own = let both = and_parts (passes k) (list_all passes ks) all in by_test k ks both.0 (λ more. among ks both.1 more) (k == seat) refl own
+
+-- all of some entries are a client's own
+abbrev pub AreOwn : Client → Past → Type 0
+AreOwn c h = AllByRecursion (λ (e : Entry). is_own c e.seat ≡ true) h
 
 -- TURNS
 
-all_mine : (c : Client) (h : Past) → AllByRecursion (λ (e : Entry). is_own c e.seat ≡ true) (mine c h)
+all_mine : (c : Client) (h : Past) → AreOwn c (mine c h)
 all_mine c h = kept_all _ (λ (e : Entry). is_own c e.seat) h (itself_kept (λ (e : Entry). is_own c e.seat) h)
 
--- what a single client made and is of none of its tops is about no one
-drops : (c : Client) (ts : List Name) (es : Past) → IsSingle c → AllByRecursion (λ (e : Entry). is_own c e.seat ≡ true) es → list_all (is_of_one ts) es ≡ true → DropsNone (is_of ts) es
-drops c ts [] single own all = tt
-drops c ts (e ∷ es) single own all =
+-- what a client made and is of none of its tops is about no one
+drops : (c : Client) (ts : List Name) (es : Past) → IsWhole c → AreOwn c es → list_all (is_of_one ts) es ≡ true → DropsNone (is_of ts) es
+drops c ts [] whole own all = tt
+drops c ts (e ∷ es) whole own all =
     let both = and_parts (is_of_one ts e) (list_all (is_of_one ts) es) all in
-    ((λ other. by_about (about e.event) refl both.0 other), drops c ts es single own.1 both.1)
+    ((λ other. by_about (about e.event) refl both.0 other), drops c ts es whole own.1 both.1)
   where
     by_about : (o : Option Name) → about e.event ≡ o → option_map_or (λ n. list_any (λ t. name.is_ancestor t n) ts) o true ≡ true → is_of ts e ≡ false → about e.event ≡ None
     by_about None is one other = is
     by_about (Some n) is one other =
-        let of : is_of ts e ≡ true = and_from _ _ (own_client c e.seat single own.0) (ap (λ o. option_map_or (λ n. list_any (λ t. name.is_ancestor t n) ts) o false) is ∙ one) in
+        let of : is_of ts e ≡ true = and_from _ _ (own_passes c is_client e.seat whole.clients own.0) (ap (λ o. option_map_or (λ n. list_any (λ t. name.is_ancestor t n) ts) o false) is ∙ one) in
         absurd (true≢false (sym of ∙ other))
 
-pub turns_own : (c : Client) (s : ℕ) (past : Past) → IsSingle c → AreIts c (tops_of s past) past → list_all (is_of_one (tops_of s past)) (mine c past) ≡ true → each takes_turn (mine c past) ≡ true → each takes_turn (part_of s past) ≡ true
-turns_own c s past single its inside turns =
-    subst (λ h. each takes_turn h ≡ true) (part_mine c s past its) (turns_kept (is_of (tops_of s past)) (mine c past) (drops c (tops_of s past) (mine c past) single (all_mine c past) inside) turns)
+pub turns_own : (c : Client) (s : ℕ) (past : Past) → IsWhole c → AreIts c (tops_of s past) past → list_all (is_of_one (tops_of s past)) (mine c past) ≡ true → each takes_turn (mine c past) ≡ true → each takes_turn (part_of s past) ≡ true
+turns_own c s past whole its inside turns =
+    subst (λ h. each takes_turn h ≡ true) (part_mine c s past its) (turns_kept (is_of (tops_of s past)) (mine c past) (drops c (tops_of s past) (mine c past) whole (all_mine c past) inside) turns)
 
 -- MESSAGES
 
-pub messages_own : (c : Client) (s : ℕ) (net : Net) (past : Past) → IsSingle c → AreIts c (tops_of s past) past → meets_fates c.number net past ≡ true → list_all (λ seat. meets_fates seat net past) (every seat_in (part_of s past)) ≡ true
-messages_own c s net past single its met = by_list (part_of s past) (part_under c (tops_of s past) past single its)
+pub messages_own : (c : Client) (s : ℕ) (net : Net) (past : Past) → AreIts c (tops_of s past) past → list_all (λ seat. meets_fates seat net past) (c.number ∷ c.kin) ≡ true → list_all (λ seat. meets_fates seat net past) (every seat_in (part_of s past)) ≡ true
+messages_own c s net past its met = by_list (part_of s past) (kept_all _ (is_of (tops_of s past)) past its)
   where
-    one : (e : Entry) (o : Option Name) → c.number ≡ e.seat → list_all (λ seat. meets_fates seat net past) (option_to_list (option_map_or (λ n. Some e.seat) o None)) ≡ true
-    one e None seat = refl
-    one e (Some n) seat = ap (λ b. b && true) (subst (λ k. meets_fates k net past ≡ true) seat met)
+    one : (e : Entry) (o : Option Name) → is_own c e.seat ≡ true → list_all (λ seat. meets_fates seat net past) (option_to_list (option_map_or (λ n. Some e.seat) o None)) ≡ true
+    one e None own = refl
+    one e (Some n) own = ap (λ b. b && true) (own_passes c (λ seat. meets_fates seat net past) e.seat met own)
 
-    by_list : (h : Past) → AllUnder c.number h → list_all (λ seat. meets_fates seat net past) (every seat_in h) ≡ true
+    by_list : (h : Past) → AreOwn c h → list_all (λ seat. meets_fates seat net past) (every seat_in h) ≡ true
     by_list [] all = refl
     by_list (e ∷ h) all = list_all-append (λ seat. meets_fates seat net past) (every seat_in h) (option_to_list (seat_in e)) ∙ and_from _ _ (by_list h all.1) (one e (begun_in e.event) all.0)
 

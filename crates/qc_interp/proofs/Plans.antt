@@ -1,6 +1,6 @@
 -- The plans of bodies and of steps, one step at a time.
-use Rattle.std.proofs.Common.{◌≡◌, ℕ, zero, suc, ◌+◌, ◌<◌, ◌≤◌, arith, Bool, true, false, drop, List, [], ◌∷◌, length, get_or, refl, sym, ap, ◌∙◌, subst, add-one, drop-cons}
-use Rattle.std.specs.Prelude.{nat_lt, if◌then◌else◌}
+use Rattle.std.proofs.Common.{◌≡◌, ℕ, zero, suc, ◌+◌, ◌<◌, ◌≤◌, arith, Bool, true, false, drop, List, [], ◌∷◌, length, get_or, refl, sym, ap, ◌∙◌, subst, Vec, Global, add-one, drop-cons}
+use Rattle.std.specs.Prelude.{nat_lt, if◌then◌else◌, map}
 use Rattle.qc_config.specs.Config.{Voting}
 use Rattle.qc_event.specs.declared.event.Answer.TheVariants as answer
 use Rattle.qc_event.specs.declared.event.Kind.TheVariants as kind
@@ -8,7 +8,7 @@ use Rattle.qc_event.specs.Base.{Setting}
 use Rattle.qc_script.specs.declared.script.Body.{Body, out-Body, fold_out-Body}
 use Rattle.qc_script.specs.declared.script.Step.{Step, Step-F, map-Step, out-Step, fold-roll-Step, fold_out-Step}
 use Rattle.qc_script.specs.declared.script.Step.TheVariants as step
-use Rattle.qc_script.specs.Plan.{Plan, Numbered, PlanFits, manage_then, change_then, need_then, value_of, plus, minus}
+use Rattle.qc_script.specs.Plan.{Plan, Numbered, PlanFits, manage_then, change_then, need_then, value_of, plus, minus, row_of}
 use Rattle.qc_script.proofs.Plans.{all_before-map}
 use Rattle.qc_script.specs.Steps.{before, layer, numbered, put, plan_of}
 
@@ -52,6 +52,9 @@ put_reconf rec config = ap put (sym (step.rolls-Reconf rec config)) ∙ fold-rol
 pub put_child : (b : Body) → put (step.Child b) ≡ Plan.child_then (numbered b).number (numbered b).tries (numbered b).must (numbered b).plan
 put_child b = ap put (sym (step.rolls-Child b)) ∙ fold-roll-Step (Plan → Plan) Numbered before layer (Step-F.Child b)
 
+pub put_par : (bodies : Vec Body Global) → put (step.Par bodies) ≡ Plan.par_then (row_of (map numbered bodies.items))
+put_par bodies = ap put (sym (step.rolls-Par bodies)) ∙ fold-roll-Step (Plan → Plan) Numbered before layer (Step-F.Par bodies)
+
 pub put_abort : (levels : ℕ) → put (step.Abort levels) ≡ Plan.abort_then levels
 put_abort levels = ap put (sym (step.rolls-Abort levels)) ∙ fold-roll-Step (Plan → Plan) Numbered before layer (Step-F.Abort levels)
 
@@ -88,6 +91,7 @@ lighter (Step-F.Sub rec value) rest = omega arith
 lighter (Step-F.Need rec value) rest = omega (arith, either_weight (nat_lt 0 value) rest)
 lighter (Step-F.Reconf rec config) rest = omega arith
 lighter (Step-F.Child body) rest = omega arith
+lighter (Step-F.Par bodies) rest = omega arith
 lighter (Step-F.Abort levels) rest = omega arith
 lighter (Step-F.Crash copy) rest = omega arith
 lighter (Step-F.Kill session) rest = omega arith
@@ -100,6 +104,7 @@ alone (Step-F.Sub rec value) rest = omega arith
 alone (Step-F.Need rec value) rest = omega (arith, either_weight (nat_lt 0 value) rest, either_weight (nat_lt 0 value) Plan.done)
 alone (Step-F.Reconf rec config) rest = omega arith
 alone (Step-F.Child body) rest = omega arith
+alone (Step-F.Par bodies) rest = omega arith
 alone (Step-F.Abort levels) rest = omega arith
 alone (Step-F.Crash copy) rest = omega arith
 alone (Step-F.Kill session) rest = omega arith
@@ -143,6 +148,7 @@ fits_layer setting depth (Step-F.Need rec value) rest h = (
 )
 fits_layer setting depth (Step-F.Reconf rec config) rest h = ((h.0, λ given. tt), h.1 answer.Nothing)
 fits_layer setting depth (Step-F.Child body) rest h = ((h.0, h.1, h.2, tt), h.3)
+fits_layer setting depth (Step-F.Par bodies) rest h = ((h.0, h.1, h.2, h.3, tt), h.4)
 fits_layer setting depth (Step-F.Abort levels) rest h = ((h.0, tt), h.1)
 fits_layer setting depth (Step-F.Crash copy) rest h = ((h.0, tt), h.1)
 fits_layer setting depth (Step-F.Kill session) rest h = ((h.0, tt), h.1)

@@ -20,8 +20,8 @@ use Rattle.qc_interp.specs.Follows.{RunsBody, FollowsBody}
 use Rattle.qc_interp.specs.FollowsScript.{net_of}
 use Rattle.qc_interp.specs.Reach.{Reach, AtTheEnd}
 use Rattle.qc_interp.specs.Session.{tops, NotBegun, AreAllOurs, RunsBodies, FollowsBodies, EndsTops, EndsTopsAt, InTurnAt}
-use Rattle.qc_interp.specs.Together.{IsSingle, HasRun}
-use Rattle.qc_interp.specs.Turns.{takes_turn, is_alone}
+use Rattle.qc_interp.specs.Together.{IsWhole, HasRun}
+use Rattle.qc_interp.specs.Turns.{takes_turn, is_alone, is_under}
 use Rattle.qc_interp.proofs.Adding.{numbers_stay, after_stay, all_over_more}
 use Rattle.qc_interp.proofs.Ending.{at_the_end}
 use Rattle.qc_interp.proofs.Followed.{tries_wider, follows_runs}
@@ -62,13 +62,14 @@ turns_later reach c seen newer none legal ran = record {
   inside = ap (list_all (is_of_one ran.made)) same ∙ subst (λ h. list_all (is_of_one ran.made) (mine c h) ≡ true) newer_is ran.inside;
   of_session = ap (list_all (starts_for c.session)) same ∙ subst (λ h. list_all (starts_for c.session) (mine c h) ≡ true) newer_is ran.of_session;
   numbers = λ was. numbers_stay c [] newer seen stay (ran.numbers was);
+  seats = λ was. subst (λ h. list_all (is_under h c.number) (children h []) ≡ true) (sym same) (ran.seats was);
   order = λ ours was over.
       let now = ran.order (ours_before c seen newer none ours) was over in (
         after_stay c [] newer seen stay now.0,
         at_the_end reach (all_over c seen ≡ true) (all_over c (newer ++ seen) ≡ true)
             (λ all. all_over_more c newer seen [] (tops_still c seen newer none ∙ sym (append-nil (tops c seen))) all refl) now.1,
       );
-  turns = λ ours was alone. subst (λ h. (each takes_turn h ≡ true) × AtTheEnd reach (is_alone h [] ≡ true)) (sym same) (ran.turns (ours_before c seen newer none ours) was alone);
+  turns = λ ours under was alone. subst (λ h. (each takes_turn h ≡ true) × AtTheEnd reach (is_alone h [] ≡ true)) (sym same) (ran.turns (ours_before c seen newer none ours) under was alone);
 }
   where
     same : mine c (newer ++ seen) ≡ mine c seen
@@ -81,13 +82,13 @@ turns_later reach c seen newer none legal ran = record {
     stay = ap (list_all (stays_in [])) none
 
 pub has_run_later : (reach : Reach) (setting : Setting) (session epoch patience : ℕ) (c : Client) (plan : SessionPlan) (seen newer : Past)
-    → c.session ≡ session → c.epoch ≡ epoch → c.setting ≡ setting → IsSingle c → EndsTopsAt reach c [] seen plan.tops → InTurnAt reach c [] seen → mine c newer ≡ [] → Legal c.setting (newer ++ seen)
-    → meets_fates c.number (net_of patience plan) (newer ++ seen) ≡ true → HasRun reach setting session epoch patience c plan (newer ++ seen)
-has_run_later reach setting session epoch patience c plan seen newer session_is epoch_is setting_is single ends ran none legal met = record {
+    → c.session ≡ session → c.epoch ≡ epoch → c.setting ≡ setting → IsWhole c → EndsTopsAt reach c [] seen plan.tops → InTurnAt reach c [] seen → mine c newer ≡ [] → Legal c.setting (newer ++ seen)
+    → list_all (λ seat. meets_fates seat (net_of patience plan) (newer ++ seen)) (c.number ∷ c.kin) ≡ true → HasRun reach setting session epoch patience c plan (newer ++ seen)
+has_run_later reach setting session epoch patience c plan seen newer session_is epoch_is setting_is whole ends ran none legal met = record {
   session_is = session_is;
   epoch_is = epoch_is;
   setting_is = setting_is;
-  single = single;
+  whole = whole;
   ends = ends_later reach c seen newer plan.tops none legal ends;
   in_turn = turns_later reach c seen newer none legal ran;
   met = met;
@@ -117,6 +118,7 @@ turns_begun c before now ran = record {
   inside = ran.inside;
   of_session = ran.of_session;
   numbers = ran.numbers;
+  seats = ran.seats;
   order = λ ours was over. ((ran.order ours was over).0, tt);
-  turns = λ ours was alone. ((ran.turns ours was alone).0, tt);
+  turns = λ ours under was alone. ((ran.turns ours under was alone).0, tt);
 }

@@ -2,7 +2,7 @@
 use Rattle.std.proofs.Common.{◌≡◌, ◌⊎◌, inl, inr, ℕ, zero, suc, Bool, true, false, List, [], ◌∷◌, ◌++◌, refl, sym, ap, ◌∙◌, append-nil, filter}
 use mathlib.Core.Bool.{true≢false}
 use Rattle.std.specs.Prelude.{Option, None, Some, ◌&&◌, ◌||◌, if◌then◌else◌}
-use Rattle.std.specs.List.{AllByRecursion, list_all, last_or}
+use Rattle.std.specs.List.{AllByRecursion, list_all, list_any, last_or}
 use Rattle.std.specs.Option.{option_or, option_map_or}
 use Rattle.std.proofs.lemmas.Bool.{and_parts}
 use Rattle.std.proofs.lemmas.List.Elements.{filter-append}
@@ -10,9 +10,14 @@ use Rattle.std.proofs.lemmas.List.Folds.{list_all-append}
 use Rattle.qc_event.specs.History.{Past, Name, kind_of}
 use Rattle.qc_script.specs.Plan.{Plan}
 use Rattle.qc_interp.specs.Deeds.{Deed, deed_end}
-use Rattle.qc_interp.specs.Rows.{OneOf, is_of_body, is_try, tries_among, was_tried, has_committed, failed_last, is_try_in, begin_each, each_tried, first_failed, are_tries_at_once}
+use Rattle.qc_interp.specs.Rows.{OneOf, is_of_body, is_try, tries_among, was_tried, has_committed, failed_last, is_try_in, begin_each, each_begun, each_own_seat, each_tried, first_failed, are_tries_at_once}
 use Rattle.qc_interp.specs.Tries.{is_tried_again}
 use Rattle.qc_interp.proofs.TriesAlike.{AreAlike, IfAny}
+
+-- if it is a child, this is so of it
+abbrev pub OfAnyChild : (Name → Type 0) → Deed → Type 0
+OfAnyChild P (Deed.child x) = P x
+OfAnyChild P (Deed.mark session) = Unit {0}
 
 -- EACH OF SOME THINGS
 
@@ -40,6 +45,14 @@ module _ {A : Type 0} where
       by_test : (b : Bool) → AllByRecursion P (filter test xs) → AllByRecursion P (if b then x ∷ filter test xs else filter test xs)
       by_test true more = (h.0, more)
       by_test false more = more
+
+  pub among_pass : (test : A → Bool) (xs : List A) → AllByRecursion (λ x. test x ≡ true) (filter test xs)
+  among_pass test [] = tt
+  among_pass test (x ∷ xs) = by_test (test x) refl (among_pass test xs)
+    where
+      by_test : (b : Bool) → test x ≡ b → AllByRecursion (λ y. test y ≡ true) (filter test xs) → AllByRecursion (λ y. test y ≡ true) (if b then x ∷ filter test xs else filter test xs)
+      by_test true is more = (is, more)
+      by_test false is more = more
 
   -- each that passes the test
   pub all_passing : (test : A → Bool) (P : A → Type 0) (xs : List A) → AllByRecursion P (filter test xs) → AllByRecursion (λ x. test x ≡ true → P x) xs
@@ -69,7 +82,7 @@ none_tried : (past : Past) (left : ℕ) → was_tried past true left [] ≡ true
 none_tried past zero = refl
 none_tried past (suc left) = refl
 
-none_each : (past : Past) (branches : Plan) → each_tried past true branches [] ≡ true
+pub none_each : (past : Past) (branches : Plan) → each_tried past true branches [] ≡ true
 none_each past (Plan.child_then number tries must inner others) = ap (λ b. b && each_tried past true others []) (none_tried past tries) ∙ none_each past others
 none_each past _ = refl
 
@@ -79,6 +92,10 @@ none_at_once past branches = ap (λ b. b && each_tried past true branches []) (b
     begins : (row : Plan) → begin_each past row [] ≡ true
     begins (Plan.child_then number tries must inner others) = refl
     begins _ = refl
+
+pub none_own_seat : (past : Past) (branches : Plan) → each_own_seat past branches [] ≡ true
+none_own_seat past (Plan.child_then number tries must inner others) = none_own_seat past others
+none_own_seat past _ = refl
 
 pub none_failed : (past : Past) (branches : Plan) → first_failed past branches [] ≡ None
 none_failed past (Plan.child_then number tries must inner others) = ap (λ o. option_or o (first_failed past others [])) (by_must must) ∙ none_failed past others
@@ -147,6 +164,15 @@ module _ (p q : Past) where
       ap (λ b. b && begin_each p branches ds && each_tried p true branches ds) (all_in_alike branches ds all)
       ∙ ap (λ b. list_all (is_try_in q branches) ds && b && each_tried p true branches ds) (begin_alike branches ds all)
       ∙ ap (λ b. list_all (is_try_in q branches) ds && begin_each q branches ds && b) (each_alike true branches ds all)
+
+  any_alike : (number : ℕ) (ds : List Deed) → AllByRecursion (IsSameTry p q) ds → list_any (is_try p number) ds ≡ list_any (is_try q number) ds
+  any_alike number [] all = refl
+  any_alike number (d ∷ ds) all = ap (λ b. b || list_any (is_try p number) ds) (all.0.tried number) ∙ ap (λ b. is_try q number d || b) (any_alike number ds all.1)
+
+  pub begun_alike : (branches : Plan) (ds : List Deed) → AllByRecursion (IsSameTry p q) ds → each_begun p branches ds ≡ each_begun q branches ds
+  begun_alike (Plan.child_then number tries must inner others) ds all =
+      ap (λ b. b && each_begun p others ds) (any_alike number ds all) ∙ ap (λ b. list_any (is_try q number) ds && b) (begun_alike others ds all)
+  begun_alike _ ds all = refl
 
   -- the same branch failed, where each committed alike
   abbrev IsSameEnd : Deed → Type 0

@@ -10,17 +10,18 @@ use Rattle.qc_event.specs.declared.event.Event.{Event}
 use Rattle.qc_event.specs.declared.event.Event.TheVariants as event
 use Rattle.qc_event.specs.declared.event.How.{How}
 use Rattle.qc_event.specs.declared.event.How.TheVariants.{Commit, Abort}
-use Rattle.qc_event.specs.History.{Past, Name, Begun, earliest, start, end, end_in, is_ready, is_child, kind_of, same}
+use Rattle.qc_event.specs.History.{Past, Name, Begun, earliest, start, end, end_in, is_ready, ready_in, is_child, kind_of, same}
 use Rattle.qc_event.specs.Legal.{Legal}
 use Rattle.qc_event.proofs.Lawful.{ends_open}
 use Rattle.qc_event.proofs.LegalOrderly.{legal_orderly}
 use Rattle.qc_event.proofs.Orderly.{KeepsOrder}
 use Rattle.qc_event.proofs.LastNumber.{child_longer}
-use Rattle.qc_event.proofs.OneEntry.{starting, ending, marking, some_or_none, not_some, all_children}
+use Rattle.qc_event.proofs.OneEntry.{starting, ending, marking, some_or_none, not_some, unless_some, all_children}
 use Rattle.qc_names.specs.Name as name
 use Rattle.qc_script.specs.Client.{Client, mine, is_own, scope, concerns, is_commit, AreOurs, all_ours}
 use Rattle.qc_interp.specs.Deeds.{Deed, deed_in, deeds}
-use Rattle.qc_interp.specs.Turns.{is_done}
+use Rattle.qc_interp.specs.Rows.{opens_seat, starts}
+use Rattle.qc_interp.specs.Turns.{is_done, seat_of}
 use Rattle.qc_interp.proofs.Deeds.{Silent, mark_silent, begun, children_are}
 use Rattle.qc_interp.specs.Follows.{WasAsked, WasKilled, RunsPlan}
 use Rattle.qc_interp.specs.Reach.{Reach}
@@ -31,8 +32,11 @@ use Rattle.qc_interp.proofs.Growth.{implied, own_found}
 use Rattle.qc_interp.proofs.Scope.{at_scope, scope_some, not_one, concerns_end, concerns_abort, concerns_ready}
 use Rattle.qc_interp.proofs.Ending.{committed_ready}
 use Rattle.qc_interp.proofs.Followed.{plan_committed}
-use Rattle.qc_interp.proofs.Alike.{AgreesAt, OfAnyChild, below_child, plan_alike, plan_asks_alike}
-use Rattle.std.proofs.lemmas.Bool.{and_parts}
+use Rattle.qc_interp.proofs.Alike.{AgreesAt, AreInOrder, below_child, low_children, plan_alike, plan_asks_alike}
+use Rattle.qc_interp.proofs.Behind.{DropsNothing, starts_is, waits_kept}
+use Rattle.qc_interp.proofs.Beside.{opens_kept}
+use Rattle.qc_interp.proofs.Rows.{OfAnyChild}
+use Rattle.std.proofs.lemmas.Bool.{and_parts, false_from_ne_true}
 use Rattle.qc_event.specs.declared.event.Cause.{Cause}
 use Rattle.qc_event.specs.declared.event.Cause.TheVariants as cause
 use Rattle.qc_event.specs.declared.event.Kind.{Kind}
@@ -50,6 +54,12 @@ module _ (c : Client) (of : Name) (past : Past) (ours : AreOurs c of past) where
   module _ (n : Name) (low : name.is_ancestor (scope c of) n ≡ true) where
     same_start : start (mine c past) n ≡ start past n
     same_start = same_found _ (λ e y h. let s = starting n e.seat e.event (ap is_some h) in subst (λ ev. concerns (scope c of) ev ≡ true) (sym s.1) low)
+
+    same_seat : seat_of (mine c past) n ≡ seat_of past n
+    same_seat = ap (option_map (λ (b : Begun). b.seat)) same_start
+
+    same_opens : opens_seat (mine c past) n ≡ opens_seat past n
+    same_opens = opens_kept (is_own c) past n same_start
 
     pub same_kind : kind_of (mine c past) n ≡ kind_of past n
     same_kind = ap (option_map (λ (b : Begun). b.kind)) same_start
@@ -83,6 +93,23 @@ own_once c (e ∷ past) n how legal is = by_test (is_own c e.seat) (own_once c p
 -- an abort of a name about whose scope all is the client's is the client's
 pub own_abort : (c : Client) (n : Name) (past : Past) (x : Cause) → AreOurs c n past → end past n ≡ Some (Abort x) → end (mine c past) n ≡ Some (Abort x)
 own_abort c n past x ours is = low_abort c n past ours n (at_scope c n) x is
+
+-- IN WHICH ORDER
+
+-- what is not the client's neither ends nor makes ready a name in the scope that is no top, nor starts one
+module _ (c : Client) (of a b : Name) (low : name.is_ancestor (scope c of) a ≡ true) (apart : (length a == 1) ≡ false) (low_too : name.is_ancestor (scope c of) b ≡ true) where
+  silent : (e : Entry) → (concerns (scope c of) e.event ≡ true → ⊥) → (end_in a e.event ≡ None) × (ready_in a e.event ≡ None) × (starts b e.event ≡ false)
+  silent e told = (
+    unless_some (end_in a e.event) (λ how g. told (subst (λ ev. concerns (scope c of) ev ≡ true) (sym (ending a e.event how g)) (concerns_end (scope c of) a how low (ap (λ t. t && is_commit how) apart)))),
+    not_some (ready_in a e.event) (λ g. told (subst (λ ev. concerns (scope c of) ev ≡ true) (sym (marking a e.event g)) (concerns_ready (scope c of) a (inl low)))),
+    false_from_ne_true (starts b e.event) (λ g. let s = starts_is b e.event g in told (subst (λ ev. concerns (scope c of) ev ≡ true) (sym s.1) low_too)),
+  )
+
+  drops_nothing : (past : Past) → all_ours c of past ≡ true → DropsNothing (λ (e : Entry). is_own c e.seat) a b past
+  drops_nothing [] ours = tt
+  drops_nothing (e ∷ past) ours =
+      let both = and_parts (not (concerns (scope c of) e.event) || is_own c e.seat) (all_ours c of past) ours in
+      ((λ out. silent e (λ told. true≢false (sym (implied (concerns (scope c of) e.event) (is_own c e.seat) both.0 told) ∙ out))), drops_nothing past both.1)
 
 -- WHAT IS DONE IN THE SCOPE
 
@@ -185,11 +212,19 @@ module _ (c : Client) (of : Name) (past : Past) (ours : AreOurs c of past) (lega
   longer [] low = absurd (scope_some c of far low.0)
   longer (x ∷ n) low = omega arith
 
+  in_order : (n : Name) → name.is_ancestor (scope c of) n ≡ true → 0 < length n → AreInOrder made past n
+  in_order n low long x y child other h =
+      let apart : (length x == 1) ≡ false = not_one x (omega (arith, child_longer n x child, long)) in
+      sym (waits_kept (λ (e : Entry). is_own c e.seat) x y past (drops_nothing c of x y (below_child (scope c of) n x low child) apart (below_child (scope c of) n y low other) past ours)) ∙ h
+
   agrees : (x : Name) → Low x → AgreesAt made past x
   agrees x low = record {
     kind = same_kind c of past ours x low.0;
     ended = same_end c of past ours x low.0 low.1;
     ready = same_ready c of past ours x low.0;
+    seat = same_seat c of past ours x low.0;
+    opens = same_opens c of past ours x low.0;
+    order = in_order x low.0 (longer x low);
     deeds = same_deeds c of past ours legal far x low.0;
   }
 
@@ -197,7 +232,9 @@ module _ (c : Client) (of : Name) (past : Past) (ours : AreOurs c of past) (lega
   down x low = all_low made x low.0 (longer x low)
 
   plan_seen : (reach : Reach) (s : ℕ) (plan : Plan) (how : Option How) → name.is_ancestor (scope c of) of ≡ true → RunsPlan reach s made of plan (deeds made of) how → RunsPlan reach s past of plan (deeds made of) how
-  plan_seen reach s plan how low h = plan_alike made past Low agrees down reach s of plan (deeds made of) how (same_ready c of past ours of low) (all_low made of low far) h
+  plan_seen reach s plan how low h =
+      plan_alike made past Low agrees down reach s of plan (deeds made of) how (record { ready = same_ready c of past ours of low; seat = same_seat c of past ours of low; order = in_order of low far })
+      (low_children made past Low agrees down of (all_low made of low far)) h
 
   -- who was killed by what was seen was killed by what the client made
   was_killed_seen : (n : Name) → name.is_ancestor (scope c of) n ≡ true → WasKilled (end past n) → WasKilled (end made n)

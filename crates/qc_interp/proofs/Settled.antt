@@ -3,7 +3,6 @@ use Rattle.std.proofs.Common.{◌≡◌, inl, inr, arith, ℕ, Bool, true, false
 use mathlib.Core.Bool.{true≢false}
 use Rattle.std.specs.Prelude.{Option, None, Some, MatchOption, slice_get, is_some, option_to_list, ◌&&◌, ◌||◌, if◌then◌else◌}
 use Rattle.std.specs.List.{list_all}
-use Rattle.std.specs.Option.{option_or}
 use Rattle.std.proofs.lemmas.List.Folds.{list_all-append}
 use Rattle.std.proofs.Math.Bool.{or-false}
 use Rattle.std.proofs.lemmas.Bool.{and_parts, and_from, or_right, false_from_ne_true}
@@ -21,7 +20,7 @@ use Rattle.qc_event.proofs.KindsApart.{user_or_manager}
 use Rattle.qc_event.proofs.Lawful.{lawful}
 use Rattle.qc_event.proofs.LegalOrderly.{legal_orderly}
 use Rattle.qc_event.proofs.LastNumber.{ends_in, front_last}
-use Rattle.qc_event.proofs.OneEntry.{if_is, first_is, first_some, starting, some_or_none, not_some}
+use Rattle.qc_event.proofs.OneEntry.{if_is, first_is, first_some, starting, some_or_none}
 use Rattle.qc_event.proofs.Orderly.{Belongs}
 use Rattle.qc_names.specs.Name as name
 use Rattle.qc_script.specs.Calls.{is_access, is_over}
@@ -34,7 +33,8 @@ use Rattle.qc_interp.proofs.Ending.{top_user}
 use Rattle.qc_interp.proofs.Mine.{kept_some}
 use Rattle.qc_interp.proofs.Places.{some_same, every_passes}
 use Rattle.qc_interp.proofs.ReadyTops.{ready_is_top}
-use Rattle.qc_interp.proofs.Starts.{begun_by, started_at, start_seat}
+use Rattle.qc_interp.proofs.Seats.{own_start}
+use Rattle.qc_interp.proofs.Starts.{begun_by, started_at}
 
 -- WHAT PASSES OF ALL
 
@@ -88,19 +88,6 @@ settled_ended : (past : Past) (n : Name) → is_ready past n ≡ false → is_se
 settled_ended past n unready settled = sym (ap (λ b. is_some (end past n) || (b && is_over past n)) unready ∙ or-false (is_some (end past n))) ∙ settled
 
 -- WHAT A CLIENT STARTED
-
--- what a client started stands among what it made
-own_start : (c : Client) (past : Past) (n : Name) (b : Begun) → start past n ≡ Some b → is_own c b.seat ≡ true → start (mine c past) n ≡ Some b
-own_start c [] n b is own = absurd cc
-own_start c (e ∷ past) n b is own = elim (first_is (start past n) (start_in n e.seat e.event) b is) [
-  | inl old ↦ by_test (is_own c e.seat) (own_start c past n b old own)
-  | inr new ↦ subst (λ x. start (if x then e ∷ mine c past else mine c past) n ≡ Some b) (sym (ap (is_own c) (start_seat n e.seat e.event b new.1) ∙ own))
-      (ap (λ o. option_or o (start_in n e.seat e.event)) (not_some (start (mine c past) n) (λ h. some_or_none (start past n) (kept_some (λ (x : Entry). is_own c x.seat) (λ x. start_in n x.seat x.event) past h) new.0)) ∙ new.1)
-]
-  where
-    by_test : (x : Bool) → start (mine c past) n ≡ Some b → start (if x then e ∷ mine c past else mine c past) n ≡ Some b
-    by_test false h = h
-    by_test true h = ap (λ o. option_or o (start_in n e.seat e.event)) h
 
 -- a user transaction or manager that a client started is settled, where the client is alone at the root and its tops are over
 pub begun_settled : (c : Client) (past : Past) (n : Name) (b : Begun) → Legal c.setting past → is_alone (mine c past) [] ≡ true → all_over c past ≡ true → start past n ≡ Some b → is_own c b.seat ≡ true → is_access b.kind ≡ false → is_settled past n ≡ true

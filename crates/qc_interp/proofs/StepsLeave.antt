@@ -24,6 +24,7 @@ use Rattle.qc_interp.specs.Deeds.{Deed, deeds}
 use Rattle.qc_interp.proofs.Deeds.{one_child_more}
 use Rattle.qc_interp.specs.Follows.{StopsEarly, WasAsked, IsUnended, RunsPlan, FollowsPlan, GoesOn, is_handed_on}
 use Rattle.qc_interp.specs.Reach.{Reach}
+use Rattle.qc_interp.specs.Turns.{is_beside}
 use Rattle.qc_script.specs.Plan.{Plan, manage_then}
 use Rattle.qc_script.specs.Plan.{KindFits}
 use Rattle.qc_interp.specs.Running.{Runs, Leaves, WhyStop, StopsBy, Stopped, EndsAt, Ended, CutOff, WentOn, WentBy}
@@ -31,7 +32,8 @@ use Rattle.qc_interp.specs.declared.stops.Finish.TheVariants as finish
 use Rattle.qc_script.specs.declared.tx.TxNo.{TxNo}
 use Rattle.qc_script.specs.declared.tx.TxNo.TheVariants as tx_no
 use Rattle.qc_interp.proofs.Mine.{end_some, kind_still, kept_some, some_is}
-use Rattle.qc_interp.proofs.Growth.{made_both, ours_before, own_found}
+use Rattle.qc_interp.proofs.Seats.{start_under, later_seat, later_beside}
+use Rattle.qc_interp.proofs.Growth.{made_both, later_itself, ours_before, own_found}
 use Rattle.qc_interp.proofs.Managers.{Managed, managed, Interrupted, interrupted}
 use Rattle.qc_interp.proofs.Stopping.{asked_early, unended_stopped, running_stops, running_unended}
 use Rattle.qc_interp.proofs.Scope.{child_scope}
@@ -104,11 +106,16 @@ module _ (c : Client) (of : Name) where
     runs_managed runs = record {
       legal = ran.later.legal;
       user = subst (λ h. Started h of (λ b. IsOfSession c.session b.kind)) (sym ran.later.grown) (started_still ran.later.newer before of _ runs.user);
+      seat = later_seat c before now ran.later of c.number runs.seat;
       nonroot = runs.nonroot;
       below = runs.below;
       above = λ p r is far. (subst (λ o. IsUnended p o) (sym (ran.same_end p r is)) (runs.above p r is far).0, ran.same_ready p r is ∙ (runs.above p r is far).1);
       closed = λ ours. closed_more before now m ran.later ran.deeds (runs.closed (ours_before c of before now ran.later ours)) (ap is_some ran.end);
     }
+
+    -- it stands beside its transaction, now and later
+    pub managed_beside : Runs c of before → (x : Past) → IsLater c now x → is_beside (mine c x) of m ≡ true
+    managed_beside runs x later = later_beside c now x later of m (later_seat c before now ran.later of c.number runs.seat) (start_under now m c.number k ran.started)
 
     -- whatever follows it follows the step
     pub more_follows : (x : Past) (Rest Asked : List Deed → Type 0) → IsLater c now x
@@ -134,6 +141,7 @@ module _ (c : Client) (of : Name) where
         h.1,
         (
           kind_later now x later _ k ran.kind,
+          managed_beside k _ _ before now ran runs x later,
           subst (λ o. GoesOn reach (mine c x) of o (λ given. RunsPlan reach c.session (mine c x) of (next given) h.0 (end (mine c x) of)) h.0 (end (mine c x) of)) (sym (end_later now x later _ _ ran.end)) h.2,
         ),
         asked_trans c before now x _ (asked_none c before now _ ran.asked) (asked_wider _ _ (λ by t a. subst (λ o. DoesOn o (λ given. Asks (mine c x) of (next given) h.0 by t)) (sym (end_later now x later _ _ ran.end)) a) c now x h.3),
@@ -171,9 +179,9 @@ module _ (c : Client) (of : Name) where
   }
 
   -- it stops with the manager as its last child
-  stopped_managed : (k : Kind) (x : Cause) (m : Name) (before mid now : Past) (why : TxNo) (again : Bool) (next : Answer → Plan) → Managed c of k (Abort x) m before mid → Stopped c of why mid now again
+  stopped_managed : (k : Kind) (x : Cause) (m : Name) (before mid now : Past) (why : TxNo) (again : Bool) (next : Answer → Plan) → Runs c of before → Managed c of k (Abort x) m before mid → Stopped c of why mid now again
       → (StopsBy of why (end (mine c now) of) → ((is_handed_on x ≡ true) × (end (mine c now) of ≡ Some (Abort x))) ⊎ StopsEarly of (end (mine c now) of)) → Ended c of before now (Plan.manage_by k next) (finish.Stopped again)
-  stopped_managed k x m before mid now why again next ran stopped handed = record {
+  stopped_managed k x m before mid now why again next runs ran stopped handed = record {
     leaves = leaves_trans c of before mid now (leaves_managed k _ m before mid ran) stopped.leaves;
     tried = stopped.tried;
     ends = λ ours. (
@@ -181,6 +189,7 @@ module _ (c : Client) (of : Name) where
       stopped.deeds ∙ ran.deeds,
       (
         kind_later mid now stopped.leaves.later m k ran.kind,
+        managed_beside k _ m before mid ran runs now stopped.leaves.later,
         subst (λ o. GoesOn Reach.to_the_end (mine c now) of o (λ given. FollowsPlan c.session (mine c now) of (next given) [] (end (mine c now) of)) [] (end (mine c now) of)) (sym (end_later mid now stopped.leaves.later m _ ran.end)) (refl, handed (stopped.ended ours)),
       ),
       asked_none c before now _ (asked_trans c before mid now NoOne ran.asked stopped.asked),
@@ -201,14 +210,14 @@ module _ (c : Client) (of : Name) where
   manage_over k before mid now tx_no.Room again next runs none other full stopped = absurd (full refl)
   manage_over k before mid now (tx_no.Orphan a) again next runs none other full stopped = elim none.1 [
     | inl m ↦ stopped_still before mid now _ again _ m stopped (λ s. orphan_early a _ s)
-    | inr ran ↦ stopped_managed k _ _ before mid now _ again next (managed c of k _ before mid runs.nonroot ran) stopped (λ s. inr (orphan_early a _ s))
+    | inr ran ↦ stopped_managed k _ _ before mid now _ again next runs (managed c of k _ before mid runs.nonroot ran) stopped (λ s. inr (orphan_early a _ s))
   ]
   manage_over k before mid now (tx_no.Conflict copy holder) again next runs ran other full stopped =
-      stopped_managed k _ _ before mid now _ again next (managed c of k _ before mid runs.nonroot ran) stopped (λ s. handed_on (cause.Conflict copy holder) _ refl s)
+      stopped_managed k _ _ before mid now _ again next runs (managed c of k _ before mid runs.nonroot ran) stopped (λ s. handed_on (cause.Conflict copy holder) _ refl s)
   manage_over k before mid now (tx_no.NoQuorum lack) again next runs ran other full stopped =
-      stopped_managed k _ _ before mid now _ again next (managed c of k _ before mid runs.nonroot ran) stopped (λ s. handed_on (cause.NoQuorum lack) _ refl s)
+      stopped_managed k _ _ before mid now _ again next runs (managed c of k _ before mid runs.nonroot ran) stopped (λ s. handed_on (cause.NoQuorum lack) _ refl s)
   manage_over k before mid now tx_no.Last again next runs ran other full stopped =
-      stopped_managed k _ _ before mid now _ again next (managed c of k _ before mid runs.nonroot ran) stopped (λ s. handed_on cause.Last _ refl s)
+      stopped_managed k _ _ before mid now _ again next runs (managed c of k _ before mid runs.nonroot ran) stopped (λ s. handed_on cause.Last _ refl s)
   manage_over k before mid now tx_no.Ended again next runs none other full stopped = stopped_still before mid now _ again _ none.0 stopped (λ s. asked_early of _ s)
   manage_over k before mid now tx_no.Ready again next runs none other full stopped = stopped_still before mid now _ again _ none.0 stopped (λ s. asked_early of _ s)
   manage_over k before mid now (tx_no.ChildrenOpen child) again next runs none other full stopped = absurd none
@@ -229,6 +238,7 @@ module _ (c : Client) (of : Name) where
           ap (λ h. deeds h of) (still c of mid now made) ∙ ran.deeds,
           (
             kind_later mid now later m k ran.kind,
+            managed_beside k _ m before mid ran runs now later,
             subst (λ o. GoesOn Reach.cut_off (mine c now) of o (λ given. RunsPlan Reach.cut_off c.session (mine c now) of (next given) [] (end (mine c now) of)) [] (end (mine c now) of)) (sym (end_later mid now later m _ ran.end)) (refl, inr (running_stops (mine c now) of _ at.0 at.1)),
           ),
           asked_none c before now _ (asked_trans c before mid now NoOne ran.asked (asked_made c [] mid now NoOne made tt)),
@@ -258,6 +268,7 @@ module _ (c : Client) (of : Name) where
           ran.deeds,
           (
             ran.kind,
+            later_beside c now now (later_itself c now ran.later.legal) of m (later_seat c before now ran.later of c.number runs.seat) (start_under now m c.number k ran.started),
             subst (λ o. GoesOn Reach.cut_off (mine c now) of o (λ given. RunsPlan Reach.cut_off c.session (mine c now) of (next given) [] (end (mine c now) of)) [] (end (mine c now) of)) (sym ran.end) (refl, running_unended (mine c now) of _ unended unready),
           ),
           asked_none c before now _ ran.asked,

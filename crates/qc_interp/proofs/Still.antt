@@ -1,5 +1,5 @@
 -- Who follows a plan, by some entries of a legal history, follows it by those of each later one.
-use Rattle.std.proofs.Common.{◌≡◌, inl, inr, ℕ, zero, suc, Bool, true, false, List, [], ◌∷◌, ◌++◌, refl, sym, ap, ◌∙◌, subst, filter}
+use Rattle.std.proofs.Common.{◌≡◌, ◌⊎◌, inl, inr, ℕ, zero, suc, Bool, true, false, List, [], ◌∷◌, ◌++◌, refl, sym, ap, ◌∙◌, subst, filter}
 use mathlib.Core.Bool.{true≢false}
 use Rattle.std.specs.Prelude.{◌==◌, ◌||◌, Option, None, Some, MatchBool, is_some}
 use Rattle.std.specs.List.{AllByRecursion}
@@ -17,14 +17,17 @@ use Rattle.qc_event.proofs.OneEntry.{stays_some}
 use Rattle.qc_script.specs.Plan.{Plan}
 use Rattle.qc_interp.specs.Deeds.{Deed, deeds, deed_end, OfChild}
 use Rattle.qc_interp.specs.Tries.{Tries, is_tried_again}
-use Rattle.qc_interp.specs.Follows.{StopsEarly, StopsBefore, GoesOn, GoesOnAfter, AfterTries, AfterRow, Commits, RunsRow, FollowsPlan}
-use Rattle.qc_interp.specs.Rows.{is_of_body, is_try, tries_among, is_try_in, each_tried, first_failed, are_tries_at_once}
+use Rattle.qc_interp.specs.Follows.{StopsEarly, HasNotEnded, StopsBefore, WasOrphan, WasTurnedBack, GoesOn, GoesOnAfter, AfterTries, AfterRow, Commits, RunsRow, FollowsPlan}
+use Rattle.qc_interp.specs.Rows.{AreAtOnce, is_of_body, is_try, tries_among, is_try_in, each_begun, each_tried, first_failed, are_tries_at_once}
+use Rattle.qc_interp.specs.Turns.{is_beside}
 use Rattle.qc_interp.specs.Reach.{Reach}
-use Rattle.qc_interp.proofs.Mine.{Closed, CommittedSince, how_still, end_some, kind_still, kept_append}
+use Rattle.qc_interp.proofs.Behind.{is_behind_still}
+use Rattle.qc_interp.proofs.Beside.{IsSameSeat, beside_later, own_seat_alike, seats_later}
+use Rattle.qc_interp.proofs.Mine.{Closed, CommittedSince, how_still, end_some, kind_still, kept_append, some_is}
 use Rattle.qc_interp.proofs.Deeds.{deeds_still}
-use Rattle.qc_interp.proofs.Rows.{IsSameTry, all_map, all_both, all_each, all_passing, all_passed, among_alike, each_alike, at_once_alike, failed_stays, at_once, unknown_in}
+use Rattle.qc_interp.proofs.Rows.{IsSameTry, all_map, all_both, all_each, all_passing, all_passed, among_alike, begun_alike, each_alike, at_once_alike, failed_stays, at_once, unknown_in}
 use Rattle.qc_interp.proofs.TriesAlike.{IfAny}
-use Rattle.qc_interp.proofs.Followed.{IsTryOf, plan_committed, followed_done, followed_ready, done_closed}
+use Rattle.qc_interp.proofs.Followed.{IsTryBeside, IsRowTry, plan_committed, followed_done, followed_ready, done_closed, row_try_done, turned_ended}
 
 module _ (s : ℕ) (p : Entry → Bool) (setting : Setting) (newer past : Past) (legal : Legal setting (newer ++ past)) where
   abbrev old : Past
@@ -107,10 +110,28 @@ module _ (s : ℕ) (p : Entry → Bool) (setting : Setting) (newer past : Past) 
           let was : FollowsPlan s now c inner (deeds old c) None = subst (λ o. FollowsPlan s now c inner (deeds old c) o) h f in
           plan_committed Reach.to_the_end s now c inner (deeds old c) given (followed_ready s now c inner (deeds old c) was) was
 
-  try_still : (number : ℕ) (inner : Plan) → ((c : Name) → FollowsPlan s old c inner (deeds old c) (end old c) → FollowsPlan s now c inner (deeds now c) (end now c) × Closed old c)
-      → (d : Deed) → OfChild (IsTryOf Reach.to_the_end s old number inner) d → OfChild (IsTryOf Reach.to_the_end s now number inner) d × OfChild (Closed old) d
-  try_still number inner step (Deed.child c) h = let one = step c h.1 in ((kind_still p setting newer past c _ h.0, one.0), one.1)
-  try_still number inner step (Deed.mark m) h = absurd h
+  -- who stands beside a name stands so for ever
+  beside_still : (a b : Name) → is_beside old a b ≡ true → is_beside now a b ≡ true
+  beside_still a b h = subst (λ h. is_beside h a b ≡ true) (sym (kept_append p newer past)) (beside_later (filter p newer) old a b h)
+
+  try_still : (n : Name) (number : ℕ) (inner : Plan) → ((c : Name) → FollowsPlan s old c inner (deeds old c) (end old c) → FollowsPlan s now c inner (deeds now c) (end now c) × Closed old c)
+      → (d : Deed) → OfChild (IsTryBeside Reach.to_the_end s old n number inner) d → OfChild (IsTryBeside Reach.to_the_end s now n number inner) d × OfChild (Closed old) d
+  try_still n number inner step (Deed.child c) h = let one = step c h.2 in ((beside_still n c h.0, kind_still p setting newer past c _ h.1, one.0), one.1)
+  try_still n number inner step (Deed.mark m) h = absurd h
+
+  -- a branch that was turned back stays so
+  turned_still : (c : Name) → WasTurnedBack Reach.to_the_end old c → WasTurnedBack Reach.to_the_end now c
+  turned_still c h =
+      let ended = turned_ended old c h in
+      let how = some_is (end old c) ended in
+      let same : end old c ≡ end now c = how.1 ∙ sym (end_some p setting newer past c how.0 how.1) in
+      (deeds_still p setting newer past c legal (inl ended) ∙ h.0, subst (λ o. WasOrphan o ⊎ HasNotEnded Reach.to_the_end now c o) same h.1)
+
+  row_try_still : (all_begun : Bool) (number : ℕ) (inner : Plan) → ((c : Name) → FollowsPlan s old c inner (deeds old c) (end old c) → FollowsPlan s now c inner (deeds now c) (end now c) × Closed old c)
+      → (d : Deed) → OfChild (IsRowTry Reach.to_the_end s old all_begun number inner) d → OfChild (IsRowTry Reach.to_the_end s now all_begun number inner) d
+  row_try_still true number inner step (Deed.child c) h = (kind_still p setting newer past c _ h.0, (step c h.1).0)
+  row_try_still false number inner step (Deed.child c) h = (kind_still p setting newer past c _ h.0, turned_still c h.1)
+  row_try_still all_begun number inner step (Deed.mark m) h = absurd h
 
   -- WHERE BRANCHES RUN AT ONCE
 
@@ -123,27 +144,47 @@ module _ (s : ℕ) (p : Entry → Bool) (setting : Setting) (newer past : Past) 
       by_kind None is = absurd (true≢false (sym h ∙ unknown_in old c branches is))
       by_kind (Some k) is = ap (λ o. option_map_or (is_of_body number) o false) (is ∙ sym (kind_still p setting newer past c k is))
 
-  row_closed : (branches : Plan) (ds : List Deed) → RunsRow Reach.to_the_end s old branches ds → AllByRecursion (λ d. is_try_in old branches d ≡ true → OfChild (Closed old) d) ds
-  row_closed (Plan.child_then number tries must inner others) ds h =
-      all_both _ _ _ (λ d first further. by_test d (is_try old number d) first further) ds (all_passing (is_try old number) (OfChild (IsTryOf Reach.to_the_end s old number inner)) ds h.0) (row_closed others ds h.1)
+  same_seat : (branches : Plan) (d : Deed) → is_try_in old branches d ≡ true → IsSameSeat old now d
+  same_seat branches (Deed.mark m) h = tt
+  same_seat branches (Deed.child c) h = by_kind (kind_of old c) refl
     where
-      closed : (d : Deed) → OfChild (IsTryOf Reach.to_the_end s old number inner) d → OfChild (Closed old) d
-      closed (Deed.child c) t = done_closed old c (followed_done s old c inner (deeds old c) (end old c) t.1)
+      by_kind : (o : Option Kind) → kind_of old c ≡ o → IsSameSeat old now (Deed.child c)
+      by_kind None is = absurd (true≢false (sym h ∙ unknown_in old c branches is))
+      by_kind (Some k) is = subst (λ h. IsSameSeat old h (Deed.child c)) (sym (kept_append p newer past)) (seats_later (filter p newer) old c k is)
+
+  -- each try in a row is done
+  row_closed : (all_begun : Bool) (branches : Plan) (ds : List Deed) → RunsRow Reach.to_the_end s old all_begun branches ds → AllByRecursion (λ d. is_try_in old branches d ≡ true → OfChild (Closed old) d) ds
+  row_closed all_begun (Plan.child_then number tries must inner others) ds h =
+      all_both _ _ _ (λ d first further. by_test d (is_try old number d) first further) ds (all_passing (is_try old number) (OfChild (IsRowTry Reach.to_the_end s old all_begun number inner)) ds h.0) (row_closed all_begun others ds h.1)
+    where
+      closed : (d : Deed) → OfChild (IsRowTry Reach.to_the_end s old all_begun number inner) d → OfChild (Closed old) d
+      closed (Deed.child c) t = row_try_done s old all_begun number inner c t
       closed (Deed.mark m) t = absurd t
 
-      by_test : (d : Deed) (b : Bool) → (b ≡ true → OfChild (IsTryOf Reach.to_the_end s old number inner) d) → (is_try_in old others d ≡ true → OfChild (Closed old) d) → (b || is_try_in old others d) ≡ true → OfChild (Closed old) d
+      by_test : (d : Deed) (b : Bool) → (b ≡ true → OfChild (IsRowTry Reach.to_the_end s old all_begun number inner) d) → (is_try_in old others d ≡ true → OfChild (Closed old) d) → (b || is_try_in old others d) ≡ true → OfChild (Closed old) d
       by_test d true first further is = closed d (first refl)
       by_test d false first further is = further is
-  row_closed Plan.done ds h = all_each _ (λ d is. absurd (true≢false (sym is))) ds
-  row_closed (Plan.manage_by k next) ds h = all_each _ (λ d is. absurd (true≢false (sym is))) ds
-  row_closed (Plan.par_then branches rest) ds h = all_each _ (λ d is. absurd (true≢false (sym is))) ds
-  row_closed (Plan.abort_then levels rest) ds h = all_each _ (λ d is. absurd (true≢false (sym is))) ds
-  row_closed (Plan.crash_then copy rest) ds h = all_each _ (λ d is. absurd (true≢false (sym is))) ds
-  row_closed (Plan.kill_then session rest) ds h = all_each _ (λ d is. absurd (true≢false (sym is))) ds
+  row_closed all_begun Plan.done ds h = all_each _ (λ d is. absurd (true≢false (sym is))) ds
+  row_closed all_begun (Plan.manage_by k next) ds h = all_each _ (λ d is. absurd (true≢false (sym is))) ds
+  row_closed all_begun (Plan.par_then branches rest) ds h = all_each _ (λ d is. absurd (true≢false (sym is))) ds
+  row_closed all_begun (Plan.abort_then levels rest) ds h = all_each _ (λ d is. absurd (true≢false (sym is))) ds
+  row_closed all_begun (Plan.crash_then copy rest) ds h = all_each _ (λ d is. absurd (true≢false (sym is))) ds
+  row_closed all_begun (Plan.kill_then session rest) ds h = all_each _ (λ d is. absurd (true≢false (sym is))) ds
 
-  pub same_tries : (branches : Plan) (ds : List Deed) → are_tries_at_once old branches ds ≡ true → RunsRow Reach.to_the_end s old branches ds → AllByRecursion (IsSameTry old now) ds
-  same_tries branches ds h runs =
-      all_both _ _ _ (λ d is closed. record { tried = same_known branches d is; again = sym (deed_again_still d (closed is)) }) ds (all_passed (is_try_in old branches) ds (at_once old branches ds h).each) (row_closed branches ds runs)
+  tries_closed : (all_begun : Bool) (branches : Plan) (ds : List Deed) → are_tries_at_once old branches ds ≡ true → RunsRow Reach.to_the_end s old all_begun branches ds → AllByRecursion (OfChild (Closed old)) ds
+  tries_closed all_begun branches ds h runs = all_both _ _ _ (λ d is closed. closed is) ds (all_passed (is_try_in old branches) ds (at_once old branches ds h).each) (row_closed all_begun branches ds runs)
+
+  pub same_tries : (all_begun : Bool) (branches : Plan) (ds : List Deed) → are_tries_at_once old branches ds ≡ true → RunsRow Reach.to_the_end s old all_begun branches ds → AllByRecursion (IsSameTry old now) ds
+  same_tries all_begun branches ds h runs =
+      all_both _ _ _ (λ d is closed. record { tried = same_known branches d is; again = sym (deed_again_still d closed) }) ds (all_passed (is_try_in old branches) ds (at_once old branches ds h).each) (tries_closed all_begun branches ds h runs)
+
+  at_once_still : (all_begun : Bool) (branches : Plan) (here further : List Deed) → AreAtOnce old branches here further → RunsRow Reach.to_the_end s old all_begun branches here → AllByRecursion (IsSameTry old now) here → AreAtOnce now branches here further
+  at_once_still all_begun branches here further h runs tries =
+      let seats = all_map _ _ (same_seat branches) here (all_passed (is_try_in old branches) here (at_once old branches here h.0).each) in (
+        sym (at_once_alike old now branches here tries) ∙ h.0,
+        sym (own_seat_alike old now branches here tries seats) ∙ h.1,
+        is_behind_still p setting newer past here further (tries_closed all_begun branches here h.0 runs) h.2,
+      )
 
   pub first_failed_still : (n : Name) (branches : Plan) (here further : List Deed) (how : Option How) (Rest : Type 0) → AllByRecursion (IsSameTry old now) here
       → AfterTries Reach.to_the_end old n (first_failed old branches here) true Rest further how → first_failed old branches here ≡ first_failed now branches here
@@ -176,21 +217,22 @@ module _ (s : ℕ) (p : Entry → Bool) (setting : Setting) (newer past : Past) 
     plan_still n (Plan.manage_by k next) [] how h = h
     plan_still n (Plan.manage_by k next) (Deed.child c ∷ cs) how h = (
       kind_still p setting newer past c k h.0,
-      goes_still n c (λ given. FollowsPlan s old n (next given) cs how) (λ given. FollowsPlan s now n (next given) cs how) cs how (λ given. plan_still n (next given) cs how) (end old c) refl h.1,
+      beside_still n c h.1,
+      goes_still n c (λ given. FollowsPlan s old n (next given) cs how) (λ given. FollowsPlan s now n (next given) cs how) cs how (λ given. plan_still n (next given) cs how) (end old c) refl h.2,
     )
     plan_still n (Plan.manage_by k next) (Deed.mark m ∷ cs) how h = absurd h
     plan_still n (Plan.child_then number tries must inner rest) cs how h =
         tries_still _ _ (StopsEarly n how) (StopsEarly n how) (λ last further. AfterTries Reach.to_the_end old n last must (FollowsPlan s old n rest further how) further how)
         (λ last further. AfterTries Reach.to_the_end now n last must (FollowsPlan s now n rest further how) further how)
-        (try_still number inner (λ c. child_still c inner (plan_still c inner))) (λ x. x)
+        (try_still n number inner (λ c. child_still c inner (plan_still c inner))) (λ x. x)
         (λ last further f. behind_still n last must (FollowsPlan s old n rest further how) (FollowsPlan s now n rest further how) further how (plan_still n rest further how) f) None tries cs h
     plan_still n (Plan.par_then branches rest) cs how h =
-        let tries : AllByRecursion (IsSameTry old now) h.0 = same_tries branches h.0 h.3 h.4 in (
+        let tries : AllByRecursion (IsSameTry old now) h.0 = same_tries (each_begun old branches h.0) branches h.0 h.3.0 h.4 in (
           h.0,
           h.1,
           h.2,
-          sym (at_once_alike old now branches h.0 tries) ∙ h.3,
-          row_still branches h.0 tries h.4,
+          at_once_still (each_begun old branches h.0) branches h.0 h.1 h.3 h.4 tries,
+          subst (λ b. RunsRow Reach.to_the_end s now b branches h.0) (begun_alike old now branches h.0 tries) (row_still (each_begun old branches h.0) branches h.0 tries h.4),
           subst (λ b. AfterRow Reach.to_the_end now n b (first_failed now branches h.0) (FollowsPlan s now n rest h.1 how) h.1 how) (each_alike old now false branches h.0 tries)
               (row_behind_still n branches h.0 h.1 how (FollowsPlan s old n rest h.1 how) (FollowsPlan s now n rest h.1 how) tries (each_tried old false branches h.0) (plan_still n rest h.1 how) h.5),
         )
@@ -206,13 +248,13 @@ module _ (s : ℕ) (p : Entry → Bool) (setting : Setting) (newer past : Past) 
         by_test true x more = x
         by_test false x more = more x
 
-    row_still : (branches : Plan) (ds : List Deed) → AllByRecursion (IsSameTry old now) ds → RunsRow Reach.to_the_end s old branches ds → RunsRow Reach.to_the_end s now branches ds
-    row_still (Plan.child_then number tries must inner others) ds same h = (
-      subst (AllByRecursion (OfChild (IsTryOf Reach.to_the_end s now number inner))) (among_alike old now number ds same)
-          (all_map _ _ (λ d t. (try_still number inner (λ c. child_still c inner (plan_still c inner)) d t).0) (tries_among old number ds) h.0),
-      row_still others ds same h.1,
+    row_still : (all_begun : Bool) (branches : Plan) (ds : List Deed) → AllByRecursion (IsSameTry old now) ds → RunsRow Reach.to_the_end s old all_begun branches ds → RunsRow Reach.to_the_end s now all_begun branches ds
+    row_still all_begun (Plan.child_then number tries must inner others) ds same h = (
+      subst (AllByRecursion (OfChild (IsRowTry Reach.to_the_end s now all_begun number inner))) (among_alike old now number ds same)
+          (all_map _ _ (row_try_still all_begun number inner (λ c. child_still c inner (plan_still c inner))) (tries_among old number ds) h.0),
+      row_still all_begun others ds same h.1,
     )
-    row_still _ ds same h = h
+    row_still all_begun _ ds same h = h
 
   -- a transaction that follows its plan follows it for ever
   pub follows_still : (n : Name) (plan : Plan) → FollowsPlan s old n plan (deeds old n) (end old n) → FollowsPlan s now n plan (deeds now n) (end now n) × Closed old n

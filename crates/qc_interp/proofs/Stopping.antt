@@ -9,11 +9,11 @@ use Rattle.qc_script.specs.Plan.{Plan}
 use Rattle.qc_interp.specs.Deeds.{Deed, deed_end}
 use Rattle.qc_interp.specs.Follows.{StopsEarly, WasAsked, WasKilled, IsUnended, Stops, HasNotEnded, StopsBefore, AfterTries, AfterRow, RunsPlan, RunsRow}
 use Rattle.qc_interp.specs.Reach.{Reach}
-use Rattle.qc_interp.specs.Rows.{each_tried, first_failed}
+use Rattle.qc_interp.specs.Rows.{each_begun, each_tried, first_failed}
 use Rattle.qc_interp.specs.Running.{CameTo}
 use Rattle.qc_interp.specs.Tries.{is_tried_again}
 use Rattle.qc_interp.specs.declared.stops.Finish.TheVariants as finish
-use Rattle.qc_interp.proofs.Rows.{none_at_once, none_failed}
+use Rattle.qc_interp.proofs.Rows.{none_at_once, none_failed, none_own_seat}
 use Rattle.qc_interp.proofs.TriesAlike.{no_tries}
 
 -- who was aborted as another asked was stopped early
@@ -95,9 +95,9 @@ before_stops Reach.cut_off past n how (inl (inr runs)) = inr runs
 before_stops Reach.to_the_end past n how (inr killed) = killed_early n how killed
 before_stops Reach.cut_off past n how (inr killed) = inl (killed_early n how killed)
 
-no_row : (reach : Reach) (s : ℕ) (past : Past) (branches : Plan) → RunsRow reach s past branches []
-no_row reach s past (Plan.child_then number tries must inner others) = (tt, no_row reach s past others)
-no_row reach s past _ = tt
+no_row : (reach : Reach) (s : ℕ) (past : Past) (all_begun : Bool) (branches : Plan) → RunsRow reach s past all_begun branches []
+no_row reach s past all_begun (Plan.child_then number tries must inner others) = (tt, no_row reach s past all_begun others)
+no_row reach s past all_begun _ = tt
 
 stopped_row : (reach : Reach) (past : Past) (n : Name) (how : Option How) → StopsBefore reach past n how → (tried : Bool) (failed : Option Deed) → failed ≡ None → (Rest : Type 0) → Rest → AfterRow reach past n tried failed Rest [] how
 stopped_row reach past n how stops true failed none Rest behind = subst (λ o. AfterTries reach past n o true Rest [] how) (sym none) behind
@@ -113,8 +113,8 @@ stopped_runs reach s past n how stops (Plan.par_then branches rest) = (
   [],
   [],
   refl,
-  none_at_once past branches,
-  no_row reach s past branches,
+  (none_at_once past branches, none_own_seat past branches, refl),
+  no_row reach s past (each_begun past branches []) branches,
   stopped_row reach past n how stops (each_tried past false branches []) (first_failed past branches []) (none_failed past branches) (RunsPlan reach s past n rest [] how) (stopped_runs reach s past n how stops rest),
 )
 stopped_runs reach s past n how stops (Plan.abort_then levels rest) = inr stops

@@ -25,10 +25,9 @@ use Rattle.qc_interp.specs.Asking.{BodiesAsk, IsAskedBy}
 use Rattle.qc_interp.specs.FollowsScript.{net_of, RunsSession, EachRuns, OneAsks, is_of_session, is_in_session, RunsScript, started}
 use Rattle.qc_interp.specs.Reach.{Reach, AtTheEnd}
 use Rattle.qc_interp.specs.Session.{tops, RunsBodies, AreAllOurs}
-use Rattle.qc_interp.specs.Sessions.{tops_of, part_of, is_settled, AccessesEnd}
+use Rattle.qc_interp.specs.Sessions.{tops_of, is_settled, AccessesEnd}
 use Rattle.qc_interp.specs.Together.{HasRun, EachHasRun, AreOf}
 use Rattle.qc_interp.proofs.Owners.{starts_client, aborts_client, IsItsOwn, ran_inside, for_at, ran_client, ran_plan, Owner, owner, its_own, all_its_own}
-use Rattle.qc_interp.proofs.OwnSeats.{seats_own, no_steps}
 use Rattle.qc_interp.proofs.OwnSessions.{AreIts, same_tops, turns_own, messages_own, order_own}
 use Rattle.qc_interp.proofs.Places.{some_same, at_place, each_place, any_place, kept_place, earliest_place, every_passes}
 use Rattle.qc_interp.proofs.SeenBodies.{IsOurTop, bodies_seen, bodies_ask_seen}
@@ -120,12 +119,10 @@ module _ (reach : Reach) (setting : Setting) (s epoch patience : ℕ) (c : Clien
   session_runs = record {
     bodies_run = bodies_run;
     in_turn = record {
-      turns = turns_own c s past ran.single its_part (subst (λ ts. list_all (is_of_one ts) (mine c past) ≡ true) only (ran_inside reach setting s epoch patience c plan past ran)) (ran.in_turn.turns all_ours refl refl).0;
-      seats = seats_own c s past its_legal ran.single its_part (subst (AllByRecursion (λ t. is_child [] t ≡ true)) only (all_children (mine c past) []));
-      steps = no_steps (part_of s past);
+      turns = turns_own c s past ran.whole its_part (subst (λ ts. list_all (is_of_one ts) (mine c past) ≡ true) only (ran_inside reach setting s epoch patience c plan past ran)) (ran.in_turn.turns all_ours refl refl refl).0;
       in_order = order_own c s past its.starts its.for_it (ran.in_turn.order all_ours refl refl).0;
     };
-    messages = messages_own c s (net_of patience plan) past ran.single its_part ran.met;
+    messages = messages_own c s (net_of patience plan) past its_part ran.met;
   }
 
   -- whoever it aborted as another asked was named by a step
@@ -147,7 +144,7 @@ ran_settled : (setting : Setting) (s epoch patience : ℕ) (c : Client) (plan : 
     → (n : Name) (b : Begun) → start past n ≡ Some b → is_own c b.seat ≡ true → is_access b.kind ≡ false → is_settled past n ≡ true
 ran_settled setting s epoch patience c plan past legal ran its n b is own none =
     let ours = all_its_own setting c s past legal its in
-    begun_settled c past n b (subst (λ x. Legal x past) (sym ran.setting_is) legal) (ran.in_turn.turns ours refl refl).1 (ran.in_turn.order ours refl refl).1 is own none
+    begun_settled c past n b (subst (λ x. Legal x past) (sym ran.setting_is) legal) (ran.in_turn.turns ours refl refl refl).1 (ran.in_turn.order ours refl refl).1 is own none
 
 -- ALL OF THEM
 

@@ -20,7 +20,8 @@ use Rattle.qc_script.specs.Plan.{BodiesFit}
 use Rattle.qc_interp.proofs.Growth.{made_is, made_later, later_itself, later_trans}
 use Rattle.qc_interp.proofs.Asked.{asked_made}
 use Rattle.qc_interp.proofs.Joined.{joined_itself, joined_before, joined_chain, joined_since, joined_later, joined_turn, joined_setting, by_joined, more_mine, more_later, more_turn, ours_back, both}
-use Rattle.qc_interp.proofs.TopsRun.{TriedTop, CutTop, EndsTopTries, turn_itself, turn_trans, turn_cut, top_again, top_last, cut_last}
+use Rattle.qc_interp.proofs.TopsRun.{TriedTop, CutTop, turn_itself, turn_trans, turn_cut}
+use Rattle.qc_interp.proofs.TopsLead.{EndsTopTries, top_again, top_last, cut_last}
 
 pub record TopTriesLeft (c : Client) (body : Numbered) (before now : Past) (left : ℕ) : Type 0 where
   pub later : IsLater c before now

@@ -1,14 +1,16 @@
 -- What a try of a body leaves that runs as a top.
-use Rattle.std.proofs.Common.{◌≡◌, inl, inr, ℕ, suc, ◌<◌, Bool, true, false, List, [], ◌∷◌, ◌++◌, length, refl, sym, ap, ◌∙◌, subst, append-nil, append_assoc, arith, length-append}
+use Rattle.std.proofs.Common.{◌≡◌, inl, inr, ℕ, ◌<◌, Bool, true, false, List, [], ◌∷◌, ◌++◌, length, refl, sym, ap, ◌∙◌, subst, append-nil, append_assoc, arith, length-append}
 use mathlib.Core.Bool.{true≢false}
-use Rattle.std.specs.Prelude.{Option, None, Some, MatchOption, MatchBool, is_some, is_none, find, option_map, ◌&&◌, ◌||◌}
+use Rattle.std.specs.Prelude.{None, Some, MatchOption, is_some, is_none, find, option_map, ◌&&◌, ◌||◌}
 use Rattle.std.specs.List.{AllByRecursion, list_all}
-use Rattle.std.proofs.lemmas.Bool.{false_from_ne_true}
+use Rattle.std.proofs.lemmas.Bool.{and_from, false_from_ne_true}
+use Rattle.std.proofs.lemmas.List.Folds.{list_all-append}
 use Rattle.qc_event.specs.declared.event.Entry.{Entry}
 use Rattle.qc_event.specs.declared.event.Event.TheVariants as event
 use Rattle.qc_event.specs.declared.event.Kind.TheVariants as kind
 use Rattle.qc_event.specs.History.{Past, Name, Begun, start, end, is_ready, children, is_child, kind_of}
 use Rattle.qc_event.specs.Legal.{Legal}
+use Rattle.qc_event.proofs.Booleans.{all_wider}
 use Rattle.qc_event.proofs.LastNumber.{child_last, child_longer, no_child_length}
 use Rattle.qc_event.proofs.Lawful.{lawful}
 use Rattle.qc_event.proofs.LegalOrderly.{legal_orderly}
@@ -21,32 +23,32 @@ use Rattle.qc_script.specs.Calls.{by_client, IsOfSession}
 use Rattle.qc_script.specs.Client.{Client, mine, is_own, scope, Made, IsLater, AreOurs}
 use Rattle.qc_interp.specs.Deeds.{Deed, deeds}
 use Rattle.qc_interp.proofs.Deeds.{start_silent, deeds_quiet, no_deeds, same_children}
-use Rattle.qc_interp.specs.Follows.{RunsPlan, FollowsPlan, RunsBody, IsUnended}
+use Rattle.qc_interp.specs.Follows.{RunsPlan, FollowsPlan, IsUnended}
 use Rattle.qc_interp.specs.Reach.{Reach}
 use Rattle.qc_script.specs.Plan.{Numbered}
 use Rattle.qc_interp.specs.Running.{IsBelow, Runs, LeavesAt, EndsAt, Ended, CutOff}
-use Rattle.qc_interp.specs.Session.{tops, NotBegun, RunsBodies, AreAllOurs, EndsTopsAt, InTurnAt, RanInTurn, CutTops}
-use Rattle.qc_interp.specs.Turns.{is_done}
+use Rattle.qc_interp.specs.Session.{tops, NotBegun, RunsBodies, AreAllOurs, AreUnderIts, InTurnAt, RanInTurn, CutTops}
+use Rattle.qc_interp.specs.Turns.{is_done, seat_of, is_under, seat_for}
 use Rattle.qc_script.specs.Numbers.{each}
 use Rattle.qc_interp.proofs.Scope.{whole_scope}
 use Rattle.qc_interp.proofs.Adding.{numbers_stay, one_both, all_one, all_later, all_for, top_for, after_stay, begun_after, all_over_more, over_ended}
-use Rattle.qc_interp.proofs.Turning.{InTurn, Alone, start_turns, alone_up, some_done, itself}
-use Rattle.qc_interp.specs.Tries.{Tries, is_tried_again, is_again, TriesDo}
+use Rattle.qc_interp.proofs.Turning.{InTurn, Alone, Keeps, start_turns, alone_up, some_done, itself}
+use Rattle.qc_interp.specs.Tries.{is_tried_again, is_again}
 use Rattle.qc_interp.specs.declared.stops.Finish.{Finish}
 use Rattle.qc_interp.proofs.TriesAlike.{no_tries}
 use Rattle.qc_interp.proofs.Mine.{kept_some}
-use Rattle.qc_interp.proofs.Followed.{follows_runs, followed_done, done_closed}
-use Rattle.qc_interp.proofs.Still.{follows_still, again_still}
+use Rattle.qc_interp.proofs.Followed.{followed_done, done_closed}
 use Rattle.qc_interp.proofs.Stopping.{unended_again}
 use Rattle.qc_interp.proofs.Growth.{made_is, made_later, later_itself, later_trans, ours_before}
+use Rattle.qc_interp.proofs.Seats.{start_under, own_under, later_seat, later_under}
 use Rattle.qc_interp.proofs.Managers.{found_quiet, absent, came_after, none_kept, children_rest, start_rest}
 use Rattle.qc_interp.proofs.StepsLeave.{kind_later}
 use Rattle.qc_interp.specs.Adding.{AllStayIn, is_of_one, AllOfOne, starts_for, AllForIts, own_after, all_over}
 use Rattle.qc_script.specs.Numbers.{Numbers, own_next}
 use Rattle.qc_script.specs.Calls.{is_over}
-use Rattle.qc_interp.specs.Asking.{Asks, BodiesAsk, AllAsked}
-use Rattle.qc_interp.proofs.Asked.{asked_made, asked_wider, asked_trans, asks_still}
-use Rattle.qc_interp.proofs.Tried.{again_is, match_true, match_false}
+use Rattle.qc_interp.specs.Asking.{Asks, AllAsked}
+use Rattle.qc_interp.proofs.Asked.{asked_made, asked_wider, asked_trans}
+use Rattle.qc_interp.proofs.TriesLead.{again_is}
 
 -- A TOP THAT BEGINS
 
@@ -92,8 +94,17 @@ module _ (c : Client) (t : Name) (number : ℕ) (before now : Past) (top : is_ch
   pub kind_top : kind_of (mine c now) t ≡ Some (kind.User c.session number)
   kind_top = ap (λ h. kind_of h t) now_is ∙ ap (option_map (λ (b : Begun). b.kind)) (start_is begins (mine c before) t (kind.User c.session number) new.fresh.no_start refl)
 
-  pub turns_top : InTurn (mine c before) → Alone (mine c before) [] → InTurn (mine c now) × Alone (mine c now) t
-  turns_top turns alone = subst (λ h. InTurn h × Alone h t) (sym now_is) (start_turns begins (mine c before) [] t (kind.User c.session number) refl top turns alone)
+  -- a top starts under the seat of each that the client made before
+  keeps_top : AreUnderIts c before → Keeps begins (mine c before)
+  keeps_top under =
+      let l = child_last [] t top in
+      subst (λ n. seat_for (mine c before) c.number (event.Start n (kind.User c.session number)) ≡ true) (sym l.1) under
+
+  pub turns_top : AreUnderIts c before → InTurn (mine c before) → Alone (mine c before) [] → InTurn (mine c now) × Alone (mine c now) t
+  turns_top under turns alone = subst (λ h. InTurn h × Alone h t) (sym now_is) (start_turns begins (mine c before) [] t (kind.User c.session number) refl top (keeps_top under) turns alone)
+
+  pub seat_top : seat_of now t ≡ Some c.number
+  seat_top = start_under now t c.number (kind.User c.session number) new.started
 
   pub none_top : deeds (mine c now) t ≡ []
   none_top = ap (λ h. deeds h t) now_is ∙ deeds_quiet t (begins ∷ []) (mine c before) (start_silent t t (kind.User c.session number) (no_child_length t t (λ l. omega (arith, l))), tt) ∙ new.idle
@@ -112,13 +123,14 @@ module _ (c : Client) (t : Name) (number : ℕ) (before now : Past) (top : is_ch
   runs_top rootless = record {
     legal = m.legal;
     user = subst (λ o. MatchOption o ⊥ (λ (b : Begun). IsOfSession c.session b.kind)) (sym new.started) refl;
+    seat = seat_top;
     nonroot = omega (arith, long);
     below = subst (λ r. IsBelow r t) (sym rootless) (omega (arith, long), refl);
     above = above_top;
     closed = λ ours. ap (find (λ x. is_none (end (mine c now) x))) (same_children (mine c now) [] t none_top);
   }
 
-all_last : (P : Name → Type 0) (xs : List Name) (t : Name) (ys : List Name) → AllByRecursion P (xs ++ t ∷ ys) → P t
+pub all_last : (P : Name → Type 0) (xs : List Name) (t : Name) (ys : List Name) → AllByRecursion P (xs ++ t ∷ ys) → P t
 all_last P [] t ys h = h.0
 all_last P (x ∷ xs) t ys h = all_last P xs t ys h.1
 
@@ -127,7 +139,7 @@ all_front P Q [] ys step h = tt
 all_front P Q (x ∷ xs) ys step h = (step x h.0, all_front P Q xs ys step h.1)
 
 pub turn_itself : (c : Client) (now : Past) → Legal c.setting now → RanInTurn c now now
-turn_itself c now legal = record { later = later_itself c now legal; inside = refl; of_session = refl; numbers = λ was. was; order = λ ours after over. (after, over); made = []; more = sym (append-nil _); turns = λ ours turns alone. (turns, alone) }
+turn_itself c now legal = record { later = later_itself c now legal; inside = refl; of_session = refl; numbers = λ was. was; seats = λ was. was; order = λ ours after over. (after, over); made = []; more = sym (append-nil _); turns = λ ours under turns alone. (turns, alone) }
 
 pub turn_trans : {reach : Reach} (c : Client) (a b d : Past) → IsLater c b d → RanInTurn c a b → InTurnAt reach c b d → InTurnAt reach c a d
 turn_trans c a b d later f g = record {
@@ -136,13 +148,14 @@ turn_trans c a b d later f g = record {
   inside = one_both c f.made g.made f.later.newer g.later.newer f.inside g.inside;
   of_session = all_later (starts_for c.session) c f.later.newer g.later.newer f.of_session g.of_session;
   numbers = λ was. g.numbers (f.numbers was);
+  seats = λ was. g.seats (f.seats was);
   order = λ ours after over.
       let mid = f.order (all_front (λ n. AreOurs c n d) (λ n. AreOurs c n b) (tops c b) g.made (λ n o. ours_before c n b d later o) (subst (AllByRecursion (λ n. AreOurs c n d)) g.more ours)) after over in
       g.order ours mid.0 mid.1;
   more = g.more ∙ ap (λ l. l ++ g.made) f.more ∙ append_assoc (tops c a) f.made g.made;
-  turns = λ ours turns alone.
-      let mid = f.turns (all_front (λ n. AreOurs c n d) (λ n. AreOurs c n b) (tops c b) g.made (λ n o. ours_before c n b d later o) (subst (AllByRecursion (λ n. AreOurs c n d)) g.more ours)) turns alone in
-      g.turns ours mid.0 mid.1;
+  turns = λ ours under turns alone.
+      let mid = f.turns (all_front (λ n. AreOurs c n d) (λ n. AreOurs c n b) (tops c b) g.made (λ n o. ours_before c n b d later o) (subst (AllByRecursion (λ n. AreOurs c n d)) g.more ours)) under turns alone in
+      g.turns ours (f.seats under) mid.0 mid.1;
 }
 
 -- nothing was made
@@ -157,7 +170,8 @@ turn_cut c before now m =
       of_session = ap (list_all (starts_for c.session)) m.made;
       numbers = λ was. subst (λ h. each (own_next c) h ≡ true) (sym m.grown) (numbers_stay c [] m.newer before (ap (list_all (Rattle.qc_interp.specs.Adding.stays_in [])) m.made) was);
       order = λ ours after over. (subst (λ h. each (own_after c) h ≡ true) (sym m.grown) (after_stay c [] m.newer before (ap (list_all (Rattle.qc_interp.specs.Adding.stays_in [])) m.made) after), tt);
-      turns = λ ours turns alone. (subst InTurn (sym own) turns, tt);
+      seats = subst (λ h. list_all (is_under h c.number) (children h []) ≡ true) (sym own);
+      turns = λ ours under turns alone. (subst InTurn (sym own) turns, tt);
     }
 
 -- A TRY OF A TOP
@@ -218,6 +232,12 @@ module _ (c : Client) (t : Name) (body : Numbered) (before mid now : Past) (top 
     numbers_are : Numbers c before now
     numbers_are was = subst (λ h. each (own_next c) h ≡ true) (sym leaves.later.grown) (numbers_stay c (scope c t) leaves.later.newer mid leaves.inside (numbers was))
 
+    seats_are : AreUnderIts c before → AreUnderIts c now
+    seats_are was =
+        ap (list_all (is_under (mine c now) c.number)) more_is ∙ list_all-append (is_under (mine c now) c.number) (tops c before) (t ∷ [])
+        ∙ and_from _ _ (all_wider (is_under (mine c before) c.number) (is_under (mine c now) c.number) (tops c before) (later_under c before now later_is c.number) was)
+        (ap (λ b. b && true) (own_under c now t (later_seat c mid now leaves.later t c.number (seat_top c t body.number before mid top m))))
+
     after_is : each (own_after c) before ≡ true → all_over c before ≡ true → each (own_after c) now ≡ true
     after_is after over =
         subst (λ h. each (own_after c) h ≡ true) (sym leaves.later.grown) (after_stay c (scope c t) leaves.later.newer mid leaves.inside (subst (λ h. each (own_after c) h ≡ true) (sym m.grown) (begun_after c _ m.newer before m.made after over)))
@@ -252,10 +272,11 @@ module _ (c : Client) (t : Name) (body : Numbered) (before mid now : Past) (top 
       inside = inside_is Reach.to_the_end ended.leaves;
       of_session = for_it Reach.to_the_end ended.leaves;
       numbers = numbers_are Reach.to_the_end ended.leaves;
+      seats = seats_are Reach.to_the_end ended.leaves;
       order = λ ours after over. (after_is Reach.to_the_end ended.leaves after over, all_later_over (ours_new Reach.to_the_end ended.leaves ours) (later_is Reach.to_the_end ended.leaves) over);
-      turns = λ ours turns alone.
+      turns = λ ours under turns alone.
           let one = ours_new Reach.to_the_end ended.leaves ours in
-          let a = turns_top c t body.number before mid top m turns alone in
+          let a = turns_top c t body.number before mid top m under turns alone in
           let b = ended.leaves.turns one a.0 a.1 in
           (b.0, alone_up (mine c now) [] t top (done_is (follows_is one)) b.1);
     };
@@ -300,71 +321,16 @@ module _ (c : Client) (t : Name) (body : Numbered) (before mid now : Past) (top 
       inside = inside_is Reach.cut_off cut.leaves;
       of_session = for_it Reach.cut_off cut.leaves;
       numbers = numbers_are Reach.cut_off cut.leaves;
+      seats = seats_are Reach.cut_off cut.leaves;
       order = λ ours after over. (after_is Reach.cut_off cut.leaves after over, tt);
-      turns = λ ours turns alone.
-          let a = turns_top c t body.number before mid top m turns alone in
+      turns = λ ours under turns alone.
+          let a = turns_top c t body.number before mid top m under turns alone in
           ((cut.leaves.turns (ours_new Reach.cut_off cut.leaves ours) a.0 a.1).0, tt);
     };
     begins = runs_is Reach.cut_off cut.leaves cut.begins;
     asked = asked_is Reach.cut_off cut.leaves cut.begins;
     tried = unended_again t _ cut.unended;
   }
-
--- from `before` on, so many tries of a body and then of other bodies, or as far as the run came
-abbrev pub EndsTopTries : Reach → Client → Past → Past → Numbered → Option Name → ℕ → List Numbered → Type 0
-EndsTopTries reach c before now body last left rest =
-    AreAllOurs c now → (further : List Name) × (tops c now ≡ tops c before ++ further)
-    × Tries (end (mine c now)) (RunsBody reach c.session (mine c now) body) (NotBegun reach) (λ latest more. RunsBodies reach c.session (mine c now) rest more) last left further
-    × AllAsked c before now (λ by t. TriesDo (end (mine c now)) (λ n. Asks (mine c now) n body.plan (deeds (mine c now) n) by t) (λ latest more. BodiesAsk (mine c now) rest more by t) last left further)
-
-module _ (c : Client) (body : Numbered) (before now : Past) (again : Bool) (t : TriedTop c body before now again) where
-  module _ (reach : Reach) (x : Past) (later : IsLater c now x) (further : List Name) (more : tops c x ≡ tops c now ++ further) (ours : AreAllOurs c x) where
-    more_later : tops c x ≡ tops c before ++ t.top ∷ further
-    more_later = more ∙ ap (λ l. l ++ further) t.more ∙ append_assoc (tops c before) (t.top ∷ []) further
-
-    ours_top : AreOurs c t.top x
-    ours_top = all_last (λ n. AreOurs c n x) (tops c before) t.top further (subst (AllByRecursion (λ n. AreOurs c n x)) more_later ours)
-
-    follows_now : FollowsPlan c.session (mine c now) t.top body.plan (deeds (mine c now) t.top) (end (mine c now) t.top)
-    follows_now = t.follows (ours_before c t.top now x later ours_top)
-
-    one_top : RunsBody reach c.session (mine c x) body t.top
-    one_top = record {
-      kind = kind_later c [] now x later t.top _ t.kind;
-      steps = follows_runs reach c.session (mine c x) t.top body.plan _ _ (subst (λ h. FollowsPlan c.session (mine c h) t.top body.plan (deeds (mine c h) t.top) (end (mine c h) t.top)) (sym later.grown)
-          (follows_still c.session (λ (e : Entry). is_own c e.seat) c.setting later.newer now (subst (Legal c.setting) later.grown later.legal) t.top body.plan follows_now).0);
-    }
-
-    again_later : is_tried_again (end (mine c x) t.top) ≡ again
-    again_later =
-        ap (λ h. is_tried_again (end (mine c h) t.top)) later.grown
-        ∙ again_still c.session (λ (e : Entry). is_own c e.seat) c.setting later.newer now (subst (Legal c.setting) later.grown later.legal) t.top (done_closed (mine c now) t.top (followed_done c.session (mine c now) t.top body.plan (deeds (mine c now) t.top) (end (mine c now) t.top) follows_now))
-        ∙ sym t.tried
-
-    asked_later : AllAsked c before now (λ by n. Asks (mine c x) t.top body.plan (deeds (mine c x) t.top) by n)
-    asked_later = asked_wider _ _ (λ by n a.
-        subst (λ h. Asks (mine c h) t.top body.plan (deeds (mine c h) t.top) by n) (sym later.grown)
-        (asks_still c.session (λ (e : Entry). is_own c e.seat) c.setting later.newer now (subst (Legal c.setting) later.grown later.legal) by n t.top body.plan follows_now a)) c before now (t.asked (ours_before c t.top now x later ours_top))
-
-    abbrev DoTries : Option Name → ℕ → List Numbered → Name → Name → Type 0
-    DoTries last left rest by n = TriesDo (end (mine c x)) (λ y. Asks (mine c x) y body.plan (deeds (mine c x) y) by n) (λ latest more. BodiesAsk (mine c x) rest more by n) last left further
-
-    abbrev MoreDo : ℕ → List Numbered → Name → Name → Bool → Type 0
-    MoreDo left rest by n b = MatchBool b (DoTries (Some t.top) left rest by n) (BodiesAsk (mine c x) rest further by n)
-
-    with_asked : (last : Option Name) (left : ℕ) (rest : List Numbered) → AllAsked c now x (λ by n. MoreDo left rest by n again)
-        → AllAsked c before x (λ by n. TriesDo (end (mine c x)) (λ y. Asks (mine c x) y body.plan (deeds (mine c x) y) by n) (λ latest more. BodiesAsk (mine c x) rest more by n) last (suc left) (t.top ∷ further))
-    with_asked last left rest h = asked_trans c before now x _ (asked_wider _ _ (λ by n a. inl a) c before now asked_later) (asked_wider _ _ (λ by n a. inr (subst (MoreDo left rest by n) (sym again_later) a)) c now x h)
-
-  pub top_again : again ≡ true → (reach : Reach) (x : Past) → IsLater c now x → (last : Option Name) (left : ℕ) (rest : List Numbered) → EndsTopTries reach c now x body (Some t.top) left rest → EndsTopTries reach c before x body last (suc left) rest
-  top_again is reach x later last left rest ends ours =
-      let e = ends ours in
-      (t.top ∷ e.0, more_later reach x later e.0 e.1 ours, (one_top reach x later e.0 e.1 ours, match_true _ (RunsBodies reach c.session (mine c x) rest e.0) _ (again_later reach x later e.0 e.1 ours ∙ is) e.2), with_asked reach x later e.0 e.1 ours last left rest (asked_wider _ _ (λ by n a. match_true _ (BodiesAsk (mine c x) rest e.0 by n) again is a) c now x e.3))
-
-  pub top_last : again ≡ false → (reach : Reach) (x : Past) → IsLater c now x → (last : Option Name) (left : ℕ) (rest : List Numbered) → EndsTopsAt reach c now x rest → EndsTopTries reach c before x body last (suc left) rest
-  top_last is reach x later last left rest ends ours =
-      let e = ends ours in
-      (t.top ∷ e.0, more_later reach x later e.0 e.1 ours, (one_top reach x later e.0 e.1 ours, match_false (Tries (end (mine c x)) (RunsBody reach c.session (mine c x) body) (NotBegun reach) (λ latest more. RunsBodies reach c.session (mine c x) rest more) (Some t.top) left e.0) _ _ (again_later reach x later e.0 e.1 ours ∙ is) e.2), with_asked reach x later e.0 e.1 ours last left rest (asked_wider _ _ (λ by n a. match_false (DoTries reach x later e.0 e.1 ours (Some t.top) left rest by n) _ again is a) c now x e.3))
 
 -- no body was begun where the run was cut off
 pub none_begun : (s : ℕ) (past : Past) (bodies : List Numbered) → RunsBodies Reach.cut_off s past bodies []
@@ -382,13 +348,3 @@ none_cut c bodies before now m = record {
     asked_made c [] before now _ m tt,
   );
 }
-
--- a try of a top that was cut off is the last
-pub cut_last : (c : Client) (body : Numbered) (before now : Past) → CutTop c body before now → (last : Option Name) (left : ℕ) (rest : List Numbered) → EndsTopTries Reach.cut_off c before now body last (suc left) rest
-cut_last c body before now t last left rest ours =
-    let one = all_last (λ n. AreOurs c n now) (tops c before) t.top [] (subst (AllByRecursion (λ n. AreOurs c n now)) t.more ours) in (
-      t.top ∷ [],
-      t.more,
-      (record { kind = t.kind; steps = t.begins one }, match_false _ _ _ t.tried (none_begun c.session (mine c now) rest)),
-      asked_wider _ _ (λ by n a. inl a) c before now (t.asked one),
-    )

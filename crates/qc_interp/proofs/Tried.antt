@@ -1,17 +1,12 @@
--- What the tries of a child leave, what `abort` leaves, and how a transaction commits.
-use Rattle.std.proofs.Common.{◌≡◌, inl, inr, ℕ, suc, ◌<◌, ◌+◌, Bool, true, false, List, [], ◌∷◌, ◌++◌, length, refl, sym, ap, ◌∙◌, subst, append-nil, append_assoc, arith, length-append}
-use mathlib.Core.Bool.{true≢false}
-use Rattle.std.specs.Prelude.{Option, None, Some, MatchOption, MatchBool, is_some, is_none, IsTrue, not, find, option_map, ◌&&◌}
+-- What a try of a child leaves that ended, or that was cut off.
+use Rattle.std.proofs.Common.{◌≡◌, inl, inr, ℕ, ◌<◌, ◌+◌, true, false, List, [], ◌∷◌, ◌++◌, length, refl, sym, ap, ◌∙◌, subst, append-nil, append_assoc, arith, length-append}
+use Rattle.std.specs.Prelude.{Some, MatchOption, is_some, is_none, IsTrue, not, find, option_map, ◌&&◌}
 use Rattle.std.proofs.lemmas.Bool.{false_from_ne_true}
 use Rattle.qc_event.specs.declared.event.Entry.{Entry}
 use Rattle.qc_event.specs.declared.event.Event.TheVariants as event
-use Rattle.qc_event.specs.declared.event.Answer.{Answer}
-use Rattle.qc_event.specs.declared.event.How.{How}
-use Rattle.qc_event.specs.declared.event.How.TheVariants.{Commit, Abort}
 use Rattle.qc_event.specs.declared.event.Kind.TheVariants as kind
 use Rattle.qc_event.specs.History.{Past, Name, Begun, end, is_ready, is_child, kind_of}
-use Rattle.qc_event.specs.Legal.{Legal}
-use Rattle.qc_event.specs.Standing.{Started, IsUser, IsAbort}
+use Rattle.qc_event.specs.Standing.{Started, IsUser}
 use Rattle.qc_event.proofs.LastNumber.{child_last, length_last, child_longer, no_child_length, below_more}
 use Rattle.qc_event.proofs.OneEntry.{start_is}
 use Rattle.qc_event.proofs.Later.{started_still}
@@ -19,30 +14,30 @@ use Rattle.qc_event.proofs.LegalOrderly.{ready_top}
 use Rattle.qc_names.specs.Name as name
 use Rattle.qc_script.specs.Calls.{by_client, IsOfSession}
 use Rattle.qc_script.specs.Client.{Client, mine, is_own, scope, Made, IsLater, AreOurs}
-use Rattle.qc_interp.specs.Deeds.{Deed, deeds, deed_end, OfChild}
+use Rattle.qc_interp.specs.Deeds.{Deed, deeds}
 use Rattle.qc_interp.proofs.Deeds.{start_silent, deeds_quiet, child_deed, same_children}
-use Rattle.qc_interp.specs.Follows.{Stops, IsUnended, GoesOnAfter, AfterTries, RunsPlan, FollowsPlan}
+use Rattle.qc_interp.specs.Follows.{IsUnended, RunsPlan, FollowsPlan}
 use Rattle.qc_interp.specs.Reach.{Reach}
-use Rattle.qc_script.specs.Plan.{Plan, Numbered}
-use Rattle.qc_interp.specs.Running.{Runs, LeavesIt, LeavesAt, Leaves, EndsAt, CameTo, Ended, CutOff, HasFailed, EndsTries}
-use Rattle.qc_interp.specs.Tries.{Tries, is_tried_again, is_again, TriesDo}
+use Rattle.qc_interp.specs.Turns.{seat_of, is_beside}
+use Rattle.qc_script.specs.Plan.{Numbered}
+use Rattle.qc_interp.specs.Running.{Runs, LeavesIt, LeavesAt, Leaves, EndsAt, CameTo, Ended, CutOff}
+use Rattle.qc_interp.specs.Tries.{is_tried_again}
 use Rattle.qc_interp.specs.declared.stops.Finish.{Finish}
-use Rattle.qc_interp.specs.declared.stops.Finish.TheVariants as finish
 use Rattle.qc_interp.proofs.Adding.{all_later, start_stays_in, over_later}
 use Rattle.qc_interp.proofs.Scope.{child_scope, same_scope}
-use Rattle.qc_interp.proofs.Turning.{InTurn, Alone, start_turns, alone_up, some_done}
+use Rattle.qc_interp.proofs.Turning.{InTurn, Alone, child_keeps, start_turns, alone_up, some_done}
 use Rattle.qc_interp.proofs.Mine.{kept_some}
-use Rattle.qc_interp.proofs.Followed.{follows_runs, followed_done, done_closed}
-use Rattle.qc_interp.proofs.Still.{follows_still, again_still}
-use Rattle.qc_interp.proofs.Growth.{made_is, made_later, later_trans, ours_before}
+use Rattle.qc_interp.proofs.Followed.{followed_done, done_closed}
+use Rattle.qc_interp.proofs.Seats.{start_under, later_seat, later_beside}
+use Rattle.qc_interp.proofs.Growth.{made_is, made_later, later_itself, later_trans, ours_before}
 use Rattle.qc_interp.proofs.Managers.{found_quiet, NewChild, new_child}
-use Rattle.qc_interp.proofs.Stopping.{unended_again, running_stops, running_unended, running_runs}
+use Rattle.qc_interp.proofs.Stopping.{unended_again}
 use Rattle.qc_interp.proofs.Ending.{user_is}
-use Rattle.qc_interp.proofs.StepsLeave.{end_later, kind_later, closed_more}
+use Rattle.qc_interp.proofs.StepsLeave.{kind_later, closed_more}
 use Rattle.std.specs.List.{list_all}
 use Rattle.qc_interp.specs.Adding.{stays_in, AllStayIn}
-use Rattle.qc_interp.specs.Asking.{DoesOn, DoesAfter, Asks, AllAsked}
-use Rattle.qc_interp.proofs.Asked.{asked_made, asked_wider, asked_trans, asks_still}
+use Rattle.qc_interp.specs.Asking.{Asks, AllAsked}
+use Rattle.qc_interp.proofs.Asked.{asked_made, asked_wider, asked_trans}
 
 -- A CHILD THAT BEGINS
 
@@ -90,7 +85,7 @@ module _ (c : Client) (of n : Name) (number : ℕ) (before now : Past) (runs : R
   inside_begun = ap (list_all (stays_in (scope c of))) m.made ∙ ap (λ b. b && true) (start_stays_in (scope c of) n (kind.User c.session number) begins refl (omega (arith, longer, runs.nonroot)) (child_scope c of n child))
 
   pub turns_begun : InTurn (mine c before) → Alone (mine c before) of → InTurn (mine c now) × Alone (mine c now) n
-  turns_begun turns alone = subst (λ h. InTurn h × Alone h n) (sym now_is) (start_turns begins (mine c before) of n (kind.User c.session number) refl child turns alone)
+  turns_begun turns alone = subst (λ h. InTurn h × Alone h n) (sym now_is) (start_turns begins (mine c before) of n (kind.User c.session number) refl child (child_keeps begins (mine c before) of n (kind.User c.session number) runs.nonroot child refl) turns alone)
 
   pub none_begun : deeds (mine c now) n ≡ []
   none_begun = ap (λ h. deeds h n) now_is ∙ deeds_quiet n (begins ∷ []) (mine c before) (start_silent n n (kind.User c.session number) (no_child_length n n (λ l. omega (arith, l))), tt) ∙ new.idle
@@ -103,11 +98,15 @@ module _ (c : Client) (of n : Name) (number : ℕ) (before now : Past) (runs : R
           let short = ready_top c.setting now n m.legal (kept_some (λ (e : Entry). is_own c e.seat) _ now h) in
           omega (arith, short, longer, runs.nonroot)
 
+  pub seat_begun : seat_of now n ≡ Some c.number
+  seat_begun = start_under now n c.number (kind.User c.session number) new.started
+
   -- the child runs, below its parent
   pub runs_begun : Runs c n now
   runs_begun = record {
     legal = m.legal;
     user = subst (λ o. MatchOption o ⊥ (λ (b : Begun). IsOfSession c.session b.kind)) (sym new.started) refl;
+    seat = seat_begun;
     nonroot = omega (arith, longer);
     below = (omega (arith, longer, runs.below.0), ap (name.is_ancestor c.root) l.1 ∙ below_more c.root of (l.0 ∷ []) runs.below.1);
     above = above_child;
@@ -135,6 +134,7 @@ pub record Tried (c : Client) (of child : Name) (body : Numbered) (before now : 
   pub runs : Runs c of now
   pub is_one : is_child of child ≡ true
   pub user : Started now child (λ b. IsUser b.kind)
+  pub seat : seat_of now child ≡ Some c.number
   pub more : deeds (mine c now) of ≡ deeds (mine c before) of ++ Deed.child child ∷ []
   pub kind : kind_of (mine c now) child ≡ Some (kind.User c.session body.number)
   pub follows : AreOurs c of now → FollowsPlan c.session (mine c now) child body.plan (deeds (mine c now) child) (end (mine c now) child)
@@ -149,6 +149,7 @@ pub record CutTry (c : Client) (of : Name) (body : Numbered) (before now : Past)
   pub unready : is_ready (mine c now) of ≡ false
   pub child : Name
   pub more : deeds (mine c now) of ≡ deeds (mine c before) of ++ Deed.child child ∷ []
+  pub beside : is_beside (mine c now) of child ≡ true
   pub kind : kind_of (mine c now) child ≡ Some (kind.User c.session body.number)
   pub begins : AreOurs c of now → RunsPlan Reach.cut_off c.session (mine c now) child body.plan (deeds (mine c now) child) (end (mine c now) child)
   pub asked : AreOurs c of now → AllAsked c before now (λ by t. Asks (mine c now) child body.plan (deeds (mine c now) child) by t)
@@ -193,6 +194,12 @@ module _ (c : Client) (of n : Name) (body : Numbered) (before mid now : Past) (r
     kind_is : kind_of (mine c now) n ≡ Some (kind.User c.session body.number)
     kind_is = kind_later c of mid now leaves.later n _ (kind_begun c of n body.number before mid runs child m)
 
+    seat_is : seat_of now n ≡ Some c.number
+    seat_is = later_seat c mid now leaves.later n c.number (seat_begun c of n body.number before mid runs child m)
+
+    parent_seat : seat_of now of ≡ Some c.number
+    parent_seat = later_seat c before now later_is of c.number runs.seat
+
     all_are : (further : List Deed) → deeds (mine c now) n ≡ deeds (mine c mid) n ++ further → deeds (mine c now) n ≡ further
     all_are further is = is ∙ ap (λ l. l ++ further) (none_begun c of n body.number before mid runs child m)
 
@@ -234,6 +241,7 @@ module _ (c : Client) (of n : Name) (body : Numbered) (before mid now : Past) (r
       runs = record {
         legal = ended.leaves.later.legal;
         user = subst (λ h. Started h of (λ b. IsOfSession c.session b.kind)) (sym (later_is Reach.to_the_end ended.leaves).grown) (started_still (later_is Reach.to_the_end ended.leaves).newer before of _ runs.user);
+        seat = parent_seat Reach.to_the_end ended.leaves;
         nonroot = runs.nonroot;
         below = runs.below;
         above = λ p r is far. (unended_is Reach.to_the_end ended.leaves p r is (runs.above p r is far).0, ready_is Reach.to_the_end ended.leaves p r is ∙ (runs.above p r is far).1);
@@ -241,6 +249,7 @@ module _ (c : Client) (of n : Name) (body : Numbered) (before mid now : Past) (r
       };
       is_one = child;
       user = subst (λ h. Started h n (λ b. IsUser b.kind)) (sym ended.leaves.later.grown) (started_still ended.leaves.later.newer mid n _ (user_is c.session mid n (runs_begun c of n body.number before mid runs child m).user));
+      seat = seat_is Reach.to_the_end ended.leaves;
       more = more_is Reach.to_the_end ended.leaves;
       kind = kind_is Reach.to_the_end ended.leaves;
       follows = runs_is Reach.to_the_end ended.leaves ended.ends;
@@ -264,157 +273,9 @@ module _ (c : Client) (of n : Name) (body : Numbered) (before mid now : Past) (r
     unready = ready_is Reach.cut_off cut.leaves of [] (sym (append-nil of)) ∙ (runs.above of [] (sym (append-nil of)) runs.nonroot).1;
     child = n;
     more = more_is Reach.cut_off cut.leaves;
+    beside = later_beside c now now (later_itself c now cut.leaves.later.legal) of n (parent_seat Reach.cut_off cut.leaves) (seat_is Reach.cut_off cut.leaves);
     kind = kind_is Reach.cut_off cut.leaves;
     begins = runs_is Reach.cut_off cut.leaves cut.begins;
     asked = asked_is Reach.cut_off cut.leaves cut.begins;
     tried = unended_again n _ cut.unended;
   }
-
--- WHAT TRIES LEAD TO
-
-pub match_true : (P Q : Type 0) (b : Bool) → b ≡ true → P → MatchBool b P Q
-match_true P Q true is h = h
-match_true P Q false is h = absurd (true≢false (sym is))
-
-pub match_false : (P Q : Type 0) (b : Bool) → b ≡ false → Q → MatchBool b P Q
-match_false P Q false is h = h
-match_false P Q true is h = absurd (true≢false is)
-
--- behind a child that committed a transaction goes on
-goes_behind : (reach : Reach) (past : Past) (n child : Name) (must : Bool) (Rest : Type 0) (further : List Deed) (how : Option How) (given : Answer) → end past child ≡ Some (Commit given) → Rest → AfterTries reach past n (Some (Deed.child child)) must Rest further how
-goes_behind reach past n child false Rest further how given is h = h
-goes_behind reach past n child true Rest further how given is h = subst (λ o. GoesOnAfter reach past n child o Rest further how) (sym is) h
-
-does_behind : (past : Past) (child : Name) (must : Bool) (Does : Type 0) (given : Answer) → end past child ≡ Some (Commit given) → Does → DoesAfter past (Some (Deed.child child)) must Does
-does_behind past child false Does given is h = h
-does_behind past child true Does given is h = subst (λ o. DoesOn o (λ told. Does)) (sym is) h
-
--- where the run was cut off at a child, the transaction came no further
-pub cut_behind : (past : Past) (n child : Name) (must : Bool) (Rest : Type 0) (how : Option How) → IsUnended n how → is_ready past n ≡ false → Rest → AfterTries Reach.cut_off past n (Some (Deed.child child)) must Rest [] how
-cut_behind past n child false Rest how unended unready rest = rest
-cut_behind past n child true Rest how unended unready rest = by_end (end past child)
-  where
-    by_end : (o : Option How) → GoesOnAfter Reach.cut_off past n child o Rest [] how
-    by_end None = (refl, running_unended past n how unended unready)
-    by_end (Some (Commit given)) = rest
-    by_end (Some (Abort x)) = (refl, inr (running_stops past n how unended unready))
-
--- a body that came to this is tried again, or not
-pub again_is : (to : Finish) (how : Option How) → CameTo to how → is_tried_again how ≡ is_again to
-again_is finish.Committed None h = refl
-again_is finish.Committed (Some (Commit given)) h = refl
-again_is finish.Committed (Some (Abort x)) h = absurd h
-again_is (finish.Stopped again) None h = sym h
-again_is (finish.Stopped again) (Some (Commit given)) h = absurd h
-again_is (finish.Stopped again) (Some (Abort x)) h = sym h
-
-module _ (c : Client) (of child : Name) (body : Numbered) (before now : Past) (to : Finish) (t : Tried c of child body before now to) where
-  -- the try by what was seen later
-  module _ (reach : Reach) (x : Past) (later : IsLater c now x) (ours : AreOurs c of x) where
-    follows_now : FollowsPlan c.session (mine c now) child body.plan (deeds (mine c now) child) (end (mine c now) child)
-    follows_now = t.follows (ours_before c of now x later ours)
-
-    one_try : (kind_of (mine c x) child ≡ Some (kind.User c.session body.number)) × RunsPlan reach c.session (mine c x) child body.plan (deeds (mine c x) child) (end (mine c x) child)
-    one_try = (
-      kind_later c of now x later child _ t.kind,
-      follows_runs reach c.session (mine c x) child body.plan _ _ (subst (λ h. FollowsPlan c.session (mine c h) child body.plan (deeds (mine c h) child) (end (mine c h) child)) (sym later.grown)
-          (follows_still c.session (λ (e : Entry). is_own c e.seat) c.setting later.newer now (subst (Legal c.setting) later.grown later.legal) child body.plan follows_now).0),
-    )
-
-    again_later : is_tried_again (end (mine c x) child) ≡ is_again to
-    again_later =
-        ap (λ h. is_tried_again (end (mine c h) child)) later.grown
-        ∙ again_still c.session (λ (e : Entry). is_own c e.seat) c.setting later.newer now (subst (Legal c.setting) later.grown later.legal) child (done_closed (mine c now) child (followed_done c.session (mine c now) child body.plan (deeds (mine c now) child) (end (mine c now) child) follows_now))
-        ∙ again_is to (end (mine c now) child) t.tried
-
-    asked_later : AllAsked c before now (λ by n. Asks (mine c x) child body.plan (deeds (mine c x) child) by n)
-    asked_later = asked_wider _ _ (λ by n a.
-        subst (λ h. Asks (mine c h) child body.plan (deeds (mine c h) child) by n) (sym later.grown)
-        (asks_still c.session (λ (e : Entry). is_own c e.seat) c.setting later.newer now (subst (Legal c.setting) later.grown later.legal) by n child body.plan follows_now a)) c before now (t.asked (ours_before c of now x later ours))
-
-    abbrev Rest : Plan → Option Deed → List Deed → Type 0
-    Rest rest last further = AfterTries reach (mine c x) of last body.must (RunsPlan reach c.session (mine c x) of rest further (end (mine c x) of)) further (end (mine c x) of)
-
-    abbrev RestDoes : Plan → Name → Name → Option Deed → List Deed → Type 0
-    RestDoes rest by n last further = DoesAfter (mine c x) last body.must (Asks (mine c x) of rest further by n)
-
-    abbrev Try : Name → Type 0
-    Try n = (kind_of (mine c x) n ≡ Some (kind.User c.session body.number)) × RunsPlan reach c.session (mine c x) n body.plan (deeds (mine c x) n) (end (mine c x) n)
-
-    abbrev DoTries : Option Deed → ℕ → Plan → List Deed → Name → Name → Type 0
-    DoTries last left rest further by n = TriesDo (deed_end (mine c x)) (OfChild (λ y. Asks (mine c x) y body.plan (deeds (mine c x) y) by n)) (RestDoes rest by n) last left further
-
-    abbrev AreTries : Option Deed → ℕ → Plan → List Deed → Type 0
-    AreTries last left rest further = Tries (deed_end (mine c x)) (OfChild Try) (Stops reach (mine c x) of (end (mine c x) of)) (Rest rest) last left further
-
-    -- one try more, and then as many as are left: none where it is not tried again
-    module _ (last : Option Deed) (left : ℕ) (rest : Plan) (further : List Deed) where
-      abbrev MoreDo : Name → Name → Bool → Type 0
-      MoreDo by n b = MatchBool b (DoTries (Some (Deed.child child)) left rest further by n) (RestDoes rest by n (Some (Deed.child child)) further)
-
-      with_asked : AllAsked c now x (λ by n. MoreDo by n (is_again to)) → AllAsked c before x (λ by n. DoTries last (suc left) rest (Deed.child child ∷ further) by n)
-      with_asked h = asked_trans c before now x _ (asked_wider _ _ (λ by n a. inl a) c before now asked_later) (asked_wider _ _ (λ by n a. inr (subst (MoreDo by n) (sym again_later) a)) c now x h)
-
-      with_try : MatchBool (is_again to) (AreTries (Some (Deed.child child)) left rest further) (Rest rest (Some (Deed.child child)) further) → AreTries last (suc left) rest (Deed.child child ∷ further)
-      with_try h = (one_try, subst (λ b. MatchBool b (AreTries (Some (Deed.child child)) left rest further) (Rest rest (Some (Deed.child child)) further)) (sym again_later) h)
-
-    more_later : (further : List Deed) → deeds (mine c x) of ≡ deeds (mine c now) of ++ further → deeds (mine c x) of ≡ deeds (mine c before) of ++ Deed.child child ∷ further
-    more_later further is = is ∙ ap (λ l. l ++ further) t.more ∙ append_assoc (deeds (mine c before) of) (Deed.child child ∷ []) further
-
-  -- one try more, after which there is another
-  pub try_again : is_again to ≡ true → (reach : Reach) (x : Past) → IsLater c now x → (last : Option Name) (left : ℕ) (rest : Plan) → EndsTries reach c of now x body (Some child) left rest → EndsTries reach c of before x body last (suc left) rest
-  try_again is reach x later last left rest ends ours =
-      let e = ends ours in (
-        Deed.child child ∷ e.0,
-        more_later reach x later ours e.0 e.1,
-        with_try reach x later ours (option_map Deed.child last) left rest e.0 (match_true _ (Rest reach x later ours rest (Some (Deed.child child)) e.0) (is_again to) is e.2),
-        with_asked reach x later ours (option_map Deed.child last) left rest e.0 (asked_wider _ _ (λ by n a. match_true _ (RestDoes reach x later ours rest by n (Some (Deed.child child)) e.0) (is_again to) is a) c now x e.3),
-      )
-
-  -- one try more, which is the last
-  pub try_last : is_again to ≡ false → (reach : Reach) (x : Past) → IsLater c now x → (last : Option Name) (left : ℕ) (rest : Plan) → EndsTries reach c of now x body (Some child) 0 rest → EndsTries reach c of before x body last (suc left) rest
-  try_last is reach x later last left rest ends ours =
-      let e = ends ours in (
-        Deed.child child ∷ e.0,
-        more_later reach x later ours e.0 e.1,
-        with_try reach x later ours (option_map Deed.child last) left rest e.0 (match_false (AreTries reach x later ours (Some (Deed.child child)) left rest e.0) _ (is_again to) is e.2),
-        with_asked reach x later ours (option_map Deed.child last) left rest e.0 (asked_wider _ _ (λ by n a. match_false (DoTries reach x later ours (Some (Deed.child child)) left rest e.0 by n) _ (is_again to) is a) c now x e.3),
-      )
-
-  -- the child was aborted, or committed
-  pub has_failed : (again : Bool) → to ≡ finish.Stopped again → HasFailed c of now child
-  has_failed again is = record { is_one = t.is_one; user = t.user; aborted = λ ours. by_end (end (mine c now) child) (t.ended ours) (subst (λ y. CameTo y (end (mine c now) child)) is t.tried) }
-    where
-      by_end : (o : Option How) → is_some o ≡ true → CameTo (finish.Stopped again) o → MatchOption o ⊥ IsAbort
-      by_end None some h = absurd (true≢false (sym some))
-      by_end (Some (Commit given)) some h = absurd h
-      by_end (Some (Abort y)) some h = tt
-
-  has_committed : to ≡ finish.Committed → AreOurs c of now → (given : Answer) × (end (mine c now) child ≡ Some (Commit given))
-  has_committed is ours = by_end (end (mine c now) child) refl (t.ended ours) (subst (λ y. CameTo y (end (mine c now) child)) is t.tried)
-    where
-      by_end : (o : Option How) → end (mine c now) child ≡ o → is_some o ≡ true → CameTo finish.Committed o → (given : Answer) × (end (mine c now) child ≡ Some (Commit given))
-      by_end None at some h = absurd (true≢false (sym some))
-      by_end (Some (Commit given)) at some h = (given, at)
-      by_end (Some (Abort y)) at some h = absurd h
-
-  -- behind a try that committed the transaction goes on, whether it must or not
-  pub try_through : to ≡ finish.Committed → (reach : Reach) (x : Past) → IsLater c now x → (rest : Plan) → EndsAt reach c of now x rest → EndsTries reach c of now x body (Some child) 0 rest
-  try_through is reach x later rest ends ours =
-      let e = ends ours in
-      let had = has_committed is (ours_before c of now x later ours) in
-      let has : end (mine c x) child ≡ Some (Commit had.0) = end_later c of now x later child (Commit had.0) had.1 in (
-        e.0,
-        e.1,
-        goes_behind reach (mine c x) of child body.must _ e.0 (end (mine c x) of) had.0 has e.2,
-        asked_wider _ _ (λ by n a. does_behind (mine c x) child body.must _ had.0 has a) c now x e.3,
-      )
-
--- A try that was cut off is the last, and the run came no further.
-pub try_cut : (c : Client) (of : Name) (body : Numbered) (before now : Past) → CutTry c of body before now → (last : Option Name) (left : ℕ) (rest : Plan) → EndsTries Reach.cut_off c of before now body last (suc left) rest
-try_cut c of body before now t last left rest ours = (
-  Deed.child t.child ∷ [],
-  t.more,
-  ((t.kind, t.begins ours), match_false _ _ _ t.tried (cut_behind (mine c now) of t.child body.must _ (end (mine c now) of) t.unended t.unready (running_runs c.session (mine c now) of _ t.unended t.unready rest))),
-  asked_wider _ _ (λ by n a. inl a) c before now (t.asked ours),
-)

@@ -22,7 +22,8 @@ use Rattle.qc_interp.proofs.Asked.{NoOne, asked_made, asked_none, asked_trans}
 use Rattle.std.specs.List.{AllByRecursion}
 use Rattle.qc_interp.specs.Asking.{Asks, IsAskedBy}
 use Rattle.qc_interp.proofs.Joined.{joined_itself, joined_before, joined_chain, joined_since, joined_runs, joined_leaves, joined_failed, by_joined, more_mine, more_runs, more_leaves, ours_back, both}
-use Rattle.qc_interp.proofs.Tried.{Tried, CutTry, try_again, try_last, try_through, try_cut, has_failed}
+use Rattle.qc_interp.proofs.Tried.{Tried, CutTry}
+use Rattle.qc_interp.proofs.TriesLead.{try_again, try_last, try_through, try_cut, has_failed}
 
 -- so many tries are left behind this one, which failed
 pub record TriesLeft (c : Client) (of : Name) (body : Numbered) (before now : Past) (last : Option Name) (left : ℕ) : Type 0 where
@@ -42,6 +43,7 @@ module _ (c d : Client) (of : Name) (body : Numbered) (before now : Past) (j : H
         runs = more_runs c kin now all of t.runs;
         is_one = t.is_one;
         user = t.user;
+        seat = t.seat;
         more = both c kin before now t.leaves.later all (λ x y. deeds y of ≡ deeds x of ++ Deed.child child ∷ []) t.more;
         kind = ap (λ h. kind_of h child) same ∙ t.kind;
         follows = λ ours. subst (λ h. FollowsPlan c.session h child body.plan (deeds h child) (end h child)) (sym same) (t.follows (back ours));

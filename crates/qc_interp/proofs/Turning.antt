@@ -1,7 +1,7 @@
 -- Who acts in turn as entries are made.
-use Rattle.std.proofs.Common.{◌≡◌, ◌⊎◌, inl, inr, ℕ, Bool, true, false, [], ◌∷◌, ◌++◌, refl, sym, ap, ◌∙◌, append-nil, append_assoc}
+use Rattle.std.proofs.Common.{◌≡◌, ◌⊎◌, inl, inr, ◌<◌, ◌+◌, arith, ℕ, Bool, true, false, [], ◌∷◌, ◌++◌, length, refl, sym, ap, ◌∙◌, append-nil, append_assoc}
 use mathlib.Core.Bool.{true≢false}
-use Rattle.std.specs.Prelude.{None, Some, is_some, ◌||◌, not, if◌then◌else◌, option_to_list, IsTrue}
+use Rattle.std.specs.Prelude.{None, Some, is_some, ◌&&◌, ◌||◌, not, if◌then◌else◌, option_to_list, IsTrue}
 use Rattle.std.specs.List.{AllByRecursion, list_all}
 use Rattle.std.specs.Option.{option_map_or}
 use Rattle.std.proofs.lemmas.List.Folds.{list_all-append}
@@ -14,14 +14,14 @@ use Rattle.qc_event.specs.declared.event.How.{How}
 use Rattle.qc_event.specs.declared.event.How.TheVariants.{Commit, Abort}
 use Rattle.qc_event.specs.declared.event.Kind.{Kind}
 use Rattle.qc_event.specs.History.{Past, Name, every, end, is_ready, is_child}
-use Rattle.qc_event.proofs.LastNumber.{child_last, rest_of, is_ancestor-append, ends_in, same_last, below_more}
+use Rattle.qc_event.proofs.LastNumber.{child_last, child_longer, rest_of, is_ancestor-append, ends_in, same_last, below_more}
 use Rattle.qc_event.proofs.OneEntry.{stays_some}
 use Rattle.qc_event.proofs.Booleans.{or_wider, all_wider}
 use Rattle.qc_names.specs.Name as name
 use Rattle.qc_script.specs.Calls.{IsOfAccess}
 use Rattle.qc_script.specs.Numbers.{each}
 use Rattle.qc_script.specs.Calls.{is_access, is_asked}
-use Rattle.qc_interp.specs.Turns.{begun_in, acts, is_done, is_alone, are_apart, has_turn, takes_turn}
+use Rattle.qc_interp.specs.Turns.{begun_in, acts, is_done, is_alone, are_apart, has_turn, seat_for, keeps_seat, takes_turn}
 
 abbrev pub InTurn : Past → Type 0
 InTurn h = each takes_turn h ≡ true
@@ -81,21 +81,40 @@ alone_up h of m child done alone = all_wider _ _ (every (λ e. begun_in e.event)
       | inr a ↦ ap (λ b. b || name.is_ancestor x of) is ∙ a
     ]
 
+-- SEATS
+
+-- an entry keeps its seat
+abbrev pub Keeps : Entry → Past → Type 0
+Keeps e h = keeps_seat e h ≡ true
+
+-- a name below another is no top, and starts under any seat
+pub low_keeps : (e : Entry) (h : Past) (m : Name) (k : Kind) → 1 < length m → e.event ≡ event.Start m k → Keeps e h
+low_keeps e h [] k low is = absurd (let z : ⊥ = omega (arith, low) in z)
+low_keeps e h (x ∷ []) k low is = absurd (let z : ⊥ = omega (arith, low) in z)
+low_keeps e h (x ∷ y ∷ m) k low is = ap (seat_for h e.seat) is
+
+-- so does a child of a name that is not the root
+pub child_keeps : (e : Entry) (h : Past) (of m : Name) (k : Kind) → 0 < length of → is_child of m ≡ true → e.event ≡ event.Start m k → Keeps e h
+child_keeps e h of m k nonroot child is = let l = child_longer of m child in low_keeps e h m k (omega (arith, l)) is
+
+-- TURNS
+
 -- who is alone takes its turn, and so does an entry by which no one acts
-alone_takes_turn : (e : Entry) (h : Past) (n : Name) → acts e.event ≡ Some n → Alone h n → takes_turn e h ≡ true
-alone_takes_turn e h n is alone =
-    ap (λ o. option_map_or (has_turn e h) o true) is
+alone_takes_turn : (e : Entry) (h : Past) (n : Name) → acts e.event ≡ Some n → Keeps e h → Alone h n → takes_turn e h ≡ true
+alone_takes_turn e h n is keeps alone =
+    ap (λ b. b && option_map_or (has_turn e h) (acts e.event) true) keeps
+    ∙ ap (λ o. option_map_or (has_turn e h) o true) is
     ∙ all_wider _ _ (every (λ x. begun_in x.event) h) (λ m. or_wider (is_done h m) (name.is_ancestor m n) (is_done h m) (name.is_ancestor m n || are_apart (e ∷ h) m n) (λ d. d) (λ a. ap (λ b. b || are_apart (e ∷ h) m n) a)) alone
 
-quiet_takes_turn : (e : Entry) (h : Past) → acts e.event ≡ None → takes_turn e h ≡ true
-quiet_takes_turn e h none = ap (λ o. option_map_or (has_turn e h) o true) none
+quiet_takes_turn : (e : Entry) (h : Past) → acts e.event ≡ None → Keeps e h → takes_turn e h ≡ true
+quiet_takes_turn e h none keeps = ap (λ b. b && option_map_or (has_turn e h) (acts e.event) true) keeps ∙ ap (λ o. option_map_or (has_turn e h) o true) none
 
 turn_more : (e : Entry) (h : Past) → InTurn h → takes_turn e h ≡ true → InTurn (e ∷ h)
 turn_more e h turns takes = and_from (each takes_turn h) (takes_turn e h) turns takes
 
 -- a child starts
-pub start_turns : (e : Entry) (h : Past) (of m : Name) (k : Kind) → e.event ≡ event.Start m k → is_child of m ≡ true → InTurn h → Alone h of → InTurn (e ∷ h) × Alone (e ∷ h) m
-start_turns e h of m k is child turns alone = by_kind (is_access k) refl
+pub start_turns : (e : Entry) (h : Past) (of m : Name) (k : Kind) → e.event ≡ event.Start m k → is_child of m ≡ true → Keeps e h → InTurn h → Alone h of → InTurn (e ∷ h) × Alone (e ∷ h) m
+start_turns e h of m k is child keeps turns alone = by_kind (is_access k) refl
   where
     l : (j : ℕ) × (m ≡ of ++ j ∷ [])
     l = child_last of m child
@@ -105,11 +124,11 @@ start_turns e h of m k is child turns alone = by_kind (is_access k) refl
 
     by_kind : (b : Bool) → is_access k ≡ b → InTurn (e ∷ h) × Alone (e ∷ h) m
     by_kind true so = (
-      turn_more e h turns (quiet_takes_turn e h (ap acts is ∙ ap (λ b. if b then None else Some m) so)),
+      turn_more e h turns (quiet_takes_turn e h (ap acts is ∙ ap (λ b. if b then None else Some m) so) keeps),
       alone_still e h m (ap begun_in is ∙ ap (λ b. if b then None else Some m) so) (alone_below h of m low alone),
     )
     by_kind false so = (
-      turn_more e h turns (alone_takes_turn e h m (ap acts is ∙ ap (λ b. if b then None else Some m) so) (alone_below h of m low alone)),
+      turn_more e h turns (alone_takes_turn e h m (ap acts is ∙ ap (λ b. if b then None else Some m) so) keeps (alone_below h of m low alone)),
       alone_more e h m m (ap begun_in is ∙ ap (λ b. if b then None else Some m) so) (itself m) (alone_below h of m low alone),
     )
 
@@ -126,29 +145,29 @@ own_actor n (Abort (cause.Child x)) h = refl
 own_actor n (Abort cause.Missed) h = refl
 
 -- one acts by an entry that starts no one, and another stays alone
-pub act_turns : (e : Entry) (h : Past) (by n : Name) → acts e.event ≡ Some by → begun_in e.event ≡ None → InTurn h → Alone h by → Alone h n → InTurn (e ∷ h) × Alone (e ∷ h) n
-act_turns e h by n is none turns alone other = (turn_more e h turns (alone_takes_turn e h by is alone), alone_still e h n none other)
+pub act_turns : (e : Entry) (h : Past) (by n : Name) → acts e.event ≡ Some by → begun_in e.event ≡ None → Keeps e h → InTurn h → Alone h by → Alone h n → InTurn (e ∷ h) × Alone (e ∷ h) n
+act_turns e h by n is none keeps turns alone other = (turn_more e h turns (alone_takes_turn e h by is keeps alone), alone_still e h n none other)
 
 pub end_turns : (e : Entry) (h : Past) (by n : Name) (how : How) → e.event ≡ event.End n how → acts (event.End n how) ≡ Some by → InTurn h → Alone h by → Alone h n → InTurn (e ∷ h) × Alone (e ∷ h) n
-end_turns e h by n how is actor turns alone other = act_turns e h by n (ap acts is ∙ actor) (ap begun_in is) turns alone other
+end_turns e h by n how is actor turns alone other = act_turns e h by n (ap acts is ∙ actor) (ap begun_in is) (ap (seat_for h e.seat) is) turns alone other
 
 -- a manager's accesses start and end
-pub access_turns : (m : Name) (inner h : Past) → AllByRecursion (λ (e : Entry). IsOfAccess m e.event) inner → InTurn h → Alone h m → InTurn (inner ++ h) × Alone (inner ++ h) m
-access_turns m [] h all turns alone = (turns, alone)
-access_turns m (e ∷ inner) h all turns alone = by_event e.event refl all.0 (access_turns m inner h all.1 turns alone)
+pub access_turns : (m : Name) (inner h : Past) → 0 < length m → AllByRecursion (λ (e : Entry). IsOfAccess m e.event) inner → InTurn h → Alone h m → InTurn (inner ++ h) × Alone (inner ++ h) m
+access_turns m [] h nonroot all turns alone = (turns, alone)
+access_turns m (e ∷ inner) h nonroot all turns alone = by_event e.event refl all.0 (access_turns m inner h nonroot all.1 turns alone)
   where
-    quiet : acts e.event ≡ None → begun_in e.event ≡ None → InTurn (inner ++ h) × Alone (inner ++ h) m → InTurn (e ∷ inner ++ h) × Alone (e ∷ inner ++ h) m
-    quiet none start before = (turn_more e (inner ++ h) before.0 (quiet_takes_turn e (inner ++ h) none), alone_still e (inner ++ h) m start before.1)
+    quiet : acts e.event ≡ None → begun_in e.event ≡ None → Keeps e (inner ++ h) → InTurn (inner ++ h) × Alone (inner ++ h) m → InTurn (e ∷ inner ++ h) × Alone (e ∷ inner ++ h) m
+    quiet none start keeps before = (turn_more e (inner ++ h) before.0 (quiet_takes_turn e (inner ++ h) none keeps), alone_still e (inner ++ h) m start before.1)
 
     by_event : (ev : Event) → e.event ≡ ev → IsOfAccess m ev → InTurn (inner ++ h) × Alone (inner ++ h) m → InTurn (e ∷ inner ++ h) × Alone (e ∷ inner ++ h) m
-    by_event (event.Start n k) is of before = quiet (ap acts is ∙ ap (λ b. if b then None else Some n) of.1) (ap begun_in is ∙ ap (λ b. if b then None else Some n) of.1) before
+    by_event (event.Start n k) is of before = quiet (ap acts is ∙ ap (λ b. if b then None else Some n) of.1) (ap begun_in is ∙ ap (λ b. if b then None else Some n) of.1) (child_keeps e (inner ++ h) m n k nonroot of.0 is) before
     by_event (event.End n how) is of before =
         let l = child_last m n of.0 in
-        act_turns e (inner ++ h) n m (ap acts is ∙ own_actor n how of.1) (ap begun_in is) before.0 (alone_below (inner ++ h) m n (ap (name.is_ancestor m) l.1 ∙ is_ancestor-append m (l.0 ∷ [])) before.1) before.1
+        act_turns e (inner ++ h) n m (ap acts is ∙ own_actor n how of.1) (ap begun_in is) (ap (seat_for (inner ++ h) e.seat) is) before.0 (alone_below (inner ++ h) m n (ap (name.is_ancestor m) l.1 ∙ is_ancestor-append m (l.0 ∷ [])) before.1) before.1
     by_event (event.Ready n) is of before = absurd of
     by_event (event.Mark n session) is of before = absurd of
-    by_event (event.Ask ask) is of before = quiet (ap acts is) (ap begun_in is) before
-    by_event (event.Gone n why) is of before = quiet (ap acts is) (ap begun_in is) before
-    by_event (event.Granted copy grant) is of before = quiet (ap acts is) (ap begun_in is) before
-    by_event (event.Refused n copy refusal) is of before = quiet (ap acts is) (ap begun_in is) before
-    by_event (event.Unable n why) is of before = quiet (ap acts is) (ap begun_in is) before
+    by_event (event.Ask ask) is of before = quiet (ap acts is) (ap begun_in is) (ap (seat_for (inner ++ h) e.seat) is) before
+    by_event (event.Gone n why) is of before = quiet (ap acts is) (ap begun_in is) (ap (seat_for (inner ++ h) e.seat) is) before
+    by_event (event.Granted copy grant) is of before = quiet (ap acts is) (ap begun_in is) (ap (seat_for (inner ++ h) e.seat) is) before
+    by_event (event.Refused n copy refusal) is of before = quiet (ap acts is) (ap begun_in is) (ap (seat_for (inner ++ h) e.seat) is) before
+    by_event (event.Unable n why) is of before = quiet (ap acts is) (ap begun_in is) (ap (seat_for (inner ++ h) e.seat) is) before

@@ -14,7 +14,7 @@ use Rattle.qc_script.specs.Client.{Client, mine}
 use Rattle.qc_interp.specs.Deeds.{Deed, deeds, deed_end, OfChild}
 use Rattle.qc_interp.specs.Follows.{above, WasAsked, WasKilled}
 use Rattle.qc_script.specs.Plan.{Plan, Numbered}
-use Rattle.qc_interp.specs.Rows.{OneOf, are_tries_at_once, each_tried, first_failed, tries_among}
+use Rattle.qc_interp.specs.Rows.{OneOf, are_tries_at_once, each_begun, each_tried, first_failed, tries_among}
 use Rattle.qc_interp.specs.Tries.{TriesDo}
 
 -- it is done after a manager that committed, by its answer
@@ -45,7 +45,7 @@ abbrev mutual
       TriesDo (deed_end past) (OfChild (λ c. Asks past c inner (deeds past c) by target)) (λ last further. DoesAfter past last must (Asks past n rest further by target)) None tries ds
   Asks past n (Plan.par_then branches rest) ds by target =
       (here : List Deed) × (further : List Deed) × (ds ≡ here ++ further) × IsTrue (are_tries_at_once past branches here)
-      × DoesInRow past (each_tried past false branches here) (first_failed past branches here) (RowAsks past branches here by target) further (Asks past n rest further by target)
+      × DoesInRow past (each_tried past false branches here) (first_failed past branches here) (IsTrue (each_begun past branches here) × RowAsks past branches here by target) further (Asks past n rest further by target)
   Asks past n (Plan.abort_then levels rest) [] by target = (by ≡ n) × (target ≡ above n levels) × (WasKilled (end past n) → ⊥)
   Asks past n (Plan.abort_then levels rest) (d ∷ further) by target = ⊥
   Asks past n (Plan.crash_then copy rest) ds by target = Asks past n rest ds by target

@@ -13,8 +13,9 @@ use Rattle.qc_event.specs.History.{Past, Name, same, end, is_ready, kind_of}
 use Rattle.qc_script.specs.Plan.{Plan, Numbered}
 use Rattle.qc_interp.specs.Deeds.{Deed, deeds, deed_end, OfChild}
 use Rattle.qc_interp.specs.Reach.{Reach}
-use Rattle.qc_interp.specs.Rows.{are_tries_at_once, each_tried, first_failed, tries_among}
+use Rattle.qc_interp.specs.Rows.{AreAtOnce, each_begun, each_tried, first_failed, tries_among}
 use Rattle.qc_interp.specs.Tries.{Tries}
+use Rattle.qc_interp.specs.Turns.{is_beside}
 
 -- the ancestor so many levels up
 abbrev pub above : Name → ℕ → Name
@@ -99,6 +100,16 @@ AfterTries reach past n (Some d) false Rest further how = Rest
 AfterTries reach past n (Some (Deed.child c)) true Rest further how = GoesOnAfter reach past n c (end past c) Rest further how
 AfterTries reach past n (Some (Deed.mark m)) true Rest further how = ⊥
 
+-- it was an orphan
+abbrev pub WasOrphan : Option How → Type 0
+WasOrphan (Some (Abort c)) = is_of_orphan c ≡ true
+WasOrphan _ = ⊥
+
+-- A branch that was begun did nothing, since another could not be begun: it ended as an orphan, or was aborted as another
+-- asked, or the run was cut off while it ran.
+abbrev pub WasTurnedBack : Reach → Past → Name → Type 0
+WasTurnedBack reach past c = (deeds past c ≡ []) × (WasOrphan (end past c) ⊎ HasNotEnded reach past c (end past c))
+
 -- Behind branches at once a transaction goes on where each was tried as often as it is, but by the first that must commit
 -- and failed. Else it stopped meanwhile.
 abbrev pub AfterRow : Reach → Past → Name → Bool → Option Deed → Type 0 → List Deed → Option How → Type 0
@@ -124,13 +135,13 @@ abbrev mutual
   RunsPlan reach s past n Plan.done (d ∷ further) how = ⊥
   RunsPlan reach s past n (Plan.manage_by k next) [] how = Stops reach past n how
   RunsPlan reach s past n (Plan.manage_by k next) (Deed.child c ∷ further) how =
-      (kind_of past c ≡ Some k) × GoesOn reach past n (end past c) (λ given. RunsPlan reach s past n (next given) further how) further how
+      (kind_of past c ≡ Some k) × IsTrue (is_beside past n c) × GoesOn reach past n (end past c) (λ given. RunsPlan reach s past n (next given) further how) further how
   RunsPlan reach s past n (Plan.manage_by k next) (Deed.mark m ∷ further) how = ⊥
   RunsPlan reach s past n (Plan.child_then number tries must inner rest) ds how =
-      Tries (deed_end past) (OfChild (λ c. (kind_of past c ≡ Some (kind.User s number)) × RunsPlan reach s past c inner (deeds past c) (end past c)))
+      Tries (deed_end past) (OfChild (λ c. IsTrue (is_beside past n c) × (kind_of past c ≡ Some (kind.User s number)) × RunsPlan reach s past c inner (deeds past c) (end past c)))
       (Stops reach past n how) (λ last further. AfterTries reach past n last must (RunsPlan reach s past n rest further how) further how) None tries ds
   RunsPlan reach s past n (Plan.par_then branches rest) ds how =
-      (here : List Deed) × (further : List Deed) × (ds ≡ here ++ further) × IsTrue (are_tries_at_once past branches here) × RunsRow reach s past branches here
+      (here : List Deed) × (further : List Deed) × (ds ≡ here ++ further) × AreAtOnce past branches here further × RunsRow reach s past (each_begun past branches here) branches here
       × AfterRow reach past n (each_tried past false branches here) (first_failed past branches here) (RunsPlan reach s past n rest further how) further how
   RunsPlan reach s past n (Plan.abort_then levels rest) [] how = (how ≡ asked_end n levels) ⊎ StopsBefore reach past n how
   RunsPlan reach s past n (Plan.abort_then levels rest) (d ∷ further) how = ⊥
@@ -140,12 +151,12 @@ abbrev mutual
   RunsPlan reach s past n (Plan.kill_then session rest) (Deed.mark m ∷ further) how =
       (m ≡ session) × MatchBool (session == s) ((further ≡ []) × StopsBefore reach past n how) (RunsPlan reach s past n rest further how)
 
-  -- each try of each branch of a row does what the branch's plan asks for
-  pub RunsRow : Reach → ℕ → Past → Plan → List Deed → Type 0
-  RunsRow reach s past (Plan.child_then number tries must inner others) ds =
-      AllByRecursion (OfChild (λ c. (kind_of past c ≡ Some (kind.User s number)) × RunsPlan reach s past c inner (deeds past c) (end past c))) (tries_among past number ds)
-      × RunsRow reach s past others ds
-  RunsRow reach s past _ ds = Unit {0}
+  -- each try of each branch of a row does what the branch's plan asks for, where all were begun
+  pub RunsRow : Reach → ℕ → Past → Bool → Plan → List Deed → Type 0
+  RunsRow reach s past all_begun (Plan.child_then number tries must inner others) ds =
+      AllByRecursion (OfChild (λ c. (kind_of past c ≡ Some (kind.User s number)) × MatchBool all_begun (RunsPlan reach s past c inner (deeds past c) (end past c)) (WasTurnedBack reach past c))) (tries_among past number ds)
+      × RunsRow reach s past all_begun others ds
+  RunsRow reach s past all_begun _ ds = Unit {0}
 
 -- a top of a session and of a body, which does what the body's plan asks for
 pub record RunsBody (reach : Reach) (s : ℕ) (past : Past) (body : Numbered) (top : Name) : Type 0 where

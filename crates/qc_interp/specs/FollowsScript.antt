@@ -31,15 +31,11 @@ started past = every (λ e. started_in e.event) past
 abbrev pub net_of : ℕ → SessionPlan → Net
 net_of patience s = record { fates = s.fates; hold = s.hold; patience = patience }
 
--- no body is a branch of a step
-abbrev pub no_branch : ℕ → Option ℕ
-no_branch body = None
-
 -- A history has a session: its tops are tries of the session's bodies in order, each of which does what its plan asks for,
 -- as far as the run came; the session runs in turn; and its requests meet the fates of its link.
 pub record RunsSession (reach : Reach) (session patience : ℕ) (plan : SessionPlan) (past : Past) : Type 0 where
   pub bodies_run : RunsBodies reach session past plan.tops (tops_of session past)
-  pub in_turn : RunsInTurn no_branch session past
+  pub in_turn : RunsInTurn session past
   pub messages : IsTrue (meets session (net_of patience plan) past)
 
 -- ALL SESSIONS

@@ -9,6 +9,7 @@ pub mod Rows
 pub mod Follows
 pub mod FollowsScript
 pub mod Running
+pub mod Branches
 pub mod Session
 pub mod Sessions
 pub mod Together

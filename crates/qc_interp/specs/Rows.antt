@@ -1,16 +1,21 @@
 -- Children at once: which deeds are the tries of a row of branches, and how these stand.
-use Rattle.std.specs.Prelude.{ℕ, ◌==◌, ◌⊎◌, Bool, true, false, ◌&&◌, ◌||◌, if◌then◌else◌, List, [], ◌∷◌, Option, None, Some}
+use Rattle.std.specs.Prelude.{ℕ, ◌==◌, ◌⊎◌, Bool, true, false, not, ◌&&◌, ◌||◌, if◌then◌else◌, IsTrue, List, [], ◌∷◌, Option, None, Some}
 use Rattle.std.proofs.Common.{zero, suc}
-use Rattle.std.specs.List.{list_all, filter, last_or}
+use Rattle.std.specs.List.{list_all, list_any, filter, last_or}
 use Rattle.std.specs.Option.{option_or, option_map_or}
+use Rattle.qc_event.specs.declared.event.Entry.{Entry}
+use Rattle.qc_event.specs.declared.event.Event.{Event}
+use Rattle.qc_event.specs.declared.event.Event.TheVariants as event
 use Rattle.qc_event.specs.declared.event.How.{How}
 use Rattle.qc_event.specs.declared.event.Kind.{Kind}
 use Rattle.qc_event.specs.declared.event.Kind.TheVariants as kind
-use Rattle.qc_event.specs.History.{Past, kind_of}
+use Rattle.qc_event.specs.History.{Past, Name, earliest, same, kind_of}
 use Rattle.qc_script.specs.Client.{is_commit}
+use Rattle.qc_script.specs.Numbers.{each}
 use Rattle.qc_script.specs.Plan.{Plan}
 use Rattle.qc_interp.specs.Deeds.{Deed, deed_end}
 use Rattle.qc_interp.specs.Tries.{is_tried_again}
+use Rattle.qc_interp.specs.Turns.{is_done, seat_of, is_beside}
 
 -- ONE BRANCH
 
@@ -72,6 +77,63 @@ first_failed past _ ds = None
 -- Whether deeds are tries of branches at once, that begin in order. A further try of one may stand among the others'.
 abbrev pub are_tries_at_once : Past → Plan → List Deed → Bool
 are_tries_at_once past branches ds = list_all (is_try_in past branches) ds && begin_each past branches ds && each_tried past true branches ds
+
+-- whether each branch was begun
+abbrev pub each_begun : Past → Plan → List Deed → Bool
+each_begun past (Plan.child_then number tries must inner others) ds = list_any (is_try past number) ds && each_begun past others ds
+each_begun past _ ds = true
+
+-- SEATS OF BRANCHES
+
+-- the first event under a seat
+abbrev pub first_under : ℕ → Past → Option Event
+first_under seat past = earliest (λ e. if e.seat == seat then Some e.event else None) past
+
+abbrev pub starts : Name → Event → Bool
+starts n (event.Start m k) = same m n
+starts n _ = false
+
+-- whether the start of a name is the first entry under its seat
+abbrev pub opens_seat : Past → Name → Bool
+opens_seat past n = option_map_or (λ seat. option_map_or (starts n) (first_under seat past) false) (seat_of past n) false
+
+-- whether a deed is a child that was started under the same seat as a name
+abbrev pub is_child_beside : Past → Name → Deed → Bool
+is_child_beside past n (Deed.child c) = is_beside past n c
+is_child_beside past n (Deed.mark m) = false
+
+-- whether tries of a branch all stand under one seat, which the first of them opens
+abbrev pub keeps_own_seat : Past → List Deed → Bool
+keeps_own_seat past [] = true
+keeps_own_seat past (Deed.child t ∷ ds) = opens_seat past t && list_all (is_child_beside past t) ds
+keeps_own_seat past (Deed.mark m ∷ ds) = false
+
+-- whether each branch has a seat of its own
+abbrev pub each_own_seat : Past → Plan → List Deed → Bool
+each_own_seat past (Plan.child_then number tries must inner others) ds = keeps_own_seat past (tries_among past number ds) && each_own_seat past others ds
+each_own_seat past _ ds = true
+
+-- WHAT COMES BEHIND A ROW
+
+-- whether what a transaction did is done
+abbrev pub deed_done : Past → Deed → Bool
+deed_done past (Deed.child c) = is_done past c
+deed_done past (Deed.mark m) = true
+
+-- whether an entry starts a name only once all of some deeds are done
+abbrev pub starts_once_done : List Deed → Name → Entry → Past → Bool
+starts_once_done ds n e past = not (starts n e.event) || list_all (deed_done past) ds
+
+-- whether the next child starts once all of some deeds are done
+abbrev pub is_behind : Past → List Deed → List Deed → Bool
+is_behind past here (Deed.child c ∷ further) = each (starts_once_done here c) past
+is_behind past here further = true
+
+-- Deeds are tries of branches at once, each under a seat of its own, and what the transaction does further starts once all
+-- of them are done.
+abbrev pub AreAtOnce : Past → Plan → List Deed → List Deed → Type 0
+AreAtOnce past branches here further =
+    IsTrue (are_tries_at_once past branches here) × IsTrue (each_own_seat past branches here) × IsTrue (is_behind past here further)
 
 -- some of the things is so
 abbrev pub OneOf : {A : Type 0} → (A → Type 0) → List A → Type 0

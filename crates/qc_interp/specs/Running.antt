@@ -19,7 +19,7 @@ use Rattle.qc_interp.specs.Adding.{AllStayIn}
 use Rattle.qc_script.specs.Calls.{is_over}
 use Rattle.qc_script.specs.Client.{Client, mine, scope, Made, IsLater, HasJoined, AreOurs}
 use Rattle.qc_interp.specs.Deeds.{Deed, deeds, deed_end, OfChild}
-use Rattle.qc_interp.specs.Follows.{StopsEarly, Stops, StopsBefore, WasAsked, IsUnended, is_of_orphan, AfterTries, RunsPlan}
+use Rattle.qc_interp.specs.Follows.{StopsEarly, Stops, StopsBefore, WasAsked, WasOrphan, IsUnended, AfterTries, RunsPlan}
 use Rattle.qc_interp.specs.declared.body.Came.{Came}
 use Rattle.qc_interp.specs.declared.body.Came.TheVariants as came
 use Rattle.qc_interp.specs.declared.managing.Look.{Look}
@@ -29,7 +29,7 @@ use Rattle.qc_interp.specs.declared.stops.Finish.TheVariants as finish
 use Rattle.qc_interp.specs.Reach.{Reach, AtTheEnd}
 use Rattle.qc_script.specs.Plan.{Plan, Numbered}
 use Rattle.qc_script.specs.Numbers.{each}
-use Rattle.qc_interp.specs.Turns.{takes_turn, is_alone}
+use Rattle.qc_interp.specs.Turns.{takes_turn, is_alone, seat_of, is_beside}
 use Rattle.qc_interp.specs.Tries.{Tries, is_tried_again, TriesDo}
 use Rattle.qc_interp.specs.Asking.{DoesAfter, Asks, AllAsked}
 
@@ -37,10 +37,11 @@ use Rattle.qc_interp.specs.Asking.{DoesAfter, Asks, AllAsked}
 abbrev pub IsBelow : Name → Name → Type 0
 IsBelow above n = (length above < length n) × IsTrue (name.is_ancestor above n)
 
--- A user transaction of the client's session that runs, below the client's root: by what the client made neither it nor one above it has ended itself or is ready, and no child is open.
+-- A user transaction of the client's session, started under its seat, that runs below the client's root: by what the client made neither it nor one above it has ended itself or is ready, and no child is open.
 pub record Runs (c : Client) (of : Name) (now : Past) : Type 0 where
   pub legal : Legal c.setting now
   pub user : Started now of (λ b. IsOfSession c.session b.kind)
+  pub seat : seat_of now of ≡ Some c.number
   pub nonroot : 0 < length of
   pub below : IsBelow c.root of
   pub above : (p r : Name) → of ≡ p ++ r → 0 < length p → IsUnended p (end (mine c now) p) × (is_ready (mine c now) p ≡ false)
@@ -131,11 +132,6 @@ pub record HasFailed (c : Client) (of : Name) (now : Past) (child : Name) : Type
   pub user : Started now child (λ b. IsUser b.kind)
   pub aborted : AreOurs c of now → MatchOption (end (mine c now) child) ⊥ IsAbort
 
--- it was an orphan
-abbrev pub WasOrphan : Option How → Type 0
-WasOrphan (Some (Abort c)) = is_of_orphan c ≡ true
-WasOrphan _ = ⊥
-
 -- A transaction was aborted for a child, which was no orphan, or stopped early.
 pub record QuitFor (c : Client) (of child : Name) (before now : Past) (again : Bool) : Type 0 where
   pub leaves : Leaves c of before now
@@ -208,7 +204,7 @@ Stepped c of before now front (Some again) = (rest : Plan) → Ended c of before
 abbrev pub EndsTries : Reach → Client → Name → Past → Past → Numbered → Option Name → ℕ → Plan → Type 0
 EndsTries reach c of before now body last left rest =
     AreOurs c of now → (further : List Deed) × (deeds (mine c now) of ≡ deeds (mine c before) of ++ further)
-    × Tries (deed_end (mine c now)) (OfChild (λ n. (kind_of (mine c now) n ≡ Some (kind.User c.session body.number)) × RunsPlan reach c.session (mine c now) n body.plan (deeds (mine c now) n) (end (mine c now) n)))
+    × Tries (deed_end (mine c now)) (OfChild (λ n. IsTrue (is_beside (mine c now) of n) × (kind_of (mine c now) n ≡ Some (kind.User c.session body.number)) × RunsPlan reach c.session (mine c now) n body.plan (deeds (mine c now) n) (end (mine c now) n)))
     (Stops reach (mine c now) of (end (mine c now) of))
     (λ latest more. AfterTries reach (mine c now) of latest body.must (RunsPlan reach c.session (mine c now) of rest more (end (mine c now) of)) more (end (mine c now) of)) (option_map Deed.child last) left further
     × AllAsked c before now (λ by t. TriesDo (deed_end (mine c now)) (OfChild (λ n. Asks (mine c now) n body.plan (deeds (mine c now) n) by t)) (λ latest more. DoesAfter (mine c now) latest body.must (Asks (mine c now) of rest more by t)) (option_map Deed.child last) left further)

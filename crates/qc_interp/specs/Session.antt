@@ -1,6 +1,6 @@
 -- What the tops of a session leave.
 use Rattle.std.specs.Prelude.{ℕ, ◌≡◌, true, List, [], ◌∷◌, ◌++◌, None}
-use Rattle.std.specs.List.{AllByRecursion}
+use Rattle.std.specs.List.{AllByRecursion, list_all}
 use Rattle.qc_event.specs.History.{Past, Name, end, children}
 use Rattle.qc_interp.specs.Adding.{AllOfOne, AllForIts, own_after, all_over}
 use Rattle.qc_script.specs.Numbers.{Numbers}
@@ -9,7 +9,7 @@ use Rattle.qc_interp.specs.Follows.{RunsBody}
 use Rattle.qc_interp.specs.Reach.{Reach, AtTheEnd}
 use Rattle.qc_script.specs.Plan.{Numbered}
 use Rattle.qc_script.specs.Numbers.{each}
-use Rattle.qc_interp.specs.Turns.{takes_turn, is_alone}
+use Rattle.qc_interp.specs.Turns.{takes_turn, is_alone, is_under}
 use Rattle.qc_interp.specs.Tries.{Tries}
 use Rattle.qc_interp.specs.Asking.{BodiesAsk, AllAsked}
 
@@ -44,6 +44,10 @@ EndsTopsAt reach c before now bodies = AreAllOurs c now → (further : List Name
 abbrev pub EndsTops : Client → Past → Past → List Numbered → Type 0
 EndsTops c before now bodies = EndsTopsAt Reach.to_the_end c before now bodies
 
+-- the client started its tops under its number
+abbrev pub AreUnderIts : Client → Past → Type 0
+AreUnderIts c past = list_all (is_under (mine c past) c.number) (tops c past) ≡ true
+
 -- What was made meanwhile is about these tops alone, which are of the client's session, had the next numbers and started
 -- once those before were over; it was made in turn, and all of it is done where the run came to its end.
 pub record InTurnAt (reach : Reach) (c : Client) (before now : Past) : Type 0 where
@@ -53,8 +57,9 @@ pub record InTurnAt (reach : Reach) (c : Client) (before now : Past) : Type 0 wh
   pub inside : AllOfOne c made later.newer
   pub of_session : AllForIts c later.newer
   pub numbers : Numbers c before now
+  pub seats : AreUnderIts c before → AreUnderIts c now
   pub order : AreAllOurs c now → each (own_after c) before ≡ true → all_over c before ≡ true → (each (own_after c) now ≡ true) × AtTheEnd reach (all_over c now ≡ true)
-  pub turns : AreAllOurs c now → each takes_turn (mine c before) ≡ true → is_alone (mine c before) [] ≡ true → (each takes_turn (mine c now) ≡ true) × AtTheEnd reach (is_alone (mine c now) [] ≡ true)
+  pub turns : AreAllOurs c now → AreUnderIts c before → each takes_turn (mine c before) ≡ true → is_alone (mine c before) [] ≡ true → (each takes_turn (mine c now) ≡ true) × AtTheEnd reach (is_alone (mine c now) [] ≡ true)
 
 abbrev pub RanInTurn : Client → Past → Past → Type 0
 RanInTurn c before now = InTurnAt Reach.to_the_end c before now

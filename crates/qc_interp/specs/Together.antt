@@ -1,6 +1,6 @@
 -- What clients ran together, each its own session.
 use Rattle.std.specs.Prelude.{ℕ, ◌≡◌, ◌+◌, true, List, [], ◌∷◌}
-use Rattle.std.specs.List.{AllByRecursion, list_any}
+use Rattle.std.specs.List.{AllByRecursion, list_all, list_any}
 use Rattle.qc_event.specs.declared.event.Entry.{Entry}
 use Rattle.qc_event.specs.Base.{Setting}
 use Rattle.qc_event.specs.History.{Past}
@@ -12,10 +12,10 @@ use Rattle.qc_interp.specs.FollowsScript.{net_of}
 use Rattle.qc_interp.specs.Reach.{Reach}
 use Rattle.qc_interp.specs.Session.{EndsTopsAt, InTurnAt}
 
--- a client that has no branches, under a client's seat
-pub record IsSingle (c : Client) : Type 0 where
-  pub kinless : c.kin ≡ []
-  pub client : is_client c.number ≡ true
+-- a client below no transaction, whose number and whose merged branches' are clients' seats
+pub record IsWhole (c : Client) : Type 0 where
+  pub rootless : c.root ≡ []
+  pub clients : list_all is_client (c.number ∷ c.kin) ≡ true
 
 -- A client ran its session: what it made is tops that are tries of the session's bodies, made in turn; and its requests
 -- meet the fates of the session's link.
@@ -23,10 +23,10 @@ pub record HasRun (reach : Reach) (setting : Setting) (session epoch patience : 
   pub session_is : c.session ≡ session
   pub epoch_is : c.epoch ≡ epoch
   pub setting_is : c.setting ≡ setting
-  pub single : IsSingle c
+  pub whole : IsWhole c
   pub ends : EndsTopsAt reach c [] past plan.tops
   pub in_turn : InTurnAt reach c [] past
-  pub met : meets_fates c.number (net_of patience plan) past ≡ true
+  pub met : list_all (λ seat. meets_fates seat (net_of patience plan) past) (c.number ∷ c.kin) ≡ true
 
 -- as many clients as sessions, numbered from this one on: each ran its own
 abbrev pub EachHasRun : Reach → Setting → ℕ → ℕ → ℕ → List Client → List SessionPlan → Past → Type 0

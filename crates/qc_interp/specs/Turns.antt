@@ -1,5 +1,5 @@
 -- Who acts, when it is alone, and when it takes its turn.
-use Rattle.std.specs.Prelude.{ℕ, ◌+◌, ◌==◌, Bool, true, false, not, ◌&&◌, ◌||◌, if◌then◌else◌, ◌∷◌, length, take, Option, None, Some, is_some}
+use Rattle.std.specs.Prelude.{ℕ, ◌+◌, ◌==◌, Bool, true, false, not, ◌&&◌, ◌||◌, if◌then◌else◌, [], ◌∷◌, length, take, Option, None, Some, is_some}
 use Rattle.std.specs.List.{list_all}
 use Rattle.std.specs.Option.{option_map, option_map_or}
 use Rattle.qc_names.specs.Name as name
@@ -8,7 +8,7 @@ use Rattle.qc_event.specs.declared.event.Entry.{Entry}
 use Rattle.qc_event.specs.declared.event.Event.{Event}
 use Rattle.qc_event.specs.declared.event.Event.TheVariants as event
 use Rattle.qc_event.specs.declared.event.How.TheVariants.{Abort}
-use Rattle.qc_event.specs.History.{Past, Name, Begun, every, start, end, is_ready}
+use Rattle.qc_event.specs.History.{Past, Name, Begun, every, start, end, is_ready, children}
 use Rattle.qc_script.specs.Calls.{is_access}
 
 -- the user transaction or manager that the event starts
@@ -33,11 +33,30 @@ is_done past n = is_some (end past n) || is_ready past n
 abbrev pub is_alone : Past → Name → Bool
 is_alone past n = list_all (λ m. is_done past m || name.is_ancestor m n) (every (λ e. begun_in e.event) past)
 
--- BRANCHES
+-- SEATS
 
 -- the seat under which a name was started
 abbrev pub seat_of : Past → Name → Option ℕ
 seat_of past n = option_map (λ (b : Begun). b.seat) (start past n)
+
+-- whether a name was started under a seat
+abbrev pub is_under : Past → ℕ → Name → Bool
+is_under past seat n = option_map_or (λ s. s == seat) (seat_of past n) false
+
+-- whether two names were started under the same seat
+abbrev pub is_beside : Past → Name → Name → Bool
+is_beside past a b = option_map_or (λ seat. is_under past seat b) (seat_of past a) false
+
+-- A top starts under the seat of each earlier one, and a mark is made under the seat of who makes it.
+abbrev pub seat_for : Past → ℕ → Event → Bool
+seat_for past seat (event.Start (number ∷ []) k) = list_all (is_under past seat) (children past [])
+seat_for past seat (event.Mark n session) = is_under past seat n
+seat_for past seat _ = true
+
+abbrev pub keeps_seat : Entry → Past → Bool
+keeps_seat e past = seat_for past e.seat e.event
+
+-- BRANCHES
 
 -- whether both are there, and not the same
 abbrev pub differ : Option ℕ → Option ℕ → Bool
@@ -63,6 +82,7 @@ are_apart past m n =
 abbrev pub has_turn : Entry → Past → Name → Bool
 has_turn e past n = list_all (λ m. is_done past m || (name.is_ancestor m n || are_apart (e ∷ past) m n)) (every (λ x. begun_in x.event) past)
 
--- Whoever acts does so while each that is not done is an ancestor of it, or apart from it: in another branch.
+-- Whoever acts does so while each that is not done is an ancestor of it, or apart from it: in another branch. Tops and marks
+-- keep their seats.
 abbrev pub takes_turn : Entry → Past → Bool
-takes_turn e past = option_map_or (has_turn e past) (acts e.event) true
+takes_turn e past = keeps_seat e past && option_map_or (has_turn e past) (acts e.event) true

@@ -1,11 +1,10 @@
 -- The fronts of some deeds.
 use Rattle.std.proofs.Common.{◌≡◌, ◌⊎◌, inl, inr, false, List, [], ◌∷◌, ◌++◌, sym, ap, subst}
-use Rattle.std.specs.Prelude.{IsTrue}
 use Rattle.qc_event.specs.History.{Past, end}
 use Rattle.qc_interp.specs.Deeds.{Deed, deeds}
-use Rattle.qc_interp.specs.Follows.{AfterRow, FollowsPlan}
+use Rattle.qc_interp.specs.Follows.{AfterRow, FollowsPlan, RunsRow}
 use Rattle.qc_interp.specs.Reach.{Reach}
-use Rattle.qc_interp.specs.Rows.{are_tries_at_once, each_tried, first_failed}
+use Rattle.qc_interp.specs.Rows.{AreAtOnce, each_begun, each_tried, first_failed}
 use Rattle.qc_script.specs.Plan.{Plan}
 use Rattle.qc_trail_laws.specs.Trails.{top}
 
@@ -30,7 +29,8 @@ one_front P (d ∷ ds) (x ∷ here) further is h = inr (one_front (λ here furth
 -- by what stands of branches at once, and behind them
 abbrev pub StandsAt : Past → Plan → Plan → List Deed → List Deed → Type 0
 StandsAt past branches rest here further =
-    IsTrue (are_tries_at_once past branches here) × AfterRow Reach.to_the_end past top (each_tried past false branches here) (first_failed past branches here) (FollowsPlan 0 past top rest further (end past top)) further (end past top)
+    AreAtOnce past branches here further × RunsRow Reach.to_the_end 0 past (each_begun past branches here) branches here
+    × AfterRow Reach.to_the_end past top (each_tried past false branches here) (first_failed past branches here) (FollowsPlan 0 past top rest further (end past top)) further (end past top)
 
 pub at_front : (past : Past) (branches rest : Plan) → FollowsPlan 0 past top (Plan.par_then branches rest) (deeds past top) (end past top) → OfOneFront (StandsAt past branches rest) (deeds past top)
-at_front past branches rest f = one_front (StandsAt past branches rest) (deeds past top) f.0 f.1 f.2 (f.3, f.5)
+at_front past branches rest f = one_front (StandsAt past branches rest) (deeds past top) f.0 f.1 f.2 (f.3, f.4, f.5)

@@ -9,7 +9,7 @@ use Rattle.qc_event.specs.declared.event.Kind.TheVariants as kind
 use Rattle.qc_event.specs.History.{Name}
 use Rattle.qc_event.specs.Seats.{number_in}
 use Rattle.qc_script.specs.Plan.{Plan, Numbered, manage_then}
-use Rattle.qc_trail_laws.specs.Trails.{client, x, top, first_child, second_child, access, conflict, by, user, body_of}
+use Rattle.qc_trail_laws.specs.Trails.{client, other_client, third_client, x, top, first_child, second_child, access, conflict, by, user, body_of}
 use Rattle.qc_trail_laws.specs.Values.{commits}
 
 abbrev pub third_child : Name
@@ -35,23 +35,23 @@ two_read must = body_of (Plan.par_then (two_branches must) read_then_done)
 abbrev pub one_aborts : List Numbered
 one_aborts = body_of (Plan.par_then (Plan.child_then 1 2 true read_then_done (Plan.child_then 2 1 false (Plan.abort_then 1 Plan.done) Plan.done)) read_then_done)
 
--- WHAT A BRANCH DOES
+-- WHAT A BRANCH DOES, UNDER ITS SEAT
 
 -- a try of a body starts
-abbrev pub begins : Name → ℕ → Entry
-begins n body = by client (event.Start n (kind.User 0 body))
+abbrev pub begins : ℕ → Name → ℕ → Entry
+begins seat n body = by seat (event.Start n (kind.User 0 body))
 
 -- its read starts
-abbrev pub looks : Name → Entry
-looks n = by client (event.Start (access n 1) (kind.Read x))
+abbrev pub looks : ℕ → Name → Entry
+looks seat n = by seat (event.Start (access n 1) (kind.Read x))
 
 -- its read gives a value, and it commits
-abbrev pub reads : Name → List Entry
-reads n = by client (event.End (access n 1) (Commit (answer.Value 0))) ∷ by client (event.End n (Commit answer.Nothing)) ∷ []
+abbrev pub reads : ℕ → Name → List Entry
+reads seat n = by seat (event.End (access n 1) (Commit (answer.Value 0))) ∷ by seat (event.End n (Commit answer.Nothing)) ∷ []
 
 -- its read is in conflict, and it is aborted
-abbrev pub fails : Name → List Entry
-fails n = by client (event.End (access n 1) (Abort conflict)) ∷ by client (event.End n (Abort conflict)) ∷ []
+abbrev pub fails : ℕ → Name → List Entry
+fails seat n = by seat (event.End (access n 1) (Abort conflict)) ∷ by seat (event.End n (Abort conflict)) ∷ []
 
 -- TRAILS
 
@@ -61,15 +61,32 @@ goes_on n = by client (event.Start n (kind.Read x)) ∷ by client (event.End n (
 
 -- both begin, and the first fails
 abbrev pub first_fails : List Entry
-first_fails = user client top ∷ begins first_child 1 ∷ begins second_child 2 ∷ looks first_child ∷ looks second_child ∷ fails first_child
+first_fails =
+    user client top
+    ∷ begins other_client first_child 1
+    ∷ begins third_client second_child 2
+    ∷ looks other_client first_child
+    ∷ looks third_client second_child
+    ∷ fails other_client first_child
 
 -- it is tried again before the second commits
 abbrev pub tried_again : List Entry
-tried_again = first_fails ++ begins third_child 1 ∷ looks third_child ∷ reads second_child ++ reads third_child ++ goes_on fourth_child
+tried_again =
+    first_fails
+    ++ begins other_client third_child 1
+    ∷ looks other_client third_child
+    ∷ reads third_client second_child
+    ++ reads other_client third_child
+    ++ goes_on fourth_child
 
 -- and fails again
 abbrev pub fails_again : List Entry
-fails_again = first_fails ++ begins third_child 1 ∷ looks third_child ∷ fails third_child ++ reads second_child
+fails_again =
+    first_fails
+    ++ begins other_client third_child 1
+    ∷ looks other_client third_child
+    ∷ fails other_client third_child
+    ++ reads third_client second_child
 
 -- the top is aborted for its last try
 abbrev pub aborted : List Entry
@@ -83,43 +100,57 @@ went_on = fails_again ++ goes_on fourth_child
 abbrev pub stopped : List Entry
 stopped =
     user client top
-    ∷ begins first_child 1
-    ∷ begins second_child 2
-    ∷ looks first_child
-    ∷ by client (event.End top (Abort (cause.Asked second_child)))
-    ∷ by client (event.End second_child (Abort (cause.Orphan top)))
-    ∷ fails first_child
+    ∷ begins other_client first_child 1
+    ∷ begins third_client second_child 2
+    ∷ looks other_client first_child
+    ∷ by third_client (event.End top (Abort (cause.Asked second_child)))
+    ∷ by third_client (event.End second_child (Abort (cause.Orphan top)))
+    ∷ fails other_client first_child
+
+-- The top is killed before the second begins, behind some entries of the first. The first ends as an orphan.
+abbrev pub turned_back : List Entry → List Entry
+turned_back entries =
+    user client top
+    ∷ begins other_client first_child 1
+    ∷ entries
+    ++ by client (event.End top (Abort cause.Killed))
+    ∷ by other_client (event.End first_child (Abort (cause.Orphan top)))
+    ∷ []
+
+-- the first reads x meanwhile
+abbrev pub read_meanwhile : List Entry
+read_meanwhile = looks other_client first_child ∷ by other_client (event.End (access first_child 1) (Commit (answer.Value 0))) ∷ []
 
 -- the first alone runs
 abbrev pub one_left_out : List Entry
-one_left_out = user client top ∷ begins first_child 1 ∷ looks first_child ∷ reads first_child ++ goes_on second_child
+one_left_out = user client top ∷ begins other_client first_child 1 ∷ looks other_client first_child ∷ reads other_client first_child ++ goes_on second_child
 
 -- the first fails, and is tried again before the second begins
 abbrev pub tried_too_early : List Entry
 tried_too_early =
     user client top
-    ∷ begins first_child 1
-    ∷ looks first_child
-    ∷ fails first_child
-    ++ begins second_child 1
-    ∷ begins third_child 2
-    ∷ looks second_child
-    ∷ looks third_child
-    ∷ reads second_child
-    ++ reads third_child
+    ∷ begins other_client first_child 1
+    ∷ looks other_client first_child
+    ∷ fails other_client first_child
+    ++ begins other_client second_child 1
+    ∷ begins third_client third_child 2
+    ∷ looks other_client second_child
+    ∷ looks third_client third_child
+    ∷ reads other_client second_child
+    ++ reads third_client third_child
     ++ goes_on fourth_child
 
 -- the first commits, and is tried again
 abbrev pub tried_too_often : List Entry
 tried_too_often =
     user client top
-    ∷ begins first_child 1
-    ∷ begins second_child 2
-    ∷ looks first_child
-    ∷ looks second_child
-    ∷ reads first_child
-    ++ begins third_child 1
-    ∷ looks third_child
-    ∷ reads second_child
-    ++ reads third_child
+    ∷ begins other_client first_child 1
+    ∷ begins third_client second_child 2
+    ∷ looks other_client first_child
+    ∷ looks third_client second_child
+    ∷ reads other_client first_child
+    ++ begins other_client third_child 1
+    ∷ looks other_client third_child
+    ∷ reads third_client second_child
+    ++ reads other_client third_child
     ++ goes_on fourth_child

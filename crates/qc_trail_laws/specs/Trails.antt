@@ -30,6 +30,10 @@ client = client_seat
 abbrev pub other_client : ℕ
 other_client = client_seat + 1
 
+-- the seat of a third client
+abbrev pub third_client : ℕ
+third_client = client_seat + 2
+
 -- the only copy
 abbrev pub only_copy : ℕ
 only_copy = 0

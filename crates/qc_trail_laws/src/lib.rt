@@ -8,7 +8,7 @@ ghost use Rattle.qc_event.specs.History.{children};
 ghost use Rattle.qc_interp.specs.Asking.{Asks, BodiesAsk};
 ghost use Rattle.qc_interp.specs.Deeds.{deeds};
 ghost use Rattle.qc_interp.specs.Follows.{FollowsBody};
-ghost use Rattle.qc_interp.specs.FollowsScript.{EachRuns, is_in_session, no_branch, started};
+ghost use Rattle.qc_interp.specs.FollowsScript.{EachRuns, is_in_session, started};
 ghost use Rattle.qc_interp.specs.Reach.{Reach};
 ghost use Rattle.qc_interp.specs.Session.{FollowsBodies, RunsBodies};
 ghost use Rattle.qc_interp.specs.Sessions.{RunsInTurn, tops_of, meets, is_settled};
@@ -29,30 +29,30 @@ ghost use Rattle.qc_trail_laws.specs.Values as values;
 pub fn accepts()
     ensures first_run { FollowsBodies 0 (reverse trails.first_run) trails.set_then_read
         (trails.top ∷ []) }
-    ensures first_turns { RunsInTurn no_branch 0 (reverse trails.first_run) }
+    ensures first_turns { RunsInTurn 0 (reverse trails.first_run) }
     ensures first_numbers { IsTrue (each (is_next_top 1) (reverse trails.first_run)) }
     ensures first_messages { IsTrue (meets 0 trails.net (reverse trails.first_run)) }
     ensures first_settled { IsTrue (list_all (is_settled (reverse trails.first_run))
         (started (reverse trails.first_run))) }
     ensures tried_again { FollowsBodies 0 (reverse trails.tried_again) trails.read_twice
         (trails.top ∷ trails.top2 ∷ []) }
-    ensures tried_turns { RunsInTurn no_branch 0 (reverse trails.tried_again) }
+    ensures tried_turns { RunsInTurn 0 (reverse trails.tried_again) }
     ensures tried_messages { IsTrue (meets 0 trails.first_lost (reverse trails.tried_again)) }
     ensures reconfigured { FollowsBodies 0 (reverse trails.reconfigured) trails.reconfigure
         (trails.top ∷ []) }
-    ensures reconfigured_turns { RunsInTurn no_branch 0 (reverse trails.reconfigured) }
+    ensures reconfigured_turns { RunsInTurn 0 (reverse trails.reconfigured) }
     ensures copy_down { FollowsBodies 0 (reverse trails.copy_down) trails.read_alone
         (trails.top ∷ []) }
-    ensures down_turns { RunsInTurn no_branch 0 (reverse trails.copy_down) }
+    ensures down_turns { RunsInTurn 0 (reverse trails.copy_down) }
     ensures down_settled { IsTrue (list_all (is_settled (reverse trails.copy_down))
         (started (reverse trails.copy_down))) }
     ensures not_logged { FollowsBodies 0 (reverse trails.not_logged) trails.set_then_read
         (trails.top ∷ []) }
-    ensures not_logged_turns { RunsInTurn no_branch 0 (reverse trails.not_logged) }
+    ensures not_logged_turns { RunsInTurn 0 (reverse trails.not_logged) }
     ensures not_logged_settled { IsTrue (list_all (is_settled (reverse trails.not_logged))
         (started (reverse trails.not_logged))) }
     ensures far_abort { FollowsBody 0 (reverse trails.far_abort) (trails.abort_body 2) trails.top }
-    ensures far_turns { RunsInTurn no_branch 0 (reverse trails.far_abort) }
+    ensures far_turns { RunsInTurn 0 (reverse trails.far_abort) }
     ensures far_named { Asks (reverse trails.far_abort) trails.top (trails.abort_body 2).plan
         (deeds (reverse trails.far_abort) trails.top) trails.grandchild trails.top }
 {}
@@ -96,12 +96,12 @@ pub fn begins()
     ensures in_manager { RunsBodies Reach.cut_off 0 (reverse (trails.first_cut trails.read_asked))
         trails.set_then_read
         (trails.top ∷ []) }
-    ensures in_manager_turns { RunsInTurn no_branch 0
+    ensures in_manager_turns { RunsInTurn 0
         (reverse (trails.first_cut trails.read_asked)) }
     ensures between_steps { RunsBodies Reach.cut_off 0 (reverse (trails.first_cut trails.set_ended))
         trails.set_then_read
         (trails.top ∷ []) }
-    ensures between_turns { RunsInTurn no_branch 0 (reverse (trails.first_cut trails.set_ended)) }
+    ensures between_turns { RunsInTurn 0 (reverse (trails.first_cut trails.set_ended)) }
     ensures ready { RunsBodies Reach.cut_off 0 (reverse (trails.first_cut trails.top_ready))
         trails.set_then_read
         (trails.top ∷ []) }
@@ -161,12 +161,12 @@ pub fn goes_by_no_other_value()
 /// child must commit.
 pub fn goes_by_children()
     ensures aborted { FollowsBodies 0 (reverse musts.aborted) (musts.child true) (trails.top ∷ []) }
-    ensures aborted_turns { RunsInTurn no_branch 0 (reverse musts.aborted) }
+    ensures aborted_turns { RunsInTurn 0 (reverse musts.aborted) }
     ensures aborted_twice { FollowsBodies 0 (reverse musts.aborted_twice) musts.child_twice
         (trails.top ∷ trails.top2 ∷ []) }
     ensures went_on { FollowsBodies 0 (reverse musts.went_on) (musts.child false)
         (trails.top ∷ []) }
-    ensures went_on_turns { RunsInTurn no_branch 0 (reverse musts.went_on) }
+    ensures went_on_turns { RunsInTurn 0 (reverse musts.went_on) }
     ensures orphan { FollowsBody 0 (reverse trails.far_abort) musts.far_body trails.top }
 {}
 
@@ -186,7 +186,7 @@ pub fn passes_over_crashes()
     ensures in_child { FollowsBodies 0 (reverse musts.went_on) crashes.in_child (trails.top ∷ []) }
     ensures in_aborted { FollowsBodies 0 (reverse crashes.aborts_parent) crashes.in_aborted
         (trails.top ∷ []) }
-    ensures in_aborted_turns { RunsInTurn no_branch 0 (reverse crashes.aborts_parent) }
+    ensures in_aborted_turns { RunsInTurn 0 (reverse crashes.aborts_parent) }
 {}
 
 /// None of these follows its script: a top that commits where a copy crashes, before the set that stands behind, and one
@@ -205,21 +205,21 @@ pub fn goes_by_marks()
     ensures itself { FollowsBodies 0 (reverse (marks.marks_then 0 marks.is_killed))
         (marks.kill_then_read 0)
         (trails.top ∷ []) }
-    ensures itself_turns { RunsInTurn no_branch 0 (reverse (marks.marks_then 0 marks.is_killed)) }
+    ensures itself_turns { RunsInTurn 0 (reverse (marks.marks_then 0 marks.is_killed)) }
     ensures itself_at_last { FollowsBodies 0 (reverse (marks.marks_then 0 marks.is_killed))
         (marks.kill_alone 0)
         (trails.top ∷ []) }
     ensures another { FollowsBodies 0 (reverse (marks.marks_then 1 marks.reads_on))
         (marks.kill_then_read 1)
         (trails.top ∷ []) }
-    ensures another_turns { RunsInTurn no_branch 0 (reverse (marks.marks_then 1 marks.reads_on)) }
+    ensures another_turns { RunsInTurn 0 (reverse (marks.marks_then 1 marks.reads_on)) }
     ensures killed { FollowsBodies 0 (reverse (trails.user trails.client trails.top
         ∷ marks.is_killed))
         trails.read_alone
         (trails.top ∷ []) }
     ensures late { FollowsBodies 0 (reverse marks.marks_late) marks.kills_in_aborted
         (trails.top ∷ []) }
-    ensures late_turns { RunsInTurn no_branch 0 (reverse marks.marks_late) }
+    ensures late_turns { RunsInTurn 0 (reverse marks.marks_late) }
 {}
 
 /// None of these follows its script: a mark that no step asks for; a step's mark that is left out, made twice, of another
@@ -249,7 +249,8 @@ pub fn goes_by_no_other_mark()
 
 /// A top follows its body whose branches run at once: both begin in order, one is tried again between the other's steps,
 /// and the top goes on behind both; where one that must commit failed at last, the top is aborted for its last try, and
-/// else goes on; and where one aborts the top meanwhile, the other is not tried again.
+/// else goes on; where one aborts the top meanwhile, the other is not tried again; and one that was begun does nothing
+/// where the top is killed before the other begins.
 pub fn goes_by_branches()
     ensures tried_again { FollowsBodies 0 (reverse branches.tried_again) (branches.two_read true)
         (trails.top ∷ []) }
@@ -259,12 +260,16 @@ pub fn goes_by_branches()
         (trails.top ∷ []) }
     ensures stopped { FollowsBodies 0 (reverse branches.stopped) branches.one_aborts
         (trails.top ∷ []) }
+    ensures turned_back { FollowsBodies 0 (reverse (branches.turned_back []))
+        (branches.two_read true)
+        (trails.top ∷ []) }
     ensures stopped_named { BodiesAsk (reverse branches.stopped) branches.one_aborts
         (trails.top ∷ []) trails.second_child trails.top }
 {}
 
-/// None of these follows its body: a top that goes on though a branch was left out, or one that must commit failed; and
-/// one with a branch that is tried again before the other has begun, or though it committed.
+/// None of these follows its body: a top that goes on though a branch was left out, or one that must commit failed; one
+/// with a branch that is tried again before the other has begun, or though it committed; and one with a branch that reads
+/// though the other was not begun.
 pub fn goes_by_no_other_branch()
     ensures left_out { FollowsBodies 0 (reverse branches.one_left_out) (branches.two_read false)
         (trails.top ∷ []) → ⊥ }
@@ -274,6 +279,9 @@ pub fn goes_by_no_other_branch()
         (branches.two_read false) (trails.top ∷ []) → ⊥ }
     ensures too_often { FollowsBodies 0 (reverse branches.tried_too_often)
         (branches.two_read false) (trails.top ∷ []) → ⊥ }
+    ensures ran_alone { FollowsBodies 0
+        (reverse (branches.turned_back branches.read_meanwhile))
+        (branches.two_read true) (trails.top ∷ []) → ⊥ }
 {}
 
 /// Two sessions whose tops run between each other's entries, each under its seat, follow their script: each runs its own
@@ -305,29 +313,56 @@ pub fn runs_not_together()
         (reverse two.aborts_the_other) → ⊥ }
 {}
 
-/// Branches run at once, each under a seat of its own, and each is tried again under its seat; those of the next step run
-/// once they have ended: so the session runs in turn.
+/// Branches run at once or one after the other, each under a seat of its own, and each is tried again under its seat;
+/// those of the next step begin once those of the first are done. So the session runs in turn, and follows its bodies.
 pub fn runs_branches()
-    ensures at_once { RunsInTurn seats.step_of 0
-        (reverse (seats.at_once seats.third_client)) }
-    ensures tried_again { RunsInTurn seats.step_of 0
-        (reverse (seats.tried_under trails.other_client)) }
-    ensures in_a_row { RunsInTurn seats.step_of 0 (reverse seats.steps_in_a_row) }
+    ensures at_once { RunsInTurn 0 (reverse (seats.at_once trails.third_client)) }
+    ensures at_once_followed { FollowsBodies 0 (reverse (seats.at_once trails.third_client))
+        seats.both
+        (trails.top ∷ []) }
+    ensures in_a_row { RunsInTurn 0 (reverse (seats.in_a_row trails.third_client)) }
+    ensures in_a_row_followed { FollowsBodies 0 (reverse (seats.in_a_row trails.third_client))
+        seats.both
+        (trails.top ∷ []) }
+    ensures steps_followed { FollowsBodies 0 (reverse (seats.in_a_row trails.third_client))
+        seats.two_rows
+        (trails.top ∷ []) }
+    ensures tried_again { RunsInTurn 0 (reverse (seats.tried_under trails.other_client)) }
+    ensures tried_again_followed { FollowsBodies 0 (reverse (seats.tried_under trails.other_client))
+        seats.one_twice
+        (trails.top ∷ []) }
 {}
 
-/// In none of these does a session run in turn: children at once that are no branches; two branches under one seat, at
-/// once or one after the other; a branch that is tried again under another seat, or before its first try has ended; a
-/// parent that marks, or starts a child that is no branch, as a branch runs; and branches of two steps at once.
+/// In none of these does a session run in turn: two children at once under one seat, or under the parent's; one that is
+/// tried again before its first try has ended; and a parent that marks, or starts a manager, as a branch runs.
 pub fn runs_no_branches()
-    ensures no_branches { RunsInTurn no_branch 0
-        (reverse (seats.at_once seats.third_client)) → ⊥ }
-    ensures one_seat_at_once { RunsInTurn seats.step_of 0
-        (reverse (seats.at_once trails.other_client)) → ⊥ }
-    ensures one_seat { RunsInTurn seats.step_of 0 (reverse seats.under_one_seat) → ⊥ }
-    ensures tried_elsewhere { RunsInTurn seats.step_of 0
-        (reverse (seats.tried_under seats.third_client)) → ⊥ }
-    ensures tried_at_once { RunsInTurn seats.step_of 0 (reverse seats.tried_at_once) → ⊥ }
-    ensures parent_marks { RunsInTurn seats.step_of 0 (reverse seats.parent_marks) → ⊥ }
-    ensures child_beside { RunsInTurn seats.step_of 0 (reverse seats.child_beside) → ⊥ }
-    ensures steps_at_once { RunsInTurn seats.step_of 0 (reverse seats.steps_at_once) → ⊥ }
+    ensures one_seat_at_once { RunsInTurn 0 (reverse (seats.at_once trails.other_client)) → ⊥ }
+    ensures parents_seat { RunsInTurn 0 (reverse (seats.at_once trails.client)) → ⊥ }
+    ensures tried_at_once { RunsInTurn 0 (reverse seats.tried_at_once) → ⊥ }
+    ensures parent_marks { RunsInTurn 0 (reverse seats.parent_marks) → ⊥ }
+    ensures parent_reads { RunsInTurn 0 (reverse seats.parent_reads) → ⊥ }
+{}
+
+/// None of these follows its body: children under seats of their own that are no branches, at once or one after the
+/// other; a manager under another seat than its transaction's; two branches under one seat, one after the other; a
+/// branch under its parent's seat, or that is tried again under another; and branches of two steps at once.
+pub fn keeps_no_seats()
+    ensures no_branches { FollowsBodies 0 (reverse (seats.at_once trails.third_client))
+        seats.one_by_one
+        (trails.top ∷ []) → ⊥ }
+    ensures no_branches_in_a_row { FollowsBodies 0 (reverse (seats.in_a_row trails.third_client))
+        seats.one_by_one
+        (trails.top ∷ []) → ⊥ }
+    ensures reads_elsewhere { FollowsBodies 0 (reverse seats.reads_elsewhere) trails.read_alone
+        (trails.top ∷ []) → ⊥ }
+    ensures one_seat { FollowsBodies 0 (reverse (seats.in_a_row trails.other_client)) seats.both
+        (trails.top ∷ []) → ⊥ }
+    ensures parents_seat { FollowsBodies 0 (reverse (seats.in_a_row trails.client)) seats.both
+        (trails.top ∷ []) → ⊥ }
+    ensures tried_elsewhere { FollowsBodies 0 (reverse (seats.tried_under trails.third_client))
+        seats.one_twice
+        (trails.top ∷ []) → ⊥ }
+    ensures steps_at_once { FollowsBodies 0 (reverse (seats.at_once trails.third_client))
+        seats.two_rows
+        (trails.top ∷ []) → ⊥ }
 {}

@@ -3,7 +3,7 @@ use mathlib.Core.Bool.{true≢false}
 use Rattle.qc_trail_laws.proofs.begins_otherwise.Goals as goal
 
 pub returns-clause-ready_too_soon : goal.returns-clause-ready_too_soon
-returns-clause-ready_too_soon c = λ f. elim f.each_runs.0.bodies_run.0.steps.1 [
+returns-clause-ready_too_soon c = λ f. elim f.each_runs.0.bodies_run.0.steps.2 [
   | inl early ↦ absurd early
   | inr running ↦ absurd (true≢false running.1)
 ]

@@ -12,9 +12,9 @@ returns-clause-tried_again c = (
       Deed.child first_child ∷ Deed.child second_child ∷ Deed.child third_child ∷ [],
       Deed.child fourth_child ∷ [],
       refl,
-      refl,
-      (((refl, (refl, (refl, inl (refl, refl)))), ((refl, (refl, inl tt)), tt)), (((refl, (refl, inl tt)), tt), tt)),
-      (refl, inl tt),
+      (refl, refl, refl),
+      (((refl, (refl, refl, (refl, inl (refl, refl)))), ((refl, (refl, refl, inl tt)), tt)), (((refl, (refl, refl, inl tt)), tt), tt)),
+      (refl, refl, inl tt),
     );
   },
   tt,
@@ -28,8 +28,8 @@ returns-clause-aborted c = (
       Deed.child first_child ∷ Deed.child second_child ∷ Deed.child third_child ∷ [],
       [],
       refl,
-      refl,
-      (((refl, (refl, (refl, inl (refl, refl)))), ((refl, (refl, (refl, inl (refl, refl)))), tt)), (((refl, (refl, inl tt)), tt), tt)),
+      (refl, refl, refl),
+      (((refl, (refl, refl, (refl, inl (refl, refl)))), ((refl, (refl, refl, (refl, inl (refl, refl)))), tt)), (((refl, (refl, refl, inl tt)), tt), tt)),
       (refl, inl (refl, refl)),
     );
   },
@@ -44,9 +44,9 @@ returns-clause-went_on c = (
       Deed.child first_child ∷ Deed.child second_child ∷ Deed.child third_child ∷ [],
       Deed.child fourth_child ∷ [],
       refl,
-      refl,
-      (((refl, (refl, (refl, inl (refl, refl)))), ((refl, (refl, (refl, inl (refl, refl)))), tt)), (((refl, (refl, inl tt)), tt), tt)),
-      (refl, inl tt),
+      (refl, refl, refl),
+      (((refl, (refl, refl, (refl, inl (refl, refl)))), ((refl, (refl, refl, (refl, inl (refl, refl)))), tt)), (((refl, (refl, refl, inl tt)), tt), tt)),
+      (refl, refl, inl tt),
     );
   },
   tt,
@@ -60,8 +60,8 @@ returns-clause-stopped c = (
       Deed.child first_child ∷ Deed.child second_child ∷ [],
       [],
       refl,
-      refl,
-      (((refl, (refl, (refl, inl (refl, refl)))), tt), (((refl, inl refl), tt), tt)),
+      (refl, refl, refl),
+      (((refl, (refl, refl, (refl, inl (refl, refl)))), tt), (((refl, inl refl), tt), tt)),
       (refl, refl),
     );
   },
@@ -74,5 +74,21 @@ returns-clause-stopped_named c = inl (
   [],
   refl,
   refl,
-  (refl, inr (inl (inl (refl, refl, λ killed. killed)))),
+  (refl, (refl, inr (inl (inl (refl, refl, λ killed. killed))))),
+)
+
+pub returns-clause-turned_back : goal.returns-clause-turned_back
+returns-clause-turned_back c = (
+  record {
+    kind = refl;
+    steps = (
+      Deed.child first_child ∷ [],
+      [],
+      refl,
+      (refl, refl, refl),
+      (((refl, (refl, inl refl)), tt), (tt, tt)),
+      (refl, tt),
+    );
+  },
+  tt,
 )

@@ -10,7 +10,7 @@ returns-clause-aborted c = λ f. f.each_runs.0.bodies_run.0.steps.1
 
 -- the child's own child was an orphan
 pub returns-clause-no_orphan : goal.returns-clause-no_orphan
-returns-clause-no_orphan c = λ f. elim f.each_runs.0.bodies_run.0.steps.0.1.1.1 [
+returns-clause-no_orphan c = λ f. elim f.each_runs.0.bodies_run.0.steps.0.2.1.1 [
   | inl is ↦ true≢false is.0
   | inr early ↦ absurd early
 ]

@@ -35,7 +35,7 @@ pub returns-clause-by_another : goal.returns-clause-by_another
 returns-clause-by_another c = λ f. f.each_runs.0.bodies_run.0.steps.1
 
 pub returns-clause-another_seat : goal.returns-clause-another_seat
-returns-clause-another_seat c = λ f. true≢false (sym f.each_runs.0.in_turn.seats)
+returns-clause-another_seat c = λ f. true≢false (sym f.each_runs.0.in_turn.turns)
 
 pub returns-clause-goes_on : goal.returns-clause-goes_on
 returns-clause-goes_on c = λ f. let none = f.each_runs.0.bodies_run.0.steps.1.0 in absurd cc

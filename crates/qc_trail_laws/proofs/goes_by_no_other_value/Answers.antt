@@ -15,25 +15,25 @@ same_written first second same = cc
 
 -- a value is written as the step changes it
 pub returns-clause-nothing_added : goal.returns-clause-nothing_added
-returns-clause-nothing_added c = λ f. let same = same_written 4 7 f.each_runs.0.bodies_run.0.steps.1.0 in absurd (omega (arith, same))
+returns-clause-nothing_added c = λ f. let same = same_written 4 7 f.each_runs.0.bodies_run.0.steps.2.0 in absurd (omega (arith, same))
 
 pub returns-clause-stops_at_the_last : goal.returns-clause-stops_at_the_last
-returns-clause-stops_at_the_last c = λ f. let same = same_written last_value 0 f.each_runs.0.bodies_run.0.steps.1.0 in absurd (omega (arith, same))
+returns-clause-stops_at_the_last c = λ f. let same = same_written last_value 0 f.each_runs.0.bodies_run.0.steps.2.0 in absurd (omega (arith, same))
 
 pub returns-clause-not_written : goal.returns-clause-not_written
-returns-clause-not_written c = λ f. f.each_runs.0.bodies_run.0.steps.1
+returns-clause-not_written c = λ f. f.each_runs.0.bodies_run.0.steps.2
 
 pub returns-clause-stops_at_0 : goal.returns-clause-stops_at_0
-returns-clause-stops_at_0 c = λ f. let same = same_written 0 last_value f.each_runs.0.bodies_run.0.steps.1.0 in absurd (omega (arith, same))
+returns-clause-stops_at_0 c = λ f. let same = same_written 0 last_value f.each_runs.0.bodies_run.0.steps.2.0 in absurd (omega (arith, same))
 
 pub returns-clause-fails_with_enough : goal.returns-clause-fails_with_enough
-returns-clause-fails_with_enough c = λ f. elim f.each_runs.0.bodies_run.0.steps.1 [
+returns-clause-fails_with_enough c = λ f. elim f.each_runs.0.bodies_run.0.steps.2 [
   | inl committed ↦ absurd committed
   | inr early ↦ true≢false (sym early)
 ]
 
 pub returns-clause-holds_with_less : goal.returns-clause-holds_with_less
-returns-clause-holds_with_less c = λ f. elim f.each_runs.0.bodies_run.0.steps.1 [
+returns-clause-holds_with_less c = λ f. elim f.each_runs.0.bodies_run.0.steps.2 [
   | inl asked ↦ absurd cc
   | inr before ↦ elim before [
     | inl early ↦ absurd early

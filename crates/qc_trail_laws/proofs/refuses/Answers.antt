@@ -27,4 +27,4 @@ pub returns-clause-marked_elsewhere : goal.returns-clause-marked_elsewhere
 returns-clause-marked_elsewhere c = λ f. f.each_runs.0.bodies_run.0.steps
 
 pub returns-clause-two_seats : goal.returns-clause-two_seats
-returns-clause-two_seats c = λ f. true≢false (sym f.each_runs.0.in_turn.seats)
+returns-clause-two_seats c = λ f. true≢false (sym f.each_runs.0.in_turn.turns)
