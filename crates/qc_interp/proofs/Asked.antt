@@ -40,7 +40,7 @@ all_append P [] ys a b = b
 all_append P (x ∷ xs) ys a b = (a.0, all_append P xs ys a.1 b)
 
 module _ (Q R : Name → Name → Type 0) (step : (by target : Name) → Q by target → R by target) where
-  wider_one : (ev : Event) → IsAskedBy Q ev → IsAskedBy R ev
+  pub wider_one : (ev : Event) → IsAskedBy Q ev → IsAskedBy R ev
   wider_one (event.End target (Abort (cause.Asked by))) (inl h) = inl h
   wider_one (event.End target (Abort (cause.Asked by))) (inr h) = inr (step by target h)
   wider_one (event.End target (Commit given)) h = tt
@@ -60,7 +60,7 @@ module _ (Q R : Name → Name → Type 0) (step : (by target : Name) → Q by ta
   wider_one (event.Mark n session) h = tt
   wider_one (event.Ready n) h = tt
 
-  wider_all : (es : Past) → AllByRecursion (λ (e : Entry). IsAskedBy Q e.event) es → AllByRecursion (λ (e : Entry). IsAskedBy R e.event) es
+  pub wider_all : (es : Past) → AllByRecursion (λ (e : Entry). IsAskedBy Q e.event) es → AllByRecursion (λ (e : Entry). IsAskedBy R e.event) es
   wider_all [] h = tt
   wider_all (e ∷ es) h = (wider_one e.event h.0, wider_all es h.1)
 
@@ -249,7 +249,7 @@ module _ (s : ℕ) (p : Entry → Bool) (setting : Setting) (newer past : Past) 
         by_test true x more = more (subst (λ l. FollowsPlan s old n rest l how) (sym x.0) (stopped_runs Reach.to_the_end s old n how x.1 rest)) d
         by_test false x more = more x d
 
-    row_asks_still : (branches : Plan) (ds : List Deed) → AllByRecursion (IsSameTry old now) ds → RunsRow Reach.to_the_end s old true branches ds → RowAsks old branches ds by target → RowAsks now branches ds by target
+    pub row_asks_still : (branches : Plan) (ds : List Deed) → AllByRecursion (IsSameTry old now) ds → RunsRow Reach.to_the_end s old true branches ds → RowAsks old branches ds by target → RowAsks now branches ds by target
     row_asks_still (Plan.child_then number tries must inner others) ds same h (inl one) =
         inl (subst (OneOf (OfChild (λ c. Asks now c inner (deeds now c) by target))) (among_alike old now number ds same)
         (one_map _ _ _ (row_try_asks_still number inner (λ c below. plan_asks_still c below inner (deeds old c) (end old c))) (tries_among old number ds) h.0 one))

@@ -93,7 +93,7 @@ alive_no_orphan past p n a child alive is =
 
 module _ (c : Client) (of child : Name) where
   -- a child that failed is aborted ever after
-  still_aborted : (before now : Past) → IsLater c before now → HasFailed c of before child → AreOurs c of now → (x : Cause) × (end (mine c now) child ≡ Some (Abort x))
+  pub still_aborted : (before now : Past) → IsLater c before now → HasFailed c of before child → AreOurs c of now → (x : Cause) × (end (mine c now) child ≡ Some (Abort x))
   still_aborted before now later failed ours = by_end (end (mine c before) child) refl (failed.aborted (ours_before c of before now later ours))
     where
       by_end : (o : Option How) → end (mine c before) child ≡ o → MatchOption o ⊥ IsAbort → (x : Cause) × (end (mine c now) child ≡ Some (Abort x))

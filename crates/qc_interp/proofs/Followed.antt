@@ -343,7 +343,7 @@ mutual
       by_test true x more = (x.0, before_any reach past n how x.1)
       by_test false x more = more x
 
-  row_runs : (reach : Reach) (s : ℕ) (past : Past) (all_begun : Bool) (branches : Plan) (ds : List Deed) → RunsRow Reach.to_the_end s past all_begun branches ds → RunsRow reach s past all_begun branches ds
+  pub row_runs : (reach : Reach) (s : ℕ) (past : Past) (all_begun : Bool) (branches : Plan) (ds : List Deed) → RunsRow Reach.to_the_end s past all_begun branches ds → RunsRow reach s past all_begun branches ds
   row_runs reach s past all_begun (Plan.child_then number tries must inner others) ds h = (
     all_map _ _ (row_try_runs reach s past all_begun number inner (λ c. follows_runs reach s past c inner (deeds past c) (end past c))) (tries_among past number ds) h.0,
     row_runs reach s past all_begun others ds h.1,

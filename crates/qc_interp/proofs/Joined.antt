@@ -30,7 +30,7 @@ use Rattle.qc_interp.specs.Turns.{takes_turn, is_alone, is_under}
 abbrev pub OwnAlike : Client → Client → Past → Type 0
 OwnAlike c d past = AllByRecursion (λ (e : Entry). is_own d e.seat ≡ is_own c e.seat) past
 
-older_alike : (c d : Client) (newer before : Past) → OwnAlike c d (newer ++ before) → OwnAlike c d before
+pub older_alike : (c d : Client) (newer before : Past) → OwnAlike c d (newer ++ before) → OwnAlike c d before
 older_alike c d [] before all = all
 older_alike c d (e ∷ newer) before all = older_alike c d newer before all.1
 
@@ -38,7 +38,7 @@ newer_alike : (c d : Client) (newer before : Past) → OwnAlike c d (newer ++ be
 newer_alike c d [] before all = tt
 newer_alike c d (e ∷ newer) before all = (all.0, newer_alike c d newer before all.1)
 
-mine_alike : (c d : Client) (past : Past) → OwnAlike c d past → mine d past ≡ mine c past
+pub mine_alike : (c d : Client) (past : Past) → OwnAlike c d past → mine d past ≡ mine c past
 mine_alike c d [] all = refl
 mine_alike c d (e ∷ past) all = ap (λ b. if b then e ∷ mine d past else mine d past) all.0 ∙ ap (λ l. if is_own c e.seat then e ∷ l else l) (mine_alike c d past all.1)
 
@@ -136,7 +136,7 @@ module _ (c : Client) (kin : List ℕ) where
     pub both : (P : Past → Past → Type 0) → P (mine c a) (mine c b) → P (mine d a) (mine d b)
     both P h = subst (λ x. P x (mine d b)) (sym (more_mine a all_older)) (subst (λ y. P (mine c a) y) (sym (more_mine b all)) h)
 
-    newer_mine : mine d later.newer ≡ mine c later.newer
+    pub newer_mine : mine d later.newer ≡ mine c later.newer
     newer_mine = mine_alike c d later.newer (newer_alike c d later.newer a joined_all)
 
     pub more_left : (p : Name) → LeavesIt c p a b → LeavesIt d p a b

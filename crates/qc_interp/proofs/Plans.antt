@@ -148,7 +148,7 @@ fits_layer setting depth (Step-F.Need rec value) rest h = (
 )
 fits_layer setting depth (Step-F.Reconf rec config) rest h = ((h.0, λ given. tt), h.1 answer.Nothing)
 fits_layer setting depth (Step-F.Child body) rest h = ((h.0, h.1, h.2, tt), h.3)
-fits_layer setting depth (Step-F.Par bodies) rest h = ((h.0, h.1, h.2, h.3, tt), h.4)
+fits_layer setting depth (Step-F.Par bodies) rest h = ((h.0, h.1, h.2, h.3, tt, h.5), h.4)
 fits_layer setting depth (Step-F.Abort levels) rest h = ((h.0, tt), h.1)
 fits_layer setting depth (Step-F.Crash copy) rest h = ((h.0, tt), h.1)
 fits_layer setting depth (Step-F.Kill session) rest h = ((h.0, tt), h.1)

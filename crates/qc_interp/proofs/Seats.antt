@@ -7,11 +7,10 @@ use Rattle.std.proofs.lemmas.Bool.{eq-eqb}
 use Rattle.qc_event.specs.declared.event.Entry.{Entry}
 use Rattle.qc_event.specs.declared.event.Kind.{Kind}
 use Rattle.qc_event.specs.History.{Past, Name, Begun, start, start_in}
-use Rattle.qc_event.proofs.Histories.{earliest-append}
 use Rattle.qc_event.proofs.OneEntry.{first_is, some_or_none, not_some}
-use Rattle.qc_event.proofs.Options.{still_mapped}
 use Rattle.qc_script.specs.Client.{Client, mine, is_own, IsLater}
 use Rattle.qc_interp.specs.Turns.{seat_of, is_under, is_beside}
+use Rattle.qc_interp.proofs.Beside.{seat_later}
 use Rattle.qc_interp.proofs.Mine.{kept_some, kept_append}
 use Rattle.qc_interp.proofs.Places.{some_same}
 use Rattle.qc_interp.proofs.Starts.{start_seat}
@@ -36,15 +35,12 @@ beside_is h seat a b is also = ap (λ o. option_map_or (λ s. is_under h s b) o 
 
 -- AS A HISTORY GROWS
 
-pub seat_stays : (newer past : Past) (n : Name) (seat : ℕ) → seat_of past n ≡ Some seat → seat_of (newer ++ past) n ≡ Some seat
-seat_stays newer past n seat is = ap (option_map (λ (b : Begun). b.seat)) (earliest-append _ newer past) ∙ still_mapped (λ (b : Begun). b.seat) (start past n) (start newer n) seat is
-
 pub under_stays : (newer past : Past) (seat : ℕ) (n : Name) → is_under past seat n ≡ true → is_under (newer ++ past) seat n ≡ true
 under_stays newer past seat n under = by_seat (seat_of past n) refl under
   where
     by_seat : (o : Option ℕ) → seat_of past n ≡ o → option_map_or (λ s. s == seat) o false ≡ true → is_under (newer ++ past) seat n ≡ true
     by_seat None at under = absurd cc
-    by_seat (Some s) at under = ap (λ o. option_map_or (λ x. x == seat) o false) (seat_stays newer past n s at) ∙ under
+    by_seat (Some s) at under = ap (λ o. option_map_or (λ x. x == seat) o false) (seat_later newer past n s at) ∙ under
 
 -- AMONG WHAT A CLIENT MADE
 
@@ -75,7 +71,7 @@ module _ (c : Client) where
   own_under past n is = under_is (mine c past) c.number n (own_seat past n is)
 
   pub later_seat : (a b : Past) → IsLater c a b → (n : Name) (seat : ℕ) → seat_of a n ≡ Some seat → seat_of b n ≡ Some seat
-  later_seat a b later n seat is = ap (λ h. seat_of h n) later.grown ∙ seat_stays later.newer a n seat is
+  later_seat a b later n seat is = ap (λ h. seat_of h n) later.grown ∙ seat_later later.newer a n seat is
 
   pub later_under : (a b : Past) → IsLater c a b → (seat : ℕ) (n : Name) → is_under (mine c a) seat n ≡ true → is_under (mine c b) seat n ≡ true
   later_under a b later seat n under =

@@ -42,7 +42,7 @@ pass_append : (passes : Name → Bool) (xs ys : List Name) → list_all passes (
 pass_append passes xs ys h = and_parts _ _ (sym (list_all-append passes xs ys) ∙ h)
 
 -- what passes of all user transactions and managers that have begun passes of each
-begun_passes : (passes : Name → Bool) (h : Past) (n : Name) (b : Begun) → start h n ≡ Some b → is_access b.kind ≡ false → list_all passes (every (λ e. begun_in e.event) h) ≡ true → passes n ≡ true
+pub begun_passes : (passes : Name → Bool) (h : Past) (n : Name) (b : Begun) → start h n ≡ Some b → is_access b.kind ≡ false → list_all passes (every (λ e. begun_in e.event) h) ≡ true → passes n ≡ true
 begun_passes passes [] n b is none all = absurd cc
 begun_passes passes (e ∷ h) n b is none all =
     let parts = pass_append passes (every (λ e. begun_in e.event) h) (option_to_list (begun_in e.event)) all in

@@ -32,7 +32,7 @@ legal_at setting [] i e legal is = absurd cc
 legal_at setting (x ∷ past) zero e legal is = (past, subst (λ (y : Entry). MayHappen setting past y.seat y.event) (some_same x e is) legal.1)
 legal_at setting (x ∷ past) (suc i) e legal is = legal_at setting past i e legal.0 is
 
-start_fresh : (setting : Setting) (past : Past) (e : Entry) (n : Name) (k : Kind) → Legal setting (e ∷ past) → e.event ≡ event.Start n k → start past n ≡ None
+pub start_fresh : (setting : Setting) (past : Past) (e : Entry) (n : Name) (k : Kind) → Legal setting (e ∷ past) → e.event ≡ event.Start n k → start past n ≡ None
 start_fresh setting past e n k legal is = by_name n (subst (KeepsOrder past) is (legal_orderly setting (e ∷ past) legal).1)
   where
     by_next : (x y : ℕ) (r : Name) → IsNextChild past (x ∷ y ∷ r) k → start past (x ∷ y ∷ r) ≡ None

@@ -178,7 +178,7 @@ module _ (s : ℕ) (p : Entry → Bool) (setting : Setting) (newer past : Past) 
   same_tries all_begun branches ds h runs =
       all_both _ _ _ (λ d is closed. record { tried = same_known branches d is; again = sym (deed_again_still d closed) }) ds (all_passed (is_try_in old branches) ds (at_once old branches ds h).each) (tries_closed all_begun branches ds h runs)
 
-  at_once_still : (all_begun : Bool) (branches : Plan) (here further : List Deed) → AreAtOnce old branches here further → RunsRow Reach.to_the_end s old all_begun branches here → AllByRecursion (IsSameTry old now) here → AreAtOnce now branches here further
+  pub at_once_still : (all_begun : Bool) (branches : Plan) (here further : List Deed) → AreAtOnce old branches here further → RunsRow Reach.to_the_end s old all_begun branches here → AllByRecursion (IsSameTry old now) here → AreAtOnce now branches here further
   at_once_still all_begun branches here further h runs tries =
       let seats = all_map _ _ (same_seat branches) here (all_passed (is_try_in old branches) here (at_once old branches here h.0).each) in (
         sym (at_once_alike old now branches here tries) ∙ h.0,
@@ -248,7 +248,7 @@ module _ (s : ℕ) (p : Entry → Bool) (setting : Setting) (newer past : Past) 
         by_test true x more = x
         by_test false x more = more x
 
-    row_still : (all_begun : Bool) (branches : Plan) (ds : List Deed) → AllByRecursion (IsSameTry old now) ds → RunsRow Reach.to_the_end s old all_begun branches ds → RunsRow Reach.to_the_end s now all_begun branches ds
+    pub row_still : (all_begun : Bool) (branches : Plan) (ds : List Deed) → AllByRecursion (IsSameTry old now) ds → RunsRow Reach.to_the_end s old all_begun branches ds → RunsRow Reach.to_the_end s now all_begun branches ds
     row_still all_begun (Plan.child_then number tries must inner others) ds same h = (
       subst (AllByRecursion (OfChild (IsRowTry Reach.to_the_end s now all_begun number inner))) (among_alike old now number ds same)
           (all_map _ _ (row_try_still all_begun number inner (λ c. child_still c inner (plan_still c inner))) (tries_among old number ds) h.0),

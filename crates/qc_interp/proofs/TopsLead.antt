@@ -3,7 +3,6 @@ use Rattle.std.proofs.Common.{◌≡◌, inl, inr, ℕ, suc, Bool, true, false, 
 use Rattle.std.specs.Prelude.{Option, Some, MatchBool}
 use Rattle.std.specs.List.{AllByRecursion}
 use Rattle.qc_event.specs.declared.event.Entry.{Entry}
-use Rattle.qc_event.specs.declared.event.Kind.TheVariants as kind
 use Rattle.qc_event.specs.History.{Past, Name, end}
 use Rattle.qc_event.specs.Legal.{Legal}
 use Rattle.qc_script.specs.Client.{Client, mine, is_own, IsLater, AreOurs}

@@ -134,7 +134,7 @@ pub all_last : (P : Name → Type 0) (xs : List Name) (t : Name) (ys : List Name
 all_last P [] t ys h = h.0
 all_last P (x ∷ xs) t ys h = all_last P xs t ys h.1
 
-all_front : (P Q : Name → Type 0) (xs ys : List Name) → ((n : Name) → P n → Q n) → AllByRecursion P (xs ++ ys) → AllByRecursion Q xs
+pub all_front : (P Q : Name → Type 0) (xs ys : List Name) → ((n : Name) → P n → Q n) → AllByRecursion P (xs ++ ys) → AllByRecursion Q xs
 all_front P Q [] ys step h = tt
 all_front P Q (x ∷ xs) ys step h = (step x h.0, all_front P Q xs ys step h.1)
 

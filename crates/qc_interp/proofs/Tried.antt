@@ -1,5 +1,5 @@
 -- What a try of a child leaves that ended, or that was cut off.
-use Rattle.std.proofs.Common.{◌≡◌, inl, inr, ℕ, ◌<◌, ◌+◌, true, false, List, [], ◌∷◌, ◌++◌, length, refl, sym, ap, ◌∙◌, subst, append-nil, append_assoc, arith, length-append}
+use Rattle.std.proofs.Common.{◌≡◌, inl, inr, ℕ, ◌<◌, ◌≤◌, ◌+◌, true, false, List, [], ◌∷◌, ◌++◌, length, refl, sym, ap, ◌∙◌, subst, append-nil, append_assoc, arith, length-append}
 use Rattle.std.specs.Prelude.{Some, MatchOption, is_some, is_none, IsTrue, not, find, option_map, ◌&&◌}
 use Rattle.std.proofs.lemmas.Bool.{false_from_ne_true}
 use Rattle.qc_event.specs.declared.event.Entry.{Entry}
@@ -41,7 +41,17 @@ use Rattle.qc_interp.proofs.Asked.{asked_made, asked_wider, asked_trans}
 
 -- A CHILD THAT BEGINS
 
-module _ (c : Client) (of n : Name) (number : ℕ) (before now : Past) (runs : Runs c of before) (child : is_child of n ≡ true)
+-- what a child needs to begin: by what the client made its parent and those above have not ended themselves, nor are ready
+pub record MayBegin (c : Client) (of : Name) (now : Past) : Type 0 where
+  pub nonroot : 0 < length of
+  pub short : length c.root ≤ length of
+  pub below : IsTrue (name.is_ancestor c.root of)
+  pub above : (p r : Name) → of ≡ p ++ r → 0 < length p → IsUnended p (end (mine c now) p) × (is_ready (mine c now) p ≡ false)
+
+pub may_begin : (c : Client) (of : Name) (now : Past) → Runs c of now → MayBegin c of now
+may_begin c of now runs = record { nonroot = runs.nonroot; short = let l = runs.below.0 in omega (arith, l); below = runs.below.1; above = runs.above }
+
+module _ (c : Client) (of n : Name) (number : ℕ) (before now : Past) (may : MayBegin c of before) (child : is_child of n ≡ true)
     (m : Made c (by_client c (event.Start n (kind.User c.session number)) ∷ []) before now) where
   abbrev begins : Entry
   begins = by_client c (event.Start n (kind.User c.session number))
@@ -50,7 +60,7 @@ module _ (c : Client) (of n : Name) (number : ℕ) (before now : Past) (runs : R
   now_is = made_is c _ before now m
 
   new : NewChild c of n (kind.User c.session number) before now
-  new = new_child c [] [] of n (kind.User c.session number) before now runs.nonroot child m
+  new = new_child c [] [] of n (kind.User c.session number) before now may.nonroot child m
 
   longer : length n ≡ length of + 1
   longer = child_longer of n child
@@ -82,10 +92,10 @@ module _ (c : Client) (of n : Name) (number : ℕ) (before now : Past) (runs : R
   above_begun p r is far = record { deeds = deeds_above p r is far; ready = ready_begun p r is; unended = subst (λ o. IsUnended p o) (sym (end_begun p r is)) }
 
   pub inside_begun : AllStayIn c (scope c of) later_begun.newer
-  inside_begun = ap (list_all (stays_in (scope c of))) m.made ∙ ap (λ b. b && true) (start_stays_in (scope c of) n (kind.User c.session number) begins refl (omega (arith, longer, runs.nonroot)) (child_scope c of n child))
+  inside_begun = ap (list_all (stays_in (scope c of))) m.made ∙ ap (λ b. b && true) (start_stays_in (scope c of) n (kind.User c.session number) begins refl (omega (arith, longer, may.nonroot)) (child_scope c of n child))
 
   pub turns_begun : InTurn (mine c before) → Alone (mine c before) of → InTurn (mine c now) × Alone (mine c now) n
-  turns_begun turns alone = subst (λ h. InTurn h × Alone h n) (sym now_is) (start_turns begins (mine c before) of n (kind.User c.session number) refl child (child_keeps begins (mine c before) of n (kind.User c.session number) runs.nonroot child refl) turns alone)
+  turns_begun turns alone = subst (λ h. InTurn h × Alone h n) (sym now_is) (start_turns begins (mine c before) of n (kind.User c.session number) refl child (child_keeps begins (mine c before) of n (kind.User c.session number) may.nonroot child refl) turns alone)
 
   pub none_begun : deeds (mine c now) n ≡ []
   none_begun = ap (λ h. deeds h n) now_is ∙ deeds_quiet n (begins ∷ []) (mine c before) (start_silent n n (kind.User c.session number) (no_child_length n n (λ l. omega (arith, l))), tt) ∙ new.idle
@@ -96,7 +106,7 @@ module _ (c : Client) (of n : Name) (number : ℕ) (before now : Past) (runs : R
       ready_child : is_ready (mine c now) n ≡ true → ⊥
       ready_child h =
           let short = ready_top c.setting now n m.legal (kept_some (λ (e : Entry). is_own c e.seat) _ now h) in
-          omega (arith, short, longer, runs.nonroot)
+          omega (arith, short, longer, may.nonroot)
 
   pub seat_begun : seat_of now n ≡ Some c.number
   seat_begun = start_under now n c.number (kind.User c.session number) new.started
@@ -108,7 +118,7 @@ module _ (c : Client) (of n : Name) (number : ℕ) (before now : Past) (runs : R
     user = subst (λ o. MatchOption o ⊥ (λ (b : Begun). IsOfSession c.session b.kind)) (sym new.started) refl;
     seat = seat_begun;
     nonroot = omega (arith, longer);
-    below = (omega (arith, longer, runs.below.0), ap (name.is_ancestor c.root) l.1 ∙ below_more c.root of (l.0 ∷ []) runs.below.1);
+    below = (omega (arith, longer, may.short), ap (name.is_ancestor c.root) l.1 ∙ below_more c.root of (l.0 ∷ []) may.below);
     above = above_child;
     closed = λ ours. ap (find (λ x. is_none (end (mine c now) x))) (same_children (mine c now) [] n none_begun);
   }
@@ -123,7 +133,7 @@ module _ (c : Client) (of n : Name) (number : ℕ) (before now : Past) (runs : R
             subst (λ x. IsUnended x (end (mine c now) x) × (is_ready (mine c now) x ≡ false)) at (inl (ap (λ h. end h n) now_is ∙ found_quiet _ (begins ∷ []) (mine c before) (refl, tt) ∙ new.fresh.no_end), unready_begun)
         | inr e ↦
             let up : of ≡ p ++ e.0 = (Rattle.qc_event.proofs.LastNumber.same_last of (p ++ e.0) l.0 e.1 (sym l.1 ∙ is ∙ ap (λ x. p ++ x) e.2 ∙ sym (append_assoc p e.0 (e.1 ∷ [])))).0 in
-            (subst (λ o. IsUnended p o) (sym (end_begun p e.0 up)) (runs.above p e.0 up far).0, ready_begun p e.0 up ∙ (runs.above p e.0 up far).1)
+            (subst (λ o. IsUnended p o) (sym (end_begun p e.0 up)) (may.above p e.0 up far).0, ready_begun p e.0 up ∙ (may.above p e.0 up far).1)
       ]
 
 -- A TRY OF A CHILD
@@ -172,36 +182,36 @@ module _ (c : Client) (of n : Name) (body : Numbered) (before mid now : Past) (r
     left p r is = leaves.above p (r ++ last.0 ∷ []) (last.1 ∙ ap (λ x. x ++ last.0 ∷ []) is ∙ append_assoc p r (last.0 ∷ [])) (let l : length (r ++ last.0 ∷ []) ≡ length r + 1 = length_last r last.0 in omega (arith, l))
 
     more_is : deeds (mine c now) of ≡ deeds (mine c before) of ++ Deed.child n ∷ []
-    more_is = (left of [] (sym (append-nil of))).deeds ∙ deeds_begun c of n body.number before mid runs child m
+    more_is = (left of [] (sym (append-nil of))).deeds ∙ deeds_begun c of n body.number before mid (may_begin c of before runs) child m
 
     abbrev later_is : IsLater c before now
-    later_is = later_trans c before mid now (later_begun c of n body.number before mid runs child m) leaves.later
+    later_is = later_trans c before mid now (later_begun c of n body.number before mid (may_begin c of before runs) child m) leaves.later
 
     inside_is : AllStayIn c (scope c of) later_is.newer
-    inside_is = all_later _ c _ leaves.later.newer (inside_begun c of n body.number before mid runs child m) (subst (λ t. AllStayIn c t leaves.later.newer) scope_is leaves.inside)
+    inside_is = all_later _ c _ leaves.later.newer (inside_begun c of n body.number before mid (may_begin c of before runs) child m) (subst (λ t. AllStayIn c t leaves.later.newer) scope_is leaves.inside)
 
     unended_is : (p r : Name) → of ≡ p ++ r → IsUnended p (end (mine c before) p) → IsUnended p (end (mine c now) p)
-    unended_is p r is h = (left p r is).unended (subst (λ o. IsUnended p o) (sym (end_begun c of n body.number before mid runs child m p r is)) h)
+    unended_is p r is h = (left p r is).unended (subst (λ o. IsUnended p o) (sym (end_begun c of n body.number before mid (may_begin c of before runs) child m p r is)) h)
 
     ready_is : (p r : Name) → of ≡ p ++ r → is_ready (mine c now) p ≡ is_ready (mine c before) p
-    ready_is p r is = (left p r is).ready ∙ ready_begun c of n body.number before mid runs child m p r is
+    ready_is p r is = (left p r is).ready ∙ ready_begun c of n body.number before mid (may_begin c of before runs) child m p r is
 
     above_is : (p r : Name) → of ≡ p ++ r → 0 < length r → LeavesIt c p before now
     above_is p r is far =
-        let a = above_begun c of n body.number before mid runs child m p r is far in
+        let a = above_begun c of n body.number before mid (may_begin c of before runs) child m p r is far in
         record { deeds = (left p r is).deeds ∙ a.deeds; ready = ready_is p r is; unended = unended_is p r is }
 
     kind_is : kind_of (mine c now) n ≡ Some (kind.User c.session body.number)
-    kind_is = kind_later c of mid now leaves.later n _ (kind_begun c of n body.number before mid runs child m)
+    kind_is = kind_later c of mid now leaves.later n _ (kind_begun c of n body.number before mid (may_begin c of before runs) child m)
 
     seat_is : seat_of now n ≡ Some c.number
-    seat_is = later_seat c mid now leaves.later n c.number (seat_begun c of n body.number before mid runs child m)
+    seat_is = later_seat c mid now leaves.later n c.number (seat_begun c of n body.number before mid (may_begin c of before runs) child m)
 
     parent_seat : seat_of now of ≡ Some c.number
     parent_seat = later_seat c before now later_is of c.number runs.seat
 
     all_are : (further : List Deed) → deeds (mine c now) n ≡ deeds (mine c mid) n ++ further → deeds (mine c now) n ≡ further
-    all_are further is = is ∙ ap (λ l. l ++ further) (none_begun c of n body.number before mid runs child m)
+    all_are further is = is ∙ ap (λ l. l ++ further) (none_begun c of n body.number before mid (may_begin c of before runs) child m)
 
     module _ (ends : EndsAt reach c n mid now body.plan) where
       runs_is : AreOurs c of now → RunsPlan reach c.session (mine c now) n body.plan (deeds (mine c now) n) (end (mine c now) n)
@@ -226,7 +236,7 @@ module _ (c : Client) (of n : Name) (body : Numbered) (before mid now : Past) (r
     leaves_is : Leaves c of before now
     leaves_is = record {
       turns = λ ours turns alone.
-          let a = turns_begun c of n body.number before mid runs child m turns alone in
+          let a = turns_begun c of n body.number before mid (may_begin c of before runs) child m turns alone in
           let b = ended.leaves.turns (ours_child ours) a.0 a.1 in
           (b.0, alone_up (mine c now) of n child (some_done (mine c now) n (ended_is ours)) b.1);
       later = later_is Reach.to_the_end ended.leaves;
@@ -248,7 +258,7 @@ module _ (c : Client) (of n : Name) (body : Numbered) (before mid now : Past) (r
         closed = λ ours. closed_more c of before now n (later_is Reach.to_the_end ended.leaves) (more_is Reach.to_the_end ended.leaves) (runs.closed (ours_before c of before now (later_is Reach.to_the_end ended.leaves) ours)) (ended_is ours);
       };
       is_one = child;
-      user = subst (λ h. Started h n (λ b. IsUser b.kind)) (sym ended.leaves.later.grown) (started_still ended.leaves.later.newer mid n _ (user_is c.session mid n (runs_begun c of n body.number before mid runs child m).user));
+      user = subst (λ h. Started h n (λ b. IsUser b.kind)) (sym ended.leaves.later.grown) (started_still ended.leaves.later.newer mid n _ (user_is c.session mid n (runs_begun c of n body.number before mid (may_begin c of before runs) child m).user));
       seat = seat_is Reach.to_the_end ended.leaves;
       more = more_is Reach.to_the_end ended.leaves;
       kind = kind_is Reach.to_the_end ended.leaves;
@@ -262,7 +272,7 @@ module _ (c : Client) (of n : Name) (body : Numbered) (before mid now : Past) (r
   cut_once cut = record {
     leaves = record {
       turns = λ ours turns alone.
-          let a = turns_begun c of n body.number before mid runs child m turns alone in
+          let a = turns_begun c of n body.number before mid (may_begin c of before runs) child m turns alone in
           ((cut.leaves.turns (ours_child ours) a.0 a.1).0, tt);
       later = later_is Reach.cut_off cut.leaves;
       inside = inside_is Reach.cut_off cut.leaves;

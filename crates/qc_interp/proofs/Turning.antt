@@ -1,5 +1,5 @@
 -- Who acts in turn as entries are made.
-use Rattle.std.proofs.Common.{◌≡◌, ◌⊎◌, inl, inr, ◌<◌, ◌+◌, arith, ℕ, Bool, true, false, [], ◌∷◌, ◌++◌, length, refl, sym, ap, ◌∙◌, append-nil, append_assoc}
+use Rattle.std.proofs.Common.{◌≡◌, ◌⊎◌, inl, inr, ◌<◌, arith, ℕ, Bool, true, false, [], ◌∷◌, ◌++◌, length, refl, sym, ap, ◌∙◌, append-nil, append_assoc}
 use mathlib.Core.Bool.{true≢false}
 use Rattle.std.specs.Prelude.{None, Some, is_some, ◌&&◌, ◌||◌, not, if◌then◌else◌, option_to_list, IsTrue}
 use Rattle.std.specs.List.{AllByRecursion, list_all}

@@ -1,0 +1,93 @@
+-- A transaction goes on, stops or is cut off behind branches that have run.
+use Rattle.std.proofs.Common.{◌≡◌, inl, inr, Bool, true, false, List, [], refl, sym, ap, ◌∙◌, subst, append-nil}
+use Rattle.std.specs.Prelude.{Option, None, Some, option_map}
+use Rattle.qc_event.specs.declared.event.Cause.{Cause}
+use Rattle.qc_event.specs.History.{Past, Name, end}
+use Rattle.qc_script.specs.declared.tx.TxNo.{TxNo}
+use Rattle.qc_script.specs.Client.{Client, mine, Made, AreOurs}
+use Rattle.qc_script.specs.Plan.{Plan, Numbered}
+use Rattle.qc_interp.specs.AtOnce.{IsRefusal}
+use Rattle.qc_interp.specs.Branches.{row_step, FrontRow}
+use Rattle.qc_interp.specs.Deeds.{Deed, deeds, OfChild}
+use Rattle.qc_interp.specs.Follows.{is_of_orphan, WasOrphan, GoesOnAfter, FollowsPlan}
+use Rattle.qc_interp.specs.Reach.{Reach}
+use Rattle.qc_interp.specs.Running.{Runs, Leaves, Ended, CutOff, HasFailed, QuitFor, Stopped, WentOn}
+use Rattle.qc_interp.specs.declared.stops.Finish.TheVariants as finish
+use Rattle.qc_interp.proofs.Asked.{NoOne, asked_none, asked_made}
+use Rattle.qc_interp.proofs.BranchEnds.{refusal_early}
+use Rattle.qc_interp.proofs.Ending.{leaves_trans, leaves_cut, still, leaves_still, runs_still}
+use Rattle.qc_interp.proofs.Failing.{still_aborted}
+use Rattle.qc_interp.proofs.Growth.{made_later}
+use Rattle.qc_interp.proofs.Joined.{joined_itself}
+use Rattle.qc_interp.proofs.RowCut.{runs_after}
+use Rattle.qc_interp.proofs.TriesAlike.{IfAny}
+
+-- Behind branches of which each was tried as often as it is, or not, and of which this try is the first that must have
+-- committed and did not.
+pub record RowOut (c : Client) (of : Name) (before now : Past) (bodies : List Numbered) (out : Bool) (failed : Option Name) : Type 0 where
+  pub leaves : Leaves c of before now
+  pub runs : Runs c of now
+  pub front : FrontRow c of before now bodies out failed
+
+module _ (c : Client) (of : Name) (before now : Past) (bodies : List Numbered) where
+  -- it goes on
+  pub row_through : RowOut c of before now bodies true None → WentOn c of before now (row_step bodies)
+  row_through r = record {
+    leaves = r.leaves;
+    runs = r.runs;
+    follows = λ reach d x j later rest ends. r.front reach d x j later rest ends;
+  }
+
+  module _ (x : Past) where
+    -- it was aborted for the child that failed, or stopped
+    pub row_quit : (last : Name) (again : Bool) (rest : Plan) → RowOut c of before now bodies true (Some last) → HasFailed c of now last → QuitFor c of last now x again → Ended c of before x (row_step bodies rest) (finish.Stopped again)
+    row_quit last again rest r failed quit = record {
+      leaves = leaves_trans c of before now x r.leaves quit.leaves;
+      tried = quit.tried;
+      ends = r.front Reach.to_the_end c x (joined_itself c now) quit.leaves.later rest (λ ours. ([], quit.deeds ∙ sym (append-nil _), behind ours, asked_none c now x _ quit.asked));
+    }
+      where
+        not_orphan : (y : Cause) → (is_of_orphan y ≡ true → ⊥) → is_of_orphan y ≡ false
+        not_orphan y h = by_test (is_of_orphan y) h
+          where
+            by_test : (b : Bool) → (b ≡ true → ⊥) → b ≡ false
+            by_test true t = absurd (t refl)
+            by_test false t = refl
+
+        behind : AreOurs c of x → GoesOnAfter Reach.to_the_end (mine c x) of last (end (mine c x) last) (FollowsPlan c.session (mine c x) of rest [] (end (mine c x) of)) [] (end (mine c x) of)
+        behind ours =
+            let was = still_aborted c of last now x quit.leaves.later failed ours in
+            subst (λ o. GoesOnAfter Reach.to_the_end (mine c x) of last o (FollowsPlan c.session (mine c x) of rest [] (end (mine c x) of)) [] (end (mine c x) of)) (sym was.1) (
+              refl,
+              elim (quit.ended ours) [
+                | inl is ↦ inl (not_orphan was.0 (λ h. is.0 (subst WasOrphan (sym was.1) h)), is.1)
+                | inr early ↦ inr early
+              ],
+            )
+
+    -- it stopped by a refusal
+    pub row_stops : (why : TxNo) (again : Bool) (rest : Plan) → RowOut c of before now bodies false None → IsRefusal why → Stopped c of why now x again → Ended c of before x (row_step bodies rest) (finish.Stopped again)
+    row_stops why again rest r is stopped = record {
+      leaves = leaves_trans c of before now x r.leaves stopped.leaves;
+      tried = stopped.tried;
+      ends = r.front Reach.to_the_end c x (joined_itself c now) stopped.leaves.later rest (λ ours. ([], stopped.deeds ∙ sym (append-nil _), (refl, refusal_early c of why (end (mine c x) of) is (stopped.ended ours)), asked_none c now x _ stopped.asked));
+    }
+
+    -- it was cut off there
+    pub row_cut_behind : (out : Bool) (failed : Option Name) (rest : Plan) → RowOut c of before now bodies out failed → Made c [] now x → CutOff c of before x (row_step bodies rest)
+    row_cut_behind out failed rest r m =
+        let at = (runs_still c of now x m r.runs).above of [] (sym (append-nil of)) r.runs.nonroot in
+        record {
+          leaves = leaves_trans c of before now x r.leaves (leaves_cut c of now x (leaves_still c of now x m));
+          unended = at.0;
+          begins = r.front Reach.cut_off c x (joined_itself c now) (made_later c [] now x m) rest (λ ours. (
+            [],
+            ap (λ h. deeds h of) (still c of now x m) ∙ sym (append-nil _),
+            runs_after c.session (mine c x) of (end (mine c x) of) at.0 at.1 out (option_map Deed.child failed) rest (any_child failed),
+            asked_none c now x _ (asked_made c [] now x NoOne m tt),
+          ));
+        }
+      where
+        any_child : (f : Option Name) → IfAny (OfChild (λ y. Unit {0})) (option_map Deed.child f)
+        any_child None = tt
+        any_child (Some y) = tt
