@@ -10,6 +10,7 @@ pub mod Follows
 pub mod FollowsScript
 pub mod Running
 pub mod Branches
+pub mod AtOnce
 pub mod Session
 pub mod Sessions
 pub mod Together

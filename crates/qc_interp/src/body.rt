@@ -7,12 +7,18 @@ ghost use Rattle.qc_script.specs.Plan.{Plan, PlanFits};
 ghost use Rattle.qc_script.specs.Steps.{put, plan_of, numbered};
 ghost use Rattle.qc_interp.specs.Running.{Runs, Ended, CutOff, HasActed, Stepped, TriesCame, child_step};
 
+mod branch;
+mod row;
+
+use crate::host::Host;
 use crate::managing::{Change, change_value, manage, need};
 use crate::marks::{look, mark};
 use crate::pause::Pause;
 use crate::stops::{Finish, ask, commit, quit_for, stop};
 use qc_event::{Kind, Name, Short};
 use qc_script::{Body, Step, Tx, TxNo};
+use row::par;
+use std::thread::Threads;
 
 // What the tries of a child came to.
 enum Came {
@@ -26,7 +32,12 @@ enum Came {
 
 // Runs a child as often as its body is tried.
 #[cycle(run)]
-fn tries<T: Tx>(tx: &mut T, of: &Name, body: &Body) -> Result<Came, Short>
+fn tries<T: Tx + Send + Drop, R: Threads + Sync>(
+    tx: &mut T,
+    host: &Host<'_, R>,
+    of: &Name,
+    body: &Body,
+) -> Result<Came, Short>
     requires runs { Runs (T.view tx.old).client of.now (T.view tx.old).seen }
     requires depth { length of.now < 16 }
     requires fits { PlanFits (T.view tx.old).client.setting (length of.now + 1)
@@ -46,7 +57,7 @@ fn tries<T: Tx>(tx: &mut T, of: &Name, body: &Body) -> Result<Came, Short>
     for _ in 0..body.tries {
         pause.take();
         match tx.begin(of, body.number) {
-            Ok(name) => match steps(tx, &name, body.steps.as_slice())? {
+            Ok(name) => match steps(tx, host, &name, body.steps.as_slice())? {
                 Finish::Committed => return Ok(Came::Through),
                 Finish::Stopped { again } => {
                     if !again {
@@ -76,7 +87,12 @@ fn tries<T: Tx>(tx: &mut T, of: &Name, body: &Body) -> Result<Came, Short>
 
 // A step that runs a child. Where the child must commit and did not, the transaction is aborted for it.
 #[cycle(run)]
-fn child<T: Tx>(tx: &mut T, of: &Name, body: &Body) -> Result<Option<bool>, Short>
+fn child<T: Tx + Send + Drop, R: Threads + Sync>(
+    tx: &mut T,
+    host: &Host<'_, R>,
+    of: &Name,
+    body: &Body,
+) -> Result<Option<bool>, Short>
     requires runs { Runs (T.view tx.old).client of.now (T.view tx.old).seen }
     requires depth { length of.now < 16 }
     requires fits { PlanFits (T.view tx.old).client.setting (length of.now + 1)
@@ -91,7 +107,7 @@ fn child<T: Tx>(tx: &mut T, of: &Name, body: &Body) -> Result<Option<bool>, Shor
         (T.view tx.old).seen (T.view tx.new).seen (child_step (numbered body.now) rest)) }
     ensures room { IfErr result (λ e. e ≡ Short.Room → length (T.view tx.new).seen ≡ limit) }
 {
-    match tries(tx, of, body)? {
+    match tries(tx, host, of, body)? {
         Came::Through => Ok(None),
         Came::Stopped { again } => Ok(Some(again)),
         Came::Failed { last } => {
@@ -106,7 +122,12 @@ fn child<T: Tx>(tx: &mut T, of: &Name, body: &Body) -> Result<Option<bool>, Shor
 
 // Does one step.
 #[cycle(run)]
-fn act<T: Tx>(tx: &mut T, of: &Name, step: &Step) -> Result<Option<bool>, Short>
+fn act<T: Tx + Send + Drop, R: Threads + Sync>(
+    tx: &mut T,
+    host: &Host<'_, R>,
+    of: &Name,
+    step: &Step,
+) -> Result<Option<bool>, Short>
     requires runs { Runs (T.view tx.old).client of.now (T.view tx.old).seen }
     requires fits { PlanFits (T.view tx.old).client.setting (length of.now)
         (put step.now Plan.done) }
@@ -139,7 +160,8 @@ fn act<T: Tx>(tx: &mut T, of: &Name, step: &Step) -> Result<Option<bool>, Short>
             };
             manage(tx, of, &kind)
         }
-        Step::Child(body) => child(tx, of, body),
+        Step::Child(body) => child(tx, host, of, body),
+        Step::Par(bodies) => par(tx, host, of, bodies.as_slice()),
         Step::Abort { levels } => {
             let again = ask(tx, of, *levels)?;
             Ok(Some(again))
@@ -157,7 +179,12 @@ fn act<T: Tx>(tx: &mut T, of: &Name, step: &Step) -> Result<Option<bool>, Short>
 
 // One step. Behind it the transaction looks whether it is killed.
 #[cycle(run)]
-fn step<T: Tx>(tx: &mut T, of: &Name, step: &Step) -> Result<Option<bool>, Short>
+fn step<T: Tx + Send + Drop, R: Threads + Sync>(
+    tx: &mut T,
+    host: &Host<'_, R>,
+    of: &Name,
+    step: &Step,
+) -> Result<Option<bool>, Short>
     requires runs { Runs (T.view tx.old).client of.now (T.view tx.old).seen }
     requires fits { PlanFits (T.view tx.old).client.setting (length of.now)
         (put step.now Plan.done) }
@@ -171,7 +198,7 @@ fn step<T: Tx>(tx: &mut T, of: &Name, step: &Step) -> Result<Option<bool>, Short
         (T.view tx.old).seen (T.view tx.new).seen (put step.now rest)) }
     ensures room { IfErr result (λ e. e ≡ Short.Room → length (T.view tx.new).seen ≡ limit) }
 {
-    match act(tx, of, step)? {
+    match act(tx, host, of, step)? {
         Some(again) => Ok(Some(again)),
         None => look(tx, of),
     }
@@ -180,7 +207,12 @@ fn step<T: Tx>(tx: &mut T, of: &Name, step: &Step) -> Result<Option<bool>, Short
 /// Runs the steps of a transaction that has started and has done nothing, and ends it. It answers what the transaction
 /// came to. The client is told as it is then, with the branches that it has merged. Want of memory or room cuts it off: it has then done the first of its steps.
 #[cycle(run)]
-pub fn steps<T: Tx>(tx: &mut T, of: &Name, steps: &[Step]) -> Result<Finish, Short>
+pub fn steps<T: Tx + Send + Drop, R: Threads + Sync>(
+    tx: &mut T,
+    host: &Host<'_, R>,
+    of: &Name,
+    steps: &[Step],
+) -> Result<Finish, Short>
     requires runs { Runs (T.view tx.old).client of.now (T.view tx.old).seen }
     requires fits { PlanFits (T.view tx.old).client.setting (length of.now) (plan_of steps.now) }
     requires met { MeetsLink (T.view tx.old) }
@@ -197,7 +229,7 @@ pub fn steps<T: Tx>(tx: &mut T, of: &Name, steps: &[Step]) -> Result<Finish, Sho
         return Ok(Finish::Stopped { again });
     }
     for s in steps {
-        if let Some(again) = step(tx, of, s)? {
+        if let Some(again) = step(tx, host, of, s)? {
             return Ok(Finish::Stopped { again });
         }
     }

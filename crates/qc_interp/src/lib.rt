@@ -3,6 +3,7 @@
 
 mod body;
 mod gate;
+mod host;
 mod managing;
 mod marks;
 mod pause;
@@ -11,5 +12,6 @@ mod tops;
 
 pub use body::steps;
 pub use gate::{Gate, Mode, NoGate};
+pub use host::Host;
 pub use stops::Finish;
 pub use tops::run_tops;

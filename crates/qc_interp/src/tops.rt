@@ -10,12 +10,18 @@ ghost use Rattle.qc_interp.specs.Session.{EndsTops, RanTops, RanInTurn, CutTops}
 ghost use Rattle.qc_script.specs.Plan.{BodiesFit};
 
 use crate::body::steps;
+use crate::host::Host;
 use crate::pause::Pause;
 use qc_event::{Name, Short};
 use qc_script::{Body, Tx, TxNo};
+use std::thread::Threads;
 
 // Runs the tries of a body as tops.
-fn top_tries<T: Tx>(tx: &mut T, body: &Body) -> Result<(), Short>
+fn top_tries<T: Tx + Send + Drop, R: Threads + Sync>(
+    tx: &mut T,
+    host: &Host<'_, R>,
+    body: &Body,
+) -> Result<(), Short>
     requires rootless { (T.view tx.old).client.root ≡ [] }
     requires legal { Legal (T.view tx.old).client.setting (T.view tx.old).seen }
     requires fits { PlanFits (T.view tx.old).client.setting 1 (numbered body.now).plan }
@@ -34,7 +40,7 @@ fn top_tries<T: Tx>(tx: &mut T, body: &Body) -> Result<(), Short>
         pause.take();
         match tx.begin(&Name::root(), body.number) {
             Ok(name) => {
-                if !steps(tx, &name, body.steps.as_slice())?.is_again() {
+                if !steps(tx, host, &name, body.steps.as_slice())?.is_again() {
                     return Ok(());
                 }
                 pause.grow(&name);
@@ -52,7 +58,11 @@ fn top_tries<T: Tx>(tx: &mut T, body: &Body) -> Result<(), Short>
 /// each follows its body and starts once those before it are over, whoever acts does so in turn, and whoever is aborted as
 /// another asked is named by a step `abort` to which that one came; where the link is told, its requests meet the fates.
 /// Where want of memory or room cuts it off, all of that holds of what was made, as far as it came.
-pub fn run_tops<T: Tx>(tx: &mut T, bodies: &[Body]) -> Result<(), Short>
+pub fn run_tops<T: Tx + Send + Drop, R: Threads + Sync>(
+    tx: &mut T,
+    host: &Host<'_, R>,
+    bodies: &[Body],
+) -> Result<(), Short>
     requires rootless { (T.view tx.old).client.root ≡ [] }
     requires legal { Legal (T.view tx.old).client.setting (T.view tx.old).seen }
     requires fits { BodiesFit (T.view tx.old).client.setting (map numbered bodies.now) }
@@ -69,7 +79,7 @@ pub fn run_tops<T: Tx>(tx: &mut T, bodies: &[Body]) -> Result<(), Short>
     ensures room { IfErr result (λ e. e ≡ Short.Room → length (T.view tx.new).seen ≡ limit) }
 {
     for body in bodies {
-        top_tries(tx, body)?;
+        top_tries(tx, host, body)?;
     }
     Ok(())
 }

@@ -1,35 +1,65 @@
-use Rattle.std.proofs.Common.{rules, Option, None, ◌≡◌, ◌<◌, ◌≤◌, ◌+◌, ◌-◌, ℕ, suc, [], length, sym, ap, ◌∙◌, subst, arith}
+use Rattle.std.proofs.Common.{rules, inr, Ok, true, false, map, ◌∷◌, Option, None, Some, ◌++◌, ◌≡◌, ◌<◌, ◌≤◌, ◌+◌, ◌-◌, ℕ, suc, [], length, refl, sym, ap, ◌∙◌, subst, arith}
 use Rattle.std.specs.Prelude.{IfOk, IfErr}
 use Rattle.qc_event.specs.declared.event.Kind.TheVariants as kind
 use Rattle.qc_event.specs.History.{Past, Name}
 use Rattle.qc_event.proofs.LastNumber.{child_longer}
-use Rattle.qc_script.specs.Client.{Client, Made, HasJoined}
-use Rattle.qc_script.specs.Plan.{Plan, Numbered, PlanFits, manage_then, change_then, need_then, plus, minus}
+use Rattle.qc_script.specs.Client.{Client, View, mine, Made, HasJoined}
+use Rattle.qc_script.specs.Plan.{Plan, Numbered, PlanFits, row_of, manage_then, change_then, need_then, plus, minus}
 use Rattle.qc_script.specs.Steps.{put, plan_of, numbered}
 use Rattle.qc_interp.specs.Running.{Runs, WhyStop, Stopped, Ended, CutOff, Acted, HasActed, HasLooked, Stepped, WentOn, child_step, TriesCame}
 use Rattle.qc_interp.specs.declared.stops.Finish.TheVariants as finish
-use Rattle.qc_interp.proofs.Results.{if_ok, if_err, any_err}
+use Rattle.qc_interp.proofs.Results.{if_ok, if_err, any_err, same_err}
+use Rattle.qc_event.specs.declared.log.Short.TheVariants as short
+use Rattle.qc_event.specs.History.{limit}
 use Rattle.qc_interp.proofs.Ending.{cut_still}
 use Rattle.qc_interp.proofs.Growth.{made_both}
 use Rattle.qc_interp.proofs.Joined.{joined_itself, joined_same, joined_trans, joined_setting, started_by}
-use Rattle.qc_interp.proofs.Plans.{weight, plan_is, tries_of, number_of, must_of, put_read, put_set, put_add, put_sub, put_need, put_reconf, put_child, put_abort, put_crash, put_kill, step_lighter}
+use Rattle.qc_interp.proofs.Plans.{weight, plan_is, tries_of, number_of, must_of, put_read, put_set, put_add, put_sub, put_need, put_reconf, put_child, put_par, put_abort, put_crash, put_kill, step_lighter}
 use Rattle.qc_interp.proofs.Loops.{StepsLeft, steps_joined, fits_step, one_done, stopped_there, cut_there, cut_at_last, all_done, none_done}
 use Rattle.qc_interp.proofs.Failing.{failed_on, failed_quit, failed_cut}
 use Rattle.qc_interp.proofs.Marking.{acted_on, acted_by, looked_behind, acted_cut, killed_first}
 use Rattle.qc_interp.proofs.StepsLeave.{crash_on}
-use Rattle.qc_interp.proofs.Tried.{Tried, runs_begun, tried_once, cut_once}
+use Rattle.qc_interp.proofs.Tried.{Tried, may_begin, runs_begun, tried_once, cut_once}
 use Rattle.qc_interp.proofs.TriesLeft.{TriesLeft, tries_joined, tried_more, tried_failed, tried_out, all_failed, none_to_begin, tries_cut, not_begun, begin_stops, begin_cut, refused_made, none_tried}
+use Rattle.qc_interp.specs.declared.stops.Finish.{Finish}
+use mathlib.Core.Bool.{true≢false}
+use Rattle.qc_interp.specs.declared.body.branch.Branch.{Branch as Held}
+use Rattle.qc_interp.specs.AtOnce.{Stands, stands, InPairs, WasShown, AreOut, MergedInTurn, row_came, WentBehind, MayRun, HasRun, IsRefusal, TriesEnd}
+use Rattle.qc_interp.proofs.BranchPlans.{row_heavier}
+use Rattle.qc_interp.specs.declared.body.branch.BranchCame.TheVariants as came
+use Rattle.qc_interp.specs.Branches.{row_step}
+use Rattle.qc_script.specs.Calls.{MeetsLink}
+use Rattle.std.specs.List.{AllByRecursion}
+use Rattle.qc_interp.proofs.RowMet.{kept_whole, map_twice, ran_met}
+use Rattle.qc_interp.proofs.RowDone.{all_become}
+use Rattle.qc_interp.proofs.RowWhole.{all_out}
+use Rattle.qc_interp.proofs.RowStep.{ran_so, ran_joined, ran_cut_off, ran_room, ran_runs, ran_knows, ran_acted, ran_cut_behind, row_depth, row_may, shown_bodies}
+use Rattle.qc_interp.proofs.RowTurnedStep.{RowTurnedSo, none_given, none_merged, so_legal, so_joined, so_refused, so_room, so_firsts, so_cut_at_once, so_cut_off, so_runs, so_knows, so_acted, so_cut_behind}
+use Rattle.qc_interp.proofs.RowTurning.{turned_out}
+use Rattle.qc_interp.proofs.InOrder.{pairs_at}
+use Rattle.qc_interp.proofs.Shown.{each_at}
+use Rattle.qc_interp.specs.Branches.{RanTries, AreTriesOurs, tries_by}
+use Rattle.qc_interp.specs.Deeds.{Deed}
+use Rattle.qc_interp.specs.Rows.{was_tried}
+use Rattle.qc_interp.specs.Reach.{Reach}
+use Rattle.qc_script.specs.Calls.{by_client, Refuses}
+use Rattle.qc_event.specs.declared.event.Event.TheVariants as event
+use Rattle.qc_event.specs.History.{is_child}
+use Rattle.qc_interp.proofs.BranchLeft.{BranchLeft, TryRuns, runs_joined, try_starts, try_done, try_cut_off, tried_further}
+use Rattle.qc_interp.proofs.BranchTries.{TriedOne}
+use Rattle.qc_interp.proofs.BranchEnds.{one_less, may_start, tries_end, tries_cut_off, tries_stop, try_was_due, next_runs, why_refused, goes_on}
+use Rattle.qc_interp.proofs.Growth.{made_later, made_itself, later_itself}
 use Rattle.qc_interp.proofs.body.+run.Goals as goal
 
 -- CHILDREN
 
-one_less : (c : Client) (of : Name) (body : Numbered) (before now : Past) (last : Option Name) (counter : ℕ) → counter < body.tries → TriesLeft c of body before now last (body.tries - counter) → TriesLeft c of body before now last (suc (body.tries - (counter + 1)))
-one_less c of body before now last counter few left = subst (TriesLeft c of body before now last) (let e : body.tries - counter ≡ suc (body.tries - (counter + 1)) = omega (arith, few) in e) left
+fewer_left : (c : Client) (of : Name) (body : Numbered) (before now : Past) (last : Option Name) (counter : ℕ) → counter < body.tries → TriesLeft c of body before now last (body.tries - counter) → TriesLeft c of body before now last (suc (body.tries - (counter + 1)))
+fewer_left c of body before now last counter few left = subst (TriesLeft c of body before now last) (let e : body.tries - counter ≡ suc (body.tries - (counter + 1)) = omega (arith, few) in e) left
 
 -- so many tries are left behind one that another client is after
 left_by : (c d : Client) (of : Name) (body : Numbered) (before now : Past) (last : Option Name) (counter : ℕ) → HasJoined c now d → counter < body.tries → TriesLeft c of body before now last (body.tries - counter)
     → TriesLeft d of body before now last (suc (body.tries - (counter + 1)))
-left_by c d of body before now last counter since few l = one_less d of body before now last counter few (tries_joined c d of body before now since last (body.tries - counter) l)
+left_by c d of body before now last counter since few l = fewer_left d of body before now last counter few (tries_joined c d of body before now since last (body.tries - counter) l)
 
 pub tries-steps-requires : goal.tries-steps-requires
 tries-steps-requires g t c κs within =
@@ -42,14 +72,23 @@ tries-steps-requires g t c κs within =
     let same = plan_is body c.as_slice.result.now c.as_slice.ensures.value in (
       omega (arith, ap weight same),
       (
-        within,
+        within.0,
         (
-          subst (λ d. Runs d c.in-Ok.name x.seen) (sym c.begin.ensures.client) (runs_begun w.client of c.in-Ok.name _ w.seen x.seen inv.left.runs c.in-Ok.ensures.child c.in-Ok.ensures.ok),
+          within.1,
           (
-            subst (λ d. PlanFits d.setting (length c.in-Ok.name) (plan_of c.as_slice.result.now)) (sym c.begin.ensures.client)
-                (subst (λ setting. PlanFits setting (length c.in-Ok.name) (plan_of c.as_slice.result.now)) (sym (joined_setting v.client w.client v.seen inv.joined))
-                (subst (λ k. PlanFits v.client.setting k (plan_of c.as_slice.result.now)) (sym (child_longer of c.in-Ok.name c.in-Ok.ensures.child)) (subst (PlanFits v.client.setting (length of + 1)) (sym same) c.requires.fits))),
-            c.begin.ensures.met,
+            search rules,
+            (
+              search rules,
+              (
+                subst (λ d. Runs d c.in-Ok.name x.seen) (sym c.begin.ensures.client) (runs_begun w.client of c.in-Ok.name _ w.seen x.seen (may_begin w.client of w.seen inv.left.runs) c.in-Ok.ensures.child c.in-Ok.ensures.ok),
+                (
+                  subst (λ d. PlanFits d.setting (length c.in-Ok.name) (plan_of c.as_slice.result.now)) (sym c.begin.ensures.client)
+                      (subst (λ setting. PlanFits setting (length c.in-Ok.name) (plan_of c.as_slice.result.now)) (sym (joined_setting v.client w.client v.seen inv.joined))
+                      (subst (λ k. PlanFits v.client.setting k (plan_of c.as_slice.result.now)) (sym (child_longer of c.in-Ok.name c.in-Ok.ensures.child)) (subst (PlanFits v.client.setting (length of + 1)) (sym same) c.requires.fits))),
+                  c.begin.ensures.met,
+                ),
+              ),
+            ),
           ),
         ),
       ),
@@ -130,7 +169,7 @@ tries-returns-in_ok-again-in_default g t c =
     let of = c.args.of.now in
     let body = numbered c.args.body.now in
     let client = sym (c.stop.ensures.client ∙ c.begin.ensures.client) in
-    let left = one_less w.client of body v.seen w.seen c.loop.last c.loop.counter (subst (λ n. c.loop.counter < n) (sym (tries_of c.args.body.now)) c.loop-test.true) inv.left in
+    let left = fewer_left w.client of body v.seen w.seen c.loop.last c.loop.counter (subst (λ n. c.loop.counter < n) (sym (tries_of c.args.body.now)) c.loop-test.true) inv.left in
     record {
       met = c.stop.ensures.met;
       joined = subst (HasJoined v.client v.seen) client inv.joined;
@@ -225,7 +264,7 @@ tries-returns-in-Memory-clause-cut g t c rest =
     let body = numbered c.args.body.now in
     subst (λ d. CutOff d of v.seen x.seen (child_step body rest)) (sym c.begin.ensures.client)
     (begin_cut w.client of body v.seen w.seen x.seen _ _ rest
-    (one_less w.client of body v.seen w.seen c.loop.last c.loop.counter (subst (λ n. c.loop.counter < n) (sym (tries_of c.args.body.now)) c.loop-test.true) inv.left)
+    (fewer_left w.client of body v.seen w.seen c.loop.last c.loop.counter (subst (λ n. c.loop.counter < n) (sym (tries_of c.args.body.now)) c.loop-test.true) inv.left)
     (refused_made w.client of body w.seen x.seen c.in-Err.why c.in-Err.ensures.err))
 
 pub tries-returns-in-Room-clause-joined : goal.tries-returns-in-Room-clause-joined
@@ -243,7 +282,7 @@ tries-returns-in-Room-clause-cut g t c rest =
     let body = numbered c.args.body.now in
     subst (λ d. CutOff d of v.seen x.seen (child_step body rest)) (sym c.begin.ensures.client)
     (begin_cut w.client of body v.seen w.seen x.seen _ _ rest
-    (one_less w.client of body v.seen w.seen c.loop.last c.loop.counter (subst (λ n. c.loop.counter < n) (sym (tries_of c.args.body.now)) c.loop-test.true) inv.left)
+    (fewer_left w.client of body v.seen w.seen c.loop.last c.loop.counter (subst (λ n. c.loop.counter < n) (sym (tries_of c.args.body.now)) c.loop-test.true) inv.left)
     (refused_made w.client of body w.seen x.seen c.in-Err.why c.in-Err.ensures.err))
 
 pub tries-returns-in_err-again-in_default : goal.tries-returns-in_err-again-in_default
@@ -256,7 +295,7 @@ tries-returns-in_err-again-in_default g t c =
     let of = c.args.of.now in
     let body = numbered c.args.body.now in
     let client = sym (c.stop.ensures.client ∙ c.begin.ensures.client) in
-    let left = one_less w.client of body v.seen w.seen c.loop.last c.loop.counter (subst (λ n. c.loop.counter < n) (sym (tries_of c.args.body.now)) c.loop-test.true) inv.left in
+    let left = fewer_left w.client of body v.seen w.seen c.loop.last c.loop.counter (subst (λ n. c.loop.counter < n) (sym (tries_of c.args.body.now)) c.loop-test.true) inv.left in
     record {
       met = c.stop.ensures.met;
       joined = subst (HasJoined v.client v.seen) client inv.joined;
@@ -605,10 +644,7 @@ steps-step-requires g t c κs within =
     let w = g.T.Tx.view c.loop-s.tx in
     let of = c.args.of.now in (
       omega (arith, step_lighter c.args.steps.now c.loop-s.s-index c.s-item.result c.loop-s-test.true c.s-item.is),
-      (
-        within,
-        (inv.left.runs, (fits_step w.client of c.args.steps.now v.seen w.seen w.seen c.loop-s.s-index c.s-item.result inv.left c.loop-s-test.true c.s-item.is, inv.met)),
-      ),
+      (within.0, (within.1, (search rules, (search rules, (inv.left.runs, (fits_step w.client of c.args.steps.now v.seen w.seen w.seen c.loop-s.s-index c.s-item.result inv.left c.loop-s-test.true c.s-item.is, inv.met)))))),
     )
 
 pub steps-returns-in-Some-2-clause-joined : goal.steps-returns-in-Some-2-clause-joined
@@ -675,3 +711,1256 @@ steps-loop-s-init g t c =
       joined = joined_same _ _ _ c.look.ensures.client;
       left = subst (λ d. StepsLeft d c.args.of.now c.args.steps.now v.seen w.seen 0) (sym c.look.ensures.client) (none_done v.client c.args.of.now c.args.steps.now v.seen w.seen c.requires.runs looked.0 c.requires.fits);
     }
+
+-- THE TRIES OF A BRANCH
+
+-- a try ran, by what its client is then
+abbrev RanOne : Client → Numbered → Past → Name → Past → Past → ℕ → Finish → Type 0
+RanOne d body start n now next left to = (t : TryRuns d body start n now left) × TriedOne d body n t.prior next to
+
+ran_one : (c d : Client) (body : Numbered) (start : Past) (n : Name) (now next : Past) (left : ℕ) (to : Finish) → HasJoined c now d → TryRuns c body start n now left → Ended d n now next body.plan to → RanOne d body start n now next left to
+ran_one c d body start n now next left to joined t ended =
+    let u = runs_joined c d body start n now left joined t in
+    (u, try_done d body start n now left u next to ended)
+
+pub branch::branch_tries-loop-init : goal.branch::branch_tries-loop-init
+branch::branch_tries-loop-init g t c =
+    let v = g.T.Tx.view c.args.tx.now in
+    record {
+      met = c.requires.may.met;
+      goes = record { joined = joined_itself v.client v.seen; later = later_itself v.client v.seen c.requires.may.legal; parent = c.requires.may.parent; root = c.requires.may.root };
+      runs = may_start c.args.of.now v (numbered c.args.body.now) c.args.first.now c.requires.may;
+    }
+
+-- what the steps of a try fit
+fits_try : (v d : Client) (before : Past) (of n : Name) (plan other : Plan) → HasJoined v before d → d.root ≡ of → is_child d.root n ≡ true → other ≡ plan → PlanFits v.setting (length of + 1) plan → PlanFits d.setting (length n) other
+fits_try v d before of n plan other joined root child same fits =
+    subst (λ p. PlanFits d.setting (length n) p) (sym same) (subst (λ s. PlanFits s (length n) plan) (sym (joined_setting v d before joined)) (subst (λ k. PlanFits v.setting k plan) (sym (child_longer of n (ap (λ r. is_child r n) (sym root) ∙ child))) fits))
+
+pub branch::branch_tries-steps-requires : goal.branch::branch_tries-steps-requires
+branch::branch_tries-steps-requires g t c κs within =
+    let inv = c.loop.invariant in
+    let v = g.T.Tx.view c.args.tx.now in
+    let w = g.T.Tx.view c.loop.tx in
+    let body = numbered c.args.body.now in
+    let same = plan_is c.args.body.now c.as_slice.result.now c.as_slice.ensures.value in
+    let runs = try_starts w.client body inv.runs.0 c.loop.name w.seen (body.tries - c.loop.counter) inv.runs.1 in (
+      omega (arith, ap weight same),
+      (within.0, (within.1, (search rules, (search rules, (runs, (fits_try v.client w.client v.seen c.args.of.now c.loop.name body.plan (plan_of c.as_slice.result.now) inv.goes.joined inv.goes.root inv.runs.1.child same c.requires.may.fits, inv.met)))))),
+    )
+
+pub branch::branch_tries-steps-requires-2 : goal.branch::branch_tries-steps-requires-2
+branch::branch_tries-steps-requires-2 g t c κs within =
+    let inv = c.loop.invariant in
+    let v = g.T.Tx.view c.args.tx.now in
+    let w = g.T.Tx.view c.loop.tx in
+    let body = numbered c.args.body.now in
+    let same = plan_is c.args.body.now c.as_slice-2.result.now c.as_slice-2.ensures.value in
+    let runs = try_starts w.client body inv.runs.0 c.loop.name w.seen (body.tries - c.loop.counter) inv.runs.1 in (
+      omega (arith, ap weight same),
+      (within.0, (within.1, (search rules, (search rules, (runs, (fits_try v.client w.client v.seen c.args.of.now c.loop.name body.plan (plan_of c.as_slice-2.result.now) inv.goes.joined inv.goes.root inv.runs.1.child same c.requires.may.fits, inv.met)))))),
+    )
+
+pub branch::branch_tries-returns-in_err-finish-clause-joined : goal.branch::branch_tries-returns-in_err-finish-clause-joined
+branch::branch_tries-returns-in_err-finish-clause-joined g t c =
+    let inv = c.loop.invariant in
+    let v = g.T.Tx.view c.args.tx.now in
+    let w = g.T.Tx.view c.loop.tx in
+    let y = g.T.Tx.view c.steps.new.tx in
+    let body = numbered c.args.body.now in
+    let left = body.tries - c.loop.counter in
+    let cut = subst (CutOff y.client c.loop.name w.seen y.seen) (plan_is c.args.body.now c.as_slice.result.now c.as_slice.ensures.value) c.in_err-finish.ensures.cut in
+    (goes_on v.client v.seen c.args.of.now w.client y.client w.seen y.seen inv.goes c.steps.ensures.joined cut.leaves.later).joined
+
+pub branch::branch_tries-returns-in_err-finish-clause-later : goal.branch::branch_tries-returns-in_err-finish-clause-later
+branch::branch_tries-returns-in_err-finish-clause-later g t c =
+    let inv = c.loop.invariant in
+    let v = g.T.Tx.view c.args.tx.now in
+    let w = g.T.Tx.view c.loop.tx in
+    let y = g.T.Tx.view c.steps.new.tx in
+    let body = numbered c.args.body.now in
+    let left = body.tries - c.loop.counter in
+    let cut = subst (CutOff y.client c.loop.name w.seen y.seen) (plan_is c.args.body.now c.as_slice.result.now c.as_slice.ensures.value) c.in_err-finish.ensures.cut in
+    (goes_on v.client v.seen c.args.of.now w.client y.client w.seen y.seen inv.goes c.steps.ensures.joined cut.leaves.later).later
+
+pub branch::branch_tries-returns-in_err-finish-clause-cut : goal.branch::branch_tries-returns-in_err-finish-clause-cut
+branch::branch_tries-returns-in_err-finish-clause-cut g t c =
+    let inv = c.loop.invariant in
+    let v = g.T.Tx.view c.args.tx.now in
+    let w = g.T.Tx.view c.loop.tx in
+    let y = g.T.Tx.view c.steps.new.tx in
+    let body = numbered c.args.body.now in
+    let left = body.tries - c.loop.counter in
+    let cut = subst (CutOff y.client c.loop.name w.seen y.seen) (plan_is c.args.body.now c.as_slice.result.now c.as_slice.ensures.value) c.in_err-finish.ensures.cut in
+    let u = runs_joined w.client y.client body inv.runs.0 c.loop.name w.seen left c.steps.ensures.joined inv.runs.1 in
+    any_err _ c.from_residual.result (tries_cut_off y.client body inv.runs.0 c.loop.name w.seen y.seen left u (try_cut_off y.client body inv.runs.0 c.loop.name w.seen left u y.seen cut))
+
+pub branch::branch_tries-returns-in_err-finish-2-clause-joined : goal.branch::branch_tries-returns-in_err-finish-2-clause-joined
+branch::branch_tries-returns-in_err-finish-2-clause-joined g t c =
+    let inv = c.loop.invariant in
+    let v = g.T.Tx.view c.args.tx.now in
+    let w = g.T.Tx.view c.loop.tx in
+    let y = g.T.Tx.view c.steps-2.new.tx in
+    let body = numbered c.args.body.now in
+    let left = body.tries - c.loop.counter in
+    let cut = subst (CutOff y.client c.loop.name w.seen y.seen) (plan_is c.args.body.now c.as_slice-2.result.now c.as_slice-2.ensures.value) c.in_err-finish-2.ensures.cut in
+    (goes_on v.client v.seen c.args.of.now w.client y.client w.seen y.seen inv.goes c.steps-2.ensures.joined cut.leaves.later).joined
+
+pub branch::branch_tries-returns-in_err-finish-2-clause-later : goal.branch::branch_tries-returns-in_err-finish-2-clause-later
+branch::branch_tries-returns-in_err-finish-2-clause-later g t c =
+    let inv = c.loop.invariant in
+    let v = g.T.Tx.view c.args.tx.now in
+    let w = g.T.Tx.view c.loop.tx in
+    let y = g.T.Tx.view c.steps-2.new.tx in
+    let body = numbered c.args.body.now in
+    let left = body.tries - c.loop.counter in
+    let cut = subst (CutOff y.client c.loop.name w.seen y.seen) (plan_is c.args.body.now c.as_slice-2.result.now c.as_slice-2.ensures.value) c.in_err-finish-2.ensures.cut in
+    (goes_on v.client v.seen c.args.of.now w.client y.client w.seen y.seen inv.goes c.steps-2.ensures.joined cut.leaves.later).later
+
+pub branch::branch_tries-returns-in_err-finish-2-clause-cut : goal.branch::branch_tries-returns-in_err-finish-2-clause-cut
+branch::branch_tries-returns-in_err-finish-2-clause-cut g t c =
+    let inv = c.loop.invariant in
+    let v = g.T.Tx.view c.args.tx.now in
+    let w = g.T.Tx.view c.loop.tx in
+    let y = g.T.Tx.view c.steps-2.new.tx in
+    let body = numbered c.args.body.now in
+    let left = body.tries - c.loop.counter in
+    let cut = subst (CutOff y.client c.loop.name w.seen y.seen) (plan_is c.args.body.now c.as_slice-2.result.now c.as_slice-2.ensures.value) c.in_err-finish-2.ensures.cut in
+    let u = runs_joined w.client y.client body inv.runs.0 c.loop.name w.seen left c.steps-2.ensures.joined inv.runs.1 in
+    any_err _ c.from_residual-in_err-finish-2.result (tries_cut_off y.client body inv.runs.0 c.loop.name w.seen y.seen left u (try_cut_off y.client body inv.runs.0 c.loop.name w.seen left u y.seen cut))
+
+pub branch::branch_tries-returns-then-not-is_again-clause-joined : goal.branch::branch_tries-returns-then-not-is_again-clause-joined
+branch::branch_tries-returns-then-not-is_again-clause-joined g t c =
+    let inv = c.loop.invariant in
+    let v = g.T.Tx.view c.args.tx.now in
+    let w = g.T.Tx.view c.loop.tx in
+    let y = g.T.Tx.view c.steps.new.tx in
+    let body = numbered c.args.body.now in
+    let left = body.tries - c.loop.counter in
+    let ended = subst (λ p. Ended y.client c.loop.name w.seen y.seen p c.in_ok-finish.finish) (plan_is c.args.body.now c.as_slice.result.now c.as_slice.ensures.value) c.in_ok-finish.ensures.ok in
+    let one = ran_one w.client y.client body inv.runs.0 c.loop.name w.seen y.seen left c.in_ok-finish.finish c.steps.ensures.joined inv.runs.1 ended in
+    (goes_on v.client v.seen c.args.of.now w.client y.client w.seen y.seen inv.goes c.steps.ensures.joined ended.leaves.later).joined
+
+pub branch::branch_tries-returns-then-not-is_again-clause-later : goal.branch::branch_tries-returns-then-not-is_again-clause-later
+branch::branch_tries-returns-then-not-is_again-clause-later g t c =
+    let inv = c.loop.invariant in
+    let v = g.T.Tx.view c.args.tx.now in
+    let w = g.T.Tx.view c.loop.tx in
+    let y = g.T.Tx.view c.steps.new.tx in
+    let body = numbered c.args.body.now in
+    let left = body.tries - c.loop.counter in
+    let ended = subst (λ p. Ended y.client c.loop.name w.seen y.seen p c.in_ok-finish.finish) (plan_is c.args.body.now c.as_slice.result.now c.as_slice.ensures.value) c.in_ok-finish.ensures.ok in
+    let one = ran_one w.client y.client body inv.runs.0 c.loop.name w.seen y.seen left c.in_ok-finish.finish c.steps.ensures.joined inv.runs.1 ended in
+    (goes_on v.client v.seen c.args.of.now w.client y.client w.seen y.seen inv.goes c.steps.ensures.joined ended.leaves.later).later
+
+pub branch::branch_tries-returns-then-not-is_again-clause-ok : goal.branch::branch_tries-returns-then-not-is_again-clause-ok
+branch::branch_tries-returns-then-not-is_again-clause-ok g t c =
+    let inv = c.loop.invariant in
+    let v = g.T.Tx.view c.args.tx.now in
+    let w = g.T.Tx.view c.loop.tx in
+    let y = g.T.Tx.view c.steps.new.tx in
+    let body = numbered c.args.body.now in
+    let left = body.tries - c.loop.counter in
+    let ended = subst (λ p. Ended y.client c.loop.name w.seen y.seen p c.in_ok-finish.finish) (plan_is c.args.body.now c.as_slice.result.now c.as_slice.ensures.value) c.in_ok-finish.ensures.ok in
+    let one = ran_one w.client y.client body inv.runs.0 c.loop.name w.seen y.seen left c.in_ok-finish.finish c.steps.ensures.joined inv.runs.1 ended in
+    subst (TriesEnd y.client body y.seen) (sym c.last_came.ensures) (tries_end y.client body inv.runs.0 c.loop.name w.seen y.seen left one.0 c.in_ok-finish.finish ended.leaves.later one.1 (λ again. absurd (true≢false (sym again ∙ (sym c.is_again.ensures ∙ c.if-not-is_again.true)))))
+
+pub branch::branch_tries-begin-requires-clause-parent : goal.branch::branch_tries-begin-requires-clause-parent
+branch::branch_tries-begin-requires-clause-parent g t c =
+    let inv = c.loop.invariant in
+    let v = g.T.Tx.view c.args.tx.now in
+    let w = g.T.Tx.view c.loop.tx in
+    let y = g.T.Tx.view c.steps.new.tx in
+    let body = numbered c.args.body.now in
+    let left = body.tries - c.loop.counter in
+    let ended = subst (λ p. Ended y.client c.loop.name w.seen y.seen p c.in_ok-finish.finish) (plan_is c.args.body.now c.as_slice.result.now c.as_slice.ensures.value) c.in_ok-finish.ensures.ok in
+    let one = ran_one w.client y.client body inv.runs.0 c.loop.name w.seen y.seen left c.in_ok-finish.finish c.steps.ensures.joined inv.runs.1 ended in
+    inr (goes_on v.client v.seen c.args.of.now w.client y.client w.seen y.seen inv.goes c.steps.ensures.joined ended.leaves.later).parent
+
+pub branch::branch_tries-returns-in-Memory-clause-joined : goal.branch::branch_tries-returns-in-Memory-clause-joined
+branch::branch_tries-returns-in-Memory-clause-joined g t c =
+    let inv = c.loop.invariant in
+    let v = g.T.Tx.view c.args.tx.now in
+    let w = g.T.Tx.view c.loop.tx in
+    let y = g.T.Tx.view c.steps.new.tx in
+    let body = numbered c.args.body.now in
+    let left = body.tries - c.loop.counter in
+    let ended = subst (λ p. Ended y.client c.loop.name w.seen y.seen p c.in_ok-finish.finish) (plan_is c.args.body.now c.as_slice.result.now c.as_slice.ensures.value) c.in_ok-finish.ensures.ok in
+    let one = ran_one w.client y.client body inv.runs.0 c.loop.name w.seen y.seen left c.in_ok-finish.finish c.steps.ensures.joined inv.runs.1 ended in
+    let further = tried_further y.client body inv.runs.0 c.loop.name w.seen y.seen left c.in_ok-finish.finish one.0 (sym c.is_again.ensures ∙ c.if-not-is_again.false) one.1 in
+    let some = subst (BranchLeft y.client body inv.runs.0 y.seen (Some c.loop.name)) (one_less body.tries c.loop.counter (subst (λ n. c.loop.counter < n) (sym (tries_of c.args.body.now)) c.loop-test.true)) further in
+    let x = g.T.Tx.view c.begin.new.self in
+    let refused = refused_made y.client c.args.of.now body y.seen x.seen c.in-Err.why c.in-Err.ensures.err in
+    let m = subst (λ d. Made d [] y.seen x.seen) (sym c.begin.ensures.client) refused in
+    (goes_on v.client v.seen c.args.of.now y.client x.client y.seen x.seen (goes_on v.client v.seen c.args.of.now w.client y.client w.seen y.seen inv.goes c.steps.ensures.joined ended.leaves.later) (joined_same _ _ _ c.begin.ensures.client) (made_later x.client [] y.seen x.seen m)).joined
+
+pub branch::branch_tries-returns-in-Memory-clause-later : goal.branch::branch_tries-returns-in-Memory-clause-later
+branch::branch_tries-returns-in-Memory-clause-later g t c =
+    let inv = c.loop.invariant in
+    let v = g.T.Tx.view c.args.tx.now in
+    let w = g.T.Tx.view c.loop.tx in
+    let y = g.T.Tx.view c.steps.new.tx in
+    let body = numbered c.args.body.now in
+    let left = body.tries - c.loop.counter in
+    let ended = subst (λ p. Ended y.client c.loop.name w.seen y.seen p c.in_ok-finish.finish) (plan_is c.args.body.now c.as_slice.result.now c.as_slice.ensures.value) c.in_ok-finish.ensures.ok in
+    let one = ran_one w.client y.client body inv.runs.0 c.loop.name w.seen y.seen left c.in_ok-finish.finish c.steps.ensures.joined inv.runs.1 ended in
+    let further = tried_further y.client body inv.runs.0 c.loop.name w.seen y.seen left c.in_ok-finish.finish one.0 (sym c.is_again.ensures ∙ c.if-not-is_again.false) one.1 in
+    let some = subst (BranchLeft y.client body inv.runs.0 y.seen (Some c.loop.name)) (one_less body.tries c.loop.counter (subst (λ n. c.loop.counter < n) (sym (tries_of c.args.body.now)) c.loop-test.true)) further in
+    let x = g.T.Tx.view c.begin.new.self in
+    let refused = refused_made y.client c.args.of.now body y.seen x.seen c.in-Err.why c.in-Err.ensures.err in
+    let m = subst (λ d. Made d [] y.seen x.seen) (sym c.begin.ensures.client) refused in
+    (goes_on v.client v.seen c.args.of.now y.client x.client y.seen x.seen (goes_on v.client v.seen c.args.of.now w.client y.client w.seen y.seen inv.goes c.steps.ensures.joined ended.leaves.later) (joined_same _ _ _ c.begin.ensures.client) (made_later x.client [] y.seen x.seen m)).later
+
+pub branch::branch_tries-returns-in-Memory-clause-cut : goal.branch::branch_tries-returns-in-Memory-clause-cut
+branch::branch_tries-returns-in-Memory-clause-cut g t c =
+    let inv = c.loop.invariant in
+    let v = g.T.Tx.view c.args.tx.now in
+    let w = g.T.Tx.view c.loop.tx in
+    let y = g.T.Tx.view c.steps.new.tx in
+    let body = numbered c.args.body.now in
+    let left = body.tries - c.loop.counter in
+    let ended = subst (λ p. Ended y.client c.loop.name w.seen y.seen p c.in_ok-finish.finish) (plan_is c.args.body.now c.as_slice.result.now c.as_slice.ensures.value) c.in_ok-finish.ensures.ok in
+    let one = ran_one w.client y.client body inv.runs.0 c.loop.name w.seen y.seen left c.in_ok-finish.finish c.steps.ensures.joined inv.runs.1 ended in
+    let further = tried_further y.client body inv.runs.0 c.loop.name w.seen y.seen left c.in_ok-finish.finish one.0 (sym c.is_again.ensures ∙ c.if-not-is_again.false) one.1 in
+    let some = subst (BranchLeft y.client body inv.runs.0 y.seen (Some c.loop.name)) (one_less body.tries c.loop.counter (subst (λ n. c.loop.counter < n) (sym (tries_of c.args.body.now)) c.loop-test.true)) further in
+    let x = g.T.Tx.view c.begin.new.self in
+    let refused = refused_made y.client c.args.of.now body y.seen x.seen c.in-Err.why c.in-Err.ensures.err in
+    let m = subst (λ d. Made d [] y.seen x.seen) (sym c.begin.ensures.client) refused in
+    subst (λ d. RanTries Reach.cut_off (Unit {0}) d body x.seen) (sym c.begin.ensures.client) (tries_stop y.client body inv.runs.0 y.seen x.seen (Some c.loop.name) _ some refused Reach.cut_off)
+
+pub branch::branch_tries-returns-in-Room-clause-joined : goal.branch::branch_tries-returns-in-Room-clause-joined
+branch::branch_tries-returns-in-Room-clause-joined g t c =
+    let inv = c.loop.invariant in
+    let v = g.T.Tx.view c.args.tx.now in
+    let w = g.T.Tx.view c.loop.tx in
+    let y = g.T.Tx.view c.steps.new.tx in
+    let body = numbered c.args.body.now in
+    let left = body.tries - c.loop.counter in
+    let ended = subst (λ p. Ended y.client c.loop.name w.seen y.seen p c.in_ok-finish.finish) (plan_is c.args.body.now c.as_slice.result.now c.as_slice.ensures.value) c.in_ok-finish.ensures.ok in
+    let one = ran_one w.client y.client body inv.runs.0 c.loop.name w.seen y.seen left c.in_ok-finish.finish c.steps.ensures.joined inv.runs.1 ended in
+    let further = tried_further y.client body inv.runs.0 c.loop.name w.seen y.seen left c.in_ok-finish.finish one.0 (sym c.is_again.ensures ∙ c.if-not-is_again.false) one.1 in
+    let some = subst (BranchLeft y.client body inv.runs.0 y.seen (Some c.loop.name)) (one_less body.tries c.loop.counter (subst (λ n. c.loop.counter < n) (sym (tries_of c.args.body.now)) c.loop-test.true)) further in
+    let x = g.T.Tx.view c.begin.new.self in
+    let refused = refused_made y.client c.args.of.now body y.seen x.seen c.in-Err.why c.in-Err.ensures.err in
+    let m = subst (λ d. Made d [] y.seen x.seen) (sym c.begin.ensures.client) refused in
+    (goes_on v.client v.seen c.args.of.now y.client x.client y.seen x.seen (goes_on v.client v.seen c.args.of.now w.client y.client w.seen y.seen inv.goes c.steps.ensures.joined ended.leaves.later) (joined_same _ _ _ c.begin.ensures.client) (made_later x.client [] y.seen x.seen m)).joined
+
+pub branch::branch_tries-returns-in-Room-clause-later : goal.branch::branch_tries-returns-in-Room-clause-later
+branch::branch_tries-returns-in-Room-clause-later g t c =
+    let inv = c.loop.invariant in
+    let v = g.T.Tx.view c.args.tx.now in
+    let w = g.T.Tx.view c.loop.tx in
+    let y = g.T.Tx.view c.steps.new.tx in
+    let body = numbered c.args.body.now in
+    let left = body.tries - c.loop.counter in
+    let ended = subst (λ p. Ended y.client c.loop.name w.seen y.seen p c.in_ok-finish.finish) (plan_is c.args.body.now c.as_slice.result.now c.as_slice.ensures.value) c.in_ok-finish.ensures.ok in
+    let one = ran_one w.client y.client body inv.runs.0 c.loop.name w.seen y.seen left c.in_ok-finish.finish c.steps.ensures.joined inv.runs.1 ended in
+    let further = tried_further y.client body inv.runs.0 c.loop.name w.seen y.seen left c.in_ok-finish.finish one.0 (sym c.is_again.ensures ∙ c.if-not-is_again.false) one.1 in
+    let some = subst (BranchLeft y.client body inv.runs.0 y.seen (Some c.loop.name)) (one_less body.tries c.loop.counter (subst (λ n. c.loop.counter < n) (sym (tries_of c.args.body.now)) c.loop-test.true)) further in
+    let x = g.T.Tx.view c.begin.new.self in
+    let refused = refused_made y.client c.args.of.now body y.seen x.seen c.in-Err.why c.in-Err.ensures.err in
+    let m = subst (λ d. Made d [] y.seen x.seen) (sym c.begin.ensures.client) refused in
+    (goes_on v.client v.seen c.args.of.now y.client x.client y.seen x.seen (goes_on v.client v.seen c.args.of.now w.client y.client w.seen y.seen inv.goes c.steps.ensures.joined ended.leaves.later) (joined_same _ _ _ c.begin.ensures.client) (made_later x.client [] y.seen x.seen m)).later
+
+pub branch::branch_tries-returns-in-Room-clause-cut : goal.branch::branch_tries-returns-in-Room-clause-cut
+branch::branch_tries-returns-in-Room-clause-cut g t c =
+    let inv = c.loop.invariant in
+    let v = g.T.Tx.view c.args.tx.now in
+    let w = g.T.Tx.view c.loop.tx in
+    let y = g.T.Tx.view c.steps.new.tx in
+    let body = numbered c.args.body.now in
+    let left = body.tries - c.loop.counter in
+    let ended = subst (λ p. Ended y.client c.loop.name w.seen y.seen p c.in_ok-finish.finish) (plan_is c.args.body.now c.as_slice.result.now c.as_slice.ensures.value) c.in_ok-finish.ensures.ok in
+    let one = ran_one w.client y.client body inv.runs.0 c.loop.name w.seen y.seen left c.in_ok-finish.finish c.steps.ensures.joined inv.runs.1 ended in
+    let further = tried_further y.client body inv.runs.0 c.loop.name w.seen y.seen left c.in_ok-finish.finish one.0 (sym c.is_again.ensures ∙ c.if-not-is_again.false) one.1 in
+    let some = subst (BranchLeft y.client body inv.runs.0 y.seen (Some c.loop.name)) (one_less body.tries c.loop.counter (subst (λ n. c.loop.counter < n) (sym (tries_of c.args.body.now)) c.loop-test.true)) further in
+    let x = g.T.Tx.view c.begin.new.self in
+    let refused = refused_made y.client c.args.of.now body y.seen x.seen c.in-Err.why c.in-Err.ensures.err in
+    let m = subst (λ d. Made d [] y.seen x.seen) (sym c.begin.ensures.client) refused in
+    subst (λ d. RanTries Reach.cut_off (Unit {0}) d body x.seen) (sym c.begin.ensures.client) (tries_stop y.client body inv.runs.0 y.seen x.seen (Some c.loop.name) _ some refused Reach.cut_off)
+
+pub branch::branch_tries-returns-in_default : goal.branch::branch_tries-returns-in_default
+branch::branch_tries-returns-in_default g t c =
+    let inv = c.loop.invariant in
+    let v = g.T.Tx.view c.args.tx.now in
+    let w = g.T.Tx.view c.loop.tx in
+    let y = g.T.Tx.view c.steps.new.tx in
+    let body = numbered c.args.body.now in
+    let left = body.tries - c.loop.counter in
+    let ended = subst (λ p. Ended y.client c.loop.name w.seen y.seen p c.in_ok-finish.finish) (plan_is c.args.body.now c.as_slice.result.now c.as_slice.ensures.value) c.in_ok-finish.ensures.ok in
+    let one = ran_one w.client y.client body inv.runs.0 c.loop.name w.seen y.seen left c.in_ok-finish.finish c.steps.ensures.joined inv.runs.1 ended in
+    let further = tried_further y.client body inv.runs.0 c.loop.name w.seen y.seen left c.in_ok-finish.finish one.0 (sym c.is_again.ensures ∙ c.if-not-is_again.false) one.1 in
+    let some = subst (BranchLeft y.client body inv.runs.0 y.seen (Some c.loop.name)) (one_less body.tries c.loop.counter (subst (λ n. c.loop.counter < n) (sym (tries_of c.args.body.now)) c.loop-test.true)) further in
+    let x = g.T.Tx.view c.begin.new.self in
+    let refused = refused_made y.client c.args.of.now body y.seen x.seen c.in-Err.why c.in-Err.ensures.err in
+    let m = subst (λ d. Made d [] y.seen x.seen) (sym c.begin.ensures.client) refused in
+    let goes = goes_on v.client v.seen c.args.of.now y.client x.client y.seen x.seen (goes_on v.client v.seen c.args.of.now w.client y.client w.seen y.seen inv.goes c.steps.ensures.joined ended.leaves.later) (joined_same _ _ _ c.begin.ensures.client) (made_later x.client [] y.seen x.seen m) in
+    record {
+      met = c.begin.ensures.met;
+      joined = goes.joined;
+      later = goes.later;
+      ok = (
+        subst (λ d. RanTries Reach.to_the_end (Unit {0}) d body x.seen) (sym c.begin.ensures.client) (tries_stop y.client body inv.runs.0 y.seen x.seen (Some c.loop.name) _ some refused Reach.to_the_end),
+        subst (λ n. Refuses x.seen n c.in-Err.why × IsRefusal c.in-Err.why) (sym goes.root) (why_refused y.client c.args.of.now y.seen x.seen c.in-Err.why c.in-Err.ensures.err c.in_default.not-Memory c.in_default.not-Room),
+        subst (λ d. AreTriesOurs d x.seen → was_tried (mine d x.seen) false body.tries (map Deed.child (tries_by d x.seen)) ≡ false) (sym c.begin.ensures.client) (try_was_due y.client body inv.runs.0 y.seen x.seen (Some c.loop.name) _ some refused),
+      );
+      cut = tt;
+      room = tt;
+    }
+
+pub branch::branch_tries-loop-preserved : goal.branch::branch_tries-loop-preserved
+branch::branch_tries-loop-preserved g t c =
+    let inv = c.loop.invariant in
+    let v = g.T.Tx.view c.args.tx.now in
+    let w = g.T.Tx.view c.loop.tx in
+    let y = g.T.Tx.view c.steps.new.tx in
+    let body = numbered c.args.body.now in
+    let left = body.tries - c.loop.counter in
+    let ended = subst (λ p. Ended y.client c.loop.name w.seen y.seen p c.in_ok-finish.finish) (plan_is c.args.body.now c.as_slice.result.now c.as_slice.ensures.value) c.in_ok-finish.ensures.ok in
+    let one = ran_one w.client y.client body inv.runs.0 c.loop.name w.seen y.seen left c.in_ok-finish.finish c.steps.ensures.joined inv.runs.1 ended in
+    let further = tried_further y.client body inv.runs.0 c.loop.name w.seen y.seen left c.in_ok-finish.finish one.0 (sym c.is_again.ensures ∙ c.if-not-is_again.false) one.1 in
+    let some = subst (BranchLeft y.client body inv.runs.0 y.seen (Some c.loop.name)) (one_less body.tries c.loop.counter (subst (λ n. c.loop.counter < n) (sym (tries_of c.args.body.now)) c.loop-test.true)) further in
+    let x = g.T.Tx.view c.begin.new.self in
+    let m = subst (λ d. Made d (by_client d (event.Start c.in-Ok.next (kind.User d.session c.args.body.now.number)) ∷ []) y.seen x.seen) (sym c.begin.ensures.client) c.in-Ok.ensures.ok in
+    record {
+      met = c.begin.ensures.met;
+      goes = goes_on v.client v.seen c.args.of.now y.client x.client y.seen x.seen (goes_on v.client v.seen c.args.of.now w.client y.client w.seen y.seen inv.goes c.steps.ensures.joined ended.leaves.later) (joined_same _ _ _ c.begin.ensures.client) (made_later x.client _ y.seen x.seen m);
+      runs = (
+        inv.runs.0,
+        next_runs x.client body inv.runs.0 c.in-Ok.next y.seen x.seen (Some c.loop.name) _ (subst (λ d. BranchLeft d body inv.runs.0 y.seen (Some c.loop.name) (suc (body.tries - (c.loop.counter + 1)))) (sym c.begin.ensures.client) some)
+            (ap (λ r. is_child r c.in-Ok.next) (goes_on v.client v.seen c.args.of.now y.client x.client y.seen x.seen (goes_on v.client v.seen c.args.of.now w.client y.client w.seen y.seen inv.goes c.steps.ensures.joined ended.leaves.later) (joined_same _ _ _ c.begin.ensures.client) (made_later x.client _ y.seen x.seen m)).root ∙ c.in-Ok.ensures.child)
+            (subst (λ k. Made x.client (by_client x.client (event.Start c.in-Ok.next (kind.User x.client.session k)) ∷ []) y.seen x.seen) (sym (number_of c.args.body.now)) m),
+      );
+    }
+
+pub branch::branch_tries-returns-clause-joined : goal.branch::branch_tries-returns-clause-joined
+branch::branch_tries-returns-clause-joined g t c =
+    let inv = c.loop.invariant in
+    let v = g.T.Tx.view c.args.tx.now in
+    let w = g.T.Tx.view c.loop.tx in
+    let y = g.T.Tx.view c.steps-2.new.tx in
+    let body = numbered c.args.body.now in
+    let left = body.tries - c.loop.counter in
+    let ended = subst (λ p. Ended y.client c.loop.name w.seen y.seen p c.in_ok-finish-2.finish) (plan_is c.args.body.now c.as_slice-2.result.now c.as_slice-2.ensures.value) c.in_ok-finish-2.ensures.ok in
+    (goes_on v.client v.seen c.args.of.now w.client y.client w.seen y.seen inv.goes c.steps-2.ensures.joined ended.leaves.later).joined
+
+pub branch::branch_tries-returns-clause-later : goal.branch::branch_tries-returns-clause-later
+branch::branch_tries-returns-clause-later g t c =
+    let inv = c.loop.invariant in
+    let v = g.T.Tx.view c.args.tx.now in
+    let w = g.T.Tx.view c.loop.tx in
+    let y = g.T.Tx.view c.steps-2.new.tx in
+    let body = numbered c.args.body.now in
+    let left = body.tries - c.loop.counter in
+    let ended = subst (λ p. Ended y.client c.loop.name w.seen y.seen p c.in_ok-finish-2.finish) (plan_is c.args.body.now c.as_slice-2.result.now c.as_slice-2.ensures.value) c.in_ok-finish-2.ensures.ok in
+    (goes_on v.client v.seen c.args.of.now w.client y.client w.seen y.seen inv.goes c.steps-2.ensures.joined ended.leaves.later).later
+
+pub branch::branch_tries-returns-clause-ok : goal.branch::branch_tries-returns-clause-ok
+branch::branch_tries-returns-clause-ok g t c =
+    let inv = c.loop.invariant in
+    let v = g.T.Tx.view c.args.tx.now in
+    let w = g.T.Tx.view c.loop.tx in
+    let y = g.T.Tx.view c.steps-2.new.tx in
+    let body = numbered c.args.body.now in
+    let left = body.tries - c.loop.counter in
+    let ended = subst (λ p. Ended y.client c.loop.name w.seen y.seen p c.in_ok-finish-2.finish) (plan_is c.args.body.now c.as_slice-2.result.now c.as_slice-2.ensures.value) c.in_ok-finish-2.ensures.ok in
+    let one = ran_one w.client y.client body inv.runs.0 c.loop.name w.seen y.seen left c.in_ok-finish-2.finish c.steps-2.ensures.joined inv.runs.1 ended in
+    let over : body.tries ≤ c.loop.counter = subst (λ n. n ≤ c.loop.counter) (sym (tries_of c.args.body.now)) c.loop-test.false in
+    subst (TriesEnd y.client body y.seen) (sym c.last_came-2.ensures) (tries_end y.client body inv.runs.0 c.loop.name w.seen y.seen left one.0 c.in_ok-finish-2.finish ended.leaves.later one.1 (λ again. let e : left ≡ 0 = omega (arith, over) in e))
+
+-- BRANCHES AT ONCE
+
+pub row::run_all-for_each_mut-requires-clause-accepts : goal.row::run_all-for_each_mut-requires-clause-accepts
+row::run_all-for_each_mut-requires-clause-accepts g t c κs within i p lt at =
+    let view = g.T.Tx.view in
+    let branches = c.args.branches.now in
+    let heavy = row_heavier (λ b. numbered b.body.now) branches i p.now lt in (
+      omega (arith, ap (λ b. weight (numbered b.body.now).plan) at, heavy),
+      (
+        λ a m. m,
+        (λ a m. m, (subst (λ b. MayRun c.args.of.now (stands view b)) (sym at) (each_at (stands view) (MayRun c.args.of.now) branches i p.now lt c.requires.may), (search rules, search rules))),
+      ),
+    )
+
+pub row::run_all-for_each_mut-returns : goal.row::run_all-for_each_mut-returns
+row::run_all-for_each_mut-returns g t c = c.run_branch.ensures.ran
+
+pub row::run_all-returns : goal.row::run_all-returns
+row::run_all-returns g t c =
+    let view = g.T.Tx.view in
+    record {
+      ran = pairs_at (stands view) HasRun c.args.branches.now c.for_each_mut.new.s c.for_each_mut.auto.s (λ i d lt.
+          let r = (c.for_each_mut.ensures i d lt).1 in
+          subst (λ (p : Held g.row.T.Denot × Held g.row.T.Denot). HasRun (stands view p.0) (stands view p.1)) (λ j. (r.argument_is j, r.left j)) r.call);
+    }
+
+pub row::par-returns-in_default-clause-joined : goal.row::par-returns-in_default-clause-joined
+row::par-returns-in_default-clause-joined g t c = joined_itself (g.T.Tx.view c.args.tx.now).client (g.T.Tx.view c.args.tx.now).seen
+
+pub row::par-returns-in_default-clause-cut : goal.row::par-returns-in_default-clause-cut
+row::par-returns-in_default-clause-cut g t c =
+    let v = g.T.Tx.view c.args.tx.now in
+    λ rest. cut_still v.client c.args.of.now v.seen v.seen c.requires.runs (made_itself v.client v.seen c.requires.runs.legal) (row_step (map numbered c.args.bodies.now) rest)
+
+pub row::par-begin_all-begun-requires-clause-depth : goal.row::par-begin_all-begun-requires-clause-depth
+row::par-begin_all-begun-requires-clause-depth g t c = row_depth (g.T.Tx.view c.args.tx.now).client c.args.of.now (map numbered c.args.bodies.now) c.requires.fits
+
+pub row::par-show_all-requires-clause-all_met : goal.row::par-show_all-requires-clause-all_met
+row::par-show_all-requires-clause-all_met g t c =
+    let st = stands g.T.Tx.view in
+    subst (λ l. AllByRecursion (λ (b : Stands). MeetsLink b.view) (map st l)) (sym c.as_mut_slice.ensures.value) c.begin_all-begun.ensures.all_met
+
+pub row::par-run_all-requires : goal.row::par-run_all-requires
+row::par-run_all-requires g t c κs within =
+    let view = g.T.Tx.view in
+    let st = stands view in
+    let of = c.args.of.now in
+    let v = view c.args.tx.now in
+    let w1 = view c.begin_all-begun.new.tx in
+    let w2 = view c.show_all.new.tx in
+    let items = c.begin_all-begun.new.branches.items in
+    let n1 = c.show_all.new.branches in
+    let shown : InPairs (WasShown w1.seen) (map st items) (map st n1) = subst (λ l. InPairs (WasShown w1.seen) (map st l) (map st n1)) c.as_mut_slice.ensures.value c.show_all.ensures.shown in
+    let long1 = c.show_all.auto.branches ∙ c.as_mut_slice.ensures.len in
+    let r1 = c.as_mut_slice-in-Ok-begun.result.now in
+    let back1 : r1 ≡ n1 = c.as_mut_slice-in-Ok-begun.ensures.value ∙ kept_whole _ n1 _ long1 in
+    let may = row_may v w1 of (map st items) (map st n1) (map numbered c.args.bodies.now) c.requires.runs c.requires.fits (map_twice (λ (b : Stands). b.body) st items ∙ c.in-Ok-begun.ensures.all) c.in-Ok-begun.ensures.ok shown in
+    let same : map (λ b. numbered b.body.now) r1 ≡ map numbered c.args.bodies.now =
+    ap (map (λ b. numbered b.body.now)) back1 ∙ sym (map_twice (λ (b : Stands). b.body) st n1) ∙ shown_bodies w1.seen (map st items) (map st n1) shown ∙ map_twice (λ (b : Stands). b.body) st items ∙ c.in-Ok-begun.ensures.all
+    in (
+      omega (arith, ap (λ l. weight (row_of l)) same),
+      (within.0, (within.1, (search rules, (search rules, subst (λ l. AllByRecursion (MayRun of) (map st l)) (sym back1) may)))),
+    )
+
+pub row::par-merge_all-requires-clause-out : goal.row::par-merge_all-requires-clause-out
+row::par-merge_all-requires-clause-out g t c =
+    let view = g.T.Tx.view in
+    let st = stands view in
+    let of = c.args.of.now in
+    let v = view c.args.tx.now in
+    let w1 = view c.begin_all-begun.new.tx in
+    let w2 = view c.show_all.new.tx in
+    let items = c.begin_all-begun.new.branches.items in
+    let n1 = c.show_all.new.branches in
+    let shown : InPairs (WasShown w1.seen) (map st items) (map st n1) = subst (λ l. InPairs (WasShown w1.seen) (map st l) (map st n1)) c.as_mut_slice.ensures.value c.show_all.ensures.shown in
+    let long1 = c.show_all.auto.branches ∙ c.as_mut_slice.ensures.len in
+    let r1 = c.as_mut_slice-in-Ok-begun.result.now in
+    let back1 : r1 ≡ n1 = c.as_mut_slice-in-Ok-begun.ensures.value ∙ kept_whole _ n1 _ long1 in
+    let n2 = c.run_all.new.branches in
+    let ran : InPairs HasRun (map st n1) (map st n2) = subst (λ l. InPairs HasRun (map st l) (map st n2)) back1 c.run_all.ensures.ran in
+    let long2 = c.run_all.auto.branches ∙ (ap length back1 ∙ long1) in
+    subst (λ l. AreOut w2.client.out w2.client.net (map st l)) (sym (kept_whole _ n2 _ long2))
+    (all_out of v w1 w2 (map st items) (map st n1) (map st n2) c.requires.runs.legal c.in-Ok-begun.ensures.ok shown c.show_all.ensures.client (all_become (map st n1) (map st n2) ran) (ran_met (map st n1) (map st n2) ran))
+
+pub row::par-returns-in_err-came-in-Ok-begun-clause-joined : goal.row::par-returns-in_err-came-in-Ok-begun-clause-joined
+row::par-returns-in_err-came-in-Ok-begun-clause-joined g t c =
+    let view = g.T.Tx.view in
+    let st = stands view in
+    let of = c.args.of.now in
+    let v = view c.args.tx.now in
+    let w1 = view c.begin_all-begun.new.tx in
+    let w2 = view c.show_all.new.tx in
+    let items = c.begin_all-begun.new.branches.items in
+    let n1 = c.show_all.new.branches in
+    let shown : InPairs (WasShown w1.seen) (map st items) (map st n1) = subst (λ l. InPairs (WasShown w1.seen) (map st l) (map st n1)) c.as_mut_slice.ensures.value c.show_all.ensures.shown in
+    let long1 = c.show_all.auto.branches ∙ c.as_mut_slice.ensures.len in
+    let r1 = c.as_mut_slice-in-Ok-begun.result.now in
+    let back1 : r1 ≡ n1 = c.as_mut_slice-in-Ok-begun.ensures.value ∙ kept_whole _ n1 _ long1 in
+    let n2 = c.run_all.new.branches in
+    let ran : InPairs HasRun (map st n1) (map st n2) = subst (λ l. InPairs HasRun (map st l) (map st n2)) back1 c.run_all.ensures.ran in
+    let long2 = c.run_all.auto.branches ∙ (ap length back1 ∙ long1) in
+    let w3 = view c.merge_all.new.tx in
+    let bodies = map numbered c.args.bodies.now in
+    let merged : MergedInTurn w2 (map st n2) w3 = subst (λ l. MergedInTurn w2 (map st l) w3) (kept_whole _ n2 _ long2) c.merge_all.ensures.merged in
+    let row = ran_so of v w1 w2 w3 (map st items) (map st n1) (map st n2) bodies c.requires.runs c.requires.fits (map_twice (λ (b : Stands). b.body) st items ∙ c.in-Ok-begun.ensures.all) c.in-Ok-begun.ensures.ok shown c.show_all.ensures.client c.show_all.ensures.made ran merged in
+    ran_joined of v w3 (map st n2) bodies row
+
+pub row::par-returns-in_err-came-in-Ok-begun-clause-cut : goal.row::par-returns-in_err-came-in-Ok-begun-clause-cut
+row::par-returns-in_err-came-in-Ok-begun-clause-cut g t c =
+    let view = g.T.Tx.view in
+    let st = stands view in
+    let of = c.args.of.now in
+    let v = view c.args.tx.now in
+    let w1 = view c.begin_all-begun.new.tx in
+    let w2 = view c.show_all.new.tx in
+    let items = c.begin_all-begun.new.branches.items in
+    let n1 = c.show_all.new.branches in
+    let shown : InPairs (WasShown w1.seen) (map st items) (map st n1) = subst (λ l. InPairs (WasShown w1.seen) (map st l) (map st n1)) c.as_mut_slice.ensures.value c.show_all.ensures.shown in
+    let long1 = c.show_all.auto.branches ∙ c.as_mut_slice.ensures.len in
+    let r1 = c.as_mut_slice-in-Ok-begun.result.now in
+    let back1 : r1 ≡ n1 = c.as_mut_slice-in-Ok-begun.ensures.value ∙ kept_whole _ n1 _ long1 in
+    let n2 = c.run_all.new.branches in
+    let ran : InPairs HasRun (map st n1) (map st n2) = subst (λ l. InPairs HasRun (map st l) (map st n2)) back1 c.run_all.ensures.ran in
+    let long2 = c.run_all.auto.branches ∙ (ap length back1 ∙ long1) in
+    let w3 = view c.merge_all.new.tx in
+    let bodies = map numbered c.args.bodies.now in
+    let merged : MergedInTurn w2 (map st n2) w3 = subst (λ l. MergedInTurn w2 (map st l) w3) (kept_whole _ n2 _ long2) c.merge_all.ensures.merged in
+    let row = ran_so of v w1 w2 w3 (map st items) (map st n1) (map st n2) bodies c.requires.runs c.requires.fits (map_twice (λ (b : Stands). b.body) st items ∙ c.in-Ok-begun.ensures.all) c.in-Ok-begun.ensures.ok shown c.show_all.ensures.client c.show_all.ensures.made ran merged in
+    any_err _ c.from_residual.result (ran_cut_off of v w3 (map st n2) bodies row)
+
+pub row::par-returns-in_err-came-in-Ok-begun-clause-room : goal.row::par-returns-in_err-came-in-Ok-begun-clause-room
+row::par-returns-in_err-came-in-Ok-begun-clause-room g t c =
+    let view = g.T.Tx.view in
+    let st = stands view in
+    let of = c.args.of.now in
+    let v = view c.args.tx.now in
+    let w1 = view c.begin_all-begun.new.tx in
+    let w2 = view c.show_all.new.tx in
+    let items = c.begin_all-begun.new.branches.items in
+    let n1 = c.show_all.new.branches in
+    let shown : InPairs (WasShown w1.seen) (map st items) (map st n1) = subst (λ l. InPairs (WasShown w1.seen) (map st l) (map st n1)) c.as_mut_slice.ensures.value c.show_all.ensures.shown in
+    let long1 = c.show_all.auto.branches ∙ c.as_mut_slice.ensures.len in
+    let r1 = c.as_mut_slice-in-Ok-begun.result.now in
+    let back1 : r1 ≡ n1 = c.as_mut_slice-in-Ok-begun.ensures.value ∙ kept_whole _ n1 _ long1 in
+    let n2 = c.run_all.new.branches in
+    let ran : InPairs HasRun (map st n1) (map st n2) = subst (λ l. InPairs HasRun (map st l) (map st n2)) back1 c.run_all.ensures.ran in
+    let long2 = c.run_all.auto.branches ∙ (ap length back1 ∙ long1) in
+    let w3 = view c.merge_all.new.tx in
+    let bodies = map numbered c.args.bodies.now in
+    let merged : MergedInTurn w2 (map st n2) w3 = subst (λ l. MergedInTurn w2 (map st l) w3) (kept_whole _ n2 _ long2) c.merge_all.ensures.merged in
+    let row = ran_so of v w1 w2 w3 (map st items) (map st n1) (map st n2) bodies c.requires.runs c.requires.fits (map_twice (λ (b : Stands). b.body) st items ∙ c.in-Ok-begun.ensures.all) c.in-Ok-begun.ensures.ok shown c.show_all.ensures.client c.show_all.ensures.made ran merged in
+    let came_to = ap (λ l. row_came (Ok came.Through) (map st l)) (kept_whole _ n2 _ long2) in
+    same_err (λ e. e ≡ short.Room → length w3.seen ≡ limit) c.from_residual.result c.in_err-came-in-Ok-begun.field-0.0 c.from_residual.ensures.1
+    (ran_room of v w3 (map st n2) bodies row c.in_err-came-in-Ok-begun.field-0.0 (sym came_to ∙ (sym c.merge_all.ensures.came ∙ c.in_err-came-in-Ok-begun.was)))
+
+pub row::par-behind-requires-clause-runs : goal.row::par-behind-requires-clause-runs
+row::par-behind-requires-clause-runs g t c =
+    let view = g.T.Tx.view in
+    let st = stands view in
+    let of = c.args.of.now in
+    let v = view c.args.tx.now in
+    let w1 = view c.begin_all-begun.new.tx in
+    let w2 = view c.show_all.new.tx in
+    let items = c.begin_all-begun.new.branches.items in
+    let n1 = c.show_all.new.branches in
+    let shown : InPairs (WasShown w1.seen) (map st items) (map st n1) = subst (λ l. InPairs (WasShown w1.seen) (map st l) (map st n1)) c.as_mut_slice.ensures.value c.show_all.ensures.shown in
+    let long1 = c.show_all.auto.branches ∙ c.as_mut_slice.ensures.len in
+    let r1 = c.as_mut_slice-in-Ok-begun.result.now in
+    let back1 : r1 ≡ n1 = c.as_mut_slice-in-Ok-begun.ensures.value ∙ kept_whole _ n1 _ long1 in
+    let n2 = c.run_all.new.branches in
+    let ran : InPairs HasRun (map st n1) (map st n2) = subst (λ l. InPairs HasRun (map st l) (map st n2)) back1 c.run_all.ensures.ran in
+    let long2 = c.run_all.auto.branches ∙ (ap length back1 ∙ long1) in
+    let w3 = view c.merge_all.new.tx in
+    let bodies = map numbered c.args.bodies.now in
+    let merged : MergedInTurn w2 (map st n2) w3 = subst (λ l. MergedInTurn w2 (map st l) w3) (kept_whole _ n2 _ long2) c.merge_all.ensures.merged in
+    let row = ran_so of v w1 w2 w3 (map st items) (map st n1) (map st n2) bodies c.requires.runs c.requires.fits (map_twice (λ (b : Stands). b.body) st items ∙ c.in-Ok-begun.ensures.all) c.in-Ok-begun.ensures.ok shown c.show_all.ensures.client c.show_all.ensures.made ran merged in
+    let came_to = ap (λ l. row_came (Ok came.Through) (map st l)) (kept_whole _ n2 _ long2) in
+    ran_runs of v w3 (map st n2) bodies row c.in_ok-came-in-Ok-begun.came (sym came_to ∙ (sym c.merge_all.ensures.came ∙ c.in_ok-came-in-Ok-begun.was))
+
+pub row::par-behind-requires-clause-knows : goal.row::par-behind-requires-clause-knows
+row::par-behind-requires-clause-knows g t c =
+    let view = g.T.Tx.view in
+    let st = stands view in
+    let of = c.args.of.now in
+    let v = view c.args.tx.now in
+    let w1 = view c.begin_all-begun.new.tx in
+    let w2 = view c.show_all.new.tx in
+    let items = c.begin_all-begun.new.branches.items in
+    let n1 = c.show_all.new.branches in
+    let shown : InPairs (WasShown w1.seen) (map st items) (map st n1) = subst (λ l. InPairs (WasShown w1.seen) (map st l) (map st n1)) c.as_mut_slice.ensures.value c.show_all.ensures.shown in
+    let long1 = c.show_all.auto.branches ∙ c.as_mut_slice.ensures.len in
+    let r1 = c.as_mut_slice-in-Ok-begun.result.now in
+    let back1 : r1 ≡ n1 = c.as_mut_slice-in-Ok-begun.ensures.value ∙ kept_whole _ n1 _ long1 in
+    let n2 = c.run_all.new.branches in
+    let ran : InPairs HasRun (map st n1) (map st n2) = subst (λ l. InPairs HasRun (map st l) (map st n2)) back1 c.run_all.ensures.ran in
+    let long2 = c.run_all.auto.branches ∙ (ap length back1 ∙ long1) in
+    let w3 = view c.merge_all.new.tx in
+    let bodies = map numbered c.args.bodies.now in
+    let merged : MergedInTurn w2 (map st n2) w3 = subst (λ l. MergedInTurn w2 (map st l) w3) (kept_whole _ n2 _ long2) c.merge_all.ensures.merged in
+    let row = ran_so of v w1 w2 w3 (map st items) (map st n1) (map st n2) bodies c.requires.runs c.requires.fits (map_twice (λ (b : Stands). b.body) st items ∙ c.in-Ok-begun.ensures.all) c.in-Ok-begun.ensures.ok shown c.show_all.ensures.client c.show_all.ensures.made ran merged in
+    let came_to = ap (λ l. row_came (Ok came.Through) (map st l)) (kept_whole _ n2 _ long2) in
+    ran_knows of v w3 (map st n2) bodies row c.in_ok-came-in-Ok-begun.came (sym came_to ∙ (sym c.merge_all.ensures.came ∙ c.in_ok-came-in-Ok-begun.was))
+
+pub row::par-returns-in-Ok-begun-clause-joined : goal.row::par-returns-in-Ok-begun-clause-joined
+row::par-returns-in-Ok-begun-clause-joined g t c =
+    let view = g.T.Tx.view in
+    let st = stands view in
+    let of = c.args.of.now in
+    let v = view c.args.tx.now in
+    let w1 = view c.begin_all-begun.new.tx in
+    let w2 = view c.show_all.new.tx in
+    let items = c.begin_all-begun.new.branches.items in
+    let n1 = c.show_all.new.branches in
+    let shown : InPairs (WasShown w1.seen) (map st items) (map st n1) = subst (λ l. InPairs (WasShown w1.seen) (map st l) (map st n1)) c.as_mut_slice.ensures.value c.show_all.ensures.shown in
+    let long1 = c.show_all.auto.branches ∙ c.as_mut_slice.ensures.len in
+    let r1 = c.as_mut_slice-in-Ok-begun.result.now in
+    let back1 : r1 ≡ n1 = c.as_mut_slice-in-Ok-begun.ensures.value ∙ kept_whole _ n1 _ long1 in
+    let n2 = c.run_all.new.branches in
+    let ran : InPairs HasRun (map st n1) (map st n2) = subst (λ l. InPairs HasRun (map st l) (map st n2)) back1 c.run_all.ensures.ran in
+    let long2 = c.run_all.auto.branches ∙ (ap length back1 ∙ long1) in
+    let w3 = view c.merge_all.new.tx in
+    let bodies = map numbered c.args.bodies.now in
+    let merged : MergedInTurn w2 (map st n2) w3 = subst (λ l. MergedInTurn w2 (map st l) w3) (kept_whole _ n2 _ long2) c.merge_all.ensures.merged in
+    let row = ran_so of v w1 w2 w3 (map st items) (map st n1) (map st n2) bodies c.requires.runs c.requires.fits (map_twice (λ (b : Stands). b.body) st items ∙ c.in-Ok-begun.ensures.all) c.in-Ok-begun.ensures.ok shown c.show_all.ensures.client c.show_all.ensures.made ran merged in
+    subst (HasJoined v.client v.seen) (sym c.behind.ensures.client) (ran_joined of v w3 (map st n2) bodies row)
+
+pub row::par-returns-in-Ok-begun-clause-ok : goal.row::par-returns-in-Ok-begun-clause-ok
+row::par-returns-in-Ok-begun-clause-ok g t c =
+    let view = g.T.Tx.view in
+    let st = stands view in
+    let of = c.args.of.now in
+    let v = view c.args.tx.now in
+    let w1 = view c.begin_all-begun.new.tx in
+    let w2 = view c.show_all.new.tx in
+    let items = c.begin_all-begun.new.branches.items in
+    let n1 = c.show_all.new.branches in
+    let shown : InPairs (WasShown w1.seen) (map st items) (map st n1) = subst (λ l. InPairs (WasShown w1.seen) (map st l) (map st n1)) c.as_mut_slice.ensures.value c.show_all.ensures.shown in
+    let long1 = c.show_all.auto.branches ∙ c.as_mut_slice.ensures.len in
+    let r1 = c.as_mut_slice-in-Ok-begun.result.now in
+    let back1 : r1 ≡ n1 = c.as_mut_slice-in-Ok-begun.ensures.value ∙ kept_whole _ n1 _ long1 in
+    let n2 = c.run_all.new.branches in
+    let ran : InPairs HasRun (map st n1) (map st n2) = subst (λ l. InPairs HasRun (map st l) (map st n2)) back1 c.run_all.ensures.ran in
+    let long2 = c.run_all.auto.branches ∙ (ap length back1 ∙ long1) in
+    let w3 = view c.merge_all.new.tx in
+    let bodies = map numbered c.args.bodies.now in
+    let merged : MergedInTurn w2 (map st n2) w3 = subst (λ l. MergedInTurn w2 (map st l) w3) (kept_whole _ n2 _ long2) c.merge_all.ensures.merged in
+    let row = ran_so of v w1 w2 w3 (map st items) (map st n1) (map st n2) bodies c.requires.runs c.requires.fits (map_twice (λ (b : Stands). b.body) st items ∙ c.in-Ok-begun.ensures.all) c.in-Ok-begun.ensures.ok shown c.show_all.ensures.client c.show_all.ensures.made ran merged in
+    let came_to = ap (λ l. row_came (Ok came.Through) (map st l)) (kept_whole _ n2 _ long2) in
+    let y = view c.behind.new.tx in
+    let x = c.in_ok-came-in-Ok-begun.came in
+    subst (λ d. IfOk c.behind.result (HasActed d of v.seen y.seen (row_step bodies))) (sym c.behind.ensures.client)
+    (if_ok (WentBehind w3.client of w3.seen y.seen x) (HasActed w3.client of v.seen y.seen (row_step bodies)) c.behind.result
+    (ran_acted of v w3 (map st n2) bodies row x (sym came_to ∙ (sym c.merge_all.ensures.came ∙ c.in_ok-came-in-Ok-begun.was)) y.seen) c.behind.ensures.ok)
+
+pub row::par-returns-in-Ok-begun-clause-cut : goal.row::par-returns-in-Ok-begun-clause-cut
+row::par-returns-in-Ok-begun-clause-cut g t c =
+    let view = g.T.Tx.view in
+    let st = stands view in
+    let of = c.args.of.now in
+    let v = view c.args.tx.now in
+    let w1 = view c.begin_all-begun.new.tx in
+    let w2 = view c.show_all.new.tx in
+    let items = c.begin_all-begun.new.branches.items in
+    let n1 = c.show_all.new.branches in
+    let shown : InPairs (WasShown w1.seen) (map st items) (map st n1) = subst (λ l. InPairs (WasShown w1.seen) (map st l) (map st n1)) c.as_mut_slice.ensures.value c.show_all.ensures.shown in
+    let long1 = c.show_all.auto.branches ∙ c.as_mut_slice.ensures.len in
+    let r1 = c.as_mut_slice-in-Ok-begun.result.now in
+    let back1 : r1 ≡ n1 = c.as_mut_slice-in-Ok-begun.ensures.value ∙ kept_whole _ n1 _ long1 in
+    let n2 = c.run_all.new.branches in
+    let ran : InPairs HasRun (map st n1) (map st n2) = subst (λ l. InPairs HasRun (map st l) (map st n2)) back1 c.run_all.ensures.ran in
+    let long2 = c.run_all.auto.branches ∙ (ap length back1 ∙ long1) in
+    let w3 = view c.merge_all.new.tx in
+    let bodies = map numbered c.args.bodies.now in
+    let merged : MergedInTurn w2 (map st n2) w3 = subst (λ l. MergedInTurn w2 (map st l) w3) (kept_whole _ n2 _ long2) c.merge_all.ensures.merged in
+    let row = ran_so of v w1 w2 w3 (map st items) (map st n1) (map st n2) bodies c.requires.runs c.requires.fits (map_twice (λ (b : Stands). b.body) st items ∙ c.in-Ok-begun.ensures.all) c.in-Ok-begun.ensures.ok shown c.show_all.ensures.client c.show_all.ensures.made ran merged in
+    let came_to = ap (λ l. row_came (Ok came.Through) (map st l)) (kept_whole _ n2 _ long2) in
+    let y = view c.behind.new.tx in
+    let x = c.in_ok-came-in-Ok-begun.came in
+    subst (λ d. IfErr c.behind.result (λ _. (rest : Plan) → CutOff d of v.seen y.seen (row_step bodies rest))) (sym c.behind.ensures.client)
+    (if_err (Made w3.client [] w3.seen y.seen) ((rest : Plan) → CutOff w3.client of v.seen y.seen (row_step bodies rest)) c.behind.result
+    (λ m rest. ran_cut_behind of v w3 (map st n2) bodies row x (sym came_to ∙ (sym c.merge_all.ensures.came ∙ c.in_ok-came-in-Ok-begun.was)) y.seen rest m) c.behind.ensures.cut)
+
+-- WHERE NOT ALL COULD BE BEGUN
+
+pub row::par-merge_all-came-requires-clause-out : goal.row::par-merge_all-came-requires-clause-out
+row::par-merge_all-came-requires-clause-out g t c =
+    let view = g.T.Tx.view in
+    let st = stands view in
+    let of = c.args.of.now in
+    let v = view c.args.tx.now in
+    let w1 = view c.begin_all-begun.new.tx in
+    let w2 = view c.show_all.new.tx in
+    let items = c.begin_all-begun.new.branches.items in
+    let n1 = c.show_all.new.branches in
+    let why = c.in-Err.why in
+    let shown : InPairs (WasShown w1.seen) (map st items) (map st n1) = subst (λ l. InPairs (WasShown w1.seen) (map st l) (map st n1)) c.as_mut_slice.ensures.value c.show_all.ensures.shown in
+    let long1 = c.show_all.auto.branches ∙ c.as_mut_slice.ensures.len in
+    subst (λ l. AreOut w2.client.out w2.client.net (map st l)) (sym (kept_whole _ n1 _ long1))
+    (turned_out of v w1 w2 (map st items) (map st n1) why c.requires.runs c.in-Err.ensures.err shown c.show_all.ensures.client c.show_all.ensures.made)
+
+pub row::par-returns-in_default-firsts-clause-joined : goal.row::par-returns-in_default-firsts-clause-joined
+row::par-returns-in_default-firsts-clause-joined g t c =
+    let view = g.T.Tx.view in
+    let st = stands view in
+    let of = c.args.of.now in
+    let v = view c.args.tx.now in
+    let w1 = view c.begin_all-begun.new.tx in
+    let w2 = view c.show_all.new.tx in
+    let items = c.begin_all-begun.new.branches.items in
+    let n1 = c.show_all.new.branches in
+    let why = c.in-Err.why in
+    let shown : InPairs (WasShown w1.seen) (map st items) (map st n1) = subst (λ l. InPairs (WasShown w1.seen) (map st l) (map st n1)) c.as_mut_slice.ensures.value c.show_all.ensures.shown in
+    let long1 = c.show_all.auto.branches ∙ c.as_mut_slice.ensures.len in
+    let w3 = view c.merge_all-came.new.tx in
+    let bodies = map numbered c.args.bodies.now in
+    let merged : MergedInTurn w2 (map st n1) w3 = subst (λ l. MergedInTurn w2 (map st l) w3) (kept_whole _ n1 _ long1) c.merge_all-came.ensures.merged in
+    let others = c.in-Err.ensures.first in
+    let first = others.2 ∙ ap (λ l. l ++ others.0) (sym (map_twice (λ (b : Stands). b.body) st items)) in
+    let firsts = map (λ (b : Stands). b.first) (map st n1) in
+    let so : RowTurnedSo of v w3 bodies why firsts = record {
+      begun = w1;
+      seen_by_all = w2;
+      bs = map st items;
+      ones = map st n1;
+      others = others.0;
+      runs = c.requires.runs;
+      began = c.in-Err.ensures.err;
+      shown = shown;
+      same = c.show_all.ensures.client;
+      made = c.show_all.ensures.made;
+      merged = merged;
+      first = first;
+      some = others.1;
+      then = Plan.done;
+      fits = c.requires.fits;
+      are = refl;
+    } in
+    so_joined of v w3 bodies why firsts so
+
+pub row::par-returns-in_default-firsts-clause-cut : goal.row::par-returns-in_default-firsts-clause-cut
+row::par-returns-in_default-firsts-clause-cut g t c =
+    let view = g.T.Tx.view in
+    let st = stands view in
+    let of = c.args.of.now in
+    let v = view c.args.tx.now in
+    let w1 = view c.begin_all-begun.new.tx in
+    let w2 = view c.show_all.new.tx in
+    let items = c.begin_all-begun.new.branches.items in
+    let n1 = c.show_all.new.branches in
+    let why = c.in-Err.why in
+    let shown : InPairs (WasShown w1.seen) (map st items) (map st n1) = subst (λ l. InPairs (WasShown w1.seen) (map st l) (map st n1)) c.as_mut_slice.ensures.value c.show_all.ensures.shown in
+    let long1 = c.show_all.auto.branches ∙ c.as_mut_slice.ensures.len in
+    let w3 = view c.merge_all-came.new.tx in
+    let bodies = map numbered c.args.bodies.now in
+    let merged : MergedInTurn w2 (map st n1) w3 = subst (λ l. MergedInTurn w2 (map st l) w3) (kept_whole _ n1 _ long1) c.merge_all-came.ensures.merged in
+    let others = c.in-Err.ensures.first in
+    let first = others.2 ∙ ap (λ l. l ++ others.0) (sym (map_twice (λ (b : Stands). b.body) st items)) in
+    let firsts = map (λ (b : Stands). b.first) (map st n1) in
+    let so : RowTurnedSo of v w3 bodies why firsts = record {
+      begun = w1;
+      seen_by_all = w2;
+      bs = map st items;
+      ones = map st n1;
+      others = others.0;
+      runs = c.requires.runs;
+      began = c.in-Err.ensures.err;
+      shown = shown;
+      same = c.show_all.ensures.client;
+      made = c.show_all.ensures.made;
+      merged = merged;
+      first = first;
+      some = others.1;
+      then = Plan.done;
+      fits = c.requires.fits;
+      are = refl;
+    } in
+    so_cut_at_once of v w3 bodies why firsts so
+
+pub row::par-returns-in-Memory-clause-joined : goal.row::par-returns-in-Memory-clause-joined
+row::par-returns-in-Memory-clause-joined g t c =
+    let view = g.T.Tx.view in
+    let st = stands view in
+    let of = c.args.of.now in
+    let v = view c.args.tx.now in
+    let w1 = view c.begin_all-begun.new.tx in
+    let w2 = view c.show_all.new.tx in
+    let items = c.begin_all-begun.new.branches.items in
+    let n1 = c.show_all.new.branches in
+    let why = c.in-Err.why in
+    let shown : InPairs (WasShown w1.seen) (map st items) (map st n1) = subst (λ l. InPairs (WasShown w1.seen) (map st l) (map st n1)) c.as_mut_slice.ensures.value c.show_all.ensures.shown in
+    let long1 = c.show_all.auto.branches ∙ c.as_mut_slice.ensures.len in
+    let w3 = view c.merge_all-came.new.tx in
+    let bodies = map numbered c.args.bodies.now in
+    let merged : MergedInTurn w2 (map st n1) w3 = subst (λ l. MergedInTurn w2 (map st l) w3) (kept_whole _ n1 _ long1) c.merge_all-came.ensures.merged in
+    let others = c.in-Err.ensures.first in
+    let first = others.2 ∙ ap (λ l. l ++ others.0) (sym (map_twice (λ (b : Stands). b.body) st items)) in
+    let firsts = map (λ (b : Stands). b.first) (map st n1) in
+    let so : RowTurnedSo of v w3 bodies why firsts = record {
+      begun = w1;
+      seen_by_all = w2;
+      bs = map st items;
+      ones = map st n1;
+      others = others.0;
+      runs = c.requires.runs;
+      began = c.in-Err.ensures.err;
+      shown = shown;
+      same = c.show_all.ensures.client;
+      made = c.show_all.ensures.made;
+      merged = merged;
+      first = first;
+      some = others.1;
+      then = Plan.done;
+      fits = c.requires.fits;
+      are = refl;
+    } in
+    so_joined of v w3 bodies why firsts so
+
+pub row::par-returns-in-Memory-clause-cut : goal.row::par-returns-in-Memory-clause-cut
+row::par-returns-in-Memory-clause-cut g t c =
+    let view = g.T.Tx.view in
+    let st = stands view in
+    let of = c.args.of.now in
+    let v = view c.args.tx.now in
+    let w1 = view c.begin_all-begun.new.tx in
+    let w2 = view c.show_all.new.tx in
+    let items = c.begin_all-begun.new.branches.items in
+    let n1 = c.show_all.new.branches in
+    let why = c.in-Err.why in
+    let shown : InPairs (WasShown w1.seen) (map st items) (map st n1) = subst (λ l. InPairs (WasShown w1.seen) (map st l) (map st n1)) c.as_mut_slice.ensures.value c.show_all.ensures.shown in
+    let long1 = c.show_all.auto.branches ∙ c.as_mut_slice.ensures.len in
+    let w3 = view c.merge_all-came.new.tx in
+    let bodies = map numbered c.args.bodies.now in
+    let merged : MergedInTurn w2 (map st n1) w3 = subst (λ l. MergedInTurn w2 (map st l) w3) (kept_whole _ n1 _ long1) c.merge_all-came.ensures.merged in
+    let others = c.in-Err.ensures.first in
+    let first = others.2 ∙ ap (λ l. l ++ others.0) (sym (map_twice (λ (b : Stands). b.body) st items)) in
+    let firsts = map (λ (b : Stands). b.first) (map st n1) in
+    let so : RowTurnedSo of v w3 bodies why firsts = record {
+      begun = w1;
+      seen_by_all = w2;
+      bs = map st items;
+      ones = map st n1;
+      others = others.0;
+      runs = c.requires.runs;
+      began = c.in-Err.ensures.err;
+      shown = shown;
+      same = c.show_all.ensures.client;
+      made = c.show_all.ensures.made;
+      merged = merged;
+      first = first;
+      some = others.1;
+      then = Plan.done;
+      fits = c.requires.fits;
+      are = refl;
+    } in
+    so_cut_at_once of v w3 bodies why firsts so
+
+pub row::par-returns-in-Room-clause-joined : goal.row::par-returns-in-Room-clause-joined
+row::par-returns-in-Room-clause-joined g t c =
+    let view = g.T.Tx.view in
+    let st = stands view in
+    let of = c.args.of.now in
+    let v = view c.args.tx.now in
+    let w1 = view c.begin_all-begun.new.tx in
+    let w2 = view c.show_all.new.tx in
+    let items = c.begin_all-begun.new.branches.items in
+    let n1 = c.show_all.new.branches in
+    let why = c.in-Err.why in
+    let shown : InPairs (WasShown w1.seen) (map st items) (map st n1) = subst (λ l. InPairs (WasShown w1.seen) (map st l) (map st n1)) c.as_mut_slice.ensures.value c.show_all.ensures.shown in
+    let long1 = c.show_all.auto.branches ∙ c.as_mut_slice.ensures.len in
+    let w3 = view c.merge_all-came.new.tx in
+    let bodies = map numbered c.args.bodies.now in
+    let merged : MergedInTurn w2 (map st n1) w3 = subst (λ l. MergedInTurn w2 (map st l) w3) (kept_whole _ n1 _ long1) c.merge_all-came.ensures.merged in
+    let others = c.in-Err.ensures.first in
+    let first = others.2 ∙ ap (λ l. l ++ others.0) (sym (map_twice (λ (b : Stands). b.body) st items)) in
+    let firsts = map (λ (b : Stands). b.first) (map st n1) in
+    let so : RowTurnedSo of v w3 bodies why firsts = record {
+      begun = w1;
+      seen_by_all = w2;
+      bs = map st items;
+      ones = map st n1;
+      others = others.0;
+      runs = c.requires.runs;
+      began = c.in-Err.ensures.err;
+      shown = shown;
+      same = c.show_all.ensures.client;
+      made = c.show_all.ensures.made;
+      merged = merged;
+      first = first;
+      some = others.1;
+      then = Plan.done;
+      fits = c.requires.fits;
+      are = refl;
+    } in
+    so_joined of v w3 bodies why firsts so
+
+pub row::par-returns-in-Room-clause-cut : goal.row::par-returns-in-Room-clause-cut
+row::par-returns-in-Room-clause-cut g t c =
+    let view = g.T.Tx.view in
+    let st = stands view in
+    let of = c.args.of.now in
+    let v = view c.args.tx.now in
+    let w1 = view c.begin_all-begun.new.tx in
+    let w2 = view c.show_all.new.tx in
+    let items = c.begin_all-begun.new.branches.items in
+    let n1 = c.show_all.new.branches in
+    let why = c.in-Err.why in
+    let shown : InPairs (WasShown w1.seen) (map st items) (map st n1) = subst (λ l. InPairs (WasShown w1.seen) (map st l) (map st n1)) c.as_mut_slice.ensures.value c.show_all.ensures.shown in
+    let long1 = c.show_all.auto.branches ∙ c.as_mut_slice.ensures.len in
+    let w3 = view c.merge_all-came.new.tx in
+    let bodies = map numbered c.args.bodies.now in
+    let merged : MergedInTurn w2 (map st n1) w3 = subst (λ l. MergedInTurn w2 (map st l) w3) (kept_whole _ n1 _ long1) c.merge_all-came.ensures.merged in
+    let others = c.in-Err.ensures.first in
+    let first = others.2 ∙ ap (λ l. l ++ others.0) (sym (map_twice (λ (b : Stands). b.body) st items)) in
+    let firsts = map (λ (b : Stands). b.first) (map st n1) in
+    let so : RowTurnedSo of v w3 bodies why firsts = record {
+      begun = w1;
+      seen_by_all = w2;
+      bs = map st items;
+      ones = map st n1;
+      others = others.0;
+      runs = c.requires.runs;
+      began = c.in-Err.ensures.err;
+      shown = shown;
+      same = c.show_all.ensures.client;
+      made = c.show_all.ensures.made;
+      merged = merged;
+      first = first;
+      some = others.1;
+      then = Plan.done;
+      fits = c.requires.fits;
+      are = refl;
+    } in
+    so_cut_at_once of v w3 bodies why firsts so
+
+pub row::par-returns-in-Room-clause-room : goal.row::par-returns-in-Room-clause-room
+row::par-returns-in-Room-clause-room g t c =
+    let view = g.T.Tx.view in
+    let st = stands view in
+    let of = c.args.of.now in
+    let v = view c.args.tx.now in
+    let w1 = view c.begin_all-begun.new.tx in
+    let w2 = view c.show_all.new.tx in
+    let items = c.begin_all-begun.new.branches.items in
+    let n1 = c.show_all.new.branches in
+    let why = c.in-Err.why in
+    let shown : InPairs (WasShown w1.seen) (map st items) (map st n1) = subst (λ l. InPairs (WasShown w1.seen) (map st l) (map st n1)) c.as_mut_slice.ensures.value c.show_all.ensures.shown in
+    let long1 = c.show_all.auto.branches ∙ c.as_mut_slice.ensures.len in
+    let w3 = view c.merge_all-came.new.tx in
+    let bodies = map numbered c.args.bodies.now in
+    let merged : MergedInTurn w2 (map st n1) w3 = subst (λ l. MergedInTurn w2 (map st l) w3) (kept_whole _ n1 _ long1) c.merge_all-came.ensures.merged in
+    let others = c.in-Err.ensures.first in
+    let first = others.2 ∙ ap (λ l. l ++ others.0) (sym (map_twice (λ (b : Stands). b.body) st items)) in
+    let firsts = map (λ (b : Stands). b.first) (map st n1) in
+    let so : RowTurnedSo of v w3 bodies why firsts = record {
+      begun = w1;
+      seen_by_all = w2;
+      bs = map st items;
+      ones = map st n1;
+      others = others.0;
+      runs = c.requires.runs;
+      began = c.in-Err.ensures.err;
+      shown = shown;
+      same = c.show_all.ensures.client;
+      made = c.show_all.ensures.made;
+      merged = merged;
+      first = first;
+      some = others.1;
+      then = Plan.done;
+      fits = c.requires.fits;
+      are = refl;
+    } in
+    let none = λ (empty : map st n1 ≡ []). ap (λ (x : View). x.seen) (none_merged w2 w3 (map st n1) merged empty) ∙ c.show_all.ensures.none (none_given st n1 _ c.show_all.auto.branches empty) in
+    λ _. so_room of v w3 bodies why firsts so none c.in-Room.is
+
+pub row::par-abort_all-requires : goal.row::par-abort_all-requires
+row::par-abort_all-requires g t c =
+    let view = g.T.Tx.view in
+    let st = stands view in
+    let of = c.args.of.now in
+    let v = view c.args.tx.now in
+    let w1 = view c.begin_all-begun.new.tx in
+    let w2 = view c.show_all.new.tx in
+    let items = c.begin_all-begun.new.branches.items in
+    let n1 = c.show_all.new.branches in
+    let why = c.in-Err.why in
+    let shown : InPairs (WasShown w1.seen) (map st items) (map st n1) = subst (λ l. InPairs (WasShown w1.seen) (map st l) (map st n1)) c.as_mut_slice.ensures.value c.show_all.ensures.shown in
+    let long1 = c.show_all.auto.branches ∙ c.as_mut_slice.ensures.len in
+    let w3 = view c.merge_all-came.new.tx in
+    let bodies = map numbered c.args.bodies.now in
+    let merged : MergedInTurn w2 (map st n1) w3 = subst (λ l. MergedInTurn w2 (map st l) w3) (kept_whole _ n1 _ long1) c.merge_all-came.ensures.merged in
+    let others = c.in-Err.ensures.first in
+    let first = others.2 ∙ ap (λ l. l ++ others.0) (sym (map_twice (λ (b : Stands). b.body) st items)) in
+    let firsts = c.as_slice-in_default-why.result.now in
+    let so : RowTurnedSo of v w3 bodies why firsts = record {
+      begun = w1;
+      seen_by_all = w2;
+      bs = map st items;
+      ones = map st n1;
+      others = others.0;
+      runs = c.requires.runs;
+      began = c.in-Err.ensures.err;
+      shown = shown;
+      same = c.show_all.ensures.client;
+      made = c.show_all.ensures.made;
+      merged = merged;
+      first = first;
+      some = others.1;
+      then = Plan.done;
+      fits = c.requires.fits;
+      are = c.as_slice-in_default-why.ensures.value ∙ (c.in-Ok-firsts.ensures ∙ (ap (map (λ b. b.first)) (c.as_slice.ensures.value ∙ kept_whole _ n1 _ long1) ∙ sym (map_twice (λ (b : Stands). b.first) st n1)));
+    } in
+    let refused = so_refused of v w3 bodies why firsts so c.in_default-why.not-Memory c.in_default-why.not-Room in
+    record { nonroot = c.requires.runs.nonroot; legal = so_legal of v w3 bodies why firsts so; refused = refused; firsts = so_firsts of v w3 bodies why firsts so; met = c.merge_all-came.ensures.met }
+
+pub row::par-returns-in_err-abort_all-in_default-why-clause-joined : goal.row::par-returns-in_err-abort_all-in_default-why-clause-joined
+row::par-returns-in_err-abort_all-in_default-why-clause-joined g t c =
+    let view = g.T.Tx.view in
+    let st = stands view in
+    let of = c.args.of.now in
+    let v = view c.args.tx.now in
+    let w1 = view c.begin_all-begun.new.tx in
+    let w2 = view c.show_all.new.tx in
+    let items = c.begin_all-begun.new.branches.items in
+    let n1 = c.show_all.new.branches in
+    let why = c.in-Err.why in
+    let shown : InPairs (WasShown w1.seen) (map st items) (map st n1) = subst (λ l. InPairs (WasShown w1.seen) (map st l) (map st n1)) c.as_mut_slice.ensures.value c.show_all.ensures.shown in
+    let long1 = c.show_all.auto.branches ∙ c.as_mut_slice.ensures.len in
+    let w3 = view c.merge_all-came.new.tx in
+    let bodies = map numbered c.args.bodies.now in
+    let merged : MergedInTurn w2 (map st n1) w3 = subst (λ l. MergedInTurn w2 (map st l) w3) (kept_whole _ n1 _ long1) c.merge_all-came.ensures.merged in
+    let others = c.in-Err.ensures.first in
+    let first = others.2 ∙ ap (λ l. l ++ others.0) (sym (map_twice (λ (b : Stands). b.body) st items)) in
+    let firsts = c.as_slice-in_default-why.result.now in
+    let so : RowTurnedSo of v w3 bodies why firsts = record {
+      begun = w1;
+      seen_by_all = w2;
+      bs = map st items;
+      ones = map st n1;
+      others = others.0;
+      runs = c.requires.runs;
+      began = c.in-Err.ensures.err;
+      shown = shown;
+      same = c.show_all.ensures.client;
+      made = c.show_all.ensures.made;
+      merged = merged;
+      first = first;
+      some = others.1;
+      then = Plan.done;
+      fits = c.requires.fits;
+      are = c.as_slice-in_default-why.ensures.value ∙ (c.in-Ok-firsts.ensures ∙ (ap (map (λ b. b.first)) (c.as_slice.ensures.value ∙ kept_whole _ n1 _ long1) ∙ sym (map_twice (λ (b : Stands). b.first) st n1)));
+    } in
+    subst (HasJoined v.client v.seen) (sym c.abort_all.ensures.client) (so_joined of v w3 bodies why firsts so)
+
+pub row::par-returns-in_err-abort_all-in_default-why-clause-cut : goal.row::par-returns-in_err-abort_all-in_default-why-clause-cut
+row::par-returns-in_err-abort_all-in_default-why-clause-cut g t c =
+    let view = g.T.Tx.view in
+    let st = stands view in
+    let of = c.args.of.now in
+    let v = view c.args.tx.now in
+    let w1 = view c.begin_all-begun.new.tx in
+    let w2 = view c.show_all.new.tx in
+    let items = c.begin_all-begun.new.branches.items in
+    let n1 = c.show_all.new.branches in
+    let why = c.in-Err.why in
+    let shown : InPairs (WasShown w1.seen) (map st items) (map st n1) = subst (λ l. InPairs (WasShown w1.seen) (map st l) (map st n1)) c.as_mut_slice.ensures.value c.show_all.ensures.shown in
+    let long1 = c.show_all.auto.branches ∙ c.as_mut_slice.ensures.len in
+    let w3 = view c.merge_all-came.new.tx in
+    let bodies = map numbered c.args.bodies.now in
+    let merged : MergedInTurn w2 (map st n1) w3 = subst (λ l. MergedInTurn w2 (map st l) w3) (kept_whole _ n1 _ long1) c.merge_all-came.ensures.merged in
+    let others = c.in-Err.ensures.first in
+    let first = others.2 ∙ ap (λ l. l ++ others.0) (sym (map_twice (λ (b : Stands). b.body) st items)) in
+    let firsts = c.as_slice-in_default-why.result.now in
+    let so : RowTurnedSo of v w3 bodies why firsts = record {
+      begun = w1;
+      seen_by_all = w2;
+      bs = map st items;
+      ones = map st n1;
+      others = others.0;
+      runs = c.requires.runs;
+      began = c.in-Err.ensures.err;
+      shown = shown;
+      same = c.show_all.ensures.client;
+      made = c.show_all.ensures.made;
+      merged = merged;
+      first = first;
+      some = others.1;
+      then = Plan.done;
+      fits = c.requires.fits;
+      are = c.as_slice-in_default-why.ensures.value ∙ (c.in-Ok-firsts.ensures ∙ (ap (map (λ b. b.first)) (c.as_slice.ensures.value ∙ kept_whole _ n1 _ long1) ∙ sym (map_twice (λ (b : Stands). b.first) st n1)));
+    } in
+    let x = view c.abort_all.new.tx in
+    any_err _ c.from_residual-in_err-abort_all-in_default-why.result (λ rest. subst (λ d. CutOff d of v.seen x.seen (row_step bodies rest)) (sym c.abort_all.ensures.client) (so_cut_off of v w3 bodies why firsts so x.seen rest c.in_err-abort_all-in_default-why.ensures.cut))
+
+pub row::par-behind-requires-in_default-why : goal.row::par-behind-requires-in_default-why
+row::par-behind-requires-in_default-why g t c =
+    let view = g.T.Tx.view in
+    let st = stands view in
+    let of = c.args.of.now in
+    let v = view c.args.tx.now in
+    let w1 = view c.begin_all-begun.new.tx in
+    let w2 = view c.show_all.new.tx in
+    let items = c.begin_all-begun.new.branches.items in
+    let n1 = c.show_all.new.branches in
+    let why = c.in-Err.why in
+    let shown : InPairs (WasShown w1.seen) (map st items) (map st n1) = subst (λ l. InPairs (WasShown w1.seen) (map st l) (map st n1)) c.as_mut_slice.ensures.value c.show_all.ensures.shown in
+    let long1 = c.show_all.auto.branches ∙ c.as_mut_slice.ensures.len in
+    let w3 = view c.merge_all-came.new.tx in
+    let bodies = map numbered c.args.bodies.now in
+    let merged : MergedInTurn w2 (map st n1) w3 = subst (λ l. MergedInTurn w2 (map st l) w3) (kept_whole _ n1 _ long1) c.merge_all-came.ensures.merged in
+    let others = c.in-Err.ensures.first in
+    let first = others.2 ∙ ap (λ l. l ++ others.0) (sym (map_twice (λ (b : Stands). b.body) st items)) in
+    let firsts = c.as_slice-in_default-why.result.now in
+    let so : RowTurnedSo of v w3 bodies why firsts = record {
+      begun = w1;
+      seen_by_all = w2;
+      bs = map st items;
+      ones = map st n1;
+      others = others.0;
+      runs = c.requires.runs;
+      began = c.in-Err.ensures.err;
+      shown = shown;
+      same = c.show_all.ensures.client;
+      made = c.show_all.ensures.made;
+      merged = merged;
+      first = first;
+      some = others.1;
+      then = Plan.done;
+      fits = c.requires.fits;
+      are = c.as_slice-in_default-why.ensures.value ∙ (c.in-Ok-firsts.ensures ∙ (ap (map (λ b. b.first)) (c.as_slice.ensures.value ∙ kept_whole _ n1 _ long1) ∙ sym (map_twice (λ (b : Stands). b.first) st n1)));
+    } in
+    let refused = so_refused of v w3 bodies why firsts so c.in_default-why.not-Memory c.in_default-why.not-Room in
+    let x = view c.abort_all.new.tx in
+    let turned = c.in_ok-abort_all-in_default-why.ensures.ok in
+    let client = sym c.abort_all.ensures.client in
+    record {
+      runs = subst (λ d. Runs d of x.seen) client (so_runs of v w3 bodies why firsts so refused x.seen turned);
+      knows = subst (λ d. WhyStop d x.seen of why) client (so_knows of v w3 bodies why firsts so refused x.seen turned);
+      met = c.abort_all.ensures.met;
+    }
+
+pub row::par-returns-clause-joined : goal.row::par-returns-clause-joined
+row::par-returns-clause-joined g t c =
+    let view = g.T.Tx.view in
+    let st = stands view in
+    let of = c.args.of.now in
+    let v = view c.args.tx.now in
+    let w1 = view c.begin_all-begun.new.tx in
+    let w2 = view c.show_all.new.tx in
+    let items = c.begin_all-begun.new.branches.items in
+    let n1 = c.show_all.new.branches in
+    let why = c.in-Err.why in
+    let shown : InPairs (WasShown w1.seen) (map st items) (map st n1) = subst (λ l. InPairs (WasShown w1.seen) (map st l) (map st n1)) c.as_mut_slice.ensures.value c.show_all.ensures.shown in
+    let long1 = c.show_all.auto.branches ∙ c.as_mut_slice.ensures.len in
+    let w3 = view c.merge_all-came.new.tx in
+    let bodies = map numbered c.args.bodies.now in
+    let merged : MergedInTurn w2 (map st n1) w3 = subst (λ l. MergedInTurn w2 (map st l) w3) (kept_whole _ n1 _ long1) c.merge_all-came.ensures.merged in
+    let others = c.in-Err.ensures.first in
+    let first = others.2 ∙ ap (λ l. l ++ others.0) (sym (map_twice (λ (b : Stands). b.body) st items)) in
+    let firsts = c.as_slice-in_default-why.result.now in
+    let so : RowTurnedSo of v w3 bodies why firsts = record {
+      begun = w1;
+      seen_by_all = w2;
+      bs = map st items;
+      ones = map st n1;
+      others = others.0;
+      runs = c.requires.runs;
+      began = c.in-Err.ensures.err;
+      shown = shown;
+      same = c.show_all.ensures.client;
+      made = c.show_all.ensures.made;
+      merged = merged;
+      first = first;
+      some = others.1;
+      then = Plan.done;
+      fits = c.requires.fits;
+      are = c.as_slice-in_default-why.ensures.value ∙ (c.in-Ok-firsts.ensures ∙ (ap (map (λ b. b.first)) (c.as_slice.ensures.value ∙ kept_whole _ n1 _ long1) ∙ sym (map_twice (λ (b : Stands). b.first) st n1)));
+    } in
+    let refused = so_refused of v w3 bodies why firsts so c.in_default-why.not-Memory c.in_default-why.not-Room in
+    let x = view c.abort_all.new.tx in
+    let turned = c.in_ok-abort_all-in_default-why.ensures.ok in
+    let y = view c.behind-in_default-why.new.tx in
+    let same = c.abort_all.ensures.client in
+    let client = sym (c.behind-in_default-why.ensures.client ∙ same) in
+    subst (HasJoined v.client v.seen) client (so_joined of v w3 bodies why firsts so)
+
+pub row::par-returns-clause-ok : goal.row::par-returns-clause-ok
+row::par-returns-clause-ok g t c =
+    let view = g.T.Tx.view in
+    let st = stands view in
+    let of = c.args.of.now in
+    let v = view c.args.tx.now in
+    let w1 = view c.begin_all-begun.new.tx in
+    let w2 = view c.show_all.new.tx in
+    let items = c.begin_all-begun.new.branches.items in
+    let n1 = c.show_all.new.branches in
+    let why = c.in-Err.why in
+    let shown : InPairs (WasShown w1.seen) (map st items) (map st n1) = subst (λ l. InPairs (WasShown w1.seen) (map st l) (map st n1)) c.as_mut_slice.ensures.value c.show_all.ensures.shown in
+    let long1 = c.show_all.auto.branches ∙ c.as_mut_slice.ensures.len in
+    let w3 = view c.merge_all-came.new.tx in
+    let bodies = map numbered c.args.bodies.now in
+    let merged : MergedInTurn w2 (map st n1) w3 = subst (λ l. MergedInTurn w2 (map st l) w3) (kept_whole _ n1 _ long1) c.merge_all-came.ensures.merged in
+    let others = c.in-Err.ensures.first in
+    let first = others.2 ∙ ap (λ l. l ++ others.0) (sym (map_twice (λ (b : Stands). b.body) st items)) in
+    let firsts = c.as_slice-in_default-why.result.now in
+    let so : RowTurnedSo of v w3 bodies why firsts = record {
+      begun = w1;
+      seen_by_all = w2;
+      bs = map st items;
+      ones = map st n1;
+      others = others.0;
+      runs = c.requires.runs;
+      began = c.in-Err.ensures.err;
+      shown = shown;
+      same = c.show_all.ensures.client;
+      made = c.show_all.ensures.made;
+      merged = merged;
+      first = first;
+      some = others.1;
+      then = Plan.done;
+      fits = c.requires.fits;
+      are = c.as_slice-in_default-why.ensures.value ∙ (c.in-Ok-firsts.ensures ∙ (ap (map (λ b. b.first)) (c.as_slice.ensures.value ∙ kept_whole _ n1 _ long1) ∙ sym (map_twice (λ (b : Stands). b.first) st n1)));
+    } in
+    let refused = so_refused of v w3 bodies why firsts so c.in_default-why.not-Memory c.in_default-why.not-Room in
+    let x = view c.abort_all.new.tx in
+    let turned = c.in_ok-abort_all-in_default-why.ensures.ok in
+    let y = view c.behind-in_default-why.new.tx in
+    let same = c.abort_all.ensures.client in
+    let client = sym (c.behind-in_default-why.ensures.client ∙ same) in
+    subst (λ d. IfOk c.behind-in_default-why.result (HasActed d of v.seen y.seen (row_step bodies))) client
+    (if_ok (WentBehind x.client of x.seen y.seen (came.Refused why)) (HasActed w3.client of v.seen y.seen (row_step bodies)) c.behind-in_default-why.result
+    (λ r went. so_acted of v w3 bodies why firsts so refused x.seen turned y.seen r (subst (λ d. WentBehind d of x.seen y.seen (came.Refused why) r) same went)) c.behind-in_default-why.ensures.ok)
+
+pub row::par-returns-clause-cut : goal.row::par-returns-clause-cut
+row::par-returns-clause-cut g t c =
+    let view = g.T.Tx.view in
+    let st = stands view in
+    let of = c.args.of.now in
+    let v = view c.args.tx.now in
+    let w1 = view c.begin_all-begun.new.tx in
+    let w2 = view c.show_all.new.tx in
+    let items = c.begin_all-begun.new.branches.items in
+    let n1 = c.show_all.new.branches in
+    let why = c.in-Err.why in
+    let shown : InPairs (WasShown w1.seen) (map st items) (map st n1) = subst (λ l. InPairs (WasShown w1.seen) (map st l) (map st n1)) c.as_mut_slice.ensures.value c.show_all.ensures.shown in
+    let long1 = c.show_all.auto.branches ∙ c.as_mut_slice.ensures.len in
+    let w3 = view c.merge_all-came.new.tx in
+    let bodies = map numbered c.args.bodies.now in
+    let merged : MergedInTurn w2 (map st n1) w3 = subst (λ l. MergedInTurn w2 (map st l) w3) (kept_whole _ n1 _ long1) c.merge_all-came.ensures.merged in
+    let others = c.in-Err.ensures.first in
+    let first = others.2 ∙ ap (λ l. l ++ others.0) (sym (map_twice (λ (b : Stands). b.body) st items)) in
+    let firsts = c.as_slice-in_default-why.result.now in
+    let so : RowTurnedSo of v w3 bodies why firsts = record {
+      begun = w1;
+      seen_by_all = w2;
+      bs = map st items;
+      ones = map st n1;
+      others = others.0;
+      runs = c.requires.runs;
+      began = c.in-Err.ensures.err;
+      shown = shown;
+      same = c.show_all.ensures.client;
+      made = c.show_all.ensures.made;
+      merged = merged;
+      first = first;
+      some = others.1;
+      then = Plan.done;
+      fits = c.requires.fits;
+      are = c.as_slice-in_default-why.ensures.value ∙ (c.in-Ok-firsts.ensures ∙ (ap (map (λ b. b.first)) (c.as_slice.ensures.value ∙ kept_whole _ n1 _ long1) ∙ sym (map_twice (λ (b : Stands). b.first) st n1)));
+    } in
+    let refused = so_refused of v w3 bodies why firsts so c.in_default-why.not-Memory c.in_default-why.not-Room in
+    let x = view c.abort_all.new.tx in
+    let turned = c.in_ok-abort_all-in_default-why.ensures.ok in
+    let y = view c.behind-in_default-why.new.tx in
+    let same = c.abort_all.ensures.client in
+    let client = sym (c.behind-in_default-why.ensures.client ∙ same) in
+    subst (λ d. IfErr c.behind-in_default-why.result (λ _. (rest : Plan) → CutOff d of v.seen y.seen (row_step bodies rest))) client
+    (if_err (Made x.client [] x.seen y.seen) ((rest : Plan) → CutOff w3.client of v.seen y.seen (row_step bodies rest)) c.behind-in_default-why.result
+    (λ m rest. so_cut_behind of v w3 bodies why firsts so refused x.seen turned y.seen rest (subst (λ (d : Client). Made d [] x.seen y.seen) same m)) c.behind-in_default-why.ensures.cut)
+
+-- THE STEP
+
+pub act-returns-in-Par-clause-ok : goal.act-returns-in-Par-clause-ok
+act-returns-in-Par-clause-ok g t c =
+    let v = g.T.Tx.view c.args.tx.now in
+    let w = g.T.Tx.view c.par.new.tx in
+    let bodies = map numbered c.as_slice.result.now in
+    if_ok (HasActed w.client c.args.of.now v.seen w.seen (row_step bodies)) (HasActed w.client c.args.of.now v.seen w.seen (put c.args.step.now)) c.par.result
+    (λ r h. subst (λ f. HasActed w.client c.args.of.now v.seen w.seen f r) (sym (ap put c.in-Par.is ∙ put_par c.in-Par.bodies ∙ ap (λ l. row_step (map numbered l)) (sym c.as_slice.ensures.value))) h) c.par.ensures.ok
+
+pub act-returns-in-Par-clause-cut : goal.act-returns-in-Par-clause-cut
+act-returns-in-Par-clause-cut g t c =
+    let v = g.T.Tx.view c.args.tx.now in
+    let w = g.T.Tx.view c.par.new.tx in
+    let bodies = map numbered c.as_slice.result.now in
+    if_err ((rest : Plan) → CutOff w.client c.args.of.now v.seen w.seen (row_step bodies rest)) ((rest : Plan) → CutOff w.client c.args.of.now v.seen w.seen (put c.args.step.now rest)) c.par.result
+    (λ h rest. subst (λ f. CutOff w.client c.args.of.now v.seen w.seen (f rest)) (sym (ap put c.in-Par.is ∙ put_par c.in-Par.bodies ∙ ap (λ l. row_step (map numbered l)) (sym c.as_slice.ensures.value))) (h rest)) c.par.ensures.cut

@@ -29,7 +29,7 @@ left_by : (c d : Client) (body : Numbered) (before now : Past) (counter : ℕ) �
 left_by c d body before now counter since few l = one_less d body before now counter few (top_tries_joined c d body before now since (body.tries - counter) l)
 
 pub steps-requires-clause-runs : goal.steps-requires-clause-runs
-steps-requires-clause-runs g c =
+steps-requires-clause-runs g c κs within =
     let inv = c.loop.invariant in
     let v = g.T.Tx.view c.args.tx.now in
     let w = g.T.Tx.view c.loop.tx in
@@ -39,7 +39,7 @@ steps-requires-clause-runs g c =
     (runs_top w.client c.in-Ok.name _ w.seen x.seen (top_of c.root.result c.in-Ok.name c.root.ensures c.in-Ok.ensures.child) c.in-Ok.ensures.ok (joined_root v.client w.client v.seen inv.joined ∙ c.requires.rootless))
 
 pub steps-requires-clause-fits : goal.steps-requires-clause-fits
-steps-requires-clause-fits g c =
+steps-requires-clause-fits g c κs within =
     let inv = c.loop.invariant in
     let v = g.T.Tx.view c.args.tx.now in
     let w = g.T.Tx.view c.loop.tx in

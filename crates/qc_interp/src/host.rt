@@ -1,0 +1,11 @@
+//! What branches run by.
+use crate::gate::Mode;
+use std::alloc::Global;
+
+/// The runtime, the memory for lists of branches, and whether branches run in threads.
+#[derive(Clone, Copy)]
+pub struct Host<'a, R> {
+    pub rt: &'a R,
+    pub alloc: Global,
+    pub mode: Mode,
+}
