@@ -111,7 +111,7 @@ child_grounded newer past now n child grown g aborted session body = (g.0, subst
 pub unaborted : (n : Name) (v w : View) (why : DeskNo) → Refused (against_abort n) v w why → IsUnaborted v w n (no_of why)
 unaborted n v w why r = abort_says n v w why (walking.of_looked v w r.0) r.1
 
-module _ (setting : Setting) (v w : View) (c : Client) (for : IsFor setting v c) (legal : Legal setting w.seen) (n : Name) where
+module _ (setting : Setting) (v w : View) (c : Client) (for : IsFor setting v w c) (legal : Legal setting w.seen) (n : Name) where
   pub aborted_made : (why : Cause) (r : Result (Unit {0}) TxNo) → OnOk r (Walk v w (entry v.number (event.End n (Abort why)) ∷ [])) → OnOk r (Made c (by_client c (event.End n (Abort why)) ∷ []) v.seen w.seen)
   aborted_made why (Ok x) walk = made_one setting v w c for legal (event.End n (Abort why)) walk
   aborted_made why (Err e) walk = tt

@@ -29,7 +29,7 @@ use Rattle.qc_script.specs.Client.{Client, Made, is_own}
 use Rattle.qc_script.specs.Numbers.{any_top, each, is_next_top, own_next, next_top, Numbers}
 use Rattle.qc_session.specs.Clients.{IsFor}
 use Rattle.qc_session.specs.Managing.{HasStarted}
-use Rattle.qc_session.proofs.Own.{made_one, own_alone}
+use Rattle.qc_session.proofs.Own.{KinMadeNone, kin_made_none, made_one, not_kin, own_alone}
 use Rattle.qc_session.proofs.Walks.{started_walk}
 
 -- COUNTING TOPS
@@ -58,15 +58,15 @@ tops_counted (e ∷ past) = omega (arith, tops_counted past, one_top e.event, le
 
 -- NUMBERS
 
-others_numbered : (c : Client) (seat : ℕ) (newer past : Past) → c.number ≡ seat → c.kin ≡ [] → AreOthers seat newer → each (own_next c) past ≡ true → each (own_next c) (newer ++ past) ≡ true
-others_numbered c seat [] past number kinless others was = was
-others_numbered c seat (e ∷ newer) past number kinless others was =
-    ap (λ b. b && own_next c e (newer ++ past)) (others_numbered c seat newer past number kinless others.1 was)
-    ∙ ap (λ b. not b || is_next_top c.epoch e (newer ++ past)) (own_alone c seat e.seat number kinless ∙ false_from_ne_true (e.seat == seat) (λ is. others.0 (eqb-true e.seat seat is)))
+others_numbered : (c : Client) (seat : ℕ) (newer past : Past) → c.number ≡ seat → KinMadeNone c newer → AreOthers seat newer → each (own_next c) past ≡ true → each (own_next c) (newer ++ past) ≡ true
+others_numbered c seat [] past number none others was = was
+others_numbered c seat (e ∷ newer) past number none others was =
+    ap (λ b. b && own_next c e (newer ++ past)) (others_numbered c seat newer past number (λ k h. (none k h).1) others.1 was)
+    ∙ ap (λ b. not b || is_next_top c.epoch e (newer ++ past)) (own_alone c seat e.seat number (not_kin c e newer none) ∙ false_from_ne_true (e.seat == seat) (λ is. others.0 (eqb-true e.seat seat is)))
 
-numbered : (c : Client) (seat : ℕ) (old before : Past) (e : Entry) → c.number ≡ seat → c.kin ≡ [] → IsSince seat old before → is_next_top c.epoch e before ≡ true → Numbers c old (e ∷ before)
-numbered c seat old before e number kinless since next was =
-    ap (λ b. b && own_next c e before) (subst (λ p. each (own_next c) p ≡ true) (sym since.1) (others_numbered c seat since.0 old number kinless since.2 was))
+numbered : (c : Client) (seat : ℕ) (old before : Past) (e : Entry) → c.number ≡ seat → (since : IsSince seat old before) → KinMadeNone c since.0 → is_next_top c.epoch e before ≡ true → Numbers c old (e ∷ before)
+numbered c seat old before e number since none next was =
+    ap (λ b. b && own_next c e before) (subst (λ p. each (own_next c) p ≡ true) (sym since.1) (others_numbered c seat since.0 old number none since.2 was))
     ∙ by_own (not (is_own c e.seat)) next
   where
     by_own : (b : Bool) {d : Bool} → d ≡ true → (b || d) ≡ true
@@ -91,14 +91,14 @@ module _ (setting : Setting) (v w : View) (epoch session body : ℕ) (legal : Le
   top_walks (Ok n) s e = (_, top_walk n s)
   top_walks (Err why) s e = (_, walking.of_looked v w e.0)
 
-  module _ (c : Client) (for : IsFor setting v c) where
+  module _ (c : Client) (for : IsFor setting v w c) where
     pub top_begun : (n : Name) → StartsTop epoch session body v w n → Made c (by_client c (event.Start n (kind.User session body)) ∷ []) v.seen w.seen
     top_begun n s = made_one setting v w c for legal (event.Start n (kind.User session body)) (top_walk n s)
 
     pub top_numbers : (n : Name) → c.epoch ≡ epoch → StartsTop epoch session body v w n → Numbers c v.seen w.seen
     top_numbers n same s =
         subst (Numbers c v.seen) (sym (ap (λ (x : View). x.seen) s.5))
-        (numbered c v.number v.seen s.0 (entry v.number s.1) for.number for.kinless s.3
+        (numbered c v.number v.seen s.0 (entry v.number s.1) for.number s.3 (λ k h. (kin_made_none setting v w c for (entry v.number s.1 ∷ s.3.0) (ap (λ (x : View). x.seen) s.5 ∙ ap (λ p. entry v.number s.1 ∷ p) s.3.1) k h).1)
         (ap (λ ev. is_next_top c.epoch (entry v.number ev) s.0) s.2.1
         ∙ ap (λ m. option_map_or (λ number. number == next_top c.epoch s.0) (any_top (event.Start m (kind.User session body))) true) s.2.0
         ∙ eq-eqb _ _ (omega (arith, same, tops_counted s.0))))
@@ -109,12 +109,12 @@ module _ (setting : Setting) (v w : View) (of : Name) (k : Kind) (legal : Legal 
   pub child_is : (n : Name) → HasStarted v w of n k → IsTrue (is_child of n)
   child_is n h = ap (is_child of) h.named ∙ is_child-last of (length (children h.before of) + 1)
 
-  pub child_numbers : (c : Client) (for : IsFor setting v c) (n : Name) → HasStarted v w of n k → Numbers c v.seen w.seen
+  pub child_numbers : (c : Client) (for : IsFor setting v w c) (n : Name) → HasStarted v w of n k → Numbers c v.seen w.seen
   child_numbers c for n h =
       let long : 1 < length n = omega (arith, nonroot, ap (λ m. length m) h.named, length_last of (length (children h.before of) + 1)) in
       subst (Numbers c v.seen) (sym (ap (λ (x : View). x.seen) h.grown))
-      (numbered c v.number v.seen h.before (entry v.number (event.Start n k)) for.number for.kinless h.since
+      (numbered c v.number v.seen h.before (entry v.number (event.Start n k)) for.number h.since (λ j l. (kin_made_none setting v w c for (entry v.number (event.Start n k) ∷ h.since.0) (ap (λ (x : View). x.seen) h.grown ∙ ap (λ p. entry v.number (event.Start n k) ∷ p) h.since.1) j l).1)
       (ap (λ o. option_map_or (λ number. number == next_top c.epoch h.before) o true) (no_top n k long)))
 
-  pub child_begun : (c : Client) (for : IsFor setting v c) (n : Name) → HasStarted v w of n k → Made c (by_client c (event.Start n k) ∷ []) v.seen w.seen
+  pub child_begun : (c : Client) (for : IsFor setting v w c) (n : Name) → HasStarted v w of n k → Made c (by_client c (event.Start n k) ∷ []) v.seen w.seen
   child_begun c for n h = made_one setting v w c for legal (event.Start n k) (started_walk v w of n k h)

@@ -125,7 +125,7 @@ unable_over past n y was = by_end (is_some (end past n)) (any_unable past n y wa
 one_long : (x : ℕ) → length (x ∷ []) ≡ 1
 one_long x = refl
 
-module _ (setting : Setting) (v w : View) (c : Client) (for : IsFor setting v c) (legal : Legal setting w.seen) (x : ℕ) (walk : Walk v w (entry v.number (event.Ready (x ∷ [])) ∷ [])) where
+module _ (setting : Setting) (v w : View) (c : Client) (for : IsFor setting v w c) (legal : Legal setting w.seen) (x : ℕ) (walk : Walk v w (entry v.number (event.Ready (x ∷ [])) ∷ [])) where
   readied : Made c (by_client c (event.Ready (x ∷ [])) ∷ []) v.seen w.seen
   readied = made_one setting v w c for legal (event.Ready (x ∷ [])) walk
 
@@ -159,7 +159,7 @@ user_commits setting past seat n long user = started_wider (λ b. IsUser b.kind)
     by_kind b (kind.Reconf rec config) is = absurd is
     by_kind b kind.Access is = absurd is
 
-pub below_committed : (setting : Setting) (v w : View) (c : Client) (for : IsFor setting v c) (legal : Legal setting w.seen) (n : Name) → 2 ≤ length n → Walk v w (entry v.number (event.End n (Commit answer.Nothing)) ∷ []) → Committed c n v.seen w.seen
+pub below_committed : (setting : Setting) (v w : View) (c : Client) (for : IsFor setting v w c) (legal : Legal setting w.seen) (n : Name) → 2 ≤ length n → Walk v w (entry v.number (event.End n (Commit answer.Nothing)) ∷ []) → Committed c n v.seen w.seen
 below_committed setting v w c for legal [] long walk = absurd (omega (arith, long))
 below_committed setting v w c for legal (x ∷ []) long walk = absurd (omega (arith, long))
 below_committed setting v w c for legal (x ∷ y ∷ r) long walk = made_one setting v w c for legal (event.End (x ∷ y ∷ r) (Commit answer.Nothing)) walk

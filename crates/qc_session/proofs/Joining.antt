@@ -1,7 +1,8 @@
 -- The first pass, as it gives a client its pass and that is joined back.
-use Rattle.std.proofs.Common.{◌≡◌, ℕ, ◌<◌, ◌≤◌, ◌+◌, ◌==◌, ◌⊎◌, inl, inr, Bool, true, false, cond, List, [], ◌∷◌, ◌++◌, length, refl, sym, ap, ◌∙◌, subst, arith, eq-eqb}
+use Rattle.std.proofs.Common.{◌≡◌, ℕ, zero, suc, ◌<◌, ◌≤◌, ◌+◌, ◌==◌, ◌⊎◌, inl, inr, Bool, true, false, cond, List, [], ◌∷◌, ◌++◌, length, refl, sym, ap, ◌∙◌, subst, arith, eq-eqb}
 use mathlib.Core.Bool.{true≢false}
-use mathlib.Core.Option.{some}
+use mathlib.Core.Option.{some, some-ne-none, some-injective}
+use lib.ListN.{get_elem?}
 use Rattle.std.specs.Prelude.{MatchBool, nat_lt, ◌&&◌, ◌||◌, Result, Ok, Err, OnOk, IsErrOf}
 use Rattle.std.specs.List.{list_any}
 use Rattle.std.proofs.lemmas.Bool.{or_right}
@@ -13,12 +14,13 @@ use Rattle.qc_event.specs.History.{Past, limit}
 use Rattle.qc_interp.specs.Reach.{Reach}
 use Rattle.qc_pass.specs.declared.view.View.{View}
 use Rattle.qc_pass.specs.Entries.{IsOlder, entries_of}
-use Rattle.qc_pass.specs.Rules.{Has, IsSplit, joined, knows, pass, without}
-use Rattle.qc_pass.proofs.Moves.{has_none}
-use Rattle.qc_pass.proofs.Numbers.{has_both, has_cons, has_left, has_right}
+use Rattle.qc_pass.specs.Rules.{AreKin, Has, IsSplit, joined, knows, numbers, pass, without}
+use Rattle.qc_pass.proofs.Apart.{number_of_kin}
+use Rattle.qc_pass.proofs.Having.{has_both, has_cons, has_left, has_none, has_right}
 use Rattle.qc_pass.proofs.Seers.{older_trans}
 use Rattle.qc_script.specs.Plan.{SessionPlan}
-use Rattle.qc_session.specs.Session.{EachJoined, HaveRun, IsFirst, IsNew, Leaves, RanEach, RanOne}
+use Rattle.qc_session.specs.Marking.{made_under}
+use Rattle.qc_session.specs.Session.{AreHigh, EachJoined, HaveRun, IsFirst, IsNew, Leaves, RanEach, RanOne, is_of}
 
 by_count : (P Q : Type 0) (b : Bool) → b ≡ false → MatchBool b P Q → Q
 by_count P Q true is m = absurd (true≢false is)
@@ -72,6 +74,12 @@ module _ (first split given : View) (is : IsFirst first) (splits : IsSplit first
 
 -- IT IS JOINED BACK
 
+-- a number is found where it stands
+one_is : (n : ℕ) (xs : List ℕ) (i : ℕ) → get_elem? xs i ≡ some n → list_any (λ k. k == n) xs ≡ true
+one_is n [] i at = absurd (some-ne-none n (sym at))
+one_is n (x ∷ xs) zero at = ap (λ b. b || list_any (λ k. k == n) xs) (eq-eqb x n (some-injective x n at))
+one_is n (x ∷ xs) (suc i) at = or_right (x == n) (list_any (λ k. k == n) xs) (one_is n xs i at)
+
 -- what is left without a number is of the list, and another
 has_without : (n k : ℕ) (xs : List ℕ) → Has (without n xs) k → Has xs k × (k ≡ n → ⊥)
 has_without n k [] h = absurd (has_none k h)
@@ -87,7 +95,10 @@ has_without n k (x ∷ xs) h = by_test (x == n) refl h (λ rest. has_without n k
       | inr rest ↦ more (before rest)
     ]
 
-module _ (mid back now : View) (kinless : back.kin ≡ []) (joins : now ≡ knows now.seen (joined mid back)) where
+module _ (mid back now : View) (joins : now ≡ knows now.seen (joined mid back)) where
+  abbrev given_back : List (ℕ × Past)
+  given_back = pair back.number back.mine ∷ back.kin
+
   pub first_joined : IsFirst mid → IsFirst now
   first_joined is = record {
     live = ap (λ (v : View). v.live) joins ∙ is.live;
@@ -96,26 +107,22 @@ module _ (mid back now : View) (kinless : back.kin ≡ []) (joins : now ≡ know
     mine = ap (λ (v : View). v.mine) joins ∙ is.mine;
   }
 
-  kin_joined : now.kin ≡ mid.kin ++ pair back.number back.mine ∷ []
-  kin_joined = ap (λ (v : View). v.kin) joins ∙ ap (λ ks. mid.kin ++ pair back.number back.mine ∷ ks) kinless
+  kin_joined : now.kin ≡ mid.kin ++ given_back
+  kin_joined = ap (λ (v : View). v.kin) joins
 
   pub kept_joined : (k : ℕ) (m : Past) → Has mid.kin (pair k m) → Has now.kin (pair k m)
-  kept_joined k m h = subst (λ ks. Has ks (pair k m)) (sym kin_joined) (has_left mid.kin (pair back.number back.mine ∷ []) (pair k m) h)
+  kept_joined k m h = subst (λ ks. Has ks (pair k m)) (sym kin_joined) (has_left mid.kin given_back (pair k m) h)
 
-  pub one_joined : Has now.kin (pair back.number back.mine)
-  one_joined = subst (λ ks. Has ks (pair back.number back.mine)) (sym kin_joined) (has_right mid.kin (pair back.number back.mine ∷ []) (pair back.number back.mine) (0, refl))
+  pub one_joined : (k : ℕ) (m : Past) → Has given_back (pair k m) → Has now.kin (pair k m)
+  one_joined k m h = subst (λ ks. Has ks (pair k m)) (sym kin_joined) (has_right mid.kin given_back (pair k m) h)
 
-  pub only_joined : (k : ℕ) (m : Past) → Has now.kin (pair k m) → Has mid.kin (pair k m) ⊎ (k ≡ back.number)
+  pub only_joined : (k : ℕ) (m : Past) → Has now.kin (pair k m) → Has mid.kin (pair k m) ⊎ (is_of back k ≡ true)
   only_joined k m h = by_both (subst (λ ks. Has ks (pair k m)) kin_joined h)
     where
-      of_one : (pair back.number back.mine ≡ pair k m) ⊎ Has [] (pair k m) → k ≡ back.number
-      of_one (inl is) = sym (ap (λ (p : ℕ × Past). p.0) is)
-      of_one (inr none) = absurd (has_none (pair k m) none)
-
-      by_both : Has (mid.kin ++ pair back.number back.mine ∷ []) (pair k m) → Has mid.kin (pair k m) ⊎ (k ≡ back.number)
-      by_both t = elim (has_both mid.kin (pair back.number back.mine ∷ []) (pair k m) t.0 t.1) [
+      by_both : Has (mid.kin ++ given_back) (pair k m) → Has mid.kin (pair k m) ⊎ (is_of back k ≡ true)
+      by_both t = elim (has_both mid.kin given_back (pair k m) t.0 t.1) [
         | inl old ↦ inl old
-        | inr new ↦ inr (of_one (has_cons (pair back.number back.mine) (pair k m) [] new.0 new.1))
+        | inr new ↦ inr (let at = number_of_kin given_back k new.0 m new.1 in one_is k (numbers back) at.0 at.1)
       ]
 
   pub out_joined : (k : ℕ) → Has now.out k → Has mid.out k × (k ≡ back.number → ⊥)
@@ -137,12 +144,13 @@ each_later reach setting epoch patience session [] (one ∷ ones) mid now kept o
 each_later reach setting epoch patience session (plan ∷ plans) [] mid now kept older each = each
 each_later reach setting epoch patience session (plan ∷ plans) (one ∷ ones) mid now kept older each = (
   record {
-    number = each.0.number;
+    high = each.0.high;
     own = each.0.own;
+    kin = each.0.kin;
     before = each.0.before;
     none = each.0.none;
     leaves = each.0.leaves;
-    joined = kept one.number one.mine each.0.joined;
+    joined = λ k m h. kept k m (each.0.joined k m h);
     seen = older_trans one.seen mid.seen now.seen each.0.seen older;
   },
   each_later reach setting epoch patience (session + 1) plans ones mid now kept older each.1,
@@ -160,7 +168,7 @@ none_run reach setting epoch patience session first = record {
 }
 
 module _ (setting : Setting) (epoch patience session : ℕ) (plan : SessionPlan) (plans : List SessionPlan) (first split given back mid now : View)
-    (is : IsFirst first) (splits : IsSplit first split given) (new : IsNew given) (number : back.number ≡ given.number) (kinless : back.kin ≡ []) (own : back.mine ≡ entries_of back.number back.seen)
+    (is : IsFirst first) (splits : IsSplit first split given) (new : IsNew given) (number : back.number ≡ given.number) (high : AreHigh (numbers back)) (none : made_under (numbers back) given.seen ≡ []) (own : back.mine ≡ entries_of back.number back.seen) (kin : AreKin back.kin back.seen)
     (joins : now ≡ knows now.seen (joined mid back)) (mid_seen : IsOlder mid.seen now.seen) (back_seen : IsOlder back.seen now.seen) where
   -- one more session ran, before those that have run
   one_more_run : (reach : Reach) → Leaves reach setting epoch patience session plan given.seen back → HaveRun reach setting epoch patience (session + 1) plans split mid → HaveRun reach setting epoch patience session (plan ∷ plans) first now
@@ -168,26 +176,27 @@ module _ (setting : Setting) (epoch patience session : ℕ) (plan : SessionPlan)
     ones = back ∷ others.ones;
     each = (
       record {
-        number = subst (λ n. 17 < n) (sym number) new.number;
+        high = high;
         own = own;
+        kin = kin;
         before = given.seen;
-        none = subst (λ n. entries_of n given.seen ≡ []) (sym number) new.none;
+        none = none;
         leaves = leaves;
-        joined = one_joined mid back now kinless joins;
+        joined = one_joined mid back now joins;
         seen = back_seen;
       },
-      each_later reach setting epoch patience (session + 1) plans others.ones mid now (kept_joined mid back now kinless joins) mid_seen others.each,
+      each_later reach setting epoch patience (session + 1) plans others.ones mid now (kept_joined mid back now joins) mid_seen others.each,
     );
-    only = λ k m h. elim (only_joined mid back now kinless joins k m h) [
+    only = λ k m h. elim (only_joined mid back now joins k m h) [
       | inl old ↦ elim (others.only k m old) [
         | inl before ↦ inl (subst (λ ks. Has ks (pair k m)) (kin_split first split given is splits) before)
-        | inr one ↦ inr (or_right (back.number == k) (list_any (λ (v : View). v.number == k) others.ones) one)
+        | inr one ↦ inr (or_right (is_of back k) (list_any (λ (v : View). is_of v k) others.ones) one)
       ]
-      | inr at ↦ inr (ap (λ b. b || list_any (λ (v : View). v.number == k) others.ones) (eq-eqb back.number k (sym at)))
+      | inr at ↦ inr (ap (λ b. b || list_any (λ (v : View). is_of v k) others.ones) at)
     ];
-    kept = λ k m h. kept_joined mid back now kinless joins k m (others.kept k m (subst (λ ks. Has ks (pair k m)) (sym (kin_split first split given is splits)) h));
+    kept = λ k m h. kept_joined mid back now joins k m (others.kept k m (subst (λ ks. Has ks (pair k m)) (sym (kin_split first split given is splits)) h));
     out = λ k h.
-        let left = out_joined mid back now kinless joins k h in
+        let left = out_joined mid back now joins k h in
         let had = subst (λ ks. Has ks k) (out_split first split given is splits) (others.out k left.0) in
         elim (has_cons given.number k first.out had.0 had.1) [
           | inl at ↦ absurd (left.1 (sym at ∙ sym number))
@@ -206,13 +215,13 @@ module _ (setting : Setting) (epoch patience session : ℕ) (plan : SessionPlan)
 
   pub each_ran : (ran rest : Result (Unit {0}) Short) → RanOne setting epoch patience session plan given ran back → RanEach setting epoch patience (session + 1) plans split rest mid → RanEach setting epoch patience session (plan ∷ plans) first (first_want ran rest) now
   each_ran (Ok done) rest one others = record {
-    first = first_joined mid back now kinless joins others.first;
+    first = first_joined mid back now joins others.first;
     follows = follows_more rest one.follows others.follows;
     begins = one_more_run Reach.cut_off one.begins others.begins;
     room = λ is. longer mid.seen mid_seen (others.room is);
   }
   each_ran (Err why) rest one others = record {
-    first = first_joined mid back now kinless joins others.first;
+    first = first_joined mid back now joins others.first;
     follows = tt;
     begins = one_more_run Reach.cut_off one.begins others.begins;
     room = λ is. longer back.seen back_seen (let full = one.room is in omega (arith, full));

@@ -1,5 +1,5 @@
 -- What a client is told of marks, and what it made as it marked a session.
-use Rattle.std.proofs.Common.{◌≡◌, ℕ, inl, inr, Bool, true, false, List, [], length, refl, sym, subst}
+use Rattle.std.proofs.Common.{◌≡◌, ℕ, inl, inr, Bool, true, false, List, [], ◌∷◌, length, sym, subst}
 use mathlib.Core.Bool.{true≢false, Bool-set}
 use Rattle.std.proofs.Math.Logic.{∥∥₁_elim}
 use Rattle.std.specs.Prelude.{Option, None, Some, MatchOption, nat_le, option_and_then, option_map}
@@ -32,7 +32,7 @@ use Rattle.qc_session.specs.Acting.{IsWanting, short_of}
 use Rattle.qc_session.specs.Clients.{IsFor}
 use Rattle.qc_session.specs.Marking.{KnowsMarks}
 use Rattle.qc_session.proofs.OwnMarks.{none_marks, some_unmarked}
-use Rattle.qc_session.proofs.Own.{made_so, mine_is}
+use Rattle.qc_session.proofs.Own.{made_so}
 
 -- THE HISTORY'S WORD
 
@@ -71,10 +71,8 @@ none_made c seen n own none = some_unmarked c.session (top_number n) (λ (e : En
 -- THE BOARD'S WORD
 
 -- where the word of a client's session is below a top, it has made none that reaches that
-pub none_told : (c : Client) (seen : Past) (top word may : ℕ) (marks : List Mark) → c.kin ≡ [] → IsBound may marks c.session word → nat_le top word ≡ false → ∥ KnowsMarks c.number seen c.session marks ∥₁ → is_marked (mine c seen) c.session top ≡ false
-none_told c seen top word may marks kinless bound low known =
-    subst (λ p. is_marked p c.session top ≡ false) (sym (mine_is c c.number seen refl kinless))
-    (∥∥₁_elim known (hlevel Bool-set) (λ (k : KnowsMarks c.number seen c.session marks). none_marks c.session top word may marks bound low _ k))
+pub none_told : (c : Client) (seen : Past) (top word may : ℕ) (marks : List Mark) → IsBound may marks c.session word → nat_le top word ≡ false → ∥ KnowsMarks (c.number ∷ c.kin) seen marks ∥₁ → is_marked (mine c seen) c.session top ≡ false
+none_told c seen top word may marks bound low known = ∥∥₁_elim known (hlevel Bool-set) (λ (k : KnowsMarks (c.number ∷ c.kin) seen marks). none_marks c.session top word may marks bound low _ k)
 
 -- MARKS THAT WERE NOT MADE
 
@@ -99,6 +97,6 @@ wanting_walk v w Memory walk = walk
 wanting_walk v w Room wanting = wanting.0
 
 -- its client tells of want of room only where the history is full
-pub not_marked : (setting : Setting) (v w : Pass) (c : Client) (short : Short) → IsFor setting v c → Legal setting w.seen → IsWanting v w short → Made c [] v.seen w.seen × (short ≡ Room → length w.seen ≡ limit)
+pub not_marked : (setting : Setting) (v w : Pass) (c : Client) (short : Short) → IsFor setting v w c → Legal setting w.seen → IsWanting v w short → Made c [] v.seen w.seen × (short ≡ Room → length w.seen ≡ limit)
 not_marked setting v w c Memory for legal walk = (made_so setting v w c for legal [] walk, λ is. cc)
 not_marked setting v w c Room for legal wanting = (made_so setting v w c for legal [] wanting.0, λ is. wanting.1)

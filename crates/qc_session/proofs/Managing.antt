@@ -199,7 +199,7 @@ wanting_on v u w n short.Room first h = (walking.walk_on v u w [] [] first h.0, 
 -- THE WHOLE OF IT
 
 -- A manager started, its accesses did what its client made since, and maybe it ended.
-module _ (setting : Setting) (v w x y : View) (c : Client) (for : IsFor setting v c) (of n : Name) (k : Kind) (manages : IsManager k) (nonroot : 0 < length of) (h : HasStarted v w of n k) (runs : IsRunning w.number w.seen n k) (g : HasGrown (λ e. not (e.seat == w.number)) (λ m. IsTrue (is_child n m)) w.seen x.seen)
+module _ (setting : Setting) (v w x y : View) (c : Client) (for : IsFor setting v y c) (of n : Name) (k : Kind) (manages : IsManager k) (nonroot : 0 < length of) (h : HasStarted v w of n k) (runs : IsRunning w.number w.seen n k) (g : HasGrown (λ e. not (e.seat == w.number)) (λ m. IsTrue (is_child n m)) w.seen x.seen)
     (carried : Walk w x (made_by w.number g.newer)) (legal : Legal setting y.seen) (legal_carried : Legal setting x.seen) where
   abbrev inner : Past
   inner = made_by w.number g.newer

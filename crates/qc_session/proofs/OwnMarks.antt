@@ -2,17 +2,16 @@
 use Rattle.std.proofs.Common.{◌≡◌, ℕ, ◌<◌, ◌≤◌, ◌==◌, ◌%◌, ◌^◌, zero, suc, Bool, true, false, cond, List, [], ◌∷◌, ◌++◌, refl, sym, ap, ◌∙◌, subst, arith, inl, inr, IsBitSet, eqb-true, eq-eqb}
 use mathlib.Core.Bool.{true≢false}
 use native.Mathlib.Numerals.{unary_clauses}
-use mathlib.Core.Option.{some}
 use Rattle.std.specs.Prelude.{◌||◌, ◌&&◌, nat_le, not, filter, is_some, bit_and}
-use Rattle.std.specs.List.{AllByRecursion}
+use Rattle.std.specs.List.{AllByRecursion, list_any}
 use Rattle.std.specs.Option.{option_map_or}
 use Rattle.std.proofs.Math.Nat.{zero-mod}
-use Rattle.std.proofs.lemmas.Bool.{and_parts}
+use Rattle.std.proofs.lemmas.Bool.{and_parts, false_from_ne_true}
 use Rattle.std.proofs.lemmas.Bool.Decides.{nat_tests}
 use Rattle.std.proofs.lemmas.List.Elements.{filter-append}
+use Rattle.std.proofs.lemmas.List.Folds.{list_any-append}
 use Rattle.qc_board.specs.Boards.{Mark}
-use Rattle.qc_board.specs.Marks.{IsBound}
-use Rattle.qc_carry.specs.Walk.{Walk}
+use Rattle.qc_board.specs.Marks.{Has, IsBound}
 use Rattle.qc_event.specs.declared.event.Entry.{Entry}
 use Rattle.qc_event.specs.declared.event.Event.{Event}
 use Rattle.qc_event.specs.declared.event.Event.TheVariants as event
@@ -24,46 +23,80 @@ use Rattle.qc_event.specs.Legal.{Legal, MayHappen}
 use Rattle.qc_event.specs.Starts.{Starts}
 use Rattle.qc_event.specs.Users.{is_marked, mark_of, top_number}
 use Rattle.qc_event.proofs.OneEntry.{start_step}
-use Rattle.qc_gather.specs.Carrying.{entry, made_by}
-use Rattle.qc_pass.specs.declared.view.View.{View}
-use Rattle.qc_session.specs.Marking.{KnowsMark, KnowsMarks}
+use Rattle.qc_gather.specs.Carrying.{entry}
+use Rattle.qc_pass.specs.Entries.{AreOthers, entries_of}
+use Rattle.qc_pass.proofs.Since.{others_where_none}
+use Rattle.qc_session.specs.Marking.{KnowsMark, KnowsMarks, made_under}
 
 -- WHAT IT KNOWS AS IT GOES ON
 
--- a mark of each of these entries that marks the session is among these
-abbrev pub AreKnown : ℕ → List Mark → Past → Type 0
-AreKnown session marks made = AllByRecursion (λ (e : Entry). KnowsMark session marks e.event) made
+-- a mark of each of these entries that marks a session is among these
+abbrev pub AreKnown : List Mark → Past → Type 0
+AreKnown marks made = AllByRecursion (λ (e : Entry). KnowsMark marks e.event) made
 
-pub known_both : (session : ℕ) (marks : List Mark) (xs ys : Past) → AreKnown session marks xs → AreKnown session marks ys → AreKnown session marks (xs ++ ys)
-known_both session marks [] ys first second = second
-known_both session marks (x ∷ xs) ys first second = (first.0, known_both session marks xs ys first.1 second)
+pub known_both : (marks : List Mark) (xs ys : Past) → AreKnown marks xs → AreKnown marks ys → AreKnown marks (xs ++ ys)
+known_both marks [] ys first second = second
+known_both marks (x ∷ xs) ys first second = (first.0, known_both marks xs ys first.1 second)
 
--- what a client knew before these entries of its own, and of these, it knows of all
-pub known_on : (session number : ℕ) (marks : List Mark) (newer before now made : Past) → now ≡ newer ++ before → made_by number newer ≡ made → AreKnown session marks made → KnowsMarks number before session marks → KnowsMarks number now session marks
-known_on session number marks newer before now made grown own new was =
-    subst (AreKnown session marks)
-    (sym (ap (made_by number) grown ∙ filter-append (λ (e : Entry). e.seat == number) newer before ∙ ap (λ x. x ++ made_by number before) own))
-    (known_both session marks made (made_by number before) new was)
-
-pub walk_known : (session : ℕ) (marks : List Mark) (v w : View) (made : Past) → Walk v w made → AreKnown session marks made → KnowsMarks v.number v.seen session marks → KnowsMarks v.number w.seen session marks
-walk_known session marks v w made walk known was = known_on session v.number marks walk.newer v.seen w.seen made walk.grown walk.own known was
+-- what was known before these entries, and of these, is known of all
+pub known_on : (numbers : List ℕ) (marks : List Mark) (newer before now made : Past) → now ≡ newer ++ before → made_under numbers newer ≡ made → AreKnown marks made → KnowsMarks numbers before marks → KnowsMarks numbers now marks
+known_on numbers marks newer before now made grown own new was =
+    subst (AreKnown marks)
+    (sym (ap (made_under numbers) grown ∙ filter-append (λ (e : Entry). list_any (λ k. k == e.seat) numbers) newer before ∙ ap (λ x. x ++ made_under numbers before) own))
+    (known_both marks made (made_under numbers before) new was)
 
 -- who made nothing knows of all
-pub none_known : (session number : ℕ) (marks : List Mark) (seen : Past) → made_by number seen ≡ [] → KnowsMarks number seen session marks
-none_known session number marks seen none = subst (AreKnown session marks) (sym none) tt
+pub none_known : (numbers : List ℕ) (marks : List Mark) (seen : Past) → made_under numbers seen ≡ [] → KnowsMarks numbers seen marks
+none_known numbers marks seen none = subst (AreKnown marks) (sym none) tt
 
-event_more : (session : ℕ) (m : Mark) (marks : List Mark) (ev : Event) → KnowsMark session marks ev → KnowsMark session (m ∷ marks) ev
-event_more session m marks (event.Mark by s) known = λ same. let k = known same in (k.0, (suc k.1.0, k.1.1), k.2)
-event_more session m marks _ known = tt
+-- so does a number under which nothing was made
+pub one_known : (number : ℕ) (marks : List Mark) (seen : Past) → entries_of number seen ≡ [] → KnowsMarks (number ∷ []) seen marks
+one_known number marks seen none = by_others seen (others_where_none number seen none)
+  where
+    by_others : (past : Past) → AreOthers number past → KnowsMarks (number ∷ []) past marks
+    by_others [] others = tt
+    by_others (e ∷ past) others =
+        subst (λ (b : Bool). AreKnown marks (cond (b || false) (e ∷ made_under (number ∷ []) past) (made_under (number ∷ []) past))) (sym (false_from_ne_true (number == e.seat) (λ is. others.0 (sym (eqb-true number e.seat is))))) (by_others past others.1)
 
--- who knows one mark more knows what it knew
-pub known_more : (session : ℕ) (m : Mark) (marks : List Mark) (made : Past) → AreKnown session marks made → AreKnown session (m ∷ marks) made
-known_more session m marks [] known = tt
-known_more session m marks (e ∷ made) known = (event_more session m marks e.event known.0, known_more session m marks made known.1)
+event_more : (marks more : List Mark) → ((m : Mark) → Has marks m → Has more m) → (ev : Event) → KnowsMark marks ev → KnowsMark more ev
+event_more marks more wider (event.Mark by s) k = (k.0, wider (s, k.0) k.1, k.2)
+event_more marks more wider (event.Start n kd) known = tt
+event_more marks more wider (event.Ask ask) known = tt
+event_more marks more wider (event.Gone n why) known = tt
+event_more marks more wider (event.Granted copy grant) known = tt
+event_more marks more wider (event.Refused n copy refusal) known = tt
+event_more marks more wider (event.Unable n why) known = tt
+event_more marks more wider (event.Ready n) known = tt
+event_more marks more wider (event.End n how) known = tt
+
+-- who knows more marks knows what it knew
+pub known_wider : (marks more : List Mark) (made : Past) → ((m : Mark) → Has marks m → Has more m) → AreKnown marks made → AreKnown more made
+known_wider marks more [] wider known = tt
+known_wider marks more (e ∷ made) wider known = (event_more marks more wider e.event known.0, known_wider marks more made wider known.1)
+
+pub known_more : (m : Mark) (marks : List Mark) (made : Past) → AreKnown marks made → AreKnown (m ∷ marks) made
+known_more m marks made known = known_wider marks (m ∷ marks) made (λ x h. (suc h.0, h.1)) known
 
 -- a mark is known that was made at the board
-pub mark_known : (session number s upto : ℕ) (by : Name) (marks : List Mark) → upto ≡ top_number by → AreKnown session ((s, upto) ∷ marks) (entry number (event.Mark by s) ∷ [])
-mark_known session number s upto by marks same = ((λ is. (upto, (0, ap (λ (n : ℕ). some (n, upto)) is), omega (arith, same))), tt)
+pub mark_known : (number s upto : ℕ) (by : Name) (marks : List Mark) → upto ≡ top_number by → AreKnown ((s, upto) ∷ marks) (entry number (event.Mark by s) ∷ [])
+mark_known number s upto by marks same = ((upto, (0, refl), omega (arith, same)), tt)
+
+-- who knows the marks of two knows those of both
+pub known_joined : (xs ys : List ℕ) (marks : List Mark) (seen : Past) → KnowsMarks xs seen marks → KnowsMarks ys seen marks → KnowsMarks (xs ++ ys) seen marks
+known_joined xs ys marks [] first second = tt
+known_joined xs ys marks (e ∷ seen) first second =
+    by_tests (list_any (λ k. k == e.seat) xs) (list_any (λ k. k == e.seat) ys) (list_any (λ k. k == e.seat) (xs ++ ys)) (list_any-append (λ k. k == e.seat) xs ys) first second (λ a b. known_joined xs ys marks seen a b)
+  where
+    by_tests : (x y b : Bool) → b ≡ (x || y) → AreKnown marks (cond x (e ∷ made_under xs seen) (made_under xs seen)) → AreKnown marks (cond y (e ∷ made_under ys seen) (made_under ys seen))
+        → (KnowsMarks xs seen marks → KnowsMarks ys seen marks → KnowsMarks (xs ++ ys) seen marks) → AreKnown marks (cond b (e ∷ made_under (xs ++ ys) seen) (made_under (xs ++ ys) seen))
+    by_tests true true true is a b rest = (a.0, rest a.1 b.1)
+    by_tests true false true is a b rest = (a.0, rest a.1 b)
+    by_tests false true true is a b rest = (b.0, rest a b.1)
+    by_tests false false false is a b rest = rest a b
+    by_tests true true false is a b rest = absurd (true≢false (sym is))
+    by_tests true false false is a b rest = absurd (true≢false (sym is))
+    by_tests false true false is a b rest = absurd (true≢false (sym is))
+    by_tests false false true is a b rest = absurd (true≢false is)
 
 -- WHAT THE BOARD TELLS
 
@@ -72,20 +105,20 @@ abbrev marks_it : ℕ → ℕ → Event → Bool
 marks_it session top ev = option_map_or (λ m. (m.1 == session) && nat_le top (top_number m.0)) (mark_of ev) false
 
 module _ (session top word may : ℕ) (marks : List Mark) (bound : IsBound may marks session word) (low : nat_le top word ≡ false) where
-  event_unmarked : (ev : Event) → KnowsMark session marks ev → marks_it session top ev ≡ false
+  event_unmarked : (ev : Event) → KnowsMark marks ev → marks_it session top ev ≡ false
   event_unmarked (event.Mark by s) known = by_session (s == session) refl
     where
       by_session : (b : Bool) → (s == session) ≡ b → (b && nat_le top (top_number by)) ≡ false
       by_session false other = refl
       by_session true is =
-          let k = known (eqb-true s session is) in
+          let k : (upto : ℕ) × Has marks (session, upto) × (top_number by ≤ upto) = subst (λ (n : ℕ). (upto : ℕ) × Has marks (n, upto) × (top_number by ≤ upto)) (eqb-true s session is) known in
           let few : k.0 ≤ word = bound.0 k.0 k.1 in
           let most : top_number by ≤ k.0 = k.2 in
           grind (arith, nat_tests)
   event_unmarked _ known = refl
 
   -- a session that its word does not mark up to a top is not marked so by the entries whose marks are known
-  pub none_marks : (made : Past) → AreKnown session marks made → is_marked made session top ≡ false
+  pub none_marks : (made : Past) → AreKnown marks made → is_marked made session top ≡ false
   none_marks [] known = refl
   none_marks (e ∷ made) known = ap (λ b. b || is_marked made session top) (event_unmarked e.event known.0) ∙ none_marks made known.1
 

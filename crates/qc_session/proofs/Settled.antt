@@ -27,6 +27,7 @@ use Rattle.qc_pass.specs.Entries.{entries_of}
 use Rattle.qc_pass.specs.Own.{IsMine}
 use Rattle.qc_pass.specs.Rules.{Has, IsSettled}
 use Rattle.qc_script.specs.Calls.{is_access}
+use Rattle.qc_session.specs.Session.{is_of}
 use Rattle.qc_session.specs.Tidy.{IsTidy}
 use Rattle.qc_session.proofs.Joining.{pair}
 use Rattle.qc_session.proofs.Standing.{manager_above}
@@ -35,7 +36,7 @@ use Rattle.qc_session.proofs.Standing.{manager_above}
 
 -- whether a seat is one of these passes'
 abbrev pub is_one : List View → ℕ → Bool
-is_one ones k = list_any (λ (v : View). v.number == k) ones
+is_one ones k = list_any (λ (v : View). is_of v k) ones
 
 -- under a client's seat that is none of theirs nothing was entered
 abbrev NoneElse : List View → Past → Type 0

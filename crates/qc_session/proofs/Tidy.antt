@@ -1,5 +1,5 @@
 -- That a client's own entries stay tidy, entry by entry.
-use Rattle.std.proofs.Common.{◌≡◌, ℕ, ◌==◌, ◌<◌, inl, inr, Bool, true, false, cond, [], ◌∷◌, ◌++◌, length, refl, sym, ap, ◌∙◌, subst, append-nil, List}
+use Rattle.std.proofs.Common.{◌≡◌, ℕ, suc, map, ◌==◌, ◌<◌, inl, inr, Bool, true, false, cond, [], ◌∷◌, ◌++◌, length, refl, sym, ap, ◌∙◌, subst, append-nil, List}
 use mathlib.Core.Bool.{true≢false}
 use Rattle.std.specs.Prelude.{None, Some, MatchOption, is_some, is_none, find, option_to_list, All, if◌then◌else◌}
 use Rattle.std.proofs.lemmas.Bool.{eq-eqb, eqb-true, not-true}
@@ -23,11 +23,13 @@ use Rattle.qc_event.proofs.OneEntry.{Ending, end_now, end_step, end_stays, some_
 use Rattle.qc_event.proofs.Later.{started_still}
 use Rattle.qc_gather.specs.Carrying.{entry, name_of}
 use Rattle.qc_pass.specs.declared.view.View.{View}
-use Rattle.qc_pass.specs.Entries.{AreOthers, IsSince, entries_of}
+use Rattle.qc_pass.specs.Entries.{AreOthers, IsOlder, IsSince, entries_of}
+use Rattle.qc_pass.specs.Rules.{Has, numbers}
 use Rattle.qc_pass.specs.Own.{IsMine}
 use Rattle.qc_pass.proofs.Others as others
-use Rattle.qc_pass.proofs.Since.{others_where_none}
-use Rattle.qc_session.specs.Tidy.{IsTidy}
+use Rattle.qc_pass.proofs.Since.{others_where_none, since}
+use Rattle.qc_session.specs.Clients.{kin_of}
+use Rattle.qc_session.specs.Tidy.{AreTidy, IsTidy}
 use Rattle.qc_session.proofs.Accesses.{OfManager}
 use Rattle.qc_session.proofs.Standing.{access_of, not_access_too, not_both, start_same}
 
@@ -206,3 +208,23 @@ walked_tidy setting v w legal walk was = looked_tidy setting v w legal walk.numb
 pub fresh_tidy : (setting : Setting) (seat : ℕ) (past : Past) → Legal setting past → entries_of seat past ≡ [] → IsTidy seat past
 fresh_tidy setting seat past legal none =
     subst (IsTidy seat) (append-nil past) (others_tidy setting seat past [] (subst (Legal setting) (sym (append-nil past)) legal) (others_where_none seat past none) (record { closed = λ m own over. absurd own }))
+
+-- EACH OF SOME SEATS
+
+-- where nothing is newer under any of these, they stay tidy
+pub each_tidy : (setting : Setting) (before now : Past) (seats : List ℕ) → Legal setting now → IsOlder before now → ((k : ℕ) → Has seats k → entries_of k now ≡ entries_of k before) → AreTidy seats before → AreTidy seats now
+each_tidy setting before now [] legal older same was = tt
+each_tidy setting before now (k ∷ seats) legal older same was =
+    let others = since k before now older (same k (0, refl)) in (
+      subst (IsTidy k) (sym others.1) (others_tidy setting k others.0 before (subst (Legal setting) others.1 legal) others.2 was.0),
+      each_tidy setting before now seats legal older (λ j h. same j (suc h.0, h.1)) was.1,
+    )
+
+-- so they do with a client's own, which stays tidy
+pub tidy_still : (setting : Setting) (v w : View) → Legal setting w.seen → IsOlder v.seen w.seen → w.number ≡ v.number → w.kin ≡ v.kin → ((k : ℕ) → Has (kin_of v) k → entries_of k w.seen ≡ entries_of k v.seen) → (IsTidy v.number v.seen → IsTidy w.number w.seen) → AreTidy (numbers v) v.seen → AreTidy (numbers w) w.seen
+tidy_still setting v w legal older number kin same own was =
+    (own was.0, subst (λ (ks : List (ℕ × Past)). AreTidy (map (λ (p : ℕ × Past). p.0) ks) w.seen) (sym kin) (each_tidy setting v.seen w.seen (kin_of v) legal older same was.1))
+
+pub tidy_both : (xs ys : List ℕ) (past : Past) → AreTidy xs past → AreTidy ys past → AreTidy (xs ++ ys) past
+tidy_both [] ys past first second = second
+tidy_both (x ∷ xs) ys past first second = (first.0, tidy_both xs ys past first.1 second)

@@ -11,7 +11,7 @@ use Rattle.qc_event.specs.Seats.{is_client}
 use Rattle.qc_interp.proofs.Owners.{starts_client}
 use Rattle.qc_pass.specs.declared.view.View.{View}
 use Rattle.qc_pass.specs.Rules.{Has, IsSettled}
-use Rattle.qc_pass.proofs.Moves.{has_none}
+use Rattle.qc_pass.proofs.Having.{has_none}
 use Rattle.qc_system.specs.Parts.{IsOpening}
 use Rattle.qc_session.proofs.Settled.{AreTheirs, all_theirs}
 

@@ -1,6 +1,6 @@
 -- What the client of a session leaves in its pass, and what the clients of a script's sessions leave in the first pass.
-use Rattle.std.specs.Prelude.{ℕ, ◌≡◌, ◌+◌, ◌<◌, ◌≤◌, ◌==◌, ◌⊎◌, true, IsTrue, List, [], ◌∷◌, length, OnOk, IsErrOf, Result}
-use Rattle.std.specs.List.{list_any}
+use Rattle.std.specs.Prelude.{ℕ, ◌≡◌, ◌+◌, ◌<◌, ◌≤◌, ◌==◌, ◌⊎◌, Bool, true, IsTrue, List, [], ◌∷◌, length, OnOk, IsErrOf, Result}
+use Rattle.std.specs.List.{list_all, list_any}
 use Rattle.qc_event.specs.declared.log.Short.{Short}
 use Rattle.qc_event.specs.declared.log.Short.TheVariants.{Room}
 use Rattle.qc_event.specs.Base.{Setting}
@@ -11,16 +11,21 @@ use Rattle.qc_interp.specs.Session.{EndsTopsAt, InTurnAt}
 use Rattle.qc_net.specs.Messages.{meets_fates}
 use Rattle.qc_pass.specs.declared.view.View.{View as Pass}
 use Rattle.qc_pass.specs.Entries.{IsOlder, entries_of}
-use Rattle.qc_pass.specs.Rules.{Has}
+use Rattle.qc_pass.specs.Rules.{AreKin, Has, numbers}
 use Rattle.qc_script.specs.Plan.{SessionPlan, SessionWithin}
 use Rattle.qc_session.specs.Clients.{client_for}
-use Rattle.qc_session.specs.Tidy.{IsTidy}
+use Rattle.qc_session.specs.Marking.{made_under}
+use Rattle.qc_session.specs.Tidy.{AreTidy}
 
 -- ONE CLIENT
 
 -- what a session may ask for over the records and copies of a setting
 abbrev pub SessionFits : Setting → SessionPlan → Type 0
 SessionFits setting plan = SessionWithin (length setting.base) (length setting.firsts) plan
+
+-- each of these is above the numbers of the ledger and the copies
+abbrev pub AreHigh : List ℕ → Type 0
+AreHigh seats = (k : ℕ) → Has seats k → 17 < k
 
 -- a pass is a client's, and has entered nothing
 pub record IsNew (v : Pass) : Type 0 where
@@ -36,20 +41,26 @@ pub record IsNew (v : Pass) : Type 0 where
 pub record Leaves (reach : Reach) (setting : Setting) (epoch patience session : ℕ) (plan : SessionPlan) (before : Past) (v : Pass) : Type 0 where
   pub ends : EndsTopsAt reach (client_for setting epoch patience session plan v) before v.seen plan.tops
   pub in_turn : InTurnAt reach (client_for setting epoch patience session plan v) before v.seen
-  pub met : IsTrue (meets_fates v.number (net_of patience plan) v.seen)
-  pub tidy : ∥ IsTidy v.number v.seen ∥₁
+  pub met : IsTrue (list_all (λ seat. meets_fates seat (net_of patience plan) v.seen) (numbers v))
+  pub tidy : ∥ AreTidy (numbers v) v.seen ∥₁
 
--- the client of a session ran by this pass, and gave it back so
+-- The client of a session ran by this pass, and gave it back so: with the branches that it has merged, under none of whose
+-- numbers anything was entered before.
 pub record RanOne (setting : Setting) (epoch patience session : ℕ) (plan : SessionPlan) (given : Pass) (ran : Result (Unit {0}) Short) (back : Pass) : Type 0 where
   pub number : back.number ≡ given.number
   pub live : back.live ≡ true
-  pub kin : back.kin ≡ []
   pub out : back.out ≡ []
+  pub high : AreHigh (numbers back)
+  pub none : made_under (numbers back) given.seen ≡ []
   pub follows : OnOk ran (Leaves Reach.to_the_end setting epoch patience session plan given.seen back)
   pub begins : Leaves Reach.cut_off setting epoch patience session plan given.seen back
   pub room : IsErrOf ran Room → length back.seen ≡ limit
 
 -- EACH OF THEM
+
+-- whether a number is a pass's, or of one that was joined into it
+abbrev pub is_of : Pass → ℕ → Bool
+is_of v k = list_any (λ n. n == k) (numbers v)
 
 -- the first pass, which has given the numbers of the ledger and the copies, and has entered nothing
 pub record IsFirst (v : Pass) : Type 0 where
@@ -60,12 +71,13 @@ pub record IsFirst (v : Pass) : Type 0 where
 
 -- The client of a session, whose pass had seen this and was new, ran and joined it to the first pass.
 pub record Joined (reach : Reach) (setting : Setting) (epoch patience session : ℕ) (plan : SessionPlan) (one first : Pass) : Type 0 where
-  pub number : 17 < one.number
+  pub high : AreHigh (numbers one)
   pub own : one.mine ≡ entries_of one.number one.seen
+  pub kin : AreKin one.kin one.seen
   pub before : Past
-  pub none : entries_of one.number before ≡ []
+  pub none : made_under (numbers one) before ≡ []
   pub leaves : Leaves reach setting epoch patience session plan before one
-  pub joined : Has first.kin (one.number, one.mine)
+  pub joined : (k : ℕ) (m : Past) → Has ((one.number, one.mine) ∷ one.kin) (k, m) → Has first.kin (k, m)
   pub seen : IsOlder one.seen first.seen
 
 -- so did the clients of these sessions, numbered from this one on
@@ -80,7 +92,7 @@ EachJoined reach setting epoch patience session _ _ first = ⊥
 pub record HaveRun (reach : Reach) (setting : Setting) (epoch patience session : ℕ) (plans : List SessionPlan) (before now : Pass) : Type 0 where
   pub ones : List Pass
   pub each : EachJoined reach setting epoch patience session plans ones now
-  pub only : (k : ℕ) (m : Past) → Has now.kin (k, m) → Has before.kin (k, m) ⊎ IsTrue (list_any (λ (v : Pass). v.number == k) ones)
+  pub only : (k : ℕ) (m : Past) → Has now.kin (k, m) → Has before.kin (k, m) ⊎ IsTrue (list_any (λ (v : Pass). is_of v k) ones)
   pub kept : (k : ℕ) (m : Past) → Has before.kin (k, m) → Has now.kin (k, m)
   pub out : (k : ℕ) → Has now.out k → Has before.out k
   pub older : IsOlder before.seen now.seen

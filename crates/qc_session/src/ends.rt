@@ -7,10 +7,12 @@ ghost use Rattle.qc_event.specs.Dead.{dead, is_aborted, is_committed, outcome_of
 ghost use Rattle.qc_event.specs.declared.event.Cause.TheVariants as cause;
 ghost use Rattle.qc_event.specs.declared.event.Event.TheVariants as event;
 ghost use Rattle.qc_event.specs.declared.event.How.TheVariants.{Abort as Aborts};
+ghost use Rattle.qc_event.specs.Legal.{Legal};
 ghost use Rattle.qc_event.specs.Standing.{IsUser, Started};
 ghost use Rattle.qc_event.specs.Tables.{setting_of};
 ghost use Rattle.qc_gather.specs.Carrying.{entry};
 ghost use Rattle.qc_net.specs.Courier.{link_of};
+ghost use Rattle.qc_pass.specs.Rules.{AreKin};
 ghost use Rattle.qc_script.specs.Calls.{Committed, IsForChild, IsGrounded, NotAborted, NotCommitted, by_client};
 ghost use Rattle.qc_script.specs.Client.{Client, Made};
 ghost use Rattle.qc_session.specs.Acting.{IsUnaborted, IsUnfounded};
@@ -56,6 +58,8 @@ fn abort_licensed<R: Wait, D: Disk + Drop, L: Link + Drop, N: Mounting>(
     ensures still { HasCarried line.old.pass line.new.pass (L.view (link_of line.old.courier)).plan
         (L.view (link_of line.new.courier)).plan line.old.patience line.new.patience }
     ensures system { line.new.system ≡ line.old.system }
+    ensures known { AreKin line.new.pass.kin line.new.pass.seen
+        × Legal (setting_of N.table N.base) line.new.pass.seen }
     ensures tidy { IsTidy line.old.pass.number line.old.pass.seen
         → IsTidy line.new.pass.number line.new.pass.seen }
 {
@@ -83,6 +87,8 @@ fn abort_orphan<R: Wait, D: Disk + Drop, L: Link + Drop, N: Mounting>(
     ensures still { HasCarried line.old.pass line.new.pass (L.view (link_of line.old.courier)).plan
         (L.view (link_of line.new.courier)).plan line.old.patience line.new.patience }
     ensures system { line.new.system ≡ line.old.system }
+    ensures known { AreKin line.new.pass.kin line.new.pass.seen
+        × Legal (setting_of N.table N.base) line.new.pass.seen }
     ensures tidy { IsTidy line.old.pass.number line.old.pass.seen
         → IsTidy line.new.pass.number line.new.pass.seen }
 {
@@ -111,6 +117,8 @@ fn abort_with_child<R: Wait, D: Disk + Drop, L: Link + Drop, N: Mounting>(
     ensures still { HasCarried line.old.pass line.new.pass (L.view (link_of line.old.courier)).plan
         (L.view (link_of line.new.courier)).plan line.old.patience line.new.patience }
     ensures system { line.new.system ≡ line.old.system }
+    ensures known { AreKin line.new.pass.kin line.new.pass.seen
+        × Legal (setting_of N.table N.base) line.new.pass.seen }
     ensures tidy { IsTidy line.old.pass.number line.old.pass.seen
         → IsTidy line.new.pass.number line.new.pass.seen }
 {
@@ -140,6 +148,8 @@ fn abort_for_child<R: Wait, D: Disk + Drop, L: Link + Drop, N: Mounting>(
     ensures still { HasCarried line.old.pass line.new.pass (L.view (link_of line.old.courier)).plan
         (L.view (link_of line.new.courier)).plan line.old.patience line.new.patience }
     ensures system { line.new.system ≡ line.old.system }
+    ensures known { AreKin line.new.pass.kin line.new.pass.seen
+        × Legal (setting_of N.table N.base) line.new.pass.seen }
     ensures tidy { IsTidy line.old.pass.number line.old.pass.seen
         → IsTidy line.new.pass.number line.new.pass.seen }
 {
@@ -160,17 +170,19 @@ pub(crate) fn abort<R: Wait, D: Disk + Drop, L: Link + Drop, N: Mounting>(
 ) -> Result<(), TxNo>
     requires user { Started line.old.pass.seen target.now (λ b. IsUser b.kind) }
     requires grounded { IsGrounded line.old.pass.seen target.now cause.now }
-    ensures ok { (c : Client) → IsFor (setting_of N.table N.base) line.old.pass c
+    ensures ok { (c : Client) → IsFor (setting_of N.table N.base) line.old.pass line.new.pass c
         → OnOk result (Made c (by_client c (event.End target.now (Aborts cause.now)) ∷ [])
         line.old.pass.seen line.new.pass.seen) }
     ensures alive { OnOk result (IsForChild cause.now
         → dead line.old.pass.seen target.now ≡ None) }
-    ensures err { (c : Client) → IsFor (setting_of N.table N.base) line.old.pass c
+    ensures err { (c : Client) → IsFor (setting_of N.table N.base) line.old.pass line.new.pass c
         → IfErr result (NotAborted c target.now cause.now line.old.pass.seen
         line.new.pass.seen) }
     ensures still { HasCarried line.old.pass line.new.pass (L.view (link_of line.old.courier)).plan
         (L.view (link_of line.new.courier)).plan line.old.patience line.new.patience }
     ensures system { line.new.system ≡ line.old.system }
+    ensures known { AreKin line.new.pass.kin line.new.pass.seen
+        × Legal (setting_of N.table N.base) line.new.pass.seen }
     ensures tidy { IsTidy line.old.pass.number line.old.pass.seen
         → IsTidy line.new.pass.number line.new.pass.seen }
 {
@@ -191,13 +203,15 @@ pub(crate) fn commit_below<R: Wait, D: Disk + Drop, L: Link + Drop, N: Mounting>
 ) -> Result<(), TxNo>
     requires below { 2 ≤ length of.now }
     requires user { Started line.old.pass.seen of.now (λ b. IsUser b.kind) }
-    ensures ok { (c : Client) → IsFor (setting_of N.table N.base) line.old.pass c
+    ensures ok { (c : Client) → IsFor (setting_of N.table N.base) line.old.pass line.new.pass c
         → OnOk result (Committed c of.now line.old.pass.seen line.new.pass.seen) }
-    ensures err { (c : Client) → IsFor (setting_of N.table N.base) line.old.pass c
+    ensures err { (c : Client) → IsFor (setting_of N.table N.base) line.old.pass line.new.pass c
         → IfErr result (NotCommitted c of.now line.old.pass.seen line.new.pass.seen) }
     ensures still { HasCarried line.old.pass line.new.pass (L.view (link_of line.old.courier)).plan
         (L.view (link_of line.new.courier)).plan line.old.patience line.new.patience }
     ensures system { line.new.system ≡ line.old.system }
+    ensures known { AreKin line.new.pass.kin line.new.pass.seen
+        × Legal (setting_of N.table N.base) line.new.pass.seen }
     ensures tidy { IsTidy line.old.pass.number line.old.pass.seen
         → IsTidy line.new.pass.number line.new.pass.seen }
 {
@@ -217,13 +231,15 @@ pub(crate) fn commit_top<R: Wait, D: Disk + Drop, L: Link + Drop, N: Mounting>(
 ) -> Result<(), TxNo>
     requires top { top.now ≡ number ∷ [] }
     requires user { Started line.old.pass.seen top.now (λ b. IsUser b.kind) }
-    ensures ok { (c : Client) → IsFor (setting_of N.table N.base) line.old.pass c
+    ensures ok { (c : Client) → IsFor (setting_of N.table N.base) line.old.pass line.new.pass c
         → OnOk result (Committed c top.now line.old.pass.seen line.new.pass.seen) }
-    ensures err { (c : Client) → IsFor (setting_of N.table N.base) line.old.pass c
+    ensures err { (c : Client) → IsFor (setting_of N.table N.base) line.old.pass line.new.pass c
         → IfErr result (NotCommitted c top.now line.old.pass.seen line.new.pass.seen) }
     ensures still { HasCarried line.old.pass line.new.pass (L.view (link_of line.old.courier)).plan
         (L.view (link_of line.new.courier)).plan line.old.patience line.new.patience }
     ensures system { line.new.system ≡ line.old.system }
+    ensures known { AreKin line.new.pass.kin line.new.pass.seen
+        × Legal (setting_of N.table N.base) line.new.pass.seen }
     ensures tidy { IsTidy line.old.pass.number line.old.pass.seen
         → IsTidy line.new.pass.number line.new.pass.seen }
 {

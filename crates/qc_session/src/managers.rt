@@ -5,10 +5,12 @@ ghost use Rattle.qc_config.specs.declared.tuple.Tuple.{Tuple};
 ghost use Rattle.qc_event.specs.Base.{first_of};
 ghost use Rattle.qc_event.specs.declared.event.How.TheVariants.{Commit as Commits, Abort as Aborts};
 ghost use Rattle.qc_event.specs.History.{children, is_child};
+ghost use Rattle.qc_event.specs.Legal.{Legal};
 ghost use Rattle.qc_event.specs.Standing.{IsManager, IsUser, Started};
 ghost use Rattle.qc_event.specs.Tables.{setting_of};
 ghost use Rattle.qc_gather.specs.Carrying.{HasGrown, IsRunning};
 ghost use Rattle.qc_net.specs.Courier.{link_of};
+ghost use Rattle.qc_pass.specs.Rules.{AreKin};
 ghost use Rattle.qc_rw.specs.Managed.{IsAnswered, IsRefused, MayEndFor};
 ghost use Rattle.qc_script.specs.Calls.{GaveNone, Ran};
 ghost use Rattle.qc_script.specs.Client.{Client};
@@ -95,6 +97,8 @@ fn abort_manager<R: Wait, D: Disk + Drop, L: Link + Drop, N: Mounting>(
     ensures still { HasCarried line.old.pass line.new.pass (L.view (link_of line.old.courier)).plan
         (L.view (link_of line.new.courier)).plan line.old.patience line.new.patience }
     ensures system { line.new.system ≡ line.old.system }
+    ensures known { AreKin line.new.pass.kin line.new.pass.seen
+        × Legal (setting_of N.table N.base) line.new.pass.seen }
     ensures tidy { IsTidy line.old.pass.number line.old.pass.seen
         → IsTidy line.new.pass.number line.new.pass.seen }
 {
@@ -122,6 +126,8 @@ fn commit_manager<R: Wait, D: Disk + Drop, L: Link + Drop, N: Mounting>(
     ensures still { HasCarried line.old.pass line.new.pass (L.view (link_of line.old.courier)).plan
         (L.view (link_of line.new.courier)).plan line.old.patience line.new.patience }
     ensures system { line.new.system ≡ line.old.system }
+    ensures known { AreKin line.new.pass.kin line.new.pass.seen
+        × Legal (setting_of N.table N.base) line.new.pass.seen }
     ensures tidy { IsTidy line.old.pass.number line.old.pass.seen
         → IsTidy line.new.pass.number line.new.pass.seen }
 {
@@ -157,6 +163,8 @@ fn close<R: Wait, D: Disk + Drop, L: Link + Drop, N: Mounting>(
     ensures still { HasCarried line.old.pass line.new.pass (L.view (link_of line.old.courier)).plan
         (L.view (link_of line.new.courier)).plan line.old.patience line.new.patience }
     ensures system { line.new.system ≡ line.old.system }
+    ensures known { AreKin line.new.pass.kin line.new.pass.seen
+        × Legal (setting_of N.table N.base) line.new.pass.seen }
     ensures tidy { IsTidy line.old.pass.number line.old.pass.seen
         → IsTidy line.new.pass.number line.new.pass.seen }
 {
@@ -167,7 +175,10 @@ fn close<R: Wait, D: Disk + Drop, L: Link + Drop, N: Mounting>(
                 Ok(()) => Err(told(no)),
                 Err(short) => Err(want_of(short)),
             },
-            None => Err(told(no)),
+            None => {
+                line.known();
+                Err(told(no))
+            }
         },
     }
 }
@@ -182,15 +193,17 @@ pub(crate) fn manage<R: Wait, D: Disk + Drop, L: Link + Drop, N: Mounting>(
     requires over { table.now ≡ N.table }
     requires fits { KindFits (setting_of N.table N.base) kind.now }
     requires user { Started line.old.pass.seen of.now (λ b. IsUser b.kind) }
-    ensures ok { (c : Client) → IsFor (setting_of N.table N.base) line.old.pass c
+    ensures ok { (c : Client) → IsFor (setting_of N.table N.base) line.old.pass line.new.pass c
         → IfOk result (λ given. Ran c of.now kind.now (Commits given) line.old.pass.seen
         line.new.pass.seen) }
     ensures answers { IfOk result (IsAnswerTo kind.now) }
-    ensures err { (c : Client) → IsFor (setting_of N.table N.base) line.old.pass c
+    ensures err { (c : Client) → IsFor (setting_of N.table N.base) line.old.pass line.new.pass c
         → IfErr result (GaveNone c of.now kind.now line.old.pass.seen line.new.pass.seen) }
     ensures still { HasCarried line.old.pass line.new.pass (L.view (link_of line.old.courier)).plan
         (L.view (link_of line.new.courier)).plan line.old.patience line.new.patience }
     ensures system { line.new.system ≡ line.old.system }
+    ensures known { AreKin line.new.pass.kin line.new.pass.seen
+        × Legal (setting_of N.table N.base) line.new.pass.seen }
     ensures tidy { IsTidy line.old.pass.number line.old.pass.seen
         → IsTidy line.new.pass.number line.new.pass.seen }
 {

@@ -10,7 +10,7 @@ ghost use Rattle.qc_script.specs.Steps.{plan_of_script};
 ghost use Rattle.qc_system.specs.Closing.{AllKeep};
 ghost use Rattle.qc_system.specs.Parts.{IsOpening};
 
-use crate::stage::Stage;
+use crate::stage::run_over;
 use qc_board::Board;
 use qc_disk::Disk;
 use qc_event::{Base, Entry, Short};
@@ -19,6 +19,7 @@ use qc_pass::Pass;
 use qc_script::Script;
 use qc_system::{Mounting, System};
 use std::alloc::{AllocError, Global};
+use std::marker::Brand;
 use std::sync::Wait;
 use std::thread::Threads;
 
@@ -107,16 +108,9 @@ pub fn run_sessions<
         Ok(made) => made,
         Err(AllocError) => return none_ran(rt, system, first),
     };
-    let stage = Stage {
-        rt,
-        alloc,
-        system: &system,
-        board: &board,
-        script,
-        gate,
-        mode,
-    };
-    let (ran, first) = stage.run_from(first, seat, script.sessions.as_slice(), 0);
+    let (ran, first) = run_over::<R, D, N, G, Brand>(
+        rt, alloc, &system, &board, script, gate, mode, first, seat,
+    );
     let (start, trail, disks) = system.finish(rt, first);
     Ended {
         ran,

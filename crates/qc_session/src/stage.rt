@@ -7,22 +7,23 @@ ghost use Rattle.qc_session.specs.Marking.{IsSeatAt};
 ghost use Rattle.qc_session.specs.Session.{IsFirst, IsNew, RanEach, RanOne, SessionFits};
 
 use crate::client::Client;
-use qc_board::{Board, BoardSeat};
+use qc_board::{Board, BoardSeat, Boarded};
 use qc_carry::Line;
 use qc_disk::Disk;
 use qc_event::Short;
-use qc_interp::{Gate, Mode, run_tops};
+use qc_interp::{Gate, Host, Mode, run_tops};
 use qc_net::{Courier, Fate, PlanLink};
 use qc_pass::Pass;
 use qc_script::{Script, Session};
 use qc_system::{Boxed, Mounting, System};
 use std::alloc::{AllocError, Global};
+use std::marker::PhantomData;
 use std::sync::Wait;
 use std::thread::{Threads, join};
 
 /// What the sessions of a script run over, and whether they do so in threads or in order.
 #[derive(Drop)]
-pub(crate) struct Stage<'a, R, D: Disk + Drop, N: Mounting, G>
+pub(crate) struct Stage<'a, R, D: Disk + Drop, N: Mounting, G, B: Boarded>
 where
     Boxed<D>: Disk,
 {
@@ -33,6 +34,8 @@ where
     pub(crate) script: &'a Script,
     pub(crate) gate: &'a G,
     pub(crate) mode: Mode,
+    pub(crate) at: PhantomData<B>,
+    ghost boarded: { board.now.board ≡ B.board },
 }
 
 // The fates of a session's requests.
@@ -44,13 +47,20 @@ fn fates_of(session: &Session) -> Result<Vec<Fate>, AllocError>
 
 // Runs a session, with this number, by a client of a pass with a seat at a board, and gives the pass back. Where memory
 // or room is wanting the session stops, and what it made before stands.
-fn run_client<R: Wait, D: Disk + Drop, N: Mounting, G: Gate>(
+fn run_client<
+    R: Threads + Wait + Sync,
+    D: Disk + Drop + Send,
+    N: Mounting + Send + Sync,
+    G: Gate,
+    B: Boarded + Send + Sync,
+>(
     rt: &R,
     alloc: Global,
     system: &System<D, N>,
     board: &Board,
     script: &Script,
     gate: &G,
+    mode: Mode,
     pass: Pass<N>,
     seat: BoardSeat,
     session: &Session,
@@ -58,6 +68,7 @@ fn run_client<R: Wait, D: Disk + Drop, N: Mounting, G: Gate>(
 ) -> (Result<(), Short>, Pass<N>)
     requires new { IsNew pass }
     requires seated { IsSeatAt board.now seat }
+    requires boarded { board.now.board ≡ B.board }
     requires low { number < 16 }
     requires fits { SessionFits (setting_of N.table N.base) (plan_of_session session.now) }
     requires table { script.now.table ≡ N.table }
@@ -71,10 +82,11 @@ fn run_client<R: Wait, D: Disk + Drop, N: Mounting, G: Gate>(
     };
     let courier = Courier::new(alloc, PlanLink::new(fates, session.hold));
     let line = Line::new(rt, system, pass, courier, script.patience);
-    let mut client = Client::new(line, &script.table, number, board, seat);
+    let mut client = Client::<_, _, _, _, B>::new(line, &script.table, number, board, seat);
     client.line.known();
     gate.pass(number);
-    let ran = run_tops(&mut client, session.tops.as_slice());
+    let host = Host { rt, alloc, mode };
+    let ran = run_tops(&mut client, &host, session.tops.as_slice());
     client.line.known();
     (ran, client.into_pass())
 }
@@ -85,7 +97,8 @@ impl<
     D: Disk + Drop + Send,
     N: Mounting + Send + Sync,
     G: Gate + Sync,
-> Stage<'a, R, D, N, G> {
+    B: Boarded + Send + Sync,
+> Stage<'a, R, D, N, G, B> {
     // Runs a session and those after it, each by a client of its own.
     #[cycle(sessions)]
     fn run_both(
@@ -114,10 +127,10 @@ impl<
             result.1.0 result.1.1 }
     {
         let (rt, alloc, system, board) = (self.rt, self.alloc, self.system, self.board);
-        let (script, gate) = (self.script, self.gate);
+        let (script, gate, mode) = (self.script, self.gate, self.mode);
         if self.mode == Mode::Serial || rest.is_empty() {
-            let one = run_client(
-                rt, alloc, system, board, script, gate, pass, seat, session, number,
+            let one = run_client::<_, _, _, _, B>(
+                rt, alloc, system, board, script, gate, mode, pass, seat, session, number,
             );
             let others = self.run_from(first, first_seat, rest, number + 1);
             return (one, others);
@@ -127,13 +140,14 @@ impl<
             || -> (Result<(), Short>, Pass<N>)
                 requires { IsNew pass
                     × SessionFits (setting_of N.table N.base) (plan_of_session session.now)
-                    × (script.now.table ≡ N.table) × IsSeatAt board.now seat × (number < 16) }
+                    × (script.now.table ≡ N.table) × IsSeatAt board.now seat
+                    × (board.now.board ≡ B.board) × (number < 16) }
                 ensures { RanOne (setting_of N.table N.base) system.entry.now.desk.epoch
                     script.entry.now.patience number (plan_of_session session.entry.now) pass
                     result.0 result.1 }
             {
-                run_client(
-                    rt, alloc, system, board, script, gate, pass, seat, session, number,
+                run_client::<_, _, _, _, B>(
+                    rt, alloc, system, board, script, gate, mode, pass, seat, session, number,
                 )
             },
             || -> (Result<(), Short>, Pass<N>)
@@ -185,4 +199,46 @@ impl<
             Err(short) => (Err(short), first),
         }
     }
+}
+
+/// Runs the sessions of a script over a system and a board, which is the one that is named, and joins what they saw to the
+/// first pass.
+pub(crate) fn run_over<
+    R: Threads + Wait + Sync,
+    D: Disk + Drop + Send,
+    N: Mounting + Send + Sync,
+    G: Gate + Sync,
+    B: Boarded + Send + Sync,
+>(
+    rt: &R,
+    alloc: Global,
+    system: &System<D, N>,
+    board: &Board,
+    script: &Script,
+    gate: &G,
+    mode: Mode,
+    first: Pass<N>,
+    first_seat: BoardSeat,
+) -> (Result<(), Short>, Pass<N>)
+    requires boarded { board.now.board ≡ B.board }
+    requires first { IsFirst first }
+    requires seated { IsSeatAt board.now first_seat }
+    requires fit { SessionsFit (setting_of N.table N.base)
+        (map plan_of_session script.now.sessions.items) }
+    requires few { length script.now.sessions.items ≤ 16 }
+    requires table { script.now.table ≡ N.table }
+    ensures { RanEach (setting_of N.table N.base) system.now.desk.epoch script.now.patience 0
+        (map plan_of_session script.now.sessions.items) first result.0 result.1 }
+{
+    let stage = Stage::<R, D, N, G, B> {
+        rt,
+        alloc,
+        system,
+        board,
+        script,
+        gate,
+        mode,
+        at: PhantomData,
+    };
+    stage.run_from(first, first_seat, script.sessions.as_slice(), 0)
 }

@@ -4,9 +4,11 @@ ghost use Rattle.qc_carry.specs.Carried.{HasCarried};
 ghost use Rattle.qc_event.specs.declared.event.Event.TheVariants as event;
 ghost use Rattle.qc_event.specs.declared.event.Kind.TheVariants as kind;
 ghost use Rattle.qc_event.specs.History.{is_child};
+ghost use Rattle.qc_event.specs.Legal.{Legal};
 ghost use Rattle.qc_event.specs.Standing.{IsUser, Started};
 ghost use Rattle.qc_event.specs.Tables.{setting_of};
 ghost use Rattle.qc_net.specs.Courier.{link_of};
+ghost use Rattle.qc_pass.specs.Rules.{AreKin};
 ghost use Rattle.qc_script.specs.Calls.{WasRefused, by_client};
 ghost use Rattle.qc_script.specs.Client.{Client, Made};
 ghost use Rattle.qc_script.specs.Numbers.{Numbers};
@@ -31,17 +33,19 @@ pub(crate) fn start_top<R: Wait, D: Disk + Drop, L: Link + Drop, N: Mounting>(
     body: u32,
 ) -> Result<Name, TxNo>
     ensures child { IfOk result (λ n. IsTrue (is_child [] n)) }
-    ensures ok { (c : Client) → IsFor (setting_of N.table N.base) line.old.pass c
+    ensures ok { (c : Client) → IsFor (setting_of N.table N.base) line.old.pass line.new.pass c
         → IfOk result (λ n. Made c (by_client c (event.Start n (kind.User session body)) ∷ [])
         line.old.pass.seen line.new.pass.seen) }
-    ensures number { (c : Client) → IsFor (setting_of N.table N.base) line.old.pass c
+    ensures number { (c : Client) → IsFor (setting_of N.table N.base) line.old.pass line.new.pass c
         → c.epoch ≡ line.old.system.now.desk.epoch
         → IfOk result (λ _. Numbers c line.old.pass.seen line.new.pass.seen) }
-    ensures err { (c : Client) → IsFor (setting_of N.table N.base) line.old.pass c
+    ensures err { (c : Client) → IsFor (setting_of N.table N.base) line.old.pass line.new.pass c
         → IfErr result (WasRefused c [] line.old.pass.seen line.new.pass.seen) }
     ensures still { HasCarried line.old.pass line.new.pass (L.view (link_of line.old.courier)).plan
         (L.view (link_of line.new.courier)).plan line.old.patience line.new.patience }
     ensures system { line.new.system ≡ line.old.system }
+    ensures known { AreKin line.new.pass.kin line.new.pass.seen
+        × Legal (setting_of N.table N.base) line.new.pass.seen }
     ensures tidy { IsTidy line.old.pass.number line.old.pass.seen
         → IsTidy line.new.pass.number line.new.pass.seen }
 {
@@ -62,11 +66,13 @@ pub(crate) fn start_child<R: Wait, D: Disk + Drop, L: Link + Drop, N: Mounting>(
     requires user { Started line.old.pass.seen of.now (λ b. IsUser b.kind) }
     requires stands { StandsBelow (setting_of N.table N.base) (length of.now + 1) kind }
     ensures ok { IfOk result (λ n. HasStarted line.old.pass line.new.pass of.now n kind) }
-    ensures err { (c : Client) → IsFor (setting_of N.table N.base) line.old.pass c
+    ensures err { (c : Client) → IsFor (setting_of N.table N.base) line.old.pass line.new.pass c
         → IfErr result (WasRefused c of.now line.old.pass.seen line.new.pass.seen) }
     ensures still { HasCarried line.old.pass line.new.pass (L.view (link_of line.old.courier)).plan
         (L.view (link_of line.new.courier)).plan line.old.patience line.new.patience }
     ensures system { line.new.system ≡ line.old.system }
+    ensures known { AreKin line.new.pass.kin line.new.pass.seen
+        × Legal (setting_of N.table N.base) line.new.pass.seen }
     ensures tidy { IsTidy line.old.pass.number line.old.pass.seen
         → IsTidy line.new.pass.number line.new.pass.seen }
 {

@@ -1,12 +1,11 @@
 -- What the sessions leave, once their system is taken apart.
-use Rattle.std.proofs.Common.{List, map, sym, subst, reverse}
+use Rattle.std.proofs.Common.{sym, subst, reverse}
 use Rattle.qc_event.specs.Tables.{setting_of}
 use Rattle.qc_interp.specs.Reach.{Reach}
 use Rattle.qc_interp.proofs.FromStart.{begins_none}
 use Rattle.qc_interp.specs.FollowsScript.{BeginsScript}
 use Rattle.qc_event.specs.History.{Past}
-use Rattle.qc_script.specs.declared.script.Session.{Session}
-use Rattle.qc_script.specs.Steps.{plan_of_script, plan_of_session}
+use Rattle.qc_script.specs.Steps.{plan_of_script}
 use Rattle.qc_session.specs.Session.{RanEach}
 use Rattle.qc_session.proofs.Closed.{first_closes}
 use Rattle.qc_session.proofs.Followed.{begun, followed}
@@ -18,9 +17,9 @@ finish-start-requires g c =
     let setting = setting_of g.N.Store.table g.N.Store.base in
     let epoch = c.args.system.desk.epoch in
     let plan = plan_of_script c.args.script.now in
-    let ran : RanEach setting epoch plan.patience 0 plan.sessions c.args.first c.run_from-ran.result.0 c.run_from-ran.result.1 =
-    subst (λ (ss : List Session). RanEach setting epoch plan.patience 0 (map plan_of_session ss) c.args.first c.run_from-ran.result.0 c.run_from-ran.result.1) c.as_slice.ensures.value c.run_from-ran.ensures in
-    record { first = first_closes Reach.cut_off setting epoch plan.patience plan.sessions c.args.first c.run_from-ran.result.1 c.requires.first ran.first ran.begins }
+    let ran : RanEach setting epoch plan.patience 0 plan.sessions c.args.first c.run_over-ran.result.0 c.run_over-ran.result.1 =
+    c.run_over-ran.ensures in
+    record { first = first_closes Reach.cut_off setting epoch plan.patience plan.sessions c.args.first c.run_over-ran.result.1 c.requires.first ran.first ran.begins }
 
 pub returns-in-Err-clause-begins : goal.returns-in-Err-clause-begins
 returns-in-Err-clause-begins g c =
@@ -32,18 +31,18 @@ returns-clause-follows g c =
     let setting = setting_of g.N.Store.table g.N.Store.base in
     let epoch = c.args.system.desk.epoch in
     let plan = plan_of_script c.args.script.now in
-    let ran : RanEach setting epoch plan.patience 0 plan.sessions c.args.first c.run_from-ran.result.0 c.run_from-ran.result.1 =
-    subst (λ (ss : List Session). RanEach setting epoch plan.patience 0 (map plan_of_session ss) c.args.first c.run_from-ran.result.0 c.run_from-ran.result.1) c.as_slice.ensures.value c.run_from-ran.ensures in
-    followed setting epoch plan c.args.first c.run_from-ran.result.1 c.requires.first.kin (reverse c.finish-start.result.1.items) c.finish-start.ensures.legal c.finish-start.ensures.seen c.finish-start.ensures.settled c.run_from-ran.result.0 ran
+    let ran : RanEach setting epoch plan.patience 0 plan.sessions c.args.first c.run_over-ran.result.0 c.run_over-ran.result.1 =
+    c.run_over-ran.ensures in
+    followed setting epoch plan c.args.first c.run_over-ran.result.1 c.requires.first.kin (reverse c.finish-start.result.1.items) c.finish-start.ensures.legal c.finish-start.ensures.seen c.finish-start.ensures.settled c.run_over-ran.result.0 ran
 
 pub returns-clause-begins : goal.returns-clause-begins
 returns-clause-begins g c =
     let setting = setting_of g.N.Store.table g.N.Store.base in
     let epoch = c.args.system.desk.epoch in
     let plan = plan_of_script c.args.script.now in
-    let ran : RanEach setting epoch plan.patience 0 plan.sessions c.args.first c.run_from-ran.result.0 c.run_from-ran.result.1 =
-    subst (λ (ss : List Session). RanEach setting epoch plan.patience 0 (map plan_of_session ss) c.args.first c.run_from-ran.result.0 c.run_from-ran.result.1) c.as_slice.ensures.value c.run_from-ran.ensures in
-    begun setting epoch plan c.args.first c.run_from-ran.result.1 c.requires.first.kin (reverse c.finish-start.result.1.items) c.finish-start.ensures.legal c.finish-start.ensures.seen c.finish-start.ensures.settled c.run_from-ran.result.0 ran
+    let ran : RanEach setting epoch plan.patience 0 plan.sessions c.args.first c.run_over-ran.result.0 c.run_over-ran.result.1 =
+    c.run_over-ran.ensures in
+    begun setting epoch plan c.args.first c.run_over-ran.result.1 c.requires.first.kin (reverse c.finish-start.result.1.items) c.finish-start.ensures.legal c.finish-start.ensures.seen c.finish-start.ensures.settled c.run_over-ran.result.0 ran
 
 pub returns-clause-room : goal.returns-clause-room
-returns-clause-room g c = λ is. full_still c.run_from-ran.result.1.seen c.finish-start.result.1.items c.finish-start.ensures.seen c.finish-start.ensures.bounded (c.run_from-ran.ensures.room is)
+returns-clause-room g c = λ is. full_still c.run_over-ran.result.1.seen c.finish-start.result.1.items c.finish-start.ensures.seen c.finish-start.ensures.bounded (c.run_over-ran.ensures.room is)

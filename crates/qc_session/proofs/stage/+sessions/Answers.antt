@@ -6,7 +6,7 @@ use Rattle.qc_event.specs.declared.log.Short.{Short}
 use Rattle.qc_event.specs.Tables.{setting_of}
 use Rattle.qc_pass.specs.declared.view.View.{View}
 use Rattle.qc_pass.specs.Entries.{IsOlder, entries_of}
-use Rattle.qc_pass.specs.Rules.{IsSplit, joined, knows}
+use Rattle.qc_pass.specs.Rules.{AreKin, IsSplit, joined, knows}
 use Rattle.qc_script.specs.declared.script.Session.{Session}
 use Rattle.qc_script.specs.Steps.{plan_of_session}
 use Rattle.qc_session.specs.Session.{IsFirst, RanEach, RanOne}
@@ -26,12 +26,12 @@ both : (setting : Setting) (epoch patience number : ℕ) (ss : List Session) (it
     → 1 ≤ length ss → item ≡ get_or ss 0 item → IsFirst first → IsSplit first split given → (given.live ≡ true → given.mine ≡ entries_of given.number given.seen)
     → RanOne setting epoch patience number (plan_of_session item) given ran back
     → RanEach setting epoch patience (number + 1) (map plan_of_session (take (length ss - 1) (drop 1 ss))) split rest mid
-    → (back.live ≡ true → back.mine ≡ entries_of back.number back.seen) → now ≡ knows now.seen (joined mid back) → IsOlder mid.seen now.seen × IsOlder back.seen now.seen
+    → (back.live ≡ true → back.mine ≡ entries_of back.number back.seen) → AreKin back.kin back.seen → now ≡ knows now.seen (joined mid back) → IsOlder mid.seen now.seen × IsOlder back.seen now.seen
     → RanEach setting epoch patience number (map plan_of_session ss) first (first_want ran rest) now
-both setting epoch patience number ss item first split given back mid now ran rest some is fresh splits known one others knew joins seen =
+both setting epoch patience number ss item first split given back mid now ran rest some is fresh splits known one others knew kin joins seen =
     subst (λ (l : List Session). RanEach setting epoch patience number (map plan_of_session l) first (first_want ran rest) now) (parted ss item some is)
     (each_ran setting epoch patience number (plan_of_session item) (map plan_of_session (take (length ss - 1) (drop 1 ss))) first split given back mid now fresh splits (new_pass first split given fresh splits known)
-    one.number one.kin (knew one.live) joins seen.0 seen.1 ran rest one others)
+    one.number one.high one.none (knew one.live) kin joins seen.0 seen.1 ran rest one others)
 
 pub Stage::run_from-returns-in_default : goal.Stage::run_from-returns-in_default
 Stage::run_from-returns-in_default g t c =
@@ -49,7 +49,7 @@ Stage::run_from-returns-in-Ok g t c =
     let ran = c.run_both-pass.result in
     subst (λ (r : Result (Unit {0}) Short). RanEach setting epoch patience c.args.number (map plan_of_session c.args.sessions.now) c.args.first (first_want r ran.1.0) c.join.new.pass) c.in-Ok.is
     (both setting epoch patience c.args.number c.args.sessions.now c.session-item.result c.args.first c.split-pass.new.pass c.split-pass.result ran.0.1 ran.1.1 c.join.new.pass ran.0.0 ran.1.0 (omega (arith, c.in-len1-up.len_at_least)) c.session-item.is
-    c.requires.first c.split-pass.ensures c.known.ensures.mine c.run_both-pass.ensures.one c.run_both-pass.ensures.others c.known-2.ensures.mine c.join.ensures.joined c.join.ensures.seen)
+    c.requires.first c.split-pass.ensures.split c.known.ensures.mine c.run_both-pass.ensures.one c.run_both-pass.ensures.others c.known-2.ensures.mine c.known-2.ensures.kin c.join.ensures.joined c.join.ensures.seen)
 
 pub Stage::run_from-returns-in-Err : goal.Stage::run_from-returns-in-Err
 Stage::run_from-returns-in-Err g t c =
@@ -59,4 +59,4 @@ Stage::run_from-returns-in-Err g t c =
     let ran = c.run_both-pass.result in
     subst (λ (r : Result (Unit {0}) Short). RanEach setting epoch patience c.args.number (map plan_of_session c.args.sessions.now) c.args.first (first_want r ran.1.0) c.join.new.pass) c.in-Err.is
     (both setting epoch patience c.args.number c.args.sessions.now c.session-item.result c.args.first c.split-pass.new.pass c.split-pass.result ran.0.1 ran.1.1 c.join.new.pass ran.0.0 ran.1.0 (omega (arith, c.in-len1-up.len_at_least)) c.session-item.is
-    c.requires.first c.split-pass.ensures c.known.ensures.mine c.run_both-pass.ensures.one c.run_both-pass.ensures.others c.known-2.ensures.mine c.join.ensures.joined c.join.ensures.seen)
+    c.requires.first c.split-pass.ensures.split c.known.ensures.mine c.run_both-pass.ensures.one c.run_both-pass.ensures.others c.known-2.ensures.mine c.known-2.ensures.kin c.join.ensures.joined c.join.ensures.seen)

@@ -1,15 +1,11 @@
 -- What a session's client leaves, as its tops ran.
-use Rattle.std.proofs.Common.{rules, ◌≡◌, List, Some, refl, sym, ap, ◌∙◌, arith, map, OnOk, IfErr, IsTrue, subst}
-use Rattle.std.specs.Prelude.{MatchOption}
+use Rattle.std.proofs.Common.{rules, ◌≡◌, List, Some, sym, ap, ◌∙◌, arith, map, OnOk, IfErr, subst}
 use Rattle.qc_event.specs.Base.{Setting}
-use Rattle.qc_event.specs.History.{Past}
 use Rattle.qc_event.specs.Tables.{setting_of}
-use Rattle.qc_interp.specs.Session.{CutTops, EndsTops, RanInTurn}
-use Rattle.qc_interp.proofs.Joined.{joined_none_more}
+use Rattle.qc_interp.specs.Session.{CutTops, EndsTops}
 use Rattle.qc_net.specs.Courier.{link_of}
 use Rattle.qc_net.specs.declared.courier.Courier.{Courier}
 use Rattle.qc_net.specs.declared.plan.PlanLink.{PlanLink}
-use Rattle.qc_net.specs.Messages.{meets_fates}
 use Rattle.qc_net.specs.Plan.{starting}
 use Rattle.qc_net.specs.PlanLink.{plan_of}
 use Rattle.qc_pass.specs.declared.view.View.{View}
@@ -18,7 +14,9 @@ use Rattle.qc_script.specs.declared.script.Body.{Body}
 use Rattle.qc_script.specs.Plan.{SessionPlan}
 use Rattle.qc_script.specs.Steps.{numbered, plan_of_session}
 use Rattle.qc_session.specs.Clients.{client_for, client_of, link_told}
-use Rattle.qc_session.specs.Tidy.{IsTidy}
+use Rattle.qc_session.specs.Session.{AreHigh, RanOne}
+use Rattle.qc_pass.specs.Rules.{numbers}
+use Rattle.qc_session.specs.Tidy.{AreTidy}
 use Rattle.qc_session.proofs.AtStart.{client_is}
 use Rattle.qc_session.proofs.Leaving.{none_ran, one_ran}
 use Rattle.qc_session.proofs.stage.run_client.Given.{Over}
@@ -55,43 +53,29 @@ module _ (g : Over) (c : goal.After-into_pass g) where
       ∙ c.new.ensures.plan
 
   abbrev asked : Client
-  asked = client_of setting c.new-client.result.session c.new-client.result.line.system.now.desk.epoch (link_told (Some (plan_of (link_of c.new-client.result.line.courier))) c.new-client.result.line.patience) c.new-client.result.line.pass
+  asked = client_of setting c.new-client.result.root c.new-client.result.session c.new-client.result.line.system.now.desk.epoch (link_told (Some (plan_of (link_of c.new-client.result.line.courier))) c.new-client.result.line.patience) c.new-client.result.line.pass
 
   abbrev wanted : Client
   wanted = client_for setting c.args.system.now.desk.epoch c.args.script.now.patience c.args.number plan c.args.pass
 
   same_client : asked ≡ wanted
-  same_client = client_is setting c.new-client.result.session c.args.number c.new-client.result.line.system.now.desk.epoch c.args.system.now.desk.epoch c.new-client.result.line.patience c.args.script.now.patience c.args.session.now.hold (plan_of (link_of c.new-client.result.line.courier)) c.in-Ok.fates.items c.args.session.now.fates.items c.new-client.result.line.pass c.args.pass
-      c.new-client.ensures.session same_epoch same_plan c.in-Ok.ensures same_patience same_pass
-
-  -- it has merged no branches, and is the same once its tops have run
-  abbrev ran : Client
-  ran = client_of setting c.run_tops-ran.new.tx.session c.run_tops-ran.new.tx.line.system.now.desk.epoch (link_told (Some (plan_of (link_of c.run_tops-ran.new.tx.line.courier))) c.run_tops-ran.new.tx.line.patience) c.run_tops-ran.new.tx.line.pass
-
-  same_ran : ran ≡ asked
-  same_ran = joined_none_more asked ran c.new-client.result.line.pass.seen c.run_tops-ran.ensures.joined refl
-
-  -- its pass, as it gave it back
-  back_is : c.into_pass.result ≡ c.run_tops-ran.new.tx.line.pass
-  back_is = c.into_pass.ensures.pass
-
-  same_number : c.into_pass.result.number ≡ c.args.pass.number
-  same_number = ap (λ (v : View). v.number) back_is ∙ ap (λ (k : Client). k.number) same_ran ∙ ap (λ (v : View). v.number) same_pass
-
-  told : (P : Client → Past → Past → Type 0) → P ran c.new-client.result.line.pass.seen c.run_tops-ran.new.tx.line.pass.seen → P wanted c.args.pass.seen c.into_pass.result.seen
-  told P is =
-      subst (λ h. P wanted c.args.pass.seen h) (sym (ap (λ (v : View). v.seen) back_is))
-      (subst (λ h. P wanted h c.run_tops-ran.new.tx.line.pass.seen) (ap (λ (v : View). v.seen) same_pass) (subst (λ k. P k c.new-client.result.line.pass.seen c.run_tops-ran.new.tx.line.pass.seen) (same_ran ∙ same_client) is))
+  same_client = client_is setting c.new-client.result.root c.new-client.result.session c.args.number c.new-client.result.line.system.now.desk.epoch c.args.system.now.desk.epoch c.new-client.result.line.patience c.args.script.now.patience c.args.session.now.hold (plan_of (link_of c.new-client.result.line.courier)) c.in-Ok.fates.items c.args.session.now.fates.items c.new-client.result.line.pass c.args.pass
+      c.new-client.ensures.root c.new-client.ensures.session same_epoch same_plan c.in-Ok.ensures same_patience same_pass
 
 pub returns : goal.returns
 returns g c =
-    one_ran (setting g c) c.args.system.now.desk.epoch c.args.script.now.patience c.args.number (plan g c) c.args.pass c.requires.new c.into_pass.result (same_number g c)
-    (ap (λ (v : View). v.live) (back_is g c) ∙ c.run_tops-ran.new.tx.line.client.0) c.into_pass.ensures.alone.0 c.into_pass.ensures.alone.1
-    (told g c (λ k before now. MatchOption k.net (Unit {0}) (λ net. IsTrue (meets_fates k.number net now))) c.run_tops-ran.ensures.met)
-    (subst (λ n. ∥ IsTidy n c.into_pass.result.seen ∥₁) (same_number g c) c.into_pass.ensures.tidy) c.run_tops-ran.result
-    (told g c (λ k before now. OnOk c.run_tops-ran.result (EndsTops k before now (map numbered c.args.session.now.tops.items)))
-    (subst (λ (bodies : List Body). OnOk c.run_tops-ran.result (EndsTops (ran g c) c.new-client.result.line.pass.seen c.run_tops-ran.new.tx.line.pass.seen (map numbered bodies))) c.as_slice.ensures.value c.run_tops-ran.ensures.ok))
-    (told g c (λ k before now. OnOk c.run_tops-ran.result (RanInTurn k before now)) c.run_tops-ran.ensures.turns)
-    (told g c (λ k before now. IfErr c.run_tops-ran.result (λ _. CutTops k before now (map numbered c.args.session.now.tops.items)))
-    (subst (λ (bodies : List Body). IfErr c.run_tops-ran.result (λ _. CutTops (ran g c) c.new-client.result.line.pass.seen c.run_tops-ran.new.tx.line.pass.seen (map numbered bodies))) c.as_slice.ensures.value c.run_tops-ran.ensures.cut))
-    (search rules)
+    let tx = c.run_tops-ran.new.tx in
+    let ran = client_of (setting g c) tx.root tx.session tx.line.system.now.desk.epoch (link_told (Some (plan_of (link_of tx.line.courier))) tx.line.patience) tx.line.pass in
+    let before = c.new-client.result.line.pass.seen in
+    let back = tx.line.pass in
+    subst (RanOne (setting g c) c.args.system.now.desk.epoch c.args.script.now.patience c.args.number (plan g c) c.args.pass c.run_tops-ran.result) (sym c.into_pass.ensures.pass)
+    (one_ran (setting g c) c.args.system.now.desk.epoch c.args.script.now.patience c.args.number (plan g c) c.args.pass c.requires.new (asked g c) before (same_client g c) (ap (λ (v : View). v.seen) (same_pass g c))
+    tx.root tx.session tx.line.system.now.desk.epoch (link_told (Some (plan_of (link_of tx.line.courier))) tx.line.patience) back c.run_tops-ran.ensures.joined
+    tx.line.client.0
+    (subst (λ (v : View). AreHigh (numbers v)) c.into_pass.ensures.pass c.into_pass.ensures.high)
+    (subst (λ (v : View). ∥ AreTidy (numbers v) v.seen ∥₁) c.into_pass.ensures.pass c.into_pass.ensures.tidy)
+    c.run_tops-ran.ensures.met c.run_tops-ran.result
+    (subst (λ (bodies : List Body). OnOk c.run_tops-ran.result (EndsTops ran before back.seen (map numbered bodies))) c.as_slice.ensures.value c.run_tops-ran.ensures.ok)
+    c.run_tops-ran.ensures.turns
+    (subst (λ (bodies : List Body). IfErr c.run_tops-ran.result (λ _. CutTops ran before back.seen (map numbered bodies))) c.as_slice.ensures.value c.run_tops-ran.ensures.cut)
+    (search rules))

@@ -1,22 +1,22 @@
 -- Where a transaction is to be killed a mark is seen that licenses it; else its client has made none.
-use Rattle.std.proofs.Common.{◌≤◌, [], refl, sym, ap, subst, ◌∙◌}
+use Rattle.std.proofs.Common.{◌≤◌, [], sym, ap, subst, ◌∙◌}
 use Rattle.std.specs.Prelude.{nat_le}
-use Rattle.std.proofs.Math.Logic.{∥∥₁_map}
 use Rattle.qc_board.specs.Boards.{Seated}
 use Rattle.qc_event.specs.History.{start}
-use Rattle.qc_event.specs.Tables.{setting_of}
 use Rattle.qc_event.proofs.Lawful.{started_some}
 use Rattle.qc_event.specs.Users.{top_number}
-use Rattle.qc_net.specs.Courier.{link_of}
 use Rattle.qc_pass.proofs.Entering.{started_later}
+use Rattle.qc_pass.specs.Rules.{numbers}
 use Rattle.qc_script.specs.Calls.{IsOfSession}
-use Rattle.qc_session.specs.Clients.{client_of, link_told}
 use Rattle.qc_session.specs.Marking.{IsSeatAt, KnowsMarks}
 use Rattle.qc_session.proofs.Killing.{killed_grounded, none_made, none_told}
-use Rattle.qc_session.proofs.MarksKept.{still_known}
+use Rattle.qc_session.proofs.MarksKept.{did_none, grown_by, kept}
 use Rattle.qc_session.proofs.Own.{made_so}
-use Rattle.qc_session.proofs.OwnMarks.{top_some, walk_known}
-use Rattle.qc_session.proofs.Walks.{client_still, link_met}
+use Rattle.qc_session.proofs.OwnMarks.{top_some}
+use Rattle.qc_event.specs.Tables.{setting_of}
+use Rattle.qc_net.specs.Courier.{link_of}
+use Rattle.qc_session.specs.Clients.{client_of, link_told}
+use Rattle.qc_session.proofs.Calling.{for, high_now, tidy_now, marks_now, met_now, client_now}
 use Rattle.qc_session.proofs.calls.ClientTx.killed.Goals as goal
 
 pub look-requires-clause-top : goal.look-requires-clause-top
@@ -29,62 +29,70 @@ invariant_of-self g c =
     let me = c.args.self.now in
     record {
       over = me.over;
-      no_kin = me.no_kin;
-      no_out = me.no_out;
+      high = me.high;
       tidy = me.tidy;
       low = me.low;
       seated = subst (IsSeatAt me.board.now) (sym c.look.ensures.same) me.seated;
-      marks = subst (λ (s : Seated). ∥ KnowsMarks me.line.pass.number me.line.pass.seen me.session s.marks ∥₁) (sym c.look.ensures.same) me.marks;
+      boarded = me.boarded;
+      marks = subst (λ (s : Seated). ∥ KnowsMarks (numbers me.line.pass) me.line.pass.seen s.marks ∥₁) (sym c.look.ensures.same) me.marks;
     }
 
 pub invariant_of-self-2 : goal.invariant_of-self-2
 invariant_of-self-2 g c =
     let me = c.args.self.now in
-    let v = me.line.pass in
-    let w = c.marked-seen.new.line.pass in
-    let still = c.marked-seen.ensures.still in
-    let marks = still_known v.number w.number me.session me.seat.marks me.seat.marks v.seen w.seen still.number (walk_known me.session me.seat.marks v w [] c.marked-seen.ensures.walk tt) me.marks in
+    let now = c.marked-seen.new.line in
+    let own = client_of (setting_of g.N.Store.table g.N.Store.base) me.root me.session me.line.system.now.desk.epoch (link_told (g.L.Link.view (link_of me.line.courier)).plan me.line.patience) me.line.pass in
+    let for_own = for (setting_of g.N.Store.table g.N.Store.base) me.root me.session me.line.system.now.desk.epoch now.system.now.desk.epoch (g.L.Link.view (link_of me.line.courier)).plan (g.L.Link.view (link_of now.courier)).plan me.line.patience now.patience me.line.pass now.pass c.marked-seen.ensures.still (ap (λ s. s.now.desk.epoch) c.marked-seen.ensures.system) c.known.ensures.kin c.marked-seen.ensures.known.0 c.marked-seen.ensures.known.1 in
+    let did = did_none own me.seat.marks me.line.pass.seen now.pass.seen (made_so (setting_of g.N.Store.table g.N.Store.base) me.line.pass now.pass own for_own c.marked-seen.ensures.known.1 [] c.marked-seen.ensures.walk) in
     record {
       over = me.over;
-      no_kin = still.kin ∙ me.no_kin;
-      no_out = still.out ∙ me.no_out;
-      tidy = ∥∥₁_map me.tidy c.marked-seen.ensures.tidy;
+      high = high_now (setting_of g.N.Store.table g.N.Store.base) me.root me.session me.line.system.now.desk.epoch now.system.now.desk.epoch (g.L.Link.view (link_of me.line.courier)).plan (g.L.Link.view (link_of now.courier)).plan me.line.patience now.patience me.line.pass now.pass c.marked-seen.ensures.still (ap (λ s. s.now.desk.epoch) c.marked-seen.ensures.system) c.known.ensures.kin c.marked-seen.ensures.known.0 c.marked-seen.ensures.known.1 me.high;
+      tidy = tidy_now (setting_of g.N.Store.table g.N.Store.base) me.root me.session me.line.system.now.desk.epoch now.system.now.desk.epoch (g.L.Link.view (link_of me.line.courier)).plan (g.L.Link.view (link_of now.courier)).plan me.line.patience now.patience me.line.pass now.pass c.marked-seen.ensures.still (ap (λ s. s.now.desk.epoch) c.marked-seen.ensures.system) c.known.ensures.kin c.marked-seen.ensures.known.0 c.marked-seen.ensures.known.1 (grown_by own me.seat.marks me.line.pass.seen now.pass.seen did) c.marked-seen.ensures.tidy me.tidy;
       low = me.low;
       seated = subst (IsSeatAt me.board.now) (sym c.look.ensures.same) me.seated;
-      marks = subst (λ (s : Seated). ∥ KnowsMarks w.number w.seen me.session s.marks ∥₁) (sym c.look.ensures.same) marks;
+      boarded = me.boarded;
+      marks = subst (λ (s : Seated). ∥ KnowsMarks (numbers now.pass) now.pass.seen s.marks ∥₁) (sym c.look.ensures.same) (marks_now (setting_of g.N.Store.table g.N.Store.base) me.root me.session me.line.system.now.desk.epoch now.system.now.desk.epoch (g.L.Link.view (link_of me.line.courier)).plan (g.L.Link.view (link_of now.courier)).plan me.line.patience now.patience me.line.pass now.pass c.marked-seen.ensures.still (ap (λ s. s.now.desk.epoch) c.marked-seen.ensures.system) c.known.ensures.kin c.marked-seen.ensures.known.0 c.marked-seen.ensures.known.1 me.seat.marks me.seat.marks (kept own me.seat.marks me.line.pass.seen now.pass.seen did) me.marks);
     }
 
 pub returns-then-not-look-clause-unmarked : goal.returns-then-not-look-clause-unmarked
 returns-then-not-look-clause-unmarked g c = λ _.
     let me = c.args.self.now in
-    let own = client_of (setting_of g.N.Store.table g.N.Store.base) c.args.self.now.session c.args.self.now.line.system.now.desk.epoch (link_told (g.L.Link.view (link_of c.args.self.now.line.courier)).plan c.args.self.now.line.patience) c.args.self.now.line.pass in
+    let own = client_of (setting_of g.N.Store.table g.N.Store.base) me.root me.session me.line.system.now.desk.epoch (link_told (g.L.Link.view (link_of me.line.courier)).plan me.line.patience) me.line.pass in
     let told = c.look.ensures.word in
-    none_told own me.line.pass.seen (top_number c.args.of.now) told.0 me.seat.may me.seat.marks refl told.1 (ap (λ n. nat_le n told.0) (sym c.number_of_top-top.ensures) ∙ sym told.2 ∙ c.if-not-look.true) me.marks
+    none_told own me.line.pass.seen (top_number c.args.of.now) told.0 me.seat.may me.seat.marks told.1 (ap (λ n. nat_le n told.0) (sym c.number_of_top-top.ensures) ∙ sym told.2 ∙ c.if-not-look.true) me.marks
 
 pub returns-clause-made : goal.returns-clause-made
 returns-clause-made g c =
-    let own = client_of (setting_of g.N.Store.table g.N.Store.base) c.args.self.now.session c.args.self.now.line.system.now.desk.epoch (link_told (g.L.Link.view (link_of c.args.self.now.line.courier)).plan c.args.self.now.line.patience) c.args.self.now.line.pass in
-    made_so (setting_of g.N.Store.table g.N.Store.base) c.args.self.now.line.pass c.marked-seen.new.line.pass own (record { number = refl; kinless = refl; setting_is = refl }) c.known-2.ensures.legal [] c.marked-seen.ensures.walk
+    let me = c.args.self.now in
+    let now = c.marked-seen.new.line in
+    let own = client_of (setting_of g.N.Store.table g.N.Store.base) me.root me.session me.line.system.now.desk.epoch (link_told (g.L.Link.view (link_of me.line.courier)).plan me.line.patience) me.line.pass in
+    let for_own = for (setting_of g.N.Store.table g.N.Store.base) me.root me.session me.line.system.now.desk.epoch now.system.now.desk.epoch (g.L.Link.view (link_of me.line.courier)).plan (g.L.Link.view (link_of now.courier)).plan me.line.patience now.patience me.line.pass now.pass c.marked-seen.ensures.still (ap (λ s. s.now.desk.epoch) c.marked-seen.ensures.system) c.known.ensures.kin c.marked-seen.ensures.known.0 c.marked-seen.ensures.known.1 in
+    (made_so (setting_of g.N.Store.table g.N.Store.base) me.line.pass now.pass own for_own c.marked-seen.ensures.known.1 [] c.marked-seen.ensures.walk)
 
 pub returns-clause-marked : goal.returns-clause-marked
 returns-clause-marked g c = λ is. killed_grounded c.marked-seen.new.line.pass.seen c.args.of.now (sym c.marked-seen.ensures.marked ∙ is)
 
 pub returns-clause-unmarked : goal.returns-clause-unmarked
 returns-clause-unmarked g c = λ no.
-    let v = c.args.self.now.line.pass in
-    let w = c.marked-seen.new.line.pass in
+    let me = c.args.self.now in
+    let now = c.marked-seen.new.line in
+    let v = me.line.pass in
+    let w = now.pass in
     let walk = c.marked-seen.ensures.walk in
-    let own = client_of (setting_of g.N.Store.table g.N.Store.base) c.args.self.now.session c.marked-seen.new.line.system.now.desk.epoch (link_told (g.L.Link.view (link_of c.marked-seen.new.line.courier)).plan c.marked-seen.new.line.patience) w in
+    let own = client_of (setting_of g.N.Store.table g.N.Store.base) me.root me.session now.system.now.desk.epoch (link_told (g.L.Link.view (link_of now.courier)).plan now.patience) w in
     none_made own w.seen c.args.of.now (started_later v.seen w.seen c.args.of.now (λ b. IsOfSession own.session b.kind) (walk.newer, walk.grown) c.requires.own) (sym c.marked-seen.ensures.marked ∙ no)
 
 pub returns-clause-met : goal.returns-clause-met
 returns-clause-met g c =
-    let line = c.marked-seen.new.line in
-    link_met (g.L.Link.view (link_of line.courier)).plan line.pass.number line.patience line.pass.seen c.known-2.ensures.met
+    let me = c.args.self.now in
+    let now = c.marked-seen.new.line in
+    let own = client_of (setting_of g.N.Store.table g.N.Store.base) me.root me.session me.line.system.now.desk.epoch (link_told (g.L.Link.view (link_of me.line.courier)).plan me.line.patience) me.line.pass in
+    let for_own = for (setting_of g.N.Store.table g.N.Store.base) me.root me.session me.line.system.now.desk.epoch now.system.now.desk.epoch (g.L.Link.view (link_of me.line.courier)).plan (g.L.Link.view (link_of now.courier)).plan me.line.patience now.patience me.line.pass now.pass c.marked-seen.ensures.still (ap (λ s. s.now.desk.epoch) c.marked-seen.ensures.system) c.known.ensures.kin c.marked-seen.ensures.known.0 c.marked-seen.ensures.known.1 in
+    let did = did_none own me.seat.marks me.line.pass.seen now.pass.seen (made_so (setting_of g.N.Store.table g.N.Store.base) me.line.pass now.pass own for_own c.marked-seen.ensures.known.1 [] c.marked-seen.ensures.walk) in
+    met_now (setting_of g.N.Store.table g.N.Store.base) me.root me.session me.line.system.now.desk.epoch now.system.now.desk.epoch (g.L.Link.view (link_of me.line.courier)).plan (g.L.Link.view (link_of now.courier)).plan me.line.patience now.patience me.line.pass now.pass c.marked-seen.ensures.still (ap (λ s. s.now.desk.epoch) c.marked-seen.ensures.system) c.known.ensures.kin c.marked-seen.ensures.known.0 c.marked-seen.ensures.known.1 (grown_by own me.seat.marks me.line.pass.seen now.pass.seen did) c.known-2.ensures.met c.requires.met
 
 pub returns-clause-client : goal.returns-clause-client
 returns-clause-client g c =
-    let before = c.args.self.now.line in
+    let me = c.args.self.now in
     let now = c.marked-seen.new.line in
-    client_still (setting_of g.N.Store.table g.N.Store.base) c.args.self.now.session before.system.now.desk.epoch now.system.now.desk.epoch (g.L.Link.view (link_of before.courier)).plan (g.L.Link.view (link_of now.courier)).plan before.patience now.patience before.pass now.pass
-    c.marked-seen.ensures.still (ap (λ s. s.now.desk.epoch) c.marked-seen.ensures.system)
+    client_now (setting_of g.N.Store.table g.N.Store.base) me.root me.session me.line.system.now.desk.epoch now.system.now.desk.epoch (g.L.Link.view (link_of me.line.courier)).plan (g.L.Link.view (link_of now.courier)).plan me.line.patience now.patience me.line.pass now.pass c.marked-seen.ensures.still (ap (λ s. s.now.desk.epoch) c.marked-seen.ensures.system) c.known.ensures.kin c.marked-seen.ensures.known.0 c.marked-seen.ensures.known.1

@@ -1,0 +1,87 @@
+-- What a client's branch is, and what both are told once they have seen the same.
+use Rattle.std.proofs.Common.{◌≡◌, ℕ, [], ◌∷◌, ap, sym, subst, ◌∙◌}
+use Rattle.std.specs.Prelude.{Option, None, Some, IfSome, IsTrue, MatchOption, ◌&&◌, true}
+use Rattle.std.specs.List.{list_all}
+use Rattle.qc_carry.specs.Branching.{IsBranch}
+use Rattle.qc_carry.specs.Kept.{net_of}
+use Rattle.qc_event.specs.Base.{Setting}
+use Rattle.qc_event.specs.History.{Name}
+use Rattle.qc_event.specs.Legal.{Legal}
+use Rattle.qc_net.specs.Messages.{Net, meets_fates}
+use Rattle.qc_net.specs.Plan.{Plan, anew}
+use Rattle.std.specs.Prelude.{option_map}
+use Rattle.qc_pass.specs.declared.view.View.{View}
+use Rattle.qc_pass.specs.Entries.{entries_of}
+use Rattle.qc_pass.specs.Rules.{numbers}
+use Rattle.qc_pass.proofs.Since.{others_where_none}
+use Rattle.qc_script.specs.Calls.{Branched, MeetsLink}
+use Rattle.qc_board.specs.Boards.{Mark}
+use Rattle.std.specs.Prelude.{List}
+use Rattle.qc_session.specs.Clients.{link_told, view_of}
+use Rattle.qc_session.specs.Marking.{KnowsMarks}
+use Rattle.qc_session.specs.Session.{AreHigh}
+use Rattle.qc_session.specs.Tidy.{AreTidy}
+use Rattle.qc_session.proofs.High.{one_high}
+use Rattle.qc_session.proofs.OwnMarks.{one_known}
+use Rattle.qc_session.proofs.Settled.{client_above}
+use Rattle.qc_session.proofs.Tidy.{fresh_tidy}
+use Rattle.qc_session.proofs.Walks.{same_net}
+
+module _ (setting : Setting) (root of : Name) (session : ℕ) (v w b : View) (is : IsBranch v w b) where
+  alone : numbers b ≡ b.number ∷ []
+  alone = ap numbers is.fresh
+
+  seen : b.seen ≡ v.seen
+  seen = ap (λ (x : View). x.seen) is.fresh
+
+  -- a link that begins anew has the same fates
+  pub anew_net : (plan fresh : Option Plan) (patience patience' : ℕ) → fresh ≡ option_map anew plan → patience' ≡ patience → link_told fresh patience' ≡ link_told plan patience
+  anew_net plan fresh patience patience' same patient = same_net plan fresh patience patience' (by_plan plan fresh same) patient
+    where
+      by_plan : (p q : Option Plan) → q ≡ option_map anew p → option_map anew q ≡ option_map anew p
+      by_plan None q same = ap (option_map anew) same
+      by_plan (Some p) q same = ap (option_map anew) same
+
+  pub branched : (epoch epoch_w epoch_b : ℕ) (net net_w net_b : Option Net) → epoch_w ≡ epoch → epoch_b ≡ epoch → net_w ≡ net → net_b ≡ net
+      → Branched (view_of setting root session epoch net v) (view_of setting root session epoch_w net_w w) of (view_of setting of session epoch_b net_b b)
+  branched epoch epoch_w epoch_b net net_w net_b same same_b told told_b = record {
+    number = b.number;
+    is_one = client_above b.number is.number;
+    other = is.other.0;
+    not_out = is.other.1;
+    none = others_where_none b.number v.seen is.none;
+    branch = λ i. view_of setting of session (same_b i) (told_b i) (is.fresh i);
+    left = λ i. view_of setting root session (same i) (told i) (is.left i);
+  }
+
+  -- the client has the same requests as before
+  pub still_met : (epoch epoch_w : ℕ) (net net_w : Option Net) → net_w ≡ net → MeetsLink (view_of setting root session epoch net v) → MeetsLink (view_of setting root session epoch_w net_w w)
+  still_met epoch epoch_w net net_w told met =
+      subst (λ (x : Option Net × View). MatchOption x.0 (Unit {0}) (λ n. IsTrue (list_all (λ seat. meets_fates seat n x.1.seen) (numbers x.1)))) (λ i. (sym told i, sym is.left i)) met
+
+  -- its branch has made none
+  pub branch_met : (epoch : ℕ) (plan : Option Plan) (patience : ℕ) → IfSome plan (λ p. IsTrue (meets_fates b.number (net_of p patience) b.seen)) → MeetsLink (view_of setting of session epoch (link_told plan patience) b)
+  branch_met epoch None patience own = tt
+  branch_met epoch (Some p) patience own = subst (λ ns. IsTrue (list_all (λ seat. meets_fates seat (net_of p patience) b.seen) ns)) (sym alone) (ap (λ x. x && true) own)
+
+  -- what is known of the client is known still
+  pub left_high : AreHigh (numbers v) → AreHigh (numbers w)
+  left_high high = subst (λ (x : View). AreHigh (numbers x)) (sym is.left) high
+
+  pub left_tidy : AreTidy (numbers v) v.seen → AreTidy (numbers w) w.seen
+  left_tidy tidy = subst (λ (x : View). AreTidy (numbers x) x.seen) (sym is.left) tidy
+
+  pub left_knows : (marks : List Mark) → KnowsMarks (numbers v) v.seen marks → KnowsMarks (numbers w) w.seen marks
+  left_knows marks known = subst (λ (x : View). KnowsMarks (numbers x) x.seen marks) (sym is.left) known
+
+  pub branch_high : AreHigh (numbers b)
+  branch_high = subst AreHigh (sym alone) (one_high b.number is.number)
+
+  none_there : entries_of b.number b.seen ≡ []
+  none_there = ap (entries_of b.number) seen ∙ is.none
+
+  pub branch_tidy : Legal setting b.seen → AreTidy (numbers b) b.seen
+  branch_tidy legal = subst (λ ns. AreTidy ns b.seen) (sym alone) (fresh_tidy setting b.number b.seen legal none_there, tt)
+
+  pub branch_knows : (marks : List Mark) → KnowsMarks (numbers b) b.seen marks
+  branch_knows marks = subst (λ ns. KnowsMarks ns b.seen marks) (sym alone) (one_known b.number marks b.seen none_there)
