@@ -6,6 +6,7 @@ use crate::fault::Fault;
 use crate::halt::Halt;
 use crate::marks::is_marked_by_itself;
 use qc_event::{Kind, Name};
+use qc_script::Body;
 
 /// Which child of a transaction is next, how many of its marks came before, and where it did its last.
 #[derive(Clone, Copy)]
@@ -79,6 +80,11 @@ impl<'t> Children<'t> {
         self.of
     }
 
+    /// What is told of them.
+    pub(crate) fn told(&self) -> &'t Told {
+        self.told
+    }
+
     /// Goes on to a step.
     pub(crate) fn begin(&mut self, step: usize) {
         self.step = step;
@@ -118,13 +124,35 @@ impl<'t> Children<'t> {
         }
     }
 
-    fn take(&mut self, child: &Deed) -> Result<(), Fault> {
+    // The next child starts behind what was done before. Where it ended is told.
+    fn pass(&mut self, child: &Deed) -> Result<usize, Fault> {
         let Some(end) = child.end else {
             return Err(Fault::Open(child.name));
         };
+        if child.start < self.since {
+            return Err(Fault::Turn(self.of.name));
+        }
         self.next = self.next.wrapping_add(1);
-        self.since = end.at;
+        Ok(end.at)
+    }
+
+    fn take(&mut self, child: &Deed) -> Result<(), Fault> {
+        self.since = self.pass(child)?;
         Ok(())
+    }
+
+    // The next child, which is a try of this body; nothing where there is no further child.
+    fn next_try(&self, body: u32) -> Result<Option<&'t Deed>, Fault> {
+        let Some(child) = self.next() else {
+            return Ok(None);
+        };
+        let Some((session, _)) = self.of.body() else {
+            return Err(Fault::Other(self.of.name));
+        };
+        if child.body() != Some((session, body)) {
+            return Err(self.misfit(child, Fault::Other(child.name)));
+        }
+        Ok(Some(child))
     }
 
     /// What the next child read, which is a manager of this kind, or why the step does not go on: this, where there is no
@@ -150,21 +178,56 @@ impl<'t> Children<'t> {
 
     /// The next child, which is a try of this body; nothing where there is no further child.
     pub(crate) fn take_try(&mut self, body: u32) -> Result<Option<Tried>, Fault> {
-        let Some(child) = self.next() else {
+        let Some(child) = self.next_try(body)? else {
             return Ok(None);
         };
-        let Some((session, _)) = self.of.body() else {
-            return Err(Fault::Other(self.of.name));
-        };
-        if child.body() != Some((session, body)) {
-            return Err(self.misfit(child, Fault::Other(child.name)));
-        }
         self.take(child)?;
         Ok(Some(Tried {
             name: child.name,
             committed: !child.is_aborted(),
             again: child.is_tried_again(),
         }))
+    }
+
+    /// Whether the next child, which is the first try of this body among branches, was begun.
+    pub(crate) fn take_first(&mut self, body: u32) -> Result<bool, Fault> {
+        let Some(child) = self.next_try(body)? else {
+            return Ok(false);
+        };
+        self.pass(child)?;
+        Ok(true)
+    }
+
+    /// The body of the next child, where that is a user transaction.
+    pub(crate) fn next_body(&self) -> Option<u32> {
+        let (_, number) = self.next()?.body()?;
+        Some(number)
+    }
+
+    /// The next child, which is a further try of this body among branches: one was due, and the one
+    /// before it had ended.
+    pub(crate) fn take_further(&mut self, body: &Body) -> Result<(), Fault> {
+        let Some(child) = self.next_try(body.number)? else {
+            return Ok(());
+        };
+        let of = &self.of.name;
+        let Some(before) = self.told.try_before(of, body.number, child.start) else {
+            return Err(Fault::Other(child.name));
+        };
+        let tries = self.told.tries_before(of, body.number, child.start);
+        if !before.is_tried_again() || tries >= body.tries as usize {
+            return Err(Fault::Again(child.name));
+        }
+        if !before.has_ended_by(child.start) {
+            return Err(Fault::Turn(*of));
+        }
+        self.pass(child)?;
+        Ok(())
+    }
+
+    /// That the branches are waited for.
+    pub(crate) fn wait(&mut self) {
+        self.since = self.since.max(self.told.last_end(&self.of.name, self.next));
     }
 
     /// Whether the transaction must be killed if it looks now.

@@ -251,6 +251,14 @@ impl Told {
             .find(|deed| number_below(parent, &deed.name) == Some(number))
     }
 
+    /// Whether one was aborted before a place.
+    pub(crate) fn is_aborted_by(&self, name: &Name, at: usize) -> bool {
+        match self.of(name) {
+            Some(deed) => deed.is_aborted() && deed.has_ended_by(at),
+            None => false,
+        }
+    }
+
     fn place_of(&self, name: &Name) -> Option<usize> {
         self.deeds.iter().position(|deed| deed.name == *name)
     }

@@ -6,6 +6,7 @@ use crate::deeds::{Came, Deed, Ended, Told, is_below};
 use crate::fault::Fault;
 use crate::halt::Halt;
 use crate::marks::is_marked_by;
+use crate::turned::{check_turned_back, is_turned_back};
 use crate::walk::walk_through;
 use qc_event::{Cause, Name};
 use qc_script::{Body, Step};
@@ -15,7 +16,7 @@ fn misfit(of: &Deed, halt: &Halt) -> Fault {
     let commits = of.is_through();
     match halt {
         Halt::Through => Fault::Aborted(of.name),
-        Halt::NotBegun { .. } => Fault::Early(of.name),
+        Halt::NotBegun { .. } | Halt::NotAllBegun => Fault::Early(of.name),
         Halt::Marked => Fault::Spared(of.name),
         Halt::Untried(last) => Fault::Untried(*last),
         Halt::Unwritten => Fault::Unwritten(of.name),
@@ -24,17 +25,9 @@ fn misfit(of: &Deed, halt: &Halt) -> Fault {
     }
 }
 
-// Whether an ancestor was aborted before a place.
-fn is_aborted_by(told: &Told, ancestor: &Name, at: usize) -> bool {
-    match told.of(ancestor) {
-        Some(deed) => deed.is_aborted() && deed.has_ended_by(at),
-        None => false,
-    }
-}
-
 // Whether an ancestor of one was aborted before a place.
 fn is_dead_by(told: &Told, of: &Name, at: usize) -> bool {
-    told.deeds.iter().any(|deed| is_below(of, &deed.name) && is_aborted_by(told, &deed.name, at))
+    told.deeds.iter().any(|deed| is_below(of, &deed.name) && told.is_aborted_by(&deed.name, at))
 }
 
 // Whether the steps from a place on ask that the ancestor so many levels up be aborted, before they ask for anything
@@ -71,11 +64,11 @@ fn comes_to_ask(
     at: usize,
 ) -> Result<bool, Fault> {
     match bodies.of_deed(by) {
-        Some(body) => {
+        Some(body) if !is_turned_back(told, bodies, by) => {
             let halt = walk_through(told, by, body)?;
             Ok(asks(by, body.steps.as_slice(), &halt, above, at))
         }
-        None => Ok(false),
+        _ => Ok(false),
     }
 }
 
@@ -114,7 +107,7 @@ fn check_orphan(
         }
         _ => true,
     };
-    if fits && is_below(&of.name, ancestor) && is_aborted_by(told, ancestor, at) {
+    if fits && is_below(&of.name, ancestor) && told.is_aborted_by(ancestor, at) {
         Ok(())
     } else {
         Err(Fault::Orphan(of.name))
@@ -143,15 +136,18 @@ fn hands_on(told: &Told, manager: &Name, cause: &Cause) -> bool {
     }
 }
 
-// Whether a step gives this cause. A parent that is dead is not aborted for a child.
-fn gives(told: &Told, of: &Deed, halt: &Halt, cause: &Cause, at: usize) -> bool {
+// Whether a step gives this cause. A parent that was dead when its last child ended is not aborted
+// for a child.
+fn gives(told: &Told, of: &Deed, halt: &Halt, cause: &Cause) -> bool {
     match halt {
         Halt::Asks { levels: 0, .. } | Halt::Short => {
             matches!(cause, Cause::Asked { by } if *by == of.name)
         }
         Halt::Refused(manager) => hands_on(told, manager, cause),
         Halt::Lost(last) => {
-            matches!(cause, Cause::Child(child) if child == last) && !is_dead_by(told, &of.name, at)
+            let ended = told.last_end(&of.name, u64::MAX);
+            matches!(cause, Cause::Child(child) if child == last)
+                && !is_dead_by(told, &of.name, ended)
         }
         _ => false,
     }
@@ -173,7 +169,7 @@ fn check_abort(
         Cause::Orphan(ancestor) => check_orphan(told, of, halt, ancestor, at),
         Cause::Killed => check_killed(told, of, halt, at),
         _ => {
-            if gives(told, of, halt, cause, at) {
+            if gives(told, of, halt, cause) {
                 Ok(())
             } else {
                 Err(misfit(of, halt))
@@ -213,6 +209,9 @@ pub(crate) fn check_body(
     of: &Deed,
     body: &Body,
 ) -> Result<(), Fault> {
+    if is_turned_back(told, bodies, of) {
+        return check_turned_back(told, bodies, of);
+    }
     let halt = walk_through(told, of, body)?;
     check_end(told, bodies, of, &halt)
 }

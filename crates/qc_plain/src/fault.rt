@@ -50,6 +50,10 @@ pub enum Fault {
     Seat(Name),
     #[error("{0} acts while one that it does not stand below is open")]
     Turn(Name),
+    #[error("{0} acts before each branch beside it has started")]
+    Ahead(Name),
+    #[error("{0} does not end as an orphan that did nothing, though not each branch has started")]
+    Turned(Name),
     #[error("{0} starts before the top before it is over")]
     Before(Name),
 }

@@ -7,6 +7,8 @@ pub(crate) enum Halt {
     Through,
     /// This step asks for something, and was not begun.
     NotBegun { step: usize },
+    /// Some of the branches that a step runs at once were begun, and the next was not.
+    NotAllBegun,
     /// The session had marked itself before the step.
     Marked,
     /// This step asks that the ancestor this number of levels up be aborted.

@@ -25,7 +25,7 @@ fn check_deed(told: &Told, bodies: &Bodies<'_>, deed: &Deed) -> Result<(), Fault
 pub fn judge(alloc: Global, script: &Script, trail: &[Entry]) -> Result<(), Fault> {
     let told = Told::gather(alloc, trail)?;
     let bodies = Bodies::new(alloc, script)?;
-    check_seats(&told, trail)?;
+    check_seats(&told, &bodies, trail)?;
     check_tops(&told, script)?;
     for deed in told.deeds.iter() {
         check_deed(&told, &bodies, deed)?;

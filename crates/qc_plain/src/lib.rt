@@ -11,8 +11,11 @@ mod fault;
 mod halt;
 mod judging;
 mod marks;
+mod row;
 mod seats;
 mod tops;
+mod tries;
+mod turned;
 mod turns;
 mod walk;
 

@@ -4,6 +4,7 @@ use crate::children::{Children, check_numbers};
 use crate::deeds::{Deed, Told};
 use crate::fault::Fault;
 use crate::halt::Halt;
+use crate::row::par;
 use qc_event::Kind;
 use qc_script::{Body, Step};
 
@@ -98,6 +99,7 @@ fn go(children: &mut Children<'_>, step: &Step) -> Result<Option<Halt>, Fault> {
             },
         ),
         Step::Child(body) => child(children, body),
+        Step::Par(row) => par(children, row.as_slice()),
         Step::Abort { levels } => Ok(Some(children.asks(*levels))),
         Step::Crash { .. } => Ok(None),
         Step::Kill { session } => kill(children, *session),

@@ -1,7 +1,7 @@
 //! Histories before the checker, and before the judge.
 
 use crate::judged::run_script;
-use crate::made::make_script;
+use crate::made::{Tops, make_script};
 use crate::random::Random;
 use qc_plain::Fault;
 use std::alloc::{AllocError, Global};
@@ -35,6 +35,7 @@ impl fmt::Display for Count {
 pub(crate) fn count_following<R: Threads + Wait + Sync>(
     handle: &R,
     alloc: Global,
+    tops: Tops,
     seed: u64,
     runs: u64,
     options: &str,
@@ -46,7 +47,7 @@ pub(crate) fn count_following<R: Threads + Wait + Sync>(
         fault: None,
     };
     for _ in 0..runs {
-        let text = make_script(alloc, &mut random)?;
+        let text = make_script(alloc, &mut random, tops)?;
         if let Some(judged) = run_script(handle, alloc, options, text.as_str())? {
             count.killed |= judged.has_killed();
             match judged.fault(alloc) {

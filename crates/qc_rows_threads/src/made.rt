@@ -43,6 +43,29 @@ fn pick<'t>(random: &mut Random, texts: &[&'t str]) -> &'t str {
     texts.get(place).copied().unwrap_or("")
 }
 
+/// The heads of bodies.
+const HEADS: [&str; 3] = [
+    r#"{"steps":["#,
+    r#"{"tries":2,"steps":["#,
+    r#"{"tries":2,"must":true,"steps":["#,
+];
+
+/// The heads of bodies that run at once, and none of which runs others so.
+const BRANCH_HEADS: [&str; 5] = [
+    r#"{"steps":["#,
+    r#"{"must":true,"steps":["#,
+    r#"{"tries":2,"steps":["#,
+    r#"{"tries":3,"steps":["#,
+    r#"{"tries":3,"must":true,"steps":["#,
+];
+
+/// Whether the tops of a script run bodies at once.
+#[derive(Clone, Copy)]
+pub(crate) enum Tops {
+    InTurn,
+    AtOnce,
+}
+
 // A step with a number below a limit, of at most 6.
 fn add_numbered(
     random: &mut Random,
@@ -86,29 +109,16 @@ fn add_steps(
     Ok(())
 }
 
-// The head of a body.
-fn add_head(random: &mut Random, text: &mut String) -> Result<(), AllocError> {
-    text.push_str(pick(
-        random,
-        &[
-            r#"{"steps":["#,
-            r#"{"tries":2,"steps":["#,
-            r#"{"tries":2,"must":true,"steps":["#,
-        ],
-    ))?;
-    Ok(())
-}
-
 // A top, which may begin with a child, and that with another.
 fn add_top(random: &mut Random, text: &mut String, sessions: usize) -> Result<(), AllocError> {
-    add_head(random, text)?;
+    text.push_str(pick(random, &HEADS))?;
     let below = random.below(5);
     if below < 3 {
         text.push_str(r#"["child","#)?;
-        add_head(random, text)?;
+        text.push_str(pick(random, &HEADS))?;
         if below == 0 {
             text.push_str(r#"["child","#)?;
-            add_head(random, text)?;
+            text.push_str(pick(random, &HEADS))?;
             add_steps(random, text, 3, sessions)?;
             text.push_str("],")?;
         }
@@ -118,10 +128,75 @@ fn add_top(random: &mut Random, text: &mut String, sessions: usize) -> Result<()
     add_steps(random, text, 1, sessions)
 }
 
+// Bodies at a depth that run at once, one to three.
+fn add_leaves(
+    random: &mut Random,
+    text: &mut String,
+    depth: usize,
+    sessions: usize,
+) -> Result<(), AllocError> {
+    text.push_str(r#"["par",["#)?;
+    text.push_str(pick(random, &HEADS))?;
+    add_steps(random, text, depth, sessions)?;
+    for _ in 0..random.below(3) {
+        text.push_str(",")?;
+        text.push_str(pick(random, &HEADS))?;
+        add_steps(random, text, depth, sessions)?;
+    }
+    text.push_str("]]")?;
+    Ok(())
+}
+
+// A body of a top that runs beside others, and may begin with bodies that run at once.
+fn add_branch(random: &mut Random, text: &mut String, sessions: usize) -> Result<(), AllocError> {
+    if random.below(4) > 0 {
+        text.push_str(pick(random, &BRANCH_HEADS))?;
+        return add_steps(random, text, 2, sessions);
+    }
+    text.push_str(pick(random, &HEADS))?;
+    add_leaves(random, text, 3, sessions)?;
+    text.push_str(",")?;
+    add_steps(random, text, 2, sessions)
+}
+
+// A top with a step of one to four bodies that run at once. It may begin with another step.
+fn add_top_at_once(
+    random: &mut Random,
+    text: &mut String,
+    sessions: usize,
+) -> Result<(), AllocError> {
+    text.push_str(pick(random, &HEADS))?;
+    if random.below(3) == 0 {
+        add_step(random, text, 1, sessions)?;
+        text.push_str(",")?;
+    }
+    text.push_str(r#"["par",["#)?;
+    add_branch(random, text, sessions)?;
+    for _ in 0..random.below(4) {
+        text.push_str(",")?;
+        add_branch(random, text, sessions)?;
+    }
+    text.push_str("]],")?;
+    add_steps(random, text, 1, sessions)
+}
+
+fn add_one(
+    random: &mut Random,
+    text: &mut String,
+    tops: Tops,
+    sessions: usize,
+) -> Result<(), AllocError> {
+    match tops {
+        Tops::InTurn => add_top(random, text, sessions),
+        Tops::AtOnce => add_top_at_once(random, text, sessions),
+    }
+}
+
 // A session of one top or more, up to so many.
 fn add_session(
     random: &mut Random,
     text: &mut String,
+    tops: Tops,
     most: u64,
     sessions: usize,
 ) -> Result<(), AllocError>
@@ -130,26 +205,36 @@ fn add_session(
     text.push_str(r#"{"net":"#)?;
     text.push_str(pick(random, &NETS))?;
     text.push_str(r#","tops":["#)?;
-    add_top(random, text, sessions)?;
+    add_one(random, text, tops, sessions)?;
     for _ in 0..random.below(most) {
         text.push_str(",")?;
-        add_top(random, text, sessions)?;
+        add_one(random, text, tops, sessions)?;
     }
     text.push_str("]}")?;
     Ok(())
 }
 
-/// A script of two to six sessions, with at most three tops each and eight together: the checker's time grows with the
-/// fourth power of the history's length.
-pub(crate) fn make_script(alloc: Global, random: &mut Random) -> Result<String, AllocError> {
-    let others = random.below(5) + 1;
-    let most = (8 / (others + 1)).clamp(1, 3);
+/// A script of two to six sessions, with at most three tops each and eight together, or of one or
+/// two with one or two tops that run bodies at once: the checker's time grows with the fourth power
+/// of the history's length.
+pub(crate) fn make_script(
+    alloc: Global,
+    random: &mut Random,
+    tops: Tops,
+) -> Result<String, AllocError> {
+    let (others, most) = match tops {
+        Tops::InTurn => {
+            let others = random.below(5) + 1;
+            (others, (8 / (others + 1)).clamp(1, 3))
+        }
+        Tops::AtOnce => (random.below(2), 2),
+    };
     let sessions = others as usize + 1;
     let mut text = String::from_str(alloc, RECORDS)?;
-    add_session(random, &mut text, most, sessions)?;
+    add_session(random, &mut text, tops, most, sessions)?;
     for _ in 0..others {
         text.push_str(",")?;
-        add_session(random, &mut text, most, sessions)?;
+        add_session(random, &mut text, tops, most, sessions)?;
     }
     text.push_str("]}")?;
     Ok(text)

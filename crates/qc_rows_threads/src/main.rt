@@ -8,6 +8,7 @@
 //!   other.
 //! - `follow SEED RUNS OPTION ..`: scripts made from a seed; how many of their histories are legal as the checker has it and
 //!   follow their script as the judge has it, and whether a transaction was killed.
+//! - `branches SEED RUNS OPTION ..`: the same of scripts that run bodies at once.
 //! - `slip KIND SEED`: the first of such scripts, in order, whose trail can be spoilt in this way; the fault that the judge
 //!   then finds.
 //!
@@ -16,6 +17,7 @@
 
 mod adds;
 mod audits;
+mod branches;
 mod command;
 mod crossing;
 mod ends;
@@ -33,6 +35,7 @@ use adds::count_agreed;
 use audits::count_following;
 use command::run_text;
 use crossing::Crossing;
+use made::Tops;
 use meeting::Meeting;
 use qc_disk::MemShop;
 use qc_watched::WatchedShop;
@@ -105,6 +108,20 @@ fn number(word: &str) -> u64 {
     word.parse::<u64>().unwrap_or(0)
 }
 
+// Runs scripts of a seed.
+fn print_follow<R: Threads + Wait + Sync>(
+    handle: &R,
+    rt: &HostRuntime,
+    alloc: Global,
+    tops: Tops,
+    words: &str,
+) -> io::Result<()> {
+    let (seed, rest) = words.split_once(' ').unwrap_or((words, ""));
+    let (runs, options) = rest.split_once(' ').unwrap_or((rest, ""));
+    let count = count_following(handle, alloc, tops, number(seed), number(runs), options)?;
+    println!(rt; ": {count}")
+}
+
 // Answers a question.
 fn answer<R: Threads + Wait + Sync>(
     handle: &R,
@@ -122,11 +139,8 @@ fn answer<R: Threads + Wait + Sync>(
             let agreed = count_agreed(handle, alloc, number(first), number(second))?;
             println!(rt; ": {agreed} agreed")
         }
-        "follow" => {
-            let (runs, options) = second.split_once(' ').unwrap_or((second, ""));
-            let count = count_following(handle, alloc, number(first), number(runs), options)?;
-            println!(rt; ": {count}")
-        }
+        "follow" => print_follow(handle, rt, alloc, Tops::InTurn, rest),
+        "branches" => print_follow(handle, rt, alloc, Tops::AtOnce, rest),
         "slip" => print_slip(handle, rt, alloc, first, number(second)),
         _ => println!(rt;),
     }

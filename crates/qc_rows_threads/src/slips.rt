@@ -1,8 +1,9 @@
 //! Trails that follow their scripts, spoilt in one way, before the judge.
 
+use crate::branches::branch_as;
 use crate::ends::{end_as, mark_more};
 use crate::judged::run_script;
-use crate::made::make_script;
+use crate::made::{Tops, make_script};
 use crate::random::Random;
 use crate::renamed::{about, next_to};
 use crate::spoiled::Spoiled;
@@ -121,7 +122,17 @@ fn spoil(alloc: Global, kind: &str, trail: &[Entry]) -> Slip {
         "value" | "record" | "body" | "session" => start_as(alloc, kind, trail),
         "seat" => with_seat(alloc, trail),
         "mark_more" => mark_more(alloc, trail),
+        _ if kind.starts_with("branch_") => branch_as(alloc, kind, trail),
         _ => end_as(alloc, kind, trail),
+    }
+}
+
+// What the scripts have that are spoilt so.
+fn tops_of(kind: &str) -> Tops {
+    if kind.starts_with("branch_") {
+        Tops::AtOnce
+    } else {
+        Tops::InTurn
     }
 }
 
@@ -135,7 +146,7 @@ pub(crate) fn fault_of_slip<R: Threads + Wait + Sync>(
 ) -> Result<Option<Fault>, AllocError> {
     let mut random = Random::new(seed);
     for _ in 0..MOST {
-        let text = make_script(alloc, &mut random)?;
+        let text = make_script(alloc, &mut random, tops_of(kind))?;
         if let Some(judged) = run_script(handle, alloc, "--serial", text.as_str())? {
             if judged.fault(alloc).is_none() {
                 let trail = judged.ran.trail.as_slice();

@@ -71,6 +71,22 @@ impl Spoiled {
         Ok(spoiled)
     }
 
+    /// With another seat in place of one.
+    pub(crate) fn with_seat(
+        alloc: Global,
+        trail: &[Entry],
+        from: u32,
+        to: u32,
+    ) -> Result<Self, AllocError> {
+        let mut spoiled = Spoiled::new(alloc);
+        for entry in trail {
+            let seat = if entry.seat == from { to } else { entry.seat };
+            let event = entry.event;
+            append(&mut spoiled.entries, Entry { seat, event })?;
+        }
+        Ok(spoiled)
+    }
+
     /// With one more entry behind a place.
     pub(crate) fn with_more(
         alloc: Global,
