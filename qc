@@ -20,11 +20,12 @@ did. The program is proved before it is built: README.md says of what.
 
   ./qc run < SCRIPT              runs a script (`run --serial` does the same today)
   ./qc run --dir P < SCRIPT      the same over the disks in the folder P, for a later run too
+  ./qc gen N                     makes a script of the number N, runs it, and writes its last values
   ./qc --unproved run < SCRIPT   the same before the first build is done: in about a minute, unproved
   ./qc --help                    this page
 
 The first call proves and builds the program, which takes a while and is told here; later calls
-start at once. `gen` is for a later stage, and is refused today.
+start at once.
 
 A script, examples/sets_and_reads_back.json:
 

@@ -8,6 +8,6 @@ use Rattle.qc_event.specs.declared.event.Entry.{Entry}
 use Rattle.qc_report.specs.Indexed.{IsLegal}
 use Rattle.qc_run.specs.Run.{OfRun}
 
-pub run_is_legal : (before now : Option (List ℕ)) (start : List (List Tuple)) (trail : List Entry) → OfRun before now start trail (λ s. Legal (setting_of s.table start) (reverse trail)) → IsLegal trail
-run_is_legal before now start trail (inl none) = subst IsLegal (sym none.1) (record { firsts = []; base = [] }, tt)
-run_is_legal before now start trail (inr of) = (setting_of of.0.table start, of.2)
+pub run_is_legal : (words : List (List ℕ)) (before now : Option (List ℕ)) (start : List (List Tuple)) (trail : List Entry) → OfRun words before now start trail (λ s. Legal (setting_of s.table start) (reverse trail)) → IsLegal trail
+run_is_legal words before now start trail (inl none) = subst IsLegal (sym none.1) (record { firsts = []; base = [] }, tt)
+run_is_legal words before now start trail (inr of) = (setting_of of.0.table start, of.2)

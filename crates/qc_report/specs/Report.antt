@@ -227,10 +227,10 @@ doubt_lines trail entries = flat_map (λ (e : Entry). doubt_line trail e.event) 
 abbrev pub final_lines : List (Row × ℕ) → Text
 final_lines records = flat_map (λ (p : Row × ℕ). final_line p.0 p.1) records
 
--- the tops in doubt, the values of records, and how many tops there were
+-- the values of records, and how many tops there were
 abbrev pub summary : Table → List ℕ → List Entry → Text
-summary table finals trail = doubt_lines trail trail ++ final_lines (zip table.records finals) ++ tally trail
+summary table finals trail = final_lines (zip table.records finals) ++ tally trail
 
 -- what is printed of a run of these records, which left these values and this history, the oldest entry first
 abbrev pub report : Table → List ℕ → List Entry → Text
-report table finals trail = event_lines table trail trail ++ summary table finals trail
+report table finals trail = event_lines table trail trail ++ doubt_lines trail trail ++ summary table finals trail

@@ -35,12 +35,13 @@ pub fn report(
 {
     let mut page = Page::new(alloc);
     push_events(&mut page, table, history)?;
+    push_doubts(&mut page, history)?;
     push_summary(&mut page, table, finals, history)?;
     Ok(page.into_bytes())
 }
 
-/// The end of a report alone: a line for each top in doubt, the value of each record, and how many tops there
-/// were. Its time grows as that of the report.
+/// The end of a report alone: the value of each record, and how many tops there were. Its time grows as that of the
+/// report.
 pub fn summary(
     alloc: Global,
     table: &Table,
@@ -63,7 +64,6 @@ fn push_summary(
     ensures { OnOk result
         (page.new ≡ page.old ++ spec.summary table.now finals.now history.now) }
 {
-    push_doubts(page, history)?;
     push_finals(page, table, finals)?;
     push_tally(page, history)
 }

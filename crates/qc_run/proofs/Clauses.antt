@@ -1,33 +1,33 @@
 -- The clauses of a run, each from what it answered to its words.
-use Rattle.std.proofs.Common.{ℕ, ◌≡◌, ◌≤◌, true, false, List, [], ◌∷◌, length, reverse, refl, sym, ap, ◌∙◌, subst, inl, inr}
-use Rattle.std.specs.Prelude.{◌⊎◌, ◌≢◌, Option, None, Some, IfSome, ⊤}
+use Rattle.std.proofs.Common.{ℕ, ◌≡◌, ◌≤◌, List, [], length, reverse, refl, sym, subst, inl, inr}
+use Rattle.std.specs.Prelude.{◌⊎◌, Option}
 use Rattle.qc_codec.specs.declared.image.BadImage.{BadImage}
 use Rattle.qc_disk.specs.Disk.{View}
 use Rattle.qc_disk.specs.Shop.{View as Shop}
 use Rattle.qc_event.specs.History.{Name, limit}
-use Rattle.qc_io.specs.Io.{Rose, Keeps, Appends, AppendsFront, SinkView, SourceView}
-use Rattle.qc_mount.specs.Images.{AreSound, IsFirstFault}
+use Rattle.qc_io.specs.Io.{Rose, Keeps, SinkView, SourceView}
+use Rattle.qc_mount.specs.Images.{IsFirstFault}
 use Rattle.qc_report.specs.Report.{Text}
 use Rattle.qc_script.specs.Plan.{ScriptPlan}
-use Rattle.qc_script.specs.Reading.{IsScript}
 use Rattle.qc_script.specs.declared.bad_script.BadScript.{BadScript}
-use Rattle.qc_run.specs.Left.{Wrote, IsPerformed, TellsDoubt, IsRefusal, HasRun, IsUnmounted, WasUnmounted, CameBack, IsAnswer, IsUnread, IsAnswerToWords}
-use Rattle.qc_run.specs.Run.{journal_limit, report_of, AllEnded, AllOffered, AtPlace, BeganNothing, Follows, IsDiskFault, IsInDoubt, IsNotMounted, IsReported, IsRun, IsScriptFault, IsTold, NoneBegun, OfRun, OfScript, RanToEnd, ReadIt, ReadsScript, TellsFault}
-use Rattle.qc_run.specs.Words.{IsCommand, IsNoCommand}
+use Rattle.qc_run.specs.Left.{Wrote, IsPerformed, TellsDoubt, HasRun, IsUnmounted, WasUnmounted, CameBack, IsAnswer, HadNoScript, IsAnswerToWords}
+use Rattle.qc_run.specs.Run.{journal_limit, form_of, text_by, AllEnded, AllOffered, BeganNothing, HadScript, IsDiskFault, IsInDoubt, IsNotMounted, IsReadFault, IsReported, IsScriptFault, IsTold, NoneBegun, OfRun, OfScript, RanToEnd, RunsScript, TellsFault}
+use Rattle.qc_run.specs.Words.{place_of, AsAsked, Asked, AtPlace, IsCommand, IsNoCommand}
 use Rattle.qc_run.specs.declared.ran.Ran.{Ran}
 use Rattle.qc_run.specs.declared.status.Status.{Status}
 use Rattle.qc_run.specs.declared.status.Status.TheVariants as status
-use Rattle.qc_run.proofs.Places.{place_found}
+use Rattle.qc_run.proofs.OneCommand.{one_command}
 use Rattle.qc_run.proofs.Doubts.{all_ended}
 
--- PLACES
+-- WORDS
 
-one_of : (o : Option (List ℕ)) (p q : List ℕ) → o ≡ Some p → o ≡ Some q → p ≡ q
-one_of o p q a b = cc
+-- what is so of one thing that words ask for is so of all that they ask for
+pub as_asked : (words : List (List ℕ)) (asked : Asked) (Q : Asked → Type 0) → IsCommand words asked → Q asked → AsAsked words Q
+as_asked words asked Q is so = λ other too. subst Q (one_command words asked other is too) so
 
--- what is so of a place of words is so of their place
-pub at_place : (words : List (List ℕ)) (place : List ℕ) (Q : List ℕ → Type 0) → IsCommand words place → Q place → AtPlace words Q
-at_place words place Q at so = λ other is. subst Q (one_of _ place other (place_found words place at) (place_found words other is)) so
+-- and so with its place
+pub at_place : (words : List (List ℕ)) (asked : Asked) (Q : List ℕ → Type 0) → IsCommand words asked → Q (place_of asked) → AtPlace words Q
+at_place words asked Q is so = as_asked words asked (λ a. Q (place_of a)) is so
 
 -- STATUSES
 
@@ -46,7 +46,7 @@ reported_ran status.Room is = absurd is
 pub failed_ran : (answer : Status) → answer ≡ status.WriteFault → RanToEnd answer
 failed_ran answer failed = subst RanToEnd (sym failed) tt
 
-pub ran_read : (answer : Status) → RanToEnd answer → ReadIt answer
+pub ran_read : (answer : Status) → RanToEnd answer → HadScript answer
 ran_read status.Done is = tt
 ran_read status.InDoubt is = tt
 ran_read status.WriteFault is = tt
@@ -58,17 +58,17 @@ ran_read (status.Image bad) is = absurd is
 ran_read status.Memory is = absurd is
 ran_read status.Room is = absurd is
 
-unread_not_read : (words : List (List ℕ)) (before now : SourceView) (answer : Status) → IsUnread words before now answer → ReadIt answer → ⊥
-unread_not_read words before now status.Done un is = absurd un
-unread_not_read words before now status.InDoubt un is = absurd un
-unread_not_read words before now status.WriteFault un is = absurd un
-unread_not_read words before now status.Usage un is = absurd is
-unread_not_read words before now (status.Script e) un is = absurd is
-unread_not_read words before now status.ReadFault un is = absurd is
-unread_not_read words before now (status.DiskFault which) un is = absurd un
-unread_not_read words before now (status.Image bad) un is = absurd un
-unread_not_read words before now status.Memory un is = absurd is
-unread_not_read words before now status.Room un is = absurd un
+none_had : (words : List (List ℕ)) (before now : SourceView) (answer : Status) → HadNoScript words before now answer → HadScript answer → ⊥
+none_had words before now status.Done none is = absurd none.1
+none_had words before now status.InDoubt none is = absurd none.1
+none_had words before now status.WriteFault none is = absurd none.1
+none_had words before now status.Usage none is = absurd is
+none_had words before now (status.Script e) none is = absurd is
+none_had words before now status.ReadFault none is = absurd is
+none_had words before now (status.DiskFault which) none is = absurd none.1
+none_had words before now (status.Image bad) none is = absurd none.1
+none_had words before now status.Memory none is = absurd is
+none_had words before now status.Room none is = absurd none.1
 
 unmounted_not_ran : {D : Type 0} (view : D → View) (s : ScriptPlan) (offers : ℕ → Option (List ℕ)) (before now : ℕ) (disks : List D) (answer : Status) → IsUnmounted view s offers before now disks answer → RanToEnd answer → ⊥
 unmounted_not_ran view s offers before now disks status.Done un is = absurd un
@@ -94,7 +94,7 @@ performed_began (status.Image bad) is none = absurd is
 performed_began status.Memory is none = absurd none
 performed_began status.Room is none = absurd none
 
-unmounted_read : (answer : Status) → IsNotMounted answer → ReadIt answer
+unmounted_read : (answer : Status) → IsNotMounted answer → HadScript answer
 unmounted_read (status.DiskFault which) is = tt
 unmounted_read (status.Image bad) is = tt
 unmounted_read status.Done is = absurd is
@@ -118,29 +118,29 @@ performed_mounted (status.Image bad) is un = absurd is
 performed_mounted status.Memory is un = absurd un
 performed_mounted status.Room is un = absurd un
 
-unread_fault : (words : List (List ℕ)) (before now : SourceView) (answer : Status) → IsUnread words before now answer → IsScriptFault before.left answer
-unread_fault words before now (status.Script e) un = un
-unread_fault words before now status.Done un = tt
-unread_fault words before now status.InDoubt un = tt
-unread_fault words before now status.WriteFault un = tt
-unread_fault words before now status.Usage un = tt
-unread_fault words before now status.ReadFault un = tt
-unread_fault words before now (status.DiskFault which) un = tt
-unread_fault words before now (status.Image bad) un = tt
-unread_fault words before now status.Memory un = tt
-unread_fault words before now status.Room un = tt
+none_fault : (words : List (List ℕ)) (before now : SourceView) (answer : Status) → HadNoScript words before now answer → IsScriptFault words before.left answer
+none_fault words before now (status.Script e) none = (none.0, none.1.0, none.1.1)
+none_fault words before now status.Done none = tt
+none_fault words before now status.InDoubt none = tt
+none_fault words before now status.WriteFault none = tt
+none_fault words before now status.Usage none = tt
+none_fault words before now status.ReadFault none = tt
+none_fault words before now (status.DiskFault which) none = tt
+none_fault words before now (status.Image bad) none = tt
+none_fault words before now status.Memory none = tt
+none_fault words before now status.Room none = tt
 
-no_fault : (left : Option (List ℕ)) (answer : Status) → ((e : BadScript) → answer ≡ status.Script e → ⊥) → IsScriptFault left answer
-no_fault left (status.Script e) none = absurd (none e refl)
-no_fault left status.Done none = tt
-no_fault left status.InDoubt none = tt
-no_fault left status.WriteFault none = tt
-no_fault left status.Usage none = tt
-no_fault left status.ReadFault none = tt
-no_fault left (status.DiskFault which) none = tt
-no_fault left (status.Image bad) none = tt
-no_fault left status.Memory none = tt
-no_fault left status.Room none = tt
+no_fault : (words : List (List ℕ)) (left : Option (List ℕ)) (answer : Status) → ((e : BadScript) → answer ≡ status.Script e → ⊥) → IsScriptFault words left answer
+no_fault words left (status.Script e) none = absurd (none e refl)
+no_fault words left status.Done none = tt
+no_fault words left status.InDoubt none = tt
+no_fault words left status.WriteFault none = tt
+no_fault words left status.Usage none = tt
+no_fault words left status.ReadFault none = tt
+no_fault words left (status.DiskFault which) none = tt
+no_fault words left (status.Image bad) none = tt
+no_fault words left status.Memory none = tt
+no_fault words left status.Room none = tt
 
 -- CLAUSES
 
@@ -148,45 +148,57 @@ module _ {D : Type 0} (view : D → View) (words : List (List ℕ)) (source_befo
   abbrev Answers : Type 0
   Answers = IsAnswerToWords view words source_before source_now shop_before shop_faults before now ran
 
-  -- what was answered to a script at a place
-  abbrev ToScript : ScriptPlan → List ℕ → Type 0
-  ToScript s place = IsAnswer view s (shop_before.offers place) shop_before.faults shop_faults before now ran
+  -- this is the script that the words run
+  abbrev Is : ScriptPlan → Type 0
+  Is s = RunsScript words source_before.left source_now.left s
 
-  abbrev Runs : ScriptPlan → List ℕ → Type 0
-  Runs s place = HasRun view s (shop_before.offers place) ran
+  -- what was answered where this is asked for, and runs this script
+  abbrev ToScript : ScriptPlan → Asked → Type 0
+  ToScript s asked = IsAnswer view s (shop_before.offers (place_of asked)) (form_of asked) shop_before.faults shop_faults before now ran
+
+  abbrev Runs : ScriptPlan → Asked → Type 0
+  Runs s asked = HasRun view s (shop_before.offers (place_of asked)) ran
+
+  -- no store was mounted for it
+  abbrev Unmounted : ScriptPlan → Asked → Type 0
+  Unmounted s asked = WasUnmounted view s (shop_before.offers (place_of asked)) shop_before.faults shop_faults ran
+
+  -- why none was
+  abbrev Why : ScriptPlan → Asked → List D → Status → Type 0
+  Why s asked disks answer = IsUnmounted view s (shop_before.offers (place_of asked)) shop_before.faults shop_faults disks answer
 
   -- what is so of a run whose session began
-  pub of_run : (P : ScriptPlan → Type 0) → Answers → ((s : ScriptPlan) (place : List ℕ) → ReadsScript source_before.left source_now.left s → IsCommand words place → Runs s place → P s)
-      → OfRun source_before.left source_now.left ran.start ran.trail.items P
+  pub of_run : (P : ScriptPlan → Type 0) → Answers → ((s : ScriptPlan) (it : Is s) → Runs s it.asked → P s)
+      → OfRun words source_before.left source_now.left ran.start ran.trail.items P
   of_run P (inl refused) so = inl refused.0.none
-  of_run P (inr run) so = by_came run.2.2.came
+  of_run P (inr run) so = by_came run.1.1.came
     where
-      by_came : WasUnmounted view run.0 (shop_before.offers run.2.0) shop_before.faults shop_faults ran ⊎ HasRun view run.0 (shop_before.offers run.2.0) ran → OfRun source_before.left source_now.left ran.start ran.trail.items P
+      by_came : Unmounted run.0 run.1.0.asked ⊎ Runs run.0 run.1.0.asked → OfRun words source_before.left source_now.left ran.start ran.trail.items P
       by_came (inl un) = inl un.none
-      by_came (inr has) = inr (run.0, run.1, so run.0 run.2.0 run.1 run.2.1 has)
+      by_came (inr has) = inr (run.0, run.1.0, so run.0 run.1.0 has)
 
-  -- what is so where a script was read
-  pub by_script : (P : ScriptPlan → Type 0) → Answers → ReadIt ran.status → ((s : ScriptPlan) (place : List ℕ) → ReadsScript source_before.left source_now.left s → IsCommand words place → ToScript s place → P s)
-      → OfScript source_before.left source_now.left P
-  by_script P (inl refused) read so = absurd (unread_not_read words source_before source_now ran.status refused.1 read)
-  by_script P (inr run) read so = (run.0, run.1, so run.0 run.2.0 run.1 run.2.1 run.2.2)
+  -- what is so where there was a script
+  pub by_script : (P : ScriptPlan → Type 0) → Answers → HadScript ran.status → ((s : ScriptPlan) (it : Is s) → ToScript s it.asked → P s)
+      → OfScript words source_before.left source_now.left P
+  by_script P (inl refused) read so = absurd (none_had words source_before source_now ran.status refused.1 read)
+  by_script P (inr run) read so = (run.0, run.1.0, so run.0 run.1.0 run.1.1)
 
-  has_run : (s : ScriptPlan) (place : List ℕ) → ToScript s place → RanToEnd ran.status → Runs s place
-  has_run s place to ended = by_came to.came
+  has_run : (s : ScriptPlan) (asked : Asked) → ToScript s asked → RanToEnd ran.status → Runs s asked
+  has_run s asked to ended = by_came to.came
     where
-      by_came : WasUnmounted view s (shop_before.offers place) shop_before.faults shop_faults ran ⊎ HasRun view s (shop_before.offers place) ran → HasRun view s (shop_before.offers place) ran
-      by_came (inl un) = absurd (unmounted_not_ran view s (shop_before.offers place) shop_before.faults shop_faults ran.disks.items ran.status un.why ended)
+      by_came : Unmounted s asked ⊎ Runs s asked → Runs s asked
+      by_came (inl un) = absurd (unmounted_not_ran view s (shop_before.offers (place_of asked)) shop_before.faults shop_faults ran.disks.items ran.status un.why ended)
       by_came (inr has) = has
 
   -- what is so where its session ran to its end
-  pub by_run : (P : ScriptPlan → Type 0) → Answers → RanToEnd ran.status → ((s : ScriptPlan) (place : List ℕ) → IsCommand words place → Wrote before now ran.status (report_of s.table ran.start ran.trail.items) → Runs s place → P s)
-      → OfScript source_before.left source_now.left P
-  by_run P is ended so = by_script P is (ran_read ran.status ended) (λ s place reads at to. so s place at to.wrote (has_run s place to ended))
+  pub by_run : (P : ScriptPlan → Type 0) → Answers → RanToEnd ran.status → ((s : ScriptPlan) (it : Is s) → Wrote before now ran.status (text_by (form_of it.asked) s.table ran.start ran.trail.items) → Runs s it.asked → P s)
+      → OfScript words source_before.left source_now.left P
+  by_run P is ended so = by_script P is (ran_read ran.status ended) (λ s it to. so s it to.wrote (has_run s it.asked to ended))
 
   -- what was written, whatever the text
   wrote : Answers → (text : Text) × Wrote before now ran.status text
   wrote (inl refused) = ([], refused.0.wrote [])
-  wrote (inr run) = (report_of run.0.table ran.start ran.trail.items, run.2.2.wrote)
+  wrote (inr run) = (text_by (form_of run.1.0.asked) run.0.table ran.start ran.trail.items, run.1.1.wrote)
 
   pub told : Answers → IsTold ran.status → TellsFault before.taken now.taken before.faults now.faults ran.status
   told is fault = (wrote is).1.line fault
@@ -201,83 +213,83 @@ module _ {D : Type 0} (view : D → View) (words : List (List ℕ)) (source_befo
   sink_later is = (wrote is).1.faults
 
   -- a script was not answered by a status that neither a session gives nor a mounting
-  not_to_script : (s : ScriptPlan) (place : List ℕ) (why : Status) → ran.status ≡ why → ((disks : List D) → IsUnmounted view s (shop_before.offers place) shop_before.faults shop_faults disks why → ⊥) → (IsPerformed why → ⊥) → ToScript s place → ⊥
-  not_to_script s place why is no_mounting no_session to = by_came to.came
+  not_to_script : (s : ScriptPlan) (asked : Asked) (why : Status) → ran.status ≡ why → ((disks : List D) → Why s asked disks why → ⊥) → (IsPerformed why → ⊥) → ToScript s asked → ⊥
+  not_to_script s asked why is no_mounting no_session to = by_came to.came
     where
-      by_came : WasUnmounted view s (shop_before.offers place) shop_before.faults shop_faults ran ⊎ HasRun view s (shop_before.offers place) ran → ⊥
-      by_came (inl un) = no_mounting ran.disks.items (subst (IsUnmounted view s (shop_before.offers place) shop_before.faults shop_faults ran.disks.items) is un.why)
+      by_came : Unmounted s asked ⊎ Runs s asked → ⊥
+      by_came (inl un) = no_mounting ran.disks.items (subst (Why s asked ran.disks.items) is un.why)
       by_came (inr has) = no_session (subst IsPerformed is has.answer)
 
   pub usage : Answers → ran.status ≡ status.Usage → IsNoCommand words
-  usage (inl refused) is = subst (IsUnread words source_before source_now) is refused.1
-  usage (inr run) is = absurd (not_to_script run.0 run.2.0 status.Usage is (λ disks no. no) (λ no. no) run.2.2)
+  usage (inl refused) is = subst (HadNoScript words source_before source_now) is refused.1
+  usage (inr run) is = absurd (not_to_script run.0 run.1.0.asked status.Usage is (λ disks no. no) (λ no. no) run.1.1)
 
-  pub read_failed : Answers → ran.status ≡ status.ReadFault → Rose source_before.faults source_now.faults
-  read_failed (inl refused) is = subst (IsUnread words source_before source_now) is refused.1
-  read_failed (inr run) is = absurd (not_to_script run.0 run.2.0 status.ReadFault is (λ disks no. no) (λ no. no) run.2.2)
+  pub read_failed : Answers → ran.status ≡ status.ReadFault → IsReadFault words source_before.faults source_now.faults
+  read_failed (inl refused) is = subst (HadNoScript words source_before source_now) is refused.1
+  read_failed (inr run) is = absurd (not_to_script run.0 run.1.0.asked status.ReadFault is (λ disks no. no) (λ no. no) run.1.1)
 
-  pub script_fault : Answers → IsScriptFault source_before.left ran.status
-  script_fault (inl refused) = unread_fault words source_before source_now ran.status refused.1
-  script_fault (inr run) = no_fault source_before.left ran.status (λ e is. not_to_script run.0 run.2.0 (status.Script e) is (λ disks no. no) (λ no. no) run.2.2)
+  pub script_fault : Answers → IsScriptFault words source_before.left ran.status
+  script_fault (inl refused) = none_fault words source_before source_now ran.status refused.1
+  script_fault (inr run) = no_fault words source_before.left ran.status (λ e is. not_to_script run.0 run.1.0.asked (status.Script e) is (λ disks no. no) (λ no. no) run.1.1)
 
   pub began_nothing : Answers → BeganNothing ran.status → NoneBegun ran.start ran.trail.items
   began_nothing (inl refused) none = refused.0.none
-  began_nothing (inr run) none = by_came run.2.2.came
+  began_nothing (inr run) none = by_came run.1.1.came
     where
-      by_came : WasUnmounted view run.0 (shop_before.offers run.2.0) shop_before.faults shop_faults ran ⊎ HasRun view run.0 (shop_before.offers run.2.0) ran → NoneBegun ran.start ran.trail.items
+      by_came : Unmounted run.0 run.1.0.asked ⊎ Runs run.0 run.1.0.asked → NoneBegun ran.start ran.trail.items
       by_came (inl un) = un.none
       by_came (inr has) = absurd (performed_began ran.status has.answer none)
 
   -- what a mounting answered to a script, where no session gives this status and no words do
-  by_mounting : (why : Status) (P : ScriptPlan → List ℕ → Type 0) → Answers → ran.status ≡ why → (IsPerformed why → ⊥) → (IsUnread words source_before source_now why → ⊥)
-      → ((s : ScriptPlan) (place : List ℕ) → IsUnmounted view s (shop_before.offers place) shop_before.faults shop_faults ran.disks.items why → P s place)
-      → (s : ScriptPlan) × ReadsScript source_before.left source_now.left s × ((place : List ℕ) × IsCommand words place × P s place)
-  by_mounting why P (inl refused) is no_session no_words so = absurd (no_words (subst (IsUnread words source_before source_now) is refused.1))
-  by_mounting why P (inr run) is no_session no_words so = (run.0, run.1, (run.2.0, run.2.1, by_came run.2.2.came))
+  by_mounting : (why : Status) (P : ScriptPlan → Asked → Type 0) → Answers → ran.status ≡ why → (IsPerformed why → ⊥) → (HadNoScript words source_before source_now why → ⊥)
+      → ((s : ScriptPlan) (asked : Asked) → Why s asked ran.disks.items why → P s asked)
+      → (s : ScriptPlan) × ((it : Is s) × P s it.asked)
+  by_mounting why P (inl refused) is no_session no_words so = absurd (no_words (subst (HadNoScript words source_before source_now) is refused.1))
+  by_mounting why P (inr run) is no_session no_words so = (run.0, (run.1.0, by_came run.1.1.came))
     where
-      by_came : WasUnmounted view run.0 (shop_before.offers run.2.0) shop_before.faults shop_faults ran ⊎ HasRun view run.0 (shop_before.offers run.2.0) ran → P run.0 run.2.0
-      by_came (inl un) = so run.0 run.2.0 (subst (IsUnmounted view run.0 (shop_before.offers run.2.0) shop_before.faults shop_faults ran.disks.items) is un.why)
+      by_came : Unmounted run.0 run.1.0.asked ⊎ Runs run.0 run.1.0.asked → P run.0 run.1.0.asked
+      by_came (inl un) = so run.0 run.1.0.asked (subst (Why run.0 run.1.0.asked ran.disks.items) is un.why)
       by_came (inr has) = absurd (no_session (subst IsPerformed is has.answer))
 
   pub disk_failed : Answers → (which : ℕ) → ran.status ≡ status.DiskFault which → IsDiskFault view shop_before.faults shop_faults ran.disks.items which
-  disk_failed is which fault = (by_mounting (status.DiskFault which) (λ _ _. IsDiskFault view shop_before.faults shop_faults ran.disks.items which) is fault (λ no. no) (λ no. no) (λ s place why. why)).2.2
+  disk_failed is which fault = (by_mounting (status.DiskFault which) (λ _ _. IsDiskFault view shop_before.faults shop_faults ran.disks.items which) is fault (λ no. no) (λ no. no.1) (λ s asked why. why)).1.1
 
-  -- the first fault of the images that were offered
+  -- the first fault of the images that were offered at a place
   abbrev IsTheirs : BadImage → ScriptPlan → List ℕ → Type 0
   IsTheirs bad s place = (images : List (List ℕ)) → AllOffered s.table (shop_before.offers place) images → IsFirstFault s.table journal_limit bad images
 
-  pub image_failed : Answers → (bad : BadImage) → ran.status ≡ status.Image bad → OfScript source_before.left source_now.left (λ s. AtPlace words (IsTheirs bad s))
+  pub image_failed : Answers → (bad : BadImage) → ran.status ≡ status.Image bad → OfScript words source_before.left source_now.left (λ s. AtPlace words (IsTheirs bad s))
   image_failed is bad fault =
-      let it = by_mounting (status.Image bad) (IsTheirs bad) is fault (λ no. no) (λ no. no) (λ s place why. why) in
-      (it.0, it.1, at_place words it.2.0 (IsTheirs bad it.0) it.2.1 it.2.2)
+      let it = by_mounting (status.Image bad) (λ s asked. IsTheirs bad s (place_of asked)) is fault (λ no. no) (λ no. no.1) (λ s asked why. why) in
+      (it.0, it.1.0, at_place words it.1.0.asked (IsTheirs bad it.0) it.1.0.is_command it.1.1)
 
-  left_back : (s : ScriptPlan) (place : List ℕ) → IsNotMounted ran.status → WasUnmounted view s (shop_before.offers place) shop_before.faults shop_faults ran ⊎ HasRun view s (shop_before.offers place) ran → CameBack view s (shop_before.offers place) ran.disks.items
-  left_back s place un (inl was) = was.back
-  left_back s place un (inr has) = absurd (performed_mounted ran.status has.answer un)
+  left_back : (s : ScriptPlan) (asked : Asked) → IsNotMounted ran.status → Unmounted s asked ⊎ Runs s asked → CameBack view s (shop_before.offers (place_of asked)) ran.disks.items
+  left_back s asked un (inl was) = was.back
+  left_back s asked un (inr has) = absurd (performed_mounted ran.status has.answer un)
 
-  pub came_back : Answers → IsNotMounted ran.status → OfScript source_before.left source_now.left (λ s. AtPlace words (λ place. CameBack view s (shop_before.offers place) ran.disks.items))
-  came_back is un = by_script (λ s. AtPlace words (λ place. CameBack view s (shop_before.offers place) ran.disks.items)) is (unmounted_read ran.status un) (λ s place reads at to.
-      at_place words place (λ p. CameBack view s (shop_before.offers p) ran.disks.items) at (left_back s place un to.came))
+  pub came_back : Answers → IsNotMounted ran.status → OfScript words source_before.left source_now.left (λ s. AtPlace words (λ place. CameBack view s (shop_before.offers place) ran.disks.items))
+  came_back is un = by_script (λ s. AtPlace words (λ place. CameBack view s (shop_before.offers place) ran.disks.items)) is (unmounted_read ran.status un) (λ s it to.
+      at_place words it.asked (λ p. CameBack view s (shop_before.offers p) ran.disks.items) it.is_command (left_back s it.asked un to.came))
 
   -- what is so of a session that was run, where this status is none that began nothing
-  by_session : (why : Status) (P : Type 0) → Answers → ran.status ≡ why → ((s : ScriptPlan) (place : List ℕ) → IsUnmounted view s (shop_before.offers place) shop_before.faults shop_faults ran.disks.items why → ⊥) → (IsUnread words source_before source_now why → ⊥)
-      → ((s : ScriptPlan) (place : List ℕ) → Runs s place → P) → P
-  by_session why P (inl refused) is no_mounting no_words so = absurd (no_words (subst (IsUnread words source_before source_now) is refused.1))
-  by_session why P (inr run) is no_mounting no_words so = by_came run.2.2.came
+  by_session : (why : Status) (P : Type 0) → Answers → ran.status ≡ why → ((s : ScriptPlan) (asked : Asked) → Why s asked ran.disks.items why → ⊥) → (HadNoScript words source_before source_now why → ⊥)
+      → ((s : ScriptPlan) (asked : Asked) → Runs s asked → P) → P
+  by_session why P (inl refused) is no_mounting no_words so = absurd (no_words (subst (HadNoScript words source_before source_now) is refused.1))
+  by_session why P (inr run) is no_mounting no_words so = by_came run.1.1.came
     where
-      by_came : WasUnmounted view run.0 (shop_before.offers run.2.0) shop_before.faults shop_faults ran ⊎ HasRun view run.0 (shop_before.offers run.2.0) ran → P
-      by_came (inl un) = absurd (no_mounting run.0 run.2.0 (subst (IsUnmounted view run.0 (shop_before.offers run.2.0) shop_before.faults shop_faults ran.disks.items) is un.why))
-      by_came (inr has) = so run.0 run.2.0 has
+      by_came : Unmounted run.0 run.1.0.asked ⊎ Runs run.0 run.1.0.asked → P
+      by_came (inl un) = absurd (no_mounting run.0 run.1.0.asked (subst (Why run.0 run.1.0.asked ran.disks.items) is un.why))
+      by_came (inr has) = so run.0 run.1.0.asked has
 
   pub room : Answers → ran.status ≡ status.Room → length ran.trail.items ≡ limit
-  room is full = by_session status.Room (length ran.trail.items ≡ limit) is full (λ s place no. no) (λ no. no) (λ s place has. has.room full)
+  room is full = by_session status.Room (length ran.trail.items ≡ limit) is full (λ s asked no. no) (λ no. no.1) (λ s asked has. has.room full)
 
   pub in_doubt : Answers → ran.status ≡ status.InDoubt → (top : Name) × IsInDoubt (reverse ran.trail.items) top
-  in_doubt is doubt = by_session status.InDoubt ((top : Name) × IsInDoubt (reverse ran.trail.items) top) is doubt (λ s place no. no) (λ no. no) (λ s place has. subst (λ a. TellsDoubt a ran.trail.items) doubt has.doubt)
+  in_doubt is doubt = by_session status.InDoubt ((top : Name) × IsInDoubt (reverse ran.trail.items) top) is doubt (λ s asked no. no) (λ no. no.1) (λ s asked has. subst (λ a. TellsDoubt a ran.trail.items) doubt has.doubt)
 
   pub none_in_doubt : Answers → ran.status ≡ status.Done → (top : Name) → IsInDoubt (reverse ran.trail.items) top → ⊥
-  none_in_doubt is done = by_session status.Done ((top : Name) → IsInDoubt (reverse ran.trail.items) top → ⊥) is done (λ s place no. no) (λ no. no) (λ s place has. subst (λ a. TellsDoubt a ran.trail.items) done has.doubt)
+  none_in_doubt is done = by_session status.Done ((top : Name) → IsInDoubt (reverse ran.trail.items) top → ⊥) is done (λ s asked no. no) (λ no. no.1) (λ s asked has. subst (λ a. TellsDoubt a ran.trail.items) done has.doubt)
 
   pub all_have_ended : Answers → ran.status ≡ status.Done → AllEnded (reverse ran.trail.items)
-  all_have_ended is done = by_session status.Done (AllEnded (reverse ran.trail.items)) is done (λ s place no. no) (λ no. no) (λ s place has.
+  all_have_ended is done = by_session status.Done (AllEnded (reverse ran.trail.items)) is done (λ s asked no. no) (λ no. no.1) (λ s asked has.
       all_ended (reverse ran.trail.items) ((has.follows (subst RanToEnd (sym done) tt)).each_settled) (none_in_doubt is done))

@@ -1,11 +1,11 @@
--- The place that is found among words is that at which they are a command.
-use Rattle.std.proofs.Common.{ℕ, ◌≡◌, Bool, true, false, cond, List, [], ◌∷◌, ◌++◌, map, Option, None, Some, refl, sym, ap, ◌∙◌, subst, inl, inr, arith}
-use Rattle.std.specs.Prelude.{◌==◌, ◌&&◌, ◌↔◌, ◌⊎◌, ◌≢◌, codes, if◌then◌else◌, MatchOption, option_and_then, option_map}
+-- The place that is found among words is that at which they run a script that is read.
+use Rattle.std.proofs.Common.{ℕ, ◌≡◌, Bool, true, false, List, [], ◌∷◌, ◌++◌, map, Option, None, Some, refl, sym, ap, ◌∙◌, subst, inl, inr}
+use Rattle.std.specs.Prelude.{◌==◌, ◌&&◌, ◌↔◌, ◌≢◌, codes, if◌then◌else◌, option_and_then}
 use Rattle.std.specs.Str.{bytes_eq}
 use Rattle.std.proofs.lemmas.Bool.{cond-false, cond-true, and_parts, eqb-true, eq-eqb}
 use Rattle.std.proofs.lemmas.Slice.Eq.{bytes_eq-Decides}
-use Rattle.qc_run.specs.Options.{named, behind, joined, is_serial, is_dir, place_in, place_of}
-use Rattle.qc_run.specs.Words.{Text, IsOneOf, IsCommand, options_at, placed}
+use Rattle.qc_run.specs.Options.{named, behind, joined, is_dir, place_in, run_place}
+use Rattle.qc_run.specs.Words.{Text, IsOneOf, IsRunAt, is_serial, options_at, placed}
 
 -- a text is what it was held equal to
 is : (xs ys : Text) → bytes_eq xs ys ≡ true → xs ≡ ys
@@ -17,23 +17,23 @@ is xs ys same = (bytes_eq-Decides xs ys).0 same
 names : (first : ℕ) (rest : Text) → (first == 45) ≡ false → named (first ∷ rest) ≡ Some (first ∷ rest)
 names first rest plain = cond-false (first == 45) None (Some (first ∷ rest)) plain
 
-found_named : (first : ℕ) (rest : Text) (words : List Text) → (first == 45) ≡ false → IsOneOf (map (λ options. codes "run" ∷ options) (placed (first ∷ rest))) words → place_of words ≡ Some (first ∷ rest)
-found_named first rest words plain (inl e) = subst (λ w. place_of w ≡ Some (first ∷ rest)) (sym e) (names first rest plain)
-found_named first rest words plain (inr (inl e)) = subst (λ w. place_of w ≡ Some (first ∷ rest)) (sym e) (names first rest plain)
-found_named first rest words plain (inr (inr (inl e))) = subst (λ w. place_of w ≡ Some (first ∷ rest)) (sym e) (names first rest plain)
-found_named first rest words plain (inr (inr (inr (inl e)))) = subst (λ w. place_of w ≡ Some (first ∷ rest)) (sym e) (names first rest plain)
-found_named first rest words plain (inr (inr (inr (inr (inl e))))) = subst (λ w. place_of w ≡ Some (first ∷ rest)) (sym e) (names first rest plain)
-found_named first rest words plain (inr (inr (inr (inr (inr (inl e)))))) = subst (λ w. place_of w ≡ Some (first ∷ rest)) (sym e) (names first rest plain)
+found_named : (first : ℕ) (rest : Text) (words : List Text) → (first == 45) ≡ false → IsOneOf (map (λ options. codes "run" ∷ options) (placed (first ∷ rest))) words → run_place words ≡ Some (first ∷ rest)
+found_named first rest words plain (inl e) = subst (λ w. run_place w ≡ Some (first ∷ rest)) (sym e) (names first rest plain)
+found_named first rest words plain (inr (inl e)) = subst (λ w. run_place w ≡ Some (first ∷ rest)) (sym e) (names first rest plain)
+found_named first rest words plain (inr (inr (inl e))) = subst (λ w. run_place w ≡ Some (first ∷ rest)) (sym e) (names first rest plain)
+found_named first rest words plain (inr (inr (inr (inl e)))) = subst (λ w. run_place w ≡ Some (first ∷ rest)) (sym e) (names first rest plain)
+found_named first rest words plain (inr (inr (inr (inr (inl e))))) = subst (λ w. run_place w ≡ Some (first ∷ rest)) (sym e) (names first rest plain)
+found_named first rest words plain (inr (inr (inr (inr (inr (inl e)))))) = subst (λ w. run_place w ≡ Some (first ∷ rest)) (sym e) (names first rest plain)
 found_named first rest words plain (inr (inr (inr (inr (inr (inr e)))))) = absurd e
 
-by_first : (first : ℕ) (rest : Text) (words : List Text) (dash : Bool) → (first == 45) ≡ dash → IsOneOf (map (λ options. codes "run" ∷ options) (if dash then [] else placed (first ∷ rest))) words → place_of words ≡ Some (first ∷ rest)
+by_first : (first : ℕ) (rest : Text) (words : List Text) (dash : Bool) → (first == 45) ≡ dash → IsOneOf (map (λ options. codes "run" ∷ options) (if dash then [] else placed (first ∷ rest))) words → run_place words ≡ Some (first ∷ rest)
 by_first first rest words true e is = absurd is
 by_first first rest words false e is = found_named first rest words e is
 
--- the place of a command is found
-pub place_found : (words : List Text) (place : Text) → IsCommand words place → place_of words ≡ Some place
-place_found words [] (inl e) = subst (λ w. place_of w ≡ Some []) (sym e) refl
-place_found words [] (inr (inl e)) = subst (λ w. place_of w ≡ Some []) (sym e) refl
+-- the place of a run is found
+pub place_found : (words : List Text) (place : Text) → IsRunAt words place → run_place words ≡ Some place
+place_found words [] (inl e) = subst (λ w. run_place w ≡ Some []) (sym e) refl
+place_found words [] (inr (inl e)) = subst (λ w. run_place w ≡ Some []) (sym e) refl
 place_found words [] (inr (inr e)) = absurd e
 place_found words (first ∷ rest) is = by_first first rest words (first == 45) refl is
 
@@ -78,14 +78,14 @@ is_joined word place e = by_rest (behind (codes "--dir=") word) refl e
         record { word_is = is_behind (codes "--dir=") word rest is ∙ ap (λ r. codes "--dir=" ++ r) it.word_is; options = it.options }
 
 -- these options are a command's, where they are among those of a place
-command : (place : Text) (options : List Text) → options_at place ≡ placed place → IsOneOf (map (λ o. codes "run" ∷ o) (placed place)) (codes "run" ∷ options) → IsCommand (codes "run" ∷ options) place
+command : (place : Text) (options : List Text) → options_at place ≡ placed place → IsOneOf (map (λ o. codes "run" ∷ o) (placed place)) (codes "run" ∷ options) → IsRunAt (codes "run" ∷ options) place
 command place options at is = subst (λ o. IsOneOf (map (λ p. codes "run" ∷ p) o) (codes "run" ∷ options)) (sym at) is
 
-one_word : (one place : Text) (serial : Bool) → is_serial one ≡ serial → (if serial then Some [] else joined one) ≡ Some place → IsCommand (codes "run" ∷ one ∷ []) place
+one_word : (one place : Text) (serial : Bool) → is_serial one ≡ serial → (if serial then Some [] else joined one) ≡ Some place → IsRunAt (codes "run" ∷ one ∷ []) place
 one_word one place true it e =
     let none : [] ≡ place = cc in
     let word = is one (codes "--serial") it in
-    subst (IsCommand (codes "run" ∷ one ∷ [])) none (inr (inl (ap (λ w. codes "run" ∷ w ∷ []) word)))
+    subst (IsRunAt (codes "run" ∷ one ∷ [])) none (inr (inl (ap (λ w. codes "run" ∷ w ∷ []) word)))
 one_word one place false is e =
     let it = is_joined one place e in
     command place (one ∷ []) it.options (inr (inr (inr (inl (ap (λ w. codes "run" ∷ w ∷ []) it.word_is)))))
@@ -93,7 +93,7 @@ one_word one place false is e =
 two_are : (one two a b : Text) → one ≡ a → two ≡ b → codes "run" ∷ one ∷ two ∷ [] ≡ codes "run" ∷ a ∷ b ∷ []
 two_are one two a b x y = ap (λ w. codes "run" ∷ w ∷ two ∷ []) x ∙ ap (λ w. codes "run" ∷ a ∷ w ∷ []) y
 
-two_words : (one two place : Text) (dir serial last : Bool) → is_dir one ≡ dir → is_serial one ≡ serial → is_serial two ≡ last → (if dir then named two else if serial then joined two else if last then joined one else None) ≡ Some place → IsCommand (codes "run" ∷ one ∷ two ∷ []) place
+two_words : (one two place : Text) (dir serial last : Bool) → is_dir one ≡ dir → is_serial one ≡ serial → is_serial two ≡ last → (if dir then named two else if serial then joined two else if last then joined one else None) ≡ Some place → IsRunAt (codes "run" ∷ one ∷ two ∷ []) place
 two_words one two place true serial last d s l e =
     let it = is_named two place e in
     command place (one ∷ two ∷ []) it.options (inl (two_are one two (codes "--dir") place (is one (codes "--dir") d) it.word_is))
@@ -108,7 +108,7 @@ two_words one two place false false false d s l e = absurd cc
 three_are : (one two three a b c : Text) → one ≡ a → two ≡ b → three ≡ c → codes "run" ∷ one ∷ two ∷ three ∷ [] ≡ codes "run" ∷ a ∷ b ∷ c ∷ []
 three_are one two three a b c x y z = ap (λ w. codes "run" ∷ w ∷ two ∷ three ∷ []) x ∙ ap (λ w. codes "run" ∷ a ∷ w ∷ three ∷ []) y ∙ ap (λ w. codes "run" ∷ a ∷ b ∷ w ∷ []) z
 
-three_words : (one two three place : Text) (first last : Bool) → (is_serial one && is_dir two) ≡ first → (is_dir one && is_serial three) ≡ last → (if first then named three else if last then named two else None) ≡ Some place → IsCommand (codes "run" ∷ one ∷ two ∷ three ∷ []) place
+three_words : (one two three place : Text) (first last : Bool) → (is_serial one && is_dir two) ≡ first → (is_dir one && is_serial three) ≡ last → (if first then named three else if last then named two else None) ≡ Some place → IsRunAt (codes "run" ∷ one ∷ two ∷ three ∷ []) place
 three_words one two three place true last f l e =
     let it = is_named three place e in
     let both = and_parts (is_serial one) (is_dir two) f in
@@ -119,25 +119,25 @@ three_words one two three place false true f l e =
     command place (one ∷ two ∷ three ∷ []) it.options (inr (inr (inl (three_are one two three (codes "--dir") place (codes "--serial") (is one (codes "--dir") both.0) it.word_is (is three (codes "--serial") both.1)))))
 three_words one two three place false false f l e = absurd cc
 
-options_are : (options : List Text) (place : Text) → place_in options ≡ Some place → IsCommand (codes "run" ∷ options) place
-options_are [] place e = let none : [] ≡ place = cc in subst (IsCommand (codes "run" ∷ [])) none (inl refl)
+options_are : (options : List Text) (place : Text) → place_in options ≡ Some place → IsRunAt (codes "run" ∷ options) place
+options_are [] place e = let none : [] ≡ place = cc in subst (IsRunAt (codes "run" ∷ [])) none (inl refl)
 options_are (one ∷ []) place e = one_word one place (is_serial one) refl e
 options_are (one ∷ two ∷ []) place e = two_words one two place (is_dir one) (is_serial one) (is_serial two) refl refl refl e
 options_are (one ∷ two ∷ three ∷ []) place e = three_words one two three place (is_serial one && is_dir two) (is_dir one && is_serial three) refl refl e
 options_are (one ∷ two ∷ three ∷ more ∷ others) place e = absurd cc
 
-by_word : (word : Text) (options : List Text) (place : Text) (run : Bool) → bytes_eq word (codes "run") ≡ run → (if run then place_in options else None) ≡ Some place → IsCommand (word ∷ options) place
-by_word word options place true r e = subst (λ w. IsCommand (w ∷ options) place) (sym (is word (codes "run") r)) (options_are options place e)
+by_word : (word : Text) (options : List Text) (place : Text) (run : Bool) → bytes_eq word (codes "run") ≡ run → (if run then place_in options else None) ≡ Some place → IsRunAt (word ∷ options) place
+by_word word options place true r e = subst (λ w. IsRunAt (w ∷ options) place) (sym (is word (codes "run") r)) (options_are options place e)
 by_word word options place false r e = absurd cc
 
--- what is found is the place of a command
-pub place_is : (words : List Text) (place : Text) → place_of words ≡ Some place → IsCommand words place
+-- what is found is the place of a run
+pub place_is : (words : List Text) (place : Text) → run_place words ≡ Some place → IsRunAt words place
 place_is [] place e = absurd cc
 place_is (word ∷ options) place e = by_word word options place (bytes_eq word (codes "run")) refl e
 
 -- both
-pub place_of_command : (words : List Text) (place : Text) → (place_of words ≡ Some place) ↔ IsCommand words place
-place_of_command words place = (place_is words place, place_found words place)
+pub place_of_run : (words : List Text) (place : Text) → (run_place words ≡ Some place) ↔ IsRunAt words place
+place_of_run words place = (place_is words place, place_found words place)
 
 -- a text with no such front has nothing behind it
 pub none_behind : (front word : Text) → ((rest : Text) → word ≢ front ++ rest) → behind front word ≡ None

@@ -1,6 +1,6 @@
 -- Why no store was mounted, by what the mounting answered.
-use Rattle.std.proofs.Common.{ℕ, ◌≡◌, ◌+◌, ◌<◌, ◌≤◌, zero, suc, List, [], ◌∷◌, length, refl, sym, subst, inl, inr, arith}
-use Rattle.std.specs.Prelude.{◌⊎◌, min, slice_get, Option, Some}
+use Rattle.std.proofs.Common.{ℕ, ◌≡◌, ◌+◌, ◌<◌, zero, suc, List, [], ◌∷◌, length, refl, sym, subst, inl, inr, arith}
+use Rattle.std.specs.Prelude.{◌⊎◌, slice_get, Option, Some}
 use Rattle.qc_disk.specs.Disk.{View, Rose}
 use Rattle.qc_event.specs.declared.table.Table.{Table}
 use Rattle.qc_mount.specs.Disks.{IsLeft}
@@ -12,9 +12,8 @@ use Rattle.qc_mount.specs.declared.refusing.MountNo.{MountNo}
 use Rattle.qc_mount.specs.declared.refusing.MountNo.TheVariants as no
 use Rattle.qc_script.specs.Plan.{ScriptPlan}
 use Rattle.qc_run.specs.Left.{IsStatusOf, IsUnmounted}
-use Rattle.qc_run.specs.Run.{journal_limit, AllOffered, IsDiskFault}
+use Rattle.qc_run.specs.Run.{journal_limit}
 use Rattle.qc_run.specs.declared.status.Status.{Status}
-use Rattle.qc_run.specs.declared.status.Status.TheVariants as status
 
 some_faults : (before now : ℕ) → Rose before now → 0 < now
 some_faults before now rose = omega arith

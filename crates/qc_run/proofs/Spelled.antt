@@ -1,11 +1,11 @@
 -- The table of a script is spelled: its names differ and have 1 to 16 letters and digits, and its numbers have their sizes.
-use Rattle.std.proofs.Common.{◌≡◌, ℕ, ◌<◌, ◌≤◌, ◌+◌, ◌*◌, ◌^◌, Bool, true, false, List, [], ◌∷◌, ◌++◌, length, map, Option, Some, None, Result, Ok, Err, refl, sym, ap, ◌∙◌, subst, inl, inr, arith}
-use Rattle.std.specs.Prelude.{All, ◌==◌, ◌&&◌, ◌||◌, not, nat_le, sum, is_none, IfOk, codes}
+use Rattle.std.proofs.Common.{◌≡◌, ℕ, ◌<◌, ◌≤◌, ◌*◌, ◌^◌, Bool, true, false, List, [], ◌∷◌, ◌++◌, length, Option, Some, None, Ok, Err, refl, ap, ◌∙◌, subst, inl, inr, arith}
+use Rattle.std.specs.Prelude.{All, ◌&&◌, ◌||◌, not, nat_le, sum, is_none, IfOk}
 use Rattle.std.specs.List.{AllByRecursion, list_all, list_any}
 use Rattle.std.specs.Char.{is_ascii_alphanumeric}
 use Rattle.std.specs.Int.{is_in_range}
 use Rattle.std.specs.Str.{bytes_eq}
-use Rattle.std.proofs.lemmas.Bool.{eqb-true, leb-true, le-leb, and_parts, and_from, not-true, or_cases, or_from, or_parts}
+use Rattle.std.proofs.lemmas.Bool.{leb-true, le-leb, and_parts, and_from, not-true, or_cases, or_from, or_parts}
 use Rattle.std.proofs.lemmas.List.Elements.{All-nil, All-cons, All-head, All-tail, All-push}
 use Rattle.std.proofs.lemmas.List.Folds.{list_any-append}
 use Rattle.std.proofs.lemmas.List.Sums.{sum_by-cons}
@@ -21,20 +21,18 @@ use Rattle.qc_event.specs.declared.table.Table.{Table}
 use Rattle.qc_script.specs.Plan.{ScriptPlan}
 use Rattle.qc_script.proofs.Proper.{then_ok, must_true, within_limits}
 use Rattle.qc_script.specs.Reading.{IsProper, IsScript}
-use Rattle.qc_script.specs.JsonText.{Read, Text, followed, ◌>>=◌, must, each, within, limited}
-use Rattle.qc_script.specs.ScriptText.{config_of, configured, form_of_name, fresh, name_of, names_of, records_of, row_of, rows_of, script_of, vote_of}
-use Rattle.qc_script.specs.declared.bad_script.BadScript.{BadScript}
+use Rattle.qc_script.specs.JsonText.{Text, must, each}
+use Rattle.qc_script.specs.ScriptText.{config_of, form_of_name, name_of, names_of, records_of, row_of, rows_of, script_of, vote_of}
 use Rattle.qc_script.specs.declared.bad_script.BadScript.TheVariants.{Config, Limit}
-use Rattle.qc_script.specs.declared.bad_script.Member.{Member}
 use Rattle.qc_script.specs.declared.bad_script.Member.TheVariants as part
 
 -- NAMES
 
 -- a name of 1 to 16 letters and digits
-record IsLabel (name : Text) : Type 0 where
-  plain : list_all is_ascii_alphanumeric name ≡ true
-  some : 1 ≤ length name
-  few : length name ≤ 16
+pub record IsLabel (name : Text) : Type 0 where
+  pub plain : list_all is_ascii_alphanumeric name ≡ true
+  pub some : 1 ≤ length name
+  pub few : length name ≤ 16
 
 form_label : (name : Text) → IfOk (form_of_name name) (λ _. IsLabel name)
 form_label name =
@@ -66,9 +64,9 @@ all_bytes [] = tt
 all_bytes (d ∷ ds) = then_ok _ _ _ λ n h. then_ok _ _ _ λ ns hs. (IfOk-at_ok (λ n. n ≤ 255) h (is_byte d), IfOk-at_ok (AllByRecursion (λ n. n ≤ 255)) hs (all_bytes ds))
 
 -- votes of a byte each, and no fault
-record IsFaultless (c : Voting) : Type 0 where
-  votes : AllByRecursion (λ n. n ≤ 255) c.votes
-  none : fault c.votes c.read c.write ≡ None
+pub record IsFaultless (c : Voting) : Type 0 where
+  pub votes : AllByRecursion (λ n. n ≤ 255) c.votes
+  pub none : fault c.votes c.read c.write ≡ None
 
 faultless : (copies : ℕ) (d : Data) → IfOk (config_of copies d) IsFaultless
 faultless copies d =
@@ -95,14 +93,14 @@ row_spelled copies names d =
     }
 
 -- whatever came before, its own name and configuration
-record IsSpelledAlone (row : Row) : Type 0 where
-  name : IsLabel row.name
-  config : IsFaultless row.config
+pub record IsSpelledAlone (row : Row) : Type 0 where
+  pub name : IsLabel row.name
+  pub config : IsFaultless row.config
 
 -- rows of names that differ, each spelled
-record AreSpelled (rows : List Row) : Type 0 where
-  distinct : are_distinct rows ≡ true
-  each_one : All IsSpelledAlone rows
+pub record AreSpelled (rows : List Row) : Type 0 where
+  pub distinct : are_distinct rows ≡ true
+  pub each_one : All IsSpelledAlone rows
 
 any_pushed : (p : Row → Bool) (rows : List Row) (row : Row) → list_any p rows ≡ false → p row ≡ false → list_any p (rows ++ row ∷ []) ≡ false
 any_pushed p rows row before here = list_any-append p rows (row ∷ []) ∙ or_from (list_any p rows) (p row || false) before (or_from (p row) false here refl)
@@ -190,7 +188,7 @@ rows_fit copies (r ∷ rows) few proper spelled small =
     (row_fits copies r few proper.0 (All-head IsSpelledAlone r rows spelled) (All-head (λ (q : Row). q.start < 2 ^ 64) r rows small))
     (rows_fit copies rows few proper.1 (All-tail IsSpelledAlone r rows spelled) (All-tail (λ (q : Row). q.start < 2 ^ 64) r rows small))
 
-table_fits : (s : ScriptPlan) → IsProper s → AreSpelled s.table.records → All (λ (r : Row). r.start < 2 ^ 64) s.table.records → (table 1).fits s.table
+pub table_fits : (s : ScriptPlan) → IsProper s → AreSpelled s.table.records → All (λ (r : Row). r.start < 2 ^ 64) s.table.records → (table 1).fits s.table
 unfolding table
 table_fits s proper spelled small =
     let some_copy = proper.some_copy in

@@ -1,6 +1,6 @@
 -- What was taken of a source's bytes tells what all of them are.
 use Rattle.std.proofs.Common.{◌≡◌, ℕ, ◌≤◌, ◌^◌, List, [], length, take, refl, sym, ap, subst, ◌∙◌, arith}
-use Rattle.std.specs.Prelude.{Option, None, Some, IfSome, Ok, min}
+use Rattle.std.specs.Prelude.{◌≢◌, Option, None, Some, IfSome, Ok, min}
 use Rattle.std.proofs.lemmas.List.{length-take, take_all}
 use Rattle.qc_script.specs.declared.bad_script.BadScript.{BadScript}
 use Rattle.qc_script.specs.declared.bad_script.BadScript.TheVariants.{NotJson, Shape, Limit, Config, Unknown, TooLong, Twice, Memory}
@@ -10,9 +10,13 @@ use Rattle.qc_run.specs.declared.status.Status.{Status}
 use Rattle.qc_run.specs.declared.status.Status.TheVariants as status
 use Rattle.qc_io.specs.Io.{Drops, IsAtEnd, SourceView}
 use Rattle.qc_run.specs.Left.{IsNoScript, IsUnread}
-use Rattle.qc_script.specs.Reading.{IsScript, IsRefused}
-use Rattle.qc_run.specs.Run.{ReadsScript, ReadIt, IsScriptFault, IsNoRun, IsRun, IsSessionRun}
-use Rattle.serde_json.specs.Data.{Data}
+use Rattle.qc_script.specs.Reading.{IsProper, IsScript, IsRefused}
+use Rattle.qc_script.proofs.ProperMade.{made_proper}
+use Rattle.qc_script.proofs.ProperScript.{proper_script}
+use Rattle.qc_run.specs.Run.{ReadsScript, RunsScript, AsksFor, HadScript, IsScriptFor, IsScriptOf, IsScriptFault, IsNoRun, IsRun, IsSessionRun}
+use Rattle.qc_run.specs.Words.{Asked, IsCommand, IsReading}
+use Rattle.qc_run.proofs.OneCommand.{not_both, one_number}
+use Rattle.qc_script.specs.MadePlan.{made_plan}
 use Rattle.qc_script.specs.JsonText.{Read}
 use Rattle.qc_script.specs.ScriptText.{script_of}
 use Rattle.qc_script.proofs.OneScript.{one_value, script_not_refused}
@@ -65,23 +69,23 @@ fault_of_all None bytes e taken refused = tt
 fault_of_all (Some l) bytes e taken refused = refused_before l bytes e taken refused
 
 -- why bytes that were taken are no script is why none was read
-pub unread : (words : List (List ℕ)) (before now : SourceView) (bytes : List ℕ) (answer : Status) → IfSome before.left (λ l. bytes ≡ take most l) → IsNoScript bytes answer → IsUnread words before now answer
-unread words before now bytes (status.Script e) taken none = (fault_of_all before.left bytes e taken none.0, none.1)
-unread words before now bytes status.Memory taken none = tt
-unread words before now bytes status.Done taken none = absurd none
-unread words before now bytes status.InDoubt taken none = absurd none
-unread words before now bytes status.Usage taken none = absurd none
-unread words before now bytes status.ReadFault taken none = absurd none
-unread words before now bytes status.WriteFault taken none = absurd none
-unread words before now bytes (status.DiskFault which) taken none = absurd none
-unread words before now bytes (status.Image bad) taken none = absurd none
-unread words before now bytes status.Room taken none = absurd none
+pub unread : (before now : SourceView) (bytes : List ℕ) (answer : Status) → IfSome before.left (λ l. bytes ≡ take most l) → IsNoScript bytes answer → IsUnread before now answer
+unread before now bytes (status.Script e) taken none = (fault_of_all before.left bytes e taken none.0, none.1)
+unread before now bytes status.Memory taken none = tt
+unread before now bytes status.Done taken none = absurd none
+unread before now bytes status.InDoubt taken none = absurd none
+unread before now bytes status.Usage taken none = absurd none
+unread before now bytes status.ReadFault taken none = absurd none
+unread before now bytes status.WriteFault taken none = absurd none
+unread before now bytes (status.DiskFault which) taken none = absurd none
+unread before now bytes (status.Image bad) taken none = absurd none
+unread before now bytes status.Room taken none = absurd none
 
 no_run : (l : List ℕ) (now : Option (List ℕ)) (s : ScriptPlan) → ((s : ScriptPlan) → IsScript l s → ⊥) → ReadsScript (Some l) now s → ⊥
 no_run l now s none reads = none s (subst (λ x. IsScript x s) (sym reads.held) reads.is_script)
 
 -- where the bytes are no script, none was run
-pub none_was_run : (left now : Option (List ℕ)) (answer : Status) → (answer ≡ status.Usage → ⊥) → (ReadIt answer → (s : ScriptPlan) × ReadsScript left now s) → IfSome left (λ bytes. ((s : ScriptPlan) → IsScript bytes s → ⊥) → IsNoRun answer)
+pub none_was_run : (left now : Option (List ℕ)) (answer : Status) → (answer ≡ status.Usage → ⊥) → (HadScript answer → (s : ScriptPlan) × ReadsScript left now s) → IfSome left (λ bytes. ((s : ScriptPlan) → IsScript bytes s → ⊥) → IsNoRun answer)
 none_was_run None now answer command started = tt
 none_was_run (Some l) now status.Usage command started = λ none. command refl
 none_was_run (Some l) now (status.Script e) command started = λ none. tt
@@ -94,18 +98,36 @@ none_was_run (Some l) now (status.DiskFault which) command started = λ none. no
 none_was_run (Some l) now (status.Image bad) command started = λ none. no_run l now (started tt).0 none (started tt).1
 none_was_run (Some l) now status.Room command started = λ none. no_run l now (started tt).0 none (started tt).1
 
--- where the bytes are a script and no stream failed, it was run, or no store was mounted for it
-pub script_was_run : (bytes : List ℕ) (s : ScriptPlan) (answer : Status) (R W : Type 0) → IsScript bytes s → IsScriptFault (Some bytes) answer → (answer ≡ status.Usage → ⊥) → (answer ≡ status.ReadFault → R) → (answer ≡ status.WriteFault → W) → (R → ⊥) → (W → ⊥) → IsRun answer
-script_was_run bytes s status.Done R W is fault command read write r w = tt
-script_was_run bytes s status.InDoubt R W is fault command read write r w = tt
-script_was_run bytes s (status.DiskFault which) R W is fault command read write r w = tt
-script_was_run bytes s (status.Image bad) R W is fault command read write r w = tt
-script_was_run bytes s status.Memory R W is fault command read write r w = tt
-script_was_run bytes s status.Room R W is fault command read write r w = tt
-script_was_run bytes s status.Usage R W is fault command read write r w = command refl
-script_was_run bytes s status.ReadFault R W is fault command read write r w = r (read refl)
-script_was_run bytes s status.WriteFault R W is fault command read write r w = w (write refl)
-script_was_run bytes s (status.Script e) R W is fault command read write r w = fault.1 (script_not_refused bytes s e is fault.0)
+-- a command that reads a script read it
+pub was_read : (words : List (List ℕ)) (before now : Option (List ℕ)) (s : ScriptPlan) (asked : Asked) → IsReading words → IsCommand words asked → IsScriptOf before now s asked → ReadsScript before now s
+was_read words before now s (Asked.read_at place mode) reading is script = script
+was_read words before now s (Asked.made_of n) reading is script = absurd (not_both words reading.0 n reading.1 is)
+
+-- a script that was run is proper
+pub proper_one : (before now : Option (List ℕ)) (s : ScriptPlan) (asked : Asked) → IsScriptOf before now s asked → IsProper s
+proper_one before now s (Asked.read_at place mode) script = proper_script script.bytes s script.is_script
+proper_one before now s (Asked.made_of n) made = subst IsProper (sym made) (made_proper n)
+
+-- a script that is to be read is not refused
+asked_not_refused : (words : List (List ℕ)) (left : Option (List ℕ)) (s : ScriptPlan) (e : BadScript) → AsksFor words left s → IsReading words → IfSome left (λ bytes. IsRefused bytes e) → e ≢ Memory → ⊥
+asked_not_refused words left s e asks reading refused other = by_asked asks.asked asks.is_command asks.is_script
+  where
+    by_asked : (asked : Asked) → IsCommand words asked → IsScriptFor left s asked → ⊥
+    by_asked (Asked.read_at place mode) is script = other (script_not_refused script.0 s e script.2 (subst (λ (o : Option (List ℕ)). IfSome o (λ bytes. IsRefused bytes e)) script.1 refused))
+    by_asked (Asked.made_of n) is script = not_both words reading.0 n reading.1 is
+
+-- where there is a script and no stream failed, it was run, or no store was mounted for it
+pub script_was_run : (words : List (List ℕ)) (left : Option (List ℕ)) (s : ScriptPlan) (answer : Status) (R W : Type 0) → AsksFor words left s → IsScriptFault words left answer → (answer ≡ status.Usage → ⊥) → (answer ≡ status.ReadFault → R) → (answer ≡ status.WriteFault → W) → (R → ⊥) → (W → ⊥) → IsRun answer
+script_was_run words left s status.Done R W is fault command read write r w = tt
+script_was_run words left s status.InDoubt R W is fault command read write r w = tt
+script_was_run words left s (status.DiskFault which) R W is fault command read write r w = tt
+script_was_run words left s (status.Image bad) R W is fault command read write r w = tt
+script_was_run words left s status.Memory R W is fault command read write r w = tt
+script_was_run words left s status.Room R W is fault command read write r w = tt
+script_was_run words left s status.Usage R W is fault command read write r w = command refl
+script_was_run words left s status.ReadFault R W is fault command read write r w = r (read refl)
+script_was_run words left s status.WriteFault R W is fault command read write r w = w (write refl)
+script_was_run words left s (status.Script e) R W is fault command read write r w = asked_not_refused words left s e is fault.0 fault.1 fault.2
 
 -- where no disk and no image was refused, its session was run
 pub session_was_run : (answer : Status) → IsRun answer → ((which : ℕ) → answer ≡ status.DiskFault which → ⊥) → ((bad : BadImage) → answer ≡ status.Image bad → ⊥) → IsSessionRun answer
@@ -131,8 +153,20 @@ one_script : (bytes : List ℕ) (s other : ScriptPlan) → IsScript bytes s → 
 one_script bytes s other x y = one_plan s other (sym x.reads ∙ ap script_of (one_value x.value y.value _ x.json.reads y.json.reads) ∙ y.reads)
 
 -- the script that a source held is the one that its bytes are
-pub same_script : (left now : Option (List ℕ)) (bytes : List ℕ) (s other : ScriptPlan) → left ≡ Some bytes → IsScript bytes s → ReadsScript left now other → s ≡ other
-same_script None now bytes s other held is reads = absurd cc
-same_script (Some l) now bytes s other held is reads =
+same_read : (left now : Option (List ℕ)) (bytes : List ℕ) (s other : ScriptPlan) → left ≡ Some bytes → IsScript bytes s → ReadsScript left now other → s ≡ other
+same_read None now bytes s other held is reads = absurd cc
+same_read (Some l) now bytes s other held is reads =
     let all : l ≡ bytes = cc in
     one_script bytes s other is (subst (λ x. IsScript x other) (sym reads.held ∙ all) reads.is_script)
+
+-- the script that was run is the one that was asked for
+pub same_script : (words : List (List ℕ)) (left now : Option (List ℕ)) (s other : ScriptPlan) → AsksFor words left s → RunsScript words left now other → s ≡ other
+same_script words left now s other asks runs = by_asked asks.asked runs.asked asks.is_command runs.is_command asks.is_script runs.is_script
+  where
+    by_asked : (a b : Asked) → IsCommand words a → IsCommand words b → IsScriptFor left s a → IsScriptOf left now other b → s ≡ other
+    by_asked (Asked.read_at place mode) (Asked.read_at there kept) x y held read = same_read left now held.0 s other held.1 held.2 read
+    by_asked (Asked.read_at place mode) (Asked.made_of m) x y held made = absurd (not_both words place m x.0 y)
+    by_asked (Asked.made_of n) (Asked.read_at there kept) x y made read = absurd (not_both words there n y.0 x)
+    by_asked (Asked.made_of n) (Asked.made_of m) x y made also =
+        let same : n ≡ m = one_number words n m x y in
+        made ∙ ap made_plan same ∙ sym also

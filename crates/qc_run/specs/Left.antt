@@ -1,6 +1,5 @@
 -- What the parts of a run keep, each said once.
-use Rattle.std.specs.Prelude.{ℕ, ◌<◌, ◌≤◌, ◌^◌, ◌≡◌, ◌≢◌, ◌⊎◌, List, [], length, reverse, Option, IfSome}
-use Rattle.qc_config.specs.declared.tuple.Tuple.{Tuple}
+use Rattle.std.specs.Prelude.{ℕ, ◌≤◌, ◌≡◌, ◌≢◌, ◌⊎◌, List, length, reverse, Option, IfSome}
 use Rattle.qc_disk.specs.Disk.{View}
 use Rattle.qc_disk.specs.Shop.{View as Shop}
 use Rattle.qc_event.specs.History.{Name, limit}
@@ -21,8 +20,10 @@ use Rattle.qc_script.specs.Plan.{ScriptPlan}
 use Rattle.qc_script.specs.Reading.{IsScript, IsRefused}
 use Rattle.qc_script.specs.declared.bad_script.BadScript.TheVariants.{Memory}
 use Rattle.qc_standing.specs.Mountings.{HaveNoGrants}
-use Rattle.qc_run.specs.Run.{journal_limit, report_of, AllOffered, BeginsIn, FollowsIn, IsDiskFault, IsInDoubt, IsOrMemory, IsReported, IsTold, NoneBegun, RanToEnd, ReadsScript, TellsFault}
-use Rattle.qc_run.specs.Words.{IsCommand, IsNoCommand}
+use Rattle.qc_run.specs.Run.{journal_limit, form_of, text_by, AllOffered, BeginsIn, FollowsIn, IsDiskFault, IsInDoubt, IsOrMemory, IsReported, IsTold, NoneBegun, RanToEnd, ReadsScript, RunsScript, TellsFault}
+use Rattle.qc_run.specs.Words.{place_of, IsNoCommand, IsReading}
+use Rattle.qc_run.specs.declared.finishing.Form.{Form}
+use Rattle.qc_run.specs.declared.finishing.Form.TheVariants.{Report, Summary}
 use Rattle.qc_run.specs.declared.ran.Ran.{Ran}
 use Rattle.qc_run.specs.declared.status.Status.{Status}
 use Rattle.qc_run.specs.declared.status.Status.TheVariants as status
@@ -101,9 +102,10 @@ module _ {D : Type 0} (view : D → View) (s : ScriptPlan) (offers : ℕ → Opt
     pub why : IsUnmounted shop_before shop_now ran.disks.items ran.status
     pub back : CameBack ran.disks.items
 
-  -- A script was run, or no store was mounted for it. The shop's count of faults was the one, and is the other.
-  pub record IsAnswer (shop_before shop_now : ℕ) (before now : SinkView) (ran : Ran D) : Type 0 where
-    pub wrote : Wrote before now ran.status (report_of s.table ran.start ran.trail.items)
+  -- A script was run, and what was written of it has this form; or no store was mounted for it. The shop's count of
+  -- faults was the one, and is the other.
+  pub record IsAnswer (form : Form) (shop_before shop_now : ℕ) (before now : SinkView) (ran : Ran D) : Type 0 where
+    pub wrote : Wrote before now ran.status (text_by form s.table ran.start ran.trail.items)
     pub came : WasUnmounted shop_before shop_now ran ⊎ HasRun ran
 
 -- the status of a refusal to mount, or want of memory in its place
@@ -118,24 +120,41 @@ IsNoScript bytes (status.Script e) = IsRefused bytes e × (e ≢ Memory)
 IsNoScript bytes status.Memory = Unit {0}
 IsNoScript bytes _ = ⊥
 
--- why no script was read
-abbrev pub IsUnread : List (List ℕ) → SourceView → SourceView → Status → Type 0
-IsUnread words before now status.Usage = IsNoCommand words
-IsUnread words before now status.ReadFault = Rose before.faults now.faults
-IsUnread words before now (status.Script e) = IfSome before.left (λ bytes. IsRefused bytes e) × (e ≢ Memory)
-IsUnread words before now status.Memory = Unit {0}
-IsUnread words before now _ = ⊥
+-- why a script that was to be read was not
+abbrev pub IsUnread : SourceView → SourceView → Status → Type 0
+IsUnread before now status.ReadFault = Rose before.faults now.faults
+IsUnread before now (status.Script e) = IfSome before.left (λ bytes. IsRefused bytes e) × (e ≢ Memory)
+IsUnread before now status.Memory = Unit {0}
+IsUnread before now _ = ⊥
+
+-- why there was no script: the words are no command, or they read one, and there was none; or there was no memory
+abbrev pub HadNoScript : List (List ℕ) → SourceView → SourceView → Status → Type 0
+HadNoScript words before now status.Usage = IsNoCommand words
+HadNoScript words before now status.Memory = Unit {0}
+HadNoScript words before now answer = IsReading words × IsUnread before now answer
 
 module _ {D : Type 0} (view : D → View) where
   -- what is answered to bytes, over disks of a place
   abbrev pub IsAnswerToBytes : List ℕ → (ℕ → Option (List ℕ)) → ℕ → ℕ → SinkView → SinkView → Ran D → Type 0
   IsAnswerToBytes bytes offers shop_before shop_now before now ran =
       (IsRefusal before now ran × IsNoScript bytes ran.status)
-      ⊎ ((s : ScriptPlan) × IsScript bytes s × IsAnswer view s offers shop_before shop_now before now ran)
+      ⊎ ((s : ScriptPlan) × IsScript bytes s × IsAnswer view s offers Report shop_before shop_now before now ran)
+
+  -- what is answered where the source is to hold a script
+  abbrev pub IsAnswerToSource : SourceView → SourceView → (ℕ → Option (List ℕ)) → ℕ → ℕ → SinkView → SinkView → Ran D → Type 0
+  IsAnswerToSource source_before source_now offers shop_before shop_now before now ran =
+      (IsRefusal before now ran × IsUnread source_before source_now ran.status)
+      ⊎ ((s : ScriptPlan) × ReadsScript source_before.left source_now.left s × IsAnswer view s offers Report shop_before shop_now before now ran)
+
+  -- what is answered where this script is to be made: there may be no memory for it
+  abbrev pub IsAnswerToMaking : ScriptPlan → (ℕ → Option (List ℕ)) → ℕ → ℕ → SinkView → SinkView → Ran D → Type 0
+  IsAnswerToMaking s offers shop_before shop_now before now ran =
+      (IsRefusal before now ran × (ran.status ≡ status.Memory))
+      ⊎ IsAnswer view s offers Summary shop_before shop_now before now ran
 
   -- what is answered to words
   abbrev pub IsAnswerToWords : List (List ℕ) → SourceView → SourceView → Shop → ℕ → SinkView → SinkView → Ran D → Type 0
   IsAnswerToWords words source_before source_now shop_before shop_faults before now ran =
-      (IsRefusal before now ran × IsUnread words source_before source_now ran.status)
-      ⊎ ((s : ScriptPlan) × ReadsScript source_before.left source_now.left s
-      × ((place : List ℕ) × IsCommand words place × IsAnswer view s (shop_before.offers place) shop_before.faults shop_faults before now ran))
+      (IsRefusal before now ran × HadNoScript words source_before source_now ran.status)
+      ⊎ ((s : ScriptPlan) × ((it : RunsScript words source_before.left source_now.left s)
+      × IsAnswer view s (shop_before.offers (place_of it.asked)) (form_of it.asked) shop_before.faults shop_faults before now ran))

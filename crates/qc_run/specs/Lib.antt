@@ -1,5 +1,6 @@
 pub mod Words
 pub mod Options
+pub mod Commands
 pub mod FaultLine
 pub mod Run
 pub mod Left

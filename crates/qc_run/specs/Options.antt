@@ -1,9 +1,7 @@
--- How a place, and whether sessions run in order, is found among the words behind `run`.
-use Rattle.std.specs.Prelude.{ℕ, ◌==◌, ◌&&◌, Bool, true, false, List, [], ◌∷◌, codes, if◌then◌else◌, Option, None, Some, option_and_then}
+-- How a place is found among the words behind `run`, and the number behind `gen`.
+use Rattle.std.specs.Prelude.{◌==◌, ◌&&◌, Bool, List, [], ◌∷◌, codes, if◌then◌else◌, Option, None, Some, option_and_then}
 use Rattle.std.specs.Str.{bytes_eq}
-use Rattle.qc_interp.specs.declared.gate.Mode.{Mode}
-use Rattle.qc_interp.specs.declared.gate.Mode.TheVariants.{Serial, Threads}
-use Rattle.qc_run.specs.Words.{Text}
+use Rattle.qc_run.specs.Words.{Text, is_serial}
 
 -- the place that a word names
 abbrev pub named : Text → Option Text
@@ -20,18 +18,10 @@ behind (b ∷ front) (c ∷ word) = if b == c then behind front word else None
 abbrev pub joined : Text → Option Text
 joined word = option_and_then named (behind (codes "--dir=") word)
 
-abbrev pub is_serial : Text → Bool
-is_serial word = bytes_eq word (codes "--serial")
-
--- in order where one of the words is `--serial`, else in threads
-abbrev pub mode_by : Bool → Mode
-mode_by true = Serial
-mode_by false = Threads
-
 abbrev pub is_dir : Text → Bool
 is_dir word = bytes_eq word (codes "--dir")
 
--- the place of a command, by what stands behind `run`
+-- the place of a run, by what stands behind `run`
 abbrev pub place_in : List Text → Option Text
 place_in [] = Some []
 place_in (one ∷ []) = if is_serial one then Some [] else joined one
@@ -46,7 +36,12 @@ place_in (one ∷ two ∷ three ∷ []) =
     else None
 place_in _ = None
 
--- the place of a command
-abbrev pub place_of : List Text → Option Text
-place_of [] = None
-place_of (word ∷ options) = if bytes_eq word (codes "run") then place_in options else None
+-- the place at which words run a script that is read
+abbrev pub run_place : List Text → Option Text
+run_place [] = None
+run_place (word ∷ options) = if bytes_eq word (codes "run") then place_in options else None
+
+-- the word behind `gen`, where it is the only one
+abbrev pub behind_gen : List Text → Option Text
+behind_gen (word ∷ number ∷ []) = if bytes_eq word (codes "gen") then Some number else None
+behind_gen _ = None

@@ -12,13 +12,16 @@ use Rattle.qc_interp.specs.FollowsScript.{FollowsScript, BeginsScript, started}
 use Rattle.qc_io.specs.Io.{IsAtEnd, Rose, Appends, AppendsFront}
 use Rattle.qc_mount.specs.Images.{Offers}
 use Rattle.qc_report.specs.LastValues.{values_by_version}
-use Rattle.qc_report.specs.Report.{Text, report}
+use Rattle.qc_report.specs.Report.{Text, report, summary}
+use Rattle.qc_script.specs.MadePlan.{made_plan}
 use Rattle.qc_script.specs.Plan.{ScriptPlan}
 use Rattle.qc_script.specs.Reading.{IsScript, IsRefused}
 use Rattle.qc_script.specs.declared.bad_script.BadScript.TheVariants.{Memory}
 use Rattle.qc_simlock.specs.Serial.{IsSerialThroughout, final_values}
 use Rattle.qc_run.specs.FaultLine.{fault_line}
-use Rattle.qc_run.specs.Words.{IsCommand}
+use Rattle.qc_run.specs.Words.{Asked, IsCommand, IsReading}
+use Rattle.qc_run.specs.declared.finishing.Form.{Form}
+use Rattle.qc_run.specs.declared.finishing.Form.TheVariants.{Report, Summary}
 use Rattle.qc_run.specs.declared.status.Status.{Status}
 use Rattle.qc_run.specs.declared.status.Status.TheVariants as status
 
@@ -53,21 +56,40 @@ pub record ReadsScript (before now : Option (List ℕ)) (s : ScriptPlan) : Type 
   pub ended : IsAtEnd now
   pub is_script : IsScript bytes s
 
--- a script that the source held was read, and it is so of the script
-abbrev pub OfScript : Option (List ℕ) → Option (List ℕ) → (ScriptPlan → Type 0) → Type 0
-OfScript before now IsSo = (s : ScriptPlan) × ReadsScript before now s × IsSo s
+-- What was asked for is to run this script: the one that the source held, and it was read; or the one that is made of a
+-- number.
+abbrev pub IsScriptOf : Option (List ℕ) → Option (List ℕ) → ScriptPlan → Asked → Type 0
+IsScriptOf before now s (Asked.read_at place mode) = ReadsScript before now s
+IsScriptOf before now s (Asked.made_of n) = s ≡ made_plan n
+
+-- These words are a command, and this is the script that it runs.
+pub record RunsScript (words : List Text) (before now : Option (List ℕ)) (s : ScriptPlan) : Type 0 where
+  pub asked : Asked
+  pub is_command : IsCommand words asked
+  pub is_script : IsScriptOf before now s asked
+
+-- there is a script that the words run, and it is so of the script
+abbrev pub OfScript : List Text → Option (List ℕ) → Option (List ℕ) → (ScriptPlan → Type 0) → Type 0
+OfScript words before now IsSo = (s : ScriptPlan) × RunsScript words before now s × IsSo s
 
 -- nothing was begun: there are no start tuples and no history
 abbrev pub NoneBegun : List (List Tuple) → List Entry → Type 0
 NoneBegun start trail = (start ≡ []) × (trail ≡ [])
 
--- nothing was begun, or a script that the source held was read, and it is so of it
-abbrev pub OfRun : Option (List ℕ) → Option (List ℕ) → List (List Tuple) → List Entry → (ScriptPlan → Type 0) → Type 0
-OfRun before now start trail IsSo = NoneBegun start trail ⊎ OfScript before now IsSo
+-- nothing was begun, or there is a script that the words run, and it is so of it
+abbrev pub OfRun : List Text → Option (List ℕ) → Option (List ℕ) → List (List Tuple) → List Entry → (ScriptPlan → Type 0) → Type 0
+OfRun words before now start trail IsSo = NoneBegun start trail ⊎ OfScript words before now IsSo
 
--- what is so of the place at which words are a command
-abbrev pub AtPlace : List (List ℕ) → (List ℕ → Type 0) → Type 0
-AtPlace words IsSo = (place : List ℕ) → IsCommand words place → IsSo place
+-- What is asked for is to run this script: the one that all bytes of the source are, or the one that is made of a number.
+abbrev pub IsScriptFor : Option (List ℕ) → ScriptPlan → Asked → Type 0
+IsScriptFor left s (Asked.read_at place mode) = (bytes : List ℕ) × (left ≡ Some bytes) × IsScript bytes s
+IsScriptFor left s (Asked.made_of n) = s ≡ made_plan n
+
+-- These words are a command, over a source that holds this, and this is the script that it is to run.
+pub record AsksFor (words : List Text) (left : Option (List ℕ)) (s : ScriptPlan) : Type 0 where
+  pub asked : Asked
+  pub is_command : IsCommand words asked
+  pub is_script : IsScriptFor left s asked
 
 -- THE HISTORY
 
@@ -83,9 +105,19 @@ HasSerialValues table start trail =
     (values : List ℕ) → IsSound (setting_of table start) values → length values ≡ length table.records
     → values_by_version start (reverse trail) (length table.records) ≡ final_values values (reverse trail)
 
--- the report of a history, in which the last values go by versions
-abbrev pub report_of : Table → List (List Tuple) → List Entry → Text
-report_of table start trail = report table (values_by_version start (reverse trail) (length table.records)) trail
+-- what is written of a history with these last values, by its form
+abbrev pub text_in : Form → Table → List ℕ → List Entry → Text
+text_in Report table values trail = report table values trail
+text_in Summary table values trail = summary table values trail
+
+-- the same, where the last values go by versions
+abbrev pub text_by : Form → Table → List (List Tuple) → List Entry → Text
+text_by form table start trail = text_in form table (values_by_version start (reverse trail) (length table.records)) trail
+
+-- a script that is read is reported, one that is made is summed up
+abbrev pub form_of : Asked → Form
+form_of (Asked.read_at place mode) = Report
+form_of (Asked.made_of n) = Summary
 
 -- a top is in doubt: it is ready, and has no end
 pub record IsInDoubt (past : Past) (top : Name) : Type 0 where
@@ -124,20 +156,20 @@ RanToEnd status.InDoubt = Unit {0}
 RanToEnd status.WriteFault = Unit {0}
 RanToEnd _ = ⊥
 
--- a script was read, and want of memory did not cut off what it did
-abbrev pub ReadIt : Status → Type 0
-ReadIt status.Done = Unit {0}
-ReadIt status.InDoubt = Unit {0}
-ReadIt status.WriteFault = Unit {0}
-ReadIt status.Room = Unit {0}
-ReadIt (status.DiskFault which) = Unit {0}
-ReadIt (status.Image bad) = Unit {0}
-ReadIt _ = ⊥
+-- there was a script, and want of memory did not cut off what it did
+abbrev pub HadScript : Status → Type 0
+HadScript status.Done = Unit {0}
+HadScript status.InDoubt = Unit {0}
+HadScript status.WriteFault = Unit {0}
+HadScript status.Room = Unit {0}
+HadScript (status.DiskFault which) = Unit {0}
+HadScript (status.Image bad) = Unit {0}
+HadScript _ = ⊥
 
 -- the source was read as far as a script may go
 abbrev pub ReadWhole : Status → Type 0
 ReadWhole (status.Script e) = Unit {0}
-ReadWhole answer = ReadIt answer
+ReadWhole answer = HadScript answer
 
 -- nothing was begun
 abbrev pub BeganNothing : Status → Type 0
@@ -159,19 +191,23 @@ abbrev pub IsTold : Status → Type 0
 IsTold status.Room = Unit {0}
 IsTold answer = BeganNothing answer
 
--- the bytes are refused for the cause that is told, which is not want of memory
-abbrev pub IsScriptFault : Option (List ℕ) → Status → Type 0
-IsScriptFault left (status.Script e) = IfSome left (λ bytes. IsRefused bytes e) × (e ≢ Memory)
-IsScriptFault left _ = Unit {0}
+-- a script was read, and the bytes are refused for the cause that is told, which is not want of memory
+abbrev pub IsScriptFault : List Text → Option (List ℕ) → Status → Type 0
+IsScriptFault words left (status.Script e) = IsReading words × IfSome left (λ bytes. IsRefused bytes e) × (e ≢ Memory)
+IsScriptFault words left _ = Unit {0}
 
--- what may be answered to a command over bytes that are no script
+-- a script was read, and the source failed
+abbrev pub IsReadFault : List Text → ℕ → ℕ → Type 0
+IsReadFault words before now = IsReading words × Rose before now
+
+-- what may be answered to a command that reads a script, over bytes that are none
 abbrev pub IsNoRun : Status → Type 0
 IsNoRun (status.Script e) = Unit {0}
 IsNoRun status.ReadFault = Unit {0}
 IsNoRun status.Memory = Unit {0}
 IsNoRun _ = ⊥
 
--- what may be answered to a command over a script where neither stream failed
+-- what may be answered to a command where there is a script and neither stream failed
 abbrev pub IsRun : Status → Type 0
 IsRun status.Done = Unit {0}
 IsRun status.InDoubt = Unit {0}

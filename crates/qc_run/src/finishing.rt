@@ -9,37 +9,68 @@ ghost use Rattle.qc_run.specs.Run as terms;
 use crate::io::{Sink, write_all};
 use crate::status::{ROOM_LINE, Status};
 use qc_event::{Base, Entry, Short, Table};
-use qc_report::{History, finals, has_doubt, index_of, report};
+use qc_report::{History, finals, has_doubt, index_of, report, summary};
 use std::alloc::{AllocError, Global};
 
-/// A report, and whether a top is in doubt.
+/// What is written of a history: its report, or the summary alone.
+#[derive(Clone, Copy)]
+pub(crate) enum Form {
+    Report,
+    Summary,
+}
+
+// The text of a history and of its last values.
+fn text_in(
+    alloc: Global,
+    form: Form,
+    table: &Table,
+    values: &[u64],
+    history: &History<'_>,
+) -> Result<Vec<u8>, AllocError>
+    ensures { IfOk result (λ text. text.items
+        ≡ terms.text_in form table.now values.now history.now) }
+{
+    match form {
+        Form::Report => report(alloc, table, values, history),
+        Form::Summary => summary(alloc, table, values, history),
+    }
+}
+
+/// A text, and whether a top is in doubt.
 #[derive(Drop)]
 struct Page {
     text: Vec<u8>,
     doubt: bool,
 }
 
-// The report of a history.
-fn page_of(alloc: Global, table: &Table, start: &Base, trail: &[Entry]) -> Result<Page, AllocError>
+// What is written of a history.
+fn page_of(
+    alloc: Global,
+    form: Form,
+    table: &Table,
+    start: &Base,
+    trail: &[Entry],
+) -> Result<Page, AllocError>
     requires legal { IsLegal trail.now }
     requires copies { length start.now ≤ 16 }
     requires records { length table.now.records ≤ 64 }
     ensures text { IfOk result
-        (λ page. page.text.items ≡ terms.report_of table.now start.now trail.now) }
+        (λ page. page.text.items ≡ terms.text_by form table.now start.now trail.now) }
     ensures doubt { IfOk result (λ page. page.doubt ≡ has_doubt trail.now) }
 {
     let index = index_of(alloc, trail)?;
     let history = History::indexed(trail, &index);
     let records = table.records.as_slice().len();
     let values = finals(alloc, start, &history, records)?;
-    let text = report(alloc, table, values.as_slice(), &history)?;
+    let text = text_in(alloc, form, table, values.as_slice(), &history)?;
     let doubt = has_doubt(&history);
     Ok(Page { text, doubt })
 }
 
-// Reports a session that ran to its end.
+// Writes of a session that ran to its end.
 fn conclude<K: Sink>(
     alloc: Global,
+    form: Form,
     table: &Table,
     start: &Base,
     trail: &[Entry],
@@ -50,10 +81,10 @@ fn conclude<K: Sink>(
     requires records { length table.now.records ≤ 64 }
     ensures answer { left.IsConcluded result }
     ensures wrote { left.Wrote (K.view sink.old) (K.view sink.new) result
-        (terms.report_of table.now start.now trail.now) }
+        (terms.text_by form table.now start.now trail.now) }
     ensures doubt { left.TellsDoubt result trail.now }
 {
-    let Ok(page) = page_of(alloc, table, start, trail) else {
+    let Ok(page) = page_of(alloc, form, table, start, trail) else {
         return Status::Memory;
     };
     match write_all(sink, page.text.as_slice()) {
@@ -79,9 +110,10 @@ fn halt<K: Sink>(short: Short, sink: &mut K) -> Status
     }
 }
 
-/// Reports what a session left where it ran to its end, and else tells why it did not.
+/// Writes of what a session left where it ran to its end, and else tells why it did not.
 pub(crate) fn finish<K: Sink>(
     alloc: Global,
+    form: Form,
     table: &Table,
     ran: Result<(), Short>,
     start: &Base,
@@ -96,10 +128,10 @@ pub(crate) fn finish<K: Sink>(
     ensures room { result ≡ Status.Room → IsErrOf ran Room }
     ensures doubt { left.TellsDoubt result trail.now }
     ensures wrote { left.Wrote (K.view sink.old) (K.view sink.new) result
-        (terms.report_of table.now start.now trail.now) }
+        (terms.text_by form table.now start.now trail.now) }
 {
     match ran {
-        Ok(()) => conclude(alloc, table, start, trail, sink),
+        Ok(()) => conclude(alloc, form, table, start, trail, sink),
         Err(short) => halt(short, sink),
     }
 }

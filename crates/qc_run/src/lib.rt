@@ -2,8 +2,11 @@
 #![tactic(auto)]
 
 mod finishing;
+mod making;
+mod performing;
 mod program;
 mod ran;
+mod reading;
 mod refusing;
 mod spelling;
 mod status;

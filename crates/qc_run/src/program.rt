@@ -1,6 +1,5 @@
 //! The top call: all that the program does, over the streams and the shop of disks that it is handed.
-ghost use Rattle.std.specs.Prelude.{ℕ, List, ⊤, ◌≡◌, ◌≤◌, ◌⊎◌, [], length, map, reverse, string_bytes, Some, IfSome};
-ghost use Rattle.qc_codec.specs.Bodies as body;
+ghost use Rattle.std.specs.Prelude.{ℕ, List, ⊤, ◌≡◌, ◌≤◌, ◌⊎◌, [], length, map, reverse, string_bytes, IfSome};
 ghost use Rattle.qc_event.specs.History.{Name, limit};
 ghost use Rattle.qc_event.specs.Legal.{Legal};
 ghost use Rattle.qc_event.specs.Sound.{IsSound};
@@ -10,105 +9,26 @@ ghost use Rattle.qc_mount.specs.Images.{AreSound, IsFirstFault};
 ghost use Rattle.qc_opening.specs.Stored.{AllTell, AreImages, HaveGrown, HavePaid};
 ghost use Rattle.qc_refine.specs.Images.{IsStanding, Restores};
 ghost use Rattle.qc_script.specs.Plan.{ScriptPlan};
-ghost use Rattle.qc_script.specs.Reading.{IsScript, IsProper};
-ghost use Rattle.qc_script.specs.Steps.{plan_of_script};
+ghost use Rattle.qc_script.specs.Reading.{IsScript};
 ghost use Rattle.qc_standing.specs.Mountings.{HaveNoGrants};
 ghost use Rattle.qc_codec.specs.declared.image.BadImage.{BadImage};
 ghost use Rattle.qc_run.specs.Left as left;
 ghost use Rattle.qc_run.specs.Run as terms;
 ghost use Rattle.qc_run.specs.Words as line;
 
-use crate::finishing::finish;
-use crate::io::{Sink, Source, Untaken, take_all};
+use crate::io::{Sink, Source};
+use crate::making::make;
 use crate::ran::Ran;
-use crate::refusing::{nothing, refuse, unmounted};
-use crate::spelling::is_spelled;
+use crate::reading::read;
+use crate::refusing::refuse;
 use crate::status::Status;
-use crate::words::{mode_of, place_of};
+use crate::words::{Command, command_of};
 use qc_disk::Shop;
-use qc_interp::{Gate, Mode};
+use qc_interp::Gate;
 use qc_mount::one_verdict;
-use qc_opening::run_stored;
-use qc_script::{BadScript, MOST_BYTES, Script};
-use qc_session::Ended;
 use std::alloc::Global;
 use std::sync::Wait;
 use std::thread::Threads;
-
-/// The most bytes of a journal.
-const JOURNAL_LIMIT: u64 = 1 << 40;
-
-// Runs a proper script over the disks of a place, and reports it.
-fn perform<R: Threads + Wait + Sync, K: Sink, H: Shop, G: Gate + Sync>(
-    rt: &R,
-    alloc: Global,
-    place: &str,
-    script: &Script,
-    sink: &mut K,
-    shop: &mut H,
-    gate: &G,
-    mode: Mode,
-) -> Ran<H::D>
-where
-    H::D: Drop + Send,
-    requires proper { IsProper (plan_of_script script.now) }
-    requires spelled { (body.table 1).fits script.now.table }
-    ensures answer { left.IsAnswer H.D.view (plan_of_script script.now)
-        ((H.view shop.old).offers place.now) (H.view shop.old).faults (H.view shop.new).faults
-        (K.view sink.old) (K.view sink.new) result }
-    ensures disks { (p : List ℕ) (n : ℕ) → length result.disks.items ≤ n
-        → (H.view shop.new).offers p n ≡ (H.view shop.old).offers p n }
-    ensures shop_faults { (H.view shop.old).faults ≤ (H.view shop.new).faults }
-{
-    match run_stored(rt, alloc, shop, place, script, JOURNAL_LIMIT, gate, mode) {
-        Ok(stored) => {
-            let Ended {
-                ran,
-                start,
-                trail,
-                disks,
-            } = stored.ended;
-            let status = finish(alloc, &script.table, ran, &start, trail.as_slice(), sink);
-            Ran {
-                status,
-                start,
-                trail,
-                disks,
-            }
-        }
-        Err(refused) => unmounted(alloc, refused, sink),
-    }
-}
-
-// Runs the script that the bytes are over the disks of a place, or refuses them.
-fn over<R: Threads + Wait + Sync, K: Sink, H: Shop, G: Gate + Sync>(
-    rt: &R,
-    alloc: Global,
-    place: &str,
-    bytes: &[u8],
-    sink: &mut K,
-    shop: &mut H,
-    gate: &G,
-    mode: Mode,
-) -> Ran<H::D>
-where
-    H::D: Drop + Send,
-    ensures answer { left.IsAnswerToBytes H.D.view bytes.now
-        ((H.view shop.old).offers place.now) (H.view shop.old).faults (H.view shop.new).faults
-        (K.view sink.old) (K.view sink.new) result }
-    ensures disks { (p : List ℕ) (n : ℕ) → length result.disks.items ≤ n
-        → (H.view shop.new).offers p n ≡ (H.view shop.old).offers p n }
-    ensures shop_faults { (H.view shop.old).faults ≤ (H.view shop.new).faults }
-{
-    match Script::read(alloc, bytes) {
-        Ok(script) => {
-            is_spelled(&script);
-            perform(rt, alloc, place, &script, sink, shop, gate, mode)
-        }
-        Err(BadScript::Memory) => nothing(alloc, Status::Memory, Vec::new(alloc)),
-        Err(bad) => refuse(alloc, Status::Script(bad), Vec::new(alloc), sink),
-    }
-}
 
 // Does what the words say.
 fn answer<R: Threads + Wait + Sync, S: Source, K: Sink, H: Shop, G: Gate + Sync>(
@@ -129,24 +49,22 @@ where
         → terms.IsOrMemory Status.Usage result.status × (source.new ≡ source.old)
         × (shop.new ≡ shop.old) }
     ensures source_faults { (S.view source.old).faults ≤ (S.view source.new).faults }
-    ensures source_taken { terms.ReadWhole result.status
+    ensures source_taken { line.IsReading (map string_bytes words.now)
+        → terms.ReadWhole result.status
         → Drops (S.view source.old).left (S.view source.new).left terms.most_taken }
     ensures source_within { LosesWithin (S.view source.old).left (S.view source.new).left
         terms.most_taken }
+    ensures source_left { line.IsMaking (map string_bytes words.now) → source.new ≡ source.old }
     ensures disks { (p : List ℕ) (n : ℕ) → length result.disks.items ≤ n
         → (H.view shop.new).offers p n ≡ (H.view shop.old).offers p n }
     ensures shop_faults { (H.view shop.old).faults ≤ (H.view shop.new).faults }
 {
-    let Some(place) = place_of(words) else {
-        return refuse(alloc, Status::Usage, Vec::new(alloc), sink);
-    };
-    match take_all(alloc, source, MOST_BYTES) {
-        Ok(bytes) => {
-            let mode = mode_of(words);
-            over(rt, alloc, place, bytes.as_slice(), sink, shop, gate, mode)
+    match command_of(words) {
+        Some(Command::Run { place, mode }) => {
+            read(rt, alloc, place, mode, source, sink, shop, gate)
         }
-        Err(Untaken::Failed) => refuse(alloc, Status::ReadFault, Vec::new(alloc), sink),
-        Err(Untaken::Memory) => nothing(alloc, Status::Memory, Vec::new(alloc)),
+        Some(Command::Gen { number }) => make(rt, alloc, number, sink, shop, gate),
+        None => refuse(alloc, Status::Usage, Vec::new(alloc), sink),
     }
 }
 
@@ -154,13 +72,15 @@ where
 /// the source, runs its sessions over the copies of its records, whose disks it obtains from the shop at the
 /// place that `--dir` names, by a network that loses, delays and repeats requests as the script says, and
 /// writes the report. Sessions run in threads of their own, or one after another with `--serial`; each passes
-/// the gate before its first top. All other words are refused with the usage line.
+/// the gate before its first top. `gen` with a number makes the script of that number, and leaves the source alone; it
+/// runs that script likewise, one session after another, over the disks of the place without a name, and writes the
+/// summary. All other words are refused with the usage line.
 ///
 /// Whatever it answers, its history is legal, with the requests to copies and their grants in it, and the
 /// serial machine with one value per record accepts the order that completion gives it, in which every user
 /// transaction without an aborted ancestor has exactly its own starts, ends and answers (Goldman and Lynch;
 /// Lynch and Merritt's serial scheduler). The run starts from what the disks restore, and whatever a crash
-/// leaves of them then stands beside the history, so that a later run goes on from there. The source is read
+/// leaves of them then stands beside the history, so that a later run goes on from there. A source that is read is read
 /// to its end, or one byte past the longest script. Want of memory may be answered at any time; it leaves the
 /// sink as it was.
 pub fn run<R: Threads + Wait + Sync, S: Source, K: Sink, H: Shop, G: Gate + Sync>(
@@ -175,34 +95,37 @@ pub fn run<R: Threads + Wait + Sync, S: Source, K: Sink, H: Shop, G: Gate + Sync
 where
     H::D: Drop + Send,
 
-    // Nothing was begun, or the source held a script, and the history is legal over the first configurations of its
-    // table and the start.
-    ensures legal_history { terms.OfRun (S.view source.old).left (S.view source.new).left
-        result.start result.trail.items
+    // Nothing was begun, or the words run a script, which the source held or which was made, and the history is legal
+    // over the first configurations of its table and the start.
+    ensures legal_history { terms.OfRun (map string_bytes words.now) (S.view source.old).left
+        (S.view source.new).left result.start result.trail.items
         (λ s. Legal (setting_of s.table result.start) (reverse result.trail.items)) }
     ensures nothing_begun { terms.BeganNothing result.status
         → (result.trail.items ≡ []) × (result.start ≡ []) }
 
     // At each moment of the history, each user transaction without an aborted ancestor has its serial order, from
     // each map of values for which the start is sound.
-    ensures serial_order { terms.OfRun (S.view source.old).left (S.view source.new).left
-        result.start result.trail.items
+    ensures serial_order { terms.OfRun (map string_bytes words.now) (S.view source.old).left
+        (S.view source.new).left result.start result.trail.items
         (λ s. terms.HasSerialOrders s.table result.start result.trail.items) }
 
     // The last values of the report, which go by versions, are then those of the serial machine.
-    ensures last_values { terms.OfRun (S.view source.old).left (S.view source.new).left
-        result.start result.trail.items
+    ensures last_values { terms.OfRun (map string_bytes words.now) (S.view source.old).left
+        (S.view source.new).left result.start result.trail.items
         (λ s. terms.HasSerialValues s.table result.start result.trail.items) }
 
     // Whatever cut the run off, the history is a beginning of one that follows the script, with requests that meet the
     // fates of its network; what ran to its end follows it.
-    ensures begins_script { terms.OfRun (S.view source.old).left (S.view source.new).left
-        result.start result.trail.items (λ s. terms.Begins s result.trail.items) }
+    ensures begins_script { terms.OfRun (map string_bytes words.now) (S.view source.old).left
+        (S.view source.new).left result.start result.trail.items
+        (λ s. terms.Begins s result.trail.items) }
     ensures follows_script { terms.RanToEnd result.status
-        → terms.OfScript (S.view source.old).left (S.view source.new).left
+        → terms.OfScript (map string_bytes words.now) (S.view source.old).left
+        (S.view source.new).left
         (λ s. terms.Follows s result.trail.items) }
-    ensures started { terms.ReadIt result.status
-        → terms.OfScript (S.view source.old).left (S.view source.new).left (λ _. ⊤) }
+    ensures started { terms.HadScript result.status
+        → terms.OfScript (map string_bytes words.now) (S.view source.old).left
+        (S.view source.new).left (λ _. ⊤) }
 
     // Who was in doubt when the sessions had run to their end.
     ensures in_doubt { result.status ≡ Status.InDoubt
@@ -214,26 +137,29 @@ where
 
     // The start is what the disks restore, where the shop tells their bytes. Where no grant stands on them it is the
     // table's own first tuples, which are sound for its start values.
-    ensures restores { terms.OfRun (S.view source.old).left (S.view source.new).left
-        result.start result.trail.items (λ s. terms.AtPlace (map string_bytes words.now)
-        (λ place. (images : List (List ℕ))
+    ensures restores { terms.OfRun (map string_bytes words.now) (S.view source.old).left
+        (S.view source.new).left result.start result.trail.items
+        (λ s. line.AtPlace (map string_bytes words.now) (λ place. (images : List (List ℕ))
         → terms.AllOffered s.table ((H.view shop.old).offers place) images
         → Restores s.table images result.start)) }
-    ensures first_start { terms.OfRun (S.view source.old).left (S.view source.new).left
-        result.start result.trail.items (λ s. terms.AtPlace (map string_bytes words.now)
+    ensures first_start { terms.OfRun (map string_bytes words.now) (S.view source.old).left
+        (S.view source.new).left result.start result.trail.items
+        (λ s. line.AtPlace (map string_bytes words.now)
         (λ place. HaveNoGrants s.table ((H.view shop.old).offers place)
         → result.start ≡ base_of s.table)) }
-    ensures sound_start { terms.OfRun (S.view source.old).left (S.view source.new).left
-        result.start result.trail.items (λ s. terms.AtPlace (map string_bytes words.now)
+    ensures sound_start { terms.OfRun (map string_bytes words.now) (S.view source.old).left
+        (S.view source.new).left result.start result.trail.items
+        (λ s. line.AtPlace (map string_bytes words.now)
         (λ place. HaveNoGrants s.table ((H.view shop.old).offers place)
         → IsSound (setting_of s.table result.start) (first_values s.table))) }
 
     // Where all disks told their bytes, whatever a crash leaves of those that come back stands beside the history, in
     // its epoch.
-    ensures images_stand { terms.OfRun (S.view source.old).left (S.view source.new).left
-        result.start result.trail.items (λ s. (epoch : ℕ)
+    ensures images_stand { terms.OfRun (map string_bytes words.now) (S.view source.old).left
+        (S.view source.new).left result.start result.trail.items
+        (λ s. (epoch : ℕ)
         × terms.BeginsIn epoch s result.trail.items
-        × terms.AtPlace (map string_bytes words.now)
+        × line.AtPlace (map string_bytes words.now)
         (λ place. AllTell s.table.copies ((H.view shop.old).offers place)
         → (images : List (List ℕ)) → AreImages H.D.view result.disks.items images
         → ∥ IsStanding s.table result.start epoch (reverse result.trail.items) images ∥₁)) }
@@ -241,35 +167,41 @@ where
     // behind them those of the history up to some time, with at most one more, which could come next then. Of two such
     // moments each image of the later had every record that all images of the earlier had. Before, a crash left of the
     // disk what it left of it as it was when it had been mounted.
-    ensures images_grow { terms.OfRun (S.view source.old).left (S.view source.new).left
-        result.start result.trail.items (λ s. (epoch : ℕ)
+    ensures images_grow { terms.OfRun (map string_bytes words.now) (S.view source.old).left
+        (S.view source.new).left result.start result.trail.items
+        (λ s. (epoch : ℕ)
         × terms.BeginsIn epoch s result.trail.items
-        × terms.AtPlace (map string_bytes words.now)
+        × line.AtPlace (map string_bytes words.now)
         (λ place. HaveGrown H.D.view s.table ((H.view shop.old).offers place) epoch
         result.start result.disks.items (reverse result.trail.items))) }
 
     // Each failure that someone was unable for, a disk has counted.
-    ensures paid { terms.OfRun (S.view source.old).left (S.view source.new).left
-        result.start result.trail.items
+    ensures paid { terms.OfRun (map string_bytes words.now) (S.view source.old).left
+        (S.view source.new).left result.start result.trail.items
         (λ s. HavePaid H.D.view result.disks.items (reverse result.trail.items)) }
 
     // The disks that were obtained come back, and no others were. A mounting that was refused leaves each as it says.
     ensures come_back { terms.IsNotMounted result.status
-        → terms.OfScript (S.view source.old).left (S.view source.new).left
-        (λ s. terms.AtPlace (map string_bytes words.now) (λ place. left.CameBack H.D.view s
+        → terms.OfScript (map string_bytes words.now) (S.view source.old).left
+        (S.view source.new).left
+        (λ s. line.AtPlace (map string_bytes words.now) (λ place. left.CameBack H.D.view s
         ((H.view shop.old).offers place) result.disks.items)) }
     ensures disks { (place : List ℕ) (n : ℕ) → length result.disks.items ≤ n
         → (H.view shop.new).offers place n ≡ (H.view shop.old).offers place n }
 
-    // The bytes written are the report, a front of it, a fault's line, or none.
+    // The bytes written are the report, or the summary where the script was made; a front of it, a fault's line, or none.
     ensures output { terms.IsReported result.status
-        → terms.OfScript (S.view source.old).left (S.view source.new).left
-        (λ s. Appends (K.view sink.old).taken (K.view sink.new).taken
-        (terms.report_of s.table result.start result.trail.items)) }
+        → terms.OfScript (map string_bytes words.now) (S.view source.old).left
+        (S.view source.new).left
+        (λ s. line.AsAsked (map string_bytes words.now) (λ asked. Appends
+        (K.view sink.old).taken (K.view sink.new).taken
+        (terms.text_by (terms.form_of asked) s.table result.start result.trail.items))) }
     ensures output_front { result.status ≡ Status.WriteFault
-        → terms.OfScript (S.view source.old).left (S.view source.new).left
-        (λ s. AppendsFront (K.view sink.old).taken (K.view sink.new).taken
-        (terms.report_of s.table result.start result.trail.items)) }
+        → terms.OfScript (map string_bytes words.now) (S.view source.old).left
+        (S.view source.new).left
+        (λ s. line.AsAsked (map string_bytes words.now) (λ asked. AppendsFront
+        (K.view sink.old).taken (K.view sink.new).taken
+        (terms.text_by (terms.form_of asked) s.table result.start result.trail.items))) }
     ensures output_line { terms.IsTold result.status
         → terms.TellsFault (K.view sink.old).taken (K.view sink.new).taken
         (K.view sink.old).faults (K.view sink.new).faults result.status }
@@ -282,31 +214,35 @@ where
     ensures no_command { line.IsNoCommand (map string_bytes words.now)
         → terms.IsOrMemory Status.Usage result.status × (source.new ≡ source.old)
         × (shop.new ≡ shop.old) }
-    ensures script_fault { terms.IsScriptFault (S.view source.old).left result.status }
-    ensures no_script { terms.AtPlace (map string_bytes words.now)
-        (λ _. IfSome (S.view source.old).left
-        (λ bytes. ((s : ScriptPlan) → IsScript bytes s → ⊥) → terms.IsNoRun result.status)) }
+    ensures script_fault { terms.IsScriptFault (map string_bytes words.now)
+        (S.view source.old).left result.status }
+    ensures no_script { line.IsReading (map string_bytes words.now)
+        → IfSome (S.view source.old).left
+        (λ bytes. ((s : ScriptPlan) → IsScript bytes s → ⊥) → terms.IsNoRun result.status) }
     ensures read_fault { result.status ≡ Status.ReadFault
-        → Rose (S.view source.old).faults (S.view source.new).faults }
+        → terms.IsReadFault (map string_bytes words.now)
+        (S.view source.old).faults (S.view source.new).faults }
     ensures write_fault { result.status ≡ Status.WriteFault
         → Rose (K.view sink.old).faults (K.view sink.new).faults }
     ensures disk_fault { (which : ℕ) → result.status ≡ Status.DiskFault which
         → terms.IsDiskFault H.D.view (H.view shop.old).faults (H.view shop.new).faults
         result.disks.items which }
     ensures image_fault { (bad : BadImage) → result.status ≡ Status.Image bad
-        → terms.OfScript (S.view source.old).left (S.view source.new).left
-        (λ s. terms.AtPlace (map string_bytes words.now) (λ place. (images : List (List ℕ))
+        → terms.OfScript (map string_bytes words.now) (S.view source.old).left
+        (S.view source.new).left
+        (λ s. line.AtPlace (map string_bytes words.now) (λ place. (images : List (List ℕ))
         → terms.AllOffered s.table ((H.view shop.old).offers place) images
         → IsFirstFault s.table terms.journal_limit bad images)) }
-    ensures sound_images { (bytes : List ℕ) (s : ScriptPlan) (images : List (List ℕ))
-        → (S.view source.old).left ≡ Some bytes → IsScript bytes s
-        → terms.AtPlace (map string_bytes words.now)
+    ensures sound_images { (s : ScriptPlan) (images : List (List ℕ))
+        → terms.AsksFor (map string_bytes words.now) (S.view source.old).left s
+        → line.AtPlace (map string_bytes words.now)
         (λ place. terms.AllOffered s.table ((H.view shop.old).offers place) images
         → AreSound s.table terms.journal_limit images
         → (bad : BadImage) → result.status ≡ Status.Image bad → ⊥) }
     ensures mounted_images { terms.RanToEnd result.status
-        → terms.OfScript (S.view source.old).left (S.view source.new).left
-        (λ s. terms.AtPlace (map string_bytes words.now) (λ place. (images : List (List ℕ))
+        → terms.OfScript (map string_bytes words.now) (S.view source.old).left
+        (S.view source.new).left
+        (λ s. line.AtPlace (map string_bytes words.now) (λ place. (images : List (List ℕ))
         → terms.AllOffered s.table ((H.view shop.old).offers place) images
         → AreSound s.table terms.journal_limit images)) }
     ensures room { result.status ≡ Status.Room → length result.trail.items ≡ limit }
@@ -314,23 +250,25 @@ where
     ensures sink_faults { (K.view sink.old).faults ≤ (K.view sink.new).faults }
     ensures shop_faults { (H.view shop.old).faults ≤ (H.view shop.new).faults }
 
-    // The source is taken to its end, or one byte past the longest script; never further.
-    ensures source_taken { terms.ReadWhole result.status
+    // A source that is read is taken to its end, or one byte past the longest script; never further. Where a script is
+    // made it is left as it was.
+    ensures source_taken { line.IsReading (map string_bytes words.now)
+        → terms.ReadWhole result.status
         → Drops (S.view source.old).left (S.view source.new).left terms.most_taken }
     ensures source_within { LosesWithin (S.view source.old).left (S.view source.new).left
         terms.most_taken }
+    ensures source_left { line.IsMaking (map string_bytes words.now) → source.new ≡ source.old }
 
-    // A script is run, where neither stream fails, as far as there is memory and room, or a disk or an image is refused.
+    // A script is run, where no stream fails, as far as there is memory and room, or a disk or an image is refused.
     // Where no disk fails either and the images have no fault, none is refused.
-    ensures completes { (bytes : List ℕ) (s : ScriptPlan)
-        → (S.view source.old).left ≡ Some bytes → IsScript bytes s
-        → terms.AtPlace (map string_bytes words.now)
-        (λ _. (Rose (S.view source.old).faults (S.view source.new).faults → ⊥)
+    ensures completes { (s : ScriptPlan)
+        → terms.AsksFor (map string_bytes words.now) (S.view source.old).left s
+        → (Rose (S.view source.old).faults (S.view source.new).faults → ⊥)
         → (Rose (K.view sink.old).faults (K.view sink.new).faults → ⊥)
-        → terms.IsRun result.status) }
-    ensures completes_over_disks { (bytes : List ℕ) (s : ScriptPlan) (images : List (List ℕ))
-        → (S.view source.old).left ≡ Some bytes → IsScript bytes s
-        → terms.AtPlace (map string_bytes words.now)
+        → terms.IsRun result.status }
+    ensures completes_over_disks { (s : ScriptPlan) (images : List (List ℕ))
+        → terms.AsksFor (map string_bytes words.now) (S.view source.old).left s
+        → line.AtPlace (map string_bytes words.now)
         (λ place. (Rose (S.view source.old).faults (S.view source.new).faults → ⊥)
         → (Rose (K.view sink.old).faults (K.view sink.new).faults → ⊥)
         → ((which : ℕ) → terms.IsDiskFault H.D.view (H.view shop.old).faults

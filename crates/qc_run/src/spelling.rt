@@ -1,6 +1,7 @@
 //! That the table of a script is one that the disks can keep.
-ghost use Rattle.std.specs.Prelude.{ℕ, ◌<◌, ◌^◌, All, List};
+ghost use Rattle.std.specs.Prelude.{ℕ, ◌≡◌, ◌<◌, ◌^◌, All, List};
 ghost use Rattle.qc_codec.specs.Bodies as body;
+ghost use Rattle.qc_script.specs.MadePlan.{made_plan};
 ghost use Rattle.qc_script.specs.Reading.{IsProper, IsScript};
 ghost use Rattle.qc_script.specs.Steps.{plan_of_script};
 
@@ -27,6 +28,14 @@ fn are_long(rows: &[Row])
 pub(crate) fn is_spelled(script: &Script)
     requires { IsProper (plan_of_script script.now) }
     ensures { (bytes : List ℕ) → IsScript bytes (plan_of_script script.now)
+        → (body.table 1).fits script.now.table }
+{
+    are_long(script.table.records.as_slice());
+}
+
+/// So has one that is made of a number. It does nothing else.
+pub(crate) fn made_is_spelled(script: &Script)
+    ensures { (n : ℕ) → plan_of_script script.now ≡ made_plan n
         → (body.table 1).fits script.now.table }
 {
     are_long(script.table.records.as_slice());

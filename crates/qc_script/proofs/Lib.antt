@@ -10,3 +10,6 @@ pub mod Names
 pub mod Proper
 pub mod ProperScript
 pub mod OneScript
+pub mod MadeRows
+pub mod NumbersMade
+pub mod ProperMade

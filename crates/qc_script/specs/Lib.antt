@@ -7,3 +7,4 @@ pub mod Reading
 pub mod Client
 pub mod Numbers
 pub mod Calls
+pub mod MadePlan

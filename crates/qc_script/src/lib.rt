@@ -2,6 +2,7 @@
 #![tactic(auto)]
 
 mod bad_script;
+mod made;
 mod reader;
 mod script;
 mod tx;

@@ -6,7 +6,7 @@ use Rattle.qc_bench_steps.proofs.measure.both_times.Goals as goal
 
 pub report_of-requires : goal.report_of-requires
 report_of-requires g c =
-    let legal = run_is_legal _ _ c.run-ran.result.start c.run-ran.result.trail.items c.run-ran.ensures.legal_history in
+    let legal = run_is_legal _ _ _ c.run-ran.result.start c.run-ran.result.trail.items c.run-ran.ensures.legal_history in
     let same = ap reverse c.as_slice-trail.ensures.value in
     record {
       legal = legal;

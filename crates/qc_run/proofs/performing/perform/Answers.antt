@@ -1,4 +1,4 @@
-use Rattle.std.proofs.Common.{◌≡◌, List, reverse, subst, sym, inl, inr}
+use Rattle.std.proofs.Common.{List, reverse, subst, sym, inl, inr}
 use Rattle.std.proofs.lemmas.Bool.{true≢false}
 use Rattle.std.specs.Prelude.{Result, Ok, Err, OnOk, IsOk}
 use Rattle.qc_event.specs.declared.event.Entry.{Entry}
@@ -6,9 +6,9 @@ use Rattle.qc_event.specs.Legal.{Legal}
 use Rattle.qc_event.specs.Tables.{setting_of}
 use Rattle.qc_script.specs.Steps.{plan_of_script}
 use Rattle.qc_run.specs.Left.{Wrote, TellsDoubt}
-use Rattle.qc_run.specs.Run.{report_of}
+use Rattle.qc_run.specs.Run.{text_by}
 use Rattle.qc_run.proofs.Refusals.{why}
-use Rattle.qc_run.proofs.program.perform.Goals as goal
+use Rattle.qc_run.proofs.performing.perform.Goals as goal
 
 on_ok : {T E : Type 0} (r : Result T E) (P : Type 0) → IsOk r → OnOk r P → P
 on_ok (Ok x) P is has = has
@@ -27,7 +27,7 @@ returns-in-Ok-clause-answer g c =
     let tells = c.finish-status.ensures in
     let answer = c.finish-status.result in
     record {
-      wrote = subst (λ (t : List Entry). Wrote (g.K.Sink.view c.args.sink.now) (g.K.Sink.view c.finish-status.new.sink) answer (report_of s.table ended.start t)) c.as_slice.ensures.value tells.wrote;
+      wrote = subst (λ (t : List Entry). Wrote (g.K.Sink.view c.args.sink.now) (g.K.Sink.view c.finish-status.new.sink) answer (text_by c.args.form s.table ended.start t)) c.as_slice.ensures.value tells.wrote;
       came = inr (record {
         answer = tells.answer;
         epoch = c.in-Ok.stored.epoch;

@@ -1,0 +1,63 @@
+-- What was answered to words, by what was answered to what they ask for.
+use Rattle.std.proofs.Common.{ℕ, ◌≡◌, List, [], refl, sym, subst, inl, inr}
+use Rattle.std.specs.Prelude.{None, Some}
+use Rattle.qc_disk.specs.Disk.{View}
+use Rattle.qc_disk.specs.Shop.{View as Shop}
+use Rattle.qc_interp.specs.declared.gate.Mode.{Mode}
+use Rattle.qc_io.specs.Io.{SinkView, SourceView}
+use Rattle.qc_script.specs.MadePlan.{made_plan}
+use Rattle.qc_run.specs.Left.{HadNoScript, IsAnswerToMaking, IsAnswerToSource, IsAnswerToWords, IsRefusal, IsUnread}
+use Rattle.qc_run.specs.Run.{IsOrMemory}
+use Rattle.qc_run.specs.Words.{mode_of, Asked, IsCommand, IsMaking, IsNoCommand, IsReading}
+use Rattle.qc_run.specs.declared.ran.Ran.{Ran}
+use Rattle.qc_run.specs.declared.status.Status.{Status}
+use Rattle.qc_run.specs.declared.status.Status.TheVariants as status
+use Rattle.qc_run.proofs.OneCommand.{not_both}
+
+-- WORDS
+
+-- words for which nothing is found are no command
+pub none_found : (words : List (List ℕ)) → ((asked : Asked) → IsCommand words asked → None ≡ Some asked) → IsNoCommand words
+none_found words none asked is = differ (none asked is)
+  where
+    differ : None ≡ Some asked → ⊥
+    differ e = cc
+
+pub not_reading : (words : List (List ℕ)) → IsNoCommand words → IsReading words → ⊥
+not_reading words none reading = none (Asked.read_at reading.0 (mode_of words)) (reading.1, refl)
+
+pub not_making : (words : List (List ℕ)) → IsNoCommand words → IsMaking words → ⊥
+not_making words none making = none (Asked.made_of making.0) making.1
+
+pub reads_alone : (words : List (List ℕ)) → IsReading words → IsMaking words → ⊥
+reads_alone words reading making = not_both words reading.0 making.0 reading.1 making.1
+
+-- ANSWERS
+
+none_read : (words : List (List ℕ)) (before now : SourceView) (answer : Status) → IsReading words → IsUnread before now answer → HadNoScript words before now answer
+none_read words before now status.ReadFault reading un = (reading, un)
+none_read words before now (status.Script e) reading un = (reading, un)
+none_read words before now status.Memory reading un = tt
+none_read words before now status.Done reading un = absurd un
+none_read words before now status.InDoubt reading un = absurd un
+none_read words before now status.Usage reading un = absurd un
+none_read words before now status.WriteFault reading un = absurd un
+none_read words before now (status.DiskFault which) reading un = absurd un
+none_read words before now (status.Image bad) reading un = absurd un
+none_read words before now status.Room reading un = absurd un
+
+module _ {D : Type 0} (view : D → View) (words : List (List ℕ)) (source_before source_now : SourceView) (shop_before : Shop) (shop_faults : ℕ) (before now : SinkView) (ran : Ran D) where
+  abbrev ToWords : Type 0
+  ToWords = IsAnswerToWords view words source_before source_now shop_before shop_faults before now ran
+
+  pub by_reading : (place : List ℕ) (mode : Mode) → IsCommand words (Asked.read_at place mode) → IsAnswerToSource view source_before source_now (shop_before.offers place) shop_before.faults shop_faults before now ran → ToWords
+  by_reading place mode is (inl refused) = inl (refused.0, none_read words source_before source_now ran.status (place, is.0) refused.1)
+  by_reading place mode is (inr run) = inr (run.0, (record { asked = Asked.read_at place mode; is_command = is; is_script = run.1 }, run.2))
+
+  pub by_making : (n : ℕ) → IsCommand words (Asked.made_of n) → IsAnswerToMaking view (made_plan n) (shop_before.offers []) shop_before.faults shop_faults before now ran → ToWords
+  by_making n is (inl refused) = inl (refused.0, subst (HadNoScript words source_before source_now) (sym refused.1) tt)
+  by_making n is (inr answer) = inr (made_plan n, (record { asked = Asked.made_of n; is_command = is; is_script = refl }, answer))
+
+  pub by_nothing : IsNoCommand words → IsOrMemory status.Usage ran.status → IsRefusal before now ran → ToWords
+  by_nothing none (inl usage) refusal = inl (refusal, subst (HadNoScript words source_before source_now) (sym usage) none)
+  by_nothing none (inr memory) refusal = inl (refusal, subst (HadNoScript words source_before source_now) (sym memory) tt)

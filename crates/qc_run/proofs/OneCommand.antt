@@ -1,0 +1,99 @@
+-- Words ask for one thing at most; and what is found among them is what they ask for.
+use Rattle.std.proofs.Common.{ℕ, ◌≡◌, ◌<◌, ◌^◌, Bool, true, false, List, [], ◌∷◌, map, Option, None, Some, refl, sym, ap, ◌∙◌, subst, inl, inr}
+use Rattle.std.specs.Prelude.{◌↔◌, ◌||◌, codes, if◌then◌else◌}
+use Rattle.std.specs.Fmt.{decimal}
+use Rattle.std.specs.List.{list_any}
+use Rattle.std.specs.Str.{bytes_eq}
+use Rattle.std.proofs.lemmas.Fmt.{decimal_injective}
+use Rattle.std.proofs.lemmas.Slice.Eq.{bytes_eq-Decides}
+use Rattle.qc_run.specs.Options.{behind_gen, run_place}
+use Rattle.qc_run.specs.Words.{Text, Asked, IsOneOf, IsRunAt, IsGenOf, IsCommand, options_at}
+use Rattle.qc_run.proofs.Places.{place_found}
+
+one_word : (o : Option Text) (p q : Text) → o ≡ Some p → o ≡ Some q → p ≡ q
+one_word o p q a b = cc
+
+-- words that run a script that is read have `run` in front
+none_behind_gen : (words options : List Text) → words ≡ codes "run" ∷ options → behind_gen words ≡ None
+none_behind_gen words options is = subst (λ w. behind_gen w ≡ None) (sym is) (by_options options)
+  where
+    by_options : (options : List Text) → behind_gen (codes "run" ∷ options) ≡ None
+    by_options [] = refl
+    by_options (one ∷ []) = refl
+    by_options (one ∷ two ∷ others) = refl
+
+none_of : (rows : List (List Text)) (words : List Text) → IsOneOf (map (λ options. codes "run" ∷ options) rows) words → behind_gen words ≡ None
+none_of [] words is = absurd is
+none_of (options ∷ rows) words (inl is) = none_behind_gen words options is
+none_of (options ∷ rows) words (inr is) = none_of rows words is
+
+-- what stands behind `gen`
+gen_found : (words : List Text) (n : ℕ) → IsGenOf words n → behind_gen words ≡ Some (decimal n)
+gen_found words n is = subst (λ w. behind_gen w ≡ Some (decimal n)) (sym is.1) refl
+
+-- words that have a script made do not read one
+pub not_both : (words : List Text) (place : Text) (n : ℕ) → IsRunAt words place → IsGenOf words n → ⊥
+not_both words place n run gen = by_answers (none_of (options_at place) words run) (gen_found words n gen)
+  where
+    by_answers : behind_gen words ≡ None → behind_gen words ≡ Some (decimal n) → ⊥
+    by_answers a b = cc
+
+-- they have one made of one number
+pub one_number : (words : List Text) (n m : ℕ) → IsGenOf words n → IsGenOf words m → n ≡ m
+one_number words n m is too = decimal_injective n m is.0 too.0 (one_word (behind_gen words) (decimal n) (decimal m) (gen_found words n is) (gen_found words m too))
+
+-- words ask for one thing
+pub one_command : (words : List Text) (asked other : Asked) → IsCommand words asked → IsCommand words other → asked ≡ other
+one_command words (Asked.read_at place mode) (Asked.read_at there kept) is too =
+    ap (λ p. Asked.read_at p mode) (one_word (run_place words) place there (place_found words place is.0) (place_found words there too.0)) ∙ ap (Asked.read_at there) (is.1 ∙ sym too.1)
+one_command words (Asked.read_at place mode) (Asked.made_of n) is too = absurd (not_both words place n is.0 too)
+one_command words (Asked.made_of n) (Asked.read_at place mode) is too = absurd (not_both words place n too.0 is)
+one_command words (Asked.made_of n) (Asked.made_of m) is too = ap Asked.made_of (one_number words n m is too)
+
+-- a word behind `gen` is the only one
+by_word : (word number spelled : Text) (gen : Bool) → bytes_eq word (codes "gen") ≡ gen → (if gen then Some number else None) ≡ Some spelled → word ∷ number ∷ [] ≡ codes "gen" ∷ spelled ∷ []
+by_word word number spelled true g is = let same : number ≡ spelled = cc in ap (λ w. w ∷ number ∷ []) ((bytes_eq-Decides word (codes "gen")).0 g) ∙ ap (λ n. codes "gen" ∷ n ∷ []) same
+by_word word number spelled false g is = absurd cc
+
+pub gen_words : (words : List Text) (spelled : Text) → behind_gen words ≡ Some spelled → words ≡ codes "gen" ∷ spelled ∷ []
+gen_words [] spelled is = absurd cc
+gen_words (word ∷ []) spelled is = absurd cc
+gen_words (word ∷ number ∷ []) spelled is = by_word word number spelled (bytes_eq word (codes "gen")) refl is
+gen_words (word ∷ number ∷ more ∷ others) spelled is = absurd cc
+
+-- the number that the word behind `gen` spells is that of which a script is made
+pub number_behind : (words : List Text) (spelled : Text) (n : ℕ) → behind_gen words ≡ Some spelled → (n < 2 ^ 64) × (spelled ≡ decimal n) → IsGenOf words n
+number_behind words spelled n found is = (is.0, gen_words words spelled found ∙ ap (λ w. codes "gen" ∷ w ∷ []) is.1)
+
+pub number_spelled : (words : List Text) (spelled : Text) (n : ℕ) → behind_gen words ≡ Some spelled → IsGenOf words n → (n < 2 ^ 64) × (spelled ≡ decimal n)
+number_spelled words spelled n found is = (is.0, one_word (behind_gen words) spelled (decimal n) found (gen_found words n is))
+
+pub none_made : (words : List Text) (n : ℕ) → behind_gen words ≡ None → IsGenOf words n → ⊥
+none_made words n none is = by_answers none (gen_found words n is)
+  where
+    by_answers : behind_gen words ≡ None → behind_gen words ≡ Some (decimal n) → ⊥
+    by_answers a b = cc
+
+-- WHAT IS FOUND
+
+pub any_mapped : {A B : Type 0} (test : B → Bool) (view : A → B) (xs : List A) → list_any test (map view xs) ≡ list_any (λ x. test (view x)) xs
+any_mapped test view [] = refl
+any_mapped test view (x ∷ xs) = ap (λ b. test (view x) || b) (any_mapped test view xs)
+
+-- what words ask for is all that they ask for
+pub found_command : (words : List Text) (found : Asked) → IsCommand words found → (asked : Asked) → (Some found ≡ Some asked) ↔ IsCommand words asked
+found_command words found is asked = (to, (λ too. ap Some (one_command words found asked is too)))
+  where
+    to : Some found ≡ Some asked → IsCommand words asked
+    to e = let same : found ≡ asked = cc in subst (IsCommand words) same is
+
+-- where no number stands behind `gen` and no place is named, they ask for nothing
+pub no_command : (words : List Text) → ((n : ℕ) → IsGenOf words n → ⊥) → ((place : Text) → IsRunAt words place → ⊥) → (asked : Asked) → (None ≡ Some asked) ↔ IsCommand words asked
+no_command words unmade unread asked = ((λ e. absurd (differ e)), (λ is. absurd (by_asked asked is)))
+  where
+    differ : None ≡ Some asked → ⊥
+    differ e = cc
+
+    by_asked : (a : Asked) → IsCommand words a → ⊥
+    by_asked (Asked.read_at place mode) is = unread place is.0
+    by_asked (Asked.made_of n) is = unmade n is

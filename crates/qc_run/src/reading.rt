@@ -1,0 +1,91 @@
+//! Runs of a script that the source holds.
+ghost use Rattle.std.specs.Prelude.{ℕ, List, ◌≡◌, ◌≤◌, length};
+ghost use Rattle.qc_io.specs.Io.{Drops, LosesWithin};
+ghost use Rattle.qc_run.specs.Left as left;
+ghost use Rattle.qc_run.specs.Run as terms;
+
+use crate::finishing::Form;
+use crate::io::{Sink, Source, Untaken, take_all};
+use crate::performing::perform;
+use crate::ran::Ran;
+use crate::refusing::{nothing, refuse};
+use crate::spelling::is_spelled;
+use crate::status::Status;
+use qc_disk::Shop;
+use qc_interp::{Gate, Mode};
+use qc_script::{BadScript, MOST_BYTES, Script};
+use std::alloc::Global;
+use std::sync::Wait;
+use std::thread::Threads;
+
+// Runs the script that the bytes are over the disks of a place, or refuses them.
+fn over<R: Threads + Wait + Sync, K: Sink, H: Shop, G: Gate + Sync>(
+    rt: &R,
+    alloc: Global,
+    place: &str,
+    bytes: &[u8],
+    sink: &mut K,
+    shop: &mut H,
+    gate: &G,
+    mode: Mode,
+) -> Ran<H::D>
+where
+    H::D: Drop + Send,
+    ensures answer { left.IsAnswerToBytes H.D.view bytes.now
+        ((H.view shop.old).offers place.now) (H.view shop.old).faults (H.view shop.new).faults
+        (K.view sink.old) (K.view sink.new) result }
+    ensures disks { (p : List ℕ) (n : ℕ) → length result.disks.items ≤ n
+        → (H.view shop.new).offers p n ≡ (H.view shop.old).offers p n }
+    ensures shop_faults { (H.view shop.old).faults ≤ (H.view shop.new).faults }
+{
+    match Script::read(alloc, bytes) {
+        Ok(script) => {
+            is_spelled(&script);
+            perform(
+                rt,
+                alloc,
+                place,
+                &script,
+                sink,
+                shop,
+                gate,
+                mode,
+                Form::Report,
+            )
+        }
+        Err(BadScript::Memory) => nothing(alloc, Status::Memory, Vec::new(alloc)),
+        Err(bad) => refuse(alloc, Status::Script(bad), Vec::new(alloc), sink),
+    }
+}
+
+/// Reads a script from the source, runs it over the disks of a place, and writes the report.
+pub(crate) fn read<R: Threads + Wait + Sync, S: Source, K: Sink, H: Shop, G: Gate + Sync>(
+    rt: &R,
+    alloc: Global,
+    place: &str,
+    mode: Mode,
+    source: &mut S,
+    sink: &mut K,
+    shop: &mut H,
+    gate: &G,
+) -> Ran<H::D>
+where
+    H::D: Drop + Send,
+    ensures answer { left.IsAnswerToSource H.D.view (S.view source.old) (S.view source.new)
+        ((H.view shop.old).offers place.now) (H.view shop.old).faults (H.view shop.new).faults
+        (K.view sink.old) (K.view sink.new) result }
+    ensures source_faults { (S.view source.old).faults ≤ (S.view source.new).faults }
+    ensures source_taken { terms.ReadWhole result.status
+        → Drops (S.view source.old).left (S.view source.new).left terms.most_taken }
+    ensures source_within { LosesWithin (S.view source.old).left (S.view source.new).left
+        terms.most_taken }
+    ensures disks { (p : List ℕ) (n : ℕ) → length result.disks.items ≤ n
+        → (H.view shop.new).offers p n ≡ (H.view shop.old).offers p n }
+    ensures shop_faults { (H.view shop.old).faults ≤ (H.view shop.new).faults }
+{
+    match take_all(alloc, source, MOST_BYTES) {
+        Ok(bytes) => over(rt, alloc, place, bytes.as_slice(), sink, shop, gate, mode),
+        Err(Untaken::Failed) => refuse(alloc, Status::ReadFault, Vec::new(alloc), sink),
+        Err(Untaken::Memory) => nothing(alloc, Status::Memory, Vec::new(alloc)),
+    }
+}
