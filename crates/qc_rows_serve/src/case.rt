@@ -86,7 +86,10 @@ impl Case {
     // A disk in memory loses what was not synced.
     fn lose(&mut self) -> Result<String, AllocError> {
         let left = match &self.disk {
-            Some(HomeDisk::Memory(disk)) => disk.image_at(self.alloc, disk.calls() + 1, false)?,
+            Some(HomeDisk::Memory(disk)) => {
+                let next = disk.calls().saturating_add(1);
+                disk.image_at(self.alloc, next, false)?
+            }
             _ => return self.said("no such disk"),
         };
         let disk = MemDisk::new(left, Vec::new(self.alloc));
