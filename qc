@@ -18,8 +18,9 @@ help() {
 qc runs a script of nested transactions over replicated records, and writes a report of what each
 did. The program is proved before it is built: README.md says of what.
 
-  ./qc run < SCRIPT              runs a script (`run --serial` does the same today)
-  ./qc run --dir P < SCRIPT      the same over the disks in the folder P, for a later run too
+  ./qc run < SCRIPT              runs a script: sessions, and bodies of "par", in threads
+  ./qc run --serial < SCRIPT     one after another, so that the script alone decides the report
+  ./qc run --dir P < SCRIPT      over the disks in the folder P, for a later run too, in either way
   ./qc gen N                     makes a script of the number N, runs it, and writes its last values
   ./qc --unproved run < SCRIPT   the same before the first build is done: in about a minute, unproved
   ./qc --help                    this page
@@ -32,6 +33,11 @@ A script, examples/sets_and_reads_back.json:
 END
     sed 's/^/  /' "$top/examples/sets_and_reads_back.json" >&2
     cat >&2 <<'END'
+
+The other steps are ["add", R, n], ["sub", R, n], ["need", R, n], ["reconf", R, config],
+["child", body], ["par", [body, ..]], ["abort", k], ["crash", c] and ["kill", s]. Beside "steps" a
+body may have "tries" and "must"; beside "tops" a session may have "net", with "fates" and "hold";
+a script may have "patience".
 
 The exit status is 0 where the report was written, 2 for words that are no command, 3 for a text
 that is no script, 4 and 5 where the input or the output failed, 6 where a disk failed, 7 where what
