@@ -1,4 +1,5 @@
 pub mod Moments
+pub mod Kept
+pub mod Restored
 pub mod Turns
 pub mod Between
-pub mod Marks

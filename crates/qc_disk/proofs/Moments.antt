@@ -4,7 +4,7 @@ use Rattle.std.specs.Prelude.{◌↔◌}
 use Rattle.std.proofs.lemmas.List.{take-append-le, take_all}
 use Rattle.std.proofs.lemmas.Bool.{cases_lt}
 use Rattle.qc_disk.specs.Tape.{tape_first, tape_acts, tape_bytes, Applied}
-use Rattle.qc_disk.specs.declared.record.Tape.{Tape}
+use Rattle.qc_disk.specs.declared.tape.Tape.{Tape}
 use Rattle.qc_disk.specs.Replay.{Act, does, leaves, replayed, left_after, images, images_at}
 
 -- the content after one more act

@@ -5,7 +5,7 @@ use Rattle.qc_disk.specs.Disk.{View, next, Rose, HasCause, Torn, Cut, Follows, W
 use Rattle.qc_disk.specs.Replay.{Act, nothing, wrote, cut_to, synced, does, leaves, replayed, images, syncs_in}
 use Rattle.qc_disk.specs.Laws.{torn_same, torn-written, cut_same, cut-taken, image_now}
 use Rattle.qc_disk.specs.Tape.{tape_first, tape_acts, tape_bytes, Applied, Untouched}
-use Rattle.qc_disk.specs.declared.record.Tape.{Tape}
+use Rattle.qc_disk.specs.declared.tape.Tape.{Tape}
 use Rattle.qc_disk.specs.declared.disk.DiskNo.{DiskNo}
 use Rattle.qc_disk.specs.declared.disk.DiskNo.TheVariants.{Failed, Memory}
 use Rattle.qc_disk.specs.declared.memory.MemDisk.{MemDisk}

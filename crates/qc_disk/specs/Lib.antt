@@ -1,5 +1,6 @@
 pub mod Disk
 pub mod Replay
+pub mod Kept
 pub mod Tape
 pub mod Laws
 pub mod MemDisk

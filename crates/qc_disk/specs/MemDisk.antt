@@ -5,7 +5,7 @@ use Rattle.qc_disk.specs.Replay.{Act, nothing, fault_at, syncs_in, images, image
 use Rattle.qc_disk.specs.Tape.{tape_first, tape_acts, tape_bytes, Applied, Untouched}
 use Rattle.qc_disk.specs.declared.disk.DiskNo.{DiskNo}
 use Rattle.qc_disk.specs.declared.disk.DiskNo.TheVariants.{Failed, Memory}
-use Rattle.qc_disk.specs.declared.record.FailAt.{FailAt}
+use Rattle.qc_disk.specs.declared.faults.FailAt.{FailAt}
 use Rattle.qc_disk.specs.declared.memory.MemDisk.{MemDisk}
 
 -- what it was made with

@@ -1,10 +1,9 @@
 -- What a record of calls says of a disk: its content, and what a crash may leave of it.
-use Rattle.std.specs.Prelude.{◌≡◌, ℕ, ◌+◌, List, [], ◌∷◌, length, take, drop, Option, Some, None, Bool, if◌then◌else◌, ◌==◌, Vec}
-use Rattle.std.specs.declared.alloc.Global.{Global}
+use Rattle.std.specs.Prelude.{◌≡◌, ℕ, ◌+◌, List, [], ◌∷◌, length, take, Option, Some, None, Bool, if◌then◌else◌, ◌==◌}
 use Rattle.qc_disk.specs.Disk.{written, Torn, Cut}
-use Rattle.qc_disk.specs.declared.record.FailAt.{FailAt}
-use Rattle.qc_disk.specs.declared.record.Mark.{Mark}
-use Rattle.qc_disk.specs.declared.record.Mark.TheVariants as mark
+use Rattle.qc_disk.specs.declared.faults.FailAt.{FailAt}
+use Rattle.qc_disk.specs.declared.tape.Deed.{Deed}
+use Rattle.qc_disk.specs.declared.tape.Deed.TheVariants as deed
 
 -- what a call did
 pub data Act : Type 0 where
@@ -13,29 +12,12 @@ pub data Act : Type 0 where
   cut_to : ℕ → Act
   synced : Act
 
--- how many bytes a call wrote
-abbrev pub span : Mark → ℕ
-span mark.Nothing = 0
-span (mark.Wrote len at) = len
-span (mark.Cut to) = 0
-span mark.Synced = 0
-
--- and all these calls
-abbrev pub spans : List Mark → ℕ
-spans [] = 0
-spans (m ∷ marks) = span m + spans marks
-
--- what a mark tells, with the bytes that were written
-abbrev pub act_of : Mark → List ℕ → Act
-act_of mark.Nothing bytes = nothing
-act_of (mark.Wrote len at) bytes = wrote at bytes
-act_of (mark.Cut to) bytes = cut_to to
-act_of mark.Synced bytes = synced
-
--- what marks tell, with all bytes that were written, one call's behind another's
-abbrev pub acts_of : List Mark → List ℕ → List Act
-acts_of [] bytes = []
-acts_of (m ∷ marks) bytes = act_of m (take (span m) bytes) ∷ acts_of marks (drop (span m) bytes)
+-- what a deed does, with the bytes that it writes
+abbrev pub act_of : Deed → List ℕ → Act
+act_of deed.Nothing bytes = nothing
+act_of (deed.Write at) bytes = wrote at bytes
+act_of (deed.Cut to) bytes = cut_to to
+act_of deed.Sync bytes = synced
 
 -- whether a call is listed, and whether it does its work then
 abbrev pub fault_at : List FailAt → ℕ → Option Bool
@@ -97,8 +79,3 @@ syncs_in (nothing ∷ acts) = syncs_in acts
 syncs_in (wrote at bytes ∷ acts) = syncs_in acts
 syncs_in (cut_to to ∷ acts) = syncs_in acts
 syncs_in (synced ∷ acts) = syncs_in acts + 1
-
--- the bytes of a vector that is there, or else these
-abbrev pub latest_or : Option (Vec ℕ Global) → List ℕ → List ℕ
-latest_or None bytes = bytes
-latest_or (Some now) bytes = now.items

@@ -1,19 +1,20 @@
 -- The parts of a tape, and what a call may do to it.
 use Rattle.std.specs.Prelude.{◌≡◌, List, [], ◌∷◌, ◌++◌, ℕ}
-use Rattle.qc_disk.specs.Replay.{Act, acts_of, does, latest_or}
-use Rattle.qc_disk.specs.declared.record.Tape.{Tape}
+use Rattle.qc_disk.specs.Replay.{Act, does}
+use Rattle.qc_disk.specs.Kept.{first_of, acts_of, records_kept}
+use Rattle.qc_disk.specs.declared.tape.Tape.{Tape}
 
--- what it was made with
+-- what it was made with: what is there with all calls undone
 abbrev pub tape_first : Tape → List ℕ
-tape_first tape = tape.first.items
+tape_first tape = first_of (records_kept tape.records) tape.bytes.items
 
 -- what each call did, the oldest first
 abbrev pub tape_acts : Tape → List Act
-tape_acts tape = acts_of tape.calls.items tape.written.items
+tape_acts tape = acts_of (records_kept tape.records) tape.bytes.items
 
 -- what is there now
 abbrev pub tape_bytes : Tape → List ℕ
-tape_bytes tape = latest_or tape.current tape.first.items
+tape_bytes tape = tape.bytes.items
 
 -- One more act is recorded, and done to the bytes.
 pub record Applied (old new : Tape) (act : Act) : Type 0 where

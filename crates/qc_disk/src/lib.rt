@@ -2,18 +2,20 @@
 #![tactic(auto)]
 
 mod disk;
+mod faults;
 mod file;
 mod home;
 mod law;
 mod memory;
-mod record;
+mod records;
 mod shop;
 mod syncs;
+mod tape;
 
 pub use disk::{Disk, DiskNo};
+pub use faults::FailAt;
 pub use file::FileDisk;
 pub use home::{HomeDisk, HomeShop};
 pub use law::left_between;
 pub use memory::MemDisk;
-pub use record::FailAt;
 pub use shop::{MemShop, Shop};

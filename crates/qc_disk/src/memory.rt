@@ -4,10 +4,12 @@ ghost use Rattle.qc_disk.specs.Replay.{replayed};
 ghost use Rattle.qc_disk.specs.Tape.{tape_first, tape_acts, tape_bytes};
 
 use crate::disk::{Disk, DiskNo};
-use crate::record::{FailAt, Mark, Tape, fault_of};
+use crate::faults::{FailAt, fault_of};
+use crate::tape::{Deed, Tape};
 use std::alloc::{AllocError, Global};
 
-/// A disk in memory, with a record of its calls.
+/// A disk in memory, with a record of its calls. A write or a cut at a place of `2^32` or more, or one that writes
+/// over, adds or cuts off as many bytes, is refused as want of memory.
 #[derive(Drop)]
 pub struct MemDisk {
     tape: Tape,
@@ -19,7 +21,7 @@ pub struct MemDisk {
 impl MemDisk {
     ghost use Rattle.std.specs.Prelude.{◌≤◌, ◌+◌, ◌-◌, take, Some, IfOk, IsErrOf};
     ghost use Rattle.qc_disk.specs.Disk.{HasCause, Elapses, Advances, Stays};
-    ghost use Rattle.qc_disk.specs.Replay.{act_of, span, image_after};
+    ghost use Rattle.qc_disk.specs.Replay.{act_of, image_after};
     ghost use Rattle.qc_disk.specs.MemDisk.{mem_first, mem_acts, mem_bytes, mem_fails, mem_faults, mem_at, mem_view, next_fault, Turned};
 
     /// A disk of these bytes, all of them synced, which fails at the listed calls.
@@ -52,7 +54,7 @@ impl MemDisk {
     }
 
     /// What a crash just before a call may leave, the calls counted from 1: what was there then, or what was
-    /// synced last.
+    /// synced last. Its time grows with the bytes that are there and with the calls since then.
     pub fn image_at(&self, alloc: Global, call: u64, done: bool) -> Result<Vec<u8>, AllocError>
         requires { call ≤ length (mem_acts self.now) + 1 }
         ensures image { IfOk result (λ bytes. bytes.items ≡ image_after (mem_first self.now)
@@ -70,9 +72,8 @@ impl MemDisk {
         fault_of(&self.fails, self.tape.count() as u64 + 1)
     }
 
-    // Makes a call whose work a mark tells, with the bytes that it writes.
-    fn turn(&mut self, mark: Mark, new: &[u8]) -> Result<(), DiskNo>
-        requires { span mark ≡ length new.now }
+    // Makes a call that is to do a deed, with the bytes that it writes.
+    fn turn(&mut self, deed: Deed, new: &[u8]) -> Result<(), DiskNo>
         ensures time { Elapses (mem_view self.old) (mem_view self.new) }
         ensures advances { Advances (length (mem_acts self.old)) (length (mem_acts self.new))
             (IsErrOf result DiskNo.Memory) }
@@ -80,15 +81,15 @@ impl MemDisk {
             (IsErrOf result DiskNo.Failed) }
         ensures memory { IsErrOf result DiskNo.Memory
             → Stays (mem_view self.old) (mem_view self.new) }
-        ensures turned { Turned self.old self.new (act_of mark new.now) result }
+        ensures turned { Turned self.old self.new (act_of deed new.now) result }
     {
         let fault = self.next_fault();
-        let (mark, new) = if fault == Some(false) {
-            (Mark::Nothing, &[][..])
+        let deed = if fault == Some(false) {
+            Deed::Nothing
         } else {
-            (mark, new)
+            deed
         };
-        self.tape.apply(mark, new)?;
+        self.tape.apply(deed, new)?;
         if fault.is_some() {
             self.faults = self.faults.saturating_add(1);
             return Err(DiskNo::Failed);
@@ -126,7 +127,7 @@ impl Disk for MemDisk {
             → Stays (mem_view self.old) (mem_view self.new) }
         ensures turned { Turned self.old self.new nothing result }
     {
-        self.turn(Mark::Nothing, &[])?;
+        self.turn(Deed::Nothing, &[])?;
         Ok(self.tape.bytes().len() as u64)
     }
 
@@ -145,7 +146,7 @@ impl Disk for MemDisk {
             → Stays (mem_view self.old) (mem_view self.new) }
         ensures turned { Turned self.old self.new nothing result }
     {
-        self.turn(Mark::Nothing, &[])?;
+        self.turn(Deed::Nothing, &[])?;
         let at = at as usize;
         into.copy_from_slice(&self.tape.bytes()[at..at + into.len()]);
         Ok(())
@@ -171,16 +172,7 @@ impl Disk for MemDisk {
             → Stays (mem_view self.old) (mem_view self.new) }
         ensures turned { Turned self.old self.new (wrote at bytes.now) result }
     {
-        let Ok(len) = u32::try_from(bytes.len()) else {
-            return Err(DiskNo::Memory);
-        };
-        self.turn(
-            Mark::Wrote {
-                len,
-                at: at as usize,
-            },
-            bytes,
-        )
+        self.turn(Deed::Write(at as usize), bytes)
     }
 
     fn cut(&mut self, to: u64) -> Result<(), DiskNo>
@@ -200,7 +192,7 @@ impl Disk for MemDisk {
             → Stays (mem_view self.old) (mem_view self.new) }
         ensures turned { Turned self.old self.new (cut_to to) result }
     {
-        self.turn(Mark::Cut(to as usize), &[])
+        self.turn(Deed::Cut(to as usize), &[])
     }
 
     fn sync(&mut self) -> Result<(), DiskNo>
@@ -218,6 +210,6 @@ impl Disk for MemDisk {
             → Stays (mem_view self.old) (mem_view self.new) }
         ensures turned { Turned self.old self.new synced result }
     {
-        self.turn(Mark::Synced, &[])
+        self.turn(Deed::Sync, &[])
     }
 }

@@ -1,7 +1,7 @@
 -- What the rest of the list says of a call is what the whole list says.
 use Rattle.std.proofs.Common.{◌≡◌, length}
 use Rattle.qc_disk.specs.Replay.{fault_at}
-use Rattle.qc_disk.proofs.record.fault_of.Given as goal
+use Rattle.qc_disk.proofs.faults.fault_of.Given as goal
 
 abbrev pub invariant-loop-rest : goal.invariant-loop-rest
 invariant-loop-rest l = fault_at l.fails l.call ≡ fault_at l.rest l.call
