@@ -22,7 +22,8 @@ use Rattle.qc_carry.proofs.Walking.{none_own}
 
 -- THE PASSES
 
-by_count : (P Q : Type 0) (b : Bool) → b ≡ false → MatchBool b P Q → Q
+-- what a test that fails asks for
+pub by_count : (P Q : Type 0) (b : Bool) → b ≡ false → MatchBool b P Q → Q
 by_count P Q true is m = absurd (true≢false is)
 by_count P Q false is m = m
 

@@ -1,8 +1,7 @@
 -- Words ask for one thing at most; and what is found among them is what they ask for.
 use Rattle.std.proofs.Common.{ℕ, ◌≡◌, ◌<◌, ◌^◌, Bool, true, false, List, [], ◌∷◌, map, Option, None, Some, refl, sym, ap, ◌∙◌, subst, inl, inr}
-use Rattle.std.specs.Prelude.{◌↔◌, ◌||◌, codes, if◌then◌else◌}
+use Rattle.std.specs.Prelude.{◌↔◌, codes, if◌then◌else◌}
 use Rattle.std.specs.Fmt.{decimal}
-use Rattle.std.specs.List.{list_any}
 use Rattle.std.specs.Str.{bytes_eq}
 use Rattle.std.proofs.lemmas.Fmt.{decimal_injective}
 use Rattle.std.proofs.lemmas.Slice.Eq.{bytes_eq-Decides}
@@ -75,10 +74,6 @@ none_made words n none is = by_answers none (gen_found words n is)
     by_answers a b = cc
 
 -- WHAT IS FOUND
-
-pub any_mapped : {A B : Type 0} (test : B → Bool) (view : A → B) (xs : List A) → list_any test (map view xs) ≡ list_any (λ x. test (view x)) xs
-any_mapped test view [] = refl
-any_mapped test view (x ∷ xs) = ap (λ b. test (view x) || b) (any_mapped test view xs)
 
 -- what words ask for is all that they ask for
 pub found_command : (words : List Text) (found : Asked) → IsCommand words found → (asked : Asked) → (Some found ≡ Some asked) ↔ IsCommand words asked

@@ -3,12 +3,9 @@ use Rattle.std.proofs.Common.{◌≡◌, ℕ, zero, suc, ◌+◌, ◌*◌, ◌/�
 use Rattle.std.specs.Prelude.{◌==◌, if◌then◌else◌}
 use Rattle.std.specs.List.{range_with_len}
 use Rattle.std.proofs.lemmas.Bool.{eqb-true, eqb-false}
+use Rattle.std.proofs.lemmas.List.{map-append}
 use Rattle.std.proofs.lemmas.List.FromFn.{map-range_with_len_more}
 use Rattle.qc_script.specs.MadePlan.{number_at, bodies_at}
-
-map_push : {A B : Type 0} (view : A → B) (made : List A) (x : A) → map view (made ++ x ∷ []) ≡ map view made ++ view x ∷ []
-map_push view [] x = refl
-map_push view (y ∷ made) x = ap (λ rest. view y ∷ rest) (map_push view made x)
 
 -- what is made of one number more
 pub one_more : {B : Type 0} (f : ℕ → B) (first n place : ℕ) (made : List B) (x : B) → first + n ≡ place → made ≡ map f (range_with_len first n) → x ≡ f place → made ++ x ∷ [] ≡ map f (range_with_len first (n + 1))
@@ -17,7 +14,7 @@ one_more f first n place made x at before is =
 
 -- the same of what is seen so
 pub one_more_seen : {A B : Type 0} (view : A → B) (f : ℕ → B) (first n place : ℕ) (made : List A) (x : A) → first + n ≡ place → map view made ≡ map f (range_with_len first n) → view x ≡ f place → map view (made ++ x ∷ []) ≡ map f (range_with_len first (n + 1))
-one_more_seen view f first n place made x at before is = map_push view made x ∙ one_more f first n place (map view made) (view x) at before is
+one_more_seen view f first n place made x at before is = map-append view made (x ∷ []) ∙ one_more f first n place (map view made) (view x) at before is
 
 -- by whether this top runs children at once
 one_top : (i : ℕ) (b : Bool) → (i % 10 == 4) ≡ b → 2 * i + (i + 5) / 10 + (if b then 3 else 2) ≡ 2 * (i + 1) + (i + 1 + 5) / 10

@@ -3,7 +3,7 @@ use Rattle.std.proofs.Common.{◌≡◌, ℕ, zero, suc, ◌<◌, ◌≤◌, ◌
 use mathlib.Core.Bool.{true≢false}
 use mathlib.Core.Option.{some, some-ne-none, some-injective}
 use lib.ListN.{get_elem?}
-use Rattle.std.specs.Prelude.{MatchBool, nat_lt, ◌&&◌, ◌||◌, Result, Ok, Err, OnOk, IsErrOf}
+use Rattle.std.specs.Prelude.{nat_lt, ◌&&◌, ◌||◌, Result, Ok, Err, OnOk, IsErrOf}
 use Rattle.std.specs.List.{list_any}
 use Rattle.std.proofs.lemmas.Bool.{or_right}
 use Rattle.std.proofs.lemmas.List.{length-append}
@@ -15,16 +15,13 @@ use Rattle.qc_interp.specs.Reach.{Reach}
 use Rattle.qc_pass.specs.declared.view.View.{View}
 use Rattle.qc_pass.specs.Entries.{IsOlder, entries_of}
 use Rattle.qc_pass.specs.Rules.{AreKin, Has, IsSplit, joined, knows, numbers, pass, without}
+use Rattle.qc_carry.proofs.Branching.{by_count}
 use Rattle.qc_pass.proofs.Apart.{number_of_kin}
 use Rattle.qc_pass.proofs.Having.{has_both, has_cons, has_left, has_none, has_right}
 use Rattle.qc_pass.proofs.Seers.{older_trans}
 use Rattle.qc_script.specs.Plan.{SessionPlan}
 use Rattle.qc_session.specs.Marking.{made_under}
 use Rattle.qc_session.specs.Session.{AreHigh, EachJoined, HaveRun, IsFirst, IsNew, Leaves, RanEach, RanOne, is_of}
-
-by_count : (P Q : Type 0) (b : Bool) → b ≡ false → MatchBool b P Q → Q
-by_count P Q true is m = absurd (true≢false is)
-by_count P Q false is m = m
 
 -- the first pass with a pass that it gave out
 abbrev with_out : View → ℕ → View

@@ -2,6 +2,7 @@
 use Rattle.std.proofs.Common.{◌≡◌, ℕ, zero, suc, ◌+◌, ◌<◌, ◌≤◌, List, [], ◌∷◌, ◌++◌, length, take, refl, sym, ap, ◌∙◌, arith}
 use Rattle.std.specs.Prelude.{map, filter}
 use Rattle.std.specs.List.{flat_map}
+use Rattle.std.proofs.lemmas.List.{map-append}
 use Rattle.std.proofs.lemmas.List.Elements.{filter-append}
 use Rattle.std.proofs.lemmas.Grind.{flat_map-append}
 use Rattle.qc_event.specs.History.{Past, Name}
@@ -14,10 +15,6 @@ take_map f zero xs = refl
 take_map f (suc n) [] = refl
 take_map f (suc n) (x ∷ xs) = ap (λ ys. f x ∷ ys) (take_map f n xs)
 
-map_one_more : {X Y : Type 0} (f : X → Y) (xs : List X) (x : X) → map f (xs ++ x ∷ []) ≡ map f xs ++ f x ∷ []
-map_one_more f [] x = refl
-map_one_more f (y ∷ xs) x = ap (λ ys. f y ∷ ys) (map_one_more f xs x)
-
 -- the next ancestor is the front of the next length
 pub next_ancestor : (n : Name) (k : ℕ) → k ≤ length n → take (suc k) (ancestors n) ≡ take k (ancestors n) ++ take k n ∷ []
 next_ancestor [] zero fits = refl
@@ -25,7 +22,7 @@ next_ancestor [] (suc k) fits = absurd (omega arith)
 next_ancestor (x ∷ xs) zero fits = refl
 next_ancestor (x ∷ xs) (suc k) fits =
     ap (λ ns. [] ∷ ns) (take_map (λ a. x ∷ a) (suc k) (ancestors xs) ∙ ap (map (λ a. x ∷ a)) (next_ancestor xs k (omega arith))
-    ∙ map_one_more (λ a. x ∷ a) (take k (ancestors xs)) (take k xs) ∙ ap (λ ns. ns ++ (x ∷ take k xs) ∷ []) (sym (take_map (λ a. x ∷ a) k (ancestors xs))))
+    ∙ map-append (λ a. x ∷ a) (take k (ancestors xs)) (take k xs ∷ []) ∙ ap (λ ns. ns ++ (x ∷ take k xs) ∷ []) (sym (take_map (λ a. x ∷ a) k (ancestors xs))))
 
 pub all_ancestors : (n : Name) → take (suc (length n)) (ancestors n) ≡ ancestors n
 all_ancestors [] = refl

@@ -1,5 +1,6 @@
--- The fronts of some deeds.
-use Rattle.std.proofs.Common.{◌≡◌, ◌⊎◌, inl, inr, false, List, [], ◌∷◌, ◌++◌, sym, ap, subst}
+-- The fronts of some deeds, and what none of them is.
+use Rattle.std.proofs.Common.{◌≡◌, ◌⊎◌, inl, inr, true, false, List, [], ◌∷◌, ◌++◌, sym, ap, subst}
+use mathlib.Core.Bool.{true≢false}
 use Rattle.qc_event.specs.History.{Past, end}
 use Rattle.qc_interp.specs.Deeds.{Deed, deeds}
 use Rattle.qc_interp.specs.Follows.{AfterRow, FollowsPlan, RunsRow}
@@ -34,3 +35,11 @@ StandsAt past branches rest here further =
 
 pub at_front : (past : Past) (branches rest : Plan) → FollowsPlan 0 past top (Plan.par_then branches rest) (deeds past top) (end past top) → OfOneFront (StandsAt past branches rest) (deeds past top)
 at_front past branches rest f = one_front (StandsAt past branches rest) (deeds past top) f.0 f.1 f.2 (f.3, f.4, f.5)
+
+-- no is not yes
+pub no : {C : Type 0} → false ≡ true → C
+no h = absurd (true≢false (sym h))
+
+-- some deeds are not none
+pub some_further : {C : Type 0} {d : Deed} {ds : List Deed} → d ∷ ds ≡ [] → C
+some_further h = absurd cc

@@ -3,14 +3,8 @@ use mathlib.Core.Bool.{true≢false}
 use Rattle.std.specs.Prelude.{reverse}
 use Rattle.qc_interp.specs.Deeds.{Deed}
 use Rattle.qc_trail_laws.specs.Branches.{two_branches, read_then_done, one_left_out, turned_back, read_meanwhile, went_on, tried_too_early, tried_too_often}
-use Rattle.qc_trail_laws.proofs.Fronts.{at_front}
+use Rattle.qc_trail_laws.proofs.Fronts.{at_front, no, some_further}
 use Rattle.qc_trail_laws.proofs.goes_by_no_other_branch.Goals as goal
-
-no : {C : Type 0} → false ≡ true → C
-no h = absurd (true≢false (sym h))
-
-some_further : {C : Type 0} {d : Deed} {ds : List Deed} → d ∷ ds ≡ [] → C
-some_further h = absurd cc
 
 pub returns-clause-left_out : goal.returns-clause-left_out
 returns-clause-left_out c = λ f. elim (at_front (reverse one_left_out) (two_branches false) read_then_done f.0.steps) [

@@ -6,14 +6,8 @@ use Rattle.qc_script.specs.Plan.{Plan}
 use Rattle.qc_trail_laws.specs.Branches.{read_then_done}
 use Rattle.qc_trail_laws.specs.BranchSeats.{reader_then, two_at_once, tried_twice, second_row, at_once, in_a_row, tried_under}
 use Rattle.qc_trail_laws.specs.Trails.{client, other_client, third_client}
-use Rattle.qc_trail_laws.proofs.Fronts.{at_front}
+use Rattle.qc_trail_laws.proofs.Fronts.{at_front, no, some_further}
 use Rattle.qc_trail_laws.proofs.keeps_no_seats.Goals as goal
-
-no : {C : Type 0} → false ≡ true → C
-no h = absurd (true≢false (sym h))
-
-some_further : {C : Type 0} {d : Deed} {ds : List Deed} → d ∷ ds ≡ [] → C
-some_further h = absurd cc
 
 -- who is no branch does not stand beside its parent
 pub returns-clause-no_branches : goal.returns-clause-no_branches
