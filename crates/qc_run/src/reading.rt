@@ -1,8 +1,10 @@
 //! Runs of a script that the source holds.
-ghost use Rattle.std.specs.Prelude.{ℕ, List, ◌≡◌, ◌≤◌, length};
+ghost use Rattle.std.specs.Prelude.{ℕ, List, ◌≡◌, ◌≤◌, length, IfOk, IfErr};
 ghost use Rattle.qc_io.specs.Io.{Drops, LosesWithin};
 ghost use Rattle.qc_run.specs.Left as left;
 ghost use Rattle.qc_run.specs.Run as terms;
+ghost use Rattle.qc_script.specs.Reading.{IsProper, IsRefused, IsScript};
+ghost use Rattle.qc_script.specs.Steps.{plan_of_script};
 
 use crate::finishing::Form;
 use crate::io::{Sink, Source, Untaken, take_all};
@@ -18,12 +20,21 @@ use std::alloc::Global;
 use std::sync::Wait;
 use std::thread::Threads;
 
+// The script that the bytes are, which are let go of then.
+fn script_of(alloc: Global, bytes: Vec<u8>) -> Result<Script, BadScript>
+    ensures found { IfOk result (λ s. IsScript bytes.items (plan_of_script s)) }
+    ensures refused { IfErr result (λ e. IsRefused bytes.items e) }
+    ensures proper { IfOk result (λ s. IsProper (plan_of_script s)) }
+{
+    Script::read(alloc, bytes.as_slice())
+}
+
 // Runs the script that the bytes are over the disks of a place, or refuses them.
 fn over<R: Threads + Wait + Sync, K: Sink, H: Shop, G: Gate + Sync>(
     rt: &R,
     alloc: Global,
     place: &str,
-    bytes: &[u8],
+    bytes: Vec<u8>,
     sink: &mut K,
     shop: &mut H,
     gate: &G,
@@ -31,14 +42,14 @@ fn over<R: Threads + Wait + Sync, K: Sink, H: Shop, G: Gate + Sync>(
 ) -> Ran<H::D>
 where
     H::D: Drop + Send,
-    ensures answer { left.IsAnswerToBytes H.D.view bytes.now
+    ensures answer { left.IsAnswerToBytes H.D.view bytes.items
         ((H.view shop.old).offers place.now) (H.view shop.old).faults (H.view shop.new).faults
         (K.view sink.old) (K.view sink.new) result }
     ensures disks { (p : List ℕ) (n : ℕ) → length result.disks.items ≤ n
         → (H.view shop.new).offers p n ≡ (H.view shop.old).offers p n }
     ensures shop_faults { (H.view shop.old).faults ≤ (H.view shop.new).faults }
 {
-    match Script::read(alloc, bytes) {
+    match script_of(alloc, bytes) {
         Ok(script) => {
             is_spelled(&script);
             perform(
@@ -84,7 +95,7 @@ where
     ensures shop_faults { (H.view shop.old).faults ≤ (H.view shop.new).faults }
 {
     match take_all(alloc, source, MOST_BYTES) {
-        Ok(bytes) => over(rt, alloc, place, bytes.as_slice(), sink, shop, gate, mode),
+        Ok(bytes) => over(rt, alloc, place, bytes, sink, shop, gate, mode),
         Err(Untaken::Failed) => refuse(alloc, Status::ReadFault, Vec::new(alloc), sink),
         Err(Untaken::Memory) => nothing(alloc, Status::Memory, Vec::new(alloc)),
     }
