@@ -36,13 +36,15 @@ fn number_behind(text: &str, words: &str) -> Option<u64> {
     rest.split_ascii_whitespace().next()?.parse::<u64>().ok()
 }
 
-// Whether the last value is as great as the number of tops that were committed.
-fn agrees(outcome: &Outcome<MemDisk>) -> bool {
+/// Whether a run ended well, and the last value is as great as the number of tops that were committed.
+pub(crate) fn agrees(outcome: &Outcome<MemDisk>) -> bool {
     let Ok(text) = std::str::from_utf8(outcome.sink.bytes()) else {
         return false;
     };
     match number_behind(text, "\nfinal x ") {
-        Some(last) => number_behind(text, " committed ") == Some(last),
+        Some(last) => {
+            outcome.ran.status.code() == 0 && number_behind(text, " committed ") == Some(last)
+        }
         None => false,
     }
 }

@@ -1,7 +1,8 @@
 //! Runs sessions in threads, and prints what came of it, which is the same however the threads are scheduled.
 //!
 //! Each line is printed, and where it is a question, its answer behind it:
-//! - `gate OPTION ..`: two sessions pass a gate at which each waits for the other; the status, and whether they met there.
+//! - `gate OPTION ..`: two sessions that add to one record pass a gate at which each waits for the other; the status, whether
+//!   they met there, and whether each top that was committed was counted.
 //! - `disks OPTION ..`: each of two sessions writes at a copy of its own, where its first write waits for that of the
 //!   other; the status, and whether the writes met.
 //! - `adds SESSIONS RUNS`: each session adds to one record; how many runs counted each top that was committed, and no
@@ -31,7 +32,7 @@ mod spoiled;
 mod spots;
 mod starts;
 
-use adds::count_agreed;
+use adds::{agrees, count_agreed};
 use audits::count_following;
 use command::run_text;
 use crossing::Crossing;
@@ -48,7 +49,8 @@ use std::thread::Threads;
 /// Two sessions with a top each.
 const AT_ONE_COPY: &str = r#"{"copies":1,"records":[
 {"name":"x","start":0,"config":{"votes":[1],"read":1,"write":1}}],
-"sessions":[{"tops":[{"steps":[["read","x"]]}]},{"tops":[{"steps":[["read","x"]]}]}]}"#;
+"sessions":[{"tops":[{"tries":16,"steps":[["add","x",1]]}]},
+{"tops":[{"tries":16,"steps":[["add","x",1]]}]}]}"#;
 
 /// Two sessions, each of which writes a record at a copy of its own.
 const AT_TWO_COPIES: &str = r#"{"copies":2,"records":[
@@ -66,7 +68,12 @@ fn print_gate<R: Threads + Wait + Sync>(
     let gate = Meeting::new();
     let mut shop = MemShop::new(Vec::new(alloc), Vec::new(alloc));
     let outcome = run_text(handle, alloc, options, AT_ONE_COPY, &mut shop, &gate)?;
-    println!(rt; ": status {}, {}", outcome.ran.status.code(), gate.met())
+    let word = if agrees(&outcome) { "each" } else { "not each" };
+    println!(rt;
+        ": status {}, {}, {word} commit counted",
+        outcome.ran.status.code(),
+        gate.met()
+    )
 }
 
 // Runs two sessions whose first writes meet.
