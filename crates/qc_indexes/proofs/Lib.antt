@@ -1,6 +1,7 @@
 pub mod OpenTops
 pub mod Beside
-pub mod FirstRefusals
+pub mod FirstEntries
+pub mod Answering
 pub mod Marked
 pub mod Linking
 pub mod AbortsBelow

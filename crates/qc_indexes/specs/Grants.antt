@@ -1,9 +1,10 @@
 -- Grants of copies.
-use Rattle.std.specs.Prelude.{ℕ, ◌≡◌, ◌<◌, ◌≤◌, List, length, take, nat_lt, if◌then◌else◌, Option, None, Some, slice_get, slice_index}
+use Rattle.std.specs.Prelude.{ℕ, ◌≡◌, ◌==◌, ◌<◌, ◌≤◌, List, length, take, nat_lt, if◌then◌else◌, Option, None, Some, slice_get, slice_index}
+use Rattle.qc_config.specs.declared.tuple.Tuple.{Tuple}
 use Rattle.qc_event.specs.declared.event.Event.{Event}
 use Rattle.qc_event.specs.declared.event.Event.TheVariants as event
 use Rattle.qc_event.specs.declared.event.Grant.{Grant}
-use Rattle.qc_event.specs.History.{Past, grants}
+use Rattle.qc_event.specs.History.{Past, Name, Given, grants}
 use Rattle.qc_indexes.specs.Chains.{last_of, AreLinked}
 use Rattle.qc_indexes.specs.declared.grants.Grants.{Grants}
 
@@ -16,6 +17,20 @@ granted_at _ = None
 abbrev pub grant_of : Event → Option Grant
 grant_of (event.Granted copy grant) = Some grant
 grant_of _ = None
+
+-- whom the event grants
+abbrev pub granted_name : Event → Option Name
+granted_name (event.Granted copy grant) = Some grant.access
+granted_name _ = None
+
+-- the grant and the copy that gave it, where the event is one
+abbrev pub given_of : Event → Option Given
+given_of (event.Granted copy grant) = Some (record { copy = copy; grant = grant })
+given_of _ = None
+
+-- the tuple of a grant, where this copy gave it
+abbrev pub tuple_at : ℕ → Given → Option Tuple
+tuple_at copy x = if x.copy == copy then Some x.grant.tuple else None
 
 -- The last grant of each copy and how many there are, and beside each grant the one before it.
 pub record AreGrantsOf (past : Past) (counts lasts before : List ℕ) : Type 0 where

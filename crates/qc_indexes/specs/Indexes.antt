@@ -6,15 +6,17 @@ use Rattle.qc_event.specs.Legal.{Legal}
 use Rattle.qc_desk.specs.Index.{Shape, IsOf}
 use Rattle.qc_indexes.specs.declared.indexes.Indexes.{Indexes}
 use Rattle.qc_indexes.specs.Aborts.{AreAborts}
-use Rattle.qc_indexes.specs.Grants.{AreGrants}
+use Rattle.qc_indexes.specs.Firsts.{AreFirsts}
+use Rattle.qc_indexes.specs.Grants.{AreGrants, granted_name}
 use Rattle.qc_indexes.specs.Marks.{AreMarks}
 use Rattle.qc_indexes.specs.Opens.{AreOpen}
-use Rattle.qc_indexes.specs.Refusals.{AreRefusals}
+use Rattle.qc_indexes.specs.Refusals.{refused_name}
 
 -- Each is that of a history.
 pub record AreIndexes (past : Past) (indexes : Indexes) : Type 0 where
   pub opens : AreOpen indexes.opens past
-  pub refusals : AreRefusals indexes.refusals past
+  pub refusals : AreFirsts refused_name indexes.refusals past
+  pub first_grants : AreFirsts granted_name indexes.first_grants past
   pub marks : AreMarks indexes.marks past
   pub aborts : AreAborts indexes.aborts past
   pub grants : AreGrants indexes.grants past
@@ -25,7 +27,8 @@ AreOf indexes past = AreIndexes past indexes
 
 -- There is room for an entry more.
 pub record HasRoom (past : Past) (indexes : Indexes) : Type 0 where
-  pub refusals : length past < length indexes.refusals.firsts.items
+  pub refusals : length past < length indexes.refusals.after.items
+  pub first_grants : length past < length indexes.first_grants.after.items
   pub last_aborts : length past < length indexes.aborts.last.items
   pub aborts : length past < length indexes.aborts.before.items
   pub grants : length past < length indexes.grants.before.items

@@ -1,6 +1,7 @@
 pub mod Growing
 pub mod Opens
 pub mod Slots
+pub mod Firsts
 pub mod Refusals
 pub mod Marks
 pub mod Chains

@@ -1,7 +1,7 @@
 //! All that is kept beside a history.
-ghost use Rattle.std.specs.Prelude.{◌≡◌, ◌<◌, [], ◌∷◌, OnOk, IfOk, is_none, length, reverse};
+ghost use Rattle.std.specs.Prelude.{◌≡◌, ◌<◌, [], ◌∷◌, OnOk, IfOk, is_none, length, option_and_then, reverse};
 ghost use Rattle.qc_event.specs.Base.{Setting};
-ghost use Rattle.qc_event.specs.History.{Past, limit, grants, refused};
+ghost use Rattle.qc_event.specs.History.{Past, limit, granted, grants, refused};
 ghost use Rattle.qc_event.specs.Legal.{Legal};
 ghost use Rattle.qc_event.specs.Listed.{aborted_below};
 ghost use Rattle.qc_event.specs.Standing.{open_child};
@@ -9,16 +9,17 @@ ghost use Rattle.qc_event.specs.Users.{is_marked, top_number};
 ghost use Rattle.qc_desk.specs.Index.{IsOf};
 ghost use Rattle.qc_desk.specs.Standing.{OfEach};
 ghost use Rattle.qc_indexes.specs.Growing.{CanFollow};
-ghost use Rattle.qc_indexes.specs.Grants.{Differs};
+ghost use Rattle.qc_indexes.specs.Grants.{Differs, tuple_at};
 ghost use Rattle.qc_indexes.specs.Indexes.{AreOf, AreKept, HaveRoom, OfEntries};
 
 use crate::aborts::Aborts;
+use crate::answers::{granted_name, refusal_of, refused_name, tuple_of};
+use crate::firsts::Firsts;
 use crate::grants::Grants;
 use crate::marks::Marks;
 use crate::opens::Opens;
-use crate::refusals::Refusals;
 use qc_desk::Index;
-use qc_event::{Entry, Grant, Name, Refusal};
+use qc_event::{Entry, Grant, Name, Refusal, Tuple};
 use std::alloc::{AllocError, Global};
 
 /// What is kept beside a history and the index of its names, so that no look goes over the entries.
@@ -26,7 +27,8 @@ use std::alloc::{AllocError, Global};
 pub struct Indexes {
     alloc: Global,
     pub(crate) opens: Opens,
-    pub(crate) refusals: Refusals,
+    pub(crate) refusals: Firsts,
+    pub(crate) first_grants: Firsts,
     pub(crate) marks: Marks,
     pub(crate) aborts: Aborts,
     pub(crate) grants: Grants,
@@ -40,7 +42,8 @@ impl Indexes {
         Indexes {
             alloc,
             opens: Opens::new(),
-            refusals: Refusals::new(alloc),
+            refusals: Firsts::new(alloc),
+            first_grants: Firsts::new(alloc),
             marks: Marks::new(),
             aborts: Aborts::new(alloc),
             grants: Grants::new(alloc),
@@ -54,6 +57,7 @@ impl Indexes {
             HaveRoom self.new past) }
     {
         self.refusals.make_room()?;
+        self.first_grants.make_room()?;
         self.aborts.make_room()?;
         self.grants.make_room()
     }
@@ -69,7 +73,8 @@ impl Indexes {
             AreOf self.new (entry.now ∷ past) }
     {
         self.opens.push(entry);
-        self.refusals.push(entry, names, at);
+        self.refusals.push(refused_name(entry), names, at);
+        self.first_grants.push(granted_name(entry), names, at);
         self.marks.push(entry);
         self.aborts.push(entry, names, at);
         self.grants.push(entry, at);
@@ -87,7 +92,27 @@ impl Indexes {
         ensures { OfEntries self.now names.now (reverse entries.now)
             (λ past. result ≡ refused past access.now) }
     {
-        self.refusals.first(names, entries, access)
+        match self.refusals.first(names, entries, access) {
+            Some(entry) => refusal_of(&entry),
+            None => None,
+        }
+    }
+
+    /// The tuple that an access was granted first, where it was at this copy.
+    pub fn granted(
+        &self,
+        names: &Index,
+        entries: &[Entry],
+        copy: u8,
+        access: &Name,
+    ) -> Option<Tuple>
+        ensures { OfEntries self.now names.now (reverse entries.now)
+            (λ past. result ≡ option_and_then (tuple_at copy) (granted past access.now)) }
+    {
+        match self.first_grants.first(names, entries, access) {
+            Some(entry) => tuple_of(&entry, copy),
+            None => None,
+        }
     }
 
     /// Whether a session is marked by a transaction whose top has at least the number of a name's top.

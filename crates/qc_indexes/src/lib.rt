@@ -2,12 +2,13 @@
 #![tactic(auto)]
 
 mod aborts;
+mod answers;
+mod firsts;
 mod grants;
 mod indexes;
 mod lists;
 mod marks;
 mod opens;
-mod refusals;
 mod slots;
 
 pub use indexes::Indexes;

@@ -1,11 +1,11 @@
 //! What is looked up under the lock beside how names stand, each by an index.
-ghost use Rattle.std.specs.Prelude.{◌≡◌, ◌<◌, [], is_none, length, IfOk};
+ghost use Rattle.std.specs.Prelude.{◌≡◌, ◌<◌, [], is_none, length, option_and_then, IfOk};
 ghost use Rattle.qc_event.specs.Base.{Setting};
-ghost use Rattle.qc_event.specs.History.{grants, refused};
+ghost use Rattle.qc_event.specs.History.{granted, grants, refused};
 ghost use Rattle.qc_event.specs.Legal.{Legal};
 ghost use Rattle.qc_event.specs.Listed.{aborted_below};
 ghost use Rattle.qc_event.specs.Standing.{open_child};
-ghost use Rattle.qc_indexes.specs.Grants.{Differs};
+ghost use Rattle.qc_indexes.specs.Grants.{Differs, tuple_at};
 ghost use Rattle.qc_pass.specs.Entries.{WhereLegal};
 ghost use Rattle.qc_pass.specs.Looking as words;
 ghost use Rattle.qc_pass.specs.Looking.{is_marked_for};
@@ -13,7 +13,7 @@ ghost use Rattle.qc_pass.specs.Looking.{is_marked_for};
 use crate::history::History;
 use crate::locked::Locked;
 use crate::store::Store;
-use qc_event::{Grant, Kind, Name, Refusal};
+use qc_event::{Grant, Kind, Name, Refusal, Tuple};
 use std::alloc::AllocError;
 
 // The session of a user transaction.
@@ -33,6 +33,15 @@ impl History {
     {
         self.beside
             .refusal(&self.index, self.entries.as_slice(), access)
+    }
+
+    /// The tuple that an access was granted first, where it was at this copy.
+    pub fn granted(&self, copy: u8, access: &Name) -> Option<Tuple>
+        ensures { WhereLegal self.now
+            (result ≡ option_and_then (tuple_at copy) (granted self.now access.now)) }
+    {
+        self.beside
+            .granted(&self.index, self.entries.as_slice(), copy, access)
     }
 
     /// Whether a user transaction is marked to be killed.
@@ -88,6 +97,13 @@ impl<N: Store> Locked<N> {
         ensures { result ≡ refused self.now access.now }
     {
         self.history.refusal(access)
+    }
+
+    /// The tuple that an access was granted first, where it was at this copy.
+    pub(crate) fn granted(&self, copy: u8, access: &Name) -> Option<Tuple>
+        ensures { result ≡ option_and_then (tuple_at copy) (granted self.now access.now) }
+    {
+        self.history.granted(copy, access)
     }
 
     /// Whether a user transaction is marked to be killed.

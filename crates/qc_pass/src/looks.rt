@@ -1,15 +1,15 @@
 //! Calls that look something up in the history at their step, and append nothing.
-ghost use Rattle.std.specs.Prelude.{◌≡◌, ◌<◌, [], is_none, IfOk};
-ghost use Rattle.qc_event.specs.History.{grants, refused};
+ghost use Rattle.std.specs.Prelude.{◌≡◌, ◌<◌, [], is_none, option_and_then, IfOk};
+ghost use Rattle.qc_event.specs.History.{granted, grants, refused};
 ghost use Rattle.qc_event.specs.Standing.{open_child};
-ghost use Rattle.qc_indexes.specs.Grants.{Differs};
+ghost use Rattle.qc_indexes.specs.Grants.{Differs, tuple_at};
 ghost use Rattle.qc_pass.specs.Calling.{Shown};
 ghost use Rattle.qc_pass.specs.Looking.{is_marked_for};
 
 use crate::desk::Desk;
 use crate::pass::Pass;
 use crate::store::Store;
-use qc_event::{Grant, Name, Refusal};
+use qc_event::{Grant, Name, Refusal, Tuple};
 use std::alloc::AllocError;
 use std::sync::Wait;
 
@@ -23,6 +23,24 @@ impl<N: Store> Desk<N> {
         let mut locked = self.locked.lock(rt);
         locked.look(&self.room, pass);
         locked.refusal(access)
+    }
+
+    /// The tuple that an access was granted first in the history at this step, where it was at this copy; none exactly
+    /// where it was not granted, or at another copy. It takes no memory.
+    pub fn granted<R: Wait>(
+        &self,
+        rt: &R,
+        pass: &mut Pass<N>,
+        copy: u8,
+        access: &Name,
+    ) -> Option<Tuple>
+        ensures looked { Shown pass.old pass.new }
+        ensures first { result ≡ option_and_then (tuple_at copy)
+            (granted pass.new.seen access.now) }
+    {
+        let mut locked = self.locked.lock(rt);
+        locked.look(&self.room, pass);
+        locked.granted(copy, access)
     }
 
     /// Whether a mark stands, in the history at this step, that lets a user transaction be killed: of its session, by

@@ -1,0 +1,54 @@
+use Rattle.std.proofs.lemmas.Result.{on_ok_weaker}
+use Rattle.qc_indexes.specs.Grants.{granted_name}
+use Rattle.qc_indexes.specs.Refusals.{refused_name}
+use Rattle.qc_indexes.proofs.indexes.Indexes.make_room.Goals as goal
+
+pub returns-in_err-make_room-clause-same : goal.returns-in_err-make_room-clause-same
+returns-in_err-make_room-clause-same c = λ past was. record {
+  opens = was.opens;
+  refusals = c.make_room.ensures.same refused_name past was.refusals;
+  first_grants = was.first_grants;
+  marks = was.marks;
+  aborts = was.aborts;
+  grants = was.grants;
+}
+
+pub returns-in_err-make_room-2-clause-same : goal.returns-in_err-make_room-2-clause-same
+returns-in_err-make_room-2-clause-same c = λ past was. record {
+  opens = was.opens;
+  refusals = c.make_room.ensures.same refused_name past was.refusals;
+  first_grants = c.make_room-2.ensures.same granted_name past was.first_grants;
+  marks = was.marks;
+  aborts = was.aborts;
+  grants = was.grants;
+}
+
+pub returns-in_err-make_room-3-clause-same : goal.returns-in_err-make_room-3-clause-same
+returns-in_err-make_room-3-clause-same c = λ past was. record {
+  opens = was.opens;
+  refusals = c.make_room.ensures.same refused_name past was.refusals;
+  first_grants = c.make_room-2.ensures.same granted_name past was.first_grants;
+  marks = was.marks;
+  aborts = c.make_room-3.ensures.same past was.aborts;
+  grants = was.grants;
+}
+
+pub returns-clause-same : goal.returns-clause-same
+returns-clause-same c = λ past was. record {
+  opens = was.opens;
+  refusals = c.make_room.ensures.same refused_name past was.refusals;
+  first_grants = c.make_room-2.ensures.same granted_name past was.first_grants;
+  marks = was.marks;
+  aborts = c.make_room-3.ensures.same past was.aborts;
+  grants = c.make_room-4.ensures.same past was.grants;
+}
+
+pub returns-clause-room : goal.returns-clause-room
+returns-clause-room c =
+    on_ok_weaker c.make_room-4.result (λ room past was. record {
+      refusals = c.in_ok-make_room.ensures.room refused_name past was.refusals;
+      first_grants = c.in_ok-make_room-2.ensures.room granted_name past was.first_grants;
+      last_aborts = c.in_ok-make_room-3.ensures.last past was.aborts;
+      aborts = c.in_ok-make_room-3.ensures.before past was.aborts;
+      grants = room past was.grants;
+    }) c.make_room-4.ensures.room
