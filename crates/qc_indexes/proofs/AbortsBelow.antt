@@ -4,7 +4,7 @@ use mathlib.Core.Bool.{true≢false}
 use Rattle.std.specs.Prelude.{Option, None, Some, is_some, ◌==◌, ◌&&◌, not, if◌then◌else◌, option_to_list, slice_get, slice_index, slice_set}
 use Rattle.std.specs.Option.{option_map}
 use Rattle.std.proofs.lemmas.Bool.{eqb-true, false_from_ne_true}
-use Rattle.std.proofs.lemmas.List.{length-set, reverse-append, length-reverse}
+use Rattle.std.proofs.lemmas.List.{reverse-append, length-reverse}
 use Rattle.std.proofs.lemmas.Option.{none-some, same_Some, slice_get_within}
 use Rattle.qc_names.specs.Name as name
 use Rattle.qc_event.specs.Base.{Setting}
@@ -23,7 +23,7 @@ use Rattle.qc_event.proofs.OneEntry.{Starting, not_some, some_or_none, start_sta
 use Rattle.qc_desk.specs.Places.{starts_in, place}
 use Rattle.qc_desk.proofs.Looking.{unstarted}
 use Rattle.qc_indexes.specs.Chains.{last_of, AreLinked}
-use Rattle.qc_indexes.specs.Aborts.{AreAbortsOf, abort_top, last_abort}
+use Rattle.qc_indexes.specs.Aborts.{AreAbortsOf, HaveRoomFor, abort_top, last_abort}
 use Rattle.qc_indexes.proofs.Beside.{beside_stays, beside_set, place_stays}
 use Rattle.qc_indexes.proofs.Linking.{entry_there, last_here, last_stays, last_few, linked_stays, linked_set, none_left, one_back, link_back, Step}
 
@@ -71,15 +71,14 @@ unplaced_none setting past (x ∷ y ∷ r) legal none = refl
 no_key : (ev : Event) (n : Name) (x : ℕ) → Starting n ev → abort_top ev ≡ Some x → ⊥
 no_key ev n x s is = none-some x (sym (ap abort_top s.1) ∙ is)
 
-module _ (setting : Setting) (e : Entry) (past : Past) (lasts before : List ℕ) (was : AreAbortsOf past lasts before) (wide : length past < length lasts) (roomy : length past < length before) (legal : Legal setting (e ∷ past)) where
+module _ (setting : Setting) (e : Entry) (past : Past) (lasts before : List ℕ) (was : AreAbortsOf past lasts before) (legal : Legal setting (e ∷ past)) where
   -- no one is aborted below a top
   pub none_aborted : abort_top e.event ≡ None → AreAbortsOf (e ∷ past) lasts before
   none_aborted none = record {
-    last = beside_stays last_abort e past lasts was.last wide
+    last = beside_stays last_abort e past lasts was.last
         (λ n began. abort_stays e past n (λ x is top. none-some x (sym none ∙ top)))
         (λ n unplaced starting. sym (abort_stays e past n (λ x is top. none-some x (sym none ∙ top))) ∙ unplaced_none setting past n legal.0 unplaced);
     linked = linked_stays abort_top e past before none was.linked;
-    room = omega (arith, roomy);
   }
 
   module _ (x : ℕ) (is : abort_top e.event ≡ Some x) where
@@ -90,13 +89,12 @@ module _ (setting : Setting) (e : Entry) (past : Past) (lasts before : List ℕ)
     top_placed none = some_or_none (start (e ∷ past) (x ∷ [])) (start_stays e past (x ∷ []) (abort_started setting past e x legal is)) (unstarted (e ∷ past) (x ∷ []) none)
 
     -- one is
-    pub one_aborted : (at now : ℕ) → place past (x ∷ []) ≡ Some at → now ≡ length past → AreAbortsOf (e ∷ past) (slice_set lasts at (now + 1)) (slice_set before now (slice_index lasts at))
-    one_aborted at now here long = record {
-      last = beside_set last_abort e past lasts (x ∷ []) at (now + 1) was.last wide (abort_no_start e.event x is) here
+    pub one_aborted : (at now : ℕ) → place past (x ∷ []) ≡ Some at → now ≡ length past → HaveRoomFor e past lasts before → AreAbortsOf (e ∷ past) (slice_set lasts at (now + 1)) (slice_set before now (slice_index lasts at))
+    one_aborted at now here long room = record {
+      last = beside_set last_abort e past lasts (x ∷ []) at (now + 1) was.last (room.top (x ∷ []) at (ap (option_map (λ (k : ℕ). k ∷ [])) is) here) (abort_no_start e.event x is) here
           (ap (λ n. n + 1) long ∙ last_here abort_top e past x is)
           (λ n other. abort_stays e past n (λ y named top. other (named ∙ ap (λ k. k ∷ []) (same_Some y x (sym top ∙ is)))));
-      linked = linked_set abort_top e past before x now (slice_index lasts at) was.linked is roomy long (was.last.at_place (x ∷ []) at here);
-      room = omega (arith, roomy, length-set before now (slice_index lasts at));
+      linked = linked_set abort_top e past before x now (slice_index lasts at) was.linked is (room.here x is) long (was.last.at_place (x ∷ []) at here);
     }
 
 -- what an entry that aborts below no top has to do with tops

@@ -1,26 +1,29 @@
 -- Numbers beside the started names of a history, one entry after another.
-use Rattle.std.proofs.Common.{◌≡◌, ℕ, zero, suc, ◌+◌, ◌<◌, ◌≤◌, inl, inr, true, List, [], ◌∷◌, ◌++◌, length, refl, sym, ap, ◌∙◌, arith}
-use Rattle.std.specs.Prelude.{Option, None, Some, is_some, slice_index, slice_set}
-use Rattle.std.proofs.lemmas.List.{length-set, get_or-set_same, get_or-set_other}
+use Rattle.std.proofs.Common.{◌≡◌, ℕ, zero, suc, ◌+◌, ◌<◌, inl, inr, true, List, [], ◌∷◌, ◌++◌, length, refl, sym, ap, ◌∙◌, arith}
+use Rattle.std.specs.Prelude.{Option, None, Some, is_some, replicate, slice_index, slice_set}
+use Rattle.std.proofs.lemmas.List.{get_or-set_same, get_or-set_other}
 use Rattle.std.proofs.lemmas.Option.{same_Some}
 use Rattle.qc_event.specs.declared.event.Entry.{Entry}
 use Rattle.qc_event.specs.declared.event.Event.{Event}
-use Rattle.qc_event.specs.declared.event.Event.TheVariants as event
 use Rattle.qc_event.specs.History.{Past, Name, start}
 use Rattle.qc_event.proofs.OneEntry.{Starting}
-use Rattle.qc_desk.specs.Places.{starts_in, started, place}
+use Rattle.qc_desk.specs.Places.{starts_in, place}
 use Rattle.qc_desk.proofs.Placing.{has_start, place_step, place_once, place_within}
 use Rattle.qc_desk.proofs.Spots.{one_of}
 use Rattle.qc_indexes.specs.Slots.{code, IsBeside}
 
 -- LISTS
 
--- a place more at the end, where 0 stands
-pub slot_widened : (xs : List ℕ) (i : ℕ) → slice_index (xs ++ 0 ∷ []) i ≡ slice_index xs i
-slot_widened [] zero = refl
-slot_widened [] (suc i) = refl
-slot_widened (x ∷ xs) zero = refl
-slot_widened (x ∷ xs) (suc i) = slot_widened xs i
+zeros : (n i : ℕ) → slice_index (replicate n 0) i ≡ 0
+zeros zero i = refl
+zeros (suc n) zero = refl
+zeros (suc n) (suc i) = zeros n i
+
+-- places more at the end, where 0 stands
+pub slot_widened : (xs : List ℕ) (n i : ℕ) → slice_index (xs ++ replicate n 0) i ≡ slice_index xs i
+slot_widened [] n i = zeros n i
+slot_widened (x ∷ xs) n zero = refl
+slot_widened (x ∷ xs) n (suc i) = slot_widened xs n i
 
 -- CODES
 
@@ -34,18 +37,6 @@ code_some (Some j) i h = let same : j ≡ i = omega (arith, h) in ap (λ k. Some
 
 -- NAMES AND THEIR PLACES
 
--- no more names started than there are entries
-pub started_few : (past : Past) → started past ≤ length past
-started_few [] = omega arith
-started_few (e ∷ past) =
-    let before = started_few past in
-    let here = at_most e.event in
-    omega (arith, before, here)
-  where
-    at_most : (ev : Event) → starts_in ev ≤ 1
-    at_most (event.Start n k) = omega arith
-    at_most _ = omega arith
-
 -- an entry that is no start leaves each name its place
 pub place_stays : (e : Entry) (past : Past) (n : Name) (i : ℕ) → starts_in e.event ≡ 0 → place (e ∷ past) n ≡ Some i → place past n ≡ Some i
 place_stays e past n i calm is = elim (place_step e past n i is) [
@@ -58,36 +49,34 @@ place_stays e past n i calm is = elim (place_step e past n i is) [
 
 -- ONE ENTRY AFTER ANOTHER
 
-pub beside_wider : (number : Past → Name → ℕ) (past : Past) (xs ys : List ℕ) → ((i : ℕ) → slice_index ys i ≡ slice_index xs i) → length xs ≤ length ys → IsBeside number past xs → IsBeside number past ys
-beside_wider number past xs ys same wide was = record {
+pub beside_wider : (number : Past → Name → ℕ) (past : Past) (xs ys : List ℕ) → ((i : ℕ) → slice_index ys i ≡ slice_index xs i) → IsBeside number past xs → IsBeside number past ys
+beside_wider number past xs ys same was = record {
   at_place = λ n i is. same i ∙ was.at_place n i is;
   beyond = λ i more. same i ∙ was.beyond i more;
-  room = let r = was.room in omega (arith, r, wide);
 }
 
 pub beside_none : (number : Past → Name → ℕ) → IsBeside number [] []
-beside_none number = record { at_place = λ n i is. absurd cc; beyond = λ i more. refl; room = omega arith }
+beside_none number = record { at_place = λ n i is. absurd cc; beyond = λ i more. refl }
 
 -- no number changes, and what starts has none
-pub beside_stays : (number : Past → Name → ℕ) (e : Entry) (past : Past) (xs : List ℕ) → IsBeside number past xs → length past < length xs
+pub beside_stays : (number : Past → Name → ℕ) (e : Entry) (past : Past) (xs : List ℕ) → IsBeside number past xs
     → ((n : Name) → is_some (start past n) ≡ true → number past n ≡ number (e ∷ past) n)
     → ((n : Name) → place past n ≡ None → Starting n e.event → number (e ∷ past) n ≡ 0)
     → IsBeside number (e ∷ past) xs
-beside_stays number e past xs was wide same fresh = record {
+beside_stays number e past xs was same fresh = record {
   at_place = λ n i is. elim (place_step e past n i is) [
     | inl old ↦ was.at_place n i old ∙ same n (has_start past n i old)
     | inr new ↦ was.beyond i (omega (arith, new.2)) ∙ sym (fresh n new.0 new.1)
   ];
   beyond = λ i more. was.beyond i (omega (arith, more));
-  room = omega (arith, wide);
 }
 
 -- one name's number changes
-pub beside_set : (number : Past → Name → ℕ) (e : Entry) (past : Past) (xs : List ℕ) (m : Name) (at value : ℕ) → IsBeside number past xs → length past < length xs
+pub beside_set : (number : Past → Name → ℕ) (e : Entry) (past : Past) (xs : List ℕ) (m : Name) (at value : ℕ) → IsBeside number past xs → at < length xs
     → starts_in e.event ≡ 0 → place past m ≡ Some at → value ≡ number (e ∷ past) m
     → ((n : Name) → (n ≡ m → ⊥) → number past n ≡ number (e ∷ past) n)
     → IsBeside number (e ∷ past) (slice_set xs at value)
-beside_set number e past xs m at value was wide calm here is same = record {
+beside_set number e past xs m at value was inside calm here is same = record {
   at_place = λ n i placed. let old = place_stays e past n i calm placed in elim (one_of i at) [
     | inl there ↦
         let this : n ≡ m = place_once past n m i old (here ∙ ap (λ k. Some k) (sym there)) in
@@ -95,8 +84,4 @@ beside_set number e past xs m at value was wide calm here is same = record {
     | inr other ↦ get_or-set_other xs at i value 0 other ∙ was.at_place n i old ∙ same n (λ this. other (same_Some i at (sym old ∙ ap (place past) this ∙ here)))
   ];
   beyond = λ i more. get_or-set_other xs at i value 0 (λ there. let within = place_within past m at here in absurd (omega (arith, within, more, there, calm))) ∙ was.beyond i (omega (arith, more));
-  room = omega (arith, wide, length-set xs at value);
 }
-  where
-    inside : at < length xs
-    inside = let within = place_within past m at here in let few = started_few past in omega (arith, within, few, wide)

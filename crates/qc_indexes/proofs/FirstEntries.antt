@@ -1,5 +1,5 @@
 -- The first entries about names, one entry after another.
-use Rattle.std.proofs.Common.{◌≡◌, ℕ, ◌+◌, ◌<◌, ◌≤◌, Bool, true, false, [], ◌∷◌, length, reverse, refl, sym, ap, ◌∙◌, subst, ◌⊎◌, inl, inr, List}
+use Rattle.std.proofs.Common.{◌≡◌, ℕ, ◌+◌, ◌<◌, Bool, true, false, [], ◌∷◌, length, reverse, refl, sym, ap, ◌∙◌, subst, ◌⊎◌, inl, inr, List}
 use mathlib.Core.Bool.{true≢false}
 use Rattle.std.specs.Prelude.{Option, None, Some, is_some, if◌then◌else◌, option_and_then, slice_get, slice_index, slice_set}
 use Rattle.std.specs.Option.{option_or, option_map, option_map_or}
@@ -10,12 +10,11 @@ use Rattle.qc_event.specs.Base.{Setting}
 use Rattle.qc_event.specs.History.{Past, Name, same, start, earliest}
 use Rattle.qc_event.specs.Legal.{Legal}
 use Rattle.qc_event.proofs.Absent.{same_is, same_itself}
-use Rattle.qc_event.proofs.Options.{still}
-use Rattle.qc_event.proofs.OneEntry.{Starting, first_is, if_is, none_before, not_some, some_or_none, start_stays}
+use Rattle.qc_event.proofs.OneEntry.{first_is, if_is, none_before, not_some, some_or_none, start_stays}
 use Rattle.qc_desk.specs.Places.{IsWhere, place, before_first}
 use Rattle.qc_desk.proofs.Looking.{unstarted}
-use Rattle.qc_desk.proofs.Placing.{count_stays, count_now, counted, placed, uncounted, answered_there}
-use Rattle.qc_indexes.specs.Slots.{code, IsBeside}
+use Rattle.qc_desk.proofs.Placing.{count_stays, count_now, counted, uncounted, answered_there}
+use Rattle.qc_indexes.specs.Slots.{code}
 use Rattle.qc_indexes.specs.Firsts.{Subject, AreFirstsOf, ComesAfterStart, is_about, about_in, first_about, after_first}
 use Rattle.qc_indexes.proofs.Beside.{code_none, code_some, beside_none, beside_stays, beside_set, beside_wider, place_stays}
 
@@ -75,14 +74,14 @@ module _ (subject : Subject) (n : Name) where
 pub firsts_none : (subject : Subject) → AreFirstsOf subject [] []
 firsts_none subject = record { beside = beside_none (after_first subject); only_started = λ n none. refl }
 
-pub firsts_wider : (subject : Subject) (past : Past) (xs ys : List ℕ) → ((i : ℕ) → slice_index ys i ≡ slice_index xs i) → length xs ≤ length ys → AreFirstsOf subject past xs → AreFirstsOf subject past ys
-firsts_wider subject past xs ys same wide was = record { beside = beside_wider (after_first subject) past xs ys same wide was.beside; only_started = was.only_started }
+pub firsts_wider : (subject : Subject) (past : Past) (xs ys : List ℕ) → ((i : ℕ) → slice_index ys i ≡ slice_index xs i) → AreFirstsOf subject past xs → AreFirstsOf subject past ys
+firsts_wider subject past xs ys same was = record { beside = beside_wider (after_first subject) past xs ys same was.beside; only_started = was.only_started }
 
 -- the number of a name that the entry is not about
 number_stays : (subject : Subject) (e : Entry) (past : Past) (n : Name) → (subject e.event ≡ Some n → ⊥) → after_first subject past n ≡ after_first subject (e ∷ past) n
 number_stays subject e past n other = ap code (count_stays length (about_in subject n) e past (about_other subject n e other))
 
-module _ (subject : Subject) (comes : ComesAfterStart subject) (setting : Setting) (e : Entry) (past : Past) (xs : List ℕ) (was : AreFirstsOf subject past xs) (wide : length past < length xs) (legal : Legal setting (e ∷ past)) where
+module _ (subject : Subject) (comes : ComesAfterStart subject) (setting : Setting) (e : Entry) (past : Past) (xs : List ℕ) (was : AreFirstsOf subject past xs) (legal : Legal setting (e ∷ past)) where
   -- what has no place yet has no entry about it
   still_started : (n : Name) → place (e ∷ past) n ≡ None → first_about subject (e ∷ past) n ≡ None
   still_started n none =
@@ -94,7 +93,7 @@ module _ (subject : Subject) (comes : ComesAfterStart subject) (setting : Settin
   pub about_no_one : subject e.event ≡ None → AreFirstsOf subject (e ∷ past) xs
   about_no_one none = record {
     beside =
-        beside_stays (after_first subject) e past xs was.beside wide
+        beside_stays (after_first subject) e past xs was.beside
         (λ n began. number_stays subject e past n (λ is. none-some n (sym none ∙ is)))
         (λ n unplaced starting. sym (number_stays subject e past n (λ is. none-some n (sym none ∙ is))) ∙ ap code (uncounted length (about_in subject n) past (was.only_started n unplaced)));
     only_started = still_started;
@@ -112,13 +111,13 @@ module _ (subject : Subject) (comes : ComesAfterStart subject) (setting : Settin
     has_place none = some_or_none (start (e ∷ past) m) (start_stays e past m (comes.started setting past e m legal is)) (unstarted (e ∷ past) m none)
 
     -- it is the first about the name
-    pub about_first : (at : ℕ) → place past m ≡ Some at → slice_index xs at ≡ 0 → AreFirstsOf subject (e ∷ past) (slice_set xs at (length past + 1))
-    about_first at here zero =
+    pub about_first : (at : ℕ) → place past m ≡ Some at → at < length xs → slice_index xs at ≡ 0 → AreFirstsOf subject (e ∷ past) (slice_set xs at (length past + 1))
+    about_first at here inside zero =
         let none : before_first length (about_in subject m) past ≡ None = code_none _ (sym (was.beside.at_place m at here) ∙ zero) in
         let unanswered : first_about subject past m ≡ None = not_some (first_about subject past m) (λ h. some_or_none (before_first length (about_in subject m) past) (counted length (about_in subject m) past ∙ h) none) in
         record {
           beside =
-              beside_set (after_first subject) e past xs m at (length past + 1) was.beside wide (comes.calm e.event m is) here
+              beside_set (after_first subject) e past xs m at (length past + 1) was.beside inside (comes.calm e.event m is) here
               (ap code (count_now length (about_in subject m) e past e unanswered (about_now subject m e is))) others;
           only_started = still_started;
         }
@@ -127,7 +126,7 @@ module _ (subject : Subject) (comes : ComesAfterStart subject) (setting : Settin
     pub about_again : (at : ℕ) → place past m ≡ Some at → (slice_index xs at ≡ 0 → ⊥) → AreFirstsOf subject (e ∷ past) xs
     about_again at here some = record {
       beside =
-          beside_stays (after_first subject) e past xs was.beside wide
+          beside_stays (after_first subject) e past xs was.beside
           (λ n began. elim (same_name n m) [
             | inl this ↦ ap (after_first subject past) this ∙ ap code (kept (before_first length (about_in subject m) past) (λ none. some (was.beside.at_place m at here ∙ ap code none))) ∙ ap (after_first subject (e ∷ past)) (sym this)
             | inr other ↦ others n other

@@ -5,4 +5,4 @@ pub mod Answering
 pub mod Marked
 pub mod Linking
 pub mod AbortsBelow
-pub mod GrantsBack
+pub mod GrantPlaces

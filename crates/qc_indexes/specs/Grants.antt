@@ -1,16 +1,18 @@
 -- Grants of copies.
-use Rattle.std.specs.Prelude.{ℕ, ◌≡◌, ◌==◌, ◌<◌, ◌≤◌, List, length, take, nat_lt, if◌then◌else◌, Option, None, Some, slice_get, slice_index}
+use Rattle.std.specs.Prelude.{ℕ, ◌≡◌, ◌==◌, ◌<◌, List, [], ◌∷◌, ◌++◌, length, take, if◌then◌else◌, Option, None, Some, option_to_list, slice_get, vec_len, vec_capacity}
+use Rattle.std.specs.Option.{option_map, option_map_or}
 use Rattle.qc_config.specs.declared.tuple.Tuple.{Tuple}
+use Rattle.qc_event.specs.declared.event.Entry.{Entry}
 use Rattle.qc_event.specs.declared.event.Event.{Event}
 use Rattle.qc_event.specs.declared.event.Event.TheVariants as event
 use Rattle.qc_event.specs.declared.event.Grant.{Grant}
-use Rattle.qc_event.specs.History.{Past, Name, Given, grants}
-use Rattle.qc_indexes.specs.Chains.{last_of, AreLinked}
+use Rattle.qc_event.specs.History.{Past, Name, Given, grant_at}
 use Rattle.qc_indexes.specs.declared.grants.Grants.{Grants}
+use Rattle.qc_indexes.specs.declared.grants.Places.{Places}
 
--- the copy that the event lets grant, of those from 0 to 15
+-- the copy that the event lets grant
 abbrev pub granted_at : Event → Option ℕ
-granted_at (event.Granted copy grant) = if nat_lt copy 16 then Some copy else None
+granted_at (event.Granted copy grant) = Some copy
 granted_at _ = None
 
 -- the grant, where the event is one
@@ -32,16 +34,25 @@ given_of _ = None
 abbrev pub tuple_at : ℕ → Given → Option Tuple
 tuple_at copy x = if x.copy == copy then Some x.grant.tuple else None
 
--- The last grant of each copy and how many there are, and beside each grant the one before it.
-pub record AreGrantsOf (past : Past) (counts lasts before : List ℕ) : Type 0 where
-  pub count : (copy : ℕ) → copy < 16 → slice_index counts copy ≡ length (grants past copy)
-  pub last : (copy : ℕ) → copy < 16 → slice_index lasts copy ≡ last_of granted_at copy past
-  pub linked : AreLinked granted_at past before
-  pub room : length past ≤ length before
-  pub for_each : (length counts ≡ 16) × (length lasts ≡ 16)
+-- the places of the entries that answer, in order
+abbrev pub places_of : {Y : Type 0} → (Entry → Option Y) → Past → List ℕ
+places_of f [] = []
+places_of f (e ∷ past) = places_of f past ++ option_to_list (option_map (λ _. length past) (f e))
+
+-- the places that are listed for a copy, none where it has no list
+abbrev pub listed : List Places → ℕ → List ℕ
+listed lists copy = option_map_or (λ (p : Places). p.places.items) (slice_get lists copy) []
+
+-- The places of each copy's grants are listed.
+pub record AreListed (past : Past) (lists : List Places) : Type 0 where
+  pub each : (copy : ℕ) → listed lists copy ≡ places_of (λ e. grant_at copy e.event) past
 
 abbrev pub AreGrants : Grants → Past → Type 0
-AreGrants kept past = AreGrantsOf past kept.count kept.last kept.before.items
+AreGrants kept past = AreListed past kept.copies.items
+
+-- where an event is a grant, its copy has a list with room for one place more
+abbrev pub HasSpare : Event → List Places → Type 0
+HasSpare ev lists = (copy : ℕ) → granted_at ev ≡ Some copy → (p : Places) × (slice_get lists copy ≡ Some p) × (vec_len p.places < vec_capacity p.places)
 
 -- Whether a list begins with another, or at which index it first has something else or nothing, and what the other
 -- has there.

@@ -1,16 +1,17 @@
 -- What is kept beside a history.
-use Rattle.std.specs.Prelude.{◌<◌, length}
 use Rattle.qc_event.specs.Base.{Setting}
+use Rattle.qc_event.specs.declared.event.Entry.{Entry}
 use Rattle.qc_event.specs.History.{Past}
 use Rattle.qc_event.specs.Legal.{Legal}
 use Rattle.qc_desk.specs.Index.{Shape, IsOf}
 use Rattle.qc_indexes.specs.declared.indexes.Indexes.{Indexes}
-use Rattle.qc_indexes.specs.Aborts.{AreAborts}
+use Rattle.qc_indexes.specs.Aborts.{AreAborts, HaveRoomFor}
 use Rattle.qc_indexes.specs.Firsts.{AreFirsts}
-use Rattle.qc_indexes.specs.Grants.{AreGrants, granted_name}
+use Rattle.qc_indexes.specs.Grants.{AreGrants, HasSpare, granted_name}
 use Rattle.qc_indexes.specs.Marks.{AreMarks}
 use Rattle.qc_indexes.specs.Opens.{AreOpen}
 use Rattle.qc_indexes.specs.Refusals.{refused_name}
+use Rattle.qc_indexes.specs.Slots.{Reaches}
 
 -- Each is that of a history.
 pub record AreIndexes (past : Past) (indexes : Indexes) : Type 0 where
@@ -25,16 +26,16 @@ pub record AreIndexes (past : Past) (indexes : Indexes) : Type 0 where
 abbrev pub AreOf : Indexes → Past → Type 0
 AreOf indexes past = AreIndexes past indexes
 
--- There is room for an entry more.
-pub record HasRoom (past : Past) (indexes : Indexes) : Type 0 where
-  pub refusals : length past < length indexes.refusals.after.items
-  pub first_grants : length past < length indexes.first_grants.after.items
-  pub last_aborts : length past < length indexes.aborts.last.items
-  pub aborts : length past < length indexes.aborts.before.items
-  pub grants : length past < length indexes.grants.before.items
+-- There is room for an entry that may come next.
+pub record HasRoom (e : Entry) (past : Past) (indexes : Indexes) : Type 0 where
+  pub refusals : Reaches past (refused_name e.event) indexes.refusals.after.items
+  pub first_grants : Reaches past (granted_name e.event) indexes.first_grants.after.items
+  pub aborts : HaveRoomFor e past indexes.aborts.last.items indexes.aborts.before.items
+  pub grants : HasSpare e.event indexes.grants.copies.items
 
-abbrev pub HaveRoom : Indexes → Past → Type 0
-HaveRoom indexes past = HasRoom past indexes
+-- what is kept is kept of a history, and has room for the entry
+abbrev pub AreReady : Indexes → Entry → Past → Type 0
+AreReady indexes e past = AreOf indexes past × HasRoom e past indexes
 
 -- a fact holds of a legal history, where this is kept beside it and its names are indexed
 abbrev pub OfEntries : Indexes → Shape → Past → (Past → Type 0) → Type 0

@@ -1,6 +1,5 @@
 //! Who was aborted below each top.
 ghost use Rattle.std.specs.Prelude.{◌≡◌, ◌+◌, ◌<◌, [], ◌∷◌, ◌++◌, length, reverse, OnOk, IfOk, option_to_list};
-ghost use Rattle.std.specs.Option.{option_map};
 ghost use Rattle.qc_names.specs.Name as names_words;
 ghost use Rattle.qc_event.specs.Base.{Setting};
 ghost use Rattle.qc_event.specs.History.{Past, limit};
@@ -9,17 +8,17 @@ ghost use Rattle.qc_event.specs.Listed as listed;
 ghost use Rattle.qc_event.specs.Listed.{aborted_below};
 ghost use Rattle.qc_desk.specs.Index.{IsOf};
 ghost use Rattle.qc_desk.specs.Standing.{OfEach};
-ghost use Rattle.qc_indexes.specs.Aborts.{AreAborts, abort_top, last_abort};
+ghost use Rattle.qc_indexes.specs.Aborts.{AreAborts, HaveRoomFor, last_abort, top_name};
 
 use crate::lists::{append, turn};
-use crate::slots::{set_slot, slot, widen};
+use crate::slots::{reach, reach_name, set_slot, slot};
 use qc_desk::{Index, Outcomes};
 use qc_event::{Entry, Event, How, Name};
 use std::alloc::{AllocError, Global};
 
 // The top below which the entry aborts a name.
 fn top_of(entry: &Entry) -> Option<Name>
-    ensures { result ≡ option_map (λ x. x ∷ []) (abort_top entry.now.event) }
+    ensures { result ≡ top_name entry.now.event }
 {
     match &entry.event {
         Event::End {
@@ -73,24 +72,31 @@ impl Aborts {
         }
     }
 
-    /// Makes room for an entry more, of the same history.
-    pub(crate) fn make_room(&mut self) -> Result<(), AllocError>
+    /// Makes room for an entry at a place, of the same history; for one that aborts no name below a top it takes no
+    /// memory.
+    pub(crate) fn make_room(
+        &mut self,
+        entry: &Entry,
+        names: &Index,
+        at: u32,
+    ) -> Result<(), AllocError>
         ensures same { (past : Past) → AreAborts self.old past → AreAborts self.new past }
-        ensures last { OnOk result ((past : Past) → AreAborts self.old past →
-            length past < length self.new.last.items) }
-        ensures before { OnOk result ((past : Past) → AreAborts self.old past →
-            length past < length self.new.before.items) }
+        ensures room { OnOk result (OfEach (IsOf names.now) (λ past. at ≡ length past →
+            HaveRoomFor entry.now past self.new.last.items self.new.before.items)) }
     {
-        widen(&mut self.last)?;
-        widen(&mut self.before)
+        let Some(top) = top_of(entry) else {
+            return Ok(());
+        };
+        reach_name(&mut self.last, Some(top), names)?;
+        reach(&mut self.before, at)
     }
 
     /// Takes in an entry that may come next, for which there is room, at its place. The index of names has it.
     pub(crate) fn push(&mut self, entry: &Entry, names: &Index, at: u32)
         requires { at < limit }
         ensures { (setting : Setting) → (past : Past) → AreAborts self.old past →
-            length past < length self.old.last.items →
-            length past < length self.old.before.items → IsOf names.now (entry.now ∷ past) →
+            HaveRoomFor entry.now past self.old.last.items self.old.before.items →
+            IsOf names.now (entry.now ∷ past) →
             Legal setting (entry.now ∷ past) → at ≡ length past →
             AreAborts self.new (entry.now ∷ past) }
     {

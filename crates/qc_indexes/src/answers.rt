@@ -41,10 +41,7 @@ pub(crate) fn tuple_of(entry: &Entry, copy: u8) -> Option<Tuple>
     ensures { result ≡ option_and_then (tuple_at copy) (given_of entry.now.event) }
 {
     match &entry.event {
-        Event::Granted {
-            copy: giver,
-            grant,
-        } if *giver == copy => Some(grant.tuple),
+        Event::Granted { copy: giver, grant } if *giver == copy => Some(grant.tuple),
         _ => None,
     }
 }

@@ -5,9 +5,11 @@ ghost use Rattle.qc_event.specs.declared.event.Entry.{Entry};
 ghost use Rattle.qc_event.specs.History.{Past, limit};
 ghost use Rattle.qc_event.specs.Legal.{Legal};
 ghost use Rattle.qc_desk.specs.Index.{IsOf};
+ghost use Rattle.qc_desk.specs.Standing.{OfEach};
 ghost use Rattle.qc_indexes.specs.Firsts.{Subject, AreFirsts, ComesAfterStart, first_about};
+ghost use Rattle.qc_indexes.specs.Slots.{Reaches};
 
-use crate::slots::{set_slot, slot, widen};
+use crate::slots::{reach_name, set_slot, slot};
 use qc_desk::Index;
 use qc_event::{Entry, Name};
 use std::alloc::{AllocError, Global};
@@ -29,14 +31,14 @@ impl Firsts {
         }
     }
 
-    /// Makes room for an entry more, of the same history.
-    pub(crate) fn make_room(&mut self) -> Result<(), AllocError>
+    /// Makes room for an entry about a name, of the same history; for one about no name it takes no memory.
+    pub(crate) fn make_room(&mut self, name: Option<Name>, names: &Index) -> Result<(), AllocError>
         ensures same { (subject : Subject) → (past : Past) →
             AreFirsts subject self.old past → AreFirsts subject self.new past }
-        ensures room { OnOk result ((subject : Subject) → (past : Past) →
-            AreFirsts subject self.old past → length past < length self.new.after.items) }
+        ensures room { OnOk result
+            (OfEach (IsOf names.now) (λ past. Reaches past name self.new.after.items)) }
     {
-        widen(&mut self.after)
+        reach_name(&mut self.after, name, names)
     }
 
     /// Takes in an entry that may come next, for which there is room, at its place, by the name that it is about. The
@@ -45,7 +47,7 @@ impl Firsts {
         requires { at < limit }
         ensures { (subject : Subject) → (setting : Setting) → (past : Past) → (e : Entry) →
             ComesAfterStart subject → AreFirsts subject self.old past →
-            length past < length self.old.after.items → IsOf names.now (e ∷ past) →
+            Reaches past name self.old.after.items → IsOf names.now (e ∷ past) →
             Legal setting (e ∷ past) → name ≡ subject e.event → at ≡ length past →
             AreFirsts subject self.new (e ∷ past) }
     {

@@ -1,28 +1,21 @@
 //! What each copy granted.
-ghost use Rattle.std.specs.Prelude.{◌≡◌, ◌↔◌, ◌⊎◌, ◌<◌, [], ◌∷◌, IfOk, OnOk, IsTrue, Some, length, reverse, slice_get};
+ghost use Rattle.std.specs.Prelude.{◌≡◌, ◌↔◌, ℕ, ◌<◌, [], ◌∷◌, ◌++◌, IfOk, OnOk, IsTrue, None, Some, length, reverse, slice_get, vec_len, vec_capacity};
 ghost use Rattle.qc_event.specs.declared.event.Grant.{Grant};
-ghost use Rattle.qc_event.specs.Base.{Setting};
-ghost use Rattle.qc_event.specs.History.{Past, limit, grants};
-ghost use Rattle.qc_event.specs.Legal.{Legal};
-ghost use Rattle.qc_indexes.specs.Growing.{CanFollow};
+ghost use Rattle.qc_event.specs.History.{Past, grants};
 ghost use Rattle.qc_indexes.specs.Grants as words;
-ghost use Rattle.qc_indexes.specs.Grants.{AreGrants, Differs, granted_at};
+ghost use Rattle.qc_indexes.specs.Grants.{AreGrants, Differs, HasSpare, granted_at, listed};
 
-use crate::lists::{append, turn};
-use crate::slots::{set_slot, slot, widen};
+use crate::lists::append;
 use qc_event::{Entry, Event, Grant};
 use qc_scan::{same_name, same_op, same_tuple};
 use std::alloc::{AllocError, Global};
-
-/// How many copies may grant.
-const COPIES: usize = 16;
 
 // The copy that grants, where the entry is a grant.
 fn copy_of(entry: &Entry) -> Option<u8>
     ensures { result ≡ granted_at entry.now.event }
 {
     match &entry.event {
-        Event::Granted { copy, .. } if *copy < 16 => Some(*copy),
+        Event::Granted { copy, .. } => Some(*copy),
         _ => None,
     }
 }
@@ -46,33 +39,68 @@ fn same_grant(a: &Grant, b: &Grant) -> bool
         && same_tuple(&a.tuple, &b.tuple)
 }
 
-// The grant at an index, where another or none was given there, or else what differs later.
-fn earlier(
-    given: &[Grant],
-    index: usize,
-    grant: Option<Grant>,
-    later: Option<(usize, Grant)>,
-) -> Option<(usize, Grant)>
-    ensures { (g : Grant) → grant ≡ Some g →
-        ((slice_get given.now index ≡ Some g) × (result ≡ later))
-        ⊎ ((slice_get given.now index ≡ Some g → ⊥) × (result ≡ Some (index, g))) }
+// The grant at an index, where another or none was given there.
+fn other_at(given: &[Grant], index: usize, grant: Option<Grant>) -> Option<(usize, Grant)>
+    ensures same { (g : Grant) → grant ≡ Some g → result ≡ None →
+        slice_get given.now index ≡ Some g }
+    ensures other { (g : Grant) → (found : ℕ × Grant) → grant ≡ Some g → result ≡ Some found →
+        (found ≡ (index, g)) × (slice_get given.now index ≡ Some g → ⊥) }
 {
     let Some(grant) = grant else {
-        return later;
+        return None;
     };
     match given.get(index) {
-        Some(other) if same_grant(other, &grant) => later,
+        Some(other) if same_grant(other, &grant) => None,
         _ => Some((index, grant)),
     }
 }
 
-/// What each copy granted: how much, one more than the place of the last such entry, and beside each such entry the
-/// same of the one before it.
+/// The places of one copy's grants among the entries, in order.
+#[derive(Debug, Drop)]
+pub struct Places {
+    places: Vec<u32>,
+}
+
+impl Places {
+    fn new(alloc: Global) -> Self
+        ensures { result.places.items ≡ [] }
+    {
+        Places {
+            places: Vec::new(alloc),
+        }
+    }
+
+    fn make_room(&mut self) -> Result<(), AllocError>
+        ensures same { self.new.places.items ≡ self.old.places.items }
+        ensures room { OnOk result (vec_len self.new.places < vec_capacity self.new.places) }
+    {
+        self.places.reserve(1)
+    }
+
+    fn push(&mut self, at: u32)
+        requires { vec_len self.old.places < vec_capacity self.old.places }
+        ensures { self.new.places.items ≡ self.old.places.items ++ at ∷ [] }
+    {
+        self.places.push_reserved(at);
+    }
+}
+
+// Lets the lists of copies reach as far as a copy's.
+fn reach_copy(alloc: Global, copies: &mut Vec<Places>, copy: u8) -> Result<(), AllocError>
+    ensures same { (c : ℕ) → listed copies.new.items c ≡ listed copies.old.items c }
+    ensures reached { OnOk result (copy < length copies.new.items) }
+{
+    while copies.len() <= copy as usize {
+        copies.push(Places::new(alloc))?;
+    }
+    Ok(())
+}
+
+/// What each copy granted: the places of its grants among the entries.
 #[derive(Debug, Drop)]
 pub struct Grants {
-    count: [u32; COPIES],
-    last: [u32; COPIES],
-    before: Vec<u32>,
+    alloc: Global,
+    copies: Vec<Places>,
 }
 
 impl Grants {
@@ -81,36 +109,43 @@ impl Grants {
         ensures { AreGrants result [] }
     {
         Grants {
-            count: [0; COPIES],
-            last: [0; COPIES],
-            before: Vec::new(alloc),
+            alloc,
+            copies: Vec::new(alloc),
         }
     }
 
-    /// Makes room for an entry more, of the same history.
-    pub(crate) fn make_room(&mut self) -> Result<(), AllocError>
+    /// Makes room for an entry, of the same history; for one that is no grant it takes no memory.
+    pub(crate) fn make_room(&mut self, entry: &Entry) -> Result<(), AllocError>
         ensures same { (past : Past) → AreGrants self.old past → AreGrants self.new past }
-        ensures room { OnOk result ((past : Past) → AreGrants self.old past →
-            length past < length self.new.before.items) }
+        ensures room { OnOk result (HasSpare entry.now.event self.new.copies.items) }
     {
-        widen(&mut self.before)
+        let Some(copy) = copy_of(entry) else {
+            return Ok(());
+        };
+        reach_copy(self.alloc, &mut self.copies, copy)?;
+        self.copies[copy as usize].make_room()
     }
 
-    /// Takes in an entry that may come next, for which there is room, at its place.
+    /// Takes in an entry, for which there is room, at its place.
     pub(crate) fn push(&mut self, entry: &Entry, at: u32)
-        requires follows { CanFollow (AreGrants self.old) entry.now }
-        requires at { at < limit }
-        ensures { (past : Past) → AreGrants self.old past →
-            length past < length self.old.before.items → at ≡ length past →
+        requires room { HasSpare entry.now.event self.old.copies.items }
+        ensures { (past : Past) → AreGrants self.old past → at ≡ length past →
             AreGrants self.new (entry.now ∷ past) }
     {
         let Some(copy) = copy_of(entry) else {
             return;
         };
-        let copy = copy as usize;
-        set_slot(&mut self.before, at as usize, self.last[copy]);
-        self.last[copy] = at + 1;
-        self.count[copy] += 1;
+        self.copies[copy as usize].push(at);
+    }
+
+    // The places of a copy's grants.
+    fn places(&self, copy: u8) -> &[u32]
+        ensures { result.now ≡ listed self.now.copies.items copy }
+    {
+        match self.copies.get(copy as usize) {
+            Some(list) => list.places.as_slice(),
+            None => &[],
+        }
     }
 
     /// A copy's grants, in order. It reads each of them once. The only error is want of memory for the list.
@@ -121,24 +156,17 @@ impl Grants {
         copy: u8,
     ) -> Result<Vec<Grant>, AllocError>
         requires kept { AreGrants self.now (reverse entries.now) }
-        requires small { copy < 16 }
         ensures { IfOk result (λ given. given.items ≡ grants (reverse entries.now) copy) }
     {
         let mut given = Vec::new(alloc);
-        let mut index = self.count[copy as usize];
-        let mut next = self.last[copy as usize];
-        while next > 0 {
-            let at = next as usize - 1;
-            index -= 1;
-            append(&mut given, grant_of(&entries[at]))?;
-            next = slot(&self.before, at);
+        for place in self.places(copy) {
+            append(&mut given, grant_of(&entries[*place as usize]))?;
         }
-        turn(&mut given);
         Ok(given)
     }
 
     /// The first of a copy's grants where another or none was given, with its index. It reads each grant of the copy
-    /// once.
+    /// up to that.
     pub(crate) fn differ(
         &self,
         entries: &[Entry],
@@ -146,18 +174,14 @@ impl Grants {
         given: &[Grant],
     ) -> Option<(usize, Grant)>
         requires kept { AreGrants self.now (reverse entries.now) }
-        requires small { copy < 16 }
         ensures { Differs given.now (grants (reverse entries.now) copy) result }
     {
-        let mut found = None;
-        let mut index = self.count[copy as usize] as usize;
-        let mut next = self.last[copy as usize];
-        while next > 0 {
-            let at = next as usize - 1;
-            index -= 1;
-            found = earlier(given, index, grant_of(&entries[at]), found);
-            next = slot(&self.before, at);
+        for (index, place) in self.places(copy).iter().enumerate() {
+            let grant = grant_of(&entries[*place as usize]);
+            if let Some(found) = other_at(given, index, grant) {
+                return Some(found);
+            }
         }
-        found
+        None
     }
 }

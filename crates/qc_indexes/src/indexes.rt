@@ -10,7 +10,7 @@ ghost use Rattle.qc_desk.specs.Index.{IsOf};
 ghost use Rattle.qc_desk.specs.Standing.{OfEach};
 ghost use Rattle.qc_indexes.specs.Growing.{CanFollow};
 ghost use Rattle.qc_indexes.specs.Grants.{Differs, tuple_at};
-ghost use Rattle.qc_indexes.specs.Indexes.{AreOf, AreKept, HaveRoom, OfEntries};
+ghost use Rattle.qc_indexes.specs.Indexes.{AreOf, AreKept, AreReady, HasRoom, OfEntries};
 
 use crate::aborts::Aborts;
 use crate::answers::{granted_name, refusal_of, refused_name, tuple_of};
@@ -50,27 +50,27 @@ impl Indexes {
         }
     }
 
-    /// Makes room for an entry more. They stay those of the same history, after an error too.
-    pub fn make_room(&mut self) -> Result<(), AllocError>
+    /// Makes room for an entry that may come next, at its place; the index of names does not have it yet. They stay
+    /// those of the same history, after an error too. It takes memory for a refusal, a grant and an abort below a top.
+    pub fn make_room(&mut self, entry: &Entry, names: &Index, at: u32) -> Result<(), AllocError>
         ensures same { (past : Past) → AreOf self.old past → AreOf self.new past }
-        ensures room { OnOk result ((past : Past) → AreOf self.old past →
-            HaveRoom self.new past) }
+        ensures room { OnOk result (OfEach (IsOf names.now) (λ past. at ≡ length past →
+            HasRoom entry.now past self.new)) }
     {
-        self.refusals.make_room()?;
-        self.first_grants.make_room()?;
-        self.aborts.make_room()?;
-        self.grants.make_room()
+        self.refusals.make_room(refused_name(entry), names)?;
+        self.first_grants.make_room(granted_name(entry), names)?;
+        self.aborts.make_room(entry, names, at)?;
+        self.grants.make_room(entry)
     }
 
     /// Takes in an entry that may come next, for which room was made, at its place. The index of names has it. It
     /// takes no memory.
     pub fn push(&mut self, entry: &Entry, names: &Index, at: u32)
-        requires follows { CanFollow (AreOf self.old) entry.now }
+        requires follows { CanFollow (AreReady self.old entry.now) entry.now }
         requires at { at < limit }
-        ensures { (setting : Setting) → (past : Past) → AreOf self.old past →
-            HaveRoom self.old past → IsOf names.now (entry.now ∷ past) →
-            Legal setting (entry.now ∷ past) → at ≡ length past →
-            AreOf self.new (entry.now ∷ past) }
+        ensures { (setting : Setting) → (past : Past) → AreReady self.old entry.now past →
+            IsOf names.now (entry.now ∷ past) → Legal setting (entry.now ∷ past) →
+            at ≡ length past → AreOf self.new (entry.now ∷ past) }
     {
         self.opens.push(entry);
         self.refusals.push(refused_name(entry), names, at);

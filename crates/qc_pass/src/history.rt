@@ -94,8 +94,8 @@ impl History {
         ensures err { OnErr result (self.new ≡ self.old) }
     {
         make_room(&mut self.entries)?;
-        self.beside.make_room()?;
         let at = self.entries.len() as u32;
+        self.beside.make_room(entry, &self.index, at)?;
         self.index.push(entry)?;
         self.beside.push(entry, &self.index, at);
         put(&mut self.entries, *entry);

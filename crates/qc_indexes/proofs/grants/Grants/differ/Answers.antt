@@ -1,52 +1,34 @@
-use Rattle.std.proofs.Common.{◌≡◌, ◌+◌, ◌-◌, reverse, sym, ap, ◌∙◌, subst, arith}
-use Rattle.std.specs.Prelude.{Some, slice_get, slice_index}
-use Rattle.std.proofs.lemmas.List.{reverse-reverse, length-reverse}
-use Rattle.std.proofs.lemmas.Option.{slice_get-get_or}
-use Rattle.qc_indexes.proofs.GrantsBack.{IsMidway, midway_last, one_grant_back, all_read}
+use Rattle.std.proofs.Common.{◌≡◌, ℕ, length, take, reverse, sym, ◌∙◌, subst, arith}
+use Rattle.std.specs.Prelude.{Some}
+use Rattle.qc_event.specs.History.{grants}
+use Rattle.qc_event.specs.declared.event.Grant.{Grant}
+use Rattle.qc_indexes.specs.Grants.{Differs}
+use Rattle.qc_indexes.proofs.GrantPlaces.{reads, all_listed, same_further, take_whole}
 use Rattle.qc_indexes.proofs.grants.Grants.differ.Goals as goal
 
-pub loop-next-init : goal.loop-next-init
-loop-next-init c =
-    let kept = c.requires.kept in
-    midway_last (reverse c.args.entries.now) c.args.copy c.args.given.now _ _ (kept.last c.args.copy c.requires.small) (kept.count c.args.copy c.requires.small)
+pub bounds-entries-place : goal.bounds-entries-place
+bounds-entries-place c = (reads c.args.entries.now _ c.requires.kept c.args.copy _ c.places-place-items.ensures c.loop-index.index c.loop-index-test.true).within
 
-pub overflow_sub-index : goal.overflow_sub-index
-overflow_sub-index c =
-    let next = c.loop-next.next in
-    let more : next ≡ next - 1 + 1 = omega (arith, c.loop-next-test.true) in
-    let on = one_grant_back (reverse c.args.entries.now) c.args.copy c.args.given.now _ _ _ next (next - 1) c.loop-next.index c.loop-next.found c.requires.kept c.requires.small c.loop-next.invariant more in
-    on.some_left
+pub returns-in-Some : goal.returns-in-Some
+returns-in-Some c =
+    let on = reads c.args.entries.now _ c.requires.kept c.args.copy _ c.places-place-items.ensures c.loop-index.index c.loop-index-test.true in
+    let grant = on.grant c.index-entries-place.result c.index-entries-place.is in
+    let told = c.other_at.ensures.other grant.0 c.in-Some.found (c.grant_of-grant.ensures ∙ grant.1) c.in-Some.is in
+    subst (λ (d : ℕ × Grant). Differs c.args.given.now (grants (reverse c.args.entries.now) c.args.copy) (Some d)) (sym told.0) (c.loop-index.invariant, grant.2, told.1)
 
-pub bounds-entries-at : goal.bounds-entries-at
-bounds-entries-at c =
-    let next = c.loop-next.next in
-    let more : next ≡ next - 1 + 1 = omega (arith, c.loop-next-test.true) in
-    let on = one_grant_back (reverse c.args.entries.now) c.args.copy c.args.given.now _ _ _ next (next - 1) c.loop-next.index c.loop-next.found c.requires.kept c.requires.small c.loop-next.invariant more in
-    omega (arith, on.inside, length-reverse c.args.entries.now)
-
-pub loop-next-smaller : goal.loop-next-smaller
-loop-next-smaller c =
-    let next = c.loop-next.next in
-    let more : next ≡ next - 1 + 1 = omega (arith, c.loop-next-test.true) in
-    let on = one_grant_back (reverse c.args.entries.now) c.args.copy c.args.given.now _ _ _ next (next - 1) c.loop-next.index c.loop-next.found c.requires.kept c.requires.small c.loop-next.invariant more in
-    let stands = c.slot-next.ensures ∙ ap (λ xs. slice_index xs (next - 1)) c.deref.ensures.value in
-    omega (arith, on.smaller, stands, more)
-
-pub loop-next-preserved : goal.loop-next-preserved
-loop-next-preserved c =
-    let next = c.loop-next.next in
-    let entries = c.args.entries.now in
-    let past = reverse entries in
-    let e = c.index-entries-at.result in
-    let more : next ≡ next - 1 + 1 = omega (arith, c.loop-next-test.true) in
-    let on = one_grant_back past c.args.copy c.args.given.now _ _ _ next (next - 1) c.loop-next.index c.loop-next.found c.requires.kept c.requires.small c.loop-next.invariant more in
-    let stands = c.slot-next.ensures ∙ ap (λ xs. slice_index xs (next - 1)) c.deref.ensures.value in
-    let here : slice_get (reverse past) (next - 1) ≡ Some e =
-    ap (λ es. slice_get es (next - 1)) (reverse-reverse entries) ∙ slice_get-get_or entries (next - 1) e (omega (arith, on.inside, length-reverse entries)) ∙ ap Some (sym c.index-entries-at.is) in
-    subst (λ n. IsMidway past c.args.copy c.args.given.now n (c.loop-next.index - 1) c.earlier-found.result) (sym stands)
-    (on.goes_on e c.grant_of.result c.earlier-found.result here c.grant_of.ensures c.earlier-found.ensures)
+pub loop-index-preserved : goal.loop-index-preserved
+loop-index-preserved c =
+    let on = reads c.args.entries.now _ c.requires.kept c.args.copy _ c.places-place-items.ensures c.loop-index.index c.loop-index-test.true in
+    let grant = on.grant c.index-entries-place.result c.index-entries-place.is in
+    same_further c.args.given.now (grants (reverse c.args.entries.now) c.args.copy) c.loop-index.index grant.0 c.loop-index.invariant
+    (c.other_at.ensures.same grant.0 (c.grant_of-grant.ensures ∙ grant.1) c.in_default.is) grant.2
 
 pub returns : goal.returns
 returns c =
-    let none : c.loop-next.next ≡ 0 = omega (arith, c.loop-next-test.false) in
-    all_read (reverse c.args.entries.now) c.args.copy c.args.given.now c.loop-next.next c.loop-next.index c.loop-next.found c.requires.small c.loop-next.invariant none
+    let theirs = grants (reverse c.args.entries.now) c.args.copy in
+    let n = length theirs in
+    let many = all_listed c.args.entries.now _ c.requires.kept c.args.copy _ c.places-place-items.ensures in
+    let over = c.loop-index-test.false in
+    let whole = c.loop-index.auto.index-end in
+    let here : c.loop-index.index ≡ n = omega (arith, many, over, whole) in
+    subst (λ (k : ℕ). take k c.args.given.now ≡ take k theirs) here c.loop-index.invariant ∙ take_whole theirs n (omega arith)

@@ -1,9 +1,6 @@
-use Rattle.std.proofs.Common.{reverse}
-use Rattle.qc_indexes.proofs.GrantsBack.{IsMidway}
+use Rattle.std.proofs.Common.{◌≡◌, take, reverse}
+use Rattle.qc_event.specs.History.{grants}
 use Rattle.qc_indexes.proofs.grants.Grants.differ.Given as goal
 
-abbrev pub invariant-loop-next : goal.invariant-loop-next
-invariant-loop-next l = IsMidway (reverse l.entries) l.copy l.given l.next l.index l.found
-
-abbrev pub decreases-loop-next : goal.decreases-loop-next
-decreases-loop-next l = l.next
+abbrev pub invariant-loop-index : goal.invariant-loop-index
+invariant-loop-index l = take l.index l.given ≡ take l.index (grants (reverse l.entries) l.copy)

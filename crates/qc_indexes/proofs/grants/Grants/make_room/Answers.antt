@@ -1,13 +1,10 @@
-use Rattle.std.proofs.Common.{arith}
-use Rattle.qc_indexes.specs.Grants.{granted_at}
-use Rattle.qc_indexes.proofs.Linking.{linked_same}
+use Rattle.std.proofs.Common.{sym, ◌∙◌}
+use Rattle.std.proofs.lemmas.Result.{on_ok_weaker}
+use Rattle.qc_indexes.proofs.GrantPlaces.{spare_here}
 use Rattle.qc_indexes.proofs.grants.Grants.make_room.Goals as goal
 
-pub returns-clause-same : goal.returns-clause-same
-returns-clause-same c = λ past was. record {
-  count = was.count;
-  last = was.last;
-  linked = linked_same granted_at past _ _ (λ i less. c.widen.ensures.same i) was.linked;
-  room = let room = was.room in let wide = c.widen.ensures.as_wide in omega (arith, room, wide);
-  for_each = was.for_each;
-}
+pub returns-clause-room : goal.returns-clause-room
+returns-clause-room c =
+    on_ok_weaker c.make_room.result
+    (spare_here c.args.entry.now.event c.reach_copy.new.copies.items c.make_room.new.self c.in-Some.copy (sym c.copy_of.ensures ∙ c.in-Some.is) c.in_ok-reach_copy.ensures.reached)
+    c.make_room.ensures.room

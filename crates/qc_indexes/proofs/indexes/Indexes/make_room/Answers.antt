@@ -1,6 +1,8 @@
+use Rattle.std.proofs.Common.{subst}
 use Rattle.std.proofs.lemmas.Result.{on_ok_weaker}
 use Rattle.qc_indexes.specs.Grants.{granted_name}
 use Rattle.qc_indexes.specs.Refusals.{refused_name}
+use Rattle.qc_indexes.specs.Slots.{Reaches}
 use Rattle.qc_indexes.proofs.indexes.Indexes.make_room.Goals as goal
 
 pub returns-in_err-make_room-clause-same : goal.returns-in_err-make_room-clause-same
@@ -45,10 +47,9 @@ returns-clause-same c = λ past was. record {
 
 pub returns-clause-room : goal.returns-clause-room
 returns-clause-room c =
-    on_ok_weaker c.make_room-4.result (λ room past was. record {
-      refusals = c.in_ok-make_room.ensures.room refused_name past was.refusals;
-      first_grants = c.in_ok-make_room-2.ensures.room granted_name past was.first_grants;
-      last_aborts = c.in_ok-make_room-3.ensures.last past was.aborts;
-      aborts = c.in_ok-make_room-3.ensures.before past was.aborts;
-      grants = room past was.grants;
+    on_ok_weaker c.make_room-4.result (λ spare setting past names legal at. record {
+      refusals = subst (λ o. Reaches past o c.make_room.new.self.after.items) c.refused_name.ensures (c.in_ok-make_room.ensures.room setting past names legal);
+      first_grants = subst (λ o. Reaches past o c.make_room-2.new.self.after.items) c.granted_name.ensures (c.in_ok-make_room-2.ensures.room setting past names legal);
+      aborts = c.in_ok-make_room-3.ensures.room setting past names legal at;
+      grants = spare;
     }) c.make_room-4.ensures.room
