@@ -1,6 +1,6 @@
 -- Numbers beside the started names of a history, one entry after another.
-use Rattle.std.proofs.Common.{◌≡◌, ℕ, zero, suc, ◌+◌, ◌<◌, inl, inr, true, List, [], ◌∷◌, ◌++◌, length, refl, sym, ap, ◌∙◌, arith}
-use Rattle.std.specs.Prelude.{Option, None, Some, is_some, replicate, slice_index, slice_set}
+use Rattle.std.proofs.Common.{◌≡◌, ℕ, ◌+◌, ◌<◌, inl, inr, true, List, [], ◌∷◌, length, refl, sym, ap, ◌∙◌, arith}
+use Rattle.std.specs.Prelude.{Option, None, Some, is_some, slice_index, slice_set}
 use Rattle.std.proofs.lemmas.List.{get_or-set_same, get_or-set_other}
 use Rattle.std.proofs.lemmas.Option.{same_Some}
 use Rattle.qc_event.specs.declared.event.Entry.{Entry}
@@ -11,19 +11,6 @@ use Rattle.qc_desk.specs.Places.{starts_in, place}
 use Rattle.qc_desk.proofs.Placing.{has_start, place_step, place_once, place_within}
 use Rattle.qc_desk.proofs.Spots.{one_of}
 use Rattle.qc_indexes.specs.Slots.{code, IsBeside}
-
--- LISTS
-
-zeros : (n i : ℕ) → slice_index (replicate n 0) i ≡ 0
-zeros zero i = refl
-zeros (suc n) zero = refl
-zeros (suc n) (suc i) = zeros n i
-
--- places more at the end, where 0 stands
-pub slot_widened : (xs : List ℕ) (n i : ℕ) → slice_index (xs ++ replicate n 0) i ≡ slice_index xs i
-slot_widened [] n i = zeros n i
-slot_widened (x ∷ xs) n zero = refl
-slot_widened (x ∷ xs) n (suc i) = slot_widened xs n i
 
 -- CODES
 

@@ -1,10 +1,9 @@
 -- The places of entries that answer, and the grants that stand there.
-use Rattle.std.proofs.Common.{◌≡◌, ℕ, zero, suc, ◌+◌, ◌<◌, inl, inr, Bool, true, false, List, [], ◌∷◌, ◌++◌, length, take, get_or, reverse, refl, sym, ap, ◌∙◌, arith, append-nil}
+use Rattle.std.proofs.Common.{◌≡◌, ℕ, zero, suc, ◌+◌, ◌<◌, ◌≤◌, inl, inr, Bool, true, false, List, [], ◌∷◌, ◌++◌, length, take, get_or, reverse, refl, sym, ap, ◌∙◌, arith, append-nil}
 use Rattle.std.specs.Prelude.{Option, None, Some, ◌==◌, if◌then◌else◌, option_to_list, slice_get, slice_index, slice_set, vec_len, vec_capacity}
 use Rattle.std.specs.Option.{option_map}
-use Rattle.std.proofs.lemmas.Bool.{eqb-true, eq-eqb, false_from_ne_true}
 use Rattle.std.proofs.lemmas.List.{length-append, length-reverse, reverse-append, reverse-reverse}
-use Rattle.std.proofs.lemmas.Option.{none-some, same_Some, slice_get-get_or, slice_get_cases}
+use Rattle.std.proofs.lemmas.Option.{same_Some, slice_get-get_or, slice_get_cases}
 use Rattle.qc_event.specs.declared.event.Entry.{Entry}
 use Rattle.qc_event.specs.declared.event.Event.{Event}
 use Rattle.qc_event.specs.declared.event.Event.TheVariants as event
@@ -24,7 +23,7 @@ take_one [] n x is = absurd cc
 take_one (y ∷ xs) zero x is = ap (λ z. z ∷ []) (same_Some y x is)
 take_one (y ∷ xs) (suc n) x is = let next : suc n + 1 ≡ suc (n + 1) = omega arith in ap (λ k. take k (y ∷ xs)) next ∙ ap (λ zs. y ∷ zs) (take_one xs n x is)
 
-pub take_whole : {X : Type 0} (xs : List X) (n : ℕ) → length xs < n + 1 → take n xs ≡ xs
+pub take_whole : {X : Type 0} (xs : List X) (n : ℕ) → length xs ≤ n → take n xs ≡ xs
 take_whole [] zero more = refl
 take_whole [] (suc n) more = refl
 take_whole (x ∷ xs) zero more = absurd (omega (arith, more))
@@ -90,15 +89,6 @@ module _ {Y : Type 0} (f : Entry → Option Y) where
 
 -- GRANTS AND THEIR COPIES
 
--- what the event of a copy grants
-pub its_grant : (copy : ℕ) (ev : Event) → granted_at ev ≡ Some copy → (g : Grant) × (grant_at copy ev ≡ Some g)
-its_grant copy (event.Granted c g) is = (g, ap (λ (b : Bool). if b then Some g else None) (eq-eqb c copy (same_Some c copy is)))
-its_grant copy _ is = absurd cc
-
-no_grant : (copy : ℕ) (ev : Event) → (granted_at ev ≡ Some copy → ⊥) → grant_at copy ev ≡ None
-no_grant copy (event.Granted c g) other = ap (λ (b : Bool). if b then Some g else None) (false_from_ne_true (c == copy) (λ h. other (ap (λ k. Some k) (eqb-true c copy h))))
-no_grant copy _ other = refl
-
 told_grant : (copy : ℕ) (ev : Event) (g : Grant) → grant_at copy ev ≡ Some g → grant_of ev ≡ Some g
 told_grant copy (event.Granted c h) g is = by_test (c == copy) is
   where
@@ -107,32 +97,7 @@ told_grant copy (event.Granted c h) g is = by_test (c == copy) is
     by_test false same = absurd cc
 told_grant copy _ g is = absurd cc
 
--- ONE ENTRY AFTER ANOTHER
-
-pub listed_more : (lists : List Places) (p : Places) (copy : ℕ) → p.places.items ≡ [] → listed (lists ++ p ∷ []) copy ≡ listed lists copy
-listed_more [] p zero none = none
-listed_more [] p (suc c) none = refl
-listed_more (q ∷ lists) p zero none = refl
-listed_more (q ∷ lists) p (suc c) none = listed_more lists p c none
-
-pub listed_here : (lists : List Places) (p : Places) (copy : ℕ) → copy < length lists → listed (slice_set lists copy p) copy ≡ p.places.items
-listed_here [] p copy less = absurd (omega (arith, less))
-listed_here (q ∷ lists) p zero less = refl
-listed_here (q ∷ lists) p (suc c) less = listed_here lists p c (omega (arith, less))
-
-listed_other : (lists : List Places) (p : Places) (copy c : ℕ) → (c ≡ copy → ⊥) → listed (slice_set lists copy p) c ≡ listed lists c
-listed_other [] p copy c other = refl
-listed_other (q ∷ lists) p zero zero other = absurd (other refl)
-listed_other (q ∷ lists) p zero (suc c) other = refl
-listed_other (q ∷ lists) p (suc copy) zero other = refl
-listed_other (q ∷ lists) p (suc copy) (suc c) other = listed_other lists p copy c (λ same. other (omega (arith, same)))
-
--- a list that keeps its places changes nothing
-pub listed_kept : (lists : List Places) (p : Places) (copy c : ℕ) → copy < length lists → p.places.items ≡ listed lists copy → listed (slice_set lists copy p) c ≡ listed lists c
-listed_kept lists p copy c less same = elim (one_of c copy) [
-  | inl here ↦ ap (listed (slice_set lists copy p)) here ∙ listed_here lists p copy less ∙ same ∙ ap (listed lists) (sym here)
-  | inr other ↦ listed_other lists p copy c other
-]
+-- ROOM
 
 there_now : (lists : List Places) (copy : ℕ) (p : Places) → copy < length lists → slice_get (slice_set lists copy p) copy ≡ Some p
 there_now [] copy p less = absurd (omega (arith, less))
@@ -142,30 +107,6 @@ there_now (q ∷ lists) (suc c) p less = there_now lists c p (omega (arith, less
 -- a list with room is the one that the event's copy needs
 pub spare_here : (ev : Event) (lists : List Places) (p : Places) (copy : ℕ) → granted_at ev ≡ Some copy → copy < length lists → vec_len p.places < vec_capacity p.places → HasSpare ev (slice_set lists copy p)
 spare_here ev lists p copy is less spare = λ c also. (p, ap (slice_get (slice_set lists copy p)) (same_Some c copy (sym also ∙ is)) ∙ there_now lists copy p less, spare)
-
-module _ (e : Entry) (past : Past) (lists : List Places) (was : AreListed past lists) where
-  same_places : (copy : ℕ) → (granted_at e.event ≡ Some copy → ⊥) → listed lists copy ≡ places_of (λ x. grant_at copy x.event) (e ∷ past)
-  same_places copy other =
-      was.each copy ∙ sym (append-nil (places_of (λ x. grant_at copy x.event) past))
-      ∙ ap (λ o. places_of (λ x. grant_at copy x.event) past ++ option_to_list (option_map (λ _. length past) o)) (sym (no_grant copy e.event other))
-
-  -- no copy grants
-  pub none_granted : granted_at e.event ≡ None → AreListed (e ∷ past) lists
-  none_granted none = record { each = λ copy. same_places copy (λ is. none-some copy (sym none ∙ is)) }
-
-  -- a copy does
-  pub one_granted : (copy at : ℕ) (p : Places) → granted_at e.event ≡ Some copy → copy < length lists → at ≡ length past → p.places.items ≡ listed lists copy ++ at ∷ [] → AreListed (e ∷ past) (slice_set lists copy p)
-  one_granted copy at p is less now more = record {
-    each = λ c. elim (one_of c copy) [
-      | inl here ↦
-          ap (listed (slice_set lists copy p)) here ∙ listed_here lists p copy less ∙ more
-          ∙ ap (λ n. listed lists copy ++ n ∷ []) now
-          ∙ ap (λ ns. ns ++ length past ∷ []) (was.each copy)
-          ∙ ap (λ o. places_of (λ x. grant_at copy x.event) past ++ option_to_list (option_map (λ _. length past) o)) (sym (its_grant copy e.event is).1)
-          ∙ ap (λ k. places_of (λ x. grant_at k x.event) (e ∷ past)) (sym here)
-      | inr other ↦ listed_other lists p copy c other ∙ same_places c (λ also. other (same_Some c copy (sym also ∙ is)))
-    ];
-  }
 
 -- READING
 
