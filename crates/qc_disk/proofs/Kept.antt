@@ -7,7 +7,7 @@ use Rattle.qc_disk.specs.Kept.{Kept, none, write, cut, sync, before, act_kept, f
 use Rattle.qc_disk.specs.declared.records.Kind.{Kind}
 use Rattle.qc_disk.specs.declared.records.Kind.TheVariants as kind
 use Rattle.qc_disk.specs.declared.records.Change.{Change}
-use Rattle.qc_disk.proofs.Moments.{replayed-push}
+use Rattle.qc_disk.specs.Laws.{exact-replayed}
 
 -- there are as many calls as kinds
 newest_count : (kinds : List Kind) (changes : List Change) (lost : List ℕ) → length (kept_newest kinds changes lost) ≡ length kinds
@@ -26,13 +26,6 @@ kept_count kinds changes lost = newest_count (reverse kinds) (reverse changes) l
 pub acts_count : (calls : List Kept) (now : List ℕ) → length (acts_of calls now) ≡ length calls
 acts_count [] now = refl
 acts_count (call ∷ calls) now = omega (arith, length-append (acts_of calls (before call now)) (act_kept call now ∷ []), acts_count calls (before call now))
-
--- what the calls did, done to what was there before them, makes what is there
-pub exact-replayed : (calls : List Kept) (now : List ℕ) → IsExact calls now → replayed (first_of calls now) (acts_of calls now) ≡ now
-exact-replayed [] now exact = refl
-exact-replayed (call ∷ calls) now exact =
-    let was = before call now in
-    replayed-push (first_of calls was) (acts_of calls was) (act_kept call now) ∙ ap (does (act_kept call now)) (exact-replayed calls was exact.1) ∙ exact.0
 
 -- what is synced after one more act
 last_synced-push : (at_sync now : List ℕ) (acts : List Act) (act : Act) → last_synced at_sync now (acts ++ act ∷ []) ≡ syncs act (replayed now acts) (last_synced at_sync now acts)

@@ -1,16 +1,9 @@
 -- One more act joins a record: what a crash may leave then, and what it might have left since.
-use Rattle.std.proofs.Common.{◌≡◌, inl, inr, ℕ, ◌+◌, List, [], ◌∷◌, ◌++◌, length, refl, sym, ◌∙◌, ap, subst, arith, length-append, ◌<◌, ◌≤◌, ◌⊎◌}
+use Rattle.std.proofs.Common.{◌≡◌, inl, inr, ℕ, ◌+◌, List, [], ◌∷◌, ◌++◌, length, sym, ◌∙◌, subst, arith, length-append, ◌<◌, ◌≤◌, ◌⊎◌}
 use Rattle.std.specs.Prelude.{◌↔◌}
 use Rattle.std.proofs.lemmas.List.{take-append-le, take_all}
 use Rattle.std.proofs.lemmas.Bool.{cases_lt}
-use Rattle.qc_disk.specs.Tape.{tape_first, tape_acts, tape_bytes, Applied}
-use Rattle.qc_disk.specs.declared.tape.Tape.{Tape}
 use Rattle.qc_disk.specs.Replay.{Act, does, leaves, replayed, left_after, images, images_at}
-
--- the content after one more act
-pub replayed-push : (now : List ℕ) (acts : List Act) (act : Act) → replayed now (acts ++ act ∷ []) ≡ does act (replayed now acts)
-replayed-push now [] act = refl
-replayed-push now (a ∷ acts) act = replayed-push (does a now) acts act
 
 -- the images after one more act
 pub left-push : (now : List ℕ) (was : List ℕ → Type 0) (acts : List Act) (act : Act) (c : List ℕ) → left_after now was (acts ++ act ∷ []) c → leaves act (replayed now acts) (left_after now was acts) c
@@ -68,12 +61,3 @@ pub leaves-applied : (first first' : List ℕ) (acts acts' : List Act) (act : Ac
 leaves-applied first first' acts acts' act same more c left =
     let there : images first acts' c = subst (λ (f : List ℕ). images f acts' c) same left in
     left-push first (λ d. d ≡ first) acts act c (subst (λ (l : List Act). images first l c) more there)
-
--- a tape that is what its record says is so after one more act
-pub replays-applied : (old new : Tape) (act : Act) → Applied old new act → tape_bytes old ≡ replayed (tape_first old) (tape_acts old) → tape_bytes new ≡ replayed (tape_first new) (tape_acts new)
-replays-applied old new act applied is =
-    applied.bytes
-    ∙ ap (does act) is
-    ∙ sym (replayed-push (tape_first old) (tape_acts old) act)
-    ∙ sym (ap (λ (l : List Act). replayed (tape_first old) l) applied.acts)
-    ∙ sym (ap (λ (f : List ℕ). replayed f (tape_acts new)) applied.first)

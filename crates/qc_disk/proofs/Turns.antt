@@ -9,7 +9,7 @@ use Rattle.qc_disk.specs.declared.tape.Tape.{Tape}
 use Rattle.qc_disk.specs.declared.disk.DiskNo.{DiskNo}
 use Rattle.qc_disk.specs.declared.disk.DiskNo.TheVariants.{Failed, Memory}
 use Rattle.qc_disk.specs.declared.memory.MemDisk.{MemDisk}
-use Rattle.qc_disk.specs.MemDisk.{mem_first, mem_acts, mem_bytes, mem_faults, mem_syncs, mem_view, Turned, Failing, Unmade}
+use Rattle.qc_disk.specs.MemDisk.{mem_first, mem_acts, mem_bytes, mem_faults, mem_syncs, mem_replays, mem_view, Turned, Failing, Unmade}
 use Rattle.qc_disk.proofs.Moments.{Passes, elapses-applied, elapses-same, leaves-applied}
 
 abbrev images_of : MemDisk → List ℕ → Type 0
@@ -78,7 +78,7 @@ turn-memory old new act (Err Memory) turned is = unmade-stays old new turned
 failing-left : (old new : MemDisk) (act : Act) (step : List ℕ → List ℕ → Type 0) → ((c : List ℕ) → step c c) → ((c : List ℕ) → leaves act (mem_bytes old) (images_of old) c → (d : List ℕ) × images_of old d × step d c)
     → Failing old new act → Follows step (images_of old) (images_of new)
 failing-left old new act step same acts failing c left =
-    by failing.done (applied-left old.tape new.tape _ failing.tape old.replays c left)
+    by failing.done (applied-left old.tape new.tape _ failing.tape (mem_replays old) c left)
   where
     by : (done : Bool) → leaves (if done then act else nothing) (mem_bytes old) (images_of old) c → (d : List ℕ) × images_of old d × step d c
     by true left = acts c left
@@ -86,7 +86,7 @@ failing-left old new act step same acts failing c left =
 
 pub turn-follows : {T : Type 0} (old new : MemDisk) (act : Act) (step : List ℕ → List ℕ → Type 0) (result : Result T DiskNo) → ((c : List ℕ) → step c c) → ((c : List ℕ) → leaves act (mem_bytes old) (images_of old) c → (d : List ℕ) × images_of old d × step d c)
     → Turned old new act result → Follows step (images_of old) (images_of new)
-turn-follows old new act step (Ok answer) same acts turned = λ c left. acts c (applied-left old.tape new.tape act turned.tape old.replays c left)
+turn-follows old new act step (Ok answer) same acts turned = λ c left. acts c (applied-left old.tape new.tape act turned.tape (mem_replays old) c left)
 turn-follows old new act step (Err Failed) same acts turned = failing-left old new act step same acts turned
 turn-follows old new act step (Err Memory) same acts turned = λ c left. (c, untouched-left old.tape new.tape turned.tape c left, same c)
 
@@ -105,11 +105,11 @@ turn-still old new result turned = within _ _ (turn-follows old new nothing (λ 
 
 pub turn-sync : {T : Type 0} (old new : MemDisk) (result : Result T DiskNo) → Turned old new synced result → Within (images_of old) (images_of new)
 turn-sync old new result turned =
-    let here : images_of old (mem_bytes old) = image_now (mem_first old) (mem_acts old) (mem_bytes old) old.replays in
+    let here : images_of old (mem_bytes old) = image_now (mem_first old) (mem_acts old) (mem_bytes old) (mem_replays old) in
     within _ _ (turn-follows old new synced (λ d c. c ≡ d) result (λ c. refl) (λ c is. (mem_bytes old, here, is)) turned)
 
 pub turn-durable : {T : Type 0} (old new : MemDisk) (result : Result T DiskNo) → Turned old new synced result → OnOk result (Only (Some (mem_bytes old)) (images_of new))
-turn-durable old new (Ok answer) turned = λ c left. applied-left old.tape new.tape synced turned.tape old.replays c left
+turn-durable old new (Ok answer) turned = λ c left. applied-left old.tape new.tape synced turned.tape (mem_replays old) c left
 turn-durable old new (Err e) turned = tt
 
 -- what a listed call makes of the bytes

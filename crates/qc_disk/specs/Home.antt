@@ -2,7 +2,7 @@
 use Rattle.std.specs.Prelude.{◌≡◌, ◌↔◌, ℕ, List, [], ◌∷◌, length, Option, Some, None, refl}
 use Rattle.qc_disk.specs.Disk.{IsImage, HasLength}
 use Rattle.qc_disk.specs.Laws.{image_now, at_end}
-use Rattle.qc_disk.specs.MemDisk.{mem_first, mem_acts, mem_bytes, mem_images, mem_at, mem_faults, mem_syncs, IsEmpty}
+use Rattle.qc_disk.specs.MemDisk.{mem_first, mem_acts, mem_bytes, mem_replays, mem_images, mem_at, mem_faults, mem_syncs, IsEmpty}
 use Rattle.qc_disk.specs.declared.file.FileDisk.{FileDisk}
 use Rattle.qc_disk.specs.declared.home.HomeDisk.{HomeDisk}
 use Rattle.qc_disk.specs.declared.home.HomeDisk.TheVariants.{Memory, File}
@@ -72,7 +72,7 @@ HomeGives (byte ∷ rest) (File disk) = (file_calls disk ≡ 0) × (file_faults 
 
 -- a disk of either kind has the laws of a disk
 pub home_image : (disk : HomeDisk) → IsImage (home_content disk) (home_images disk)
-home_image (Memory disk) = image_now (mem_first disk) (mem_acts disk) (mem_bytes disk) disk.replays
+home_image (Memory disk) = image_now (mem_first disk) (mem_acts disk) (mem_bytes disk) (mem_replays disk)
 home_image (File disk) = tt
 
 pub home_length : (disk : HomeDisk) → HasLength (home_content disk) (home_size disk)

@@ -1,4 +1,5 @@
--- What is kept of the calls of a disk, and what was there before them: what is there now, with each of them undone.
+-- What is kept of the calls of a disk, and what was there before them: what is there now, with each
+-- of them undone.
 use Rattle.std.specs.Coded.{×_prop, Unit-prop}
 use Rattle.std.proofs.Props.{props}
 use Rattle.std.specs.Prelude.{◌≡◌, ℕ, ◌+◌, ◌-◌, min, List, [], ◌∷◌, ◌++◌, length, take, drop, reverse}
@@ -10,7 +11,8 @@ use Rattle.qc_disk.specs.declared.records.Change.{Change}
 use Rattle.qc_disk.specs.declared.records.Records.{Records}
 use Rattle.qc_disk.specs.declared.records.Past.{Past}
 
--- What is kept of a call: of a write or a cut its numbers, and the bytes that it wrote over or cut off.
+-- What is kept of a call: of a write or a cut its numbers, and the bytes that it wrote over or cut
+-- off.
 pub data Kept : Type 0 where
   none : Kept
   write : Change → List ℕ → Kept
@@ -71,7 +73,7 @@ abbrev pub lost_before : Change → List ℕ → List ℕ
 lost_before change lost = take (length lost - change.over) lost
 
 -- what is kept of calls, by their kinds and changes, the newest first, and by all bytes that they
--- wrote over or cut off, the oldest first
+-- wrote over or cut off, the oldest first; a call whose change is not there counts as none
 abbrev pub kept_newest : List Kind → List Change → List ℕ → List Kept
 kept_newest [] changes lost = []
 kept_newest (kind.Nothing ∷ kinds) changes lost = none ∷ kept_newest kinds changes lost

@@ -4,6 +4,7 @@ use Rattle.std.proofs.Common.{sym, ◌∙◌, ap, subst, arith, length-append, l
 use Rattle.std.proofs.lemmas.List.{take_all, get_or_append_left, get_or-append_right, get_or-take, get_or-drop}
 use Rattle.qc_disk.specs.Disk.{written, Torn, Cut}
 use Rattle.qc_disk.specs.Replay.{Act, nothing, wrote, cut_to, synced, does, leaves, replayed, left_after, images, images_at, syncs, last_synced, image_after}
+use Rattle.qc_disk.specs.Kept.{Kept, before, act_kept, first_of, acts_of, IsExact}
 
 pub torn_same : (at n : ℕ) (old : List ℕ) → Torn at n old old
 torn_same at n old = record { before = λ i _ _. refl; after = λ i _ _. refl; no_shorter = omega arith; no_longer = omega arith }
@@ -56,6 +57,18 @@ cut-taken to old =
       no_shorter = omega (arith, size);
       no_longer = omega (arith, size);
     }
+
+-- the content after one more act
+replayed-push : (now : List ℕ) (acts : List Act) (act : Act) → replayed now (acts ++ act ∷ []) ≡ does act (replayed now acts)
+replayed-push now [] act = refl
+replayed-push now (a ∷ acts) act = replayed-push (does a now) acts act
+
+-- what the calls did, done to what was there before them, makes what is there
+pub exact-replayed : (calls : List Kept) (now : List ℕ) → IsExact calls now → replayed (first_of calls now) (acts_of calls now) ≡ now
+exact-replayed [] now exact = refl
+exact-replayed (call ∷ calls) now exact =
+    let was = before call now in
+    replayed-push (first_of calls was) (acts_of calls was) (act_kept call now) ∙ ap (does (act_kept call now)) (exact-replayed calls was exact.1) ∙ exact.0
 
 -- the content is an image still after one act
 image-act : (act : Act) (now : List ℕ) (was : List ℕ → Type 0) → was now → leaves act now was (does act now)

@@ -1,7 +1,10 @@
 -- The parts of a disk in memory, and what a call may do to it.
 use Rattle.std.specs.Prelude.{◌≡◌, ℕ, ◌+◌, List, [], length, Option, Some, None, Bool, if◌then◌else◌, Result, Ok, Err}
+use Rattle.std.proofs.Common.{sym}
 use Rattle.qc_disk.specs.Disk.{View, next}
-use Rattle.qc_disk.specs.Replay.{Act, nothing, fault_at, syncs_in, images, images_at}
+use Rattle.qc_disk.specs.Replay.{Act, nothing, replayed, fault_at, syncs_in, images, images_at}
+use Rattle.qc_disk.specs.Kept.{records_kept}
+use Rattle.qc_disk.specs.Laws.{exact-replayed}
 use Rattle.qc_disk.specs.Tape.{tape_first, tape_acts, tape_bytes, Applied, Untouched}
 use Rattle.qc_disk.specs.declared.disk.DiskNo.{DiskNo}
 use Rattle.qc_disk.specs.declared.disk.DiskNo.TheVariants.{Failed, Memory}
@@ -19,6 +22,10 @@ mem_acts disk = tape_acts disk.tape
 -- what is there now
 abbrev pub mem_bytes : MemDisk → List ℕ
 mem_bytes disk = tape_bytes disk.tape
+
+-- what the calls did, done to what it was made with, makes what is there now
+pub mem_replays : (disk : MemDisk) → mem_bytes disk ≡ replayed (mem_first disk) (mem_acts disk)
+mem_replays disk = sym (exact-replayed (records_kept disk.tape.records) (mem_bytes disk) disk.tape.exact)
 
 -- what a crash may leave
 abbrev pub mem_images : MemDisk → List ℕ → Type 0

@@ -1,7 +1,5 @@
 //! A disk in memory, which tells its bytes and fails at the calls that it is told to.
 ghost use Rattle.std.specs.Prelude.{◌≡◌, [], length, refl};
-ghost use Rattle.qc_disk.specs.Replay.{replayed};
-ghost use Rattle.qc_disk.specs.Tape.{tape_first, tape_acts, tape_bytes};
 
 use crate::disk::{Disk, DiskNo};
 use crate::faults::{FailAt, fault_of};
@@ -15,7 +13,6 @@ pub struct MemDisk {
     tape: Tape,
     fails: Vec<FailAt>,
     faults: u64,
-    ghost replays: { tape_bytes tape ≡ replayed (tape_first tape) (tape_acts tape) },
 }
 
 impl MemDisk {
@@ -103,11 +100,11 @@ impl Disk for MemDisk {
     ghost use Rattle.qc_disk.specs.Disk.{HasCause, Rose, written, Torn, Cut, Follows, Within, Only, Steps, Holds, Elapses, Advances, Stays};
     ghost use Rattle.qc_disk.specs.Replay.{nothing, wrote, cut_to, synced};
     ghost use Rattle.qc_disk.specs.Laws.{image_now, at_end};
-    ghost use Rattle.qc_disk.specs.MemDisk.{mem_first, mem_acts, mem_bytes, mem_faults, mem_syncs, mem_images, mem_view, Turned};
+    ghost use Rattle.qc_disk.specs.MemDisk.{mem_first, mem_acts, mem_bytes, mem_faults, mem_syncs, mem_images, mem_replays, mem_view, Turned};
 
     ghost view = { mem_view };
 
-    ghost reads_as_image = { λ disk. image_now (mem_first disk) (mem_acts disk) (mem_bytes disk) disk.replays };
+    ghost reads_as_image = { λ disk. image_now (mem_first disk) (mem_acts disk) (mem_bytes disk) (mem_replays disk) };
 
     ghost has_size = { λ disk. refl };
 

@@ -2,7 +2,8 @@
 use Rattle.std.proofs.Common.{◌≡◌, ℕ, List, length, take, Bool, true, false, sym, ◌∙◌, ap, ap₂, arith, rules, Vec, Global}
 use Rattle.qc_disk.specs.Replay.{replayed, last_synced, image_after}
 use Rattle.qc_disk.specs.Kept.{Kept, first_of, acts_of, IsExact, records_kept, past_kept}
-use Rattle.qc_disk.proofs.Kept.{same_kept, kept_count, acts_count, exact-replayed}
+use Rattle.qc_disk.specs.Laws.{exact-replayed}
+use Rattle.qc_disk.proofs.Kept.{same_kept, kept_count, acts_count}
 use Rattle.qc_disk.proofs.tape.Tape.image_at.Goals as goal
 use Rattle.qc_disk.proofs.tape.Tape.image_at.Goals.{then-not-done+in_ok-rewind_to_sync, else-not-done}
 
