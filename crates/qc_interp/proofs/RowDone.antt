@@ -25,7 +25,7 @@ use Rattle.qc_interp.proofs.RowEnds.{row_front}
 use Rattle.qc_interp.proofs.RowHere.{HaveOwnBodies}
 use Rattle.qc_interp.proofs.RowLeaves.{row_leaves, row_joined}
 use Rattle.qc_interp.proofs.RowOurs.{tries_ours}
-use Rattle.qc_interp.proofs.RowOut.{RowOut, row_through, row_quit, row_stops}
+use Rattle.qc_interp.proofs.RowOut.{RowOut, row_through, row_quit, row_stops, row_cut_behind}
 use Rattle.qc_interp.proofs.RowRan.{Became, has_become, MadeNoMore, MergedSome}
 use Rattle.qc_interp.proofs.RowRuns.{row_runs_on, row_has_failed}
 use Rattle.qc_interp.proofs.RowStands.{all_tried, one_failed}
@@ -137,24 +137,39 @@ last_place (t ∷ front) last = last_place front last
 -- THE STEP
 
 -- whether all were tried as often as they are, and which failed first
-abbrev pub out_of : BranchCame → Bool
+abbrev out_of : BranchCame → Bool
 out_of (came.Refused why) = false
 out_of x = true
 
-abbrev pub failed_of : BranchCame → Option Name
+abbrev failed_of : BranchCame → Option Name
 failed_of (came.Failed last) = Some last
 failed_of x = None
 
-module _ (of : Name) (v w1 w2 w3 : View) (bs0 bs1 bs2 : List Stands) (runs : Runs v.client of v.seen) (began : BeganInTurn v of bs0 w1) (shown : InPairs (WasShown w1.seen) bs0 bs1) (same : w2.client ≡ w1.client) (made : Made w1.client [] w1.seen w2.seen) (ran : InPairs HasRun bs1 bs2)
-    (merged : MergedInTurn w2 bs2 w3) (some : MergedSome w3) (own : HaveOwnBodies (map branch_in bs2)) where
+-- The bodies of a step were all begun; their branches were shown the starts of all, ran and were merged.
+pub record RowDone (of : Name) (v w3 : View) (bs2 : List Stands) (bodies : List Numbered) : Type 0 where
+  pub w1 : View
+  pub w2 : View
+  pub bs0 : List Stands
+  pub bs1 : List Stands
+  pub runs : Runs v.client of v.seen
+  pub began : BeganInTurn v of bs0 w1
+  pub shown : InPairs (WasShown w1.seen) bs0 bs1
+  pub same : w2.client ≡ w1.client
+  pub made : Made w1.client [] w1.seen w2.seen
+  pub ran : InPairs HasRun bs1 bs2
+  pub merged : MergedInTurn w2 bs2 w3
+  pub some : MergedSome w3
+  pub own : HaveOwnBodies (map branch_in bs2)
+  pub are : map (λ (b : Branch). b.body) (map branch_in bs2) ≡ bodies
+
+module _ (of : Name) (v w3 : View) (bs2 : List Stands) (bodies : List Numbered) (r : RowDone of v w3 bs2 bodies) where
+  open r use {w1, w2, bs0, bs1, runs, began, shown, same, made, ran, merged, some, own, are}
+
   abbrev c : Client
   c = v.client
 
   abbrev bs : List Branch
   bs = map branch_in bs2
-
-  abbrev pub bodies : List Numbered
-  bodies = map (λ (b : Branch). b.body) bs
 
   became : InPairs Became bs1 bs2
   became = all_become bs1 bs2 ran
@@ -173,7 +188,8 @@ module _ (of : Name) (v w1 w2 w3 : View) (bs0 bs1 bs2 : List Stands) (runs : Run
 
   -- where one was cut off
   pub done_cut : (rest : Plan) → CutOff w3.client of v.seen w3.seen (row_step bodies rest)
-  done_cut rest = subst (λ d. CutOff d of v.seen w3.seen (row_step bodies rest)) (sym is) (row_cut (λ b. Unit {0}) c of v.seen w1.seen w3.seen bs cut_row runs own rest)
+  done_cut rest = subst (λ l. CutOff w3.client of v.seen w3.seen (row_step l rest)) are
+      (subst (λ d. CutOff d of v.seen w3.seen (row_step (map (λ (b : Branch). b.body) bs) rest)) (sym is) (row_cut (λ b. Unit {0}) c of v.seen w1.seen w3.seen bs cut_row runs own rest))
 
   pub done_room : (why : Short) → row_came (Ok came.Through) bs2 ≡ Err why → why ≡ short.Room → length w3.seen ≡ limit
   done_room why short = short_room w3.seen bs2 came.Through why came_all short
@@ -187,11 +203,11 @@ module _ (of : Name) (v w1 w2 w3 : View) (bs0 bs1 bs2 : List Stands) (runs : Run
     out ours = how_out w3.seen bs2 came.Through x came_all (each_place (λ (b : Branch). AreTriesOurs b.client w3.seen) bs (λ i b at. tries_ours Reach.to_the_end (λ b. Unit {0}) c of v.seen w1.seen w3.seen bs row runs ours i b at)) came_to
 
     pub done_out : RowOut w3.client of v.seen w3.seen bodies (out_of x) (failed_of x)
-    done_out = subst (λ d. RowOut d of v.seen w3.seen bodies (out_of x) (failed_of x)) (sym is) (record {
+    done_out = subst (λ l. RowOut w3.client of v.seen w3.seen l (out_of x) (failed_of x)) are (subst (λ d. RowOut d of v.seen w3.seen (map (λ (b : Branch). b.body) bs) (out_of x) (failed_of x)) (sym is) (record {
       leaves = row_leaves Reach.to_the_end (λ b. Unit {0}) c of v.seen w1.seen w3.seen bs row runs;
       runs = row_runs_on (λ b. Unit {0}) c of v.seen w1.seen w3.seen bs row runs;
       front = row_front (λ b. Unit {0}) c of v.seen w1.seen w3.seen bs row runs own (out_of x) (failed_of x) (λ ours. tried x (out ours)) (λ ours all. first x all (out ours));
-    })
+    }))
       where
         t : Bool
         t = all_tried w3.seen bs
@@ -237,3 +253,6 @@ module _ (of : Name) (v w1 w2 w3 : View) (bs0 bs1 bs2 : List Stands) (runs : Run
         by_case (came.Failed last) (Some again) o knows went is_refusal = λ rest. row_quit w3.client of v.seen w3.seen bodies y last again rest o knows went
         by_case (came.Refused why) None o knows went is_refusal = absurd went
         by_case (came.Refused why) (Some again) o knows went is_refusal = λ rest. row_stops w3.client of v.seen w3.seen bodies y why again rest o (is_refusal why refl) went
+
+    pub done_cut_behind : (y : Past) (rest : Plan) → Made w3.client [] w3.seen y → CutOff w3.client of v.seen y (row_step bodies rest)
+    done_cut_behind y rest m = row_cut_behind w3.client of v.seen w3.seen bodies y (out_of x) (failed_of x) rest done_out m

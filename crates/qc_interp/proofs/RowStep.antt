@@ -1,98 +1,23 @@
--- A step whose branches all ran, by what each call of it left.
-use Rattle.std.proofs.Common.{◌≡◌, ◌<◌, Bool, List, [], ◌∷◌, map, length, refl, sym, ap, ◌∙◌, subst, arith, Ok, Err}
-use Rattle.std.specs.Prelude.{Option, ◌==◌}
+-- A step that runs bodies at once, by what each call of it left, where the code holds each branch in some way.
+use Rattle.std.proofs.Common.{◌≡◌, ◌<◌, List, [], ◌∷◌, ◌++◌, map, length, refl, sym, ap, ◌∙◌, subst, arith}
+use Rattle.std.specs.Prelude.{◌==◌}
 use Rattle.std.specs.List.{AllByRecursion, IsDistinct}
 use Rattle.std.proofs.lemmas.List.{length-map}
-use Rattle.qc_event.specs.declared.log.Short.{Short}
-use Rattle.qc_event.specs.declared.log.Short.TheVariants as short
 use Rattle.qc_event.specs.History.{Past, Name, limit}
-use Rattle.qc_script.specs.Client.{Client, View, Made, HasJoined}
+use Rattle.qc_script.specs.declared.tx.TxNo.{TxNo}
+use Rattle.qc_script.specs.declared.tx.TxNo.TheVariants as tx_no
+use Rattle.qc_script.specs.Client.{Client, View, Made}
 use Rattle.qc_script.specs.Plan.{Plan, Numbered, PlanFits}
-use Rattle.qc_interp.specs.declared.body.branch.BranchCame.{BranchCame}
-use Rattle.qc_interp.specs.declared.body.branch.BranchCame.TheVariants as came
-use Rattle.qc_interp.specs.AtOnce.{Stands, branch_in, BeganInTurn, InPairs, WasShown, HasRun, MayRun, MergedInTurn, row_came, KnowsBehind, WentBehind}
+use Rattle.qc_interp.specs.AtOnce.{Stands, branch_in, BeganInTurn, BeganSome, InPairs, WasShown, HasRun, MayRun, AreOut, MergedInTurn}
 use Rattle.qc_interp.specs.Branches.{Branch, row_step}
-use Rattle.qc_interp.specs.Running.{Runs, CutOff, HasActed}
+use Rattle.qc_interp.specs.Running.{Runs}
 use Rattle.qc_interp.proofs.BranchPlans.{BodyFits}
-use Rattle.qc_interp.proofs.RowHere.{HaveOwnBodies}
+use Rattle.qc_interp.proofs.RowDone.{RowDone, all_become}
 use Rattle.qc_interp.proofs.RowFits.{fits_own, fits_some, fits_each, may_run}
-use Rattle.qc_interp.proofs.RowMet.{merged_any, map_twice}
-use Rattle.qc_interp.proofs.RowOut.{row_cut_behind}
-use Rattle.qc_interp.proofs.RowRan.{MergedSome}
-use Rattle.qc_interp.proofs.RowDone.{all_become, done_joined, done_cut, done_room, done_out, done_knows, done_acted, out_of, failed_of}
-use Rattle.qc_interp.proofs.RowWhole.{same_numbers}
-
-pub record RowRanSo (of : Name) (v w3 : View) (bs2 : List Stands) (bodies : List Numbered) : Type 0 where
-  pub w1 : View
-  pub w2 : View
-  pub bs0 : List Stands
-  pub bs1 : List Stands
-  pub runs : Runs v.client of v.seen
-  pub began : BeganInTurn v of bs0 w1
-  pub shown : InPairs (WasShown w1.seen) bs0 bs1
-  pub same : w2.client ≡ w1.client
-  pub made : Made w1.client [] w1.seen w2.seen
-  pub ran : InPairs HasRun bs1 bs2
-  pub merged : MergedInTurn w2 bs2 w3
-  pub some : MergedSome w3
-  pub own : HaveOwnBodies (map branch_in bs2)
-  pub are : map (λ (b : Branch). b.body) (map branch_in bs2) ≡ bodies
-
-pub bodies_same : (seen : Past) (bs0 bs1 bs2 : List Stands) (bodies : List Numbered) → map (λ (b : Stands). b.body) bs0 ≡ bodies → InPairs (WasShown seen) bs0 bs1 → InPairs HasRun bs1 bs2 → map (λ (b : Branch). b.body) (map branch_in bs2) ≡ bodies
-bodies_same seen bs0 bs1 bs2 bodies were shown ran = map_twice (λ (b : Branch). b.body) branch_in bs2 ∙ (same_numbers seen bs0 bs1 bs2 shown (all_become bs1 bs2 ran)).1 ∙ were
-
-pub ran_so : (of : Name) (v w1 w2 w3 : View) (bs0 bs1 bs2 : List Stands) (bodies : List Numbered) → Runs v.client of v.seen → PlanFits v.client.setting (length of) (row_step bodies Plan.done) → map (λ (b : Stands). b.body) bs0 ≡ bodies → BeganInTurn v of bs0 w1
-    → InPairs (WasShown w1.seen) bs0 bs1 → w2.client ≡ w1.client → Made w1.client [] w1.seen w2.seen → InPairs HasRun bs1 bs2 → MergedInTurn w2 bs2 w3 → RowRanSo of v w3 bs2 bodies
-ran_so of v w1 w2 w3 bs0 bs1 bs2 bodies runs fits were began shown same made ran merged =
-    let are = bodies_same w1.seen bs0 bs1 bs2 bodies were shown ran in
-    record {
-      w1 = w1;
-      w2 = w2;
-      bs0 = bs0;
-      bs1 = bs1;
-      runs = runs;
-      began = began;
-      shown = shown;
-      same = same;
-      made = made;
-      ran = ran;
-      merged = merged;
-      some = merged_any w2 w3 bs2 (long are) merged;
-      own = subst (λ l. IsDistinct ◌==◌ (map (λ (b : Numbered). b.number) l)) (sym are) (fits_own v.client.setting (length of) bodies Plan.done fits);
-      are = are;
-    }
-  where
-    long : map (λ (b : Branch). b.body) (map branch_in bs2) ≡ bodies → 0 < length bs2
-    long are =
-        let some = fits_some v.client.setting (length of) bodies Plan.done fits in
-        omega (arith, some, ap length are, length-map (map branch_in bs2) (λ (b : Branch). b.body), length-map bs2 branch_in)
-
-module _ (of : Name) (v w3 : View) (bs2 : List Stands) (bodies : List Numbered) (r : RowRanSo of v w3 bs2 bodies) where
-  pub ran_joined : HasJoined v.client v.seen w3.client
-  ran_joined = done_joined of v r.w1 r.w2 w3 r.bs0 r.bs1 bs2 r.runs r.began r.shown r.same r.made r.ran r.merged r.some r.own
-
-  pub ran_cut_off : (rest : Plan) → CutOff w3.client of v.seen w3.seen (row_step bodies rest)
-  ran_cut_off rest = subst (λ l. CutOff w3.client of v.seen w3.seen (row_step l rest)) r.are (done_cut of v r.w1 r.w2 w3 r.bs0 r.bs1 bs2 r.runs r.began r.shown r.same r.made r.ran r.merged r.some r.own rest)
-
-  pub ran_room : (why : Short) → row_came (Ok came.Through) bs2 ≡ Err why → why ≡ short.Room → length w3.seen ≡ limit
-  ran_room why is = done_room of v r.w1 r.w2 w3 r.bs0 r.bs1 bs2 r.runs r.began r.shown r.same r.made r.ran r.merged r.some r.own why is
-
-  module _ (x : BranchCame) (is : row_came (Ok came.Through) bs2 ≡ Ok x) where
-    pub ran_runs : Runs w3.client of w3.seen
-    ran_runs = (done_out of v r.w1 r.w2 w3 r.bs0 r.bs1 bs2 r.runs r.began r.shown r.same r.made r.ran r.merged r.some r.own x is).runs
-
-    pub ran_knows : KnowsBehind w3.client of w3.seen x
-    ran_knows = done_knows of v r.w1 r.w2 w3 r.bs0 r.bs1 bs2 r.runs r.began r.shown r.same r.made r.ran r.merged r.some r.own x is
-
-    pub ran_acted : (y : Past) (a : Option Bool) → WentBehind w3.client of w3.seen y x a → HasActed w3.client of v.seen y (row_step bodies) a
-    ran_acted y a went = subst (λ l. HasActed w3.client of v.seen y (row_step l) a) r.are (done_acted of v r.w1 r.w2 w3 r.bs0 r.bs1 bs2 r.runs r.began r.shown r.same r.made r.ran r.merged r.some r.own x is y a went)
-
-    pub ran_cut_behind : (y : Past) (rest : Plan) → Made w3.client [] w3.seen y → CutOff w3.client of v.seen y (row_step bodies rest)
-    ran_cut_behind y rest m =
-        subst (λ l. CutOff w3.client of v.seen y (row_step l rest)) r.are
-        (row_cut_behind w3.client of v.seen w3.seen _ y (out_of x) (failed_of x) rest (done_out of v r.w1 r.w2 w3 r.bs0 r.bs1 bs2 r.runs r.began r.shown r.same r.made r.ran r.merged r.some r.own x is) m)
-
--- WHAT IT FITS
+use Rattle.qc_interp.proofs.RowMet.{merged_any, map_twice, ran_met}
+use Rattle.qc_interp.proofs.RowTurnedDone.{turned_room}
+use Rattle.qc_interp.proofs.RowTurnedOut.{RowTurned}
+use Rattle.qc_interp.proofs.RowWhole.{same_numbers, all_out}
 
 pub row_depth : (c : Client) (of : Name) (bodies : List Numbered) → PlanFits c.setting (length of) (row_step bodies Plan.done) → length of < 16
 row_depth c of [] fits = absurd (let some = fits.1 in omega (arith, some))
@@ -104,7 +29,85 @@ shown_bodies seen [] (b ∷ bs1) h = absurd h
 shown_bodies seen (b ∷ bs0) [] h = absurd h
 shown_bodies seen (b ∷ bs0) (b1 ∷ bs1) h = ap (λ k. k ∷ map (λ (y : Stands). y.body) bs1) h.0.body ∙ ap (λ l. b.body ∷ l) (shown_bodies seen bs0 bs1 h.1)
 
-pub row_may : (v w : View) (of : Name) (bs0 bs1 : List Stands) (bodies : List Numbered) → Runs v.client of v.seen → PlanFits v.client.setting (length of) (row_step bodies Plan.done) → map (λ (b : Stands). b.body) bs0 ≡ bodies → BeganInTurn v of bs0 w → InPairs (WasShown w.seen) bs0 bs1
-    → AllByRecursion (MayRun of) bs1
-row_may v w of bs0 bs1 bodies runs fits were began shown =
-    may_run v w of bs0 bs1 runs began shown (subst (AllByRecursion (BodyFits v.client.setting (length of))) (sym were) (fits_each v.client.setting (length of) bodies Plan.done fits))
+-- where no branch is, none were given and merged
+none_given : {A B : Type 0} (f : A → B) (news olds : List A) → length news ≡ length olds → map f news ≡ [] → olds ≡ []
+none_given f [] [] long is = refl
+none_given f [] (x ∷ olds) long is = absurd cc
+none_given f (x ∷ news) olds long is = absurd cc
+
+none_merged : (v w : View) (ones : List Stands) → MergedInTurn v ones w → ones ≡ [] → w ≡ v
+none_merged v w [] merged is = merged
+none_merged v w (b ∷ ones) merged is = absurd cc
+
+-- The bodies were begun, and their branches shown the starts of all.
+module _ {B : Type 0} (st : B → Stands) (of : Name) (v w1 w2 : View) (items ones : List B) (bodies : List Numbered) (runs : Runs v.client of v.seen) (fits : PlanFits v.client.setting (length of) (row_step bodies Plan.done)) (shown : InPairs (WasShown w1.seen) (map st items) (map st ones))
+    (same : w2.client ≡ w1.client) (made : Made w1.client [] w1.seen w2.seen) where
+  -- all of them
+  module _ (began : BeganInTurn v of (map st items) w1) (are : map (λ b. (st b).body) items ≡ bodies) where
+    were : map (λ (b : Stands). b.body) (map st items) ≡ bodies
+    were = map_twice (λ (b : Stands). b.body) st items ∙ are
+
+    pub bodies_begun : map (λ b. (st b).body) ones ≡ bodies
+    bodies_begun = sym (map_twice (λ (b : Stands). b.body) st ones) ∙ shown_bodies w1.seen (map st items) (map st ones) shown ∙ were
+
+    pub row_may : AllByRecursion (MayRun of) (map st ones)
+    row_may = may_run v w1 of (map st items) (map st ones) runs began shown (subst (AllByRecursion (BodyFits v.client.setting (length of))) (sym were) (fits_each v.client.setting (length of) bodies Plan.done fits))
+
+    module _ (twos : List B) (ran : InPairs HasRun (map st ones) (map st twos)) where
+      pub row_out : AreOut w2.client.out w2.client.net (map st twos)
+      row_out = all_out of v w1 w2 (map st items) (map st ones) (map st twos) runs.legal began shown same (all_become (map st ones) (map st twos) ran) (ran_met (map st ones) (map st twos) ran)
+
+      pub row_done : (w3 : View) → MergedInTurn w2 (map st twos) w3 → RowDone of v w3 (map st twos) bodies
+      row_done w3 merged = record {
+        w1 = w1;
+        w2 = w2;
+        bs0 = map st items;
+        bs1 = map st ones;
+        runs = runs;
+        began = began;
+        shown = shown;
+        same = same;
+        made = made;
+        ran = ran;
+        merged = merged;
+        some = merged_any w2 w3 (map st twos) long merged;
+        own = subst (λ l. IsDistinct ◌==◌ (map (λ (b : Numbered). b.number) l)) (sym kept) (fits_own v.client.setting (length of) bodies Plan.done fits);
+        are = kept;
+      }
+        where
+          kept : map (λ (b : Branch). b.body) (map branch_in (map st twos)) ≡ bodies
+          kept = map_twice (λ (b : Branch). b.body) branch_in (map st twos) ∙ (same_numbers w1.seen (map st items) (map st ones) (map st twos) shown (all_become (map st ones) (map st twos) ran)).1 ∙ were
+
+          long : 0 < length (map st twos)
+          long =
+              let some = fits_some v.client.setting (length of) bodies Plan.done fits in
+              omega (arith, some, ap length kept, length-map (map branch_in (map st twos)) (λ (b : Branch). b.body), length-map (map st twos) branch_in)
+
+  -- the first few, and the next was refused
+  pub row_turned : (why : TxNo) (w3 : View) (firsts : List Name) → BeganSome v of (map st items) w1 why → (others : List Numbered) × (0 < length others) × (bodies ≡ map (λ b. (st b).body) items ++ others) → MergedInTurn w2 (map st ones) w3 → firsts ≡ map (λ b. (st b).first) ones
+      → RowTurned of v w3 bodies why firsts
+  row_turned why w3 firsts began others merged are = record {
+    begun = w1;
+    seen_by_all = w2;
+    bs = map st items;
+    ones = map st ones;
+    others = others.0;
+    runs = runs;
+    began = began;
+    shown = shown;
+    same = same;
+    made = made;
+    merged = merged;
+    first = others.2 ∙ ap (λ l. l ++ others.0) (sym (map_twice (λ (b : Stands). b.body) st items));
+    some = others.1;
+    then = Plan.done;
+    fits = fits;
+    are = are ∙ sym (map_twice (λ (b : Stands). b.first) st ones);
+  }
+
+  -- Where there was no room to begin that one, there is none; `lent` are the branches as they were before they were shown.
+  pub row_room : (why : TxNo) (w3 : View) (firsts : List Name) (began : BeganSome v of (map st items) w1 why) (others : (others : List Numbered) × (0 < length others) × (bodies ≡ map (λ b. (st b).body) items ++ others)) (merged : MergedInTurn w2 (map st ones) w3) (are : firsts ≡ map (λ b. (st b).first) ones) (lent : List B)
+      → length ones ≡ length lent → (lent ≡ [] → w2.seen ≡ w1.seen) → why ≡ tx_no.Room → length w3.seen ≡ limit
+  unfolding row_turned
+  row_room why w3 firsts began others merged are lent long idle = turned_room of v w3 bodies why firsts (row_turned why w3 firsts began others merged are) (λ empty.
+      ap (λ (x : View). x.seen) (none_merged w2 w3 (map st ones) merged empty) ∙ idle (none_given st ones lent long empty))

@@ -1,17 +1,18 @@
--- What a step leaves of whose branches not all could be begun.
-use Rattle.std.proofs.Common.{◌≡◌, ◌<◌, Bool, true, false, List, [], ◌++◌, length, map, sym, subst}
+-- What a step leaves of whose bodies not all could be begun.
+use Rattle.std.proofs.Common.{◌≡◌, Bool, true, false, List, [], ◌∷◌, length, map, refl, sym, subst}
 use Rattle.std.specs.Prelude.{Option, None, Some, is_some}
 use Rattle.std.specs.List.{AllByRecursion}
-use Rattle.qc_event.specs.History.{Past, Name, end}
+use Rattle.qc_event.specs.History.{Past, Name, end, limit}
 use Rattle.qc_event.specs.Legal.{Legal}
 use Rattle.qc_script.specs.declared.tx.TxNo.{TxNo}
 use Rattle.qc_script.specs.declared.tx.TxNo.TheVariants as tx_no
+use Rattle.qc_script.specs.Calls.{Refuses}
 use Rattle.qc_script.specs.Client.{View, Made}
-use Rattle.qc_script.specs.Plan.{Plan, Numbered, PlanFits}
+use Rattle.qc_script.specs.Plan.{Plan, Numbered}
 use Rattle.qc_interp.specs.declared.body.branch.BranchCame.TheVariants as came
-use Rattle.qc_interp.specs.AtOnce.{Stands, branch_in, BeganSome, InPairs, WasShown, MergedInTurn, RefusedSo, IsFirst, TurnedSome, TurnedAll, KnowsBehind, WentBehind}
-use Rattle.qc_interp.specs.Branches.{row_step}
-use Rattle.qc_interp.specs.Running.{Runs, CutOff, HasActed}
+use Rattle.qc_interp.specs.AtOnce.{Stands, branch_in, MergedInTurn, RefusedSo, IsFirst, TurnedSome, TurnedAll, KnowsBehind, WentBehind}
+use Rattle.qc_interp.specs.Branches.{Branch, row_step}
+use Rattle.qc_interp.specs.Running.{CutOff, HasActed}
 use Rattle.qc_interp.proofs.BranchEnds.{refusal_stops, why_refused}
 use Rattle.qc_interp.proofs.BranchPlans.{BodyFits}
 use Rattle.qc_interp.proofs.Growth.{made_itself}
@@ -19,16 +20,14 @@ use Rattle.qc_interp.proofs.RowAborts.{Back, back_some, back_all, refused_still}
 use Rattle.qc_interp.proofs.RowBack.{none_back}
 use Rattle.qc_interp.proofs.RowFits.{fits_each}
 use Rattle.qc_interp.proofs.RowOut.{RowOut, row_stops, row_cut_behind}
-use Rattle.qc_interp.proofs.RowTurnedOut.{back_cut, back_out, back_legal}
-use Rattle.qc_interp.proofs.RowTurning.{all_front, turned_firsts, turned_grown}
+use Rattle.qc_interp.proofs.RowTurnedOut.{RowTurned, back_cut, back_out, back_legal}
+use Rattle.qc_interp.proofs.RowTurning.{all_front, turned_firsts, turned_grown, turned_refused}
 
-module _ (of : Name) (v m m1 w : View) (bs ones : List Stands) (why : TxNo) (runs : Runs v.client of v.seen) (began : BeganSome v of bs m why) (shown : InPairs (WasShown m.seen) bs ones) (same : m1.client ≡ m.client) (made : Made m.client [] m.seen m1.seen)
-    (merged : MergedInTurn m1 ones w) (bodies others : List Numbered) (first : bodies ≡ map (λ (b : Stands). b.body) bs ++ others) (some : 0 < length others) (then : Plan) (fits : PlanFits v.client.setting (length of) (row_step bodies then)) where
-  abbrev firsts : List Name
-  firsts = map (λ (b : Stands). b.first) ones
+module _ (of : Name) (v w : View) (bodies : List Numbered) (why : TxNo) (firsts : List Name) (t : RowTurned of v w bodies why firsts) where
+  open t use {begun as m, seen_by_all as m1, bs, ones, others, runs, began, shown, same, made, merged, first, then, fits, are}
 
-  pub turned_legal : Legal w.client.setting w.seen
-  turned_legal = back_legal of v m m1 w bs ones why runs began shown same made merged bodies others first some then fits
+  legal : Legal w.client.setting w.seen
+  legal = back_legal of v w bodies why firsts t
 
   -- it is refused still
   pub turned_refused_so : (why ≡ tx_no.Memory → ⊥) → (why ≡ tx_no.Room → ⊥) → RefusedSo w.seen of why
@@ -36,29 +35,34 @@ module _ (of : Name) (v m m1 w : View) (bs ones : List Stands) (why : TxNo) (run
       let grown = turned_grown of v m m1 bs ones why runs began shown same made w merged in
       subst (λ h. RefusedSo h of why) (sym grown.1) (refused_still grown.0 m.seen of why (why_refused m.client of began.0.seen m.seen why began.2.refused other full))
 
+  -- Where there was no room to begin it, there is none. Where none was begun nothing was seen meanwhile.
+  pub turned_room : (ones ≡ [] → w.seen ≡ m.seen) → why ≡ tx_no.Room → length w.seen ≡ limit
+  turned_room idle is = subst (Refuses w.seen of) is (turned_refused of v m m1 bs ones why runs began shown same made w merged idle)
+
   -- those that it aborts
-  pub turned_are_firsts : AllByRecursion (IsFirst of w.seen) (map (λ (b : Stands). b.first) ones)
-  turned_are_firsts = turned_firsts of v m m1 bs ones why runs began shown same made w merged
+  first_tries : AllByRecursion (IsFirst of w.seen) (map (λ (b : Stands). b.first) ones)
+  first_tries = turned_firsts of v m m1 bs ones why runs began shown same made w merged
       (all_front (BodyFits v.client.setting (length of)) (map (λ (b : Stands). b.body) bs) others (subst (AllByRecursion (BodyFits v.client.setting (length of))) first (fits_each v.client.setting (length of) bodies then fits)))
 
-  -- it was cut off before an abort, or as some were aborted
-  pub turned_cut_off : (x : Past) (rest : Plan) → TurnedSome w.client (map (λ (b : Stands). b.first) ones) w.seen x → CutOff w.client of v.seen x (row_step bodies rest)
-  turned_cut_off x rest turned =
-      let back = back_some w.client ones w.seen x turned in
-      back_cut of v m m1 w bs ones why runs began shown same made merged bodies others first some then fits back.0 x back.1 rest
+  pub turned_are_firsts : AllByRecursion (IsFirst of w.seen) firsts
+  turned_are_firsts = subst (AllByRecursion (IsFirst of w.seen)) (sym are) first_tries
 
+  -- it was cut off before an abort, or as some were aborted
   pub turned_cut_at_once : (rest : Plan) → CutOff w.client of v.seen w.seen (row_step bodies rest)
-  turned_cut_at_once rest =
-      back_cut of v m m1 w bs ones why runs began shown same made merged bodies others first some then fits [] w.seen
-      (subst (λ es. Made w.client es w.seen w.seen) (sym (none_back w.client (map branch_in ones))) (made_itself w.client w.seen turned_legal)) rest
+  turned_cut_at_once rest = back_cut of v w bodies why firsts t [] w.seen (subst (λ es. Made w.client es w.seen w.seen) (sym (none_back w.client (map branch_in ones))) (made_itself w.client w.seen legal)) rest
+
+  pub turned_cut_off : (x : Past) (rest : Plan) → TurnedSome w.client firsts w.seen x → CutOff w.client of v.seen x (row_step bodies rest)
+  turned_cut_off x rest turned =
+      let back = back_some w.client ones w.seen x (subst (λ ns. TurnedSome w.client ns w.seen x) are turned) in
+      back_cut of v w bodies why firsts t back.0 x back.1 rest
 
   -- all have ended
-  module _ (refused : RefusedSo w.seen of why) (x : Past) (turned : TurnedAll w.client why (map (λ (b : Stands). b.first) ones) w.seen x) where
-    back : Back w.client ones w.seen x × AllByRecursion (λ (b : Rattle.qc_interp.specs.Branches.Branch). is_some (end x b.first) ≡ true) (map branch_in ones)
-    back = back_all w.client of ones w.seen x why turned_legal runs.nonroot refused turned_are_firsts turned
+  module _ (refused : RefusedSo w.seen of why) (x : Past) (turned : TurnedAll w.client why firsts w.seen x) where
+    back : Back w.client ones w.seen x × AllByRecursion (λ (b : Branch). is_some (end x b.first) ≡ true) (map branch_in ones)
+    back = back_all w.client of ones w.seen x why legal runs.nonroot refused first_tries (subst (λ ns. TurnedAll w.client why ns w.seen x) are turned)
 
     pub turned_row_out : RowOut w.client of v.seen x bodies false None
-    turned_row_out = back_out of v m m1 w bs ones why runs began shown same made merged bodies others first some then fits back.0.0 x back.0.1 back.1
+    turned_row_out = back_out of v w bodies why firsts t back.0.0 x back.0.1 back.1
 
     -- it stops by the refusal
     pub turned_knows : KnowsBehind w.client of x (came.Refused why)

@@ -27,8 +27,29 @@ use Rattle.qc_interp.proofs.RowTurnedEnds.{row_turned_cut, row_turned_front}
 use Rattle.qc_interp.proofs.RowTurning.{become_itself, none_or_some, all_front, bodies_in, joined_one, joined_old, runs_then, turned_client, turned_made, turned_only, turned_row}
 use Rattle.qc_interp.proofs.RowWhole.{same_numbers}
 
-module _ (of : Name) (v m m1 w : View) (bs ones : List Stands) (why : TxNo) (runs : Runs v.client of v.seen) (began : BeganSome v of bs m why) (shown : InPairs (WasShown m.seen) bs ones) (same : m1.client ≡ m.client) (made : Made m.client [] m.seen m1.seen)
-    (merged : MergedInTurn m1 ones w) (bodies others : List Numbered) (first : bodies ≡ map (λ (b : Stands). b.body) bs ++ others) (some : 0 < length others) (then : Plan) (fits : PlanFits v.client.setting (length of) (row_step bodies then)) where
+-- The first bodies of a step were begun and the next was refused; their branches were shown the starts of all and merged. These
+-- are their first tries.
+pub record RowTurned (of : Name) (v w : View) (bodies : List Numbered) (why : TxNo) (firsts : List Name) : Type 0 where
+  pub begun : View
+  pub seen_by_all : View
+  pub bs : List Stands
+  pub ones : List Stands
+  pub others : List Numbered
+  pub runs : Runs v.client of v.seen
+  pub began : BeganSome v of bs begun why
+  pub shown : InPairs (WasShown begun.seen) bs ones
+  pub same : seen_by_all.client ≡ begun.client
+  pub made : Made begun.client [] begun.seen seen_by_all.seen
+  pub merged : MergedInTurn seen_by_all ones w
+  pub first : bodies ≡ map (λ (b : Stands). b.body) bs ++ others
+  pub some : 0 < length others
+  pub then : Plan
+  pub fits : PlanFits v.client.setting (length of) (row_step bodies then)
+  pub are : firsts ≡ map (λ (b : Stands). b.first) ones
+
+module _ (of : Name) (v w : View) (bodies : List Numbered) (why : TxNo) (firsts : List Name) (t : RowTurned of v w bodies why firsts) where
+  open t use {begun as m, seen_by_all as m1, bs, ones, others, runs, began, shown, same, made, merged, first, some, then, fits}
+
   abbrev c : Client
   c = v.client
 

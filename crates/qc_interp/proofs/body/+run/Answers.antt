@@ -17,7 +17,8 @@ use Rattle.qc_interp.proofs.Joined.{joined_itself, joined_same, joined_trans, jo
 use Rattle.qc_interp.proofs.Plans.{weight, plan_is, tries_of, number_of, must_of, put_read, put_set, put_add, put_sub, put_need, put_reconf, put_child, put_par, put_abort, put_crash, put_kill, step_lighter}
 use Rattle.qc_interp.proofs.Loops.{StepsLeft, steps_joined, fits_step, one_done, stopped_there, cut_there, cut_at_last, all_done, none_done}
 use Rattle.qc_interp.proofs.Failing.{failed_on, failed_quit, failed_cut}
-use Rattle.qc_interp.proofs.Marking.{acted_on, acted_by, looked_behind, acted_cut, killed_first}
+use Rattle.qc_interp.proofs.Acted.{acted_so, cut_so}
+use Rattle.qc_interp.proofs.Marking.{acted_on, looked_behind, acted_cut, killed_first}
 use Rattle.qc_interp.proofs.StepsLeave.{crash_on}
 use Rattle.qc_interp.proofs.Tried.{Tried, may_begin, runs_begun, tried_once, cut_once}
 use Rattle.qc_interp.proofs.TriesLeft.{TriesLeft, tries_joined, tried_more, tried_failed, tried_out, all_failed, none_to_begin, tries_cut, not_begun, begin_stops, begin_cut, refused_made, none_tried}
@@ -30,11 +31,11 @@ use Rattle.qc_interp.specs.declared.body.branch.BranchCame.TheVariants as came
 use Rattle.qc_interp.specs.Branches.{row_step}
 use Rattle.qc_script.specs.Calls.{MeetsLink}
 use Rattle.std.specs.List.{AllByRecursion}
-use Rattle.qc_interp.proofs.RowMet.{kept_whole, map_twice, ran_met}
-use Rattle.qc_interp.proofs.RowDone.{all_become}
-use Rattle.qc_interp.proofs.RowWhole.{all_out}
-use Rattle.qc_interp.proofs.RowStep.{ran_so, ran_joined, ran_cut_off, ran_room, ran_runs, ran_knows, ran_acted, ran_cut_behind, row_depth, row_may, shown_bodies}
-use Rattle.qc_interp.proofs.RowTurnedStep.{RowTurnedSo, none_given, none_merged, so_legal, so_joined, so_refused, so_room, so_firsts, so_cut_at_once, so_cut_off, so_runs, so_knows, so_acted, so_cut_behind}
+use Rattle.qc_interp.proofs.RowMet.{kept_whole}
+use Rattle.qc_interp.proofs.RowDone.{done_joined, done_cut, done_room, done_out, done_knows, done_acted, done_cut_behind}
+use Rattle.qc_interp.proofs.RowStep.{row_depth, bodies_begun, row_may, row_out, row_done, row_turned, row_room}
+use Rattle.qc_interp.proofs.RowTurnedOut.{back_joined, back_legal}
+use Rattle.qc_interp.proofs.RowTurnedDone.{turned_refused_so, turned_are_firsts, turned_cut_at_once, turned_cut_off, turned_row_out, turned_knows, turned_acted, turned_cut_behind}
 use Rattle.qc_interp.proofs.RowTurning.{turned_out}
 use Rattle.qc_interp.proofs.InOrder.{pairs_at}
 use Rattle.qc_interp.proofs.Shown.{each_at}
@@ -354,85 +355,67 @@ child-returns-in_err-again-in-Failed-clause-cut g t c =
 
 -- ONE STEP
 
-pub act-returns-in-Read-clause-ok : goal.act-returns-in-Read-clause-ok
-act-returns-in-Read-clause-ok g t c =
+pub act-returns-in-Read : goal.act-returns-in-Read
+act-returns-in-Read g t c =
     let v = g.T.Tx.view c.args.tx.now in
     let w = g.T.Tx.view c.manage.new.tx in
-    subst (λ d. IfOk c.manage.result (HasActed d c.args.of.now v.seen w.seen (put c.args.step.now))) (sym c.manage.ensures.client)
-    (if_ok (Stepped v.client c.args.of.now v.seen w.seen (manage_then (kind.Read c.in-Read.rec))) (HasActed v.client c.args.of.now v.seen w.seen (put c.args.step.now)) c.manage.result
-    (λ r h. acted_by v.client c.args.of.now v.seen w.seen (put c.args.step.now) r (subst (λ f. Stepped v.client c.args.of.now v.seen w.seen f r) (sym (ap put c.in-Read.is ∙ put_read c.in-Read.rec)) h)) c.manage.ensures.ok)
+    let is = ap put c.in-Read.is ∙ put_read c.in-Read.rec in
+    record { met = c.manage.ensures.met; joined = joined_same _ _ _ c.manage.ensures.client; ok = acted_so v.client w.client c.args.of.now v.seen w.seen (manage_then (kind.Read c.in-Read.rec)) (put c.args.step.now) c.manage.result c.manage.ensures.client is c.manage.ensures.ok; cut = cut_so v.client w.client c.args.of.now v.seen w.seen (manage_then (kind.Read c.in-Read.rec)) (put c.args.step.now) c.manage.result c.manage.ensures.client is c.manage.ensures.cut; room = c.manage.ensures.room }
 
-pub act-returns-in-Read-clause-joined : goal.act-returns-in-Read-clause-joined
-act-returns-in-Read-clause-joined g t c =
-    joined_same _ _ _ c.manage.ensures.client
-
-pub act-returns-in-Set-clause-ok : goal.act-returns-in-Set-clause-ok
-act-returns-in-Set-clause-ok g t c =
+pub act-returns-in-Set : goal.act-returns-in-Set
+act-returns-in-Set g t c =
     let v = g.T.Tx.view c.args.tx.now in
     let w = g.T.Tx.view c.manage-in-Set.new.tx in
-    subst (λ d. IfOk c.manage-in-Set.result (HasActed d c.args.of.now v.seen w.seen (put c.args.step.now))) (sym c.manage-in-Set.ensures.client)
-    (if_ok (Stepped v.client c.args.of.now v.seen w.seen (manage_then (kind.Write c.in-Set.rec c.in-Set.value))) (HasActed v.client c.args.of.now v.seen w.seen (put c.args.step.now)) c.manage-in-Set.result
-    (λ r h. acted_by v.client c.args.of.now v.seen w.seen (put c.args.step.now) r (subst (λ f. Stepped v.client c.args.of.now v.seen w.seen f r) (sym (ap put c.in-Set.is ∙ put_set c.in-Set.rec c.in-Set.value)) h)) c.manage-in-Set.ensures.ok)
+    let is = ap put c.in-Set.is ∙ put_set c.in-Set.rec c.in-Set.value in
+    record { met = c.manage-in-Set.ensures.met; joined = joined_same _ _ _ c.manage-in-Set.ensures.client; ok = acted_so v.client w.client c.args.of.now v.seen w.seen (manage_then (kind.Write c.in-Set.rec c.in-Set.value)) (put c.args.step.now) c.manage-in-Set.result c.manage-in-Set.ensures.client is c.manage-in-Set.ensures.ok; cut = cut_so v.client w.client c.args.of.now v.seen w.seen (manage_then (kind.Write c.in-Set.rec c.in-Set.value)) (put c.args.step.now) c.manage-in-Set.result c.manage-in-Set.ensures.client is c.manage-in-Set.ensures.cut; room = c.manage-in-Set.ensures.room }
 
-pub act-returns-in-Set-clause-joined : goal.act-returns-in-Set-clause-joined
-act-returns-in-Set-clause-joined g t c =
-    joined_same _ _ _ c.manage-in-Set.ensures.client
-
-pub act-returns-in-Add-clause-ok : goal.act-returns-in-Add-clause-ok
-act-returns-in-Add-clause-ok g t c =
+pub act-returns-in-Add : goal.act-returns-in-Add
+act-returns-in-Add g t c =
     let v = g.T.Tx.view c.args.tx.now in
     let w = g.T.Tx.view c.change_value.new.tx in
-    subst (λ d. IfOk c.change_value.result (HasActed d c.args.of.now v.seen w.seen (put c.args.step.now))) (sym c.change_value.ensures.client)
-    (if_ok (Stepped v.client c.args.of.now v.seen w.seen (change_then c.in-Add.rec (λ old. plus old c.in-Add.value))) (HasActed v.client c.args.of.now v.seen w.seen (put c.args.step.now)) c.change_value.result
-    (λ r h. acted_by v.client c.args.of.now v.seen w.seen (put c.args.step.now) r (subst (λ f. Stepped v.client c.args.of.now v.seen w.seen f r) (sym (ap put c.in-Add.is ∙ put_add c.in-Add.rec c.in-Add.value)) h)) c.change_value.ensures.ok)
+    let is = ap put c.in-Add.is ∙ put_add c.in-Add.rec c.in-Add.value in
+    record { met = c.change_value.ensures.met; joined = joined_same _ _ _ c.change_value.ensures.client; ok = acted_so v.client w.client c.args.of.now v.seen w.seen (change_then c.in-Add.rec (λ old. plus old c.in-Add.value)) (put c.args.step.now) c.change_value.result c.change_value.ensures.client is c.change_value.ensures.ok; cut = cut_so v.client w.client c.args.of.now v.seen w.seen (change_then c.in-Add.rec (λ old. plus old c.in-Add.value)) (put c.args.step.now) c.change_value.result c.change_value.ensures.client is c.change_value.ensures.cut; room = c.change_value.ensures.room }
 
-pub act-returns-in-Add-clause-joined : goal.act-returns-in-Add-clause-joined
-act-returns-in-Add-clause-joined g t c =
-    joined_same _ _ _ c.change_value.ensures.client
-
-pub act-returns-in-Sub-clause-ok : goal.act-returns-in-Sub-clause-ok
-act-returns-in-Sub-clause-ok g t c =
+pub act-returns-in-Sub : goal.act-returns-in-Sub
+act-returns-in-Sub g t c =
     let v = g.T.Tx.view c.args.tx.now in
     let w = g.T.Tx.view c.change_value-in-Sub.new.tx in
-    subst (λ d. IfOk c.change_value-in-Sub.result (HasActed d c.args.of.now v.seen w.seen (put c.args.step.now))) (sym c.change_value-in-Sub.ensures.client)
-    (if_ok (Stepped v.client c.args.of.now v.seen w.seen (change_then c.in-Sub.rec (λ old. minus old c.in-Sub.value))) (HasActed v.client c.args.of.now v.seen w.seen (put c.args.step.now)) c.change_value-in-Sub.result
-    (λ r h. acted_by v.client c.args.of.now v.seen w.seen (put c.args.step.now) r (subst (λ f. Stepped v.client c.args.of.now v.seen w.seen f r) (sym (ap put c.in-Sub.is ∙ put_sub c.in-Sub.rec c.in-Sub.value)) h)) c.change_value-in-Sub.ensures.ok)
+    let is = ap put c.in-Sub.is ∙ put_sub c.in-Sub.rec c.in-Sub.value in
+    record { met = c.change_value-in-Sub.ensures.met; joined = joined_same _ _ _ c.change_value-in-Sub.ensures.client; ok = acted_so v.client w.client c.args.of.now v.seen w.seen (change_then c.in-Sub.rec (λ old. minus old c.in-Sub.value)) (put c.args.step.now) c.change_value-in-Sub.result c.change_value-in-Sub.ensures.client is c.change_value-in-Sub.ensures.ok; cut = cut_so v.client w.client c.args.of.now v.seen w.seen (change_then c.in-Sub.rec (λ old. minus old c.in-Sub.value)) (put c.args.step.now) c.change_value-in-Sub.result c.change_value-in-Sub.ensures.client is c.change_value-in-Sub.ensures.cut; room = c.change_value-in-Sub.ensures.room }
 
-pub act-returns-in-Sub-clause-joined : goal.act-returns-in-Sub-clause-joined
-act-returns-in-Sub-clause-joined g t c =
-    joined_same _ _ _ c.change_value-in-Sub.ensures.client
-
-pub act-returns-in-Need-clause-ok : goal.act-returns-in-Need-clause-ok
-act-returns-in-Need-clause-ok g t c =
+pub act-returns-in-Need : goal.act-returns-in-Need
+act-returns-in-Need g t c =
     let v = g.T.Tx.view c.args.tx.now in
     let w = g.T.Tx.view c.need.new.tx in
-    subst (λ d. IfOk c.need.result (HasActed d c.args.of.now v.seen w.seen (put c.args.step.now))) (sym c.need.ensures.client)
-    (if_ok (Stepped v.client c.args.of.now v.seen w.seen (need_then c.in-Need.rec c.in-Need.value)) (HasActed v.client c.args.of.now v.seen w.seen (put c.args.step.now)) c.need.result
-    (λ r h. acted_by v.client c.args.of.now v.seen w.seen (put c.args.step.now) r (subst (λ f. Stepped v.client c.args.of.now v.seen w.seen f r) (sym (ap put c.in-Need.is ∙ put_need c.in-Need.rec c.in-Need.value)) h)) c.need.ensures.ok)
+    let is = ap put c.in-Need.is ∙ put_need c.in-Need.rec c.in-Need.value in
+    record { met = c.need.ensures.met; joined = joined_same _ _ _ c.need.ensures.client; ok = acted_so v.client w.client c.args.of.now v.seen w.seen (need_then c.in-Need.rec c.in-Need.value) (put c.args.step.now) c.need.result c.need.ensures.client is c.need.ensures.ok; cut = cut_so v.client w.client c.args.of.now v.seen w.seen (need_then c.in-Need.rec c.in-Need.value) (put c.args.step.now) c.need.result c.need.ensures.client is c.need.ensures.cut; room = c.need.ensures.room }
 
-pub act-returns-in-Need-clause-joined : goal.act-returns-in-Need-clause-joined
-act-returns-in-Need-clause-joined g t c =
-    joined_same _ _ _ c.need.ensures.client
-
-pub act-returns-in-Reconf-clause-ok : goal.act-returns-in-Reconf-clause-ok
-act-returns-in-Reconf-clause-ok g t c =
+pub act-returns-in-Reconf : goal.act-returns-in-Reconf
+act-returns-in-Reconf g t c =
     let v = g.T.Tx.view c.args.tx.now in
     let w = g.T.Tx.view c.manage-in-Reconf.new.tx in
-    subst (λ d. IfOk c.manage-in-Reconf.result (HasActed d c.args.of.now v.seen w.seen (put c.args.step.now))) (sym c.manage-in-Reconf.ensures.client)
-    (if_ok (Stepped v.client c.args.of.now v.seen w.seen (manage_then (kind.Reconf c.in-Reconf.rec c.in-Reconf.config))) (HasActed v.client c.args.of.now v.seen w.seen (put c.args.step.now)) c.manage-in-Reconf.result
-    (λ r h. acted_by v.client c.args.of.now v.seen w.seen (put c.args.step.now) r (subst (λ f. Stepped v.client c.args.of.now v.seen w.seen f r) (sym (ap put c.in-Reconf.is ∙ put_reconf c.in-Reconf.rec c.in-Reconf.config)) h)) c.manage-in-Reconf.ensures.ok)
+    let is = ap put c.in-Reconf.is ∙ put_reconf c.in-Reconf.rec c.in-Reconf.config in
+    record { met = c.manage-in-Reconf.ensures.met; joined = joined_same _ _ _ c.manage-in-Reconf.ensures.client; ok = acted_so v.client w.client c.args.of.now v.seen w.seen (manage_then (kind.Reconf c.in-Reconf.rec c.in-Reconf.config)) (put c.args.step.now) c.manage-in-Reconf.result c.manage-in-Reconf.ensures.client is c.manage-in-Reconf.ensures.ok; cut = cut_so v.client w.client c.args.of.now v.seen w.seen (manage_then (kind.Reconf c.in-Reconf.rec c.in-Reconf.config)) (put c.args.step.now) c.manage-in-Reconf.result c.manage-in-Reconf.ensures.client is c.manage-in-Reconf.ensures.cut; room = c.manage-in-Reconf.ensures.room }
 
-pub act-returns-in-Reconf-clause-joined : goal.act-returns-in-Reconf-clause-joined
-act-returns-in-Reconf-clause-joined g t c =
-    joined_same _ _ _ c.manage-in-Reconf.ensures.client
-
-pub act-returns-in-Child-clause-ok : goal.act-returns-in-Child-clause-ok
-act-returns-in-Child-clause-ok g t c =
+pub act-returns-in-Child : goal.act-returns-in-Child
+act-returns-in-Child g t c =
     let v = g.T.Tx.view c.args.tx.now in
     let w = g.T.Tx.view c.child.new.tx in
-    let body = numbered c.in-Child.body in
-    if_ok (Stepped w.client c.args.of.now v.seen w.seen (child_step body)) (HasActed w.client c.args.of.now v.seen w.seen (put c.args.step.now)) c.child.result
-    (λ r h. acted_by w.client c.args.of.now v.seen w.seen (put c.args.step.now) r (subst (λ f. Stepped w.client c.args.of.now v.seen w.seen f r) (sym (ap put c.in-Child.is ∙ put_child c.in-Child.body)) h)) c.child.ensures.ok
+    record { met = c.child.ensures.met; joined = c.child.ensures.joined; ok = acted_so w.client w.client c.args.of.now v.seen w.seen (child_step (numbered c.in-Child.body)) (put c.args.step.now) c.child.result refl (ap put c.in-Child.is ∙ put_child c.in-Child.body) c.child.ensures.ok; cut = cut_so w.client w.client c.args.of.now v.seen w.seen (child_step (numbered c.in-Child.body)) (put c.args.step.now) c.child.result refl (ap put c.in-Child.is ∙ put_child c.in-Child.body) c.child.ensures.cut; room = c.child.ensures.room }
+
+pub act-returns-in-Par : goal.act-returns-in-Par
+act-returns-in-Par g t c =
+    let v = g.T.Tx.view c.args.tx.now in
+    let w = g.T.Tx.view c.par.new.tx in
+    let front = row_step (map numbered c.as_slice.result.now) in
+    let is = ap put c.in-Par.is ∙ put_par c.in-Par.bodies ∙ ap (λ l. row_step (map numbered l)) (sym c.as_slice.ensures.value) in
+    record {
+      met = c.par.ensures.met;
+      joined = c.par.ensures.joined;
+      ok = subst (λ f. IfOk c.par.result (HasActed w.client c.args.of.now v.seen w.seen f)) (sym is) c.par.ensures.ok;
+      cut = cut_so w.client w.client c.args.of.now v.seen w.seen front (put c.args.step.now) c.par.result refl is c.par.ensures.cut;
+      room = c.par.ensures.room;
+    }
 
 pub act-returns-in_ok-again-in-Abort-clause-ok : goal.act-returns-in_ok-again-in-Abort-clause-ok
 act-returns-in_ok-again-in-Abort-clause-ok g t c = λ rest.
@@ -469,62 +452,6 @@ act-returns-in_ok-mark-in-Kill-clause-ok g t c =
 pub act-returns-in_ok-mark-in-Kill-clause-joined : goal.act-returns-in_ok-mark-in-Kill-clause-joined
 act-returns-in_ok-mark-in-Kill-clause-joined g t c =
     joined_same _ _ _ c.mark.ensures.client
-
-pub act-returns-in-Read-clause-cut : goal.act-returns-in-Read-clause-cut
-act-returns-in-Read-clause-cut g t c =
-    let v = g.T.Tx.view c.args.tx.now in
-    let w = g.T.Tx.view c.manage.new.tx in
-    subst (λ d. IfErr c.manage.result (λ _. (rest : Plan) → CutOff d c.args.of.now v.seen w.seen (put c.args.step.now rest))) (sym c.manage.ensures.client)
-    (if_err ((rest : Plan) → CutOff v.client c.args.of.now v.seen w.seen (manage_then (kind.Read c.in-Read.rec) rest)) ((rest : Plan) → CutOff v.client c.args.of.now v.seen w.seen (put c.args.step.now rest)) c.manage.result
-    (λ h rest. subst (λ f. CutOff v.client c.args.of.now v.seen w.seen (f rest)) (sym (ap put c.in-Read.is ∙ put_read c.in-Read.rec)) (h rest)) c.manage.ensures.cut)
-
-pub act-returns-in-Set-clause-cut : goal.act-returns-in-Set-clause-cut
-act-returns-in-Set-clause-cut g t c =
-    let v = g.T.Tx.view c.args.tx.now in
-    let w = g.T.Tx.view c.manage-in-Set.new.tx in
-    subst (λ d. IfErr c.manage-in-Set.result (λ _. (rest : Plan) → CutOff d c.args.of.now v.seen w.seen (put c.args.step.now rest))) (sym c.manage-in-Set.ensures.client)
-    (if_err ((rest : Plan) → CutOff v.client c.args.of.now v.seen w.seen (manage_then (kind.Write c.in-Set.rec c.in-Set.value) rest)) ((rest : Plan) → CutOff v.client c.args.of.now v.seen w.seen (put c.args.step.now rest)) c.manage-in-Set.result
-    (λ h rest. subst (λ f. CutOff v.client c.args.of.now v.seen w.seen (f rest)) (sym (ap put c.in-Set.is ∙ put_set c.in-Set.rec c.in-Set.value)) (h rest)) c.manage-in-Set.ensures.cut)
-
-pub act-returns-in-Add-clause-cut : goal.act-returns-in-Add-clause-cut
-act-returns-in-Add-clause-cut g t c =
-    let v = g.T.Tx.view c.args.tx.now in
-    let w = g.T.Tx.view c.change_value.new.tx in
-    subst (λ d. IfErr c.change_value.result (λ _. (rest : Plan) → CutOff d c.args.of.now v.seen w.seen (put c.args.step.now rest))) (sym c.change_value.ensures.client)
-    (if_err ((rest : Plan) → CutOff v.client c.args.of.now v.seen w.seen ((change_then c.in-Add.rec (λ old. plus old c.in-Add.value)) rest)) ((rest : Plan) → CutOff v.client c.args.of.now v.seen w.seen (put c.args.step.now rest)) c.change_value.result
-    (λ h rest. subst (λ f. CutOff v.client c.args.of.now v.seen w.seen (f rest)) (sym (ap put c.in-Add.is ∙ put_add c.in-Add.rec c.in-Add.value)) (h rest)) c.change_value.ensures.cut)
-
-pub act-returns-in-Sub-clause-cut : goal.act-returns-in-Sub-clause-cut
-act-returns-in-Sub-clause-cut g t c =
-    let v = g.T.Tx.view c.args.tx.now in
-    let w = g.T.Tx.view c.change_value-in-Sub.new.tx in
-    subst (λ d. IfErr c.change_value-in-Sub.result (λ _. (rest : Plan) → CutOff d c.args.of.now v.seen w.seen (put c.args.step.now rest))) (sym c.change_value-in-Sub.ensures.client)
-    (if_err ((rest : Plan) → CutOff v.client c.args.of.now v.seen w.seen ((change_then c.in-Sub.rec (λ old. minus old c.in-Sub.value)) rest)) ((rest : Plan) → CutOff v.client c.args.of.now v.seen w.seen (put c.args.step.now rest)) c.change_value-in-Sub.result
-    (λ h rest. subst (λ f. CutOff v.client c.args.of.now v.seen w.seen (f rest)) (sym (ap put c.in-Sub.is ∙ put_sub c.in-Sub.rec c.in-Sub.value)) (h rest)) c.change_value-in-Sub.ensures.cut)
-
-pub act-returns-in-Need-clause-cut : goal.act-returns-in-Need-clause-cut
-act-returns-in-Need-clause-cut g t c =
-    let v = g.T.Tx.view c.args.tx.now in
-    let w = g.T.Tx.view c.need.new.tx in
-    subst (λ d. IfErr c.need.result (λ _. (rest : Plan) → CutOff d c.args.of.now v.seen w.seen (put c.args.step.now rest))) (sym c.need.ensures.client)
-    (if_err ((rest : Plan) → CutOff v.client c.args.of.now v.seen w.seen ((need_then c.in-Need.rec c.in-Need.value) rest)) ((rest : Plan) → CutOff v.client c.args.of.now v.seen w.seen (put c.args.step.now rest)) c.need.result
-    (λ h rest. subst (λ f. CutOff v.client c.args.of.now v.seen w.seen (f rest)) (sym (ap put c.in-Need.is ∙ put_need c.in-Need.rec c.in-Need.value)) (h rest)) c.need.ensures.cut)
-
-pub act-returns-in-Reconf-clause-cut : goal.act-returns-in-Reconf-clause-cut
-act-returns-in-Reconf-clause-cut g t c =
-    let v = g.T.Tx.view c.args.tx.now in
-    let w = g.T.Tx.view c.manage-in-Reconf.new.tx in
-    subst (λ d. IfErr c.manage-in-Reconf.result (λ _. (rest : Plan) → CutOff d c.args.of.now v.seen w.seen (put c.args.step.now rest))) (sym c.manage-in-Reconf.ensures.client)
-    (if_err ((rest : Plan) → CutOff v.client c.args.of.now v.seen w.seen (manage_then (kind.Reconf c.in-Reconf.rec c.in-Reconf.config) rest)) ((rest : Plan) → CutOff v.client c.args.of.now v.seen w.seen (put c.args.step.now rest)) c.manage-in-Reconf.result
-    (λ h rest. subst (λ f. CutOff v.client c.args.of.now v.seen w.seen (f rest)) (sym (ap put c.in-Reconf.is ∙ put_reconf c.in-Reconf.rec c.in-Reconf.config)) (h rest)) c.manage-in-Reconf.ensures.cut)
-
-pub act-returns-in-Child-clause-cut : goal.act-returns-in-Child-clause-cut
-act-returns-in-Child-clause-cut g t c =
-    let v = g.T.Tx.view c.args.tx.now in
-    let w = g.T.Tx.view c.child.new.tx in
-    let body = numbered c.in-Child.body in
-    if_err ((rest : Plan) → CutOff w.client c.args.of.now v.seen w.seen (child_step body rest)) ((rest : Plan) → CutOff w.client c.args.of.now v.seen w.seen (put c.args.step.now rest)) c.child.result
-    (λ h rest. subst (λ f. CutOff w.client c.args.of.now v.seen w.seen (f rest)) (sym (ap put c.in-Child.is ∙ put_child c.in-Child.body)) (h rest)) c.child.ensures.cut
 
 pub act-returns-in_err-again-in-Abort-clause-cut : goal.act-returns-in_err-again-in-Abort-clause-cut
 act-returns-in_err-again-in-Abort-clause-cut g t c =
@@ -1120,14 +1047,12 @@ row::par-run_all-requires g t c κs within =
     let w2 = view c.show_all.new.tx in
     let items = c.begin_all-begun.new.branches.items in
     let n1 = c.show_all.new.branches in
+    let bodies = map numbered c.args.bodies.now in
     let shown : InPairs (WasShown w1.seen) (map st items) (map st n1) = subst (λ l. InPairs (WasShown w1.seen) (map st l) (map st n1)) c.as_mut_slice.ensures.value c.show_all.ensures.shown in
     let long1 = c.show_all.auto.branches ∙ c.as_mut_slice.ensures.len in
-    let r1 = c.as_mut_slice-in-Ok-begun.result.now in
-    let back1 : r1 ≡ n1 = c.as_mut_slice-in-Ok-begun.ensures.value ∙ kept_whole _ n1 _ long1 in
-    let may = row_may v w1 of (map st items) (map st n1) (map numbered c.args.bodies.now) c.requires.runs c.requires.fits (map_twice (λ (b : Stands). b.body) st items ∙ c.in-Ok-begun.ensures.all) c.in-Ok-begun.ensures.ok shown in
-    let same : map (λ b. numbered b.body.now) r1 ≡ map numbered c.args.bodies.now =
-    ap (map (λ b. numbered b.body.now)) back1 ∙ sym (map_twice (λ (b : Stands). b.body) st n1) ∙ shown_bodies w1.seen (map st items) (map st n1) shown ∙ map_twice (λ (b : Stands). b.body) st items ∙ c.in-Ok-begun.ensures.all
-    in (
+    let back1 = c.as_mut_slice-in-Ok-begun.ensures.value ∙ kept_whole _ n1 _ long1 in
+    let may = row_may st of v w1 w2 items n1 bodies c.requires.runs c.requires.fits shown c.show_all.ensures.client c.show_all.ensures.made c.in-Ok-begun.ensures.ok c.in-Ok-begun.ensures.all in
+    let same : map (λ b. numbered b.body.now) c.as_mut_slice-in-Ok-begun.result.now ≡ bodies = ap (map (λ b. numbered b.body.now)) back1 ∙ bodies_begun st of v w1 w2 items n1 bodies c.requires.runs c.requires.fits shown c.show_all.ensures.client c.show_all.ensures.made c.in-Ok-begun.ensures.ok c.in-Ok-begun.ensures.all in (
       omega (arith, ap (λ l. weight (row_of l)) same),
       (within.0, (within.1, (search rules, (search rules, subst (λ l. AllByRecursion (MayRun of) (map st l)) (sym back1) may)))),
     )
@@ -1142,18 +1067,17 @@ row::par-merge_all-requires-clause-out g t c =
     let w2 = view c.show_all.new.tx in
     let items = c.begin_all-begun.new.branches.items in
     let n1 = c.show_all.new.branches in
+    let bodies = map numbered c.args.bodies.now in
     let shown : InPairs (WasShown w1.seen) (map st items) (map st n1) = subst (λ l. InPairs (WasShown w1.seen) (map st l) (map st n1)) c.as_mut_slice.ensures.value c.show_all.ensures.shown in
     let long1 = c.show_all.auto.branches ∙ c.as_mut_slice.ensures.len in
-    let r1 = c.as_mut_slice-in-Ok-begun.result.now in
-    let back1 : r1 ≡ n1 = c.as_mut_slice-in-Ok-begun.ensures.value ∙ kept_whole _ n1 _ long1 in
+    let back1 = c.as_mut_slice-in-Ok-begun.ensures.value ∙ kept_whole _ n1 _ long1 in
     let n2 = c.run_all.new.branches in
     let ran : InPairs HasRun (map st n1) (map st n2) = subst (λ l. InPairs HasRun (map st l) (map st n2)) back1 c.run_all.ensures.ran in
-    let long2 = c.run_all.auto.branches ∙ (ap length back1 ∙ long1) in
-    subst (λ l. AreOut w2.client.out w2.client.net (map st l)) (sym (kept_whole _ n2 _ long2))
-    (all_out of v w1 w2 (map st items) (map st n1) (map st n2) c.requires.runs.legal c.in-Ok-begun.ensures.ok shown c.show_all.ensures.client (all_become (map st n1) (map st n2) ran) (ran_met (map st n1) (map st n2) ran))
+    let whole = kept_whole _ n2 _ (c.run_all.auto.branches ∙ (ap length back1 ∙ long1)) in
+    subst (λ l. AreOut w2.client.out w2.client.net (map st l)) (sym whole) (row_out st of v w1 w2 items n1 bodies c.requires.runs c.requires.fits shown c.show_all.ensures.client c.show_all.ensures.made c.in-Ok-begun.ensures.ok c.in-Ok-begun.ensures.all n2 ran)
 
-pub row::par-returns-in_err-came-in-Ok-begun-clause-joined : goal.row::par-returns-in_err-came-in-Ok-begun-clause-joined
-row::par-returns-in_err-came-in-Ok-begun-clause-joined g t c =
+pub row::par-returns-in_err-came-in-Ok-begun : goal.row::par-returns-in_err-came-in-Ok-begun
+row::par-returns-in_err-came-in-Ok-begun g t c =
     let view = g.T.Tx.view in
     let st = stands view in
     let of = c.args.of.now in
@@ -1162,21 +1086,26 @@ row::par-returns-in_err-came-in-Ok-begun-clause-joined g t c =
     let w2 = view c.show_all.new.tx in
     let items = c.begin_all-begun.new.branches.items in
     let n1 = c.show_all.new.branches in
+    let bodies = map numbered c.args.bodies.now in
     let shown : InPairs (WasShown w1.seen) (map st items) (map st n1) = subst (λ l. InPairs (WasShown w1.seen) (map st l) (map st n1)) c.as_mut_slice.ensures.value c.show_all.ensures.shown in
     let long1 = c.show_all.auto.branches ∙ c.as_mut_slice.ensures.len in
-    let r1 = c.as_mut_slice-in-Ok-begun.result.now in
-    let back1 : r1 ≡ n1 = c.as_mut_slice-in-Ok-begun.ensures.value ∙ kept_whole _ n1 _ long1 in
+    let back1 = c.as_mut_slice-in-Ok-begun.ensures.value ∙ kept_whole _ n1 _ long1 in
     let n2 = c.run_all.new.branches in
     let ran : InPairs HasRun (map st n1) (map st n2) = subst (λ l. InPairs HasRun (map st l) (map st n2)) back1 c.run_all.ensures.ran in
-    let long2 = c.run_all.auto.branches ∙ (ap length back1 ∙ long1) in
+    let whole = kept_whole _ n2 _ (c.run_all.auto.branches ∙ (ap length back1 ∙ long1)) in
     let w3 = view c.merge_all.new.tx in
-    let bodies = map numbered c.args.bodies.now in
-    let merged : MergedInTurn w2 (map st n2) w3 = subst (λ l. MergedInTurn w2 (map st l) w3) (kept_whole _ n2 _ long2) c.merge_all.ensures.merged in
-    let row = ran_so of v w1 w2 w3 (map st items) (map st n1) (map st n2) bodies c.requires.runs c.requires.fits (map_twice (λ (b : Stands). b.body) st items ∙ c.in-Ok-begun.ensures.all) c.in-Ok-begun.ensures.ok shown c.show_all.ensures.client c.show_all.ensures.made ran merged in
-    ran_joined of v w3 (map st n2) bodies row
+    let row = row_done st of v w1 w2 items n1 bodies c.requires.runs c.requires.fits shown c.show_all.ensures.client c.show_all.ensures.made c.in-Ok-begun.ensures.ok c.in-Ok-begun.ensures.all n2 ran w3 (subst (λ l. MergedInTurn w2 (map st l) w3) whole c.merge_all.ensures.merged) in
+    record {
+      met = c.merge_all.ensures.met;
+      joined = done_joined of v w3 (map st n2) bodies row;
+      ok = search rules;
+      cut = any_err _ c.from_residual.result (done_cut of v w3 (map st n2) bodies row);
+      room = same_err (λ e. e ≡ short.Room → length w3.seen ≡ limit) c.from_residual.result c.in_err-came-in-Ok-begun.field-0.0 c.from_residual.ensures.1
+          (done_room of v w3 (map st n2) bodies row c.in_err-came-in-Ok-begun.field-0.0 (sym (ap (λ l. row_came (Ok came.Through) (map st l)) whole) ∙ (sym c.merge_all.ensures.came ∙ c.in_err-came-in-Ok-begun.was)));
+    }
 
-pub row::par-returns-in_err-came-in-Ok-begun-clause-cut : goal.row::par-returns-in_err-came-in-Ok-begun-clause-cut
-row::par-returns-in_err-came-in-Ok-begun-clause-cut g t c =
+pub row::par-behind-requires : goal.row::par-behind-requires
+row::par-behind-requires g t c =
     let view = g.T.Tx.view in
     let st = stands view in
     let of = c.args.of.now in
@@ -1185,21 +1114,24 @@ row::par-returns-in_err-came-in-Ok-begun-clause-cut g t c =
     let w2 = view c.show_all.new.tx in
     let items = c.begin_all-begun.new.branches.items in
     let n1 = c.show_all.new.branches in
+    let bodies = map numbered c.args.bodies.now in
     let shown : InPairs (WasShown w1.seen) (map st items) (map st n1) = subst (λ l. InPairs (WasShown w1.seen) (map st l) (map st n1)) c.as_mut_slice.ensures.value c.show_all.ensures.shown in
     let long1 = c.show_all.auto.branches ∙ c.as_mut_slice.ensures.len in
-    let r1 = c.as_mut_slice-in-Ok-begun.result.now in
-    let back1 : r1 ≡ n1 = c.as_mut_slice-in-Ok-begun.ensures.value ∙ kept_whole _ n1 _ long1 in
+    let back1 = c.as_mut_slice-in-Ok-begun.ensures.value ∙ kept_whole _ n1 _ long1 in
     let n2 = c.run_all.new.branches in
     let ran : InPairs HasRun (map st n1) (map st n2) = subst (λ l. InPairs HasRun (map st l) (map st n2)) back1 c.run_all.ensures.ran in
-    let long2 = c.run_all.auto.branches ∙ (ap length back1 ∙ long1) in
+    let whole = kept_whole _ n2 _ (c.run_all.auto.branches ∙ (ap length back1 ∙ long1)) in
     let w3 = view c.merge_all.new.tx in
-    let bodies = map numbered c.args.bodies.now in
-    let merged : MergedInTurn w2 (map st n2) w3 = subst (λ l. MergedInTurn w2 (map st l) w3) (kept_whole _ n2 _ long2) c.merge_all.ensures.merged in
-    let row = ran_so of v w1 w2 w3 (map st items) (map st n1) (map st n2) bodies c.requires.runs c.requires.fits (map_twice (λ (b : Stands). b.body) st items ∙ c.in-Ok-begun.ensures.all) c.in-Ok-begun.ensures.ok shown c.show_all.ensures.client c.show_all.ensures.made ran merged in
-    any_err _ c.from_residual.result (ran_cut_off of v w3 (map st n2) bodies row)
+    let row = row_done st of v w1 w2 items n1 bodies c.requires.runs c.requires.fits shown c.show_all.ensures.client c.show_all.ensures.made c.in-Ok-begun.ensures.ok c.in-Ok-begun.ensures.all n2 ran w3 (subst (λ l. MergedInTurn w2 (map st l) w3) whole c.merge_all.ensures.merged) in
+    let came_to = sym (ap (λ l. row_came (Ok came.Through) (map st l)) whole) ∙ (sym c.merge_all.ensures.came ∙ c.in_ok-came-in-Ok-begun.was) in
+    record {
+      runs = (done_out of v w3 (map st n2) bodies row c.in_ok-came-in-Ok-begun.came came_to).runs;
+      knows = done_knows of v w3 (map st n2) bodies row c.in_ok-came-in-Ok-begun.came came_to;
+      met = c.merge_all.ensures.met;
+    }
 
-pub row::par-returns-in_err-came-in-Ok-begun-clause-room : goal.row::par-returns-in_err-came-in-Ok-begun-clause-room
-row::par-returns-in_err-came-in-Ok-begun-clause-room g t c =
+pub row::par-returns-in-Ok-begun : goal.row::par-returns-in-Ok-begun
+row::par-returns-in-Ok-begun g t c =
     let view = g.T.Tx.view in
     let st = stands view in
     let of = c.args.of.now in
@@ -1208,147 +1140,28 @@ row::par-returns-in_err-came-in-Ok-begun-clause-room g t c =
     let w2 = view c.show_all.new.tx in
     let items = c.begin_all-begun.new.branches.items in
     let n1 = c.show_all.new.branches in
+    let bodies = map numbered c.args.bodies.now in
     let shown : InPairs (WasShown w1.seen) (map st items) (map st n1) = subst (λ l. InPairs (WasShown w1.seen) (map st l) (map st n1)) c.as_mut_slice.ensures.value c.show_all.ensures.shown in
     let long1 = c.show_all.auto.branches ∙ c.as_mut_slice.ensures.len in
-    let r1 = c.as_mut_slice-in-Ok-begun.result.now in
-    let back1 : r1 ≡ n1 = c.as_mut_slice-in-Ok-begun.ensures.value ∙ kept_whole _ n1 _ long1 in
+    let back1 = c.as_mut_slice-in-Ok-begun.ensures.value ∙ kept_whole _ n1 _ long1 in
     let n2 = c.run_all.new.branches in
     let ran : InPairs HasRun (map st n1) (map st n2) = subst (λ l. InPairs HasRun (map st l) (map st n2)) back1 c.run_all.ensures.ran in
-    let long2 = c.run_all.auto.branches ∙ (ap length back1 ∙ long1) in
+    let whole = kept_whole _ n2 _ (c.run_all.auto.branches ∙ (ap length back1 ∙ long1)) in
     let w3 = view c.merge_all.new.tx in
-    let bodies = map numbered c.args.bodies.now in
-    let merged : MergedInTurn w2 (map st n2) w3 = subst (λ l. MergedInTurn w2 (map st l) w3) (kept_whole _ n2 _ long2) c.merge_all.ensures.merged in
-    let row = ran_so of v w1 w2 w3 (map st items) (map st n1) (map st n2) bodies c.requires.runs c.requires.fits (map_twice (λ (b : Stands). b.body) st items ∙ c.in-Ok-begun.ensures.all) c.in-Ok-begun.ensures.ok shown c.show_all.ensures.client c.show_all.ensures.made ran merged in
-    let came_to = ap (λ l. row_came (Ok came.Through) (map st l)) (kept_whole _ n2 _ long2) in
-    same_err (λ e. e ≡ short.Room → length w3.seen ≡ limit) c.from_residual.result c.in_err-came-in-Ok-begun.field-0.0 c.from_residual.ensures.1
-    (ran_room of v w3 (map st n2) bodies row c.in_err-came-in-Ok-begun.field-0.0 (sym came_to ∙ (sym c.merge_all.ensures.came ∙ c.in_err-came-in-Ok-begun.was)))
-
-pub row::par-behind-requires-clause-runs : goal.row::par-behind-requires-clause-runs
-row::par-behind-requires-clause-runs g t c =
-    let view = g.T.Tx.view in
-    let st = stands view in
-    let of = c.args.of.now in
-    let v = view c.args.tx.now in
-    let w1 = view c.begin_all-begun.new.tx in
-    let w2 = view c.show_all.new.tx in
-    let items = c.begin_all-begun.new.branches.items in
-    let n1 = c.show_all.new.branches in
-    let shown : InPairs (WasShown w1.seen) (map st items) (map st n1) = subst (λ l. InPairs (WasShown w1.seen) (map st l) (map st n1)) c.as_mut_slice.ensures.value c.show_all.ensures.shown in
-    let long1 = c.show_all.auto.branches ∙ c.as_mut_slice.ensures.len in
-    let r1 = c.as_mut_slice-in-Ok-begun.result.now in
-    let back1 : r1 ≡ n1 = c.as_mut_slice-in-Ok-begun.ensures.value ∙ kept_whole _ n1 _ long1 in
-    let n2 = c.run_all.new.branches in
-    let ran : InPairs HasRun (map st n1) (map st n2) = subst (λ l. InPairs HasRun (map st l) (map st n2)) back1 c.run_all.ensures.ran in
-    let long2 = c.run_all.auto.branches ∙ (ap length back1 ∙ long1) in
-    let w3 = view c.merge_all.new.tx in
-    let bodies = map numbered c.args.bodies.now in
-    let merged : MergedInTurn w2 (map st n2) w3 = subst (λ l. MergedInTurn w2 (map st l) w3) (kept_whole _ n2 _ long2) c.merge_all.ensures.merged in
-    let row = ran_so of v w1 w2 w3 (map st items) (map st n1) (map st n2) bodies c.requires.runs c.requires.fits (map_twice (λ (b : Stands). b.body) st items ∙ c.in-Ok-begun.ensures.all) c.in-Ok-begun.ensures.ok shown c.show_all.ensures.client c.show_all.ensures.made ran merged in
-    let came_to = ap (λ l. row_came (Ok came.Through) (map st l)) (kept_whole _ n2 _ long2) in
-    ran_runs of v w3 (map st n2) bodies row c.in_ok-came-in-Ok-begun.came (sym came_to ∙ (sym c.merge_all.ensures.came ∙ c.in_ok-came-in-Ok-begun.was))
-
-pub row::par-behind-requires-clause-knows : goal.row::par-behind-requires-clause-knows
-row::par-behind-requires-clause-knows g t c =
-    let view = g.T.Tx.view in
-    let st = stands view in
-    let of = c.args.of.now in
-    let v = view c.args.tx.now in
-    let w1 = view c.begin_all-begun.new.tx in
-    let w2 = view c.show_all.new.tx in
-    let items = c.begin_all-begun.new.branches.items in
-    let n1 = c.show_all.new.branches in
-    let shown : InPairs (WasShown w1.seen) (map st items) (map st n1) = subst (λ l. InPairs (WasShown w1.seen) (map st l) (map st n1)) c.as_mut_slice.ensures.value c.show_all.ensures.shown in
-    let long1 = c.show_all.auto.branches ∙ c.as_mut_slice.ensures.len in
-    let r1 = c.as_mut_slice-in-Ok-begun.result.now in
-    let back1 : r1 ≡ n1 = c.as_mut_slice-in-Ok-begun.ensures.value ∙ kept_whole _ n1 _ long1 in
-    let n2 = c.run_all.new.branches in
-    let ran : InPairs HasRun (map st n1) (map st n2) = subst (λ l. InPairs HasRun (map st l) (map st n2)) back1 c.run_all.ensures.ran in
-    let long2 = c.run_all.auto.branches ∙ (ap length back1 ∙ long1) in
-    let w3 = view c.merge_all.new.tx in
-    let bodies = map numbered c.args.bodies.now in
-    let merged : MergedInTurn w2 (map st n2) w3 = subst (λ l. MergedInTurn w2 (map st l) w3) (kept_whole _ n2 _ long2) c.merge_all.ensures.merged in
-    let row = ran_so of v w1 w2 w3 (map st items) (map st n1) (map st n2) bodies c.requires.runs c.requires.fits (map_twice (λ (b : Stands). b.body) st items ∙ c.in-Ok-begun.ensures.all) c.in-Ok-begun.ensures.ok shown c.show_all.ensures.client c.show_all.ensures.made ran merged in
-    let came_to = ap (λ l. row_came (Ok came.Through) (map st l)) (kept_whole _ n2 _ long2) in
-    ran_knows of v w3 (map st n2) bodies row c.in_ok-came-in-Ok-begun.came (sym came_to ∙ (sym c.merge_all.ensures.came ∙ c.in_ok-came-in-Ok-begun.was))
-
-pub row::par-returns-in-Ok-begun-clause-joined : goal.row::par-returns-in-Ok-begun-clause-joined
-row::par-returns-in-Ok-begun-clause-joined g t c =
-    let view = g.T.Tx.view in
-    let st = stands view in
-    let of = c.args.of.now in
-    let v = view c.args.tx.now in
-    let w1 = view c.begin_all-begun.new.tx in
-    let w2 = view c.show_all.new.tx in
-    let items = c.begin_all-begun.new.branches.items in
-    let n1 = c.show_all.new.branches in
-    let shown : InPairs (WasShown w1.seen) (map st items) (map st n1) = subst (λ l. InPairs (WasShown w1.seen) (map st l) (map st n1)) c.as_mut_slice.ensures.value c.show_all.ensures.shown in
-    let long1 = c.show_all.auto.branches ∙ c.as_mut_slice.ensures.len in
-    let r1 = c.as_mut_slice-in-Ok-begun.result.now in
-    let back1 : r1 ≡ n1 = c.as_mut_slice-in-Ok-begun.ensures.value ∙ kept_whole _ n1 _ long1 in
-    let n2 = c.run_all.new.branches in
-    let ran : InPairs HasRun (map st n1) (map st n2) = subst (λ l. InPairs HasRun (map st l) (map st n2)) back1 c.run_all.ensures.ran in
-    let long2 = c.run_all.auto.branches ∙ (ap length back1 ∙ long1) in
-    let w3 = view c.merge_all.new.tx in
-    let bodies = map numbered c.args.bodies.now in
-    let merged : MergedInTurn w2 (map st n2) w3 = subst (λ l. MergedInTurn w2 (map st l) w3) (kept_whole _ n2 _ long2) c.merge_all.ensures.merged in
-    let row = ran_so of v w1 w2 w3 (map st items) (map st n1) (map st n2) bodies c.requires.runs c.requires.fits (map_twice (λ (b : Stands). b.body) st items ∙ c.in-Ok-begun.ensures.all) c.in-Ok-begun.ensures.ok shown c.show_all.ensures.client c.show_all.ensures.made ran merged in
-    subst (HasJoined v.client v.seen) (sym c.behind.ensures.client) (ran_joined of v w3 (map st n2) bodies row)
-
-pub row::par-returns-in-Ok-begun-clause-ok : goal.row::par-returns-in-Ok-begun-clause-ok
-row::par-returns-in-Ok-begun-clause-ok g t c =
-    let view = g.T.Tx.view in
-    let st = stands view in
-    let of = c.args.of.now in
-    let v = view c.args.tx.now in
-    let w1 = view c.begin_all-begun.new.tx in
-    let w2 = view c.show_all.new.tx in
-    let items = c.begin_all-begun.new.branches.items in
-    let n1 = c.show_all.new.branches in
-    let shown : InPairs (WasShown w1.seen) (map st items) (map st n1) = subst (λ l. InPairs (WasShown w1.seen) (map st l) (map st n1)) c.as_mut_slice.ensures.value c.show_all.ensures.shown in
-    let long1 = c.show_all.auto.branches ∙ c.as_mut_slice.ensures.len in
-    let r1 = c.as_mut_slice-in-Ok-begun.result.now in
-    let back1 : r1 ≡ n1 = c.as_mut_slice-in-Ok-begun.ensures.value ∙ kept_whole _ n1 _ long1 in
-    let n2 = c.run_all.new.branches in
-    let ran : InPairs HasRun (map st n1) (map st n2) = subst (λ l. InPairs HasRun (map st l) (map st n2)) back1 c.run_all.ensures.ran in
-    let long2 = c.run_all.auto.branches ∙ (ap length back1 ∙ long1) in
-    let w3 = view c.merge_all.new.tx in
-    let bodies = map numbered c.args.bodies.now in
-    let merged : MergedInTurn w2 (map st n2) w3 = subst (λ l. MergedInTurn w2 (map st l) w3) (kept_whole _ n2 _ long2) c.merge_all.ensures.merged in
-    let row = ran_so of v w1 w2 w3 (map st items) (map st n1) (map st n2) bodies c.requires.runs c.requires.fits (map_twice (λ (b : Stands). b.body) st items ∙ c.in-Ok-begun.ensures.all) c.in-Ok-begun.ensures.ok shown c.show_all.ensures.client c.show_all.ensures.made ran merged in
-    let came_to = ap (λ l. row_came (Ok came.Through) (map st l)) (kept_whole _ n2 _ long2) in
-    let y = view c.behind.new.tx in
+    let row = row_done st of v w1 w2 items n1 bodies c.requires.runs c.requires.fits shown c.show_all.ensures.client c.show_all.ensures.made c.in-Ok-begun.ensures.ok c.in-Ok-begun.ensures.all n2 ran w3 (subst (λ l. MergedInTurn w2 (map st l) w3) whole c.merge_all.ensures.merged) in
+    let came_to = sym (ap (λ l. row_came (Ok came.Through) (map st l)) whole) ∙ (sym c.merge_all.ensures.came ∙ c.in_ok-came-in-Ok-begun.was) in
     let x = c.in_ok-came-in-Ok-begun.came in
-    subst (λ d. IfOk c.behind.result (HasActed d of v.seen y.seen (row_step bodies))) (sym c.behind.ensures.client)
-    (if_ok (WentBehind w3.client of w3.seen y.seen x) (HasActed w3.client of v.seen y.seen (row_step bodies)) c.behind.result
-    (ran_acted of v w3 (map st n2) bodies row x (sym came_to ∙ (sym c.merge_all.ensures.came ∙ c.in_ok-came-in-Ok-begun.was)) y.seen) c.behind.ensures.ok)
-
-pub row::par-returns-in-Ok-begun-clause-cut : goal.row::par-returns-in-Ok-begun-clause-cut
-row::par-returns-in-Ok-begun-clause-cut g t c =
-    let view = g.T.Tx.view in
-    let st = stands view in
-    let of = c.args.of.now in
-    let v = view c.args.tx.now in
-    let w1 = view c.begin_all-begun.new.tx in
-    let w2 = view c.show_all.new.tx in
-    let items = c.begin_all-begun.new.branches.items in
-    let n1 = c.show_all.new.branches in
-    let shown : InPairs (WasShown w1.seen) (map st items) (map st n1) = subst (λ l. InPairs (WasShown w1.seen) (map st l) (map st n1)) c.as_mut_slice.ensures.value c.show_all.ensures.shown in
-    let long1 = c.show_all.auto.branches ∙ c.as_mut_slice.ensures.len in
-    let r1 = c.as_mut_slice-in-Ok-begun.result.now in
-    let back1 : r1 ≡ n1 = c.as_mut_slice-in-Ok-begun.ensures.value ∙ kept_whole _ n1 _ long1 in
-    let n2 = c.run_all.new.branches in
-    let ran : InPairs HasRun (map st n1) (map st n2) = subst (λ l. InPairs HasRun (map st l) (map st n2)) back1 c.run_all.ensures.ran in
-    let long2 = c.run_all.auto.branches ∙ (ap length back1 ∙ long1) in
-    let w3 = view c.merge_all.new.tx in
-    let bodies = map numbered c.args.bodies.now in
-    let merged : MergedInTurn w2 (map st n2) w3 = subst (λ l. MergedInTurn w2 (map st l) w3) (kept_whole _ n2 _ long2) c.merge_all.ensures.merged in
-    let row = ran_so of v w1 w2 w3 (map st items) (map st n1) (map st n2) bodies c.requires.runs c.requires.fits (map_twice (λ (b : Stands). b.body) st items ∙ c.in-Ok-begun.ensures.all) c.in-Ok-begun.ensures.ok shown c.show_all.ensures.client c.show_all.ensures.made ran merged in
-    let came_to = ap (λ l. row_came (Ok came.Through) (map st l)) (kept_whole _ n2 _ long2) in
     let y = view c.behind.new.tx in
-    let x = c.in_ok-came-in-Ok-begun.came in
-    subst (λ d. IfErr c.behind.result (λ _. (rest : Plan) → CutOff d of v.seen y.seen (row_step bodies rest))) (sym c.behind.ensures.client)
-    (if_err (Made w3.client [] w3.seen y.seen) ((rest : Plan) → CutOff w3.client of v.seen y.seen (row_step bodies rest)) c.behind.result
-    (λ m rest. ran_cut_behind of v w3 (map st n2) bodies row x (sym came_to ∙ (sym c.merge_all.ensures.came ∙ c.in_ok-came-in-Ok-begun.was)) y.seen rest m) c.behind.ensures.cut)
+    let client = sym c.behind.ensures.client in
+    record {
+      met = c.behind.ensures.met;
+      joined = subst (HasJoined v.client v.seen) client (done_joined of v w3 (map st n2) bodies row);
+      ok = subst (λ d. IfOk c.behind.result (HasActed d of v.seen y.seen (row_step bodies))) client
+          (if_ok (WentBehind w3.client of w3.seen y.seen x) (HasActed w3.client of v.seen y.seen (row_step bodies)) c.behind.result (done_acted of v w3 (map st n2) bodies row x came_to y.seen) c.behind.ensures.ok);
+      cut = subst (λ d. IfErr c.behind.result (λ _. (rest : Plan) → CutOff d of v.seen y.seen (row_step bodies rest))) client
+          (if_err (Made w3.client [] w3.seen y.seen) ((rest : Plan) → CutOff w3.client of v.seen y.seen (row_step bodies rest)) c.behind.result (λ m rest. done_cut_behind of v w3 (map st n2) bodies row x came_to y.seen rest m) c.behind.ensures.cut);
+      room = c.behind.ensures.room;
+    }
 
 -- WHERE NOT ALL COULD BE BEGUN
 
@@ -1362,14 +1175,13 @@ row::par-merge_all-came-requires-clause-out g t c =
     let w2 = view c.show_all.new.tx in
     let items = c.begin_all-begun.new.branches.items in
     let n1 = c.show_all.new.branches in
-    let why = c.in-Err.why in
     let shown : InPairs (WasShown w1.seen) (map st items) (map st n1) = subst (λ l. InPairs (WasShown w1.seen) (map st l) (map st n1)) c.as_mut_slice.ensures.value c.show_all.ensures.shown in
     let long1 = c.show_all.auto.branches ∙ c.as_mut_slice.ensures.len in
     subst (λ l. AreOut w2.client.out w2.client.net (map st l)) (sym (kept_whole _ n1 _ long1))
-    (turned_out of v w1 w2 (map st items) (map st n1) why c.requires.runs c.in-Err.ensures.err shown c.show_all.ensures.client c.show_all.ensures.made)
+    (turned_out of v w1 w2 (map st items) (map st n1) c.in-Err.why c.requires.runs c.in-Err.ensures.err shown c.show_all.ensures.client c.show_all.ensures.made)
 
-pub row::par-returns-in_default-firsts-clause-joined : goal.row::par-returns-in_default-firsts-clause-joined
-row::par-returns-in_default-firsts-clause-joined g t c =
+pub row::par-returns-in_default-firsts : goal.row::par-returns-in_default-firsts
+row::par-returns-in_default-firsts g t c =
     let view = g.T.Tx.view in
     let st = stands view in
     let of = c.args.of.now in
@@ -1378,37 +1190,19 @@ row::par-returns-in_default-firsts-clause-joined g t c =
     let w2 = view c.show_all.new.tx in
     let items = c.begin_all-begun.new.branches.items in
     let n1 = c.show_all.new.branches in
-    let why = c.in-Err.why in
+    let bodies = map numbered c.args.bodies.now in
     let shown : InPairs (WasShown w1.seen) (map st items) (map st n1) = subst (λ l. InPairs (WasShown w1.seen) (map st l) (map st n1)) c.as_mut_slice.ensures.value c.show_all.ensures.shown in
     let long1 = c.show_all.auto.branches ∙ c.as_mut_slice.ensures.len in
+    let why = c.in-Err.why in
+    let whole = kept_whole _ n1 _ long1 in
     let w3 = view c.merge_all-came.new.tx in
-    let bodies = map numbered c.args.bodies.now in
-    let merged : MergedInTurn w2 (map st n1) w3 = subst (λ l. MergedInTurn w2 (map st l) w3) (kept_whole _ n1 _ long1) c.merge_all-came.ensures.merged in
-    let others = c.in-Err.ensures.first in
-    let first = others.2 ∙ ap (λ l. l ++ others.0) (sym (map_twice (λ (b : Stands). b.body) st items)) in
-    let firsts = map (λ (b : Stands). b.first) (map st n1) in
-    let so : RowTurnedSo of v w3 bodies why firsts = record {
-      begun = w1;
-      seen_by_all = w2;
-      bs = map st items;
-      ones = map st n1;
-      others = others.0;
-      runs = c.requires.runs;
-      began = c.in-Err.ensures.err;
-      shown = shown;
-      same = c.show_all.ensures.client;
-      made = c.show_all.ensures.made;
-      merged = merged;
-      first = first;
-      some = others.1;
-      then = Plan.done;
-      fits = c.requires.fits;
-      are = refl;
-    } in
-    so_joined of v w3 bodies why firsts so
+    let firsts = map (λ b. b.first) n1 in
+    let merged : MergedInTurn w2 (map st n1) w3 = subst (λ l. MergedInTurn w2 (map st l) w3) whole c.merge_all-came.ensures.merged in
+    let row = row_turned st of v w1 w2 items n1 bodies c.requires.runs c.requires.fits shown c.show_all.ensures.client c.show_all.ensures.made why w3 firsts c.in-Err.ensures.err c.in-Err.ensures.first merged refl in
+    record { met = c.merge_all-came.ensures.met; joined = back_joined of v w3 bodies why firsts row; ok = tt; cut = turned_cut_at_once of v w3 bodies why firsts row; room = λ is. cc }
 
-pub row::par-returns-in_default-firsts-clause-cut : goal.row::par-returns-in_default-firsts-clause-cut
-row::par-returns-in_default-firsts-clause-cut g t c =
+pub row::par-returns-in-Memory : goal.row::par-returns-in-Memory
+row::par-returns-in-Memory g t c =
     let view = g.T.Tx.view in
     let st = stands view in
     let of = c.args.of.now in
@@ -1417,37 +1211,19 @@ row::par-returns-in_default-firsts-clause-cut g t c =
     let w2 = view c.show_all.new.tx in
     let items = c.begin_all-begun.new.branches.items in
     let n1 = c.show_all.new.branches in
-    let why = c.in-Err.why in
+    let bodies = map numbered c.args.bodies.now in
     let shown : InPairs (WasShown w1.seen) (map st items) (map st n1) = subst (λ l. InPairs (WasShown w1.seen) (map st l) (map st n1)) c.as_mut_slice.ensures.value c.show_all.ensures.shown in
     let long1 = c.show_all.auto.branches ∙ c.as_mut_slice.ensures.len in
+    let why = c.in-Err.why in
+    let whole = kept_whole _ n1 _ long1 in
     let w3 = view c.merge_all-came.new.tx in
-    let bodies = map numbered c.args.bodies.now in
-    let merged : MergedInTurn w2 (map st n1) w3 = subst (λ l. MergedInTurn w2 (map st l) w3) (kept_whole _ n1 _ long1) c.merge_all-came.ensures.merged in
-    let others = c.in-Err.ensures.first in
-    let first = others.2 ∙ ap (λ l. l ++ others.0) (sym (map_twice (λ (b : Stands). b.body) st items)) in
-    let firsts = map (λ (b : Stands). b.first) (map st n1) in
-    let so : RowTurnedSo of v w3 bodies why firsts = record {
-      begun = w1;
-      seen_by_all = w2;
-      bs = map st items;
-      ones = map st n1;
-      others = others.0;
-      runs = c.requires.runs;
-      began = c.in-Err.ensures.err;
-      shown = shown;
-      same = c.show_all.ensures.client;
-      made = c.show_all.ensures.made;
-      merged = merged;
-      first = first;
-      some = others.1;
-      then = Plan.done;
-      fits = c.requires.fits;
-      are = refl;
-    } in
-    so_cut_at_once of v w3 bodies why firsts so
+    let firsts = map (λ b. b.first) n1 in
+    let merged : MergedInTurn w2 (map st n1) w3 = subst (λ l. MergedInTurn w2 (map st l) w3) whole c.merge_all-came.ensures.merged in
+    let row = row_turned st of v w1 w2 items n1 bodies c.requires.runs c.requires.fits shown c.show_all.ensures.client c.show_all.ensures.made why w3 firsts c.in-Err.ensures.err c.in-Err.ensures.first merged refl in
+    record { met = c.merge_all-came.ensures.met; joined = back_joined of v w3 bodies why firsts row; ok = tt; cut = turned_cut_at_once of v w3 bodies why firsts row; room = λ is. cc }
 
-pub row::par-returns-in-Memory-clause-joined : goal.row::par-returns-in-Memory-clause-joined
-row::par-returns-in-Memory-clause-joined g t c =
+pub row::par-returns-in-Room : goal.row::par-returns-in-Room
+row::par-returns-in-Room g t c =
     let view = g.T.Tx.view in
     let st = stands view in
     let of = c.args.of.now in
@@ -1456,191 +1232,16 @@ row::par-returns-in-Memory-clause-joined g t c =
     let w2 = view c.show_all.new.tx in
     let items = c.begin_all-begun.new.branches.items in
     let n1 = c.show_all.new.branches in
-    let why = c.in-Err.why in
+    let bodies = map numbered c.args.bodies.now in
     let shown : InPairs (WasShown w1.seen) (map st items) (map st n1) = subst (λ l. InPairs (WasShown w1.seen) (map st l) (map st n1)) c.as_mut_slice.ensures.value c.show_all.ensures.shown in
     let long1 = c.show_all.auto.branches ∙ c.as_mut_slice.ensures.len in
-    let w3 = view c.merge_all-came.new.tx in
-    let bodies = map numbered c.args.bodies.now in
-    let merged : MergedInTurn w2 (map st n1) w3 = subst (λ l. MergedInTurn w2 (map st l) w3) (kept_whole _ n1 _ long1) c.merge_all-came.ensures.merged in
-    let others = c.in-Err.ensures.first in
-    let first = others.2 ∙ ap (λ l. l ++ others.0) (sym (map_twice (λ (b : Stands). b.body) st items)) in
-    let firsts = map (λ (b : Stands). b.first) (map st n1) in
-    let so : RowTurnedSo of v w3 bodies why firsts = record {
-      begun = w1;
-      seen_by_all = w2;
-      bs = map st items;
-      ones = map st n1;
-      others = others.0;
-      runs = c.requires.runs;
-      began = c.in-Err.ensures.err;
-      shown = shown;
-      same = c.show_all.ensures.client;
-      made = c.show_all.ensures.made;
-      merged = merged;
-      first = first;
-      some = others.1;
-      then = Plan.done;
-      fits = c.requires.fits;
-      are = refl;
-    } in
-    so_joined of v w3 bodies why firsts so
-
-pub row::par-returns-in-Memory-clause-cut : goal.row::par-returns-in-Memory-clause-cut
-row::par-returns-in-Memory-clause-cut g t c =
-    let view = g.T.Tx.view in
-    let st = stands view in
-    let of = c.args.of.now in
-    let v = view c.args.tx.now in
-    let w1 = view c.begin_all-begun.new.tx in
-    let w2 = view c.show_all.new.tx in
-    let items = c.begin_all-begun.new.branches.items in
-    let n1 = c.show_all.new.branches in
     let why = c.in-Err.why in
-    let shown : InPairs (WasShown w1.seen) (map st items) (map st n1) = subst (λ l. InPairs (WasShown w1.seen) (map st l) (map st n1)) c.as_mut_slice.ensures.value c.show_all.ensures.shown in
-    let long1 = c.show_all.auto.branches ∙ c.as_mut_slice.ensures.len in
+    let whole = kept_whole _ n1 _ long1 in
     let w3 = view c.merge_all-came.new.tx in
-    let bodies = map numbered c.args.bodies.now in
-    let merged : MergedInTurn w2 (map st n1) w3 = subst (λ l. MergedInTurn w2 (map st l) w3) (kept_whole _ n1 _ long1) c.merge_all-came.ensures.merged in
-    let others = c.in-Err.ensures.first in
-    let first = others.2 ∙ ap (λ l. l ++ others.0) (sym (map_twice (λ (b : Stands). b.body) st items)) in
-    let firsts = map (λ (b : Stands). b.first) (map st n1) in
-    let so : RowTurnedSo of v w3 bodies why firsts = record {
-      begun = w1;
-      seen_by_all = w2;
-      bs = map st items;
-      ones = map st n1;
-      others = others.0;
-      runs = c.requires.runs;
-      began = c.in-Err.ensures.err;
-      shown = shown;
-      same = c.show_all.ensures.client;
-      made = c.show_all.ensures.made;
-      merged = merged;
-      first = first;
-      some = others.1;
-      then = Plan.done;
-      fits = c.requires.fits;
-      are = refl;
-    } in
-    so_cut_at_once of v w3 bodies why firsts so
-
-pub row::par-returns-in-Room-clause-joined : goal.row::par-returns-in-Room-clause-joined
-row::par-returns-in-Room-clause-joined g t c =
-    let view = g.T.Tx.view in
-    let st = stands view in
-    let of = c.args.of.now in
-    let v = view c.args.tx.now in
-    let w1 = view c.begin_all-begun.new.tx in
-    let w2 = view c.show_all.new.tx in
-    let items = c.begin_all-begun.new.branches.items in
-    let n1 = c.show_all.new.branches in
-    let why = c.in-Err.why in
-    let shown : InPairs (WasShown w1.seen) (map st items) (map st n1) = subst (λ l. InPairs (WasShown w1.seen) (map st l) (map st n1)) c.as_mut_slice.ensures.value c.show_all.ensures.shown in
-    let long1 = c.show_all.auto.branches ∙ c.as_mut_slice.ensures.len in
-    let w3 = view c.merge_all-came.new.tx in
-    let bodies = map numbered c.args.bodies.now in
-    let merged : MergedInTurn w2 (map st n1) w3 = subst (λ l. MergedInTurn w2 (map st l) w3) (kept_whole _ n1 _ long1) c.merge_all-came.ensures.merged in
-    let others = c.in-Err.ensures.first in
-    let first = others.2 ∙ ap (λ l. l ++ others.0) (sym (map_twice (λ (b : Stands). b.body) st items)) in
-    let firsts = map (λ (b : Stands). b.first) (map st n1) in
-    let so : RowTurnedSo of v w3 bodies why firsts = record {
-      begun = w1;
-      seen_by_all = w2;
-      bs = map st items;
-      ones = map st n1;
-      others = others.0;
-      runs = c.requires.runs;
-      began = c.in-Err.ensures.err;
-      shown = shown;
-      same = c.show_all.ensures.client;
-      made = c.show_all.ensures.made;
-      merged = merged;
-      first = first;
-      some = others.1;
-      then = Plan.done;
-      fits = c.requires.fits;
-      are = refl;
-    } in
-    so_joined of v w3 bodies why firsts so
-
-pub row::par-returns-in-Room-clause-cut : goal.row::par-returns-in-Room-clause-cut
-row::par-returns-in-Room-clause-cut g t c =
-    let view = g.T.Tx.view in
-    let st = stands view in
-    let of = c.args.of.now in
-    let v = view c.args.tx.now in
-    let w1 = view c.begin_all-begun.new.tx in
-    let w2 = view c.show_all.new.tx in
-    let items = c.begin_all-begun.new.branches.items in
-    let n1 = c.show_all.new.branches in
-    let why = c.in-Err.why in
-    let shown : InPairs (WasShown w1.seen) (map st items) (map st n1) = subst (λ l. InPairs (WasShown w1.seen) (map st l) (map st n1)) c.as_mut_slice.ensures.value c.show_all.ensures.shown in
-    let long1 = c.show_all.auto.branches ∙ c.as_mut_slice.ensures.len in
-    let w3 = view c.merge_all-came.new.tx in
-    let bodies = map numbered c.args.bodies.now in
-    let merged : MergedInTurn w2 (map st n1) w3 = subst (λ l. MergedInTurn w2 (map st l) w3) (kept_whole _ n1 _ long1) c.merge_all-came.ensures.merged in
-    let others = c.in-Err.ensures.first in
-    let first = others.2 ∙ ap (λ l. l ++ others.0) (sym (map_twice (λ (b : Stands). b.body) st items)) in
-    let firsts = map (λ (b : Stands). b.first) (map st n1) in
-    let so : RowTurnedSo of v w3 bodies why firsts = record {
-      begun = w1;
-      seen_by_all = w2;
-      bs = map st items;
-      ones = map st n1;
-      others = others.0;
-      runs = c.requires.runs;
-      began = c.in-Err.ensures.err;
-      shown = shown;
-      same = c.show_all.ensures.client;
-      made = c.show_all.ensures.made;
-      merged = merged;
-      first = first;
-      some = others.1;
-      then = Plan.done;
-      fits = c.requires.fits;
-      are = refl;
-    } in
-    so_cut_at_once of v w3 bodies why firsts so
-
-pub row::par-returns-in-Room-clause-room : goal.row::par-returns-in-Room-clause-room
-row::par-returns-in-Room-clause-room g t c =
-    let view = g.T.Tx.view in
-    let st = stands view in
-    let of = c.args.of.now in
-    let v = view c.args.tx.now in
-    let w1 = view c.begin_all-begun.new.tx in
-    let w2 = view c.show_all.new.tx in
-    let items = c.begin_all-begun.new.branches.items in
-    let n1 = c.show_all.new.branches in
-    let why = c.in-Err.why in
-    let shown : InPairs (WasShown w1.seen) (map st items) (map st n1) = subst (λ l. InPairs (WasShown w1.seen) (map st l) (map st n1)) c.as_mut_slice.ensures.value c.show_all.ensures.shown in
-    let long1 = c.show_all.auto.branches ∙ c.as_mut_slice.ensures.len in
-    let w3 = view c.merge_all-came.new.tx in
-    let bodies = map numbered c.args.bodies.now in
-    let merged : MergedInTurn w2 (map st n1) w3 = subst (λ l. MergedInTurn w2 (map st l) w3) (kept_whole _ n1 _ long1) c.merge_all-came.ensures.merged in
-    let others = c.in-Err.ensures.first in
-    let first = others.2 ∙ ap (λ l. l ++ others.0) (sym (map_twice (λ (b : Stands). b.body) st items)) in
-    let firsts = map (λ (b : Stands). b.first) (map st n1) in
-    let so : RowTurnedSo of v w3 bodies why firsts = record {
-      begun = w1;
-      seen_by_all = w2;
-      bs = map st items;
-      ones = map st n1;
-      others = others.0;
-      runs = c.requires.runs;
-      began = c.in-Err.ensures.err;
-      shown = shown;
-      same = c.show_all.ensures.client;
-      made = c.show_all.ensures.made;
-      merged = merged;
-      first = first;
-      some = others.1;
-      then = Plan.done;
-      fits = c.requires.fits;
-      are = refl;
-    } in
-    let none = λ (empty : map st n1 ≡ []). ap (λ (x : View). x.seen) (none_merged w2 w3 (map st n1) merged empty) ∙ c.show_all.ensures.none (none_given st n1 _ c.show_all.auto.branches empty) in
-    λ _. so_room of v w3 bodies why firsts so none c.in-Room.is
+    let firsts = map (λ b. b.first) n1 in
+    let merged : MergedInTurn w2 (map st n1) w3 = subst (λ l. MergedInTurn w2 (map st l) w3) whole c.merge_all-came.ensures.merged in
+    let row = row_turned st of v w1 w2 items n1 bodies c.requires.runs c.requires.fits shown c.show_all.ensures.client c.show_all.ensures.made why w3 firsts c.in-Err.ensures.err c.in-Err.ensures.first merged refl in
+    record { met = c.merge_all-came.ensures.met; joined = back_joined of v w3 bodies why firsts row; ok = tt; cut = turned_cut_at_once of v w3 bodies why firsts row; room = λ _. row_room st of v w1 w2 items n1 bodies c.requires.runs c.requires.fits shown c.show_all.ensures.client c.show_all.ensures.made why w3 firsts c.in-Err.ensures.err c.in-Err.ensures.first merged refl _ c.show_all.auto.branches c.show_all.ensures.none c.in-Room.is }
 
 pub row::par-abort_all-requires : goal.row::par-abort_all-requires
 row::par-abort_all-requires g t c =
@@ -1652,38 +1253,19 @@ row::par-abort_all-requires g t c =
     let w2 = view c.show_all.new.tx in
     let items = c.begin_all-begun.new.branches.items in
     let n1 = c.show_all.new.branches in
-    let why = c.in-Err.why in
+    let bodies = map numbered c.args.bodies.now in
     let shown : InPairs (WasShown w1.seen) (map st items) (map st n1) = subst (λ l. InPairs (WasShown w1.seen) (map st l) (map st n1)) c.as_mut_slice.ensures.value c.show_all.ensures.shown in
     let long1 = c.show_all.auto.branches ∙ c.as_mut_slice.ensures.len in
+    let why = c.in-Err.why in
+    let whole = kept_whole _ n1 _ long1 in
     let w3 = view c.merge_all-came.new.tx in
-    let bodies = map numbered c.args.bodies.now in
-    let merged : MergedInTurn w2 (map st n1) w3 = subst (λ l. MergedInTurn w2 (map st l) w3) (kept_whole _ n1 _ long1) c.merge_all-came.ensures.merged in
-    let others = c.in-Err.ensures.first in
-    let first = others.2 ∙ ap (λ l. l ++ others.0) (sym (map_twice (λ (b : Stands). b.body) st items)) in
     let firsts = c.as_slice-in_default-why.result.now in
-    let so : RowTurnedSo of v w3 bodies why firsts = record {
-      begun = w1;
-      seen_by_all = w2;
-      bs = map st items;
-      ones = map st n1;
-      others = others.0;
-      runs = c.requires.runs;
-      began = c.in-Err.ensures.err;
-      shown = shown;
-      same = c.show_all.ensures.client;
-      made = c.show_all.ensures.made;
-      merged = merged;
-      first = first;
-      some = others.1;
-      then = Plan.done;
-      fits = c.requires.fits;
-      are = c.as_slice-in_default-why.ensures.value ∙ (c.in-Ok-firsts.ensures ∙ (ap (map (λ b. b.first)) (c.as_slice.ensures.value ∙ kept_whole _ n1 _ long1) ∙ sym (map_twice (λ (b : Stands). b.first) st n1)));
-    } in
-    let refused = so_refused of v w3 bodies why firsts so c.in_default-why.not-Memory c.in_default-why.not-Room in
-    record { nonroot = c.requires.runs.nonroot; legal = so_legal of v w3 bodies why firsts so; refused = refused; firsts = so_firsts of v w3 bodies why firsts so; met = c.merge_all-came.ensures.met }
+    let merged : MergedInTurn w2 (map st n1) w3 = subst (λ l. MergedInTurn w2 (map st l) w3) whole c.merge_all-came.ensures.merged in
+    let row = row_turned st of v w1 w2 items n1 bodies c.requires.runs c.requires.fits shown c.show_all.ensures.client c.show_all.ensures.made why w3 firsts c.in-Err.ensures.err c.in-Err.ensures.first merged (c.as_slice-in_default-why.ensures.value ∙ (c.in-Ok-firsts.ensures ∙ ap (map (λ b. b.first)) (c.as_slice.ensures.value ∙ whole))) in
+    record { nonroot = c.requires.runs.nonroot; legal = back_legal of v w3 bodies why firsts row; refused = turned_refused_so of v w3 bodies why firsts row c.in_default-why.not-Memory c.in_default-why.not-Room; firsts = turned_are_firsts of v w3 bodies why firsts row; met = c.merge_all-came.ensures.met }
 
-pub row::par-returns-in_err-abort_all-in_default-why-clause-joined : goal.row::par-returns-in_err-abort_all-in_default-why-clause-joined
-row::par-returns-in_err-abort_all-in_default-why-clause-joined g t c =
+pub row::par-returns-in_err-abort_all-in_default-why : goal.row::par-returns-in_err-abort_all-in_default-why
+row::par-returns-in_err-abort_all-in_default-why g t c =
     let view = g.T.Tx.view in
     let st = stands view in
     let of = c.args.of.now in
@@ -1692,74 +1274,24 @@ row::par-returns-in_err-abort_all-in_default-why-clause-joined g t c =
     let w2 = view c.show_all.new.tx in
     let items = c.begin_all-begun.new.branches.items in
     let n1 = c.show_all.new.branches in
-    let why = c.in-Err.why in
+    let bodies = map numbered c.args.bodies.now in
     let shown : InPairs (WasShown w1.seen) (map st items) (map st n1) = subst (λ l. InPairs (WasShown w1.seen) (map st l) (map st n1)) c.as_mut_slice.ensures.value c.show_all.ensures.shown in
     let long1 = c.show_all.auto.branches ∙ c.as_mut_slice.ensures.len in
-    let w3 = view c.merge_all-came.new.tx in
-    let bodies = map numbered c.args.bodies.now in
-    let merged : MergedInTurn w2 (map st n1) w3 = subst (λ l. MergedInTurn w2 (map st l) w3) (kept_whole _ n1 _ long1) c.merge_all-came.ensures.merged in
-    let others = c.in-Err.ensures.first in
-    let first = others.2 ∙ ap (λ l. l ++ others.0) (sym (map_twice (λ (b : Stands). b.body) st items)) in
-    let firsts = c.as_slice-in_default-why.result.now in
-    let so : RowTurnedSo of v w3 bodies why firsts = record {
-      begun = w1;
-      seen_by_all = w2;
-      bs = map st items;
-      ones = map st n1;
-      others = others.0;
-      runs = c.requires.runs;
-      began = c.in-Err.ensures.err;
-      shown = shown;
-      same = c.show_all.ensures.client;
-      made = c.show_all.ensures.made;
-      merged = merged;
-      first = first;
-      some = others.1;
-      then = Plan.done;
-      fits = c.requires.fits;
-      are = c.as_slice-in_default-why.ensures.value ∙ (c.in-Ok-firsts.ensures ∙ (ap (map (λ b. b.first)) (c.as_slice.ensures.value ∙ kept_whole _ n1 _ long1) ∙ sym (map_twice (λ (b : Stands). b.first) st n1)));
-    } in
-    subst (HasJoined v.client v.seen) (sym c.abort_all.ensures.client) (so_joined of v w3 bodies why firsts so)
-
-pub row::par-returns-in_err-abort_all-in_default-why-clause-cut : goal.row::par-returns-in_err-abort_all-in_default-why-clause-cut
-row::par-returns-in_err-abort_all-in_default-why-clause-cut g t c =
-    let view = g.T.Tx.view in
-    let st = stands view in
-    let of = c.args.of.now in
-    let v = view c.args.tx.now in
-    let w1 = view c.begin_all-begun.new.tx in
-    let w2 = view c.show_all.new.tx in
-    let items = c.begin_all-begun.new.branches.items in
-    let n1 = c.show_all.new.branches in
     let why = c.in-Err.why in
-    let shown : InPairs (WasShown w1.seen) (map st items) (map st n1) = subst (λ l. InPairs (WasShown w1.seen) (map st l) (map st n1)) c.as_mut_slice.ensures.value c.show_all.ensures.shown in
-    let long1 = c.show_all.auto.branches ∙ c.as_mut_slice.ensures.len in
+    let whole = kept_whole _ n1 _ long1 in
     let w3 = view c.merge_all-came.new.tx in
-    let bodies = map numbered c.args.bodies.now in
-    let merged : MergedInTurn w2 (map st n1) w3 = subst (λ l. MergedInTurn w2 (map st l) w3) (kept_whole _ n1 _ long1) c.merge_all-came.ensures.merged in
-    let others = c.in-Err.ensures.first in
-    let first = others.2 ∙ ap (λ l. l ++ others.0) (sym (map_twice (λ (b : Stands). b.body) st items)) in
     let firsts = c.as_slice-in_default-why.result.now in
-    let so : RowTurnedSo of v w3 bodies why firsts = record {
-      begun = w1;
-      seen_by_all = w2;
-      bs = map st items;
-      ones = map st n1;
-      others = others.0;
-      runs = c.requires.runs;
-      began = c.in-Err.ensures.err;
-      shown = shown;
-      same = c.show_all.ensures.client;
-      made = c.show_all.ensures.made;
-      merged = merged;
-      first = first;
-      some = others.1;
-      then = Plan.done;
-      fits = c.requires.fits;
-      are = c.as_slice-in_default-why.ensures.value ∙ (c.in-Ok-firsts.ensures ∙ (ap (map (λ b. b.first)) (c.as_slice.ensures.value ∙ kept_whole _ n1 _ long1) ∙ sym (map_twice (λ (b : Stands). b.first) st n1)));
-    } in
+    let merged : MergedInTurn w2 (map st n1) w3 = subst (λ l. MergedInTurn w2 (map st l) w3) whole c.merge_all-came.ensures.merged in
+    let row = row_turned st of v w1 w2 items n1 bodies c.requires.runs c.requires.fits shown c.show_all.ensures.client c.show_all.ensures.made why w3 firsts c.in-Err.ensures.err c.in-Err.ensures.first merged (c.as_slice-in_default-why.ensures.value ∙ (c.in-Ok-firsts.ensures ∙ ap (map (λ b. b.first)) (c.as_slice.ensures.value ∙ whole))) in
     let x = view c.abort_all.new.tx in
-    any_err _ c.from_residual-in_err-abort_all-in_default-why.result (λ rest. subst (λ d. CutOff d of v.seen x.seen (row_step bodies rest)) (sym c.abort_all.ensures.client) (so_cut_off of v w3 bodies why firsts so x.seen rest c.in_err-abort_all-in_default-why.ensures.cut))
+    let client = sym c.abort_all.ensures.client in
+    record {
+      met = c.abort_all.ensures.met;
+      joined = subst (HasJoined v.client v.seen) client (back_joined of v w3 bodies why firsts row);
+      ok = search rules;
+      cut = any_err _ c.from_residual-in_err-abort_all-in_default-why.result (λ rest. subst (λ d. CutOff d of v.seen x.seen (row_step bodies rest)) client (turned_cut_off of v w3 bodies why firsts row x.seen rest c.in_err-abort_all-in_default-why.ensures.cut));
+      room = search rules;
+    }
 
 pub row::par-behind-requires-in_default-why : goal.row::par-behind-requires-in_default-why
 row::par-behind-requires-in_default-why g t c =
@@ -1771,45 +1303,27 @@ row::par-behind-requires-in_default-why g t c =
     let w2 = view c.show_all.new.tx in
     let items = c.begin_all-begun.new.branches.items in
     let n1 = c.show_all.new.branches in
-    let why = c.in-Err.why in
+    let bodies = map numbered c.args.bodies.now in
     let shown : InPairs (WasShown w1.seen) (map st items) (map st n1) = subst (λ l. InPairs (WasShown w1.seen) (map st l) (map st n1)) c.as_mut_slice.ensures.value c.show_all.ensures.shown in
     let long1 = c.show_all.auto.branches ∙ c.as_mut_slice.ensures.len in
+    let why = c.in-Err.why in
+    let whole = kept_whole _ n1 _ long1 in
     let w3 = view c.merge_all-came.new.tx in
-    let bodies = map numbered c.args.bodies.now in
-    let merged : MergedInTurn w2 (map st n1) w3 = subst (λ l. MergedInTurn w2 (map st l) w3) (kept_whole _ n1 _ long1) c.merge_all-came.ensures.merged in
-    let others = c.in-Err.ensures.first in
-    let first = others.2 ∙ ap (λ l. l ++ others.0) (sym (map_twice (λ (b : Stands). b.body) st items)) in
     let firsts = c.as_slice-in_default-why.result.now in
-    let so : RowTurnedSo of v w3 bodies why firsts = record {
-      begun = w1;
-      seen_by_all = w2;
-      bs = map st items;
-      ones = map st n1;
-      others = others.0;
-      runs = c.requires.runs;
-      began = c.in-Err.ensures.err;
-      shown = shown;
-      same = c.show_all.ensures.client;
-      made = c.show_all.ensures.made;
-      merged = merged;
-      first = first;
-      some = others.1;
-      then = Plan.done;
-      fits = c.requires.fits;
-      are = c.as_slice-in_default-why.ensures.value ∙ (c.in-Ok-firsts.ensures ∙ (ap (map (λ b. b.first)) (c.as_slice.ensures.value ∙ kept_whole _ n1 _ long1) ∙ sym (map_twice (λ (b : Stands). b.first) st n1)));
-    } in
-    let refused = so_refused of v w3 bodies why firsts so c.in_default-why.not-Memory c.in_default-why.not-Room in
+    let merged : MergedInTurn w2 (map st n1) w3 = subst (λ l. MergedInTurn w2 (map st l) w3) whole c.merge_all-came.ensures.merged in
+    let row = row_turned st of v w1 w2 items n1 bodies c.requires.runs c.requires.fits shown c.show_all.ensures.client c.show_all.ensures.made why w3 firsts c.in-Err.ensures.err c.in-Err.ensures.first merged (c.as_slice-in_default-why.ensures.value ∙ (c.in-Ok-firsts.ensures ∙ ap (map (λ b. b.first)) (c.as_slice.ensures.value ∙ whole))) in
+    let refused = turned_refused_so of v w3 bodies why firsts row c.in_default-why.not-Memory c.in_default-why.not-Room in
     let x = view c.abort_all.new.tx in
     let turned = c.in_ok-abort_all-in_default-why.ensures.ok in
     let client = sym c.abort_all.ensures.client in
     record {
-      runs = subst (λ d. Runs d of x.seen) client (so_runs of v w3 bodies why firsts so refused x.seen turned);
-      knows = subst (λ d. WhyStop d x.seen of why) client (so_knows of v w3 bodies why firsts so refused x.seen turned);
+      runs = subst (λ d. Runs d of x.seen) client (turned_row_out of v w3 bodies why firsts row refused x.seen turned).runs;
+      knows = subst (λ d. WhyStop d x.seen of why) client (turned_knows of v w3 bodies why firsts row refused x.seen turned);
       met = c.abort_all.ensures.met;
     }
 
-pub row::par-returns-clause-joined : goal.row::par-returns-clause-joined
-row::par-returns-clause-joined g t c =
+pub row::par-returns : goal.row::par-returns
+row::par-returns g t c =
     let view = g.T.Tx.view in
     let st = stands view in
     let of = c.args.of.now in
@@ -1818,149 +1332,29 @@ row::par-returns-clause-joined g t c =
     let w2 = view c.show_all.new.tx in
     let items = c.begin_all-begun.new.branches.items in
     let n1 = c.show_all.new.branches in
-    let why = c.in-Err.why in
+    let bodies = map numbered c.args.bodies.now in
     let shown : InPairs (WasShown w1.seen) (map st items) (map st n1) = subst (λ l. InPairs (WasShown w1.seen) (map st l) (map st n1)) c.as_mut_slice.ensures.value c.show_all.ensures.shown in
     let long1 = c.show_all.auto.branches ∙ c.as_mut_slice.ensures.len in
+    let why = c.in-Err.why in
+    let whole = kept_whole _ n1 _ long1 in
     let w3 = view c.merge_all-came.new.tx in
-    let bodies = map numbered c.args.bodies.now in
-    let merged : MergedInTurn w2 (map st n1) w3 = subst (λ l. MergedInTurn w2 (map st l) w3) (kept_whole _ n1 _ long1) c.merge_all-came.ensures.merged in
-    let others = c.in-Err.ensures.first in
-    let first = others.2 ∙ ap (λ l. l ++ others.0) (sym (map_twice (λ (b : Stands). b.body) st items)) in
     let firsts = c.as_slice-in_default-why.result.now in
-    let so : RowTurnedSo of v w3 bodies why firsts = record {
-      begun = w1;
-      seen_by_all = w2;
-      bs = map st items;
-      ones = map st n1;
-      others = others.0;
-      runs = c.requires.runs;
-      began = c.in-Err.ensures.err;
-      shown = shown;
-      same = c.show_all.ensures.client;
-      made = c.show_all.ensures.made;
-      merged = merged;
-      first = first;
-      some = others.1;
-      then = Plan.done;
-      fits = c.requires.fits;
-      are = c.as_slice-in_default-why.ensures.value ∙ (c.in-Ok-firsts.ensures ∙ (ap (map (λ b. b.first)) (c.as_slice.ensures.value ∙ kept_whole _ n1 _ long1) ∙ sym (map_twice (λ (b : Stands). b.first) st n1)));
-    } in
-    let refused = so_refused of v w3 bodies why firsts so c.in_default-why.not-Memory c.in_default-why.not-Room in
+    let merged : MergedInTurn w2 (map st n1) w3 = subst (λ l. MergedInTurn w2 (map st l) w3) whole c.merge_all-came.ensures.merged in
+    let row = row_turned st of v w1 w2 items n1 bodies c.requires.runs c.requires.fits shown c.show_all.ensures.client c.show_all.ensures.made why w3 firsts c.in-Err.ensures.err c.in-Err.ensures.first merged (c.as_slice-in_default-why.ensures.value ∙ (c.in-Ok-firsts.ensures ∙ ap (map (λ b. b.first)) (c.as_slice.ensures.value ∙ whole))) in
+    let refused = turned_refused_so of v w3 bodies why firsts row c.in_default-why.not-Memory c.in_default-why.not-Room in
     let x = view c.abort_all.new.tx in
     let turned = c.in_ok-abort_all-in_default-why.ensures.ok in
     let y = view c.behind-in_default-why.new.tx in
     let same = c.abort_all.ensures.client in
     let client = sym (c.behind-in_default-why.ensures.client ∙ same) in
-    subst (HasJoined v.client v.seen) client (so_joined of v w3 bodies why firsts so)
-
-pub row::par-returns-clause-ok : goal.row::par-returns-clause-ok
-row::par-returns-clause-ok g t c =
-    let view = g.T.Tx.view in
-    let st = stands view in
-    let of = c.args.of.now in
-    let v = view c.args.tx.now in
-    let w1 = view c.begin_all-begun.new.tx in
-    let w2 = view c.show_all.new.tx in
-    let items = c.begin_all-begun.new.branches.items in
-    let n1 = c.show_all.new.branches in
-    let why = c.in-Err.why in
-    let shown : InPairs (WasShown w1.seen) (map st items) (map st n1) = subst (λ l. InPairs (WasShown w1.seen) (map st l) (map st n1)) c.as_mut_slice.ensures.value c.show_all.ensures.shown in
-    let long1 = c.show_all.auto.branches ∙ c.as_mut_slice.ensures.len in
-    let w3 = view c.merge_all-came.new.tx in
-    let bodies = map numbered c.args.bodies.now in
-    let merged : MergedInTurn w2 (map st n1) w3 = subst (λ l. MergedInTurn w2 (map st l) w3) (kept_whole _ n1 _ long1) c.merge_all-came.ensures.merged in
-    let others = c.in-Err.ensures.first in
-    let first = others.2 ∙ ap (λ l. l ++ others.0) (sym (map_twice (λ (b : Stands). b.body) st items)) in
-    let firsts = c.as_slice-in_default-why.result.now in
-    let so : RowTurnedSo of v w3 bodies why firsts = record {
-      begun = w1;
-      seen_by_all = w2;
-      bs = map st items;
-      ones = map st n1;
-      others = others.0;
-      runs = c.requires.runs;
-      began = c.in-Err.ensures.err;
-      shown = shown;
-      same = c.show_all.ensures.client;
-      made = c.show_all.ensures.made;
-      merged = merged;
-      first = first;
-      some = others.1;
-      then = Plan.done;
-      fits = c.requires.fits;
-      are = c.as_slice-in_default-why.ensures.value ∙ (c.in-Ok-firsts.ensures ∙ (ap (map (λ b. b.first)) (c.as_slice.ensures.value ∙ kept_whole _ n1 _ long1) ∙ sym (map_twice (λ (b : Stands). b.first) st n1)));
-    } in
-    let refused = so_refused of v w3 bodies why firsts so c.in_default-why.not-Memory c.in_default-why.not-Room in
-    let x = view c.abort_all.new.tx in
-    let turned = c.in_ok-abort_all-in_default-why.ensures.ok in
-    let y = view c.behind-in_default-why.new.tx in
-    let same = c.abort_all.ensures.client in
-    let client = sym (c.behind-in_default-why.ensures.client ∙ same) in
-    subst (λ d. IfOk c.behind-in_default-why.result (HasActed d of v.seen y.seen (row_step bodies))) client
-    (if_ok (WentBehind x.client of x.seen y.seen (came.Refused why)) (HasActed w3.client of v.seen y.seen (row_step bodies)) c.behind-in_default-why.result
-    (λ r went. so_acted of v w3 bodies why firsts so refused x.seen turned y.seen r (subst (λ d. WentBehind d of x.seen y.seen (came.Refused why) r) same went)) c.behind-in_default-why.ensures.ok)
-
-pub row::par-returns-clause-cut : goal.row::par-returns-clause-cut
-row::par-returns-clause-cut g t c =
-    let view = g.T.Tx.view in
-    let st = stands view in
-    let of = c.args.of.now in
-    let v = view c.args.tx.now in
-    let w1 = view c.begin_all-begun.new.tx in
-    let w2 = view c.show_all.new.tx in
-    let items = c.begin_all-begun.new.branches.items in
-    let n1 = c.show_all.new.branches in
-    let why = c.in-Err.why in
-    let shown : InPairs (WasShown w1.seen) (map st items) (map st n1) = subst (λ l. InPairs (WasShown w1.seen) (map st l) (map st n1)) c.as_mut_slice.ensures.value c.show_all.ensures.shown in
-    let long1 = c.show_all.auto.branches ∙ c.as_mut_slice.ensures.len in
-    let w3 = view c.merge_all-came.new.tx in
-    let bodies = map numbered c.args.bodies.now in
-    let merged : MergedInTurn w2 (map st n1) w3 = subst (λ l. MergedInTurn w2 (map st l) w3) (kept_whole _ n1 _ long1) c.merge_all-came.ensures.merged in
-    let others = c.in-Err.ensures.first in
-    let first = others.2 ∙ ap (λ l. l ++ others.0) (sym (map_twice (λ (b : Stands). b.body) st items)) in
-    let firsts = c.as_slice-in_default-why.result.now in
-    let so : RowTurnedSo of v w3 bodies why firsts = record {
-      begun = w1;
-      seen_by_all = w2;
-      bs = map st items;
-      ones = map st n1;
-      others = others.0;
-      runs = c.requires.runs;
-      began = c.in-Err.ensures.err;
-      shown = shown;
-      same = c.show_all.ensures.client;
-      made = c.show_all.ensures.made;
-      merged = merged;
-      first = first;
-      some = others.1;
-      then = Plan.done;
-      fits = c.requires.fits;
-      are = c.as_slice-in_default-why.ensures.value ∙ (c.in-Ok-firsts.ensures ∙ (ap (map (λ b. b.first)) (c.as_slice.ensures.value ∙ kept_whole _ n1 _ long1) ∙ sym (map_twice (λ (b : Stands). b.first) st n1)));
-    } in
-    let refused = so_refused of v w3 bodies why firsts so c.in_default-why.not-Memory c.in_default-why.not-Room in
-    let x = view c.abort_all.new.tx in
-    let turned = c.in_ok-abort_all-in_default-why.ensures.ok in
-    let y = view c.behind-in_default-why.new.tx in
-    let same = c.abort_all.ensures.client in
-    let client = sym (c.behind-in_default-why.ensures.client ∙ same) in
-    subst (λ d. IfErr c.behind-in_default-why.result (λ _. (rest : Plan) → CutOff d of v.seen y.seen (row_step bodies rest))) client
-    (if_err (Made x.client [] x.seen y.seen) ((rest : Plan) → CutOff w3.client of v.seen y.seen (row_step bodies rest)) c.behind-in_default-why.result
-    (λ m rest. so_cut_behind of v w3 bodies why firsts so refused x.seen turned y.seen rest (subst (λ (d : Client). Made d [] x.seen y.seen) same m)) c.behind-in_default-why.ensures.cut)
-
--- THE STEP
-
-pub act-returns-in-Par-clause-ok : goal.act-returns-in-Par-clause-ok
-act-returns-in-Par-clause-ok g t c =
-    let v = g.T.Tx.view c.args.tx.now in
-    let w = g.T.Tx.view c.par.new.tx in
-    let bodies = map numbered c.as_slice.result.now in
-    if_ok (HasActed w.client c.args.of.now v.seen w.seen (row_step bodies)) (HasActed w.client c.args.of.now v.seen w.seen (put c.args.step.now)) c.par.result
-    (λ r h. subst (λ f. HasActed w.client c.args.of.now v.seen w.seen f r) (sym (ap put c.in-Par.is ∙ put_par c.in-Par.bodies ∙ ap (λ l. row_step (map numbered l)) (sym c.as_slice.ensures.value))) h) c.par.ensures.ok
-
-pub act-returns-in-Par-clause-cut : goal.act-returns-in-Par-clause-cut
-act-returns-in-Par-clause-cut g t c =
-    let v = g.T.Tx.view c.args.tx.now in
-    let w = g.T.Tx.view c.par.new.tx in
-    let bodies = map numbered c.as_slice.result.now in
-    if_err ((rest : Plan) → CutOff w.client c.args.of.now v.seen w.seen (row_step bodies rest)) ((rest : Plan) → CutOff w.client c.args.of.now v.seen w.seen (put c.args.step.now rest)) c.par.result
-    (λ h rest. subst (λ f. CutOff w.client c.args.of.now v.seen w.seen (f rest)) (sym (ap put c.in-Par.is ∙ put_par c.in-Par.bodies ∙ ap (λ l. row_step (map numbered l)) (sym c.as_slice.ensures.value))) (h rest)) c.par.ensures.cut
+    record {
+      met = c.behind-in_default-why.ensures.met;
+      joined = subst (HasJoined v.client v.seen) client (back_joined of v w3 bodies why firsts row);
+      ok = subst (λ d. IfOk c.behind-in_default-why.result (HasActed d of v.seen y.seen (row_step bodies))) client
+          (if_ok (WentBehind x.client of x.seen y.seen (came.Refused why)) (HasActed w3.client of v.seen y.seen (row_step bodies)) c.behind-in_default-why.result
+          (λ r went. turned_acted of v w3 bodies why firsts row refused x.seen turned y.seen r (subst (λ d. WentBehind d of x.seen y.seen (came.Refused why) r) same went)) c.behind-in_default-why.ensures.ok);
+      cut = subst (λ d. IfErr c.behind-in_default-why.result (λ _. (rest : Plan) → CutOff d of v.seen y.seen (row_step bodies rest))) client
+          (if_err (Made x.client [] x.seen y.seen) ((rest : Plan) → CutOff w3.client of v.seen y.seen (row_step bodies rest)) c.behind-in_default-why.result
+          (λ m rest. turned_cut_behind of v w3 bodies why firsts row refused x.seen turned y.seen rest (subst (λ (d : Client). Made d [] x.seen y.seen) same m)) c.behind-in_default-why.ensures.cut);
+      room = c.behind-in_default-why.ensures.room;
+    }
