@@ -30,6 +30,7 @@ use Rattle.qc_interp.proofs.Asked.{asked_made, asked_wider, asked_trans, asks_st
 use Rattle.qc_interp.proofs.BranchTries.{TriesAt, tries_itself, tries_trans, TriedOne, CutOne, one_tried, one_cut}
 use Rattle.qc_interp.proofs.Followed.{IsTryOf, follows_runs, followed_done, done_closed}
 use Rattle.qc_interp.proofs.Growth.{made_is, made_later, later_itself, ours_before, first_made}
+use Rattle.qc_interp.proofs.OneTry.{more_try, number_later, runs_later, again_later, asked_later}
 use Rattle.qc_interp.proofs.Joined.{joined_before, joined_chain, joined_since, joined_start, joined_root, joined_mine, by_joined, more_mine, more_later, newer_mine, ours_back, both, OwnAlike}
 use Rattle.qc_interp.proofs.MadeBy.{made_by}
 use Rattle.qc_interp.proofs.StepsLeave.{kind_later}
@@ -67,32 +68,23 @@ module _ (c : Client) (body : Numbered) (n : Name) (before now : Past) (to : Fin
     ours_one : AreOurs c n x
     ours_one = all_last (λ y. AreOurs c y x) (tries_by c before) n further (subst (AllByRecursion (λ y. AreOurs c y x)) tries_later ours)
 
-    follows_now : RunsPlan Reach.to_the_end c.session (mine c now) n body.plan (deeds (mine c now) n) (end (mine c now) n)
-    follows_now = t.follows (ours_before c n now x later ours_one)
+    own : AreOurs c n now
+    own = ours_before c n now x later ours_one
 
     one_try : IsTryOf reach c.session (mine c x) body.number body.plan n
-    one_try = (
-      kind_later c c.root now x later n _ t.kind,
-      follows_runs reach c.session (mine c x) n body.plan _ _ (subst (λ h. RunsPlan Reach.to_the_end c.session (mine c h) n body.plan (deeds (mine c h) n) (end (mine c h) n)) (sym later.grown)
-          (follows_still c.session (λ (e : Entry). is_own c e.seat) c.setting later.newer now (subst (Legal c.setting) later.grown later.legal) n body.plan follows_now).0),
-    )
+    one_try = (number_later c n body (AreOurs c n now) before now t.one x later own, runs_later c n body (AreOurs c n now) before now t.one x later own reach)
 
-    again_later : is_tried_again (end (mine c x) n) ≡ is_again to
-    again_later =
-        ap (λ h. is_tried_again (end (mine c h) n)) later.grown
-        ∙ again_still c.session (λ (e : Entry). is_own c e.seat) c.setting later.newer now (subst (Legal c.setting) later.grown later.legal) n (done_closed (mine c now) n (followed_done c.session (mine c now) n body.plan (deeds (mine c now) n) (end (mine c now) n) follows_now))
-        ∙ again_is to (end (mine c now) n) t.came
+    again_now : is_tried_again (end (mine c x) n) ≡ is_again to
+    again_now = again_later c n body (AreOurs c n now) before now t.one x later own ∙ again_is to (end (mine c now) n) t.came
 
-    asked_later : AllAsked c before now (λ by m. Asks (mine c x) n body.plan (deeds (mine c x) n) by m)
-    asked_later = asked_wider _ _ (λ by m a.
-        subst (λ h. Asks (mine c h) n body.plan (deeds (mine c h) n) by m) (sym later.grown)
-        (asks_still c.session (λ (e : Entry). is_own c e.seat) c.setting later.newer now (subst (Legal c.setting) later.grown later.legal) by m n body.plan follows_now a)) c before now (t.asked (ours_before c n now x later ours_one))
+    asked_now : AllAsked c before now (λ by m. Asks (mine c x) n body.plan (deeds (mine c x) n) by m)
+    asked_now = asked_later c n body (AreOurs c n now) before now t.one x later own
 
     abbrev AreTries : Option Deed → ℕ → List Deed → Type 0
     AreTries last left ds = Tries (deed_end (mine c x)) (OfChild (IsTryOf reach c.session (mine c x) body.number body.plan)) (MayStop stops) IsLast last left ds
 
     with_try : (last : Option Deed) (left : ℕ) → MatchBool (is_again to) (AreTries (Some (Deed.child n)) left (map Deed.child further)) (map Deed.child further ≡ []) → AreTries last (suc left) (map Deed.child (n ∷ further))
-    with_try last left h = (one_try, subst (λ b. MatchBool b (AreTries (Some (Deed.child n)) left (map Deed.child further)) (map Deed.child further ≡ [])) (sym again_later) h)
+    with_try last left h = (one_try, subst (λ b. MatchBool b (AreTries (Some (Deed.child n)) left (map Deed.child further)) (map Deed.child further ≡ [])) (sym again_now) h)
 
   -- one try more, after which there may be another
   pub branch_again : is_again to ≡ true → (reach : Reach) (stops : Bool) (x : Past) → IsLater c now x → (last : Option Name) (left : ℕ) → EndsBranch reach stops c now x body (Some n) left → EndsBranch reach stops c before x body last (suc left)
@@ -101,8 +93,8 @@ module _ (c : Client) (body : Numbered) (n : Name) (before now : Past) (to : Fin
         n ∷ e.0,
         tries_later reach stops x later e.0 e.1 ours,
         with_try reach stops x later e.0 e.1 ours (option_map Deed.child last) left (match_true _ (map Deed.child e.0 ≡ []) (is_again to) is e.2),
-        ap (λ b. was_tried (mine c x) false (if b then left else zero) (map Deed.child e.0)) (again_later reach stops x later e.0 e.1 ours ∙ is) ∙ e.3,
-        asked_trans c before now x _ (asked_wider _ _ (λ by m a. inl a) c before now (asked_later reach stops x later e.0 e.1 ours)) (asked_wider _ _ (λ by m a. inr a) c now x e.4),
+        ap (λ b. was_tried (mine c x) false (if b then left else zero) (map Deed.child e.0)) (again_now reach stops x later e.0 e.1 ours ∙ is) ∙ e.3,
+        asked_trans c before now x _ (asked_wider _ _ (λ by m a. inl a) c before now (asked_now reach stops x later e.0 e.1 ours)) (asked_wider _ _ (λ by m a. inr a) c now x e.4),
       )
 
   -- one try more, which is the last
@@ -113,8 +105,8 @@ module _ (c : Client) (body : Numbered) (n : Name) (before now : Past) (to : Fin
         n ∷ [],
         made_it,
         with_try Reach.to_the_end false now same [] none ours (option_map Deed.child last) left (by_again (is_again to) refl),
-        ap (λ b. was_tried (mine c now) false (if b then left else zero) []) (again_later Reach.to_the_end false now same [] none ours) ∙ all_out (is_again to) refl,
-        asked_wider _ _ (λ by m a. inl a) c before now (asked_later Reach.to_the_end false now same [] none ours),
+        ap (λ b. was_tried (mine c now) false (if b then left else zero) []) (again_now Reach.to_the_end false now same [] none ours) ∙ all_out (is_again to) refl,
+        asked_wider _ _ (λ by m a. inl a) c before now (asked_now Reach.to_the_end false now same [] none ours),
       )
     where
       Further : ℕ → Type 0
@@ -146,7 +138,7 @@ pub branch_cut : (c : Client) (body : Numbered) (n : Name) (before now : Past) �
 branch_cut c body n before now t last left ours =
     let made = t.leaves.more ∙ ap (λ l. tries_by c before ++ l) t.is_made in
     let one = all_last (λ y. AreOurs c y now) (tries_by c before) n [] (subst (AllByRecursion (λ y. AreOurs c y now)) made ours) in
-    (n ∷ [], made, ((t.kind, t.begins one), match_false _ _ _ t.tried refl), ap (λ b. was_tried (mine c now) false (if b then left else zero) []) t.tried, asked_wider _ _ (λ by m a. inl a) c before now (t.asked one))
+    (n ∷ [], made, ((t.one.number, t.one.runs one), match_false _ _ _ t.tried refl), ap (λ b. was_tried (mine c now) false (if b then left else zero) []) t.tried, asked_wider _ _ (λ by m a. inl a) c before now (t.one.asked one))
 
 -- a further try was not begun
 pub branch_stops : (reach : Reach) (c : Client) (body : Numbered) (before now : Past) → Made c [] before now → (last : Option Name) (left : ℕ) → EndsBranch reach true c before now body last (suc left)
@@ -206,11 +198,7 @@ module _ (c d : Client) (body : Numbered) where
       record {
         leaves = more_tries c kin before now all Reach.to_the_end t.leaves;
         is_made = t.is_made;
-        kind = ap (λ h. kind_of h n) same ∙ t.kind;
-        follows = λ ours. subst (λ h. RunsPlan Reach.to_the_end c.session h n body.plan (deeds h n) (end h n)) (sym same) (t.follows (back ours));
-        asked = λ ours.
-            both c kin before now t.leaves.later all
-            (λ x y. (made : Past) × (y ≡ made ++ x) × AllByRecursion (λ (e : Entry). IsAskedBy (λ by m. Asks y n body.plan (deeds y n) by m) e.event) made) (t.asked (back ours));
+        one = more_try c kin before now t.leaves.later all Reach.to_the_end n body (AreOurs c n now) (AreOurs (record c { kin = kin }) n now) back t.one;
         came = subst (λ h. CameTo to (end h n)) (sym same) t.came;
         ended = λ ours. ap (λ h. is_some (end h n)) same ∙ t.ended (back ours);
       })

@@ -35,6 +35,7 @@ use Rattle.qc_interp.proofs.Mine.{kept_some}
 use Rattle.qc_interp.proofs.RowOurs.{child_is_scope}
 use Rattle.qc_interp.proofs.Seats.{own_under, later_seat, later_under}
 use Rattle.qc_interp.proofs.StepsLeave.{kind_later}
+use Rattle.qc_interp.proofs.OneTry.{IsTry, is_try, left_above, ended_below}
 use Rattle.qc_interp.proofs.Stopping.{unended_again}
 use Rattle.qc_interp.proofs.TopsRun.{all_last, all_front}
 use Rattle.qc_interp.proofs.Tried.{MayBegin, end_begun, ready_begun, kind_begun, turns_begun, none_begun, seat_begun}
@@ -96,9 +97,7 @@ tries_trans c a b d f g = record {
 pub record TriedOne (c : Client) (body : Numbered) (n : Name) (before now : Past) (to : Finish) : Type 0 where
   pub leaves : TriesAt Reach.to_the_end c before now
   pub is_made : leaves.made ≡ n ∷ []
-  pub kind : kind_of (mine c now) n ≡ Some (kind.User c.session body.number)
-  pub follows : AreOurs c n now → RunsPlan Reach.to_the_end c.session (mine c now) n body.plan (deeds (mine c now) n) (end (mine c now) n)
-  pub asked : AreOurs c n now → AllAsked c before now (λ by t. Asks (mine c now) n body.plan (deeds (mine c now) n) by t)
+  pub one : IsTry Reach.to_the_end c n body (AreOurs c n now) before now
   pub came : CameTo to (end (mine c now) n)
   pub ended : AreOurs c n now → is_some (end (mine c now) n) ≡ true
 
@@ -106,22 +105,17 @@ pub record TriedOne (c : Client) (body : Numbered) (n : Name) (before now : Past
 pub record CutOne (c : Client) (body : Numbered) (n : Name) (before now : Past) : Type 0 where
   pub leaves : TriesAt Reach.cut_off c before now
   pub is_made : leaves.made ≡ n ∷ []
-  pub kind : kind_of (mine c now) n ≡ Some (kind.User c.session body.number)
-  pub begins : AreOurs c n now → RunsPlan Reach.cut_off c.session (mine c now) n body.plan (deeds (mine c now) n) (end (mine c now) n)
-  pub asked : AreOurs c n now → AllAsked c before now (λ by t. Asks (mine c now) n body.plan (deeds (mine c now) n) by t)
+  pub one : IsTry Reach.cut_off c n body (AreOurs c n now) before now
   pub tried : is_tried_again (end (mine c now) n) ≡ false
 
 module _ (c : Client) (n : Name) (body : Numbered) (before mid now : Past) (may : MayBegin c c.root before) (child : is_child c.root n ≡ true)
     (m : Made c (by_client c (event.Start n (kind.User c.session body.number)) ∷ []) before mid) where
-  last : (j : ℕ) × (n ≡ c.root ++ j ∷ [])
-  last = child_last c.root n child
-
   scope_is : scope c n ≡ n
   scope_is = child_is_scope c n child
 
   module _ (reach : Reach) (leaves : LeavesAt reach c n mid now) where
     left : (p r : Name) → c.root ≡ p ++ r → LeavesIt c p mid now
-    left p r is = leaves.above p (r ++ last.0 ∷ []) (last.1 ∙ ap (λ x. x ++ last.0 ∷ []) is ∙ append_assoc p r (last.0 ∷ [])) (let l : length (r ++ last.0 ∷ []) ≡ length r + 1 = length_last r last.0 in omega (arith, l))
+    left = left_above reach c c.root n mid now child leaves
 
     more_is : tries_by c now ≡ tries_by c before ++ n ∷ []
     more_is =
@@ -162,42 +156,21 @@ module _ (c : Client) (n : Name) (body : Numbered) (before mid now : Past) (may 
       turns = turns;
     }
 
-    kind_is : kind_of (mine c now) n ≡ Some (kind.User c.session body.number)
-    kind_is = kind_later c c.root mid now leaves.later n _ (kind_begun c c.root n body.number before mid may child m)
-
-    all_are : (further : List Deed) → deeds (mine c now) n ≡ deeds (mine c mid) n ++ further → deeds (mine c now) n ≡ further
-    all_are further is = is ∙ ap (λ l. l ++ further) (none_begun c c.root n body.number before mid may child m)
-
-    module _ (ends : EndsAt reach c n mid now body.plan) where
-      runs_is : AreOurs c n now → RunsPlan reach c.session (mine c now) n body.plan (deeds (mine c now) n) (end (mine c now) n)
-      runs_is ours =
-          let e = ends ours in
-          subst (λ cs. RunsPlan reach c.session (mine c now) n body.plan cs (end (mine c now) n)) (sym (all_are e.0 e.1)) e.2
-
-      asked_is : AreOurs c n now → AllAsked c before now (λ by t. Asks (mine c now) n body.plan (deeds (mine c now) n) by t)
-      asked_is ours =
-          let e = ends ours in
-          asked_trans c before mid now _ (asked_made c _ before mid _ m (tt, tt)) (asked_wider _ _ (λ by t a. subst (λ cs. Asks (mine c now) n body.plan cs by t) (sym (all_are e.0 e.1)) a) c mid now e.3)
+    one_is : EndsAt reach c n mid now body.plan → IsTry reach c n body (AreOurs c n now) before now
+    one_is ends = is_try reach c n body (AreOurs c n now) before mid now m (kind_begun c c.root n body.number before mid may child m) (none_begun c c.root n body.number before mid may child m) leaves.later ends (λ ours. ours)
 
   pub one_tried : (to : Finish) → Ended c n mid now body.plan to → TriedOne c body n before now to
   unfolding tries_at
   one_tried to ended = record {
     leaves = tries_at Reach.to_the_end ended.leaves turns_is;
     is_made = refl;
-    kind = kind_is Reach.to_the_end ended.leaves;
-    follows = runs_is Reach.to_the_end ended.leaves ended.ends;
-    asked = asked_is Reach.to_the_end ended.leaves ended.ends;
+    one = one_is Reach.to_the_end ended.leaves ended.ends;
     came = ended.tried;
     ended = ended_is;
   }
     where
       ended_is : AreOurs c n now → is_some (end (mine c now) n) ≡ true
-      ended_is ours = elim (done_closed (mine c now) n (followed_done c.session (mine c now) n body.plan (deeds (mine c now) n) (end (mine c now) n) (runs_is Reach.to_the_end ended.leaves ended.ends ours))) [
-        | inl some ↦ some
-        | inr ready ↦
-            let short = ready_top c.setting now n ended.leaves.later.legal (kept_some (λ (e : Entry). is_own c e.seat) _ now ready) in
-            let z : ⊥ = omega (arith, short, child_longer c.root n child, may.nonroot) in absurd z
-      ]
+      ended_is ours = ended_below c c.root n body.plan now may.nonroot child ended.leaves.later.legal ((one_is Reach.to_the_end ended.leaves ended.ends).runs ours)
 
       turns_is : TurnsTo Reach.to_the_end ended.leaves
       turns_is ours turns alone =
@@ -213,8 +186,6 @@ module _ (c : Client) (n : Name) (body : Numbered) (before mid now : Past) (may 
         let a = turns_begun c c.root n body.number before mid may child m turns alone in
         ((cut.leaves.turns (ours_new Reach.cut_off cut.leaves ours) a.0 a.1).0, tt));
     is_made = refl;
-    kind = kind_is Reach.cut_off cut.leaves;
-    begins = runs_is Reach.cut_off cut.leaves cut.begins;
-    asked = asked_is Reach.cut_off cut.leaves cut.begins;
+    one = one_is Reach.cut_off cut.leaves cut.begins;
     tried = unended_again n _ cut.unended;
   }

@@ -7,7 +7,7 @@ use Rattle.qc_event.specs.declared.event.Entry.{Entry}
 use Rattle.qc_event.specs.History.{Past, Name, children, end, kind_of}
 use Rattle.qc_event.specs.Legal.{Legal}
 use Rattle.qc_script.specs.declared.script.Body.{Body}
-use Rattle.qc_script.specs.Client.{Client, Made, IsLater, HasJoined}
+use Rattle.qc_script.specs.Client.{Client, Made, IsLater, HasJoined, AreOurs}
 use Rattle.qc_interp.specs.Asking.{Asks, IsAskedBy}
 use Rattle.qc_interp.specs.Deeds.{deeds}
 use Rattle.qc_interp.specs.Follows.{FollowsPlan}
@@ -19,6 +19,7 @@ use Rattle.qc_interp.specs.Session.{EndsTopsAt, EndsTops, RanTops, RanInTurn, Cu
 use Rattle.qc_script.specs.Plan.{BodiesFit}
 use Rattle.qc_interp.proofs.Growth.{made_is, made_later, later_itself, later_trans}
 use Rattle.qc_interp.proofs.Asked.{asked_made}
+use Rattle.qc_interp.proofs.OneTry.{more_try}
 use Rattle.qc_interp.proofs.Joined.{joined_itself, joined_before, joined_chain, joined_since, joined_later, joined_turn, joined_setting, by_joined, more_mine, more_later, more_turn, ours_back, both}
 use Rattle.qc_interp.proofs.TopsRun.{TriedTop, CutTop, turn_itself, turn_trans, turn_cut}
 use Rattle.qc_interp.proofs.TopsLead.{EndsTopTries, top_again, top_last, cut_last}
@@ -40,11 +41,7 @@ module _ (c d : Client) (body : Numbered) (before now : Past) (j : HasJoined c n
           in_turn = more_turn c kin Reach.to_the_end before now t.in_turn all;
           top = t.top;
           more = both c kin before now t.later all (λ x y. children y [] ≡ children x [] ++ t.top ∷ []) t.more;
-          kind = ap (λ h. kind_of h t.top) same ∙ t.kind;
-          follows = λ ours. subst (λ h. FollowsPlan c.session h t.top body.plan (deeds h t.top) (end h t.top)) (sym same) (t.follows (back ours));
-          asked = λ ours.
-              both c kin before now t.later all
-              (λ x y. (made : Past) × (y ≡ made ++ x) × AllByRecursion (λ (e : Entry). IsAskedBy (λ by n. Asks y t.top body.plan (deeds y t.top) by n) e.event) made) (t.asked (back ours));
+          one = more_try c kin before now t.later all Reach.to_the_end t.top body (AreOurs c t.top now) (AreOurs (record c { kin = kin }) t.top now) back t.one;
           tried = t.tried ∙ sym (ap (λ h. is_tried_again (end h t.top)) same);
         },
         refl,

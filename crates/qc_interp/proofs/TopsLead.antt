@@ -12,6 +12,7 @@ use Rattle.qc_interp.specs.Reach.{Reach}
 use Rattle.qc_script.specs.Plan.{Numbered}
 use Rattle.qc_interp.specs.Session.{tops, NotBegun, RunsBodies, AreAllOurs, EndsTopsAt}
 use Rattle.qc_interp.specs.Tries.{Tries, is_tried_again, TriesDo}
+use Rattle.qc_interp.proofs.OneTry.{number_later, runs_later, again_later, asked_later}
 use Rattle.qc_interp.proofs.Followed.{follows_runs, followed_done, done_closed}
 use Rattle.qc_interp.proofs.Still.{follows_still, again_still}
 use Rattle.qc_interp.proofs.Growth.{ours_before}
@@ -36,26 +37,20 @@ module _ (c : Client) (body : Numbered) (before now : Past) (again : Bool) (t : 
     ours_top : AreOurs c t.top x
     ours_top = all_last (λ n. AreOurs c n x) (tops c before) t.top further (subst (AllByRecursion (λ n. AreOurs c n x)) more_later ours)
 
-    follows_now : FollowsPlan c.session (mine c now) t.top body.plan (deeds (mine c now) t.top) (end (mine c now) t.top)
-    follows_now = t.follows (ours_before c t.top now x later ours_top)
+    own : AreOurs c t.top now
+    own = ours_before c t.top now x later ours_top
 
     one_top : RunsBody reach c.session (mine c x) body t.top
     one_top = record {
-      kind = kind_later c [] now x later t.top _ t.kind;
-      steps = follows_runs reach c.session (mine c x) t.top body.plan _ _ (subst (λ h. FollowsPlan c.session (mine c h) t.top body.plan (deeds (mine c h) t.top) (end (mine c h) t.top)) (sym later.grown)
-          (follows_still c.session (λ (e : Entry). is_own c e.seat) c.setting later.newer now (subst (Legal c.setting) later.grown later.legal) t.top body.plan follows_now).0);
+      kind = number_later c t.top body (AreOurs c t.top now) before now t.one x later own;
+      steps = runs_later c t.top body (AreOurs c t.top now) before now t.one x later own reach;
     }
 
-    again_later : is_tried_again (end (mine c x) t.top) ≡ again
-    again_later =
-        ap (λ h. is_tried_again (end (mine c h) t.top)) later.grown
-        ∙ again_still c.session (λ (e : Entry). is_own c e.seat) c.setting later.newer now (subst (Legal c.setting) later.grown later.legal) t.top (done_closed (mine c now) t.top (followed_done c.session (mine c now) t.top body.plan (deeds (mine c now) t.top) (end (mine c now) t.top) follows_now))
-        ∙ sym t.tried
+    again_now : is_tried_again (end (mine c x) t.top) ≡ again
+    again_now = again_later c t.top body (AreOurs c t.top now) before now t.one x later own ∙ sym t.tried
 
-    asked_later : AllAsked c before now (λ by n. Asks (mine c x) t.top body.plan (deeds (mine c x) t.top) by n)
-    asked_later = asked_wider _ _ (λ by n a.
-        subst (λ h. Asks (mine c h) t.top body.plan (deeds (mine c h) t.top) by n) (sym later.grown)
-        (asks_still c.session (λ (e : Entry). is_own c e.seat) c.setting later.newer now (subst (Legal c.setting) later.grown later.legal) by n t.top body.plan follows_now a)) c before now (t.asked (ours_before c t.top now x later ours_top))
+    asked_now : AllAsked c before now (λ by n. Asks (mine c x) t.top body.plan (deeds (mine c x) t.top) by n)
+    asked_now = asked_later c t.top body (AreOurs c t.top now) before now t.one x later own
 
     abbrev DoTries : Option Name → ℕ → List Numbered → Name → Name → Type 0
     DoTries last left rest by n = TriesDo (end (mine c x)) (λ y. Asks (mine c x) y body.plan (deeds (mine c x) y) by n) (λ latest more. BodiesAsk (mine c x) rest more by n) last left further
@@ -65,17 +60,17 @@ module _ (c : Client) (body : Numbered) (before now : Past) (again : Bool) (t : 
 
     with_asked : (last : Option Name) (left : ℕ) (rest : List Numbered) → AllAsked c now x (λ by n. MoreDo left rest by n again)
         → AllAsked c before x (λ by n. TriesDo (end (mine c x)) (λ y. Asks (mine c x) y body.plan (deeds (mine c x) y) by n) (λ latest more. BodiesAsk (mine c x) rest more by n) last (suc left) (t.top ∷ further))
-    with_asked last left rest h = asked_trans c before now x _ (asked_wider _ _ (λ by n a. inl a) c before now asked_later) (asked_wider _ _ (λ by n a. inr (subst (MoreDo left rest by n) (sym again_later) a)) c now x h)
+    with_asked last left rest h = asked_trans c before now x _ (asked_wider _ _ (λ by n a. inl a) c before now asked_now) (asked_wider _ _ (λ by n a. inr (subst (MoreDo left rest by n) (sym again_now) a)) c now x h)
 
   pub top_again : again ≡ true → (reach : Reach) (x : Past) → IsLater c now x → (last : Option Name) (left : ℕ) (rest : List Numbered) → EndsTopTries reach c now x body (Some t.top) left rest → EndsTopTries reach c before x body last (suc left) rest
   top_again is reach x later last left rest ends ours =
       let e = ends ours in
-      (t.top ∷ e.0, more_later reach x later e.0 e.1 ours, (one_top reach x later e.0 e.1 ours, match_true _ (RunsBodies reach c.session (mine c x) rest e.0) _ (again_later reach x later e.0 e.1 ours ∙ is) e.2), with_asked reach x later e.0 e.1 ours last left rest (asked_wider _ _ (λ by n a. match_true _ (BodiesAsk (mine c x) rest e.0 by n) again is a) c now x e.3))
+      (t.top ∷ e.0, more_later reach x later e.0 e.1 ours, (one_top reach x later e.0 e.1 ours, match_true _ (RunsBodies reach c.session (mine c x) rest e.0) _ (again_now reach x later e.0 e.1 ours ∙ is) e.2), with_asked reach x later e.0 e.1 ours last left rest (asked_wider _ _ (λ by n a. match_true _ (BodiesAsk (mine c x) rest e.0 by n) again is a) c now x e.3))
 
   pub top_last : again ≡ false → (reach : Reach) (x : Past) → IsLater c now x → (last : Option Name) (left : ℕ) (rest : List Numbered) → EndsTopsAt reach c now x rest → EndsTopTries reach c before x body last (suc left) rest
   top_last is reach x later last left rest ends ours =
       let e = ends ours in
-      (t.top ∷ e.0, more_later reach x later e.0 e.1 ours, (one_top reach x later e.0 e.1 ours, match_false (Tries (end (mine c x)) (RunsBody reach c.session (mine c x) body) (NotBegun reach) (λ latest more. RunsBodies reach c.session (mine c x) rest more) (Some t.top) left e.0) _ _ (again_later reach x later e.0 e.1 ours ∙ is) e.2), with_asked reach x later e.0 e.1 ours last left rest (asked_wider _ _ (λ by n a. match_false (DoTries reach x later e.0 e.1 ours (Some t.top) left rest by n) _ again is a) c now x e.3))
+      (t.top ∷ e.0, more_later reach x later e.0 e.1 ours, (one_top reach x later e.0 e.1 ours, match_false (Tries (end (mine c x)) (RunsBody reach c.session (mine c x) body) (NotBegun reach) (λ latest more. RunsBodies reach c.session (mine c x) rest more) (Some t.top) left e.0) _ _ (again_now reach x later e.0 e.1 ours ∙ is) e.2), with_asked reach x later e.0 e.1 ours last left rest (asked_wider _ _ (λ by n a. match_false (DoTries reach x later e.0 e.1 ours (Some t.top) left rest by n) _ again is a) c now x e.3))
 
 -- a try of a top that was cut off is the last
 pub cut_last : (c : Client) (body : Numbered) (before now : Past) → CutTop c body before now → (last : Option Name) (left : ℕ) (rest : List Numbered) → EndsTopTries Reach.cut_off c before now body last (suc left) rest
@@ -83,6 +78,6 @@ cut_last c body before now t last left rest ours =
     let one = all_last (λ n. AreOurs c n now) (tops c before) t.top [] (subst (AllByRecursion (λ n. AreOurs c n now)) t.more ours) in (
       t.top ∷ [],
       t.more,
-      (record { kind = t.kind; steps = t.begins one }, match_false _ _ _ t.tried (none_begun c.session (mine c now) rest)),
-      asked_wider _ _ (λ by n a. inl a) c before now (t.asked one),
+      (record { kind = t.one.number; steps = t.one.runs one }, match_false _ _ _ t.tried (none_begun c.session (mine c now) rest)),
+      asked_wider _ _ (λ by n a. inl a) c before now (t.one.asked one),
     )

@@ -49,6 +49,7 @@ use Rattle.qc_script.specs.Calls.{is_over}
 use Rattle.qc_interp.specs.Asking.{Asks, AllAsked}
 use Rattle.qc_interp.proofs.Asked.{asked_made, asked_wider, asked_trans}
 use Rattle.qc_interp.proofs.TriesLead.{again_is}
+use Rattle.qc_interp.proofs.OneTry.{IsTry, is_try}
 
 -- A TOP THAT BEGINS
 
@@ -181,9 +182,7 @@ pub record TriedTop (c : Client) (body : Numbered) (before now : Past) (again : 
   pub in_turn : RanInTurn c before now
   pub top : Name
   pub more : tops c now ≡ tops c before ++ top ∷ []
-  pub kind : kind_of (mine c now) top ≡ Some (kind.User c.session body.number)
-  pub follows : AreOurs c top now → FollowsPlan c.session (mine c now) top body.plan (deeds (mine c now) top) (end (mine c now) top)
-  pub asked : AreOurs c top now → AllAsked c before now (λ by t. Asks (mine c now) top body.plan (deeds (mine c now) top) by t)
+  pub one : IsTry Reach.to_the_end c top body (AreOurs c top now) before now
   pub tried : again ≡ is_tried_again (end (mine c now) top)
 
 -- A try of a top that was cut off.
@@ -191,9 +190,7 @@ pub record CutTop (c : Client) (body : Numbered) (before now : Past) : Type 0 wh
   pub in_turn : InTurnAt Reach.cut_off c before now
   pub top : Name
   pub more : tops c now ≡ tops c before ++ top ∷ []
-  pub kind : kind_of (mine c now) top ≡ Some (kind.User c.session body.number)
-  pub begins : AreOurs c top now → RunsPlan Reach.cut_off c.session (mine c now) top body.plan (deeds (mine c now) top) (end (mine c now) top)
-  pub asked : AreOurs c top now → AllAsked c before now (λ by t. Asks (mine c now) top body.plan (deeds (mine c now) top) by t)
+  pub one : IsTry Reach.cut_off c top body (AreOurs c top now) before now
   pub tried : is_tried_again (end (mine c now) top) ≡ false
 
 module _ (c : Client) (t : Name) (body : Numbered) (before mid now : Past) (top : is_child [] t ≡ true) (m : Made c (by_client c (event.Start t (kind.User c.session body.number)) ∷ []) before mid) (numbers : Numbers c before mid) where
@@ -220,9 +217,6 @@ module _ (c : Client) (t : Name) (body : Numbered) (before mid now : Past) (top 
     more_is : tops c now ≡ tops c before ++ t ∷ []
     more_is = same_children (mine c now) (mine c mid) [] (leaves.above [] t refl (let l : length t ≡ 1 = child_longer [] t top in omega (arith, l))).deeds ∙ tops_begun c t body.number before mid top m
 
-    kind_is : kind_of (mine c now) t ≡ Some (kind.User c.session body.number)
-    kind_is = kind_later c [] mid now leaves.later t _ (kind_top c t body.number before mid top m)
-
     inside_is : AllOfOne c (t ∷ []) later_is.newer
     inside_is = one_one (made_later c _ before mid m).newer leaves.later.newer begun_one (all_one c t leaves.later.newer long_top (subst (λ x. AllStayIn c x leaves.later.newer) whole leaves.inside))
 
@@ -245,26 +239,14 @@ module _ (c : Client) (t : Name) (body : Numbered) (before mid now : Past) (top 
     ours_new : AreAllOurs c now → AreOurs c t now
     ours_new ours = all_last (λ n. AreOurs c n now) (tops c before) t [] (subst (AllByRecursion (λ n. AreOurs c n now)) more_is ours)
 
-    all_are : (further : List Deed) → deeds (mine c now) t ≡ deeds (mine c mid) t ++ further → deeds (mine c now) t ≡ further
-    all_are further is = is ∙ ap (λ l. l ++ further) (none_top c t body.number before mid top m)
-
-    module _ (ends : EndsAt reach c t mid now body.plan) where
-      runs_is : AreOurs c t now → RunsPlan reach c.session (mine c now) t body.plan (deeds (mine c now) t) (end (mine c now) t)
-      runs_is ours =
-          let e = ends ours in
-          subst (λ cs. RunsPlan reach c.session (mine c now) t body.plan cs (end (mine c now) t)) (sym (all_are e.0 e.1)) e.2
-
-      asked_is : AreOurs c t now → AllAsked c before now (λ by n. Asks (mine c now) t body.plan (deeds (mine c now) t) by n)
-      asked_is ours =
-          let e = ends ours in
-          asked_trans c before mid now _ (asked_made c _ before mid _ m (tt, tt)) (asked_wider _ _ (λ by n a. subst (λ cs. Asks (mine c now) t body.plan cs by n) (sym (all_are e.0 e.1)) a) c mid now e.3)
+    one_is : EndsAt reach c t mid now body.plan → IsTry reach c t body (AreOurs c t now) before now
+    one_is ends = is_try reach c t body (AreOurs c t now) before mid now m (kind_top c t body.number before mid top m) (none_top c t body.number before mid top m) leaves.later ends (λ ours. ours)
 
   pub top_once : (to : Finish) → Ended c t mid now body.plan to → TriedTop c body before now (is_again to)
   top_once to ended = record {
     later = later_is Reach.to_the_end ended.leaves;
     top = t;
     more = more_is Reach.to_the_end ended.leaves;
-    kind = kind_is Reach.to_the_end ended.leaves;
     in_turn = record {
       made = t ∷ [];
       more = more_is Reach.to_the_end ended.leaves;
@@ -280,13 +262,12 @@ module _ (c : Client) (t : Name) (body : Numbered) (before mid now : Past) (top 
           let b = ended.leaves.turns one a.0 a.1 in
           (b.0, alone_up (mine c now) [] t top (done_is (follows_is one)) b.1);
     };
-    follows = follows_is;
-    asked = asked_is Reach.to_the_end ended.leaves ended.ends;
+    one = one_is Reach.to_the_end ended.leaves ended.ends;
     tried = sym (again_is to (end (mine c now) t) ended.tried);
   }
     where
       follows_is : AreOurs c t now → FollowsPlan c.session (mine c now) t body.plan (deeds (mine c now) t) (end (mine c now) t)
-      follows_is ours = runs_is Reach.to_the_end ended.leaves ended.ends ours
+      follows_is ours = (one_is Reach.to_the_end ended.leaves ended.ends).runs ours
 
       over_is : AreOurs c t now → is_over now t ≡ true
       over_is ours = elim (done_closed (mine c now) t (followed_done c.session (mine c now) t body.plan (deeds (mine c now) t) (end (mine c now) t) (follows_is ours))) [
@@ -313,7 +294,6 @@ module _ (c : Client) (t : Name) (body : Numbered) (before mid now : Past) (top 
   top_cut cut = record {
     top = t;
     more = more_is Reach.cut_off cut.leaves;
-    kind = kind_is Reach.cut_off cut.leaves;
     in_turn = record {
       made = t ∷ [];
       more = more_is Reach.cut_off cut.leaves;
@@ -327,8 +307,7 @@ module _ (c : Client) (t : Name) (body : Numbered) (before mid now : Past) (top 
           let a = turns_top c t body.number before mid top m under turns alone in
           ((cut.leaves.turns (ours_new Reach.cut_off cut.leaves ours) a.0 a.1).0, tt);
     };
-    begins = runs_is Reach.cut_off cut.leaves cut.begins;
-    asked = asked_is Reach.cut_off cut.leaves cut.begins;
+    one = one_is Reach.cut_off cut.leaves cut.begins;
     tried = unended_again t _ cut.unended;
   }
 

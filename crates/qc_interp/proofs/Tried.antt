@@ -31,6 +31,7 @@ use Rattle.qc_interp.proofs.Followed.{followed_done, done_closed}
 use Rattle.qc_interp.proofs.Seats.{start_under, later_seat, later_beside}
 use Rattle.qc_interp.proofs.Growth.{made_is, made_later, later_itself, later_trans, ours_before}
 use Rattle.qc_interp.proofs.Managers.{found_quiet, NewChild, new_child}
+use Rattle.qc_interp.proofs.OneTry.{IsTry, is_try, left_above, ended_below}
 use Rattle.qc_interp.proofs.Stopping.{unended_again}
 use Rattle.qc_interp.proofs.Ending.{user_is}
 use Rattle.qc_interp.proofs.StepsLeave.{kind_later, closed_more}
@@ -146,9 +147,7 @@ pub record Tried (c : Client) (of child : Name) (body : Numbered) (before now : 
   pub user : Started now child (λ b. IsUser b.kind)
   pub seat : seat_of now child ≡ Some c.number
   pub more : deeds (mine c now) of ≡ deeds (mine c before) of ++ Deed.child child ∷ []
-  pub kind : kind_of (mine c now) child ≡ Some (kind.User c.session body.number)
-  pub follows : AreOurs c of now → FollowsPlan c.session (mine c now) child body.plan (deeds (mine c now) child) (end (mine c now) child)
-  pub asked : AreOurs c of now → AllAsked c before now (λ by t. Asks (mine c now) child body.plan (deeds (mine c now) child) by t)
+  pub one : IsTry Reach.to_the_end c child body (AreOurs c of now) before now
   pub tried : CameTo to (end (mine c now) child)
   pub ended : AreOurs c of now → is_some (end (mine c now) child) ≡ true
 
@@ -160,16 +159,11 @@ pub record CutTry (c : Client) (of : Name) (body : Numbered) (before now : Past)
   pub child : Name
   pub more : deeds (mine c now) of ≡ deeds (mine c before) of ++ Deed.child child ∷ []
   pub beside : is_beside (mine c now) of child ≡ true
-  pub kind : kind_of (mine c now) child ≡ Some (kind.User c.session body.number)
-  pub begins : AreOurs c of now → RunsPlan Reach.cut_off c.session (mine c now) child body.plan (deeds (mine c now) child) (end (mine c now) child)
-  pub asked : AreOurs c of now → AllAsked c before now (λ by t. Asks (mine c now) child body.plan (deeds (mine c now) child) by t)
+  pub one : IsTry Reach.cut_off c child body (AreOurs c of now) before now
   pub tried : is_tried_again (end (mine c now) child) ≡ false
 
 module _ (c : Client) (of n : Name) (body : Numbered) (before mid now : Past) (runs : Runs c of before) (child : is_child of n ≡ true)
     (m : Made c (by_client c (event.Start n (kind.User c.session body.number)) ∷ []) before mid) where
-  last : (j : ℕ) × (n ≡ of ++ j ∷ [])
-  last = child_last of n child
-
   scope_is : scope c n ≡ scope c of
   scope_is = same_scope c of n runs.below child
 
@@ -179,7 +173,7 @@ module _ (c : Client) (of n : Name) (body : Numbered) (before mid now : Past) (r
   -- by what the child left, which has ended or was cut off
   module _ (reach : Reach) (leaves : LeavesAt reach c n mid now) where
     left : (p r : Name) → of ≡ p ++ r → LeavesIt c p mid now
-    left p r is = leaves.above p (r ++ last.0 ∷ []) (last.1 ∙ ap (λ x. x ++ last.0 ∷ []) is ∙ append_assoc p r (last.0 ∷ [])) (let l : length (r ++ last.0 ∷ []) ≡ length r + 1 = length_last r last.0 in omega (arith, l))
+    left = left_above reach c of n mid now child leaves
 
     more_is : deeds (mine c now) of ≡ deeds (mine c before) of ++ Deed.child n ∷ []
     more_is = (left of [] (sym (append-nil of))).deeds ∙ deeds_begun c of n body.number before mid (may_begin c of before runs) child m
@@ -201,37 +195,20 @@ module _ (c : Client) (of n : Name) (body : Numbered) (before mid now : Past) (r
         let a = above_begun c of n body.number before mid (may_begin c of before runs) child m p r is far in
         record { deeds = (left p r is).deeds ∙ a.deeds; ready = ready_is p r is; unended = unended_is p r is }
 
-    kind_is : kind_of (mine c now) n ≡ Some (kind.User c.session body.number)
-    kind_is = kind_later c of mid now leaves.later n _ (kind_begun c of n body.number before mid (may_begin c of before runs) child m)
-
     seat_is : seat_of now n ≡ Some c.number
     seat_is = later_seat c mid now leaves.later n c.number (seat_begun c of n body.number before mid (may_begin c of before runs) child m)
 
     parent_seat : seat_of now of ≡ Some c.number
     parent_seat = later_seat c before now later_is of c.number runs.seat
 
-    all_are : (further : List Deed) → deeds (mine c now) n ≡ deeds (mine c mid) n ++ further → deeds (mine c now) n ≡ further
-    all_are further is = is ∙ ap (λ l. l ++ further) (none_begun c of n body.number before mid (may_begin c of before runs) child m)
-
-    module _ (ends : EndsAt reach c n mid now body.plan) where
-      runs_is : AreOurs c of now → RunsPlan reach c.session (mine c now) n body.plan (deeds (mine c now) n) (end (mine c now) n)
-      runs_is ours =
-          let e = ends (ours_child ours) in
-          subst (λ cs. RunsPlan reach c.session (mine c now) n body.plan cs (end (mine c now) n)) (sym (all_are e.0 e.1)) e.2
-
-      asked_is : AreOurs c of now → AllAsked c before now (λ by t. Asks (mine c now) n body.plan (deeds (mine c now) n) by t)
-      asked_is ours =
-          let e = ends (ours_child ours) in
-          asked_trans c before mid now _ (asked_made c _ before mid _ m (tt, tt)) (asked_wider _ _ (λ by t a. subst (λ cs. Asks (mine c now) n body.plan cs by t) (sym (all_are e.0 e.1)) a) c mid now e.3)
+    one_is : EndsAt reach c n mid now body.plan → IsTry reach c n body (AreOurs c of now) before now
+    one_is ends =
+        let may = may_begin c of before runs in
+        is_try reach c n body (AreOurs c of now) before mid now m (kind_begun c of n body.number before mid may child m) (none_begun c of n body.number before mid may child m) leaves.later ends ours_child
 
   module _ (to : Finish) (ended : Ended c n mid now body.plan to) where
     ended_is : AreOurs c of now → is_some (end (mine c now) n) ≡ true
-    ended_is ours = elim (done_closed (mine c now) n (followed_done c.session (mine c now) n body.plan (deeds (mine c now) n) (end (mine c now) n) (runs_is Reach.to_the_end ended.leaves ended.ends ours))) [
-      | inl some ↦ some
-      | inr ready ↦
-          let short = ready_top c.setting now n ended.leaves.later.legal (kept_some (λ (e : Entry). is_own c e.seat) _ now ready) in
-          let z : ⊥ = omega (arith, short, child_longer of n child, runs.nonroot) in absurd z
-    ]
+    ended_is ours = ended_below c of n body.plan now runs.nonroot child ended.leaves.later.legal ((one_is Reach.to_the_end ended.leaves ended.ends).runs ours)
 
     leaves_is : Leaves c of before now
     leaves_is = record {
@@ -261,9 +238,7 @@ module _ (c : Client) (of n : Name) (body : Numbered) (before mid now : Past) (r
       user = subst (λ h. Started h n (λ b. IsUser b.kind)) (sym ended.leaves.later.grown) (started_still ended.leaves.later.newer mid n _ (user_is c.session mid n (runs_begun c of n body.number before mid (may_begin c of before runs) child m).user));
       seat = seat_is Reach.to_the_end ended.leaves;
       more = more_is Reach.to_the_end ended.leaves;
-      kind = kind_is Reach.to_the_end ended.leaves;
-      follows = runs_is Reach.to_the_end ended.leaves ended.ends;
-      asked = asked_is Reach.to_the_end ended.leaves ended.ends;
+      one = one_is Reach.to_the_end ended.leaves ended.ends;
       tried = ended.tried;
       ended = ended_is;
     }
@@ -284,8 +259,6 @@ module _ (c : Client) (of n : Name) (body : Numbered) (before mid now : Past) (r
     child = n;
     more = more_is Reach.cut_off cut.leaves;
     beside = later_beside c now now (later_itself c now cut.leaves.later.legal) of n (parent_seat Reach.cut_off cut.leaves) (seat_is Reach.cut_off cut.leaves);
-    kind = kind_is Reach.cut_off cut.leaves;
-    begins = runs_is Reach.cut_off cut.leaves cut.begins;
-    asked = asked_is Reach.cut_off cut.leaves cut.begins;
+    one = one_is Reach.cut_off cut.leaves cut.begins;
     tried = unended_again n _ cut.unended;
   }

@@ -20,6 +20,7 @@ use Rattle.qc_interp.specs.Running.{EndsAt, CameTo, HasFailed, EndsTries}
 use Rattle.qc_interp.specs.Tries.{Tries, is_tried_again, is_again, TriesDo}
 use Rattle.qc_interp.specs.declared.stops.Finish.{Finish}
 use Rattle.qc_interp.specs.declared.stops.Finish.TheVariants as finish
+use Rattle.qc_interp.proofs.OneTry.{number_later, runs_later, again_later, asked_later}
 use Rattle.qc_interp.proofs.Followed.{follows_runs, followed_done, done_closed}
 use Rattle.qc_interp.proofs.Still.{follows_still, again_still}
 use Rattle.qc_interp.proofs.Seats.{later_beside}
@@ -71,27 +72,21 @@ again_is (finish.Stopped again) (Some (Abort x)) h = sym h
 module _ (c : Client) (of child : Name) (body : Numbered) (before now : Past) (to : Finish) (t : Tried c of child body before now to) where
   -- the try by what was seen later
   module _ (reach : Reach) (x : Past) (later : IsLater c now x) (ours : AreOurs c of x) where
-    follows_now : FollowsPlan c.session (mine c now) child body.plan (deeds (mine c now) child) (end (mine c now) child)
-    follows_now = t.follows (ours_before c of now x later ours)
+    own : AreOurs c of now
+    own = ours_before c of now x later ours
 
     one_try : (is_beside (mine c x) of child ≡ true) × (kind_of (mine c x) child ≡ Some (kind.User c.session body.number)) × RunsPlan reach c.session (mine c x) child body.plan (deeds (mine c x) child) (end (mine c x) child)
     one_try = (
       later_beside c now x later of child t.runs.seat t.seat,
-      kind_later c of now x later child _ t.kind,
-      follows_runs reach c.session (mine c x) child body.plan _ _ (subst (λ h. FollowsPlan c.session (mine c h) child body.plan (deeds (mine c h) child) (end (mine c h) child)) (sym later.grown)
-          (follows_still c.session (λ (e : Entry). is_own c e.seat) c.setting later.newer now (subst (Legal c.setting) later.grown later.legal) child body.plan follows_now).0),
+      number_later c child body (AreOurs c of now) before now t.one x later own,
+      runs_later c child body (AreOurs c of now) before now t.one x later own reach,
     )
 
-    again_later : is_tried_again (end (mine c x) child) ≡ is_again to
-    again_later =
-        ap (λ h. is_tried_again (end (mine c h) child)) later.grown
-        ∙ again_still c.session (λ (e : Entry). is_own c e.seat) c.setting later.newer now (subst (Legal c.setting) later.grown later.legal) child (done_closed (mine c now) child (followed_done c.session (mine c now) child body.plan (deeds (mine c now) child) (end (mine c now) child) follows_now))
-        ∙ again_is to (end (mine c now) child) t.tried
+    again_now : is_tried_again (end (mine c x) child) ≡ is_again to
+    again_now = again_later c child body (AreOurs c of now) before now t.one x later own ∙ again_is to (end (mine c now) child) t.tried
 
-    asked_later : AllAsked c before now (λ by n. Asks (mine c x) child body.plan (deeds (mine c x) child) by n)
-    asked_later = asked_wider _ _ (λ by n a.
-        subst (λ h. Asks (mine c h) child body.plan (deeds (mine c h) child) by n) (sym later.grown)
-        (asks_still c.session (λ (e : Entry). is_own c e.seat) c.setting later.newer now (subst (Legal c.setting) later.grown later.legal) by n child body.plan follows_now a)) c before now (t.asked (ours_before c of now x later ours))
+    asked_now : AllAsked c before now (λ by n. Asks (mine c x) child body.plan (deeds (mine c x) child) by n)
+    asked_now = asked_later c child body (AreOurs c of now) before now t.one x later own
 
     abbrev Rest : Plan → Option Deed → List Deed → Type 0
     Rest rest last further = AfterTries reach (mine c x) of last body.must (RunsPlan reach c.session (mine c x) of rest further (end (mine c x) of)) further (end (mine c x) of)
@@ -114,10 +109,10 @@ module _ (c : Client) (of child : Name) (body : Numbered) (before now : Past) (t
       MoreDo by n b = MatchBool b (DoTries (Some (Deed.child child)) left rest further by n) (RestDoes rest by n (Some (Deed.child child)) further)
 
       with_asked : AllAsked c now x (λ by n. MoreDo by n (is_again to)) → AllAsked c before x (λ by n. DoTries last (suc left) rest (Deed.child child ∷ further) by n)
-      with_asked h = asked_trans c before now x _ (asked_wider _ _ (λ by n a. inl a) c before now asked_later) (asked_wider _ _ (λ by n a. inr (subst (MoreDo by n) (sym again_later) a)) c now x h)
+      with_asked h = asked_trans c before now x _ (asked_wider _ _ (λ by n a. inl a) c before now asked_now) (asked_wider _ _ (λ by n a. inr (subst (MoreDo by n) (sym again_now) a)) c now x h)
 
       with_try : MatchBool (is_again to) (AreTries (Some (Deed.child child)) left rest further) (Rest rest (Some (Deed.child child)) further) → AreTries last (suc left) rest (Deed.child child ∷ further)
-      with_try h = (one_try, subst (λ b. MatchBool b (AreTries (Some (Deed.child child)) left rest further) (Rest rest (Some (Deed.child child)) further)) (sym again_later) h)
+      with_try h = (one_try, subst (λ b. MatchBool b (AreTries (Some (Deed.child child)) left rest further) (Rest rest (Some (Deed.child child)) further)) (sym again_now) h)
 
     more_later : (further : List Deed) → deeds (mine c x) of ≡ deeds (mine c now) of ++ further → deeds (mine c x) of ≡ deeds (mine c before) of ++ Deed.child child ∷ further
     more_later further is = is ∙ ap (λ l. l ++ further) t.more ∙ append_assoc (deeds (mine c before) of) (Deed.child child ∷ []) further
@@ -176,6 +171,6 @@ pub try_cut : (c : Client) (of : Name) (body : Numbered) (before now : Past) →
 try_cut c of body before now t last left rest ours = (
   Deed.child t.child ∷ [],
   t.more,
-  ((t.beside, t.kind, t.begins ours), match_false _ _ _ t.tried (cut_behind (mine c now) of t.child body.must _ (end (mine c now) of) t.unended t.unready (running_runs c.session (mine c now) of _ t.unended t.unready rest))),
-  asked_wider _ _ (λ by n a. inl a) c before now (t.asked ours),
+  ((t.beside, t.one.number, t.one.runs ours), match_false _ _ _ t.tried (cut_behind (mine c now) of t.child body.must _ (end (mine c now) of) t.unended t.unready (running_runs c.session (mine c now) of _ t.unended t.unready rest))),
+  asked_wider _ _ (λ by n a. inl a) c before now (t.one.asked ours),
 )

@@ -4,7 +4,7 @@ use Rattle.std.specs.Prelude.{Option, None, Some, is_some}
 use Rattle.qc_event.specs.declared.event.Entry.{Entry}
 use Rattle.qc_event.specs.History.{Past, Name, end, kind_of}
 use Rattle.qc_script.specs.Calls.{WasRefused}
-use Rattle.qc_script.specs.Client.{Client, HasJoined, mine, Made}
+use Rattle.qc_script.specs.Client.{Client, HasJoined, mine, Made, AreOurs}
 use Rattle.qc_interp.specs.Deeds.{Deed, deeds}
 use Rattle.qc_interp.specs.Follows.{StopsEarly, FollowsPlan}
 use Rattle.qc_interp.specs.Reach.{Reach}
@@ -21,6 +21,7 @@ use Rattle.qc_interp.proofs.TriesAlike.{IfAny}
 use Rattle.qc_interp.proofs.Asked.{NoOne, asked_made, asked_none, asked_trans}
 use Rattle.std.specs.List.{AllByRecursion}
 use Rattle.qc_interp.specs.Asking.{Asks, IsAskedBy}
+use Rattle.qc_interp.proofs.OneTry.{more_try}
 use Rattle.qc_interp.proofs.Joined.{joined_itself, joined_before, joined_chain, joined_since, joined_runs, joined_leaves, joined_failed, by_joined, more_mine, more_runs, more_leaves, ours_back, both}
 use Rattle.qc_interp.proofs.Tried.{Tried, CutTry}
 use Rattle.qc_interp.proofs.TriesLead.{try_again, try_last, try_through, try_cut, has_failed}
@@ -45,11 +46,7 @@ module _ (c d : Client) (of : Name) (body : Numbered) (before now : Past) (j : H
         user = t.user;
         seat = t.seat;
         more = both c kin before now t.leaves.later all (λ x y. deeds y of ≡ deeds x of ++ Deed.child child ∷ []) t.more;
-        kind = ap (λ h. kind_of h child) same ∙ t.kind;
-        follows = λ ours. subst (λ h. FollowsPlan c.session h child body.plan (deeds h child) (end h child)) (sym same) (t.follows (back ours));
-        asked = λ ours.
-            both c kin before now t.leaves.later all
-            (λ x y. (made : Past) × (y ≡ made ++ x) × AllByRecursion (λ (e : Entry). IsAskedBy (λ by n. Asks y child body.plan (deeds y child) by n) e.event) made) (t.asked (back ours));
+        one = more_try c kin before now t.leaves.later all Reach.to_the_end child body (AreOurs c of now) (AreOurs (record c { kin = kin }) of now) back t.one;
         tried = subst (λ h. CameTo to (end h child)) (sym same) t.tried;
         ended = λ ours. ap (λ h. is_some (end h child)) same ∙ t.ended (back ours);
       })
