@@ -167,12 +167,13 @@ asks_low : (number : ℕ) (ev : Event) → asks_above (number ∷ []) ev ≡ tru
 asks_low number (event.End n (Abort (Asked by))) h = upward_top number n (and_parts (is_upward (number ∷ []) n) (name.is_ancestor (number ∷ []) by) h).0
 asks_low number _ h = absurd (true≢false (sym h))
 
+-- one of two, where the second implies the first
+pub first_anyhow : (a b : Bool) → (b ≡ true → a ≡ true) → (a || b) ≡ true → a ≡ true
+first_anyhow true b step h = refl
+first_anyhow false b step h = step h
+
 stays_one : (number : ℕ) (e : Entry) → stays_in (number ∷ []) e ≡ true → is_of_one ((number ∷ []) ∷ []) e ≡ true
-stays_one number e h = about_wider (λ n. name.is_ancestor (number ∷ []) n) _ (about e.event) (λ n a. ap (λ b. b || false) a) (either (option_map_or (λ n. name.is_ancestor (number ∷ []) n) (about e.event) true) (asks_above (number ∷ []) e.event) (asks_low number e.event) (and_parts _ _ h).1)
-  where
-    either : (a b : Bool) → (b ≡ true → a ≡ true) → (a || b) ≡ true → a ≡ true
-    either true b step h = refl
-    either false b step h = step h
+stays_one number e h = about_wider (λ n. name.is_ancestor (number ∷ []) n) _ (about e.event) (λ n a. ap (λ b. b || false) a) (first_anyhow (option_map_or (λ n. name.is_ancestor (number ∷ []) n) (about e.event) true) (asks_above (number ∷ []) e.event) (asks_low number e.event) (and_parts _ _ h).1)
 
 pub all_one : (c : Client) (t : Name) (newer : Past) → length t ≡ 1 → AllStayIn c t newer → AllOfOne c (t ∷ []) newer
 all_one c [] newer long stay = let z : ⊥ = omega (arith, long) in absurd z

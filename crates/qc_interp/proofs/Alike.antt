@@ -18,6 +18,7 @@ use Rattle.qc_interp.specs.Reach.{Reach}
 use Rattle.qc_interp.specs.Rows.{AreAtOnce, OneOf, is_of_body, is_try, tries_among, has_committed, each_begun, each_tried, first_failed, opens_seat}
 use Rattle.qc_interp.specs.Tries.{is_tried_again}
 use Rattle.qc_interp.specs.Turns.{seat_of}
+use Rattle.qc_interp.proofs.Asked.{BranchAsks}
 use Rattle.qc_interp.proofs.Behind.{waits_for, is_behind_alike}
 use Rattle.qc_interp.proofs.Beside.{IsSameSeat, beside_alike, own_seat_alike}
 use Rattle.qc_interp.proofs.Deeds.{begun, children_are}
@@ -53,10 +54,6 @@ pub record AgreesOf (p q : Past) (n : Name) : Type 0 where
 pub record AreEndsAlike (p q : Past) (n : Name) : Type 0 where
   pub killed : WasKilled (end q n) → WasKilled (end p n)
   pub asked : WasAsked n (end p n) → WasAsked n (end q n)
-
--- by one of the branches at once, each of which was begun
-abbrev BranchAsks : Past → Plan → List Deed → Name → Name → Type 0
-BranchAsks past branches here by target = IsTrue (each_begun past branches here) × RowAsks past branches here by target
 
 -- Some names of which the same stands, with all that they start.
 module _ (p q : Past) (Low : Name → Type 0) (agrees : (x : Name) → Low x → AgreesAt p q x) (down : (x : Name) → Low x → AllByRecursion (OfAnyChild Low) (deeds p x)) where

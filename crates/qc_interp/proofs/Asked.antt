@@ -115,7 +115,7 @@ accesses_unasked m [] rest all more = more
 accesses_unasked m (e ∷ inner) rest all more = (access_unasked m e.event all.0, accesses_unasked m inner rest all.1 more)
 
 -- by one of the branches at once, each of which was begun
-abbrev BranchAsks : Past → Plan → List Deed → Name → Name → Type 0
+abbrev pub BranchAsks : Past → Plan → List Deed → Name → Name → Type 0
 BranchAsks past branches here by target = IsTrue (each_begun past branches here) × RowAsks past branches here by target
 
 -- by branches at once, or behind them

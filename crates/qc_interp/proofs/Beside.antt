@@ -17,6 +17,7 @@ use Rattle.qc_script.specs.Plan.{Plan}
 use Rattle.qc_interp.specs.Deeds.{Deed}
 use Rattle.qc_interp.specs.Rows.{is_try, tries_among, each_own_seat, keeps_own_seat, is_child_beside, first_under, starts, opens_seat}
 use Rattle.qc_interp.specs.Turns.{seat_of, is_under, is_beside}
+use Rattle.qc_interp.proofs.Starts.{start_seat}
 use Rattle.qc_interp.proofs.Kept.{Answers, earliest_kept, kept_again}
 use Rattle.qc_interp.proofs.Mine.{some_is}
 use Rattle.qc_interp.proofs.Rows.{IsSameTry, all_among, all_each, among_alike}
@@ -66,18 +67,6 @@ module _ (p q : Past) where
 
 -- AS A HISTORY GROWS
 
--- who starts does so under the entry's seat
-start_under : (n : Name) (seat : ℕ) (ev : Event) (b : Begun) → start_in n seat ev ≡ Some b → seat ≡ b.seat
-start_under n seat (event.Start m k) b h = ap (λ (x : Begun). x.seat) (if_is (same m n) (record { seat = seat; kind = k }) b h).1
-start_under n seat (event.End m how) b h = absurd cc
-start_under n seat (event.Ready m) b h = absurd cc
-start_under n seat (event.Ask ask) b h = absurd cc
-start_under n seat (event.Gone m why) b h = absurd cc
-start_under n seat (event.Granted copy grant) b h = absurd cc
-start_under n seat (event.Refused m copy refusal) b h = absurd cc
-start_under n seat (event.Unable m why) b h = absurd cc
-start_under n seat (event.Mark m session) b h = absurd cc
-
 -- something stands under the seat of who was started
 some_under : (past : Past) (n : Name) (b : Begun) → start past n ≡ Some b → is_some (first_under b.seat past) ≡ true
 some_under [] n b is = absurd cc
@@ -85,7 +74,7 @@ some_under (e ∷ past) n b is = elim (first_is (start past n) (start_in n e.sea
   | inl old ↦ stays_some (first_under b.seat past) (if e.seat == b.seat then Some e.event else None) (some_under past n b old)
   | inr new ↦
       here_some (first_under b.seat past) (if e.seat == b.seat then Some e.event else None)
-      (ap (λ (t : Bool). is_some {T = Event} (if t then Some e.event else None)) (eq-eqb e.seat b.seat (start_under n e.seat e.event b new.1)))
+      (ap (λ (t : Bool). is_some {T = Event} (if t then Some e.event else None)) (eq-eqb e.seat b.seat (start_seat n e.seat e.event b new.1)))
 ]
 
 pub start_of_kind : (past : Past) (n : Name) (k : Kind) → kind_of past n ≡ Some k → (b : Begun) × (start past n ≡ Some b)
@@ -135,7 +124,7 @@ module _ (own : ℕ → Bool) where
       by_test false at before g = before g
       by_test true at before g = elim (first_is (start (of_seats h) n) (start_in n e.seat e.event) b g) [
         | inl old ↦ before old
-        | inr new ↦ ap own (sym (start_under n e.seat e.event b new.1)) ∙ at
+        | inr new ↦ ap own (sym (start_seat n e.seat e.event b new.1)) ∙ at
       ]
 
   first_kept : (h : Past) (seat : ℕ) → own seat ≡ true → first_under seat (of_seats h) ≡ first_under seat h

@@ -33,6 +33,7 @@ use Rattle.qc_interp.specs.Asking.{DoesAfter}
 use Rattle.qc_interp.specs.Reach.{Reach}
 use Rattle.qc_interp.specs.Running.{Runs, CameTo, Ended, CutOff, WentOn, HasFailed, QuitFor, Stopped, child_step, Failed}
 use Rattle.qc_interp.specs.declared.stops.Finish.TheVariants as finish
+use Rattle.std.proofs.lemmas.Bool.{false_from_ne_true}
 use Rattle.qc_interp.proofs.Asked.{NoOne, asked_made, asked_none, asked_wider, asked_trans}
 use Rattle.qc_interp.proofs.Stopping.{asked_early, unended_stopped, running_runs}
 use Rattle.qc_interp.proofs.Ending.{not_ready, ended_early, leaves_trans, leaves_cut, still, leaves_still, runs_still, leaves_end, deeds_end, ends_so}
@@ -102,6 +103,18 @@ module _ (c : Client) (of child : Name) where
       by_end (Some (Abort x)) at h = (x, end_later c of before now later child (Abort x) at)
 
   -- THE TRANSACTION IS ABORTED FOR IT
+
+  -- or it has stopped
+  pub behind_failed : (mid now : Past) (again : Bool) (rest : Plan) → HasFailed c of mid child → QuitFor c of child mid now again → AreOurs c of now → GoesOnAfter Reach.to_the_end (mine c now) of child (end (mine c now) child) (FollowsPlan c.session (mine c now) of rest [] (end (mine c now) of)) [] (end (mine c now) of)
+  behind_failed mid now again rest failed quit ours =
+      let was = still_aborted mid now quit.leaves.later failed ours in
+      subst (λ o. GoesOnAfter Reach.to_the_end (mine c now) of child o (FollowsPlan c.session (mine c now) of rest [] (end (mine c now) of)) [] (end (mine c now) of)) (sym was.1) (
+        refl,
+        elim (quit.ended ours) [
+          | inl is ↦ inl (false_from_ne_true (is_of_orphan was.0) (λ h. is.0 (subst WasOrphan (sym was.1) h)), is.1)
+          | inr early ↦ inr early
+        ],
+      )
 
   pub quit_for_ok : (before now : Past) → Runs c of before → HasFailed c of before child → dead before of ≡ None → Made c (by_client c (event.End of (Abort (cause.Child child))) ∷ []) before now → QuitFor c of child before now true
   quit_for_ok before now runs failed alive m = record {
@@ -201,28 +214,10 @@ module _ (c : Client) (of : Name) (body : Numbered) (before mid : Past) (last : 
       ends = f.follows Reach.to_the_end c now (joined_itself c mid) quit.leaves.later rest (λ ours. (
         [],
         quit.deeds ∙ sym (append-nil _),
-        subst (λ b. AfterTries Reach.to_the_end (mine c now) of (Some (Deed.child last)) b (FollowsPlan c.session (mine c now) of rest [] (end (mine c now) of)) [] (end (mine c now) of)) (sym must) (behind ours),
+        subst (λ b. AfterTries Reach.to_the_end (mine c now) of (Some (Deed.child last)) b (FollowsPlan c.session (mine c now) of rest [] (end (mine c now) of)) [] (end (mine c now) of)) (sym must) (behind_failed c of last mid now again rest f.failed quit ours),
         asked_none c mid now _ quit.asked,
       ));
     }
-      where
-        not_orphan : (x : Cause) → (is_of_orphan x ≡ true → ⊥) → is_of_orphan x ≡ false
-        not_orphan x h = by_test (is_of_orphan x) h
-          where
-            by_test : (b : Bool) → (b ≡ true → ⊥) → b ≡ false
-            by_test true t = absurd (t refl)
-            by_test false t = refl
-
-        behind : AreOurs c of now → GoesOnAfter Reach.to_the_end (mine c now) of last (end (mine c now) last) (FollowsPlan c.session (mine c now) of rest [] (end (mine c now) of)) [] (end (mine c now) of)
-        behind ours =
-            let was = still_aborted c of last mid now quit.leaves.later f.failed ours in
-            subst (λ o. GoesOnAfter Reach.to_the_end (mine c now) of last o (FollowsPlan c.session (mine c now) of rest [] (end (mine c now) of)) [] (end (mine c now) of)) (sym was.1) (
-              refl,
-              elim (quit.ended ours) [
-                | inl is ↦ inl (not_orphan was.0 (λ h. is.0 (subst WasOrphan (sym was.1) h)), is.1)
-                | inr early ↦ inr early
-              ],
-            )
 
     -- the run was cut off there
     pub failed_cut : (rest : Plan) → Made c [] mid now → CutOff c of before now (child_step body rest)

@@ -18,15 +18,14 @@ use Rattle.qc_script.specs.declared.tx.TxNo.{TxNo}
 use Rattle.qc_script.specs.declared.tx.TxNo.TheVariants as tx_no
 use Rattle.qc_script.specs.Calls.{NoneUnder, Refuses, WasRefused}
 use Rattle.qc_script.specs.Client.{Client, mine, is_own, Made, IsLater, HasJoined}
+use Rattle.qc_event.proofs.OneEntry.{both_empty}
+use Rattle.qc_event.proofs.StillTold.{some_stays}
+use Rattle.std.proofs.lemmas.Bool.{or_left}
 use Rattle.qc_interp.proofs.Growth.{made_is, ended_still}
 
 -- no entry is the client's
 abbrev pub NoneOf : Client → Past → Type 0
 NoneOf c past = AllByRecursion (λ (e : Entry). is_own c e.seat ≡ false) past
-
-both_nil : {A : Type 0} (xs ys : List A) → xs ++ ys ≡ [] → (xs ≡ []) × (ys ≡ [])
-both_nil [] ys is = (refl, is)
-both_nil (x ∷ xs) ys is = absurd cc
 
 pub none_of : (c : Client) (past : Past) → mine c past ≡ [] → NoneOf c past
 none_of c [] is = tt
@@ -73,7 +72,7 @@ module _ (c : Client) where
   -- what was not made until later was not made until then
   pub made_until : (a b x : Past) → IsLater c a b → IsLater c b x → Made c [] a x → Made c [] a b
   made_until a b x p q m =
-      let parts = both_nil (mine c q.newer) (mine c p.newer) (append_cancel_right (mine c q.newer ++ mine c p.newer) [] (mine c a)
+      let parts = both_empty (mine c q.newer) (mine c p.newer) (append_cancel_right (mine c q.newer ++ mine c p.newer) [] (mine c a)
       (append_assoc (mine c q.newer) (mine c p.newer) (mine c a)
       ∙ ap (λ l. mine c q.newer ++ l) (sym (filter-append _ p.newer a) ∙ ap (mine c) (sym p.grown))
       ∙ sym (filter-append _ q.newer b) ∙ ap (mine c) (sym q.grown) ∙ made_is c [] a x m)) in
@@ -94,10 +93,6 @@ made_fewer c d a b fewer same m = record {
 pub owned_more : (c : Client) (ks : List ℕ) (seat : ℕ) → is_own (record c { kin = c.kin ++ ks }) seat ≡ (is_own c seat || list_any (λ k. k == seat) ks)
 owned_more c ks seat = list_any-append (λ k. k == seat) (c.number ∷ c.kin) ks
 
-pub or_first : (a b : Bool) → a ≡ true → (a || b) ≡ true
-or_first true b is = refl
-or_first false b is = absurd (true≢false (sym is))
-
 pub or_none : (a b : Bool) → b ≡ false → (a || b) ≡ a
 or_none true b is = refl
 or_none false b is = is
@@ -106,17 +101,17 @@ or_none false b is = is
 abbrev pub NoneIn : List ℕ → Past → Type 0
 NoneIn ks past = AllByRecursion (λ (e : Entry). list_any (λ k. k == e.seat) ks ≡ false) past
 
+pub none_alike : (c : Client) (ks : List ℕ) (past : Past) → NoneIn ks past → AllByRecursion (λ (e : Entry). is_own (record c { kin = c.kin ++ ks }) e.seat ≡ is_own c e.seat) past
+none_alike c ks [] none = tt
+none_alike c ks (e ∷ past) none = (owned_more c ks e.seat ∙ or_none (is_own c e.seat) (list_any (λ k. k == e.seat) ks) none.0, none_alike c ks past none.1)
+
 pub joins_more : (c : Client) (ks out : List ℕ) (past : Past) → NoneIn ks past → HasJoined c past (record c { kin = c.kin ++ ks })
 joins_more c ks out past none = record {
   kin = c.kin ++ ks;
   same = refl;
-  wider = λ seat own. owned_more c ks seat ∙ or_first (is_own c seat) (list_any (λ k. k == seat) ks) own;
-  own = alike past none;
+  wider = λ seat own. owned_more c ks seat ∙ or_left (is_own c seat) (list_any (λ k. k == seat) ks) own;
+  own = none_alike c ks past none;
 }
-  where
-    alike : (past : Past) → NoneIn ks past → AllByRecursion (λ (e : Entry). is_own (record c { kin = c.kin ++ ks }) e.seat ≡ is_own c e.seat) past
-    alike [] none = tt
-    alike (e ∷ past) none = (owned_more c ks e.seat ∙ or_none (is_own c e.seat) (list_any (λ k. k == e.seat) ks) none.0, alike past none.1)
 
 -- who owns these too made nothing where neither did
 pub none_more : (c : Client) (ks : List ℕ) (past : Past) → NoneOf c past → NoneIn ks past → NoneOf (record c { kin = c.kin ++ ks }) past
@@ -148,15 +143,12 @@ left_out n l none = ap (λ b. if not b then n ∷ without n l else without n l) 
 
 -- REFUSALS
 
-some_later : {Y : Type 0} (f : Entry → Option Y) (newer seen : Past) → is_some (earliest f seen) ≡ true → is_some (earliest f (newer ++ seen)) ≡ true
-some_later f newer seen h = ap is_some (earliest-append f newer seen) ∙ stays_some (earliest f seen) (earliest f newer) h
-
 -- where what was seen is within its limit, a refusal to begin stands later
 pub refuses_later : (newer seen : Past) (of : Name) (why : TxNo) → length (newer ++ seen) ≤ limit → ((child : Name) → why ≡ tx_no.ChildrenOpen child → ⊥) → Refuses seen of why → Refuses (newer ++ seen) of why
 refuses_later newer seen of (tx_no.Orphan a) bound closed h = (h.0, ended_still newer seen a IsAbort h.1)
-refuses_later newer seen of tx_no.Ended bound closed h = some_later (λ e. end_in of e.event) newer seen h
+refuses_later newer seen of tx_no.Ended bound closed h = some_stays (λ e. end_in of e.event) newer seen h
 refuses_later newer seen of (tx_no.ChildrenOpen child) bound closed h = absurd (closed child refl)
-refuses_later newer seen of tx_no.Ready bound closed h = some_later (λ e. ready_in of e.event) newer seen h
+refuses_later newer seen of tx_no.Ready bound closed h = some_stays (λ e. ready_in of e.event) newer seen h
 refuses_later newer seen of tx_no.Memory bound closed h = tt
 refuses_later newer seen of tx_no.Room bound closed h = omega (arith, h, bound, length-append newer seen)
 refuses_later newer seen of (tx_no.Conflict copy holder) bound closed h = absurd h

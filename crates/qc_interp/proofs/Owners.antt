@@ -31,6 +31,8 @@ use Rattle.qc_interp.specs.Reach.{Reach}
 use Rattle.qc_interp.specs.Session.{tops, AreAllOurs}
 use Rattle.qc_interp.specs.Sessions.{top_in, is_of}
 use Rattle.qc_interp.specs.Together.{HasRun, EachHasRun, AreOf}
+use Rattle.qc_interp.proofs.Growth.{implies}
+use Rattle.qc_interp.proofs.Adding.{first_anyhow}
 use Rattle.qc_interp.proofs.Scope.{whole_scope, upward_top}
 use Rattle.qc_interp.proofs.Places.{some_same, at_place, each_place, all_from, any_place, kept_at, any_answered}
 use Rattle.qc_interp.proofs.Starts.{legal_at, started_at, top_is, one_top, StartsTop, starts_top, starts_user, starts_of}
@@ -82,17 +84,13 @@ module _ (setting : Setting) (past : Past) (seat number : ℕ) where
   concern_client (event.Mark n session) may h = may.by_client
   concern_client _ may h = absurd (true≢false (sym h))
 
-low_or_top : (a b : Bool) → (b ≡ true → a ≡ true) → (a || b) ≡ true → a ≡ true
-low_or_top true b step h = refl
-low_or_top false b step h = step h
-
 -- and is about a name at or below that top
 concern_about : (number : ℕ) (ev : Event) → concerns (number ∷ []) ev ≡ true → (n : Name) × (about ev ≡ Some n) × (name.is_ancestor (number ∷ []) n ≡ true)
 concern_about number (event.Start n k) h = (n, refl, h)
-concern_about number (event.Ready n) h = (n, refl, low_or_top (name.is_ancestor (number ∷ []) n) (is_upward (number ∷ []) n) (upward_top number n) h)
+concern_about number (event.Ready n) h = (n, refl, first_anyhow (name.is_ancestor (number ∷ []) n) (is_upward (number ∷ []) n) (upward_top number n) h)
 concern_about number (event.End n how) h =
     let parts = and_parts (name.is_ancestor (number ∷ []) n || (is_upward (number ∷ []) n && is_commit how)) _ h in
-    (n, refl, low_or_top (name.is_ancestor (number ∷ []) n) _ (λ up. upward_top number n (and_parts (is_upward (number ∷ []) n) (is_commit how) up).0) parts.0)
+    (n, refl, first_anyhow (name.is_ancestor (number ∷ []) n) _ (λ up. upward_top number n (and_parts (is_upward (number ∷ []) n) (is_commit how) up).0) parts.0)
 concern_about number (event.Mark n session) h = (n, refl, h)
 concern_about number _ h = absurd (true≢false (sym h))
 
@@ -257,10 +255,6 @@ module _ (reach : Reach) (setting : Setting) (epoch patience : ℕ) (past : Past
 pub all_its_own : (setting : Setting) (c : Client) (s : ℕ) (past : Past) → Legal setting past → IsItsOwn c s past → AreAllOurs c past
 all_its_own setting c s past legal its = by_tops (tops c past) (λ n low. low) (all_children (mine c past) [])
   where
-    implies : (a b : Bool) → (a ≡ true → b ≡ true) → (not a || b) ≡ true
-    implies true b h = h refl
-    implies false b h = refl
-
     IsAmong : List Name → Name → Type 0
     IsAmong ts n = list_any (λ x. name.is_ancestor x n) ts ≡ true
 

@@ -29,6 +29,8 @@ use Rattle.qc_script.specs.Calls.{by_client, IsGrounded, NotAborted}
 use Rattle.qc_script.specs.Client.{Client, Made}
 use Rattle.qc_interp.specs.AtOnce.{Stands, branch_in, RefusedSo, IsFirst, aborts_of, TurnedSome, TurnedAll}
 use Rattle.qc_interp.specs.Branches.{Branch}
+use Rattle.qc_event.proofs.StillTold.{some_stays}
+use Rattle.qc_event.proofs.Lawful.{started_some}
 use Rattle.qc_interp.proofs.Growth.{ended_still, made_itself}
 use Rattle.qc_interp.proofs.RowBack.{turns_back, none_back}
 use Rattle.qc_interp.proofs.RowLeaves.{not_shorter}
@@ -53,10 +55,6 @@ not_committed (Some (Abort x)) h committed = true≢false (sym committed)
 
 child_above : (of n : Name) → is_child of n ≡ true → name.is_ancestor of n ≡ true
 child_above of n child = let l = child_last of n child in ap (name.is_ancestor of) l.1 ∙ is_ancestor-append of (l.0 ∷ [])
-
-started_some : (P : Begun → Type 0) (o : Option Begun) → MatchOption o ⊥ P → is_some o ≡ true
-started_some P None h = absurd h
-started_some P (Some b) h = refl
 
 first_started : (of : Name) (past : Past) (n : Name) → IsFirst of past n → is_some (start past n) ≡ true
 first_started of past n first = started_some (λ e. IsUser e.kind) (start past n) first.1
@@ -109,14 +107,11 @@ module _ (setting : Setting) (past : Past) (legal : Legal setting past) (of : Na
 
 -- WHERE AN ABORT IS REFUSED
 
-some_later : {Y : Type 0} (f : Entry → Option Y) (newer seen : Past) → is_some (earliest f seen) ≡ true → is_some (earliest f (newer ++ seen)) ≡ true
-some_later f newer seen h = ap is_some (earliest-append f newer seen) ∙ stays_some (earliest f seen) (earliest f newer) h
-
 -- a refusal to begin stands later
 pub refused_still : (newer seen : Past) (of : Name) (why : TxNo) → RefusedSo seen of why → RefusedSo (newer ++ seen) of why
 refused_still newer seen of (tx_no.Orphan a) h = ((h.0.0, ended_still newer seen a IsAbort h.0.1), tt)
-refused_still newer seen of tx_no.Ended h = (some_later (λ e. end_in of e.event) newer seen h.0, tt)
-refused_still newer seen of tx_no.Ready h = (some_later (λ e. ready_in of e.event) newer seen h.0, tt)
+refused_still newer seen of tx_no.Ended h = (some_stays (λ e. end_in of e.event) newer seen h.0, tt)
+refused_still newer seen of tx_no.Ready h = (some_stays (λ e. ready_in of e.event) newer seen h.0, tt)
 refused_still newer seen of tx_no.Memory h = absurd h.1
 refused_still newer seen of tx_no.Room h = absurd h.1
 refused_still newer seen of (tx_no.ChildrenOpen child) h = absurd h.1

@@ -12,13 +12,14 @@ use Rattle.qc_interp.specs.Deeds.{Deed, deeds, OfChild}
 use Rattle.qc_interp.specs.Reach.{Reach}
 use Rattle.qc_interp.specs.Rows.{OneOf, tries_among}
 use Rattle.qc_interp.specs.Running.{Runs}
+use Rattle.qc_event.proofs.Lists.{get_first}
 use Rattle.qc_interp.proofs.Alike.{asks_alike}
 use Rattle.qc_interp.proofs.Asked.{wider_one}
 use Rattle.qc_interp.proofs.Places.{some_same, at_place, each_place, kept_place}
 use Rattle.qc_interp.proofs.RowHere.{HaveOwnBodies, here, row_agrees, tries_here}
 use Rattle.qc_interp.proofs.RowLeaves.{kept_each}
 use Rattle.qc_interp.proofs.RowOurs.{tries_ours}
-use Rattle.qc_interp.proofs.RowTries.{IsTry, get_front, ran_at, try_at, Owner, owners}
+use Rattle.qc_interp.proofs.RowTries.{IsTry, ran_at, try_at, Owner, owners}
 
 -- what one of a branch's tries asks one of the row's asks
 pub asks_in_row : (h : Past) (ds : List Deed) (by target : Name) (bs : List Branch) (i : ℕ) (b : Branch) → slice_get bs i ≡ Some b → OneOf (OfChild (λ t. Asks h t b.body.plan (deeds h t) by target)) (tries_among h b.body.number ds)
@@ -60,7 +61,7 @@ module _ (reach : Reach) (Stopped : Branch → Type 0) (c : Client) (of : Name) 
     asked_of k e is o =
         wider_one (λ by target. OneOf (λ n. Asks (mine o.one.client now) n o.one.body.plan (deeds (mine o.one.client now) n) by target) (tries_by o.one.client now)) (λ by target. RowAsks (mine d now) (row_of bodies) ds by target) (asks_of o.place o.one o.at) e.event
         (kept_place _ (λ (y : Entry). is_own o.one.client y.seat) now k e ((ran_at reach Stopped c of before shown now bs row o.place o.one o.at).asked (tries_ours reach Stopped c of before shown now bs row runs ours o.place o.one o.at))
-        (ap (λ l. slice_get l k) row.made.grown ∙ get_front row.made.newer before k e is) o.owns)
+        (ap (λ l. slice_get l k) row.made.grown ∙ get_first row.made.newer before k e is) o.owns)
 
     pub row_asked : AllByRecursion (λ (e : Entry). IsAskedBy (λ by target. RowAsks (mine (with_all c bs) now) (row_of bodies) ds by target) e.event) (mine (with_all c bs) row.made.newer)
     row_asked = kept_each AskedRow AskedRow (λ (e : Entry). is_own d e.seat) row.made.newer (λ e h. h) (each_place _ row.made.newer (λ k e is kept.

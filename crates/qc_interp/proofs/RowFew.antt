@@ -19,13 +19,14 @@ use Rattle.qc_interp.specs.Branches.{Branch, with_all, start_of, RanRow}
 use Rattle.qc_interp.specs.Deeds.{Deed, deeds, OfChild}
 use Rattle.qc_interp.specs.Reach.{Reach}
 use Rattle.qc_interp.specs.Rows.{is_of_body, is_try}
+use Rattle.qc_event.proofs.Lists.{get_first}
 use Rattle.qc_interp.proofs.Alike.{AgreesAt}
 use Rattle.qc_interp.proofs.Branches.{AreFirstTries}
 use Rattle.qc_interp.proofs.Places.{at_place, each_place, kept_at, kept_place}
 use Rattle.qc_interp.proofs.RowHere.{here, row_agrees, none_kept}
 use Rattle.qc_interp.proofs.RowLeaves.{kept_each}
 use Rattle.qc_interp.proofs.RowStands.{firsts_first, first_try}
-use Rattle.qc_interp.proofs.RowTries.{IsTry, get_front, begun_at, try_at, owner}
+use Rattle.qc_interp.proofs.RowTries.{IsTry, begun_at, try_at, owner}
 use Rattle.qc_interp.proofs.Turning.{itself}
 
 -- a branch's client made its first start, and nothing else
@@ -68,7 +69,7 @@ module _ (reach : Reach) (Stopped : Branch → Type 0) (c : Client) (of : Name) 
 
   nothing_since : mine d row.since.newer ≡ []
   nothing_since = none_kept (λ (e : Entry). is_own d e.seat) row.since.newer (each_place _ row.since.newer (λ k e is. false_from_ne_true (is_own d e.seat) (λ own.
-      let o = owner reach Stopped c of before shown now bs row k e (ap (λ l. slice_get l k) newer_is ∙ get_front row.since.newer row.shown_later.newer k e is) own in
+      let o = owner reach Stopped c of before shown now bs row k e (ap (λ l. slice_get l k) newer_is ∙ get_first row.since.newer row.shown_later.newer k e is) own in
       true≢false (sym (kept_at (λ x. false) (λ (x : Entry). is_own o.one.client x.seat) row.since.newer k e (ap (list_all (λ x. false)) (none_since o.place o.one o.at)) is o.owns)))))
 
   -- the deeds are the first tries
@@ -113,4 +114,4 @@ module _ (reach : Reach) (Stopped : Branch → Type 0) (c : Client) (of : Name) 
   starts_only Q = kept_each (λ (e : Entry). IsAskedBy Q e.event) (λ (e : Entry). IsAskedBy Q e.event) (λ (e : Entry). is_own d e.seat) row.made.newer (λ e h. h) (each_place _ row.made.newer (λ k e is own.
       let o = owner reach Stopped c of before shown now bs row k e is own in
       kept_place (λ (y : Entry). IsAskedBy Q y.event) (λ (y : Entry). is_own o.one.client y.seat) now k e (subst (AllByRecursion (λ (y : Entry). IsAskedBy Q y.event)) (sym (only_at o.place o.one o.at)) (tt, tt))
-      (ap (λ l. slice_get l k) row.made.grown ∙ get_front row.made.newer before k e is) o.owns))
+      (ap (λ l. slice_get l k) row.made.grown ∙ get_first row.made.newer before k e is) o.owns))

@@ -28,7 +28,7 @@ use Rattle.qc_interp.specs.Branches.{Branch, IsBegun, AreTriesOurs, tries_by, wi
 use Rattle.qc_interp.specs.Follows.{IsUnended}
 use Rattle.qc_interp.specs.Reach.{Reach}
 use Rattle.qc_interp.specs.Running.{Runs}
-use Rattle.qc_interp.proofs.Growth.{implied}
+use Rattle.qc_interp.proofs.Growth.{implied, implies}
 use Rattle.qc_interp.proofs.Places.{some_same, at_place, each_place}
 use Rattle.qc_interp.proofs.RowAgrees.{tells}
 use Rattle.qc_interp.proofs.RowSeats.{own_as_before}
@@ -233,10 +233,6 @@ module _ (reach : Reach) (Stopped : Branch → Type 0) (c : Client) (of : Name) 
             concerns_wider (scope d of) t ev (λ n low. above_trans (scope d of) t n (child_scope d of t try.child) low) (λ n up.
             let r = rest_of n t (upward_above t n up) in
             subst (λ s. (name.is_ancestor s n ≡ true) ⊎ (is_upward s n ≡ true)) (same_scope d of t runs.below try.child) (in_or_upward d t n r.0 r.1 (upward_long t n up))) h
-
-        implies : (x y : Bool) → (x ≡ true → y ≡ true) → (not x || y) ≡ true
-        implies true y h = h refl
-        implies false y h = refl
 
         by_entries : (es : Past) → AllByRecursion Ours es → list_all (λ (e : Entry). not (concerns (scope d of) e.event) || is_own d e.seat) es ≡ true
             → list_all (λ (e : Entry). not (concerns (scope b.client t) e.event) || is_own b.client e.seat) es ≡ true

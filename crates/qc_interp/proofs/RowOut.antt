@@ -16,7 +16,7 @@ use Rattle.qc_interp.specs.declared.stops.Finish.TheVariants as finish
 use Rattle.qc_interp.proofs.Asked.{NoOne, asked_none, asked_made}
 use Rattle.qc_interp.proofs.BranchEnds.{refusal_early}
 use Rattle.qc_interp.proofs.Ending.{leaves_trans, leaves_cut, still, leaves_still, runs_still}
-use Rattle.qc_interp.proofs.Failing.{still_aborted}
+use Rattle.qc_interp.proofs.Failing.{behind_failed}
 use Rattle.qc_interp.proofs.Growth.{made_later}
 use Rattle.qc_interp.proofs.Joined.{joined_itself}
 use Rattle.qc_interp.proofs.RowCut.{runs_after}
@@ -44,26 +44,8 @@ module _ (c : Client) (of : Name) (before now : Past) (bodies : List Numbered) w
     row_quit last again rest r failed quit = record {
       leaves = leaves_trans c of before now x r.leaves quit.leaves;
       tried = quit.tried;
-      ends = r.front Reach.to_the_end c x (joined_itself c now) quit.leaves.later rest (λ ours. ([], quit.deeds ∙ sym (append-nil _), behind ours, asked_none c now x _ quit.asked));
+      ends = r.front Reach.to_the_end c x (joined_itself c now) quit.leaves.later rest (λ ours. ([], quit.deeds ∙ sym (append-nil _), behind_failed c of last now x again rest failed quit ours, asked_none c now x _ quit.asked));
     }
-      where
-        not_orphan : (y : Cause) → (is_of_orphan y ≡ true → ⊥) → is_of_orphan y ≡ false
-        not_orphan y h = by_test (is_of_orphan y) h
-          where
-            by_test : (b : Bool) → (b ≡ true → ⊥) → b ≡ false
-            by_test true t = absurd (t refl)
-            by_test false t = refl
-
-        behind : AreOurs c of x → GoesOnAfter Reach.to_the_end (mine c x) of last (end (mine c x) last) (FollowsPlan c.session (mine c x) of rest [] (end (mine c x) of)) [] (end (mine c x) of)
-        behind ours =
-            let was = still_aborted c of last now x quit.leaves.later failed ours in
-            subst (λ o. GoesOnAfter Reach.to_the_end (mine c x) of last o (FollowsPlan c.session (mine c x) of rest [] (end (mine c x) of)) [] (end (mine c x) of)) (sym was.1) (
-              refl,
-              elim (quit.ended ours) [
-                | inl is ↦ inl (not_orphan was.0 (λ h. is.0 (subst WasOrphan (sym was.1) h)), is.1)
-                | inr early ↦ inr early
-              ],
-            )
 
     -- it stopped by a refusal
     pub row_stops : (why : TxNo) (again : Bool) (rest : Plan) → RowOut c of before now bodies false None → IsRefusal why → Stopped c of why now x again → Ended c of before x (row_step bodies rest) (finish.Stopped again)

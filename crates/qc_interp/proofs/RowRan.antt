@@ -12,10 +12,11 @@ use Rattle.qc_script.specs.Calls.{by_client, Merged}
 use Rattle.qc_script.specs.Client.{Client, View, is_own, branch_of, Made, IsLater, HasJoined}
 use Rattle.qc_interp.specs.AtOnce.{Stands, branch_in, HasBegun, BeganInTurn, InPairs, WasShown, HasRun, MergedInTurn}
 use Rattle.qc_interp.specs.Branches.{Branch, seats_of, start_of}
+use Rattle.std.proofs.lemmas.Bool.{or_left}
 use Rattle.qc_interp.proofs.BranchNumbers.{number_of, out_with, AreFresh, merged_out}
 use Rattle.qc_interp.proofs.Growth.{made_itself, made_both}
 use Rattle.qc_interp.proofs.Joined.{joined_before, joined_start, joined_none}
-use Rattle.qc_interp.proofs.MadeBy.{NoneOf, without, none_under, made_until, made_fewer, owned_more, or_first}
+use Rattle.qc_interp.proofs.MadeBy.{NoneOf, without, none_under, made_until, made_fewer, owned_more}
 use Rattle.qc_interp.proofs.RowStarts.{StartedOne, StartedInTurn}
 
 -- a branch is the same later, but for more kin
@@ -123,7 +124,7 @@ module _ (c : Client) (of : Name) where
 -- AS THEY ARE MERGED
 
 own_first : (c : Client) (ks : List ℕ) (seat : ℕ) → is_own c seat ≡ true → is_own (record c { kin = c.kin ++ ks }) seat ≡ true
-own_first c ks seat own = owned_more c ks seat ∙ or_first (is_own c seat) (list_any (λ k. k == seat) ks) own
+own_first c ks seat own = owned_more c ks seat ∙ or_left (is_own c seat) (list_any (λ k. k == seat) ks) own
 
 own_second : (c b : Client) (seat : ℕ) → is_own b seat ≡ true → is_own (record c { kin = c.kin ++ b.number ∷ b.kin }) seat ≡ true
 own_second c b seat own = owned_more c (b.number ∷ b.kin) seat ∙ or_right (is_own c seat) (is_own b seat) own

@@ -12,7 +12,7 @@ use Rattle.qc_script.specs.Client.{Client, mine, is_own, branch_of, Made}
 use Rattle.qc_interp.specs.Branches.{Branch, seats_of, with_all, start_of, IsBegun}
 use Rattle.qc_interp.proofs.Growth.{made_is, made_itself, made_both}
 use Rattle.qc_interp.proofs.Joined.{mine_alike}
-use Rattle.qc_interp.proofs.MadeBy.{NoneOf, NoneIn, none_of, none_mine, none_older, owned_more, or_none, made_among}
+use Rattle.qc_interp.proofs.MadeBy.{NoneOf, NoneIn, none_of, none_mine, none_older, none_alike, owned_more, or_none, made_among}
 
 -- A branch started between two histories, and made nothing more until a later one.
 pub record StartedOne (c : Client) (of : Name) (old mid now : Past) (b : Branch) : Type 0 where
@@ -84,11 +84,7 @@ module _ (c b : Client) (ks : List ℕ) where
 
 -- where the others made nothing
 pub not_others : (c : Client) (ks : List ℕ) (past : Past) → NoneIn ks past → mine (record c { kin = c.kin ++ ks }) past ≡ mine c past
-not_others c ks past none = mine_alike c (record c { kin = c.kin ++ ks }) past (each past none)
-  where
-    each : (past : Past) → NoneIn ks past → AllByRecursion (λ (e : Entry). is_own (record c { kin = c.kin ++ ks }) e.seat ≡ is_own c e.seat) past
-    each [] none = tt
-    each (e ∷ past) none = (owned_more c ks e.seat ∙ or_none (is_own c e.seat) (list_any (λ k. k == e.seat) ks) none.0, each past none.1)
+not_others c ks past none = mine_alike c (record c { kin = c.kin ++ ks }) past (none_alike c ks past none)
 
 pub started_in_order : (c : Client) (of : Name) (old : Past) (bs : List Branch) (now : Past) → Legal c.setting old → StartedInTurn c of old bs now → mine (with_all c bs) now ≡ reverse (map (start_of c) bs) ++ mine c old
 started_in_order c of old [] now legal h = not_others c [] now (no_seats now) ∙ ap (mine c) h

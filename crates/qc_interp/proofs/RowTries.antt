@@ -24,6 +24,7 @@ use Rattle.qc_interp.specs.Adding.{asks_above, stays_in}
 use Rattle.qc_interp.specs.Branches.{Branch, tries_by, stays_with, seats_of, with_all, IsBegun, RanTries, RanRow}
 use Rattle.qc_interp.specs.Reach.{Reach}
 use Rattle.qc_interp.specs.Turns.{is_under}
+use Rattle.qc_event.proofs.Lists.{get_first}
 use Rattle.qc_interp.proofs.Began.{start_from, kept_start, AreStarted, all_started}
 use Rattle.qc_interp.proofs.Places.{some_same, at_place, each_place, kept_at, any_place}
 use Rattle.qc_interp.proofs.RowAgrees.{tells, KeepsMore}
@@ -37,11 +38,6 @@ pub passes_at : {X : Type 0} (f : X → Bool) (xs : List X) (i : ℕ) (x : X) �
 passes_at f [] i x all is = absurd cc
 passes_at f (y ∷ xs) zero x all is = ap f (sym (some_same y x is)) ∙ (and_parts (f y) (list_all f xs) all).0
 passes_at f (y ∷ xs) (suc i) x all is = passes_at f xs i x (and_parts (f y) (list_all f xs) all).1 is
-
-pub get_front : {X : Type 0} (xs ys : List X) (i : ℕ) (x : X) → slice_get xs i ≡ Some x → slice_get (xs ++ ys) i ≡ Some x
-get_front [] ys i x is = absurd cc
-get_front (y ∷ xs) ys zero x is = is
-get_front (y ∷ xs) ys (suc i) x is = get_front xs ys i x is
 
 pub all_join : {X : Type 0} (P : X → Type 0) (xs ys : List X) → AllByRecursion P xs → AllByRecursion P ys → AllByRecursion P (xs ++ ys)
 all_join P [] ys all more = more
@@ -189,7 +185,7 @@ module _ (reach : Reach) (Stopped : Branch → Type 0) (c : Client) (of : Name) 
   owner k e is own =
       let any : any_owns bs e.seat ≡ true = ap (λ x. x || any_owns bs e.seat) (sym (not_own k e is)) ∙ sym (all_own c bs e.seat) ∙ own in
       let b = any_place (λ (x : Branch). is_own x.client e.seat) bs any in
-      let here : slice_get now k ≡ Some e = ap (λ h. slice_get h k) row.made.grown ∙ get_front newer before k e is in
+      let here : slice_get now k ≡ Some e = ap (λ h. slice_get h k) row.made.grown ∙ get_first newer before k e is in
       let stays = kept_at (stays_with (tries_by b.one.client now)) (λ (x : Entry). is_own b.one.client x.seat) now k e (ran_at b.place b.one b.is).inside here b.passes in
       let t = any_place (λ t. stays_in t e) (tries_by b.one.client now) stays in
       record { place = b.place; one = b.one; at = b.is; owns = b.passes; try = t.one; turn = t.place; listed = t.is; is_try = try_at b.place b.one b.is t.place t.one t.is; stays = t.passes }

@@ -15,6 +15,7 @@ use Rattle.qc_interp.specs.Branches.{Branch, with_all, RanRow}
 use Rattle.qc_interp.specs.Reach.{Reach}
 use Rattle.qc_interp.specs.Running.{Runs}
 use Rattle.qc_interp.specs.Turns.{begun_in, is_done, is_alone, are_apart, seat_of, takes_turn}
+use Rattle.qc_event.proofs.Lists.{get_first}
 use Rattle.qc_interp.proofs.Apart.{part_at, child_is_above, apart_by}
 use Rattle.qc_interp.proofs.Began.{every_more}
 use Rattle.qc_interp.proofs.Beside.{seat_later}
@@ -24,7 +25,7 @@ use Rattle.qc_interp.proofs.RowBack.{turned_by, turns_back, each_turned, AreOrph
 use Rattle.qc_interp.proofs.RowFew.{HasOnlyBegun, first_is_try}
 use Rattle.qc_interp.proofs.RowOutcome.{try_under}
 use Rattle.qc_interp.proofs.RowSeats.{one_owner}
-use Rattle.qc_interp.proofs.RowTries.{IsTry, get_front, same_place, same_branch, apart_branches, Owner, owners}
+use Rattle.qc_interp.proofs.RowTries.{IsTry, same_place, same_branch, apart_branches, Owner, owners}
 use Rattle.qc_interp.proofs.RowTurns.{number_apart, old_begun}
 use Rattle.qc_interp.proofs.Seats.{own_seat, number_own}
 use Rattle.qc_interp.proofs.Turning.{itself}
@@ -47,7 +48,7 @@ module _ (reach : Reach) (Stopped : Branch → Type 0) (c : Client) (of : Name) 
       of_owner k e m is tells o =
           let starts = kept_place (λ y. (n : Name) → begun_in y.event ≡ Some n → n ≡ o.one.first) (λ (y : Entry). is_own o.one.client y.seat) now k e
           (subst (AllByRecursion (λ y. (n : Name) → begun_in y.event ≡ Some n → n ≡ o.one.first)) (sym (at_place (HasOnlyBegun c now) bs o.place o.one only o.at)) (λ n at. sym (some_same o.one.first n at), tt))
-          (ap (λ l. slice_get l k) row.made.grown ∙ get_front row.made.newer before k e is) o.owns m tells in
+          (ap (λ l. slice_get l k) row.made.grown ∙ get_first row.made.newer before k e is) o.owns m tells in
           ap passes starts ∙ first o.place o.one o.at
 
   -- two first tries are apart

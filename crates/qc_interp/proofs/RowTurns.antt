@@ -24,6 +24,7 @@ use Rattle.qc_interp.specs.Branches.{Branch, with_all, seats_of, RanRow}
 use Rattle.qc_interp.specs.Reach.{Reach, AtTheEnd}
 use Rattle.qc_interp.specs.Running.{Runs}
 use Rattle.qc_interp.specs.Turns.{begun_in, acts, is_done, is_alone, seat_of, keeps_seat, are_apart, has_turn, takes_turn}
+use Rattle.qc_event.proofs.Lists.{get_first}
 use Rattle.qc_interp.proofs.Apart.{IsToldSeat, part_at, child_is_above, apart_by, apart_wider}
 use Rattle.qc_interp.proofs.Beside.{seat_later}
 use Rattle.qc_interp.proofs.Began.{all_started, start_wider, every_at, every_more}
@@ -33,7 +34,7 @@ use Rattle.qc_interp.proofs.RowActors.{stays_actor, begins_about, done_wider, do
 use Rattle.qc_interp.proofs.Rows.{all_parts}
 use Rattle.qc_interp.proofs.RowOurs.{none_of, tries_ours}
 use Rattle.qc_interp.proofs.RowSeats.{any_own, seats_owned, one_owner, apart_parts, begun_joined}
-use Rattle.qc_interp.proofs.RowTries.{IsTry, get_front, above_trans, own_more, ran_at, root_is, apart_branches, try_owned, same_branch, Owner, owners, other_try}
+use Rattle.qc_interp.proofs.RowTries.{IsTry, above_trans, own_more, ran_at, root_is, apart_branches, try_owned, same_branch, Owner, owners, other_try}
 use Rattle.qc_interp.proofs.Seats.{seat_start, own_start, own_seat, number_own}
 
 module _ (reach : Reach) (Stopped : Branch → Type 0) (c : Client) (of : Name) (before shown now : Past) (bs : List Branch) (row : RanRow reach Stopped c of before shown now bs) where
@@ -158,7 +159,7 @@ module _ (reach : Reach) (Stopped : Branch → Type 0) (c : Client) (of : Name) 
         has_its_turn =
             every_more passes (λ x. begun_in x.event) keep es before (each_place _ es (λ k x at own m tells.
             let ox = at_place (λ y. keep y ≡ true → Of y) es k x later at own in
-            by_own x ox m tells (begun_started k x m ox.try ox.stays at tells) (is_own o.one.client x.seat) refl (at_place _ h k x by_branch (get_front es before k x at))))
+            by_own x ox m tells (begun_started k x m ox.try ox.stays at tells) (is_own o.one.client x.seat) refl (at_place _ h k x by_branch (get_first es before k x at))))
             (old_begun by above_all es (λ m. are_apart (e ∷ mine d h) m by))
           where
             later : AllByRecursion (λ y. keep y ≡ true → Of y) es
@@ -168,7 +169,7 @@ module _ (reach : Reach) (Stopped : Branch → Type 0) (c : Client) (of : Name) 
             by_branch = every_at _ (λ x. begun_in x.event) (λ (x : Entry). is_own o.one.client x.seat) h branch_turn
 
             begun_started : (k : ℕ) (x : Entry) (m : Name) → (t : Name) → stays_in t x ≡ true → slice_get es k ≡ Some x → begun_in x.event ≡ Some m → is_some (start h m) ≡ true
-            begun_started k x m t stays at tells = at_place _ h k x (all_started c.setting h legal_here.0) (get_front es before k x at) m (begins_about t m x stays tells).0
+            begun_started k x m t stays at tells = at_place _ h k x (all_started c.setting h legal_here.0) (get_first es before k x at) m (begins_about t m x stays tells).0
 
             above_all : name.is_ancestor of by ≡ true
             above_all = above_trans of o.try by (and_parts (length o.try == length of + 1) (name.is_ancestor of o.try) o.is_try.child).1 actor.0
@@ -210,7 +211,7 @@ module _ (reach : Reach) (Stopped : Branch → Type 0) (c : Client) (of : Name) 
             ap (λ x. list_all (λ m. is_done (mine d now) m || name.is_ancestor m of) (every (λ y. begun_in y.event) (mine d x))) row.made.grown
             ∙ every_more (λ m. is_done (mine d now) m || name.is_ancestor m of) (λ y. begun_in y.event) keep row.made.newer before (each_place _ row.made.newer (λ k x at own m tells.
             let ox = at_place (λ y. keep y ≡ true → Of y) row.made.newer k x (owners reach Stopped c of before shown now bs row) at own in
-            let here : slice_get now k ≡ Some x = ap (λ l. slice_get l k) row.made.grown ∙ get_front row.made.newer before k x at in
+            let here : slice_get now k ≡ Some x = ap (λ l. slice_get l k) row.made.grown ∙ get_first row.made.newer before k x at in
             let passes = at_place _ now k x (every_at (λ n. is_done (mine ox.one.client now) n || name.is_ancestor n ox.one.client.root) (λ y. begun_in y.event) (λ (y : Entry). is_own ox.one.client y.seat) now (each_alone ox.place ox.one ox.at)) here ox.owns m tells in
             or_wider (is_done (mine ox.one.client now) m) (name.is_ancestor m ox.one.client.root) (is_done (mine d now) m) (name.is_ancestor m of)
             (done_wider (λ (y : Entry). is_own ox.one.client y.seat) keep now m (λ y. own_more reach Stopped c of before shown now bs row ox.place ox.one ox.at y.seat))
