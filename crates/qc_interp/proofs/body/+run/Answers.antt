@@ -95,20 +95,8 @@ tries-steps-requires g t c κs within =
       ),
     )
 
-pub tries-returns-in-Committed-clause-joined : goal.tries-returns-in-Committed-clause-joined
-tries-returns-in-Committed-clause-joined g t c =
-    let inv = c.loop.invariant in
-    let v = g.T.Tx.view c.args.tx.now in
-    let w = g.T.Tx.view c.loop.tx in
-    let x = g.T.Tx.view c.begin.new.self in
-    let y = g.T.Tx.view c.steps.new.tx in
-    let of = c.args.of.now in
-    let body = c.args.body.now in
-    let by = started_by w.client x.client y.client c.in-Ok.name (numbered body).number _ w.seen x.seen c.begin.ensures.client (sym (number_of body)) c.steps.ensures.joined c.in-Ok.ensures.ok in
-    joined_trans v.client w.client y.client v.seen w.seen inv.joined inv.left.leaves.later by.since
-
-pub tries-returns-in-Committed-clause-ok : goal.tries-returns-in-Committed-clause-ok
-tries-returns-in-Committed-clause-ok g t c =
+pub tries-returns-in-Committed : goal.tries-returns-in-Committed
+tries-returns-in-Committed g t c =
     let inv = c.loop.invariant in
     let v = g.T.Tx.view c.args.tx.now in
     let w = g.T.Tx.view c.loop.tx in
@@ -120,22 +108,16 @@ tries-returns-in-Committed-clause-ok g t c =
     let left = left_by w.client y.client of (numbered body) v.seen w.seen c.loop.last c.loop.counter by.since (subst (λ n. c.loop.counter < n) (sym (tries_of body)) c.loop-test.true) inv.left in
     let ended = subst (λ p. Ended y.client c.in-Ok.name x.seen y.seen p c.in_ok-steps-in-Ok.field-0) (plan_is body c.as_slice.result.now c.as_slice.ensures.value) c.in_ok-steps-in-Ok.ensures.ok in
     let tried = tried_once y.client of c.in-Ok.name (numbered body) w.seen x.seen y.seen left.runs c.in-Ok.ensures.child by.made c.in_ok-steps-in-Ok.field-0 ended in
-    tried_out y.client of (numbered body) v.seen w.seen y.seen c.loop.last _ c.in-Ok.name left (subst (Tried y.client of c.in-Ok.name (numbered body) w.seen y.seen) c.in-Committed.is tried)
+    record {
+      met = c.steps.ensures.met;
+      joined = joined_trans v.client w.client y.client v.seen w.seen inv.joined inv.left.leaves.later by.since;
+      ok = tried_out y.client of (numbered body) v.seen w.seen y.seen c.loop.last _ c.in-Ok.name left (subst (Tried y.client of c.in-Ok.name (numbered body) w.seen y.seen) c.in-Committed.is tried);
+      cut = tt;
+      room = tt;
+    }
 
-pub tries-returns-then-not-again-clause-joined : goal.tries-returns-then-not-again-clause-joined
-tries-returns-then-not-again-clause-joined g t c =
-    let inv = c.loop.invariant in
-    let v = g.T.Tx.view c.args.tx.now in
-    let w = g.T.Tx.view c.loop.tx in
-    let x = g.T.Tx.view c.begin.new.self in
-    let y = g.T.Tx.view c.steps.new.tx in
-    let of = c.args.of.now in
-    let body = c.args.body.now in
-    let by = started_by w.client x.client y.client c.in-Ok.name (numbered body).number _ w.seen x.seen c.begin.ensures.client (sym (number_of body)) c.steps.ensures.joined c.in-Ok.ensures.ok in
-    joined_trans v.client w.client y.client v.seen w.seen inv.joined inv.left.leaves.later by.since
-
-pub tries-returns-then-not-again-clause-ok : goal.tries-returns-then-not-again-clause-ok
-tries-returns-then-not-again-clause-ok g t c =
+pub tries-returns-then-not-again : goal.tries-returns-then-not-again
+tries-returns-then-not-again g t c =
     let inv = c.loop.invariant in
     let v = g.T.Tx.view c.args.tx.now in
     let w = g.T.Tx.view c.loop.tx in
@@ -147,8 +129,14 @@ tries-returns-then-not-again-clause-ok g t c =
     let left = left_by w.client y.client of (numbered body) v.seen w.seen c.loop.last c.loop.counter by.since (subst (λ n. c.loop.counter < n) (sym (tries_of body)) c.loop-test.true) inv.left in
     let ended = subst (λ p. Ended y.client c.in-Ok.name x.seen y.seen p c.in_ok-steps-in-Ok.field-0) (plan_is body c.as_slice.result.now c.as_slice.ensures.value) c.in_ok-steps-in-Ok.ensures.ok in
     let tried = tried_once y.client of c.in-Ok.name (numbered body) w.seen x.seen y.seen left.runs c.in-Ok.ensures.child by.made c.in_ok-steps-in-Ok.field-0 ended in
-    tried_failed y.client of (numbered body) v.seen w.seen y.seen c.loop.last _ c.in-Ok.name left
-    (subst (Tried y.client of c.in-Ok.name (numbered body) w.seen y.seen) (c.in-Stopped.is ∙ ap finish.Stopped c.if-not-again.true) tried)
+    record {
+      met = c.steps.ensures.met;
+      joined = joined_trans v.client w.client y.client v.seen w.seen inv.joined inv.left.leaves.later by.since;
+      ok = tried_failed y.client of (numbered body) v.seen w.seen y.seen c.loop.last _ c.in-Ok.name left
+          (subst (Tried y.client of c.in-Ok.name (numbered body) w.seen y.seen) (c.in-Stopped.is ∙ ap finish.Stopped c.if-not-again.true) tried);
+      cut = tt;
+      room = tt;
+    }
 
 pub tries-stop-requires : goal.tries-stop-requires
 tries-stop-requires g t c =
@@ -223,20 +211,8 @@ tries-returns-in-None-clause-ok g t c =
 
 -- where it was cut off
 
-pub tries-returns-in_err-steps-in-Ok-clause-joined : goal.tries-returns-in_err-steps-in-Ok-clause-joined
-tries-returns-in_err-steps-in-Ok-clause-joined g t c =
-    let inv = c.loop.invariant in
-    let v = g.T.Tx.view c.args.tx.now in
-    let w = g.T.Tx.view c.loop.tx in
-    let x = g.T.Tx.view c.begin.new.self in
-    let y = g.T.Tx.view c.steps.new.tx in
-    let of = c.args.of.now in
-    let body = c.args.body.now in
-    let by = started_by w.client x.client y.client c.in-Ok.name (numbered body).number _ w.seen x.seen c.begin.ensures.client (sym (number_of body)) c.steps.ensures.joined c.in-Ok.ensures.ok in
-    joined_trans v.client w.client y.client v.seen w.seen inv.joined inv.left.leaves.later by.since
-
-pub tries-returns-in_err-steps-in-Ok-clause-cut : goal.tries-returns-in_err-steps-in-Ok-clause-cut
-tries-returns-in_err-steps-in-Ok-clause-cut g t c =
+pub tries-returns-in_err-steps-in-Ok : goal.tries-returns-in_err-steps-in-Ok
+tries-returns-in_err-steps-in-Ok g t c =
     let inv = c.loop.invariant in
     let v = g.T.Tx.view c.args.tx.now in
     let w = g.T.Tx.view c.loop.tx in
@@ -247,44 +223,54 @@ tries-returns-in_err-steps-in-Ok-clause-cut g t c =
     let by = started_by w.client x.client y.client c.in-Ok.name (numbered body).number _ w.seen x.seen c.begin.ensures.client (sym (number_of body)) c.steps.ensures.joined c.in-Ok.ensures.ok in
     let left = left_by w.client y.client of (numbered body) v.seen w.seen c.loop.last c.loop.counter by.since (subst (λ n. c.loop.counter < n) (sym (tries_of body)) c.loop-test.true) inv.left in
     let cut = subst (CutOff y.client c.in-Ok.name x.seen y.seen) (plan_is body c.as_slice.result.now c.as_slice.ensures.value) c.in_err-steps-in-Ok.ensures.cut in
-    any_err _ c.from_residual.result
-    (λ rest. tries_cut y.client of (numbered body) v.seen w.seen y.seen _ _ rest left (cut_once y.client of c.in-Ok.name (numbered body) w.seen x.seen y.seen left.runs c.in-Ok.ensures.child by.made cut))
+    record {
+      met = c.steps.ensures.met;
+      joined = joined_trans v.client w.client y.client v.seen w.seen inv.joined inv.left.leaves.later by.since;
+      ok = search rules;
+      cut = any_err _ c.from_residual.result
+          (λ rest. tries_cut y.client of (numbered body) v.seen w.seen y.seen _ _ rest left (cut_once y.client of c.in-Ok.name (numbered body) w.seen x.seen y.seen left.runs c.in-Ok.ensures.child by.made cut));
+      room = search rules;
+    }
 
-pub tries-returns-in-Memory-clause-joined : goal.tries-returns-in-Memory-clause-joined
-tries-returns-in-Memory-clause-joined g t c =
+pub tries-returns-in-Memory : goal.tries-returns-in-Memory
+tries-returns-in-Memory g t c =
     let v = g.T.Tx.view c.args.tx.now in
-    subst (HasJoined v.client v.seen) (sym c.begin.ensures.client) c.loop.invariant.joined
-
-pub tries-returns-in-Memory-clause-cut : goal.tries-returns-in-Memory-clause-cut
-tries-returns-in-Memory-clause-cut g t c rest =
     let inv = c.loop.invariant in
-    let v = g.T.Tx.view c.args.tx.now in
     let w = g.T.Tx.view c.loop.tx in
     let x = g.T.Tx.view c.begin.new.self in
     let of = c.args.of.now in
     let body = numbered c.args.body.now in
-    subst (λ d. CutOff d of v.seen x.seen (child_step body rest)) (sym c.begin.ensures.client)
-    (begin_cut w.client of body v.seen w.seen x.seen _ _ rest
-    (fewer_left w.client of body v.seen w.seen c.loop.last c.loop.counter (subst (λ n. c.loop.counter < n) (sym (tries_of c.args.body.now)) c.loop-test.true) inv.left)
-    (refused_made w.client of body w.seen x.seen c.in-Err.why c.in-Err.ensures.err))
+    record {
+      met = c.begin.ensures.met;
+      joined = subst (HasJoined v.client v.seen) (sym c.begin.ensures.client) c.loop.invariant.joined;
+      ok = tt;
+      cut = λ rest.
+          subst (λ d. CutOff d of v.seen x.seen (child_step body rest)) (sym c.begin.ensures.client)
+          (begin_cut w.client of body v.seen w.seen x.seen _ _ rest
+          (fewer_left w.client of body v.seen w.seen c.loop.last c.loop.counter (subst (λ n. c.loop.counter < n) (sym (tries_of c.args.body.now)) c.loop-test.true) inv.left)
+          (refused_made w.client of body w.seen x.seen c.in-Err.why c.in-Err.ensures.err));
+      room = λ is. cc;
+    }
 
-pub tries-returns-in-Room-clause-joined : goal.tries-returns-in-Room-clause-joined
-tries-returns-in-Room-clause-joined g t c =
+pub tries-returns-in-Room : goal.tries-returns-in-Room
+tries-returns-in-Room g t c =
     let v = g.T.Tx.view c.args.tx.now in
-    subst (HasJoined v.client v.seen) (sym c.begin.ensures.client) c.loop.invariant.joined
-
-pub tries-returns-in-Room-clause-cut : goal.tries-returns-in-Room-clause-cut
-tries-returns-in-Room-clause-cut g t c rest =
     let inv = c.loop.invariant in
-    let v = g.T.Tx.view c.args.tx.now in
     let w = g.T.Tx.view c.loop.tx in
     let x = g.T.Tx.view c.begin.new.self in
     let of = c.args.of.now in
     let body = numbered c.args.body.now in
-    subst (λ d. CutOff d of v.seen x.seen (child_step body rest)) (sym c.begin.ensures.client)
-    (begin_cut w.client of body v.seen w.seen x.seen _ _ rest
-    (fewer_left w.client of body v.seen w.seen c.loop.last c.loop.counter (subst (λ n. c.loop.counter < n) (sym (tries_of c.args.body.now)) c.loop-test.true) inv.left)
-    (refused_made w.client of body w.seen x.seen c.in-Err.why c.in-Err.ensures.err))
+    record {
+      met = c.begin.ensures.met;
+      joined = subst (HasJoined v.client v.seen) (sym c.begin.ensures.client) c.loop.invariant.joined;
+      ok = tt;
+      cut = λ rest.
+          subst (λ d. CutOff d of v.seen x.seen (child_step body rest)) (sym c.begin.ensures.client)
+          (begin_cut w.client of body v.seen w.seen x.seen _ _ rest
+          (fewer_left w.client of body v.seen w.seen c.loop.last c.loop.counter (subst (λ n. c.loop.counter < n) (sym (tries_of c.args.body.now)) c.loop-test.true) inv.left)
+          (refused_made w.client of body w.seen x.seen c.in-Err.why c.in-Err.ensures.err));
+      room = search rules;
+    }
 
 pub tries-returns-in_err-again-in_default : goal.tries-returns-in_err-again-in_default
 tries-returns-in_err-again-in_default g t c =
@@ -320,38 +306,41 @@ child-returns-then-not-body-clause-ok g t c =
     let failed = subst (TriesCame w.client of v.seen w.seen (numbered body)) c.in-Failed.is c.in_ok-tries.ensures.ok in
     failed_on w.client of (numbered body) v.seen w.seen c.in-Failed.last failed (must_of body ∙ c.if-not-body.true)
 
-pub child-returns-in_ok-again-in-Failed-clause-joined : goal.child-returns-in_ok-again-in-Failed-clause-joined
-child-returns-in_ok-again-in-Failed-clause-joined g t c =
-    let v = g.T.Tx.view c.args.tx.now in
-    subst (HasJoined v.client v.seen) (sym c.quit_for.ensures.client) c.tries.ensures.joined
-
-pub child-returns-in_ok-again-in-Failed-clause-ok : goal.child-returns-in_ok-again-in-Failed-clause-ok
-child-returns-in_ok-again-in-Failed-clause-ok g t c rest =
+pub child-returns-in_ok-again-in-Failed : goal.child-returns-in_ok-again-in-Failed
+child-returns-in_ok-again-in-Failed g t c =
     let v = g.T.Tx.view c.args.tx.now in
     let w = g.T.Tx.view c.tries.new.tx in
     let x = g.T.Tx.view c.quit_for.new.tx in
     let of = c.args.of.now in
     let body = c.args.body.now in
     let failed = subst (TriesCame w.client of v.seen w.seen (numbered body)) c.in-Failed.is c.in_ok-tries.ensures.ok in
-    subst (λ d. Ended d of v.seen x.seen (child_step (numbered body) rest) (finish.Stopped c.in_ok-again-in-Failed.again)) (sym c.quit_for.ensures.client)
-    (failed_quit w.client of (numbered body) v.seen w.seen c.in-Failed.last failed x.seen c.in_ok-again-in-Failed.again rest (must_of body ∙ c.if-not-body.false) c.in_ok-again-in-Failed.ensures.ok)
+    record {
+      met = c.quit_for.ensures.met;
+      joined = subst (HasJoined v.client v.seen) (sym c.quit_for.ensures.client) c.tries.ensures.joined;
+      ok = λ rest.
+          subst (λ d. Ended d of v.seen x.seen (child_step (numbered body) rest) (finish.Stopped c.in_ok-again-in-Failed.again)) (sym c.quit_for.ensures.client)
+          (failed_quit w.client of (numbered body) v.seen w.seen c.in-Failed.last failed x.seen c.in_ok-again-in-Failed.again rest (must_of body ∙ c.if-not-body.false) c.in_ok-again-in-Failed.ensures.ok);
+      cut = tt;
+      room = tt;
+    }
 
-pub child-returns-in_err-again-in-Failed-clause-joined : goal.child-returns-in_err-again-in-Failed-clause-joined
-child-returns-in_err-again-in-Failed-clause-joined g t c =
-    let v = g.T.Tx.view c.args.tx.now in
-    subst (HasJoined v.client v.seen) (sym c.quit_for.ensures.client) c.tries.ensures.joined
-
-pub child-returns-in_err-again-in-Failed-clause-cut : goal.child-returns-in_err-again-in-Failed-clause-cut
-child-returns-in_err-again-in-Failed-clause-cut g t c =
+pub child-returns-in_err-again-in-Failed : goal.child-returns-in_err-again-in-Failed
+child-returns-in_err-again-in-Failed g t c =
     let v = g.T.Tx.view c.args.tx.now in
     let w = g.T.Tx.view c.tries.new.tx in
     let x = g.T.Tx.view c.quit_for.new.tx in
     let of = c.args.of.now in
     let body = c.args.body.now in
     let failed = subst (TriesCame w.client of v.seen w.seen (numbered body)) c.in-Failed.is c.in_ok-tries.ensures.ok in
-    any_err _ c.from_residual-in_err-again-in-Failed.result
-    (λ rest. subst (λ d. CutOff d of v.seen x.seen (child_step (numbered body) rest)) (sym c.quit_for.ensures.client)
-    (failed_cut w.client of (numbered body) v.seen w.seen c.in-Failed.last failed x.seen rest c.in_err-again-in-Failed.ensures.cut))
+    record {
+      met = c.quit_for.ensures.met;
+      joined = subst (HasJoined v.client v.seen) (sym c.quit_for.ensures.client) c.tries.ensures.joined;
+      ok = search rules;
+      cut = any_err _ c.from_residual-in_err-again-in-Failed.result
+          (λ rest. subst (λ d. CutOff d of v.seen x.seen (child_step (numbered body) rest)) (sym c.quit_for.ensures.client)
+          (failed_cut w.client of (numbered body) v.seen w.seen c.in-Failed.last failed x.seen rest c.in_err-again-in-Failed.ensures.cut));
+      room = search rules;
+    }
 
 -- ONE STEP
 
@@ -417,152 +406,159 @@ act-returns-in-Par g t c =
       room = c.par.ensures.room;
     }
 
-pub act-returns-in_ok-again-in-Abort-clause-ok : goal.act-returns-in_ok-again-in-Abort-clause-ok
-act-returns-in_ok-again-in-Abort-clause-ok g t c = λ rest.
+pub act-returns-in_ok-again-in-Abort : goal.act-returns-in_ok-again-in-Abort
+act-returns-in_ok-again-in-Abort g t c =
     let v = g.T.Tx.view c.args.tx.now in
     let w = g.T.Tx.view c.ask.new.tx in
-    subst (λ d. Ended d c.args.of.now v.seen w.seen (put c.args.step.now rest) (finish.Stopped c.in_ok-again-in-Abort.again)) (sym c.ask.ensures.client)
-    (subst (λ f. Ended v.client c.args.of.now v.seen w.seen (f rest) (finish.Stopped c.in_ok-again-in-Abort.again)) (sym (ap put c.in-Abort.is ∙ put_abort c.in-Abort.levels)) (c.in_ok-again-in-Abort.ensures.ok rest))
+    record {
+      met = c.ask.ensures.met;
+      joined = joined_same _ _ _ c.ask.ensures.client;
+      ok = λ rest.
+          subst (λ d. Ended d c.args.of.now v.seen w.seen (put c.args.step.now rest) (finish.Stopped c.in_ok-again-in-Abort.again)) (sym c.ask.ensures.client)
+          (subst (λ f. Ended v.client c.args.of.now v.seen w.seen (f rest) (finish.Stopped c.in_ok-again-in-Abort.again)) (sym (ap put c.in-Abort.is ∙ put_abort c.in-Abort.levels)) (c.in_ok-again-in-Abort.ensures.ok rest));
+      cut = tt;
+      room = tt;
+    }
 
-pub act-returns-in_ok-again-in-Abort-clause-joined : goal.act-returns-in_ok-again-in-Abort-clause-joined
-act-returns-in_ok-again-in-Abort-clause-joined g t c =
-    joined_same _ _ _ c.ask.ensures.client
-
-pub act-returns-in-Crash-clause-ok : goal.act-returns-in-Crash-clause-ok
-act-returns-in-Crash-clause-ok g t c =
+pub act-returns-in-Crash : goal.act-returns-in-Crash
+act-returns-in-Crash g t c =
     let v = g.T.Tx.view c.args.tx.now in
-    subst (λ x. Acted x.client c.args.of.now v.seen x.seen (put c.args.step.now)) (sym c.crash.ensures.same)
-    (acted_on v.client c.args.of.now v.seen v.seen (put c.args.step.now)
-    (subst (WentOn v.client c.args.of.now v.seen v.seen) (sym (ap put c.in-Crash.is ∙ put_crash c.in-Crash.copy)) (crash_on v.client c.args.of.now c.in-Crash.copy v.seen c.requires.runs)))
+    record {
+      met = search rules;
+      joined = subst (λ x. HasJoined v.client v.seen x.client) (sym c.crash.ensures.same) (joined_itself v.client v.seen);
+      ok = subst (λ x. Acted x.client c.args.of.now v.seen x.seen (put c.args.step.now)) (sym c.crash.ensures.same)
+          (acted_on v.client c.args.of.now v.seen v.seen (put c.args.step.now)
+          (subst (WentOn v.client c.args.of.now v.seen v.seen) (sym (ap put c.in-Crash.is ∙ put_crash c.in-Crash.copy)) (crash_on v.client c.args.of.now c.in-Crash.copy v.seen c.requires.runs)));
+      cut = tt;
+      room = tt;
+    }
 
-pub act-returns-in-Crash-clause-joined : goal.act-returns-in-Crash-clause-joined
-act-returns-in-Crash-clause-joined g t c =
-    let v = g.T.Tx.view c.args.tx.now in
-    subst (λ x. HasJoined v.client v.seen x.client) (sym c.crash.ensures.same) (joined_itself v.client v.seen)
-
-pub act-returns-in_ok-mark-in-Kill-clause-ok : goal.act-returns-in_ok-mark-in-Kill-clause-ok
-act-returns-in_ok-mark-in-Kill-clause-ok g t c =
+pub act-returns-in_ok-mark-in-Kill : goal.act-returns-in_ok-mark-in-Kill
+act-returns-in_ok-mark-in-Kill g t c =
     let v = g.T.Tx.view c.args.tx.now in
     let w = g.T.Tx.view c.mark.new.tx in
-    subst (λ d. Acted d c.args.of.now v.seen w.seen (put c.args.step.now)) (sym c.mark.ensures.client)
-    (subst (Acted v.client c.args.of.now v.seen w.seen) (sym (ap put c.in-Kill.is ∙ put_kill c.in-Kill.session)) c.in_ok-mark-in-Kill.ensures.ok)
+    record {
+      met = c.mark.ensures.met;
+      joined = joined_same _ _ _ c.mark.ensures.client;
+      ok = subst (λ d. Acted d c.args.of.now v.seen w.seen (put c.args.step.now)) (sym c.mark.ensures.client)
+          (subst (Acted v.client c.args.of.now v.seen w.seen) (sym (ap put c.in-Kill.is ∙ put_kill c.in-Kill.session)) c.in_ok-mark-in-Kill.ensures.ok);
+      cut = tt;
+      room = tt;
+    }
 
 -- where it was cut off
 
-pub act-returns-in_ok-mark-in-Kill-clause-joined : goal.act-returns-in_ok-mark-in-Kill-clause-joined
-act-returns-in_ok-mark-in-Kill-clause-joined g t c =
-    joined_same _ _ _ c.mark.ensures.client
-
-pub act-returns-in_err-again-in-Abort-clause-cut : goal.act-returns-in_err-again-in-Abort-clause-cut
-act-returns-in_err-again-in-Abort-clause-cut g t c =
+pub act-returns-in_err-again-in-Abort : goal.act-returns-in_err-again-in-Abort
+act-returns-in_err-again-in-Abort g t c =
     let v = g.T.Tx.view c.args.tx.now in
     let w = g.T.Tx.view c.ask.new.tx in
-    subst (λ d. IfErr c.from_residual.result (λ _. (rest : Plan) → CutOff d c.args.of.now v.seen w.seen (put c.args.step.now rest))) (sym c.ask.ensures.client)
-    (any_err ((rest : Plan) → CutOff v.client c.args.of.now v.seen w.seen (put c.args.step.now rest)) c.from_residual.result
-    (λ rest. subst (λ f. CutOff v.client c.args.of.now v.seen w.seen (f rest)) (sym (ap put c.in-Abort.is ∙ put_abort c.in-Abort.levels)) (c.in_err-again-in-Abort.ensures.cut rest)))
+    record {
+      met = c.ask.ensures.met;
+      joined = joined_same _ _ _ c.ask.ensures.client;
+      ok = search rules;
+      cut = subst (λ d. IfErr c.from_residual.result (λ _. (rest : Plan) → CutOff d c.args.of.now v.seen w.seen (put c.args.step.now rest))) (sym c.ask.ensures.client)
+          (any_err ((rest : Plan) → CutOff v.client c.args.of.now v.seen w.seen (put c.args.step.now rest)) c.from_residual.result
+          (λ rest. subst (λ f. CutOff v.client c.args.of.now v.seen w.seen (f rest)) (sym (ap put c.in-Abort.is ∙ put_abort c.in-Abort.levels)) (c.in_err-again-in-Abort.ensures.cut rest)));
+      room = search rules;
+    }
 
-pub act-returns-in_err-again-in-Abort-clause-joined : goal.act-returns-in_err-again-in-Abort-clause-joined
-act-returns-in_err-again-in-Abort-clause-joined g t c =
-    joined_same _ _ _ c.ask.ensures.client
-
-pub act-returns-in_err-mark-in-Kill-clause-cut : goal.act-returns-in_err-mark-in-Kill-clause-cut
-act-returns-in_err-mark-in-Kill-clause-cut g t c =
+pub act-returns-in_err-mark-in-Kill : goal.act-returns-in_err-mark-in-Kill
+act-returns-in_err-mark-in-Kill g t c =
     let v = g.T.Tx.view c.args.tx.now in
     let w = g.T.Tx.view c.mark.new.tx in
-    subst (λ d. IfErr c.from_residual-in_err-mark-in-Kill.result (λ _. (rest : Plan) → CutOff d c.args.of.now v.seen w.seen (put c.args.step.now rest))) (sym c.mark.ensures.client)
-    (any_err ((rest : Plan) → CutOff v.client c.args.of.now v.seen w.seen (put c.args.step.now rest)) c.from_residual-in_err-mark-in-Kill.result
-    (λ rest. subst (λ f. CutOff v.client c.args.of.now v.seen w.seen (f rest)) (sym (ap put c.in-Kill.is ∙ put_kill c.in-Kill.session))
-    (cut_still v.client c.args.of.now v.seen w.seen c.requires.runs c.in_err-mark-in-Kill.ensures.cut (Plan.kill_then c.in-Kill.session rest))))
-
-pub act-returns-in_err-mark-in-Kill-clause-joined : goal.act-returns-in_err-mark-in-Kill-clause-joined
-act-returns-in_err-mark-in-Kill-clause-joined g t c =
-    joined_same _ _ _ c.mark.ensures.client
+    record {
+      met = c.mark.ensures.met;
+      joined = joined_same _ _ _ c.mark.ensures.client;
+      ok = search rules;
+      cut = subst (λ d. IfErr c.from_residual-in_err-mark-in-Kill.result (λ _. (rest : Plan) → CutOff d c.args.of.now v.seen w.seen (put c.args.step.now rest))) (sym c.mark.ensures.client)
+          (any_err ((rest : Plan) → CutOff v.client c.args.of.now v.seen w.seen (put c.args.step.now rest)) c.from_residual-in_err-mark-in-Kill.result
+          (λ rest. subst (λ f. CutOff v.client c.args.of.now v.seen w.seen (f rest)) (sym (ap put c.in-Kill.is ∙ put_kill c.in-Kill.session))
+          (cut_still v.client c.args.of.now v.seen w.seen c.requires.runs c.in_err-mark-in-Kill.ensures.cut (Plan.kill_then c.in-Kill.session rest))));
+      room = search rules;
+    }
 
 -- BEHIND A STEP
 
-pub step-returns-in-None-clause-joined : goal.step-returns-in-None-clause-joined
-step-returns-in-None-clause-joined g t c =
-    let v = g.T.Tx.view c.args.tx.now in
-    subst (HasJoined v.client v.seen) (sym c.look.ensures.client) c.act.ensures.joined
-
-pub step-returns-in-None-clause-ok : goal.step-returns-in-None-clause-ok
-step-returns-in-None-clause-ok g t c =
+pub step-returns-in-None : goal.step-returns-in-None
+step-returns-in-None g t c =
     let v = g.T.Tx.view c.args.tx.now in
     let w = g.T.Tx.view c.act.new.tx in
     let x = g.T.Tx.view c.look.new.tx in
     let of = c.args.of.now in
     let acted = subst (HasActed w.client of v.seen w.seen (put c.args.step.now)) c.in-None.is c.in_ok-again.ensures.ok in
-    subst (λ d. IfOk c.look.result (Stepped d of v.seen x.seen (put c.args.step.now))) (sym c.look.ensures.client)
-    (if_ok (HasLooked w.client of w.seen x.seen) (Stepped w.client of v.seen x.seen (put c.args.step.now)) c.look.result (looked_behind w.client of v.seen w.seen (put c.args.step.now) acted x.seen) c.look.ensures.ok)
-
-pub step-returns-in-None-clause-cut : goal.step-returns-in-None-clause-cut
-step-returns-in-None-clause-cut g t c =
-    let v = g.T.Tx.view c.args.tx.now in
-    let w = g.T.Tx.view c.act.new.tx in
-    let x = g.T.Tx.view c.look.new.tx in
-    let of = c.args.of.now in
-    let acted = subst (HasActed w.client of v.seen w.seen (put c.args.step.now)) c.in-None.is c.in_ok-again.ensures.ok in
-    subst (λ d. IfErr c.look.result (λ _. (rest : Plan) → CutOff d of v.seen x.seen (put c.args.step.now rest))) (sym c.look.ensures.client)
-    (if_err (Made w.client [] w.seen x.seen) ((rest : Plan) → CutOff w.client of v.seen x.seen (put c.args.step.now rest)) c.look.result (acted_cut w.client of v.seen w.seen (put c.args.step.now) acted x.seen) c.look.ensures.cut)
+    record {
+      met = c.look.ensures.met;
+      joined = subst (HasJoined v.client v.seen) (sym c.look.ensures.client) c.act.ensures.joined;
+      ok = subst (λ d. IfOk c.look.result (Stepped d of v.seen x.seen (put c.args.step.now))) (sym c.look.ensures.client)
+          (if_ok (HasLooked w.client of w.seen x.seen) (Stepped w.client of v.seen x.seen (put c.args.step.now)) c.look.result (looked_behind w.client of v.seen w.seen (put c.args.step.now) acted x.seen) c.look.ensures.ok);
+      cut = subst (λ d. IfErr c.look.result (λ _. (rest : Plan) → CutOff d of v.seen x.seen (put c.args.step.now rest))) (sym c.look.ensures.client)
+          (if_err (Made w.client [] w.seen x.seen) ((rest : Plan) → CutOff w.client of v.seen x.seen (put c.args.step.now rest)) c.look.result (acted_cut w.client of v.seen w.seen (put c.args.step.now) acted x.seen) c.look.ensures.cut);
+      room = c.look.ensures.room;
+    }
 
 -- STEPS
 
-pub steps-returns-in_err-again-clause-joined : goal.steps-returns-in_err-again-clause-joined
-steps-returns-in_err-again-clause-joined g t c =
-    joined_same _ _ _ c.look.ensures.client
-
-pub steps-returns-in_err-again-clause-cut : goal.steps-returns-in_err-again-clause-cut
-steps-returns-in_err-again-clause-cut g t c =
+pub steps-returns-in_err-again : goal.steps-returns-in_err-again
+steps-returns-in_err-again g t c =
     let v = g.T.Tx.view c.args.tx.now in
     let w = g.T.Tx.view c.look.new.tx in
-    any_err _ c.from_residual.result
-    (subst (λ d. CutOff d c.args.of.now v.seen w.seen (plan_of c.args.steps.now)) (sym c.look.ensures.client) (cut_still v.client c.args.of.now v.seen w.seen c.requires.runs c.in_err-again.ensures.cut (plan_of c.args.steps.now)))
+    record {
+      met = c.look.ensures.met;
+      joined = joined_same _ _ _ c.look.ensures.client;
+      ok = search rules;
+      cut = any_err _ c.from_residual.result
+          (subst (λ d. CutOff d c.args.of.now v.seen w.seen (plan_of c.args.steps.now)) (sym c.look.ensures.client) (cut_still v.client c.args.of.now v.seen w.seen c.requires.runs c.in_err-again.ensures.cut (plan_of c.args.steps.now)));
+      room = search rules;
+    }
 
-pub steps-returns-in-Some-clause-joined : goal.steps-returns-in-Some-clause-joined
-steps-returns-in-Some-clause-joined g t c =
-    joined_same _ _ _ c.look.ensures.client
-
-pub steps-returns-in-Some-clause-ok : goal.steps-returns-in-Some-clause-ok
-steps-returns-in-Some-clause-ok g t c =
+pub steps-returns-in-Some : goal.steps-returns-in-Some
+steps-returns-in-Some g t c =
     let v = g.T.Tx.view c.args.tx.now in
     let w = g.T.Tx.view c.look.new.tx in
-    subst (λ d. Ended d c.args.of.now v.seen w.seen (plan_of c.args.steps.now) (finish.Stopped c.in-Some.again)) (sym c.look.ensures.client)
-    (killed_first v.client c.args.of.now v.seen w.seen c.in-Some.again (plan_of c.args.steps.now) (subst (HasLooked v.client c.args.of.now v.seen w.seen) c.in-Some.is c.in_ok-again.ensures.ok))
+    record {
+      met = c.look.ensures.met;
+      joined = joined_same _ _ _ c.look.ensures.client;
+      ok = subst (λ d. Ended d c.args.of.now v.seen w.seen (plan_of c.args.steps.now) (finish.Stopped c.in-Some.again)) (sym c.look.ensures.client)
+          (killed_first v.client c.args.of.now v.seen w.seen c.in-Some.again (plan_of c.args.steps.now) (subst (HasLooked v.client c.args.of.now v.seen w.seen) c.in-Some.is c.in_ok-again.ensures.ok));
+      cut = tt;
+      room = tt;
+    }
 
-pub steps-returns-in_err-again-2-clause-joined : goal.steps-returns-in_err-again-2-clause-joined
-steps-returns-in_err-again-2-clause-joined g t c =
-    let inv = c.loop-s.invariant in
-    let v = g.T.Tx.view c.args.tx.now in
-    let w = g.T.Tx.view c.loop-s.tx in
-    let x = g.T.Tx.view c.step.new.tx in
-    joined_trans v.client w.client x.client v.seen w.seen inv.joined inv.left.leaves.later c.step.ensures.joined
-
-pub steps-returns-in_err-again-2-clause-cut : goal.steps-returns-in_err-again-2-clause-cut
-steps-returns-in_err-again-2-clause-cut g t c =
+pub steps-returns-in_err-again-2 : goal.steps-returns-in_err-again-2
+steps-returns-in_err-again-2 g t c =
     let inv = c.loop-s.invariant in
     let v = g.T.Tx.view c.args.tx.now in
     let w = g.T.Tx.view c.loop-s.tx in
     let x = g.T.Tx.view c.step.new.tx in
     let of = c.args.of.now in
     let left = steps_joined w.client x.client of c.args.steps.now v.seen w.seen c.loop-s.s-index c.step.ensures.joined inv.left in
-    any_err _ c.from_residual-in_err-again-2.result
-    (cut_there x.client of c.args.steps.now v.seen w.seen x.seen c.loop-s.s-index c.s-item.result left c.loop-s-test.true c.s-item.is c.in_err-again-2.ensures.cut)
+    record {
+      met = c.step.ensures.met;
+      joined = joined_trans v.client w.client x.client v.seen w.seen inv.joined inv.left.leaves.later c.step.ensures.joined;
+      ok = search rules;
+      cut = any_err _ c.from_residual-in_err-again-2.result
+          (cut_there x.client of c.args.steps.now v.seen w.seen x.seen c.loop-s.s-index c.s-item.result left c.loop-s-test.true c.s-item.is c.in_err-again-2.ensures.cut);
+      room = search rules;
+    }
 
-pub steps-returns-clause-joined : goal.steps-returns-clause-joined
-steps-returns-clause-joined g t c =
+pub steps-returns : goal.steps-returns
+steps-returns g t c =
     let v = g.T.Tx.view c.args.tx.now in
-    subst (HasJoined v.client v.seen) (sym c.commit.ensures.client) c.loop-s.invariant.joined
-
-pub steps-returns-clause-cut : goal.steps-returns-clause-cut
-steps-returns-clause-cut g t c =
     let inv = c.loop-s.invariant in
-    let v = g.T.Tx.view c.args.tx.now in
     let w = g.T.Tx.view c.loop-s.tx in
     let x = g.T.Tx.view c.commit.new.tx in
     let of = c.args.of.now in
-    subst (λ d. IfErr c.commit.result (λ _. CutOff d of v.seen x.seen (plan_of c.args.steps.now))) (sym c.commit.ensures.client)
-    (if_err (CutOff w.client of w.seen x.seen Plan.done) (CutOff w.client of v.seen x.seen (plan_of c.args.steps.now)) c.commit.result
-    (cut_at_last w.client of c.args.steps.now v.seen w.seen x.seen c.loop-s.s-index inv.left c.loop-s-test.false) c.commit.ensures.cut)
+    record {
+      met = c.commit.ensures.met;
+      joined = subst (HasJoined v.client v.seen) (sym c.commit.ensures.client) c.loop-s.invariant.joined;
+      ok = subst (λ d. IfOk c.commit.result (Ended d of v.seen x.seen (plan_of c.args.steps.now))) (sym c.commit.ensures.client)
+          (if_ok (Ended w.client of w.seen x.seen Plan.done) (Ended w.client of v.seen x.seen (plan_of c.args.steps.now)) c.commit.result
+          (λ again. all_done w.client of c.args.steps.now v.seen w.seen x.seen c.loop-s.s-index again inv.left c.loop-s-test.false) c.commit.ensures.ok);
+      cut = subst (λ d. IfErr c.commit.result (λ _. CutOff d of v.seen x.seen (plan_of c.args.steps.now))) (sym c.commit.ensures.client)
+          (if_err (CutOff w.client of w.seen x.seen Plan.done) (CutOff w.client of v.seen x.seen (plan_of c.args.steps.now)) c.commit.result
+          (cut_at_last w.client of c.args.steps.now v.seen w.seen x.seen c.loop-s.s-index inv.left c.loop-s-test.false) c.commit.ensures.cut);
+      room = c.commit.ensures.room;
+    }
 
 pub steps-step-requires : goal.steps-step-requires
 steps-step-requires g t c κs within =
@@ -574,24 +570,22 @@ steps-step-requires g t c κs within =
       (within.0, (within.1, (search rules, (search rules, (inv.left.runs, (fits_step w.client of c.args.steps.now v.seen w.seen w.seen c.loop-s.s-index c.s-item.result inv.left c.loop-s-test.true c.s-item.is, inv.met)))))),
     )
 
-pub steps-returns-in-Some-2-clause-joined : goal.steps-returns-in-Some-2-clause-joined
-steps-returns-in-Some-2-clause-joined g t c =
-    let inv = c.loop-s.invariant in
-    let v = g.T.Tx.view c.args.tx.now in
-    let w = g.T.Tx.view c.loop-s.tx in
-    let x = g.T.Tx.view c.step.new.tx in
-    joined_trans v.client w.client x.client v.seen w.seen inv.joined inv.left.leaves.later c.step.ensures.joined
-
-pub steps-returns-in-Some-2-clause-ok : goal.steps-returns-in-Some-2-clause-ok
-steps-returns-in-Some-2-clause-ok g t c =
+pub steps-returns-in-Some-2 : goal.steps-returns-in-Some-2
+steps-returns-in-Some-2 g t c =
     let inv = c.loop-s.invariant in
     let v = g.T.Tx.view c.args.tx.now in
     let w = g.T.Tx.view c.loop-s.tx in
     let x = g.T.Tx.view c.step.new.tx in
     let of = c.args.of.now in
     let left = steps_joined w.client x.client of c.args.steps.now v.seen w.seen c.loop-s.s-index c.step.ensures.joined inv.left in
-    stopped_there x.client of c.args.steps.now v.seen w.seen x.seen c.loop-s.s-index c.s-item.result left c.loop-s-test.true c.s-item.is (finish.Stopped c.in-Some-2.again)
-    (subst (Stepped x.client of w.seen x.seen (put c.s-item.result)) c.in-Some-2.is c.in_ok-again-2.ensures.ok)
+    record {
+      met = c.step.ensures.met;
+      joined = joined_trans v.client w.client x.client v.seen w.seen inv.joined inv.left.leaves.later c.step.ensures.joined;
+      ok = stopped_there x.client of c.args.steps.now v.seen w.seen x.seen c.loop-s.s-index c.s-item.result left c.loop-s-test.true c.s-item.is (finish.Stopped c.in-Some-2.again)
+          (subst (Stepped x.client of w.seen x.seen (put c.s-item.result)) c.in-Some-2.is c.in_ok-again-2.ensures.ok);
+      cut = tt;
+      room = tt;
+    }
 
 pub steps-loop-s-preserved : goal.steps-loop-s-preserved
 steps-loop-s-preserved g t c =
@@ -606,17 +600,6 @@ steps-loop-s-preserved g t c =
       joined = joined_trans v.client w.client x.client v.seen w.seen inv.joined inv.left.leaves.later c.step.ensures.joined;
       left = one_done x.client of c.args.steps.now v.seen w.seen x.seen c.loop-s.s-index c.s-item.result left c.loop-s-test.true c.s-item.is (subst (Stepped x.client of w.seen x.seen (put c.s-item.result)) c.in_default-2.is c.in_ok-again-2.ensures.ok);
     }
-
-pub steps-returns-clause-ok : goal.steps-returns-clause-ok
-steps-returns-clause-ok g t c =
-    let inv = c.loop-s.invariant in
-    let v = g.T.Tx.view c.args.tx.now in
-    let w = g.T.Tx.view c.loop-s.tx in
-    let x = g.T.Tx.view c.commit.new.tx in
-    let of = c.args.of.now in
-    subst (λ d. IfOk c.commit.result (Ended d of v.seen x.seen (plan_of c.args.steps.now))) (sym c.commit.ensures.client)
-    (if_ok (Ended w.client of w.seen x.seen Plan.done) (Ended w.client of v.seen x.seen (plan_of c.args.steps.now)) c.commit.result
-    (λ again. all_done w.client of c.args.steps.now v.seen w.seen x.seen c.loop-s.s-index again inv.left c.loop-s-test.false) c.commit.ensures.ok)
 
 pub tries-loop-init : goal.tries-loop-init
 tries-loop-init g t c =
@@ -688,30 +671,8 @@ branch::branch_tries-steps-requires-2 g t c κs within =
       (within.0, (within.1, (search rules, (search rules, (runs, (fits_try v.client w.client v.seen c.args.of.now c.loop.name body.plan (plan_of c.as_slice-2.result.now) inv.goes.joined inv.goes.root inv.runs.1.child same c.requires.may.fits, inv.met)))))),
     )
 
-pub branch::branch_tries-returns-in_err-finish-clause-joined : goal.branch::branch_tries-returns-in_err-finish-clause-joined
-branch::branch_tries-returns-in_err-finish-clause-joined g t c =
-    let inv = c.loop.invariant in
-    let v = g.T.Tx.view c.args.tx.now in
-    let w = g.T.Tx.view c.loop.tx in
-    let y = g.T.Tx.view c.steps.new.tx in
-    let body = numbered c.args.body.now in
-    let left = body.tries - c.loop.counter in
-    let cut = subst (CutOff y.client c.loop.name w.seen y.seen) (plan_is c.args.body.now c.as_slice.result.now c.as_slice.ensures.value) c.in_err-finish.ensures.cut in
-    (goes_on v.client v.seen c.args.of.now w.client y.client w.seen y.seen inv.goes c.steps.ensures.joined cut.leaves.later).joined
-
-pub branch::branch_tries-returns-in_err-finish-clause-later : goal.branch::branch_tries-returns-in_err-finish-clause-later
-branch::branch_tries-returns-in_err-finish-clause-later g t c =
-    let inv = c.loop.invariant in
-    let v = g.T.Tx.view c.args.tx.now in
-    let w = g.T.Tx.view c.loop.tx in
-    let y = g.T.Tx.view c.steps.new.tx in
-    let body = numbered c.args.body.now in
-    let left = body.tries - c.loop.counter in
-    let cut = subst (CutOff y.client c.loop.name w.seen y.seen) (plan_is c.args.body.now c.as_slice.result.now c.as_slice.ensures.value) c.in_err-finish.ensures.cut in
-    (goes_on v.client v.seen c.args.of.now w.client y.client w.seen y.seen inv.goes c.steps.ensures.joined cut.leaves.later).later
-
-pub branch::branch_tries-returns-in_err-finish-clause-cut : goal.branch::branch_tries-returns-in_err-finish-clause-cut
-branch::branch_tries-returns-in_err-finish-clause-cut g t c =
+pub branch::branch_tries-returns-in_err-finish : goal.branch::branch_tries-returns-in_err-finish
+branch::branch_tries-returns-in_err-finish g t c =
     let inv = c.loop.invariant in
     let v = g.T.Tx.view c.args.tx.now in
     let w = g.T.Tx.view c.loop.tx in
@@ -720,32 +681,17 @@ branch::branch_tries-returns-in_err-finish-clause-cut g t c =
     let left = body.tries - c.loop.counter in
     let cut = subst (CutOff y.client c.loop.name w.seen y.seen) (plan_is c.args.body.now c.as_slice.result.now c.as_slice.ensures.value) c.in_err-finish.ensures.cut in
     let u = runs_joined w.client y.client body inv.runs.0 c.loop.name w.seen left c.steps.ensures.joined inv.runs.1 in
-    any_err _ c.from_residual.result (tries_cut_off y.client body inv.runs.0 c.loop.name w.seen y.seen left u (try_cut_off y.client body inv.runs.0 c.loop.name w.seen left u y.seen cut))
+    record {
+      met = c.steps.ensures.met;
+      joined = (goes_on v.client v.seen c.args.of.now w.client y.client w.seen y.seen inv.goes c.steps.ensures.joined cut.leaves.later).joined;
+      later = (goes_on v.client v.seen c.args.of.now w.client y.client w.seen y.seen inv.goes c.steps.ensures.joined cut.leaves.later).later;
+      ok = search rules;
+      cut = any_err _ c.from_residual.result (tries_cut_off y.client body inv.runs.0 c.loop.name w.seen y.seen left u (try_cut_off y.client body inv.runs.0 c.loop.name w.seen left u y.seen cut));
+      room = search rules;
+    }
 
-pub branch::branch_tries-returns-in_err-finish-2-clause-joined : goal.branch::branch_tries-returns-in_err-finish-2-clause-joined
-branch::branch_tries-returns-in_err-finish-2-clause-joined g t c =
-    let inv = c.loop.invariant in
-    let v = g.T.Tx.view c.args.tx.now in
-    let w = g.T.Tx.view c.loop.tx in
-    let y = g.T.Tx.view c.steps-2.new.tx in
-    let body = numbered c.args.body.now in
-    let left = body.tries - c.loop.counter in
-    let cut = subst (CutOff y.client c.loop.name w.seen y.seen) (plan_is c.args.body.now c.as_slice-2.result.now c.as_slice-2.ensures.value) c.in_err-finish-2.ensures.cut in
-    (goes_on v.client v.seen c.args.of.now w.client y.client w.seen y.seen inv.goes c.steps-2.ensures.joined cut.leaves.later).joined
-
-pub branch::branch_tries-returns-in_err-finish-2-clause-later : goal.branch::branch_tries-returns-in_err-finish-2-clause-later
-branch::branch_tries-returns-in_err-finish-2-clause-later g t c =
-    let inv = c.loop.invariant in
-    let v = g.T.Tx.view c.args.tx.now in
-    let w = g.T.Tx.view c.loop.tx in
-    let y = g.T.Tx.view c.steps-2.new.tx in
-    let body = numbered c.args.body.now in
-    let left = body.tries - c.loop.counter in
-    let cut = subst (CutOff y.client c.loop.name w.seen y.seen) (plan_is c.args.body.now c.as_slice-2.result.now c.as_slice-2.ensures.value) c.in_err-finish-2.ensures.cut in
-    (goes_on v.client v.seen c.args.of.now w.client y.client w.seen y.seen inv.goes c.steps-2.ensures.joined cut.leaves.later).later
-
-pub branch::branch_tries-returns-in_err-finish-2-clause-cut : goal.branch::branch_tries-returns-in_err-finish-2-clause-cut
-branch::branch_tries-returns-in_err-finish-2-clause-cut g t c =
+pub branch::branch_tries-returns-in_err-finish-2 : goal.branch::branch_tries-returns-in_err-finish-2
+branch::branch_tries-returns-in_err-finish-2 g t c =
     let inv = c.loop.invariant in
     let v = g.T.Tx.view c.args.tx.now in
     let w = g.T.Tx.view c.loop.tx in
@@ -754,10 +700,17 @@ branch::branch_tries-returns-in_err-finish-2-clause-cut g t c =
     let left = body.tries - c.loop.counter in
     let cut = subst (CutOff y.client c.loop.name w.seen y.seen) (plan_is c.args.body.now c.as_slice-2.result.now c.as_slice-2.ensures.value) c.in_err-finish-2.ensures.cut in
     let u = runs_joined w.client y.client body inv.runs.0 c.loop.name w.seen left c.steps-2.ensures.joined inv.runs.1 in
-    any_err _ c.from_residual-in_err-finish-2.result (tries_cut_off y.client body inv.runs.0 c.loop.name w.seen y.seen left u (try_cut_off y.client body inv.runs.0 c.loop.name w.seen left u y.seen cut))
+    record {
+      met = c.steps-2.ensures.met;
+      joined = (goes_on v.client v.seen c.args.of.now w.client y.client w.seen y.seen inv.goes c.steps-2.ensures.joined cut.leaves.later).joined;
+      later = (goes_on v.client v.seen c.args.of.now w.client y.client w.seen y.seen inv.goes c.steps-2.ensures.joined cut.leaves.later).later;
+      ok = search rules;
+      cut = any_err _ c.from_residual-in_err-finish-2.result (tries_cut_off y.client body inv.runs.0 c.loop.name w.seen y.seen left u (try_cut_off y.client body inv.runs.0 c.loop.name w.seen left u y.seen cut));
+      room = search rules;
+    }
 
-pub branch::branch_tries-returns-then-not-is_again-clause-joined : goal.branch::branch_tries-returns-then-not-is_again-clause-joined
-branch::branch_tries-returns-then-not-is_again-clause-joined g t c =
+pub branch::branch_tries-returns-then-not-is_again : goal.branch::branch_tries-returns-then-not-is_again
+branch::branch_tries-returns-then-not-is_again g t c =
     let inv = c.loop.invariant in
     let v = g.T.Tx.view c.args.tx.now in
     let w = g.T.Tx.view c.loop.tx in
@@ -766,31 +719,14 @@ branch::branch_tries-returns-then-not-is_again-clause-joined g t c =
     let left = body.tries - c.loop.counter in
     let ended = subst (λ p. Ended y.client c.loop.name w.seen y.seen p c.in_ok-finish.finish) (plan_is c.args.body.now c.as_slice.result.now c.as_slice.ensures.value) c.in_ok-finish.ensures.ok in
     let one = ran_one w.client y.client body inv.runs.0 c.loop.name w.seen y.seen left c.in_ok-finish.finish c.steps.ensures.joined inv.runs.1 ended in
-    (goes_on v.client v.seen c.args.of.now w.client y.client w.seen y.seen inv.goes c.steps.ensures.joined ended.leaves.later).joined
-
-pub branch::branch_tries-returns-then-not-is_again-clause-later : goal.branch::branch_tries-returns-then-not-is_again-clause-later
-branch::branch_tries-returns-then-not-is_again-clause-later g t c =
-    let inv = c.loop.invariant in
-    let v = g.T.Tx.view c.args.tx.now in
-    let w = g.T.Tx.view c.loop.tx in
-    let y = g.T.Tx.view c.steps.new.tx in
-    let body = numbered c.args.body.now in
-    let left = body.tries - c.loop.counter in
-    let ended = subst (λ p. Ended y.client c.loop.name w.seen y.seen p c.in_ok-finish.finish) (plan_is c.args.body.now c.as_slice.result.now c.as_slice.ensures.value) c.in_ok-finish.ensures.ok in
-    let one = ran_one w.client y.client body inv.runs.0 c.loop.name w.seen y.seen left c.in_ok-finish.finish c.steps.ensures.joined inv.runs.1 ended in
-    (goes_on v.client v.seen c.args.of.now w.client y.client w.seen y.seen inv.goes c.steps.ensures.joined ended.leaves.later).later
-
-pub branch::branch_tries-returns-then-not-is_again-clause-ok : goal.branch::branch_tries-returns-then-not-is_again-clause-ok
-branch::branch_tries-returns-then-not-is_again-clause-ok g t c =
-    let inv = c.loop.invariant in
-    let v = g.T.Tx.view c.args.tx.now in
-    let w = g.T.Tx.view c.loop.tx in
-    let y = g.T.Tx.view c.steps.new.tx in
-    let body = numbered c.args.body.now in
-    let left = body.tries - c.loop.counter in
-    let ended = subst (λ p. Ended y.client c.loop.name w.seen y.seen p c.in_ok-finish.finish) (plan_is c.args.body.now c.as_slice.result.now c.as_slice.ensures.value) c.in_ok-finish.ensures.ok in
-    let one = ran_one w.client y.client body inv.runs.0 c.loop.name w.seen y.seen left c.in_ok-finish.finish c.steps.ensures.joined inv.runs.1 ended in
-    subst (TriesEnd y.client body y.seen) (sym c.last_came.ensures) (tries_end y.client body inv.runs.0 c.loop.name w.seen y.seen left one.0 c.in_ok-finish.finish ended.leaves.later one.1 (λ again. absurd (true≢false (sym again ∙ (sym c.is_again.ensures ∙ c.if-not-is_again.true)))))
+    record {
+      met = c.steps.ensures.met;
+      joined = (goes_on v.client v.seen c.args.of.now w.client y.client w.seen y.seen inv.goes c.steps.ensures.joined ended.leaves.later).joined;
+      later = (goes_on v.client v.seen c.args.of.now w.client y.client w.seen y.seen inv.goes c.steps.ensures.joined ended.leaves.later).later;
+      ok = subst (TriesEnd y.client body y.seen) (sym c.last_came.ensures) (tries_end y.client body inv.runs.0 c.loop.name w.seen y.seen left one.0 c.in_ok-finish.finish ended.leaves.later one.1 (λ again. absurd (true≢false (sym again ∙ (sym c.is_again.ensures ∙ c.if-not-is_again.true)))));
+      cut = tt;
+      room = tt;
+    }
 
 pub branch::branch_tries-begin-requires-clause-parent : goal.branch::branch_tries-begin-requires-clause-parent
 branch::branch_tries-begin-requires-clause-parent g t c =
@@ -804,8 +740,8 @@ branch::branch_tries-begin-requires-clause-parent g t c =
     let one = ran_one w.client y.client body inv.runs.0 c.loop.name w.seen y.seen left c.in_ok-finish.finish c.steps.ensures.joined inv.runs.1 ended in
     inr (goes_on v.client v.seen c.args.of.now w.client y.client w.seen y.seen inv.goes c.steps.ensures.joined ended.leaves.later).parent
 
-pub branch::branch_tries-returns-in-Memory-clause-joined : goal.branch::branch_tries-returns-in-Memory-clause-joined
-branch::branch_tries-returns-in-Memory-clause-joined g t c =
+pub branch::branch_tries-returns-in-Memory : goal.branch::branch_tries-returns-in-Memory
+branch::branch_tries-returns-in-Memory g t c =
     let inv = c.loop.invariant in
     let v = g.T.Tx.view c.args.tx.now in
     let w = g.T.Tx.view c.loop.tx in
@@ -819,10 +755,17 @@ branch::branch_tries-returns-in-Memory-clause-joined g t c =
     let x = g.T.Tx.view c.begin.new.self in
     let refused = refused_made y.client c.args.of.now body y.seen x.seen c.in-Err.why c.in-Err.ensures.err in
     let m = subst (λ d. Made d [] y.seen x.seen) (sym c.begin.ensures.client) refused in
-    (goes_on v.client v.seen c.args.of.now y.client x.client y.seen x.seen (goes_on v.client v.seen c.args.of.now w.client y.client w.seen y.seen inv.goes c.steps.ensures.joined ended.leaves.later) (joined_same _ _ _ c.begin.ensures.client) (made_later x.client [] y.seen x.seen m)).joined
+    record {
+      met = c.begin.ensures.met;
+      joined = (goes_on v.client v.seen c.args.of.now y.client x.client y.seen x.seen (goes_on v.client v.seen c.args.of.now w.client y.client w.seen y.seen inv.goes c.steps.ensures.joined ended.leaves.later) (joined_same _ _ _ c.begin.ensures.client) (made_later x.client [] y.seen x.seen m)).joined;
+      later = (goes_on v.client v.seen c.args.of.now y.client x.client y.seen x.seen (goes_on v.client v.seen c.args.of.now w.client y.client w.seen y.seen inv.goes c.steps.ensures.joined ended.leaves.later) (joined_same _ _ _ c.begin.ensures.client) (made_later x.client [] y.seen x.seen m)).later;
+      ok = tt;
+      cut = subst (λ d. RanTries Reach.cut_off (Unit {0}) d body x.seen) (sym c.begin.ensures.client) (tries_stop y.client body inv.runs.0 y.seen x.seen (Some c.loop.name) _ some refused Reach.cut_off);
+      room = λ is. cc;
+    }
 
-pub branch::branch_tries-returns-in-Memory-clause-later : goal.branch::branch_tries-returns-in-Memory-clause-later
-branch::branch_tries-returns-in-Memory-clause-later g t c =
+pub branch::branch_tries-returns-in-Room : goal.branch::branch_tries-returns-in-Room
+branch::branch_tries-returns-in-Room g t c =
     let inv = c.loop.invariant in
     let v = g.T.Tx.view c.args.tx.now in
     let w = g.T.Tx.view c.loop.tx in
@@ -836,75 +779,14 @@ branch::branch_tries-returns-in-Memory-clause-later g t c =
     let x = g.T.Tx.view c.begin.new.self in
     let refused = refused_made y.client c.args.of.now body y.seen x.seen c.in-Err.why c.in-Err.ensures.err in
     let m = subst (λ d. Made d [] y.seen x.seen) (sym c.begin.ensures.client) refused in
-    (goes_on v.client v.seen c.args.of.now y.client x.client y.seen x.seen (goes_on v.client v.seen c.args.of.now w.client y.client w.seen y.seen inv.goes c.steps.ensures.joined ended.leaves.later) (joined_same _ _ _ c.begin.ensures.client) (made_later x.client [] y.seen x.seen m)).later
-
-pub branch::branch_tries-returns-in-Memory-clause-cut : goal.branch::branch_tries-returns-in-Memory-clause-cut
-branch::branch_tries-returns-in-Memory-clause-cut g t c =
-    let inv = c.loop.invariant in
-    let v = g.T.Tx.view c.args.tx.now in
-    let w = g.T.Tx.view c.loop.tx in
-    let y = g.T.Tx.view c.steps.new.tx in
-    let body = numbered c.args.body.now in
-    let left = body.tries - c.loop.counter in
-    let ended = subst (λ p. Ended y.client c.loop.name w.seen y.seen p c.in_ok-finish.finish) (plan_is c.args.body.now c.as_slice.result.now c.as_slice.ensures.value) c.in_ok-finish.ensures.ok in
-    let one = ran_one w.client y.client body inv.runs.0 c.loop.name w.seen y.seen left c.in_ok-finish.finish c.steps.ensures.joined inv.runs.1 ended in
-    let further = tried_further y.client body inv.runs.0 c.loop.name w.seen y.seen left c.in_ok-finish.finish one.0 (sym c.is_again.ensures ∙ c.if-not-is_again.false) one.1 in
-    let some = subst (BranchLeft y.client body inv.runs.0 y.seen (Some c.loop.name)) (one_less body.tries c.loop.counter (subst (λ n. c.loop.counter < n) (sym (tries_of c.args.body.now)) c.loop-test.true)) further in
-    let x = g.T.Tx.view c.begin.new.self in
-    let refused = refused_made y.client c.args.of.now body y.seen x.seen c.in-Err.why c.in-Err.ensures.err in
-    let m = subst (λ d. Made d [] y.seen x.seen) (sym c.begin.ensures.client) refused in
-    subst (λ d. RanTries Reach.cut_off (Unit {0}) d body x.seen) (sym c.begin.ensures.client) (tries_stop y.client body inv.runs.0 y.seen x.seen (Some c.loop.name) _ some refused Reach.cut_off)
-
-pub branch::branch_tries-returns-in-Room-clause-joined : goal.branch::branch_tries-returns-in-Room-clause-joined
-branch::branch_tries-returns-in-Room-clause-joined g t c =
-    let inv = c.loop.invariant in
-    let v = g.T.Tx.view c.args.tx.now in
-    let w = g.T.Tx.view c.loop.tx in
-    let y = g.T.Tx.view c.steps.new.tx in
-    let body = numbered c.args.body.now in
-    let left = body.tries - c.loop.counter in
-    let ended = subst (λ p. Ended y.client c.loop.name w.seen y.seen p c.in_ok-finish.finish) (plan_is c.args.body.now c.as_slice.result.now c.as_slice.ensures.value) c.in_ok-finish.ensures.ok in
-    let one = ran_one w.client y.client body inv.runs.0 c.loop.name w.seen y.seen left c.in_ok-finish.finish c.steps.ensures.joined inv.runs.1 ended in
-    let further = tried_further y.client body inv.runs.0 c.loop.name w.seen y.seen left c.in_ok-finish.finish one.0 (sym c.is_again.ensures ∙ c.if-not-is_again.false) one.1 in
-    let some = subst (BranchLeft y.client body inv.runs.0 y.seen (Some c.loop.name)) (one_less body.tries c.loop.counter (subst (λ n. c.loop.counter < n) (sym (tries_of c.args.body.now)) c.loop-test.true)) further in
-    let x = g.T.Tx.view c.begin.new.self in
-    let refused = refused_made y.client c.args.of.now body y.seen x.seen c.in-Err.why c.in-Err.ensures.err in
-    let m = subst (λ d. Made d [] y.seen x.seen) (sym c.begin.ensures.client) refused in
-    (goes_on v.client v.seen c.args.of.now y.client x.client y.seen x.seen (goes_on v.client v.seen c.args.of.now w.client y.client w.seen y.seen inv.goes c.steps.ensures.joined ended.leaves.later) (joined_same _ _ _ c.begin.ensures.client) (made_later x.client [] y.seen x.seen m)).joined
-
-pub branch::branch_tries-returns-in-Room-clause-later : goal.branch::branch_tries-returns-in-Room-clause-later
-branch::branch_tries-returns-in-Room-clause-later g t c =
-    let inv = c.loop.invariant in
-    let v = g.T.Tx.view c.args.tx.now in
-    let w = g.T.Tx.view c.loop.tx in
-    let y = g.T.Tx.view c.steps.new.tx in
-    let body = numbered c.args.body.now in
-    let left = body.tries - c.loop.counter in
-    let ended = subst (λ p. Ended y.client c.loop.name w.seen y.seen p c.in_ok-finish.finish) (plan_is c.args.body.now c.as_slice.result.now c.as_slice.ensures.value) c.in_ok-finish.ensures.ok in
-    let one = ran_one w.client y.client body inv.runs.0 c.loop.name w.seen y.seen left c.in_ok-finish.finish c.steps.ensures.joined inv.runs.1 ended in
-    let further = tried_further y.client body inv.runs.0 c.loop.name w.seen y.seen left c.in_ok-finish.finish one.0 (sym c.is_again.ensures ∙ c.if-not-is_again.false) one.1 in
-    let some = subst (BranchLeft y.client body inv.runs.0 y.seen (Some c.loop.name)) (one_less body.tries c.loop.counter (subst (λ n. c.loop.counter < n) (sym (tries_of c.args.body.now)) c.loop-test.true)) further in
-    let x = g.T.Tx.view c.begin.new.self in
-    let refused = refused_made y.client c.args.of.now body y.seen x.seen c.in-Err.why c.in-Err.ensures.err in
-    let m = subst (λ d. Made d [] y.seen x.seen) (sym c.begin.ensures.client) refused in
-    (goes_on v.client v.seen c.args.of.now y.client x.client y.seen x.seen (goes_on v.client v.seen c.args.of.now w.client y.client w.seen y.seen inv.goes c.steps.ensures.joined ended.leaves.later) (joined_same _ _ _ c.begin.ensures.client) (made_later x.client [] y.seen x.seen m)).later
-
-pub branch::branch_tries-returns-in-Room-clause-cut : goal.branch::branch_tries-returns-in-Room-clause-cut
-branch::branch_tries-returns-in-Room-clause-cut g t c =
-    let inv = c.loop.invariant in
-    let v = g.T.Tx.view c.args.tx.now in
-    let w = g.T.Tx.view c.loop.tx in
-    let y = g.T.Tx.view c.steps.new.tx in
-    let body = numbered c.args.body.now in
-    let left = body.tries - c.loop.counter in
-    let ended = subst (λ p. Ended y.client c.loop.name w.seen y.seen p c.in_ok-finish.finish) (plan_is c.args.body.now c.as_slice.result.now c.as_slice.ensures.value) c.in_ok-finish.ensures.ok in
-    let one = ran_one w.client y.client body inv.runs.0 c.loop.name w.seen y.seen left c.in_ok-finish.finish c.steps.ensures.joined inv.runs.1 ended in
-    let further = tried_further y.client body inv.runs.0 c.loop.name w.seen y.seen left c.in_ok-finish.finish one.0 (sym c.is_again.ensures ∙ c.if-not-is_again.false) one.1 in
-    let some = subst (BranchLeft y.client body inv.runs.0 y.seen (Some c.loop.name)) (one_less body.tries c.loop.counter (subst (λ n. c.loop.counter < n) (sym (tries_of c.args.body.now)) c.loop-test.true)) further in
-    let x = g.T.Tx.view c.begin.new.self in
-    let refused = refused_made y.client c.args.of.now body y.seen x.seen c.in-Err.why c.in-Err.ensures.err in
-    let m = subst (λ d. Made d [] y.seen x.seen) (sym c.begin.ensures.client) refused in
-    subst (λ d. RanTries Reach.cut_off (Unit {0}) d body x.seen) (sym c.begin.ensures.client) (tries_stop y.client body inv.runs.0 y.seen x.seen (Some c.loop.name) _ some refused Reach.cut_off)
+    record {
+      met = c.begin.ensures.met;
+      joined = (goes_on v.client v.seen c.args.of.now y.client x.client y.seen x.seen (goes_on v.client v.seen c.args.of.now w.client y.client w.seen y.seen inv.goes c.steps.ensures.joined ended.leaves.later) (joined_same _ _ _ c.begin.ensures.client) (made_later x.client [] y.seen x.seen m)).joined;
+      later = (goes_on v.client v.seen c.args.of.now y.client x.client y.seen x.seen (goes_on v.client v.seen c.args.of.now w.client y.client w.seen y.seen inv.goes c.steps.ensures.joined ended.leaves.later) (joined_same _ _ _ c.begin.ensures.client) (made_later x.client [] y.seen x.seen m)).later;
+      ok = tt;
+      cut = subst (λ d. RanTries Reach.cut_off (Unit {0}) d body x.seen) (sym c.begin.ensures.client) (tries_stop y.client body inv.runs.0 y.seen x.seen (Some c.loop.name) _ some refused Reach.cut_off);
+      room = search rules;
+    }
 
 pub branch::branch_tries-returns-in_default : goal.branch::branch_tries-returns-in_default
 branch::branch_tries-returns-in_default g t c =
@@ -960,30 +842,8 @@ branch::branch_tries-loop-preserved g t c =
       );
     }
 
-pub branch::branch_tries-returns-clause-joined : goal.branch::branch_tries-returns-clause-joined
-branch::branch_tries-returns-clause-joined g t c =
-    let inv = c.loop.invariant in
-    let v = g.T.Tx.view c.args.tx.now in
-    let w = g.T.Tx.view c.loop.tx in
-    let y = g.T.Tx.view c.steps-2.new.tx in
-    let body = numbered c.args.body.now in
-    let left = body.tries - c.loop.counter in
-    let ended = subst (λ p. Ended y.client c.loop.name w.seen y.seen p c.in_ok-finish-2.finish) (plan_is c.args.body.now c.as_slice-2.result.now c.as_slice-2.ensures.value) c.in_ok-finish-2.ensures.ok in
-    (goes_on v.client v.seen c.args.of.now w.client y.client w.seen y.seen inv.goes c.steps-2.ensures.joined ended.leaves.later).joined
-
-pub branch::branch_tries-returns-clause-later : goal.branch::branch_tries-returns-clause-later
-branch::branch_tries-returns-clause-later g t c =
-    let inv = c.loop.invariant in
-    let v = g.T.Tx.view c.args.tx.now in
-    let w = g.T.Tx.view c.loop.tx in
-    let y = g.T.Tx.view c.steps-2.new.tx in
-    let body = numbered c.args.body.now in
-    let left = body.tries - c.loop.counter in
-    let ended = subst (λ p. Ended y.client c.loop.name w.seen y.seen p c.in_ok-finish-2.finish) (plan_is c.args.body.now c.as_slice-2.result.now c.as_slice-2.ensures.value) c.in_ok-finish-2.ensures.ok in
-    (goes_on v.client v.seen c.args.of.now w.client y.client w.seen y.seen inv.goes c.steps-2.ensures.joined ended.leaves.later).later
-
-pub branch::branch_tries-returns-clause-ok : goal.branch::branch_tries-returns-clause-ok
-branch::branch_tries-returns-clause-ok g t c =
+pub branch::branch_tries-returns : goal.branch::branch_tries-returns
+branch::branch_tries-returns g t c =
     let inv = c.loop.invariant in
     let v = g.T.Tx.view c.args.tx.now in
     let w = g.T.Tx.view c.loop.tx in
@@ -993,7 +853,14 @@ branch::branch_tries-returns-clause-ok g t c =
     let ended = subst (λ p. Ended y.client c.loop.name w.seen y.seen p c.in_ok-finish-2.finish) (plan_is c.args.body.now c.as_slice-2.result.now c.as_slice-2.ensures.value) c.in_ok-finish-2.ensures.ok in
     let one = ran_one w.client y.client body inv.runs.0 c.loop.name w.seen y.seen left c.in_ok-finish-2.finish c.steps-2.ensures.joined inv.runs.1 ended in
     let over : body.tries ≤ c.loop.counter = subst (λ n. n ≤ c.loop.counter) (sym (tries_of c.args.body.now)) c.loop-test.false in
-    subst (TriesEnd y.client body y.seen) (sym c.last_came-2.ensures) (tries_end y.client body inv.runs.0 c.loop.name w.seen y.seen left one.0 c.in_ok-finish-2.finish ended.leaves.later one.1 (λ again. let e : left ≡ 0 = omega (arith, over) in e))
+    record {
+      met = c.steps-2.ensures.met;
+      joined = (goes_on v.client v.seen c.args.of.now w.client y.client w.seen y.seen inv.goes c.steps-2.ensures.joined ended.leaves.later).joined;
+      later = (goes_on v.client v.seen c.args.of.now w.client y.client w.seen y.seen inv.goes c.steps-2.ensures.joined ended.leaves.later).later;
+      ok = subst (TriesEnd y.client body y.seen) (sym c.last_came-2.ensures) (tries_end y.client body inv.runs.0 c.loop.name w.seen y.seen left one.0 c.in_ok-finish-2.finish ended.leaves.later one.1 (λ again. let e : left ≡ 0 = omega (arith, over) in e));
+      cut = tt;
+      room = tt;
+    }
 
 -- BRANCHES AT ONCE
 
@@ -1021,13 +888,16 @@ row::run_all-returns g t c =
           subst (λ (p : Held g.row.T.Denot × Held g.row.T.Denot). HasRun (stands view p.0) (stands view p.1)) (λ j. (r.argument_is j, r.left j)) r.call);
     }
 
-pub row::par-returns-in_default-clause-joined : goal.row::par-returns-in_default-clause-joined
-row::par-returns-in_default-clause-joined g t c = joined_itself (g.T.Tx.view c.args.tx.now).client (g.T.Tx.view c.args.tx.now).seen
-
-pub row::par-returns-in_default-clause-cut : goal.row::par-returns-in_default-clause-cut
-row::par-returns-in_default-clause-cut g t c =
+pub row::par-returns-in_default : goal.row::par-returns-in_default
+row::par-returns-in_default g t c =
     let v = g.T.Tx.view c.args.tx.now in
-    λ rest. cut_still v.client c.args.of.now v.seen v.seen c.requires.runs (made_itself v.client v.seen c.requires.runs.legal) (row_step (map numbered c.args.bodies.now) rest)
+    record {
+      met = c.requires.met;
+      joined = joined_itself (g.T.Tx.view c.args.tx.now).client (g.T.Tx.view c.args.tx.now).seen;
+      ok = tt;
+      cut = λ rest. cut_still v.client c.args.of.now v.seen v.seen c.requires.runs (made_itself v.client v.seen c.requires.runs.legal) (row_step (map numbered c.args.bodies.now) rest);
+      room = λ is. cc;
+    }
 
 pub row::par-begin_all-begun-requires-clause-depth : goal.row::par-begin_all-begun-requires-clause-depth
 row::par-begin_all-begun-requires-clause-depth g t c = row_depth (g.T.Tx.view c.args.tx.now).client c.args.of.now (map numbered c.args.bodies.now) c.requires.fits
