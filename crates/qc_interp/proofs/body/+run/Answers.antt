@@ -46,9 +46,9 @@ use Rattle.qc_interp.specs.Reach.{Reach}
 use Rattle.qc_script.specs.Calls.{by_client, Refuses}
 use Rattle.qc_event.specs.declared.event.Event.TheVariants as event
 use Rattle.qc_event.specs.History.{is_child}
-use Rattle.qc_interp.proofs.BranchLeft.{BranchLeft, TryRuns, runs_joined, try_starts, try_done, try_cut_off, tried_further}
-use Rattle.qc_interp.proofs.BranchTries.{TriedOne}
-use Rattle.qc_interp.proofs.BranchEnds.{one_less, may_start, tries_end, tries_cut_off, tries_stop, try_was_due, next_runs, why_refused, goes_on}
+use Rattle.qc_interp.proofs.BranchAnswers.{fits_try, branch_cut_off, branch_goes, branch_ends, refused_goes, refused_ran, refused_why, refused_due, further_runs}
+use Rattle.qc_interp.proofs.BranchLeft.{try_starts}
+use Rattle.qc_interp.proofs.BranchEnds.{may_start}
 use Rattle.qc_interp.proofs.Growth.{made_later, made_itself, later_itself}
 use Rattle.qc_interp.proofs.body.+run.Goals as goal
 
@@ -624,15 +624,6 @@ steps-loop-s-init g t c =
 
 -- THE TRIES OF A BRANCH
 
--- a try ran, by what its client is then
-abbrev RanOne : Client → Numbered → Past → Name → Past → Past → ℕ → Finish → Type 0
-RanOne d body start n now next left to = (t : TryRuns d body start n now left) × TriedOne d body n t.prior next to
-
-ran_one : (c d : Client) (body : Numbered) (start : Past) (n : Name) (now next : Past) (left : ℕ) (to : Finish) → HasJoined c now d → TryRuns c body start n now left → Ended d n now next body.plan to → RanOne d body start n now next left to
-ran_one c d body start n now next left to joined t ended =
-    let u = runs_joined c d body start n now left joined t in
-    (u, try_done d body start n now left u next to ended)
-
 pub branch::branch_tries-loop-init : goal.branch::branch_tries-loop-init
 branch::branch_tries-loop-init g t c =
     let v = g.T.Tx.view c.args.tx.now in
@@ -641,11 +632,6 @@ branch::branch_tries-loop-init g t c =
       goes = record { joined = joined_itself v.client v.seen; later = later_itself v.client v.seen c.requires.may.legal; parent = c.requires.may.parent; root = c.requires.may.root };
       runs = may_start c.args.of.now v (numbered c.args.body.now) c.args.first.now c.requires.may;
     }
-
--- what the steps of a try fit
-fits_try : (v d : Client) (before : Past) (of n : Name) (plan other : Plan) → HasJoined v before d → d.root ≡ of → is_child d.root n ≡ true → other ≡ plan → PlanFits v.setting (length of + 1) plan → PlanFits d.setting (length n) other
-fits_try v d before of n plan other joined root child same fits =
-    subst (λ p. PlanFits d.setting (length n) p) (sym same) (subst (λ s. PlanFits s (length n) plan) (sym (joined_setting v d before joined)) (subst (λ k. PlanFits v.setting k plan) (sym (child_longer of n (ap (λ r. is_child r n) (sym root) ∙ child))) fits))
 
 pub branch::branch_tries-steps-requires : goal.branch::branch_tries-steps-requires
 branch::branch_tries-steps-requires g t c κs within =
@@ -678,17 +664,9 @@ branch::branch_tries-returns-in_err-finish g t c =
     let w = g.T.Tx.view c.loop.tx in
     let y = g.T.Tx.view c.steps.new.tx in
     let body = numbered c.args.body.now in
-    let left = body.tries - c.loop.counter in
-    let cut = subst (CutOff y.client c.loop.name w.seen y.seen) (plan_is c.args.body.now c.as_slice.result.now c.as_slice.ensures.value) c.in_err-finish.ensures.cut in
-    let u = runs_joined w.client y.client body inv.runs.0 c.loop.name w.seen left c.steps.ensures.joined inv.runs.1 in
-    record {
-      met = c.steps.ensures.met;
-      joined = (goes_on v.client v.seen c.args.of.now w.client y.client w.seen y.seen inv.goes c.steps.ensures.joined cut.leaves.later).joined;
-      later = (goes_on v.client v.seen c.args.of.now w.client y.client w.seen y.seen inv.goes c.steps.ensures.joined cut.leaves.later).later;
-      ok = search rules;
-      cut = any_err _ c.from_residual.result (tries_cut_off y.client body inv.runs.0 c.loop.name w.seen y.seen left u (try_cut_off y.client body inv.runs.0 c.loop.name w.seen left u y.seen cut));
-      room = search rules;
-    }
+    let plan = plan_is c.args.body.now c.as_slice.result.now c.as_slice.ensures.value in
+    let cut = branch_cut_off v w y c.args.of.now c.loop.name body c.loop.counter inv.goes inv.runs.0 inv.runs.1 c.steps.ensures.joined _ plan c.in_err-finish.ensures.cut in
+    record { met = c.steps.ensures.met; joined = cut.0.joined; later = cut.0.later; ok = search rules; cut = any_err _ c.from_residual.result cut.1; room = search rules }
 
 pub branch::branch_tries-returns-in_err-finish-2 : goal.branch::branch_tries-returns-in_err-finish-2
 branch::branch_tries-returns-in_err-finish-2 g t c =
@@ -697,17 +675,9 @@ branch::branch_tries-returns-in_err-finish-2 g t c =
     let w = g.T.Tx.view c.loop.tx in
     let y = g.T.Tx.view c.steps-2.new.tx in
     let body = numbered c.args.body.now in
-    let left = body.tries - c.loop.counter in
-    let cut = subst (CutOff y.client c.loop.name w.seen y.seen) (plan_is c.args.body.now c.as_slice-2.result.now c.as_slice-2.ensures.value) c.in_err-finish-2.ensures.cut in
-    let u = runs_joined w.client y.client body inv.runs.0 c.loop.name w.seen left c.steps-2.ensures.joined inv.runs.1 in
-    record {
-      met = c.steps-2.ensures.met;
-      joined = (goes_on v.client v.seen c.args.of.now w.client y.client w.seen y.seen inv.goes c.steps-2.ensures.joined cut.leaves.later).joined;
-      later = (goes_on v.client v.seen c.args.of.now w.client y.client w.seen y.seen inv.goes c.steps-2.ensures.joined cut.leaves.later).later;
-      ok = search rules;
-      cut = any_err _ c.from_residual-in_err-finish-2.result (tries_cut_off y.client body inv.runs.0 c.loop.name w.seen y.seen left u (try_cut_off y.client body inv.runs.0 c.loop.name w.seen left u y.seen cut));
-      room = search rules;
-    }
+    let plan = plan_is c.args.body.now c.as_slice-2.result.now c.as_slice-2.ensures.value in
+    let cut = branch_cut_off v w y c.args.of.now c.loop.name body c.loop.counter inv.goes inv.runs.0 inv.runs.1 c.steps-2.ensures.joined _ plan c.in_err-finish-2.ensures.cut in
+    record { met = c.steps-2.ensures.met; joined = cut.0.joined; later = cut.0.later; ok = search rules; cut = any_err _ c.from_residual-in_err-finish-2.result cut.1; room = search rules }
 
 pub branch::branch_tries-returns-then-not-is_again : goal.branch::branch_tries-returns-then-not-is_again
 branch::branch_tries-returns-then-not-is_again g t c =
@@ -716,17 +686,10 @@ branch::branch_tries-returns-then-not-is_again g t c =
     let w = g.T.Tx.view c.loop.tx in
     let y = g.T.Tx.view c.steps.new.tx in
     let body = numbered c.args.body.now in
-    let left = body.tries - c.loop.counter in
-    let ended = subst (λ p. Ended y.client c.loop.name w.seen y.seen p c.in_ok-finish.finish) (plan_is c.args.body.now c.as_slice.result.now c.as_slice.ensures.value) c.in_ok-finish.ensures.ok in
-    let one = ran_one w.client y.client body inv.runs.0 c.loop.name w.seen y.seen left c.in_ok-finish.finish c.steps.ensures.joined inv.runs.1 ended in
-    record {
-      met = c.steps.ensures.met;
-      joined = (goes_on v.client v.seen c.args.of.now w.client y.client w.seen y.seen inv.goes c.steps.ensures.joined ended.leaves.later).joined;
-      later = (goes_on v.client v.seen c.args.of.now w.client y.client w.seen y.seen inv.goes c.steps.ensures.joined ended.leaves.later).later;
-      ok = subst (TriesEnd y.client body y.seen) (sym c.last_came.ensures) (tries_end y.client body inv.runs.0 c.loop.name w.seen y.seen left one.0 c.in_ok-finish.finish ended.leaves.later one.1 (λ again. absurd (true≢false (sym again ∙ (sym c.is_again.ensures ∙ c.if-not-is_again.true)))));
-      cut = tt;
-      room = tt;
-    }
+    let plan = plan_is c.args.body.now c.as_slice.result.now c.as_slice.ensures.value in
+    let goes = branch_goes v w y c.args.of.now c.loop.name body c.loop.counter inv.goes inv.runs.0 inv.runs.1 c.steps.ensures.joined _ plan c.in_ok-finish.finish c.in_ok-finish.ensures.ok in
+    let ends = branch_ends v w y c.args.of.now c.loop.name body c.loop.counter inv.goes inv.runs.0 inv.runs.1 c.steps.ensures.joined _ plan c.in_ok-finish.finish c.in_ok-finish.ensures.ok (λ again. absurd (true≢false (sym again ∙ (sym c.is_again.ensures ∙ c.if-not-is_again.true)))) in
+    record { met = c.steps.ensures.met; joined = goes.joined; later = goes.later; ok = subst (TriesEnd y.client body y.seen) (sym c.last_came.ensures) ends; cut = tt; room = tt }
 
 pub branch::branch_tries-begin-requires-clause-parent : goal.branch::branch_tries-begin-requires-clause-parent
 branch::branch_tries-begin-requires-clause-parent g t c =
@@ -735,10 +698,8 @@ branch::branch_tries-begin-requires-clause-parent g t c =
     let w = g.T.Tx.view c.loop.tx in
     let y = g.T.Tx.view c.steps.new.tx in
     let body = numbered c.args.body.now in
-    let left = body.tries - c.loop.counter in
-    let ended = subst (λ p. Ended y.client c.loop.name w.seen y.seen p c.in_ok-finish.finish) (plan_is c.args.body.now c.as_slice.result.now c.as_slice.ensures.value) c.in_ok-finish.ensures.ok in
-    let one = ran_one w.client y.client body inv.runs.0 c.loop.name w.seen y.seen left c.in_ok-finish.finish c.steps.ensures.joined inv.runs.1 ended in
-    inr (goes_on v.client v.seen c.args.of.now w.client y.client w.seen y.seen inv.goes c.steps.ensures.joined ended.leaves.later).parent
+    let plan = plan_is c.args.body.now c.as_slice.result.now c.as_slice.ensures.value in
+    inr (branch_goes v w y c.args.of.now c.loop.name body c.loop.counter inv.goes inv.runs.0 inv.runs.1 c.steps.ensures.joined _ plan c.in_ok-finish.finish c.in_ok-finish.ensures.ok).parent
 
 pub branch::branch_tries-returns-in-Memory : goal.branch::branch_tries-returns-in-Memory
 branch::branch_tries-returns-in-Memory g t c =
@@ -747,22 +708,12 @@ branch::branch_tries-returns-in-Memory g t c =
     let w = g.T.Tx.view c.loop.tx in
     let y = g.T.Tx.view c.steps.new.tx in
     let body = numbered c.args.body.now in
-    let left = body.tries - c.loop.counter in
-    let ended = subst (λ p. Ended y.client c.loop.name w.seen y.seen p c.in_ok-finish.finish) (plan_is c.args.body.now c.as_slice.result.now c.as_slice.ensures.value) c.in_ok-finish.ensures.ok in
-    let one = ran_one w.client y.client body inv.runs.0 c.loop.name w.seen y.seen left c.in_ok-finish.finish c.steps.ensures.joined inv.runs.1 ended in
-    let further = tried_further y.client body inv.runs.0 c.loop.name w.seen y.seen left c.in_ok-finish.finish one.0 (sym c.is_again.ensures ∙ c.if-not-is_again.false) one.1 in
-    let some = subst (BranchLeft y.client body inv.runs.0 y.seen (Some c.loop.name)) (one_less body.tries c.loop.counter (subst (λ n. c.loop.counter < n) (sym (tries_of c.args.body.now)) c.loop-test.true)) further in
+    let plan = plan_is c.args.body.now c.as_slice.result.now c.as_slice.ensures.value in
+    let few : c.loop.counter < body.tries = subst (λ n. c.loop.counter < n) (sym (tries_of c.args.body.now)) c.loop-test.true in
+    let again = sym c.is_again.ensures ∙ c.if-not-is_again.false in
     let x = g.T.Tx.view c.begin.new.self in
-    let refused = refused_made y.client c.args.of.now body y.seen x.seen c.in-Err.why c.in-Err.ensures.err in
-    let m = subst (λ d. Made d [] y.seen x.seen) (sym c.begin.ensures.client) refused in
-    record {
-      met = c.begin.ensures.met;
-      joined = (goes_on v.client v.seen c.args.of.now y.client x.client y.seen x.seen (goes_on v.client v.seen c.args.of.now w.client y.client w.seen y.seen inv.goes c.steps.ensures.joined ended.leaves.later) (joined_same _ _ _ c.begin.ensures.client) (made_later x.client [] y.seen x.seen m)).joined;
-      later = (goes_on v.client v.seen c.args.of.now y.client x.client y.seen x.seen (goes_on v.client v.seen c.args.of.now w.client y.client w.seen y.seen inv.goes c.steps.ensures.joined ended.leaves.later) (joined_same _ _ _ c.begin.ensures.client) (made_later x.client [] y.seen x.seen m)).later;
-      ok = tt;
-      cut = subst (λ d. RanTries Reach.cut_off (Unit {0}) d body x.seen) (sym c.begin.ensures.client) (tries_stop y.client body inv.runs.0 y.seen x.seen (Some c.loop.name) _ some refused Reach.cut_off);
-      room = λ is. cc;
-    }
+    let goes = refused_goes v w y c.args.of.now c.loop.name body c.loop.counter inv.goes inv.runs.0 inv.runs.1 c.steps.ensures.joined _ plan c.in_ok-finish.finish c.in_ok-finish.ensures.ok few again x c.begin.ensures.client c.in-Err.why c.in-Err.ensures.err in
+    record { met = c.begin.ensures.met; joined = goes.joined; later = goes.later; ok = tt; cut = refused_ran v w y c.args.of.now c.loop.name body c.loop.counter inv.goes inv.runs.0 inv.runs.1 c.steps.ensures.joined _ plan c.in_ok-finish.finish c.in_ok-finish.ensures.ok few again x c.begin.ensures.client c.in-Err.why c.in-Err.ensures.err Reach.cut_off; room = λ is. cc }
 
 pub branch::branch_tries-returns-in-Room : goal.branch::branch_tries-returns-in-Room
 branch::branch_tries-returns-in-Room g t c =
@@ -771,22 +722,12 @@ branch::branch_tries-returns-in-Room g t c =
     let w = g.T.Tx.view c.loop.tx in
     let y = g.T.Tx.view c.steps.new.tx in
     let body = numbered c.args.body.now in
-    let left = body.tries - c.loop.counter in
-    let ended = subst (λ p. Ended y.client c.loop.name w.seen y.seen p c.in_ok-finish.finish) (plan_is c.args.body.now c.as_slice.result.now c.as_slice.ensures.value) c.in_ok-finish.ensures.ok in
-    let one = ran_one w.client y.client body inv.runs.0 c.loop.name w.seen y.seen left c.in_ok-finish.finish c.steps.ensures.joined inv.runs.1 ended in
-    let further = tried_further y.client body inv.runs.0 c.loop.name w.seen y.seen left c.in_ok-finish.finish one.0 (sym c.is_again.ensures ∙ c.if-not-is_again.false) one.1 in
-    let some = subst (BranchLeft y.client body inv.runs.0 y.seen (Some c.loop.name)) (one_less body.tries c.loop.counter (subst (λ n. c.loop.counter < n) (sym (tries_of c.args.body.now)) c.loop-test.true)) further in
+    let plan = plan_is c.args.body.now c.as_slice.result.now c.as_slice.ensures.value in
+    let few : c.loop.counter < body.tries = subst (λ n. c.loop.counter < n) (sym (tries_of c.args.body.now)) c.loop-test.true in
+    let again = sym c.is_again.ensures ∙ c.if-not-is_again.false in
     let x = g.T.Tx.view c.begin.new.self in
-    let refused = refused_made y.client c.args.of.now body y.seen x.seen c.in-Err.why c.in-Err.ensures.err in
-    let m = subst (λ d. Made d [] y.seen x.seen) (sym c.begin.ensures.client) refused in
-    record {
-      met = c.begin.ensures.met;
-      joined = (goes_on v.client v.seen c.args.of.now y.client x.client y.seen x.seen (goes_on v.client v.seen c.args.of.now w.client y.client w.seen y.seen inv.goes c.steps.ensures.joined ended.leaves.later) (joined_same _ _ _ c.begin.ensures.client) (made_later x.client [] y.seen x.seen m)).joined;
-      later = (goes_on v.client v.seen c.args.of.now y.client x.client y.seen x.seen (goes_on v.client v.seen c.args.of.now w.client y.client w.seen y.seen inv.goes c.steps.ensures.joined ended.leaves.later) (joined_same _ _ _ c.begin.ensures.client) (made_later x.client [] y.seen x.seen m)).later;
-      ok = tt;
-      cut = subst (λ d. RanTries Reach.cut_off (Unit {0}) d body x.seen) (sym c.begin.ensures.client) (tries_stop y.client body inv.runs.0 y.seen x.seen (Some c.loop.name) _ some refused Reach.cut_off);
-      room = search rules;
-    }
+    let goes = refused_goes v w y c.args.of.now c.loop.name body c.loop.counter inv.goes inv.runs.0 inv.runs.1 c.steps.ensures.joined _ plan c.in_ok-finish.finish c.in_ok-finish.ensures.ok few again x c.begin.ensures.client c.in-Err.why c.in-Err.ensures.err in
+    record { met = c.begin.ensures.met; joined = goes.joined; later = goes.later; ok = tt; cut = refused_ran v w y c.args.of.now c.loop.name body c.loop.counter inv.goes inv.runs.0 inv.runs.1 c.steps.ensures.joined _ plan c.in_ok-finish.finish c.in_ok-finish.ensures.ok few again x c.begin.ensures.client c.in-Err.why c.in-Err.ensures.err Reach.cut_off; room = search rules }
 
 pub branch::branch_tries-returns-in_default : goal.branch::branch_tries-returns-in_default
 branch::branch_tries-returns-in_default g t c =
@@ -795,27 +736,13 @@ branch::branch_tries-returns-in_default g t c =
     let w = g.T.Tx.view c.loop.tx in
     let y = g.T.Tx.view c.steps.new.tx in
     let body = numbered c.args.body.now in
-    let left = body.tries - c.loop.counter in
-    let ended = subst (λ p. Ended y.client c.loop.name w.seen y.seen p c.in_ok-finish.finish) (plan_is c.args.body.now c.as_slice.result.now c.as_slice.ensures.value) c.in_ok-finish.ensures.ok in
-    let one = ran_one w.client y.client body inv.runs.0 c.loop.name w.seen y.seen left c.in_ok-finish.finish c.steps.ensures.joined inv.runs.1 ended in
-    let further = tried_further y.client body inv.runs.0 c.loop.name w.seen y.seen left c.in_ok-finish.finish one.0 (sym c.is_again.ensures ∙ c.if-not-is_again.false) one.1 in
-    let some = subst (BranchLeft y.client body inv.runs.0 y.seen (Some c.loop.name)) (one_less body.tries c.loop.counter (subst (λ n. c.loop.counter < n) (sym (tries_of c.args.body.now)) c.loop-test.true)) further in
+    let plan = plan_is c.args.body.now c.as_slice.result.now c.as_slice.ensures.value in
+    let few : c.loop.counter < body.tries = subst (λ n. c.loop.counter < n) (sym (tries_of c.args.body.now)) c.loop-test.true in
+    let again = sym c.is_again.ensures ∙ c.if-not-is_again.false in
     let x = g.T.Tx.view c.begin.new.self in
-    let refused = refused_made y.client c.args.of.now body y.seen x.seen c.in-Err.why c.in-Err.ensures.err in
-    let m = subst (λ d. Made d [] y.seen x.seen) (sym c.begin.ensures.client) refused in
-    let goes = goes_on v.client v.seen c.args.of.now y.client x.client y.seen x.seen (goes_on v.client v.seen c.args.of.now w.client y.client w.seen y.seen inv.goes c.steps.ensures.joined ended.leaves.later) (joined_same _ _ _ c.begin.ensures.client) (made_later x.client [] y.seen x.seen m) in
-    record {
-      met = c.begin.ensures.met;
-      joined = goes.joined;
-      later = goes.later;
-      ok = (
-        subst (λ d. RanTries Reach.to_the_end (Unit {0}) d body x.seen) (sym c.begin.ensures.client) (tries_stop y.client body inv.runs.0 y.seen x.seen (Some c.loop.name) _ some refused Reach.to_the_end),
-        subst (λ n. Refuses x.seen n c.in-Err.why × IsRefusal c.in-Err.why) (sym goes.root) (why_refused y.client c.args.of.now y.seen x.seen c.in-Err.why c.in-Err.ensures.err c.in_default.not-Memory c.in_default.not-Room),
-        subst (λ d. AreTriesOurs d x.seen → was_tried (mine d x.seen) false body.tries (map Deed.child (tries_by d x.seen)) ≡ false) (sym c.begin.ensures.client) (try_was_due y.client body inv.runs.0 y.seen x.seen (Some c.loop.name) _ some refused),
-      );
-      cut = tt;
-      room = tt;
-    }
+    let goes = refused_goes v w y c.args.of.now c.loop.name body c.loop.counter inv.goes inv.runs.0 inv.runs.1 c.steps.ensures.joined _ plan c.in_ok-finish.finish c.in_ok-finish.ensures.ok few again x c.begin.ensures.client c.in-Err.why c.in-Err.ensures.err in
+    let why = refused_why v w y c.args.of.now c.loop.name body c.loop.counter inv.goes inv.runs.0 inv.runs.1 c.steps.ensures.joined _ plan c.in_ok-finish.finish c.in_ok-finish.ensures.ok few again x c.begin.ensures.client c.in-Err.why c.in-Err.ensures.err c.in_default.not-Memory c.in_default.not-Room in
+    record { met = c.begin.ensures.met; joined = goes.joined; later = goes.later; ok = (refused_ran v w y c.args.of.now c.loop.name body c.loop.counter inv.goes inv.runs.0 inv.runs.1 c.steps.ensures.joined _ plan c.in_ok-finish.finish c.in_ok-finish.ensures.ok few again x c.begin.ensures.client c.in-Err.why c.in-Err.ensures.err Reach.to_the_end, why, refused_due v w y c.args.of.now c.loop.name body c.loop.counter inv.goes inv.runs.0 inv.runs.1 c.steps.ensures.joined _ plan c.in_ok-finish.finish c.in_ok-finish.ensures.ok few again x c.begin.ensures.client c.in-Err.why c.in-Err.ensures.err); cut = tt; room = tt }
 
 pub branch::branch_tries-loop-preserved : goal.branch::branch_tries-loop-preserved
 branch::branch_tries-loop-preserved g t c =
@@ -824,23 +751,13 @@ branch::branch_tries-loop-preserved g t c =
     let w = g.T.Tx.view c.loop.tx in
     let y = g.T.Tx.view c.steps.new.tx in
     let body = numbered c.args.body.now in
-    let left = body.tries - c.loop.counter in
-    let ended = subst (λ p. Ended y.client c.loop.name w.seen y.seen p c.in_ok-finish.finish) (plan_is c.args.body.now c.as_slice.result.now c.as_slice.ensures.value) c.in_ok-finish.ensures.ok in
-    let one = ran_one w.client y.client body inv.runs.0 c.loop.name w.seen y.seen left c.in_ok-finish.finish c.steps.ensures.joined inv.runs.1 ended in
-    let further = tried_further y.client body inv.runs.0 c.loop.name w.seen y.seen left c.in_ok-finish.finish one.0 (sym c.is_again.ensures ∙ c.if-not-is_again.false) one.1 in
-    let some = subst (BranchLeft y.client body inv.runs.0 y.seen (Some c.loop.name)) (one_less body.tries c.loop.counter (subst (λ n. c.loop.counter < n) (sym (tries_of c.args.body.now)) c.loop-test.true)) further in
+    let plan = plan_is c.args.body.now c.as_slice.result.now c.as_slice.ensures.value in
+    let few : c.loop.counter < body.tries = subst (λ n. c.loop.counter < n) (sym (tries_of c.args.body.now)) c.loop-test.true in
+    let again = sym c.is_again.ensures ∙ c.if-not-is_again.false in
     let x = g.T.Tx.view c.begin.new.self in
-    let m = subst (λ d. Made d (by_client d (event.Start c.in-Ok.next (kind.User d.session c.args.body.now.number)) ∷ []) y.seen x.seen) (sym c.begin.ensures.client) c.in-Ok.ensures.ok in
-    record {
-      met = c.begin.ensures.met;
-      goes = goes_on v.client v.seen c.args.of.now y.client x.client y.seen x.seen (goes_on v.client v.seen c.args.of.now w.client y.client w.seen y.seen inv.goes c.steps.ensures.joined ended.leaves.later) (joined_same _ _ _ c.begin.ensures.client) (made_later x.client _ y.seen x.seen m);
-      runs = (
-        inv.runs.0,
-        next_runs x.client body inv.runs.0 c.in-Ok.next y.seen x.seen (Some c.loop.name) _ (subst (λ d. BranchLeft d body inv.runs.0 y.seen (Some c.loop.name) (suc (body.tries - (c.loop.counter + 1)))) (sym c.begin.ensures.client) some)
-            (ap (λ r. is_child r c.in-Ok.next) (goes_on v.client v.seen c.args.of.now y.client x.client y.seen x.seen (goes_on v.client v.seen c.args.of.now w.client y.client w.seen y.seen inv.goes c.steps.ensures.joined ended.leaves.later) (joined_same _ _ _ c.begin.ensures.client) (made_later x.client _ y.seen x.seen m)).root ∙ c.in-Ok.ensures.child)
-            (subst (λ k. Made x.client (by_client x.client (event.Start c.in-Ok.next (kind.User x.client.session k)) ∷ []) y.seen x.seen) (sym (number_of c.args.body.now)) m),
-      );
-    }
+    let begun = subst (λ k. Made y.client (by_client y.client (event.Start c.in-Ok.next (kind.User y.client.session k)) ∷ []) y.seen x.seen) (sym (number_of c.args.body.now)) c.in-Ok.ensures.ok in
+    let further = further_runs v w y c.args.of.now c.loop.name body c.loop.counter inv.goes inv.runs.0 inv.runs.1 c.steps.ensures.joined _ plan c.in_ok-finish.finish c.in_ok-finish.ensures.ok few again x c.begin.ensures.client c.in-Ok.next c.in-Ok.ensures.child begun in
+    record { met = c.begin.ensures.met; goes = further.0; runs = (inv.runs.0, further.1) }
 
 pub branch::branch_tries-returns : goal.branch::branch_tries-returns
 branch::branch_tries-returns g t c =
@@ -849,18 +766,11 @@ branch::branch_tries-returns g t c =
     let w = g.T.Tx.view c.loop.tx in
     let y = g.T.Tx.view c.steps-2.new.tx in
     let body = numbered c.args.body.now in
-    let left = body.tries - c.loop.counter in
-    let ended = subst (λ p. Ended y.client c.loop.name w.seen y.seen p c.in_ok-finish-2.finish) (plan_is c.args.body.now c.as_slice-2.result.now c.as_slice-2.ensures.value) c.in_ok-finish-2.ensures.ok in
-    let one = ran_one w.client y.client body inv.runs.0 c.loop.name w.seen y.seen left c.in_ok-finish-2.finish c.steps-2.ensures.joined inv.runs.1 ended in
+    let plan = plan_is c.args.body.now c.as_slice-2.result.now c.as_slice-2.ensures.value in
     let over : body.tries ≤ c.loop.counter = subst (λ n. n ≤ c.loop.counter) (sym (tries_of c.args.body.now)) c.loop-test.false in
-    record {
-      met = c.steps-2.ensures.met;
-      joined = (goes_on v.client v.seen c.args.of.now w.client y.client w.seen y.seen inv.goes c.steps-2.ensures.joined ended.leaves.later).joined;
-      later = (goes_on v.client v.seen c.args.of.now w.client y.client w.seen y.seen inv.goes c.steps-2.ensures.joined ended.leaves.later).later;
-      ok = subst (TriesEnd y.client body y.seen) (sym c.last_came-2.ensures) (tries_end y.client body inv.runs.0 c.loop.name w.seen y.seen left one.0 c.in_ok-finish-2.finish ended.leaves.later one.1 (λ again. let e : left ≡ 0 = omega (arith, over) in e));
-      cut = tt;
-      room = tt;
-    }
+    let goes = branch_goes v w y c.args.of.now c.loop.name body c.loop.counter inv.goes inv.runs.0 inv.runs.1 c.steps-2.ensures.joined _ plan c.in_ok-finish-2.finish c.in_ok-finish-2.ensures.ok in
+    let ends = branch_ends v w y c.args.of.now c.loop.name body c.loop.counter inv.goes inv.runs.0 inv.runs.1 c.steps-2.ensures.joined _ plan c.in_ok-finish-2.finish c.in_ok-finish-2.ensures.ok (λ again. let e : body.tries - c.loop.counter ≡ 0 = omega (arith, over) in e) in
+    record { met = c.steps-2.ensures.met; joined = goes.joined; later = goes.later; ok = subst (TriesEnd y.client body y.seen) (sym c.last_came-2.ensures) ends; cut = tt; room = tt }
 
 -- BRANCHES AT ONCE
 
