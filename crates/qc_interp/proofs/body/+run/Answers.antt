@@ -17,11 +17,12 @@ use Rattle.qc_interp.proofs.Joined.{joined_itself, joined_same, joined_trans, jo
 use Rattle.qc_interp.proofs.Plans.{weight, plan_is, tries_of, number_of, must_of, put_read, put_set, put_add, put_sub, put_need, put_reconf, put_child, put_par, put_abort, put_crash, put_kill, step_lighter}
 use Rattle.qc_interp.proofs.Loops.{StepsLeft, steps_joined, fits_step, one_done, stopped_there, cut_there, cut_at_last, all_done, none_done}
 use Rattle.qc_interp.proofs.Failing.{failed_on, failed_quit, failed_cut}
+use Rattle.qc_interp.proofs.ChildAnswers.{unbegun_cut, stopped_cut, unbegun_stops, unbegun_ended, child_joined, child_through, child_failed, child_again, child_cut}
 use Rattle.qc_interp.proofs.Acted.{acted_so, cut_so}
 use Rattle.qc_interp.proofs.Marking.{acted_on, looked_behind, acted_cut, killed_first}
 use Rattle.qc_interp.proofs.StepsLeave.{crash_on}
 use Rattle.qc_interp.proofs.Tried.{Tried, may_begin, runs_begun, tried_once, cut_once}
-use Rattle.qc_interp.proofs.TriesLeft.{TriesLeft, tries_joined, tried_more, tried_failed, tried_out, all_failed, none_to_begin, tries_cut, not_begun, begin_stops, begin_cut, refused_made, none_tried}
+use Rattle.qc_interp.proofs.TriesLeft.{TriesLeft, all_failed, none_to_begin, none_tried}
 use Rattle.qc_interp.specs.declared.stops.Finish.{Finish}
 use mathlib.Core.Bool.{true≢false}
 use Rattle.qc_interp.specs.declared.body.branch.Branch.{Branch as Held}
@@ -53,14 +54,6 @@ use Rattle.qc_interp.proofs.Growth.{made_later, made_itself, later_itself}
 use Rattle.qc_interp.proofs.body.+run.Goals as goal
 
 -- CHILDREN
-
-fewer_left : (c : Client) (of : Name) (body : Numbered) (before now : Past) (last : Option Name) (counter : ℕ) → counter < body.tries → TriesLeft c of body before now last (body.tries - counter) → TriesLeft c of body before now last (suc (body.tries - (counter + 1)))
-fewer_left c of body before now last counter few left = subst (TriesLeft c of body before now last) (let e : body.tries - counter ≡ suc (body.tries - (counter + 1)) = omega (arith, few) in e) left
-
--- so many tries are left behind one that another client is after
-left_by : (c d : Client) (of : Name) (body : Numbered) (before now : Past) (last : Option Name) (counter : ℕ) → HasJoined c now d → counter < body.tries → TriesLeft c of body before now last (body.tries - counter)
-    → TriesLeft d of body before now last (suc (body.tries - (counter + 1)))
-left_by c d of body before now last counter since few l = fewer_left d of body before now last counter few (tries_joined c d of body before now since last (body.tries - counter) l)
 
 pub tries-steps-requires : goal.tries-steps-requires
 tries-steps-requires g t c κs within =
@@ -102,19 +95,11 @@ tries-returns-in-Committed g t c =
     let w = g.T.Tx.view c.loop.tx in
     let x = g.T.Tx.view c.begin.new.self in
     let y = g.T.Tx.view c.steps.new.tx in
-    let of = c.args.of.now in
-    let body = c.args.body.now in
-    let by = started_by w.client x.client y.client c.in-Ok.name (numbered body).number _ w.seen x.seen c.begin.ensures.client (sym (number_of body)) c.steps.ensures.joined c.in-Ok.ensures.ok in
-    let left = left_by w.client y.client of (numbered body) v.seen w.seen c.loop.last c.loop.counter by.since (subst (λ n. c.loop.counter < n) (sym (tries_of body)) c.loop-test.true) inv.left in
-    let ended = subst (λ p. Ended y.client c.in-Ok.name x.seen y.seen p c.in_ok-steps-in-Ok.field-0) (plan_is body c.as_slice.result.now c.as_slice.ensures.value) c.in_ok-steps-in-Ok.ensures.ok in
-    let tried = tried_once y.client of c.in-Ok.name (numbered body) w.seen x.seen y.seen left.runs c.in-Ok.ensures.child by.made c.in_ok-steps-in-Ok.field-0 ended in
-    record {
-      met = c.steps.ensures.met;
-      joined = joined_trans v.client w.client y.client v.seen w.seen inv.joined inv.left.leaves.later by.since;
-      ok = tried_out y.client of (numbered body) v.seen w.seen y.seen c.loop.last _ c.in-Ok.name left (subst (Tried y.client of c.in-Ok.name (numbered body) w.seen y.seen) c.in-Committed.is tried);
-      cut = tt;
-      room = tt;
-    }
+    let body = numbered c.args.body.now in
+    let few : c.loop.counter < body.tries = subst (λ n. c.loop.counter < n) (sym (tries_of c.args.body.now)) c.loop-test.true in
+    let plan = plan_is c.args.body.now c.as_slice.result.now c.as_slice.ensures.value in
+    let ended = subst (Ended y.client c.in-Ok.name x.seen y.seen (plan_of c.as_slice.result.now)) c.in-Committed.is c.in_ok-steps-in-Ok.ensures.ok in
+    record { met = c.steps.ensures.met; joined = child_joined v w x y c.args.of.now body c.loop.last c.loop.counter inv.left few c.begin.ensures.client c.in-Ok.name c.in-Ok.ensures.child _ (sym (number_of c.args.body.now)) c.in-Ok.ensures.ok c.steps.ensures.joined inv.joined; ok = child_through v w x y c.args.of.now body c.loop.last c.loop.counter inv.left few c.begin.ensures.client c.in-Ok.name c.in-Ok.ensures.child _ (sym (number_of c.args.body.now)) c.in-Ok.ensures.ok c.steps.ensures.joined _ plan ended; cut = tt; room = tt }
 
 pub tries-returns-then-not-again : goal.tries-returns-then-not-again
 tries-returns-then-not-again g t c =
@@ -123,30 +108,22 @@ tries-returns-then-not-again g t c =
     let w = g.T.Tx.view c.loop.tx in
     let x = g.T.Tx.view c.begin.new.self in
     let y = g.T.Tx.view c.steps.new.tx in
-    let of = c.args.of.now in
-    let body = c.args.body.now in
-    let by = started_by w.client x.client y.client c.in-Ok.name (numbered body).number _ w.seen x.seen c.begin.ensures.client (sym (number_of body)) c.steps.ensures.joined c.in-Ok.ensures.ok in
-    let left = left_by w.client y.client of (numbered body) v.seen w.seen c.loop.last c.loop.counter by.since (subst (λ n. c.loop.counter < n) (sym (tries_of body)) c.loop-test.true) inv.left in
-    let ended = subst (λ p. Ended y.client c.in-Ok.name x.seen y.seen p c.in_ok-steps-in-Ok.field-0) (plan_is body c.as_slice.result.now c.as_slice.ensures.value) c.in_ok-steps-in-Ok.ensures.ok in
-    let tried = tried_once y.client of c.in-Ok.name (numbered body) w.seen x.seen y.seen left.runs c.in-Ok.ensures.child by.made c.in_ok-steps-in-Ok.field-0 ended in
-    record {
-      met = c.steps.ensures.met;
-      joined = joined_trans v.client w.client y.client v.seen w.seen inv.joined inv.left.leaves.later by.since;
-      ok = tried_failed y.client of (numbered body) v.seen w.seen y.seen c.loop.last _ c.in-Ok.name left
-          (subst (Tried y.client of c.in-Ok.name (numbered body) w.seen y.seen) (c.in-Stopped.is ∙ ap finish.Stopped c.if-not-again.true) tried);
-      cut = tt;
-      room = tt;
-    }
+    let body = numbered c.args.body.now in
+    let few : c.loop.counter < body.tries = subst (λ n. c.loop.counter < n) (sym (tries_of c.args.body.now)) c.loop-test.true in
+    let plan = plan_is c.args.body.now c.as_slice.result.now c.as_slice.ensures.value in
+    let ended = subst (Ended y.client c.in-Ok.name x.seen y.seen (plan_of c.as_slice.result.now)) (c.in-Stopped.is ∙ ap finish.Stopped c.if-not-again.true) c.in_ok-steps-in-Ok.ensures.ok in
+    record { met = c.steps.ensures.met; joined = child_joined v w x y c.args.of.now body c.loop.last c.loop.counter inv.left few c.begin.ensures.client c.in-Ok.name c.in-Ok.ensures.child _ (sym (number_of c.args.body.now)) c.in-Ok.ensures.ok c.steps.ensures.joined inv.joined; ok = child_failed v w x y c.args.of.now body c.loop.last c.loop.counter inv.left few c.begin.ensures.client c.in-Ok.name c.in-Ok.ensures.child _ (sym (number_of c.args.body.now)) c.in-Ok.ensures.ok c.steps.ensures.joined _ plan ended; cut = tt; room = tt }
 
 pub tries-stop-requires : goal.tries-stop-requires
 tries-stop-requires g t c =
     let inv = c.loop.invariant in
+    let v = g.T.Tx.view c.args.tx.now in
     let w = g.T.Tx.view c.loop.tx in
     let x = g.T.Tx.view c.begin.new.self in
-    let of = c.args.of.now in
-    let h = begin_stops w.client of (numbered c.args.body.now) w.seen x.seen c.in-Err.why inv.left.runs c.in-Err.ensures.err c.in_default.not-Memory c.in_default.not-Room in
-    let client = sym c.begin.ensures.client in
-    record { met = c.begin.ensures.met; runs = subst (λ d. Runs d of x.seen) client h.0; why = subst (λ d. WhyStop d x.seen of c.in-Err.why) client h.1 }
+    let body = numbered c.args.body.now in
+    let few : c.loop.counter < body.tries = subst (λ n. c.loop.counter < n) (sym (tries_of c.args.body.now)) c.loop-test.true in
+    let stops = unbegun_stops v w x x c.args.of.now body c.loop.last c.loop.counter inv.left few c.begin.ensures.client c.in-Err.why c.in-Err.ensures.err c.in_default.not-Memory c.in_default.not-Room in
+    record { met = c.begin.ensures.met; runs = stops.0; why = stops.1 }
 
 pub tries-returns-in_ok-again-in_default : goal.tries-returns-in_ok-again-in_default
 tries-returns-in_ok-again-in_default g t c =
@@ -155,17 +132,12 @@ tries-returns-in_ok-again-in_default g t c =
     let w = g.T.Tx.view c.loop.tx in
     let x = g.T.Tx.view c.begin.new.self in
     let y = g.T.Tx.view c.stop.new.tx in
-    let of = c.args.of.now in
     let body = numbered c.args.body.now in
-    let client = sym (c.stop.ensures.client ∙ c.begin.ensures.client) in
-    let left = fewer_left w.client of body v.seen w.seen c.loop.last c.loop.counter (subst (λ n. c.loop.counter < n) (sym (tries_of c.args.body.now)) c.loop-test.true) inv.left in
+    let few : c.loop.counter < body.tries = subst (λ n. c.loop.counter < n) (sym (tries_of c.args.body.now)) c.loop-test.true in
     record {
       met = c.stop.ensures.met;
-      joined = subst (HasJoined v.client v.seen) client inv.joined;
-      ok = λ rest.
-          subst (λ d. Ended d of v.seen y.seen (child_step body rest) (finish.Stopped c.in_ok-again-in_default.again)) client
-          (not_begun w.client of body v.seen w.seen x.seen y.seen _ _ c.in-Err.why c.in_ok-again-in_default.again rest left c.in-Err.ensures.err c.in_default.not-Memory c.in_default.not-Room
-          (subst (λ d. Stopped d of c.in-Err.why x.seen y.seen c.in_ok-again-in_default.again) c.begin.ensures.client c.in_ok-again-in_default.ensures.ok));
+      joined = subst (HasJoined v.client v.seen) (sym (c.stop.ensures.client ∙ c.begin.ensures.client)) inv.joined;
+      ok = unbegun_ended v w x y c.args.of.now body c.loop.last c.loop.counter inv.left few c.begin.ensures.client c.in-Err.why c.in-Err.ensures.err c.in_default.not-Memory c.in_default.not-Room c.in_ok-again-in_default.again c.stop.ensures.client c.in_ok-again-in_default.ensures.ok;
       cut = tt;
       room = tt;
     }
@@ -177,17 +149,11 @@ tries-loop-preserved g t c =
     let w = g.T.Tx.view c.loop.tx in
     let x = g.T.Tx.view c.begin.new.self in
     let y = g.T.Tx.view c.steps.new.tx in
-    let of = c.args.of.now in
-    let body = c.args.body.now in
-    let by = started_by w.client x.client y.client c.in-Ok.name (numbered body).number _ w.seen x.seen c.begin.ensures.client (sym (number_of body)) c.steps.ensures.joined c.in-Ok.ensures.ok in
-    let left = left_by w.client y.client of (numbered body) v.seen w.seen c.loop.last c.loop.counter by.since (subst (λ n. c.loop.counter < n) (sym (tries_of body)) c.loop-test.true) inv.left in
-    let ended = subst (λ p. Ended y.client c.in-Ok.name x.seen y.seen p c.in_ok-steps-in-Ok.field-0) (plan_is body c.as_slice.result.now c.as_slice.ensures.value) c.in_ok-steps-in-Ok.ensures.ok in
-    let tried = tried_once y.client of c.in-Ok.name (numbered body) w.seen x.seen y.seen left.runs c.in-Ok.ensures.child by.made c.in_ok-steps-in-Ok.field-0 ended in
-    record {
-      met = c.steps.ensures.met;
-      joined = joined_trans v.client w.client y.client v.seen w.seen inv.joined inv.left.leaves.later by.since;
-      left = tried_more y.client of (numbered body) v.seen w.seen y.seen c.loop.last _ c.in-Ok.name left (subst (Tried y.client of c.in-Ok.name (numbered body) w.seen y.seen) (c.in-Stopped.is ∙ ap finish.Stopped c.if-not-again.false) tried);
-    }
+    let body = numbered c.args.body.now in
+    let few : c.loop.counter < body.tries = subst (λ n. c.loop.counter < n) (sym (tries_of c.args.body.now)) c.loop-test.true in
+    let plan = plan_is c.args.body.now c.as_slice.result.now c.as_slice.ensures.value in
+    let ended = subst (Ended y.client c.in-Ok.name x.seen y.seen (plan_of c.as_slice.result.now)) (c.in-Stopped.is ∙ ap finish.Stopped c.if-not-again.false) c.in_ok-steps-in-Ok.ensures.ok in
+    record { met = c.steps.ensures.met; joined = child_joined v w x y c.args.of.now body c.loop.last c.loop.counter inv.left few c.begin.ensures.client c.in-Ok.name c.in-Ok.ensures.child _ (sym (number_of c.args.body.now)) c.in-Ok.ensures.ok c.steps.ensures.joined inv.joined; left = child_again v w x y c.args.of.now body c.loop.last c.loop.counter inv.left few c.begin.ensures.client c.in-Ok.name c.in-Ok.ensures.child _ (sym (number_of c.args.body.now)) c.in-Ok.ensures.ok c.steps.ensures.joined _ plan ended }
 
 pub tries-returns-in-Some-clause-ok : goal.tries-returns-in-Some-clause-ok
 tries-returns-in-Some-clause-ok g t c =
@@ -218,59 +184,36 @@ tries-returns-in_err-steps-in-Ok g t c =
     let w = g.T.Tx.view c.loop.tx in
     let x = g.T.Tx.view c.begin.new.self in
     let y = g.T.Tx.view c.steps.new.tx in
-    let of = c.args.of.now in
-    let body = c.args.body.now in
-    let by = started_by w.client x.client y.client c.in-Ok.name (numbered body).number _ w.seen x.seen c.begin.ensures.client (sym (number_of body)) c.steps.ensures.joined c.in-Ok.ensures.ok in
-    let left = left_by w.client y.client of (numbered body) v.seen w.seen c.loop.last c.loop.counter by.since (subst (λ n. c.loop.counter < n) (sym (tries_of body)) c.loop-test.true) inv.left in
-    let cut = subst (CutOff y.client c.in-Ok.name x.seen y.seen) (plan_is body c.as_slice.result.now c.as_slice.ensures.value) c.in_err-steps-in-Ok.ensures.cut in
+    let body = numbered c.args.body.now in
+    let few : c.loop.counter < body.tries = subst (λ n. c.loop.counter < n) (sym (tries_of c.args.body.now)) c.loop-test.true in
+    let plan = plan_is c.args.body.now c.as_slice.result.now c.as_slice.ensures.value in
     record {
       met = c.steps.ensures.met;
-      joined = joined_trans v.client w.client y.client v.seen w.seen inv.joined inv.left.leaves.later by.since;
+      joined = child_joined v w x y c.args.of.now body c.loop.last c.loop.counter inv.left few c.begin.ensures.client c.in-Ok.name c.in-Ok.ensures.child _ (sym (number_of c.args.body.now)) c.in-Ok.ensures.ok c.steps.ensures.joined inv.joined;
       ok = search rules;
-      cut = any_err _ c.from_residual.result
-          (λ rest. tries_cut y.client of (numbered body) v.seen w.seen y.seen _ _ rest left (cut_once y.client of c.in-Ok.name (numbered body) w.seen x.seen y.seen left.runs c.in-Ok.ensures.child by.made cut));
+      cut = any_err _ c.from_residual.result (child_cut v w x y c.args.of.now body c.loop.last c.loop.counter inv.left few c.begin.ensures.client c.in-Ok.name c.in-Ok.ensures.child _ (sym (number_of c.args.body.now)) c.in-Ok.ensures.ok c.steps.ensures.joined _ plan c.in_err-steps-in-Ok.ensures.cut);
       room = search rules;
     }
 
 pub tries-returns-in-Memory : goal.tries-returns-in-Memory
 tries-returns-in-Memory g t c =
-    let v = g.T.Tx.view c.args.tx.now in
     let inv = c.loop.invariant in
+    let v = g.T.Tx.view c.args.tx.now in
     let w = g.T.Tx.view c.loop.tx in
     let x = g.T.Tx.view c.begin.new.self in
-    let of = c.args.of.now in
     let body = numbered c.args.body.now in
-    record {
-      met = c.begin.ensures.met;
-      joined = subst (HasJoined v.client v.seen) (sym c.begin.ensures.client) c.loop.invariant.joined;
-      ok = tt;
-      cut = λ rest.
-          subst (λ d. CutOff d of v.seen x.seen (child_step body rest)) (sym c.begin.ensures.client)
-          (begin_cut w.client of body v.seen w.seen x.seen _ _ rest
-          (fewer_left w.client of body v.seen w.seen c.loop.last c.loop.counter (subst (λ n. c.loop.counter < n) (sym (tries_of c.args.body.now)) c.loop-test.true) inv.left)
-          (refused_made w.client of body w.seen x.seen c.in-Err.why c.in-Err.ensures.err));
-      room = λ is. cc;
-    }
+    let few : c.loop.counter < body.tries = subst (λ n. c.loop.counter < n) (sym (tries_of c.args.body.now)) c.loop-test.true in
+    record { met = c.begin.ensures.met; joined = subst (HasJoined v.client v.seen) (sym c.begin.ensures.client) inv.joined; ok = tt; cut = unbegun_cut v w x x c.args.of.now body c.loop.last c.loop.counter inv.left few c.begin.ensures.client c.in-Err.why c.in-Err.ensures.err; room = λ is. cc }
 
 pub tries-returns-in-Room : goal.tries-returns-in-Room
 tries-returns-in-Room g t c =
-    let v = g.T.Tx.view c.args.tx.now in
     let inv = c.loop.invariant in
+    let v = g.T.Tx.view c.args.tx.now in
     let w = g.T.Tx.view c.loop.tx in
     let x = g.T.Tx.view c.begin.new.self in
-    let of = c.args.of.now in
     let body = numbered c.args.body.now in
-    record {
-      met = c.begin.ensures.met;
-      joined = subst (HasJoined v.client v.seen) (sym c.begin.ensures.client) c.loop.invariant.joined;
-      ok = tt;
-      cut = λ rest.
-          subst (λ d. CutOff d of v.seen x.seen (child_step body rest)) (sym c.begin.ensures.client)
-          (begin_cut w.client of body v.seen w.seen x.seen _ _ rest
-          (fewer_left w.client of body v.seen w.seen c.loop.last c.loop.counter (subst (λ n. c.loop.counter < n) (sym (tries_of c.args.body.now)) c.loop-test.true) inv.left)
-          (refused_made w.client of body w.seen x.seen c.in-Err.why c.in-Err.ensures.err));
-      room = search rules;
-    }
+    let few : c.loop.counter < body.tries = subst (λ n. c.loop.counter < n) (sym (tries_of c.args.body.now)) c.loop-test.true in
+    record { met = c.begin.ensures.met; joined = subst (HasJoined v.client v.seen) (sym c.begin.ensures.client) inv.joined; ok = tt; cut = unbegun_cut v w x x c.args.of.now body c.loop.last c.loop.counter inv.left few c.begin.ensures.client c.in-Err.why c.in-Err.ensures.err; room = search rules }
 
 pub tries-returns-in_err-again-in_default : goal.tries-returns-in_err-again-in_default
 tries-returns-in_err-again-in_default g t c =
@@ -279,19 +222,13 @@ tries-returns-in_err-again-in_default g t c =
     let w = g.T.Tx.view c.loop.tx in
     let x = g.T.Tx.view c.begin.new.self in
     let y = g.T.Tx.view c.stop.new.tx in
-    let of = c.args.of.now in
     let body = numbered c.args.body.now in
-    let client = sym (c.stop.ensures.client ∙ c.begin.ensures.client) in
-    let left = fewer_left w.client of body v.seen w.seen c.loop.last c.loop.counter (subst (λ n. c.loop.counter < n) (sym (tries_of c.args.body.now)) c.loop-test.true) inv.left in
+    let few : c.loop.counter < body.tries = subst (λ n. c.loop.counter < n) (sym (tries_of c.args.body.now)) c.loop-test.true in
     record {
       met = c.stop.ensures.met;
-      joined = subst (HasJoined v.client v.seen) client inv.joined;
+      joined = subst (HasJoined v.client v.seen) (sym (c.stop.ensures.client ∙ c.begin.ensures.client)) inv.joined;
       ok = search rules;
-      cut = any_err _ c.from_residual-in_err-again-in_default.result
-          (λ rest. subst (λ d. CutOff d of v.seen y.seen (child_step body rest)) client
-          (begin_cut w.client of body v.seen w.seen y.seen _ _ rest left
-          (made_both w.client w.seen x.seen y.seen (refused_made w.client of body w.seen x.seen c.in-Err.why c.in-Err.ensures.err)
-          (subst (λ d. Made d [] x.seen y.seen) c.begin.ensures.client c.in_err-again-in_default.ensures.cut))));
+      cut = any_err _ c.from_residual-in_err-again-in_default.result (stopped_cut v w x y c.args.of.now body c.loop.last c.loop.counter inv.left few c.begin.ensures.client c.in-Err.why c.in-Err.ensures.err c.stop.ensures.client c.in_err-again-in_default.ensures.cut);
       room = search rules;
     }
 
