@@ -1,6 +1,6 @@
 -- Who follows a plan by one list of entries follows it by another that tells the same of each name below.
 use Rattle.std.proofs.Common.{◌≡◌, ◌⊎◌, inl, inr, ℕ, Bool, true, false, List, [], ◌∷◌, refl, sym, ap, ◌∙◌, subst, ◌<◌, ◌≤◌, arith, length}
-use Rattle.std.specs.Prelude.{◌==◌, Option, None, Some, MatchBool, IsTrue}
+use Rattle.std.specs.Prelude.{◌==◌, Option, None, Some, MatchBool}
 use Rattle.std.specs.List.{AllByRecursion}
 use Rattle.std.specs.Option.{option_map_or}
 use Rattle.qc_event.specs.declared.event.Answer.{Answer}

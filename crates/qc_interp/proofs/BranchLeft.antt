@@ -8,17 +8,17 @@ use Rattle.qc_event.specs.declared.event.Event.TheVariants as event
 use Rattle.qc_event.specs.declared.event.How.{How}
 use Rattle.qc_event.specs.declared.event.How.TheVariants.{Commit, Abort}
 use Rattle.qc_event.specs.declared.event.Kind.TheVariants as kind
-use Rattle.qc_event.specs.History.{Past, Name, end, is_ready, is_child, kind_of, children}
+use Rattle.qc_event.specs.History.{Past, Name, end, is_ready, is_child, children}
 use Rattle.qc_event.specs.Legal.{Legal}
 use Rattle.qc_event.proofs.Later.{earlier_legal}
 use Rattle.qc_script.specs.Calls.{by_client}
-use Rattle.qc_script.specs.Client.{Client, mine, is_own, Made, IsLater, HasJoined, AreOurs}
+use Rattle.qc_script.specs.Client.{Client, mine, Made, IsLater, HasJoined, AreOurs}
 use Rattle.qc_script.specs.Plan.{Numbered}
 use Rattle.qc_interp.specs.AtOnce.{LastCommitted}
 use Rattle.qc_interp.specs.Asking.{Asks, AllAsked, IsAskedBy}
 use Rattle.qc_interp.specs.Branches.{tries_by, AreTriesOurs, stays_with, IsLast, RanTries}
 use Rattle.qc_interp.specs.Deeds.{Deed, deeds, deed_end, OfChild}
-use Rattle.qc_interp.specs.Follows.{IsUnended, RunsPlan}
+use Rattle.qc_interp.specs.Follows.{IsUnended}
 use Rattle.qc_interp.specs.Reach.{Reach, AtTheEnd}
 use Rattle.qc_interp.specs.Rows.{OneOf, has_committed, was_tried}
 use Rattle.qc_interp.specs.Running.{Runs, CameTo, Ended, CutOff}
@@ -26,15 +26,13 @@ use Rattle.qc_interp.specs.Tries.{Tries, is_tried_again, is_again}
 use Rattle.qc_interp.specs.Turns.{is_under}
 use Rattle.qc_interp.specs.declared.stops.Finish.{Finish}
 use Rattle.qc_interp.specs.declared.stops.Finish.TheVariants as finish
-use Rattle.qc_interp.proofs.Asked.{asked_made, asked_wider, asked_trans, asks_still}
+use Rattle.qc_interp.proofs.Asked.{asked_made, asked_wider, asked_trans}
 use Rattle.qc_interp.proofs.BranchTries.{TriesAt, tries_itself, tries_trans, TriedOne, CutOne, one_tried, one_cut}
-use Rattle.qc_interp.proofs.Followed.{IsTryOf, follows_runs, followed_done, done_closed}
+use Rattle.qc_interp.proofs.Followed.{IsTryOf}
 use Rattle.qc_interp.proofs.Growth.{made_is, made_later, later_itself, ours_before, first_made}
 use Rattle.qc_interp.proofs.OneTry.{more_try, number_later, runs_later, again_later, asked_later}
 use Rattle.qc_interp.proofs.Joined.{joined_before, joined_chain, joined_since, joined_start, joined_root, joined_mine, by_joined, more_mine, more_later, newer_mine, ours_back, both, OwnAlike}
 use Rattle.qc_interp.proofs.MadeBy.{made_by}
-use Rattle.qc_interp.proofs.StepsLeave.{kind_later}
-use Rattle.qc_interp.proofs.Still.{follows_still, again_still}
 use Rattle.qc_interp.proofs.TopsRun.{all_last}
 use Rattle.qc_interp.proofs.Tried.{MayBegin, runs_begun}
 use Rattle.qc_interp.proofs.TriesLead.{again_is, match_true, match_false}

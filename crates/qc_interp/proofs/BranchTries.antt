@@ -1,40 +1,32 @@
 -- What a try of a branch's body leaves, below the client's root.
-use Rattle.std.proofs.Common.{◌≡◌, inl, inr, ℕ, ◌+◌, Bool, true, false, List, [], ◌∷◌, ◌++◌, length, refl, sym, ap, ◌∙◌, subst, append-nil, append_assoc, arith}
-use Rattle.std.specs.Prelude.{Some, is_some, ◌&&◌, ◌||◌}
+use Rattle.std.proofs.Common.{◌≡◌, Bool, true, false, List, [], ◌∷◌, ◌++◌, refl, sym, ap, ◌∙◌, subst, append-nil, append_assoc, arith}
+use Rattle.std.specs.Prelude.{is_some, ◌&&◌, ◌||◌}
 use Rattle.std.specs.List.{AllByRecursion, list_all}
 use Rattle.std.proofs.lemmas.List.Elements.{filter-append}
 use Rattle.std.proofs.lemmas.Bool.{and_from, and_parts, or_left, or_right}
 use Rattle.std.proofs.lemmas.List.Folds.{list_all-append, list_any-append}
-use Rattle.qc_event.specs.declared.event.Entry.{Entry}
 use Rattle.qc_event.specs.declared.event.Event.TheVariants as event
 use Rattle.qc_event.specs.declared.event.Kind.TheVariants as kind
-use Rattle.qc_event.specs.History.{Past, Name, end, is_ready, children, is_child, kind_of}
+use Rattle.qc_event.specs.History.{Past, Name, end, is_ready, children, is_child}
 use Rattle.qc_event.specs.Legal.{Legal}
-use Rattle.qc_event.proofs.LastNumber.{child_last, length_last, child_longer}
-use Rattle.qc_event.proofs.LegalOrderly.{ready_top}
+use Rattle.qc_event.proofs.LastNumber.{child_longer}
 use Rattle.qc_event.proofs.OneEntry.{child_added}
 use Rattle.qc_script.specs.Calls.{by_client}
-use Rattle.qc_script.specs.Client.{Client, mine, is_own, scope, Made, IsLater, AreOurs}
+use Rattle.qc_script.specs.Client.{Client, mine, scope, Made, IsLater, AreOurs}
 use Rattle.qc_script.specs.Plan.{Numbered}
 use Rattle.qc_interp.specs.Adding.{stays_in, AllStayIn}
-use Rattle.qc_interp.specs.Asking.{Asks, AllAsked}
 use Rattle.qc_interp.specs.Branches.{tries_by, AreTriesOurs, stays_with}
-use Rattle.qc_interp.specs.Deeds.{Deed, deeds}
-use Rattle.qc_interp.specs.Follows.{IsUnended, RunsPlan}
+use Rattle.qc_interp.specs.Follows.{IsUnended}
 use Rattle.qc_interp.specs.Reach.{Reach, AtTheEnd}
 use Rattle.qc_interp.specs.Running.{LeavesIt, LeavesAt, EndsAt, CameTo, Ended, CutOff}
 use Rattle.qc_interp.specs.Tries.{is_tried_again}
 use Rattle.qc_interp.specs.Turns.{is_under}
 use Rattle.qc_interp.specs.declared.stops.Finish.{Finish}
 use Rattle.qc_interp.proofs.Adding.{start_stays_in}
-use Rattle.qc_interp.proofs.Asked.{asked_made, asked_wider, asked_trans}
 use Rattle.qc_interp.proofs.Deeds.{same_children}
-use Rattle.qc_interp.proofs.Followed.{followed_done, done_closed}
 use Rattle.qc_interp.proofs.Growth.{made_is, made_later, later_itself, later_trans, ours_before}
-use Rattle.qc_interp.proofs.Mine.{kept_some}
 use Rattle.qc_interp.proofs.RowOurs.{child_is_scope}
 use Rattle.qc_interp.proofs.Seats.{own_under, later_seat, later_under}
-use Rattle.qc_interp.proofs.StepsLeave.{kind_later}
 use Rattle.qc_interp.proofs.OneTry.{IsTry, is_try, left_above, ended_below}
 use Rattle.qc_interp.proofs.Stopping.{unended_again}
 use Rattle.qc_interp.proofs.TopsRun.{all_last, all_front}

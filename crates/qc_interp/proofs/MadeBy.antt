@@ -1,7 +1,7 @@
 -- What a client made meanwhile, by what is its own before and after; and who has more kin.
 use Rattle.std.proofs.Common.{◌≡◌, inl, inr, ℕ, ◌≤◌, Bool, true, false, List, [], ◌∷◌, ◌++◌, length, refl, sym, ap, ◌∙◌, subst, append_assoc, arith, length-append}
 use mathlib.Core.Bool.{true≢false}
-use Rattle.std.specs.Prelude.{Option, ◌||◌, not, if◌then◌else◌, filter, is_some, ◌==◌}
+use Rattle.std.specs.Prelude.{◌||◌, not, if◌then◌else◌, filter, ◌==◌}
 use Rattle.std.specs.List.{AllByRecursion, list_any}
 use Rattle.std.proofs.lemmas.List.{append_cancel_right}
 use Rattle.std.proofs.lemmas.List.Elements.{filter-append}
@@ -9,11 +9,9 @@ use Rattle.std.proofs.lemmas.List.Folds.{list_any-append}
 use Rattle.std.proofs.lemmas.Bool.{ne_eqb}
 use Rattle.std.proofs.lemmas.Bool.Decides.{eqb_tells}
 use Rattle.qc_event.specs.declared.event.Entry.{Entry}
-use Rattle.qc_event.specs.History.{Past, Name, limit, earliest, end_in, ready_in}
+use Rattle.qc_event.specs.History.{Past, Name, limit, end_in, ready_in}
 use Rattle.qc_event.specs.Legal.{Legal}
 use Rattle.qc_event.specs.Standing.{IsAbort}
-use Rattle.qc_event.proofs.Histories.{earliest-append}
-use Rattle.qc_event.proofs.OneEntry.{stays_some}
 use Rattle.qc_script.specs.declared.tx.TxNo.{TxNo}
 use Rattle.qc_script.specs.declared.tx.TxNo.TheVariants as tx_no
 use Rattle.qc_script.specs.Calls.{NoneUnder, Refuses, WasRefused}

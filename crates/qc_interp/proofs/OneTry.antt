@@ -1,6 +1,6 @@
 -- One try of a body, be it of a child, of a branch or of a top: what is so of it by what it left, as its client merges branches,
 -- and for ever.
-use Rattle.std.proofs.Common.{◌≡◌, inl, inr, ◌<◌, true, List, [], ◌∷◌, ◌++◌, length, refl, sym, ap, ◌∙◌, subst, append_assoc, arith, ℕ, ◌+◌}
+use Rattle.std.proofs.Common.{◌≡◌, inl, inr, ◌<◌, true, List, [], ◌∷◌, ◌++◌, length, sym, ap, ◌∙◌, subst, append_assoc, arith, ℕ, ◌+◌}
 use Rattle.std.specs.Prelude.{Some, is_some}
 use Rattle.std.specs.List.{AllByRecursion}
 use Rattle.qc_event.specs.declared.event.Entry.{Entry}

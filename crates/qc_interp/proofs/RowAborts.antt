@@ -11,11 +11,8 @@ use Rattle.qc_event.specs.declared.event.How.{How}
 use Rattle.qc_event.specs.declared.event.How.TheVariants.{Commit, Abort}
 use Rattle.qc_event.specs.Base.{Setting}
 use Rattle.qc_event.specs.Dead.{outcome, outcome_of, is_committed}
-use Rattle.qc_event.specs.History.{Past, Name, Begun, end, is_child, is_ready, same, start, earliest, end_in, ready_in}
+use Rattle.qc_event.specs.History.{Past, Name, end, is_child, is_ready, same, start, end_in, ready_in}
 use Rattle.qc_event.specs.Legal.{Legal}
-use Rattle.qc_event.specs.declared.event.Entry.{Entry}
-use Rattle.qc_event.proofs.Histories.{earliest-append}
-use Rattle.qc_event.proofs.OneEntry.{stays_some}
 use Rattle.qc_event.specs.Standing.{IsUser, IsAbort}
 use Rattle.qc_event.proofs.Absent.{same_is}
 use Rattle.qc_event.proofs.LastNumber.{child_last, child_longer, is_ancestor-append}

@@ -162,7 +162,7 @@ pub record RowDone (of : Name) (v w3 : View) (bs2 : List Stands) (bodies : List 
   pub own : HaveOwnBodies (map branch_in bs2)
   pub are : map (λ (b : Branch). b.body) (map branch_in bs2) ≡ bodies
 
-module _ (of : Name) (v w3 : View) (bs2 : List Stands) (bodies : List Numbered) (r : RowDone of v w3 bs2 bodies) where
+module _ {of : Name} {v w3 : View} {bs2 : List Stands} {bodies : List Numbered} (r : RowDone of v w3 bs2 bodies) where
   open r use {w1, w2, bs0, bs1, runs, began, shown, same, made, ran, merged, some, own, are}
 
   abbrev c : Client

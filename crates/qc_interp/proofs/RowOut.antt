@@ -1,15 +1,13 @@
 -- A transaction goes on, stops or is cut off behind branches that have run.
-use Rattle.std.proofs.Common.{◌≡◌, inl, inr, Bool, true, false, List, [], refl, sym, ap, ◌∙◌, subst, append-nil}
+use Rattle.std.proofs.Common.{Bool, true, false, List, [], refl, sym, ap, ◌∙◌, append-nil}
 use Rattle.std.specs.Prelude.{Option, None, Some, option_map}
-use Rattle.qc_event.specs.declared.event.Cause.{Cause}
 use Rattle.qc_event.specs.History.{Past, Name, end}
 use Rattle.qc_script.specs.declared.tx.TxNo.{TxNo}
-use Rattle.qc_script.specs.Client.{Client, mine, Made, AreOurs}
+use Rattle.qc_script.specs.Client.{Client, mine, Made}
 use Rattle.qc_script.specs.Plan.{Plan, Numbered}
 use Rattle.qc_interp.specs.AtOnce.{IsRefusal}
 use Rattle.qc_interp.specs.Branches.{row_step, FrontRow}
 use Rattle.qc_interp.specs.Deeds.{Deed, deeds, OfChild}
-use Rattle.qc_interp.specs.Follows.{is_of_orphan, WasOrphan, GoesOnAfter, FollowsPlan}
 use Rattle.qc_interp.specs.Reach.{Reach}
 use Rattle.qc_interp.specs.Running.{Runs, Leaves, Ended, CutOff, HasFailed, QuitFor, Stopped, WentOn}
 use Rattle.qc_interp.specs.declared.stops.Finish.TheVariants as finish

@@ -1,5 +1,5 @@
 -- What a step leaves of whose bodies not all could be begun.
-use Rattle.std.proofs.Common.{◌≡◌, Bool, true, false, List, [], ◌∷◌, length, map, refl, sym, subst}
+use Rattle.std.proofs.Common.{◌≡◌, Bool, true, false, List, [], length, map, sym, subst}
 use Rattle.std.specs.Prelude.{Option, None, Some, is_some}
 use Rattle.std.specs.List.{AllByRecursion}
 use Rattle.qc_event.specs.History.{Past, Name, end, limit}
@@ -10,7 +10,7 @@ use Rattle.qc_script.specs.Calls.{Refuses}
 use Rattle.qc_script.specs.Client.{View, Made}
 use Rattle.qc_script.specs.Plan.{Plan, Numbered}
 use Rattle.qc_interp.specs.declared.body.branch.BranchCame.TheVariants as came
-use Rattle.qc_interp.specs.AtOnce.{Stands, branch_in, MergedInTurn, RefusedSo, IsFirst, TurnedSome, TurnedAll, KnowsBehind, WentBehind}
+use Rattle.qc_interp.specs.AtOnce.{Stands, branch_in, RefusedSo, IsFirst, TurnedSome, TurnedAll, KnowsBehind, WentBehind}
 use Rattle.qc_interp.specs.Branches.{Branch, row_step}
 use Rattle.qc_interp.specs.Running.{CutOff, HasActed}
 use Rattle.qc_interp.proofs.BranchEnds.{refusal_stops, why_refused}
@@ -23,11 +23,11 @@ use Rattle.qc_interp.proofs.RowOut.{RowOut, row_stops, row_cut_behind}
 use Rattle.qc_interp.proofs.RowTurnedOut.{RowTurned, back_cut, back_out, back_legal}
 use Rattle.qc_interp.proofs.RowTurning.{all_front, turned_firsts, turned_grown, turned_refused}
 
-module _ (of : Name) (v w : View) (bodies : List Numbered) (why : TxNo) (firsts : List Name) (t : RowTurned of v w bodies why firsts) where
+module _ {of : Name} {v w : View} {bodies : List Numbered} {why : TxNo} {firsts : List Name} (t : RowTurned of v w bodies why firsts) where
   open t use {begun as m, seen_by_all as m1, bs, ones, others, runs, began, shown, same, made, merged, first, then, fits, are}
 
   legal : Legal w.client.setting w.seen
-  legal = back_legal of v w bodies why firsts t
+  legal = back_legal t
 
   -- it is refused still
   pub turned_refused_so : (why ≡ tx_no.Memory → ⊥) → (why ≡ tx_no.Room → ⊥) → RefusedSo w.seen of why
@@ -49,12 +49,12 @@ module _ (of : Name) (v w : View) (bodies : List Numbered) (why : TxNo) (firsts 
 
   -- it was cut off before an abort, or as some were aborted
   pub turned_cut_at_once : (rest : Plan) → CutOff w.client of v.seen w.seen (row_step bodies rest)
-  turned_cut_at_once rest = back_cut of v w bodies why firsts t [] w.seen (subst (λ es. Made w.client es w.seen w.seen) (sym (none_back w.client (map branch_in ones))) (made_itself w.client w.seen legal)) rest
+  turned_cut_at_once rest = back_cut t [] w.seen (subst (λ es. Made w.client es w.seen w.seen) (sym (none_back w.client (map branch_in ones))) (made_itself w.client w.seen legal)) rest
 
   pub turned_cut_off : (x : Past) (rest : Plan) → TurnedSome w.client firsts w.seen x → CutOff w.client of v.seen x (row_step bodies rest)
   turned_cut_off x rest turned =
       let back = back_some w.client ones w.seen x (subst (λ ns. TurnedSome w.client ns w.seen x) are turned) in
-      back_cut of v w bodies why firsts t back.0 x back.1 rest
+      back_cut t back.0 x back.1 rest
 
   -- all have ended
   module _ (refused : RefusedSo w.seen of why) (x : Past) (turned : TurnedAll w.client why firsts w.seen x) where
@@ -62,7 +62,7 @@ module _ (of : Name) (v w : View) (bodies : List Numbered) (why : TxNo) (firsts 
     back = back_all w.client of ones w.seen x why legal runs.nonroot refused first_tries (subst (λ ns. TurnedAll w.client why ns w.seen x) are turned)
 
     pub turned_row_out : RowOut w.client of v.seen x bodies false None
-    turned_row_out = back_out of v w bodies why firsts t back.0.0 x back.0.1 back.1
+    turned_row_out = back_out t back.0.0 x back.0.1 back.1
 
     -- it stops by the refusal
     pub turned_knows : KnowsBehind w.client of x (came.Refused why)

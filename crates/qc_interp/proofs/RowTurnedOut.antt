@@ -47,7 +47,7 @@ pub record RowTurned (of : Name) (v w : View) (bodies : List Numbered) (why : Tx
   pub fits : PlanFits v.client.setting (length of) (row_step bodies then)
   pub are : firsts ≡ map (λ (b : Stands). b.first) ones
 
-module _ (of : Name) (v w : View) (bodies : List Numbered) (why : TxNo) (firsts : List Name) (t : RowTurned of v w bodies why firsts) where
+module _ {of : Name} {v w : View} {bodies : List Numbered} {why : TxNo} {firsts : List Name} (t : RowTurned of v w bodies why firsts) where
   open t use {begun as m, seen_by_all as m1, bs, ones, others, runs, began, shown, same, made, merged, first, some, then, fits}
 
   abbrev c : Client

@@ -2,15 +2,10 @@
 use Rattle.std.proofs.Common.{◌≡◌, ℕ, suc, ◌<◌, ◌+◌, ◌≤◌, Bool, true, false, List, [], ◌∷◌, ◌++◌, length, drop, map, get_or, refl, sym, ap, ◌∙◌, subst, append-nil, add-one, drop-cons}
 use Rattle.std.specs.Prelude.{Option, None, Some}
 use Rattle.std.proofs.lemmas.List.{drop_all}
-use Rattle.std.specs.List.{AllByRecursion}
-use Rattle.qc_event.specs.declared.event.Entry.{Entry}
-use Rattle.qc_event.specs.History.{Past, Name, children, end, kind_of}
+use Rattle.qc_event.specs.History.{Past, Name, children, end}
 use Rattle.qc_event.specs.Legal.{Legal}
 use Rattle.qc_script.specs.declared.script.Body.{Body}
 use Rattle.qc_script.specs.Client.{Client, Made, IsLater, HasJoined, AreOurs}
-use Rattle.qc_interp.specs.Asking.{Asks, IsAskedBy}
-use Rattle.qc_interp.specs.Deeds.{deeds}
-use Rattle.qc_interp.specs.Follows.{FollowsPlan}
 use Rattle.qc_interp.specs.Tries.{is_tried_again}
 use Rattle.qc_interp.specs.Reach.{Reach}
 use Rattle.qc_script.specs.Plan.{Numbered, PlanFits}

@@ -2,23 +2,18 @@
 use Rattle.std.proofs.Common.{◌≡◌, inl, inr, ℕ, suc, Bool, true, false, List, [], ◌∷◌, ◌++◌, sym, ap, ◌∙◌, subst, append_assoc}
 use Rattle.std.specs.Prelude.{Option, Some, MatchBool}
 use Rattle.std.specs.List.{AllByRecursion}
-use Rattle.qc_event.specs.declared.event.Entry.{Entry}
 use Rattle.qc_event.specs.History.{Past, Name, end}
-use Rattle.qc_event.specs.Legal.{Legal}
-use Rattle.qc_script.specs.Client.{Client, mine, is_own, IsLater, AreOurs}
+use Rattle.qc_script.specs.Client.{Client, mine, IsLater, AreOurs}
 use Rattle.qc_interp.specs.Deeds.{deeds}
-use Rattle.qc_interp.specs.Follows.{FollowsPlan, RunsBody}
+use Rattle.qc_interp.specs.Follows.{RunsBody}
 use Rattle.qc_interp.specs.Reach.{Reach}
 use Rattle.qc_script.specs.Plan.{Numbered}
 use Rattle.qc_interp.specs.Session.{tops, NotBegun, RunsBodies, AreAllOurs, EndsTopsAt}
 use Rattle.qc_interp.specs.Tries.{Tries, is_tried_again, TriesDo}
 use Rattle.qc_interp.proofs.OneTry.{number_later, runs_later, again_later, asked_later}
-use Rattle.qc_interp.proofs.Followed.{follows_runs, followed_done, done_closed}
-use Rattle.qc_interp.proofs.Still.{follows_still, again_still}
 use Rattle.qc_interp.proofs.Growth.{ours_before}
-use Rattle.qc_interp.proofs.StepsLeave.{kind_later}
 use Rattle.qc_interp.specs.Asking.{Asks, BodiesAsk, AllAsked}
-use Rattle.qc_interp.proofs.Asked.{asked_wider, asked_trans, asks_still}
+use Rattle.qc_interp.proofs.Asked.{asked_wider, asked_trans}
 use Rattle.qc_interp.proofs.TriesLead.{match_true, match_false}
 use Rattle.qc_interp.proofs.TopsRun.{TriedTop, CutTop, none_begun, all_last}
 

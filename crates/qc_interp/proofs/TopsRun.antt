@@ -21,9 +21,9 @@ use Rattle.qc_event.proofs.Later.{earlier_legal, start_still}
 use Rattle.qc_event.proofs.RootAndTops.{ready_started}
 use Rattle.qc_script.specs.Calls.{by_client, IsOfSession}
 use Rattle.qc_script.specs.Client.{Client, mine, is_own, scope, Made, IsLater, AreOurs}
-use Rattle.qc_interp.specs.Deeds.{Deed, deeds}
+use Rattle.qc_interp.specs.Deeds.{deeds}
 use Rattle.qc_interp.proofs.Deeds.{start_silent, deeds_quiet, no_deeds, same_children}
-use Rattle.qc_interp.specs.Follows.{RunsPlan, FollowsPlan, IsUnended}
+use Rattle.qc_interp.specs.Follows.{FollowsPlan, IsUnended}
 use Rattle.qc_interp.specs.Reach.{Reach}
 use Rattle.qc_script.specs.Plan.{Numbered}
 use Rattle.qc_interp.specs.Running.{IsBelow, Runs, LeavesAt, EndsAt, Ended, CutOff}
@@ -42,12 +42,10 @@ use Rattle.qc_interp.proofs.Stopping.{unended_again}
 use Rattle.qc_interp.proofs.Growth.{made_is, made_later, later_itself, later_trans, ours_before}
 use Rattle.qc_interp.proofs.Seats.{start_under, own_under, later_seat, later_under}
 use Rattle.qc_interp.proofs.Managers.{found_quiet, absent, came_after, none_kept, children_rest, start_rest}
-use Rattle.qc_interp.proofs.StepsLeave.{kind_later}
 use Rattle.qc_interp.specs.Adding.{AllStayIn, is_of_one, AllOfOne, starts_for, AllForIts, own_after, all_over}
 use Rattle.qc_script.specs.Numbers.{Numbers, own_next}
 use Rattle.qc_script.specs.Calls.{is_over}
-use Rattle.qc_interp.specs.Asking.{Asks, AllAsked}
-use Rattle.qc_interp.proofs.Asked.{asked_made, asked_wider, asked_trans}
+use Rattle.qc_interp.proofs.Asked.{asked_made}
 use Rattle.qc_interp.proofs.TriesLead.{again_is}
 use Rattle.qc_interp.proofs.OneTry.{IsTry, is_try}
 

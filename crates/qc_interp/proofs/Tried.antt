@@ -1,5 +1,5 @@
 -- What a try of a child leaves that ended, or that was cut off.
-use Rattle.std.proofs.Common.{◌≡◌, inl, inr, ℕ, ◌<◌, ◌≤◌, ◌+◌, true, false, List, [], ◌∷◌, ◌++◌, length, refl, sym, ap, ◌∙◌, subst, append-nil, append_assoc, arith, length-append}
+use Rattle.std.proofs.Common.{◌≡◌, inl, inr, ℕ, ◌<◌, ◌≤◌, ◌+◌, true, false, [], ◌∷◌, ◌++◌, length, refl, sym, ap, ◌∙◌, subst, append-nil, append_assoc, arith, length-append}
 use Rattle.std.specs.Prelude.{Some, MatchOption, is_some, is_none, IsTrue, not, find, option_map, ◌&&◌}
 use Rattle.std.proofs.lemmas.Bool.{false_from_ne_true}
 use Rattle.qc_event.specs.declared.event.Entry.{Entry}
@@ -16,7 +16,7 @@ use Rattle.qc_script.specs.Calls.{by_client, IsOfSession}
 use Rattle.qc_script.specs.Client.{Client, mine, is_own, scope, Made, IsLater, AreOurs}
 use Rattle.qc_interp.specs.Deeds.{Deed, deeds}
 use Rattle.qc_interp.proofs.Deeds.{start_silent, deeds_quiet, child_deed, same_children}
-use Rattle.qc_interp.specs.Follows.{IsUnended, RunsPlan, FollowsPlan}
+use Rattle.qc_interp.specs.Follows.{IsUnended}
 use Rattle.qc_interp.specs.Reach.{Reach}
 use Rattle.qc_interp.specs.Turns.{seat_of, is_beside}
 use Rattle.qc_script.specs.Plan.{Numbered}
@@ -27,18 +27,15 @@ use Rattle.qc_interp.proofs.Adding.{all_later, start_stays_in, over_later}
 use Rattle.qc_interp.proofs.Scope.{child_scope, same_scope}
 use Rattle.qc_interp.proofs.Turning.{InTurn, Alone, child_keeps, start_turns, alone_up, some_done}
 use Rattle.qc_interp.proofs.Mine.{kept_some}
-use Rattle.qc_interp.proofs.Followed.{followed_done, done_closed}
 use Rattle.qc_interp.proofs.Seats.{start_under, later_seat, later_beside}
 use Rattle.qc_interp.proofs.Growth.{made_is, made_later, later_itself, later_trans, ours_before}
 use Rattle.qc_interp.proofs.Managers.{found_quiet, NewChild, new_child}
 use Rattle.qc_interp.proofs.OneTry.{IsTry, is_try, left_above, ended_below}
 use Rattle.qc_interp.proofs.Stopping.{unended_again}
 use Rattle.qc_interp.proofs.Ending.{user_is}
-use Rattle.qc_interp.proofs.StepsLeave.{kind_later, closed_more}
+use Rattle.qc_interp.proofs.StepsLeave.{closed_more}
 use Rattle.std.specs.List.{list_all}
 use Rattle.qc_interp.specs.Adding.{stays_in, AllStayIn}
-use Rattle.qc_interp.specs.Asking.{Asks, AllAsked}
-use Rattle.qc_interp.proofs.Asked.{asked_made, asked_wider, asked_trans}
 
 -- A CHILD THAT BEGINS
 

@@ -2,17 +2,15 @@
 use Rattle.std.proofs.Common.{◌≡◌, inl, inr, ℕ, suc, Bool, true, false, List, [], ◌∷◌, ◌++◌, refl, sym, ap, ◌∙◌, subst, append_assoc}
 use mathlib.Core.Bool.{true≢false}
 use Rattle.std.specs.Prelude.{Option, None, Some, MatchOption, MatchBool, is_some, option_map}
-use Rattle.qc_event.specs.declared.event.Entry.{Entry}
 use Rattle.qc_event.specs.declared.event.Answer.{Answer}
 use Rattle.qc_event.specs.declared.event.How.{How}
 use Rattle.qc_event.specs.declared.event.How.TheVariants.{Commit, Abort}
 use Rattle.qc_event.specs.declared.event.Kind.TheVariants as kind
 use Rattle.qc_event.specs.History.{Past, Name, end, is_ready, kind_of}
-use Rattle.qc_event.specs.Legal.{Legal}
 use Rattle.qc_event.specs.Standing.{IsAbort}
-use Rattle.qc_script.specs.Client.{Client, mine, is_own, IsLater, AreOurs}
+use Rattle.qc_script.specs.Client.{Client, mine, IsLater, AreOurs}
 use Rattle.qc_interp.specs.Deeds.{Deed, deeds, deed_end, OfChild}
-use Rattle.qc_interp.specs.Follows.{Stops, IsUnended, GoesOnAfter, AfterTries, RunsPlan, FollowsPlan}
+use Rattle.qc_interp.specs.Follows.{Stops, IsUnended, GoesOnAfter, AfterTries, RunsPlan}
 use Rattle.qc_interp.specs.Reach.{Reach}
 use Rattle.qc_interp.specs.Turns.{is_beside}
 use Rattle.qc_script.specs.Plan.{Plan, Numbered}
@@ -21,14 +19,12 @@ use Rattle.qc_interp.specs.Tries.{Tries, is_tried_again, is_again, TriesDo}
 use Rattle.qc_interp.specs.declared.stops.Finish.{Finish}
 use Rattle.qc_interp.specs.declared.stops.Finish.TheVariants as finish
 use Rattle.qc_interp.proofs.OneTry.{number_later, runs_later, again_later, asked_later}
-use Rattle.qc_interp.proofs.Followed.{follows_runs, followed_done, done_closed}
-use Rattle.qc_interp.proofs.Still.{follows_still, again_still}
 use Rattle.qc_interp.proofs.Seats.{later_beside}
 use Rattle.qc_interp.proofs.Growth.{ours_before}
 use Rattle.qc_interp.proofs.Stopping.{running_stops, running_unended, running_runs}
-use Rattle.qc_interp.proofs.StepsLeave.{end_later, kind_later}
+use Rattle.qc_interp.proofs.StepsLeave.{end_later}
 use Rattle.qc_interp.specs.Asking.{DoesOn, DoesAfter, Asks, AllAsked}
-use Rattle.qc_interp.proofs.Asked.{asked_wider, asked_trans, asks_still}
+use Rattle.qc_interp.proofs.Asked.{asked_wider, asked_trans}
 use Rattle.qc_interp.proofs.Tried.{Tried, CutTry}
 
 -- WHAT TRIES LEAD TO

@@ -1,12 +1,11 @@
 -- What is left of the tries of a child after some of them.
 use Rattle.std.proofs.Common.{◌≡◌, ℕ, suc, Bool, true, false, [], ◌∷◌, ◌++◌, refl, sym, ap, ◌∙◌, subst, append-nil}
 use Rattle.std.specs.Prelude.{Option, None, Some, is_some}
-use Rattle.qc_event.specs.declared.event.Entry.{Entry}
-use Rattle.qc_event.specs.History.{Past, Name, end, kind_of}
+use Rattle.qc_event.specs.History.{Past, Name, end}
 use Rattle.qc_script.specs.Calls.{WasRefused}
 use Rattle.qc_script.specs.Client.{Client, HasJoined, mine, Made, AreOurs}
 use Rattle.qc_interp.specs.Deeds.{Deed, deeds}
-use Rattle.qc_interp.specs.Follows.{StopsEarly, FollowsPlan}
+use Rattle.qc_interp.specs.Follows.{StopsEarly}
 use Rattle.qc_interp.specs.Reach.{Reach}
 use Rattle.qc_script.specs.Plan.{Plan, Numbered}
 use Rattle.qc_interp.specs.Running.{Runs, Leaves, WhyStop, StopsBy, Stopped, CameTo, Ended, CutOff, WentOn, HasFailed, child_step, FrontTries, Failed}
@@ -19,8 +18,6 @@ use Rattle.qc_interp.proofs.Stopping.{running_stops}
 use Rattle.qc_interp.proofs.Ending.{leaves_trans, leaves_cut, still, leaves_still, runs_still}
 use Rattle.qc_interp.proofs.TriesAlike.{IfAny}
 use Rattle.qc_interp.proofs.Asked.{NoOne, asked_made, asked_none, asked_trans}
-use Rattle.std.specs.List.{AllByRecursion}
-use Rattle.qc_interp.specs.Asking.{Asks, IsAskedBy}
 use Rattle.qc_interp.proofs.OneTry.{more_try}
 use Rattle.qc_interp.proofs.Joined.{joined_itself, joined_before, joined_chain, joined_since, joined_runs, joined_leaves, joined_failed, by_joined, more_mine, more_runs, more_leaves, ours_back, both}
 use Rattle.qc_interp.proofs.Tried.{Tried, CutTry}

@@ -1,19 +1,17 @@
-use Rattle.std.proofs.Common.{rules, inr, Ok, true, false, map, ◌∷◌, Option, None, Some, ◌++◌, ◌≡◌, ◌<◌, ◌≤◌, ◌+◌, ◌-◌, ℕ, suc, [], length, refl, sym, ap, ◌∙◌, subst, arith}
+use Rattle.std.proofs.Common.{rules, inr, Ok, map, ◌∷◌, None, ◌≡◌, ◌<◌, ◌≤◌, ◌+◌, ◌-◌, [], length, refl, sym, ap, ◌∙◌, subst, arith}
 use Rattle.std.specs.Prelude.{IfOk, IfErr}
 use Rattle.qc_event.specs.declared.event.Kind.TheVariants as kind
-use Rattle.qc_event.specs.History.{Past, Name}
 use Rattle.qc_event.proofs.LastNumber.{child_longer}
-use Rattle.qc_script.specs.Client.{Client, View, mine, Made, HasJoined}
-use Rattle.qc_script.specs.Plan.{Plan, Numbered, PlanFits, row_of, manage_then, change_then, need_then, plus, minus}
+use Rattle.qc_script.specs.Client.{Client, Made, HasJoined}
+use Rattle.qc_script.specs.Plan.{Plan, PlanFits, row_of, manage_then, change_then, need_then, plus, minus}
 use Rattle.qc_script.specs.Steps.{put, plan_of, numbered}
-use Rattle.qc_interp.specs.Running.{Runs, WhyStop, Stopped, Ended, CutOff, Acted, HasActed, HasLooked, Stepped, WentOn, child_step, TriesCame}
+use Rattle.qc_interp.specs.Running.{Runs, WhyStop, Ended, CutOff, Acted, HasActed, HasLooked, Stepped, WentOn, child_step, TriesCame}
 use Rattle.qc_interp.specs.declared.stops.Finish.TheVariants as finish
 use Rattle.qc_interp.proofs.Results.{if_ok, if_err, any_err, same_err}
 use Rattle.qc_event.specs.declared.log.Short.TheVariants as short
 use Rattle.qc_event.specs.History.{limit}
 use Rattle.qc_interp.proofs.Ending.{cut_still}
-use Rattle.qc_interp.proofs.Growth.{made_both}
-use Rattle.qc_interp.proofs.Joined.{joined_itself, joined_same, joined_trans, joined_setting, started_by}
+use Rattle.qc_interp.proofs.Joined.{joined_itself, joined_same, joined_trans, joined_setting}
 use Rattle.qc_interp.proofs.Plans.{weight, plan_is, tries_of, number_of, must_of, put_read, put_set, put_add, put_sub, put_need, put_reconf, put_child, put_par, put_abort, put_crash, put_kill, step_lighter}
 use Rattle.qc_interp.proofs.Loops.{StepsLeft, steps_joined, fits_step, one_done, stopped_there, cut_there, cut_at_last, all_done, none_done}
 use Rattle.qc_interp.proofs.Failing.{failed_on, failed_quit, failed_cut}
@@ -21,12 +19,11 @@ use Rattle.qc_interp.proofs.ChildAnswers.{unbegun_cut, stopped_cut, unbegun_stop
 use Rattle.qc_interp.proofs.Acted.{acted_so, cut_so}
 use Rattle.qc_interp.proofs.Marking.{acted_on, looked_behind, acted_cut, killed_first}
 use Rattle.qc_interp.proofs.StepsLeave.{crash_on}
-use Rattle.qc_interp.proofs.Tried.{Tried, may_begin, runs_begun, tried_once, cut_once}
+use Rattle.qc_interp.proofs.Tried.{may_begin, runs_begun}
 use Rattle.qc_interp.proofs.TriesLeft.{TriesLeft, all_failed, none_to_begin, none_tried}
-use Rattle.qc_interp.specs.declared.stops.Finish.{Finish}
 use mathlib.Core.Bool.{true≢false}
 use Rattle.qc_interp.specs.declared.body.branch.Branch.{Branch as Held}
-use Rattle.qc_interp.specs.AtOnce.{Stands, stands, InPairs, WasShown, AreOut, MergedInTurn, row_came, WentBehind, MayRun, HasRun, IsRefusal, TriesEnd}
+use Rattle.qc_interp.specs.AtOnce.{Stands, stands, row_came, WentBehind, MayRun, HasRun, TriesEnd}
 use Rattle.qc_interp.proofs.BranchPlans.{row_heavier}
 use Rattle.qc_interp.specs.declared.body.branch.BranchCame.TheVariants as came
 use Rattle.qc_interp.specs.Branches.{row_step}
@@ -34,23 +31,18 @@ use Rattle.qc_script.specs.Calls.{MeetsLink}
 use Rattle.std.specs.List.{AllByRecursion}
 use Rattle.qc_interp.proofs.RowMet.{kept_whole}
 use Rattle.qc_interp.proofs.RowDone.{done_joined, done_cut, done_room, done_out, done_knows, done_acted, done_cut_behind}
-use Rattle.qc_interp.proofs.RowStep.{row_depth, bodies_begun, row_may, row_out, row_done, row_turned, row_room}
+use Rattle.qc_interp.proofs.RowStep.{row_depth, bodies_begun, row_may, row_out, row_done, few_out, row_turned, row_room}
 use Rattle.qc_interp.proofs.RowTurnedOut.{back_joined, back_legal}
 use Rattle.qc_interp.proofs.RowTurnedDone.{turned_refused_so, turned_are_firsts, turned_cut_at_once, turned_cut_off, turned_row_out, turned_knows, turned_acted, turned_cut_behind}
-use Rattle.qc_interp.proofs.RowTurning.{turned_out}
 use Rattle.qc_interp.proofs.InOrder.{pairs_at}
 use Rattle.qc_interp.proofs.Shown.{each_at}
-use Rattle.qc_interp.specs.Branches.{RanTries, AreTriesOurs, tries_by}
-use Rattle.qc_interp.specs.Deeds.{Deed}
-use Rattle.qc_interp.specs.Rows.{was_tried}
 use Rattle.qc_interp.specs.Reach.{Reach}
-use Rattle.qc_script.specs.Calls.{by_client, Refuses}
+use Rattle.qc_script.specs.Calls.{by_client}
 use Rattle.qc_event.specs.declared.event.Event.TheVariants as event
-use Rattle.qc_event.specs.History.{is_child}
 use Rattle.qc_interp.proofs.BranchAnswers.{fits_try, branch_cut_off, branch_goes, branch_ends, refused_goes, refused_ran, refused_why, refused_due, further_runs}
 use Rattle.qc_interp.proofs.BranchLeft.{try_starts}
 use Rattle.qc_interp.proofs.BranchEnds.{may_start}
-use Rattle.qc_interp.proofs.Growth.{made_later, made_itself, later_itself}
+use Rattle.qc_interp.proofs.Growth.{made_itself, later_itself}
 use Rattle.qc_interp.proofs.body.+run.Goals as goal
 
 -- CHILDREN
@@ -758,125 +750,97 @@ pub row::par-run_all-requires : goal.row::par-run_all-requires
 row::par-run_all-requires g t c κs within =
     let view = g.T.Tx.view in
     let st = stands view in
-    let of = c.args.of.now in
     let v = view c.args.tx.now in
-    let w1 = view c.begin_all-begun.new.tx in
     let w2 = view c.show_all.new.tx in
-    let items = c.begin_all-begun.new.branches.items in
-    let n1 = c.show_all.new.branches in
     let bodies = map numbered c.args.bodies.now in
-    let shown : InPairs (WasShown w1.seen) (map st items) (map st n1) = subst (λ l. InPairs (WasShown w1.seen) (map st l) (map st n1)) c.as_mut_slice.ensures.value c.show_all.ensures.shown in
-    let long1 = c.show_all.auto.branches ∙ c.as_mut_slice.ensures.len in
-    let back1 = c.as_mut_slice-in-Ok-begun.ensures.value ∙ kept_whole _ n1 _ long1 in
-    let may = row_may st of v w1 w2 items n1 bodies c.requires.runs c.requires.fits shown c.show_all.ensures.client c.show_all.ensures.made c.in-Ok-begun.ensures.ok c.in-Ok-begun.ensures.all in
-    let same : map (λ b. numbered b.body.now) c.as_mut_slice-in-Ok-begun.result.now ≡ bodies = ap (map (λ b. numbered b.body.now)) back1 ∙ bodies_begun st of v w1 w2 items n1 bodies c.requires.runs c.requires.fits shown c.show_all.ensures.client c.show_all.ensures.made c.in-Ok-begun.ensures.ok c.in-Ok-begun.ensures.all in (
+    let n1 = c.show_all.new.branches in
+    let long = c.show_all.auto.branches ∙ c.as_mut_slice.ensures.len in
+    let back = c.as_mut_slice-in-Ok-begun.ensures.value ∙ kept_whole _ n1 _ long in
+    let same : map (λ b. numbered b.body.now) c.as_mut_slice-in-Ok-begun.result.now ≡ bodies = ap (map (λ b. numbered b.body.now)) back ∙ bodies_begun st c.args.of.now v (view c.begin_all-begun.new.tx) w2 _ _ n1 bodies c.requires.runs c.requires.fits c.as_mut_slice.ensures.value c.show_all.ensures.shown c.show_all.ensures.client c.show_all.ensures.made c.in-Ok-begun.ensures.ok c.in-Ok-begun.ensures.all in (
       omega (arith, ap (λ l. weight (row_of l)) same),
-      (within.0, (within.1, (search rules, (search rules, subst (λ l. AllByRecursion (MayRun of) (map st l)) (sym back1) may)))),
+      (within.0, (within.1, (search rules, (search rules, row_may st c.args.of.now v (view c.begin_all-begun.new.tx) w2 _ _ n1 bodies c.requires.runs c.requires.fits c.as_mut_slice.ensures.value c.show_all.ensures.shown c.show_all.ensures.client c.show_all.ensures.made c.in-Ok-begun.ensures.ok c.in-Ok-begun.ensures.all _ back)))),
     )
 
 pub row::par-merge_all-requires-clause-out : goal.row::par-merge_all-requires-clause-out
 row::par-merge_all-requires-clause-out g t c =
     let view = g.T.Tx.view in
     let st = stands view in
-    let of = c.args.of.now in
     let v = view c.args.tx.now in
-    let w1 = view c.begin_all-begun.new.tx in
     let w2 = view c.show_all.new.tx in
-    let items = c.begin_all-begun.new.branches.items in
-    let n1 = c.show_all.new.branches in
     let bodies = map numbered c.args.bodies.now in
-    let shown : InPairs (WasShown w1.seen) (map st items) (map st n1) = subst (λ l. InPairs (WasShown w1.seen) (map st l) (map st n1)) c.as_mut_slice.ensures.value c.show_all.ensures.shown in
-    let long1 = c.show_all.auto.branches ∙ c.as_mut_slice.ensures.len in
-    let back1 = c.as_mut_slice-in-Ok-begun.ensures.value ∙ kept_whole _ n1 _ long1 in
+    let n1 = c.show_all.new.branches in
+    let long = c.show_all.auto.branches ∙ c.as_mut_slice.ensures.len in
+    let back = c.as_mut_slice-in-Ok-begun.ensures.value ∙ kept_whole _ n1 _ long in
     let n2 = c.run_all.new.branches in
-    let ran : InPairs HasRun (map st n1) (map st n2) = subst (λ l. InPairs HasRun (map st l) (map st n2)) back1 c.run_all.ensures.ran in
-    let whole = kept_whole _ n2 _ (c.run_all.auto.branches ∙ (ap length back1 ∙ long1)) in
-    subst (λ l. AreOut w2.client.out w2.client.net (map st l)) (sym whole) (row_out st of v w1 w2 items n1 bodies c.requires.runs c.requires.fits shown c.show_all.ensures.client c.show_all.ensures.made c.in-Ok-begun.ensures.ok c.in-Ok-begun.ensures.all n2 ran)
+    let whole = kept_whole _ n2 _ (c.run_all.auto.branches ∙ (ap length back ∙ long)) in
+    row_out st c.args.of.now v (view c.begin_all-begun.new.tx) w2 _ _ n1 bodies c.requires.runs c.requires.fits c.as_mut_slice.ensures.value c.show_all.ensures.shown c.show_all.ensures.client c.show_all.ensures.made c.in-Ok-begun.ensures.ok c.in-Ok-begun.ensures.all _ n2 back c.run_all.ensures.ran _ whole
 
 pub row::par-returns-in_err-came-in-Ok-begun : goal.row::par-returns-in_err-came-in-Ok-begun
 row::par-returns-in_err-came-in-Ok-begun g t c =
     let view = g.T.Tx.view in
     let st = stands view in
-    let of = c.args.of.now in
     let v = view c.args.tx.now in
-    let w1 = view c.begin_all-begun.new.tx in
     let w2 = view c.show_all.new.tx in
-    let items = c.begin_all-begun.new.branches.items in
-    let n1 = c.show_all.new.branches in
     let bodies = map numbered c.args.bodies.now in
-    let shown : InPairs (WasShown w1.seen) (map st items) (map st n1) = subst (λ l. InPairs (WasShown w1.seen) (map st l) (map st n1)) c.as_mut_slice.ensures.value c.show_all.ensures.shown in
-    let long1 = c.show_all.auto.branches ∙ c.as_mut_slice.ensures.len in
-    let back1 = c.as_mut_slice-in-Ok-begun.ensures.value ∙ kept_whole _ n1 _ long1 in
+    let n1 = c.show_all.new.branches in
+    let long = c.show_all.auto.branches ∙ c.as_mut_slice.ensures.len in
+    let back = c.as_mut_slice-in-Ok-begun.ensures.value ∙ kept_whole _ n1 _ long in
     let n2 = c.run_all.new.branches in
-    let ran : InPairs HasRun (map st n1) (map st n2) = subst (λ l. InPairs HasRun (map st l) (map st n2)) back1 c.run_all.ensures.ran in
-    let whole = kept_whole _ n2 _ (c.run_all.auto.branches ∙ (ap length back1 ∙ long1)) in
+    let whole = kept_whole _ n2 _ (c.run_all.auto.branches ∙ (ap length back ∙ long)) in
     let w3 = view c.merge_all.new.tx in
-    let row = row_done st of v w1 w2 items n1 bodies c.requires.runs c.requires.fits shown c.show_all.ensures.client c.show_all.ensures.made c.in-Ok-begun.ensures.ok c.in-Ok-begun.ensures.all n2 ran w3 (subst (λ l. MergedInTurn w2 (map st l) w3) whole c.merge_all.ensures.merged) in
+    let row = row_done st c.args.of.now v (view c.begin_all-begun.new.tx) w2 _ _ n1 bodies c.requires.runs c.requires.fits c.as_mut_slice.ensures.value c.show_all.ensures.shown c.show_all.ensures.client c.show_all.ensures.made c.in-Ok-begun.ensures.ok c.in-Ok-begun.ensures.all _ n2 back c.run_all.ensures.ran _ whole w3 c.merge_all.ensures.merged in
+    let came_to = sym (ap (λ l. row_came (Ok came.Through) (map st l)) whole) ∙ (sym c.merge_all.ensures.came ∙ c.in_err-came-in-Ok-begun.was) in
     record {
       met = c.merge_all.ensures.met;
-      joined = done_joined of v w3 (map st n2) bodies row;
+      joined = done_joined row;
       ok = search rules;
-      cut = any_err _ c.from_residual.result (done_cut of v w3 (map st n2) bodies row);
-      room = same_err (λ e. e ≡ short.Room → length w3.seen ≡ limit) c.from_residual.result c.in_err-came-in-Ok-begun.field-0.0 c.from_residual.ensures.1
-          (done_room of v w3 (map st n2) bodies row c.in_err-came-in-Ok-begun.field-0.0 (sym (ap (λ l. row_came (Ok came.Through) (map st l)) whole) ∙ (sym c.merge_all.ensures.came ∙ c.in_err-came-in-Ok-begun.was)));
+      cut = any_err _ c.from_residual.result (done_cut row);
+      room = same_err (λ e. e ≡ short.Room → length w3.seen ≡ limit) c.from_residual.result c.in_err-came-in-Ok-begun.field-0.0 c.from_residual.ensures.1 (done_room row c.in_err-came-in-Ok-begun.field-0.0 came_to);
     }
 
 pub row::par-behind-requires : goal.row::par-behind-requires
 row::par-behind-requires g t c =
     let view = g.T.Tx.view in
     let st = stands view in
-    let of = c.args.of.now in
     let v = view c.args.tx.now in
-    let w1 = view c.begin_all-begun.new.tx in
     let w2 = view c.show_all.new.tx in
-    let items = c.begin_all-begun.new.branches.items in
-    let n1 = c.show_all.new.branches in
     let bodies = map numbered c.args.bodies.now in
-    let shown : InPairs (WasShown w1.seen) (map st items) (map st n1) = subst (λ l. InPairs (WasShown w1.seen) (map st l) (map st n1)) c.as_mut_slice.ensures.value c.show_all.ensures.shown in
-    let long1 = c.show_all.auto.branches ∙ c.as_mut_slice.ensures.len in
-    let back1 = c.as_mut_slice-in-Ok-begun.ensures.value ∙ kept_whole _ n1 _ long1 in
+    let n1 = c.show_all.new.branches in
+    let long = c.show_all.auto.branches ∙ c.as_mut_slice.ensures.len in
+    let back = c.as_mut_slice-in-Ok-begun.ensures.value ∙ kept_whole _ n1 _ long in
     let n2 = c.run_all.new.branches in
-    let ran : InPairs HasRun (map st n1) (map st n2) = subst (λ l. InPairs HasRun (map st l) (map st n2)) back1 c.run_all.ensures.ran in
-    let whole = kept_whole _ n2 _ (c.run_all.auto.branches ∙ (ap length back1 ∙ long1)) in
+    let whole = kept_whole _ n2 _ (c.run_all.auto.branches ∙ (ap length back ∙ long)) in
     let w3 = view c.merge_all.new.tx in
-    let row = row_done st of v w1 w2 items n1 bodies c.requires.runs c.requires.fits shown c.show_all.ensures.client c.show_all.ensures.made c.in-Ok-begun.ensures.ok c.in-Ok-begun.ensures.all n2 ran w3 (subst (λ l. MergedInTurn w2 (map st l) w3) whole c.merge_all.ensures.merged) in
+    let row = row_done st c.args.of.now v (view c.begin_all-begun.new.tx) w2 _ _ n1 bodies c.requires.runs c.requires.fits c.as_mut_slice.ensures.value c.show_all.ensures.shown c.show_all.ensures.client c.show_all.ensures.made c.in-Ok-begun.ensures.ok c.in-Ok-begun.ensures.all _ n2 back c.run_all.ensures.ran _ whole w3 c.merge_all.ensures.merged in
     let came_to = sym (ap (λ l. row_came (Ok came.Through) (map st l)) whole) ∙ (sym c.merge_all.ensures.came ∙ c.in_ok-came-in-Ok-begun.was) in
-    record {
-      runs = (done_out of v w3 (map st n2) bodies row c.in_ok-came-in-Ok-begun.came came_to).runs;
-      knows = done_knows of v w3 (map st n2) bodies row c.in_ok-came-in-Ok-begun.came came_to;
-      met = c.merge_all.ensures.met;
-    }
+    let x = c.in_ok-came-in-Ok-begun.came in
+    record { runs = (done_out row x came_to).runs; knows = done_knows row x came_to; met = c.merge_all.ensures.met }
 
 pub row::par-returns-in-Ok-begun : goal.row::par-returns-in-Ok-begun
 row::par-returns-in-Ok-begun g t c =
     let view = g.T.Tx.view in
     let st = stands view in
-    let of = c.args.of.now in
     let v = view c.args.tx.now in
-    let w1 = view c.begin_all-begun.new.tx in
     let w2 = view c.show_all.new.tx in
-    let items = c.begin_all-begun.new.branches.items in
-    let n1 = c.show_all.new.branches in
     let bodies = map numbered c.args.bodies.now in
-    let shown : InPairs (WasShown w1.seen) (map st items) (map st n1) = subst (λ l. InPairs (WasShown w1.seen) (map st l) (map st n1)) c.as_mut_slice.ensures.value c.show_all.ensures.shown in
-    let long1 = c.show_all.auto.branches ∙ c.as_mut_slice.ensures.len in
-    let back1 = c.as_mut_slice-in-Ok-begun.ensures.value ∙ kept_whole _ n1 _ long1 in
+    let n1 = c.show_all.new.branches in
+    let long = c.show_all.auto.branches ∙ c.as_mut_slice.ensures.len in
+    let back = c.as_mut_slice-in-Ok-begun.ensures.value ∙ kept_whole _ n1 _ long in
     let n2 = c.run_all.new.branches in
-    let ran : InPairs HasRun (map st n1) (map st n2) = subst (λ l. InPairs HasRun (map st l) (map st n2)) back1 c.run_all.ensures.ran in
-    let whole = kept_whole _ n2 _ (c.run_all.auto.branches ∙ (ap length back1 ∙ long1)) in
+    let whole = kept_whole _ n2 _ (c.run_all.auto.branches ∙ (ap length back ∙ long)) in
     let w3 = view c.merge_all.new.tx in
-    let row = row_done st of v w1 w2 items n1 bodies c.requires.runs c.requires.fits shown c.show_all.ensures.client c.show_all.ensures.made c.in-Ok-begun.ensures.ok c.in-Ok-begun.ensures.all n2 ran w3 (subst (λ l. MergedInTurn w2 (map st l) w3) whole c.merge_all.ensures.merged) in
+    let row = row_done st c.args.of.now v (view c.begin_all-begun.new.tx) w2 _ _ n1 bodies c.requires.runs c.requires.fits c.as_mut_slice.ensures.value c.show_all.ensures.shown c.show_all.ensures.client c.show_all.ensures.made c.in-Ok-begun.ensures.ok c.in-Ok-begun.ensures.all _ n2 back c.run_all.ensures.ran _ whole w3 c.merge_all.ensures.merged in
     let came_to = sym (ap (λ l. row_came (Ok came.Through) (map st l)) whole) ∙ (sym c.merge_all.ensures.came ∙ c.in_ok-came-in-Ok-begun.was) in
     let x = c.in_ok-came-in-Ok-begun.came in
     let y = view c.behind.new.tx in
     let client = sym c.behind.ensures.client in
     record {
       met = c.behind.ensures.met;
-      joined = subst (HasJoined v.client v.seen) client (done_joined of v w3 (map st n2) bodies row);
-      ok = subst (λ d. IfOk c.behind.result (HasActed d of v.seen y.seen (row_step bodies))) client
-          (if_ok (WentBehind w3.client of w3.seen y.seen x) (HasActed w3.client of v.seen y.seen (row_step bodies)) c.behind.result (done_acted of v w3 (map st n2) bodies row x came_to y.seen) c.behind.ensures.ok);
-      cut = subst (λ d. IfErr c.behind.result (λ _. (rest : Plan) → CutOff d of v.seen y.seen (row_step bodies rest))) client
-          (if_err (Made w3.client [] w3.seen y.seen) ((rest : Plan) → CutOff w3.client of v.seen y.seen (row_step bodies rest)) c.behind.result (λ m rest. done_cut_behind of v w3 (map st n2) bodies row x came_to y.seen rest m) c.behind.ensures.cut);
+      joined = subst (HasJoined v.client v.seen) client (done_joined row);
+      ok = subst (λ d. IfOk c.behind.result (HasActed d c.args.of.now v.seen y.seen (row_step bodies))) client
+          (if_ok (WentBehind w3.client c.args.of.now w3.seen y.seen x) (HasActed w3.client c.args.of.now v.seen y.seen (row_step bodies)) c.behind.result (done_acted row x came_to y.seen) c.behind.ensures.ok);
+      cut = subst (λ d. IfErr c.behind.result (λ _. (rest : Plan) → CutOff d c.args.of.now v.seen y.seen (row_step bodies rest))) client
+          (if_err (Made w3.client [] w3.seen y.seen) ((rest : Plan) → CutOff w3.client c.args.of.now v.seen y.seen (row_step bodies rest)) c.behind.result (λ m rest. done_cut_behind row x came_to y.seen rest m) c.behind.ensures.cut);
       room = c.behind.ensures.room;
     }
 
@@ -886,127 +850,93 @@ pub row::par-merge_all-came-requires-clause-out : goal.row::par-merge_all-came-r
 row::par-merge_all-came-requires-clause-out g t c =
     let view = g.T.Tx.view in
     let st = stands view in
-    let of = c.args.of.now in
     let v = view c.args.tx.now in
-    let w1 = view c.begin_all-begun.new.tx in
     let w2 = view c.show_all.new.tx in
-    let items = c.begin_all-begun.new.branches.items in
+    let bodies = map numbered c.args.bodies.now in
     let n1 = c.show_all.new.branches in
-    let shown : InPairs (WasShown w1.seen) (map st items) (map st n1) = subst (λ l. InPairs (WasShown w1.seen) (map st l) (map st n1)) c.as_mut_slice.ensures.value c.show_all.ensures.shown in
-    let long1 = c.show_all.auto.branches ∙ c.as_mut_slice.ensures.len in
-    subst (λ l. AreOut w2.client.out w2.client.net (map st l)) (sym (kept_whole _ n1 _ long1))
-    (turned_out of v w1 w2 (map st items) (map st n1) c.in-Err.why c.requires.runs c.in-Err.ensures.err shown c.show_all.ensures.client c.show_all.ensures.made)
+    let long = c.show_all.auto.branches ∙ c.as_mut_slice.ensures.len in
+    let whole = kept_whole _ n1 _ long in
+    few_out st c.args.of.now v (view c.begin_all-begun.new.tx) w2 _ _ n1 bodies c.requires.runs c.requires.fits c.as_mut_slice.ensures.value c.show_all.ensures.shown c.show_all.ensures.client c.show_all.ensures.made c.in-Err.why c.in-Err.ensures.err _ whole
 
 pub row::par-returns-in_default-firsts : goal.row::par-returns-in_default-firsts
 row::par-returns-in_default-firsts g t c =
     let view = g.T.Tx.view in
     let st = stands view in
-    let of = c.args.of.now in
     let v = view c.args.tx.now in
-    let w1 = view c.begin_all-begun.new.tx in
     let w2 = view c.show_all.new.tx in
-    let items = c.begin_all-begun.new.branches.items in
-    let n1 = c.show_all.new.branches in
     let bodies = map numbered c.args.bodies.now in
-    let shown : InPairs (WasShown w1.seen) (map st items) (map st n1) = subst (λ l. InPairs (WasShown w1.seen) (map st l) (map st n1)) c.as_mut_slice.ensures.value c.show_all.ensures.shown in
-    let long1 = c.show_all.auto.branches ∙ c.as_mut_slice.ensures.len in
-    let why = c.in-Err.why in
-    let whole = kept_whole _ n1 _ long1 in
+    let n1 = c.show_all.new.branches in
+    let long = c.show_all.auto.branches ∙ c.as_mut_slice.ensures.len in
+    let whole = kept_whole _ n1 _ long in
     let w3 = view c.merge_all-came.new.tx in
-    let firsts = map (λ b. b.first) n1 in
-    let merged : MergedInTurn w2 (map st n1) w3 = subst (λ l. MergedInTurn w2 (map st l) w3) whole c.merge_all-came.ensures.merged in
-    let row = row_turned st of v w1 w2 items n1 bodies c.requires.runs c.requires.fits shown c.show_all.ensures.client c.show_all.ensures.made why w3 firsts c.in-Err.ensures.err c.in-Err.ensures.first merged refl in
-    record { met = c.merge_all-came.ensures.met; joined = back_joined of v w3 bodies why firsts row; ok = tt; cut = turned_cut_at_once of v w3 bodies why firsts row; room = λ is. cc }
+    let row = row_turned st c.args.of.now v (view c.begin_all-begun.new.tx) w2 _ _ n1 bodies c.requires.runs c.requires.fits c.as_mut_slice.ensures.value c.show_all.ensures.shown c.show_all.ensures.client c.show_all.ensures.made c.in-Err.why c.in-Err.ensures.err _ whole w3 c.merge_all-came.ensures.merged c.in-Err.ensures.first _ refl in
+    record { met = c.merge_all-came.ensures.met; joined = back_joined row; ok = tt; cut = turned_cut_at_once row; room = λ is. cc }
 
 pub row::par-returns-in-Memory : goal.row::par-returns-in-Memory
 row::par-returns-in-Memory g t c =
     let view = g.T.Tx.view in
     let st = stands view in
-    let of = c.args.of.now in
     let v = view c.args.tx.now in
-    let w1 = view c.begin_all-begun.new.tx in
     let w2 = view c.show_all.new.tx in
-    let items = c.begin_all-begun.new.branches.items in
-    let n1 = c.show_all.new.branches in
     let bodies = map numbered c.args.bodies.now in
-    let shown : InPairs (WasShown w1.seen) (map st items) (map st n1) = subst (λ l. InPairs (WasShown w1.seen) (map st l) (map st n1)) c.as_mut_slice.ensures.value c.show_all.ensures.shown in
-    let long1 = c.show_all.auto.branches ∙ c.as_mut_slice.ensures.len in
-    let why = c.in-Err.why in
-    let whole = kept_whole _ n1 _ long1 in
+    let n1 = c.show_all.new.branches in
+    let long = c.show_all.auto.branches ∙ c.as_mut_slice.ensures.len in
+    let whole = kept_whole _ n1 _ long in
     let w3 = view c.merge_all-came.new.tx in
-    let firsts = map (λ b. b.first) n1 in
-    let merged : MergedInTurn w2 (map st n1) w3 = subst (λ l. MergedInTurn w2 (map st l) w3) whole c.merge_all-came.ensures.merged in
-    let row = row_turned st of v w1 w2 items n1 bodies c.requires.runs c.requires.fits shown c.show_all.ensures.client c.show_all.ensures.made why w3 firsts c.in-Err.ensures.err c.in-Err.ensures.first merged refl in
-    record { met = c.merge_all-came.ensures.met; joined = back_joined of v w3 bodies why firsts row; ok = tt; cut = turned_cut_at_once of v w3 bodies why firsts row; room = λ is. cc }
+    let row = row_turned st c.args.of.now v (view c.begin_all-begun.new.tx) w2 _ _ n1 bodies c.requires.runs c.requires.fits c.as_mut_slice.ensures.value c.show_all.ensures.shown c.show_all.ensures.client c.show_all.ensures.made c.in-Err.why c.in-Err.ensures.err _ whole w3 c.merge_all-came.ensures.merged c.in-Err.ensures.first _ refl in
+    record { met = c.merge_all-came.ensures.met; joined = back_joined row; ok = tt; cut = turned_cut_at_once row; room = λ is. cc }
 
 pub row::par-returns-in-Room : goal.row::par-returns-in-Room
 row::par-returns-in-Room g t c =
     let view = g.T.Tx.view in
     let st = stands view in
-    let of = c.args.of.now in
     let v = view c.args.tx.now in
-    let w1 = view c.begin_all-begun.new.tx in
     let w2 = view c.show_all.new.tx in
-    let items = c.begin_all-begun.new.branches.items in
-    let n1 = c.show_all.new.branches in
     let bodies = map numbered c.args.bodies.now in
-    let shown : InPairs (WasShown w1.seen) (map st items) (map st n1) = subst (λ l. InPairs (WasShown w1.seen) (map st l) (map st n1)) c.as_mut_slice.ensures.value c.show_all.ensures.shown in
-    let long1 = c.show_all.auto.branches ∙ c.as_mut_slice.ensures.len in
-    let why = c.in-Err.why in
-    let whole = kept_whole _ n1 _ long1 in
+    let n1 = c.show_all.new.branches in
+    let long = c.show_all.auto.branches ∙ c.as_mut_slice.ensures.len in
+    let whole = kept_whole _ n1 _ long in
     let w3 = view c.merge_all-came.new.tx in
-    let firsts = map (λ b. b.first) n1 in
-    let merged : MergedInTurn w2 (map st n1) w3 = subst (λ l. MergedInTurn w2 (map st l) w3) whole c.merge_all-came.ensures.merged in
-    let row = row_turned st of v w1 w2 items n1 bodies c.requires.runs c.requires.fits shown c.show_all.ensures.client c.show_all.ensures.made why w3 firsts c.in-Err.ensures.err c.in-Err.ensures.first merged refl in
-    record { met = c.merge_all-came.ensures.met; joined = back_joined of v w3 bodies why firsts row; ok = tt; cut = turned_cut_at_once of v w3 bodies why firsts row; room = λ _. row_room st of v w1 w2 items n1 bodies c.requires.runs c.requires.fits shown c.show_all.ensures.client c.show_all.ensures.made why w3 firsts c.in-Err.ensures.err c.in-Err.ensures.first merged refl _ c.show_all.auto.branches c.show_all.ensures.none c.in-Room.is }
+    let row = row_turned st c.args.of.now v (view c.begin_all-begun.new.tx) w2 _ _ n1 bodies c.requires.runs c.requires.fits c.as_mut_slice.ensures.value c.show_all.ensures.shown c.show_all.ensures.client c.show_all.ensures.made c.in-Err.why c.in-Err.ensures.err _ whole w3 c.merge_all-came.ensures.merged c.in-Err.ensures.first _ refl in
+    let full = row_room st c.args.of.now v (view c.begin_all-begun.new.tx) w2 _ _ n1 bodies c.requires.runs c.requires.fits c.as_mut_slice.ensures.value c.show_all.ensures.shown c.show_all.ensures.client c.show_all.ensures.made c.in-Err.why c.in-Err.ensures.err _ whole w3 c.merge_all-came.ensures.merged c.in-Err.ensures.first _ refl c.show_all.auto.branches c.show_all.ensures.none c.in-Room.is in
+    record { met = c.merge_all-came.ensures.met; joined = back_joined row; ok = tt; cut = turned_cut_at_once row; room = λ _. full }
 
 pub row::par-abort_all-requires : goal.row::par-abort_all-requires
 row::par-abort_all-requires g t c =
     let view = g.T.Tx.view in
     let st = stands view in
-    let of = c.args.of.now in
     let v = view c.args.tx.now in
-    let w1 = view c.begin_all-begun.new.tx in
     let w2 = view c.show_all.new.tx in
-    let items = c.begin_all-begun.new.branches.items in
-    let n1 = c.show_all.new.branches in
     let bodies = map numbered c.args.bodies.now in
-    let shown : InPairs (WasShown w1.seen) (map st items) (map st n1) = subst (λ l. InPairs (WasShown w1.seen) (map st l) (map st n1)) c.as_mut_slice.ensures.value c.show_all.ensures.shown in
-    let long1 = c.show_all.auto.branches ∙ c.as_mut_slice.ensures.len in
-    let why = c.in-Err.why in
-    let whole = kept_whole _ n1 _ long1 in
+    let n1 = c.show_all.new.branches in
+    let long = c.show_all.auto.branches ∙ c.as_mut_slice.ensures.len in
+    let whole = kept_whole _ n1 _ long in
+    let firsts = c.as_slice-in_default-why.ensures.value ∙ (c.in-Ok-firsts.ensures ∙ ap (map (λ b. b.first)) (c.as_slice.ensures.value ∙ whole)) in
     let w3 = view c.merge_all-came.new.tx in
-    let firsts = c.as_slice-in_default-why.result.now in
-    let merged : MergedInTurn w2 (map st n1) w3 = subst (λ l. MergedInTurn w2 (map st l) w3) whole c.merge_all-came.ensures.merged in
-    let row = row_turned st of v w1 w2 items n1 bodies c.requires.runs c.requires.fits shown c.show_all.ensures.client c.show_all.ensures.made why w3 firsts c.in-Err.ensures.err c.in-Err.ensures.first merged (c.as_slice-in_default-why.ensures.value ∙ (c.in-Ok-firsts.ensures ∙ ap (map (λ b. b.first)) (c.as_slice.ensures.value ∙ whole))) in
-    record { nonroot = c.requires.runs.nonroot; legal = back_legal of v w3 bodies why firsts row; refused = turned_refused_so of v w3 bodies why firsts row c.in_default-why.not-Memory c.in_default-why.not-Room; firsts = turned_are_firsts of v w3 bodies why firsts row; met = c.merge_all-came.ensures.met }
+    let row = row_turned st c.args.of.now v (view c.begin_all-begun.new.tx) w2 _ _ n1 bodies c.requires.runs c.requires.fits c.as_mut_slice.ensures.value c.show_all.ensures.shown c.show_all.ensures.client c.show_all.ensures.made c.in-Err.why c.in-Err.ensures.err _ whole w3 c.merge_all-came.ensures.merged c.in-Err.ensures.first _ firsts in
+    let refused = turned_refused_so row c.in_default-why.not-Memory c.in_default-why.not-Room in
+    record { nonroot = c.requires.runs.nonroot; legal = back_legal row; refused = refused; firsts = turned_are_firsts row; met = c.merge_all-came.ensures.met }
 
 pub row::par-returns-in_err-abort_all-in_default-why : goal.row::par-returns-in_err-abort_all-in_default-why
 row::par-returns-in_err-abort_all-in_default-why g t c =
     let view = g.T.Tx.view in
     let st = stands view in
-    let of = c.args.of.now in
     let v = view c.args.tx.now in
-    let w1 = view c.begin_all-begun.new.tx in
     let w2 = view c.show_all.new.tx in
-    let items = c.begin_all-begun.new.branches.items in
-    let n1 = c.show_all.new.branches in
     let bodies = map numbered c.args.bodies.now in
-    let shown : InPairs (WasShown w1.seen) (map st items) (map st n1) = subst (λ l. InPairs (WasShown w1.seen) (map st l) (map st n1)) c.as_mut_slice.ensures.value c.show_all.ensures.shown in
-    let long1 = c.show_all.auto.branches ∙ c.as_mut_slice.ensures.len in
-    let why = c.in-Err.why in
-    let whole = kept_whole _ n1 _ long1 in
+    let n1 = c.show_all.new.branches in
+    let long = c.show_all.auto.branches ∙ c.as_mut_slice.ensures.len in
+    let whole = kept_whole _ n1 _ long in
+    let firsts = c.as_slice-in_default-why.ensures.value ∙ (c.in-Ok-firsts.ensures ∙ ap (map (λ b. b.first)) (c.as_slice.ensures.value ∙ whole)) in
     let w3 = view c.merge_all-came.new.tx in
-    let firsts = c.as_slice-in_default-why.result.now in
-    let merged : MergedInTurn w2 (map st n1) w3 = subst (λ l. MergedInTurn w2 (map st l) w3) whole c.merge_all-came.ensures.merged in
-    let row = row_turned st of v w1 w2 items n1 bodies c.requires.runs c.requires.fits shown c.show_all.ensures.client c.show_all.ensures.made why w3 firsts c.in-Err.ensures.err c.in-Err.ensures.first merged (c.as_slice-in_default-why.ensures.value ∙ (c.in-Ok-firsts.ensures ∙ ap (map (λ b. b.first)) (c.as_slice.ensures.value ∙ whole))) in
+    let row = row_turned st c.args.of.now v (view c.begin_all-begun.new.tx) w2 _ _ n1 bodies c.requires.runs c.requires.fits c.as_mut_slice.ensures.value c.show_all.ensures.shown c.show_all.ensures.client c.show_all.ensures.made c.in-Err.why c.in-Err.ensures.err _ whole w3 c.merge_all-came.ensures.merged c.in-Err.ensures.first _ firsts in
     let x = view c.abort_all.new.tx in
     let client = sym c.abort_all.ensures.client in
     record {
       met = c.abort_all.ensures.met;
-      joined = subst (HasJoined v.client v.seen) client (back_joined of v w3 bodies why firsts row);
+      joined = subst (HasJoined v.client v.seen) client (back_joined row);
       ok = search rules;
-      cut = any_err _ c.from_residual-in_err-abort_all-in_default-why.result (λ rest. subst (λ d. CutOff d of v.seen x.seen (row_step bodies rest)) client (turned_cut_off of v w3 bodies why firsts row x.seen rest c.in_err-abort_all-in_default-why.ensures.cut));
+      cut = any_err _ c.from_residual-in_err-abort_all-in_default-why.result (λ rest. subst (λ d. CutOff d c.args.of.now v.seen x.seen (row_step bodies rest)) client (turned_cut_off row x.seen rest c.in_err-abort_all-in_default-why.ensures.cut));
       room = search rules;
     }
 
@@ -1014,28 +944,22 @@ pub row::par-behind-requires-in_default-why : goal.row::par-behind-requires-in_d
 row::par-behind-requires-in_default-why g t c =
     let view = g.T.Tx.view in
     let st = stands view in
-    let of = c.args.of.now in
     let v = view c.args.tx.now in
-    let w1 = view c.begin_all-begun.new.tx in
     let w2 = view c.show_all.new.tx in
-    let items = c.begin_all-begun.new.branches.items in
-    let n1 = c.show_all.new.branches in
     let bodies = map numbered c.args.bodies.now in
-    let shown : InPairs (WasShown w1.seen) (map st items) (map st n1) = subst (λ l. InPairs (WasShown w1.seen) (map st l) (map st n1)) c.as_mut_slice.ensures.value c.show_all.ensures.shown in
-    let long1 = c.show_all.auto.branches ∙ c.as_mut_slice.ensures.len in
-    let why = c.in-Err.why in
-    let whole = kept_whole _ n1 _ long1 in
+    let n1 = c.show_all.new.branches in
+    let long = c.show_all.auto.branches ∙ c.as_mut_slice.ensures.len in
+    let whole = kept_whole _ n1 _ long in
+    let firsts = c.as_slice-in_default-why.ensures.value ∙ (c.in-Ok-firsts.ensures ∙ ap (map (λ b. b.first)) (c.as_slice.ensures.value ∙ whole)) in
     let w3 = view c.merge_all-came.new.tx in
-    let firsts = c.as_slice-in_default-why.result.now in
-    let merged : MergedInTurn w2 (map st n1) w3 = subst (λ l. MergedInTurn w2 (map st l) w3) whole c.merge_all-came.ensures.merged in
-    let row = row_turned st of v w1 w2 items n1 bodies c.requires.runs c.requires.fits shown c.show_all.ensures.client c.show_all.ensures.made why w3 firsts c.in-Err.ensures.err c.in-Err.ensures.first merged (c.as_slice-in_default-why.ensures.value ∙ (c.in-Ok-firsts.ensures ∙ ap (map (λ b. b.first)) (c.as_slice.ensures.value ∙ whole))) in
-    let refused = turned_refused_so of v w3 bodies why firsts row c.in_default-why.not-Memory c.in_default-why.not-Room in
+    let row = row_turned st c.args.of.now v (view c.begin_all-begun.new.tx) w2 _ _ n1 bodies c.requires.runs c.requires.fits c.as_mut_slice.ensures.value c.show_all.ensures.shown c.show_all.ensures.client c.show_all.ensures.made c.in-Err.why c.in-Err.ensures.err _ whole w3 c.merge_all-came.ensures.merged c.in-Err.ensures.first _ firsts in
+    let refused = turned_refused_so row c.in_default-why.not-Memory c.in_default-why.not-Room in
     let x = view c.abort_all.new.tx in
     let turned = c.in_ok-abort_all-in_default-why.ensures.ok in
     let client = sym c.abort_all.ensures.client in
     record {
-      runs = subst (λ d. Runs d of x.seen) client (turned_row_out of v w3 bodies why firsts row refused x.seen turned).runs;
-      knows = subst (λ d. WhyStop d x.seen of why) client (turned_knows of v w3 bodies why firsts row refused x.seen turned);
+      runs = subst (λ d. Runs d c.args.of.now x.seen) client (turned_row_out row refused x.seen turned).runs;
+      knows = subst (λ d. WhyStop d x.seen c.args.of.now c.in-Err.why) client (turned_knows row refused x.seen turned);
       met = c.abort_all.ensures.met;
     }
 
@@ -1043,22 +967,18 @@ pub row::par-returns : goal.row::par-returns
 row::par-returns g t c =
     let view = g.T.Tx.view in
     let st = stands view in
-    let of = c.args.of.now in
     let v = view c.args.tx.now in
-    let w1 = view c.begin_all-begun.new.tx in
     let w2 = view c.show_all.new.tx in
-    let items = c.begin_all-begun.new.branches.items in
-    let n1 = c.show_all.new.branches in
     let bodies = map numbered c.args.bodies.now in
-    let shown : InPairs (WasShown w1.seen) (map st items) (map st n1) = subst (λ l. InPairs (WasShown w1.seen) (map st l) (map st n1)) c.as_mut_slice.ensures.value c.show_all.ensures.shown in
-    let long1 = c.show_all.auto.branches ∙ c.as_mut_slice.ensures.len in
-    let why = c.in-Err.why in
-    let whole = kept_whole _ n1 _ long1 in
+    let n1 = c.show_all.new.branches in
+    let long = c.show_all.auto.branches ∙ c.as_mut_slice.ensures.len in
+    let whole = kept_whole _ n1 _ long in
+    let firsts = c.as_slice-in_default-why.ensures.value ∙ (c.in-Ok-firsts.ensures ∙ ap (map (λ b. b.first)) (c.as_slice.ensures.value ∙ whole)) in
     let w3 = view c.merge_all-came.new.tx in
-    let firsts = c.as_slice-in_default-why.result.now in
-    let merged : MergedInTurn w2 (map st n1) w3 = subst (λ l. MergedInTurn w2 (map st l) w3) whole c.merge_all-came.ensures.merged in
-    let row = row_turned st of v w1 w2 items n1 bodies c.requires.runs c.requires.fits shown c.show_all.ensures.client c.show_all.ensures.made why w3 firsts c.in-Err.ensures.err c.in-Err.ensures.first merged (c.as_slice-in_default-why.ensures.value ∙ (c.in-Ok-firsts.ensures ∙ ap (map (λ b. b.first)) (c.as_slice.ensures.value ∙ whole))) in
-    let refused = turned_refused_so of v w3 bodies why firsts row c.in_default-why.not-Memory c.in_default-why.not-Room in
+    let row = row_turned st c.args.of.now v (view c.begin_all-begun.new.tx) w2 _ _ n1 bodies c.requires.runs c.requires.fits c.as_mut_slice.ensures.value c.show_all.ensures.shown c.show_all.ensures.client c.show_all.ensures.made c.in-Err.why c.in-Err.ensures.err _ whole w3 c.merge_all-came.ensures.merged c.in-Err.ensures.first _ firsts in
+    let refused = turned_refused_so row c.in_default-why.not-Memory c.in_default-why.not-Room in
+    let of = c.args.of.now in
+    let why = c.in-Err.why in
     let x = view c.abort_all.new.tx in
     let turned = c.in_ok-abort_all-in_default-why.ensures.ok in
     let y = view c.behind-in_default-why.new.tx in
@@ -1066,12 +986,12 @@ row::par-returns g t c =
     let client = sym (c.behind-in_default-why.ensures.client ∙ same) in
     record {
       met = c.behind-in_default-why.ensures.met;
-      joined = subst (HasJoined v.client v.seen) client (back_joined of v w3 bodies why firsts row);
+      joined = subst (HasJoined v.client v.seen) client (back_joined row);
       ok = subst (λ d. IfOk c.behind-in_default-why.result (HasActed d of v.seen y.seen (row_step bodies))) client
           (if_ok (WentBehind x.client of x.seen y.seen (came.Refused why)) (HasActed w3.client of v.seen y.seen (row_step bodies)) c.behind-in_default-why.result
-          (λ r went. turned_acted of v w3 bodies why firsts row refused x.seen turned y.seen r (subst (λ d. WentBehind d of x.seen y.seen (came.Refused why) r) same went)) c.behind-in_default-why.ensures.ok);
+          (λ r went. turned_acted row refused x.seen turned y.seen r (subst (λ d. WentBehind d of x.seen y.seen (came.Refused why) r) same went)) c.behind-in_default-why.ensures.ok);
       cut = subst (λ d. IfErr c.behind-in_default-why.result (λ _. (rest : Plan) → CutOff d of v.seen y.seen (row_step bodies rest))) client
           (if_err (Made x.client [] x.seen y.seen) ((rest : Plan) → CutOff w3.client of v.seen y.seen (row_step bodies rest)) c.behind-in_default-why.result
-          (λ m rest. turned_cut_behind of v w3 bodies why firsts row refused x.seen turned y.seen rest (subst (λ (d : Client). Made d [] x.seen y.seen) same m)) c.behind-in_default-why.ensures.cut);
+          (λ m rest. turned_cut_behind row refused x.seen turned y.seen rest (subst (λ (d : Client). Made d [] x.seen y.seen) same m)) c.behind-in_default-why.ensures.cut);
       room = c.behind-in_default-why.ensures.room;
     }
