@@ -20,12 +20,12 @@ use Rattle.qc_names.specs.Name as name
 use Rattle.qc_script.specs.Calls.{is_access}
 use Rattle.qc_script.specs.Client.{about}
 use Rattle.qc_script.specs.Numbers.{each, any_top}
-use Rattle.qc_interp.specs.Adding.{stays_in}
+use Rattle.qc_interp.specs.Adding.{asks_above, stays_in}
 use Rattle.qc_interp.specs.Turns.{begun_in, acts, is_done, seat_of, is_under, seat_for}
 use Rattle.qc_interp.proofs.Apart.{IsToldSeat}
 use Rattle.qc_interp.proofs.Began.{about_started, asker}
 use Rattle.qc_interp.proofs.Places.{some_same}
-use Rattle.qc_interp.proofs.RowTries.{AsksFor, above_trans, stays_about}
+use Rattle.qc_interp.proofs.RowTries.{AsksFor, above_trans, stays_about, stays_low}
 
 -- WHO ACTS
 
@@ -45,12 +45,9 @@ ends_by n by (Abort cause.Missed) is = inl (some_same n by is)
 pub stays_actor : (setting : Setting) (past : Past) (e : Entry) (t by : Name) → Legal setting (e ∷ past) → stays_in t e ≡ true → acts e.event ≡ Some by → (name.is_ancestor t by ≡ true) × (is_some (start (e ∷ past) by) ≡ true)
 stays_actor setting past e t by legal stays is = by_event e.event refl is
   where
-    itself_acts : (n : Name) → n ≡ by → about e.event ≡ Some n → (about e.event ≡ Some n → (AsksFor t n e.event → ⊥)) → (name.is_ancestor t by ≡ true) × (is_some (start (e ∷ past) by) ≡ true)
+    itself_acts : (n : Name) → n ≡ by → about e.event ≡ Some n → asks_above t e.event ≡ false → (name.is_ancestor t by ≡ true) × (is_some (start (e ∷ past) by) ≡ true)
     itself_acts n same whom none = (
-      elim (stays_about t n e stays whom) [
-        | inl low ↦ ap (name.is_ancestor t) (sym same) ∙ low
-        | inr asks ↦ absurd (none whom asks)
-      ],
+      ap (name.is_ancestor t) (sym same) ∙ stays_low t n e stays whom none,
       ap (λ x. is_some (start (e ∷ past) x)) (sym same) ∙ about_started setting past e n legal whom,
     )
 
@@ -75,18 +72,9 @@ stays_actor setting past e t by legal stays is = by_event e.event refl is
             same_asker h = cc
 
     by_event : (ev : Event) → e.event ≡ ev → acts ev ≡ Some by → (name.is_ancestor t by ≡ true) × (is_some (start (e ∷ past) by) ≡ true)
-    by_event (event.Start n k) at is = itself_acts n (by_access n (is_access k) is) (ap about at) (λ whom asks. no_start asks.by asks.is)
-      where
-        no_start : (x : Name) → e.event ≡ event.End n (Abort (cause.Asked x)) → ⊥
-        no_start x also = absurd cc
-    by_event (event.Mark n session) at is = itself_acts n (some_same n by is) (ap about at) (λ whom asks. no_mark asks.by asks.is)
-      where
-        no_mark : (x : Name) → e.event ≡ event.End n (Abort (cause.Asked x)) → ⊥
-        no_mark x also = absurd cc
-    by_event (event.Ready n) at is = itself_acts n (some_same n by is) (ap about at) (λ whom asks. no_ready asks.by asks.is)
-      where
-        no_ready : (x : Name) → e.event ≡ event.End n (Abort (cause.Asked x)) → ⊥
-        no_ready x also = absurd cc
+    by_event (event.Start n k) at is = itself_acts n (by_access n (is_access k) is) (ap about at) (ap (asks_above t) at)
+    by_event (event.Mark n session) at is = itself_acts n (some_same n by is) (ap about at) (ap (asks_above t) at)
+    by_event (event.Ready n) at is = itself_acts n (some_same n by is) (ap about at) (ap (asks_above t) at)
     by_event (event.End n how) at is = elim (ends_by n by how is) [
       | inl same ↦ by_asks same (stays_about t n e stays (ap about at))
       | inr asked ↦ asked_by n (at ∙ ap (event.End n) asked)
@@ -120,16 +108,8 @@ begins_about t m e stays is = by_event e.event refl is
     by_event : (ev : Event) → e.event ≡ ev → begun_in ev ≡ Some m → (about e.event ≡ Some m) × (name.is_ancestor t m ≡ true)
     by_event (event.Start n k) at is =
         let same = by_access n (is_access k) is in
-        let whom : about e.event ≡ Some m = ap about at ∙ ap (λ x. Some x) same in (
-          whom,
-          elim (stays_about t m e stays whom) [
-            | inl low ↦ low
-            | inr asks ↦ absurd (no_start asks.by asks.is)
-          ],
-        )
-      where
-        no_start : (x : Name) → e.event ≡ event.End m (Abort (cause.Asked x)) → ⊥
-        no_start x also = absurd cc
+        let whom : about e.event ≡ Some m = ap about at ∙ ap (λ x. Some x) same in
+        (whom, stays_low t m e stays whom (ap (asks_above t) at))
     by_event (event.Ask ask) at is = absurd cc
     by_event (event.Gone n why) at is = absurd cc
     by_event (event.Granted copy grant) at is = absurd cc

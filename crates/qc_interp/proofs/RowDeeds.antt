@@ -15,12 +15,12 @@ use Rattle.qc_event.specs.History.{Past, Name, children, child_in, is_child}
 use Rattle.qc_event.proofs.LastNumber.{child_longer}
 use Rattle.qc_event.proofs.OneEntry.{if_is}
 use Rattle.qc_script.specs.Client.{about}
-use Rattle.qc_interp.specs.Adding.{stays_in}
+use Rattle.qc_interp.specs.Adding.{asks_above, stays_in}
 use Rattle.qc_interp.specs.Deeds.{Deed, deeds, deed_in}
 use Rattle.qc_interp.specs.Rows.{is_try, tries_among}
 use Rattle.qc_interp.specs.Turns.{is_done}
 use Rattle.qc_interp.proofs.RowLeaves.{longer_other, not_shorter}
-use Rattle.qc_interp.proofs.RowTries.{stays_about, one_child}
+use Rattle.qc_interp.proofs.RowTries.{stays_low, one_child}
 use Rattle.qc_interp.proofs.Turning.{itself}
 
 -- AMONG SOME ENTRIES
@@ -46,9 +46,6 @@ deeds_started n (e ∷ es) h all =
 pub starts_alone : (of t : Name) (e : Entry) → is_child of t ≡ true → stays_in t e ≡ true → StartsAlone of e
 starts_alone of t e child stays = by_event e.event refl
   where
-    no_end : (m by : Name) (session : ℕ) → e.event ≡ event.Mark m session → e.event ≡ event.End m (Abort (Asked by)) → ⊥
-    no_end m by session at also = absurd cc
-
     by_event : (ev : Event) → e.event ≡ ev → (past : Past) → deed_in past of ev ≡ option_map Deed.child (child_in of ev)
     by_event (event.Start m k) at past = by_child (is_child of m)
       where
@@ -56,26 +53,17 @@ starts_alone of t e child stays = by_event e.event refl
         by_child true = refl
         by_child false = refl
     by_event (event.Mark m session) at past =
-        ap (λ b. if b && not (is_done past of) then Some (Deed.mark session) else None) (elim (stays_about t m e stays (ap about at)) [
-          | inl low ↦ longer_other m of (let l = not_shorter t m low in omega (arith, l, child_longer of t child))
-          | inr asks ↦ absurd (no_end m asks.by session at asks.is)
-        ])
+        ap (λ b. if b && not (is_done past of) then Some (Deed.mark session) else None) (longer_other m of (let l = not_shorter t m (stays_low t m e stays (ap about at) (ap (asks_above t) at)) in omega (arith, l, child_longer of t child)))
     by_event _ at past = refl
 
 -- a child that an entry starts which stays with a child is that one
 pub starts_it : (of t m : Name) (e : Entry) → is_child of t ≡ true → stays_in t e ≡ true → child_in of e.event ≡ Some m → m ≡ t
 starts_it of t m e child stays is = by_event e.event refl is
   where
-    no_end : (n by : Name) (k : Kind) → e.event ≡ event.Start n k → e.event ≡ event.End n (Abort (Asked by)) → ⊥
-    no_end n by k at also = absurd cc
-
     by_event : (ev : Event) → e.event ≡ ev → child_in of ev ≡ Some m → m ≡ t
     by_event (event.Start n k) at is =
         let one = if_is (is_child of n) n m is in
-        elim (stays_about t n e stays (ap about at)) [
-          | inl low ↦ sym one.1 ∙ one_child of n t n one.0 child (itself n) low
-          | inr asks ↦ absurd (no_end n asks.by k at asks.is)
-        ]
+        sym one.1 ∙ one_child of n t n one.0 child (itself n) (stays_low t n e stays (ap about at) (ap (asks_above t) at))
     by_event (event.Ask ask) at is = absurd cc
     by_event (event.Gone n why) at is = absurd cc
     by_event (event.Granted copy grant) at is = absurd cc

@@ -35,7 +35,7 @@ use Rattle.qc_interp.proofs.Joined.{joined_mine}
 use Rattle.qc_interp.proofs.RowAgrees.{or_none}
 use Rattle.qc_interp.proofs.RowOurs.{none_of, upward_long}
 use Rattle.qc_interp.proofs.RowSeats.{begun_joined}
-use Rattle.qc_interp.proofs.RowTries.{AsksFor, asks_for, above_trans, upward_above, stays_about, Owner, owners}
+use Rattle.qc_interp.proofs.RowTries.{AsksFor, asks_for, above_trans, upward_above, stays_about, stays_low, Owner, owners}
 use Rattle.qc_interp.proofs.RowTurns.{row_turns, row_alone}
 use Rattle.qc_interp.proofs.Scope.{in_or_upward, child_scope, same_scope}
 
@@ -98,13 +98,7 @@ module _ (of t p : Name) (child : is_child of t ≡ true) (short : length p ≤ 
   stays_unready e stays = by_event e.event refl
     where
       by_event : (ev : Event) → e.event ≡ ev → ready_in p ev ≡ None
-      by_event (event.Ready m) at = if_not (same m p) (Some tt) (elim (stays_about t m e stays (ap about at)) [
-        | inl low ↦ longer_other m p (long m low)
-        | inr asks ↦ absurd (no_end asks.by asks.is)
-      ])
-        where
-          no_end : (by : Name) → e.event ≡ event.End m (Abort (Asked by)) → ⊥
-          no_end by also = absurd cc
+      by_event (event.Ready m) at = if_not (same m p) (Some tt) (longer_other m p (long m (stays_low t m e stays (ap about at) (ap (asks_above t) at))))
       by_event _ at = refl
 
   -- by it none that is strictly above does anything
@@ -112,20 +106,10 @@ module _ (of t p : Name) (child : is_child of t ≡ true) (short : length p ≤ 
   stays_silent above e stays = by_event e.event refl
     where
       by_event : (ev : Event) → e.event ≡ ev → Silent p ev
-      by_event (event.Start m k) at = start_silent p m k (false_from_ne_true (is_child p m) (λ child_too. elim (stays_about t m e stays (ap about at)) [
-        | inl low ↦ let l = not_shorter t m low in let z : ⊥ = omega (arith, l, child_longer of t child, child_longer p m child_too, above) in z
-        | inr asks ↦ no_end asks.by asks.is
-      ]))
-        where
-          no_end : (by : Name) → e.event ≡ event.End m (Abort (Asked by)) → ⊥
-          no_end by also = absurd cc
-      by_event (event.Mark m session) at = mark_silent p m session (elim (stays_about t m e stays (ap about at)) [
-        | inl low ↦ longer_other m p (long m low)
-        | inr asks ↦ absurd (no_end asks.by asks.is)
-      ])
-        where
-          no_end : (by : Name) → e.event ≡ event.End m (Abort (Asked by)) → ⊥
-          no_end by also = absurd cc
+      by_event (event.Start m k) at =
+          let low = stays_low t m e stays (ap about at) (ap (asks_above t) at) in
+          start_silent p m k (false_from_ne_true (is_child p m) (λ child_too. let l = not_shorter t m low in let z : ⊥ = omega (arith, l, child_longer of t child, child_longer p m child_too, above) in z))
+      by_event (event.Mark m session) at = mark_silent p m session (longer_other m p (long m (stays_low t m e stays (ap about at) (ap (asks_above t) at))))
       by_event (event.Ask ask) at = λ past. refl
       by_event (event.Gone m why) at = λ past. refl
       by_event (event.Granted copy grant) at = λ past. refl

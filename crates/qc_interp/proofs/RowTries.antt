@@ -87,6 +87,13 @@ stays_about t n e stays is = elim (or_cases (option_map_or (λ m. name.is_ancest
   | inr asks ↦ inr (asks_for t n e.event asks is)
 ]
 
+-- one that aborts none above is about a name there
+pub stays_low : (t n : Name) (e : Entry) → stays_in t e ≡ true → about e.event ≡ Some n → asks_above t e.event ≡ false → name.is_ancestor t n ≡ true
+stays_low t n e stays is none = elim (or_cases (option_map_or (λ m. name.is_ancestor t m) (about e.event) true) (asks_above t e.event) (and_parts _ _ stays).1) [
+  | inl low ↦ sym (ap (λ o. option_map_or (λ m. name.is_ancestor t m) o true) is) ∙ low
+  | inr asks ↦ absurd (true≢false (sym asks ∙ none))
+]
+
 -- whom an entry is about that tells of a name
 pub told_about : (t : Name) (e : Entry) → tells t e ≡ true → (n : Name) × (about e.event ≡ Some n) × (name.is_ancestor t n ≡ true)
 told_about t e tell = by_about (about e.event) refl tell
