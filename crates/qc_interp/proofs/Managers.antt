@@ -220,20 +220,25 @@ module _ (c : Client) where
         all_both (stays_in (scope c of)) inner (begins ∷ []) (accesses_stay (scope c of) m inner (omega (arith, longer)) low of_accesses)
         (ap (λ b. b && true) (start_stays_in (scope c of) m k begins refl (omega (arith, longer, nonroot)) low))
 
-  pub record Managed (of : Name) (k : Kind) (how : How) (m : Name) (before now : Past) : Type 0 where
-    pub turns : InTurn (mine c before) → Alone (mine c before) of → InTurn (mine c now) × Alone (mine c now) of
+  -- what was made of it, as far as it came
+  pub record IsManager (of : Name) (k : Kind) (m : Name) (before now : Past) : Type 0 where
     pub later : IsLater c before now
     pub inside : AllStayIn c (scope c of) later.newer
     pub asked : AllAsked c before now NoOne
-    pub is_one : is_child of m ≡ true
     pub kind : kind_of (mine c now) m ≡ Some k
-    pub end : end (mine c now) m ≡ Some how
     pub started : start now m ≡ Some (record { seat = c.number; kind = k })
-    pub ended : Rattle.qc_event.specs.History.end now m ≡ Some how
     pub deeds : deeds (mine c now) of ≡ deeds (mine c before) of ++ Deed.child m ∷ []
     pub same_deeds : (p r : Name) → of ≡ p ++ r → 0 < length r → Rattle.qc_interp.specs.Deeds.deeds (mine c now) p ≡ Rattle.qc_interp.specs.Deeds.deeds (mine c before) p
-    pub same_end : (p r : Name) → of ≡ p ++ r → Rattle.qc_event.specs.History.end (mine c now) p ≡ Rattle.qc_event.specs.History.end (mine c before) p
+    pub same_end : (p r : Name) → of ≡ p ++ r → end (mine c now) p ≡ end (mine c before) p
     pub same_ready : (p r : Name) → of ≡ p ++ r → is_ready (mine c now) p ≡ is_ready (mine c before) p
+
+  pub record Managed (of : Name) (k : Kind) (how : How) (m : Name) (before now : Past) : Type 0 where
+    pub so_far : IsManager of k m before now
+    pub open so_far use *
+    pub turns : InTurn (mine c before) → Alone (mine c before) of → InTurn (mine c now) × Alone (mine c now) of
+    pub is_one : is_child of m ≡ true
+    pub end : end (mine c now) m ≡ Some how
+    pub ended : Rattle.qc_event.specs.History.end now m ≡ Some how
 
   module _ (of : Name) (k : Kind) (how : How) (before now : Past) (nonroot : 0 < length of) (ran : Ran c of k how before now) where
     abbrev m : Name
@@ -300,49 +305,46 @@ module _ (c : Client) where
 
     pub managed : Managed of k how m before now
     managed = record {
+      so_far = record {
+        later = made_later c _ before now ran.made;
+        inside = ap (list_all (stays_in (scope c of))) ran.made.made ∙ inside_is;
+        asked = asked_made c _ before now NoOne ran.made (unasked_end m how ran.not_asked, accesses_unasked m ran.inner (by_client c (event.Start m k) ∷ []) ran.of_accesses (tt, tt));
+        kind = kind_is;
+        started = new.started;
+        deeds = end_quiet of ∙ deeds_running of m k ran.inner h0 ran.is_one new.fresh ran.of_accesses;
+        same_deeds = λ p r above far. end_quiet p ∙ same_deeds_running of m k ran.inner h0 ran.is_one new.fresh ran.of_accesses p r above far;
+        same_end = same_end_at;
+        same_ready = same_ready_at;
+      };
       turns = turns_is;
-      later = made_later c _ before now ran.made;
-      inside = ap (list_all (stays_in (scope c of))) ran.made.made ∙ inside_is;
-      asked = asked_made c _ before now NoOne ran.made (unasked_end m how ran.not_asked, accesses_unasked m ran.inner (by_client c (event.Start m k) ∷ []) ran.of_accesses (tt, tt));
       is_one = ran.is_one;
-      kind = kind_is;
       end = end_is;
-      started = new.started;
       ended = ended_is;
-      deeds = end_quiet of ∙ deeds_running of m k ran.inner h0 ran.is_one new.fresh ran.of_accesses;
-      same_deeds = λ p r above far. end_quiet p ∙ same_deeds_running of m k ran.inner h0 ran.is_one new.fresh ran.of_accesses p r above far;
-      same_end = same_end_at;
-      same_ready = same_ready_at;
     }
 
   -- WHAT A MANAGER LEAVES THAT WAS CUT OFF
 
   pub record Interrupted (of : Name) (k : Kind) (m : Name) (before now : Past) : Type 0 where
+    pub so_far : IsManager of k m before now
+    pub open so_far use *
     pub turns : InTurn (mine c before) → Alone (mine c before) of → InTurn (mine c now)
-    pub later : IsLater c before now
-    pub inside : AllStayIn c (scope c of) later.newer
-    pub asked : AllAsked c before now NoOne
-    pub kind : kind_of (mine c now) m ≡ Some k
     pub end : end (mine c now) m ≡ None
-    pub started : start now m ≡ Some (record { seat = c.number; kind = k })
-    pub deeds : deeds (mine c now) of ≡ deeds (mine c before) of ++ Deed.child m ∷ []
-    pub same_deeds : (p r : Name) → of ≡ p ++ r → 0 < length r → Rattle.qc_interp.specs.Deeds.deeds (mine c now) p ≡ Rattle.qc_interp.specs.Deeds.deeds (mine c before) p
-    pub same_end : (p r : Name) → of ≡ p ++ r → Rattle.qc_event.specs.History.end (mine c now) p ≡ Rattle.qc_event.specs.History.end (mine c before) p
-    pub same_ready : (p r : Name) → of ≡ p ++ r → is_ready (mine c now) p ≡ is_ready (mine c before) p
 
   pub interrupted : (of : Name) (k : Kind) (before now : Past) → 0 < length of → (cut : WasCut c of k before now) → Interrupted of k cut.manager before now
   interrupted of k before now nonroot cut = record {
+    so_far = record {
+      later = made_later c _ before now cut.made;
+      inside = ap (list_all (stays_in (scope c of))) cut.made.made ∙ inside_running of cut.manager k cut.inner (mine c before) cut.is_one new.fresh cut.of_accesses nonroot;
+      asked = asked_made c _ before now NoOne cut.made (accesses_unasked cut.manager cut.inner (by_client c (event.Start cut.manager k) ∷ []) cut.of_accesses (tt, tt));
+      kind = ap (λ h. kind_of h cut.manager) now_is ∙ kind_running of cut.manager k cut.inner (mine c before) cut.is_one new.fresh cut.of_accesses;
+      started = new.started;
+      deeds = ap (λ h. deeds h of) now_is ∙ deeds_running of cut.manager k cut.inner (mine c before) cut.is_one new.fresh cut.of_accesses;
+      same_deeds = λ p r above far. ap (λ h. deeds h p) now_is ∙ same_deeds_running of cut.manager k cut.inner (mine c before) cut.is_one new.fresh cut.of_accesses p r above far;
+      same_end = λ p r above. ap (λ h. end h p) now_is ∙ same_end_running of cut.manager k cut.inner (mine c before) cut.is_one new.fresh cut.of_accesses p r above;
+      same_ready = λ p r above. ap (λ h. is_ready h p) now_is ∙ same_ready_running of cut.manager k cut.inner (mine c before) cut.is_one new.fresh cut.of_accesses p r above;
+    };
     turns = λ turns alone. subst InTurn (sym now_is) (turns_running of cut.manager k cut.inner (mine c before) cut.is_one new.fresh cut.of_accesses nonroot turns alone).0;
-    later = made_later c _ before now cut.made;
-    inside = ap (list_all (stays_in (scope c of))) cut.made.made ∙ inside_running of cut.manager k cut.inner (mine c before) cut.is_one new.fresh cut.of_accesses nonroot;
-    asked = asked_made c _ before now NoOne cut.made (accesses_unasked cut.manager cut.inner (by_client c (event.Start cut.manager k) ∷ []) cut.of_accesses (tt, tt));
-    kind = ap (λ h. kind_of h cut.manager) now_is ∙ kind_running of cut.manager k cut.inner (mine c before) cut.is_one new.fresh cut.of_accesses;
-    started = new.started;
     end = ap (λ h. end h cut.manager) now_is ∙ end_running of cut.manager k cut.inner (mine c before) cut.is_one new.fresh cut.of_accesses;
-    deeds = ap (λ h. deeds h of) now_is ∙ deeds_running of cut.manager k cut.inner (mine c before) cut.is_one new.fresh cut.of_accesses;
-    same_deeds = λ p r above far. ap (λ h. deeds h p) now_is ∙ same_deeds_running of cut.manager k cut.inner (mine c before) cut.is_one new.fresh cut.of_accesses p r above far;
-    same_end = λ p r above. ap (λ h. end h p) now_is ∙ same_end_running of cut.manager k cut.inner (mine c before) cut.is_one new.fresh cut.of_accesses p r above;
-    same_ready = λ p r above. ap (λ h. is_ready h p) now_is ∙ same_ready_running of cut.manager k cut.inner (mine c before) cut.is_one new.fresh cut.of_accesses p r above;
   }
     where
       new : NewChild of cut.manager k before now
