@@ -18,11 +18,12 @@ use Rattle.qc_interp.specs.Reach.{Reach}
 use Rattle.qc_interp.specs.Rows.{AreAtOnce, OneOf, is_of_body, is_try, tries_among, has_committed, each_begun, each_tried, first_failed, opens_seat}
 use Rattle.qc_interp.specs.Tries.{is_tried_again}
 use Rattle.qc_interp.specs.Turns.{seat_of}
+use Rattle.qc_interp.proofs.Lists.{all_parts}
 use Rattle.qc_interp.proofs.Asked.{BranchAsks}
 use Rattle.qc_interp.proofs.Behind.{waits_for, is_behind_alike}
 use Rattle.qc_interp.proofs.Beside.{IsSameSeat, beside_alike, own_seat_alike}
 use Rattle.qc_interp.proofs.Deeds.{begun, children_are}
-use Rattle.qc_interp.proofs.Rows.{IsSameTry, OfAnyChild, all_map, all_both, all_among, all_parts, one_map, failed_is, among_alike, begun_alike, each_alike, at_once_alike, failed_alike}
+use Rattle.qc_interp.proofs.Rows.{IsSameTry, OfAnyChild, all_map, all_both, all_among, one_map, failed_is, among_alike, begun_alike, each_alike, at_once_alike, failed_alike}
 use Rattle.qc_interp.proofs.Followed.{IsTryBeside, IsRowTry}
 use Rattle.qc_interp.proofs.TriesAlike.{AreAlike, IfAny, tries_alike, tries_do_alike}
 use Rattle.qc_interp.proofs.Turning.{itself}

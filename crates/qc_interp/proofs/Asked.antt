@@ -23,6 +23,7 @@ use Rattle.qc_interp.specs.Reach.{Reach}
 use Rattle.qc_interp.specs.Rows.{OneOf, each_begun, each_tried, first_failed, tries_among}
 use Rattle.qc_interp.specs.Tries.{Tries, TriesDo, is_tried_again}
 use Rattle.qc_script.specs.Calls.{is_asked}
+use Rattle.qc_interp.proofs.Lists.{all_join}
 use Rattle.qc_interp.proofs.Growth.{made_is}
 use Rattle.qc_interp.specs.Deeds.{Deed, deeds, deed_end, OfChild}
 use Rattle.qc_interp.proofs.Deeds.{deeds_still}
@@ -34,10 +35,6 @@ use Rattle.qc_interp.proofs.Still.{deed_again_still, child_still, plan_still, sa
 
 abbrev pub NoOne : Name → Name → Type 0
 NoOne by target = ⊥
-
-all_append : (P : Entry → Type 0) (xs ys : Past) → AllByRecursion P xs → AllByRecursion P ys → AllByRecursion P (xs ++ ys)
-all_append P [] ys a b = b
-all_append P (x ∷ xs) ys a b = (a.0, all_append P xs ys a.1 b)
 
 module _ (Q R : Name → Name → Type 0) (step : (by target : Name) → Q by target → R by target) where
   pub wider_one : (ev : Event) → IsAskedBy Q ev → IsAskedBy R ev
@@ -71,7 +68,7 @@ pub asked_none : (c : Client) (before now : Past) (Q : Name → Name → Type 0)
 asked_none c before now Q h = asked_wider NoOne Q (λ by target x. absurd x) c before now h
 
 pub asked_trans : (c : Client) (a b d : Past) (Q : Name → Name → Type 0) → AllAsked c a b Q → AllAsked c b d Q → AllAsked c a d Q
-asked_trans c a b d Q f g = (g.0 ++ f.0, g.1 ∙ ap (λ x. g.0 ++ x) f.1 ∙ sym (append_assoc g.0 f.0 (mine c a)), all_append (λ (e : Entry). IsAskedBy Q e.event) g.0 f.0 g.2 f.2)
+asked_trans c a b d Q f g = (g.0 ++ f.0, g.1 ∙ ap (λ x. g.0 ++ x) f.1 ∙ sym (append_assoc g.0 f.0 (mine c a)), all_join (λ (e : Entry). IsAskedBy Q e.event) g.0 f.0 g.2 f.2)
 
 pub asked_made : (c : Client) (es before now : Past) (Q : Name → Name → Type 0) → Made c es before now → AllByRecursion (λ (e : Entry). IsAskedBy Q e.event) es → AllAsked c before now Q
 asked_made c es before now Q m all = (es, made_is c es before now m, all)

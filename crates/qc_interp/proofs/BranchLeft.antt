@@ -26,6 +26,7 @@ use Rattle.qc_interp.specs.Tries.{Tries, is_tried_again, is_again}
 use Rattle.qc_interp.specs.Turns.{is_under}
 use Rattle.qc_interp.specs.declared.stops.Finish.{Finish}
 use Rattle.qc_interp.specs.declared.stops.Finish.TheVariants as finish
+use Rattle.qc_interp.proofs.Lists.{all_last}
 use Rattle.qc_interp.proofs.Asked.{asked_made, asked_wider, asked_trans}
 use Rattle.qc_interp.proofs.BranchTries.{TriesAt, tries_itself, tries_trans, TriedOne, CutOne, one_tried, one_cut}
 use Rattle.qc_interp.proofs.Followed.{IsTryOf}
@@ -33,7 +34,6 @@ use Rattle.qc_interp.proofs.Growth.{made_is, made_later, later_itself, ours_befo
 use Rattle.qc_interp.proofs.OneTry.{more_try, number_later, runs_later, again_later, asked_later}
 use Rattle.qc_interp.proofs.Joined.{joined_before, joined_chain, joined_since, joined_start, joined_root, joined_mine, by_joined, more_mine, more_later, newer_mine, ours_back, both, OwnAlike}
 use Rattle.qc_interp.proofs.MadeBy.{made_by}
-use Rattle.qc_interp.proofs.TopsRun.{all_last}
 use Rattle.qc_interp.proofs.Tried.{MayBegin, runs_begun}
 use Rattle.qc_interp.proofs.TriesLead.{again_is, match_true, match_false}
 use Rattle.qc_interp.proofs.Turning.{InTurn, Alone, itself}

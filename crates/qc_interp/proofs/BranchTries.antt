@@ -22,6 +22,7 @@ use Rattle.qc_interp.specs.Running.{LeavesIt, LeavesAt, EndsAt, CameTo, Ended, C
 use Rattle.qc_interp.specs.Tries.{is_tried_again}
 use Rattle.qc_interp.specs.Turns.{is_under}
 use Rattle.qc_interp.specs.declared.stops.Finish.{Finish}
+use Rattle.qc_interp.proofs.Lists.{all_front, all_last}
 use Rattle.qc_interp.proofs.Adding.{start_stays_in}
 use Rattle.qc_interp.proofs.Deeds.{same_children}
 use Rattle.qc_interp.proofs.Growth.{made_is, made_later, later_itself, later_trans, ours_before}
@@ -29,7 +30,6 @@ use Rattle.qc_interp.proofs.RowOurs.{child_is_scope}
 use Rattle.qc_interp.proofs.Seats.{own_under, later_seat, later_under}
 use Rattle.qc_interp.proofs.OneTry.{IsTry, is_try, left_above, ended_below}
 use Rattle.qc_interp.proofs.Stopping.{unended_again}
-use Rattle.qc_interp.proofs.TopsRun.{all_last, all_front}
 use Rattle.qc_interp.proofs.Tried.{MayBegin, end_begun, ready_begun, kind_begun, turns_begun, none_begun, seat_begun}
 use Rattle.qc_interp.proofs.Turning.{InTurn, Alone, alone_up, some_done, itself}
 

@@ -1,4 +1,4 @@
--- Branches that began, or ran, meet their links; where some are merged the client's numbers are apart. What becomes of such
+-- Branches that began, or ran, meet their links; where some are merged the client's numbers are apart.
 -- lists.
 use Rattle.std.proofs.Common.{◌≡◌, ℕ, ◌<◌, List, [], ◌∷◌, ◌++◌, map, length, take, refl, sym, ap, ◌∙◌, arith}
 use Rattle.std.specs.List.{AllByRecursion}
@@ -23,14 +23,3 @@ ran_met (b ∷ bs1) (b2 ∷ bs2) h = (h.0.met, ran_met bs1 bs2 h.1)
 pub merged_any : (w x : View) (bs : List Stands) → 0 < length bs → MergedInTurn w bs x → MergedSome x
 merged_any w x [] some h = absurd (omega (arith, some))
 merged_any w x (b ∷ bs) some h = merged_some w x b bs h
-
-pub map_twice : {A B C : Type 0} (f : B → C) (g : A → B) (xs : List A) → map f (map g xs) ≡ map (λ x. f (g x)) xs
-map_twice f g [] = refl
-map_twice f g (x ∷ xs) = ap (λ l. f (g x) ∷ l) (map_twice f g xs)
-
-kept_front : {A : Type 0} (xs ys : List A) → take (length xs) (xs ++ ys) ≡ xs
-kept_front [] ys = refl
-kept_front (x ∷ xs) ys = ap (λ l. x ∷ l) (kept_front xs ys)
-
-pub kept_whole : {A : Type 0} (n : ℕ) (xs ys : List A) → length xs ≡ n → take n (xs ++ ys) ≡ xs
-kept_whole n xs ys long = ap (λ k. take k (xs ++ ys)) (sym long) ∙ kept_front xs ys

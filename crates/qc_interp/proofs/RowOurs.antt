@@ -28,11 +28,12 @@ use Rattle.qc_interp.specs.Branches.{Branch, IsBegun, AreTriesOurs, tries_by, wi
 use Rattle.qc_interp.specs.Follows.{IsUnended}
 use Rattle.qc_interp.specs.Reach.{Reach}
 use Rattle.qc_interp.specs.Running.{Runs}
+use Rattle.qc_interp.proofs.Lists.{all_join}
 use Rattle.qc_interp.proofs.Growth.{implied, implies}
 use Rattle.qc_interp.proofs.Places.{some_same, at_place, each_place}
 use Rattle.qc_interp.proofs.RowAgrees.{tells}
 use Rattle.qc_interp.proofs.RowSeats.{own_as_before}
-use Rattle.qc_interp.proofs.RowTries.{IsTry, one_child, upward_above, above_trans, stays_about, all_join, root_is, try_at, Owner, owners, quiet_before, quiet_other, other_try}
+use Rattle.qc_interp.proofs.RowTries.{IsTry, one_child, upward_above, above_trans, stays_about, root_is, try_at, Owner, owners, quiet_before, quiet_other, other_try}
 use Rattle.qc_interp.proofs.Scope.{in_or_upward, child_scope, same_scope}
 use Rattle.qc_interp.proofs.Seen.{own_once}
 use Rattle.qc_interp.proofs.Turning.{itself}

@@ -11,10 +11,11 @@ use Rattle.qc_script.specs.Plan.{Plan, Numbered, PlanFits}
 use Rattle.qc_interp.specs.AtOnce.{Stands, branch_in, BeganInTurn, BeganSome, InPairs, WasShown, HasRun, MayRun, AreOut, MergedInTurn}
 use Rattle.qc_interp.specs.Branches.{Branch, row_step}
 use Rattle.qc_interp.specs.Running.{Runs}
+use Rattle.qc_interp.proofs.Lists.{map_twice}
 use Rattle.qc_interp.proofs.BranchPlans.{BodyFits}
 use Rattle.qc_interp.proofs.RowDone.{RowDone, all_become}
 use Rattle.qc_interp.proofs.RowFits.{fits_own, fits_some, fits_each, may_run}
-use Rattle.qc_interp.proofs.RowMet.{merged_any, map_twice, ran_met}
+use Rattle.qc_interp.proofs.RowMet.{merged_any, ran_met}
 use Rattle.qc_interp.proofs.RowTurnedDone.{turned_room}
 use Rattle.qc_interp.proofs.RowTurnedOut.{RowTurned}
 use Rattle.qc_interp.proofs.RowTurning.{turned_out}

@@ -25,6 +25,7 @@ use Rattle.qc_interp.specs.Branches.{Branch, tries_by, stays_with, seats_of, wit
 use Rattle.qc_interp.specs.Reach.{Reach}
 use Rattle.qc_interp.specs.Turns.{is_under}
 use Rattle.qc_event.proofs.Lists.{get_first}
+use Rattle.qc_interp.proofs.Lists.{all_join}
 use Rattle.qc_interp.proofs.Began.{start_from, kept_start, AreStarted, all_started}
 use Rattle.qc_interp.proofs.Places.{some_same, at_place, each_place, kept_at, any_place}
 use Rattle.qc_interp.proofs.RowAgrees.{tells, KeepsMore}
@@ -38,10 +39,6 @@ pub passes_at : {X : Type 0} (f : X → Bool) (xs : List X) (i : ℕ) (x : X) �
 passes_at f [] i x all is = absurd cc
 passes_at f (y ∷ xs) zero x all is = ap f (sym (some_same y x is)) ∙ (and_parts (f y) (list_all f xs) all).0
 passes_at f (y ∷ xs) (suc i) x all is = passes_at f xs i x (and_parts (f y) (list_all f xs) all).1 is
-
-pub all_join : {X : Type 0} (P : X → Type 0) (xs ys : List X) → AllByRecursion P xs → AllByRecursion P ys → AllByRecursion P (xs ++ ys)
-all_join P [] ys all more = more
-all_join P (x ∷ xs) ys all more = (all.0, all_join P xs ys all.1 more)
 
 -- NAMES
 

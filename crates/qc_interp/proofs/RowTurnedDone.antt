@@ -13,6 +13,7 @@ use Rattle.qc_interp.specs.declared.body.branch.BranchCame.TheVariants as came
 use Rattle.qc_interp.specs.AtOnce.{Stands, branch_in, RefusedSo, IsFirst, TurnedSome, TurnedAll, KnowsBehind, WentBehind}
 use Rattle.qc_interp.specs.Branches.{Branch, row_step}
 use Rattle.qc_interp.specs.Running.{CutOff, HasActed}
+use Rattle.qc_interp.proofs.Lists.{all_parts}
 use Rattle.qc_interp.proofs.BranchEnds.{refusal_stops, why_refused}
 use Rattle.qc_interp.proofs.BranchPlans.{BodyFits}
 use Rattle.qc_interp.proofs.Growth.{made_itself}
@@ -21,7 +22,7 @@ use Rattle.qc_interp.proofs.RowBack.{none_back}
 use Rattle.qc_interp.proofs.RowFits.{fits_each}
 use Rattle.qc_interp.proofs.RowOut.{RowOut, row_stops, row_cut_behind}
 use Rattle.qc_interp.proofs.RowTurnedOut.{RowTurned, back_cut, back_out, back_legal}
-use Rattle.qc_interp.proofs.RowTurning.{all_front, turned_firsts, turned_grown, turned_refused}
+use Rattle.qc_interp.proofs.RowTurning.{turned_firsts, turned_grown, turned_refused}
 
 module _ {of : Name} {v w : View} {bodies : List Numbered} {why : TxNo} {firsts : List Name} (t : RowTurned of v w bodies why firsts) where
   open t use {begun as m, seen_by_all as m1, bs, ones, others, runs, began, shown, same, made, merged, first, then, fits, are}
@@ -42,7 +43,7 @@ module _ {of : Name} {v w : View} {bodies : List Numbered} {why : TxNo} {firsts 
   -- those that it aborts
   first_tries : AllByRecursion (IsFirst of w.seen) (map (λ (b : Stands). b.first) ones)
   first_tries = turned_firsts of v m m1 bs ones why runs began shown same made w merged
-      (all_front (BodyFits v.client.setting (length of)) (map (λ (b : Stands). b.body) bs) others (subst (AllByRecursion (BodyFits v.client.setting (length of))) first (fits_each v.client.setting (length of) bodies then fits)))
+      ((all_parts (BodyFits v.client.setting (length of)) (map (λ (b : Stands). b.body) bs) others (subst (AllByRecursion (BodyFits v.client.setting (length of))) first (fits_each v.client.setting (length of) bodies then fits))).0)
 
   pub turned_are_firsts : AllByRecursion (IsFirst of w.seen) firsts
   turned_are_firsts = subst (AllByRecursion (IsFirst of w.seen)) (sym are) first_tries

@@ -19,6 +19,7 @@ use Rattle.qc_interp.specs.Follows.{IsUnended, WasOrphan, HasNotEnded, RunsRow}
 use Rattle.qc_interp.specs.Reach.{Reach}
 use Rattle.qc_interp.specs.Rows.{is_of_body, is_try, each_begun, each_tried, first_failed, are_tries_at_once, each_own_seat, opens_seat}
 use Rattle.qc_interp.specs.Running.{Runs, EndsAt, CutOff}
+use Rattle.qc_interp.proofs.Lists.{all_join}
 use Rattle.qc_interp.proofs.Beside.{seats_later}
 use Rattle.qc_interp.proofs.Branches.{AreFirstTries, HaveOwnNumbers, WasTryTurnedBack, first_at_once, first_own_seat, first_unbegun, first_untried, turned_back_runs}
 use Rattle.qc_interp.proofs.Places.{each_place}
@@ -28,7 +29,6 @@ use Rattle.qc_interp.proofs.RowFew.{HasOnlyBegun, first_tries, of_firsts, first_
 use Rattle.qc_interp.proofs.RowFront.{front_of}
 use Rattle.qc_interp.proofs.RowLeaves.{mine_now}
 use Rattle.qc_interp.proofs.RowOutcome.{first_opens}
-use Rattle.qc_interp.proofs.RowTries.{all_join}
 use Rattle.qc_interp.proofs.RowTurnedBack.{turned_mine, turned_later, turned_cut, turned_firsts, turned_unended, turned_unready, turned_ended}
 use Rattle.qc_interp.proofs.Rows.{failed_is}
 

@@ -12,6 +12,7 @@ use Rattle.qc_interp.specs.AtOnce.{Stands, branch_in, BeganSome, InPairs, WasSho
 use Rattle.qc_interp.specs.Branches.{Branch, with_all, RanRow, row_step}
 use Rattle.qc_interp.specs.Reach.{Reach}
 use Rattle.qc_interp.specs.Running.{Runs, CutOff}
+use Rattle.qc_interp.proofs.Lists.{all_parts}
 use Rattle.qc_interp.proofs.BranchPlans.{BodyFits}
 use Rattle.qc_interp.proofs.Branches.{HaveOwnNumbers}
 use Rattle.qc_interp.proofs.Growth.{later_itself, made_both}
@@ -24,7 +25,7 @@ use Rattle.qc_interp.proofs.RowNone.{none_out, none_cut}
 use Rattle.qc_interp.proofs.RowOut.{RowOut}
 use Rattle.qc_interp.proofs.RowTurnedBack.{turned_leaves, turned_runs}
 use Rattle.qc_interp.proofs.RowTurnedEnds.{row_turned_cut, row_turned_front}
-use Rattle.qc_interp.proofs.RowTurning.{become_itself, none_or_some, all_front, bodies_in, joined_one, joined_old, runs_then, turned_client, turned_made, turned_only, turned_row}
+use Rattle.qc_interp.proofs.RowTurning.{become_itself, none_or_some, bodies_in, joined_one, joined_old, runs_then, turned_client, turned_made, turned_only, turned_row}
 use Rattle.qc_interp.proofs.RowWhole.{same_numbers}
 
 -- The first bodies of a step were begun and the next was refused; their branches were shown the starts of all and merged. These
@@ -60,7 +61,7 @@ module _ {of : Name} {v w : View} {bodies : List Numbered} {why : TxNo} {firsts 
   branches = map branch_in ones
 
   each_fits : AllByRecursion (BodyFits c.setting (length of)) (map (λ (b : Stands). b.body) bs)
-  each_fits = all_front (BodyFits c.setting (length of)) (map (λ (b : Stands). b.body) bs) others (subst (AllByRecursion (BodyFits c.setting (length of))) first (fits_each c.setting (length of) bodies then fits))
+  each_fits = (all_parts (BodyFits c.setting (length of)) (map (λ (b : Stands). b.body) bs) others (subst (AllByRecursion (BodyFits c.setting (length of))) first (fits_each c.setting (length of) bodies then fits))).0
 
   own : HaveOwnNumbers bodies
   own = fits_own c.setting (length of) bodies then fits

@@ -92,10 +92,6 @@ pub none_or_some : {A : Type 0} (P : Type 0) (xs : List A) → (xs ≡ [] → P)
 none_or_some P [] none some = none refl
 none_or_some P (x ∷ xs) none some = some (omega arith)
 
-pub all_front : {A : Type 0} (P : A → Type 0) (xs ys : List A) → AllByRecursion P (xs ++ ys) → AllByRecursion P xs
-all_front P [] ys all = tt
-all_front P (x ∷ xs) ys all = (all.0, all_front P xs ys all.1)
-
 pub bodies_in : (bs : List Stands) → map (λ (b : Branch). b.body) (map branch_in bs) ≡ map (λ (b : Stands). b.body) bs
 bodies_in [] = refl
 bodies_in (b ∷ bs) = ap (λ l. b.body ∷ l) (bodies_in bs)

@@ -25,13 +25,13 @@ use Rattle.qc_interp.specs.Reach.{Reach, AtTheEnd}
 use Rattle.qc_interp.specs.Running.{Runs}
 use Rattle.qc_interp.specs.Turns.{begun_in, acts, is_done, is_alone, seat_of, keeps_seat, are_apart, has_turn, takes_turn}
 use Rattle.qc_event.proofs.Lists.{get_first}
+use Rattle.qc_interp.proofs.Lists.{all_parts}
 use Rattle.qc_interp.proofs.Apart.{IsToldSeat, part_at, child_is_above, apart_by, apart_wider}
 use Rattle.qc_interp.proofs.Beside.{seat_later}
 use Rattle.qc_interp.proofs.Began.{all_started, start_wider, every_at, every_more}
 use Rattle.qc_interp.proofs.Joined.{joined_mine}
 use Rattle.qc_interp.proofs.Places.{some_same, at_place, each_place}
 use Rattle.qc_interp.proofs.RowActors.{stays_actor, begins_about, done_wider, done_later, each_at, seat_wider}
-use Rattle.qc_interp.proofs.Rows.{all_parts}
 use Rattle.qc_interp.proofs.RowOurs.{none_of, tries_ours}
 use Rattle.qc_interp.proofs.RowSeats.{any_own, seats_owned, one_owner, apart_parts, begun_joined}
 use Rattle.qc_interp.proofs.RowTries.{IsTry, above_trans, own_more, ran_at, root_is, apart_branches, try_owned, same_branch, Owner, owners, other_try}

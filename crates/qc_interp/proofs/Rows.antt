@@ -34,10 +34,6 @@ module _ {A : Type 0} where
   all_each P every [] = tt
   all_each P every (x ∷ xs) = (every x, all_each P every xs)
 
-  pub all_parts : (P : A → Type 0) (xs ys : List A) → AllByRecursion P (xs ++ ys) → AllByRecursion P xs × AllByRecursion P ys
-  all_parts P [] ys h = (tt, h)
-  all_parts P (x ∷ xs) ys h = let further = all_parts P xs ys h.1 in ((h.0, further.0), further.1)
-
   pub all_among : (test : A → Bool) (P : A → Type 0) (xs : List A) → AllByRecursion P xs → AllByRecursion P (filter test xs)
   all_among test P [] h = tt
   all_among test P (x ∷ xs) h = by_test (test x) (all_among test P xs h.1)

@@ -10,12 +10,13 @@ use Rattle.qc_interp.specs.Reach.{Reach}
 use Rattle.qc_script.specs.Plan.{Numbered}
 use Rattle.qc_interp.specs.Session.{tops, NotBegun, RunsBodies, AreAllOurs, EndsTopsAt}
 use Rattle.qc_interp.specs.Tries.{Tries, is_tried_again, TriesDo}
+use Rattle.qc_interp.proofs.Lists.{all_last}
 use Rattle.qc_interp.proofs.OneTry.{number_later, runs_later, again_later, asked_later}
 use Rattle.qc_interp.proofs.Growth.{ours_before}
 use Rattle.qc_interp.specs.Asking.{Asks, BodiesAsk, AllAsked}
 use Rattle.qc_interp.proofs.Asked.{asked_wider, asked_trans}
 use Rattle.qc_interp.proofs.TriesLead.{match_true, match_false}
-use Rattle.qc_interp.proofs.TopsRun.{TriedTop, CutTop, none_begun, all_last}
+use Rattle.qc_interp.proofs.TopsRun.{TriedTop, CutTop, none_begun}
 
 -- from `before` on, so many tries of a body and then of other bodies, or as far as the run came
 abbrev pub EndsTopTries : Reach → Client → Past → Past → Numbered → Option Name → ℕ → List Numbered → Type 0

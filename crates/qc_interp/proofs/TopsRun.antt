@@ -22,6 +22,7 @@ use Rattle.qc_event.proofs.RootAndTops.{ready_started}
 use Rattle.qc_script.specs.Calls.{by_client, IsOfSession}
 use Rattle.qc_script.specs.Client.{Client, mine, is_own, scope, Made, IsLater, AreOurs}
 use Rattle.qc_interp.specs.Deeds.{deeds}
+use Rattle.qc_interp.proofs.Lists.{all_front, all_last}
 use Rattle.qc_interp.proofs.Deeds.{start_silent, deeds_quiet, no_deeds, same_children}
 use Rattle.qc_interp.specs.Follows.{FollowsPlan, IsUnended}
 use Rattle.qc_interp.specs.Reach.{Reach}
@@ -128,14 +129,6 @@ module _ (c : Client) (t : Name) (number : ℕ) (before now : Past) (top : is_ch
     above = above_top;
     closed = λ ours. ap (find (λ x. is_none (end (mine c now) x))) (same_children (mine c now) [] t none_top);
   }
-
-pub all_last : (P : Name → Type 0) (xs : List Name) (t : Name) (ys : List Name) → AllByRecursion P (xs ++ t ∷ ys) → P t
-all_last P [] t ys h = h.0
-all_last P (x ∷ xs) t ys h = all_last P xs t ys h.1
-
-pub all_front : (P Q : Name → Type 0) (xs ys : List Name) → ((n : Name) → P n → Q n) → AllByRecursion P (xs ++ ys) → AllByRecursion Q xs
-all_front P Q [] ys step h = tt
-all_front P Q (x ∷ xs) ys step h = (step x h.0, all_front P Q xs ys step h.1)
 
 pub turn_itself : (c : Client) (now : Past) → Legal c.setting now → RanInTurn c now now
 turn_itself c now legal = record { later = later_itself c now legal; inside = refl; of_session = refl; numbers = λ was. was; seats = λ was. was; order = λ ours after over. (after, over); made = []; more = sym (append-nil _); turns = λ ours under turns alone. (turns, alone) }

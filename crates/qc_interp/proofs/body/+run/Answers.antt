@@ -7,6 +7,7 @@ use Rattle.qc_script.specs.Plan.{Plan, PlanFits, row_of, manage_then, change_the
 use Rattle.qc_script.specs.Steps.{put, plan_of, numbered}
 use Rattle.qc_interp.specs.Running.{Runs, WhyStop, Ended, CutOff, Acted, HasActed, HasLooked, Stepped, WentOn, child_step, TriesCame}
 use Rattle.qc_interp.specs.declared.stops.Finish.TheVariants as finish
+use Rattle.qc_interp.proofs.Lists.{kept_whole}
 use Rattle.qc_interp.proofs.Results.{if_ok, if_err, any_err, same_err}
 use Rattle.qc_event.specs.declared.log.Short.TheVariants as short
 use Rattle.qc_event.specs.History.{limit}
@@ -29,7 +30,6 @@ use Rattle.qc_interp.specs.declared.body.branch.BranchCame.TheVariants as came
 use Rattle.qc_interp.specs.Branches.{row_step}
 use Rattle.qc_script.specs.Calls.{MeetsLink}
 use Rattle.std.specs.List.{AllByRecursion}
-use Rattle.qc_interp.proofs.RowMet.{kept_whole}
 use Rattle.qc_interp.proofs.RowDone.{done_joined, done_cut, done_room, done_out, done_knows, done_acted, done_cut_behind}
 use Rattle.qc_interp.proofs.RowStep.{row_depth, bodies_begun, row_may, row_out, row_done, few_out, row_turned, row_room}
 use Rattle.qc_interp.proofs.RowTurnedOut.{back_joined, back_legal}
