@@ -38,7 +38,7 @@ use Rattle.qc_interp.proofs.Seats.{later_seat}
 use Rattle.qc_interp.proofs.Growth.{made_is, made_later, ours_before}
 use Rattle.qc_interp.proofs.Followed.{follows_runs}
 use Rattle.qc_event.proofs.Orderly.{KeepsOrder}
-use Rattle.qc_interp.proofs.Managers.{found_quiet, absent, came_after}
+use Rattle.qc_interp.proofs.Managers.{absent, came_after, one_end, one_ready}
 use Rattle.qc_interp.proofs.Stopping.{asked_early, unended_stopped, unended_unkilled, running_unended}
 use Rattle.qc_interp.proofs.Ending.{at_any, at_the_end, not_ready, leaves_trans, leaves_cut, cut_still, still, leaves_still, runs_still, user_is, leaves_end, deeds_end, ends_so}
 use Rattle.qc_interp.proofs.StepsLeave.{orphan_early, stopped_still, some_later, none_open}
@@ -105,7 +105,7 @@ module _ (c : Client) (of : Name) where
     deeds_asked p = ap (λ h. deeds h p) now_is ∙ deeds_quiet p (by_client c (event.End t (Abort (cause.Asked of))) ∷ []) (mine c before) ((λ past. refl), tt)
 
     ready_asked : (p : Name) → is_ready (mine c mid) p ≡ is_ready (mine c before) p
-    ready_asked p = ap (λ h. is_ready h p) now_is ∙ ap is_some (found_quiet _ (by_client c (event.End t (Abort (cause.Asked of))) ∷ []) (mine c before) (refl, tt))
+    ready_asked p = one_ready c _ before mid m p refl
 
     unended_asked : (p : Name) → IsUnended p (end (mine c before) p) → IsUnended p (end (mine c mid) p)
     unended_asked p h = subst (λ x. IsUnended p (end x p)) (sym now_is) (by_test (same t p) refl (end (mine c before) p) h)
@@ -234,7 +234,7 @@ module _ (c : Client) (of : Name) where
     deeds_ready p = ap (λ h. deeds h p) ready_now ∙ deeds_quiet p (by_client c (event.Ready of) ∷ []) (mine c before) ((λ past. refl), tt)
 
     end_ready : (p : Name) → end (mine c now) p ≡ end (mine c before) p
-    end_ready p = ap (λ h. end h p) ready_now ∙ found_quiet _ (by_client c (event.Ready of) ∷ []) (mine c before) (refl, tt)
+    end_ready p = one_end c _ before now m p refl
 
     unended_ready : IsUnended of (end (mine c now) of)
     unended_ready = subst (λ o. IsUnended of o) (sym (end_ready of)) (runs.above of [] (sym (append-nil of)) runs.nonroot).0
@@ -264,7 +264,7 @@ module _ (c : Client) (of : Name) where
       above = λ p r is far.
           record {
             deeds = deeds_ready p;
-            ready = ap (λ h. is_ready h p) ready_now ∙ ap is_some (found_quiet _ (by_client c (event.Ready of) ∷ []) (mine c before) (if_not (same of p) (Some tt) (other_length of p (λ l. omega (arith, l, far, ap length is, length-append p r))), tt));
+            ready = one_ready c _ before now m p (if_not (same of p) (Some tt) (other_length of p (λ l. omega (arith, l, far, ap length is, length-append p r))));
             unended = subst (λ o. IsUnended p o) (sym (end_ready p));
           };
     }

@@ -44,7 +44,7 @@ use Rattle.qc_interp.proofs.Seats.{later_seat}
 use Rattle.qc_interp.proofs.Growth.{made_is, made_later, later_itself, later_trans, ours_before, own_found}
 use Rattle.qc_interp.specs.Deeds.{deeds}
 use Rattle.qc_interp.proofs.Deeds.{deeds_quiet}
-use Rattle.qc_interp.proofs.Managers.{found_quiet, absent, came_after}
+use Rattle.qc_interp.proofs.Managers.{absent, came_after, one_end, one_ready}
 use Rattle.std.specs.List.{list_all}
 use Rattle.qc_interp.specs.Adding.{stays_in}
 use Rattle.qc_interp.specs.Asking.{ByItself}
@@ -246,13 +246,13 @@ module _ (c : Client) (of : Name) where
       turns = λ ours turns alone. subst (λ h. InTurn h × Alone h of) (sym now_is) (end_turns (by_client c (event.End of how)) (mine c before) actor.0 of how refl actor.1 turns (alone_below (mine c before) of actor.0 actor.2 alone) alone);
       later = made_later c _ before now m;
       inside = ap (list_all (stays_in (scope c of))) m.made ∙ one_stays (scope c of) of (by_client c (event.End of how)) refl refl (at_scope c of);
-      over = λ was r. over_later c before now (made_later c _ before now m) of (was (sym (ap (λ h. is_ready h of) now_is ∙ ap is_some (found_quiet _ (by_client c (event.End of how) ∷ []) (mine c before) (refl, tt))) ∙ r));
+      over = λ was r. over_later c before now (made_later c _ before now m) of (was (sym (one_ready c _ before now m of refl) ∙ r));
       above = λ p r is far.
           let quiet : end_in p (event.End of how) ≡ None = if_not (same of p) (Some how) (other_length of p (λ l. omega (arith, l, far, ap length is ∙ length-append p r))) in
           record {
             deeds = ap (λ h. deeds h p) now_is ∙ deeds_quiet p (by_client c (event.End of how) ∷ []) (mine c before) ((λ past. refl), tt);
-            ready = ap (λ h. is_ready h p) now_is ∙ ap is_some (found_quiet _ (by_client c (event.End of how) ∷ []) (mine c before) (refl, tt));
-            unended = subst (λ o. IsUnended p o) (sym (ap (λ h. end h p) now_is ∙ found_quiet _ (by_client c (event.End of how) ∷ []) (mine c before) (quiet, tt)));
+            ready = one_ready c _ before now m p refl;
+            unended = subst (λ o. IsUnended p o) (sym (one_end c _ before now m p quiet));
           };
     }
 

@@ -47,6 +47,14 @@ found_quiet {Y = Y} f (e ∷ es) h quiet = by_old (earliest f (es ++ h)) (f e) q
     by_old None fresh is = is
     by_old (Some y) fresh is = refl
 
+-- one entry that the client made ends no other and makes no other ready
+module _ (c : Client) (ev : Event) (before now : Past) (m : Made c (by_client c ev ∷ []) before now) (p : Name) where
+  pub one_end : end_in p ev ≡ None → end (mine c now) p ≡ end (mine c before) p
+  one_end none = ap (λ h. end h p) (made_is c _ before now m) ∙ found_quiet _ (by_client c ev ∷ []) (mine c before) (none, tt)
+
+  pub one_ready : ready_in p ev ≡ None → is_ready (mine c now) p ≡ is_ready (mine c before) p
+  one_ready none = ap (λ h. is_ready h p) (made_is c _ before now m) ∙ ap is_some (found_quiet _ (by_client c ev ∷ []) (mine c before) (none, tt))
+
 pub all_wider : (P Q : Entry → Type 0) (es : Past) → ((e : Entry) → P e → Q e) → AllByRecursion P es → AllByRecursion Q es
 all_wider P Q [] step h = h
 all_wider P Q (e ∷ es) step h = (step e h.0, all_wider P Q es step h.1)

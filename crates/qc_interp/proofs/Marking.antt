@@ -32,7 +32,7 @@ use Rattle.qc_interp.proofs.Deeds.{mark_silent, deeds_quiet, mark_deed, late_dee
 use Rattle.qc_interp.proofs.Ending.{unended_some, leaves_trans, leaves_cut, still, leaves_still, runs_still}
 use Rattle.qc_interp.proofs.Growth.{made_is, made_later, later_trans, ours_before}
 use Rattle.qc_interp.proofs.Joined.{joined_itself, joined_before, joined_runs, joined_made, joined_none, joined_unmarked}
-use Rattle.qc_interp.proofs.Managers.{children_quiet, found_quiet}
+use Rattle.qc_interp.proofs.Managers.{children_quiet, one_end, one_ready}
 use Rattle.qc_interp.proofs.StepsLeave.{end_later, none_open, some_later}
 use Rattle.qc_interp.proofs.Followed.{asked_unended}
 use Rattle.qc_interp.proofs.Stopping.{running_unended, stopped_runs}
@@ -78,10 +78,10 @@ module _ (c : Client) (of : Name) where
     later_is = made_later c _ before now m
 
     same_end : (p : Name) → end (mine c now) p ≡ end (mine c before) p
-    same_end p = ap (λ h. end h p) now_is ∙ found_quiet _ (marks ∷ []) (mine c before) (refl, tt)
+    same_end p = one_end c _ before now m p refl
 
     same_ready : (p : Name) → is_ready (mine c now) p ≡ is_ready (mine c before) p
-    same_ready p = ap (λ h. is_ready h p) now_is ∙ ap is_some (found_quiet _ (marks ∷ []) (mine c before) (refl, tt))
+    same_ready p = one_ready c _ before now m p refl
 
     leaves_marked : Leaves c of before now
     leaves_marked = record {

@@ -1,5 +1,4 @@
 -- Branches that began, or ran, meet their links; where some are merged the client's numbers are apart.
--- lists.
 use Rattle.std.proofs.Common.{◌≡◌, ℕ, ◌<◌, List, [], ◌∷◌, ◌++◌, map, length, take, refl, sym, ap, ◌∙◌, arith}
 use Rattle.std.specs.List.{AllByRecursion}
 use Rattle.qc_event.specs.History.{Name}

@@ -42,7 +42,7 @@ use Rattle.qc_interp.proofs.Followed.{followed_done, done_closed}
 use Rattle.qc_interp.proofs.Stopping.{unended_again}
 use Rattle.qc_interp.proofs.Growth.{made_is, made_later, later_itself, later_trans, ours_before}
 use Rattle.qc_interp.proofs.Seats.{start_under, own_under, later_seat, later_under}
-use Rattle.qc_interp.proofs.Managers.{found_quiet, absent, came_after, none_kept, children_rest, start_rest}
+use Rattle.qc_interp.proofs.Managers.{absent, came_after, none_kept, children_rest, start_rest, one_end, one_ready}
 use Rattle.qc_interp.specs.Adding.{AllStayIn, is_of_one, AllOfOne, starts_for, AllForIts, own_after, all_over}
 use Rattle.qc_script.specs.Numbers.{Numbers, own_next}
 use Rattle.qc_script.specs.Calls.{is_over}
@@ -111,8 +111,8 @@ module _ (c : Client) (t : Name) (number : ℕ) (before now : Past) (top : is_ch
 
   above_top : (p r : Name) → t ≡ p ++ r → 0 < length p → IsUnended p (end (mine c now) p) × (is_ready (mine c now) p ≡ false)
   above_top p r is far = subst (λ n. IsUnended n (end (mine c now) n) × (is_ready (mine c now) n ≡ false)) (itself p r is far) (
-    inl (ap (λ h. end h t) now_is ∙ found_quiet _ (begins ∷ []) (mine c before) (refl, tt) ∙ new.fresh.no_end),
-    ap (λ h. is_ready h t) now_is ∙ ap is_some (found_quiet _ (begins ∷ []) (mine c before) (refl, tt)) ∙ new.unready,
+    inl (one_end c _ before now m t refl ∙ new.fresh.no_end),
+    one_ready c _ before now m t refl ∙ new.unready,
   )
     where
       itself : (p r : Name) → t ≡ p ++ r → 0 < length p → t ≡ p

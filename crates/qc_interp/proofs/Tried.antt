@@ -29,7 +29,7 @@ use Rattle.qc_interp.proofs.Turning.{InTurn, Alone, child_keeps, start_turns, al
 use Rattle.qc_interp.proofs.Mine.{kept_some}
 use Rattle.qc_interp.proofs.Seats.{start_under, later_seat, later_beside}
 use Rattle.qc_interp.proofs.Growth.{made_is, made_later, later_itself, later_trans, ours_before}
-use Rattle.qc_interp.proofs.Managers.{found_quiet, NewChild, new_child}
+use Rattle.qc_interp.proofs.Managers.{NewChild, new_child, one_end, one_ready}
 use Rattle.qc_interp.proofs.OneTry.{IsTry, is_try, left_above, ended_below}
 use Rattle.qc_interp.proofs.Stopping.{unended_again}
 use Rattle.qc_interp.proofs.Ending.{user_is}
@@ -72,10 +72,10 @@ module _ (c : Client) (of n : Name) (number : ℕ) (before now : Past) (may : Ma
     short = sym (ap length is ∙ length-append p r)
 
     pub end_begun : end (mine c now) p ≡ end (mine c before) p
-    end_begun = ap (λ h. end h p) now_is ∙ found_quiet _ (begins ∷ []) (mine c before) (refl, tt)
+    end_begun = one_end c _ before now m p refl
 
     pub ready_begun : is_ready (mine c now) p ≡ is_ready (mine c before) p
-    ready_begun = ap (λ h. is_ready h p) now_is ∙ ap is_some (found_quiet _ (begins ∷ []) (mine c before) (refl, tt))
+    ready_begun = one_ready c _ before now m p refl
 
     pub deeds_above : 0 < length r → deeds (mine c now) p ≡ deeds (mine c before) p
     deeds_above far = ap (λ h. deeds h p) now_is ∙ deeds_quiet p (begins ∷ []) (mine c before) (start_silent p n (kind.User c.session number) (no_child_length p n (λ l. omega (arith, l, longer, short, far))), tt)
@@ -128,7 +128,7 @@ module _ (c : Client) (of n : Name) (number : ℕ) (before now : Past) (may : Ma
       above_child p r is far = elim (Rattle.qc_event.proofs.LastNumber.ends_in r) [
         | inl none ↦
             let at : n ≡ p = is ∙ ap (λ x. p ++ x) none ∙ append-nil p in
-            subst (λ x. IsUnended x (end (mine c now) x) × (is_ready (mine c now) x ≡ false)) at (inl (ap (λ h. end h n) now_is ∙ found_quiet _ (begins ∷ []) (mine c before) (refl, tt) ∙ new.fresh.no_end), unready_begun)
+            subst (λ x. IsUnended x (end (mine c now) x) × (is_ready (mine c now) x ≡ false)) at (inl (one_end c _ before now m n refl ∙ new.fresh.no_end), unready_begun)
         | inr e ↦
             let up : of ≡ p ++ e.0 = (Rattle.qc_event.proofs.LastNumber.same_last of (p ++ e.0) l.0 e.1 (sym l.1 ∙ is ∙ ap (λ x. p ++ x) e.2 ∙ sym (append_assoc p e.0 (e.1 ∷ [])))).0 in
             (subst (λ o. IsUnended p o) (sym (end_begun p e.0 up)) (may.above p e.0 up far).0, ready_begun p e.0 up ∙ (may.above p e.0 up far).1)
