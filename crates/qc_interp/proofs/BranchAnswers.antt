@@ -31,6 +31,18 @@ pub fits_try : (v d : Client) (before : Past) (of n : Name) (plan other : Plan) 
 fits_try v d before of n plan other joined root child same fits =
     subst (λ p. PlanFits d.setting (length n) p) (sym same) (subst (λ s. PlanFits s (length n) plan) (sym (joined_setting v d before joined)) (subst (λ k. PlanFits v.setting k plan) (sym (child_longer of n (ap (λ r. is_child r n) (sym root) ∙ child))) fits))
 
+-- what a try that ended leaves; it may be the last
+pub record EndedTry (v y : View) (of n : Name) (body : Numbered) (left : ℕ) (to : Finish) : Type 0 where
+  pub goes : GoesOn v.client v.seen of y.client y.seen
+  pub ends : (is_again to ≡ true → left ≡ zero) → TriesEnd y.client body y.seen (came_at_last to n)
+
+-- and where a further one was refused to begin
+pub record RefusedTry (v x : View) (of : Name) (body : Numbered) (why : TxNo) : Type 0 where
+  pub goes : GoesOn v.client v.seen of x.client x.seen
+  pub ran : (reach : Reach) → RanTries reach (Unit {0}) x.client body x.seen
+  pub due : AreTriesOurs x.client x.seen → was_tried (mine x.client x.seen) false body.tries (map Deed.child (tries_by x.client x.seen)) ≡ false
+  pub refused : (why ≡ tx_no.Memory → ⊥) → (why ≡ tx_no.Room → ⊥) → Refuses x.seen x.client.root why × IsRefusal why
+
 module _ (v w y : View) (of n : Name) (body : Numbered) (counter : ℕ) (goes : GoesOn v.client v.seen of w.client w.seen) (start : Past) (runs : TryRuns w.client body start n w.seen (body.tries - counter)) (joined : HasJoined w.client w.seen y.client) (steps : Plan) (plan : steps ≡ body.plan) where
   abbrev left : ℕ
   left = body.tries - counter
@@ -47,15 +59,14 @@ module _ (v w y : View) (of n : Name) (body : Numbered) (counter : ℕ) (goes : 
 
   -- it ended
   module _ (to : Finish) (ended : Ended y.client n w.seen y.seen steps to) where
-    pub branch_goes : GoesOn v.client v.seen of y.client y.seen
-    branch_goes = goes_on v.client v.seen of w.client y.client w.seen y.seen goes joined ended.leaves.later
+    goes_then : GoesOn v.client v.seen of y.client y.seen
+    goes_then = goes_on v.client v.seen of w.client y.client w.seen y.seen goes joined ended.leaves.later
 
     one : TriedOne y.client body n then_runs.prior y.seen to
     one = try_done y.client body start n w.seen left then_runs y.seen to (subst (λ p. Ended y.client n w.seen y.seen p to) plan ended)
 
-    -- and was the last
-    pub branch_ends : (is_again to ≡ true → left ≡ zero) → TriesEnd y.client body y.seen (came_at_last to n)
-    branch_ends = tries_end y.client body start n w.seen y.seen left then_runs to ended.leaves.later one
+    pub branch_ended : EndedTry v y of n body left to
+    branch_ended = record { goes = goes_then; ends = tries_end y.client body start n w.seen y.seen left then_runs to ended.leaves.later one }
 
     -- a further one is due
     module _ (few : counter < body.tries) (again : is_again to ≡ true) (x : View) (same : x.client ≡ y.client) where
@@ -63,25 +74,20 @@ module _ (v w y : View) (of n : Name) (body : Numbered) (counter : ℕ) (goes : 
       due = subst (BranchLeft y.client body start y.seen (Some n)) (one_less body.tries counter few) (tried_further y.client body start n w.seen y.seen left to then_runs again one)
 
       -- it was refused to begin
-      module _ (why : TxNo) (refused : WasRefused y.client of y.seen x.seen why) where
-        made : Made y.client [] y.seen x.seen
-        made = refused_made y.client of body y.seen x.seen why refused
-
-        pub refused_goes : GoesOn v.client v.seen of x.client x.seen
-        refused_goes = goes_on v.client v.seen of y.client x.client y.seen x.seen branch_goes (joined_same _ _ _ same) (made_later x.client [] y.seen x.seen (subst (λ d. Made d [] y.seen x.seen) (sym same) made))
-
-        pub refused_ran : (reach : Reach) → RanTries reach (Unit {0}) x.client body x.seen
-        refused_ran reach = subst (λ d. RanTries reach (Unit {0}) d body x.seen) (sym same) (tries_stop y.client body start y.seen x.seen (Some n) _ due made reach)
-
-        pub refused_why : (why ≡ tx_no.Memory → ⊥) → (why ≡ tx_no.Room → ⊥) → Refuses x.seen x.client.root why × IsRefusal why
-        refused_why other full = subst (λ r. Refuses x.seen r why × IsRefusal why) (sym refused_goes.root) (why_refused y.client of y.seen x.seen why refused other full)
-
-        pub refused_due : AreTriesOurs x.client x.seen → was_tried (mine x.client x.seen) false body.tries (map Deed.child (tries_by x.client x.seen)) ≡ false
-        refused_due = subst (λ d. AreTriesOurs d x.seen → was_tried (mine d x.seen) false body.tries (map Deed.child (tries_by d x.seen)) ≡ false) (sym same) (try_was_due y.client body start y.seen x.seen (Some n) _ due made)
+      pub branch_refused : (why : TxNo) → WasRefused y.client of y.seen x.seen why → RefusedTry v x of body why
+      branch_refused why refused =
+          let made = refused_made y.client of body y.seen x.seen why refused in
+          let further = goes_on v.client v.seen of y.client x.client y.seen x.seen goes_then (joined_same _ _ _ same) (made_later x.client [] y.seen x.seen (subst (λ d. Made d [] y.seen x.seen) (sym same) made)) in
+          record {
+            goes = further;
+            ran = λ reach. subst (λ d. RanTries reach (Unit {0}) d body x.seen) (sym same) (tries_stop y.client body start y.seen x.seen (Some n) _ due made reach);
+            due = subst (λ d. AreTriesOurs d x.seen → was_tried (mine d x.seen) false body.tries (map Deed.child (tries_by d x.seen)) ≡ false) (sym same) (try_was_due y.client body start y.seen x.seen (Some n) _ due made);
+            refused = λ other full. subst (λ r. Refuses x.seen r why × IsRefusal why) (sym further.root) (why_refused y.client of y.seen x.seen why refused other full);
+          }
 
       -- it began
       pub further_runs : (next : Name) → is_child of next ≡ true → Made y.client (by_client y.client (event.Start next (kind.User y.client.session body.number)) ∷ []) y.seen x.seen → GoesOn v.client v.seen of x.client x.seen × TryRuns x.client body start next x.seen (body.tries - (counter + 1))
       further_runs next child begun =
           let made = subst (λ d. Made d (by_client d (event.Start next (kind.User d.session body.number)) ∷ []) y.seen x.seen) (sym same) begun in
-          let further = goes_on v.client v.seen of y.client x.client y.seen x.seen branch_goes (joined_same _ _ _ same) (made_later x.client _ y.seen x.seen made) in
+          let further = goes_on v.client v.seen of y.client x.client y.seen x.seen goes_then (joined_same _ _ _ same) (made_later x.client _ y.seen x.seen made) in
           (further, next_runs x.client body start next y.seen x.seen (Some n) _ (subst (λ d. BranchLeft d body start y.seen (Some n) (suc (body.tries - (counter + 1)))) (sym same) due) (ap (λ r. is_child r next) further.root ∙ child) made)

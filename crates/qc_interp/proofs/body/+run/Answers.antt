@@ -16,7 +16,7 @@ use Rattle.qc_interp.proofs.Joined.{joined_itself, joined_same, joined_trans, jo
 use Rattle.qc_interp.proofs.Plans.{weight, plan_is, tries_of, number_of, must_of, put_read, put_set, put_add, put_sub, put_need, put_reconf, put_child, put_par, put_abort, put_crash, put_kill, step_lighter}
 use Rattle.qc_interp.proofs.Loops.{StepsLeft, steps_joined, fits_step, one_done, stopped_there, cut_there, cut_at_last, all_done, none_done}
 use Rattle.qc_interp.proofs.Failing.{failed_on, failed_quit, failed_cut}
-use Rattle.qc_interp.proofs.ChildAnswers.{unbegun_cut, stopped_cut, unbegun_stops, unbegun_ended, child_joined, child_through, child_failed, child_again, child_cut}
+use Rattle.qc_interp.proofs.ChildAnswers.{unbegun, ran_try}
 use Rattle.qc_interp.proofs.Acted.{acted_so, cut_so}
 use Rattle.qc_interp.proofs.Marking.{acted_on, looked_behind, acted_cut, killed_first}
 use Rattle.qc_interp.proofs.StepsLeave.{crash_on}
@@ -39,7 +39,7 @@ use Rattle.qc_interp.proofs.Shown.{each_at}
 use Rattle.qc_interp.specs.Reach.{Reach}
 use Rattle.qc_script.specs.Calls.{by_client}
 use Rattle.qc_event.specs.declared.event.Event.TheVariants as event
-use Rattle.qc_interp.proofs.BranchAnswers.{fits_try, branch_cut_off, branch_goes, branch_ends, refused_goes, refused_ran, refused_why, refused_due, further_runs}
+use Rattle.qc_interp.proofs.BranchAnswers.{fits_try, branch_cut_off, branch_ended, branch_refused, further_runs}
 use Rattle.qc_interp.proofs.BranchLeft.{try_starts}
 use Rattle.qc_interp.proofs.BranchEnds.{may_start}
 use Rattle.qc_interp.proofs.Growth.{made_itself, later_itself}
@@ -90,8 +90,9 @@ tries-returns-in-Committed g t c =
     let body = numbered c.args.body.now in
     let few : c.loop.counter < body.tries = subst (λ n. c.loop.counter < n) (sym (tries_of c.args.body.now)) c.loop-test.true in
     let plan = plan_is c.args.body.now c.as_slice.result.now c.as_slice.ensures.value in
+    let ran = ran_try v w x y c.args.of.now body c.loop.last c.loop.counter inv.left few c.begin.ensures.client c.in-Ok.name c.in-Ok.ensures.child _ (sym (number_of c.args.body.now)) c.in-Ok.ensures.ok c.steps.ensures.joined _ plan in
     let ended = subst (Ended y.client c.in-Ok.name x.seen y.seen (plan_of c.as_slice.result.now)) c.in-Committed.is c.in_ok-steps-in-Ok.ensures.ok in
-    record { met = c.steps.ensures.met; joined = child_joined v w x y c.args.of.now body c.loop.last c.loop.counter inv.left few c.begin.ensures.client c.in-Ok.name c.in-Ok.ensures.child _ (sym (number_of c.args.body.now)) c.in-Ok.ensures.ok c.steps.ensures.joined inv.joined; ok = child_through v w x y c.args.of.now body c.loop.last c.loop.counter inv.left few c.begin.ensures.client c.in-Ok.name c.in-Ok.ensures.child _ (sym (number_of c.args.body.now)) c.in-Ok.ensures.ok c.steps.ensures.joined _ plan ended; cut = tt; room = tt }
+    record { met = c.steps.ensures.met; joined = ran.joined inv.joined; ok = ran.through ended; cut = tt; room = tt }
 
 pub tries-returns-then-not-again : goal.tries-returns-then-not-again
 tries-returns-then-not-again g t c =
@@ -103,8 +104,9 @@ tries-returns-then-not-again g t c =
     let body = numbered c.args.body.now in
     let few : c.loop.counter < body.tries = subst (λ n. c.loop.counter < n) (sym (tries_of c.args.body.now)) c.loop-test.true in
     let plan = plan_is c.args.body.now c.as_slice.result.now c.as_slice.ensures.value in
+    let ran = ran_try v w x y c.args.of.now body c.loop.last c.loop.counter inv.left few c.begin.ensures.client c.in-Ok.name c.in-Ok.ensures.child _ (sym (number_of c.args.body.now)) c.in-Ok.ensures.ok c.steps.ensures.joined _ plan in
     let ended = subst (Ended y.client c.in-Ok.name x.seen y.seen (plan_of c.as_slice.result.now)) (c.in-Stopped.is ∙ ap finish.Stopped c.if-not-again.true) c.in_ok-steps-in-Ok.ensures.ok in
-    record { met = c.steps.ensures.met; joined = child_joined v w x y c.args.of.now body c.loop.last c.loop.counter inv.left few c.begin.ensures.client c.in-Ok.name c.in-Ok.ensures.child _ (sym (number_of c.args.body.now)) c.in-Ok.ensures.ok c.steps.ensures.joined inv.joined; ok = child_failed v w x y c.args.of.now body c.loop.last c.loop.counter inv.left few c.begin.ensures.client c.in-Ok.name c.in-Ok.ensures.child _ (sym (number_of c.args.body.now)) c.in-Ok.ensures.ok c.steps.ensures.joined _ plan ended; cut = tt; room = tt }
+    record { met = c.steps.ensures.met; joined = ran.joined inv.joined; ok = ran.failed ended; cut = tt; room = tt }
 
 pub tries-stop-requires : goal.tries-stop-requires
 tries-stop-requires g t c =
@@ -114,7 +116,8 @@ tries-stop-requires g t c =
     let x = g.T.Tx.view c.begin.new.self in
     let body = numbered c.args.body.now in
     let few : c.loop.counter < body.tries = subst (λ n. c.loop.counter < n) (sym (tries_of c.args.body.now)) c.loop-test.true in
-    let stops = unbegun_stops v w x x c.args.of.now body c.loop.last c.loop.counter inv.left few c.begin.ensures.client c.in-Err.why c.in-Err.ensures.err c.in_default.not-Memory c.in_default.not-Room in
+    let no = unbegun v w x x c.args.of.now body c.loop.last c.loop.counter inv.left few c.begin.ensures.client c.in-Err.why c.in-Err.ensures.err in
+    let stops = no.stops c.in_default.not-Memory c.in_default.not-Room in
     record { met = c.begin.ensures.met; runs = stops.0; why = stops.1 }
 
 pub tries-returns-in_ok-again-in_default : goal.tries-returns-in_ok-again-in_default
@@ -126,10 +129,11 @@ tries-returns-in_ok-again-in_default g t c =
     let y = g.T.Tx.view c.stop.new.tx in
     let body = numbered c.args.body.now in
     let few : c.loop.counter < body.tries = subst (λ n. c.loop.counter < n) (sym (tries_of c.args.body.now)) c.loop-test.true in
+    let no = unbegun v w x y c.args.of.now body c.loop.last c.loop.counter inv.left few c.begin.ensures.client c.in-Err.why c.in-Err.ensures.err in
     record {
       met = c.stop.ensures.met;
       joined = subst (HasJoined v.client v.seen) (sym (c.stop.ensures.client ∙ c.begin.ensures.client)) inv.joined;
-      ok = unbegun_ended v w x y c.args.of.now body c.loop.last c.loop.counter inv.left few c.begin.ensures.client c.in-Err.why c.in-Err.ensures.err c.in_default.not-Memory c.in_default.not-Room c.in_ok-again-in_default.again c.stop.ensures.client c.in_ok-again-in_default.ensures.ok;
+      ok = no.ended c.in_default.not-Memory c.in_default.not-Room c.in_ok-again-in_default.again c.stop.ensures.client c.in_ok-again-in_default.ensures.ok;
       cut = tt;
       room = tt;
     }
@@ -144,8 +148,9 @@ tries-loop-preserved g t c =
     let body = numbered c.args.body.now in
     let few : c.loop.counter < body.tries = subst (λ n. c.loop.counter < n) (sym (tries_of c.args.body.now)) c.loop-test.true in
     let plan = plan_is c.args.body.now c.as_slice.result.now c.as_slice.ensures.value in
+    let ran = ran_try v w x y c.args.of.now body c.loop.last c.loop.counter inv.left few c.begin.ensures.client c.in-Ok.name c.in-Ok.ensures.child _ (sym (number_of c.args.body.now)) c.in-Ok.ensures.ok c.steps.ensures.joined _ plan in
     let ended = subst (Ended y.client c.in-Ok.name x.seen y.seen (plan_of c.as_slice.result.now)) (c.in-Stopped.is ∙ ap finish.Stopped c.if-not-again.false) c.in_ok-steps-in-Ok.ensures.ok in
-    record { met = c.steps.ensures.met; joined = child_joined v w x y c.args.of.now body c.loop.last c.loop.counter inv.left few c.begin.ensures.client c.in-Ok.name c.in-Ok.ensures.child _ (sym (number_of c.args.body.now)) c.in-Ok.ensures.ok c.steps.ensures.joined inv.joined; left = child_again v w x y c.args.of.now body c.loop.last c.loop.counter inv.left few c.begin.ensures.client c.in-Ok.name c.in-Ok.ensures.child _ (sym (number_of c.args.body.now)) c.in-Ok.ensures.ok c.steps.ensures.joined _ plan ended }
+    record { met = c.steps.ensures.met; joined = ran.joined inv.joined; left = ran.again ended }
 
 pub tries-returns-in-Some-clause-ok : goal.tries-returns-in-Some-clause-ok
 tries-returns-in-Some-clause-ok g t c =
@@ -179,13 +184,8 @@ tries-returns-in_err-steps-in-Ok g t c =
     let body = numbered c.args.body.now in
     let few : c.loop.counter < body.tries = subst (λ n. c.loop.counter < n) (sym (tries_of c.args.body.now)) c.loop-test.true in
     let plan = plan_is c.args.body.now c.as_slice.result.now c.as_slice.ensures.value in
-    record {
-      met = c.steps.ensures.met;
-      joined = child_joined v w x y c.args.of.now body c.loop.last c.loop.counter inv.left few c.begin.ensures.client c.in-Ok.name c.in-Ok.ensures.child _ (sym (number_of c.args.body.now)) c.in-Ok.ensures.ok c.steps.ensures.joined inv.joined;
-      ok = search rules;
-      cut = any_err _ c.from_residual.result (child_cut v w x y c.args.of.now body c.loop.last c.loop.counter inv.left few c.begin.ensures.client c.in-Ok.name c.in-Ok.ensures.child _ (sym (number_of c.args.body.now)) c.in-Ok.ensures.ok c.steps.ensures.joined _ plan c.in_err-steps-in-Ok.ensures.cut);
-      room = search rules;
-    }
+    let ran = ran_try v w x y c.args.of.now body c.loop.last c.loop.counter inv.left few c.begin.ensures.client c.in-Ok.name c.in-Ok.ensures.child _ (sym (number_of c.args.body.now)) c.in-Ok.ensures.ok c.steps.ensures.joined _ plan in
+    record { met = c.steps.ensures.met; joined = ran.joined inv.joined; ok = search rules; cut = any_err _ c.from_residual.result (ran.cut c.in_err-steps-in-Ok.ensures.cut); room = search rules }
 
 pub tries-returns-in-Memory : goal.tries-returns-in-Memory
 tries-returns-in-Memory g t c =
@@ -195,7 +195,8 @@ tries-returns-in-Memory g t c =
     let x = g.T.Tx.view c.begin.new.self in
     let body = numbered c.args.body.now in
     let few : c.loop.counter < body.tries = subst (λ n. c.loop.counter < n) (sym (tries_of c.args.body.now)) c.loop-test.true in
-    record { met = c.begin.ensures.met; joined = subst (HasJoined v.client v.seen) (sym c.begin.ensures.client) inv.joined; ok = tt; cut = unbegun_cut v w x x c.args.of.now body c.loop.last c.loop.counter inv.left few c.begin.ensures.client c.in-Err.why c.in-Err.ensures.err; room = λ is. cc }
+    let no = unbegun v w x x c.args.of.now body c.loop.last c.loop.counter inv.left few c.begin.ensures.client c.in-Err.why c.in-Err.ensures.err in
+    record { met = c.begin.ensures.met; joined = subst (HasJoined v.client v.seen) (sym c.begin.ensures.client) inv.joined; ok = tt; cut = no.cut; room = λ is. cc }
 
 pub tries-returns-in-Room : goal.tries-returns-in-Room
 tries-returns-in-Room g t c =
@@ -205,7 +206,8 @@ tries-returns-in-Room g t c =
     let x = g.T.Tx.view c.begin.new.self in
     let body = numbered c.args.body.now in
     let few : c.loop.counter < body.tries = subst (λ n. c.loop.counter < n) (sym (tries_of c.args.body.now)) c.loop-test.true in
-    record { met = c.begin.ensures.met; joined = subst (HasJoined v.client v.seen) (sym c.begin.ensures.client) inv.joined; ok = tt; cut = unbegun_cut v w x x c.args.of.now body c.loop.last c.loop.counter inv.left few c.begin.ensures.client c.in-Err.why c.in-Err.ensures.err; room = search rules }
+    let no = unbegun v w x x c.args.of.now body c.loop.last c.loop.counter inv.left few c.begin.ensures.client c.in-Err.why c.in-Err.ensures.err in
+    record { met = c.begin.ensures.met; joined = subst (HasJoined v.client v.seen) (sym c.begin.ensures.client) inv.joined; ok = tt; cut = no.cut; room = search rules }
 
 pub tries-returns-in_err-again-in_default : goal.tries-returns-in_err-again-in_default
 tries-returns-in_err-again-in_default g t c =
@@ -216,11 +218,12 @@ tries-returns-in_err-again-in_default g t c =
     let y = g.T.Tx.view c.stop.new.tx in
     let body = numbered c.args.body.now in
     let few : c.loop.counter < body.tries = subst (λ n. c.loop.counter < n) (sym (tries_of c.args.body.now)) c.loop-test.true in
+    let no = unbegun v w x y c.args.of.now body c.loop.last c.loop.counter inv.left few c.begin.ensures.client c.in-Err.why c.in-Err.ensures.err in
     record {
       met = c.stop.ensures.met;
       joined = subst (HasJoined v.client v.seen) (sym (c.stop.ensures.client ∙ c.begin.ensures.client)) inv.joined;
       ok = search rules;
-      cut = any_err _ c.from_residual-in_err-again-in_default.result (stopped_cut v w x y c.args.of.now body c.loop.last c.loop.counter inv.left few c.begin.ensures.client c.in-Err.why c.in-Err.ensures.err c.stop.ensures.client c.in_err-again-in_default.ensures.cut);
+      cut = any_err _ c.from_residual-in_err-again-in_default.result (no.stopped_cut c.stop.ensures.client c.in_err-again-in_default.ensures.cut);
       room = search rules;
     }
 
@@ -616,9 +619,9 @@ branch::branch_tries-returns-then-not-is_again g t c =
     let y = g.T.Tx.view c.steps.new.tx in
     let body = numbered c.args.body.now in
     let plan = plan_is c.args.body.now c.as_slice.result.now c.as_slice.ensures.value in
-    let goes = branch_goes v w y c.args.of.now c.loop.name body c.loop.counter inv.goes inv.runs.0 inv.runs.1 c.steps.ensures.joined _ plan c.in_ok-finish.finish c.in_ok-finish.ensures.ok in
-    let ends = branch_ends v w y c.args.of.now c.loop.name body c.loop.counter inv.goes inv.runs.0 inv.runs.1 c.steps.ensures.joined _ plan c.in_ok-finish.finish c.in_ok-finish.ensures.ok (λ again. absurd (true≢false (sym again ∙ (sym c.is_again.ensures ∙ c.if-not-is_again.true)))) in
-    record { met = c.steps.ensures.met; joined = goes.joined; later = goes.later; ok = subst (TriesEnd y.client body y.seen) (sym c.last_came.ensures) ends; cut = tt; room = tt }
+    let done = branch_ended v w y c.args.of.now c.loop.name body c.loop.counter inv.goes inv.runs.0 inv.runs.1 c.steps.ensures.joined _ plan c.in_ok-finish.finish c.in_ok-finish.ensures.ok in
+    let ends = done.ends (λ again. absurd (true≢false (sym again ∙ (sym c.is_again.ensures ∙ c.if-not-is_again.true)))) in
+    record { met = c.steps.ensures.met; joined = done.goes.joined; later = done.goes.later; ok = subst (TriesEnd y.client body y.seen) (sym c.last_came.ensures) ends; cut = tt; room = tt }
 
 pub branch::branch_tries-begin-requires-clause-parent : goal.branch::branch_tries-begin-requires-clause-parent
 branch::branch_tries-begin-requires-clause-parent g t c =
@@ -628,7 +631,7 @@ branch::branch_tries-begin-requires-clause-parent g t c =
     let y = g.T.Tx.view c.steps.new.tx in
     let body = numbered c.args.body.now in
     let plan = plan_is c.args.body.now c.as_slice.result.now c.as_slice.ensures.value in
-    inr (branch_goes v w y c.args.of.now c.loop.name body c.loop.counter inv.goes inv.runs.0 inv.runs.1 c.steps.ensures.joined _ plan c.in_ok-finish.finish c.in_ok-finish.ensures.ok).parent
+    inr (branch_ended v w y c.args.of.now c.loop.name body c.loop.counter inv.goes inv.runs.0 inv.runs.1 c.steps.ensures.joined _ plan c.in_ok-finish.finish c.in_ok-finish.ensures.ok).goes.parent
 
 pub branch::branch_tries-returns-in-Memory : goal.branch::branch_tries-returns-in-Memory
 branch::branch_tries-returns-in-Memory g t c =
@@ -641,8 +644,8 @@ branch::branch_tries-returns-in-Memory g t c =
     let few : c.loop.counter < body.tries = subst (λ n. c.loop.counter < n) (sym (tries_of c.args.body.now)) c.loop-test.true in
     let again = sym c.is_again.ensures ∙ c.if-not-is_again.false in
     let x = g.T.Tx.view c.begin.new.self in
-    let goes = refused_goes v w y c.args.of.now c.loop.name body c.loop.counter inv.goes inv.runs.0 inv.runs.1 c.steps.ensures.joined _ plan c.in_ok-finish.finish c.in_ok-finish.ensures.ok few again x c.begin.ensures.client c.in-Err.why c.in-Err.ensures.err in
-    record { met = c.begin.ensures.met; joined = goes.joined; later = goes.later; ok = tt; cut = refused_ran v w y c.args.of.now c.loop.name body c.loop.counter inv.goes inv.runs.0 inv.runs.1 c.steps.ensures.joined _ plan c.in_ok-finish.finish c.in_ok-finish.ensures.ok few again x c.begin.ensures.client c.in-Err.why c.in-Err.ensures.err Reach.cut_off; room = λ is. cc }
+    let no = branch_refused v w y c.args.of.now c.loop.name body c.loop.counter inv.goes inv.runs.0 inv.runs.1 c.steps.ensures.joined _ plan c.in_ok-finish.finish c.in_ok-finish.ensures.ok few again x c.begin.ensures.client c.in-Err.why c.in-Err.ensures.err in
+    record { met = c.begin.ensures.met; joined = no.goes.joined; later = no.goes.later; ok = tt; cut = no.ran Reach.cut_off; room = λ is. cc }
 
 pub branch::branch_tries-returns-in-Room : goal.branch::branch_tries-returns-in-Room
 branch::branch_tries-returns-in-Room g t c =
@@ -655,8 +658,8 @@ branch::branch_tries-returns-in-Room g t c =
     let few : c.loop.counter < body.tries = subst (λ n. c.loop.counter < n) (sym (tries_of c.args.body.now)) c.loop-test.true in
     let again = sym c.is_again.ensures ∙ c.if-not-is_again.false in
     let x = g.T.Tx.view c.begin.new.self in
-    let goes = refused_goes v w y c.args.of.now c.loop.name body c.loop.counter inv.goes inv.runs.0 inv.runs.1 c.steps.ensures.joined _ plan c.in_ok-finish.finish c.in_ok-finish.ensures.ok few again x c.begin.ensures.client c.in-Err.why c.in-Err.ensures.err in
-    record { met = c.begin.ensures.met; joined = goes.joined; later = goes.later; ok = tt; cut = refused_ran v w y c.args.of.now c.loop.name body c.loop.counter inv.goes inv.runs.0 inv.runs.1 c.steps.ensures.joined _ plan c.in_ok-finish.finish c.in_ok-finish.ensures.ok few again x c.begin.ensures.client c.in-Err.why c.in-Err.ensures.err Reach.cut_off; room = search rules }
+    let no = branch_refused v w y c.args.of.now c.loop.name body c.loop.counter inv.goes inv.runs.0 inv.runs.1 c.steps.ensures.joined _ plan c.in_ok-finish.finish c.in_ok-finish.ensures.ok few again x c.begin.ensures.client c.in-Err.why c.in-Err.ensures.err in
+    record { met = c.begin.ensures.met; joined = no.goes.joined; later = no.goes.later; ok = tt; cut = no.ran Reach.cut_off; room = search rules }
 
 pub branch::branch_tries-returns-in_default : goal.branch::branch_tries-returns-in_default
 branch::branch_tries-returns-in_default g t c =
@@ -669,9 +672,8 @@ branch::branch_tries-returns-in_default g t c =
     let few : c.loop.counter < body.tries = subst (λ n. c.loop.counter < n) (sym (tries_of c.args.body.now)) c.loop-test.true in
     let again = sym c.is_again.ensures ∙ c.if-not-is_again.false in
     let x = g.T.Tx.view c.begin.new.self in
-    let goes = refused_goes v w y c.args.of.now c.loop.name body c.loop.counter inv.goes inv.runs.0 inv.runs.1 c.steps.ensures.joined _ plan c.in_ok-finish.finish c.in_ok-finish.ensures.ok few again x c.begin.ensures.client c.in-Err.why c.in-Err.ensures.err in
-    let why = refused_why v w y c.args.of.now c.loop.name body c.loop.counter inv.goes inv.runs.0 inv.runs.1 c.steps.ensures.joined _ plan c.in_ok-finish.finish c.in_ok-finish.ensures.ok few again x c.begin.ensures.client c.in-Err.why c.in-Err.ensures.err c.in_default.not-Memory c.in_default.not-Room in
-    record { met = c.begin.ensures.met; joined = goes.joined; later = goes.later; ok = (refused_ran v w y c.args.of.now c.loop.name body c.loop.counter inv.goes inv.runs.0 inv.runs.1 c.steps.ensures.joined _ plan c.in_ok-finish.finish c.in_ok-finish.ensures.ok few again x c.begin.ensures.client c.in-Err.why c.in-Err.ensures.err Reach.to_the_end, why, refused_due v w y c.args.of.now c.loop.name body c.loop.counter inv.goes inv.runs.0 inv.runs.1 c.steps.ensures.joined _ plan c.in_ok-finish.finish c.in_ok-finish.ensures.ok few again x c.begin.ensures.client c.in-Err.why c.in-Err.ensures.err); cut = tt; room = tt }
+    let no = branch_refused v w y c.args.of.now c.loop.name body c.loop.counter inv.goes inv.runs.0 inv.runs.1 c.steps.ensures.joined _ plan c.in_ok-finish.finish c.in_ok-finish.ensures.ok few again x c.begin.ensures.client c.in-Err.why c.in-Err.ensures.err in
+    record { met = c.begin.ensures.met; joined = no.goes.joined; later = no.goes.later; ok = (no.ran Reach.to_the_end, no.refused c.in_default.not-Memory c.in_default.not-Room, no.due); cut = tt; room = tt }
 
 pub branch::branch_tries-loop-preserved : goal.branch::branch_tries-loop-preserved
 branch::branch_tries-loop-preserved g t c =
@@ -697,9 +699,9 @@ branch::branch_tries-returns g t c =
     let body = numbered c.args.body.now in
     let plan = plan_is c.args.body.now c.as_slice-2.result.now c.as_slice-2.ensures.value in
     let over : body.tries ≤ c.loop.counter = subst (λ n. n ≤ c.loop.counter) (sym (tries_of c.args.body.now)) c.loop-test.false in
-    let goes = branch_goes v w y c.args.of.now c.loop.name body c.loop.counter inv.goes inv.runs.0 inv.runs.1 c.steps-2.ensures.joined _ plan c.in_ok-finish-2.finish c.in_ok-finish-2.ensures.ok in
-    let ends = branch_ends v w y c.args.of.now c.loop.name body c.loop.counter inv.goes inv.runs.0 inv.runs.1 c.steps-2.ensures.joined _ plan c.in_ok-finish-2.finish c.in_ok-finish-2.ensures.ok (λ again. let e : body.tries - c.loop.counter ≡ 0 = omega (arith, over) in e) in
-    record { met = c.steps-2.ensures.met; joined = goes.joined; later = goes.later; ok = subst (TriesEnd y.client body y.seen) (sym c.last_came-2.ensures) ends; cut = tt; room = tt }
+    let done = branch_ended v w y c.args.of.now c.loop.name body c.loop.counter inv.goes inv.runs.0 inv.runs.1 c.steps-2.ensures.joined _ plan c.in_ok-finish-2.finish c.in_ok-finish-2.ensures.ok in
+    let ends = done.ends (λ again. let e : body.tries - c.loop.counter ≡ 0 = omega (arith, over) in e) in
+    record { met = c.steps-2.ensures.met; joined = done.goes.joined; later = done.goes.later; ok = subst (TriesEnd y.client body y.seen) (sym c.last_came-2.ensures) ends; cut = tt; room = tt }
 
 -- BRANCHES AT ONCE
 
