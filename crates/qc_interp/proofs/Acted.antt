@@ -8,13 +8,15 @@ use Rattle.qc_interp.specs.Running.{CutOff, HasActed, Stepped}
 use Rattle.qc_interp.proofs.Marking.{acted_by}
 use Rattle.qc_interp.proofs.Results.{if_ok, if_err}
 
-module _ {E : Type 0} (c d : Client) (of : Name) (before now : Past) (front step : Plan → Plan) (r : Result (Option Bool) E) (same : d ≡ c) (is : step ≡ front) where
-  pub acted_so : IfOk r (Stepped c of before now front) → IfOk r (HasActed d of before now step)
-  acted_so h =
-      subst (λ x. IfOk r (HasActed x of before now step)) (sym same)
-      (if_ok (Stepped c of before now front) (HasActed c of before now step) r (λ a one. acted_by c of before now step a (subst (λ f. Stepped c of before now f a) (sym is) one)) h)
-
+module _ {E : Type 0} {c d : Client} {front step : Plan → Plan} (of : Name) (before now : Past) (r : Result (Option Bool) E) (same : d ≡ c) (is : step ≡ front) where
   pub cut_so : IfErr r (λ _. (rest : Plan) → CutOff c of before now (front rest)) → IfErr r (λ _. (rest : Plan) → CutOff d of before now (step rest))
   cut_so h =
       subst (λ x. IfErr r (λ _. (rest : Plan) → CutOff x of before now (step rest))) (sym same)
       (if_err ((rest : Plan) → CutOff c of before now (front rest)) ((rest : Plan) → CutOff c of before now (step rest)) r (λ all rest. subst (λ f. CutOff c of before now (f rest)) (sym is) (all rest)) h)
+
+  pub acted_so : IfOk r (Stepped c of before now front) → IfErr r (λ _. (rest : Plan) → CutOff c of before now (front rest)) → IfOk r (HasActed d of before now step) × IfErr r (λ _. (rest : Plan) → CutOff d of before now (step rest))
+  acted_so ok cut = (
+    subst (λ x. IfOk r (HasActed x of before now step)) (sym same)
+        (if_ok (Stepped c of before now front) (HasActed c of before now step) r (λ a one. acted_by c of before now step a (subst (λ f. Stepped c of before now f a) (sym is) one)) ok),
+    cut_so cut,
+  )

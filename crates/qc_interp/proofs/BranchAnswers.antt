@@ -22,14 +22,14 @@ use Rattle.qc_interp.specs.declared.stops.Finish.{Finish}
 use Rattle.qc_interp.proofs.BranchEnds.{GoesOn, goes_on, one_less, next_runs, tries_end, tries_cut_off, tries_stop, try_was_due, why_refused}
 use Rattle.qc_interp.proofs.BranchLeft.{BranchLeft, TryRuns, runs_joined, try_done, try_cut_off, tried_further}
 use Rattle.qc_interp.proofs.BranchTries.{TriedOne}
+use Rattle.qc_interp.proofs.ChildAnswers.{fits_child}
 use Rattle.qc_interp.proofs.Growth.{made_later}
 use Rattle.qc_interp.proofs.Joined.{joined_same, joined_setting}
 use Rattle.qc_interp.proofs.TriesLeft.{refused_made}
 
 -- what the steps of a try fit
 pub fits_try : (v d : Client) (before : Past) (of n : Name) (plan other : Plan) → HasJoined v before d → d.root ≡ of → is_child d.root n ≡ true → other ≡ plan → PlanFits v.setting (length of + 1) plan → PlanFits d.setting (length n) other
-fits_try v d before of n plan other joined root child same fits =
-    subst (λ p. PlanFits d.setting (length n) p) (sym same) (subst (λ s. PlanFits s (length n) plan) (sym (joined_setting v d before joined)) (subst (λ k. PlanFits v.setting k plan) (sym (child_longer of n (ap (λ r. is_child r n) (sym root) ∙ child))) fits))
+fits_try v d before of n plan other joined root child same fits = fits_child v d before of n plan other joined (ap (λ r. is_child r n) (sym root) ∙ child) same fits
 
 -- what a try that ended leaves; it may be the last
 pub record EndedTry (v y : View) (of n : Name) (body : Numbered) (left : ℕ) (to : Finish) : Type 0 where

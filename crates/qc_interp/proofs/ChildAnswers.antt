@@ -1,22 +1,28 @@
 -- The tries of a child, by what each call of them left. They began from `v` on, and go on from `w`; `x` is what is left of asking for
 -- a try, and `y` what its steps left, or what stopping left where it was refused.
-use Rattle.std.proofs.Common.{◌≡◌, ℕ, suc, ◌+◌, ◌-◌, ◌<◌, Bool, true, false, [], ◌∷◌, sym, ◌∙◌, subst, arith}
+use Rattle.std.proofs.Common.{◌≡◌, ℕ, suc, ◌+◌, ◌-◌, ◌<◌, Bool, true, false, length, [], ◌∷◌, sym, ◌∙◌, subst, arith}
 use Rattle.std.specs.Prelude.{Option, Some}
 use Rattle.qc_event.specs.declared.event.Event.TheVariants as event
 use Rattle.qc_event.specs.declared.event.Kind.TheVariants as kind
-use Rattle.qc_event.specs.History.{Name, is_child}
+use Rattle.qc_event.specs.History.{Past, Name, is_child}
+use Rattle.qc_event.proofs.LastNumber.{child_longer}
 use Rattle.qc_script.specs.declared.tx.TxNo.{TxNo}
 use Rattle.qc_script.specs.declared.tx.TxNo.TheVariants as tx_no
 use Rattle.qc_script.specs.Calls.{by_client, WasRefused}
 use Rattle.qc_script.specs.Client.{Client, View, Made, HasJoined}
-use Rattle.qc_script.specs.Plan.{Plan, Numbered}
+use Rattle.qc_script.specs.Plan.{Plan, Numbered, PlanFits}
 use Rattle.qc_interp.specs.Running.{Runs, WhyStop, Stopped, Ended, CutOff, WentOn, Failed, child_step}
 use Rattle.qc_interp.specs.declared.stops.Finish.{Finish}
 use Rattle.qc_interp.specs.declared.stops.Finish.TheVariants as finish
 use Rattle.qc_interp.proofs.Growth.{made_both}
-use Rattle.qc_interp.proofs.Joined.{StartedBy, started_by, joined_trans}
+use Rattle.qc_interp.proofs.Joined.{StartedBy, started_by, joined_trans, joined_setting}
 use Rattle.qc_interp.proofs.Tried.{Tried, tried_once, cut_once}
 use Rattle.qc_interp.proofs.TriesLeft.{TriesLeft, tries_joined, tried_more, tried_failed, tried_out, tries_cut, not_begun, begin_stops, begin_cut, refused_made}
+
+-- what the steps of a try fit
+pub fits_child : (v d : Client) (before : Past) (of n : Name) (plan other : Plan) → HasJoined v before d → is_child of n ≡ true → other ≡ plan → PlanFits v.setting (length of + 1) plan → PlanFits d.setting (length n) other
+fits_child v d before of n plan other joined child same fits =
+    subst (λ p. PlanFits d.setting (length n) p) (sym same) (subst (λ s. PlanFits s (length n) plan) (sym (joined_setting v d before joined)) (subst (λ k. PlanFits v.setting k plan) (sym (child_longer of n child)) fits))
 
 -- what a try that was refused to begin leaves, as it is for want of memory or room, and as it stops or is cut off there
 pub record Unbegun (v x y : View) (of : Name) (body : Numbered) (why : TxNo) : Type 0 where

@@ -16,7 +16,7 @@ use Rattle.qc_interp.proofs.Joined.{joined_itself, joined_same, joined_trans, jo
 use Rattle.qc_interp.proofs.Plans.{weight, plan_is, tries_of, number_of, must_of, put_read, put_set, put_add, put_sub, put_need, put_reconf, put_child, put_par, put_abort, put_crash, put_kill, step_lighter}
 use Rattle.qc_interp.proofs.Loops.{StepsLeft, steps_joined, fits_step, one_done, stopped_there, cut_there, cut_at_last, all_done, none_done}
 use Rattle.qc_interp.proofs.Failing.{failed_on, failed_quit, failed_cut}
-use Rattle.qc_interp.proofs.ChildAnswers.{unbegun, ran_try}
+use Rattle.qc_interp.proofs.ChildAnswers.{fits_child, unbegun, ran_try}
 use Rattle.qc_interp.proofs.Acted.{acted_so, cut_so}
 use Rattle.qc_interp.proofs.Marking.{acted_on, looked_behind, acted_cut, killed_first}
 use Rattle.qc_interp.proofs.StepsLeave.{crash_on}
@@ -54,31 +54,12 @@ tries-steps-requires g t c κs within =
     let w = g.T.Tx.view c.loop.tx in
     let x = g.T.Tx.view c.begin.new.self in
     let of = c.args.of.now in
-    let body = c.args.body.now in
-    let same = plan_is body c.as_slice.result.now c.as_slice.ensures.value in (
-      omega (arith, ap weight same),
-      (
-        within.0,
-        (
-          within.1,
-          (
-            search rules,
-            (
-              search rules,
-              (
-                subst (λ d. Runs d c.in-Ok.name x.seen) (sym c.begin.ensures.client) (runs_begun w.client of c.in-Ok.name _ w.seen x.seen (may_begin w.client of w.seen inv.left.runs) c.in-Ok.ensures.child c.in-Ok.ensures.ok),
-                (
-                  subst (λ d. PlanFits d.setting (length c.in-Ok.name) (plan_of c.as_slice.result.now)) (sym c.begin.ensures.client)
-                      (subst (λ setting. PlanFits setting (length c.in-Ok.name) (plan_of c.as_slice.result.now)) (sym (joined_setting v.client w.client v.seen inv.joined))
-                      (subst (λ k. PlanFits v.client.setting k (plan_of c.as_slice.result.now)) (sym (child_longer of c.in-Ok.name c.in-Ok.ensures.child)) (subst (PlanFits v.client.setting (length of + 1)) (sym same) c.requires.fits))),
-                  c.begin.ensures.met,
-                ),
-              ),
-            ),
-          ),
-        ),
-      ),
-    )
+    let n = c.in-Ok.name in
+    let same = plan_is c.args.body.now c.as_slice.result.now c.as_slice.ensures.value in
+    let runs = runs_begun w.client of n _ w.seen x.seen (may_begin w.client of w.seen inv.left.runs) c.in-Ok.ensures.child c.in-Ok.ensures.ok in
+    let fits = fits_child v.client w.client v.seen of n _ _ inv.joined c.in-Ok.ensures.child same c.requires.fits in
+    let both = subst (λ d. Runs d n x.seen × PlanFits d.setting (length n) (plan_of c.as_slice.result.now)) (sym c.begin.ensures.client) (runs, fits) in
+    (omega (arith, ap weight same), (within.0, (within.1, (search rules, (search rules, (both.0, (both.1, c.begin.ensures.met)))))))
 
 pub tries-returns-in-Committed : goal.tries-returns-in-Committed
 tries-returns-in-Committed g t c =
@@ -281,60 +262,67 @@ act-returns-in-Read g t c =
     let v = g.T.Tx.view c.args.tx.now in
     let w = g.T.Tx.view c.manage.new.tx in
     let is = ap put c.in-Read.is ∙ put_read c.in-Read.rec in
-    record { met = c.manage.ensures.met; joined = joined_same _ _ _ c.manage.ensures.client; ok = acted_so v.client w.client c.args.of.now v.seen w.seen (manage_then (kind.Read c.in-Read.rec)) (put c.args.step.now) c.manage.result c.manage.ensures.client is c.manage.ensures.ok; cut = cut_so v.client w.client c.args.of.now v.seen w.seen (manage_then (kind.Read c.in-Read.rec)) (put c.args.step.now) c.manage.result c.manage.ensures.client is c.manage.ensures.cut; room = c.manage.ensures.room }
+    let both = acted_so c.args.of.now v.seen w.seen c.manage.result c.manage.ensures.client is c.manage.ensures.ok c.manage.ensures.cut in
+    record { met = c.manage.ensures.met; joined = joined_same _ _ _ c.manage.ensures.client; ok = both.0; cut = both.1; room = c.manage.ensures.room }
 
 pub act-returns-in-Set : goal.act-returns-in-Set
 act-returns-in-Set g t c =
     let v = g.T.Tx.view c.args.tx.now in
     let w = g.T.Tx.view c.manage-in-Set.new.tx in
     let is = ap put c.in-Set.is ∙ put_set c.in-Set.rec c.in-Set.value in
-    record { met = c.manage-in-Set.ensures.met; joined = joined_same _ _ _ c.manage-in-Set.ensures.client; ok = acted_so v.client w.client c.args.of.now v.seen w.seen (manage_then (kind.Write c.in-Set.rec c.in-Set.value)) (put c.args.step.now) c.manage-in-Set.result c.manage-in-Set.ensures.client is c.manage-in-Set.ensures.ok; cut = cut_so v.client w.client c.args.of.now v.seen w.seen (manage_then (kind.Write c.in-Set.rec c.in-Set.value)) (put c.args.step.now) c.manage-in-Set.result c.manage-in-Set.ensures.client is c.manage-in-Set.ensures.cut; room = c.manage-in-Set.ensures.room }
+    let both = acted_so c.args.of.now v.seen w.seen c.manage-in-Set.result c.manage-in-Set.ensures.client is c.manage-in-Set.ensures.ok c.manage-in-Set.ensures.cut in
+    record { met = c.manage-in-Set.ensures.met; joined = joined_same _ _ _ c.manage-in-Set.ensures.client; ok = both.0; cut = both.1; room = c.manage-in-Set.ensures.room }
 
 pub act-returns-in-Add : goal.act-returns-in-Add
 act-returns-in-Add g t c =
     let v = g.T.Tx.view c.args.tx.now in
     let w = g.T.Tx.view c.change_value.new.tx in
     let is = ap put c.in-Add.is ∙ put_add c.in-Add.rec c.in-Add.value in
-    record { met = c.change_value.ensures.met; joined = joined_same _ _ _ c.change_value.ensures.client; ok = acted_so v.client w.client c.args.of.now v.seen w.seen (change_then c.in-Add.rec (λ old. plus old c.in-Add.value)) (put c.args.step.now) c.change_value.result c.change_value.ensures.client is c.change_value.ensures.ok; cut = cut_so v.client w.client c.args.of.now v.seen w.seen (change_then c.in-Add.rec (λ old. plus old c.in-Add.value)) (put c.args.step.now) c.change_value.result c.change_value.ensures.client is c.change_value.ensures.cut; room = c.change_value.ensures.room }
+    let both = acted_so c.args.of.now v.seen w.seen c.change_value.result c.change_value.ensures.client is c.change_value.ensures.ok c.change_value.ensures.cut in
+    record { met = c.change_value.ensures.met; joined = joined_same _ _ _ c.change_value.ensures.client; ok = both.0; cut = both.1; room = c.change_value.ensures.room }
 
 pub act-returns-in-Sub : goal.act-returns-in-Sub
 act-returns-in-Sub g t c =
     let v = g.T.Tx.view c.args.tx.now in
     let w = g.T.Tx.view c.change_value-in-Sub.new.tx in
     let is = ap put c.in-Sub.is ∙ put_sub c.in-Sub.rec c.in-Sub.value in
-    record { met = c.change_value-in-Sub.ensures.met; joined = joined_same _ _ _ c.change_value-in-Sub.ensures.client; ok = acted_so v.client w.client c.args.of.now v.seen w.seen (change_then c.in-Sub.rec (λ old. minus old c.in-Sub.value)) (put c.args.step.now) c.change_value-in-Sub.result c.change_value-in-Sub.ensures.client is c.change_value-in-Sub.ensures.ok; cut = cut_so v.client w.client c.args.of.now v.seen w.seen (change_then c.in-Sub.rec (λ old. minus old c.in-Sub.value)) (put c.args.step.now) c.change_value-in-Sub.result c.change_value-in-Sub.ensures.client is c.change_value-in-Sub.ensures.cut; room = c.change_value-in-Sub.ensures.room }
+    let both = acted_so c.args.of.now v.seen w.seen c.change_value-in-Sub.result c.change_value-in-Sub.ensures.client is c.change_value-in-Sub.ensures.ok c.change_value-in-Sub.ensures.cut in
+    record { met = c.change_value-in-Sub.ensures.met; joined = joined_same _ _ _ c.change_value-in-Sub.ensures.client; ok = both.0; cut = both.1; room = c.change_value-in-Sub.ensures.room }
 
 pub act-returns-in-Need : goal.act-returns-in-Need
 act-returns-in-Need g t c =
     let v = g.T.Tx.view c.args.tx.now in
     let w = g.T.Tx.view c.need.new.tx in
     let is = ap put c.in-Need.is ∙ put_need c.in-Need.rec c.in-Need.value in
-    record { met = c.need.ensures.met; joined = joined_same _ _ _ c.need.ensures.client; ok = acted_so v.client w.client c.args.of.now v.seen w.seen (need_then c.in-Need.rec c.in-Need.value) (put c.args.step.now) c.need.result c.need.ensures.client is c.need.ensures.ok; cut = cut_so v.client w.client c.args.of.now v.seen w.seen (need_then c.in-Need.rec c.in-Need.value) (put c.args.step.now) c.need.result c.need.ensures.client is c.need.ensures.cut; room = c.need.ensures.room }
+    let both = acted_so c.args.of.now v.seen w.seen c.need.result c.need.ensures.client is c.need.ensures.ok c.need.ensures.cut in
+    record { met = c.need.ensures.met; joined = joined_same _ _ _ c.need.ensures.client; ok = both.0; cut = both.1; room = c.need.ensures.room }
 
 pub act-returns-in-Reconf : goal.act-returns-in-Reconf
 act-returns-in-Reconf g t c =
     let v = g.T.Tx.view c.args.tx.now in
     let w = g.T.Tx.view c.manage-in-Reconf.new.tx in
     let is = ap put c.in-Reconf.is ∙ put_reconf c.in-Reconf.rec c.in-Reconf.config in
-    record { met = c.manage-in-Reconf.ensures.met; joined = joined_same _ _ _ c.manage-in-Reconf.ensures.client; ok = acted_so v.client w.client c.args.of.now v.seen w.seen (manage_then (kind.Reconf c.in-Reconf.rec c.in-Reconf.config)) (put c.args.step.now) c.manage-in-Reconf.result c.manage-in-Reconf.ensures.client is c.manage-in-Reconf.ensures.ok; cut = cut_so v.client w.client c.args.of.now v.seen w.seen (manage_then (kind.Reconf c.in-Reconf.rec c.in-Reconf.config)) (put c.args.step.now) c.manage-in-Reconf.result c.manage-in-Reconf.ensures.client is c.manage-in-Reconf.ensures.cut; room = c.manage-in-Reconf.ensures.room }
+    let both = acted_so c.args.of.now v.seen w.seen c.manage-in-Reconf.result c.manage-in-Reconf.ensures.client is c.manage-in-Reconf.ensures.ok c.manage-in-Reconf.ensures.cut in
+    record { met = c.manage-in-Reconf.ensures.met; joined = joined_same _ _ _ c.manage-in-Reconf.ensures.client; ok = both.0; cut = both.1; room = c.manage-in-Reconf.ensures.room }
 
 pub act-returns-in-Child : goal.act-returns-in-Child
 act-returns-in-Child g t c =
     let v = g.T.Tx.view c.args.tx.now in
     let w = g.T.Tx.view c.child.new.tx in
-    record { met = c.child.ensures.met; joined = c.child.ensures.joined; ok = acted_so w.client w.client c.args.of.now v.seen w.seen (child_step (numbered c.in-Child.body)) (put c.args.step.now) c.child.result refl (ap put c.in-Child.is ∙ put_child c.in-Child.body) c.child.ensures.ok; cut = cut_so w.client w.client c.args.of.now v.seen w.seen (child_step (numbered c.in-Child.body)) (put c.args.step.now) c.child.result refl (ap put c.in-Child.is ∙ put_child c.in-Child.body) c.child.ensures.cut; room = c.child.ensures.room }
+    let is = ap put c.in-Child.is ∙ put_child c.in-Child.body in
+    let both = acted_so {c = w.client} c.args.of.now v.seen w.seen c.child.result refl is c.child.ensures.ok c.child.ensures.cut in
+    record { met = c.child.ensures.met; joined = c.child.ensures.joined; ok = both.0; cut = both.1; room = c.child.ensures.room }
 
 pub act-returns-in-Par : goal.act-returns-in-Par
 act-returns-in-Par g t c =
     let v = g.T.Tx.view c.args.tx.now in
     let w = g.T.Tx.view c.par.new.tx in
-    let front = row_step (map numbered c.as_slice.result.now) in
     let is = ap put c.in-Par.is ∙ put_par c.in-Par.bodies ∙ ap (λ l. row_step (map numbered l)) (sym c.as_slice.ensures.value) in
     record {
       met = c.par.ensures.met;
       joined = c.par.ensures.joined;
       ok = subst (λ f. IfOk c.par.result (HasActed w.client c.args.of.now v.seen w.seen f)) (sym is) c.par.ensures.ok;
-      cut = cut_so w.client w.client c.args.of.now v.seen w.seen front (put c.args.step.now) c.par.result refl is c.par.ensures.cut;
+      cut = cut_so {c = w.client} c.args.of.now v.seen w.seen c.par.result refl is c.par.ensures.cut;
       room = c.par.ensures.room;
     }
 
