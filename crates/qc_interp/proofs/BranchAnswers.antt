@@ -5,7 +5,6 @@ use Rattle.std.specs.Prelude.{Some}
 use Rattle.qc_event.specs.declared.event.Event.TheVariants as event
 use Rattle.qc_event.specs.declared.event.Kind.TheVariants as kind
 use Rattle.qc_event.specs.History.{Past, Name, is_child}
-use Rattle.qc_event.proofs.LastNumber.{child_longer}
 use Rattle.qc_script.specs.declared.tx.TxNo.{TxNo}
 use Rattle.qc_script.specs.declared.tx.TxNo.TheVariants as tx_no
 use Rattle.qc_script.specs.Calls.{by_client, Refuses, WasRefused}
@@ -24,7 +23,7 @@ use Rattle.qc_interp.proofs.BranchLeft.{BranchLeft, TryRuns, runs_joined, try_do
 use Rattle.qc_interp.proofs.BranchTries.{TriedOne}
 use Rattle.qc_interp.proofs.ChildAnswers.{fits_child}
 use Rattle.qc_interp.proofs.Growth.{made_later}
-use Rattle.qc_interp.proofs.Joined.{joined_same, joined_setting}
+use Rattle.qc_interp.proofs.Joined.{joined_same}
 use Rattle.qc_interp.proofs.TriesLeft.{refused_made}
 
 -- what the steps of a try fit

@@ -1,5 +1,5 @@
 -- Branches that began, or ran, meet their links; where some are merged the client's numbers are apart.
-use Rattle.std.proofs.Common.{◌≡◌, ℕ, ◌<◌, List, [], ◌∷◌, ◌++◌, map, length, take, refl, sym, ap, ◌∙◌, arith}
+use Rattle.std.proofs.Common.{◌<◌, List, [], ◌∷◌, length, arith}
 use Rattle.std.specs.List.{AllByRecursion}
 use Rattle.qc_event.specs.History.{Name}
 use Rattle.qc_script.specs.Calls.{MeetsLink}

@@ -1,9 +1,8 @@
-use Rattle.std.proofs.Common.{rules, inr, Ok, map, ◌∷◌, None, ◌≡◌, ◌<◌, ◌≤◌, ◌+◌, ◌-◌, [], length, refl, sym, ap, ◌∙◌, subst, arith}
+use Rattle.std.proofs.Common.{rules, inr, Ok, map, ◌∷◌, None, ◌≡◌, ◌<◌, ◌≤◌, ◌-◌, [], length, refl, sym, ap, ◌∙◌, subst, arith}
 use Rattle.std.specs.Prelude.{IfOk, IfErr}
 use Rattle.qc_event.specs.declared.event.Kind.TheVariants as kind
-use Rattle.qc_event.proofs.LastNumber.{child_longer}
 use Rattle.qc_script.specs.Client.{Client, Made, HasJoined}
-use Rattle.qc_script.specs.Plan.{Plan, PlanFits, row_of, manage_then, change_then, need_then, plus, minus}
+use Rattle.qc_script.specs.Plan.{Plan, PlanFits, row_of}
 use Rattle.qc_script.specs.Steps.{put, plan_of, numbered}
 use Rattle.qc_interp.specs.Running.{Runs, WhyStop, Ended, CutOff, Acted, HasActed, HasLooked, Stepped, WentOn, child_step, TriesCame}
 use Rattle.qc_interp.specs.declared.stops.Finish.TheVariants as finish
@@ -12,7 +11,7 @@ use Rattle.qc_interp.proofs.Results.{if_ok, if_err, any_err, same_err}
 use Rattle.qc_event.specs.declared.log.Short.TheVariants as short
 use Rattle.qc_event.specs.History.{limit}
 use Rattle.qc_interp.proofs.Ending.{cut_still}
-use Rattle.qc_interp.proofs.Joined.{joined_itself, joined_same, joined_trans, joined_setting}
+use Rattle.qc_interp.proofs.Joined.{joined_itself, joined_same, joined_trans}
 use Rattle.qc_interp.proofs.Plans.{weight, plan_is, tries_of, number_of, must_of, put_read, put_set, put_add, put_sub, put_need, put_reconf, put_child, put_par, put_abort, put_crash, put_kill, step_lighter}
 use Rattle.qc_interp.proofs.Loops.{StepsLeft, steps_joined, fits_step, one_done, stopped_there, cut_there, cut_at_last, all_done, none_done}
 use Rattle.qc_interp.proofs.Failing.{failed_on, failed_quit, failed_cut}

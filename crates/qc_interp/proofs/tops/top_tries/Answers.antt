@@ -1,32 +1,21 @@
-use Rattle.std.proofs.Common.{◌≡◌, ◌<◌, ◌+◌, ◌-◌, ℕ, suc, List, [], ◌∷◌, length, true, sym, ◌∙◌, subst, arith}
-use Rattle.qc_event.specs.History.{Past, Name, is_child}
-use Rattle.qc_event.proofs.LastNumber.{child_longer}
-use Rattle.qc_script.specs.Calls.{WasRefused}
+use Rattle.std.proofs.Common.{rules, ◌≡◌, ◌<◌, ◌-◌, [], length, true, sym, ◌∙◌, subst, arith}
+use Rattle.qc_event.specs.History.{Name, is_child}
 use Rattle.qc_script.specs.Client.{Client, HasJoined}
-use Rattle.qc_script.specs.Plan.{PlanFits, Numbered}
-use Rattle.qc_script.specs.declared.script.Body.{Body}
-use Rattle.qc_script.specs.declared.tx.TxNo.{TxNo}
-use Rattle.qc_interp.specs.Session.{CutTops}
+use Rattle.qc_script.specs.Plan.{PlanFits}
 use Rattle.qc_script.specs.Steps.{plan_of, numbered}
-use Rattle.qc_interp.specs.Running.{Runs, Ended, CutOff}
+use Rattle.qc_interp.specs.Running.{Runs}
+use Rattle.qc_interp.proofs.TopAnswers.{ran_top, top_unbegun}
+use Rattle.qc_interp.proofs.ChildAnswers.{fits_child}
 use Rattle.qc_interp.proofs.Plans.{plan_is, tries_of, number_of}
-use Rattle.qc_interp.proofs.Joined.{joined_itself, joined_trans, joined_root, joined_setting, started_by}
-use Rattle.qc_interp.proofs.TopLoops.{TopTriesLeft, top_tries_joined, top_more, top_out, try_cut, top_not_begun, no_top, tops_out}
-use Rattle.qc_interp.proofs.TopsRun.{TriedTop, runs_top, top_once, top_cut}
-use Rattle.qc_interp.proofs.TriesLeft.{refused_made}
+use Rattle.qc_interp.proofs.Joined.{joined_itself, joined_root}
+use Rattle.qc_interp.proofs.TopLoops.{TopTriesLeft, no_top, tops_out}
+use Rattle.qc_interp.proofs.TopsRun.{runs_top}
 use Rattle.qc_interp.proofs.Results.{any_err}
 use Rattle.qc_interp.proofs.tops.top_tries.Goals as goal
-
-one_less : (c : Client) (body : Numbered) (before now : Past) (counter : ℕ) → counter < body.tries → TopTriesLeft c body before now (body.tries - counter) → TopTriesLeft c body before now (suc (body.tries - (counter + 1)))
-one_less c body before now counter few left = subst (TopTriesLeft c body before now) (let e : body.tries - counter ≡ suc (body.tries - (counter + 1)) = omega (arith, few) in e) left
 
 -- the parent of a top is the root of all
 top_of : (root n : Name) → root ≡ [] → is_child root n ≡ true → is_child [] n ≡ true
 top_of root n is child = subst (λ r. is_child r n ≡ true) is child
-
--- so many tries are left behind one that another client is after
-left_by : (c d : Client) (body : Numbered) (before now : Past) (counter : ℕ) → HasJoined c now d → counter < body.tries → TopTriesLeft c body before now (body.tries - counter) → TopTriesLeft d body before now (suc (body.tries - (counter + 1)))
-left_by c d body before now counter since few l = one_less d body before now counter few (top_tries_joined c d body before now since (body.tries - counter) l)
 
 pub steps-requires-clause-runs : goal.steps-requires-clause-runs
 steps-requires-clause-runs g c κs within =
@@ -40,40 +29,27 @@ steps-requires-clause-runs g c κs within =
 
 pub steps-requires-clause-fits : goal.steps-requires-clause-fits
 steps-requires-clause-fits g c κs within =
-    let inv = c.loop.invariant in
     let v = g.T.Tx.view c.args.tx.now in
     let w = g.T.Tx.view c.loop.tx in
-    let body = c.args.body.now in
-    subst (λ (d : Client). PlanFits d.setting (length c.in-Ok.name) (plan_of c.as_slice.result.now)) (sym c.begin.ensures.client)
-    (subst (λ setting. PlanFits setting (length c.in-Ok.name) (plan_of c.as_slice.result.now)) (sym (joined_setting v.client w.client v.seen inv.joined))
-    (subst (λ k. PlanFits v.client.setting k (plan_of c.as_slice.result.now)) (sym (child_longer [] c.in-Ok.name (top_of c.root.result c.in-Ok.name c.root.ensures c.in-Ok.ensures.child)))
-    (subst (PlanFits v.client.setting 1) (sym (plan_is body c.as_slice.result.now c.as_slice.ensures.value)) c.requires.fits)))
+    let n = c.in-Ok.name in
+    let top = top_of c.root.result n c.root.ensures c.in-Ok.ensures.child in
+    let plan = plan_is c.args.body.now c.as_slice.result.now c.as_slice.ensures.value in
+    subst (λ (d : Client). PlanFits d.setting (length n) (plan_of c.as_slice.result.now)) (sym c.begin.ensures.client) (fits_child v.client w.client v.seen [] n _ _ c.loop.invariant.joined top plan c.requires.fits)
 
-pub returns-then-not-is_again-clause-joined : goal.returns-then-not-is_again-clause-joined
-returns-then-not-is_again-clause-joined g c =
+pub returns-then-not-is_again : goal.returns-then-not-is_again
+returns-then-not-is_again g c =
     let inv = c.loop.invariant in
     let v = g.T.Tx.view c.args.tx.now in
     let w = g.T.Tx.view c.loop.tx in
     let x = g.T.Tx.view c.begin.new.self in
     let y = g.T.Tx.view c.steps.new.tx in
-    let body = c.args.body.now in
-    let by = started_by w.client x.client y.client c.in-Ok.name (numbered body).number _ w.seen x.seen c.begin.ensures.client (sym (number_of body)) c.steps.ensures.joined c.in-Ok.ensures.ok in
-    joined_trans v.client w.client y.client v.seen w.seen inv.joined inv.left.later by.since
-
-pub returns-then-not-is_again-clause-ok : goal.returns-then-not-is_again-clause-ok
-returns-then-not-is_again-clause-ok g c =
-    let inv = c.loop.invariant in
-    let v = g.T.Tx.view c.args.tx.now in
-    let w = g.T.Tx.view c.loop.tx in
-    let x = g.T.Tx.view c.begin.new.self in
-    let y = g.T.Tx.view c.steps.new.tx in
-    let body = c.args.body.now in
-    let by = started_by w.client x.client y.client c.in-Ok.name (numbered body).number _ w.seen x.seen c.begin.ensures.client (sym (number_of body)) c.steps.ensures.joined c.in-Ok.ensures.ok in
-    let left = left_by w.client y.client (numbered body) v.seen w.seen c.loop.counter by.since (subst (λ n. c.loop.counter < n) (sym (tries_of body)) c.loop-test.true) inv.left in
-    let ended = subst (λ p. Ended y.client c.in-Ok.name x.seen y.seen p c.in_ok-steps-in-Ok.field-0) (plan_is body c.as_slice.result.now c.as_slice.ensures.value) c.in_ok-steps-in-Ok.ensures.ok in
-    let tried = top_once y.client c.in-Ok.name (numbered body) w.seen x.seen y.seen (top_of c.root.result c.in-Ok.name c.root.ensures c.in-Ok.ensures.child) by.made (by.numbers c.in-Ok.ensures.number)
-    c.in_ok-steps-in-Ok.field-0 ended in
-    top_out y.client (numbered body) v.seen w.seen y.seen _ left (subst (TriedTop y.client (numbered body) w.seen y.seen) (sym c.is_again.ensures ∙ c.if-not-is_again.true) tried)
+    let body = numbered c.args.body.now in
+    let few : c.loop.counter < body.tries = subst (λ n. c.loop.counter < n) (sym (tries_of c.args.body.now)) c.loop-test.true in
+    let plan = plan_is c.args.body.now c.as_slice.result.now c.as_slice.ensures.value in
+    let top = top_of c.root.result c.in-Ok.name c.root.ensures c.in-Ok.ensures.child in
+    let ran = ran_top v w x body c.loop.counter inv.left few c.begin.ensures.client y c.in-Ok.name top _ (sym (number_of c.args.body.now)) c.in-Ok.ensures.ok c.in-Ok.ensures.number c.steps.ensures.joined _ plan in
+    let out = ran.out c.in_ok-steps-in-Ok.field-0 c.in_ok-steps-in-Ok.ensures.ok (sym c.is_again.ensures ∙ c.if-not-is_again.true) in
+    record { met = c.steps.ensures.met; joined = ran.joined inv.joined; ok = out; cut = tt; room = tt }
 
 pub loop-preserved : goal.loop-preserved
 loop-preserved g c =
@@ -82,17 +58,13 @@ loop-preserved g c =
     let w = g.T.Tx.view c.loop.tx in
     let x = g.T.Tx.view c.begin.new.self in
     let y = g.T.Tx.view c.steps.new.tx in
-    let body = c.args.body.now in
-    let by = started_by w.client x.client y.client c.in-Ok.name (numbered body).number _ w.seen x.seen c.begin.ensures.client (sym (number_of body)) c.steps.ensures.joined c.in-Ok.ensures.ok in
-    let left = left_by w.client y.client (numbered body) v.seen w.seen c.loop.counter by.since (subst (λ n. c.loop.counter < n) (sym (tries_of body)) c.loop-test.true) inv.left in
-    let ended = subst (λ p. Ended y.client c.in-Ok.name x.seen y.seen p c.in_ok-steps-in-Ok.field-0) (plan_is body c.as_slice.result.now c.as_slice.ensures.value) c.in_ok-steps-in-Ok.ensures.ok in
-    let tried = top_once y.client c.in-Ok.name (numbered body) w.seen x.seen y.seen (top_of c.root.result c.in-Ok.name c.root.ensures c.in-Ok.ensures.child) by.made (by.numbers c.in-Ok.ensures.number)
-    c.in_ok-steps-in-Ok.field-0 ended in
-    record {
-      met = c.steps.ensures.met;
-      joined = joined_trans v.client w.client y.client v.seen w.seen inv.joined inv.left.later by.since;
-      left = top_more y.client (numbered body) v.seen w.seen y.seen _ left (subst (TriedTop y.client (numbered body) w.seen y.seen) (sym c.is_again.ensures ∙ c.if-not-is_again.false) tried);
-    }
+    let body = numbered c.args.body.now in
+    let few : c.loop.counter < body.tries = subst (λ n. c.loop.counter < n) (sym (tries_of c.args.body.now)) c.loop-test.true in
+    let plan = plan_is c.args.body.now c.as_slice.result.now c.as_slice.ensures.value in
+    let top = top_of c.root.result c.in-Ok.name c.root.ensures c.in-Ok.ensures.child in
+    let ran = ran_top v w x body c.loop.counter inv.left few c.begin.ensures.client y c.in-Ok.name top _ (sym (number_of c.args.body.now)) c.in-Ok.ensures.ok c.in-Ok.ensures.number c.steps.ensures.joined _ plan in
+    let more = ran.more c.in_ok-steps-in-Ok.field-0 c.in_ok-steps-in-Ok.ensures.ok (sym c.is_again.ensures ∙ c.if-not-is_again.false) in
+    record { met = c.steps.ensures.met; joined = ran.joined inv.joined; left = more }
 
 pub loop-init : goal.loop-init
 loop-init g c =
@@ -109,50 +81,29 @@ returns-clause-ok g c =
 
 -- WHERE IT WAS CUT OFF
 
-pub returns-in_err-steps-in-Ok-clause-joined : goal.returns-in_err-steps-in-Ok-clause-joined
-returns-in_err-steps-in-Ok-clause-joined g c =
+pub returns-in_err-steps-in-Ok : goal.returns-in_err-steps-in-Ok
+returns-in_err-steps-in-Ok g c =
     let inv = c.loop.invariant in
     let v = g.T.Tx.view c.args.tx.now in
     let w = g.T.Tx.view c.loop.tx in
     let x = g.T.Tx.view c.begin.new.self in
     let y = g.T.Tx.view c.steps.new.tx in
-    let body = c.args.body.now in
-    let by = started_by w.client x.client y.client c.in-Ok.name (numbered body).number _ w.seen x.seen c.begin.ensures.client (sym (number_of body)) c.steps.ensures.joined c.in-Ok.ensures.ok in
-    joined_trans v.client w.client y.client v.seen w.seen inv.joined inv.left.later by.since
+    let body = numbered c.args.body.now in
+    let few : c.loop.counter < body.tries = subst (λ n. c.loop.counter < n) (sym (tries_of c.args.body.now)) c.loop-test.true in
+    let plan = plan_is c.args.body.now c.as_slice.result.now c.as_slice.ensures.value in
+    let top = top_of c.root.result c.in-Ok.name c.root.ensures c.in-Ok.ensures.child in
+    let ran = ran_top v w x body c.loop.counter inv.left few c.begin.ensures.client y c.in-Ok.name top _ (sym (number_of c.args.body.now)) c.in-Ok.ensures.ok c.in-Ok.ensures.number c.steps.ensures.joined _ plan in
+    record { met = c.steps.ensures.met; joined = ran.joined inv.joined; ok = search rules; cut = any_err _ c.from_residual.result (ran.cut c.in_err-steps-in-Ok.ensures.cut); room = search rules }
 
-pub returns-in_err-steps-in-Ok-clause-cut : goal.returns-in_err-steps-in-Ok-clause-cut
-returns-in_err-steps-in-Ok-clause-cut g c =
+pub returns-in-Err-Room : goal.returns-in-Err-Room
+returns-in-Err-Room g c =
     let inv = c.loop.invariant in
     let v = g.T.Tx.view c.args.tx.now in
     let w = g.T.Tx.view c.loop.tx in
     let x = g.T.Tx.view c.begin.new.self in
-    let y = g.T.Tx.view c.steps.new.tx in
-    let body = c.args.body.now in
-    let by = started_by w.client x.client y.client c.in-Ok.name (numbered body).number _ w.seen x.seen c.begin.ensures.client (sym (number_of body)) c.steps.ensures.joined c.in-Ok.ensures.ok in
-    let left = left_by w.client y.client (numbered body) v.seen w.seen c.loop.counter by.since (subst (λ n. c.loop.counter < n) (sym (tries_of body)) c.loop-test.true) inv.left in
-    let cut = subst (CutOff y.client c.in-Ok.name x.seen y.seen) (plan_is body c.as_slice.result.now c.as_slice.ensures.value) c.in_err-steps-in-Ok.ensures.cut in
-    let top = top_cut y.client c.in-Ok.name (numbered body) w.seen x.seen y.seen (top_of c.root.result c.in-Ok.name c.root.ensures c.in-Ok.ensures.child) by.made (by.numbers c.in-Ok.ensures.number) cut in
-    any_err _ c.from_residual.result (λ rest. try_cut y.client (numbered body) v.seen w.seen y.seen _ rest left top)
-
--- a try that could not be begun
-not_begun : (c : Client) (body : Body) (before now next : Past) (root : Name) (why : TxNo) (counter : ℕ) (rest : List Numbered) → counter < (numbered body).tries → TopTriesLeft c (numbered body) before now ((numbered body).tries - counter) → WasRefused c root now next why → CutTops c before next (numbered body ∷ rest)
-not_begun c body before now next root why counter rest few left refused =
-    top_not_begun c (numbered body) before now next _ rest (one_less c (numbered body) before now counter few left) (refused_made c root (numbered body) now next why refused)
-
-pub returns-in-Err-Room-clause-joined : goal.returns-in-Err-Room-clause-joined
-returns-in-Err-Room-clause-joined g c =
-    let v = g.T.Tx.view c.args.tx.now in
-    subst (HasJoined v.client v.seen) (sym c.begin.ensures.client) c.loop.invariant.joined
-
-pub returns-in-Err-Room-clause-cut : goal.returns-in-Err-Room-clause-cut
-returns-in-Err-Room-clause-cut g c rest =
-    let inv = c.loop.invariant in
-    let v = g.T.Tx.view c.args.tx.now in
-    let w = g.T.Tx.view c.loop.tx in
-    let x = g.T.Tx.view c.begin.new.self in
-    let body = c.args.body.now in
-    subst (λ d. CutTops d v.seen x.seen (numbered body ∷ rest)) (sym c.begin.ensures.client)
-    (not_begun w.client body v.seen w.seen x.seen c.root.result c.in-Err-Room.field-0 c.loop.counter rest (subst (λ n. c.loop.counter < n) (sym (tries_of body)) c.loop-test.true) inv.left c.in-Err-Room.ensures.err)
+    let body = numbered c.args.body.now in
+    let few : c.loop.counter < body.tries = subst (λ n. c.loop.counter < n) (sym (tries_of c.args.body.now)) c.loop-test.true in
+    record { met = c.begin.ensures.met; joined = subst (HasJoined v.client v.seen) (sym c.begin.ensures.client) inv.joined; ok = tt; cut = top_unbegun v w x body c.loop.counter inv.left few c.begin.ensures.client c.root.result c.in-Err-Room.field-0 c.in-Err-Room.ensures.err; room = search rules }
 
 pub returns-in-Err : goal.returns-in-Err
 returns-in-Err g c =
@@ -160,13 +111,6 @@ returns-in-Err g c =
     let v = g.T.Tx.view c.args.tx.now in
     let w = g.T.Tx.view c.loop.tx in
     let x = g.T.Tx.view c.begin.new.self in
-    let body = c.args.body.now in
-    record {
-      met = c.begin.ensures.met;
-      joined = subst (HasJoined v.client v.seen) (sym c.begin.ensures.client) inv.joined;
-      ok = tt;
-      cut = λ rest.
-          subst (λ d. CutTops d v.seen x.seen (numbered body ∷ rest)) (sym c.begin.ensures.client)
-          (not_begun w.client body v.seen w.seen x.seen c.root.result c.in-Err.field-0 c.loop.counter rest (subst (λ n. c.loop.counter < n) (sym (tries_of body)) c.loop-test.true) inv.left c.in-Err.ensures.err);
-      room = λ is. absurd cc;
-    }
+    let body = numbered c.args.body.now in
+    let few : c.loop.counter < body.tries = subst (λ n. c.loop.counter < n) (sym (tries_of c.args.body.now)) c.loop-test.true in
+    record { met = c.begin.ensures.met; joined = subst (HasJoined v.client v.seen) (sym c.begin.ensures.client) inv.joined; ok = tt; cut = top_unbegun v w x body c.loop.counter inv.left few c.begin.ensures.client c.root.result c.in-Err.field-0 c.in-Err.ensures.err; room = λ is. absurd cc }
