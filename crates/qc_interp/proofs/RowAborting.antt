@@ -47,7 +47,8 @@ at_index (x ∷ xs) (suc i) d below = at_index xs i d (omega (arith, below))
 
 -- WHO HAS ENDED
 
-ended_later : (newer past : Past) (n : Name) → is_some (end past n) ≡ true → is_some (end (newer ++ past) n) ≡ true
+-- who has ended still has
+pub ended_later : (newer past : Past) (n : Name) → is_some (end past n) ≡ true → is_some (end (newer ++ past) n) ≡ true
 ended_later newer past n h = ap is_some (earliest-append (λ e. end_in n e.event) newer past) ∙ stays_some (end past n) (end newer n) h
 
 -- who was just aborted has

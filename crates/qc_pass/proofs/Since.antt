@@ -15,13 +15,14 @@ others_where_none n (e ∷ newer) none = let parts = by_test (e.seat == n) refl 
     by_test true is h = absurd cc
     by_test false is h = ((λ same. absurd (cc (sym is ∙ eq-eqb e.seat n same))), h)
 
-empty : (xs ys : Past) → xs ++ ys ≡ ys → xs ≡ []
-empty [] ys is = refl
-empty (x ∷ xs) ys is = absurd (omega (arith, ap length is, length-append (x ∷ xs) ys))
+-- where a list behind another is that one, nothing is before it
+pub nothing_more : (xs ys : Past) → xs ++ ys ≡ ys → xs ≡ []
+nothing_more [] ys is = refl
+nothing_more (x ∷ xs) ys is = absurd (omega (arith, ap length is, length-append (x ∷ xs) ys))
 
 pub since : (n : ℕ) (before now : Past) → IsOlder before now → entries_of n now ≡ entries_of n before → IsSince n before now
 since n before now older same = (
   older.0,
   older.1,
-  others_where_none n older.0 (empty (entries_of n older.0) (entries_of n before) (sym (entries_append n older.0 before) ∙ sym (ap (entries_of n) older.1) ∙ same)),
+  others_where_none n older.0 (nothing_more (entries_of n older.0) (entries_of n before) (sym (entries_append n older.0 before) ∙ sym (ap (entries_of n) older.1) ∙ same)),
 )

@@ -20,10 +20,6 @@ use Rattle.qc_script.specs.Reading.{IsProper, IsProperRow}
 
 -- LISTS
 
-map_map : {X Y Z : Type 0} (f : Y → Z) (g : X → Y) (xs : List X) → map f (map g xs) ≡ map (λ x. f (g x)) xs
-map_map f g [] = refl
-map_map f g (x ∷ xs) = ap (λ ys. f (g x) ∷ ys) (map_map f g xs)
-
 map_replicate : {X Y : Type 0} (f : X → Y) (n : ℕ) (x : X) → map f (replicate n x) ≡ replicate n (f x)
 map_replicate f zero x = refl
 map_replicate f (suc n) x = ap (λ ys. f x ∷ ys) (map_replicate f n x)

@@ -15,7 +15,7 @@ use Rattle.qc_event.specs.declared.event.How.TheVariants.{Commit, Abort}
 use Rattle.qc_event.specs.declared.event.Kind.{Kind}
 use Rattle.qc_event.specs.declared.event.Kind.TheVariants as kind
 use Rattle.qc_event.specs.Dead.{dead, outcome, outcome_of, is_aborted, is_committed}
-use Rattle.qc_event.specs.History.{Past, Name, Begun, start, end, end_in, kind_of}
+use Rattle.qc_event.specs.History.{Past, Name, Begun, start, end, kind_of}
 use Rattle.qc_event.specs.Legal.{Legal}
 use Rattle.qc_event.specs.Standing.{IsUser, IsAbort, Started}
 use Rattle.qc_event.specs.Users.{UserCause}
@@ -25,7 +25,6 @@ use Rattle.qc_carry.proofs.Walking as walking
 use Rattle.qc_event.proofs.Lawful.{started_wider}
 use Rattle.qc_event.proofs.Later.{started_still}
 use Rattle.qc_event.proofs.Outcomes.{aborted_is_abort}
-use Rattle.qc_event.proofs.StillTold.{some_stays}
 use Rattle.qc_pass.proofs.Granting.{dead_stays}
 use Rattle.qc_gather.specs.Carrying.{entry}
 use Rattle.qc_pass.specs.declared.refusal.DeskNo.{DeskNo}
@@ -188,10 +187,6 @@ all_unfounded_on v u w n why (Err e) first h = unfounded_on v u w n why e first 
 pub all_ended_on : (v u w : View) (ev : Event) (r : Result (Unit {0}) TxNo) → Walk v u [] → OnOk r (Walk u w (entry u.number ev ∷ [])) → OnOk r (Walk v w (entry v.number ev ∷ []))
 all_ended_on v u w ev (Ok x) first walk = subst (λ s. Walk v w (entry s ev ∷ [])) first.number (walking.walk_on v u w [] _ first walk)
 all_ended_on v u w ev (Err e) first walk = tt
-
--- who has ended still has
-pub ended_later : (newer past : Past) (n : Name) → is_some (end past n) ≡ true → is_some (end (newer ++ past) n) ≡ true
-ended_later newer past n over = some_stays (λ (e : Entry). end_in n e.event) newer past over
 
 pub alive_before : (newer past : Past) (n : Name) → dead (newer ++ past) n ≡ None → dead past n ≡ None
 alive_before newer past n alive = by_found (dead past n) refl

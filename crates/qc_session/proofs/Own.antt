@@ -1,6 +1,5 @@
 -- What a client has made, by how its pass goes on.
-use Rattle.std.proofs.Common.{◌≡◌, ℕ, Bool, true, false, [], ◌∷◌, length, refl, sym, ap, ◌∙◌, subst, arith}
-use Rattle.std.proofs.lemmas.List.{length-append}
+use Rattle.std.proofs.Common.{◌≡◌, ℕ, Bool, true, false, [], ◌∷◌, refl, sym, ap, ◌∙◌, subst}
 use mathlib.Core.Bool.{true≢false}
 use Rattle.std.specs.Prelude.{◌==◌, ◌||◌, cond, ◌++◌, Option}
 use Rattle.std.specs.List.{list_any}
@@ -16,7 +15,7 @@ use Rattle.qc_pass.specs.Entries.{AreOthers, entries_of}
 use Rattle.qc_pass.specs.Rules.{AreKin, Has}
 use Rattle.qc_pass.proofs.Apart.{kin_of_number, none_is}
 use Rattle.qc_pass.proofs.Lists.{entries_append}
-use Rattle.qc_pass.proofs.Since.{others_where_none}
+use Rattle.qc_pass.proofs.Since.{nothing_more, others_where_none}
 use Rattle.qc_net.specs.Messages.{Net}
 use Rattle.qc_carry.specs.Walk.{Walk}
 use Rattle.qc_script.specs.Calls.{by_client}
@@ -45,10 +44,6 @@ mine_is c seat (e ∷ past) number none =
     ∙ ap (λ p. cond (e.seat == seat) (e ∷ p) p) (mine_is c seat past number (λ k h. (none k h).1))
 
 -- where no more stands under a number, all that is newer is others'
-nothing_more : (xs ys : Past) → xs ++ ys ≡ ys → xs ≡ []
-nothing_more [] ys is = refl
-nothing_more (x ∷ xs) ys is = absurd (omega (arith, ap length is, length-append (x ∷ xs) ys))
-
 pub others_newer : (k : ℕ) (newer before now : Past) → now ≡ newer ++ before → entries_of k now ≡ entries_of k before → AreOthers k newer
 others_newer k newer before now grown same =
     others_where_none k newer (nothing_more (entries_of k newer) (entries_of k before) (sym (entries_append k newer before) ∙ sym (ap (entries_of k) grown) ∙ same))

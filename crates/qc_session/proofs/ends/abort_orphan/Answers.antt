@@ -9,7 +9,8 @@ use Rattle.qc_event.specs.declared.event.Cause.TheVariants as cause
 use Rattle.qc_event.specs.declared.event.Event.TheVariants as event
 use Rattle.qc_event.specs.declared.event.How.TheVariants.{Abort as Aborts}
 use Rattle.qc_pass.specs.declared.view.View.{View}
-use Rattle.qc_session.proofs.Aborting.{all_licensed, all_ended_on, all_unaborted_on, ended_later, orphan_grounded}
+use Rattle.qc_interp.proofs.RowAborting.{ended_later}
+use Rattle.qc_session.proofs.Aborting.{all_licensed, all_ended_on, all_unaborted_on, orphan_grounded}
 use Rattle.qc_session.proofs.Tidy.{looked_tidy}
 use Rattle.std.proofs.Common.{◌≡◌, true, ap, inr, sym, ◌∙◌, subst}
 use Rattle.std.specs.Prelude.{is_some}
