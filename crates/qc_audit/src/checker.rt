@@ -17,7 +17,7 @@ use thiserror::Error;
 /// Why a history is not legal: the entry at this place, counted from 0, is the first that those before it
 /// do not allow, and this is the first of its event's rules that it breaks.
 #[derive(Clone, Copy, PartialEq, Eq, Debug, Error)]
-#[error("the entry at {place} breaks the rule {rule:?}")]
+#[error("the entry at {place} breaks the rule of {rule}")]
 pub struct Illegal {
     pub place: usize,
     pub rule: Rule,

@@ -8,46 +8,65 @@ use qc_event::{
 use qc_manager_scan::{Setting, is_done, waiting};
 use qc_rules::{is_licensed, is_seat_of, was_asked};
 use qc_scan::{front, granted, is_manager, open_child, start};
+use thiserror::Error;
 
 /// The rules of a legal history. Where an entry is not allowed, the first of its event's rules that it
 /// breaks is told; the rules that are named for a kind of event stand for all that is left of that kind.
-#[derive(Clone, Copy, PartialEq, Eq, Debug)]
+#[derive(Clone, Copy, PartialEq, Eq, Debug, Error)]
 pub enum Rule {
     /// The seat is none under which such an event may be: a session's, a copy's own, the ledger's.
+    #[error("seat")]
     Seat,
     /// A name starts in its turn, where it may stand.
+    #[error("start")]
     Start,
     /// An access asks while its manager waits for no other.
+    #[error("waiting")]
     Waiting,
     /// An access asks once, what its manager asks next.
+    #[error("ask")]
     Ask,
     /// An access that asked is given up once, while it is open, and for a reason that was told.
+    #[error("gone")]
     Gone,
     /// A copy grants what was asked of it.
+    #[error("wanted")]
     Wanted,
     /// An access is granted once.
+    #[error("once")]
     Once,
     /// A live access is granted where no grant is in its way.
+    #[error("clear")]
     Clear,
     /// A grant tells the tuple after its operation.
+    #[error("tuple")]
     Tuple,
     /// A refusal names the shortest aborted ancestor, or the first grant in the way.
+    #[error("refused")]
     Refused,
     /// A copy that was asked, or the ledger for a ready top, may be unable.
+    #[error("unable")]
     Unable,
     /// A started user transaction marks a session.
+    #[error("mark")]
     Mark,
     /// A transaction that is ready, or commits, has no open child.
+    #[error("open child")]
     OpenChild,
     /// A top is ready once, while it is open.
+    #[error("ready")]
     Ready,
     /// A manager commits once it is complete.
+    #[error("complete")]
     Complete,
     /// What commits is open and not dead, a top ready, and gives its own answer.
+    #[error("commit")]
     Commit,
     /// An abort has its licence.
+    #[error("licence")]
     Licence,
     /// What is aborted is open, and no ready top.
+    #[error("abort")]
     Abort,
 }
 

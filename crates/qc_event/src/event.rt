@@ -100,10 +100,13 @@ pub enum Refusal {
 }
 
 /// What a manager is doing.
-#[derive(Clone, Copy, PartialEq, Eq, Debug)]
+#[derive(Clone, Copy, PartialEq, Eq, Debug, Error)]
 pub enum Phase {
+    #[error("collect")]
     Collect,
+    #[error("values")]
     Values,
+    #[error("configs")]
     Configs,
 }
 
@@ -115,13 +118,20 @@ pub struct Lack {
     pub missing: [Option<Why>; 16],
 }
 
+fn tell_replied<W: fmt::Write>(replied: Copies, f: &mut fmt::Formatter<W>) -> fmt::Result {
+    for (copy, has_replied) in replied.as_slice().iter().enumerate() {
+        if *has_replied {
+            write!(f, " {copy}")?;
+        }
+    }
+    Ok(())
+}
+
 impl fmt::Display for Lack {
     fn fmt<W: fmt::Write>(&self, f: &mut fmt::Formatter<W>) -> fmt::Result {
-        let (phase, replied) = (self.phase, self.replied);
-        write!(
-            f,
-            "too few copies in phase {phase:?}: replied {replied:?}, missing"
-        )?;
+        write!(f, "too few copies in phase {}: replied", self.phase)?;
+        tell_replied(self.replied, f)?;
+        write!(f, ", missing")?;
         for (copy, missing) in self.missing.iter().enumerate() {
             if let Some(why) = missing {
                 write!(f, " {copy}:{why}")?;

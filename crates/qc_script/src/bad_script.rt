@@ -6,32 +6,57 @@ use std::alloc::{AllocError, AllocFailed};
 use thiserror::Error;
 
 /// The part of a script that a refusal speaks of.
-#[derive(Clone, Copy, PartialEq, Eq, Debug)]
+#[derive(Clone, Copy, PartialEq, Eq, Debug, Error)]
 pub enum Member {
+    #[error("script")]
     Script,
+    #[error("copies")]
     Copies,
+    #[error("patience")]
     Patience,
+    #[error("records")]
     Records,
+    #[error("record")]
     RecordRow,
+    #[error("name")]
     Name,
+    #[error("start")]
     Start,
+    #[error("config")]
     Config,
+    #[error("votes")]
     Votes,
+    #[error("read")]
     Read,
+    #[error("write")]
     Write,
+    #[error("sessions")]
     Sessions,
+    #[error("session")]
     Session,
+    #[error("net")]
     Net,
+    #[error("fates")]
     Fates,
+    #[error("hold")]
     Hold,
+    #[error("tops")]
     Tops,
+    #[error("body")]
     Body,
+    #[error("tries")]
     Tries,
+    #[error("must")]
     Must,
+    #[error("steps")]
     Steps,
+    #[error("step")]
     Step,
+    #[error("levels")]
     Levels,
+    #[error("copy")]
     Copy,
+    #[error("branches")]
     Branches,
 }
 
@@ -42,10 +67,10 @@ pub enum BadScript {
     #[error("the bytes are no JSON")]
     NotJson,
     /// A part of the script has not the form that it must have.
-    #[error("a part of the script has another form: {0:?}")]
+    #[error("a part of the script has another form: {0}")]
     Shape(Member),
     /// A number, or the length of a list or a text, is beyond a limit.
-    #[error("a number or a length is beyond its limit: {0:?} {1}")]
+    #[error("a number or a length is beyond its limit: {0} {1}")]
     Limit(Member, u64),
     /// Votes and thresholds are no configuration.
     #[error("votes and thresholds are no configuration: {0}")]
