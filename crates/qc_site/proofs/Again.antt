@@ -20,6 +20,7 @@ use Rattle.qc_event.specs.Legal.{Legal, MayHappen}
 use Rattle.qc_event.proofs.Absent.{same_is}
 use Rattle.qc_event.proofs.OneEntry.{if_is, first_is}
 use Rattle.qc_pass.specs.Consulting.{HasAsked}
+use Rattle.qc_indexes.specs.Grants.{tuple_at}
 use Rattle.qc_event.proofs.Options.{some_there, still}
 use Rattle.qc_pass.proofs.Consulting.{stands}
 use Rattle.qc_pass.proofs.Granting.{asked_stays}
@@ -67,10 +68,6 @@ granted_asked setting (e ∷ past) n x legal is = elim (first_is (granted past n
     by_event _ may h = absurd cc
 
 -- AGAIN
-
--- the tuple of a grant, where this copy made it
-abbrev pub tuple_at : ℕ → Given → Option Tuple
-tuple_at copy x = if x.copy == copy then Some x.grant.tuple else None
 
 -- what the copy's grants tell is what the history does, of an access that the copy granted
 module _ (setting : Setting) (past : Past) (copy : ℕ) (n : Name) (seat : ℕ) (before : again (grants past copy) n ≡ option_and_then (tuple_at copy) (granted past n)) where

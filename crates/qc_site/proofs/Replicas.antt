@@ -1,6 +1,6 @@
 -- What a copy goes on to know at its desk.
-use Rattle.std.proofs.Common.{◌≡◌, inl, inr, ℕ, Bool, true, List, [], ◌∷◌, ◌++◌, refl, sym, ap, ◌∙◌, subst, append-nil}
-use Rattle.std.specs.Prelude.{Option, None, Some, IfSome, Result, Ok, Err, OnOk, IfOk, IfErr, cond, if◌then◌else◌, option_and_then, option_to_list, slice_index_or}
+use Rattle.std.proofs.Common.{◌≡◌, ◌<◌, inl, inr, ℕ, Bool, true, List, [], ◌∷◌, ◌++◌, length, refl, sym, ap, ◌∙◌, subst, append-nil}
+use Rattle.std.specs.Prelude.{Option, None, Some, IfSome, Result, Ok, Err, OnOk, IfErr, cond, if◌then◌else◌, option_and_then, option_to_list, slice_index_or}
 use Rattle.std.specs.Option.{option_or}
 use Rattle.std.proofs.lemmas.Bool.{eq-eqb}
 use Rattle.qc_copy.specs.declared.state.Verdict.{Verdict}
@@ -13,13 +13,13 @@ use Rattle.qc_ledger.specs.Entered.{SeesMore}
 use Rattle.qc_pass.specs.declared.refusal.DeskNo.{DeskNo}
 use Rattle.qc_pass.specs.Consulting.{HasAsked, IsTold}
 use Rattle.qc_copy.specs.State.{again, grant_with}
-use Rattle.qc_site.proofs.Again.{again_granted, again_is, none_granted, tuple_at}
+use Rattle.qc_site.proofs.Again.{again_granted, again_is, none_granted}
 use Rattle.qc_event.proofs.Absent.{same_itself}
 use Rattle.qc_pass.specs.Refusing.{against_nothing}
 use Rattle.qc_pass.specs.Rules.{knows, extends}
+use Rattle.qc_indexes.specs.Grants.{tuple_at}
 use Rattle.qc_site.specs.AtDesk.{IsGranted, MayHaveLooked, OnlyLooks}
 use Rattle.qc_config.specs.declared.tuple.Tuple.{Tuple}
-use Rattle.qc_copy.specs.Repeats.{AreOf}
 use Rattle.qc_event.specs.declared.event.Entry.{Entry}
 use Rattle.qc_event.specs.declared.event.Grant.{Grant}
 use Rattle.qc_event.specs.Base.{Setting}
@@ -28,18 +28,19 @@ use Rattle.qc_event.specs.History.{Past, Name, grants, grant_at, grant_in}
 use Rattle.qc_event.specs.Legal.{Legal}
 use Rattle.qc_event.specs.Seats.{copy_seat}
 use Rattle.qc_moss.specs.Follows.{Follows}
-use Rattle.qc_moss.proofs.Tables.{grows}
+use Rattle.qc_moss.specs.Locks.{Table, granted_to, unheld}
+use Rattle.qc_moss.proofs.Tables.{granted, grows, starts}
 use Rattle.qc_pass.specs.declared.view.View.{View}
 use Rattle.qc_pass.specs.Calling.{Entered, Looked, Refused, Shown}
+use Rattle.qc_pass.proofs.Seers.{older_trans}
 use Rattle.qc_pass.proofs.Since.{others_where_none}
 use Rattle.qc_pass.specs.Entries.{entries_of, AreOthers, IsOlder, IsSince, entry}
 use Rattle.qc_pass.proofs.NoGrants.{AreNoGrants, grants_kept, grant_still_allowed, others_grant_none}
-use Rattle.qc_site.specs.declared.lock_table.LockTable.{LockTable}
 use Rattle.qc_site.specs.Replica.{IsKept, IsTableOf, HasRoomFor, Standing}
 
-follows_more : (newer past : Past) (given : List Grant) (t : LockTable) → Follows past given t.locks → Follows (newer ++ past) given t.locks
+follows_more : (newer past : Past) (given : List Grant) (t : Table) → Follows past given t → Follows (newer ++ past) given t
 follows_more [] past given t f = f
-follows_more (e ∷ newer) past given t f = grows (newer ++ past) e given t.locks (follows_more newer past given t f)
+follows_more (e ∷ newer) past given t f = grows (newer ++ past) e given t (follows_more newer past given t f)
 
 -- ENTRIES THAT ARE NO GRANT OF THE COPY
 
@@ -60,30 +61,29 @@ module _ (setting : Setting) (copy : ℕ) (v w : View) (legal : Legal setting w.
   pub same_grants : grants w.seen copy ≡ grants v.seen copy
   same_grants = ap (λ p. grants p copy) more.seen ∙ grants_kept setting v.seen copy more.newer more.none
 
-  pub table_on : (start : List Tuple) (t : LockTable) → IsTableOf start v.seen copy t → IsTableOf start w.seen copy t
+  pub table_on : (start : List Tuple) (t : Table) → IsTableOf start v.seen copy t → IsTableOf start w.seen copy t
   table_on start t was = record {
     same_start = was.same_start;
-    follows = subst (λ gs. Follows w.seen gs t.locks) (sym same_grants) (subst (λ p. Follows p (grants v.seen copy) t.locks) (sym more.seen) (follows_more more.newer v.seen (grants v.seen copy) t was.follows));
-    repeats = subst (AreOf t.repeats) (sym same_grants) was.repeats;
+    follows = subst (λ gs. Follows w.seen gs t) (sym same_grants) (subst (λ p. Follows p (grants v.seen copy) t) (sym more.seen) (follows_more more.newer v.seen (grants v.seen copy) t was.follows));
   }
 
   pub may_on : (g : Grant) → MayGrant setting v.seen (copy_seat copy) copy g → MayGrant setting w.seen (copy_seat copy) copy g
   may_on g may = subst (λ p. MayGrant setting p (copy_seat copy) copy g) (sym more.seen) (grant_still_allowed setting v.seen more.newer (copy_seat copy) copy g here more.none may)
 
-  pub kept_on : (start : List Tuple) (table : Option LockTable) (hand : Option Grant) → IsKept setting copy v start table hand → IsKept setting copy w start table hand
-  kept_on start table hand was = record {
+  pub kept_on : (start : List Tuple) (locks : Option Table) (hand : Option Grant) → IsKept setting copy v start locks hand → IsKept setting copy w start locks hand
+  kept_on start locks hand was = record {
     small = was.small;
     live = more.live ∙ was.live;
     number = more.number ∙ was.number;
     out = more.out ∙ was.out;
     kin = more.kin ∙ was.kin;
     starts = was.starts;
-    kept = by_table table was.kept;
+    kept = by_table locks was.kept;
     may = by_hand hand was.may;
     room = was.room;
   }
     where
-      by_table : (o : Option LockTable) → IfSome o (IsTableOf start v.seen copy) → IfSome o (IsTableOf start w.seen copy)
+      by_table : (o : Option Table) → IfSome o (IsTableOf start v.seen copy) → IfSome o (IsTableOf start w.seen copy)
       by_table None k = k
       by_table (Some t) k = table_on start t k
 
@@ -168,21 +168,17 @@ module _ (setting : Setting) (copy : ℕ) (v w : View) (g : Grant) (start : List
   now_grants : grants w.seen copy ≡ grants enters.0 copy ++ g ∷ []
   now_grants = ap (λ p. grants p copy) seen ∙ granted_here enters.0 v.number copy g
 
-  pub table_granted : (t new : LockTable) → new.locks.start ≡ t.locks.start
-      → ((past : Past) (given : List Grant) → Follows past given t.locks → Follows past (given ++ g ∷ []) new.locks)
-      → ((given : List Grant) → AreOf t.repeats given → AreOf new.repeats (given ++ g ∷ []))
-      → IsTableOf start v.seen copy t → IsTableOf start w.seen copy new
-  table_granted t new same follows repeats was =
+  pub table_granted : (t new : Table) → g.rec < length t.held → new ≡ granted_to t g.access g.rec g.op → IsTableOf start v.seen copy t → IsTableOf start w.seen copy new
+  table_granted t new within is was =
       let on = table_on setting copy v mid (subst (Legal setting) seen legal).0 first start t was in
-      record {
-        same_start = same ∙ was.same_start;
-        follows = subst (λ gs. Follows w.seen gs new.locks) (sym now_grants)
-            (follows w.seen (grants enters.0 copy) (subst (λ p. Follows p (grants enters.0 copy) t.locks) (sym seen) (grows enters.0 e (grants enters.0 copy) t.locks on.follows)));
-        repeats = subst (AreOf new.repeats) (sym now_grants) (repeats (grants enters.0 copy) on.repeats);
+      let so_far : Follows w.seen (grants enters.0 copy) t = subst (λ p. Follows p (grants enters.0 copy) t) (sym seen) (grows enters.0 e (grants enters.0 copy) t on.follows) in
+      subst (IsTableOf start w.seen copy) (sym is) record {
+        same_start = was.same_start;
+        follows = subst (λ gs. Follows w.seen gs (granted_to t g.access g.rec g.op)) (sym now_grants) (granted w.seen (grants enters.0 copy) t g within so_far);
       }
 
-  pub kept_granted : (table new : Option LockTable) → IfSome new (IsTableOf start w.seen copy) → IsKept setting copy v start table (Some g) → IsKept setting copy w start new None
-  kept_granted table new is was = record {
+  pub kept_granted : (locks new : Option Table) → IfSome new (IsTableOf start w.seen copy) → IsKept setting copy v start locks (Some g) → IsKept setting copy w start new None
+  kept_granted locks new is was = record {
     small = was.small;
     live = ap (λ (x : View). x.live) enters.3 ∙ was.live;
     number = ap (λ (x : View). x.number) enters.3 ∙ was.number;
@@ -194,15 +190,15 @@ module _ (setting : Setting) (copy : ℕ) (v w : View) (g : Grant) (start : List
     room = nothing new;
   }
     where
-      nothing : (o : Option LockTable) → IfSome o (λ t. IfSome None (HasRoomFor t))
+      nothing : (o : Option Table) → IfSome o (λ t. IfSome None (HasRoomFor t))
       nothing None = tt
       nothing (Some t) = tt
 
 -- what a consultation leaves
-pub kept_asked : (setting : Setting) (copy : ℕ) (v w : View) (start : List Tuple) (table new : Option LockTable) (hand now : Option Grant) → HasNoGrant copy v w
+pub kept_asked : (setting : Setting) (copy : ℕ) (v w : View) (start : List Tuple) (locks new : Option Table) (hand now : Option Grant) → HasNoGrant copy v w
     → IfSome new (IsTableOf start w.seen copy) → IfSome now (MayGrant setting w.seen (copy_seat copy) copy) → IfSome new (λ t. IfSome now (HasRoomFor t))
-    → IsKept setting copy v start table hand → IsKept setting copy w start new now
-kept_asked setting copy v w start table new hand now more kept may room was = record {
+    → IsKept setting copy v start locks hand → IsKept setting copy w start new now
+kept_asked setting copy v w start locks new hand now more kept may room was = record {
   small = was.small;
   live = more.live ∙ was.live;
   number = more.number ∙ was.number;
@@ -226,19 +222,16 @@ shown_sees v w shown = record {
 
 -- A TABLE AND ITS DESK
 
-pub table_reserved : (start : List Tuple) (past : Past) (copy : ℕ) (t new : LockTable) → new.locks.start ≡ t.locks.start
-    → ((p : Past) (given : List Grant) → Follows p given t.locks → Follows p given new.locks) → ((given : List Grant) → AreOf t.repeats given → AreOf new.repeats given)
-    → IsTableOf start past copy t → IsTableOf start past copy new
-table_reserved start past copy t new same follows repeats was = record {
-  same_start = same ∙ was.same_start;
-  follows = follows past (grants past copy) was.follows;
-  repeats = repeats (grants past copy) was.repeats;
-}
+-- room changes nothing of it
+pub table_reserved : (start : List Tuple) (past : Past) (copy : ℕ) (t new : Table) → new ≡ record t { reserved = true } → IsTableOf start past copy t → IsTableOf start past copy new
+table_reserved start past copy t new is was = subst (IsTableOf start past copy) (sym is) record { same_start = was.same_start; follows = was.follows }
 
-pub consulted_none : (setting : Setting) (copy : ℕ) (v w : View) (ask : Ask) (r : Result Verdict DeskNo) → v.number ≡ copy_seat copy → Legal setting w.seen
-    → IfOk r (IsTold setting ask v w) → IfErr r (Refused against_nothing v w) → HasNoGrant copy v w
-consulted_none setting copy v w ask (Ok said) number legal told err = told_none setting copy v w ask said number legal told
-consulted_none setting copy v w ask (Err refusal) number legal told err = looked_none setting copy v w number legal err.0
+-- no lock is held where nothing was granted
+pub table_unheld : (start : List Tuple) (past : Past) (copy : ℕ) → grants past copy ≡ [] → IsTableOf start past copy (unheld start)
+table_unheld start past copy nothing = record {
+  same_start = refl;
+  follows = subst (λ gs. Follows past gs (unheld start)) (sym nothing) (starts past start);
+}
 
 -- a free request may be granted what it is told, where it was granted nothing before
 pub may_be_granted : (setting : Setting) (copy : ℕ) (v w : View) (ask : Ask) (tuple : Tuple) → ask.copy ≡ copy → v.number ≡ copy_seat copy → Legal setting w.seen → HasAsked w.seen ask
@@ -249,9 +242,9 @@ may_be_granted setting copy v w ask tuple is number legal has first told =
     subst (λ c. MayGrant setting w.seen (copy_seat c) c (grant_with ask tuple)) is (told.1.may (none_granted setting w.seen ask legal has nothing))
 
 -- a copy has its locks again
-pub kept_restored : (setting : Setting) (copy : ℕ) (v : View) (start : List Tuple) (table : Option LockTable) (hand : Option Grant) (new : LockTable) → hand ≡ None
-    → IsTableOf start v.seen copy new → IsKept setting copy v start table hand → IsKept setting copy v start (Some new) hand
-kept_restored setting copy v start table hand new none is was = record {
+pub kept_restored : (setting : Setting) (copy : ℕ) (v : View) (start : List Tuple) (locks : Option Table) (hand : Option Grant) (new : Table) → hand ≡ None
+    → IsTableOf start v.seen copy new → IsKept setting copy v start locks hand → IsKept setting copy v start (Some new) hand
+kept_restored setting copy v start locks hand new none is was = record {
   small = was.small;
   live = was.live;
   number = was.number;
@@ -264,7 +257,7 @@ kept_restored setting copy v start table hand new none is was = record {
 }
 
 -- the table of the copy that is asked
-pub table_at : (base : List (List Tuple)) (start : List Tuple) (past : Past) (asked copy : ℕ) (t : LockTable) → asked ≡ copy → start ≡ slice_index_or base copy []
+pub table_at : (base : List (List Tuple)) (start : List Tuple) (past : Past) (asked copy : ℕ) (t : Table) → asked ≡ copy → start ≡ slice_index_or base copy []
     → IsTableOf (slice_index_or base asked []) past asked t → IsTableOf start past copy t
 table_at base start past asked copy t is starts was =
     subst (λ (row : List Tuple). IsTableOf row past copy t) (sym starts) (subst (λ c. IsTableOf (slice_index_or base c []) past c t) is was)
@@ -276,6 +269,13 @@ only_looks setting copy old new v is legal more mine = record {
   mine = mine ∙ ap (λ (x : View). x.mine) is;
   same_grants = same_grants setting copy v new.pass legal more ∙ ap (λ (x : View). grants x.seen copy) is;
   older = (more.newer, more.seen ∙ ap (λ (x : View). more.newer ++ x.seen) is);
+}
+
+pub looks_on : (copy : ℕ) (old mid new : Standing) → OnlyLooks copy old mid → OnlyLooks copy mid new → OnlyLooks copy old new
+looks_on copy old mid new first second = record {
+  mine = second.mine ∙ first.mine;
+  same_grants = second.same_grants ∙ first.same_grants;
+  older = older_trans old.pass.seen mid.pass.seen new.pass.seen first.older second.older;
 }
 
 -- a grant that is entered is the last of the copy's, and the history tells it

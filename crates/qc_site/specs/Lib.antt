@@ -12,5 +12,4 @@ pub mod Answers
 pub mod Log
 pub mod Sites
 pub mod Serving
-pub mod Beginning
 pub mod Since

@@ -33,7 +33,7 @@ pub enum Strange {
         old: u64,
     },
     /// At this index of the records of this run the disk has another grant than the history, or one of them has none.
-    #[error("grant {index}: the disk has {disk:?}, the history {desk:?}")]
+    #[error("at grant {index} the disk and the history differ")]
     Differs {
         index: u64,
         disk: Option<Grant>,

@@ -3,8 +3,8 @@ ghost use Rattle.std.specs.Prelude.{◌≡◌, ℕ, [], IfOk};
 ghost use Rattle.qc_event.specs.History.{Past, grants};
 ghost use Rattle.qc_site.specs.Replica.{IsTableOf};
 
-use crate::lock_table::LockTable;
 use qc_config::Tuple;
+use qc_moss::Locks;
 use std::alloc::{AllocError, Global};
 use std::marker::Model;
 
@@ -13,19 +13,19 @@ use std::marker::Model;
 #[derive(Drop)]
 pub(crate) struct Beginning {
     start: Vec<Tuple>,
-    table: LockTable,
+    locks: Locks,
 }
 
 impl Model for Beginning {
-    ghost use Rattle.std.specs.Prelude.{List};
+    ghost use Rattle.std.specs.Prelude.{◌≡◌, List};
     ghost use Rattle.qc_config.specs.declared.tuple.Tuple.{Tuple};
-    ghost use Rattle.qc_site.specs.Beginning.{IsUnheld};
+    ghost use Rattle.qc_moss.specs.Locks.{unheld};
 
     ghost Value = { List Tuple };
 
     ghost view = { λ b. b.start.items };
 
-    ghost invariant = { λ b. IsUnheld b.start.items b.table };
+    ghost invariant = { λ b. b.locks ≡ unheld b.start.items };
 }
 
 impl Beginning {
@@ -33,8 +33,8 @@ impl Beginning {
     pub(crate) fn new(alloc: Global, start: Vec<Tuple>) -> Result<Self, AllocError>
         ensures { IfOk result (λ b. b ≡ start.items) }
     {
-        let table = LockTable::of(alloc, start.as_slice(), &[])?;
-        Ok(Beginning { start, table })
+        let locks = Locks::new(alloc, start.to_vec(alloc)?)?;
+        Ok(Beginning { start, locks })
     }
 
     /// The tuples.
@@ -45,11 +45,11 @@ impl Beginning {
     }
 
     /// The tuples and the locks, which follow any history in which the copy granted nothing.
-    pub(crate) fn into_parts(self) -> (Vec<Tuple>, LockTable)
+    pub(crate) fn into_parts(self) -> (Vec<Tuple>, Locks)
         ensures start { result.0.items ≡ self }
-        ensures table { (past : Past) (copy : ℕ) → grants past copy ≡ []
+        ensures locks { (past : Past) (copy : ℕ) → grants past copy ≡ []
             → IsTableOf self past copy result.1 }
     {
-        (self.start, self.table)
+        (self.start, self.locks)
     }
 }

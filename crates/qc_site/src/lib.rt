@@ -10,7 +10,6 @@ mod granted;
 mod granting;
 mod law;
 mod lists;
-mod lock_table;
 mod log;
 mod mounted;
 mod mounting;

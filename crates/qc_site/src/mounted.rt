@@ -72,7 +72,7 @@ impl<D: Disk> Mounted<D> {
             → GrantsGrow (setting_of N.table N.base) C (records_of self) since result.log
             result.replica.pass.seen }
     {
-        let (start, table) = self.start.into_parts();
+        let (start, locks) = self.start.into_parts();
         pass.known();
         Site {
             alloc: self.alloc,
@@ -82,7 +82,7 @@ impl<D: Disk> Mounted<D> {
                 copies: self.copies,
                 earlier: self.bodies.as_slice().len(),
             },
-            replica: Replica::new(pass, start, table),
+            replica: Replica::new(pass, start, locks),
             strange: None,
         }
     }

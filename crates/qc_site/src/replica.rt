@@ -1,7 +1,7 @@
 //! A copy at its desk: its pass, its locks, and the grant in hand.
 ghost use Rattle.std.specs.Prelude.{◌≡◌, ◌<◌, [], true, false, Option, None, Some, IfSome, slice_index_or, is_some};
 ghost use Rattle.qc_config.specs.declared.tuple.Tuple.{Tuple};
-ghost use Rattle.qc_copy.specs.State.{again, grant_with};
+ghost use Rattle.qc_copy.specs.State.{grant_with};
 ghost use Rattle.qc_event.specs.Grants.{MayGrant};
 ghost use Rattle.qc_event.specs.History.{grants};
 ghost use Rattle.qc_event.specs.Legal.{Legal};
@@ -10,9 +10,9 @@ ghost use Rattle.qc_event.specs.Tables.{setting_of};
 ghost use Rattle.qc_pass.specs.Entries.{entries_of};
 ghost use Rattle.qc_site.specs.Replica.{IsTableOf};
 
-use crate::lock_table::LockTable;
 use qc_config::Tuple;
-use qc_event::{Ask, Grant, Name};
+use qc_event::{Ask, Grant};
+use qc_moss::Locks;
 use qc_pass::{Pass, Store};
 use std::marker::Model;
 
@@ -21,7 +21,7 @@ use std::marker::Model;
 pub struct Replica<N: Store, const C: u8> {
     pub(crate) pass: Pass<N>,
     pub(crate) start: Vec<Tuple>,
-    pub(crate) table: Option<LockTable>,
+    pub(crate) locks: Option<Locks>,
     pub(crate) hand: Option<Grant>,
 }
 
@@ -32,10 +32,10 @@ impl<N: Store, const C: u8> Model for Replica<N, C> {
 
     ghost Value = { Standing };
 
-    ghost view = { λ r. record { pass = r.pass; hand = r.hand; up = is_some r.table } };
+    ghost view = { λ r. record { pass = r.pass; hand = r.hand; up = is_some r.locks } };
 
     ghost invariant = { λ r.
-        IsKept (setting_of N.table N.base) C r.pass r.start.items r.table r.hand };
+        IsKept (setting_of N.table N.base) C r.pass r.start.items r.locks r.hand };
 }
 
 /// The grant of a request, with a tuple.
@@ -52,14 +52,14 @@ pub(crate) fn grant_of(ask: &Ask, tuple: &Tuple) -> Grant
 
 impl<N: Store, const C: u8> Replica<N, C> {
     /// A copy that is up and has granted nothing.
-    pub(crate) fn new(pass: Pass<N>, start: Vec<Tuple>, table: LockTable) -> Self
+    pub(crate) fn new(pass: Pass<N>, start: Vec<Tuple>, locks: Locks) -> Self
         requires small { C < 16 }
         requires pass { (pass.live ≡ true) × (pass.number ≡ copy_seat C) }
         requires none_out { pass.out ≡ [] }
         requires none_joined { pass.kin ≡ [] }
         requires nothing { grants pass.seen C ≡ [] }
         requires starts { start.items ≡ slice_index_or N.base C [] }
-        requires table { IsTableOf start.items pass.seen C table }
+        requires locks { IsTableOf start.items pass.seen C locks }
         ensures up { result.up ≡ true }
         ensures none { result.hand ≡ None }
         ensures pass { result.pass ≡ pass }
@@ -67,7 +67,7 @@ impl<N: Store, const C: u8> Replica<N, C> {
         Replica {
             pass,
             start,
-            table: Some(table),
+            locks: Some(locks),
             hand: None,
         }
     }
@@ -87,7 +87,7 @@ impl<N: Store, const C: u8> Replica<N, C> {
     pub(crate) fn is_up(&self) -> bool
         ensures { result ≡ self.now.up }
     {
-        self.table.is_some()
+        self.locks.is_some()
     }
 
     /// The grant in hand.
@@ -95,17 +95,6 @@ impl<N: Store, const C: u8> Replica<N, C> {
         ensures { result ≡ self.now.hand }
     {
         self.hand
-    }
-
-    /// What an access was granted, where it was granted something.
-    pub(crate) fn repeated(&self, access: &Name) -> Option<Tuple>
-        requires { self.now.up ≡ true }
-        ensures { result ≡ again (grants self.now.pass.seen C) access.now }
-    {
-        match &self.table {
-            Some(table) => table.repeated(access),
-            None => unreachable!(),
-        }
     }
 
     /// Lets go of the grant in hand.
@@ -123,7 +112,7 @@ impl<N: Store, const C: u8> Replica<N, C> {
         ensures hand { self.new.hand ≡ self.old.hand }
         ensures pass { self.new.pass ≡ self.old.pass }
     {
-        self.table = None;
+        self.locks = None;
     }
 
     /// Its pass.

@@ -5,7 +5,6 @@ ghost use Rattle.qc_codec.specs.Bodies as body;
 ghost use Rattle.qc_codec.specs.Fields.{format_1};
 ghost use Rattle.qc_config.specs.Tuple.{after};
 ghost use Rattle.qc_event.specs.Seen.{seen};
-ghost use Rattle.qc_copy.specs.Repeats.{HasRoom};
 ghost use Rattle.qc_copy.specs.State.{again, grant_with};
 ghost use Rattle.qc_copy.specs.State.{again as again_in};
 ghost use Rattle.qc_event.specs.Base.{IsProper};
@@ -21,45 +20,43 @@ ghost use Rattle.qc_site.specs.AtDesk.{hand_after, hand_entries, unable_entry, v
 ghost use Rattle.qc_site.specs.Replica.{IsTableOf};
 
 use crate::fits::known_to_fit;
-use crate::lock_table::LockTable;
 use crate::replica::{Replica, grant_of};
 use qc_config::Tuple;
-use qc_copy::Verdict;
-use qc_event::{Ask, Grant, Why};
+use qc_copy::{Verdict, replay_locks};
+use qc_event::{Ask, Grant, Name, Why};
+use qc_moss::Locks;
 use qc_pass::{Desk, DeskNo, Pass, Store};
 use std::alloc::{AllocError, Global};
 use std::sync::Wait;
 
-// Makes room in a copy's table, and asks the desk by it whether a request may be granted.
+// Makes room for one more lock of a copy, and asks the desk by its locks whether a request may be granted.
 fn ask_desk<N: Store, R: Wait>(
     rt: &R,
     desk: &Desk<N>,
     pass: &mut Pass<N>,
     seer: &mut Pass<N>,
     ask: &Ask,
-    table: &mut LockTable,
+    locks: &mut Locks,
 ) -> Result<Verdict, DeskNo>
     requires copy { (pass.old.live ≡ true) × (pass.old.number ≡ copy_seat ask.now.copy) }
     requires asked { HasAsked seer.old.seen ask.now }
     requires proper { IsProper (setting_of N.table N.base) }
-    requires table { IsTableOf (slice_index_or N.base ask.now.copy []) pass.old.seen ask.now.copy
-        table.old }
+    requires locks { IsTableOf (slice_index_or N.base ask.now.copy []) pass.old.seen ask.now.copy
+        locks.old }
     ensures told { IfOk result (IsTold (setting_of N.table N.base) ask.now pass.old pass.new) }
     ensures asked { OnOk result (HasAsked pass.new.seen ask.now) }
     ensures err { OnErr result (MayHaveLooked pass.old pass.new) }
     ensures want { IfErr result (IsWantAt pass.new) }
-    ensures table { IsTableOf (slice_index_or N.base ask.now.copy []) pass.new.seen ask.now.copy
-        table.new }
-    ensures room { OnOk result ((table.new.locks.reserved ≡ true) × HasRoom table.new.repeats) }
+    ensures locks { IsTableOf (slice_index_or N.base ask.now.copy []) pass.new.seen ask.now.copy
+        locks.new }
+    ensures room { OnOk result (locks.new.reserved ≡ true) }
     ensures seer { SeesMore seer.old seer.new }
     ensures same { OnOk result (seer.new.seen ≡ pass.new.seen) }
 {
-    if table.reserve().is_err() {
-        return Err(DeskNo::Memory);
+    match locks.reserve() {
+        Ok(()) => desk.consult(rt, pass, seer, ask, locks),
+        Err(_) => Err(DeskNo::Memory),
     }
-    let verdict = desk.consult(rt, pass, seer, ask, &mut table.locks);
-    pass.known();
-    verdict
 }
 
 impl<N: Store, const C: u8> Replica<N, C> {
@@ -108,11 +105,11 @@ impl<N: Store, const C: u8> Replica<N, C> {
         ensures seer { SeesMore seer.old seer.new }
         ensures same { OnOk result (seer.new.seen ≡ self.new.pass.seen) }
     {
-        let Some(mut table) = self.table.take() else {
+        let Some(mut locks) = self.locks.take() else {
             unreachable!();
         };
-        let answer = ask_desk(rt, desk, &mut self.pass, seer, ask, &mut table);
-        self.table = Some(table);
+        let answer = ask_desk(rt, desk, &mut self.pass, seer, ask, &mut locks);
+        self.locks = Some(locks);
         self.pass.known();
         let verdict = answer?;
         if let Verdict::Free(tuple) = &verdict {
@@ -151,9 +148,9 @@ impl<N: Store, const C: u8> Replica<N, C> {
         self.pass.known();
         answer?;
         self.hand = None;
-        if let Some(mut table) = self.table.take() {
-            table.admit(&grant);
-            self.table = Some(table);
+        if let Some(mut locks) = self.locks.take() {
+            locks.grant(&grant.access, grant.rec, &grant.op);
+            self.locks = Some(locks);
         }
         Ok(())
     }
@@ -199,7 +196,21 @@ impl<N: Store, const C: u8> Replica<N, C> {
         self.pass.known();
     }
 
-    /// What an access that the seer saw ask was granted, where it was granted something, which the seer has then seen.
+    // What the copy granted an access, where it granted it something, in the history at this step. It
+    // takes one look at the desk, and no memory.
+    fn repeated<R: Wait>(&mut self, rt: &R, desk: &Desk<N>, access: &Name) -> Option<Tuple>
+        ensures told { result ≡ again_in (grants self.new.pass.seen C) access.now }
+        ensures looks { OnlyLooks C self.old self.new }
+        ensures hand { self.new.hand ≡ self.old.hand }
+        ensures up { self.new.up ≡ self.old.up }
+    {
+        let first = desk.granted(rt, &mut self.pass, C, access);
+        self.pass.known();
+        first
+    }
+
+    /// What an access that the seer saw ask was granted, where it was granted something, which the seer has then seen. It
+    /// looks at the desk once, and once more where it was, and takes no memory.
     pub(crate) fn again<R: Wait>(
         &mut self,
         rt: &R,
@@ -225,7 +236,7 @@ impl<N: Store, const C: u8> Replica<N, C> {
         ensures same { IfSome result (λ _. seer.new.seen ≡ self.new.pass.seen) }
     {
         self.pass.known();
-        let tuple = self.repeated(&ask.access)?;
+        let tuple = self.repeated(rt, desk, &ask.access)?;
         self.show(rt, desk, seer);
         self.pass.known();
         Some(tuple)
@@ -273,8 +284,8 @@ impl<N: Store, const C: u8> Replica<N, C> {
         ensures pass { self.new.pass ≡ self.old.pass }
     {
         self.pass.known();
-        let table = LockTable::of(alloc, self.start.as_slice(), grants)?;
-        self.table = Some(table);
+        let locks = replay_locks(alloc, self.start.to_vec(alloc)?, grants)?;
+        self.locks = Some(locks);
         Ok(())
     }
 }

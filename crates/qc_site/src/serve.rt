@@ -252,9 +252,9 @@ impl<D: Disk, N: Store, const C: u8> Site<D, N, C> {
     }
 
     /// Serves a request that the seer saw. A grant whose record stands and that is not yet entered comes first; a copy
-    /// that is down revives. A repeat of a granted access gets the same tuple, and nothing is written. Else the desk is
-    /// asked; what is free is journalled, entered and answered, in this order. That the copy is down, full or strange is
-    /// entered before it is answered.
+    /// that is down revives. A repeat of a granted access gets the same tuple, which costs one look at the desk, and
+    /// nothing is written. Else the desk is asked; what is free is journalled, entered and answered, in this order. That
+    /// the copy is down, full or strange is entered before it is answered.
     pub fn serve<R: Wait>(
         &mut self,
         rt: &R,

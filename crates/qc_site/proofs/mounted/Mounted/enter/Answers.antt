@@ -34,7 +34,7 @@ new-requires g c =
                 nothing,
                 (
                   start ∙ c.requires.start,
-                  subst (λ (row : List Tuple). IsTableOf row c.args.pass.seen g.row.C c.into_parts-start.result.1) (sym start) (c.into_parts-start.ensures.table c.args.pass.seen g.row.C nothing),
+                  subst (λ (row : List Tuple). IsTableOf row c.args.pass.seen g.row.C c.into_parts-start.result.1) (sym start) (c.into_parts-start.ensures.locks c.args.pass.seen g.row.C nothing),
                 ),
               ),
             ),

@@ -1,11 +1,11 @@
-use Rattle.std.proofs.Common.{◌++◌, sym, ap, ◌∙◌, subst}
+use Rattle.std.proofs.Common.{◌<◌, ◌++◌, length, sym, ap, ◌∙◌, subst, arith}
 use Rattle.std.specs.Prelude.{Some, IfSome, option_to_list}
 use Rattle.qc_event.specs.History.{grants}
 use Rattle.qc_pass.specs.declared.view.View.{View}
 use Rattle.qc_pass.specs.Entries.{IsOlder}
 use Rattle.qc_site.proofs.Backs.{on_err}
 use Rattle.qc_event.specs.Tables.{setting_of}
-use Rattle.qc_site.specs.Replica.{IsKept, IsTableOf, Standing}
+use Rattle.qc_site.specs.Replica.{HasRoomFor, IsKept, IsTableOf, Standing}
 use Rattle.qc_site.proofs.Replicas.{granted_last, kept_on, looked_none, kept_granted, older_entered, only_looks, table_granted}
 use Rattle.qc_site.proofs.replica.Replica.append.Goals as goal
 use Rattle.qc_site.proofs.replica.Replica.append.Goals.{in-Some-take+in-Some-1, in-Some-take+in-None-1, in_default-take}
@@ -16,7 +16,7 @@ invariant_of-self g c =
     let was = c.self.invariant in
     kept_on setting g.row.C c.self.inside.pass _ c.known.ensures.legal
     (looked_none setting g.row.C c.self.inside.pass _ was.number c.known.ensures.legal c.in_err-answer.ensures.err.0)
-    c.self.inside.start.items c.self.inside.table c.self.inside.hand was
+    c.self.inside.start.items c.self.inside.locks c.self.inside.hand was
 
 pub invariant_of-self-in-Some-take-2 : goal.invariant_of-self-in-Some-take-2
 invariant_of-self-in-Some-take-2 g c =
@@ -24,12 +24,14 @@ invariant_of-self-in-Some-take-2 g c =
     let v = c.self.inside.pass in
     let w = c.append-answer.new.pass in
     let start = c.self.inside.start.items in
-    let t = c.in-Some-take.table in
+    let t = c.in-Some-take.locks in
     let grant = c.in-Some.grant in
-    let was = subst (λ o. IsKept setting g.row.C v start c.self.inside.table o) c.in-Some.is c.self.invariant in
+    let was = subst (λ o. IsKept setting g.row.C v start c.self.inside.locks o) c.in-Some.is c.self.invariant in
     let had : IsTableOf start v.seen g.row.C t = subst (λ o. IfSome o (IsTableOf start v.seen g.row.C)) (sym c.take.ensures.value ∙ c.in-Some-take.is) was.kept in
-    kept_granted setting g.row.C v w grant start was.number c.known.ensures.legal c.in_ok-answer.ensures.ok c.self.inside.table (Some c.admit.new.self)
-    (table_granted setting g.row.C v w grant start was.number c.known.ensures.legal c.in_ok-answer.ensures.ok t c.admit.new.self c.admit.ensures.start c.admit.ensures.follows c.admit.ensures.repeats had)
+    let room : HasRoomFor t grant = subst (λ o. IfSome o (λ l. HasRoomFor l grant)) (sym c.take.ensures.value ∙ c.in-Some-take.is) was.room in
+    let within : grant.rec < length t.held = omega (arith, room.within, c.grant.ensures.lists) in
+    kept_granted setting g.row.C v w grant start was.number c.known.ensures.legal c.in_ok-answer.ensures.ok c.self.inside.locks (Some c.grant.new.self)
+    (table_granted setting g.row.C v w grant start was.number c.known.ensures.legal c.in_ok-answer.ensures.ok t c.grant.new.self within c.grant.ensures.granted had)
     was
 
 pub returns-in_err-answer-clause-err : goal.returns-in_err-answer-clause-err

@@ -21,18 +21,18 @@ invariant_of-self-in-Free g c =
     let w = c.ask_desk-answer.new.pass in
     let ask = c.args.ask.now in
     let start = c.self.inside.start.items in
-    let t = c.ask_desk-answer.new.table in
+    let t = c.ask_desk-answer.new.locks in
     let was = c.self.invariant in
     let legal = c.known.ensures.legal in
     let told : IsTold setting ask v w (verdict.Free c.in-Free.tuple) = subst (IsTold setting ask v w) c.in-Free.is c.in_ok-verdict.ensures.told in
-    let kept : IsTableOf start w.seen g.row.C t = table_at g.N.Store.base start w.seen ask.copy g.row.C t c.requires.copy was.starts c.ask_desk-answer.ensures.table in
+    let kept : IsTableOf start w.seen g.row.C t = table_at g.N.Store.base start w.seen ask.copy g.row.C t c.requires.copy was.starts c.ask_desk-answer.ensures.locks in
     let first : again (grants v.seen g.row.C) ask.access ≡ None = ap (λ (x : Standing). again (grants x.pass.seen g.row.C) ask.access) c.self.view_is ∙ c.requires.first in
-    let within : ask.rec < length t.locks.start = subst (λ row. ask.rec < length row) (sym c.ask_desk-answer.ensures.table.same_start) (ask_within setting w.seen ask c.requires.proper legal c.in_ok-verdict.ensures.asked) in
-    kept_asked setting g.row.C v w start c.self.inside.table (Some t) c.self.inside.hand (Some c.grant_of.result)
+    let within : ask.rec < length t.start = subst (λ row. ask.rec < length row) (sym c.ask_desk-answer.ensures.locks.same_start) (ask_within setting w.seen ask c.requires.proper legal c.in_ok-verdict.ensures.asked) in
+    kept_asked setting g.row.C v w start c.self.inside.locks (Some t) c.self.inside.hand (Some c.grant_of.result)
     (looked_none setting g.row.C v w was.number legal told.0)
     kept
     (subst (MayGrant setting w.seen (copy_seat g.row.C) g.row.C) (sym c.grant_of.ensures) (may_be_granted setting g.row.C v w ask c.in-Free.tuple c.requires.copy was.number legal c.in_ok-verdict.ensures.asked first told))
-    (subst (HasRoomFor t) (sym c.grant_of.ensures) record { reserved = c.in_ok-verdict.ensures.room.0; room = c.in_ok-verdict.ensures.room.1; within = within })
+    (subst (HasRoomFor t) (sym c.grant_of.ensures) record { reserved = c.in_ok-verdict.ensures.room; within = within })
     was
 
 pub returns-in_err-verdict-clause-grants : goal.returns-in_err-verdict-clause-grants

@@ -11,7 +11,7 @@ invariant_of-self g c =
     let was = c.self.invariant in
     kept_on setting g.row.C c.self.inside.pass _ c.known.ensures.legal
     (looked_none setting g.row.C c.self.inside.pass _ was.number c.known.ensures.legal (shown_looked c.self.inside.pass _ was.live c.show.ensures.pass))
-    c.self.inside.start.items c.self.inside.table c.self.inside.hand was
+    c.self.inside.start.items c.self.inside.locks c.self.inside.hand was
 
 pub returns-clause-looks : goal.returns-clause-looks
 returns-clause-looks g c =

@@ -11,7 +11,7 @@ invariant_of-self g c =
     let was = c.self.invariant in
     kept_on setting g.row.C c.self.inside.pass _ c.known.ensures.legal
     (unable_none setting g.row.C c.self.inside.pass _ c.args.ask.now.access c.args.why c.unable-answer.result was.number c.known.ensures.legal c.unable-answer.ensures.ok c.unable-answer.ensures.err)
-    c.self.inside.start.items c.self.inside.table c.self.inside.hand was
+    c.self.inside.start.items c.self.inside.locks c.self.inside.hand was
 
 pub returns-clause-grants : goal.returns-clause-grants
 returns-clause-grants g c =

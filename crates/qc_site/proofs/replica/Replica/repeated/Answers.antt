@@ -1,0 +1,28 @@
+use Rattle.std.proofs.Common.{◌∙◌, ap, sym}
+use Rattle.qc_event.specs.Tables.{setting_of}
+use Rattle.qc_pass.specs.declared.view.View.{View}
+use Rattle.qc_site.specs.Replica.{Standing}
+use Rattle.qc_site.proofs.Again.{again_is}
+use Rattle.qc_site.proofs.Replicas.{kept_on, looked_none, only_looks, shown_looked}
+use Rattle.qc_site.proofs.replica.Replica.repeated.Goals as goal
+
+pub invariant_of-self : goal.invariant_of-self
+invariant_of-self g c =
+    let setting = setting_of g.N.Store.table g.N.Store.base in
+    let was = c.self.invariant in
+    kept_on setting g.row.C c.self.inside.pass _ c.known.ensures.legal
+    (looked_none setting g.row.C c.self.inside.pass _ was.number c.known.ensures.legal (shown_looked c.self.inside.pass _ was.live c.granted-first.ensures.looked))
+    c.self.inside.start.items c.self.inside.locks c.self.inside.hand was
+
+pub returns-clause-told : goal.returns-clause-told
+returns-clause-told g c =
+    let setting = setting_of g.N.Store.table g.N.Store.base in
+    c.granted-first.ensures.first ∙ sym (again_is setting _ g.row.C c.args.access.now c.known.ensures.legal)
+
+pub returns-clause-looks : goal.returns-clause-looks
+returns-clause-looks g c =
+    let setting = setting_of g.N.Store.table g.N.Store.base in
+    let was = c.self.invariant in
+    let looked = shown_looked c.self.inside.pass _ was.live c.granted-first.ensures.looked in
+    only_looks setting g.row.C c.args.self.now _ c.self.inside.pass (ap (λ (x : Standing). x.pass) c.self.view_is) c.known.ensures.legal
+    (looked_none setting g.row.C c.self.inside.pass _ was.number c.known.ensures.legal looked) (ap (λ (x : View). x.mine) looked.1)
