@@ -4,7 +4,7 @@ use Rattle.std.specs.declared.alloc.Global.{Global}
 use Rattle.qc_disk.specs.Disk.{FallsAway, Grows, HasCause, LeavesOnly, next}
 use Rattle.qc_disk.specs.declared.disk.Disk.{Ghosts}
 use Rattle.qc_journal.specs.Image.{HasAt, HasRecords, bodies_of}
-use Rattle.qc_journal.specs.Journal.{Keeps, disk_of, limit_of}
+use Rattle.qc_journal.specs.Journal.{Keeps, disk_of, limit_of, place_of}
 use Rattle.qc_journal.specs.declared.journal.Journal.{Journal}
 use Rattle.qc_ledger.specs.Image.{IsFull}
 
@@ -45,6 +45,10 @@ module _ {D : Type 0} {g : Ghosts D} (old new : Journal D g) where
   -- images only fall away
   abbrev pub Falls : Type 0
   Falls = FallsAway g.view (disk_of old) (disk_of new)
+
+  -- its next record goes to no earlier place
+  abbrev pub GoesOn : Type 0
+  GoesOn = place_of old ≤ place_of new
 
   -- the disk's count of faults never falls, and it rose where this failed
   abbrev pub Costs : Type 0 → Type 0

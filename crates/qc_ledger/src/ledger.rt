@@ -11,7 +11,7 @@ ghost use Rattle.qc_pass.specs.Entries.{entries_of, IsOlder};
 ghost use Rattle.qc_journal.specs.Journal.{disk_of, limit_of, place_of, IsTooLong, IsUp, Keeps};
 ghost use Rattle.qc_ledger.specs.Entered.{MayFinish, SeesMore};
 ghost use Rattle.qc_ledger.specs.Refusing.{want_no, IsWant};
-ghost use Rattle.qc_ledger.specs.Runs.{HasOrMore, Leaves, LosesNone, Falls, Costs, CostsTwo};
+ghost use Rattle.qc_ledger.specs.Runs.{HasOrMore, Leaves, LosesNone, Falls, GoesOn, Costs, CostsTwo};
 ghost use Rattle.qc_ledger.specs.Shelf.{journal_in, top_in, top_body, LogLeaves, IsDeviceNo, IsIdle};
 ghost use Rattle.qc_ledger.specs.Since.{IsNext, TopsGrow};
 ghost use Rattle.qc_ledger.specs.declared.fault.LedgerNo.TheVariants.{Disk, Full, Room};
@@ -90,6 +90,7 @@ impl<D: Disk, N: Store> Ledger<D, N> {
         ensures refused { IfErr result IsDeviceNo }
         ensures limit { limit_of (journal_in self.new.shelf)
             ≡ limit_of (journal_in self.old.shelf) }
+        ensures place { GoesOn (journal_in self.old.shelf) (journal_in self.new.shelf) }
         ensures content { (D.view (disk_of (journal_in self.new.shelf))).content
             ≡ (D.view (disk_of (journal_in self.old.shelf))).content }
         ensures any_moment { Leaves (journal_in self.old.shelf) (journal_in self.new.shelf)
@@ -122,6 +123,7 @@ impl<D: Disk, N: Store> Ledger<D, N> {
             → IsOver told before self.new.shelf tops }
         ensures limit { limit_of (journal_in self.new.shelf)
             ≡ limit_of (journal_in self.old.shelf) }
+        ensures place { GoesOn (journal_in self.old.shelf) (journal_in self.new.shelf) }
         ensures full { (place : ℕ) → result ≡ Err (Full place)
             → IsTooLong (place_of (journal_in self.old.shelf)) (limit_of (journal_in self.old.shelf))
             (top_body top.now aborted.now) }
@@ -248,10 +250,14 @@ impl<D: Disk, N: Store> Ledger<D, N> {
             → TopsGrow told before since self.new.shelf self.new.pass.seen }
 
         // A fault of the disk is told only where its count of faults rose, by two where the ledger was up. Full comes only
-        // where the record would pass the limit at its place; the ledger is up then, with nothing in hand.
+        // where the record would pass the limit at its place; the ledger is up then, with nothing in hand. The place of the
+        // next record never falls.
         ensures full { (place : ℕ) → result ≡ Err (Full place) → IsIdle self.new.shelf place
             × IsTooLong place (limit_of (journal_in self.old.shelf))
             (top_body top.now aborted.now) }
+        ensures limit { limit_of (journal_in self.new.shelf)
+            ≡ limit_of (journal_in self.old.shelf) }
+        ensures place { GoesOn (journal_in self.old.shelf) (journal_in self.new.shelf) }
         ensures cause { Costs (journal_in self.old.shelf) (journal_in self.new.shelf)
             (IsErrOf result Disk) }
         ensures twice { IsUp (journal_in self.old.shelf) → IsErrOf result Disk
@@ -320,10 +326,14 @@ impl<D: Disk, N: Store> Ledger<D, N> {
             → TopsGrow told before since self.new.shelf self.new.pass.seen }
 
         // A fault of the disk is told only where its count of faults rose, by two where the ledger was up. Full comes only
-        // where the record would pass the limit at its place; the ledger is up then, with nothing in hand.
+        // where the record would pass the limit at its place; the ledger is up then, with nothing in hand. The place of the
+        // next record never falls.
         ensures full { (place : ℕ) → result ≡ Err (Full place) → IsIdle self.new.shelf place
             × IsTooLong place (limit_of (journal_in self.old.shelf))
             (top_body top.now aborted.now) }
+        ensures limit { limit_of (journal_in self.new.shelf)
+            ≡ limit_of (journal_in self.old.shelf) }
+        ensures place { GoesOn (journal_in self.old.shelf) (journal_in self.new.shelf) }
         ensures cause { Costs (journal_in self.old.shelf) (journal_in self.new.shelf)
             (IsErrOf result Disk) }
         ensures twice { IsUp (journal_in self.old.shelf) → IsErrOf result Disk
@@ -363,6 +373,9 @@ impl<D: Disk, N: Store> Ledger<D, N> {
         ensures grown { (told : List ℕ → List (List ℕ)) (before : List (List ℕ)) (since : ℕ)
             → TopsGrow told before since self.old.shelf self.old.pass.seen
             → TopsGrow told before since self.new.shelf self.new.pass.seen }
+        ensures limit { limit_of (journal_in self.new.shelf)
+            ≡ limit_of (journal_in self.old.shelf) }
+        ensures place { GoesOn (journal_in self.old.shelf) (journal_in self.new.shelf) }
         ensures cause { Costs (journal_in self.old.shelf) (journal_in self.new.shelf)
             (IsErrOf result Disk) }
     {
