@@ -12,7 +12,7 @@ use Rattle.qc_codec.specs.Restored.{restored_row}
 use Rattle.qc_event.specs.declared.table.Table.{Table}
 use Rattle.qc_event.specs.Base.{start_tuple}
 use Rattle.qc_event.specs.Tables.{base_of}
-use Rattle.qc_journal.specs.Journal.{disk_of}
+use Rattle.qc_journal.specs.Journal.{disk_of, limit_of}
 use Rattle.qc_journal.specs.Image.{HasRecords}
 use Rattle.qc_ledger.specs.Mounted as book
 use Rattle.qc_ledger.proofs.Logging.{up_by}
@@ -48,12 +48,17 @@ module _ {D : Type 0} {g : Ghosts D} where
   abbrev pub disk_found : Book D g → List (Mounted D g) → ℕ → D
   disk_found ledger copies number = slice_index_or (disk_of (book.journal_of ledger) ∷ map copy_disk copies) number (disk_of (book.journal_of ledger))
 
+  -- the most bytes of a journal
+  abbrev pub limit_found : Book D g → ℕ
+  limit_found ledger = limit_of (book.journal_of ledger)
+
   abbrev pub found_of : List (Option (List ℕ)) → Book D g → List (Mounted D g) → List (List Tuple) → Findings
   found_of told ledger copies base = record {
     base = base;
     told = λ number. is_some (told_by told number);
     before = bodies_found ledger copies;
     first = λ number. g.view (disk_found ledger copies number);
+    limit = limit_found ledger;
   }
 
   -- the copies from one on were mounted so, where each was

@@ -11,7 +11,7 @@ use Rattle.qc_interp.proofs.Places.{some_same}
 use Rattle.qc_opening.specs.Stored.{disks_of, past_of, AreOfRun, HasGrown, HasKept, HaveGrown}
 use Rattle.qc_opening.specs.declared.stored.Stored.{Stored}
 
-module _ {D : Type 0} (view : D → View) (table : Table) (told : ℕ → Option (List ℕ)) (stored : Stored D) (kept : HasKept view table told stored) where
+module _ {D : Type 0} (view : D → View) (table : Table) (most : ℕ) (told : ℕ → Option (List ℕ)) (stored : Stored D) (kept : HasKept view table most told stored) where
   abbrev May : ℕ → List (List ℕ) → Type 0
   May number = AreOfRun (setting_of table stored.ended.start) number (past_of stored)
 

@@ -1,8 +1,7 @@
 -- What records restore over a proper script's table is a proper base.
-use Rattle.std.proofs.Common.{◌≡◌, ℕ, ◌+◌, ◌<◌, ◌≤◌, Bool, true, false, cond, List, [], ◌∷◌, length, map, get_or, Option, Some, None, refl, sym, subst, arith}
-use Rattle.std.specs.Prelude.{All, sum, nat_lt, ◌==◌, ◌||◌, is_none, filter}
+use Rattle.std.proofs.Common.{◌≡◌, ℕ, ◌+◌, ◌<◌, true, List, [], ◌∷◌, length, map, get_or, Option, Some, None, refl, sym, subst, arith}
+use Rattle.std.specs.Prelude.{All, is_none, filter}
 use Rattle.std.specs.List.{range_with_len}
-use Rattle.std.proofs.lemmas.Bool.{ltb-false, leb-false, or_parts}
 use Rattle.std.proofs.lemmas.List.{length-map, get_or-replicate, get_or_default}
 use Rattle.std.proofs.lemmas.List.Elements.{All-head, All-tail, All-map, All-filter, All-from_recursion}
 use Rattle.std.proofs.lemmas.List.FromFn.{get_or-map-range_with_len, length-map-range_with_len}
@@ -12,14 +11,13 @@ use Rattle.qc_codec.specs.Fields.{format_1, config, tuple}
 use Rattle.qc_codec.specs.Ledger.{readings}
 use Rattle.qc_codec.specs.Restored.{is_kept_at, restored_tuple}
 use Rattle.qc_codec.proofs.Fits.{config_votes}
-use Rattle.qc_config.specs.Config.{Voting, IsLegal, fault}
+use Rattle.qc_config.specs.Config.{Voting, fault}
 use Rattle.qc_config.specs.Tuple.{after}
 use Rattle.qc_config.specs.declared.config.BadConfig.{BadConfig}
 use Rattle.qc_config.specs.declared.tuple.Op.{Op}
 use Rattle.qc_config.specs.declared.tuple.Op.TheVariants.{Get, PutData, PutConfig}
 use Rattle.qc_config.specs.declared.tuple.Tuple.{Tuple}
 use Rattle.qc_copy.proofs.PutConfigs.{GrantHas, OpHas, after_has}
-use Rattle.qc_event.proofs.Numbers.{nonzero}
 use Rattle.qc_event.specs.declared.event.Grant.{Grant}
 use Rattle.qc_event.specs.declared.table.Row.{Row}
 use Rattle.qc_event.specs.Base.{IsConfigFor, IsRowFor, no_tuple, start_tuple}

@@ -10,6 +10,7 @@ use Rattle.qc_disk.specs.Disk.{View}
 use Rattle.qc_disk.specs.Shop.{Tells}
 use Rattle.qc_event.specs.declared.table.Table.{Table}
 use Rattle.qc_event.specs.History.{limit}
+use Rattle.qc_event.specs.Listed.{listed}
 use Rattle.qc_event.specs.Seats.{copy_seat, ledger_seat}
 use Rattle.qc_event.specs.Tables.{base_of, setting_of}
 use Rattle.qc_interp.proofs.Places.{some_same}
@@ -26,9 +27,9 @@ use Rattle.qc_standing.proofs.KeptImages.{images_kept}
 use Rattle.qc_standing.proofs.Restarts.{first_start, restores}
 use Rattle.qc_standing.proofs.Stands.{stand}
 use Rattle.qc_system.specs.Closing.{AllKeep, CopyKeeps, DiskKeeps, LedgerKeeps}
-use Rattle.qc_system.specs.Kept.{Pays, downs}
+use Rattle.qc_system.specs.Kept.{HadNoRoom, Pays, downs}
 use Rattle.qc_system.specs.Parts.{Findings}
-use Rattle.qc_opening.specs.Stored.{past_of, returned, AllTell, AreImages, HasKept, HasRun, HavePaid}
+use Rattle.qc_opening.specs.Stored.{past_of, returned, AllTell, AreImages, HasKept, HasRun, HavePaid, LedgerWasFull}
 use Rattle.qc_opening.specs.declared.stored.Stored.{Stored}
 use Rattle.qc_opening.proofs.Epochs.{of_epoch}
 use Rattle.qc_opening.proofs.Found.{told_by}
@@ -90,7 +91,7 @@ tells_image offer told image is tells = subst (λ o. Tells o told) is tells
 
 -- THE MOUNTING
 
-module _ {D : Type 0} (view : D → View) (plan : ScriptPlan) (told offers : ℕ → Option (List ℕ)) (tells : TellAsMuch plan.table offers told) (stored : Stored D) (run : HasRun view plan told stored) where
+module _ {D : Type 0} (view : D → View) (plan : ScriptPlan) (most : ℕ) (told offers : ℕ → Option (List ℕ)) (tells : TellAsMuch plan.table offers told) (stored : Stored D) (run : HasRun view plan most told stored) where
   mounted : IsMounted plan.table offers run.kept.records stored.epoch stored.ended.start
   mounted = mounted_otherwise plan.table offers told run.kept.records stored.epoch stored.ended.start tells run.kept.mounted
 
@@ -107,9 +108,9 @@ module _ {D : Type 0} (view : D → View) (plan : ScriptPlan) (told offers : ℕ
   -- KEEPING
 
   abbrev found : (ℕ → Option (List ℕ)) → Findings
-  found by = record { base = stored.ended.start; told = λ number. is_some (by number); before = run.kept.records; first = λ number. view (run.kept.firsts number) }
+  found by = record { base = stored.ended.start; told = λ number. is_some (by number); before = run.kept.records; first = λ number. view (run.kept.firsts number); limit = most }
 
-  pub kept : HasKept view plan.table offers stored
+  pub kept : HasKept view plan.table most offers stored
   kept = record {
     records = run.kept.records;
     firsts = run.kept.firsts;
@@ -137,6 +138,7 @@ module _ {D : Type 0} (view : D → View) (plan : ScriptPlan) (told offers : ℕ
           kept = ∥∥₁_map d.kept.kept (λ keeps some. keeps (some_too (offers 0) (told 0) (tells 0 (omega arith)) some));
           grown = ∥∥₁_map d.kept.grown (λ grown some. grown (some_too (offers 0) (told 0) (tells 0 (omega arith)) some));
           paid = d.kept.paid;
+          full = λ some. d.kept.full (some_too (offers 0) (told 0) (tells 0 (omega arith)) some);
         };
       }
 
@@ -199,8 +201,16 @@ module _ {D : Type 0} (view : D → View) (plan : ScriptPlan) (told offers : ℕ
       let c = run.kept.kept.copies copy (omega (arith, within, run.kept.kept.many)) in
       paid_at (suc copy) (copy + 1) (copy_seat copy) (view (run.kept.firsts (copy + 1))).faults disk c.disk (omega arith) (omega arith) c.there c.kept.paid is
 
+  -- WANT OF ROOM
+
+  pub was_full : is_some (offers 0) ≡ true → LedgerWasFull view most stored.ended.disks.items (past_of stored)
+  was_full some disk is =
+      let l = run.kept.kept.ledger in
+      let full = l.kept.full (some_too (offers 0) (told 0) (tells 0 (omega arith)) some) in
+      subst (λ d. HadNoRoom (listed (past_of stored)) (view d).size most (entries_of ledger_seat (past_of stored))) (some_same l.disk disk (sym l.there ∙ is)) full
+
 -- whatever the answer, all disks are handed back
-pub all_returned : {D : Type 0} (view : D → View) (plan : ScriptPlan) (told : ℕ → Option (List ℕ)) (disks : List D) (answer : Result (Stored D) (MountNo D)) → length disks ≡ plan.table.copies + 1 → IfOk answer (HasRun view plan told)
+pub all_returned : {D : Type 0} (view : D → View) (plan : ScriptPlan) (most : ℕ) (told : ℕ → Option (List ℕ)) (disks : List D) (answer : Result (Stored D) (MountNo D)) → length disks ≡ plan.table.copies + 1 → IfOk answer (HasRun view plan most told)
     → IfErr answer (λ refused. AreLeft view plan.table (reason_in refused) 0 disks (disks_in refused)) → returned answer ≡ plan.table.copies + 1
-all_returned view plan told disks (Ok stored) all ran left = omega (arith, ran.kept.kept.many, ran.kept.mounted.as_many)
-all_returned view plan told disks (Err refused) all ran left = left_length view plan.table refused disks (disks_in refused) left ∙ all
+all_returned view plan most told disks (Ok stored) all ran left = omega (arith, ran.kept.kept.many, ran.kept.mounted.as_many)
+all_returned view plan most told disks (Err refused) all ran left = left_length view plan.table refused disks (disks_in refused) left ∙ all

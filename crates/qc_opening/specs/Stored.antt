@@ -8,6 +8,7 @@ use Rattle.qc_event.specs.Base.{Setting}
 use Rattle.qc_event.specs.History.{Past, limit}
 use Rattle.qc_event.specs.Legal.{Legal}
 use Rattle.qc_event.specs.Listed.{listed}
+use Rattle.qc_event.specs.Seats.{ledger_seat}
 use Rattle.qc_event.specs.Tables.{setting_of}
 use Rattle.qc_interp.specs.FollowsScript.{BeginsScript, FollowsScript}
 use Rattle.qc_journal.specs.Image.{HasRecords}
@@ -21,7 +22,7 @@ use Rattle.qc_site.specs.Since.{AreGrantsBy}
 use Rattle.qc_standing.specs.Mountings.{IsMounted}
 use Rattle.qc_system.specs.Closing.{AllKeep}
 use Rattle.qc_system.specs.Grown.{GrownFrom}
-use Rattle.qc_system.specs.Kept.{Pays, downs}
+use Rattle.qc_system.specs.Kept.{HadNoRoom, Pays, downs}
 use Rattle.qc_opening.specs.declared.stored.Stored.{Stored}
 
 -- the history that is left, the newest entry first
@@ -56,15 +57,20 @@ module _ {D : Type 0} (view : D → View) where
   abbrev pub HavePaid : List D → Past → Type 0
   HavePaid disks past = (number : ℕ) (disk : D) → slice_get disks number ≡ Some disk → Pays 0 (downs (entries_of (number + 1) past)) (view disk).faults
 
+  -- Of each top that the ledger was unable to log for want of room: its record, behind what the ledger's disk has, would pass a
+  -- limit. The ledger's disk is the first.
+  abbrev pub LedgerWasFull : ℕ → List D → Past → Type 0
+  LedgerWasFull most disks past = (disk : D) → slice_get disks 0 ≡ Some disk → HadNoRoom (listed past) (view disk).size most (entries_of ledger_seat past)
+
   -- A disk as it was when its mounting had ended: where it had told its bytes it told them still, and a crash left these records of it.
   pub record WasMounted (disk : D) (records : List (List ℕ)) (told : Option (List ℕ)) : Type 0 where
     pub tells : is_some told ≡ true → IsSome (view disk).content
     pub had : is_some told ≡ true → (image : List ℕ) → (view disk).may_leave image → HasRecords records image
 
-  -- A store was mounted over disks that told this, and its copies started so; then the disks were the firsts. Each disk that is
+  -- A store was mounted over disks that told this, with journals up to a limit, and its copies started so; then the disks were the firsts. Each disk that is
   -- left keeps, where it told its bytes, the records of the mounting, and then what the history tells; and so it did at each
   -- moment since it was the first.
-  pub record HasKept (table : Table) (told : ℕ → Option (List ℕ)) (stored : Stored D) : Type 0 where
+  pub record HasKept (table : Table) (most : ℕ) (told : ℕ → Option (List ℕ)) (stored : Stored D) : Type 0 where
     pub records : ℕ → List (List ℕ)
     pub firsts : ℕ → D
     pub mounted : IsMounted table told records stored.epoch stored.ended.start
@@ -74,6 +80,7 @@ module _ {D : Type 0} (view : D → View) where
       told = λ number. is_some (told number);
       before = records;
       first = λ number. view (firsts number);
+      limit = most;
     }) view stored.ended.disks.items (reverse stored.ended.trail.items)
 
   -- A disk has grown since its mounting: the disk as it was then told its bytes, and a crash left these records of it and no others; at each moment before its own a crash left of the disk what it left of that one; at each since, these and behind them some of which this is so; and no record was lost again.
@@ -89,12 +96,12 @@ module _ {D : Type 0} (view : D → View) where
     pub mounted : IsMounted table told records epoch start
     pub grown : (number : ℕ) (disk : D) → slice_get disks number ≡ Some disk → is_some (told number) ≡ true → ∥ HasGrown (records number) (AreOfRun (setting_of table start) number past) disk ∥₁
 
-  -- A session ran over a store that was mounted over disks that told this: all that is known of what it left.
-  pub record HasRun (plan : ScriptPlan) (told : ℕ → Option (List ℕ)) (stored : Stored D) : Type 0 where
+  -- A session ran over a store that was mounted over disks that told this, with journals up to a limit: all that is known of what it left.
+  pub record HasRun (plan : ScriptPlan) (most : ℕ) (told : ℕ → Option (List ℕ)) (stored : Stored D) : Type 0 where
     pub legal : Legal (setting_of plan.table stored.ended.start) (past_of stored)
     pub bounded : length stored.ended.trail.items ≤ limit
     pub epoch : (1 ≤ stored.epoch) × (stored.epoch < 2 ^ 32)
     pub follows : OnOk stored.ended.ran (FollowsScript stored.epoch plan.patience plan.sessions (past_of stored))
     pub begins : BeginsScript stored.epoch plan.patience plan.sessions (past_of stored)
     pub room : IsErrOf stored.ended.ran Room → length stored.ended.trail.items ≡ limit
-    pub kept : HasKept plan.table told stored
+    pub kept : HasKept plan.table most told stored

@@ -1,5 +1,5 @@
 //! From a shop to what the sessions left.
-ghost use Rattle.std.specs.Prelude.{ℕ, ◌≡◌, ◌+◌, ◌<◌, ◌≤◌, ◌^◌, ◌⊎◌, List, length, IfOk, IfErr, OnOk, IsErrOf};
+ghost use Rattle.std.specs.Prelude.{ℕ, ◌≡◌, ◌+◌, ◌<◌, ◌≤◌, ◌^◌, ◌⊎◌, List, length, IfOk, IfErr, IsSome, OnOk, IsErrOf};
 ghost use Rattle.qc_codec.specs.Bodies as body;
 ghost use Rattle.qc_event.specs.declared.log.Short.TheVariants.{Room};
 ghost use Rattle.qc_event.specs.History.{limit as most_entries};
@@ -9,7 +9,7 @@ ghost use Rattle.qc_interp.specs.FollowsScript.{FollowsScript, BeginsScript};
 ghost use Rattle.qc_mount.specs.Images.{AreSound, Offers};
 ghost use Rattle.qc_mount.specs.Obtained.{IsNotGiven};
 ghost use Rattle.qc_mount.specs.Refusing.{ComeBack, IsFaultOf, IsNotMounted};
-ghost use Rattle.qc_opening.specs.Stored.{disks_of, past_of, returned, AllTell, AreImages, HasKept, HaveGrown, HavePaid};
+ghost use Rattle.qc_opening.specs.Stored.{disks_of, past_of, returned, AllTell, AreImages, HasKept, HaveGrown, HavePaid, LedgerWasFull};
 ghost use Rattle.qc_refine.specs.Images.{IsStanding, Restores};
 ghost use Rattle.qc_script.specs.Reading.{IsProper};
 ghost use Rattle.qc_script.specs.Steps.{plan_of_script};
@@ -71,8 +71,9 @@ where
     // those of all, whatever a crash leaves of them stands beside the history. At each moment since a disk was mounted a
     // crash left the records of then, and behind them those of the run up to some time; and no record was lost again.
     // Before, it left what it left of the disk as it was then. For each failure of a disk that the history tells, the disk
-    // has counted a fault.
-    ensures kept { IfOk result (HasKept H.D.view script.now.table
+    // has counted a fault. Where the ledger's disk told its bytes, each top that the ledger was unable to log for want of
+    // room would with its record have passed the limit behind what that disk has.
+    ensures kept { IfOk result (HasKept H.D.view script.now.table limit
         ((H.view shop.old).offers place.now)) }
     ensures stands { AllTell script.now.table.copies ((H.view shop.old).offers place.now)
         → IfOk result (λ stored. (images : List (List ℕ))
@@ -83,6 +84,8 @@ where
         ((H.view shop.old).offers place.now) stored.epoch stored.ended.start (disks_of stored)
         (past_of stored)) }
     ensures paid { IfOk result (λ stored. HavePaid H.D.view (disks_of stored) (past_of stored)) }
+    ensures full { IsSome ((H.view shop.old).offers place.now 0)
+        → IfOk result (λ stored. LedgerWasFull H.D.view limit (disks_of stored) (past_of stored)) }
 
     // Where the shop tells the bytes of all disks, none of them has a fault, or the answer is the first.
     ensures sound { (images : List (List ℕ)) → Offers ((H.view shop.old).offers place.now) images

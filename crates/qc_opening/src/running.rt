@@ -8,6 +8,7 @@ ghost use Rattle.qc_event.specs.History.{limit as most};
 ghost use Rattle.qc_event.specs.Legal.{Legal};
 ghost use Rattle.qc_event.specs.Tables.{setting_of};
 ghost use Rattle.qc_interp.specs.FollowsScript.{FollowsScript, BeginsScript};
+ghost use Rattle.qc_journal.specs.Journal.{limit_of};
 ghost use Rattle.qc_ledger.specs.Mounted as book;
 ghost use Rattle.qc_mount.specs.Images.{AreSound, IsFirstFault};
 ghost use Rattle.qc_mount.specs.Refusing.{disks_in, reason_in, AreLeft, IsReasonAmong, TellImages};
@@ -52,12 +53,14 @@ fn run_named<
     requires room { 17 ≤ vec_capacity parts.room }
     requires ledger { IsFound (N.told 0) (N.before 0) (N.first 0)
         (book.records_of parts.book) (book.journal_of parts.book) }
+    requires limit { limit_of (book.journal_of parts.book) ≡ N.limit }
     requires many { length parts.copies.items ≡ length N.base }
     requires copies { AreMounted (record {
       base = N.base;
       told = N.told;
       before = N.before;
       first = N.first;
+      limit = N.limit;
     }) 0 parts.copies.items }
     ensures start { result.start ≡ N.base }
     ensures legal { Legal (setting_of N.table N.base) (reverse result.trail.items) }
@@ -72,6 +75,7 @@ fn run_named<
       told = N.told;
       before = N.before;
       first = N.first;
+      limit = N.limit;
     }) D.view result.disks.items (reverse result.trail.items) }
 {
     let (system, first) = System::<D, N>::open(rt, parts);
@@ -109,7 +113,7 @@ fn run_mounted<R: Threads + Wait + Sync, D: Disk + Drop + Send, G: Gate + Sync>(
     requires none { room.items ≡ [] }
     requires room { 17 ≤ vec_capacity room }
     ensures ran { IfOk result (HasRun D.view (plan_of_script script.now)
-        (λ number. slice_index_or told number None)) }
+        (limit_of (book.journal_of parts.book)) (λ number. slice_index_or told number None)) }
     ensures back { IfErr result (λ disks. disks.items ≡ unboxed (disks_held parts)) }
 {
     are_bytes(parts.book.records());
@@ -151,7 +155,7 @@ pub(crate) fn run_disks<R: Threads + Wait + Sync, D: Disk + Drop + Send, G: Gate
     requires none { room.items ≡ [] }
     requires room { 17 ≤ vec_capacity room }
     requires told { map (λ disk. (D.view disk).content) disks.items ≡ told }
-    ensures ran { IfOk result (HasRun D.view (plan_of_script script.now)
+    ensures ran { IfOk result (HasRun D.view (plan_of_script script.now) limit
         (λ number. slice_index_or told number None)) }
     ensures sound { (images : List (List ℕ)) → TellImages D.view disks.items images
         → OnOk result (AreSound script.now.table limit images) }

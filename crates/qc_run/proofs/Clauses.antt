@@ -11,7 +11,7 @@ use Rattle.qc_report.specs.Report.{Text}
 use Rattle.qc_script.specs.Plan.{ScriptPlan}
 use Rattle.qc_script.specs.declared.bad_script.BadScript.{BadScript}
 use Rattle.qc_run.specs.Left.{Wrote, IsPerformed, TellsDoubt, HasRun, IsUnmounted, WasUnmounted, CameBack, IsAnswer, HadNoScript, IsAnswerToWords}
-use Rattle.qc_run.specs.Run.{journal_limit, form_of, text_by, AllEnded, AllOffered, BeganNothing, HadScript, IsDiskFault, IsInDoubt, IsNotMounted, IsReadFault, IsReported, IsScriptFault, IsTold, NoneBegun, OfRun, OfScript, RanToEnd, RunsScript, TellsFault}
+use Rattle.qc_run.specs.Run.{journal_limit, form_of, text_by, AllEnded, AllOffered, BeganNothing, HadScript, HadSession, IsDiskFault, IsInDoubt, IsNotMounted, IsReadFault, IsReported, IsScriptFault, IsTold, NoneBegun, OfRun, OfScript, RanToEnd, RunsScript, TellsFault}
 use Rattle.qc_run.specs.Words.{place_of, AsAsked, Asked, AtPlace, IsCommand, IsNoCommand}
 use Rattle.qc_run.specs.declared.ran.Ran.{Ran}
 use Rattle.qc_run.specs.declared.status.Status.{Status}
@@ -31,7 +31,11 @@ at_place words asked Q is so = as_asked words asked (λ a. Q (place_of a)) is so
 
 -- STATUSES
 
-pub reported_ran : (answer : Status) → IsReported answer → RanToEnd answer
+pub ended_session : (answer : Status) → RanToEnd answer → HadSession answer
+ended_session status.Room ended = tt
+ended_session answer ended = ended
+
+pub reported_ran : (answer : Status) → IsReported answer → HadSession answer
 reported_ran status.Done is = tt
 reported_ran status.InDoubt is = tt
 reported_ran status.Usage is = absurd is
@@ -43,10 +47,10 @@ reported_ran (status.Image bad) is = absurd is
 reported_ran status.Memory is = absurd is
 reported_ran status.Room is = absurd is
 
-pub failed_ran : (answer : Status) → answer ≡ status.WriteFault → RanToEnd answer
-failed_ran answer failed = subst RanToEnd (sym failed) tt
+pub failed_ran : (answer : Status) → answer ≡ status.WriteFault → HadSession answer
+failed_ran answer failed = subst HadSession (sym failed) tt
 
-pub ran_read : (answer : Status) → RanToEnd answer → HadScript answer
+pub ran_read : (answer : Status) → HadSession answer → HadScript answer
 ran_read status.Done is = tt
 ran_read status.InDoubt is = tt
 ran_read status.WriteFault is = tt
@@ -56,7 +60,7 @@ ran_read status.ReadFault is = absurd is
 ran_read (status.DiskFault which) is = absurd is
 ran_read (status.Image bad) is = absurd is
 ran_read status.Memory is = absurd is
-ran_read status.Room is = absurd is
+ran_read status.Room is = tt
 
 none_had : (words : List (List ℕ)) (before now : SourceView) (answer : Status) → HadNoScript words before now answer → HadScript answer → ⊥
 none_had words before now status.Done none is = absurd none.1
@@ -70,7 +74,7 @@ none_had words before now (status.Image bad) none is = absurd none.1
 none_had words before now status.Memory none is = absurd is
 none_had words before now status.Room none is = absurd none.1
 
-unmounted_not_ran : {D : Type 0} (view : D → View) (s : ScriptPlan) (offers : ℕ → Option (List ℕ)) (before now : ℕ) (disks : List D) (answer : Status) → IsUnmounted view s offers before now disks answer → RanToEnd answer → ⊥
+unmounted_not_ran : {D : Type 0} (view : D → View) (s : ScriptPlan) (offers : ℕ → Option (List ℕ)) (before now : ℕ) (disks : List D) (answer : Status) → IsUnmounted view s offers before now disks answer → HadSession answer → ⊥
 unmounted_not_ran view s offers before now disks status.Done un is = absurd un
 unmounted_not_ran view s offers before now disks status.InDoubt un is = absurd un
 unmounted_not_ran view s offers before now disks status.WriteFault un is = absurd un
@@ -80,7 +84,7 @@ unmounted_not_ran view s offers before now disks status.ReadFault un is = absurd
 unmounted_not_ran view s offers before now disks (status.DiskFault which) un is = absurd is
 unmounted_not_ran view s offers before now disks (status.Image bad) un is = absurd is
 unmounted_not_ran view s offers before now disks status.Memory un is = absurd is
-unmounted_not_ran view s offers before now disks status.Room un is = absurd is
+unmounted_not_ran view s offers before now disks status.Room un is = absurd un
 
 performed_began : (answer : Status) → IsPerformed answer → BeganNothing answer → ⊥
 performed_began status.Done is none = absurd none
@@ -183,17 +187,17 @@ module _ {D : Type 0} (view : D → View) (words : List (List ℕ)) (source_befo
   by_script P (inl refused) read so = absurd (none_had words source_before source_now ran.status refused.1 read)
   by_script P (inr run) read so = (run.0, run.1.0, so run.0 run.1.0 run.1.1)
 
-  has_run : (s : ScriptPlan) (asked : Asked) → ToScript s asked → RanToEnd ran.status → Runs s asked
-  has_run s asked to ended = by_came to.came
+  has_run : (s : ScriptPlan) (asked : Asked) → ToScript s asked → HadSession ran.status → Runs s asked
+  has_run s asked to had = by_came to.came
     where
       by_came : Unmounted s asked ⊎ Runs s asked → Runs s asked
-      by_came (inl un) = absurd (unmounted_not_ran view s (shop_before.offers (place_of asked)) shop_before.faults shop_faults ran.disks.items ran.status un.why ended)
+      by_came (inl un) = absurd (unmounted_not_ran view s (shop_before.offers (place_of asked)) shop_before.faults shop_faults ran.disks.items ran.status un.why had)
       by_came (inr has) = has
 
-  -- what is so where its session ran to its end
-  pub by_run : (P : ScriptPlan → Type 0) → Answers → RanToEnd ran.status → ((s : ScriptPlan) (it : Is s) → Wrote before now ran.status (text_by (form_of it.asked) s.table ran.start ran.trail.items) → Runs s it.asked → P s)
+  -- what is so where its session was run
+  pub by_run : (P : ScriptPlan → Type 0) → Answers → HadSession ran.status → ((s : ScriptPlan) (it : Is s) → Wrote before now ran.status (text_by (form_of it.asked) s.table ran.start ran.trail.items) → Runs s it.asked → P s)
       → OfScript words source_before.left source_now.left P
-  by_run P is ended so = by_script P is (ran_read ran.status ended) (λ s it to. so s it to.wrote (has_run s it.asked to ended))
+  by_run P is had so = by_script P is (ran_read ran.status had) (λ s it to. so s it to.wrote (has_run s it.asked to had))
 
   -- what was written, whatever the text
   wrote : Answers → (text : Text) × Wrote before now ran.status text

@@ -1,5 +1,5 @@
 -- What the parts of a run keep, each said once.
-use Rattle.std.specs.Prelude.{ℕ, ◌≤◌, ◌≡◌, ◌≢◌, ◌⊎◌, List, length, reverse, Option, IfSome}
+use Rattle.std.specs.Prelude.{ℕ, ◌≤◌, ◌≡◌, ◌≢◌, ◌⊎◌, List, length, reverse, Option, IfSome, IsSome}
 use Rattle.qc_disk.specs.Disk.{View}
 use Rattle.qc_disk.specs.Shop.{View as Shop}
 use Rattle.qc_event.specs.History.{Name, limit}
@@ -13,7 +13,7 @@ use Rattle.qc_mount.specs.Images.{AreSound, IsFirstFault}
 use Rattle.qc_mount.specs.Refusing.{disks_in, ComeBack}
 use Rattle.qc_mount.specs.declared.refusing.MountNo.{MountNo}
 use Rattle.qc_mount.specs.declared.refusing.MountNo.TheVariants as no
-use Rattle.qc_opening.specs.Stored.{AllTell, AreImages, HaveGrown, HavePaid}
+use Rattle.qc_opening.specs.Stored.{AllTell, AreImages, HaveGrown, HavePaid, LedgerWasFull}
 use Rattle.qc_refine.specs.Images.{IsStanding, Restores}
 use Rattle.qc_report.specs.Report.{Text}
 use Rattle.qc_script.specs.Plan.{ScriptPlan}
@@ -84,6 +84,7 @@ module _ {D : Type 0} (view : D → View) (s : ScriptPlan) (offers : ℕ → Opt
         → ∥ IsStanding s.table ran.start epoch (reverse ran.trail.items) images ∥₁
     pub grown : HaveGrown view s.table offers epoch ran.start ran.disks.items (reverse ran.trail.items)
     pub paid : HavePaid view ran.disks.items (reverse ran.trail.items)
+    pub full : IsSome (offers 0) → LedgerWasFull view journal_limit ran.disks.items (reverse ran.trail.items)
 
   -- why no store was mounted
   abbrev pub IsUnmounted : ℕ → ℕ → List D → Status → Type 0

@@ -156,6 +156,11 @@ RanToEnd status.InDoubt = Unit {0}
 RanToEnd status.WriteFault = Unit {0}
 RanToEnd _ = ⊥
 
+-- a store was mounted and the session run, whether or not it came to its end
+abbrev pub HadSession : Status → Type 0
+HadSession status.Room = Unit {0}
+HadSession answer = RanToEnd answer
+
 -- there was a script, and want of memory did not cut off what it did
 abbrev pub HadScript : Status → Type 0
 HadScript status.Done = Unit {0}

@@ -1,12 +1,12 @@
 //! The top call: all that the program does, over the streams and the shop of disks that it is handed.
-ghost use Rattle.std.specs.Prelude.{ℕ, List, ⊤, ◌≡◌, ◌≤◌, ◌⊎◌, [], length, map, reverse, string_bytes, IfSome};
+ghost use Rattle.std.specs.Prelude.{ℕ, List, ⊤, ◌≡◌, ◌≤◌, ◌⊎◌, [], length, map, reverse, string_bytes, IfSome, IsSome};
 ghost use Rattle.qc_event.specs.History.{Name, limit};
 ghost use Rattle.qc_event.specs.Legal.{Legal};
 ghost use Rattle.qc_event.specs.Sound.{IsSound};
 ghost use Rattle.qc_event.specs.Tables.{base_of, first_values, setting_of};
 ghost use Rattle.qc_io.specs.Io.{Rose, Keeps, Appends, AppendsFront, Drops, LosesWithin};
 ghost use Rattle.qc_mount.specs.Images.{AreSound, IsFirstFault};
-ghost use Rattle.qc_opening.specs.Stored.{AllTell, AreImages, HaveGrown, HavePaid};
+ghost use Rattle.qc_opening.specs.Stored.{AllTell, AreImages, HaveGrown, HavePaid, LedgerWasFull};
 ghost use Rattle.qc_refine.specs.Images.{IsStanding, Restores};
 ghost use Rattle.qc_script.specs.Plan.{ScriptPlan};
 ghost use Rattle.qc_script.specs.Reading.{IsScript};
@@ -180,6 +180,15 @@ where
         (S.view source.new).left result.start result.trail.items
         (λ s. HavePaid H.D.view result.disks.items (reverse result.trail.items)) }
 
+    // Each top that the ledger was unable to log for want of room at its disk, where that told its bytes: with its record
+    // behind what the disk has, it would have passed the longest journal.
+    ensures full { terms.OfRun (map string_bytes words.now) (S.view source.old).left
+        (S.view source.new).left result.start result.trail.items
+        (λ s. line.AtPlace (map string_bytes words.now)
+        (λ place. IsSome ((H.view shop.old).offers place 0)
+        → LedgerWasFull H.D.view terms.journal_limit result.disks.items
+        (reverse result.trail.items))) }
+
     // The disks that were obtained come back, and no others were. A mounting that was refused leaves each as it says.
     ensures come_back { terms.IsNotMounted result.status
         → terms.OfScript (map string_bytes words.now) (S.view source.old).left
@@ -239,7 +248,7 @@ where
         (λ place. terms.AllOffered s.table ((H.view shop.old).offers place) images
         → AreSound s.table terms.journal_limit images
         → (bad : BadImage) → result.status ≡ Status.Image bad → ⊥) }
-    ensures mounted_images { terms.RanToEnd result.status
+    ensures mounted_images { terms.HadSession result.status
         → terms.OfScript (map string_bytes words.now) (S.view source.old).left
         (S.view source.new).left
         (λ s. line.AtPlace (map string_bytes words.now) (λ place. (images : List (List ℕ))

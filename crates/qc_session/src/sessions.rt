@@ -53,6 +53,7 @@ fn none_ran<R: Wait, D: Disk + Drop, N: Mounting>(
       told = N.told;
       before = N.before;
       first = N.first;
+      limit = N.limit;
     }) D.view result.disks.items [] }
 {
     let (start, trail, disks) = system.finish(rt, first);
@@ -102,6 +103,7 @@ pub fn run_sessions<
       told = N.told;
       before = N.before;
       first = N.first;
+      limit = N.limit;
     }) D.view result.disks.items (reverse result.trail.items) }
 {
     let (board, seat) = match Board::new(alloc, SESSIONS, EACH) {

@@ -17,7 +17,7 @@ use Rattle.qc_pass.specs.Rules.{Has, IsSettled, joined, knows, without}
 use Rattle.qc_pass.proofs.Having.{has_left}
 use Rattle.qc_pass.proofs.Seers.{older_trans}
 use Rattle.qc_system.specs.Closing.{AllKeep, CopyKeeps, DiskKeeps, HaveLeft, Keeping, LedgerKeeps, WasLeft}
-use Rattle.qc_system.specs.Kept.{Pays, downs}
+use Rattle.qc_system.specs.Kept.{HadNoRoom, Pays, downs}
 use Rattle.qc_system.specs.Parts.{Findings, IsClosing, IsThere}
 use Rattle.qc_ledger.specs.Since.{AreTopsBy}
 use Rattle.qc_site.specs.Since.{AreGrantsBy}
@@ -25,6 +25,7 @@ use Rattle.qc_site.proofs.Since.{grants_later}
 use Rattle.qc_system.proofs.Grown.{from_more}
 use Rattle.qc_system.proofs.Left.{keeps_grants_later, keeps_tops_later}
 use Rattle.qc_system.proofs.Listed.{tops_told_later}
+use Rattle.qc_system.proofs.Room.{room_retold}
 
 module _ {A : Type 0} where
   get_left : (xs ys : List A) (i : ℕ) (x : A) → slice_get xs i ≡ Some x → slice_get (xs ++ ys) i ≡ Some x
@@ -131,6 +132,7 @@ module _ (setting : Setting) (found : Findings) {D : Type 0} (view : D → Disk)
             kept = ∥∥₁_map was.kept.kept (λ k told. keeps_tops_later setting was.seen log since legal was.legal own (found.before 0) (view was.disk).may_leave (k told));
             grown = ∥∥₁_map was.kept.grown (λ k told. from_more (found.first 0) (found.before 0) (AreTopsBy (listed was.seen) was.seen) (AreTopsBy (listed log) log) (view was.disk) (λ bodies are. tops_told_later setting was.seen log since legal was.legal bodies are) (k told));
             paid = subst (λ p. Pays (found.first 0).faults (downs p) (view was.disk).faults) (sym own) was.kept.paid;
+            full = λ told. subst (λ p. HadNoRoom (listed log) (view was.disk).size found.limit p) (sym own) (room_retold setting was.seen log since legal was.legal (view was.disk).size found.limit (was.kept.full told));
           };
         }
 

@@ -5,4 +5,5 @@ pub mod Left
 pub mod Listed
 pub mod Opening
 pub mod Paying
+pub mod Room
 pub mod Standing

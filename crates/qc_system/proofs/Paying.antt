@@ -66,16 +66,17 @@ hand_none : (copy : ℕ) (hand : Option Grant) (old : Past) → downs (hand_entr
 hand_none copy None old = refl
 hand_none copy (Some g) old = refl
 
-at_most : (these old new : Past) → downs (these ++ old) ≡ downs old → AtMost these old new → downs new ≡ downs old
-at_most these old new none (inl is) = ap downs is
-at_most these old new none (inr is) = ap downs is ∙ none
+-- what these entries do not change is unchanged
+pub at_most : {A : Type 0} (f : Past → A) (these old new : Past) → f (these ++ old) ≡ f old → AtMost these old new → f new ≡ f old
+at_most f these old new none (inl is) = ap f is
+at_most f these old new none (inr is) = ap f is ∙ none
 
 module _ (copy : ℕ) (ask : Ask) (old new : Standing) (first before now : ℕ) where
   same : EntersHand copy old new → downs new.pass.mine ≡ downs old.pass.mine
-  same h = at_most (hand_entries copy old.hand) old.pass.mine new.pass.mine (hand_none copy old.hand old.pass.mine) h
+  same h = at_most downs (hand_entries copy old.hand) old.pass.mine new.pass.mine (hand_none copy old.hand old.pass.mine) h
 
   behind : (e : Entry) → downs (e ∷ []) ≡ 0 → IsBehind (hand_entries copy old.hand) (e ∷ []) old.pass.mine new.pass.mine → downs new.pass.mine ≡ downs old.pass.mine
-  behind e none h = ap downs h.all ∙ one (at_most (hand_entries copy old.hand) old.pass.mine h.mid (hand_none copy old.hand old.pass.mine) h.first_of_all)
+  behind e none h = ap downs h.all ∙ one (at_most downs (hand_entries copy old.hand) old.pass.mine h.mid (hand_none copy old.hand old.pass.mine) h.first_of_all)
     where
       one : downs h.mid ≡ downs old.pass.mine → downs (e ∷ h.mid) ≡ downs old.pass.mine
       one is = omega (arith, sum_by-append (λ (x : Entry). cond (is_down x.event) 1 0) (e ∷ []) h.mid, none, is)
@@ -87,7 +88,7 @@ module _ (copy : ℕ) (ask : Ask) (old new : Standing) (first before now : ℕ) 
   answer_pays (answer.Blocked holder) h Failed cause fails pays = pays_where first _ before now Failed cause pays _ (behind _ refl h)
   answer_pays (answer.Dead ancestor) h Failed cause fails pays = pays_where first _ before now Failed cause pays _ (behind _ refl h)
   answer_pays answer.Down h Failed cause fails pays =
-      let mid = at_most (hand_entries copy old.hand) old.pass.mine h.mid (hand_none copy old.hand old.pass.mine) h.first_of_all in
+      let mid = at_most downs (hand_entries copy old.hand) old.pass.mine h.mid (hand_none copy old.hand old.pass.mine) h.first_of_all in
       let is : downs new.pass.mine ≡ 1 + downs old.pass.mine = ap downs h.all ∙ one_down (copy_unable copy ask why.Down) h.mid refl ∙ ap (λ n. 1 + n) mid in
       subst (λ n. Pays first n now) (sym is) (pays_more first (downs old.pass.mine) before now (cause.failed (fails refl)) pays)
   answer_pays answer.Full h Failed cause fails pays = pays_where first _ before now Failed cause pays _ (behind _ refl h)
@@ -105,18 +106,18 @@ commits_none (Some top) old = refl
 
 module _ (hand : Option Name) (top : Name) (old new : Past) (first before now : ℕ) where
   hand_same : LedgerHand hand old new → downs new ≡ downs old
-  hand_same h = at_most (commits_of hand) old new (commits_none hand old) h
+  hand_same h = at_most downs (commits_of hand) old new (commits_none hand old) h
 
   top_same : EntersTop hand top old new → downs new ≡ downs old
   top_same (inl h) = hand_same h
-  top_same (inr h) = ap downs h.all ∙ at_most (commits_of hand) old h.mid (commits_none hand old) h.first_of_all
+  top_same (inr h) = ap downs h.all ∙ at_most downs (commits_of hand) old h.mid (commits_none hand old) h.first_of_all
 
   refusal_pays : (r : LedgerNo) → RefusalEnters r hand top old new → (Failed : Type 0) → HasCause before now Failed → (r ≡ no.Disk → Failed) → Pays first (downs old) before → Pays first (downs new) now
   refusal_pays no.Disk h Failed cause fails pays =
-      let is : downs new ≡ 1 + downs old = ap downs h.all ∙ one_down (unable_entry top why.Down) h.mid refl ∙ ap (λ n. 1 + n) (at_most (commits_of hand) old h.mid (commits_none hand old) h.first_of_all) in
+      let is : downs new ≡ 1 + downs old = ap downs h.all ∙ one_down (unable_entry top why.Down) h.mid refl ∙ ap (λ n. 1 + n) (at_most downs (commits_of hand) old h.mid (commits_none hand old) h.first_of_all) in
       subst (λ n. Pays first n now) (sym is) (pays_more first (downs old) before now (cause.failed (fails refl)) pays)
   refusal_pays (no.Image bad) h Failed cause fails pays = absurd h
-  refusal_pays (no.Full place) h Failed cause fails pays = pays_where first _ before now Failed cause pays _ (ap downs h.all ∙ at_most (commits_of hand) old h.mid (commits_none hand old) h.first_of_all)
+  refusal_pays (no.Full place) h Failed cause fails pays = pays_where first _ before now Failed cause pays _ (ap downs h.all ∙ at_most downs (commits_of hand) old h.mid (commits_none hand old) h.first_of_all)
   refusal_pays no.Memory h Failed cause fails pays = pays_where first _ before now Failed cause pays _ (hand_same h)
   refusal_pays no.Room h Failed cause fails pays = pays_where first _ before now Failed cause pays _ (hand_same h)
 

@@ -12,7 +12,7 @@ use Rattle.qc_pass.specs.Entries.{IsOlder, entries_of}
 use Rattle.qc_pass.specs.Rules.{Has}
 use Rattle.qc_site.specs.Since.{AreGrantsBy}
 use Rattle.qc_system.specs.Grown.{GrownFrom}
-use Rattle.qc_system.specs.Kept.{Pays, downs}
+use Rattle.qc_system.specs.Kept.{HadNoRoom, Pays, downs}
 use Rattle.qc_system.specs.Left.{KeepsGrants, KeepsTops}
 use Rattle.qc_system.specs.Parts.{Findings}
 
@@ -21,11 +21,12 @@ abbrev pub Keeping : Type 1
 Keeping = Disk → Past → Type 0
 
 module _ (setting : Setting) (found : Findings) where
-  -- The ledger's disk keeps the ledger's tops, where it tells its bytes, and kept those up to then at each moment since the mounting; it pays for each that was not logged.
+  -- The ledger's disk keeps the ledger's tops, where it tells its bytes, and kept those up to then at each moment since the mounting; it pays for each that was not logged for a failure, and with the record of each that was not for want of room it would pass the limit.
   pub record LedgerKeeps (disk : Disk) (past : Past) : Type 0 where
     pub kept : ∥ (found.told 0 ≡ true → KeepsTops (found.before 0) disk.may_leave past) ∥₁
     pub grown : ∥ (found.told 0 ≡ true → GrownFrom (found.first 0) (found.before 0) (AreTopsBy (listed past) past) disk) ∥₁
     pub paid : Pays (found.first 0).faults (downs (entries_of ledger_seat past)) disk.faults
+    pub full : found.told 0 ≡ true → HadNoRoom (listed past) disk.size found.limit (entries_of ledger_seat past)
 
   -- A copy's disk keeps the copy's grants, where it tells its bytes, and kept those up to then at each moment since the mounting; it pays for each request that it was down for.
   pub record CopyKeeps (copy : ℕ) (disk : Disk) (past : Past) : Type 0 where

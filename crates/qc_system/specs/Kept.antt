@@ -11,8 +11,8 @@ use Rattle.qc_event.specs.Base.{Setting}
 use Rattle.qc_event.specs.History.{Past, Name, limit}
 use Rattle.qc_event.specs.Listed.{listed}
 use Rattle.qc_event.specs.Requests.{was_unable}
-use Rattle.qc_journal.specs.Journal.{disk_of}
-use Rattle.qc_ledger.specs.Entered.{IsOver, tops_of}
+use Rattle.qc_journal.specs.Journal.{IsTooLong, disk_of, limit_of, place_of}
+use Rattle.qc_ledger.specs.Entered.{IsOver, told_body, tops_of}
 use Rattle.qc_ledger.specs.Since.{AreTopsBy}
 use Rattle.qc_ledger.specs.declared.fault.LedgerNo.{LedgerNo}
 use Rattle.qc_ledger.specs.declared.fault.LedgerNo.TheVariants as no
@@ -58,3 +58,12 @@ downs past = count_by (λ (e : Entry). is_down e.event) past
 -- a count of faults, of which this many were told since it was at first, up to the end of its range
 abbrev pub Pays : ℕ → ℕ → ℕ → Type 0
 Pays first told now = min (first + told) (2 ^ 64 - 1) ≤ now
+
+-- of each top that the ledger's own entries say it was unable to log for want of room: its record, with the names that are told
+-- to be aborted below it, behind the gate at a place would pass a limit
+abbrev pub HadNoRoom : (Name → List Name) → ℕ → ℕ → Past → Type 0
+HadNoRoom told place most own = (top : Name) → IsTrue (was_unable own top why.Full) → IsTooLong place most (told_body told top)
+
+-- so it is behind the ledger's journal, with the names that are listed, and the journal's limit
+abbrev pub HadNoRoomIn : {D : Type 0} {g : Ghosts D} → Shelf D g → View → Type 0
+HadNoRoomIn shelf pass = HadNoRoom (listed pass.seen) (place_of (journal_of_shelf shelf)) (limit_of (journal_of_shelf shelf)) pass.mine

@@ -46,12 +46,13 @@ pub record IsFound {D : Type 0} {g : Ghosts D} (told : Bool) (before : List (Lis
   pub at : first.moment ≡ (g.view (disk_of journal)).moment
   pub left : LeftAlike first (g.view (disk_of journal))
 
--- What was found of all disks, by their numbers, and with what the copies start.
+-- What was found of all disks, by their numbers, with what the copies start, and the most bytes of a journal.
 pub record Findings : Type 1 where
   pub base : List (List Tuple)
   pub told : ℕ → Bool
   pub before : ℕ → List (List ℕ)
   pub first : ℕ → Disk
+  pub limit : ℕ
 
 -- This copy was mounted so.
 pub record IsMounted {D : Type 0} {g : Ghosts D} (found : Findings) (copy : ℕ) (mounted : Mounted D g) : Type 0 where

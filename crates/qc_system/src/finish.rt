@@ -37,6 +37,7 @@ fn leave_at<D: Disk + Drop, N: Mounting, const C: u8, R: Wait>(
       told = N.told;
       before = N.before;
       first = N.first;
+      limit = N.limit;
     }) D.view C disks.old.items
         first.old }
     ensures first { IsClosing first.new }
@@ -48,6 +49,7 @@ fn leave_at<D: Disk + Drop, N: Mounting, const C: u8, R: Wait>(
       told = N.told;
       before = N.before;
       first = N.first;
+      limit = N.limit;
     }) D.view (C + 1) disks.new.items
         first.new }
 {
@@ -81,6 +83,7 @@ impl<D: Disk + Drop, N: Mounting> System<D, N> {
           told = N.told;
           before = N.before;
           first = N.first;
+          limit = N.limit;
         }) D.view
             result.2.items (reverse result.1.items) }
     {

@@ -50,6 +50,7 @@ impl<D: Disk + Drop, N: Mounting, const C: u8> Held<D, N, C> {
           told = N.told;
           before = N.before;
           first = N.first;
+          limit = N.limit;
         }) C mounted }
     {
         Held {
@@ -103,6 +104,7 @@ impl<D: Disk + Drop, N: Mounting, const C: u8> Held<D, N, C> {
           told = N.told;
           before = N.before;
           first = N.first;
+          limit = N.limit;
         }) C (D.view result.0) result.1.seen }
     {
         let (disk, pass) = self.site.into_parts();

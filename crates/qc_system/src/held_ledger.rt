@@ -7,7 +7,7 @@ ghost use Rattle.qc_event.specs.Legal.{Legal};
 ghost use Rattle.qc_event.specs.Listed.{listed};
 ghost use Rattle.qc_event.specs.Seats.{ledger_seat};
 ghost use Rattle.qc_event.specs.Tables.{setting_of};
-ghost use Rattle.qc_journal.specs.Journal.{disk_of};
+ghost use Rattle.qc_journal.specs.Journal.{disk_of, limit_of};
 ghost use Rattle.qc_ledger.specs.Entered.{tops_of, GrowsBy, IsOver, SeesMore};
 ghost use Rattle.qc_ledger.specs.Mounted.{journal_of, records_of};
 ghost use Rattle.qc_ledger.specs.Runs.{Leaves};
@@ -15,7 +15,7 @@ ghost use Rattle.qc_ledger.specs.Shelf.{journal_in, top_body};
 ghost use Rattle.qc_ledger.specs.Since.{TopsGrow};
 ghost use Rattle.qc_pass.specs.Entries.{entries_of};
 ghost use Rattle.qc_system.specs.Closing.{LedgerKeeps};
-ghost use Rattle.qc_system.specs.Kept.{HasRefused, Pays, TopsSince, downs};
+ghost use Rattle.qc_system.specs.Kept.{HadNoRoomIn, HasRefused, Pays, TopsSince, downs};
 ghost use Rattle.qc_system.specs.Parts.{IsFound};
 
 use crate::boxed::Boxed;
@@ -27,7 +27,8 @@ use qc_pass::{Desk, Pass};
 use std::sync::Wait;
 
 /// The ledger in its lock. Its disk keeps what was found there at the mounting, and the tops that were committed since,
-/// each with the names that are listed of it; so it did at each moment since the mounting.
+/// each with the names that are listed of it; so it did at each moment since the mounting. It pays for each top that was
+/// not logged for a failure, and one that was not for want of room would not fit behind its journal.
 #[derive(Drop)]
 pub(crate) struct HeldLedger<D: Disk + Drop, N: Mounting>
 where
@@ -37,6 +38,8 @@ where
     ghost keeps: { ∥ TopsSince (N.told 0) (N.before 0) (N.first 0) ledger.shelf ledger.pass ∥₁ },
     ghost pays: { Pays (N.first 0).faults (downs ledger.pass.mine)
         (D.view (disk_of (journal_in ledger.shelf)).disk.value).faults },
+    ghost limit: { limit_of (journal_in ledger.shelf) ≡ N.limit },
+    ghost full: { ∥ HadNoRoomIn ledger.shelf ledger.pass ∥₁ },
 }
 
 // Logs a ready top, with the names that are listed of it, and shows the seer what was entered.
@@ -72,6 +75,9 @@ fn log_listed<D: Disk + Drop, N: Mounting, R: Wait>(
         (D.view (disk_of (journal_in ledger.old.shelf))).faults
         → Pays first (downs ledger.new.pass.mine)
         (D.view (disk_of (journal_in ledger.new.shelf))).faults }
+    ensures limit { limit_of (journal_in ledger.new.shelf) ≡ limit_of (journal_in ledger.old.shelf) }
+    ensures full { HadNoRoomIn ledger.old.shelf ledger.old.pass
+        → HadNoRoomIn ledger.new.shelf ledger.new.pass }
     ensures ended { OnOk result (IsTrue (is_some (end seer.new.seen top.now))) }
     ensures refused { IfErr result (HasRefused seer.new.seen top.now) }
     ensures seer { SeesMore seer.old seer.new }
@@ -91,6 +97,7 @@ impl<D: Disk + Drop, N: Mounting> HeldLedger<D, N> {
         requires fresh { (pass.mine ≡ []) × (pass.kin ≡ []) }
         requires found { IsFound (N.told 0) (N.before 0) (N.first 0) (records_of book)
             (journal_of book) }
+        requires limit { limit_of (journal_of book) ≡ N.limit }
     {
         HeldLedger {
             ledger: book.enter(pass),
@@ -129,6 +136,7 @@ impl<D: Disk + Drop, N: Mounting> HeldLedger<D, N> {
           told = N.told;
           before = N.before;
           first = N.first;
+          limit = N.limit;
         }) (D.view result.0)
             result.1.seen }
     {

@@ -3,8 +3,8 @@
 use qc_pass::Store;
 use std::marker::Brand;
 
-/// What was found on each disk at its mounting, by the disk's number: the ledger's is 0, and copy `c`'s is `c + 1`. Each
-/// call that names a system picks it.
+/// What was found on each disk at its mounting, by the disk's number: the ledger's is 0, and copy `c`'s is `c + 1`; and
+/// how long a journal may become. Each call that names a system picks it.
 pub trait Mounting: Store {
     ghost use Rattle.std.specs.Prelude.{ℕ, Bool, List};
     ghost use Rattle.qc_disk.specs.Disk.{View};
@@ -17,6 +17,9 @@ pub trait Mounting: Store {
 
     /// The disk as it was then: its count of faults, its moment, and what a crash left before.
     ghost first: { ℕ → View };
+
+    /// The most bytes of a journal.
+    ghost limit: { ℕ };
 }
 
 impl Mounting for Brand {
@@ -28,4 +31,6 @@ impl Mounting for Brand {
     ghost before = { λ _. [] };
 
     ghost first = { λ _. no_disk };
+
+    ghost limit = { 0 };
 }

@@ -2,6 +2,7 @@
 ghost use Rattle.std.specs.Prelude.{◌≡◌, ◌≤◌, ◌<◌, ◌+◌, [], true, is_some, length, vec_capacity};
 ghost use Rattle.qc_event.specs.Base.{IsProper};
 ghost use Rattle.qc_event.specs.Tables.{setting_of};
+ghost use Rattle.qc_journal.specs.Journal.{limit_of};
 ghost use Rattle.qc_ledger.specs.Mounted as book;
 ghost use Rattle.qc_system.specs.Parts.{AreMounted, AreWaiting, IsFound, IsOpening, IsThere};
 
@@ -32,6 +33,7 @@ fn enter_at<D: Disk + Drop, N: Mounting, const C: u8, R: Wait>(
       told = N.told;
       before = N.before;
       first = N.first;
+      limit = N.limit;
     }) C copies.old.items }
     ensures first { IsOpening first.new (C + 2) }
     ensures waiting { AreWaiting (record {
@@ -39,6 +41,7 @@ fn enter_at<D: Disk + Drop, N: Mounting, const C: u8, R: Wait>(
       told = N.told;
       before = N.before;
       first = N.first;
+      limit = N.limit;
     }) (C + 1) copies.new.items }
     ensures there { IsThere C all (is_some result) }
 {
@@ -66,12 +69,14 @@ impl<D: Disk + Drop, N: Mounting> System<D, N> {
         requires room { (parts.room.items ≡ []) × (17 ≤ vec_capacity parts.room) }
         requires ledger { IsFound (N.told 0) (N.before 0) (N.first 0)
             (book.records_of parts.book) (book.journal_of parts.book) }
+        requires limit { limit_of (book.journal_of parts.book) ≡ N.limit }
         requires many { length parts.copies.items ≡ length N.base }
         requires copies { AreMounted (record {
           base = N.base;
           told = N.told;
           before = N.before;
           first = N.first;
+          limit = N.limit;
         }) 0 parts.copies.items }
         ensures first { IsOpening result.1 17 }
         ensures epoch { result.0.desk.epoch ≡ parts.blank.epoch }

@@ -9,10 +9,10 @@ use Rattle.qc_mount.proofs.Disks.{tell}
 use Rattle.qc_mount.proofs.Stores.{by_err, fault_of, given_back, if_err, if_ok, not_mounted}
 use Rattle.qc_refine.specs.Images.{IsStanding, Restores}
 use Rattle.qc_script.specs.Steps.{plan_of_script}
-use Rattle.qc_opening.specs.Stored.{disks_of, past_of, AreImages, HasKept, HasRun, HaveGrown, HavePaid}
+use Rattle.qc_opening.specs.Stored.{disks_of, past_of, AreImages, HasKept, HasRun, HaveGrown, HavePaid, LedgerWasFull}
 use Rattle.qc_opening.proofs.Found.{told_by}
 use Rattle.qc_opening.proofs.Grown.{have_grown}
-use Rattle.qc_opening.proofs.Told.{all_returned, first, kept, paid, restored, stands, tell_offered}
+use Rattle.qc_opening.proofs.Told.{all_returned, first, kept, paid, restored, stands, tell_offered, was_full}
 use Rattle.qc_opening.proofs.opening.run_stored.Goals as goal
 
 pub returns-in_err-disks-clause-disks : goal.returns-in_err-disks-clause-disks
@@ -31,8 +31,8 @@ returns-clause-restores g c = λ images offered many.
     let disks = c.in_ok-disks.disks.items in
     let told = told_by (map (λ d. (view d).content) disks) in
     let tells = tell_offered view plan.table offers disks c.in_ok-disks.ensures.offered c.in_ok-disks.ensures.all in
-    if_ok c.run_disks.result (HasRun view plan told) (λ stored. Restores plan.table images stored.ended.start) c.run_disks.ensures.ran
-    (λ stored run. restored view plan told offers tells stored run images offered many)
+    if_ok c.run_disks.result (HasRun view plan c.args.limit told) (λ stored. Restores plan.table images stored.ended.start) c.run_disks.ensures.ran
+    (λ stored run. restored view plan c.args.limit told offers tells stored run images offered many)
 
 pub returns-clause-first : goal.returns-clause-first
 returns-clause-first g c = λ none.
@@ -42,8 +42,8 @@ returns-clause-first g c = λ none.
     let disks = c.in_ok-disks.disks.items in
     let told = told_by (map (λ d. (view d).content) disks) in
     let tells = tell_offered view plan.table offers disks c.in_ok-disks.ensures.offered c.in_ok-disks.ensures.all in
-    if_ok c.run_disks.result (HasRun view plan told) (λ stored. stored.ended.start ≡ base_of plan.table) c.run_disks.ensures.ran
-    (λ stored run. first view plan told offers tells stored run none)
+    if_ok c.run_disks.result (HasRun view plan c.args.limit told) (λ stored. stored.ended.start ≡ base_of plan.table) c.run_disks.ensures.ran
+    (λ stored run. first view plan c.args.limit told offers tells stored run none)
 
 pub returns-clause-kept : goal.returns-clause-kept
 returns-clause-kept g c =
@@ -53,8 +53,8 @@ returns-clause-kept g c =
     let disks = c.in_ok-disks.disks.items in
     let told = told_by (map (λ d. (view d).content) disks) in
     let tells = tell_offered view plan.table offers disks c.in_ok-disks.ensures.offered c.in_ok-disks.ensures.all in
-    if_ok c.run_disks.result (HasRun view plan told) (HasKept view plan.table offers) c.run_disks.ensures.ran
-    (λ stored run. kept view plan told offers tells stored run)
+    if_ok c.run_disks.result (HasRun view plan c.args.limit told) (HasKept view plan.table c.args.limit offers) c.run_disks.ensures.ran
+    (λ stored run. kept view plan c.args.limit told offers tells stored run)
 
 pub returns-clause-stands : goal.returns-clause-stands
 returns-clause-stands g c = λ all_tell.
@@ -64,8 +64,8 @@ returns-clause-stands g c = λ all_tell.
     let disks = c.in_ok-disks.disks.items in
     let told = told_by (map (λ d. (view d).content) disks) in
     let tells = tell_offered view plan.table offers disks c.in_ok-disks.ensures.offered c.in_ok-disks.ensures.all in
-    if_ok c.run_disks.result (HasRun view plan told) (λ stored. (images : List (List ℕ)) → AreImages view (disks_of stored) images → ∥ IsStanding plan.table stored.ended.start stored.epoch (past_of stored) images ∥₁) c.run_disks.ensures.ran
-    (λ stored run. stands view plan told offers tells stored run all_tell)
+    if_ok c.run_disks.result (HasRun view plan c.args.limit told) (λ stored. (images : List (List ℕ)) → AreImages view (disks_of stored) images → ∥ IsStanding plan.table stored.ended.start stored.epoch (past_of stored) images ∥₁) c.run_disks.ensures.ran
+    (λ stored run. stands view plan c.args.limit told offers tells stored run all_tell)
 
 pub returns-clause-grown : goal.returns-clause-grown
 returns-clause-grown g c =
@@ -75,8 +75,8 @@ returns-clause-grown g c =
     let disks = c.in_ok-disks.disks.items in
     let told = told_by (map (λ d. (view d).content) disks) in
     let tells = tell_offered view plan.table offers disks c.in_ok-disks.ensures.offered c.in_ok-disks.ensures.all in
-    if_ok c.run_disks.result (HasRun view plan told) (λ stored. HaveGrown view plan.table offers stored.epoch stored.ended.start (disks_of stored) (past_of stored)) c.run_disks.ensures.ran
-    (λ stored run. have_grown view plan.table offers stored (kept view plan told offers tells stored run))
+    if_ok c.run_disks.result (HasRun view plan c.args.limit told) (λ stored. HaveGrown view plan.table offers stored.epoch stored.ended.start (disks_of stored) (past_of stored)) c.run_disks.ensures.ran
+    (λ stored run. have_grown view plan.table c.args.limit offers stored (kept view plan c.args.limit told offers tells stored run))
 
 pub returns-clause-paid : goal.returns-clause-paid
 returns-clause-paid g c =
@@ -86,8 +86,19 @@ returns-clause-paid g c =
     let disks = c.in_ok-disks.disks.items in
     let told = told_by (map (λ d. (view d).content) disks) in
     let tells = tell_offered view plan.table offers disks c.in_ok-disks.ensures.offered c.in_ok-disks.ensures.all in
-    if_ok c.run_disks.result (HasRun view plan told) (λ stored. HavePaid view (disks_of stored) (past_of stored)) c.run_disks.ensures.ran
-    (λ stored run. paid view plan told offers tells stored run)
+    if_ok c.run_disks.result (HasRun view plan c.args.limit told) (λ stored. HavePaid view (disks_of stored) (past_of stored)) c.run_disks.ensures.ran
+    (λ stored run. paid view plan c.args.limit told offers tells stored run)
+
+pub returns-clause-full : goal.returns-clause-full
+returns-clause-full g c = λ some.
+    let view = g.H.D.Disk.view in
+    let plan = plan_of_script c.args.script.now in
+    let offers = (g.H.Shop.view c.args.shop.now).offers c.args.place.now in
+    let disks = c.in_ok-disks.disks.items in
+    let told = told_by (map (λ d. (view d).content) disks) in
+    let tells = tell_offered view plan.table offers disks c.in_ok-disks.ensures.offered c.in_ok-disks.ensures.all in
+    if_ok c.run_disks.result (HasRun view plan c.args.limit told) (λ stored. LedgerWasFull view c.args.limit (disks_of stored) (past_of stored)) c.run_disks.ensures.ran
+    (λ stored run. was_full view plan c.args.limit told offers tells stored run some)
 
 pub returns-clause-sound : goal.returns-clause-sound
 returns-clause-sound g c = λ images offered many.
@@ -122,5 +133,5 @@ returns-clause-others g c = λ p n from.
     let plan = plan_of_script c.args.script.now in
     let disks = c.in_ok-disks.disks.items in
     let all = c.in_ok-disks.ensures.all in
-    let back = all_returned view plan (told_by (map (λ d. (view d).content) disks)) disks c.run_disks.result all c.run_disks.ensures.ran c.run_disks.ensures.left in
+    let back = all_returned view plan c.args.limit (told_by (map (λ d. (view d).content) disks)) disks c.run_disks.result all c.run_disks.ensures.ran c.run_disks.ensures.left in
     c.in_ok-disks.ensures.others p n (omega (arith, from, back, all))

@@ -11,6 +11,8 @@ use Rattle.qc_mount.proofs.Stores.{sound_store, store_size}
 use Rattle.qc_script.specs.Reading.{IsProper}
 use Rattle.qc_script.specs.Steps.{plan_of_script}
 use Rattle.qc_opening.specs.Parts.{disks_held}
+use Rattle.qc_opening.specs.Stored.{HasRun}
+use Rattle.qc_opening.proofs.Found.{told_by}
 use Rattle.qc_opening.proofs.Leaving.{left_unrun}
 use Rattle.qc_opening.proofs.Unboxed.{among_so, boxed_length, boxed_view, contents_boxed, left_length, left_of, store_over}
 use Rattle.qc_opening.proofs.running.run_disks.Goals as goal
@@ -46,6 +48,10 @@ unbox_refusal-requires-clause-room g c =
     let room : 17 ≤ vec_capacity c.args.room = search rules in
     let size = boxed_length g.D.Disk.view c.in-Ok.boxed.items c.args.disks.items c.in-Ok.ensures.boxed in
     omega (arith, same, size, all, room, proper.few_copies)
+
+pub returns-in-Ok-run_mounted-clause-ran : goal.returns-in-Ok-run_mounted-clause-ran
+returns-in-Ok-run_mounted-clause-ran g c =
+    subst (λ most. HasRun g.D.Disk.view (plan_of_script c.args.script.now) most (told_by g.told) c.in-Ok-run_mounted.stored) c.in-Ok-mount_disks.ensures.store.ledger_is.limit_is c.in-Ok-run_mounted.ensures.ran
 
 pub returns-in-Ok-run_mounted-clause-sound : goal.returns-in-Ok-run_mounted-clause-sound
 returns-in-Ok-run_mounted-clause-sound g c = λ images told.

@@ -5,7 +5,7 @@ use Rattle.qc_script.specs.Reading.{IsProper}
 use Rattle.qc_script.specs.Steps.{plan_of_script}
 use Rattle.qc_site.specs.Start.{start_of}
 use Rattle.qc_opening.specs.Parts.{IsStoreOver}
-use Rattle.qc_opening.proofs.Found.{bodies_found, copies_found, disk_found, ledger_found, mounted_by, told_by, was_found}
+use Rattle.qc_opening.proofs.Found.{bodies_found, copies_found, disk_found, ledger_found, limit_found, mounted_by, told_by, was_found}
 use Rattle.qc_opening.proofs.Proper.{setting_proper}
 use Rattle.qc_opening.proofs.Ran.{has_run}
 use Rattle.qc_opening.proofs.running.run_mounted.Goals as goal
@@ -51,7 +51,7 @@ returns-in-Ok-clause-ran g c =
     let all : length parts.copies.items ≡ table.copies = search rules in
     let rows = c.in-Ok.ensures.base ∙ ap (map start_of) c.as_slice-2.ensures.value in
     let ran = c.run_named-ended.ensures in
-    has_run g.D.Disk.view (plan_of_script c.args.script.now) (told_by g.told) (record { epoch = parts.epoch; ended = c.run_named-ended.result }) c.in-Ok.blank.base c.in-Ok.blank.epoch
+    has_run g.D.Disk.view (plan_of_script c.args.script.now) (limit_found parts.book) (told_by g.told) (record { epoch = parts.epoch; ended = c.run_named-ended.result }) c.in-Ok.blank.base c.in-Ok.blank.epoch
     (bodies_found parts.book parts.copies.items) (λ number. (disk_found parts.book parts.copies.items number).disk.value) ran.start c.in-Ok.ensures.epoch
     (mounted_by table g.told parts store all c.in-Ok.blank.base rows spelled c.known_range.ensures _ c.are_bytes.ensures c.records.ensures c.as_slice.result.now c.copies_are_of_bytes.ensures c.as_slice.ensures.value)
     (λ number low. let w = was_found table g.told parts store all number low in record { tells = w.tells; had = w.had })

@@ -26,7 +26,7 @@ pub returns-clause-begins_script : goal.returns-clause-begins_script
 returns-clause-begins_script g c = clause.of_run _ _ _ _ (g.H.Shop.view c.args.shop.now) _ _ _ _ _ c.answer.ensures.answer (λ s it has. (has.epoch, has.begins))
 
 pub returns-clause-follows_script : goal.returns-clause-follows_script
-returns-clause-follows_script g c = λ ended. clause.by_run _ _ _ _ (g.H.Shop.view c.args.shop.now) _ _ _ _ _ c.answer.ensures.answer ended (λ s it wrote has. (has.epoch, has.follows ended))
+returns-clause-follows_script g c = λ ended. clause.by_run _ _ _ _ (g.H.Shop.view c.args.shop.now) _ _ _ _ _ c.answer.ensures.answer (clause.ended_session _ ended) (λ s it wrote has. (has.epoch, has.follows ended))
 
 pub returns-clause-started : goal.returns-clause-started
 returns-clause-started g c = λ it. clause.by_script _ _ _ _ (g.H.Shop.view c.args.shop.now) _ _ _ _ _ c.answer.ensures.answer it (λ s it to. tt)
@@ -61,6 +61,9 @@ returns-clause-come_back g c = clause.came_back _ _ _ _ (g.H.Shop.view c.args.sh
 
 pub returns-clause-paid : goal.returns-clause-paid
 returns-clause-paid g c = clause.of_run _ _ _ _ (g.H.Shop.view c.args.shop.now) _ _ _ _ _ c.answer.ensures.answer (λ s it has. has.paid)
+
+pub returns-clause-full : goal.returns-clause-full
+returns-clause-full g c = clause.of_run _ _ _ _ (g.H.Shop.view c.args.shop.now) _ _ _ _ _ c.answer.ensures.answer (λ s it has. clause.as_asked (map string_bytes c.args.words.now) it.asked _ it.is_command has.full)
 
 pub returns-clause-output : goal.returns-clause-output
 returns-clause-output g c = λ reported. clause.by_run _ _ _ _ (g.H.Shop.view c.args.shop.now) _ _ _ _ _ c.answer.ensures.answer (clause.reported_ran _ reported) (λ s it wrote has. clause.as_asked (map string_bytes c.args.words.now) it.asked _ it.is_command (wrote.whole reported))
@@ -107,7 +110,7 @@ returns-clause-sound_images g c = λ s images asks asked is offered sound bad fa
     c.one_verdict.ensures.not_both s.table journal_limit images bad first sound
 
 pub returns-clause-mounted_images : goal.returns-clause-mounted_images
-returns-clause-mounted_images g c = λ ended. clause.by_run _ _ _ _ (g.H.Shop.view c.args.shop.now) _ _ _ _ _ c.answer.ensures.answer ended (λ s it wrote has. clause.as_asked (map string_bytes c.args.words.now) it.asked _ it.is_command has.sound)
+returns-clause-mounted_images g c = λ had. clause.by_run _ _ _ _ (g.H.Shop.view c.args.shop.now) _ _ _ _ _ c.answer.ensures.answer had (λ s it wrote has. clause.as_asked (map string_bytes c.args.words.now) it.asked _ it.is_command has.sound)
 
 pub returns-clause-room : goal.returns-clause-room
 returns-clause-room g c = clause.room _ _ _ _ (g.H.Shop.view c.args.shop.now) _ _ _ _ c.answer.ensures.answer

@@ -18,4 +18,4 @@ returns-clause-nothing g c = sym (reverse-reverse c.finish-start.result.1.items)
 
 pub returns-clause-disks : goal.returns-clause-disks
 returns-clause-disks g c =
-    subst (AllKeep (setting_of g.N.Store.table g.N.Store.base) (record { base = g.N.Store.base; told = g.N.Mounting.told; before = g.N.Mounting.before; first = g.N.Mounting.first }) g.D.Disk.view c.finish-start.result.2.items) (nothing g c) c.finish-start.ensures.disks
+    subst (AllKeep (setting_of g.N.Store.table g.N.Store.base) (record { base = g.N.Store.base; told = g.N.Mounting.told; before = g.N.Mounting.before; first = g.N.Mounting.first; limit = g.N.Mounting.limit }) g.D.Disk.view c.finish-start.result.2.items) (nothing g c) c.finish-start.ensures.disks

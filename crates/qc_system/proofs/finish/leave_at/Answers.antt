@@ -10,7 +10,7 @@ use Rattle.qc_system.proofs.finish.leave_at.Goals as goal
 
 pub returns-in-Some-clause-left : goal.returns-in-Some-clause-left
 returns-in-Some-clause-left g c =
-    let found : Findings = record { base = g.N.Store.base; told = g.N.Mounting.told; before = g.N.Mounting.before; first = g.N.Mounting.first } in
+    let found : Findings = record { base = g.N.Store.base; told = g.N.Mounting.told; before = g.N.Mounting.before; first = g.N.Mounting.first; limit = g.N.Mounting.limit } in
     let left = c.leave-disk.result in
     let below = subst (λ n. g.row.C < n) c.requires.whole (is_below g.row.C c.args.all (is_some c.args.site) (ap is_some c.in-Some.is) c.requires.there) in
     let kin = ap (λ (v : View). v.kin) c.join.ensures.joined ∙ ap (λ n. c.args.first.now.kin ++ (n, left.1.mine) ∷ left.1.kin) c.leave-disk.ensures.pass.1 in
@@ -19,7 +19,7 @@ returns-in-Some-clause-left g c =
 
 pub returns-in_default-clause-left : goal.returns-in_default-clause-left
 returns-in_default-clause-left g c =
-    let found : Findings = record { base = g.N.Store.base; told = g.N.Mounting.told; before = g.N.Mounting.before; first = g.N.Mounting.first } in
+    let found : Findings = record { base = g.N.Store.base; told = g.N.Mounting.told; before = g.N.Mounting.before; first = g.N.Mounting.first; limit = g.N.Mounting.limit } in
     no_more (setting_of g.N.Store.table g.N.Store.base) found g.D.Disk.view g.row.C c.args.disks.now.items c.args.first.now
     (subst (λ n. n ≤ g.row.C) c.requires.whole (is_past g.row.C c.args.all (is_some c.args.site) (ap is_some c.in_default.is) c.requires.there)) c.requires.left
 

@@ -1,21 +1,23 @@
--- What the ledger logs its disk keeps, as it is listed, and pays for; and what it answers stands.
+-- What the ledger logs its disk keeps, as it is listed, and pays for; what it does not for want of room would not fit; and
+-- what it answers stands.
 use Rattle.std.proofs.Common.{◌≡◌, sym, ap, ◌∙◌, subst}
 use Rattle.qc_event.specs.Legal.{Legal}
 use Rattle.qc_event.specs.Listed.{listed}
 use Rattle.qc_event.specs.Seats.{ledger_seat}
 use Rattle.qc_event.specs.Tables.{setting_of}
-use Rattle.qc_journal.specs.Journal.{disk_of}
-use Rattle.qc_ledger.specs.Entered.{GrowsBy, IsOver, tops_of}
+use Rattle.qc_journal.specs.Journal.{IsTooLong, disk_of, limit_of, place_of}
+use Rattle.qc_ledger.specs.Entered.{GrowsBy, IsOver, told_body, tops_of}
 use Rattle.qc_ledger.specs.Runs.{Leaves}
-use Rattle.qc_ledger.specs.Shelf.{journal_in, top_body}
+use Rattle.qc_ledger.specs.Shelf.{journal_in, top_body, top_in}
 use Rattle.qc_ledger.specs.Since.{AreTopsBy, TopsGrow}
 use Rattle.qc_ledger.proofs.Passes.{sees_on}
 use Rattle.qc_ledger.proofs.Since.{grown_more, tops_on}
 use Rattle.qc_pass.specs.Entries.{IsOlder, entries_of}
 use Rattle.qc_pass.proofs.Seers.{older_trans}
-use Rattle.qc_system.specs.Kept.{Pays, downs}
+use Rattle.qc_system.specs.Kept.{HadNoRoom, Pays, downs}
 use Rattle.qc_system.proofs.Listed.{listed_stays, over_seen, tops_retold}
 use Rattle.qc_system.proofs.Paying.{log_pays}
+use Rattle.qc_system.proofs.Room.{log_room, room_retold}
 use Rattle.qc_system.proofs.Standing.{ended_still, refused_still}
 use Rattle.qc_system.proofs.held_ledger.log_listed.Goals as goal
 
@@ -67,6 +69,30 @@ returns-clause-pays g c = λ first pays.
     let last = c.show.new.self in
     let now = log_pays _ c.args.top.now c.args.ledger.now.pass.mine mid.pass.mine first _ _ c.log-answer.result c.log-answer.ensures.enters c.log-answer.ensures.refused c.log-answer.ensures.cause pays in
     subst (λ s. Pays first (downs last.pass.mine) (g.D.Disk.view s.journal.disk).faults) (sym c.show.ensures.shelf) (subst (λ p. Pays first (downs p) (g.D.Disk.view mid.shelf.journal.disk).faults) (sym c.show.ensures.mine) now)
+
+pub returns-clause-full : goal.returns-clause-full
+returns-clause-full g c = λ had.
+    let setting = setting_of g.N.Store.table g.N.Store.base in
+    let first = c.args.ledger.now in
+    let mid = c.log-answer.new.self in
+    let last = c.show.new.self in
+    let top = c.args.top.now in
+    let legal : Legal setting last.pass.seen = c.known-3.ensures.legal in
+    let seen : IsOlder first.pass.seen last.pass.seen = older_trans first.pass.seen mid.pass.seen last.pass.seen c.log-answer.ensures.seen c.show.ensures.seen in
+    let asked : IsOlder c.args.seer.now.seen last.pass.seen = subst (λ p. IsOlder c.args.seer.now.seen p) c.show.ensures.same (sees_on c.args.seer.now c.log-answer.new.seer c.show.new.seer c.log-answer.ensures.seer c.show.ensures.seer).older in
+    let told : c.args.aborted.now ≡ listed last.pass.seen top = c.requires.listed ∙ sym (listed_stays setting c.args.seer.now.seen last.pass.seen top asked legal c.requires.ready) in
+    let own : first.pass.mine ≡ entries_of ledger_seat first.pass.seen = c.known.ensures.mine first.live ∙ ap (λ n. entries_of n first.pass.seen) first.number in
+    let f = listed last.pass.seen in
+    let place = place_of (journal_in first.shelf) in
+    let later = place_of (journal_in mid.shelf) in
+    let most = limit_of (journal_in first.shelf) in
+    let was : HadNoRoom f place most first.pass.mine = subst (λ p. HadNoRoom f place most p) (sym own)
+    (room_retold setting first.pass.seen last.pass.seen seen legal c.known.ensures.legal place most (subst (λ p. HadNoRoom (listed first.pass.seen) place most p) own had)) in
+    let now : HadNoRoom f later most mid.pass.mine = log_room f (top_in first.shelf) top first.pass.mine mid.pass.mine place later most c.log-answer.ensures.place was c.log-answer.result c.log-answer.ensures.enters c.log-answer.ensures.refused
+    (λ at is. let full = c.log-answer.ensures.full at is in
+    subst (λ n. IsTooLong n most (told_body f top)) (sym full.0.at) (subst (λ l. IsTooLong at most (top_body top l)) told full.1)) in
+    let bound : HadNoRoom f later (limit_of (journal_in mid.shelf)) mid.pass.mine = subst (λ m. HadNoRoom f later m mid.pass.mine) (sym c.log-answer.ensures.limit) now in
+    subst (λ s. HadNoRoom f (place_of (journal_in s)) (limit_of (journal_in s)) last.pass.mine) (sym c.show.ensures.shelf) (subst (λ p. HadNoRoom f later (limit_of (journal_in mid.shelf)) p) (sym c.show.ensures.mine) bound)
 
 pub returns-clause-ended : goal.returns-clause-ended
 returns-clause-ended g c = ended_still c.log-answer.result c.log-answer.new.self.pass.seen c.show.new.seer.seen c.args.top.now (subst (λ p. IsOlder c.log-answer.new.self.pass.seen p) (sym c.show.ensures.same) c.show.ensures.seen) c.log-answer.ensures.stands

@@ -8,7 +8,7 @@ use Rattle.qc_system.proofs.open.enter_at.Goals as goal
 
 pub new-requires : goal.new-requires
 new-requires g c =
-    let found : Findings = record { base = g.N.Store.base; told = g.N.Mounting.told; before = g.N.Mounting.before; first = g.N.Mounting.first } in
+    let found : Findings = record { base = g.N.Store.base; told = g.N.Mounting.told; before = g.N.Mounting.before; first = g.N.Mounting.first; limit = g.N.Mounting.limit } in
     let copies = c.args.copies.now.items in
     let low = c.requires.low in
     let given = (given_next c.args.first.now c.split-pass.new.pass c.split-pass.result (g.row.C + 1) c.requires.first (omega (arith, low)) c.split-pass.ensures.split).1 in
@@ -32,5 +32,5 @@ new-requires g c =
 
 pub returns-then-is_empty-clause-waiting : goal.returns-then-is_empty-clause-waiting
 returns-then-is_empty-clause-waiting g c =
-    let found : Findings = record { base = g.N.Store.base; told = g.N.Mounting.told; before = g.N.Mounting.before; first = g.N.Mounting.first } in
+    let found : Findings = record { base = g.N.Store.base; told = g.N.Mounting.told; before = g.N.Mounting.before; first = g.N.Mounting.first; limit = g.N.Mounting.limit } in
     none_waits found g.row.C c.args.copies.now.items (sym c.args.copies.now.ok.0 ∙ eqb-true c.args.copies.now.len 0 (sym c.is_empty.ensures ∙ c.if-is_empty.true)) c.requires.waiting

@@ -1,4 +1,5 @@
 -- What the ledger logs its disk keeps and pays for.
+use Rattle.std.proofs.Common.{◌∙◌}
 use Rattle.std.proofs.Math.Logic.{∥∥₁_map}
 use Rattle.qc_journal.specs.Journal.{disk_of}
 use Rattle.qc_ledger.specs.Shelf.{journal_in}
@@ -19,4 +20,6 @@ invariant_of-self g c =
         },
       ));
       pays = c.log_listed.ensures.pays first.faults c.args.self.now.pays;
+      limit = c.log_listed.ensures.limit ∙ c.args.self.now.limit;
+      full = ∥∥₁_map c.args.self.now.full c.log_listed.ensures.full;
     }

@@ -11,7 +11,7 @@ use Rattle.qc_system.proofs.system.System.finish.Goals as goal
 
 pub leave_at-requires : goal.leave_at-requires
 leave_at-requires g c =
-    let found : Findings = record { base = g.N.Store.base; told = g.N.Mounting.told; before = g.N.Mounting.before; first = g.N.Mounting.first } in
+    let found : Findings = record { base = g.N.Store.base; told = g.N.Mounting.told; before = g.N.Mounting.before; first = g.N.Mounting.first; limit = g.N.Mounting.limit } in
     let out = c.leave-disk.result in
     let kin = ap (λ (v : View). v.kin) c.join.ensures.joined ∙ ap (λ k. c.args.first.kin ++ (k, out.1.mine) ∷ out.1.kin) c.leave-disk.ensures.pass.1 in
     let first = closing_still c.args.first out.1 c.join.new.pass c.requires.first c.join.ensures.joined in
@@ -82,7 +82,7 @@ leave_at-requires-16 g c =
 
 pub returns-clause-disks : goal.returns-clause-disks
 returns-clause-disks g c =
-    let found : Findings = record { base = g.N.Store.base; told = g.N.Mounting.told; before = g.N.Mounting.before; first = g.N.Mounting.first } in
+    let found : Findings = record { base = g.N.Store.base; told = g.N.Mounting.told; before = g.N.Mounting.before; first = g.N.Mounting.first; limit = g.N.Mounting.limit } in
     let log = reverse c.close-base.result.1.items in
     all_left (setting_of g.N.Store.table g.N.Store.base) found g.D.Disk.view c.leave_at-16.new.disks.items c.leave_at-16.new.first log
     c.close-base.ensures.settled.0 c.close-base.ensures.legal c.close-base.ensures.settled.1 (subst (λ k. k ≤ 16) c.args.self.whole c.args.self.few) c.leave_at-16.ensures.left
