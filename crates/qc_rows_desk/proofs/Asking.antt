@@ -1,39 +1,30 @@
 -- A manager that has just started may ask the one copy, through an access that has just started; and then no grant of
 -- it stands but that copy's.
-use Rattle.std.proofs.Common.{◌≡◌, ℕ, ◌+◌, ◌<◌, Bool, true, List, [], ◌∷◌, ◌++◌, length, refl, sym, ap, ap₂, ◌∙◌, subst, arith, append-nil}
+use Rattle.std.proofs.Common.{◌≡◌, ℕ, ◌+◌, ◌<◌, Bool, [], ◌∷◌, ◌++◌, length, refl, sym, ap, ◌∙◌, subst}
 use Rattle.std.specs.Prelude.{Option, None, Some, MatchOption, IsTrue, find, is_some, is_none, if◌then◌else◌}
-use Rattle.std.specs.List.{AllByRecursion}
 use Rattle.std.specs.Option.{option_or, option_map}
-use Rattle.std.proofs.lemmas.Bool.{false_from_ne_true}
 use Rattle.qc_config.specs.declared.tuple.Op.TheVariants.{Get}
 use Rattle.qc_names.specs.Name as name
 use Rattle.qc_event.specs.declared.event.Ask.{Ask}
 use Rattle.qc_event.specs.declared.event.Event.{Event}
 use Rattle.qc_event.specs.declared.event.Event.TheVariants as event
-use Rattle.qc_event.specs.declared.event.Kind.{Kind}
 use Rattle.qc_event.specs.declared.event.Kind.TheVariants as kind
 use Rattle.qc_event.specs.Base.{Setting}
-use Rattle.qc_event.specs.History.{Past, Name, Asked, Begun, same, start, start_in, end, asked, ask_in, asks, granted, grant_in, children, is_child}
-use Rattle.qc_event.specs.Legal.{Legal, MayHappen}
+use Rattle.qc_event.specs.History.{Past, Name, Asked, Begun, same, start, start_in, end, asked, ask_in, asks, granted, is_child}
+use Rattle.qc_event.specs.Legal.{Legal}
 use Rattle.qc_event.specs.Manager.{stage, AtStage}
 use Rattle.qc_event.specs.Requests.{IsNextAsk, MayAsk}
 use Rattle.qc_event.specs.Seats.{is_client}
 use Rattle.qc_event.specs.Standing.{Started, IsManager}
 use Rattle.qc_event.specs.Starts.{Stands}
-use Rattle.qc_event.proofs.Absent.{same_is, same_itself, if_not}
-use Rattle.qc_event.proofs.LastNumber.{child_last, is_child-last, front_last, length_last}
-use Rattle.qc_event.proofs.Lawful.{lawful, started_some}
-use Rattle.qc_event.proofs.LegalOrderly.{legal_orderly}
-use Rattle.qc_event.proofs.Lineage.{IsFresh, fresh_child, fresh_below}
-use Rattle.qc_event.proofs.OneEntry.{none_before, some_or_none, start_is}
-use Rattle.qc_event.proofs.Options.{some_match}
-use Rattle.qc_event.proofs.OwnRequests.{IsOwn, asks_own}
+use Rattle.qc_event.proofs.Absent.{same_itself}
+use Rattle.qc_event.proofs.LastNumber.{front_last}
 use Rattle.qc_event.proofs.StillTold.{is_stays}
 use Rattle.qc_pass.specs.declared.refusal.DeskNo.{DeskNo}
 use Rattle.qc_pass.specs.declared.view.View.{View}
 use Rattle.qc_pass.specs.Calling.{Entered, EnteredAs}
 use Rattle.qc_pass.specs.Consulting.{HasAsked}
-use Rattle.qc_pass.specs.Entries.{IsOlder, IsSince, entry}
+use Rattle.qc_pass.specs.Entries.{IsOlder, entry}
 use Rattle.qc_pass.specs.Refusing.{against_nothing, against_child, against_access}
 use Rattle.qc_pass.specs.Own.{IsMine, MayAskOwn}
 use Rattle.qc_pass.proofs.Seers.{older_trans}

@@ -2,3 +2,4 @@ pub mod Tops
 pub mod Children
 pub mod Asking
 pub mod OneCopy
+pub mod Calls

@@ -24,7 +24,11 @@ pub struct Told {
     pub matches: bool,
 }
 
-fn begin<N: Store, R: Wait>(rt: &R, desk: &Desk<N>, pass: &mut Pass<N>) -> Result<Name, DeskNo>
+pub(crate) fn begin<N: Store, R: Wait>(
+    rt: &R,
+    desk: &Desk<N>,
+    pass: &mut Pass<N>,
+) -> Result<Name, DeskNo>
     requires client { IsClient pass.old }
     ensures client { OnOk result (IsClient pass.new) }
     ensures top { IfOk result (λ n. IsUserTop pass.new.seen n) }
@@ -48,7 +52,7 @@ fn mark<N: Store, R: Wait>(
     desk.mark(rt, pass, top, SESSION)
 }
 
-fn start_child<N: Store, R: Wait>(
+pub(crate) fn start_child<N: Store, R: Wait>(
     rt: &R,
     desk: &Desk<N>,
     pass: &mut Pass<N>,

@@ -1,7 +1,8 @@
 //! Rows of a desk. `tops N`: two clients start and abort N tops each, in threads of their own. `copy`: a copy refuses a
 //! request and grants another, and the ledger commits a top. Then what stands in the history is printed, and whether it
 //! is legal. `looks`: a client marks the session of a top, aborts the top's child and makes the top ready; then what the
-//! desk tells is printed. Other lines are printed as they are.
+//! desk tells is printed. `refusals`: a client is refused to make a top ready, and to abort a child and a top; then why
+//! is printed. Other lines are printed as they are.
 #![tactic(auto)]
 
 ghost use Rattle.std.specs.Prelude.{◌≡◌, IfSome};
@@ -9,6 +10,7 @@ ghost use Rattle.qc_rows_desk.specs.OneCopy.{config};
 
 mod clients;
 mod looks;
+mod refusals;
 mod scene;
 
 use clients::run;
@@ -16,6 +18,8 @@ use looks::{Told, run_looks};
 use qc_audit::audit;
 use qc_config::Config;
 use qc_event::{Base, Entry, Event, Kind};
+use qc_pass::DeskNo;
+use refusals::{Refusals, run_refusals};
 use scene::{one_vote, play_scene};
 use std::io;
 
@@ -87,6 +91,19 @@ fn tell_looks(rt: HostRuntime, told: &Told) -> io::Result<()> {
     Ok(())
 }
 
+fn tell_refusal(rt: HostRuntime, call: &str, why: &Option<DeskNo>) -> io::Result<()> {
+    match why {
+        Some(why) => println!(rt; "refusals: {call}: {why}"),
+        None => println!(rt; "refusals: {call}: done"),
+    }
+}
+
+fn tell_refusals(rt: HostRuntime, refusals: &Refusals) -> io::Result<()> {
+    tell_refusal(rt, "to make the top ready", &refusals.open)?;
+    tell_refusal(rt, "to abort the child again", &refusals.ended)?;
+    tell_refusal(rt, "to abort the top", &refusals.ready)
+}
+
 fn main(rt: HostRuntime) -> io::Result<()> {
     let alloc = rt.alloc();
     for line in rt.lines(alloc) {
@@ -95,6 +112,13 @@ fn main(rt: HostRuntime) -> io::Result<()> {
             match run_looks(&rt, alloc) {
                 Ok(told) => tell_looks(rt, &told)?,
                 Err(_) => println!(rt; "looks: refused")?,
+            }
+            continue;
+        }
+        if line.as_str() == "refusals" {
+            match run_refusals(&rt, alloc) {
+                Ok(refusals) => tell_refusals(rt, &refusals)?,
+                Err(why) => println!(rt; "refusals: {why}")?,
             }
             continue;
         }
