@@ -1,6 +1,6 @@
 -- A manager that has just started may ask the one copy, through an access that has just started; and then no grant of
 -- it stands but that copy's.
-use Rattle.std.proofs.Common.{◌≡◌, ℕ, ◌+◌, ◌<◌, Bool, [], ◌∷◌, ◌++◌, length, refl, sym, ap, ◌∙◌, subst}
+use Rattle.std.proofs.Common.{◌≡◌, ℕ, ◌+◌, ◌<◌, Bool, [], ◌∷◌, ◌++◌, length, refl, sym, ap, ◌∙◌, subst, arith}
 use Rattle.std.specs.Prelude.{Option, None, Some, MatchOption, IsTrue, find, is_some, is_none, if◌then◌else◌}
 use Rattle.std.specs.Option.{option_or, option_map}
 use Rattle.qc_config.specs.declared.tuple.Op.TheVariants.{Get}
@@ -23,16 +23,18 @@ use Rattle.qc_event.proofs.StillTold.{is_stays}
 use Rattle.qc_pass.specs.declared.refusal.DeskNo.{DeskNo}
 use Rattle.qc_pass.specs.declared.view.View.{View}
 use Rattle.qc_pass.specs.Calling.{Entered, EnteredAs}
-use Rattle.qc_pass.specs.Consulting.{HasAsked}
 use Rattle.qc_pass.specs.Entries.{IsOlder, entry}
 use Rattle.qc_pass.specs.Refusing.{against_nothing, against_child, against_access}
-use Rattle.qc_pass.specs.Own.{IsMine, MayAskOwn}
+use Rattle.qc_pass.specs.Own.{IsMine, IsOwnAccess, MayAskOwn}
+use Rattle.qc_pass.specs.Rules.{IsClient}
+use Rattle.qc_pass.proofs.Calls as calls
 use Rattle.qc_pass.proofs.Seers.{older_trans}
 use Rattle.qc_pass.proofs.NewChild.{IsNext, IsChild, child_of, begun, is_child_of, long, still_open, not_asked, no_asks, same_asks, granted_none}
 use Rattle.qc_rows_desk.specs.OneCopy.{IsRequest}
+use Rattle.qc_rows_desk.proofs.OwnAccess.{own_asked}
 use Rattle.qc_rows_desk.proofs.OneCopy.{at_first}
 use Rattle.qc_rows_desk.proofs.OneCopy as one_copy
-use Rattle.qc_pass.proofs.AskedTops.{IsTop, entered_as_later, entered_later, top_started}
+use Rattle.qc_pass.proofs.AskedTops.{IsTop, entered_as_later, entered_later, may_be_ready, top_started}
 
 -- THE REQUEST
 
@@ -67,23 +69,31 @@ module _ (setting : Setting) (seat : ℕ) (p m a : Name) (rec : ℕ) (v w x : Vi
       here : start x.seen ask.access ≡ Some (record { seat = seat; kind = kind.Access })
       here = ap (start x.seen) is ∙ begun setting seat m kind.Access w x a access
 
--- what was asked stands, and was granted nothing
-pub has_asked : (setting : Setting) (against : Past → Option DeskNo) (v w : View) (ask : Ask) → Entered against (event.Ask ask) v w → Legal setting w.seen → HasAsked w.seen ask × (granted w.seen ask.access ≡ None)
-has_asked setting against v w ask (before, since, none, same) legal = (
-  ap (λ past. option_map (λ (a : Asked). a.ask) (asked past ask.access)) seen
-      ∙ ap (λ o. option_map (λ (a : Asked). a.ask) (option_or o (ask_in ask.access v.number (event.Ask ask)))) may.not_asked
-      ∙ ap (λ (b : Bool). option_map (λ (a : Asked). a.ask) (if b then Some (record { seat = v.number; ask = ask }) else None)) (same_itself ask.access),
-  ap (λ past. granted past ask.access) seen ∙ ap (λ o. option_or o None) (granted_none setting before ask.access here.0 may.not_asked),
-)
-  where
-    seen : w.seen ≡ entry v.number (event.Ask ask) ∷ before
-    seen = ap (λ (x : View). x.seen) same
+-- WHAT WAS ASKED
 
-    here : Legal setting (entry v.number (event.Ask ask) ∷ before)
-    here = subst (Legal setting) seen legal
+module _ (setting : Setting) (against : Past → Option DeskNo) (v w : View) (ask : Ask) (asks : Entered against (event.Ask ask) v w) (legal : Legal setting w.seen) where
+  abbrev was : Past
+  was = asks.0
 
-    may : MayAsk setting before v.number ask
-    may = here.1
+  seen : w.seen ≡ entry v.number (event.Ask ask) ∷ was
+  seen = ap (λ (x : View). x.seen) asks.3
+
+  here : Legal setting (entry v.number (event.Ask ask) ∷ was)
+  here = subst (Legal setting) seen legal
+
+  may : MayAsk setting was v.number ask
+  may = here.1
+
+  -- it stands, under the number of the pass
+  pub asked_is : asked w.seen ask.access ≡ Some (record { seat = v.number; ask = ask })
+  asked_is =
+      ap (λ past. asked past ask.access) seen
+      ∙ ap (λ o. option_or o (ask_in ask.access v.number (event.Ask ask))) may.not_asked
+      ∙ ap (λ (b : Bool). if b then Some (record { seat = v.number; ask = ask }) else None) (same_itself ask.access)
+
+  -- it was granted nothing
+  pub granted_nothing : granted w.seen ask.access ≡ None
+  granted_nothing = ap (λ past. granted past ask.access) seen ∙ ap (λ o. option_or o None) (granted_none setting was ask.access here.0 may.not_asked)
 
 -- A CLIENT'S WAY TO A REQUEST
 
@@ -115,22 +125,39 @@ module _ (s : Setting) (is : s ≡ one_copy.setting) (top manager : Name) (v w :
       (may_ask s x.number top manager access 0 v w x c d (request access) refl client
       (λ none. subst (λ t. AtStage t x.seen manager (kind.Read 0) (IsNextAsk x.seen manager (kind.Read 0) (request access))) (sym is) (at_first x.seen manager (request access) refl refl refl none)))
 
+same_number : (epoch : ℕ) (top manager access : Name) (u v w x : View) → EnteredAs against_nothing (IsTop epoch 0 0 top) u v → StartsManager top manager v w → StartsAccess manager access w x → x.number ≡ u.number
+same_number epoch top manager access u v w x t m a =
+    number_as (against_child manager) (IsNext manager kind.Access access) w x a ∙ number_as (against_child top) (IsNext top (kind.Read 0) manager) v w m ∙ number_as against_nothing (IsTop epoch 0 0 top) u v t
+
+-- an access that has just started may ask
+pub may_request : (s : Setting) (is : s ≡ one_copy.setting) (epoch : ℕ) (top manager access : Name) (u v w x : View) → EnteredAs against_nothing (IsTop epoch 0 0 top) u v → StartsManager top manager v w → StartsAccess manager access w x
+    → Legal s v.seen → Legal s w.seen → Legal s x.seen → IsClient u → MayAskOwn s x.seen x.number (name.front access) (request access)
+may_request s is epoch top manager access u v w x t m a legal_v legal_w legal_x client =
+    let one = (may_be_ready s epoch 0 0 u v top t legal_v).0 in
+    own_request s is top manager v w m legal_w (omega (arith, one)) access x a legal_x
+    (subst (λ n. IsTrue (is_client n)) (sym (same_number epoch top manager access u v w x t m a)) (calls.client u client))
+
 -- what stands then
 pub is_request : (s : Setting) (epoch : ℕ) (top manager access : Name) (u v w x y : View) → EnteredAs against_nothing (IsTop epoch 0 0 top) u v → StartsManager top manager v w → StartsAccess manager access w x
-    → Entered (against_access access) (event.Ask (request access)) x y → Legal s v.seen → Legal s y.seen → IsRequest y.seen u.number top (request access) × IsOlder u.seen y.seen
-is_request s epoch top manager access u v w x y t m a q legal_v legal_y = (
+    → Entered (against_access access) (event.Ask (request access)) x y → Legal s v.seen → MayAskOwn s x.seen x.number (name.front access) (request access) → Legal s y.seen → IsRequest y.seen u.number top (request access) × IsOlder u.seen y.seen
+is_request s epoch top manager access u v w x y t m a q legal_v may legal_y = (
   record {
     begun = ap (λ p. start p top) later.1 ∙ is_stays (λ e. start_in top e.seat e.event) later.0 v.seen (record { seat = u.number; kind = kind.User 0 0 }) (top_started s epoch 0 0 u v top t legal_v);
-    asked = asks.0;
+    asked = ap (option_map (λ (a : Asked). a.ask)) asked_here;
     to_copy = refl;
-    ungranted = asks.1;
+    ungranted = granted_nothing s (against_access access) x y (request access) q legal_y;
+    own = subst (λ n. IsOwnAccess y.seen n access) number (own_asked s (against_access access) x y (request access) (name.front access) q legal_y may);
+    asked_here = subst (λ o. MatchOption o ⊥ (λ (a : Asked). a.seat ≡ u.number)) (sym asked_here) number;
   },
   older_trans u.seen v.seen y.seen (entered_as_later against_nothing (IsTop epoch 0 0 top) u v t) later,
 )
   where
+    number : x.number ≡ u.number
+    number = same_number epoch top manager access u v w x t m a
+
     later : IsOlder v.seen y.seen
     later = older_trans v.seen w.seen y.seen (entered_as_later (against_child top) (IsNext top (kind.Read 0) manager) v w m)
         (older_trans w.seen x.seen y.seen (entered_as_later (against_child manager) (IsNext manager kind.Access access) w x a) (entered_later (against_access access) (event.Ask (request access)) x y q))
 
-    asks : HasAsked y.seen (request access) × (granted y.seen access ≡ None)
-    asks = has_asked s (against_access access) x y (request access) q legal_y
+    asked_here : asked y.seen access ≡ Some (record { seat = x.number; ask = request access })
+    asked_here = asked_is s (against_access access) x y (request access) q legal_y

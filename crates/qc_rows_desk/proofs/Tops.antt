@@ -60,5 +60,5 @@ pub low : (v w new : View) → v ≡ pass 0 [] → IsSplit v w new → (w ≡ co
 low v w new is split = subst (λ x. IsSplit x w new) is split
 
 -- and the next one the first copy's
-pub next_low : (v w new : View) → v ≡ counted (pass 0 []) → IsSplit v w new → new ≡ pass 2 []
-next_low v w new is split = (subst (λ x. IsSplit x w new) is split).1
+pub next_low : (v w new : View) → v ≡ counted (pass 0 []) → IsSplit v w new → (w ≡ counted (counted (pass 0 []))) × (new ≡ pass 2 [])
+next_low v w new is split = subst (λ x. IsSplit x w new) is split

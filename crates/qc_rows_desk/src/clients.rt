@@ -1,5 +1,5 @@
 //! Two clients in threads over one desk.
-ghost use Rattle.std.specs.Prelude.{◌≡◌, ◌+◌, ◌<◌, [], true, reverse};
+ghost use Rattle.std.specs.Prelude.{◌≡◌, ◌+◌, ◌<◌, ◌≤◌, [], true, reverse};
 ghost use Rattle.qc_event.specs.Legal.{Legal};
 ghost use Rattle.qc_event.specs.Tables.{setting_of};
 ghost use Rattle.qc_pass.specs.Rules.{IsClient};
@@ -54,18 +54,24 @@ fn visit<N: Store, R: Wait>(
 fn give_low<N: Store, R: Wait>(rt: &R, desk: &Desk<N>, pass: &mut Pass<N>)
     requires first { (pass.old.live ≡ true) × (pass.old.number ≡ 0) × (pass.old.count < 17) }
     ensures { (pass.new.live ≡ true) × (pass.new.number ≡ 0) × (pass.new.out ≡ pass.old.out)
-        × (pass.new.count ≡ pass.old.count + 1) }
+        × (pass.new.seen ≡ pass.old.seen) × (pass.new.count ≡ pass.old.count + 1) }
 {
     let _low = desk.split(rt, pass);
 }
 
-// The first pass has no low number to give away any more.
-fn give_all_low<N: Store, R: Wait>(rt: &R, desk: &Desk<N>, pass: &mut Pass<N>)
-    requires first { (pass.old.live ≡ true) × (pass.old.number ≡ 0) × (pass.old.count ≡ 0) }
+// The first pass gives so many low numbers away.
+pub(crate) fn give_low_numbers<N: Store, R: Wait>(
+    rt: &R,
+    desk: &Desk<N>,
+    pass: &mut Pass<N>,
+    many: u32,
+)
+    requires first { (pass.old.live ≡ true) × (pass.old.number ≡ 0)
+        × (pass.old.count + many ≤ 17) }
     ensures { (pass.new.live ≡ true) × (pass.new.number ≡ 0) × (pass.new.out ≡ pass.old.out)
-        × (pass.new.count ≡ 17) }
+        × (pass.new.seen ≡ pass.old.seen) × (pass.new.count ≡ pass.old.count + many) }
 {
-    for _ in 0..LOW {
+    for _ in 0..many {
         give_low(rt, desk, pass);
     }
 }
@@ -80,7 +86,7 @@ fn run_named<N: Store + Send + Sync, R: Threads + Wait + Sync>(
     ensures legal { Legal (setting_of N.table N.base) (reverse result.1.items) }
 {
     let (desk, mut first) = blank.name::<N>();
-    give_all_low(rt, &desk, &mut first);
+    give_low_numbers(rt, &desk, &mut first, LOW);
     let one = desk.split(rt, &mut first);
     let two = desk.split(rt, &mut first);
     let (one, two) = join(

@@ -2,7 +2,8 @@
 //! request and grants another, and the ledger commits a top. Then what stands in the history is printed, and whether it
 //! is legal. `looks`: a client marks the session of a top, aborts the top's child and makes the top ready; then what the
 //! desk tells is printed. `refusals`: a client is refused to make a top ready, and to abort a child and a top; then why
-//! is printed. Other lines are printed as they are.
+//! is printed. `overtaken`: a client's top is aborted by another between a copy's consultation and its grant; then what
+//! the client learns is printed. Other lines are printed as they are.
 #![tactic(auto)]
 
 ghost use Rattle.std.specs.Prelude.{◌≡◌, IfSome};
@@ -10,18 +11,22 @@ ghost use Rattle.qc_rows_desk.specs.OneCopy.{config};
 
 mod clients;
 mod looks;
+mod overtaken;
 mod refusals;
 mod scene;
 
 use clients::run;
 use looks::{Told, run_looks};
+use overtaken::{Overtaken, run_overtaken};
 use qc_audit::audit;
 use qc_config::Config;
 use qc_event::{Base, Entry, Event, Kind};
 use qc_pass::DeskNo;
 use refusals::{Refusals, run_refusals};
 use scene::{one_vote, play_scene};
+use std::alloc::Global;
 use std::io;
+use std::sync::Wait;
 
 fn is_top(entry: &Entry) -> bool {
     match entry.event {
@@ -91,35 +96,61 @@ fn tell_looks(rt: HostRuntime, told: &Told) -> io::Result<()> {
     Ok(())
 }
 
-fn tell_refusal(rt: HostRuntime, call: &str, why: &Option<DeskNo>) -> io::Result<()> {
+fn tell_call(rt: HostRuntime, call: &str, why: &Option<DeskNo>) -> io::Result<()> {
     match why {
-        Some(why) => println!(rt; "refusals: {call}: {why}"),
-        None => println!(rt; "refusals: {call}: done"),
+        Some(why) => println!(rt; "{call}: {why}"),
+        None => println!(rt; "{call}: done"),
     }
 }
 
 fn tell_refusals(rt: HostRuntime, refusals: &Refusals) -> io::Result<()> {
-    tell_refusal(rt, "to make the top ready", &refusals.open)?;
-    tell_refusal(rt, "to abort the child again", &refusals.ended)?;
-    tell_refusal(rt, "to abort the top", &refusals.ready)
+    tell_call(rt, "refusals: to make the top ready", &refusals.open)?;
+    tell_call(rt, "refusals: to abort the child again", &refusals.ended)?;
+    tell_call(rt, "refusals: to abort the top", &refusals.ready)
+}
+
+fn tell_overtaken(rt: HostRuntime, overtaken: &Overtaken) -> io::Result<()> {
+    println!(rt; "overtaken: the grant was appended")?;
+    match &overtaken.dead {
+        Some(ancestor) => println!(rt; "overtaken: the access is dead, by {ancestor}")?,
+        None => println!(rt; "overtaken: the access lives")?,
+    }
+    tell_call(rt, "overtaken: to take the reply", &overtaken.refused)
+}
+
+fn play_overtaken<R: Wait>(rt: HostRuntime, wait: &R, alloc: Global) -> io::Result<()> {
+    let Some(config) = one_vote() else {
+        return println!(rt; "overtaken: no configuration");
+    };
+    match run_overtaken(wait, alloc, &config) {
+        Ok(Some(overtaken)) => tell_overtaken(rt, &overtaken),
+        Ok(None) => println!(rt; "overtaken: the request was not free"),
+        Err(why) => println!(rt; "overtaken: {why}"),
+    }
+}
+
+// Runs the case at a desk that is not closed, where the line names one, and tells whether it does.
+fn play_open<R: Wait>(rt: HostRuntime, wait: &R, alloc: Global, line: &str) -> io::Result<bool> {
+    match line {
+        "looks" => match run_looks(wait, alloc) {
+            Ok(told) => tell_looks(rt, &told)?,
+            Err(why) => println!(rt; "looks: {why}")?,
+        },
+        "refusals" => match run_refusals(wait, alloc) {
+            Ok(refusals) => tell_refusals(rt, &refusals)?,
+            Err(why) => println!(rt; "refusals: {why}")?,
+        },
+        "overtaken" => play_overtaken(rt, wait, alloc)?,
+        _ => return Ok(false),
+    }
+    Ok(true)
 }
 
 fn main(rt: HostRuntime) -> io::Result<()> {
     let alloc = rt.alloc();
     for line in rt.lines(alloc) {
         let line = line?;
-        if line.as_str() == "looks" {
-            match run_looks(&rt, alloc) {
-                Ok(told) => tell_looks(rt, &told)?,
-                Err(_) => println!(rt; "looks: refused")?,
-            }
-            continue;
-        }
-        if line.as_str() == "refusals" {
-            match run_refusals(&rt, alloc) {
-                Ok(refusals) => tell_refusals(rt, &refusals)?,
-                Err(why) => println!(rt; "refusals: {why}")?,
-            }
+        if play_open(rt, &rt, alloc, line.as_str())? {
             continue;
         }
         if let Some(tops) = tops_of(line.as_str()) {

@@ -45,7 +45,7 @@ fn first_tuple(config: &Config) -> Tuple
 }
 
 // A client starts a top with a reading manager, whose access asks the copy.
-fn one_request<N: Store, R: Wait>(
+pub(crate) fn one_request<N: Store, R: Wait>(
     rt: &R,
     desk: &Desk<N>,
     pass: &mut Pass<N>,
@@ -117,7 +117,7 @@ fn refuse_dead<N: Store, R: Wait>(
     Ok(())
 }
 
-fn grant_of(ask: &Ask, tuple: &Tuple) -> Grant
+pub(crate) fn grant_of(ask: &Ask, tuple: &Tuple) -> Grant
     ensures { result ≡ grant_with ask.now tuple.now }
 {
     Grant {
@@ -211,6 +211,21 @@ fn play_named<N: Store, R: Wait>(rt: &R, blank: Blank, mut locks: Locks) -> (Bas
     desk.close(first)
 }
 
+// A desk without a name over the one record, and the locks of its copy.
+pub(crate) fn start_scene(alloc: Global, config: &Config) -> Result<(Blank, Locks), AllocError>
+    requires { config.now ≡ words.config }
+    ensures base { IfOk result (λ r. r.0.base ≡ words.base) }
+    ensures locks { IfOk result (λ r. r.1 ≡ unheld words.start) }
+{
+    let mut row = Vec::new(alloc);
+    row.push(first_tuple(config))?;
+    let locks = Locks::new(alloc, row.to_vec(alloc)?)?;
+    let mut rows = Vec::new(alloc);
+    rows.push(row)?;
+    let blank = Blank::new(alloc, Base::new(rows), 1)?;
+    Ok((blank, locks))
+}
+
 /// A copy refuses a request whose top was aborted, and grants one that is free; and the ledger commits a top.
 pub fn play_scene<R: Wait>(
     rt: &R,
@@ -219,11 +234,6 @@ pub fn play_scene<R: Wait>(
 ) -> Result<(Base, Vec<Entry>), AllocError>
     requires { config.now ≡ words.config }
 {
-    let mut row = Vec::new(alloc);
-    row.push(first_tuple(config))?;
-    let locks = Locks::new(alloc, row.to_vec(alloc)?)?;
-    let mut rows = Vec::new(alloc);
-    rows.push(row)?;
-    let blank = Blank::new(alloc, Base::new(rows), 1)?;
+    let (blank, locks) = start_scene(alloc, config)?;
     Ok(play_named::<Brand, R>(rt, blank, locks))
 }

@@ -11,4 +11,4 @@ pub play-requires-clause-follows : goal.play-requires-clause-follows
 play-requires-clause-follows g c =
     let one = low c.name-desk.result.1 c.split-ledger.new.pass c.split-ledger.result c.name-desk.ensures.pass c.split-ledger.ensures.split in
     let two = next_low c.split-ledger.new.pass c.split-copy.new.pass c.split-copy.result one.0 c.split-copy.ensures.split in
-    subst (λ p. Follows p (grants p 0) c.args.locks) (sym (ap (λ (x : View). x.seen) two)) (subst (Follows [] []) (sym c.requires.locks) (starts [] start))
+    subst (λ p. Follows p (grants p 0) c.args.locks) (sym (ap (λ (x : View). x.seen) two.1)) (subst (Follows [] []) (sym c.requires.locks) (starts [] start))
