@@ -145,6 +145,7 @@ is_request s epoch top manager access u v w x y t m a q legal_v may legal_y = (
     begun = ap (λ p. start p top) later.1 ∙ is_stays (λ e. start_in top e.seat e.event) later.0 v.seen (record { seat = u.number; kind = kind.User 0 0 }) (top_started s epoch 0 0 u v top t legal_v);
     asked = ap (option_map (λ (a : Asked). a.ask)) asked_here;
     to_copy = refl;
+    of_record = refl;
     ungranted = granted_nothing s (against_access access) x y (request access) q legal_y;
     own = subst (λ n. IsOwnAccess y.seen n access) number (own_asked s (against_access access) x y (request access) (name.front access) q legal_y may);
     asked_here = subst (λ o. MatchOption o ⊥ (λ (a : Asked). a.seat ≡ u.number)) (sym asked_here) number;

@@ -5,3 +5,5 @@ pub mod Asking
 pub mod OneCopy
 pub mod Calls
 pub mod Replying
+pub mod Granting
+pub mod FirstCopy

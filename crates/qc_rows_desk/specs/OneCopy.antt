@@ -25,12 +25,13 @@ base = start ∷ []
 abbrev pub table : Table
 table = record { copies = 1; records = record { name = []; start = 0; config = config } ∷ [] }
 
--- A top was started under this seat, and this request stands below it, to the copy, which has not granted it; its access
--- asked under this seat, and is open.
+-- A top was started under this seat, and below it stands this request of the record, to the copy, which has not granted
+-- it; its access asked under this seat, and is open.
 pub record IsRequest (past : Past) (seat : ℕ) (top : Name) (ask : Ask) : Type 0 where
   pub begun : start_of past top ≡ Some (record { seat = seat; kind = kind.User 0 0 })
   pub asked : HasAsked past ask
   pub to_copy : ask.copy ≡ 0
+  pub of_record : ask.rec ≡ 0
   pub ungranted : granted past ask.access ≡ None
   pub own : IsOwnAccess past seat ask.access
   pub asked_here : MatchOption (asked_of past ask.access) ⊥ (λ a. a.seat ≡ seat)

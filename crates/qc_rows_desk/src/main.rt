@@ -3,24 +3,27 @@
 //! is legal. `looks`: a client marks the session of a top, aborts the top's child and makes the top ready; then what the
 //! desk tells is printed. `refusals`: a client is refused to make a top ready, and to abort a child and a top; then why
 //! is printed. `overtaken`: a client's top is aborted by another between a copy's consultation and its grant; then what
-//! the client learns is printed. Other lines are printed as they are.
+//! the client learns is printed. `compared`: a copy grants three requests; then what the desk answers of these grants in
+//! order, and with two exchanged, is printed. Other lines are printed as they are.
 #![tactic(auto)]
 
 ghost use Rattle.std.specs.Prelude.{◌≡◌, IfSome};
-ghost use Rattle.qc_rows_desk.specs.OneCopy.{config};
+ghost use Rattle.qc_rows_desk.specs.OneCopy as words;
 
 mod clients;
+mod compared;
 mod looks;
 mod overtaken;
 mod refusals;
 mod scene;
 
 use clients::run;
+use compared::{Compared, run_compared};
 use looks::{Told, run_looks};
 use overtaken::{Overtaken, run_overtaken};
 use qc_audit::audit;
 use qc_config::Config;
-use qc_event::{Base, Entry, Event, Kind};
+use qc_event::{Base, Entry, Event, Grant, Kind};
 use qc_pass::DeskNo;
 use refusals::{Refusals, run_refusals};
 use scene::{one_vote, play_scene};
@@ -56,7 +59,7 @@ fn tops_of(line: &str) -> Option<u32> {
 
 // The configuration of a copy's record, where the line says so.
 fn config_of(line: &str) -> Option<Config>
-    ensures { IfSome result (λ c. c ≡ config) }
+    ensures { IfSome result (λ c. c ≡ words.config) }
 {
     if line == "copy" { one_vote() } else { None }
 }
@@ -118,15 +121,71 @@ fn tell_overtaken(rt: HostRuntime, overtaken: &Overtaken) -> io::Result<()> {
     tell_call(rt, "overtaken: to take the reply", &overtaken.refused)
 }
 
-fn play_overtaken<R: Wait>(rt: HostRuntime, wait: &R, alloc: Global) -> io::Result<()> {
-    let Some(config) = one_vote() else {
-        return println!(rt; "overtaken: no configuration");
-    };
-    match run_overtaken(wait, alloc, &config) {
+fn tell_difference(
+    rt: HostRuntime,
+    given: &str,
+    difference: &Option<(usize, Grant)>,
+) -> io::Result<()> {
+    match difference {
+        Some((index, grant)) => {
+            let access = grant.access;
+            println!(rt; "compared: {given}: at {index} stands the grant of {access}")
+        }
+        None => println!(rt; "compared: {given}: none differs"),
+    }
+}
+
+fn play_overtaken<R: Wait>(
+    rt: HostRuntime,
+    wait: &R,
+    alloc: Global,
+    config: &Config,
+) -> io::Result<()>
+    requires { config.now ≡ words.config }
+{
+    match run_overtaken(wait, alloc, config) {
         Ok(Some(overtaken)) => tell_overtaken(rt, &overtaken),
         Ok(None) => println!(rt; "overtaken: the request was not free"),
         Err(why) => println!(rt; "overtaken: {why}"),
     }
+}
+
+fn play_compared<R: Wait>(
+    rt: HostRuntime,
+    wait: &R,
+    alloc: Global,
+    config: &Config,
+) -> io::Result<()>
+    requires { config.now ≡ words.config }
+{
+    match run_compared(wait, alloc, config) {
+        Ok(
+            Some(
+                Compared {
+                    in_order,
+                    exchanged,
+                },
+            ),
+        ) => {
+            tell_difference(rt, "in order", &in_order)?;
+            tell_difference(rt, "with two exchanged", &exchanged)
+        }
+        Ok(None) => println!(rt; "compared: a request was not free"),
+        Err(why) => println!(rt; "compared: {why}"),
+    }
+}
+
+// Runs the case of one copy at a desk that is not closed, where the line names one, and tells whether it does.
+fn play_copy<R: Wait>(rt: HostRuntime, wait: &R, alloc: Global, line: &str) -> io::Result<bool> {
+    let Some(config) = one_vote() else {
+        return Ok(false);
+    };
+    match line {
+        "overtaken" => play_overtaken(rt, wait, alloc, &config)?,
+        "compared" => play_compared(rt, wait, alloc, &config)?,
+        _ => return Ok(false),
+    }
+    Ok(true)
 }
 
 // Runs the case at a desk that is not closed, where the line names one, and tells whether it does.
@@ -140,8 +199,7 @@ fn play_open<R: Wait>(rt: HostRuntime, wait: &R, alloc: Global, line: &str) -> i
             Ok(refusals) => tell_refusals(rt, &refusals)?,
             Err(why) => println!(rt; "refusals: {why}")?,
         },
-        "overtaken" => play_overtaken(rt, wait, alloc)?,
-        _ => return Ok(false),
+        _ => return play_copy(rt, wait, alloc, line),
     }
     Ok(true)
 }
