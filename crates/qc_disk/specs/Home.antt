@@ -4,8 +4,10 @@ use Rattle.qc_disk.specs.Disk.{IsImage, HasLength}
 use Rattle.qc_disk.specs.Laws.{image_now, at_end}
 use Rattle.qc_disk.specs.MemDisk.{mem_first, mem_acts, mem_bytes, mem_replays, mem_images, mem_at, mem_faults, mem_syncs, IsEmpty}
 use Rattle.qc_disk.specs.declared.file.FileDisk.{FileDisk}
+use Rattle.qc_disk.specs.Shop.{View}
 use Rattle.qc_disk.specs.declared.home.HomeDisk.{HomeDisk}
 use Rattle.qc_disk.specs.declared.home.HomeDisk.TheVariants.{Memory, File}
+use Rattle.qc_disk.specs.declared.home.HomeShop.{HomeShop}
 
 -- the size of a file, as it was last known
 abbrev pub file_size : FileDisk → ℕ
@@ -62,6 +64,14 @@ home_syncs (File disk) = file_syncs disk
 abbrev pub home_offers : List ℕ → Option (List ℕ)
 home_offers [] = Some []
 home_offers (byte ∷ rest) = None
+
+-- what the shop is: the disks that it would give have not failed
+abbrev pub home_view : HomeShop → View
+home_view shop = record {
+  offers = λ place which. home_offers place;
+  counts = λ place which. 0;
+  faults = shop.faults;
+}
 
 -- an empty place gives an empty disk in memory, and a folder a file that was not called and has not failed, and whose folder was synced
 abbrev pub HomeGives : List ℕ → HomeDisk → Type 0

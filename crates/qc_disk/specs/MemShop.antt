@@ -1,6 +1,7 @@
 -- The parts of a shop of disks in memory, and the disk that it gives.
-use Rattle.std.specs.Prelude.{◌≡◌, ℕ, List, [], map, slice_index_or, slice_set}
-use Rattle.qc_disk.specs.MemDisk.{mem_bytes, IsEmpty}
+use Rattle.std.specs.Prelude.{◌≡◌, ℕ, List, [], map, Some, slice_index_or, slice_set}
+use Rattle.qc_disk.specs.MemDisk.{mem_bytes, mem_faults, IsEmpty}
+use Rattle.qc_disk.specs.Shop.{View}
 use Rattle.qc_disk.specs.declared.memory.MemDisk.{MemDisk}
 use Rattle.qc_disk.specs.declared.shop.memory.MemShop.{MemShop}
 
@@ -19,6 +20,18 @@ shop_faults shop = shop.faults
 -- the bytes of the disk that it would give at a number
 abbrev pub shop_bytes : MemShop → ℕ → List ℕ
 shop_bytes shop which = slice_index_or (map mem_bytes (shop_disks shop)) which []
+
+-- how often the disk that it would give at a number has failed
+abbrev pub shop_counts : MemShop → ℕ → ℕ
+shop_counts shop which = slice_index_or (map mem_faults (shop_disks shop)) which 0
+
+-- what it is, seen as a shop
+abbrev pub shop_view : MemShop → View
+shop_view shop = record {
+  offers = λ place which. Some (shop_bytes shop which);
+  counts = λ place which. shop_counts shop which;
+  faults = shop_faults shop;
+}
 
 -- The shop gives the disk of a number, or an empty one where it has none, and an empty one takes its place.
 pub record Gives (old new : MemShop) (which : ℕ) (given : MemDisk) : Type 0 where

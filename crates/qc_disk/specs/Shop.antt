@@ -5,8 +5,15 @@ use Rattle.std.specs.Prelude.{◌≡◌, ℕ, List, Option, Some, None}
 pub record View : Type 0 where
   -- the bytes of the disk that it would give, by its place and number, where it tells
   pub offers : List ℕ → ℕ → Option (List ℕ)
-  -- how often it has failed, up to `2^64 - 1`
+  -- how often that disk has failed, up to `2^64 - 1`
+  pub counts : List ℕ → ℕ → ℕ
+  -- how often the shop has failed, up to `2^64 - 1`
   pub faults : ℕ
+
+-- It tells the same of the disk that it would give for a place and a number.
+pub record TellsAlike (before now : View) (place : List ℕ) (which : ℕ) : Type 0 where
+  pub offers : now.offers place which ≡ before.offers place which
+  pub counts : now.counts place which ≡ before.counts place which
 
 -- where a content is told, this tells the same
 abbrev pub Tells : Option (List ℕ) → Option (List ℕ) → Type 0

@@ -91,18 +91,18 @@ impl Shop for HomeShop {
 
     ghost use Rattle.std.specs.Prelude.{◌≢◌, ℕ, List, IfOk, OnErr, IsErrOf, if◌then◌else◌};
     ghost use Rattle.qc_disk.specs.Disk.{HasCause, next};
-    ghost use Rattle.qc_disk.specs.Shop.{Tells};
-    ghost use Rattle.qc_disk.specs.Home.{home_content, home_offers, HomeGives};
+    ghost use Rattle.qc_disk.specs.Shop.{Tells, TellsAlike};
+    ghost use Rattle.qc_disk.specs.Home.{home_content, home_faults, home_offers, home_view, HomeGives};
 
-    ghost view = { λ shop. record {
-      offers = λ place which. home_offers place;
-      faults = shop.faults;
-    } };
+    ghost view = { home_view };
 
     fn obtain(&mut self, alloc: Global, place: &str, which: u8) -> Result<HomeDisk, DiskNo>
         ensures given { IfOk result (λ disk. Tells (home_offers place.now) (home_content disk)) }
-        ensures others { (p : List ℕ) (n : ℕ) → n ≢ which → home_offers p ≡ home_offers p }
-        ensures kept { OnErr result ((p : List ℕ) (n : ℕ) → home_offers p ≡ home_offers p) }
+        ensures counted { IfOk result (λ disk. home_faults disk ≡ 0) }
+        ensures others { (p : List ℕ) (n : ℕ) → n ≢ which
+            → TellsAlike (home_view self.old) (home_view self.new) p n }
+        ensures kept { OnErr result ((p : List ℕ) (n : ℕ)
+            → TellsAlike (home_view self.old) (home_view self.new) p n) }
         ensures cause { HasCause self.old.faults self.new.faults (IsErrOf result DiskNo.Failed) }
         ensures gives { IfOk result (HomeGives place.now) }
     {

@@ -1,7 +1,7 @@
 //! Where disks come from.
 ghost use Rattle.std.specs.Prelude.{◌≡◌, ◌≢◌, ℕ, List, IfOk, OnErr, IsErrOf};
 ghost use Rattle.qc_disk.specs.Disk.{HasCause};
-ghost use Rattle.qc_disk.specs.Shop.{View, Tells};
+ghost use Rattle.qc_disk.specs.Shop.{View, Tells, TellsAlike};
 
 mod memory;
 
@@ -13,17 +13,19 @@ use std::alloc::Global;
 pub trait Shop {
     type D: Disk + Send;
 
-    /// The bytes of the disks that it would give, where it tells, and its faults.
+    /// The bytes of the disks that it would give, where it tells, how often each has failed, and its own faults.
     ghost view: { Self → View };
 
     /// Gives a disk. The others are as before, and so is each where it fails.
     fn obtain(&mut self, alloc: Global, place: &str, which: u8) -> Result<Self::D, DiskNo>
         ensures given { IfOk result (λ disk. Tells ((view self.old).offers place.now which)
             (Self.D.view disk).content) }
+        ensures counted { IfOk result (λ disk. (Self.D.view disk).faults
+            ≡ (view self.old).counts place.now which) }
         ensures others { (p : List ℕ) (n : ℕ) → n ≢ which
-            → (view self.new).offers p n ≡ (view self.old).offers p n }
-        ensures kept { OnErr result ((p : List ℕ) (n : ℕ) → (view self.new).offers p n
-            ≡ (view self.old).offers p n) }
+            → TellsAlike (view self.old) (view self.new) p n }
+        ensures kept { OnErr result ((p : List ℕ) (n : ℕ)
+            → TellsAlike (view self.old) (view self.new) p n) }
         ensures cause { HasCause (view self.old).faults (view self.new).faults
             (IsErrOf result DiskNo.Failed) };
 }

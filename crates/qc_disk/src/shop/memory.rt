@@ -48,22 +48,20 @@ impl Shop for MemShop {
 
     ghost use Rattle.std.specs.Prelude.{◌≢◌, ◌↔◌, ℕ, List, Some, Contains, IfOk, IfErr, OnErr, IsErr, IsErrOf, is_err, if◌then◌else◌};
     ghost use Rattle.qc_disk.specs.Disk.{HasCause, next};
-    ghost use Rattle.qc_disk.specs.Shop.{Tells};
-    ghost use Rattle.qc_disk.specs.MemDisk.{mem_bytes};
-    ghost use Rattle.qc_disk.specs.MemShop.{shop_bytes, shop_disks, shop_fails, shop_faults, Gives};
+    ghost use Rattle.qc_disk.specs.Shop.{Tells, TellsAlike};
+    ghost use Rattle.qc_disk.specs.MemDisk.{mem_bytes, mem_faults};
+    ghost use Rattle.qc_disk.specs.MemShop.{shop_bytes, shop_counts, shop_disks, shop_fails, shop_faults, shop_view, Gives};
 
-    ghost view = { λ shop. record {
-      offers = λ place which. Some (shop_bytes shop which);
-      faults = shop_faults shop;
-    } };
+    ghost view = { shop_view };
 
     fn obtain(&mut self, alloc: Global, place: &str, which: u8) -> Result<MemDisk, DiskNo>
         ensures given { IfOk result (λ disk. Tells (Some (shop_bytes self.old which))
             (Some (mem_bytes disk))) }
+        ensures counted { IfOk result (λ disk. mem_faults disk ≡ shop_counts self.old which) }
         ensures others { (p : List ℕ) (n : ℕ) → n ≢ which
-            → Some (shop_bytes self.new n) ≡ Some (shop_bytes self.old n) }
-        ensures kept { OnErr result ((p : List ℕ) (n : ℕ) → Some (shop_bytes self.new n) ≡ Some
-            (shop_bytes self.old n)) }
+            → TellsAlike (shop_view self.old) (shop_view self.new) p n }
+        ensures kept { OnErr result ((p : List ℕ) (n : ℕ)
+            → TellsAlike (shop_view self.old) (shop_view self.new) p n) }
         ensures cause { HasCause (shop_faults self.old) (shop_faults self.new)
             (IsErrOf result DiskNo.Failed) }
         ensures gives { IfOk result (Gives self.old self.new which) }
@@ -71,7 +69,7 @@ impl Shop for MemShop {
         ensures listed { IsErr result ↔ Contains (shop_fails self.old) which }
         ensures failed { IfErr result (λ e. e ≡ DiskNo.Failed) }
         ensures fails { shop_fails self.new ≡ shop_fails self.old }
-        ensures counted { shop_faults self.new ≡ (if is_err result then next (shop_faults self.old)
+        ensures faults { shop_faults self.new ≡ (if is_err result then next (shop_faults self.old)
             else shop_faults self.old) }
     {
         if self.fails.contains(&which) {
