@@ -13,7 +13,7 @@ use Rattle.qc_journal.specs.Journal.{disk_of}
 use Rattle.qc_ledger.specs.Image as ledger
 use Rattle.qc_ledger.specs.Mounted as book
 use Rattle.qc_ledger.specs.declared.book.Book.{Book}
-use Rattle.qc_mount.specs.Disks.{AreOffered, IsLeft, IsMounted}
+use Rattle.qc_mount.specs.Disks.{AreCounted, AreOffered, IsLeft, IsMounted}
 use Rattle.qc_mount.specs.Images.{AreSound, IsCopiesFault, IsFirstFault, IsSoundCopy, IsSoundLedger}
 use Rattle.qc_mount.specs.Mounted.{given_by, IsCopy, IsLedger, IsStoreOf}
 use Rattle.qc_mount.specs.Numbered.{EachFrom}
@@ -131,11 +131,12 @@ module _ {D : Type 0} {g : Ghosts D} (table : Table) (limit : ℕ) where
 
 module _ {D : Type 0} (view : D → View) where
   -- nothing was mounted
-  pub given_back : (here : (disk : D) (c : List ℕ) → (view disk).left_at (view disk).moment c ↔ (view disk).may_leave c) (offers : ℕ → Option (List ℕ)) (table : Table) (refused : MountNo D) (before now : ℕ)
-      → AreOffered view offers 0 (disks_in refused) → IsNotGiven (table.copies + 1) before now refused → ComeBack view offers table refused
-  given_back here offers table refused before now offered not = record {
+  pub given_back : (here : (disk : D) (c : List ℕ) → (view disk).left_at (view disk).moment c ↔ (view disk).may_leave c) (offers : ℕ → Option (List ℕ)) (counts : ℕ → ℕ) (table : Table) (refused : MountNo D) (before now : ℕ)
+      → AreOffered view offers 0 (disks_in refused) → AreCounted view counts 0 (disks_in refused) → IsNotGiven (table.copies + 1) before now refused → ComeBack view offers counts table refused
+  given_back here offers counts table refused before now offered counted not = record {
     given = disks_in refused;
     offered = offered;
+    counted = counted;
     left = unreached view here table (reason_in refused) 0 (disks_in refused) (none refused not);
     not_all = λ few. refl;
   }
@@ -146,11 +147,12 @@ module _ {D : Type 0} (view : D → View) where
       none (no.Memory disks) not n from low failed = failed
 
   -- a disk of all was refused
-  pub come_back : (offers : ℕ → Option (List ℕ)) (table : Table) (refused : MountNo D) (reason : Reason) (disks new : List D) → AreOffered view offers 0 disks → length disks ≡ table.copies + 1
-      → AreLeft view table reason 0 disks new → reason_in refused ≡ reason → disks_in refused ≡ new → ComeBack view offers table refused
-  come_back offers table refused reason disks new offered size left why is = record {
+  pub come_back : (offers : ℕ → Option (List ℕ)) (counts : ℕ → ℕ) (table : Table) (refused : MountNo D) (reason : Reason) (disks new : List D) → AreOffered view offers 0 disks → AreCounted view counts 0 disks → length disks ≡ table.copies + 1
+      → AreLeft view table reason 0 disks new → reason_in refused ≡ reason → disks_in refused ≡ new → ComeBack view offers counts table refused
+  come_back offers counts table refused reason disks new offered counted size left why is = record {
     given = disks;
     offered = offered;
+    counted = counted;
     left = subst (λ (r : Reason). AreLeft view table r 0 disks (disks_in refused)) (sym why) (subst (λ (l : List D). AreLeft view table reason 0 disks l) (sym is) left);
     not_all = λ few. absurd (omega (arith, few, size));
   }

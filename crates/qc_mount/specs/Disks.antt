@@ -19,6 +19,10 @@ module _ {D : Type 0} (view : D → View) where
   abbrev pub AreOffered : (ℕ → Option (List ℕ)) → ℕ → List D → Type 0
   AreOffered offers number disks = EachFrom (λ n disk. Tells (offers n) (view disk).content) number disks
 
+  -- disks from a number on have failed as often as is told of theirs
+  abbrev pub AreCounted : (ℕ → ℕ) → ℕ → List D → Type 0
+  AreCounted counts number disks = EachFrom (λ n disk. (view disk).faults ≡ counts n) number disks
+
   -- A disk was mounted, which failed or did not. Each image that it had is still one, or has some first ones of the
   -- records that are written behind those that were found; and none loses a record.
   pub record IsMounted (written : List (List ℕ) → List (List ℕ)) (Failed : Type 0) (old new : D) : Type 0 where

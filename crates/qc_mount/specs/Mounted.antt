@@ -16,7 +16,7 @@ use Rattle.qc_site.specs.Image as site
 use Rattle.qc_site.specs.Mounted as copy
 use Rattle.qc_site.specs.Start.{start_of}
 use Rattle.qc_site.specs.declared.mounted.Mounted.{Mounted}
-use Rattle.qc_mount.specs.Disks.{AreOffered, IsMounted}
+use Rattle.qc_mount.specs.Disks.{AreCounted, AreOffered, IsMounted}
 use Rattle.qc_mount.specs.Numbered.{PairsFrom}
 use Rattle.qc_mount.specs.Refusing.{disks_in}
 use Rattle.qc_mount.specs.declared.parts.Parts.{Parts}
@@ -64,9 +64,10 @@ module _ {D : Type 0} {g : Ghosts D} (table : Table) where
     pub copies_are : AreCopies parts.past limit copy_disks parts.copies.items
 
   -- They were mounted from the disks that a shop gave, and are as many as the table has.
-  pub record IsStore (offers : ℕ → Option (List ℕ)) (limit : ℕ) (parts : Parts D g) : Type 0 where
+  pub record IsStore (offers : ℕ → Option (List ℕ)) (counts : ℕ → ℕ) (limit : ℕ) (parts : Parts D g) : Type 0 where
     pub disks : List D
     pub offered : AreOffered g.view offers 0 disks
+    pub counted : AreCounted g.view counts 0 disks
     pub mounted : IsStoreOf limit disks parts
     pub all : length parts.copies.items ≡ table.copies
 

@@ -9,7 +9,7 @@ use Rattle.qc_ledger.specs.declared.fault.LedgerNo.{LedgerNo}
 use Rattle.qc_ledger.specs.declared.fault.LedgerNo.TheVariants as ledger
 use Rattle.qc_site.specs.declared.fault.SiteNo.{SiteNo}
 use Rattle.qc_site.specs.declared.fault.SiteNo.TheVariants as site
-use Rattle.qc_mount.specs.Disks.{AreOffered, IsLeft}
+use Rattle.qc_mount.specs.Disks.{AreCounted, AreOffered, IsLeft}
 use Rattle.qc_mount.specs.Images.{IsCopiesFault, IsFirstFault}
 use Rattle.qc_mount.specs.Numbered.{PairsFrom}
 use Rattle.qc_mount.specs.declared.refusing.MountNo.{MountNo}
@@ -75,9 +75,10 @@ module _ {D : Type 0} (view : D → View) where
 
   -- The disks that were given come back, in the order of their numbers and as they are left. Where not all of so many
   -- were given, none was mounted.
-  pub record ComeBack (offers : ℕ → Option (List ℕ)) (table : Table) (refused : MountNo D) : Type 0 where
+  pub record ComeBack (offers : ℕ → Option (List ℕ)) (counts : ℕ → ℕ) (table : Table) (refused : MountNo D) : Type 0 where
     pub given : List D
     pub offered : AreOffered view offers 0 given
+    pub counted : AreCounted view counts 0 given
     pub left : AreLeft table (reason_in refused) 0 given (disks_in refused)
     pub not_all : length given ≤ table.copies → disks_in refused ≡ given
 

@@ -1,6 +1,7 @@
 //! Mounting a store.
 ghost use Rattle.std.specs.Prelude.{ℕ, ◌≡◌, ◌+◌, ◌<◌, ◌≤◌, ◌⊎◌, ◌↔◌, List, [], ◌∷◌, length, IfOk, IfErr, OnOk};
 ghost use Rattle.qc_codec.specs.Bodies as body;
+ghost use Rattle.qc_disk.specs.Shop.{TellsAlike};
 ghost use Rattle.qc_mount.specs.Images.{AreSound, IsFirstFault, Offers};
 ghost use Rattle.qc_mount.specs.Mounted.{given_by, IsStore, IsStoreOf};
 ghost use Rattle.qc_mount.specs.Obtained.{IsNotGiven};
@@ -97,7 +98,8 @@ pub fn mount<H: Shop>(
     requires proper { (body.table 1).fits table.now }
 
     // The ledger and the copies stand on the disks that the shop gave. Each copy starts with what its records restore.
-    ensures store { IfOk result (IsStore table.now ((H.view shop.old).offers place.now) limit) }
+    ensures store { IfOk result (IsStore table.now ((H.view shop.old).offers place.now)
+        ((H.view shop.old).counts place.now) limit) }
 
     // Where the shop tells the bytes of all disks, none of them has a fault, or the answer is the first.
     ensures sound { (images : List (List ℕ)) → Offers ((H.view shop.old).offers place.now) images
@@ -109,11 +111,12 @@ pub fn mount<H: Shop>(
     ensures refused { IfErr result (λ refused. IsNotGiven (table.now.copies + 1)
         (H.view shop.old).faults (H.view shop.new).faults refused
         ⊎ IsNotMounted table.now.copies refused) }
-    ensures disks { IfErr result (ComeBack H.D.view ((H.view shop.old).offers place.now) table.now) }
+    ensures disks { IfErr result (ComeBack H.D.view ((H.view shop.old).offers place.now)
+        ((H.view shop.old).counts place.now) table.now) }
 
     // No other disks were obtained, and the shop's count of faults never falls.
     ensures others { (p : List ℕ) (n : ℕ) → given_by result ≤ n
-        → (H.view shop.new).offers p n ≡ (H.view shop.old).offers p n }
+        → TellsAlike (H.view shop.old) (H.view shop.new) p n }
     ensures faults { (H.view shop.old).faults ≤ (H.view shop.new).faults }
 {
     known_now::<H::D>();

@@ -1,6 +1,7 @@
 //! Obtaining the disks of a store.
 ghost use Rattle.std.specs.Prelude.{ℕ, ◌≡◌, ◌≤◌, List, length, IfOk, IfErr};
-ghost use Rattle.qc_mount.specs.Disks.{AreOffered};
+ghost use Rattle.qc_disk.specs.Shop.{TellsAlike};
+ghost use Rattle.qc_mount.specs.Disks.{AreCounted, AreOffered};
 ghost use Rattle.qc_mount.specs.Obtained.{disks_of, IsNotGiven};
 
 use crate::refusing::MountNo;
@@ -17,11 +18,13 @@ pub fn obtain_all<H: Shop>(
 ) -> Result<Vec<H::D>, MountNo<H::D>>
     ensures offered { AreOffered H.D.view ((H.view shop.old).offers place.now) 0
         (disks_of result) }
+    ensures counted { AreCounted H.D.view ((H.view shop.old).counts place.now) 0
+        (disks_of result) }
     ensures all { IfOk result (λ disks. length disks.items ≡ count) }
     ensures not_all { IfErr result (IsNotGiven count (H.view shop.old).faults
         (H.view shop.new).faults) }
     ensures others { (p : List ℕ) (n : ℕ) → length (disks_of result) ≤ n
-        → (H.view shop.new).offers p n ≡ (H.view shop.old).offers p n }
+        → TellsAlike (H.view shop.old) (H.view shop.new) p n }
     ensures later { (H.view shop.old).faults ≤ (H.view shop.new).faults }
 {
     let Ok(mut disks) = Vec::with_capacity(alloc, usize::from(count)) else {

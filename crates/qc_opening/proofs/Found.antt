@@ -27,13 +27,9 @@ use Rattle.qc_standing.specs.Mountings.{AreBytes, IsMounted}
 use Rattle.qc_system.specs.Grown.{LeftAlike}
 use Rattle.qc_system.specs.Parts.{AreMounted, Findings, IsFound}
 use Rattle.qc_system.specs.Parts as system
-use Rattle.qc_opening.specs.Parts.{IsStoreOver}
+use Rattle.qc_opening.specs.Parts.{counted_by, told_by, IsStoreOver}
 use Rattle.qc_opening.specs.Stored.{WasMounted}
 use Rattle.qc_opening.proofs.Places.{all_at, at_place, get_next, mapped_at, pair_at}
-
--- what disks that told this told, by their numbers
-abbrev pub told_by : List (Option (List ℕ)) → ℕ → Option (List ℕ)
-told_by told number = slice_index_or told number None
 
 -- a disk leaves what it leaves
 alike_itself : (disk : View) → LeftAlike disk disk
@@ -69,15 +65,19 @@ module _ {D : Type 0} {g : Ghosts D} where
     are_mounted found (number + 1) copies (λ i x is. subst (λ n. system.IsMounted found n x) (omega arith) (each (suc i) x is)),
   )
 
-  module _ (table : Table) (told : List (Option (List ℕ))) (parts : Parts D g) (store : IsStoreOver table told parts) (all : length parts.copies.items ≡ table.copies) where
+  module _ (table : Table) (told : List (Option (List ℕ))) (counts : List ℕ) (parts : Parts D g) (store : IsStoreOver table told counts parts) (all : length parts.copies.items ≡ table.copies) where
     ledger_told : told_by told 0 ≡ (g.view store.mounted.ledger_disk).content
     ledger_told = ap (λ l. told_by l 0) (sym store.contents) ∙ ap (λ (l : List D). told_by (map (λ disk. (g.view disk).content) l) 0) store.mounted.disks_are
+
+    ledger_counted : counted_by counts 0 ≡ (g.view store.mounted.ledger_disk).faults
+    ledger_counted = ap (λ l. counted_by l 0) (sym store.counted) ∙ ap (λ (l : List D). counted_by (map (λ disk. (g.view disk).faults) l) 0) store.mounted.disks_are
 
     -- what was mounted as a copy
     pub record IsAt (i : ℕ) (m : Mounted D g) : Type 0 where
       pub disk : D
       pub is_copy : IsCopy table parts.past store.limit i disk m
       pub disk_told : told_by told (i + 1) ≡ (g.view disk).content
+      pub disk_counted : counted_by counts (i + 1) ≡ (g.view disk).faults
       pub bodies : bodies_found parts.book parts.copies.items (i + 1) ≡ copy.records_of m
       pub mounted : disk_found parts.book parts.copies.items (i + 1) ≡ copy_disk m
 
@@ -91,6 +91,10 @@ module _ {D : Type 0} {g : Ghosts D} where
               ap (λ l. told_by l (i + 1)) (sym store.contents)
               ∙ (ap (λ (l : List D). told_by (map (λ d. (g.view d).content) l) (i + 1)) store.mounted.disks_are
               ∙ (get_next (g.view store.mounted.ledger_disk).content (map (λ d. (g.view d).content) store.mounted.copy_disks) i None ∙ mapped_at (λ d. (g.view d).content) store.mounted.copy_disks i disk None there));
+          disk_counted =
+              ap (λ l. counted_by l (i + 1)) (sym store.counted)
+              ∙ (ap (λ (l : List D). counted_by (map (λ d. (g.view d).faults) l) (i + 1)) store.mounted.disks_are
+              ∙ (get_next (g.view store.mounted.ledger_disk).faults (map (λ d. (g.view d).faults) store.mounted.copy_disks) i 0 ∙ mapped_at (λ d. (g.view d).faults) store.mounted.copy_disks i disk 0 there));
           bodies = get_next (book.records_of parts.book) (map copy.records_of parts.copies.items) i [] ∙ mapped_at copy.records_of parts.copies.items i m [] is;
           mounted = get_next (disk_of (book.journal_of parts.book)) (map copy_disk parts.copies.items) i (disk_of (book.journal_of parts.book)) ∙ mapped_at copy_disk parts.copies.items i m (disk_of (book.journal_of parts.book)) is;
         }
@@ -121,6 +125,17 @@ module _ {D : Type 0} {g : Ghosts D} where
           tells = λ tells. ap is_some (at.is_copy.keeps (sym (ap is_some at.disk_told) ∙ tells)).told;
           had = λ tells image left. subst (λ bs. HasRecords bs image) (sym at.bodies) (kept_has (copy.journal_of m) (copy.records_of m) image (up_by (copy.journal_of m).state m.up) (at.is_copy.keeps (sym (ap is_some at.disk_told) ∙ tells)) left);
         }))
+
+    -- no disk's count fell while it was mounted
+    pub later_found : (number : ℕ) → number ≤ table.copies → counted_by counts number ≤ (g.view (disk_found parts.book parts.copies.items number)).faults
+    later_found zero low = subst (λ n. n ≤ (g.view (disk_of (book.journal_of parts.book))).faults) (sym ledger_counted) store.mounted.ledger_is.disk_is.cause.later
+    later_found (suc i) low =
+        let (m, is) = at_place parts.copies.items i (omega (arith, low, all)) in
+        let at = copy_at i m is in
+        let next : i + 1 ≡ suc i = omega arith in
+        subst (λ n. counted_by counts n ≤ (g.view (disk_found parts.book parts.copies.items n)).faults) next
+        (subst (λ d. counted_by counts (i + 1) ≤ (g.view d).faults) (sym at.mounted)
+        (subst (λ n. n ≤ (g.view (copy_disk m)).faults) (sym at.disk_counted) at.is_copy.disk_is.cause.later))
 
     module _ (base : List (List Tuple)) (rows : base ≡ map start_of parts.copies.items) where
       as_many : length base ≡ table.copies

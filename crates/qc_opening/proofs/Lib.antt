@@ -4,6 +4,7 @@ pub mod Proper
 pub mod Found
 pub mod Unboxed
 pub mod Told
+pub mod Paid
 pub mod Leaving
 pub mod Ran
 pub mod Grown

@@ -11,10 +11,10 @@ use Rattle.qc_disk.specs.Shop.{Tells}
 use Rattle.qc_event.specs.declared.table.Table.{Table}
 use Rattle.qc_event.specs.History.{limit}
 use Rattle.qc_event.specs.Listed.{listed}
-use Rattle.qc_event.specs.Seats.{copy_seat, ledger_seat}
+use Rattle.qc_event.specs.Seats.{ledger_seat}
 use Rattle.qc_event.specs.Tables.{base_of, setting_of}
 use Rattle.qc_interp.proofs.Places.{some_same}
-use Rattle.qc_mount.specs.Disks.{AreOffered}
+use Rattle.qc_mount.specs.Disks.{AreCounted, AreOffered}
 use Rattle.qc_mount.specs.Images.{Offers}
 use Rattle.qc_mount.specs.Numbered.{EachFrom, PairsFrom}
 use Rattle.qc_mount.specs.Refusing.{disks_in, reason_in, AreLeft}
@@ -29,10 +29,10 @@ use Rattle.qc_standing.proofs.Stands.{stand}
 use Rattle.qc_system.specs.Closing.{AllKeep, CopyKeeps, DiskKeeps, LedgerKeeps}
 use Rattle.qc_system.specs.Kept.{HadNoRoom, Pays, downs}
 use Rattle.qc_system.specs.Parts.{Findings}
-use Rattle.qc_opening.specs.Stored.{past_of, returned, AllTell, AreImages, HasKept, HasRun, HavePaid, LedgerWasFull}
+use Rattle.qc_opening.specs.Parts.{counted_by, told_by}
+use Rattle.qc_opening.specs.Stored.{disks_of, past_of, returned, AllTell, AreImages, HasKept, HasRun, HavePaid, LedgerWasFull}
 use Rattle.qc_opening.specs.declared.stored.Stored.{Stored}
 use Rattle.qc_opening.proofs.Epochs.{of_epoch}
-use Rattle.qc_opening.proofs.Found.{told_by}
 use Rattle.qc_opening.proofs.Unboxed.{left_length}
 
 -- disks tell at least what was told otherwise of a table's
@@ -78,6 +78,13 @@ offered_from view offers number (d ∷ disks) offered (suc i) low =
 pub tell_offered : {D : Type 0} (view : D → View) (table : Table) (offers : ℕ → Option (List ℕ)) (disks : List D) → AreOffered view offers 0 disks → length disks ≡ table.copies + 1 → TellAsMuch table offers (told_by (map (λ d. (view d).content) disks))
 tell_offered view table offers disks offered all number low = subst (λ n. Tells (offers n) (told_by (map (λ d. (view d).content) disks) number)) (omega arith) (offered_from view offers 0 disks offered number (omega (arith, low, all)))
 
+-- as often as it told, from a number on
+counted_from : {D : Type 0} (view : D → View) (counts : ℕ → ℕ) (number : ℕ) (disks : List D) → AreCounted view counts number disks → (i : ℕ) → i < length disks → counted_by (map (λ d. (view d).faults) disks) i ≡ counts (number + i)
+counted_from view counts number [] counted i low = absurd (omega (arith, low))
+counted_from view counts number (d ∷ disks) counted zero low = subst (λ n. (view d).faults ≡ counts n) (omega arith) counted.0
+counted_from view counts number (d ∷ disks) counted (suc i) low =
+    subst (λ n. counted_by (map (λ x. (view x).faults) disks) i ≡ counts n) (omega arith) (counted_from view counts (number + 1) disks counted.1 i (omega (arith, low)))
+
 image_offered : (offers : ℕ → Option (List ℕ)) (number : ℕ) (images : List (List ℕ)) → EachFrom (λ n image. offers n ≡ Some image) number images → (i : ℕ) → i < length images → offers (number + i) ≡ Some (get_or images i [])
 image_offered offers number [] each i low = absurd (omega (arith, low))
 image_offered offers number (image ∷ images) each zero low = subst (λ n. offers n ≡ Some image) (omega arith) each.0
@@ -91,7 +98,7 @@ tells_image offer told image is tells = subst (λ o. Tells o told) is tells
 
 -- THE MOUNTING
 
-module _ {D : Type 0} (view : D → View) (plan : ScriptPlan) (most : ℕ) (told offers : ℕ → Option (List ℕ)) (tells : TellAsMuch plan.table offers told) (stored : Stored D) (run : HasRun view plan most told stored) where
+module _ {D : Type 0} (view : D → View) (plan : ScriptPlan) (most : ℕ) (told offers : ℕ → Option (List ℕ)) (counts : ℕ → ℕ) (tells : TellAsMuch plan.table offers told) (stored : Stored D) (run : HasRun view plan most told counts stored) where
   mounted : IsMounted plan.table offers run.kept.records stored.epoch stored.ended.start
   mounted = mounted_otherwise plan.table offers told run.kept.records stored.epoch stored.ended.start tells run.kept.mounted
 
@@ -180,27 +187,6 @@ module _ {D : Type 0} (view : D → View) (plan : ScriptPlan) (most : ℕ) (told
       bounded : length (past_of stored) ≤ limit
       bounded = omega (arith, run.bounded, length-reverse stored.ended.trail.items)
 
-  -- PAYING
-
-  from_none : (first count now : ℕ) → Pays first count now → Pays 0 count now
-  from_none first count now pays = omega (arith, pays)
-
-  -- the disk at a place, by its seat
-  paid_at : (number place seat count : ℕ) (disk other : D) → place ≡ number → seat ≡ number + 1 → slice_get stored.ended.disks.items place ≡ Some other → Pays count (downs (entries_of seat (past_of stored))) (view other).faults
-      → slice_get stored.ended.disks.items number ≡ Some disk → Pays 0 (downs (entries_of (number + 1) (past_of stored))) (view disk).faults
-  paid_at number place seat count disk other at by there pays is =
-      let here : slice_get stored.ended.disks.items place ≡ Some disk = subst (λ n. slice_get stored.ended.disks.items n ≡ Some disk) (sym at) is in
-      let same : other ≡ disk = some_same other disk (sym there ∙ here) in
-      subst (λ n. Pays 0 (downs (entries_of n (past_of stored))) (view disk).faults) by
-      (subst (λ d. Pays 0 (downs (entries_of seat (past_of stored))) (view d).faults) same (from_none count _ _ pays))
-
-  pub paid : HavePaid view stored.ended.disks.items (past_of stored)
-  paid zero disk is = let l = run.kept.kept.ledger in paid_at zero 0 ledger_seat (view (run.kept.firsts 0)).faults disk l.disk refl refl l.there l.kept.paid is
-  paid (suc copy) disk is =
-      let within = slice_get_within stored.ended.disks.items (suc copy) disk is in
-      let c = run.kept.kept.copies copy (omega (arith, within, run.kept.kept.many)) in
-      paid_at (suc copy) (copy + 1) (copy_seat copy) (view (run.kept.firsts (copy + 1))).faults disk c.disk (omega arith) (omega arith) c.there c.kept.paid is
-
   -- WANT OF ROOM
 
   pub was_full : is_some (offers 0) ≡ true → LedgerWasFull view most stored.ended.disks.items (past_of stored)
@@ -209,8 +195,17 @@ module _ {D : Type 0} (view : D → View) (plan : ScriptPlan) (most : ℕ) (told
       let full = l.kept.full (some_too (offers 0) (told 0) (tells 0 (omega arith)) some) in
       subst (λ d. HadNoRoom (listed (past_of stored)) (view d).size most (entries_of ledger_seat (past_of stored))) (some_same l.disk disk (sym l.there ∙ is)) full
 
+-- what disks have counted since they were given, they have since the shop told of them
+pub paid : {D : Type 0} (view : D → View) (plan : ScriptPlan) (most : ℕ) (told : ℕ → Option (List ℕ)) (counts : ℕ → ℕ) (given : List D) (stored : Stored D) → AreCounted view counts 0 given → length given ≡ plan.table.copies + 1
+    → HasRun view plan most told (counted_by (map (λ d. (view d).faults) given)) stored → HavePaid view counts (disks_of stored) (past_of stored)
+paid view plan most told counts given stored counted all run number disk is =
+    let within = slice_get_within stored.ended.disks.items number disk is in
+    let low : number < length given = omega (arith, within, all, run.kept.kept.many, run.kept.mounted.as_many) in
+    let same : counted_by (map (λ d. (view d).faults) given) number ≡ counts number = subst (λ n. counted_by (map (λ d. (view d).faults) given) number ≡ counts n) (omega arith) (counted_from view counts 0 given counted number low) in
+    subst (λ n. Pays n (downs (entries_of (number + 1) (past_of stored))) (view disk).faults) same (run.paid number disk is)
+
 -- whatever the answer, all disks are handed back
-pub all_returned : {D : Type 0} (view : D → View) (plan : ScriptPlan) (most : ℕ) (told : ℕ → Option (List ℕ)) (disks : List D) (answer : Result (Stored D) (MountNo D)) → length disks ≡ plan.table.copies + 1 → IfOk answer (HasRun view plan most told)
+pub all_returned : {D : Type 0} (view : D → View) (plan : ScriptPlan) (most : ℕ) (told : ℕ → Option (List ℕ)) (counts : ℕ → ℕ) (disks : List D) (answer : Result (Stored D) (MountNo D)) → length disks ≡ plan.table.copies + 1 → IfOk answer (HasRun view plan most told counts)
     → IfErr answer (λ refused. AreLeft view plan.table (reason_in refused) 0 disks (disks_in refused)) → returned answer ≡ plan.table.copies + 1
-all_returned view plan most told disks (Ok stored) all ran left = omega (arith, ran.kept.kept.many, ran.kept.mounted.as_many)
-all_returned view plan most told disks (Err refused) all ran left = left_length view plan.table refused disks (disks_in refused) left ∙ all
+all_returned view plan most told counts disks (Ok stored) all ran left = omega (arith, ran.kept.kept.many, ran.kept.mounted.as_many)
+all_returned view plan most told counts disks (Err refused) all ran left = left_length view plan.table refused disks (disks_in refused) left ∙ all

@@ -29,6 +29,14 @@ module _ {D : Type 0} (view : D → View) where
   pub contents_boxed : (boxed : List (Boxed D)) (disks : List D) → unboxed boxed ≡ disks → map (λ b. (view b.disk.value).content) boxed ≡ map (λ d. (view d).content) disks
   contents_boxed boxed disks is = contents_unboxed boxed ∙ ap (map (λ d. (view d).content)) is
 
+  -- how often they have failed
+  faults_unboxed : (boxed : List (Boxed D)) → map (λ b. (view b.disk.value).faults) boxed ≡ map (λ d. (view d).faults) (unboxed boxed)
+  faults_unboxed [] = refl
+  faults_unboxed (b ∷ boxed) = ap (λ l. (view b.disk.value).faults ∷ l) (faults_unboxed boxed)
+
+  pub faults_boxed : (boxed : List (Boxed D)) (disks : List D) → unboxed boxed ≡ disks → map (λ b. (view b.disk.value).faults) boxed ≡ map (λ d. (view d).faults) disks
+  faults_boxed boxed disks is = faults_unboxed boxed ∙ ap (map (λ d. (view d).faults)) is
+
   mounted_unboxed : (written : List (List ℕ) → List (List ℕ)) (Failed : Type 0) (old new : Boxed D) → IsMounted boxed_view written Failed old new → IsMounted view written Failed old.disk.value new.disk.value
   mounted_unboxed written Failed old new m = record {
     any_moment = λ told. let l = m.any_moment told in record { later = l.later; each = l.each; earlier = l.earlier };
@@ -70,6 +78,7 @@ among_so least most P Q (no.Memory disks) among also = tt
 pub left_length : {B E : Type 0} (view : B → View) (table : Table) (refused : MountNo E) (old new : List B) → AreLeft view table (reason_in refused) 0 old new → length new ≡ length old
 left_length view table refused old new left = pairs_length (IsLeft view table (FailedAt (reason_in refused)) (IsBehind (reason_in refused))) 0 old new left
 
--- a store was mounted from disks that told this
-pub store_over : {B : Type 0} {g : Ghosts B} (table : Table) (limit : ℕ) (told : List (Option (List ℕ))) (disks : List B) (parts : Parts B g) → IsStoreOf table limit disks parts → map (λ d. (g.view d).content) disks ≡ told → IsStoreOver table told parts
-store_over table limit told disks parts store is = record { limit = limit; disks = disks; mounted = store; contents = is }
+-- a store was mounted from disks that told this, and had failed so often
+pub store_over : {B : Type 0} {g : Ghosts B} (table : Table) (limit : ℕ) (told : List (Option (List ℕ))) (counts : List ℕ) (disks : List B) (parts : Parts B g) → IsStoreOf table limit disks parts
+    → map (λ d. (g.view d).content) disks ≡ told → map (λ d. (g.view d).faults) disks ≡ counts → IsStoreOver table told counts parts
+store_over table limit told counts disks parts store contents counted = record { limit = limit; disks = disks; mounted = store; contents = contents; counted = counted }

@@ -52,10 +52,10 @@ module _ {D : Type 0} (view : D → View) where
   abbrev pub AreImages : List D → List (List ℕ) → Type 0
   AreImages disks images = PairsFrom (λ number disk image. (view disk).may_leave image) 0 disks images
 
-  -- Each disk counts at least as many faults as the ledger, or the copy, was unable for a failure of it, up to the end of the
-  -- count's range. The seat of disk `n` is `n + 1`.
-  abbrev pub HavePaid : List D → Past → Type 0
-  HavePaid disks past = (number : ℕ) (disk : D) → slice_get disks number ≡ Some disk → Pays 0 (downs (entries_of (number + 1) past)) (view disk).faults
+  -- Each disk counts, since it had counted so many faults, at least as many as the ledger, or the copy, was unable for a failure
+  -- of it, up to the end of the count's range. The seat of disk `n` is `n + 1`.
+  abbrev pub HavePaid : (ℕ → ℕ) → List D → Past → Type 0
+  HavePaid counts disks past = (number : ℕ) (disk : D) → slice_get disks number ≡ Some disk → Pays (counts number) (downs (entries_of (number + 1) past)) (view disk).faults
 
   -- Of each top that the ledger was unable to log for want of room: its record, behind what the ledger's disk has, would pass a
   -- limit. The ledger's disk is the first.
@@ -96,8 +96,8 @@ module _ {D : Type 0} (view : D → View) where
     pub mounted : IsMounted table told records epoch start
     pub grown : (number : ℕ) (disk : D) → slice_get disks number ≡ Some disk → is_some (told number) ≡ true → ∥ HasGrown (records number) (AreOfRun (setting_of table start) number past) disk ∥₁
 
-  -- A session ran over a store that was mounted over disks that told this, with journals up to a limit: all that is known of what it left.
-  pub record HasRun (plan : ScriptPlan) (most : ℕ) (told : ℕ → Option (List ℕ)) (stored : Stored D) : Type 0 where
+  -- A session ran over a store that was mounted over disks that told this and had counted so many faults, with journals up to a limit: all that is known of what it left.
+  pub record HasRun (plan : ScriptPlan) (most : ℕ) (told : ℕ → Option (List ℕ)) (counts : ℕ → ℕ) (stored : Stored D) : Type 0 where
     pub legal : Legal (setting_of plan.table stored.ended.start) (past_of stored)
     pub bounded : length stored.ended.trail.items ≤ limit
     pub epoch : (1 ≤ stored.epoch) × (stored.epoch < 2 ^ 32)
@@ -105,3 +105,4 @@ module _ {D : Type 0} (view : D → View) where
     pub begins : BeginsScript stored.epoch plan.patience plan.sessions (past_of stored)
     pub room : IsErrOf stored.ended.ran Room → length stored.ended.trail.items ≡ limit
     pub kept : HasKept plan.table most told stored
+    pub paid : HavePaid counts (disks_of stored) (past_of stored)

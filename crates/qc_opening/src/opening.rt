@@ -1,6 +1,7 @@
 //! From a shop to what the sessions left.
 ghost use Rattle.std.specs.Prelude.{ℕ, ◌≡◌, ◌+◌, ◌<◌, ◌≤◌, ◌^◌, ◌⊎◌, List, length, IfOk, IfErr, IsSome, OnOk, IsErrOf};
 ghost use Rattle.qc_codec.specs.Bodies as body;
+ghost use Rattle.qc_disk.specs.Shop.{TellsAlike};
 ghost use Rattle.qc_event.specs.declared.log.Short.TheVariants.{Room};
 ghost use Rattle.qc_event.specs.History.{limit as most_entries};
 ghost use Rattle.qc_event.specs.Legal.{Legal};
@@ -71,8 +72,8 @@ where
     // those of all, whatever a crash leaves of them stands beside the history. At each moment since a disk was mounted a
     // crash left the records of then, and behind them those of the run up to some time; and no record was lost again.
     // Before, it left what it left of the disk as it was then. For each failure of a disk that the history tells, the disk
-    // has counted a fault. Where the ledger's disk told its bytes, each top that the ledger was unable to log for want of
-    // room would with its record have passed the limit behind what that disk has.
+    // has counted a fault since the shop gave it. Where the ledger's disk told its bytes, each top that the ledger was
+    // unable to log for want of room would with its record have passed the limit behind what that disk has.
     ensures kept { IfOk result (HasKept H.D.view script.now.table limit
         ((H.view shop.old).offers place.now)) }
     ensures stands { AllTell script.now.table.copies ((H.view shop.old).offers place.now)
@@ -83,7 +84,8 @@ where
     ensures grown { IfOk result (λ stored. HaveGrown H.D.view script.now.table
         ((H.view shop.old).offers place.now) stored.epoch stored.ended.start (disks_of stored)
         (past_of stored)) }
-    ensures paid { IfOk result (λ stored. HavePaid H.D.view (disks_of stored) (past_of stored)) }
+    ensures paid { IfOk result (λ stored. HavePaid H.D.view ((H.view shop.old).counts place.now)
+        (disks_of stored) (past_of stored)) }
     ensures full { IsSome ((H.view shop.old).offers place.now 0)
         → IfOk result (λ stored. LedgerWasFull H.D.view limit (disks_of stored) (past_of stored)) }
 
@@ -100,11 +102,11 @@ where
         (H.view shop.old).faults (H.view shop.new).faults refused
         ⊎ IsNotMounted script.now.table.copies refused) }
     ensures disks { IfErr result (ComeBack H.D.view ((H.view shop.old).offers place.now)
-        script.now.table) }
+        ((H.view shop.old).counts place.now) script.now.table) }
 
     // No other disks were obtained, and the shop's count of faults never falls.
     ensures others { (p : List ℕ) (n : ℕ) → returned result ≤ n
-        → (H.view shop.new).offers p n ≡ (H.view shop.old).offers p n }
+        → TellsAlike (H.view shop.old) (H.view shop.new) p n }
     ensures faults { (H.view shop.old).faults ≤ (H.view shop.new).faults }
 {
     known_now::<H::D>();

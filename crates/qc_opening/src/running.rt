@@ -1,5 +1,5 @@
 //! A session over a store whose disks were obtained.
-ghost use Rattle.std.specs.Prelude.{ℕ, ◌≡◌, ◌<◌, ◌≤◌, ◌+◌, ◌^◌, ◌↔◌, List, [], length, map, reverse, Option, None, IfOk, IfErr, OnOk, IsErrOf, slice_index_or};
+ghost use Rattle.std.specs.Prelude.{ℕ, ◌≡◌, ◌<◌, ◌≤◌, ◌+◌, ◌^◌, ◌↔◌, List, [], length, map, reverse, IfOk, IfErr, OnOk, IsErrOf};
 ghost use Rattle.std.specs.Vec.{vec_capacity};
 ghost use Rattle.qc_codec.specs.Bodies as body;
 ghost use Rattle.qc_event.specs.declared.log.Short.TheVariants.{Room};
@@ -13,7 +13,7 @@ ghost use Rattle.qc_ledger.specs.Mounted as book;
 ghost use Rattle.qc_mount.specs.Images.{AreSound, IsFirstFault};
 ghost use Rattle.qc_mount.specs.Refusing.{disks_in, reason_in, AreLeft, IsReasonAmong, TellImages};
 ghost use Rattle.qc_opening.specs.Boxes.{unboxed};
-ghost use Rattle.qc_opening.specs.Parts.{disks_held, IsStoreOver};
+ghost use Rattle.qc_opening.specs.Parts.{counted_by, disks_held, told_by, IsStoreOver};
 ghost use Rattle.qc_opening.specs.Stored.{HasRun};
 ghost use Rattle.qc_script.specs.Reading.{IsProper};
 ghost use Rattle.qc_script.specs.Steps.{plan_of_script};
@@ -105,15 +105,18 @@ fn run_mounted<R: Threads + Wait + Sync, D: Disk + Drop + Send, G: Gate + Sync>(
     gate: &G,
     mode: Mode,
 ) -> Result<Stored<D>, Vec<D>>
-    ghost told: { List (Option (List ℕ)) }
+    ghost given: { List D }
     requires proper { IsProper (plan_of_script script.now) }
     requires spelled { (body.table 1).fits script.now.table }
-    requires store { IsStoreOver script.now.table told parts }
+    requires store { IsStoreOver script.now.table (map (λ disk. (D.view disk).content) given)
+        (map (λ disk. (D.view disk).faults) given) parts }
     requires all { length parts.copies.items ≡ script.now.table.copies }
     requires none { room.items ≡ [] }
     requires room { 17 ≤ vec_capacity room }
     ensures ran { IfOk result (HasRun D.view (plan_of_script script.now)
-        (limit_of (book.journal_of parts.book)) (λ number. slice_index_or told number None)) }
+        (limit_of (book.journal_of parts.book))
+        (told_by (map (λ disk. (D.view disk).content) given))
+        (counted_by (map (λ disk. (D.view disk).faults) given))) }
     ensures back { IfErr result (λ disks. disks.items ≡ unboxed (disks_held parts)) }
 {
     are_bytes(parts.book.records());
@@ -148,15 +151,16 @@ pub(crate) fn run_disks<R: Threads + Wait + Sync, D: Disk + Drop + Send, G: Gate
     gate: &G,
     mode: Mode,
 ) -> Result<Stored<D>, MountNo<D>>
-    ghost told: { List (Option (List ℕ)) }
+    ghost given: { List D }
     requires proper { IsProper (plan_of_script script.now) }
     requires spelled { (body.table 1).fits script.now.table }
     requires all { length disks.items ≡ script.now.table.copies + 1 }
     requires none { room.items ≡ [] }
     requires room { 17 ≤ vec_capacity room }
-    requires told { map (λ disk. (D.view disk).content) disks.items ≡ told }
+    requires given { disks.items ≡ given }
     ensures ran { IfOk result (HasRun D.view (plan_of_script script.now) limit
-        (λ number. slice_index_or told number None)) }
+        (told_by (map (λ disk. (D.view disk).content) given))
+        (counted_by (map (λ disk. (D.view disk).faults) given))) }
     ensures sound { (images : List (List ℕ)) → TellImages D.view disks.items images
         → OnOk result (AreSound script.now.table limit images) }
     ensures left { IfErr result (λ refused. AreLeft D.view script.now.table (reason_in refused) 0

@@ -50,11 +50,11 @@ module _ {D : Type 0} (view : D → View) (words : List (List ℕ)) (source_befo
   abbrev ToWords : Type 0
   ToWords = IsAnswerToWords view words source_before source_now shop_before shop_faults before now ran
 
-  pub by_reading : (place : List ℕ) (mode : Mode) → IsCommand words (Asked.read_at place mode) → IsAnswerToSource view source_before source_now (shop_before.offers place) shop_before.faults shop_faults before now ran → ToWords
+  pub by_reading : (place : List ℕ) (mode : Mode) → IsCommand words (Asked.read_at place mode) → IsAnswerToSource view source_before source_now shop_before place shop_faults before now ran → ToWords
   by_reading place mode is (inl refused) = inl (refused.0, none_read words source_before source_now ran.status (place, is.0) refused.1)
   by_reading place mode is (inr run) = inr (run.0, (record { asked = Asked.read_at place mode; is_command = is; is_script = run.1 }, run.2))
 
-  pub by_making : (n : ℕ) → IsCommand words (Asked.made_of n) → IsAnswerToMaking view (made_plan n) (shop_before.offers []) shop_before.faults shop_faults before now ran → ToWords
+  pub by_making : (n : ℕ) → IsCommand words (Asked.made_of n) → IsAnswerToMaking view (made_plan n) shop_before shop_faults before now ran → ToWords
   by_making n is (inl refused) = inl (refused.0, subst (HadNoScript words source_before source_now) (sym refused.1) tt)
   by_making n is (inr answer) = inr (made_plan n, (record { asked = Asked.made_of n; is_command = is; is_script = refl }, answer))
 

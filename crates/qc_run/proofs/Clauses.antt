@@ -74,17 +74,17 @@ none_had words before now (status.Image bad) none is = absurd none.1
 none_had words before now status.Memory none is = absurd is
 none_had words before now status.Room none is = absurd none.1
 
-unmounted_not_ran : {D : Type 0} (view : D → View) (s : ScriptPlan) (offers : ℕ → Option (List ℕ)) (before now : ℕ) (disks : List D) (answer : Status) → IsUnmounted view s offers before now disks answer → HadSession answer → ⊥
-unmounted_not_ran view s offers before now disks status.Done un is = absurd un
-unmounted_not_ran view s offers before now disks status.InDoubt un is = absurd un
-unmounted_not_ran view s offers before now disks status.WriteFault un is = absurd un
-unmounted_not_ran view s offers before now disks status.Usage un is = absurd is
-unmounted_not_ran view s offers before now disks (status.Script e) un is = absurd is
-unmounted_not_ran view s offers before now disks status.ReadFault un is = absurd is
-unmounted_not_ran view s offers before now disks (status.DiskFault which) un is = absurd is
-unmounted_not_ran view s offers before now disks (status.Image bad) un is = absurd is
-unmounted_not_ran view s offers before now disks status.Memory un is = absurd is
-unmounted_not_ran view s offers before now disks status.Room un is = absurd un
+unmounted_not_ran : {D : Type 0} (view : D → View) (s : ScriptPlan) (shop : Shop) (place : List ℕ) (now : ℕ) (disks : List D) (answer : Status) → IsUnmounted view s shop place now disks answer → HadSession answer → ⊥
+unmounted_not_ran view s shop place now disks status.Done un is = absurd un
+unmounted_not_ran view s shop place now disks status.InDoubt un is = absurd un
+unmounted_not_ran view s shop place now disks status.WriteFault un is = absurd un
+unmounted_not_ran view s shop place now disks status.Usage un is = absurd is
+unmounted_not_ran view s shop place now disks (status.Script e) un is = absurd is
+unmounted_not_ran view s shop place now disks status.ReadFault un is = absurd is
+unmounted_not_ran view s shop place now disks (status.DiskFault which) un is = absurd is
+unmounted_not_ran view s shop place now disks (status.Image bad) un is = absurd is
+unmounted_not_ran view s shop place now disks status.Memory un is = absurd is
+unmounted_not_ran view s shop place now disks status.Room un is = absurd un
 
 performed_began : (answer : Status) → IsPerformed answer → BeganNothing answer → ⊥
 performed_began status.Done is none = absurd none
@@ -158,18 +158,18 @@ module _ {D : Type 0} (view : D → View) (words : List (List ℕ)) (source_befo
 
   -- what was answered where this is asked for, and runs this script
   abbrev ToScript : ScriptPlan → Asked → Type 0
-  ToScript s asked = IsAnswer view s (shop_before.offers (place_of asked)) (form_of asked) shop_before.faults shop_faults before now ran
+  ToScript s asked = IsAnswer view s shop_before (place_of asked) (form_of asked) shop_faults before now ran
 
   abbrev Runs : ScriptPlan → Asked → Type 0
-  Runs s asked = HasRun view s (shop_before.offers (place_of asked)) ran
+  Runs s asked = HasRun view s shop_before (place_of asked) ran
 
   -- no store was mounted for it
   abbrev Unmounted : ScriptPlan → Asked → Type 0
-  Unmounted s asked = WasUnmounted view s (shop_before.offers (place_of asked)) shop_before.faults shop_faults ran
+  Unmounted s asked = WasUnmounted view s shop_before (place_of asked) shop_faults ran
 
   -- why none was
   abbrev Why : ScriptPlan → Asked → List D → Status → Type 0
-  Why s asked disks answer = IsUnmounted view s (shop_before.offers (place_of asked)) shop_before.faults shop_faults disks answer
+  Why s asked disks answer = IsUnmounted view s shop_before (place_of asked) shop_faults disks answer
 
   -- what is so of a run whose session began
   pub of_run : (P : ScriptPlan → Type 0) → Answers → ((s : ScriptPlan) (it : Is s) → Runs s it.asked → P s)
@@ -191,7 +191,7 @@ module _ {D : Type 0} (view : D → View) (words : List (List ℕ)) (source_befo
   has_run s asked to had = by_came to.came
     where
       by_came : Unmounted s asked ⊎ Runs s asked → Runs s asked
-      by_came (inl un) = absurd (unmounted_not_ran view s (shop_before.offers (place_of asked)) shop_before.faults shop_faults ran.disks.items ran.status un.why had)
+      by_came (inl un) = absurd (unmounted_not_ran view s shop_before (place_of asked) shop_faults ran.disks.items ran.status un.why had)
       by_came (inr has) = has
 
   -- what is so where its session was run
@@ -255,8 +255,14 @@ module _ {D : Type 0} (view : D → View) (words : List (List ℕ)) (source_befo
       by_came (inl un) = so run.0 run.1.0.asked (subst (Why run.0 run.1.0.asked ran.disks.items) is un.why)
       by_came (inr has) = absurd (no_session (subst IsPerformed is has.answer))
 
-  pub disk_failed : Answers → (which : ℕ) → ran.status ≡ status.DiskFault which → IsDiskFault view shop_before.faults shop_faults ran.disks.items which
-  disk_failed is which fault = (by_mounting (status.DiskFault which) (λ _ _. IsDiskFault view shop_before.faults shop_faults ran.disks.items which) is fault (λ no. no) (λ no. no.1) (λ s asked why. why)).1.1
+  -- the disk of a number failed, or the shop at it, at a place
+  abbrev IsFaulty : ℕ → List ℕ → Type 0
+  IsFaulty which place = IsDiskFault view shop_before.faults shop_faults (shop_before.counts place) ran.disks.items which
+
+  pub disk_failed : Answers → (which : ℕ) → ran.status ≡ status.DiskFault which → OfScript words source_before.left source_now.left (λ s. AtPlace words (IsFaulty which))
+  disk_failed is which fault =
+      let it = by_mounting (status.DiskFault which) (λ s asked. IsFaulty which (place_of asked)) is fault (λ no. no) (λ no. no.1) (λ s asked why. why) in
+      (it.0, it.1.0, at_place words it.1.0.asked (IsFaulty which) it.1.0.is_command it.1.1)
 
   -- the first fault of the images that were offered at a place
   abbrev IsTheirs : BadImage → ScriptPlan → List ℕ → Type 0
@@ -267,13 +273,13 @@ module _ {D : Type 0} (view : D → View) (words : List (List ℕ)) (source_befo
       let it = by_mounting (status.Image bad) (λ s asked. IsTheirs bad s (place_of asked)) is fault (λ no. no) (λ no. no.1) (λ s asked why. why) in
       (it.0, it.1.0, at_place words it.1.0.asked (IsTheirs bad it.0) it.1.0.is_command it.1.1)
 
-  left_back : (s : ScriptPlan) (asked : Asked) → IsNotMounted ran.status → Unmounted s asked ⊎ Runs s asked → CameBack view s (shop_before.offers (place_of asked)) ran.disks.items
+  left_back : (s : ScriptPlan) (asked : Asked) → IsNotMounted ran.status → Unmounted s asked ⊎ Runs s asked → CameBack view s shop_before (place_of asked) ran.disks.items
   left_back s asked un (inl was) = was.back
   left_back s asked un (inr has) = absurd (performed_mounted ran.status has.answer un)
 
-  pub came_back : Answers → IsNotMounted ran.status → OfScript words source_before.left source_now.left (λ s. AtPlace words (λ place. CameBack view s (shop_before.offers place) ran.disks.items))
-  came_back is un = by_script (λ s. AtPlace words (λ place. CameBack view s (shop_before.offers place) ran.disks.items)) is (unmounted_read ran.status un) (λ s it to.
-      at_place words it.asked (λ p. CameBack view s (shop_before.offers p) ran.disks.items) it.is_command (left_back s it.asked un to.came))
+  pub came_back : Answers → IsNotMounted ran.status → OfScript words source_before.left source_now.left (λ s. AtPlace words (λ place. CameBack view s shop_before place ran.disks.items))
+  came_back is un = by_script (λ s. AtPlace words (λ place. CameBack view s shop_before place ran.disks.items)) is (unmounted_read ran.status un) (λ s it to.
+      at_place words it.asked (λ p. CameBack view s shop_before p ran.disks.items) it.is_command (left_back s it.asked un to.came))
 
   -- what is so of a session that was run, where this status is none that began nothing
   by_session : (why : Status) (P : Type 0) → Answers → ran.status ≡ why → ((s : ScriptPlan) (asked : Asked) → Why s asked ran.disks.items why → ⊥) → (HadNoScript words source_before source_now why → ⊥)

@@ -1,5 +1,5 @@
 -- What the parts of a run keep, each said once.
-use Rattle.std.specs.Prelude.{ℕ, ◌≤◌, ◌≡◌, ◌≢◌, ◌⊎◌, List, length, reverse, Option, IfSome, IsSome}
+use Rattle.std.specs.Prelude.{ℕ, ◌≤◌, ◌≡◌, ◌≢◌, ◌⊎◌, List, [], length, reverse, IfSome, IsSome}
 use Rattle.qc_disk.specs.Disk.{View}
 use Rattle.qc_disk.specs.Shop.{View as Shop}
 use Rattle.qc_event.specs.History.{Name, limit}
@@ -67,7 +67,7 @@ pub record IsRefusal {D : Type 0} (before now : SinkView) (ran : Ran D) : Type 0
   pub none : NoneBegun ran.start ran.trail.items
   pub wrote : (text : Text) → Wrote before now ran.status text
 
-module _ {D : Type 0} (view : D → View) (s : ScriptPlan) (offers : ℕ → Option (List ℕ)) where
+module _ {D : Type 0} (view : D → View) (s : ScriptPlan) (shop : Shop) (place : Text) where
   -- The session of a script was run, from what the disks of a store restored, and left this.
   pub record HasRun (ran : Ran D) : Type 0 where
     pub answer : IsPerformed ran.status
@@ -77,37 +77,37 @@ module _ {D : Type 0} (view : D → View) (s : ScriptPlan) (offers : ℕ → Opt
     pub follows : RanToEnd ran.status → FollowsIn epoch s ran.trail.items
     pub room : ran.status ≡ status.Room → length ran.trail.items ≡ limit
     pub doubt : TellsDoubt ran.status ran.trail.items
-    pub sound : (images : List (List ℕ)) → AllOffered s.table offers images → AreSound s.table journal_limit images
-    pub restores : (images : List (List ℕ)) → AllOffered s.table offers images → Restores s.table images ran.start
-    pub first : HaveNoGrants s.table offers → ran.start ≡ base_of s.table
-    pub stands : AllTell s.table.copies offers → (images : List (List ℕ)) → AreImages view ran.disks.items images
+    pub sound : (images : List (List ℕ)) → AllOffered s.table (shop.offers place) images → AreSound s.table journal_limit images
+    pub restores : (images : List (List ℕ)) → AllOffered s.table (shop.offers place) images → Restores s.table images ran.start
+    pub first : HaveNoGrants s.table (shop.offers place) → ran.start ≡ base_of s.table
+    pub stands : AllTell s.table.copies (shop.offers place) → (images : List (List ℕ)) → AreImages view ran.disks.items images
         → ∥ IsStanding s.table ran.start epoch (reverse ran.trail.items) images ∥₁
-    pub grown : HaveGrown view s.table offers epoch ran.start ran.disks.items (reverse ran.trail.items)
-    pub paid : HavePaid view ran.disks.items (reverse ran.trail.items)
-    pub full : IsSome (offers 0) → LedgerWasFull view journal_limit ran.disks.items (reverse ran.trail.items)
+    pub grown : HaveGrown view s.table (shop.offers place) epoch ran.start ran.disks.items (reverse ran.trail.items)
+    pub paid : HavePaid view (shop.counts place) ran.disks.items (reverse ran.trail.items)
+    pub full : IsSome (shop.offers place 0) → LedgerWasFull view journal_limit ran.disks.items (reverse ran.trail.items)
 
-  -- why no store was mounted
-  abbrev pub IsUnmounted : ℕ → ℕ → List D → Status → Type 0
-  IsUnmounted before now disks (status.DiskFault which) = IsDiskFault view before now disks which
-  IsUnmounted before now disks (status.Image bad) = (images : List (List ℕ)) → AllOffered s.table offers images → IsFirstFault s.table journal_limit bad images
-  IsUnmounted before now disks status.Memory = Unit {0}
-  IsUnmounted before now disks _ = ⊥
+  -- why no store was mounted, where the shop's count of faults is this now
+  abbrev pub IsUnmounted : ℕ → List D → Status → Type 0
+  IsUnmounted now disks (status.DiskFault which) = IsDiskFault view shop.faults now (shop.counts place) disks which
+  IsUnmounted now disks (status.Image bad) = (images : List (List ℕ)) → AllOffered s.table (shop.offers place) images → IsFirstFault s.table journal_limit bad images
+  IsUnmounted now disks status.Memory = Unit {0}
+  IsUnmounted now disks _ = ⊥
 
   -- the disks that the shop gave come back, each as a mounting that was refused left it
   abbrev pub CameBack : List D → Type 0
-  CameBack disks = (refused : MountNo D) × (disks_in refused ≡ disks) × ComeBack view offers s.table refused
+  CameBack disks = (refused : MountNo D) × (disks_in refused ≡ disks) × ComeBack view (shop.offers place) (shop.counts place) s.table refused
 
   -- No store was mounted, and nothing was begun.
-  pub record WasUnmounted (shop_before shop_now : ℕ) (ran : Ran D) : Type 0 where
+  pub record WasUnmounted (shop_now : ℕ) (ran : Ran D) : Type 0 where
     pub none : NoneBegun ran.start ran.trail.items
-    pub why : IsUnmounted shop_before shop_now ran.disks.items ran.status
+    pub why : IsUnmounted shop_now ran.disks.items ran.status
     pub back : CameBack ran.disks.items
 
   -- A script was run, and what was written of it has this form; or no store was mounted for it. The shop's count of
-  -- faults was the one, and is the other.
-  pub record IsAnswer (form : Form) (shop_before shop_now : ℕ) (before now : SinkView) (ran : Ran D) : Type 0 where
+  -- faults is this now.
+  pub record IsAnswer (form : Form) (shop_now : ℕ) (before now : SinkView) (ran : Ran D) : Type 0 where
     pub wrote : Wrote before now ran.status (text_by form s.table ran.start ran.trail.items)
-    pub came : WasUnmounted shop_before shop_now ran ⊎ HasRun ran
+    pub came : WasUnmounted shop_now ran ⊎ HasRun ran
 
 -- the status of a refusal to mount, or want of memory in its place
 abbrev pub IsStatusOf : {D : Type 0} → MountNo D → Status → Type 0
@@ -136,26 +136,26 @@ HadNoScript words before now answer = IsReading words × IsUnread before now ans
 
 module _ {D : Type 0} (view : D → View) where
   -- what is answered to bytes, over disks of a place
-  abbrev pub IsAnswerToBytes : List ℕ → (ℕ → Option (List ℕ)) → ℕ → ℕ → SinkView → SinkView → Ran D → Type 0
-  IsAnswerToBytes bytes offers shop_before shop_now before now ran =
+  abbrev pub IsAnswerToBytes : List ℕ → Shop → Text → ℕ → SinkView → SinkView → Ran D → Type 0
+  IsAnswerToBytes bytes shop place shop_now before now ran =
       (IsRefusal before now ran × IsNoScript bytes ran.status)
-      ⊎ ((s : ScriptPlan) × IsScript bytes s × IsAnswer view s offers Report shop_before shop_now before now ran)
+      ⊎ ((s : ScriptPlan) × IsScript bytes s × IsAnswer view s shop place Report shop_now before now ran)
 
   -- what is answered where the source is to hold a script
-  abbrev pub IsAnswerToSource : SourceView → SourceView → (ℕ → Option (List ℕ)) → ℕ → ℕ → SinkView → SinkView → Ran D → Type 0
-  IsAnswerToSource source_before source_now offers shop_before shop_now before now ran =
+  abbrev pub IsAnswerToSource : SourceView → SourceView → Shop → Text → ℕ → SinkView → SinkView → Ran D → Type 0
+  IsAnswerToSource source_before source_now shop place shop_now before now ran =
       (IsRefusal before now ran × IsUnread source_before source_now ran.status)
-      ⊎ ((s : ScriptPlan) × ReadsScript source_before.left source_now.left s × IsAnswer view s offers Report shop_before shop_now before now ran)
+      ⊎ ((s : ScriptPlan) × ReadsScript source_before.left source_now.left s × IsAnswer view s shop place Report shop_now before now ran)
 
-  -- what is answered where this script is to be made: there may be no memory for it
-  abbrev pub IsAnswerToMaking : ScriptPlan → (ℕ → Option (List ℕ)) → ℕ → ℕ → SinkView → SinkView → Ran D → Type 0
-  IsAnswerToMaking s offers shop_before shop_now before now ran =
+  -- what is answered where this script is to be made, over disks of the empty place: there may be no memory for it
+  abbrev pub IsAnswerToMaking : ScriptPlan → Shop → ℕ → SinkView → SinkView → Ran D → Type 0
+  IsAnswerToMaking s shop shop_now before now ran =
       (IsRefusal before now ran × (ran.status ≡ status.Memory))
-      ⊎ IsAnswer view s offers Summary shop_before shop_now before now ran
+      ⊎ IsAnswer view s shop [] Summary shop_now before now ran
 
   -- what is answered to words
   abbrev pub IsAnswerToWords : List (List ℕ) → SourceView → SourceView → Shop → ℕ → SinkView → SinkView → Ran D → Type 0
-  IsAnswerToWords words source_before source_now shop_before shop_faults before now ran =
+  IsAnswerToWords words source_before source_now shop shop_now before now ran =
       (IsRefusal before now ran × HadNoScript words source_before source_now ran.status)
       ⊎ ((s : ScriptPlan) × ((it : RunsScript words source_before.left source_now.left s)
-      × IsAnswer view s (shop_before.offers (place_of it.asked)) (form_of it.asked) shop_before.faults shop_faults before now ran))
+      × IsAnswer view s shop (place_of it.asked) (form_of it.asked) shop_now before now ran))

@@ -1,5 +1,5 @@
 -- What a run answers: words for the clauses of the top call.
-use Rattle.std.specs.Prelude.{ℕ, ◌+◌, ◌^◌, ◌<◌, ◌≡◌, ◌≢◌, ◌⊎◌, true, IsTrue, List, [], length, reverse, slice_get, Option, None, Some, IfSome, is_some}
+use Rattle.std.specs.Prelude.{ℕ, ◌+◌, ◌^◌, ◌≡◌, ◌≢◌, ◌⊎◌, true, IsTrue, List, [], length, reverse, slice_get, Option, None, Some, IfSome, is_some}
 use Rattle.std.specs.List.{list_all}
 use Rattle.qc_config.specs.declared.tuple.Tuple.{Tuple}
 use Rattle.qc_disk.specs.Disk.{View, Rose as DiskRose}
@@ -135,11 +135,12 @@ pub record AllOffered (table : Table) (offers : ℕ → Option (List ℕ)) (imag
   pub offered : Offers offers images
   pub all : length images ≡ table.copies + 1
 
--- The shop failed at the next disk after those that came back, or the disk of this number came back and has failed.
-abbrev pub IsDiskFault : {D : Type 0} → (D → View) → ℕ → ℕ → List D → ℕ → Type 0
-IsDiskFault {D} view before now disks which =
+-- The shop, whose count of faults was the one and is the other, failed at the next disk after those that came back; or the disk
+-- of this number came back, and its count rose from the one that the shop told.
+abbrev pub IsDiskFault : {D : Type 0} → (D → View) → ℕ → ℕ → (ℕ → ℕ) → List D → ℕ → Type 0
+IsDiskFault {D} view before now counts disks which =
     ((which ≡ length disks) × DiskRose before now)
-    ⊎ ((disk : D) × (slice_get disks which ≡ Some disk) × (0 < (view disk).faults))
+    ⊎ ((disk : D) × (slice_get disks which ≡ Some disk) × DiskRose (counts which) (view disk).faults)
 
 -- STATUSES
 

@@ -1,5 +1,6 @@
 //! Runs of a script that is made of a number.
-ghost use Rattle.std.specs.Prelude.{ℕ, List, [], ◌≡◌, ◌≤◌, length};
+ghost use Rattle.std.specs.Prelude.{ℕ, List, ◌≤◌, length};
+ghost use Rattle.qc_disk.specs.Shop.{TellsAlike};
 ghost use Rattle.qc_script.specs.MadePlan.{made_plan};
 ghost use Rattle.qc_run.specs.Left as left;
 
@@ -30,10 +31,10 @@ pub(crate) fn make<R: Threads + Wait + Sync, K: Sink, H: Shop, G: Gate + Sync>(
 where
     H::D: Drop + Send,
     ensures answer { left.IsAnswerToMaking H.D.view (made_plan number)
-        ((H.view shop.old).offers []) (H.view shop.old).faults (H.view shop.new).faults
+        (H.view shop.old) (H.view shop.new).faults
         (K.view sink.old) (K.view sink.new) result }
     ensures disks { (p : List ℕ) (n : ℕ) → length result.disks.items ≤ n
-        → (H.view shop.new).offers p n ≡ (H.view shop.old).offers p n }
+        → TellsAlike (H.view shop.old) (H.view shop.new) p n }
     ensures shop_faults { (H.view shop.old).faults ≤ (H.view shop.new).faults }
 {
     match Script::made(alloc, number) {

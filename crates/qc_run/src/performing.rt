@@ -1,6 +1,7 @@
 //! Runs of a script that is there.
-ghost use Rattle.std.specs.Prelude.{ℕ, List, ◌≡◌, ◌≤◌, length};
+ghost use Rattle.std.specs.Prelude.{ℕ, List, ◌≤◌, length};
 ghost use Rattle.qc_codec.specs.Bodies as body;
+ghost use Rattle.qc_disk.specs.Shop.{TellsAlike};
 ghost use Rattle.qc_script.specs.Reading.{IsProper};
 ghost use Rattle.qc_script.specs.Steps.{plan_of_script};
 ghost use Rattle.qc_run.specs.Left as left;
@@ -38,10 +39,10 @@ where
     requires proper { IsProper (plan_of_script script.now) }
     requires spelled { (body.table 1).fits script.now.table }
     ensures answer { left.IsAnswer H.D.view (plan_of_script script.now)
-        ((H.view shop.old).offers place.now) form (H.view shop.old).faults
-        (H.view shop.new).faults (K.view sink.old) (K.view sink.new) result }
+        (H.view shop.old) place.now form (H.view shop.new).faults
+        (K.view sink.old) (K.view sink.new) result }
     ensures disks { (p : List ℕ) (n : ℕ) → length result.disks.items ≤ n
-        → (H.view shop.new).offers p n ≡ (H.view shop.old).offers p n }
+        → TellsAlike (H.view shop.old) (H.view shop.new) p n }
     ensures shop_faults { (H.view shop.old).faults ≤ (H.view shop.new).faults }
 {
     match run_stored(rt, alloc, shop, place, script, JOURNAL_LIMIT, gate, mode) {

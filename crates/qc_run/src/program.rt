@@ -1,5 +1,6 @@
 //! The top call: all that the program does, over the streams and the shop of disks that it is handed.
 ghost use Rattle.std.specs.Prelude.{ℕ, List, ⊤, ◌≡◌, ◌≤◌, ◌⊎◌, [], length, map, reverse, string_bytes, IfSome, IsSome};
+ghost use Rattle.qc_disk.specs.Shop.{TellsAlike};
 ghost use Rattle.qc_event.specs.History.{Name, limit};
 ghost use Rattle.qc_event.specs.Legal.{Legal};
 ghost use Rattle.qc_event.specs.Sound.{IsSound};
@@ -56,7 +57,7 @@ where
         terms.most_taken }
     ensures source_left { line.IsMaking (map string_bytes words.now) → source.new ≡ source.old }
     ensures disks { (p : List ℕ) (n : ℕ) → length result.disks.items ≤ n
-        → (H.view shop.new).offers p n ≡ (H.view shop.old).offers p n }
+        → TellsAlike (H.view shop.old) (H.view shop.new) p n }
     ensures shop_faults { (H.view shop.old).faults ≤ (H.view shop.new).faults }
 {
     match command_of(words) {
@@ -175,10 +176,11 @@ where
         (λ place. HaveGrown H.D.view s.table ((H.view shop.old).offers place) epoch
         result.start result.disks.items (reverse result.trail.items))) }
 
-    // Each failure that someone was unable for, a disk has counted.
+    // Each failure that someone was unable for, a disk has counted since the shop gave it.
     ensures paid { terms.OfRun (map string_bytes words.now) (S.view source.old).left
         (S.view source.new).left result.start result.trail.items
-        (λ s. HavePaid H.D.view result.disks.items (reverse result.trail.items)) }
+        (λ s. line.AtPlace (map string_bytes words.now) (λ place. HavePaid H.D.view
+        ((H.view shop.old).counts place) result.disks.items (reverse result.trail.items))) }
 
     // Each top that the ledger was unable to log for want of room at its disk, where that told its bytes: with its record
     // behind what the disk has, it would have passed the longest journal.
@@ -194,9 +196,9 @@ where
         → terms.OfScript (map string_bytes words.now) (S.view source.old).left
         (S.view source.new).left
         (λ s. line.AtPlace (map string_bytes words.now) (λ place. left.CameBack H.D.view s
-        ((H.view shop.old).offers place) result.disks.items)) }
+        (H.view shop.old) place result.disks.items)) }
     ensures disks { (place : List ℕ) (n : ℕ) → length result.disks.items ≤ n
-        → (H.view shop.new).offers place n ≡ (H.view shop.old).offers place n }
+        → TellsAlike (H.view shop.old) (H.view shop.new) place n }
 
     // The bytes written are the report, or the summary where the script was made; a front of it, a fault's line, or none.
     ensures output { terms.IsReported result.status
@@ -234,8 +236,11 @@ where
     ensures write_fault { result.status ≡ Status.WriteFault
         → Rose (K.view sink.old).faults (K.view sink.new).faults }
     ensures disk_fault { (which : ℕ) → result.status ≡ Status.DiskFault which
-        → terms.IsDiskFault H.D.view (H.view shop.old).faults (H.view shop.new).faults
-        result.disks.items which }
+        → terms.OfScript (map string_bytes words.now) (S.view source.old).left
+        (S.view source.new).left
+        (λ s. line.AtPlace (map string_bytes words.now) (λ place. terms.IsDiskFault H.D.view
+        (H.view shop.old).faults (H.view shop.new).faults ((H.view shop.old).counts place)
+        result.disks.items which)) }
     ensures image_fault { (bad : BadImage) → result.status ≡ Status.Image bad
         → terms.OfScript (map string_bytes words.now) (S.view source.old).left
         (S.view source.new).left
@@ -281,7 +286,7 @@ where
         (λ place. (Rose (S.view source.old).faults (S.view source.new).faults → ⊥)
         → (Rose (K.view sink.old).faults (K.view sink.new).faults → ⊥)
         → ((which : ℕ) → terms.IsDiskFault H.D.view (H.view shop.old).faults
-        (H.view shop.new).faults result.disks.items which → ⊥)
+        (H.view shop.new).faults ((H.view shop.old).counts place) result.disks.items which → ⊥)
         → terms.AllOffered s.table ((H.view shop.old).offers place) images
         → AreSound s.table terms.journal_limit images
         → terms.IsSessionRun result.status) }

@@ -1,5 +1,6 @@
 //! Runs of a script that the source holds.
-ghost use Rattle.std.specs.Prelude.{ℕ, List, ◌≡◌, ◌≤◌, length, IfOk, IfErr};
+ghost use Rattle.std.specs.Prelude.{ℕ, List, ◌≤◌, length, IfOk, IfErr};
+ghost use Rattle.qc_disk.specs.Shop.{TellsAlike};
 ghost use Rattle.qc_io.specs.Io.{Drops, LosesWithin};
 ghost use Rattle.qc_run.specs.Left as left;
 ghost use Rattle.qc_run.specs.Run as terms;
@@ -43,10 +44,10 @@ fn over<R: Threads + Wait + Sync, K: Sink, H: Shop, G: Gate + Sync>(
 where
     H::D: Drop + Send,
     ensures answer { left.IsAnswerToBytes H.D.view bytes.items
-        ((H.view shop.old).offers place.now) (H.view shop.old).faults (H.view shop.new).faults
+        (H.view shop.old) place.now (H.view shop.new).faults
         (K.view sink.old) (K.view sink.new) result }
     ensures disks { (p : List ℕ) (n : ℕ) → length result.disks.items ≤ n
-        → (H.view shop.new).offers p n ≡ (H.view shop.old).offers p n }
+        → TellsAlike (H.view shop.old) (H.view shop.new) p n }
     ensures shop_faults { (H.view shop.old).faults ≤ (H.view shop.new).faults }
 {
     match script_of(alloc, bytes) {
@@ -83,7 +84,7 @@ pub(crate) fn read<R: Threads + Wait + Sync, S: Source, K: Sink, H: Shop, G: Gat
 where
     H::D: Drop + Send,
     ensures answer { left.IsAnswerToSource H.D.view (S.view source.old) (S.view source.new)
-        ((H.view shop.old).offers place.now) (H.view shop.old).faults (H.view shop.new).faults
+        (H.view shop.old) place.now (H.view shop.new).faults
         (K.view sink.old) (K.view sink.new) result }
     ensures source_faults { (S.view source.old).faults ≤ (S.view source.new).faults }
     ensures source_taken { terms.ReadWhole result.status
@@ -91,7 +92,7 @@ where
     ensures source_within { LosesWithin (S.view source.old).left (S.view source.new).left
         terms.most_taken }
     ensures disks { (p : List ℕ) (n : ℕ) → length result.disks.items ≤ n
-        → (H.view shop.new).offers p n ≡ (H.view shop.old).offers p n }
+        → TellsAlike (H.view shop.old) (H.view shop.new) p n }
     ensures shop_faults { (H.view shop.old).faults ≤ (H.view shop.new).faults }
 {
     match take_all(alloc, source, MOST_BYTES) {

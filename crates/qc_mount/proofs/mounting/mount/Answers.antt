@@ -16,18 +16,21 @@ overflow_add-table g c = omega (arith, (table_sized c.args.table.now c.requires.
 pub returns-in_err-disks-clause-disks : goal.returns-in_err-disks-clause-disks
 returns-in_err-disks-clause-disks g c =
     let offers = (g.H.Shop.view c.args.shop.now).offers c.args.place.now in
+    let counts = (g.H.Shop.view c.args.shop.now).counts c.args.place.now in
     let refused = c.in_err-disks.field-0.0 in
-    by_err c.from_residual.result refused (ComeBack g.H.D.Disk.view offers c.args.table.now) c.from_residual.ensures.1
-    (given_back g.H.D.Disk.view c.known_now.ensures offers c.args.table.now refused (g.H.Shop.view c.args.shop.now).faults (g.H.Shop.view c.obtain_all.new.shop).faults c.in_err-disks.ensures.offered c.in_err-disks.ensures.not_all)
+    by_err c.from_residual.result refused (ComeBack g.H.D.Disk.view offers counts c.args.table.now) c.from_residual.ensures.1
+    (given_back g.H.D.Disk.view c.known_now.ensures offers counts c.args.table.now refused (g.H.Shop.view c.args.shop.now).faults (g.H.Shop.view c.obtain_all.new.shop).faults c.in_err-disks.ensures.offered c.in_err-disks.ensures.counted c.in_err-disks.ensures.not_all)
 
 pub returns-clause-store : goal.returns-clause-store
 returns-clause-store g c =
     let table = c.args.table.now in
     let disks = c.in_ok-disks.disks.items in
     let offers = (g.H.Shop.view c.args.shop.now).offers c.args.place.now in
-    if_ok c.mount_disks.result (IsStoreOf table c.args.limit disks) (IsStore table offers c.args.limit) c.mount_disks.ensures.store (λ parts store. record {
+    let counts = (g.H.Shop.view c.args.shop.now).counts c.args.place.now in
+    if_ok c.mount_disks.result (IsStoreOf table c.args.limit disks) (IsStore table offers counts c.args.limit) c.mount_disks.ensures.store (λ parts store. record {
       disks = disks;
       offered = c.in_ok-disks.ensures.offered;
+      counted = c.in_ok-disks.ensures.counted;
       mounted = store;
       all = store_size table c.args.limit disks parts table.copies store c.in_ok-disks.ensures.all;
     })
@@ -68,9 +71,10 @@ returns-clause-disks g c =
     let table = c.args.table.now in
     let disks = c.in_ok-disks.disks.items in
     let offers = (g.H.Shop.view c.args.shop.now).offers c.args.place.now in
+    let counts = (g.H.Shop.view c.args.shop.now).counts c.args.place.now in
     if_err c.mount_disks.result (λ refused. AreLeft view table (reason_in refused) 0 disks (disks_in refused)) (λ refused. AreLeft view table (reason_in refused) 0 disks (disks_in refused))
-    (ComeBack view offers table) c.mount_disks.ensures.left c.mount_disks.ensures.left
-    (λ refused left same. come_back view offers table refused (reason_in refused) disks (disks_in refused) c.in_ok-disks.ensures.offered c.in_ok-disks.ensures.all left refl refl)
+    (ComeBack view offers counts table) c.mount_disks.ensures.left c.mount_disks.ensures.left
+    (λ refused left same. come_back view offers counts table refused (reason_in refused) disks (disks_in refused) c.in_ok-disks.ensures.offered c.in_ok-disks.ensures.counted c.in_ok-disks.ensures.all left refl refl)
 
 pub returns-clause-others : goal.returns-clause-others
 returns-clause-others g c = λ p n from.

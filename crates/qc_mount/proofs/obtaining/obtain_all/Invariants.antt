@@ -1,14 +1,16 @@
--- The disks so far have the numbers below the next one, and the shop offers at the others what it did.
+-- The disks so far have the numbers below the next one, and the shop tells of the others what it did.
 use Rattle.std.proofs.Common.{ℕ, ◌≡◌, ◌≤◌, List, length}
 use Rattle.std.specs.Vec.{vec_capacity}
-use Rattle.qc_mount.specs.Disks.{AreOffered}
+use Rattle.qc_disk.specs.Shop.{TellsAlike}
+use Rattle.qc_mount.specs.Disks.{AreCounted, AreOffered}
 use Rattle.qc_mount.proofs.obtaining.obtain_all.Given as goal
 
 abbrev pub invariant-loop-which : goal.invariant-loop-which
 invariant-loop-which g l = record {
   offered : AreOffered g.H.D.Disk.view ((g.H.Shop.view l.initial.shop).offers l.place) 0 l.disks.items;
+  counted : AreCounted g.H.D.Disk.view ((g.H.Shop.view l.initial.shop).counts l.place) 0 l.disks.items;
   size : length l.disks.items ≡ l.which;
   room : vec_capacity l.disks ≡ l.count;
-  others : (p : List ℕ) (n : ℕ) → l.which ≤ n → (g.H.Shop.view l.shop).offers p n ≡ (g.H.Shop.view l.initial.shop).offers p n;
+  others : (p : List ℕ) (n : ℕ) → l.which ≤ n → TellsAlike (g.H.Shop.view l.initial.shop) (g.H.Shop.view l.shop) p n;
   later : (g.H.Shop.view l.initial.shop).faults ≤ (g.H.Shop.view l.shop).faults;
 }

@@ -6,11 +6,11 @@ use Rattle.qc_mount.specs.Images.{IsFirstFault}
 use Rattle.qc_mount.specs.Obtained.{IsNotGiven}
 use Rattle.qc_mount.specs.Refusing.{disks_in, reason_in, AreLeft, ComeBack, IsFaultOf, IsNotMounted, IsReasonAmong, TellImages}
 use Rattle.qc_mount.proofs.Disks.{tell}
-use Rattle.qc_mount.proofs.Stores.{by_err, fault_of, given_back, if_err, if_ok, not_mounted}
+use Rattle.qc_mount.proofs.Stores.{by_err, come_back, fault_of, given_back, if_err, if_ok, not_mounted}
 use Rattle.qc_refine.specs.Images.{IsStanding, Restores}
 use Rattle.qc_script.specs.Steps.{plan_of_script}
+use Rattle.qc_opening.specs.Parts.{counted_by, told_by}
 use Rattle.qc_opening.specs.Stored.{disks_of, past_of, AreImages, HasKept, HasRun, HaveGrown, HavePaid, LedgerWasFull}
-use Rattle.qc_opening.proofs.Found.{told_by}
 use Rattle.qc_opening.proofs.Grown.{have_grown}
 use Rattle.qc_opening.proofs.Told.{all_returned, first, kept, paid, restored, stands, tell_offered, was_full}
 use Rattle.qc_opening.proofs.opening.run_stored.Goals as goal
@@ -19,9 +19,10 @@ pub returns-in_err-disks-clause-disks : goal.returns-in_err-disks-clause-disks
 returns-in_err-disks-clause-disks g c =
     let view = g.H.D.Disk.view in
     let offers = (g.H.Shop.view c.args.shop.now).offers c.args.place.now in
+    let counts = (g.H.Shop.view c.args.shop.now).counts c.args.place.now in
     let refused = c.in_err-disks.field-0.0 in
-    by_err c.from_residual.result refused (ComeBack view offers c.args.script.now.table) c.from_residual.ensures.1
-    (given_back view c.known_now.ensures offers c.args.script.now.table refused (g.H.Shop.view c.args.shop.now).faults (g.H.Shop.view c.obtain_all.new.shop).faults c.in_err-disks.ensures.offered c.in_err-disks.ensures.not_all)
+    by_err c.from_residual.result refused (ComeBack view offers counts c.args.script.now.table) c.from_residual.ensures.1
+    (given_back view c.known_now.ensures offers counts c.args.script.now.table refused (g.H.Shop.view c.args.shop.now).faults (g.H.Shop.view c.obtain_all.new.shop).faults c.in_err-disks.ensures.offered c.in_err-disks.ensures.counted c.in_err-disks.ensures.not_all)
 
 pub returns-clause-restores : goal.returns-clause-restores
 returns-clause-restores g c = λ images offered many.
@@ -30,9 +31,10 @@ returns-clause-restores g c = λ images offered many.
     let offers = (g.H.Shop.view c.args.shop.now).offers c.args.place.now in
     let disks = c.in_ok-disks.disks.items in
     let told = told_by (map (λ d. (view d).content) disks) in
+    let counts = counted_by (map (λ d. (view d).faults) disks) in
     let tells = tell_offered view plan.table offers disks c.in_ok-disks.ensures.offered c.in_ok-disks.ensures.all in
-    if_ok c.run_disks.result (HasRun view plan c.args.limit told) (λ stored. Restores plan.table images stored.ended.start) c.run_disks.ensures.ran
-    (λ stored run. restored view plan c.args.limit told offers tells stored run images offered many)
+    if_ok c.run_disks.result (HasRun view plan c.args.limit told counts) (λ stored. Restores plan.table images stored.ended.start) c.run_disks.ensures.ran
+    (λ stored run. restored view plan c.args.limit told offers counts tells stored run images offered many)
 
 pub returns-clause-first : goal.returns-clause-first
 returns-clause-first g c = λ none.
@@ -41,9 +43,10 @@ returns-clause-first g c = λ none.
     let offers = (g.H.Shop.view c.args.shop.now).offers c.args.place.now in
     let disks = c.in_ok-disks.disks.items in
     let told = told_by (map (λ d. (view d).content) disks) in
+    let counts = counted_by (map (λ d. (view d).faults) disks) in
     let tells = tell_offered view plan.table offers disks c.in_ok-disks.ensures.offered c.in_ok-disks.ensures.all in
-    if_ok c.run_disks.result (HasRun view plan c.args.limit told) (λ stored. stored.ended.start ≡ base_of plan.table) c.run_disks.ensures.ran
-    (λ stored run. first view plan c.args.limit told offers tells stored run none)
+    if_ok c.run_disks.result (HasRun view plan c.args.limit told counts) (λ stored. stored.ended.start ≡ base_of plan.table) c.run_disks.ensures.ran
+    (λ stored run. first view plan c.args.limit told offers counts tells stored run none)
 
 pub returns-clause-kept : goal.returns-clause-kept
 returns-clause-kept g c =
@@ -52,9 +55,10 @@ returns-clause-kept g c =
     let offers = (g.H.Shop.view c.args.shop.now).offers c.args.place.now in
     let disks = c.in_ok-disks.disks.items in
     let told = told_by (map (λ d. (view d).content) disks) in
+    let counts = counted_by (map (λ d. (view d).faults) disks) in
     let tells = tell_offered view plan.table offers disks c.in_ok-disks.ensures.offered c.in_ok-disks.ensures.all in
-    if_ok c.run_disks.result (HasRun view plan c.args.limit told) (HasKept view plan.table c.args.limit offers) c.run_disks.ensures.ran
-    (λ stored run. kept view plan c.args.limit told offers tells stored run)
+    if_ok c.run_disks.result (HasRun view plan c.args.limit told counts) (HasKept view plan.table c.args.limit offers) c.run_disks.ensures.ran
+    (λ stored run. kept view plan c.args.limit told offers counts tells stored run)
 
 pub returns-clause-stands : goal.returns-clause-stands
 returns-clause-stands g c = λ all_tell.
@@ -63,9 +67,10 @@ returns-clause-stands g c = λ all_tell.
     let offers = (g.H.Shop.view c.args.shop.now).offers c.args.place.now in
     let disks = c.in_ok-disks.disks.items in
     let told = told_by (map (λ d. (view d).content) disks) in
+    let counts = counted_by (map (λ d. (view d).faults) disks) in
     let tells = tell_offered view plan.table offers disks c.in_ok-disks.ensures.offered c.in_ok-disks.ensures.all in
-    if_ok c.run_disks.result (HasRun view plan c.args.limit told) (λ stored. (images : List (List ℕ)) → AreImages view (disks_of stored) images → ∥ IsStanding plan.table stored.ended.start stored.epoch (past_of stored) images ∥₁) c.run_disks.ensures.ran
-    (λ stored run. stands view plan c.args.limit told offers tells stored run all_tell)
+    if_ok c.run_disks.result (HasRun view plan c.args.limit told counts) (λ stored. (images : List (List ℕ)) → AreImages view (disks_of stored) images → ∥ IsStanding plan.table stored.ended.start stored.epoch (past_of stored) images ∥₁) c.run_disks.ensures.ran
+    (λ stored run. stands view plan c.args.limit told offers counts tells stored run all_tell)
 
 pub returns-clause-grown : goal.returns-clause-grown
 returns-clause-grown g c =
@@ -74,20 +79,21 @@ returns-clause-grown g c =
     let offers = (g.H.Shop.view c.args.shop.now).offers c.args.place.now in
     let disks = c.in_ok-disks.disks.items in
     let told = told_by (map (λ d. (view d).content) disks) in
+    let counts = counted_by (map (λ d. (view d).faults) disks) in
     let tells = tell_offered view plan.table offers disks c.in_ok-disks.ensures.offered c.in_ok-disks.ensures.all in
-    if_ok c.run_disks.result (HasRun view plan c.args.limit told) (λ stored. HaveGrown view plan.table offers stored.epoch stored.ended.start (disks_of stored) (past_of stored)) c.run_disks.ensures.ran
-    (λ stored run. have_grown view plan.table c.args.limit offers stored (kept view plan c.args.limit told offers tells stored run))
+    if_ok c.run_disks.result (HasRun view plan c.args.limit told counts) (λ stored. HaveGrown view plan.table offers stored.epoch stored.ended.start (disks_of stored) (past_of stored)) c.run_disks.ensures.ran
+    (λ stored run. have_grown view plan.table c.args.limit offers stored (kept view plan c.args.limit told offers counts tells stored run))
 
 pub returns-clause-paid : goal.returns-clause-paid
 returns-clause-paid g c =
     let view = g.H.D.Disk.view in
     let plan = plan_of_script c.args.script.now in
-    let offers = (g.H.Shop.view c.args.shop.now).offers c.args.place.now in
+    let shop = (g.H.Shop.view c.args.shop.now).counts c.args.place.now in
     let disks = c.in_ok-disks.disks.items in
     let told = told_by (map (λ d. (view d).content) disks) in
-    let tells = tell_offered view plan.table offers disks c.in_ok-disks.ensures.offered c.in_ok-disks.ensures.all in
-    if_ok c.run_disks.result (HasRun view plan c.args.limit told) (λ stored. HavePaid view (disks_of stored) (past_of stored)) c.run_disks.ensures.ran
-    (λ stored run. paid view plan c.args.limit told offers tells stored run)
+    let counts = counted_by (map (λ d. (view d).faults) disks) in
+    if_ok c.run_disks.result (HasRun view plan c.args.limit told counts) (λ stored. HavePaid view shop (disks_of stored) (past_of stored)) c.run_disks.ensures.ran
+    (λ stored run. paid view plan c.args.limit told shop disks stored c.in_ok-disks.ensures.counted c.in_ok-disks.ensures.all run)
 
 pub returns-clause-full : goal.returns-clause-full
 returns-clause-full g c = λ some.
@@ -96,9 +102,10 @@ returns-clause-full g c = λ some.
     let offers = (g.H.Shop.view c.args.shop.now).offers c.args.place.now in
     let disks = c.in_ok-disks.disks.items in
     let told = told_by (map (λ d. (view d).content) disks) in
+    let counts = counted_by (map (λ d. (view d).faults) disks) in
     let tells = tell_offered view plan.table offers disks c.in_ok-disks.ensures.offered c.in_ok-disks.ensures.all in
-    if_ok c.run_disks.result (HasRun view plan c.args.limit told) (λ stored. LedgerWasFull view c.args.limit (disks_of stored) (past_of stored)) c.run_disks.ensures.ran
-    (λ stored run. was_full view plan c.args.limit told offers tells stored run some)
+    if_ok c.run_disks.result (HasRun view plan c.args.limit told counts) (λ stored. LedgerWasFull view c.args.limit (disks_of stored) (past_of stored)) c.run_disks.ensures.ran
+    (λ stored run. was_full view plan c.args.limit told offers counts tells stored run some)
 
 pub returns-clause-sound : goal.returns-clause-sound
 returns-clause-sound g c = λ images offered many.
@@ -127,11 +134,22 @@ returns-clause-refused g c =
     (λ refused. IsNotGiven (table.copies + 1) before now refused ⊎ IsNotMounted table.copies refused) c.run_disks.ensures.left c.run_disks.ensures.reason
     (λ refused left among. inr (not_mounted view table refused (reason_in refused) Among disks (disks_in refused) c.in_ok-disks.ensures.all left refl refl among))
 
+pub returns-clause-disks : goal.returns-clause-disks
+returns-clause-disks g c =
+    let view = g.H.D.Disk.view in
+    let table = c.args.script.now.table in
+    let disks = c.in_ok-disks.disks.items in
+    let offers = (g.H.Shop.view c.args.shop.now).offers c.args.place.now in
+    let counts = (g.H.Shop.view c.args.shop.now).counts c.args.place.now in
+    if_err c.run_disks.result (λ refused. AreLeft view table (reason_in refused) 0 disks (disks_in refused)) (λ refused. AreLeft view table (reason_in refused) 0 disks (disks_in refused))
+    (ComeBack view offers counts table) c.run_disks.ensures.left c.run_disks.ensures.left
+    (λ refused left same. come_back view offers counts table refused (reason_in refused) disks (disks_in refused) c.in_ok-disks.ensures.offered c.in_ok-disks.ensures.counted c.in_ok-disks.ensures.all left refl refl)
+
 pub returns-clause-others : goal.returns-clause-others
 returns-clause-others g c = λ p n from.
     let view = g.H.D.Disk.view in
     let plan = plan_of_script c.args.script.now in
     let disks = c.in_ok-disks.disks.items in
     let all = c.in_ok-disks.ensures.all in
-    let back = all_returned view plan c.args.limit (told_by (map (λ d. (view d).content) disks)) disks c.run_disks.result all c.run_disks.ensures.ran c.run_disks.ensures.left in
+    let back = all_returned view plan c.args.limit (told_by (map (λ d. (view d).content) disks)) (counted_by (map (λ d. (view d).faults) disks)) disks c.run_disks.result all c.run_disks.ensures.ran c.run_disks.ensures.left in
     c.in_ok-disks.ensures.others p n (omega (arith, from, back, all))

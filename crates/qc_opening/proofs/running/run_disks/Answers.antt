@@ -10,11 +10,10 @@ use Rattle.qc_mount.proofs.Disks.{unreached}
 use Rattle.qc_mount.proofs.Stores.{sound_store, store_size}
 use Rattle.qc_script.specs.Reading.{IsProper}
 use Rattle.qc_script.specs.Steps.{plan_of_script}
-use Rattle.qc_opening.specs.Parts.{disks_held}
+use Rattle.qc_opening.specs.Parts.{counted_by, disks_held, told_by}
 use Rattle.qc_opening.specs.Stored.{HasRun}
-use Rattle.qc_opening.proofs.Found.{told_by}
 use Rattle.qc_opening.proofs.Leaving.{left_unrun}
-use Rattle.qc_opening.proofs.Unboxed.{among_so, boxed_length, boxed_view, contents_boxed, left_length, left_of, store_over}
+use Rattle.qc_opening.proofs.Unboxed.{among_so, boxed_length, boxed_view, contents_boxed, faults_boxed, left_length, left_of, store_over}
 use Rattle.qc_opening.proofs.running.run_disks.Goals as goal
 
 pub returns-in-Err-clause-left : goal.returns-in-Err-clause-left
@@ -34,9 +33,11 @@ run_mounted-requires g c κs within =
     let all : length disks ≡ table.copies + 1 = search rules in
     let none : c.args.room.items ≡ [] = search rules in
     let room : 17 ≤ vec_capacity c.args.room = search rules in
-    let told : map (λ d. (g.D.Disk.view d).content) disks ≡ g.told = search rules in
+    let given : disks ≡ g.given = search rules in
+    let view = g.D.Disk.view in
+    let same = c.in-Ok.ensures.boxed ∙ given in
     let mounted = c.in-Ok-mount_disks.ensures.store in
-    let store = store_over table c.args.limit g.told boxed parts mounted (contents_boxed g.D.Disk.view boxed disks c.in-Ok.ensures.boxed ∙ told) in
+    let store = store_over table c.args.limit (map (λ d. (view d).content) g.given) (map (λ d. (view d).faults) g.given) boxed parts mounted (contents_boxed view boxed g.given same) (faults_boxed view boxed g.given same) in
     let many = store_size table c.args.limit boxed parts table.copies mounted (boxed_length g.D.Disk.view boxed disks c.in-Ok.ensures.boxed ∙ all) in
     (within.0, (within.1.0, (within.1.1, (search rules, (search rules, (search rules, (proper, (spelled, (store, (many, (none, room)))))))))))
 
@@ -51,7 +52,10 @@ unbox_refusal-requires-clause-room g c =
 
 pub returns-in-Ok-run_mounted-clause-ran : goal.returns-in-Ok-run_mounted-clause-ran
 returns-in-Ok-run_mounted-clause-ran g c =
-    subst (λ most. HasRun g.D.Disk.view (plan_of_script c.args.script.now) most (told_by g.told) c.in-Ok-run_mounted.stored) c.in-Ok-mount_disks.ensures.store.ledger_is.limit_is c.in-Ok-run_mounted.ensures.ran
+    let view = g.D.Disk.view in
+    let told = told_by (map (λ d. (view d).content) g.given) in
+    let counts = counted_by (map (λ d. (view d).faults) g.given) in
+    subst (λ most. HasRun view (plan_of_script c.args.script.now) most told counts c.in-Ok-run_mounted.stored) c.in-Ok-mount_disks.ensures.store.ledger_is.limit_is c.in-Ok-run_mounted.ensures.ran
 
 pub returns-in-Ok-run_mounted-clause-sound : goal.returns-in-Ok-run_mounted-clause-sound
 returns-in-Ok-run_mounted-clause-sound g c = λ images told.

@@ -49,13 +49,12 @@ returns-in-Ok-clause-answer g c =
 pub returns-in-Err-clause-answer : goal.returns-in-Err-clause-answer
 returns-in-Err-clause-answer g c =
     let s = plan_of_script c.args.script.now in
-    let offers = (g.H.Shop.view c.args.shop.now).offers c.args.place.now in
     let has = c.in-Err.ensures in
     record {
       wrote = c.unmounted.ensures.refusal.wrote _;
       came = inl (record {
         none = c.unmounted.ensures.refusal.none;
-        why = why g.H.D.Disk.view s offers (g.H.Shop.view c.args.shop.now).faults (g.H.Shop.view c.run_stored.new.shop).faults c.in-Err.refused c.unmounted.result.disks.items c.unmounted.result.status
+        why = why g.H.D.Disk.view s (g.H.Shop.view c.args.shop.now) c.args.place.now (g.H.Shop.view c.run_stored.new.shop).faults c.in-Err.refused c.unmounted.result.disks.items c.unmounted.result.status
             c.unmounted.ensures.disks c.unmounted.ensures.answer has.refused has.disks has.image;
         back = (c.in-Err.refused, sym c.unmounted.ensures.disks, has.disks);
       });

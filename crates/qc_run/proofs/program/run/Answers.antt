@@ -60,7 +60,7 @@ pub returns-clause-come_back : goal.returns-clause-come_back
 returns-clause-come_back g c = clause.came_back _ _ _ _ (g.H.Shop.view c.args.shop.now) _ _ _ _ c.answer.ensures.answer
 
 pub returns-clause-paid : goal.returns-clause-paid
-returns-clause-paid g c = clause.of_run _ _ _ _ (g.H.Shop.view c.args.shop.now) _ _ _ _ _ c.answer.ensures.answer (λ s it has. has.paid)
+returns-clause-paid g c = clause.of_run _ _ _ _ (g.H.Shop.view c.args.shop.now) _ _ _ _ _ c.answer.ensures.answer (λ s it has. clause.as_asked (map string_bytes c.args.words.now) it.asked _ it.is_command has.paid)
 
 pub returns-clause-full : goal.returns-clause-full
 returns-clause-full g c = clause.of_run _ _ _ _ (g.H.Shop.view c.args.shop.now) _ _ _ _ _ c.answer.ensures.answer (λ s it has. clause.as_asked (map string_bytes c.args.words.now) it.asked _ it.is_command has.full)
@@ -128,5 +128,5 @@ returns-clause-completes g c = λ s asks read_well wrote_well.
 pub returns-clause-completes_over_disks : goal.returns-clause-completes_over_disks
 returns-clause-completes_over_disks g c = λ s images asks asked is read_well wrote_well disks_well offered sound.
     session_was_run c.answer.result.status (returns-clause-completes g c s asks read_well wrote_well)
-    (λ which fault. disks_well which (clause.disk_failed _ _ _ _ (g.H.Shop.view c.args.shop.now) _ _ _ _ c.answer.ensures.answer which fault))
+    (λ which fault. disks_well which ((clause.disk_failed _ _ _ _ (g.H.Shop.view c.args.shop.now) _ _ _ _ c.answer.ensures.answer which fault).2 asked is))
     (returns-clause-sound_images g c s images asks asked is offered sound)
