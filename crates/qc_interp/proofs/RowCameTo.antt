@@ -15,7 +15,7 @@ use Rattle.qc_script.specs.Client.{Client, mine, Made, AreOurs}
 use Rattle.qc_script.specs.Plan.{Numbered}
 use Rattle.qc_interp.specs.declared.body.branch.BranchCame.{BranchCame}
 use Rattle.qc_interp.specs.declared.body.branch.BranchCame.TheVariants as came
-use Rattle.qc_interp.specs.AtOnce.{Stands, branch_in, IsRefusal, LastCommitted, TriesEnd, CameSo, came_worse, came_behind, row_came}
+use Rattle.qc_interp.specs.AtOnce.{Stands, branch_in, IsRefusal, LastCommitted, TriesEnd, CameSo, came_worse, came_behind, told_want, row_came}
 use Rattle.qc_event.specs.declared.event.Entry.{Entry}
 use Rattle.qc_event.specs.declared.event.Kind.TheVariants as kind
 use Rattle.qc_interp.specs.Asking.{Asks, IsAskedBy}
@@ -106,16 +106,18 @@ ok x = Ok x
 abbrev pub err : Short → Result BranchCame Short
 err why = Err why
 
--- one whose run was cut off is the first of those
-pub short_stays : (why : Short) (bs : List Stands) → row_came (Err why) bs ≡ Err why
-short_stays why [] = refl
-short_stays why (b ∷ bs) = short_stays why bs
+not_both : (why : Short) (x : BranchCame) → err why ≡ ok x → ⊥
+not_both why x e = cc
 
-pub not_both : (why : Short) (x : BranchCame) (r : Result BranchCame Short) → r ≡ Err why → r ≡ Ok x → ⊥
-not_both why x r bad good = absurd (err_ok (sym bad ∙ good))
+-- behind one that was cut off some want is told
+pub not_well : (why : Short) (x : BranchCame) (bs : List Stands) → row_came (Err why) bs ≡ Ok x → ⊥
+not_well why x [] is = not_both why x is
+not_well why x (b ∷ bs) is = by_came b.came (λ w h. not_well w x bs h) is
   where
-    err_ok : err why ≡ ok x → ⊥
-    err_ok e = cc
+    by_came : (o : Option (Result BranchCame Short)) → ((w : Short) → row_came (Err w) bs ≡ Ok x → ⊥) → row_came (came_behind (Err why) b.body.must o) bs ≡ Ok x → ⊥
+    by_came None more is = more why is
+    by_came (Some (Ok y)) more is = more why is
+    by_came (Some (Err other)) more is = more (told_want why other) is
 
 abbrev pub Whole : Past → Branch → Type 0
 Whole now b = RanTries Reach.to_the_end (Unit {0}) b.client b.body now
@@ -128,21 +130,24 @@ all_whole now (b ∷ bs) so_far x all is = by_came b.came all.0 (λ y h. all_who
     by_came : (o : Option (Result BranchCame Short)) → CameSo b.view.client b.body now o → ((y : BranchCame) → row_came (Ok y) bs ≡ Ok x → AllByRecursion (Whole now) (map branch_in bs)) → row_came (came_behind (Ok so_far) b.body.must o) bs ≡ Ok x
         → AllByRecursion (Whole now) (map branch_in (b ∷ bs))
     by_came None h more is = absurd h
-    by_came (Some (Err why)) h more is = absurd (not_both why x (row_came (Err why) bs) (short_stays why bs) is)
+    by_came (Some (Err why)) h more is = absurd (not_well why x bs is)
     by_came (Some (Ok y)) h more is = (ended_whole b.view.client b.body now y h, more (came_worse so_far b.body.must y) is)
 
--- of which the first that was cut off is told
-pub short_room : (now : Past) (bs : List Stands) (so_far : BranchCame) (why : Short) → AllByRecursion (CameAt now) bs → row_came (Ok so_far) bs ≡ Err why → why ≡ short.Room → length now ≡ limit
-short_room now [] so_far why all is = absurd (not_both why so_far (Ok so_far) is refl)
-short_room now (b ∷ bs) so_far why all is = by_came b.came all.0 (λ y h. short_room now bs y why all.1 h) is
+-- Want of room is told only where one told it, and the history was full then.
+pub short_room : (now : Past) (bs : List Stands) (so_far : Result BranchCame Short) → AllByRecursion (CameAt now) bs → (so_far ≡ Err short.Room → length now ≡ limit) → row_came so_far bs ≡ Err short.Room → length now ≡ limit
+short_room now [] so_far all full is = full is
+short_room now (b ∷ bs) so_far all full is = short_room now bs (came_behind so_far b.body.must b.came) all.1 (by_came so_far b.came all.0 full) is
   where
-    by_came : (o : Option (Result BranchCame Short)) → CameSo b.view.client b.body now o → ((y : BranchCame) → row_came (Ok y) bs ≡ Err why → why ≡ short.Room → length now ≡ limit) → row_came (came_behind (Ok so_far) b.body.must o) bs ≡ Err why → why ≡ short.Room → length now ≡ limit
-    by_came None h more is = absurd h
-    by_came (Some (Err one)) h more is = λ room. h.1 (same_short (sym (short_stays one bs) ∙ is) ∙ room)
-      where
-        same_short : err one ≡ err why → one ≡ why
-        same_short e = cc
-    by_came (Some (Ok y)) h more is = more (came_worse so_far b.body.must y) is
+    same_short : (one other : Short) → err one ≡ err other → one ≡ other
+    same_short one other e = cc
+
+    by_came : (r : Result BranchCame Short) (o : Option (Result BranchCame Short)) → CameSo b.view.client b.body now o → (r ≡ Err short.Room → length now ≡ limit) → came_behind r b.body.must o ≡ Err short.Room → length now ≡ limit
+    by_came r None h full is = absurd h
+    by_came (Ok s) (Some (Ok y)) h full is = absurd (not_both short.Room (came_worse s b.body.must y) (sym is))
+    by_came (Ok s) (Some (Err why)) h full is = h.1 (same_short why short.Room is)
+    by_came (Err one) (Some (Ok y)) h full is = full is
+    by_came (Err short.Memory) (Some (Err other)) h full is = full is
+    by_came (Err short.Room) (Some (Err other)) h full is = h.1 (same_short other short.Room is)
 
 pub all_cut : (now : Past) (bs : List Stands) → AllByRecursion (CameAt now) bs → AllByRecursion (λ (b : Branch). RanTries Reach.cut_off (Unit {0}) b.client b.body now) (map branch_in bs)
 all_cut now [] all = tt
@@ -157,7 +162,7 @@ refused_stays w (b ∷ bs) x is = by_came b.came (refused_stays w bs x) is
   where
     by_came : (o : Option (Result BranchCame Short)) → (row_came (Ok (came.Refused w)) bs ≡ Ok x → x ≡ came.Refused w) → row_came (came_behind (Ok (came.Refused w)) b.body.must o) bs ≡ Ok x → x ≡ came.Refused w
     by_came None more is = more is
-    by_came (Some (Err why)) more is = absurd (not_both why x (row_came (Err why) bs) (short_stays why bs) is)
+    by_came (Some (Err why)) more is = absurd (not_well why x bs is)
     by_came (Some (Ok came.Through)) more is = more is
     by_came (Some (Ok (came.Failed last))) more is = more is
     by_came (Some (Ok (came.Refused v))) more is = more is
@@ -236,7 +241,7 @@ how_out now (b ∷ bs) s x all ours is = by_came b.came all.0 (λ y h. how_out n
 
     by_came : (o : Option (Result BranchCame Short)) → CameSo b.view.client b.body now o → ((y : BranchCame) → row_came (Ok y) bs ≡ Ok x → CameOut y x t f) → row_came (came_behind (Ok s) b.body.must o) bs ≡ Ok x → CameOut s x (p && t) (option_or q f)
     by_came None h more is = absurd h
-    by_came (Some (Err why)) h more is = absurd (not_both why x (row_came (Err why) bs) (short_stays why bs) is)
+    by_came (Some (Err why)) h more is = absurd (not_well why x bs is)
     by_came (Some (Ok came.Through)) h more is =
         pass s x p t q f (tried_whole Reach.to_the_end b.view.client b.body now h.0 ours.0)
         (failed_by b.view.client now b.body.must true h.1.0 h.1.1 h.1.2 (h.1.3 ours.0) ∙ as_none b.body.must) (by_s s b.body.must is more)

@@ -19,7 +19,7 @@ use Rattle.qc_interp.specs.Running.{Runs, CutOff, HasActed, Stepped}
 use Rattle.qc_interp.proofs.BranchEnds.{refusal_stops}
 use Rattle.qc_interp.proofs.Marking.{acted_by}
 use Rattle.qc_interp.proofs.Places.{each_place}
-use Rattle.qc_interp.proofs.RowCameTo.{CameAt, Whole, ok, err, not_both, short_stays, came_later, all_whole, all_cut, short_room, CameOut, how_out}
+use Rattle.qc_interp.proofs.RowCameTo.{CameAt, Whole, ok, err, not_well, came_later, all_whole, all_cut, short_room, CameOut, how_out}
 use Rattle.qc_interp.proofs.RowCut.{row_cut}
 use Rattle.qc_interp.proofs.RowEnds.{row_front}
 use Rattle.qc_interp.proofs.RowHere.{HaveOwnBodies}
@@ -58,7 +58,7 @@ failed_stays k l (b ∷ bs) is = by_came b.came (failed_stays k l bs) is
   where
     by_came : (o : Option (Result BranchCame Short)) → (row_came (Ok (came.Failed k)) bs ≡ Ok (came.Failed l) → l ≡ k) → row_came (came_behind (Ok (came.Failed k)) b.body.must o) bs ≡ Ok (came.Failed l) → l ≡ k
     by_came None more is = more is
-    by_came (Some (Err why)) more is = absurd (not_both why (came.Failed l) (row_came (Err why) bs) (short_stays why bs) is)
+    by_came (Some (Err why)) more is = absurd (not_well why (came.Failed l) bs is)
     by_came (Some (Ok came.Through)) more is = more is
     by_came (Some (Ok (came.Failed one))) more is = more is
     by_came (Some (Ok (came.Refused w))) more is = absurd (other (Rattle.qc_interp.proofs.RowCameTo.refused_stays w bs (came.Failed l) is))
@@ -86,7 +86,7 @@ failed_at now (b ∷ bs) last all is = by_came b.came b.body.must all.0 (λ h. b
     by_came : (o : Option (Result BranchCame Short)) (must : Bool) → CameSo b.view.client b.body now o → (row_came (Ok came.Through) bs ≡ Ok (came.Failed last) → FailedAt now (map branch_in (b ∷ bs)) last) → row_came (came_behind (Ok came.Through) must o) bs ≡ Ok (came.Failed last)
         → FailedAt now (map branch_in (b ∷ bs)) last
     by_came None must h more is = absurd h
-    by_came (Some (Err why)) must h more is = absurd (not_both why (came.Failed last) (row_came (Err why) bs) (short_stays why bs) is)
+    by_came (Some (Err why)) must h more is = absurd (not_well why (came.Failed last) bs is)
     by_came (Some (Ok came.Through)) true h more is = more is
     by_came (Some (Ok came.Through)) false h more is = more is
     by_came (Some (Ok (came.Failed one))) false h more is = more is
@@ -127,7 +127,7 @@ refused_at c of now (b ∷ bs) s w all stay was is = by_came b.came all.0 (λ y 
 
     by_came : (o : Option (Result BranchCame Short)) → CameSo b.view.client b.body now o → ((y : BranchCame) → (y ≡ came.Refused w → RefusedSo now of w) → row_came (Ok y) bs ≡ Ok (came.Refused w) → RefusedSo now of w) → row_came (came_behind (Ok s) b.body.must o) bs ≡ Ok (came.Refused w) → RefusedSo now of w
     by_came None h more is = absurd h
-    by_came (Some (Err why)) h more is = absurd (not_both why (came.Refused w) (row_came (Err why) bs) (short_stays why bs) is)
+    by_came (Some (Err why)) h more is = absurd (not_well why (came.Refused w) bs is)
     by_came (Some (Ok y)) h more is = more (came_worse s b.body.must y) (worse s b.body.must y h was) is
 
 last_place : (front : List Name) (last : Name) → slice_get (front ++ last ∷ []) (length front) ≡ Some last
@@ -192,7 +192,10 @@ module _ {of : Name} {v w3 : View} {bs2 : List Stands} {bodies : List Numbered} 
       (subst (λ d. CutOff d of v.seen w3.seen (row_step (map (λ (b : Branch). b.body) bs) rest)) (sym is) (row_cut (λ b. Unit {0}) c of v.seen w1.seen w3.seen bs cut_row runs own rest))
 
   pub done_room : (why : Short) → row_came (Ok came.Through) bs2 ≡ Err why → why ≡ short.Room → length w3.seen ≡ limit
-  done_room why short = short_room w3.seen bs2 came.Through why came_all short
+  done_room why told is = short_room w3.seen bs2 (Ok came.Through) came_all (λ e. absurd (other e)) (told ∙ ap err is)
+    where
+      other : ok came.Through ≡ err short.Room → ⊥
+      other e = cc
 
   -- where all ran
   module _ (x : BranchCame) (came_to : row_came (Ok came.Through) bs2 ≡ Ok x) where

@@ -161,8 +161,13 @@ abbrev pub MergedInTurn : View → List Stands → View → Type 0
 MergedInTurn old [] new = new ≡ old
 MergedInTurn old (b ∷ bs) new = (mid : View) × Merged old b.view mid × MergedInTurn mid bs new
 
--- What branches came to, with one more: want of memory or room comes first, then a refusal, then the first that must commit
--- and failed.
+-- of two wants that of memory is told
+abbrev pub told_want : Short → Short → Short
+told_want short.Memory other = short.Memory
+told_want short.Room other = other
+
+-- What branches came to, with one more: want of memory comes first, then want of room, then a refusal, then the first that
+-- must commit and failed.
 abbrev pub came_worse : BranchCame → Bool → BranchCame → BranchCame
 came_worse came.Through true (came.Failed last) = came.Failed last
 came_worse came.Through must (came.Refused why) = came.Refused why
@@ -170,7 +175,9 @@ came_worse (came.Failed first) must (came.Refused why) = came.Refused why
 came_worse so_far must one = so_far
 
 abbrev pub came_behind : Result BranchCame Short → Bool → Option (Result BranchCame Short) → Result BranchCame Short
-came_behind (Err short) must one = Err short
+came_behind (Err one) must None = Err one
+came_behind (Err one) must (Some (Ok other)) = Err one
+came_behind (Err one) must (Some (Err other)) = Err (told_want one other)
 came_behind (Ok so_far) must None = Ok so_far
 came_behind (Ok so_far) must (Some (Err short)) = Err short
 came_behind (Ok so_far) must (Some (Ok one)) = Ok (came_worse so_far must one)

@@ -9,9 +9,11 @@ mod marks;
 mod pause;
 mod stops;
 mod tops;
+mod wants;
 
 pub use body::steps;
 pub use gate::{Gate, Mode, NoGate};
 pub use host::Host;
 pub use stops::Finish;
 pub use tops::run_tops;
+pub use wants::told_want;

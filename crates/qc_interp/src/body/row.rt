@@ -19,6 +19,7 @@ use crate::body::branch::{Branch, BranchCame, run_branch};
 use crate::gate::Mode;
 use crate::host::Host;
 use crate::stops::{quit_for, stop};
+use crate::wants::told_want;
 use qc_event::{Cause, Name, Short};
 use qc_script::{Body, Tx, TxNo};
 use std::alloc::{AllocError, Global};
@@ -143,8 +144,8 @@ fn run_all<T: Tx + Send + Drop, R: Threads + Sync>(
     );
 }
 
-// What branches came to, with one more: want of memory or room comes first, then a refusal, then
-// the first that must commit and failed.
+// What branches came to, with one more: want of memory comes first, then want of room, then a
+// refusal, then the first that must commit and failed.
 fn came_behind(
     so_far: Result<BranchCame, Short>,
     must: bool,
@@ -153,6 +154,7 @@ fn came_behind(
     ensures { result ≡ at_once.came_behind so_far must came.now }
 {
     match (&so_far, came) {
+        (Err(one), Some(Err(other))) => Err(told_want(*one, *other)),
         (Ok(_), Some(Err(short))) => Err(*short),
         (Ok(BranchCame::Through), Some(Ok(BranchCame::Failed { last }))) if must => {
             Ok(BranchCame::Failed { last: *last })
