@@ -8,7 +8,7 @@ use Rattle.std.specs.List.{list_any}
 use Rattle.std.proofs.lemmas.Bool.{or_right}
 use Rattle.std.proofs.lemmas.List.{length-append}
 use Rattle.qc_event.specs.declared.log.Short.{Short}
-use Rattle.qc_event.specs.declared.log.Short.TheVariants.{Room}
+use Rattle.qc_event.specs.declared.log.Short.TheVariants.{Memory, Room}
 use Rattle.qc_event.specs.Base.{Setting}
 use Rattle.qc_event.specs.History.{Past, limit}
 use Rattle.qc_interp.specs.Reach.{Reach}
@@ -21,7 +21,7 @@ use Rattle.qc_pass.proofs.Having.{has_both, has_cons, has_left, has_none, has_ri
 use Rattle.qc_pass.proofs.Seers.{older_trans}
 use Rattle.qc_script.specs.Plan.{SessionPlan}
 use Rattle.qc_session.specs.Marking.{made_under}
-use Rattle.qc_session.specs.Session.{AreHigh, EachJoined, HaveRun, IsFirst, IsNew, Leaves, RanEach, RanOne, is_of}
+use Rattle.qc_session.specs.Session.{AreHigh, EachJoined, HaveRun, IsFirst, IsNew, Leaves, RanEach, RanOne, first_want, is_of}
 
 -- the first pass with a pass that it gave out
 abbrev with_out : View → ℕ → View
@@ -127,11 +127,6 @@ module _ (mid back now : View) (joins : now ≡ knows now.seen (joined mid back)
 
 -- THE SESSIONS
 
--- the first want, where there is one
-abbrev pub first_want : Result (Unit {0}) Short → Result (Unit {0}) Short → Result (Unit {0}) Short
-first_want (Ok done) rest = rest
-first_want (Err why) rest = Err why
-
 -- each that joined has joined still
 each_later : (reach : Reach) (setting : Setting) (epoch patience session : ℕ) (plans : List SessionPlan) (ones : List View) (mid now : View)
     → ((k : ℕ) (m : Past) → Has mid.kin (pair k m) → Has now.kin (pair k m)) → IsOlder mid.seen now.seen
@@ -217,11 +212,29 @@ module _ (setting : Setting) (epoch patience session : ℕ) (plan : SessionPlan)
     begins = one_more_run Reach.cut_off one.begins others.begins;
     room = λ is. longer mid.seen mid_seen (others.room is);
   }
-  each_ran (Err why) rest one others = record {
+  each_ran (Err why) (Ok done) one others = record {
     first = first_joined mid back now joins others.first;
     follows = tt;
     begins = one_more_run Reach.cut_off one.begins others.begins;
     room = λ is. longer back.seen back_seen (let full = one.room is in omega (arith, full));
+  }
+  each_ran (Err Memory) (Err other) one others = record {
+    first = first_joined mid back now joins others.first;
+    follows = tt;
+    begins = one_more_run Reach.cut_off one.begins others.begins;
+    room = λ is. absurd (not_room is);
+  }
+    where
+      short : Result (Unit {0}) Short
+      short = Err Memory
+
+      not_room : IsErrOf short Room → ⊥
+      not_room is = cc
+  each_ran (Err Room) (Err other) one others = record {
+    first = first_joined mid back now joins others.first;
+    follows = tt;
+    begins = one_more_run Reach.cut_off one.begins others.begins;
+    room = λ is. longer mid.seen mid_seen (others.room is);
   }
 
 -- none is left to run

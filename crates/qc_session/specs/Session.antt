@@ -1,10 +1,11 @@
 -- What the client of a session leaves in its pass, and what the clients of a script's sessions leave in the first pass.
-use Rattle.std.specs.Prelude.{ℕ, ◌≡◌, ◌+◌, ◌<◌, ◌≤◌, ◌==◌, ◌⊎◌, Bool, true, IsTrue, List, [], ◌∷◌, length, OnOk, IsErrOf, Result}
+use Rattle.std.specs.Prelude.{ℕ, ◌≡◌, ◌+◌, ◌<◌, ◌≤◌, ◌==◌, ◌⊎◌, Bool, true, IsTrue, List, [], ◌∷◌, length, OnOk, IsErrOf, Result, Ok, Err}
 use Rattle.std.specs.List.{list_all, list_any}
 use Rattle.qc_event.specs.declared.log.Short.{Short}
 use Rattle.qc_event.specs.declared.log.Short.TheVariants.{Room}
 use Rattle.qc_event.specs.Base.{Setting}
 use Rattle.qc_event.specs.History.{Past, limit}
+use Rattle.qc_interp.specs.AtOnce.{told_want}
 use Rattle.qc_interp.specs.FollowsScript.{net_of}
 use Rattle.qc_interp.specs.Reach.{Reach}
 use Rattle.qc_interp.specs.Session.{EndsTopsAt, InTurnAt}
@@ -96,6 +97,12 @@ pub record HaveRun (reach : Reach) (setting : Setting) (epoch patience session :
   pub kept : (k : ℕ) (m : Past) → Has before.kin (k, m) → Has now.kin (k, m)
   pub out : (k : ℕ) → Has now.out k → Has before.out k
   pub older : IsOlder before.seen now.seen
+
+-- what is told of two, of which either may be a want
+abbrev pub first_want : Result (Unit {0}) Short → Result (Unit {0}) Short → Result (Unit {0}) Short
+first_want (Ok done) other = other
+first_want (Err one) (Ok done) = Err one
+first_want (Err one) (Err other) = Err (told_want one other)
 
 -- the sessions ran so, all to their end or as far as memory and room went
 pub record RanEach (setting : Setting) (epoch patience session : ℕ) (plans : List SessionPlan) (before : Pass) (ran : Result (Unit {0}) Short) (now : Pass) : Type 0 where

@@ -4,6 +4,7 @@ ghost use Rattle.qc_event.specs.Tables.{setting_of};
 ghost use Rattle.qc_script.specs.Plan.{SessionsFit};
 ghost use Rattle.qc_script.specs.Steps.{plan_of_session};
 ghost use Rattle.qc_session.specs.Marking.{IsSeatAt};
+ghost use Rattle.qc_session.specs.Session as words;
 ghost use Rattle.qc_session.specs.Session.{IsFirst, IsNew, RanEach, RanOne, SessionFits};
 
 use crate::client::Client;
@@ -11,7 +12,7 @@ use qc_board::{Board, BoardSeat, Boarded};
 use qc_carry::Line;
 use qc_disk::Disk;
 use qc_event::Short;
-use qc_interp::{Gate, Host, Mode, run_tops};
+use qc_interp::{Gate, Host, Mode, run_tops, told_want};
 use qc_net::{Courier, Fate, PlanLink};
 use qc_pass::Pass;
 use qc_script::{Script, Session};
@@ -36,6 +37,17 @@ where
     pub(crate) mode: Mode,
     pub(crate) at: PhantomData<B>,
     ghost boarded: { board.now.board ≡ B.board },
+}
+
+// What is told of two, of which either may be a want.
+fn first_want(one: Result<(), Short>, other: Result<(), Short>) -> Result<(), Short>
+    ensures { result ≡ words.first_want one other }
+{
+    match (one, other) {
+        (Ok(()), other) => other,
+        (Err(one), Ok(())) => Err(one),
+        (Err(one), Err(other)) => Err(told_want(one, other)),
+    }
 }
 
 // The fates of a session's requests.
@@ -164,7 +176,7 @@ impl<
     }
 
     /// Runs sessions, numbered from this one on, each by a client of its own, and joins what these saw to the first pass.
-    /// One that stops for want of memory or room stops alone; the want of the first such session is told.
+    /// One that stops for want of memory or room stops alone. Where several did, want of memory is told before want of room.
     #[cycle(sessions)]
     pub(crate) fn run_from(
         &self,
@@ -194,10 +206,7 @@ impl<
         );
         pass.known();
         self.system.desk().join(self.rt, &mut first, pass);
-        match ran {
-            Ok(()) => (others, first),
-            Err(short) => (Err(short), first),
-        }
+        (first_want(ran, others), first)
     }
 }
 

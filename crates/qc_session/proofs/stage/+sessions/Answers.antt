@@ -9,8 +9,8 @@ use Rattle.qc_pass.specs.Entries.{IsOlder, entries_of}
 use Rattle.qc_pass.specs.Rules.{AreKin, IsSplit, joined, knows}
 use Rattle.qc_script.specs.declared.script.Session.{Session}
 use Rattle.qc_script.specs.Steps.{plan_of_session}
-use Rattle.qc_session.specs.Session.{IsFirst, RanEach, RanOne}
-use Rattle.qc_session.proofs.Joining.{each_ran, first_want, new_pass, none_left}
+use Rattle.qc_session.specs.Session.{IsFirst, RanEach, RanOne, first_want}
+use Rattle.qc_session.proofs.Joining.{each_ran, new_pass, none_left}
 use Rattle.qc_session.proofs.stage.+sessions.Goals as goal
 
 no_sessions : (ss : List Session) → length ss < 1 → ss ≡ []
@@ -41,22 +41,12 @@ Stage::run_from-returns-in_default g t c =
     subst (λ (ss : List Session). RanEach setting epoch patience c.args.number (map plan_of_session ss) c.args.first (Ok tt) c.args.first) (sym (no_sessions c.args.sessions.now (omega (arith, c.in_default.len_below))))
     (none_left setting epoch patience c.args.number c.args.first c.requires.first)
 
-pub Stage::run_from-returns-in-Ok : goal.Stage::run_from-returns-in-Ok
-Stage::run_from-returns-in-Ok g t c =
+pub Stage::run_from-returns : goal.Stage::run_from-returns
+Stage::run_from-returns g t c =
     let setting = setting_of g.N.Store.table g.N.Store.base in
     let epoch = c.args.self.now.system.now.desk.epoch in
     let patience = c.args.self.now.script.now.patience in
     let ran = c.run_both-pass.result in
-    subst (λ (r : Result (Unit {0}) Short). RanEach setting epoch patience c.args.number (map plan_of_session c.args.sessions.now) c.args.first (first_want r ran.1.0) c.join.new.pass) c.in-Ok.is
-    (both setting epoch patience c.args.number c.args.sessions.now c.session-item.result c.args.first c.split-pass.new.pass c.split-pass.result ran.0.1 ran.1.1 c.join.new.pass ran.0.0 ran.1.0 (omega (arith, c.in-len1-up.len_at_least)) c.session-item.is
-    c.requires.first c.split-pass.ensures.split c.known.ensures.mine c.run_both-pass.ensures.one c.run_both-pass.ensures.others c.known-2.ensures.mine c.known-2.ensures.kin c.join.ensures.joined c.join.ensures.seen)
-
-pub Stage::run_from-returns-in-Err : goal.Stage::run_from-returns-in-Err
-Stage::run_from-returns-in-Err g t c =
-    let setting = setting_of g.N.Store.table g.N.Store.base in
-    let epoch = c.args.self.now.system.now.desk.epoch in
-    let patience = c.args.self.now.script.now.patience in
-    let ran = c.run_both-pass.result in
-    subst (λ (r : Result (Unit {0}) Short). RanEach setting epoch patience c.args.number (map plan_of_session c.args.sessions.now) c.args.first (first_want r ran.1.0) c.join.new.pass) c.in-Err.is
+    subst (λ (r : Result (Unit {0}) Short). RanEach setting epoch patience c.args.number (map plan_of_session c.args.sessions.now) c.args.first r c.join.new.pass) (sym c.first_want.ensures)
     (both setting epoch patience c.args.number c.args.sessions.now c.session-item.result c.args.first c.split-pass.new.pass c.split-pass.result ran.0.1 ran.1.1 c.join.new.pass ran.0.0 ran.1.0 (omega (arith, c.in-len1-up.len_at_least)) c.session-item.is
     c.requires.first c.split-pass.ensures.split c.known.ensures.mine c.run_both-pass.ensures.one c.run_both-pass.ensures.others c.known-2.ensures.mine c.known-2.ensures.kin c.join.ensures.joined c.join.ensures.seen)
