@@ -1,3 +1,3 @@
 pub mod Listed
-pub mod LastTuples
+pub mod Bests
 pub mod ForGood

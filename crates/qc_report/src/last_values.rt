@@ -1,14 +1,74 @@
 //! The last values, by the versions of the tuples.
-ghost use Rattle.std.specs.Prelude.{◌≡◌, ◌≤◌, length, map, reverse, IfOk};
+ghost use Rattle.std.specs.Prelude.{◌≡◌, ◌≤◌, ◌&&◌, ◌++◌, ◌∷◌, [], ℕ, List, length, map, not, reverse, IfOk};
 ghost use Rattle.std.specs.List.{range_with_len};
-ghost use Rattle.qc_event.specs.Base.{start_tuple};
-ghost use Rattle.qc_event.specs.Manager.{greatest_among};
+ghost use Rattle.qc_config.specs.declared.tuple.Tuple.{Tuple};
+ghost use Rattle.qc_event.specs.Clear.{is_get};
+ghost use Rattle.qc_event.specs.Sound.{column};
 ghost use Rattle.qc_refine.specs.Final as spec;
-ghost use Rattle.qc_report.specs.LastValues.{values_by_version};
+ghost use Rattle.qc_report.specs.LastValues as last;
 
 use crate::history::History;
-use qc_event::{Base, Event, Name, Op, Tuple, Val};
+use qc_event::{Base, Event, Grant, Name, Op, Tuple, Val};
 use std::alloc::{AllocError, Global};
+use std::marker::Model;
+
+/// The greatest version among tuples, and its value.
+#[derive(Clone, Copy)]
+struct Best {
+    version: u64,
+    value: Val,
+}
+
+impl Model for Best {
+    ghost use Rattle.qc_event.specs.Manager as words;
+
+    ghost Value = { words.Greatest };
+
+    ghost view = { λ b. record { version = b.version; value = b.value } };
+
+    ghost inverse = { λ v. record { version = v.version; value = v.value } };
+}
+
+impl Best {
+    /// The version and the value of a tuple.
+    fn of(tuple: &Tuple) -> Self
+        ensures { result ≡ last.best tuple.now }
+    {
+        Best {
+            version: tuple.version,
+            value: tuple.value,
+        }
+    }
+
+    fn value(&self) -> Val
+        ensures { result ≡ self.now.value }
+    {
+        self.value
+    }
+}
+
+/// Whether a tuple has a greater version than the best of others. It has where there are no others.
+fn is_greater(best: Option<Best>, tuple: &Tuple) -> bool
+    ensures { result ≡ last.is_greater best tuple.now }
+{
+    match best {
+        Some(best) => best.version < tuple.version,
+        None => true,
+    }
+}
+
+/// The best of others and one more tuple.
+fn raised(best: Option<Best>, tuple: &Tuple) -> Option<Best>
+    ensures { result ≡ last.raised best tuple.now }
+{
+    match best {
+        Some(best) if best.version >= tuple.version => Some(best),
+        _ => Some(Best {
+            version: tuple.version,
+            value: tuple.value,
+        }),
+    }
+}
 
 /// Whether each ancestor of an access but the root is committed, itself too.
 fn is_for_good(history: &History<'_>, access: &Name) -> bool
@@ -22,86 +82,78 @@ fn is_for_good(history: &History<'_>, access: &Name) -> bool
     true
 }
 
-/// What a put of a record left at its copy, where it and each of its ancestors but the root is committed.
-fn put_for_good(history: &History<'_>, rec: u8, event: &Event) -> Option<Tuple>
-    ensures { result ≡ spec.put_for_good (reverse history.now) rec event.now }
+/// Whether a grant left a greater version than the best, for good. The history is asked last.
+fn raises(best: Option<Best>, history: &History<'_>, grant: &Grant) -> bool
+    ensures { result ≡ (not (is_get grant.now.op) && last.is_greater best grant.now.tuple
+        && spec.is_for_good (reverse history.now) grant.now.access) }
+{
+    !matches!(grant.op, Op::Get)
+        && is_greater(best, &grant.tuple)
+        && is_for_good(history, &grant.access)
+}
+
+/// Takes in what an entry left for good.
+fn take_in(bests: &mut Vec<Option<Best>>, history: &History<'_>, event: &Event)
+    ensures best { (tuples : ℕ → List Tuple) → last.AreBest tuples bests.old.items
+        → last.AreBest (last.with_put (reverse history.now) event.now tuples) bests.new.items }
+    ensures len { length bests.new.items ≡ length bests.old.items }
 {
     let Event::Granted { grant, .. } = event else {
-        return None;
+        return;
     };
-    let is_put = grant.rec == rec && !matches!(grant.op, Op::Get);
-    if is_put && is_for_good(history, &grant.access) {
-        Some(grant.tuple)
-    } else {
-        None
+    let rec = usize::from(grant.rec);
+    if rec < bests.len() && raises(bests[rec], history, grant) {
+        bests[rec] = Some(Best::of(&grant.tuple));
     }
 }
 
-/// The tuples with which the copies of a record start, copy by copy.
-fn start_tuples(alloc: Global, base: &Base, rec: u8) -> Result<Vec<Tuple>, AllocError>
+/// The best of the tuples with which the copies of a record start.
+fn start_best(base: &Base, rec: u8) -> Option<Best>
     requires { length base.now ≤ 16 }
-    ensures { IfOk result (λ tuples. tuples.items
-        ≡ map (λ copy. start_tuple base.now copy rec) (range_with_len 0 (length base.now))) }
+    ensures { result ≡ last.best_of (column base.now rec) }
 {
-    (0..base.copies() as u8)
-        .map(|copy| base.tuple(copy, rec))
-        .collect(alloc)
-}
-
-/// The tuples with which the copies of a record start, and those that puts left whose every ancestor but the root
-/// is committed.
-fn last_tuples(
-    alloc: Global,
-    base: &Base,
-    history: &History<'_>,
-    rec: u8,
-) -> Result<Vec<Tuple>, AllocError>
-    requires { length base.now ≤ 16 }
-    ensures { IfOk result
-        (λ tuples. tuples.items ≡ spec.last_tuples base.now (reverse history.now) rec) }
-{
-    let mut tuples = start_tuples(alloc, base, rec)?;
-    for entry in history.entries() {
-        if let Some(tuple) = put_for_good(history, rec, &entry.event) {
-            tuples.push(tuple)?;
-        }
+    let mut best = None;
+    for copy in 0..base.copies() as u8 {
+        best = raised(best, &base.tuple(copy, rec));
     }
-    Ok(tuples)
+    best
 }
 
-/// The value of the greatest version, the first of equals; 0 where there are no tuples.
-fn greatest_value(tuples: &[Tuple]) -> Val
-    ensures { result ≡ (greatest_among tuples.now).value }
+/// The best of the tuples with which the copies start, record by record.
+fn start_bests(alloc: Global, base: &Base, records: usize) -> Result<Vec<Option<Best>>, AllocError>
+    requires copies { length base.now ≤ 16 }
+    requires records { records ≤ 64 }
+    ensures { IfOk result (λ bests. bests.items
+        ≡ map (λ rec. last.best_of (column base.now rec)) (range_with_len 0 records)) }
 {
-    let [first, others @ ..] = tuples else {
-        return 0;
-    };
-    let (mut version, mut value) = (first.version, first.value);
-    for tuple in others {
-        if version < tuple.version {
-            (version, value) = (tuple.version, tuple.value);
-        }
+    let mut bests = Vec::new(alloc);
+    for rec in 0..records as u8 {
+        bests.push(start_best(base, rec))?;
     }
-    value
+    Ok(bests)
 }
 
-fn final_value(
-    alloc: Global,
-    base: &Base,
-    history: &History<'_>,
-    rec: u8,
-) -> Result<Val, AllocError>
-    requires { length base.now ≤ 16 }
-    ensures { IfOk result (λ value. value ≡ spec.final_value base.now (reverse history.now) rec) }
+/// The value of the best; 0 where there is none.
+fn value_of(best: Option<Best>) -> Val
+    ensures { result ≡ last.value_of best }
 {
-    let tuples = last_tuples(alloc, base, history, rec)?;
-    Ok(greatest_value(tuples.as_slice()))
+    match best {
+        Some(best) => best.value(),
+        None => 0,
+    }
+}
+
+/// The values of the best, record by record.
+fn values_of(alloc: Global, bests: &[Option<Best>]) -> Result<Vec<Val>, AllocError>
+    ensures { IfOk result (λ values. values.items ≡ map last.value_of bests.now) }
+{
+    bests.iter().map(|best| value_of(*best)).collect(alloc)
 }
 
 /// The last value of each record: that of the greatest version among the start tuples and
 /// the granted puts whose every ancestor but the root is committed. Of equals it is the first, start
-/// tuples by copy before puts in their order. It goes over the entries once for each record, and asks the
-/// history for each ancestor of a put.
+/// tuples by copy before puts in their order. It goes over the entries once, and asks the history for each
+/// ancestor of a put whose version is greater than the best so far.
 pub fn finals(
     alloc: Global,
     base: &Base,
@@ -111,11 +163,11 @@ pub fn finals(
     requires copies { length base.now ≤ 16 }
     requires records { records ≤ 64 }
     ensures { IfOk result
-        (λ values. values.items ≡ values_by_version base.now (reverse history.now) records) }
+        (λ values. values.items ≡ last.values_by_version base.now (reverse history.now) records) }
 {
-    let mut values = Vec::new(alloc);
-    for rec in 0..records as u8 {
-        values.push(final_value(alloc, base, history, rec)?)?;
+    let mut bests = start_bests(alloc, base, records)?;
+    for entry in history.entries() {
+        take_in(&mut bests, history, &entry.event);
     }
-    Ok(values)
+    values_of(alloc, bests.as_slice())
 }

@@ -1,7 +1,11 @@
-use Rattle.std.proofs.Common.{◌≡◌, reverse}
-use Rattle.qc_report.specs.LastValues.{values_by_version}
+-- The greatest of each record are those of the start and of the entries so far.
+use Rattle.std.proofs.Common.{◌≡◌, length, reverse, take}
+use Rattle.qc_report.specs.LastValues.{AreBest}
+use Rattle.qc_report.proofs.Bests.{tuples_of}
 use Rattle.qc_report.proofs.last_values.finals.Given as goal
 
--- the values are those of the records so far
-abbrev pub invariant-loop-rec : goal.invariant-loop-rec
-invariant-loop-rec l = l.values.items ≡ values_by_version l.base (reverse l.history) l.rec
+abbrev pub invariant-loop-entry : goal.invariant-loop-entry
+invariant-loop-entry l = record {
+  as_many : length l.bests.items ≡ l.records;
+  best : AreBest (tuples_of l.base (reverse l.history) (take l.entry-index l.entry-items)) l.bests.items;
+}
