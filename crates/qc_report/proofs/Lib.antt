@@ -1,3 +1,4 @@
 pub mod Listed
 pub mod Bests
+pub mod Further
 pub mod ForGood

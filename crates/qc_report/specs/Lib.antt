@@ -1,3 +1,4 @@
 pub mod Report
 pub mod LastValues
 pub mod Indexed
+pub mod Counts

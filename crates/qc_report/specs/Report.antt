@@ -171,9 +171,13 @@ abbrev pub in_doubt : List Entry → Event → Bool
 in_doubt trail (Ready top) = is_live (dead.outcome (reverse trail) top)
 in_doubt trail _ = false
 
+-- the line of a top in doubt
+abbrev pub top_line : Name → Text
+top_line top = codes "doubt " ++ name.text top ++ codes "\n"
+
 -- the line of a top that was ready and has not ended
 abbrev pub doubt_line : List Entry → Event → Text
-doubt_line trail (Ready top) = if is_live (dead.outcome (reverse trail) top) then codes "doubt " ++ name.text top ++ codes "\n" else []
+doubt_line trail (Ready top) = if is_live (dead.outcome (reverse trail) top) then top_line top else []
 doubt_line trail _ = []
 
 -- a record, and its value at the end

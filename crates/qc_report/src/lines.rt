@@ -4,7 +4,6 @@ ghost use Rattle.qc_report.specs.Report as spec;
 use crate::history::History;
 use crate::managers::{push_failed, push_read, push_reconf, push_set};
 use crate::page::Page;
-use crate::tally::in_doubt;
 use qc_event::{Answer, Cause, Event, How, Kind, Name, Row, Table};
 use std::alloc::AllocError;
 
@@ -97,18 +96,11 @@ pub(crate) fn push_event(
     }
 }
 
-/// Appends a line for a top that was ready and has not ended.
-pub(crate) fn push_doubt(
-    page: &mut Page,
-    history: &History<'_>,
-    event: &Event,
-) -> Result<(), AllocError>
-    ensures { OnOk result (page.new ≡ page.old ++ spec.doubt_line history.now event.now) }
+/// Appends the line of a top in doubt.
+pub(crate) fn push_doubt(page: &mut Page, top: &Name) -> Result<(), AllocError>
+    ensures { OnOk result (page.new ≡ page.old ++ spec.top_line top.now) }
 {
-    match event {
-        Event::Ready { top } if in_doubt(history, event) => write!(page, "doubt {top}\n"),
-        _ => Ok(()),
-    }
+    write!(page, "doubt {top}\n")
 }
 
 /// Appends a record with its value at the end.

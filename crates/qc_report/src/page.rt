@@ -36,6 +36,13 @@ impl Page {
         self.bytes.extend_from_slice(bytes)
     }
 
+    /// Appends another page.
+    pub(crate) fn append(&mut self, page: &Self) -> Result<(), AllocError>
+        ensures { OnOk result (self.new ≡ self.old ++ page.now) }
+    {
+        self.push(page.bytes.as_slice())
+    }
+
     /// Appends what a value prints, so that `write!` writes to a page.
     pub fn write_fmt<D: Display + Drop>(&mut self, value: D) -> Result<(), AllocError>
         ensures { OnOk result (AppendsText self.old self.new (D.output value)) }

@@ -1,4 +1,7 @@
-ghost use Rattle.std.specs.Prelude.{◌≡◌, ◌++◌, OnOk};
+//! How many tops there were, and whether any is in doubt.
+ghost use Rattle.std.specs.Prelude.{◌≡◌, ◌++◌, ◌∷◌, [], List, OnOk};
+ghost use Rattle.qc_event.specs.declared.event.Entry.{Entry};
+ghost use Rattle.qc_report.specs.Counts.{HasRoom, counts, tally_text};
 ghost use Rattle.qc_report.specs.Report as spec;
 
 use crate::history::History;
@@ -65,34 +68,6 @@ fn aborts_top(event: &Event) -> bool
     }
 }
 
-fn tops_started(trail: &[Entry]) -> usize
-    ensures { result ≡ spec.entries_of spec.starts_top trail.now }
-{
-    trail.iter().filter(|e| starts_top(&e.event)).count()
-}
-
-fn tops_committed(trail: &[Entry]) -> usize
-    ensures { result ≡ spec.entries_of spec.commits_top trail.now }
-{
-    trail.iter().filter(|e| commits_top(&e.event)).count()
-}
-
-fn tops_aborted(trail: &[Entry]) -> usize
-    ensures { result ≡ spec.entries_of spec.aborts_top trail.now }
-{
-    trail.iter().filter(|e| aborts_top(&e.event)).count()
-}
-
-fn tops_in_doubt(history: &History<'_>) -> usize
-    ensures { result ≡ spec.entries_of (spec.in_doubt history.now) history.now }
-{
-    history
-        .entries()
-        .iter()
-        .filter(|e| in_doubt(history, &e.event))
-        .count()
-}
-
 /// Whether any top was ready and has not ended.
 pub fn has_doubt(history: &History<'_>) -> bool
     ensures { result ≡ spec.has_doubt history.now }
@@ -105,40 +80,63 @@ pub fn has_doubt(history: &History<'_>) -> bool
 
 /// How many tops were started, committed and aborted, and how many are in doubt.
 #[derive(Clone, Copy)]
-struct Tally {
+pub(crate) struct Tally {
     started: usize,
     committed: usize,
     aborted: usize,
     doubt: usize,
 }
 
-fn push_counts(page: &mut Page, tally: Tally) -> Result<(), AllocError>
-    ensures { OnOk result
-        (page.new ≡ page.old
-        ++ spec.tally_line tally.started tally.committed tally.aborted tally.doubt) }
-{
-    let Tally {
-        started,
-        committed,
-        aborted,
-        doubt,
-    } = tally;
-    write!(
-        page,
-        "tops {started} committed {committed} aborted {aborted} doubt {doubt}\n"
-    )
-}
+impl Tally {
+    /// The counts of no entries.
+    pub(crate) fn none() -> Self
+        ensures { (trail : List Entry) → result ≡ counts trail [] }
+    {
+        Tally {
+            started: 0,
+            committed: 0,
+            aborted: 0,
+            doubt: 0,
+        }
+    }
 
-/// Appends how many tops were started, committed and aborted, and how many are in doubt.
-pub(crate) fn push_tally(page: &mut Page, history: &History<'_>) -> Result<(), AllocError>
-    ensures { OnOk result (page.new ≡ page.old ++ spec.tally history.now) }
-{
-    let trail = history.entries();
-    let tally = Tally {
-        started: tops_started(trail),
-        committed: tops_committed(trail),
-        aborted: tops_aborted(trail),
-        doubt: tops_in_doubt(history),
-    };
-    push_counts(page, tally)
+    /// Counts an entry, of which it is known whether it is a top in doubt.
+    pub(crate) fn count(&mut self, entry: &Entry, is_doubt: bool)
+        requires { HasRoom self.old }
+        ensures { (trail before : List Entry) → is_doubt ≡ spec.in_doubt trail entry.now.event
+            → self.old ≡ counts trail before
+            → self.new ≡ counts trail (before ++ entry.now ∷ []) }
+    {
+        self.started += usize::from(starts_top(&entry.event));
+        self.committed += usize::from(commits_top(&entry.event));
+        self.aborted += usize::from(aborts_top(&entry.event));
+        self.doubt += usize::from(is_doubt);
+    }
+
+    /// The counts of a history.
+    pub(crate) fn of(history: &History<'_>) -> Self
+        ensures { result ≡ counts history.now history.now }
+    {
+        let mut tally = Tally::none();
+        for entry in history.entries() {
+            tally.count(entry, in_doubt(history, &entry.event));
+        }
+        tally
+    }
+
+    /// Appends the line of the counts.
+    pub(crate) fn push(self, page: &mut Page) -> Result<(), AllocError>
+        ensures { OnOk result (page.new ≡ page.old ++ tally_text self) }
+    {
+        let Tally {
+            started,
+            committed,
+            aborted,
+            doubt,
+        } = self;
+        write!(
+            page,
+            "tops {started} committed {committed} aborted {aborted} doubt {doubt}\n"
+        )
+    }
 }

@@ -1,0 +1,78 @@
+//! What one pass over the entries of a history sums up.
+ghost use Rattle.std.specs.Prelude.{◌≡◌, ◌++◌, ◌∷◌, [], List, IfOk, OnOk};
+ghost use Rattle.qc_event.specs.declared.event.Entry.{Entry};
+ghost use Rattle.qc_report.specs.Counts.{HasRoom, counts};
+ghost use Rattle.qc_report.specs.Report as spec;
+
+use crate::history::History;
+use crate::lines::{push_doubt, push_event};
+use crate::page::Page;
+use crate::tally::{Tally, in_doubt};
+use qc_event::{Entry, Event, Table};
+use std::alloc::{AllocError, Global};
+
+/// The lines of the ends among entries, those of the tops in doubt, and how many tops there were.
+#[derive(Drop)]
+pub(crate) struct Sums {
+    pub(crate) ends: Page,
+    pub(crate) doubts: Page,
+    pub(crate) tally: Tally,
+}
+
+impl Sums {
+    fn new(alloc: Global) -> Self
+        ensures ends { result.ends ≡ [] }
+        ensures doubts { result.doubts ≡ [] }
+        ensures tally { (trail : List Entry) → result.tally ≡ counts trail [] }
+    {
+        Sums {
+            ends: Page::new(alloc),
+            doubts: Page::new(alloc),
+            tally: Tally::none(),
+        }
+    }
+
+    // Takes in an entry of the history.
+    fn take_in(
+        &mut self,
+        table: &Table,
+        history: &History<'_>,
+        entry: &Entry,
+    ) -> Result<(), AllocError>
+        requires { HasRoom self.old.tally }
+        ensures ends { OnOk result (self.new.ends
+            ≡ self.old.ends ++ spec.event_line table.now history.now entry.now.event) }
+        ensures doubts { OnOk result
+            (self.new.doubts ≡ self.old.doubts ++ spec.doubt_line history.now entry.now.event) }
+        ensures tally { OnOk result ((before : List Entry)
+            → self.old.tally ≡ counts history.now before
+            → self.new.tally ≡ counts history.now (before ++ entry.now ∷ [])) }
+    {
+        let is_doubt = in_doubt(history, &entry.event);
+        self.tally.count(entry, is_doubt);
+        push_event(&mut self.ends, table, history, &entry.event)?;
+        match &entry.event {
+            Event::Ready { top } if is_doubt => push_doubt(&mut self.doubts, top),
+            _ => Ok(()),
+        }
+    }
+
+    /// Sums up a history.
+    pub(crate) fn of(
+        alloc: Global,
+        table: &Table,
+        history: &History<'_>,
+    ) -> Result<Self, AllocError>
+        ensures ends { IfOk result
+            (λ sums. sums.ends ≡ spec.event_lines table.now history.now history.now) }
+        ensures doubts { IfOk result
+            (λ sums. sums.doubts ≡ spec.doubt_lines history.now history.now) }
+        ensures tally { IfOk result (λ sums. sums.tally ≡ counts history.now history.now) }
+    {
+        let mut sums = Sums::new(alloc);
+        for entry in history.entries() {
+            sums.take_in(table, history, entry)?;
+        }
+        Ok(sums)
+    }
+}
