@@ -1,6 +1,6 @@
 -- What the locks of a copy tell of a request, once they are asked by the history at this step.
 use Rattle.std.proofs.Common.{◌≡◌, ℕ, ◌<◌, [], ◌∷◌, ◌++◌, length, refl, sym, ap, ◌∙◌, subst, arith, append-nil}
-use Rattle.std.specs.Prelude.{Option, None, Some, List, filter, slice_index_or}
+use Rattle.std.specs.Prelude.{Option, None, Some, List, filter, option_and_then, slice_index_or}
 use Rattle.std.specs.Option.{option_map, option_map_or}
 use Rattle.qc_config.specs.declared.tuple.Tuple.{Tuple}
 use Rattle.qc_config.specs.Tuple.{after}
@@ -12,7 +12,7 @@ use Rattle.qc_event.specs.declared.event.Grant.{Grant}
 use Rattle.qc_event.specs.declared.event.Refusal.{Refusal}
 use Rattle.qc_event.specs.declared.event.Refusal.TheVariants as refusal
 use Rattle.qc_event.specs.Grants.{IsRefusal, MayRefuse}
-use Rattle.qc_event.specs.History.{Past, Name, Asked, asked, ask_in, grants}
+use Rattle.qc_event.specs.History.{Past, Name, Asked, asked, ask_in, granted, grants}
 use Rattle.qc_event.specs.Legal.{Legal, Allowed}
 use Rattle.qc_event.specs.Seats.{copy_seat}
 use Rattle.qc_event.specs.Seen.{seen, holder, changed_by, is_live_at}
@@ -27,12 +27,14 @@ use Rattle.qc_copy.proofs.Asked.{asked_fits}
 use Rattle.qc_copy.proofs.Fits.{AskFits, start_sized}
 use Rattle.qc_pass.specs.declared.view.View.{View}
 use Rattle.qc_pass.specs.Calling.{IsLook, IsEntry, Looked, EnteredAs}
-use Rattle.qc_pass.specs.Consulting.{HasAsked, IsFree, IsRefused, IsTold, refusal_of}
+use Rattle.qc_pass.specs.Consulting.{HasAsked, IsFree, IsRefused, IsJudged, granted_before, refusal_of}
 use Rattle.qc_pass.specs.Entries.{IsOlder, IsSince, entry}
 use Rattle.qc_pass.specs.Refusing.{against_nothing}
 use Rattle.qc_pass.specs.Rules.{knows, extends}
 use Rattle.qc_pass.proofs.NoGrants.{grants_kept, others_grant_none}
+use Rattle.qc_event.proofs.Options.{still}
 use Rattle.qc_event.proofs.StillTold.{is_stays}
+use Rattle.qc_indexes.specs.Grants.{tuple_at}
 
 -- REQUESTS
 
@@ -49,7 +51,8 @@ asked_later seen now ask older h =
 
 -- LOCKS
 
-follows_more : (newer past : Past) (given : List Grant) (table : Table) → Follows past given table → Follows (newer ++ past) given table
+-- locks follow a longer history too
+pub follows_more : (newer past : Past) (given : List Grant) (table : Table) → Follows past given table → Follows (newer ++ past) given table
 follows_more [] past given table f = f
 follows_more (e ∷ newer) past given table f = grows (newer ++ past) e given table (follows_more newer past given table f)
 
@@ -66,6 +69,12 @@ pub follows_refused : (past : Past) (seat copy : ℕ) (ask : Ask) (r : Refusal) 
 follows_refused past seat copy ask r table f =
     subst (λ gs. Follows (entry seat (event.Refused ask.access ask.copy r) ∷ past) gs table) (sym (append-nil (grants past copy))) (grows past (entry seat (event.Refused ask.access ask.copy r)) (grants past copy) table f)
 
+-- REPEATS
+
+-- a refusal grants nothing
+pub before_refused : (past : Past) (seat copy : ℕ) (n : Name) (r : Refusal) (ask : Ask) → granted_before (entry seat (event.Refused n copy r) ∷ past) ask ≡ granted_before past ask
+before_refused past seat copy n r ask = ap (option_and_then (tuple_at ask.copy)) (still (granted past ask.access))
+
 -- WHAT IS TOLD
 
 module _ (setting : Setting) (past : Past) (ask : Ask) where
@@ -81,17 +90,17 @@ module _ (setting : Setting) (past : Past) (ask : Ask) where
   has_reason (verdict.Blocked holder) r is h = let same : refusal.Blocked holder ≡ r = cc in subst (IsRefusal past ask) same h
   has_reason (verdict.Dead ancestor) r is h = let same : refusal.Dead ancestor ≡ r = cc in subst (IsRefusal past ask) same h
 
-  -- and is told once it is entered
-  pub told_refused : (v w : View) (said : Verdict) (r : Refusal) → refusal_of said ≡ Some r → EnteredAs against_nothing (IsRefused ask r) v w → IsTold setting ask v w said
-  told_refused v w (verdict.Free tuple) r is e = absurd cc
-  told_refused v w (verdict.Blocked holder) r is e = let same : r ≡ refusal.Blocked holder = cc in subst (λ x. EnteredAs against_nothing (IsRefused ask x) v w) same e
-  told_refused v w (verdict.Dead ancestor) r is e = let same : r ≡ refusal.Dead ancestor = cc in subst (λ x. EnteredAs against_nothing (IsRefused ask x) v w) same e
+  -- and is judged so once it is entered
+  pub judged_refused : (v w : View) (said : Verdict) (r : Refusal) → refusal_of said ≡ Some r → EnteredAs against_nothing (IsRefused ask r) v w → IsJudged setting ask v w said
+  judged_refused v w (verdict.Free tuple) r is e = absurd cc
+  judged_refused v w (verdict.Blocked holder) r is e = let same : r ≡ refusal.Blocked holder = cc in subst (λ x. EnteredAs against_nothing (IsRefused ask x) v w) same e
+  judged_refused v w (verdict.Dead ancestor) r is e = let same : r ≡ refusal.Dead ancestor = cc in subst (λ x. EnteredAs against_nothing (IsRefused ask x) v w) same e
 
-  -- what is free is told
-  pub told_free : (v w : View) (said : Verdict) → refusal_of said ≡ None → Stands said → Looked v w → w.seen ≡ past → IsTold setting ask v w said
-  told_free v w (verdict.Free tuple) none h looked is = (looked, subst (λ p. IsFree setting p ask tuple) (sym is) h)
-  told_free v w (verdict.Blocked holder) none h looked is = absurd cc
-  told_free v w (verdict.Dead ancestor) none h looked is = absurd cc
+  -- what is free is judged so
+  pub judged_free : (v w : View) (said : Verdict) → refusal_of said ≡ None → Stands said → Looked v w → w.seen ≡ past → IsJudged setting ask v w said
+  judged_free v w (verdict.Free tuple) none h looked is = (looked, subst (λ p. IsFree setting p ask tuple) (sym is) h)
+  judged_free v w (verdict.Blocked holder) none h looked is = absurd cc
+  judged_free v w (verdict.Dead ancestor) none h looked is = absurd cc
 
   module _ (has : HasAsked past ask) where
     request : (seat : ℕ) × (asked past ask.access ≡ Some (record { seat = seat; ask = ask }))

@@ -1,5 +1,5 @@
 -- What a copy asks the desk of a request, and what it is told.
-use Rattle.std.specs.Prelude.{◌≡◌, Option, None, Some}
+use Rattle.std.specs.Prelude.{◌≡◌, Option, None, Some, option_and_then}
 use Rattle.std.specs.Option.{option_map}
 use Rattle.qc_config.specs.declared.tuple.Tuple.{Tuple}
 use Rattle.qc_event.specs.Base.{Setting}
@@ -15,6 +15,9 @@ use Rattle.qc_event.specs.Seats.{copy_seat}
 use Rattle.qc_copy.specs.declared.state.Verdict.{Verdict}
 use Rattle.qc_copy.specs.declared.state.Verdict.TheVariants as verdict
 use Rattle.qc_copy.specs.State.{grant_with}
+use Rattle.qc_indexes.specs.Grants.{tuple_at}
+use Rattle.qc_pass.specs.declared.consult.Consulted.{Consulted}
+use Rattle.qc_pass.specs.declared.consult.Consulted.TheVariants as consulted
 use Rattle.qc_pass.specs.declared.view.View.{View}
 use Rattle.qc_pass.specs.Calling.{Looked, EnteredAs}
 use Rattle.qc_pass.specs.Refusing.{against_nothing}
@@ -34,11 +37,20 @@ pub record IsFree (setting : Setting) (past : Past) (ask : Ask) (tuple : Tuple) 
 abbrev pub IsRefused : Ask → Refusal → Past → Event → Type 0
 IsRefused ask r past ev = IsRefusal past ask r × (ev ≡ event.Refused ask.access ask.copy r)
 
--- what a consultation makes of a copy's pass: a free request enters nothing, and a refusal is entered
-abbrev pub IsTold : Setting → Ask → View → View → Verdict → Type 0
-IsTold setting ask v w (verdict.Free tuple) = Looked v w × IsFree setting w.seen ask tuple
-IsTold setting ask v w (verdict.Blocked holder) = EnteredAs against_nothing (IsRefused ask (refusal.Blocked holder)) v w
-IsTold setting ask v w (verdict.Dead ancestor) = EnteredAs against_nothing (IsRefused ask (refusal.Dead ancestor)) v w
+-- what a verdict makes of a copy's pass: a free request enters nothing, and a refusal is entered
+abbrev pub IsJudged : Setting → Ask → View → View → Verdict → Type 0
+IsJudged setting ask v w (verdict.Free tuple) = Looked v w × IsFree setting w.seen ask tuple
+IsJudged setting ask v w (verdict.Blocked holder) = EnteredAs against_nothing (IsRefused ask (refusal.Blocked holder)) v w
+IsJudged setting ask v w (verdict.Dead ancestor) = EnteredAs against_nothing (IsRefused ask (refusal.Dead ancestor)) v w
+
+-- the tuple that the copy of a request granted it first
+abbrev pub granted_before : Past → Ask → Option Tuple
+granted_before past ask = option_and_then (tuple_at ask.copy) (granted past ask.access)
+
+-- what a consultation makes of a copy's pass: a repeat is told what it was granted, and enters nothing
+abbrev pub IsTold : Setting → Ask → View → View → Consulted → Type 0
+IsTold setting ask v w (consulted.Again tuple) = Looked v w × (granted_before w.seen ask ≡ Some tuple)
+IsTold setting ask v w (consulted.Fresh said) = (granted_before w.seen ask ≡ None) × IsJudged setting ask v w said
 
 -- the refusal that a verdict is
 abbrev pub refusal_of : Verdict → Option Refusal

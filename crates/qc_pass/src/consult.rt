@@ -1,5 +1,5 @@
 //! The call with which a copy asks the desk before it grants.
-ghost use Rattle.std.specs.Prelude.{◌≡◌, [], true, Ok, None, IfOk, IfErr, slice_index_or};
+ghost use Rattle.std.specs.Prelude.{◌≡◌, [], true, Ok, None, IfOk, IfErr, OnErr, slice_index_or};
 ghost use Rattle.qc_config.specs.declared.tuple.Tuple.{Tuple};
 ghost use Rattle.qc_copy.specs.declared.state.Verdict.TheVariants.{Free};
 ghost use Rattle.qc_copy.specs.State.{grant_of, grant_with};
@@ -10,7 +10,8 @@ ghost use Rattle.qc_event.specs.Tables.{setting_of};
 ghost use Rattle.qc_moss.specs.Follows.{Follows};
 ghost use Rattle.qc_pass.specs.Calling.{IsRoomOf, Refused, Shown};
 ghost use Rattle.qc_pass.specs.Consulting as words;
-ghost use Rattle.qc_pass.specs.Consulting.{HasAsked, IsTold};
+ghost use Rattle.qc_pass.specs.Consulting.{HasAsked, IsTold, granted_before};
+ghost use Rattle.qc_pass.specs.declared.consult.Consulted.TheVariants.{Fresh};
 ghost use Rattle.qc_pass.specs.Refusing.{against_nothing};
 
 use crate::desk::Desk;
@@ -18,10 +19,18 @@ use crate::locked::Locked;
 use crate::pass::Pass;
 use crate::refusal::DeskNo;
 use crate::store::{Room, Store};
+use qc_config::Tuple;
 use qc_copy::{Verdict, consult_locks};
 use qc_event::{Ask, Event, Name, Outcome, Refusal};
 use qc_moss::{Locks, Source};
 use std::sync::Wait;
+
+/// What the desk tells a copy of a request: what it granted it before, or whether it may be granted.
+#[derive(Clone, Copy, Debug)]
+pub enum Consulted {
+    Again(Tuple),
+    Fresh(Verdict),
+}
 
 // What tells a copy of the history at this step.
 #[derive(Clone, Copy)]
@@ -55,14 +64,15 @@ fn refusal_of(verdict: &Verdict) -> Option<Refusal>
 }
 
 impl<N: Store> Locked<N> {
-    // Asks the locks of a copy by the history, and appends what they refuse.
+    // Tells what a request was granted before; else it asks the locks of the copy by the history, and appends what they
+    // refuse.
     fn consult(
         &mut self,
         room: &Room,
         pass: &mut Pass<N>,
         ask: &Ask,
         locks: &mut Locks,
-    ) -> Result<Verdict, DeskNo>
+    ) -> Result<Consulted, DeskNo>
         requires room { IsRoomOf N.desk room.now.shared.table_id }
         requires copy { (pass.old.live ≡ true) × (pass.old.number ≡ copy_seat ask.now.copy) }
         requires asked { HasAsked self.old ask.now }
@@ -71,9 +81,10 @@ impl<N: Store> Locked<N> {
         requires follows { Follows pass.old.seen (grants pass.old.seen ask.now.copy) locks.old }
         ensures told { IfOk result
             (IsTold (setting_of N.table N.base) ask.now pass.old pass.new) }
-        ensures admits { (tuple : Tuple) → result ≡ Ok (Free tuple)
+        ensures admits { (tuple : Tuple) → result ≡ Ok (Fresh (Free tuple))
             → grant_of locks.new ask.now ≡ grant_with ask.now tuple }
         ensures err { IfErr result (Refused against_nothing pass.old pass.new) }
+        ensures fresh { OnErr result (granted_before pass.new.seen ask.now ≡ None) }
         ensures follows { Follows pass.new.seen (grants pass.new.seen ask.now.copy) locks.new }
         ensures start { locks.new.start ≡ locks.old.start }
         ensures reserved { locks.new.reserved ≡ locks.old.reserved }
@@ -81,9 +92,12 @@ impl<N: Store> Locked<N> {
     {
         self.look(room, pass);
         self.known();
+        if let Some(tuple) = self.granted(ask.copy, &ask.access) {
+            return Ok(Consulted::Again(tuple));
+        }
         let verdict = consult_locks(locks, ask, &Told { locked: self });
         let Some(refusal) = refusal_of(&verdict) else {
-            return Ok(verdict);
+            return Ok(Consulted::Fresh(verdict));
         };
         let event = Event::Refused {
             access: ask.access,
@@ -91,16 +105,17 @@ impl<N: Store> Locked<N> {
             refusal,
         };
         self.enter(room, pass, None, event)?;
-        Ok(verdict)
+        Ok(Consulted::Fresh(verdict))
     }
 }
 
 impl<N: Store> Desk<N> {
-    /// Says by the history at this step, and by the locks of a copy, whether a request that the seer saw may be
-    /// granted, and with which tuple. Where it may not, the refusal is appended under the copy's pass, and the
+    /// Tells what a request that the seer saw was granted before at its copy, in the history at this step; a repeat is
+    /// never refused, and enters nothing. Else it says by that history, and by the locks of the copy, whether the request
+    /// may be granted, and with which tuple. Where it may not, the refusal is appended under the copy's pass, and the
     /// verdict tells it. The locks of the record are settled by the history; at an error too they are locks of this
     /// copy, with the room that they had. The only errors are want of memory and of room for a refusal. Both passes
-    /// have then seen the history at this step.
+    /// have then seen the history at this step. A repeat costs a step for each number of its name.
     pub fn consult<R: Wait>(
         &self,
         rt: &R,
@@ -108,7 +123,7 @@ impl<N: Store> Desk<N> {
         seer: &mut Pass<N>,
         ask: &Ask,
         locks: &mut Locks,
-    ) -> Result<Verdict, DeskNo>
+    ) -> Result<Consulted, DeskNo>
         requires copy { (pass.old.live ≡ true) × (pass.old.number ≡ copy_seat ask.now.copy) }
         requires asked { HasAsked seer.old.seen ask.now }
         requires proper { IsProper (setting_of N.table N.base) }
@@ -116,9 +131,10 @@ impl<N: Store> Desk<N> {
         requires follows { Follows pass.old.seen (grants pass.old.seen ask.now.copy) locks.old }
         ensures told { IfOk result
             (IsTold (setting_of N.table N.base) ask.now pass.old pass.new) }
-        ensures admits { (tuple : Tuple) → result ≡ Ok (Free tuple)
+        ensures admits { (tuple : Tuple) → result ≡ Ok (Fresh (Free tuple))
             → grant_of locks.new ask.now ≡ grant_with ask.now tuple }
         ensures err { IfErr result (Refused against_nothing pass.old pass.new) }
+        ensures fresh { OnErr result (granted_before pass.new.seen ask.now ≡ None) }
         ensures follows { Follows pass.new.seen (grants pass.new.seen ask.now.copy) locks.new }
         ensures start { locks.new.start ≡ locks.old.start }
         ensures reserved { locks.new.reserved ≡ locks.old.reserved }
@@ -127,8 +143,8 @@ impl<N: Store> Desk<N> {
     {
         let mut locked = self.locked.lock(rt);
         locked.look(&self.room, seer);
-        let verdict = locked.consult(&self.room, pass, ask, locks);
+        let told = locked.consult(&self.room, pass, ask, locks);
         locked.look(&self.room, seer);
-        verdict
+        told
     }
 }

@@ -20,6 +20,7 @@ mod store;
 mod tops;
 mod view;
 
+pub use consult::Consulted;
 pub use desk::{Blank, Desk};
 pub use pass::Pass;
 pub use refusal::DeskNo;

@@ -14,8 +14,8 @@ use std::alloc::AllocError;
 use std::sync::Wait;
 
 impl<N: Store> Desk<N> {
-    /// The first refusal of an access in the history at this step; none exactly where there is none. It takes no
-    /// memory.
+    /// The first refusal of an access in the history at this step; none exactly where there is none. It takes a step for
+    /// each of the name's numbers, and no memory.
     pub fn refusal<R: Wait>(&self, rt: &R, pass: &mut Pass<N>, access: &Name) -> Option<Refusal>
         ensures looked { Shown pass.old pass.new }
         ensures first { result ≡ refused pass.new.seen access.now }
@@ -26,20 +26,25 @@ impl<N: Store> Desk<N> {
     }
 
     /// The tuple that an access was granted first in the history at this step, where it was at this copy; none exactly
-    /// where it was not granted, or at another copy. It takes no memory.
+    /// where it was not granted, or at another copy. Both passes have then seen that history. It takes a step for each of
+    /// the name's numbers, and no memory.
     pub fn granted<R: Wait>(
         &self,
         rt: &R,
         pass: &mut Pass<N>,
+        seer: &mut Pass<N>,
         copy: u8,
         access: &Name,
     ) -> Option<Tuple>
         ensures looked { Shown pass.old pass.new }
+        ensures seer { Shown seer.old seer.new }
+        ensures same { seer.new.seen ≡ pass.new.seen }
         ensures first { result ≡ option_and_then (tuple_at copy)
             (granted pass.new.seen access.now) }
     {
         let mut locked = self.locked.lock(rt);
         locked.look(&self.room, pass);
+        locked.look(&self.room, seer);
         locked.granted(copy, access)
     }
 

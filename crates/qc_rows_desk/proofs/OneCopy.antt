@@ -15,12 +15,10 @@ use Rattle.qc_event.specs.Grants.{MayGrant}
 use Rattle.qc_event.specs.History.{Past, Name, asks, asked, granted}
 use Rattle.qc_event.specs.Legal.{Legal}
 use Rattle.qc_event.specs.Seats.{copy_seat}
-use Rattle.qc_copy.specs.declared.state.Verdict.{Verdict}
-use Rattle.qc_copy.specs.declared.state.Verdict.TheVariants as verdict
 use Rattle.qc_copy.specs.State.{grant_with}
 use Rattle.qc_pass.specs.declared.view.View.{View}
 use Rattle.qc_pass.specs.Calling.{Looked}
-use Rattle.qc_pass.specs.Consulting.{HasAsked, IsFree, IsTold}
+use Rattle.qc_pass.specs.Consulting.{HasAsked, IsFree}
 use Rattle.qc_pass.proofs.Consulting.{stands}
 use Rattle.qc_pass.proofs.NoGrants.{others_grant_none, ungranted}
 use Rattle.qc_event.specs.Manager.{Stage, result, stage, collecting, is_phase, phase_of, all_copies, AtStage}
@@ -99,12 +97,6 @@ over_is table' base' t b = λ i. setting_of (t i) (b i)
 
 pub row_is : (base' : List (List Tuple)) (given : List Tuple) (copy : ℕ) → base' ≡ base → copy ≡ 0 → given ≡ start → given ≡ slice_index_or base' copy []
 row_is base' given copy b c is = is ∙ (λ i. slice_index_or (sym b i) (sym c i) [])
-
--- what a consultation leaves of a copy's pass
-pub told_same : (s : Setting) (ask : Ask) (v w : View) (said : Verdict) → IsTold s ask v w said → (w.live ≡ v.live) × (w.number ≡ v.number)
-told_same s ask v w (verdict.Free tuple) (looked, free) = (ap (λ (x : View). x.live) looked.1, ap (λ (x : View). x.number) looked.1)
-told_same s ask v w (verdict.Blocked holder) (before, ev, is, since, none, same) = (ap (λ (x : View). x.live) same, ap (λ (x : View). x.number) same)
-told_same s ask v w (verdict.Dead ancestor) (before, ev, is, since, none, same) = (ap (λ (x : View). x.live) same, ap (λ (x : View). x.number) same)
 
 -- a request that was ungranted when it was made is so at the consultation, where only the copy grants
 pub may_append : (s : Setting) (v w : View) (made : Past) (ask : Ask) (tuple : Tuple) → v.number ≡ 2 → ask.copy ≡ 0 → HasAsked made ask → granted made ask.access ≡ None → IsOlder v.seen made → IsOlder made w.seen → Legal s w.seen → Looked v w → IsFree s w.seen ask tuple

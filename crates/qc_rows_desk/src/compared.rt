@@ -11,7 +11,7 @@ use qc_config::Config;
 use qc_copy::Verdict;
 use qc_event::Grant;
 use qc_moss::Locks;
-use qc_pass::{Blank, Desk, DeskNo, Pass, Store};
+use qc_pass::{Blank, Consulted, Desk, DeskNo, Pass, Store};
 use std::alloc::Global;
 use std::marker::Brand;
 use std::sync::Wait;
@@ -46,8 +46,11 @@ fn grant_next<N: Store, R: Wait>(
     ensures seen { IfOk result (λ o. IfSome o (λ g. pass.new.seen ≡ copy.new.seen)) }
 {
     let (_, ask) = one_request(rt, desk, pass)?;
-    let verdict = desk.consult(rt, copy, pass, &ask, locks)?;
+    let told = desk.consult(rt, copy, pass, &ask, locks)?;
     copy.known();
+    let Consulted::Fresh(verdict) = told else {
+        return Ok(None);
+    };
     let Verdict::Free(tuple) = verdict else {
         return Ok(None);
     };

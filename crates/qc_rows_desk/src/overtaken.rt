@@ -14,7 +14,7 @@ use qc_config::Config;
 use qc_copy::Verdict;
 use qc_event::{Cause, Name};
 use qc_moss::Locks;
-use qc_pass::{Blank, Desk, DeskNo, Pass, Store};
+use qc_pass::{Blank, Consulted, Desk, DeskNo, Pass, Store};
 use std::alloc::Global;
 use std::marker::Brand;
 use std::sync::Wait;
@@ -65,8 +65,11 @@ fn overtake<N: Store, R: Wait>(
     requires seen { pass.old.seen ≡ copy.old.seen }
 {
     let (top, ask) = one_request(rt, desk, pass)?;
-    let verdict = desk.consult(rt, copy, pass, &ask, locks)?;
+    let told = desk.consult(rt, copy, pass, &ask, locks)?;
     copy.known();
+    let Consulted::Fresh(verdict) = told else {
+        return Ok(None);
+    };
     let Verdict::Free(tuple) = verdict else {
         return Ok(None);
     };

@@ -16,7 +16,7 @@ use qc_config::{Config, Op, Tuple};
 use qc_copy::Verdict;
 use qc_event::{Ask, Base, Cause, Entry, Grant, Kind, Name};
 use qc_moss::Locks;
-use qc_pass::{Blank, Desk, DeskNo, Pass, Store};
+use qc_pass::{Blank, Consulted, Desk, DeskNo, Pass, Store};
 use std::alloc::{AllocError, Global};
 use std::marker::Brand;
 use std::sync::Wait;
@@ -146,8 +146,11 @@ fn grant_free<N: Store, R: Wait>(
         × (pass.new.out ≡ pass.old.out) }
 {
     let (_, ask) = one_request(rt, desk, pass)?;
-    let verdict = desk.consult(rt, copy, pass, &ask, locks)?;
+    let told = desk.consult(rt, copy, pass, &ask, locks)?;
     copy.known();
+    let Consulted::Fresh(verdict) = told else {
+        return Ok(());
+    };
     match verdict {
         Verdict::Free(tuple) => desk.append(rt, copy, pass, 0, &grant_of(&ask, &tuple)),
         _ => Ok(()),

@@ -1,29 +1,35 @@
--- What an access was granted is found among the grants of the copy that it asked.
-use Rattle.std.proofs.Common.{◌≡◌, ℕ, ◌<◌, Bool, true, false, [], ◌∷◌, ◌++◌, length, refl, sym, ap, ◌∙◌, subst, arith, append-nil, inl, inr}
-use Rattle.std.specs.Prelude.{Option, None, Some, ◌==◌, if◌then◌else◌, option_to_list, option_and_then, slice_index_or}
+-- What an access was granted is what it asked its copy for, and is told at each repeat.
+use Rattle.std.proofs.Common.{◌≡◌, ℕ, ◌<◌, Bool, true, false, [], ◌∷◌, length, refl, sym, ap, ◌∙◌, subst, arith, inl, inr}
+use Rattle.std.specs.Prelude.{Option, None, Some, Result, Ok, Err, IfOk, OnErr, ◌==◌, if◌then◌else◌, option_and_then, slice_index_or}
 use Rattle.std.specs.List.{All}
-use Rattle.std.specs.Option.{option_or}
 use Rattle.std.proofs.lemmas.Bool.{eq-eqb}
 use Rattle.qc_config.specs.declared.tuple.Tuple.{Tuple}
-use Rattle.qc_copy.specs.State.{again, grant_with}
+use Rattle.qc_copy.specs.declared.state.Verdict.{Verdict}
+use Rattle.qc_copy.specs.State.{grant_with}
 use Rattle.qc_copy.proofs.Asked.{asked_fits}
 use Rattle.qc_copy.proofs.PutConfigs.{each_granted}
-use Rattle.qc_copy.proofs.Serving.{again_more}
 use Rattle.qc_event.specs.declared.event.Ask.{Ask}
 use Rattle.qc_event.specs.declared.event.Event.{Event}
 use Rattle.qc_event.specs.declared.event.Event.TheVariants as event
 use Rattle.qc_event.specs.declared.event.Grant.{Grant}
 use Rattle.qc_event.specs.Base.{Setting, IsProper}
 use Rattle.qc_event.specs.Grants.{MayGrant}
-use Rattle.qc_event.specs.History.{Past, Name, Asked, Given, same, asked, granted, grant_in, grant_at, grants}
+use Rattle.qc_event.specs.History.{Past, Name, Asked, Given, same, asked, granted, grant_in, grants}
 use Rattle.qc_event.specs.Legal.{Legal, MayHappen}
 use Rattle.qc_event.proofs.Absent.{same_is}
 use Rattle.qc_event.proofs.OneEntry.{if_is, first_is}
-use Rattle.qc_pass.specs.Consulting.{HasAsked}
+use Rattle.qc_event.proofs.Options.{some_there}
+use Rattle.qc_event.proofs.StillTold.{is_stays}
 use Rattle.qc_indexes.specs.Grants.{tuple_at}
-use Rattle.qc_event.proofs.Options.{some_there, still}
+use Rattle.qc_pass.specs.Consulting.{HasAsked, IsTold, granted_before}
+use Rattle.qc_pass.specs.declared.consult.Consulted.{Consulted}
+use Rattle.qc_pass.specs.declared.consult.Consulted.TheVariants.{Again, Fresh}
+use Rattle.qc_pass.specs.declared.refusal.DeskNo.{DeskNo}
+use Rattle.qc_pass.specs.declared.view.View.{View}
+use Rattle.qc_pass.specs.Entries.{IsOlder}
 use Rattle.qc_pass.proofs.Consulting.{stands}
 use Rattle.qc_pass.proofs.Granting.{asked_stays}
+use Rattle.qc_site.specs.AtDesk.{IsGranted}
 
 -- WHAT THE TABLE TELLS
 
@@ -67,57 +73,6 @@ granted_asked setting (e ∷ past) n x legal is = elim (first_is (granted past n
         }
     by_event _ may h = absurd cc
 
--- AGAIN
-
--- what the copy's grants tell is what the history does, of an access that the copy granted
-module _ (setting : Setting) (past : Past) (copy : ℕ) (n : Name) (seat : ℕ) (before : again (grants past copy) n ≡ option_and_then (tuple_at copy) (granted past n)) where
-  unchanged : (ev : Event) → grant_at copy ev ≡ None → grant_in n ev ≡ None → again (grants past copy ++ option_to_list (grant_at copy ev)) n ≡ option_and_then (tuple_at copy) (option_or (granted past n) (grant_in n ev))
-  unchanged ev at here =
-      ap (λ o. again (grants past copy ++ option_to_list o) n) at ∙ ap (λ gs. again gs n) (append-nil (grants past copy)) ∙ before
-      ∙ ap (option_and_then (tuple_at copy)) (sym (still (granted past n)) ∙ ap (option_or (granted past n)) (sym here))
-
-  -- another access was granted
-  other : (c : ℕ) (g : Grant) → same g.access n ≡ false → (b : Bool) → again (grants past copy ++ option_to_list (if b then Some g else None)) n ≡ option_and_then (tuple_at copy) (option_or (granted past n) (if same g.access n then Some (record { copy = c; grant = g }) else None))
-  other c g apart b = by_test b ∙ before ∙ ap (option_and_then (tuple_at copy)) (sym (still (granted past n)) ∙ ap (λ (x : Bool). option_or (granted past n) (if x then Some (record { copy = c; grant = g }) else None)) (sym apart))
-    where
-      by_test : (x : Bool) → again (grants past copy ++ option_to_list (if x then Some g else None)) n ≡ again (grants past copy) n
-      by_test true = again_more (grants past copy) g n ∙ ap (λ (x : Bool). option_or (again (grants past copy) n) (if x then Some g.tuple else None)) apart ∙ still (again (grants past copy) n)
-      by_test false = ap (λ gs. again gs n) (append-nil (grants past copy))
-
-  -- this access was granted, for the first time
-  this : (c : ℕ) (g : Grant) → same g.access n ≡ true → granted past n ≡ None → (b : Bool) → (c == copy) ≡ b → again (grants past copy ++ option_to_list (if b then Some g else None)) n ≡ option_and_then (tuple_at copy) (option_or (granted past n) (if same g.access n then Some (record { copy = c; grant = g }) else None))
-  this c g is none b at = by_test b ∙ ap (λ (x : Bool). if x then Some g.tuple else None) (sym at) ∙ sym now
-    where
-      nothing : again (grants past copy) n ≡ None
-      nothing = before ∙ ap (option_and_then (tuple_at copy)) none
-
-      by_test : (x : Bool) → again (grants past copy ++ option_to_list (if x then Some g else None)) n ≡ (if x then Some g.tuple else None)
-      by_test true = again_more (grants past copy) g n ∙ (λ i. option_or (nothing i) (if is i then Some g.tuple else None))
-      by_test false = ap (λ gs. again gs n) (append-nil (grants past copy)) ∙ nothing
-
-      now : option_and_then (tuple_at copy) (option_or (granted past n) (if same g.access n then Some (record { copy = c; grant = g }) else None)) ≡ (if c == copy then Some g.tuple else None)
-      now = λ i. option_and_then (tuple_at copy) (option_or (none i) (if is i then Some (record { copy = c; grant = g }) else None))
-
-  one_more : (ev : Event) → MayHappen setting past seat ev → again (grants past copy ++ option_to_list (grant_at copy ev)) n ≡ option_and_then (tuple_at copy) (option_or (granted past n) (grant_in n ev))
-  one_more (event.Granted c g) may = by_name (same g.access n) refl
-    where
-      by_name : (b : Bool) → same g.access n ≡ b → again (grants past copy ++ option_to_list (grant_at copy (event.Granted c g))) n ≡ option_and_then (tuple_at copy) (option_or (granted past n) (grant_in n (event.Granted c g)))
-      by_name true is = this c g is (ap (granted past) (sym (same_is g.access n is)) ∙ may.first_time) (c == copy) refl
-      by_name false apart = other c g apart (c == copy)
-  one_more (event.Start m k) may = unchanged (event.Start m k) refl refl
-  one_more (event.Ask a) may = unchanged (event.Ask a) refl refl
-  one_more (event.Gone m why) may = unchanged (event.Gone m why) refl refl
-  one_more (event.Refused m c r) may = unchanged (event.Refused m c r) refl refl
-  one_more (event.Unable m why) may = unchanged (event.Unable m why) refl refl
-  one_more (event.Ready m) may = unchanged (event.Ready m) refl refl
-  one_more (event.Mark b s) may = unchanged (event.Mark b s) refl refl
-  one_more (event.End m how) may = unchanged (event.End m how) refl refl
-
--- what the copy's grants tell is what the history does, of an access that the copy granted
-pub again_is : (setting : Setting) (past : Past) (copy : ℕ) (n : Name) → Legal setting past → again (grants past copy) n ≡ option_and_then (tuple_at copy) (granted past n)
-again_is setting [] copy n legal = refl
-again_is setting (e ∷ past) copy n legal = one_more setting past copy n e.seat (again_is setting past copy n legal.0) e.event legal.1
-
 -- A REQUEST OF THIS COPY
 
 module _ (setting : Setting) (past : Past) (ask : Ask) (legal : Legal setting past) (has : HasAsked past ask) where
@@ -131,32 +86,62 @@ module _ (setting : Setting) (past : Past) (ask : Ask) (legal : Legal setting pa
       let told : record { access = x.grant.access; copy = x.copy; rec = x.grant.rec; op = x.grant.op } ≡ ask = sym was.request.2 ∙ ap (λ (a : Asked). a.ask) same_ask in
       ap (λ (a : Ask). record { copy = a.copy; grant = grant_with a x.grant.tuple }) told
 
-  -- what the copy's grants have of it is what it was granted
-  pub again_granted : (tuple : Tuple) → again (grants past ask.copy) ask.access ≡ Some tuple → granted past ask.access ≡ Some (record { copy = ask.copy; grant = grant_with ask tuple })
+  -- what its copy granted it before is what it was granted
+  pub again_granted : (tuple : Tuple) → granted_before past ask ≡ Some tuple → IsGranted ask.copy past (grant_with ask tuple)
   again_granted tuple is = by_grant (granted past ask.access) refl
     where
       taken : (b : Bool) (t : Tuple) → (if b then Some t else None) ≡ Some tuple → t ≡ tuple
       taken true t h = cc
       taken false t h = absurd cc
 
-      by_grant : (o : Option Given) → granted past ask.access ≡ o → granted past ask.access ≡ Some (record { copy = ask.copy; grant = grant_with ask tuple })
-      by_grant None none = let never : None ≡ Some tuple = ap (option_and_then (tuple_at ask.copy)) (sym none) ∙ sym (again_is setting past ask.copy ask.access legal) ∙ is in absurd cc
+      by_grant : (o : Option Given) → granted past ask.access ≡ o → IsGranted ask.copy past (grant_with ask tuple)
+      by_grant None none = let never : None ≡ Some tuple = ap (option_and_then (tuple_at ask.copy)) (sym none) ∙ is in absurd cc
       by_grant (Some x) there =
-          let told : tuple_at ask.copy x ≡ Some tuple = ap (option_and_then (tuple_at ask.copy)) (sym there) ∙ sym (again_is setting past ask.copy ask.access legal) ∙ is in
+          let told : tuple_at ask.copy x ≡ Some tuple = ap (option_and_then (tuple_at ask.copy)) (sym there) ∙ is in
           let t : x.grant.tuple ≡ tuple = taken (x.copy == ask.copy) x.grant.tuple told in
           there ∙ ap Some (granted_is x there ∙ ap (λ z. record { copy = ask.copy; grant = grant_with ask z }) t)
 
-  -- and where they have nothing of it, it was granted nothing
-  pub none_granted : again (grants past ask.copy) ask.access ≡ None → granted past ask.access ≡ None
+  -- and where that is nothing, it was granted nothing
+  pub none_granted : granted_before past ask ≡ None → granted past ask.access ≡ None
   none_granted none = by_grant (granted past ask.access) refl
     where
       by_grant : (o : Option Given) → granted past ask.access ≡ o → o ≡ None
       by_grant None is = refl
       by_grant (Some x) is =
           let here : x.copy ≡ ask.copy = ap (λ (y : Given). y.copy) (granted_is x is) in
-          let told : tuple_at ask.copy x ≡ None = ap (option_and_then (tuple_at ask.copy)) (sym is) ∙ sym (again_is setting past ask.copy ask.access legal) ∙ none in
+          let told : tuple_at ask.copy x ≡ None = ap (option_and_then (tuple_at ask.copy)) (sym is) ∙ none in
           let there : tuple_at ask.copy x ≡ Some x.grant.tuple = ap (λ (b : Bool). if b then Some x.grant.tuple else None) (eq-eqb x.copy ask.copy here) in
           cc
+
+-- AGAIN
+
+-- what a request was granted in an earlier history its copy granted it before
+pub granted_earlier : (copy : ℕ) (past now : Past) (ask : Ask) (tuple : Tuple) → ask.copy ≡ copy → IsOlder past now → IsGranted copy past (grant_with ask tuple) → granted_before now ask ≡ Some tuple
+granted_earlier copy past now ask tuple is older told =
+    let still : granted now ask.access ≡ Some (record { copy = copy; grant = grant_with ask tuple }) = ap (λ p. granted p ask.access) older.1 ∙ is_stays (λ e. grant_in ask.access e.event) older.0 past _ told in
+    ap (option_and_then (tuple_at ask.copy)) still ∙ ap (λ (b : Bool). if b then Some tuple else None) (eq-eqb copy ask.copy (sym is))
+
+-- so a consultation tells it
+pub again_is_told : (setting : Setting) (ask : Ask) (v w : View) (r : Result Consulted DeskNo) (tuple : Tuple) → IfOk r (IsTold setting ask v w) → OnErr r (granted_before w.seen ask ≡ None)
+    → granted_before w.seen ask ≡ Some tuple → r ≡ Ok (Again tuple)
+again_is_told setting ask v w (Ok (Again t)) tuple told fresh there = let same : Some t ≡ Some tuple = sym told.1 ∙ there in cc
+again_is_told setting ask v w (Ok (Fresh said)) tuple told fresh there = let never : None ≡ Some tuple = sym told.0 ∙ there in absurd cc
+again_is_told setting ask v w (Err why) tuple told fresh there = let never : None ≡ Some tuple = sym fresh ∙ there in absurd cc
+
+-- and what it tells so stands
+pub again_of : (setting : Setting) (ask : Ask) (v w : View) (r : Result Consulted DeskNo) (tuple : Tuple) → IfOk r (IsTold setting ask v w) → r ≡ Ok (Again tuple) → IsTold setting ask v w (Again tuple)
+again_of setting ask v w r tuple told is = subst (λ x. IfOk x (IsTold setting ask v w)) is told
+
+-- A CONSULTATION HAS ONE RESULT
+
+pub one_tuple : (r : Result Consulted DeskNo) (t u : Tuple) → r ≡ Ok (Again t) → r ≡ Ok (Again u) → t ≡ u
+one_tuple r t u one two = let both : Ok (Again t) ≡ Ok (Again u) = sym one ∙ two in cc
+
+pub fresh_or_again : (r : Result Consulted DeskNo) (said : Verdict) (tuple : Tuple) → r ≡ Ok (Fresh said) → r ≡ Ok (Again tuple) → ⊥
+fresh_or_again r said tuple fresh again = let both : Ok (Fresh said) ≡ Ok (Again tuple) = sym fresh ∙ again in cc
+
+pub err_or_again : (r : Result Consulted DeskNo) (why : DeskNo) (tuple : Tuple) → r ≡ Err why → r ≡ Ok (Again tuple) → ⊥
+err_or_again r why tuple err again = let both : Err why ≡ Ok (Again tuple) = sym err ∙ again in cc
 
 -- a request is for a record that its copy has
 pub ask_within : (setting : Setting) (past : Past) (ask : Ask) → IsProper setting → Legal setting past → HasAsked past ask → ask.rec < length (slice_index_or setting.base ask.copy [])

@@ -12,3 +12,4 @@ mod Found
 mod Logs
 mod Refusals
 pub mod Since
+mod Entered

@@ -1,6 +1,6 @@
 -- What a copy goes on to know at its desk.
-use Rattle.std.proofs.Common.{◌≡◌, ◌<◌, inl, inr, ℕ, Bool, true, List, [], ◌∷◌, ◌++◌, length, refl, sym, ap, ◌∙◌, subst, append-nil}
-use Rattle.std.specs.Prelude.{Option, None, Some, IfSome, Result, Ok, Err, OnOk, IfErr, cond, if◌then◌else◌, option_and_then, option_to_list, slice_index_or}
+use Rattle.std.proofs.Common.{◌≡◌, ◌<◌, ℕ, Bool, true, List, [], ◌∷◌, ◌++◌, length, refl, sym, ap, ◌∙◌, subst, append-nil}
+use Rattle.std.specs.Prelude.{Option, None, Some, IfSome, Result, Ok, Err, OnOk, IfErr, cond, if◌then◌else◌, option_to_list, slice_index_or}
 use Rattle.std.specs.Option.{option_or}
 use Rattle.std.proofs.lemmas.Bool.{eq-eqb}
 use Rattle.qc_copy.specs.declared.state.Verdict.{Verdict}
@@ -10,15 +10,16 @@ use Rattle.qc_event.specs.declared.event.Event.{Event}
 use Rattle.qc_event.specs.declared.event.Event.TheVariants as event
 use Rattle.qc_event.specs.declared.event.Why.{Why}
 use Rattle.qc_ledger.specs.Entered.{SeesMore}
+use Rattle.qc_pass.specs.declared.consult.Consulted.{Consulted}
+use Rattle.qc_pass.specs.declared.consult.Consulted.TheVariants as consulted
 use Rattle.qc_pass.specs.declared.refusal.DeskNo.{DeskNo}
-use Rattle.qc_pass.specs.Consulting.{HasAsked, IsTold}
-use Rattle.qc_copy.specs.State.{again, grant_with}
-use Rattle.qc_site.proofs.Again.{again_granted, again_is, none_granted}
+use Rattle.qc_pass.specs.Consulting.{HasAsked, IsJudged, IsTold}
+use Rattle.qc_copy.specs.State.{grant_with}
+use Rattle.qc_site.proofs.Again.{none_granted}
 use Rattle.qc_event.proofs.Absent.{same_itself}
 use Rattle.qc_pass.specs.Refusing.{against_nothing}
 use Rattle.qc_pass.specs.Rules.{knows, extends}
-use Rattle.qc_indexes.specs.Grants.{tuple_at}
-use Rattle.qc_site.specs.AtDesk.{IsGranted, MayHaveLooked, OnlyLooks}
+use Rattle.qc_site.specs.AtDesk.{hand_after, IsGranted, OnlyLooks}
 use Rattle.qc_config.specs.declared.tuple.Tuple.{Tuple}
 use Rattle.qc_event.specs.declared.event.Entry.{Entry}
 use Rattle.qc_event.specs.declared.event.Grant.{Grant}
@@ -32,15 +33,12 @@ use Rattle.qc_moss.specs.Locks.{Table, granted_to, unheld}
 use Rattle.qc_moss.proofs.Tables.{granted, grows, starts}
 use Rattle.qc_pass.specs.declared.view.View.{View}
 use Rattle.qc_pass.specs.Calling.{Entered, Looked, Refused, Shown}
+use Rattle.qc_pass.proofs.Consulting.{follows_more}
 use Rattle.qc_pass.proofs.Seers.{older_trans}
 use Rattle.qc_pass.proofs.Since.{others_where_none}
 use Rattle.qc_pass.specs.Entries.{entries_of, AreOthers, IsOlder, IsSince, entry}
 use Rattle.qc_pass.proofs.NoGrants.{AreNoGrants, grants_kept, grant_still_allowed, others_grant_none}
 use Rattle.qc_site.specs.Replica.{IsKept, IsTableOf, HasRoomFor, Standing}
-
-follows_more : (newer past : Past) (given : List Grant) (t : Table) → Follows past given t → Follows (newer ++ past) given t
-follows_more [] past given t f = f
-follows_more (e ∷ newer) past given t f = grows (newer ++ past) e given t (follows_more newer past given t f)
 
 -- ENTRIES THAT ARE NO GRANT OF THE COPY
 
@@ -108,18 +106,6 @@ looked_none setting copy v w number legal looked =
 pub shown_looked : (v w : View) → v.live ≡ true → Shown v w → Looked v w
 shown_looked v w live shown = (shown.2 live, shown.1)
 
-pub left_none : (setting : Setting) (copy : ℕ) (v w : View) → v.number ≡ copy_seat copy → Legal setting w.seen → MayHaveLooked v w → HasNoGrant copy v w
-left_none setting copy v w number legal (inl is) = record {
-  newer = [];
-  seen = ap (λ (x : View). x.seen) is;
-  none = tt;
-  live = ap (λ (x : View). x.live) is;
-  number = ap (λ (x : View). x.number) is;
-  out = ap (λ (x : View). x.out) is;
-  kin = ap (λ (x : View). x.kin) is;
-}
-left_none setting copy v w number legal (inr looked) = looked_none setting copy v w number legal looked
-
 -- nor is an entry of its own that grants nothing
 pub entered_none : (setting : Setting) (copy : ℕ) (v w : View) (ev : Event) (before : Past) → v.number ≡ copy_seat copy → Legal setting w.seen → grant_at copy ev ≡ None → IsSince v.number v.seen before → w ≡ extends (entry v.number ev) before v → HasNoGrant copy v w
 entered_none setting copy v w ev before number legal nothing since is =
@@ -134,12 +120,16 @@ entered_none setting copy v w ev before number legal nothing since is =
       kin = ap (λ (x : View). x.kin) is;
     }
 
-pub told_none : (setting : Setting) (copy : ℕ) (v w : View) (ask : Ask) (said : Verdict) → v.number ≡ copy_seat copy → Legal setting w.seen → IsTold setting ask v w said → HasNoGrant copy v w
-told_none setting copy v w ask (verdict.Free tuple) number legal told = looked_none setting copy v w number legal told.0
-told_none setting copy v w ask (verdict.Blocked holder) number legal (before, ev, is, since, against, same) =
+judged_none : (setting : Setting) (copy : ℕ) (v w : View) (ask : Ask) (said : Verdict) → v.number ≡ copy_seat copy → Legal setting w.seen → IsJudged setting ask v w said → HasNoGrant copy v w
+judged_none setting copy v w ask (verdict.Free tuple) number legal told = looked_none setting copy v w number legal told.0
+judged_none setting copy v w ask (verdict.Blocked holder) number legal (before, ev, is, since, against, same) =
     entered_none setting copy v w ev before number legal (ap (grant_at copy) is.1) since same
-told_none setting copy v w ask (verdict.Dead ancestor) number legal (before, ev, is, since, against, same) =
+judged_none setting copy v w ask (verdict.Dead ancestor) number legal (before, ev, is, since, against, same) =
     entered_none setting copy v w ev before number legal (ap (grant_at copy) is.1) since same
+
+pub told_none : (setting : Setting) (copy : ℕ) (v w : View) (ask : Ask) (told : Consulted) → v.number ≡ copy_seat copy → Legal setting w.seen → IsTold setting ask v w told → HasNoGrant copy v w
+told_none setting copy v w ask (consulted.Again tuple) number legal told = looked_none setting copy v w number legal told.0
+told_none setting copy v w ask (consulted.Fresh said) number legal told = judged_none setting copy v w ask said number legal told.1
 
 pub unable_none : {T : Type 0} (setting : Setting) (copy : ℕ) (v w : View) (n : Name) (why : Why) (r : Result T DeskNo) → v.number ≡ copy_seat copy → Legal setting w.seen
     → OnOk r (Entered against_nothing (event.Unable n why) v w) → IfErr r (Refused against_nothing v w) → HasNoGrant copy v w
@@ -233,13 +223,31 @@ table_unheld start past copy nothing = record {
   follows = subst (λ gs. Follows past gs (unheld start)) (sym nothing) (starts past start);
 }
 
--- a free request may be granted what it is told, where it was granted nothing before
-pub may_be_granted : (setting : Setting) (copy : ℕ) (v w : View) (ask : Ask) (tuple : Tuple) → ask.copy ≡ copy → v.number ≡ copy_seat copy → Legal setting w.seen → HasAsked w.seen ask
-    → again (grants v.seen copy) ask.access ≡ None → IsTold setting ask v w (verdict.Free tuple) → MayGrant setting w.seen (copy_seat copy) copy (grant_with ask tuple)
-may_be_granted setting copy v w ask tuple is number legal has first told =
-    let none = same_grants setting copy v w legal (looked_none setting copy v w number legal told.0) in
-    let nothing : again (grants w.seen ask.copy) ask.access ≡ None = ap (λ c. again (grants w.seen c) ask.access) is ∙ ap (λ gs. again gs ask.access) none ∙ first in
-    subst (λ c. MayGrant setting w.seen (copy_seat c) c (grant_with ask tuple)) is (told.1.may (none_granted setting w.seen ask legal has nothing))
+-- a free request may be granted what it is told
+pub may_be_granted : (setting : Setting) (copy : ℕ) (v w : View) (ask : Ask) (tuple : Tuple) → ask.copy ≡ copy → Legal setting w.seen → HasAsked w.seen ask
+    → IsTold setting ask v w (consulted.Fresh (verdict.Free tuple)) → MayGrant setting w.seen (copy_seat copy) copy (grant_with ask tuple)
+may_be_granted setting copy v w ask tuple is legal has told =
+    subst (λ c. MayGrant setting w.seen (copy_seat c) c (grant_with ask tuple)) is (told.1.1.may (none_granted setting w.seen ask legal has told.0))
+
+-- what a copy keeps of a consultation: the grant of a free request is in hand
+pub kept_told : (setting : Setting) (copy : ℕ) (v w : View) (ask : Ask) (start : List Tuple) (locks : Option Table) (t : Table) (hand now : Option Grant) (told : Consulted) → ask.copy ≡ copy → v.number ≡ copy_seat copy → Legal setting w.seen
+    → HasAsked w.seen ask → IsTold setting ask v w told → IsTableOf start w.seen copy t → ask.rec < length t.start → ((tuple : Tuple) → told ≡ consulted.Fresh (verdict.Free tuple) → t.reserved ≡ true)
+    → now ≡ hand_after ask told → IsKept setting copy v start locks hand → IsKept setting copy w start (Some t) now
+kept_told setting copy v w ask start locks t hand now told is number legal has tells table within room at was =
+    subst (IsKept setting copy w start (Some t)) (sym at)
+    (kept_asked setting copy v w start locks (Some t) hand (hand_after ask told) (told_none setting copy v w ask told number legal tells) table (may told tells) (has_room told room) was)
+  where
+    may : (x : Consulted) → IsTold setting ask v w x → IfSome (hand_after ask x) (MayGrant setting w.seen (copy_seat copy) copy)
+    may (consulted.Again tuple) h = tt
+    may (consulted.Fresh (verdict.Free tuple)) h = may_be_granted setting copy v w ask tuple is legal has h
+    may (consulted.Fresh (verdict.Blocked holder)) h = tt
+    may (consulted.Fresh (verdict.Dead ancestor)) h = tt
+
+    has_room : (x : Consulted) → ((tuple : Tuple) → x ≡ consulted.Fresh (verdict.Free tuple) → t.reserved ≡ true) → IfSome (hand_after ask x) (HasRoomFor t)
+    has_room (consulted.Again tuple) h = tt
+    has_room (consulted.Fresh (verdict.Free tuple)) h = record { reserved = h tuple refl; within = within }
+    has_room (consulted.Fresh (verdict.Blocked holder)) h = tt
+    has_room (consulted.Fresh (verdict.Dead ancestor)) h = tt
 
 -- a copy has its locks again
 pub kept_restored : (setting : Setting) (copy : ℕ) (v : View) (start : List Tuple) (locks : Option Table) (hand : Option Grant) (new : Table) → hand ≡ None
@@ -299,16 +307,6 @@ granted_told setting copy v w g legal enters =
 pub older_entered : (v w : View) (ev : Event) → Entered against_nothing ev v w → IsOlder v.seen w.seen
 older_entered v w ev enters =
     (entry v.number ev ∷ enters.1.0, ap (λ (x : View). x.seen) enters.3 ∙ ap (λ (p : Past). entry v.number ev ∷ p) enters.1.1)
-
--- what the copy's grants have of a request is what it was granted
-pub again_told : (setting : Setting) (copy : ℕ) (past : Past) (ask : Ask) (tuple : Tuple) → ask.copy ≡ copy → Legal setting past → HasAsked past ask → again (grants past copy) ask.access ≡ Some tuple → IsGranted copy past (grant_with ask tuple)
-again_told setting copy past ask tuple is legal has there =
-    subst (λ c. IsGranted c past (grant_with ask tuple)) is (again_granted setting past ask legal has tuple (ap (λ c. again (grants past c) ask.access) is ∙ there))
-
--- and what it was granted they have
-pub told_again : (setting : Setting) (copy : ℕ) (past : Past) (ask : Ask) (tuple : Tuple) → Legal setting past → IsGranted copy past (grant_with ask tuple) → again (grants past copy) ask.access ≡ Some tuple
-told_again setting copy past ask tuple legal told =
-    again_is setting past copy ask.access legal ∙ ap (option_and_then (tuple_at copy)) told ∙ ap (λ (b : Bool). if b then Some tuple else None) (eq-eqb copy copy refl)
 
 -- AT FIRST
 

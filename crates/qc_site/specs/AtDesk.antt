@@ -1,6 +1,5 @@
 -- What a copy makes of its pass at its desk.
-use Rattle.std.specs.Prelude.{ℕ, ◌≡◌, ◌⊎◌, [], ◌∷◌, Option, None, Some}
-use Rattle.qc_copy.specs.declared.state.Verdict.{Verdict}
+use Rattle.std.specs.Prelude.{ℕ, ◌≡◌, [], ◌∷◌, Option, None, Some}
 use Rattle.qc_copy.specs.declared.state.Verdict.TheVariants as verdict
 use Rattle.qc_copy.specs.State.{grant_with}
 use Rattle.qc_event.specs.declared.event.Ask.{Ask}
@@ -12,22 +11,18 @@ use Rattle.qc_event.specs.declared.event.Refusal.TheVariants as refusal
 use Rattle.qc_event.specs.declared.event.Why.{Why}
 use Rattle.qc_event.specs.History.{Past, granted, grants}
 use Rattle.qc_event.specs.Seats.{copy_seat}
+use Rattle.qc_pass.specs.declared.consult.Consulted.{Consulted}
+use Rattle.qc_pass.specs.declared.consult.Consulted.TheVariants as consulted
 use Rattle.qc_pass.specs.declared.refusal.DeskNo.{DeskNo}
 use Rattle.qc_pass.specs.declared.view.View.{View}
-use Rattle.qc_pass.specs.Calling.{Looked}
 use Rattle.qc_pass.specs.Entries.{IsOlder, entry}
 use Rattle.qc_pass.specs.Refusing.{IsWant}
 use Rattle.qc_site.specs.Replica.{Standing}
 
 -- what is in hand after a consultation: the grant of a free request
-abbrev pub hand_after : Ask → Verdict → Option Grant
-hand_after ask (verdict.Free tuple) = Some (grant_with ask tuple)
-hand_after ask (verdict.Blocked holder) = None
-hand_after ask (verdict.Dead ancestor) = None
-
--- the pass is as it was, or has looked
-abbrev pub MayHaveLooked : View → View → Type 0
-MayHaveLooked v w = (w ≡ v) ⊎ Looked v w
+abbrev pub hand_after : Ask → Consulted → Option Grant
+hand_after ask (consulted.Fresh (verdict.Free tuple)) = Some (grant_with ask tuple)
+hand_after ask _ = None
 
 -- memory was wanting, or the history takes no more entries
 abbrev pub IsWantAt : View → DeskNo → Type 0
@@ -47,11 +42,11 @@ module _ (copy : ℕ) where
   abbrev pub unable_entry : Ask → Why → Entry
   unable_entry ask why = entry (copy_seat copy) (event.Unable ask.access why)
 
-  -- what a verdict enters: a refusal
-  abbrev pub verdict_entries : Ask → Verdict → Past
-  verdict_entries ask (verdict.Free tuple) = []
-  verdict_entries ask (verdict.Blocked holder) = refused_entry ask (refusal.Blocked holder) ∷ []
-  verdict_entries ask (verdict.Dead ancestor) = refused_entry ask (refusal.Dead ancestor) ∷ []
+  -- what a consultation enters: a refusal
+  abbrev pub told_entries : Ask → Consulted → Past
+  told_entries ask (consulted.Fresh (verdict.Blocked holder)) = refused_entry ask (refusal.Blocked holder) ∷ []
+  told_entries ask (consulted.Fresh (verdict.Dead ancestor)) = refused_entry ask (refusal.Dead ancestor) ∷ []
+  told_entries ask _ = []
 
   -- the history tells that the copy gave this grant
   abbrev pub IsGranted : Past → Grant → Type 0

@@ -1,5 +1,5 @@
 -- A site: what it has in hand, what it enters, and what its disk keeps.
-use Rattle.std.specs.Prelude.{ℕ, ◌⊎◌, List, [], ◌∷◌}
+use Rattle.std.specs.Prelude.{ℕ, ◌≡◌, ◌⊎◌, List, [], ◌∷◌}
 use Rattle.qc_config.specs.declared.tuple.Tuple.{Tuple}
 use Rattle.qc_copy.specs.State.{grant_with}
 use Rattle.qc_disk.specs.declared.disk.Disk.{Ghosts}
@@ -81,9 +81,9 @@ module _ {D : Type 0} {g : Ghosts D} (copies : ℕ) (ask : Ask) (old new : Journ
   abbrev pub GrowsByGrant : Type 0
   GrowsByGrant = (tuple : Tuple) × Leaves old new (GrowsBy (grant_body copies (grant_with ask tuple)) (g.view (disk_of old)).may_leave)
 
--- what a request that the locks answer enters
-abbrev pub locks_enter : ℕ → Ask → Answered → Past
-locks_enter copy ask (answer.Granted tuple) = granted_entry copy ask tuple ∷ []
-locks_enter copy ask (answer.Blocked holder) = refused_entry copy ask (refusal.Blocked holder) ∷ []
-locks_enter copy ask (answer.Dead ancestor) = refused_entry copy ask (refusal.Dead ancestor) ∷ []
-locks_enter copy ask _ = []
+-- what the answer of an up copy with nothing in hand enters: a repeat nothing
+abbrev pub LocksEnter : ℕ → Ask → Answered → Past → Past → Type 0
+LocksEnter copy ask (answer.Granted tuple) old new = AtMost (granted_entry copy ask tuple ∷ []) old new
+LocksEnter copy ask (answer.Blocked holder) old new = new ≡ refused_entry copy ask (refusal.Blocked holder) ∷ old
+LocksEnter copy ask (answer.Dead ancestor) old new = new ≡ refused_entry copy ask (refusal.Dead ancestor) ∷ old
+LocksEnter copy ask _ old new = ⊥

@@ -1,35 +1,66 @@
 //! What a copy does at its desk: it looks, asks, and enters.
-ghost use Rattle.std.specs.Prelude.{◌≡◌, ◌<◌, ◌≤◌, ◌⊎◌, ◌++◌, ◌∷◌, [], true, IfOk, IfErr, IfSome, OnOk, OnErr, None, Some, length, option_to_list, slice_index_or};
+ghost use Rattle.std.specs.Prelude.{◌≡◌, ◌<◌, ◌≤◌, ◌⊎◌, ◌++◌, ◌∷◌, [], true, Ok, IfOk, IfErr, IfSome, OnOk, OnErr, None, Some, length, option_to_list, slice_index_or};
 ghost use Rattle.qc_config.specs.declared.tuple.Tuple.{Tuple};
 ghost use Rattle.qc_codec.specs.Bodies as body;
 ghost use Rattle.qc_codec.specs.Fields.{format_1};
 ghost use Rattle.qc_config.specs.Tuple.{after};
 ghost use Rattle.qc_event.specs.Seen.{seen};
-ghost use Rattle.qc_copy.specs.State.{again, grant_with};
-ghost use Rattle.qc_copy.specs.State.{again as again_in};
+ghost use Rattle.qc_copy.specs.declared.state.Verdict.TheVariants.{Free};
+ghost use Rattle.qc_copy.specs.State.{grant_with};
 ghost use Rattle.qc_event.specs.Base.{IsProper};
 ghost use Rattle.qc_event.specs.History.{grants, limit};
+ghost use Rattle.qc_event.specs.Legal.{Legal};
 ghost use Rattle.qc_event.specs.History.{grants as past_grants};
 ghost use Rattle.qc_event.specs.Requests.{is_fault};
 ghost use Rattle.qc_event.specs.Seats.{copy_seat};
 ghost use Rattle.qc_event.specs.Tables.{setting_of};
 ghost use Rattle.qc_pass.specs.Entries.{IsOlder};
-ghost use Rattle.qc_pass.specs.Consulting.{HasAsked, IsTold};
+ghost use Rattle.qc_pass.specs.Calling.{Looked};
+ghost use Rattle.qc_pass.specs.Consulting.{HasAsked, IsTold, granted_before};
+ghost use Rattle.qc_pass.specs.declared.consult.Consulted.TheVariants.{Again, Fresh};
 ghost use Rattle.qc_ledger.specs.Entered.{SeesMore};
-ghost use Rattle.qc_site.specs.AtDesk.{hand_after, hand_entries, unable_entry, verdict_entries, IsGranted, IsWantAt, MayHaveLooked, OnlyLooks};
+ghost use Rattle.qc_site.specs.AtDesk.{hand_after, hand_entries, told_entries, unable_entry, IsGranted, IsWantAt, OnlyLooks};
 ghost use Rattle.qc_site.specs.Replica.{IsTableOf};
 
 use crate::fits::known_to_fit;
 use crate::replica::{Replica, grant_of};
 use qc_config::Tuple;
 use qc_copy::{Verdict, replay_locks};
-use qc_event::{Ask, Grant, Name, Why};
+use qc_event::{Ask, Grant, Why};
 use qc_moss::Locks;
-use qc_pass::{Desk, DeskNo, Pass, Store};
+use qc_pass::{Consulted, Desk, DeskNo, Pass, Store};
 use std::alloc::{AllocError, Global};
 use std::sync::Wait;
 
-// Makes room for one more lock of a copy, and asks the desk by its locks whether a request may be granted.
+// Asks the desk whether a request is a repeat, where memory for one more lock is wanting: a repeat needs none.
+fn ask_without_room<N: Store, R: Wait>(
+    rt: &R,
+    desk: &Desk<N>,
+    pass: &mut Pass<N>,
+    seer: &mut Pass<N>,
+    ask: &Ask,
+) -> Result<Consulted, DeskNo>
+    requires live { pass.old.live ≡ true }
+    requires asked { HasAsked seer.old.seen ask.now }
+    ensures told { IfOk result (IsTold (setting_of N.table N.base) ask.now pass.old pass.new) }
+    ensures again { (tuple : Tuple) → result ≡ Ok (Fresh (Free tuple)) → ⊥ }
+    ensures looked { Looked pass.old pass.new }
+    ensures legal { Legal (setting_of N.table N.base) pass.new.seen }
+    ensures asked { HasAsked pass.new.seen ask.now }
+    ensures fresh { OnErr result (granted_before pass.new.seen ask.now ≡ None) }
+    ensures want { IfErr result (IsWantAt pass.new) }
+    ensures seer { SeesMore seer.old seer.new }
+    ensures same { seer.new.seen ≡ pass.new.seen }
+{
+    let before = desk.granted(rt, pass, seer, ask.copy, &ask.access);
+    pass.known();
+    match before {
+        Some(tuple) => Ok(Consulted::Again(tuple)),
+        None => Err(DeskNo::Memory),
+    }
+}
+
+// Makes room for one more lock of a copy, and asks the desk of a request by its locks.
 fn ask_desk<N: Store, R: Wait>(
     rt: &R,
     desk: &Desk<N>,
@@ -37,25 +68,39 @@ fn ask_desk<N: Store, R: Wait>(
     seer: &mut Pass<N>,
     ask: &Ask,
     locks: &mut Locks,
-) -> Result<Verdict, DeskNo>
+) -> Result<Consulted, DeskNo>
     requires copy { (pass.old.live ≡ true) × (pass.old.number ≡ copy_seat ask.now.copy) }
     requires asked { HasAsked seer.old.seen ask.now }
     requires proper { IsProper (setting_of N.table N.base) }
     requires locks { IsTableOf (slice_index_or N.base ask.now.copy []) pass.old.seen ask.now.copy
         locks.old }
     ensures told { IfOk result (IsTold (setting_of N.table N.base) ask.now pass.old pass.new) }
-    ensures asked { OnOk result (HasAsked pass.new.seen ask.now) }
-    ensures err { OnErr result (MayHaveLooked pass.old pass.new) }
+    ensures asked { HasAsked pass.new.seen ask.now }
+    ensures err { OnErr result (Looked pass.old pass.new) }
+    ensures fresh { OnErr result (granted_before pass.new.seen ask.now ≡ None) }
     ensures want { IfErr result (IsWantAt pass.new) }
     ensures locks { IsTableOf (slice_index_or N.base ask.now.copy []) pass.new.seen ask.now.copy
         locks.new }
-    ensures room { OnOk result (locks.new.reserved ≡ true) }
+    ensures room { (tuple : Tuple) → result ≡ Ok (Fresh (Free tuple)) → locks.new.reserved ≡ true }
     ensures seer { SeesMore seer.old seer.new }
-    ensures same { OnOk result (seer.new.seen ≡ pass.new.seen) }
+    ensures same { seer.new.seen ≡ pass.new.seen }
 {
     match locks.reserve() {
         Ok(()) => desk.consult(rt, pass, seer, ask, locks),
-        Err(_) => Err(DeskNo::Memory),
+        Err(_) => ask_without_room(rt, desk, pass, seer, ask),
+    }
+}
+
+// What is in hand then: the grant of a free request.
+fn hand_of(ask: &Ask, told: &Consulted) -> Option<Grant>
+    ensures { result ≡ hand_after ask.now told.now }
+{
+    match told {
+        Consulted::Again(_) => None,
+        Consulted::Fresh(verdict) => match verdict {
+            Verdict::Free(tuple) => Some(grant_of(ask, tuple)),
+            Verdict::Blocked(_) | Verdict::Dead(_) => None,
+        },
     }
 }
 
@@ -76,34 +121,39 @@ impl<N: Store, const C: u8> Replica<N, C> {
         given
     }
 
-    /// Asks the desk whether a request that the seer saw may be granted. A grant that may be made is in hand then.
+    /// Asks the desk of a request that the seer saw. A repeat is told what it was granted, and a grant that may be made is
+    /// in hand then.
     pub(crate) fn consult<R: Wait>(
         &mut self,
         rt: &R,
         desk: &Desk<N>,
         seer: &mut Pass<N>,
         ask: &Ask,
-    ) -> Result<Verdict, DeskNo>
+    ) -> Result<Consulted, DeskNo>
         requires up { self.old.up ≡ true }
         requires none { self.old.hand ≡ None }
         requires copy { ask.now.copy ≡ C }
         requires asked { HasAsked seer.old.seen ask.now }
         requires proper { IsProper (setting_of N.table N.base) }
-        requires first { again (grants self.old.pass.seen C) ask.now.access ≡ None }
         ensures told { IfOk result
             (IsTold (setting_of N.table N.base) ask.now self.old.pass self.new.pass) }
-        ensures asked { OnOk result (HasAsked self.new.pass.seen ask.now) }
-        ensures hand { IfOk result (λ verdict. self.new.hand ≡ hand_after ask.now verdict) }
+        ensures granted { (tuple : Tuple) → result ≡ Ok (Again tuple)
+            → IsGranted C self.new.pass.seen (grant_with ask.now tuple) }
+        ensures again { (tuple : Tuple)
+            → IsGranted C self.old.pass.seen (grant_with ask.now tuple)
+            → result ≡ Ok (Again tuple) }
+        ensures asked { HasAsked self.new.pass.seen ask.now }
+        ensures hand { IfOk result (λ told. self.new.hand ≡ hand_after ask.now told) }
         ensures none { OnErr result (self.new.hand ≡ None) }
-        ensures enters { IfOk result (λ verdict. self.new.pass.mine
-            ≡ verdict_entries C ask.now verdict ++ self.old.pass.mine) }
+        ensures enters { IfOk result (λ told. self.new.pass.mine
+            ≡ told_entries C ask.now told ++ self.old.pass.mine) }
         ensures err { OnErr result (self.new.pass.mine ≡ self.old.pass.mine) }
         ensures grants { grants self.new.pass.seen C ≡ grants self.old.pass.seen C }
         ensures seen { IsOlder self.old.pass.seen self.new.pass.seen }
         ensures want { IfErr result (IsWantAt self.new.pass) }
         ensures up { self.new.up ≡ true }
         ensures seer { SeesMore seer.old seer.new }
-        ensures same { OnOk result (seer.new.seen ≡ self.new.pass.seen) }
+        ensures same { seer.new.seen ≡ self.new.pass.seen }
     {
         let Some(mut locks) = self.locks.take() else {
             unreachable!();
@@ -111,11 +161,9 @@ impl<N: Store, const C: u8> Replica<N, C> {
         let answer = ask_desk(rt, desk, &mut self.pass, seer, ask, &mut locks);
         self.locks = Some(locks);
         self.pass.known();
-        let verdict = answer?;
-        if let Verdict::Free(tuple) = &verdict {
-            self.hand = Some(grant_of(ask, tuple));
-        }
-        Ok(verdict)
+        let told = answer?;
+        self.hand = hand_of(ask, &told);
+        Ok(told)
     }
 
     /// Enters the grant in hand, where there is one, which the seer has then seen.
@@ -194,52 +242,6 @@ impl<N: Store, const C: u8> Replica<N, C> {
     {
         desk.show(rt, &mut self.pass, seer);
         self.pass.known();
-    }
-
-    // What the copy granted an access, where it granted it something, in the history at this step. It
-    // takes one look at the desk, and no memory.
-    fn repeated<R: Wait>(&mut self, rt: &R, desk: &Desk<N>, access: &Name) -> Option<Tuple>
-        ensures told { result ≡ again_in (grants self.new.pass.seen C) access.now }
-        ensures looks { OnlyLooks C self.old self.new }
-        ensures hand { self.new.hand ≡ self.old.hand }
-        ensures up { self.new.up ≡ self.old.up }
-    {
-        let first = desk.granted(rt, &mut self.pass, C, access);
-        self.pass.known();
-        first
-    }
-
-    /// What an access that the seer saw ask was granted, where it was granted something, which the seer has then seen. It
-    /// looks at the desk once, and once more where it was, and takes no memory.
-    pub(crate) fn again<R: Wait>(
-        &mut self,
-        rt: &R,
-        desk: &Desk<N>,
-        seer: &mut Pass<N>,
-        ask: &Ask,
-    ) -> Option<Tuple>
-        requires up { self.old.up ≡ true }
-        requires copy { ask.now.copy ≡ C }
-        requires asked { HasAsked seer.old.seen ask.now }
-        ensures granted { IfSome result (λ tuple.
-            IsGranted C self.new.pass.seen (grant_with ask.now tuple)) }
-        ensures none { result ≡ None
-            → again_in (grants self.new.pass.seen C) ask.now.access ≡ None }
-        ensures first { (tuple : Tuple)
-            → IsGranted C self.old.pass.seen (grant_with ask.now tuple)
-            → result ≡ Some tuple }
-        ensures asked { HasAsked seer.new.seen ask.now }
-        ensures looks { OnlyLooks C self.old self.new }
-        ensures hand { self.new.hand ≡ self.old.hand }
-        ensures up { self.new.up ≡ self.old.up }
-        ensures seer { SeesMore seer.old seer.new }
-        ensures same { IfSome result (λ _. seer.new.seen ≡ self.new.pass.seen) }
-    {
-        self.pass.known();
-        let tuple = self.repeated(rt, desk, &ask.access)?;
-        self.show(rt, desk, seer);
-        self.pass.known();
-        Some(tuple)
     }
 
     /// Enters the grant in hand, where there is one, for no one.

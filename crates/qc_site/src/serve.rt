@@ -1,7 +1,7 @@
 //! How a site serves a request.
 ghost use Rattle.std.specs.Prelude.{◌≡◌, ◌++◌, ◌∷◌, ℕ, List, true, IfOk, IfErr, OnOk, OnErr, IsErrOf, None, Some, Ok, Err, length, is_some};
 ghost use Rattle.qc_config.specs.declared.tuple.Tuple.{Tuple};
-ghost use Rattle.qc_copy.specs.State.{again, grant_with};
+ghost use Rattle.qc_copy.specs.State.{grant_with};
 ghost use Rattle.qc_event.specs.declared.event.Answered.TheVariants.{Down, Full, Granted, Strange};
 ghost use Rattle.qc_event.specs.declared.log.Short.TheVariants as short;
 ghost use Rattle.qc_event.specs.Base.{IsProper};
@@ -25,7 +25,7 @@ use qc_config::Tuple;
 use qc_copy::Verdict;
 use qc_disk::Disk;
 use qc_event::{Answered, Ask, Short, Why};
-use qc_pass::{Desk, DeskNo, Pass, Store};
+use qc_pass::{Consulted, Desk, DeskNo, Pass, Store};
 use std::sync::Wait;
 
 /// Why the desk did not answer a request: the copy was unable to serve it, or memory or room was wanting.
@@ -53,7 +53,7 @@ pub(crate) fn of_site(no: SiteNo) -> ServeNo
 }
 
 impl<D: Disk, N: Store, const C: u8> Site<D, N, C> {
-    ghost use Rattle.qc_site.specs.Sites.{AnswerEnters, EntersHand, GrowsByGrant, IsByLocks, IsFullFor, IsReviveNo, KeepsGranted, LeavesGrant, locks_enter};
+    ghost use Rattle.qc_site.specs.Sites.{AnswerEnters, EntersHand, GrowsByGrant, IsByLocks, IsFullFor, IsReviveNo, KeepsGranted, LeavesGrant, LocksEnter};
     ghost use Rattle.qc_site.specs.Serving.{IsWriteNo};
 
     // Is up, with nothing in hand.
@@ -92,7 +92,7 @@ impl<D: Disk, N: Store, const C: u8> Site<D, N, C> {
         }
     }
 
-    // Asks the desk, and grants what is free.
+    // Asks the desk: a repeat gets what it was granted, and what is free is granted.
     fn grant<R: Wait>(
         &mut self,
         rt: &R,
@@ -105,15 +105,18 @@ impl<D: Disk, N: Store, const C: u8> Site<D, N, C> {
         requires none { self.old.replica.hand ≡ None }
         requires copy { ask.now.copy ≡ C }
         requires asked { HasAsked seer.old.seen ask.now }
-        requires first { again (grants self.old.replica.pass.seen C) ask.now.access ≡ None }
         ensures strange { self.new.strange ≡ self.old.strange }
         ensures up { OnOk result (self.new.replica.up ≡ true) }
         ensures none { OnOk result (self.new.replica.hand ≡ None) }
         ensures by_locks { IfOk result IsByLocks }
-        ensures enters { IfOk result (λ answer. self.new.replica.pass.mine
-            ≡ locks_enter C ask.now answer ++ self.old.replica.pass.mine) }
+        ensures enters { IfOk result (λ answer. LocksEnter C ask.now answer
+            self.old.replica.pass.mine self.new.replica.pass.mine) }
         ensures granted { (tuple : Tuple) → result ≡ Ok (Granted tuple)
             → IsGranted C self.new.replica.pass.seen (grant_with ask.now tuple) }
+        ensures again { (tuple : Tuple)
+            → IsGranted C self.old.replica.pass.seen (grant_with ask.now tuple)
+            → (result ≡ Ok (Granted tuple)) × (self.new.log ≡ self.old.log)
+            × (self.new.replica.pass.mine ≡ self.old.replica.pass.mine) }
         ensures err { OnErr result (self.new.replica.pass.mine ≡ self.old.replica.pass.mine) }
         ensures over { (before : List (List ℕ))
             → KeepsGranted C before self.old.log self.old.replica
@@ -140,11 +143,15 @@ impl<D: Disk, N: Store, const C: u8> Site<D, N, C> {
         ensures cause { Costs (journal_in self.old.log) (journal_in self.new.log)
             (IsErrOf result ServeNo.Down) }
     {
-        let verdict = match self.replica.consult(rt, desk, seer, ask) {
-            Ok(verdict) => verdict,
+        let told = match self.replica.consult(rt, desk, seer, ask) {
+            Ok(told) => told,
             Err(no) => return Err(of_site(desk_no(no))),
         };
-        match &verdict {
+        let verdict = match &told {
+            Consulted::Again(tuple) => return Ok(Answered::Granted(*tuple)),
+            Consulted::Fresh(verdict) => verdict,
+        };
+        match verdict {
             Verdict::Free(tuple) => {
                 self.admit(rt, desk, seer, ask, tuple)?;
                 Ok(Answered::Granted(*tuple))
@@ -213,9 +220,6 @@ impl<D: Disk, N: Store, const C: u8> Site<D, N, C> {
             Ok(()) => {}
             Err(no) => return Err(of_site(no)),
         }
-        if let Some(tuple) = self.replica.again(rt, desk, seer, ask) {
-            return Ok(Answered::Granted(tuple));
-        }
         self.grant(rt, desk, seer, ask)
     }
 
@@ -252,8 +256,8 @@ impl<D: Disk, N: Store, const C: u8> Site<D, N, C> {
     }
 
     /// Serves a request that the seer saw. A grant whose record stands and that is not yet entered comes first; a copy
-    /// that is down revives. A repeat of a granted access gets the same tuple, which costs one look at the desk, and
-    /// nothing is written. Else the desk is asked; what is free is journalled, entered and answered, in this order. That
+    /// that is down revives. Then the desk is asked. A repeat of a granted access gets the same tuple, and nothing is
+    /// written; what is free is journalled, entered and answered, in this order. That
     /// the copy is down, full or strange is entered before it is answered.
     pub fn serve<R: Wait>(
         &mut self,

@@ -6,6 +6,7 @@ use Rattle.qc_event.specs.Tables.{setting_of}
 use Rattle.qc_moss.specs.Follows.{Follows}
 use Rattle.qc_pass.specs.declared.view.View.{View}
 use Rattle.qc_pass.specs.Consulting.{IsTold}
+use Rattle.qc_pass.specs.declared.consult.Consulted.TheVariants.{Fresh}
 use Rattle.qc_pass.specs.Entries.{IsOlder}
 use Rattle.qc_rows_desk.proofs.OneCopy.{may_append}
 use Rattle.qc_rows_desk.proofs.Granting.{reserved_follows, reserved_start, follows_granted}
@@ -21,10 +22,10 @@ append-requires-clause-free g c =
     let w = c.consult.new.pass in
     let made = c.one_request.new.pass.seen in
     let r = c.in_ok-ask.ensures.asked in
-    let told = subst (IsTold s c.in_ok-ask.ask v w) c.in-Free.is c.in_ok-verdict.ensures.told in
+    let told = subst (IsTold s c.in_ok-ask.ask v w) (c.in-Fresh.is ∙ ap (λ x. Fresh x) c.in-Free.is) c.in_ok-told.ensures.told in
     subst (MayGrant s w.seen w.number 0) (sym c.grant_of-grant.ensures)
     (may_append s v w made c.in_ok-ask.ask c.in-Free.tuple c.requires.copy.1 r.to_copy r.asked r.ungranted (subst (λ p. IsOlder p made) c.requires.seen c.in_ok-ask.ensures.older)
-    (subst (IsOlder made) c.consult.ensures.same c.consult.ensures.shown.0) c.known.ensures.legal told.0 told.1)
+    (subst (IsOlder made) c.consult.ensures.same c.consult.ensures.shown.0) c.known.ensures.legal told.1.0 told.1.1)
 
 pub returns-clause-follows : goal.returns-clause-follows
 returns-clause-follows g c =
@@ -33,11 +34,11 @@ returns-clause-follows g c =
     let w = c.consult.new.pass in
     let v = c.append.new.pass in
     let locks = c.reserve.new.self in
-    let told = subst (IsTold s c.in_ok-ask.ask c.args.copy.now w) c.in-Free.is c.in_ok-verdict.ensures.told in
+    let told = subst (IsTold s c.in_ok-ask.ask c.args.copy.now w) (c.in-Fresh.is ∙ ap (λ x. Fresh x) c.in-Free.is) c.in_ok-told.ensures.told in
     let record_is = ap (λ (x : Grant). x.rec) c.grant_of-grant.ensures ∙ c.in_ok-ask.ensures.asked.of_record in
     let start_is = reserved_start c.reserve.result c.consult.new.locks locks c.reserve.ensures.ok c.reserve.ensures.err ∙ c.consult.ensures.start ∙ c.requires.start in
     let within : grant.rec < length locks.held = omega (arith, record_is, c.grant.ensures.lists, ap length start_is) in
     let follows = subst (λ n. Follows w.seen (grants w.seen n) c.consult.new.locks) c.in_ok-ask.ensures.asked.to_copy c.consult.ensures.follows in
     subst (Follows v.seen (grants v.seen 0)) (sym c.grant.ensures.granted)
-    (follows_granted s w v grant locks (ap (λ (x : View). x.number) told.0.1 ∙ c.requires.copy.1) within c.in_ok-append.ensures.ok c.known-2.ensures.legal
+    (follows_granted s w v grant locks (ap (λ (x : View). x.number) told.1.0.1 ∙ c.requires.copy.1) within c.in_ok-append.ensures.ok c.known-2.ensures.legal
     (reserved_follows c.reserve.result w.seen (grants w.seen 0) c.consult.new.locks locks c.reserve.ensures.ok c.reserve.ensures.err follows))

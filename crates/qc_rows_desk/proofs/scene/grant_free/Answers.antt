@@ -1,9 +1,10 @@
-use Rattle.std.proofs.Common.{sym, subst}
+use Rattle.std.proofs.Common.{sym, subst, ap, ◌∙◌}
 use Rattle.qc_event.specs.Grants.{MayGrant}
 use Rattle.qc_event.specs.History.{grants}
 use Rattle.qc_event.specs.Tables.{setting_of}
 use Rattle.qc_moss.specs.Follows.{Follows}
 use Rattle.qc_pass.specs.Consulting.{IsTold}
+use Rattle.qc_pass.specs.declared.consult.Consulted.TheVariants.{Fresh}
 use Rattle.qc_pass.specs.Entries.{IsOlder}
 use Rattle.qc_rows_desk.proofs.OneCopy.{may_append}
 use Rattle.qc_rows_desk.proofs.scene.grant_free.Goals as goal
@@ -18,7 +19,7 @@ append-requires-clause-free g c =
     let w = c.consult.new.pass in
     let made = c.one_request.new.pass.seen in
     let r = c.in_ok-ask.ensures.asked in
-    let told = subst (IsTold s c.in_ok-ask.ask v w) c.in-Free.is c.in_ok-verdict.ensures.told in
+    let told = subst (IsTold s c.in_ok-ask.ask v w) (c.in-Fresh.is ∙ ap (λ x. Fresh x) c.in-Free.is) c.in_ok-told.ensures.told in
     subst (MayGrant s w.seen w.number 0) (sym c.grant_of.ensures)
     (may_append s v w made c.in_ok-ask.ask c.in-Free.tuple c.requires.copy.1 r.to_copy r.asked r.ungranted (subst (λ p. IsOlder p made) c.requires.seen c.in_ok-ask.ensures.older)
-    (subst (IsOlder made) c.consult.ensures.same c.consult.ensures.shown.0) c.known.ensures.legal told.0 told.1)
+    (subst (IsOlder made) c.consult.ensures.same c.consult.ensures.shown.0) c.known.ensures.legal told.1.0 told.1.1)

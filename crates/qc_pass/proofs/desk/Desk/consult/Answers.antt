@@ -4,8 +4,8 @@ use Rattle.qc_pass.proofs.Consulting.{asked_later}
 use Rattle.qc_pass.proofs.Seers.{shown_twice}
 use Rattle.qc_pass.proofs.desk.Desk.consult.Goals as goal
 
-pub consult-verdict-requires-clause-asked : goal.consult-verdict-requires-clause-asked
-consult-verdict-requires-clause-asked g c =
+pub consult-told-requires-clause-asked : goal.consult-told-requires-clause-asked
+consult-told-requires-clause-asked g c =
     let l = c.look.ensures in
     subst (λ p. HasAsked p c.args.ask.now) (sym (c.deref_mut-2.ensures.value ∙ l.same.0)) (asked_later c.args.seer.now.seen _ c.args.ask.now l.seen c.requires.asked)
 

@@ -2,7 +2,8 @@ use Rattle.std.proofs.Common.{refl, sym, ap, ◌∙◌}
 use Rattle.qc_event.specs.History.{grants}
 use Rattle.qc_event.specs.Tables.{setting_of}
 use Rattle.qc_pass.specs.declared.view.View.{View}
-use Rattle.qc_pass.proofs.Consulting.{ready, within, verdict_stands, has_reason, refusal_allowed, looked, told_free, told_refused, follows_still, follows_wanting, follows_entered, entered_refusal}
+use Rattle.qc_pass.specs.Consulting.{granted_before}
+use Rattle.qc_pass.proofs.Consulting.{ready, within, verdict_stands, has_reason, refusal_allowed, looked, judged_free, judged_refused, before_refused, follows_still, follows_wanting, follows_entered, entered_refusal}
 use Rattle.qc_pass.proofs.locked.Locked.consult.Goals as goal
 
 pub consult_locks-verdict-requires : goal.consult_locks-verdict-requires
@@ -11,19 +12,30 @@ consult_locks-verdict-requires g c =
     let r = ready setting c.args.self.now c.look.new.self c.args.pass.now c.look.new.pass c.args.ask.now c.args.locks.now c.requires.copy.1 c.known.ensures.legal c.requires.asked (c.look.ensures.since c.requires.copy.0) c.look.ensures.same c.requires.follows in
     within setting c.look.new.self c.args.ask.now r.has c.requires.proper r.legal c.args.locks.now c.requires.start
 
-pub returns-in_default-clause-told : goal.returns-in_default-clause-told
-returns-in_default-clause-told g c =
+pub returns-in-Some-clause-follows : goal.returns-in-Some-clause-follows
+returns-in-Some-clause-follows g c =
+    let setting = setting_of g.N.Store.table g.N.Store.base in
+    let h = c.look.new.self in
+    let ask = c.args.ask.now in
+    let r = ready setting c.args.self.now h c.args.pass.now c.look.new.pass ask c.args.locks.now c.requires.copy.1 c.known.ensures.legal c.requires.asked (c.look.ensures.since c.requires.copy.0) c.look.ensures.same c.requires.follows in
+    follows_still setting h c.args.pass.now c.look.new.pass ask c.args.locks.now r c.args.locks.now r.follows
+
+pub returns-in_default-refusal_of-clause-told : goal.returns-in_default-refusal_of-clause-told
+returns-in_default-refusal_of-clause-told g c =
     let setting = setting_of g.N.Store.table g.N.Store.base in
     let h = c.look.new.self in
     let ask = c.args.ask.now in
     let r = ready setting c.args.self.now h c.args.pass.now c.look.new.pass ask c.args.locks.now c.requires.copy.1 c.known.ensures.legal c.requires.asked (c.look.ensures.since c.requires.copy.0) c.look.ensures.same c.requires.follows in
     let said = c.consult_locks-verdict.ensures.verdict h (grants h ask.copy) refl r.follows in
-    told_free setting h ask c.args.pass.now c.look.new.pass c.consult_locks-verdict.result (sym c.refusal_of.ensures ∙ c.in_default.is)
-    (verdict_stands setting h ask r.has c.requires.proper r.legal c.args.locks.now c.requires.start c.consult_locks-verdict.result said)
-    (looked setting h c.args.pass.now c.look.new.pass ask c.args.locks.now r) (ap (λ (x : View). x.seen) r.is)
+    let seen = ap (λ (x : View). x.seen) r.is in (
+      ap (λ p. granted_before p ask) seen ∙ sym c.granted.ensures ∙ c.in_default.is,
+      judged_free setting h ask c.args.pass.now c.look.new.pass c.consult_locks-verdict.result (sym c.refusal_of.ensures ∙ c.in_default-refusal_of.is)
+          (verdict_stands setting h ask r.has c.requires.proper r.legal c.args.locks.now c.requires.start c.consult_locks-verdict.result said)
+          (looked setting h c.args.pass.now c.look.new.pass ask c.args.locks.now r) seen,
+    )
 
-pub returns-in_default-clause-follows : goal.returns-in_default-clause-follows
-returns-in_default-clause-follows g c =
+pub returns-in_default-refusal_of-clause-follows : goal.returns-in_default-refusal_of-clause-follows
+returns-in_default-refusal_of-clause-follows g c =
     let setting = setting_of g.N.Store.table g.N.Store.base in
     let h = c.look.new.self in
     let ask = c.args.ask.now in
@@ -37,8 +49,8 @@ enter-requires-clause-allowed g c = λ none.
     let ask = c.args.ask.now in
     let r = ready setting c.args.self.now h c.args.pass.now c.look.new.pass ask c.args.locks.now c.requires.copy.1 c.known.ensures.legal c.requires.asked (c.look.ensures.since c.requires.copy.0) c.look.ensures.same c.requires.follows in
     let said = c.consult_locks-verdict.ensures.verdict h (grants h ask.copy) refl r.follows in
-    refusal_allowed setting h ask r.has c.look.new.pass.number c.in-Some.refusal (ap (λ (x : View). x.number) r.is ∙ c.requires.copy.1)
-    (has_reason setting h ask c.consult_locks-verdict.result c.in-Some.refusal (sym c.refusal_of.ensures ∙ c.in-Some.is)
+    refusal_allowed setting h ask r.has c.look.new.pass.number c.in-Some-refusal_of.refusal (ap (λ (x : View). x.number) r.is ∙ c.requires.copy.1)
+    (has_reason setting h ask c.consult_locks-verdict.result c.in-Some-refusal_of.refusal (sym c.refusal_of.ensures ∙ c.in-Some-refusal_of.is)
     (verdict_stands setting h ask r.has c.requires.proper r.legal c.args.locks.now c.requires.start c.consult_locks-verdict.result said))
 
 pub returns-in_err-enter-clause-follows : goal.returns-in_err-enter-clause-follows
@@ -56,11 +68,14 @@ returns-clause-told g c =
     let ask = c.args.ask.now in
     let r = ready setting c.args.self.now h c.args.pass.now c.look.new.pass ask c.args.locks.now c.requires.copy.1 c.known.ensures.legal c.requires.asked (c.look.ensures.since c.requires.copy.0) c.look.ensures.same c.requires.follows in
     let said = c.consult_locks-verdict.ensures.verdict h (grants h ask.copy) refl r.follows in
-    let some = sym c.refusal_of.ensures ∙ c.in-Some.is in
-    let reason = has_reason setting h ask c.consult_locks-verdict.result c.in-Some.refusal some
+    let some = sym c.refusal_of.ensures ∙ c.in-Some-refusal_of.is in
+    let reason = has_reason setting h ask c.consult_locks-verdict.result c.in-Some-refusal_of.refusal some
     (verdict_stands setting h ask r.has c.requires.proper r.legal c.args.locks.now c.requires.start c.consult_locks-verdict.result said) in
-    told_refused setting h ask c.args.pass.now c.enter.new.pass c.consult_locks-verdict.result c.in-Some.refusal some
-    (entered_refusal setting h c.args.pass.now c.look.new.pass ask c.args.locks.now r c.enter.new.self c.enter.new.pass c.in-Some.refusal reason c.in_ok-enter.ensures.ok.1)
+    let entered = c.in_ok-enter.ensures.ok.1 in (
+      ap (λ (x : View). granted_before x.seen ask) entered.1 ∙ before_refused h c.look.new.pass.number ask.copy ask.access c.in-Some-refusal_of.refusal ask ∙ sym c.granted.ensures ∙ c.in_default.is,
+      judged_refused setting h ask c.args.pass.now c.enter.new.pass c.consult_locks-verdict.result c.in-Some-refusal_of.refusal some
+          (entered_refusal setting h c.args.pass.now c.look.new.pass ask c.args.locks.now r c.enter.new.self c.enter.new.pass c.in-Some-refusal_of.refusal reason entered),
+    )
 
 pub returns-clause-follows : goal.returns-clause-follows
 returns-clause-follows g c =
@@ -68,4 +83,4 @@ returns-clause-follows g c =
     let h = c.look.new.self in
     let ask = c.args.ask.now in
     let r = ready setting c.args.self.now h c.args.pass.now c.look.new.pass ask c.args.locks.now c.requires.copy.1 c.known.ensures.legal c.requires.asked (c.look.ensures.since c.requires.copy.0) c.look.ensures.same c.requires.follows in
-    follows_entered setting h c.args.pass.now c.look.new.pass ask c.args.locks.now r c.consult_locks-verdict.new.locks c.enter.new.self c.enter.new.pass c.in-Some.refusal (c.consult_locks-verdict.ensures.follows h (grants h ask.copy) refl r.follows) c.in_ok-enter.ensures.ok.1
+    follows_entered setting h c.args.pass.now c.look.new.pass ask c.args.locks.now r c.consult_locks-verdict.new.locks c.enter.new.self c.enter.new.pass c.in-Some-refusal_of.refusal (c.consult_locks-verdict.ensures.follows h (grants h ask.copy) refl r.follows) c.in_ok-enter.ensures.ok.1

@@ -1,5 +1,5 @@
-use Rattle.std.proofs.Common.{◌≡◌, ◌++◌, map, refl, sym, ap, ◌∙◌, subst}
-use Rattle.std.specs.Prelude.{Ok, None, Some, is_some}
+use Rattle.std.proofs.Common.{◌++◌, map, refl, sym, ap, ◌∙◌, subst}
+use Rattle.std.specs.Prelude.{is_some}
 use Rattle.qc_ledger.specs.Runs.{HasOrMore, Leaves}
 use Rattle.qc_pass.proofs.Consulting.{asked_later}
 use Rattle.qc_pass.proofs.Seers.{older_trans}
@@ -7,16 +7,14 @@ use Rattle.qc_copy.specs.State.{grant_with}
 use Rattle.qc_event.specs.Base.{no_tuple}
 use Rattle.qc_event.specs.History.{grants}
 use Rattle.qc_event.specs.Tables.{setting_of}
-use Rattle.qc_event.specs.declared.event.Answered.TheVariants.{Granted}
 use Rattle.qc_journal.specs.Journal.{disk_of}
 use Rattle.qc_site.specs.AtDesk.{IsGranted}
 use Rattle.qc_site.specs.Back.{grant_body}
 use Rattle.qc_site.specs.Log.{copies_of, journal_in}
 use Rattle.qc_site.specs.Replica.{Standing}
 use Rattle.qc_ledger.proofs.Logging.{log_grows, log_moments, same_moments, up_by}
-use Rattle.qc_ledger.proofs.Passes.{sees_on}
-use Rattle.std.proofs.lemmas.Option.{same_Some}
-use Rattle.qc_site.proofs.Logs.{cause_on, falls_grow, same_over}
+use Rattle.qc_site.proofs.Entered.{answer_enters}
+use Rattle.qc_site.proofs.Logs.{cause_on, falls_grow}
 use Rattle.qc_site.proofs.Refusals.{site_down}
 use Rattle.qc_site.proofs.Since.{grants_risen}
 use Rattle.qc_site.proofs.site.Site.try_serve.Goals as goal
@@ -38,56 +36,23 @@ returns-in-Err-clause-cause g c = record {
   failed = λ failed. c.in-Err.ensures.cause.failed (site_down c.in-Err.no c.of_site.result c.of_site.ensures failed);
 }
 
-pub invariant_of-self : goal.invariant_of-self
-invariant_of-self g c = record {
-  journal = λ up down. c.rise.new.self.journal (sym c.again.ensures.up ∙ up) down;
-  sound = λ strange. c.again.ensures.up ∙ c.rise.new.self.sound strange;
-  copies = c.rise.new.self.copies;
-}
-
-pub returns-in-Some-clause-again : goal.returns-in-Some-clause-again
-returns-in-Some-clause-again g c = λ tuple up none told.
-    let idle = c.rise.ensures.idle up none in
-    let there : Some c.in-Some.tuple ≡ Some tuple = c.in-Some.ensures.first tuple (subst (λ (x : Standing). IsGranted g.row.C x.pass.seen (grant_with c.args.ask.now tuple)) (sym idle.1) told) in
-    (ap (λ x. Ok (Granted x)) (same_Some c.in-Some.tuple tuple there), idle.0, c.again.ensures.looks.mine ∙ ap (λ (x : Standing). x.pass.mine) idle.1)
-
-pub returns-in-Some-clause-over : goal.returns-in-Some-clause-over
-returns-in-Some-clause-over g c = λ before k.
-    same_over before c.rise.new.self.log _ _ _ _ c.again.ensures.looks.same_grants c.again.ensures.hand (c.rise.ensures.over before k)
-
-pub returns-in-Some-clause-seen : goal.returns-in-Some-clause-seen
-returns-in-Some-clause-seen g c = older_trans c.args.self.now.replica.pass.seen c.rise.new.self.replica.pass.seen c.again.new.self.pass.seen c.rise.ensures.seen c.again.ensures.looks.older
-
-pub returns-in-Some-clause-any_moment : goal.returns-in-Some-clause-any_moment
-returns-in-Some-clause-any_moment g c = λ before k.
-    let old = c.args.self.now.log in
-    (no_tuple, same_moments (journal_in old) (journal_in c.rise.new.self.log) (grant_body (copies_of old) (grant_with c.args.ask.now no_tuple)) _ k.keeps c.rise.ensures.any_moment)
-
-pub returns-in-Some-clause-grows : goal.returns-in-Some-clause-grows
-returns-in-Some-clause-grows g c = λ before k. falls_grow (journal_in c.args.self.now.log) (journal_in c.rise.new.self.log) c.rise.ensures.falls
-
 pub returns-clause-again : goal.returns-clause-again
 returns-clause-again g c = λ tuple up none told.
     let idle = c.rise.ensures.idle up none in
-    let there : c.again.result ≡ Some tuple = c.again.ensures.first tuple (subst (λ (x : Standing). IsGranted g.row.C x.pass.seen (grant_with c.args.ask.now tuple)) (sym idle.1) told) in
-    let nothing = c.in_default.is in
-    absurd (let never : None ≡ Some tuple = sym nothing ∙ there in cc)
+    let there = c.grant.ensures.again tuple (subst (λ (x : Standing). IsGranted g.row.C x.pass.seen (grant_with c.args.ask.now tuple)) (sym idle.1) told) in
+    (there.0, there.1 ∙ idle.0, there.2 ∙ ap (λ (x : Standing). x.pass.mine) idle.1)
+
+pub returns-clause-enters : goal.returns-clause-enters
+returns-clause-enters g c = answer_enters g.row.C c.args.ask.now c.args.self.now.replica c.rise.new.self.replica c.grant.new.self.replica c.grant.result c.rise.ensures.enters c.grant.ensures.enters
 
 pub returns-clause-over : goal.returns-clause-over
-returns-clause-over g c = λ before k.
-    c.grant.ensures.over before (same_over before c.rise.new.self.log _ _ _ _ c.again.ensures.looks.same_grants c.again.ensures.hand (c.rise.ensures.over before k))
+returns-clause-over g c = λ before k. c.grant.ensures.over before (c.rise.ensures.over before k)
 
 pub returns-clause-plain : goal.returns-clause-plain
 returns-clause-plain g c = λ before k. ap is_some c.grant.ensures.strange ∙ c.rise.ensures.plain before k
 
 pub returns-clause-seen : goal.returns-clause-seen
-returns-clause-seen g c =
-    let old = c.args.self.now.replica.pass.seen in
-    let mid = c.again.new.self.pass.seen in
-    older_trans old mid c.grant.new.self.replica.pass.seen (older_trans old c.rise.new.self.replica.pass.seen mid c.rise.ensures.seen c.again.ensures.looks.older) c.grant.ensures.seen
-
-pub returns-clause-seer : goal.returns-clause-seer
-returns-clause-seer g c = sees_on c.args.seer.now c.again.new.seer c.grant.new.seer c.again.ensures.seer c.grant.ensures.seer
+returns-clause-seen g c = older_trans c.args.self.now.replica.pass.seen c.rise.new.self.replica.pass.seen c.grant.new.self.replica.pass.seen c.rise.ensures.seen c.grant.ensures.seen
 
 pub returns-clause-any_moment : goal.returns-clause-any_moment
 returns-clause-any_moment g c = λ before k.
@@ -118,7 +83,7 @@ pub returns-clause-cause : goal.returns-clause-cause
 returns-clause-cause g c = cause_on _ _ _ _ _ c.rise.ensures.cause c.grant.ensures.cause
 
 pub returns-clause-asked : goal.returns-clause-asked
-returns-clause-asked g c = asked_later c.again.new.seer.seen c.grant.new.seer.seen c.args.ask.now c.grant.ensures.seer.older c.again.ensures.asked
+returns-clause-asked g c = asked_later c.args.seer.now.seen c.grant.new.seer.seen c.args.ask.now c.grant.ensures.seer.older c.requires.asked
 
 pub returns-in-Err-clause-grown : goal.returns-in-Err-clause-grown
 returns-in-Err-clause-grown g c = λ before since k grown.
@@ -127,17 +92,10 @@ returns-in-Err-clause-grown g c = λ before since k grown.
     grants_risen (setting_of g.N.Store.table g.N.Store.base) g.row.C before since old.log mid.log mid.log old.replica.pass.seen mid.replica.pass.seen (g.met.D.Disk.leaves_now (disk_of (journal_in old.log))) c.rise.ensures.any_moment c.rise.ensures.falls refl
     c.rise.ensures.seen grown
 
-pub returns-in-Some-clause-grown : goal.returns-in-Some-clause-grown
-returns-in-Some-clause-grown g c = λ before since k grown.
-    let old = c.args.self.now in
-    let mid = c.rise.new.self in
-    grants_risen (setting_of g.N.Store.table g.N.Store.base) g.row.C before since old.log mid.log mid.log old.replica.pass.seen c.again.new.self.pass.seen (g.met.D.Disk.leaves_now (disk_of (journal_in old.log))) c.rise.ensures.any_moment c.rise.ensures.falls refl
-    (older_trans old.replica.pass.seen mid.replica.pass.seen c.again.new.self.pass.seen c.rise.ensures.seen c.again.ensures.looks.older) grown
-
 pub returns-clause-grown : goal.returns-clause-grown
 returns-clause-grown g c = λ before since k grown.
     let old = c.args.self.now in
     let mid = c.rise.new.self in
-    c.grant.ensures.grown before since (same_over before mid.log _ _ _ _ c.again.ensures.looks.same_grants c.again.ensures.hand (c.rise.ensures.over before k))
-    (grants_risen (setting_of g.N.Store.table g.N.Store.base) g.row.C before since old.log mid.log mid.log old.replica.pass.seen c.again.new.self.pass.seen (g.met.D.Disk.leaves_now (disk_of (journal_in old.log))) c.rise.ensures.any_moment c.rise.ensures.falls refl
-    (older_trans old.replica.pass.seen mid.replica.pass.seen c.again.new.self.pass.seen c.rise.ensures.seen c.again.ensures.looks.older) grown)
+    c.grant.ensures.grown before since (c.rise.ensures.over before k)
+    (grants_risen (setting_of g.N.Store.table g.N.Store.base) g.row.C before since old.log mid.log mid.log old.replica.pass.seen mid.replica.pass.seen (g.met.D.Disk.leaves_now (disk_of (journal_in old.log))) c.rise.ensures.any_moment c.rise.ensures.falls refl
+    c.rise.ensures.seen grown)
