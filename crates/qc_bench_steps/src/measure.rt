@@ -41,15 +41,14 @@ fn report_of(
     ran: &Ran<MemDisk>,
     index: &Index,
 ) -> Result<Vec<u8>, Trouble>
-    requires legal { IsLegal ran.now.trail.items }
-    requires index { IsOf index.now (reverse ran.now.trail.items) }
+    requires legal { IsLegal ran.now.trail }
+    requires index { IsOf index.now (reverse ran.now.trail) }
 {
-    let trail = ran.trail.as_slice();
     let records = table.records.as_slice().len();
     if ran.start.copies() > 16 || records > 64 {
         return Err(Trouble::Script);
     }
-    let history = History::indexed(trail, index);
+    let history = History::indexed(&ran.trail, index);
     let values = finals(alloc, &ran.start, &history, records)?;
     Ok(report(alloc, table, values.as_slice(), &history)?)
 }
@@ -81,8 +80,7 @@ pub(crate) fn both_times<R: Threads + Wait + Sync>(
     let Status::Done = ran.status else {
         return Err(Trouble::Script);
     };
-    let trail = ran.trail.as_slice();
-    let index = index_of(alloc, trail)?;
+    let index = index_of(alloc, &ran.trail)?;
     let start = Instant::now(clock)?;
     let text = report_of(alloc, &script.table, &ran, &index)?;
     let report = start.elapsed(clock)?;

@@ -1,9 +1,10 @@
 -- The first entries about names, one entry after another.
-use Rattle.std.proofs.Common.{◌≡◌, ℕ, ◌+◌, ◌<◌, Bool, true, false, [], ◌∷◌, length, reverse, refl, sym, ap, ◌∙◌, subst, ◌⊎◌, inl, inr, List}
+use Rattle.std.proofs.Common.{◌≡◌, ℕ, ◌+◌, ◌<◌, Bool, true, false, [], ◌∷◌, length, reverse, refl, sym, ap, ◌∙◌, subst, ◌⊎◌, inl, inr, List, arith}
 use mathlib.Core.Bool.{true≢false}
 use Rattle.std.specs.Prelude.{Option, None, Some, is_some, if◌then◌else◌, option_and_then, slice_get, slice_index, slice_set}
 use Rattle.std.specs.Option.{option_or, option_map, option_map_or}
-use Rattle.std.proofs.lemmas.Option.{none-some, same_Some}
+use Rattle.std.proofs.lemmas.List.{length-reverse}
+use Rattle.std.proofs.lemmas.Option.{none-some, same_Some, slice_get_cases}
 use Rattle.std.proofs.lemmas.Bool.{cases_Bool}
 use Rattle.qc_event.specs.declared.event.Entry.{Entry}
 use Rattle.qc_event.specs.Base.{Setting}
@@ -160,3 +161,10 @@ module _ (subject : Subject) (past : Past) (xs : List ℕ) (n : Name) (was : Are
       itself : (e : Entry) (o : Option Entry) → about_in subject n e ≡ o → is_some o ≡ true → Some e ≡ about_in subject n e
       itself e None is h = absurd (true≢false (sym h))
       itself e (Some x) is h = ap (λ y. Some y) (about_found subject n e x is).0 ∙ sym is
+
+  -- and what stands at the place is that entry
+  pub is_there : (i : ℕ) → IsFirst i → slice_get (reverse past) i ≡ first_about subject past n
+  is_there i first = elim (slice_get_cases (reverse past) i).1 [
+    | inl item ↦ item.2 ∙ first.there item.0 item.2
+    | inr over ↦ absurd (omega (arith, over.0, first.within, length-reverse past))
+  ]

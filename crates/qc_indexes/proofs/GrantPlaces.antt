@@ -1,5 +1,5 @@
 -- The places of entries that answer, and the grants that stand there.
-use Rattle.std.proofs.Common.{◌≡◌, ℕ, zero, suc, ◌+◌, ◌<◌, ◌≤◌, inl, inr, Bool, true, false, List, [], ◌∷◌, ◌++◌, length, take, get_or, reverse, refl, sym, ap, ◌∙◌, arith, append-nil}
+use Rattle.std.proofs.Common.{◌≡◌, ℕ, zero, suc, ◌+◌, ◌<◌, ◌≤◌, inl, inr, Bool, true, false, List, [], ◌∷◌, ◌++◌, length, take, reverse, refl, sym, ap, ◌∙◌, arith, append-nil}
 use Rattle.std.specs.Prelude.{Option, None, Some, ◌==◌, if◌then◌else◌, option_to_list, slice_get, slice_index, slice_set, vec_len, vec_capacity}
 use Rattle.std.specs.Option.{option_map}
 use Rattle.std.proofs.lemmas.List.{length-append, length-reverse, reverse-append, reverse-reverse}
@@ -117,7 +117,7 @@ module _ (entries : List Entry) (lists : List Places) (was : AreListed (reverse 
   -- The entry at the place that is listed here is the grant.
   pub record Reads (j : ℕ) : Type 0 where
     pub within : slice_index places j < length entries
-    pub grant : (e : Entry) → e ≡ get_or entries (slice_index places j) e → (g : Grant) × (grant_of e.event ≡ Some g) × (slice_get (grants (reverse entries) copy) j ≡ Some g)
+    pub grant : (e : Entry) → slice_get entries (slice_index places j) ≡ Some e → (g : Grant) × (grant_of e.event ≡ Some g) × (slice_get (grants (reverse entries) copy) j ≡ Some g)
 
   pub reads : (j : ℕ) → j < length places → Reads j
   reads j less =
@@ -125,7 +125,7 @@ module _ (entries : List Entry) (lists : List Places) (was : AreListed (reverse 
       let here : slice_get (places_of (λ (e : Entry). grant_at copy e.event) (reverse entries)) j ≡ Some i = ap (λ xs. slice_get xs j) (sym (all ∙ was.each copy)) ∙ slice_get-get_or places j 0 less in
       let found : Answers (λ e. grant_at copy e.event) (reverse entries) j i = answers_there (λ e. grant_at copy e.event) (reverse entries) j i here in
       let within : i < length entries = omega (arith, found.within, length-reverse entries) in
-      let there : (e : Entry) → e ≡ get_or entries i e → slice_get (reverse (reverse entries)) i ≡ Some e = λ e at. ap (λ es. slice_get es i) (reverse-reverse entries) ∙ slice_get-get_or entries i e within ∙ ap (λ x. Some x) (sym at) in
+      let there : (e : Entry) → slice_get entries i ≡ Some e → slice_get (reverse (reverse entries)) i ≡ Some e = λ e at. ap (λ es. slice_get es i) (reverse-reverse entries) ∙ at in
       record {
         within = within;
         grant = λ e at. elim (slice_get_cases (grants (reverse entries) copy) j).1 [

@@ -14,6 +14,7 @@ use crate::lists::{append, turn};
 use crate::slots::{reach, reach_name, set_slot, slot};
 use qc_desk::{Index, Outcomes};
 use qc_event::{Entry, Event, How, Name};
+use qc_trail::Trail;
 use std::alloc::{AllocError, Global};
 
 // The top below which the entry aborts a name.
@@ -131,7 +132,7 @@ impl Aborts {
         &self,
         alloc: Global,
         names: &Index,
-        entries: &[Entry],
+        entries: &Trail,
         top: &Name,
     ) -> Result<Vec<Name>, AllocError>
         requires kept { (setting : Setting) × AreAborts self.now (reverse entries.now)
@@ -144,7 +145,7 @@ impl Aborts {
         let mut next = self.last_below(names, top);
         while next > 0 {
             let at = next as usize - 1;
-            append(&mut found, aborted_in(names, &entries[at], top))?;
+            append(&mut found, aborted_in(names, &entries.at(at), top))?;
             next = slot(&self.before, at);
         }
         turn(&mut found);

@@ -12,6 +12,7 @@ ghost use Rattle.qc_indexes.specs.Slots.{Reaches};
 use crate::slots::{reach_name, set_slot, slot};
 use qc_desk::Index;
 use qc_event::{Entry, Name};
+use qc_trail::Trail;
 use std::alloc::{AllocError, Global};
 
 /// Where the first entry about each name stands: beside the place of the name, one more than the place of that entry.
@@ -63,7 +64,7 @@ impl Firsts {
     }
 
     /// The first entry about a name.
-    pub(crate) fn first(&self, names: &Index, entries: &[Entry], name: &Name) -> Option<Entry>
+    pub(crate) fn first(&self, names: &Index, entries: &Trail, name: &Name) -> Option<Entry>
         ensures { (subject : Subject) → (setting : Setting) →
             AreFirsts subject self.now (reverse entries.now) →
             IsOf names.now (reverse entries.now) → Legal setting (reverse entries.now) →
@@ -76,9 +77,6 @@ impl Firsts {
         if after == 0 {
             return None;
         }
-        match entries.get(after as usize - 1) {
-            Some(entry) => Some(*entry),
-            None => None,
-        }
+        entries.get(after as usize - 1)
     }
 }

@@ -8,6 +8,7 @@ ghost use Rattle.qc_indexes.specs.Grants.{AreGrants, Differs, HasSpare, granted_
 use crate::lists::append;
 use qc_event::{Entry, Event, Grant};
 use qc_scan::{same_name, same_op, same_tuple};
+use qc_trail::Trail;
 use std::alloc::{AllocError, Global};
 
 // The copy that grants, where the entry is a grant.
@@ -152,7 +153,7 @@ impl Grants {
     pub(crate) fn of_copy(
         &self,
         alloc: Global,
-        entries: &[Entry],
+        entries: &Trail,
         copy: u8,
     ) -> Result<Vec<Grant>, AllocError>
         requires kept { AreGrants self.now (reverse entries.now) }
@@ -160,7 +161,7 @@ impl Grants {
     {
         let mut given = Vec::new(alloc);
         for place in self.places(copy) {
-            append(&mut given, grant_of(&entries[*place as usize]))?;
+            append(&mut given, grant_of(&entries.at(*place as usize)))?;
         }
         Ok(given)
     }
@@ -169,7 +170,7 @@ impl Grants {
     /// up to that.
     pub(crate) fn differ(
         &self,
-        entries: &[Entry],
+        entries: &Trail,
         copy: u8,
         given: &[Grant],
     ) -> Option<(usize, Grant)>
@@ -177,7 +178,7 @@ impl Grants {
         ensures { Differs given.now (grants (reverse entries.now) copy) result }
     {
         for (index, place) in self.places(copy).iter().enumerate() {
-            let grant = grant_of(&entries[*place as usize]);
+            let grant = grant_of(&entries.at(*place as usize));
             if let Some(found) = other_at(given, index, grant) {
                 return Some(found);
             }

@@ -20,6 +20,7 @@ use crate::marks::Marks;
 use crate::opens::Opens;
 use qc_desk::Index;
 use qc_event::{Entry, Grant, Name, Refusal, Tuple};
+use qc_trail::Trail;
 use std::alloc::{AllocError, Global};
 
 /// What is kept beside a history and the index of its names, so that no look goes over the entries.
@@ -88,7 +89,7 @@ impl Indexes {
     }
 
     /// The first refusal of an access.
-    pub fn refusal(&self, names: &Index, entries: &[Entry], access: &Name) -> Option<Refusal>
+    pub fn refusal(&self, names: &Index, entries: &Trail, access: &Name) -> Option<Refusal>
         ensures { OfEntries self.now names.now (reverse entries.now)
             (λ past. result ≡ refused past access.now) }
     {
@@ -99,13 +100,7 @@ impl Indexes {
     }
 
     /// The tuple that an access was granted first, where it was at this copy.
-    pub fn granted(
-        &self,
-        names: &Index,
-        entries: &[Entry],
-        copy: u8,
-        access: &Name,
-    ) -> Option<Tuple>
+    pub fn granted(&self, names: &Index, entries: &Trail, copy: u8, access: &Name) -> Option<Tuple>
         ensures { OfEntries self.now names.now (reverse entries.now)
             (λ past. result ≡ option_and_then (tuple_at copy) (granted past access.now)) }
     {
@@ -128,7 +123,7 @@ impl Indexes {
     pub fn aborted_below(
         &self,
         names: &Index,
-        entries: &[Entry],
+        entries: &Trail,
         top: &Name,
     ) -> Result<Vec<Name>, AllocError>
         requires kept { AreKept self.now names.now (reverse entries.now) }
@@ -140,7 +135,7 @@ impl Indexes {
     }
 
     /// A copy's grants, in order. It reads each of them once. The only error is want of memory for the list.
-    pub fn of_copy(&self, entries: &[Entry], copy: u8) -> Result<Vec<Grant>, AllocError>
+    pub fn of_copy(&self, entries: &Trail, copy: u8) -> Result<Vec<Grant>, AllocError>
         requires kept { AreOf self.now (reverse entries.now) }
         requires small { copy < 16 }
         ensures { IfOk result (λ given. given.items ≡ grants (reverse entries.now) copy) }
@@ -150,7 +145,7 @@ impl Indexes {
 
     /// The first of a copy's grants where another or none was given, with its index. It reads each grant of the copy
     /// once.
-    pub fn differ(&self, entries: &[Entry], copy: u8, given: &[Grant]) -> Option<(usize, Grant)>
+    pub fn differ(&self, entries: &Trail, copy: u8, given: &[Grant]) -> Option<(usize, Grant)>
         requires kept { AreOf self.now (reverse entries.now) }
         requires small { copy < 16 }
         ensures { Differs given.now (grants (reverse entries.now) copy) result }

@@ -18,9 +18,9 @@ use Rattle.qc_opening.proofs.Paid.{paid}
 module _ {D : Type 0} (view : D → View) (plan : ScriptPlan) (most : ℕ) (told : ℕ → Option (List ℕ)) (counts : ℕ → ℕ) (stored : Stored D) (base : List (List Tuple)) (epoch : ℕ) (records : ℕ → List (List ℕ)) (firsts : ℕ → D)
     (start : stored.ended.start ≡ base) (same : epoch ≡ stored.epoch) where
   pub has_run : IsMounted plan.table told records stored.epoch base → ((number : ℕ) → number ≤ plan.table.copies → WasMounted view (firsts number) (records number) (told number))
-      → ((number : ℕ) → number ≤ plan.table.copies → counts number ≤ (view (firsts number)).faults) → Legal (setting_of plan.table base) (past_of stored) → length stored.ended.trail.items ≤ limit
+      → ((number : ℕ) → number ≤ plan.table.copies → counts number ≤ (view (firsts number)).faults) → Legal (setting_of plan.table base) (past_of stored) → length stored.ended.trail ≤ limit
       → OnOk stored.ended.ran (FollowsScript epoch plan.patience plan.sessions (past_of stored)) → BeginsScript epoch plan.patience plan.sessions (past_of stored)
-      → (IsErrOf stored.ended.ran Room → length stored.ended.trail.items ≡ limit)
+      → (IsErrOf stored.ended.ran Room → length stored.ended.trail ≡ limit)
       → AllKeep (setting_of plan.table base) (record { base = base; told = λ number. is_some (told number); before = records; first = λ number. view (firsts number); limit = most }) view stored.ended.disks.items (past_of stored)
       → HasRun view plan most told counts stored
   has_run mounted was later legal bounded follows begins room kept = record {

@@ -185,7 +185,7 @@ module _ {D : Type 0} (view : D → View) (plan : ScriptPlan) (most : ℕ) (told
       (λ number disk there. image_of 0 stored.ended.disks.items images left number disk there))
     where
       bounded : length (past_of stored) ≤ limit
-      bounded = omega (arith, run.bounded, length-reverse stored.ended.trail.items)
+      bounded = omega (arith, run.bounded, length-reverse stored.ended.trail)
 
   -- WANT OF ROOM
 

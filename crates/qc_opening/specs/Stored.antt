@@ -27,7 +27,7 @@ use Rattle.qc_opening.specs.declared.stored.Stored.{Stored}
 
 -- the history that is left, the newest entry first
 abbrev pub past_of : {D : Type 0} → Stored D → Past
-past_of stored = reverse stored.ended.trail.items
+past_of stored = reverse stored.ended.trail
 
 -- the disks that are left
 abbrev pub disks_of : {D : Type 0} → Stored D → List D
@@ -81,7 +81,7 @@ module _ {D : Type 0} (view : D → View) where
       before = records;
       first = λ number. view (firsts number);
       limit = most;
-    }) view stored.ended.disks.items (reverse stored.ended.trail.items)
+    }) view stored.ended.disks.items (reverse stored.ended.trail)
 
   -- A disk has grown since its mounting: the disk as it was then told its bytes, and a crash left these records of it and no others; at each moment before its own a crash left of the disk what it left of that one; at each since, these and behind them some of which this is so; and no record was lost again.
   pub record HasGrown (before : List (List ℕ)) (May : List (List ℕ) → Type 0) (disk : D) : Type 0 where
@@ -99,10 +99,10 @@ module _ {D : Type 0} (view : D → View) where
   -- A session ran over a store that was mounted over disks that told this and had counted so many faults, with journals up to a limit: all that is known of what it left.
   pub record HasRun (plan : ScriptPlan) (most : ℕ) (told : ℕ → Option (List ℕ)) (counts : ℕ → ℕ) (stored : Stored D) : Type 0 where
     pub legal : Legal (setting_of plan.table stored.ended.start) (past_of stored)
-    pub bounded : length stored.ended.trail.items ≤ limit
+    pub bounded : length stored.ended.trail ≤ limit
     pub epoch : (1 ≤ stored.epoch) × (stored.epoch < 2 ^ 32)
     pub follows : OnOk stored.ended.ran (FollowsScript stored.epoch plan.patience plan.sessions (past_of stored))
     pub begins : BeginsScript stored.epoch plan.patience plan.sessions (past_of stored)
-    pub room : IsErrOf stored.ended.ran Room → length stored.ended.trail.items ≡ limit
+    pub room : IsErrOf stored.ended.ran Room → length stored.ended.trail ≡ limit
     pub kept : HasKept plan.table most told stored
     pub paid : HavePaid counts (disks_of stored) (past_of stored)

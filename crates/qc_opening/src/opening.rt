@@ -51,14 +51,14 @@ where
     // beginning of it.
     ensures legal { IfOk result (λ stored.
         Legal (setting_of script.now.table stored.ended.start) (past_of stored)) }
-    ensures bounded { IfOk result (λ stored. length stored.ended.trail.items ≤ most_entries) }
+    ensures bounded { IfOk result (λ stored. length stored.ended.trail ≤ most_entries) }
     ensures epoch { IfOk result (λ stored. (1 ≤ stored.epoch) × (stored.epoch < 2 ^ 32)) }
     ensures follows { IfOk result (λ stored. OnOk stored.ended.ran (FollowsScript stored.epoch
         script.now.patience (plan_of_script script.now).sessions (past_of stored))) }
     ensures begins { IfOk result (λ stored. BeginsScript stored.epoch script.now.patience
         (plan_of_script script.now).sessions (past_of stored)) }
     ensures room { IfOk result (λ stored. IsErrOf stored.ended.ran Room
-        → length stored.ended.trail.items ≡ most_entries) }
+        → length stored.ended.trail ≡ most_entries) }
 
     // Where the shop tells the bytes of the disks, it starts from what these restore: from the table's own tuples, where no
     // grant stands on them.

@@ -63,20 +63,20 @@ fn run_named<
       limit = N.limit;
     }) 0 parts.copies.items }
     ensures start { result.start ≡ N.base }
-    ensures legal { Legal (setting_of N.table N.base) (reverse result.trail.items) }
-    ensures bounded { length result.trail.items ≤ most }
+    ensures legal { Legal (setting_of N.table N.base) (reverse result.trail) }
+    ensures bounded { length result.trail ≤ most }
     ensures follows { OnOk result.ran (FollowsScript parts.blank.epoch script.now.patience
-        (plan_of_script script.now).sessions (reverse result.trail.items)) }
+        (plan_of_script script.now).sessions (reverse result.trail)) }
     ensures begins { BeginsScript parts.blank.epoch script.now.patience
-        (plan_of_script script.now).sessions (reverse result.trail.items) }
-    ensures room { IsErrOf result.ran Room → length result.trail.items ≡ most }
+        (plan_of_script script.now).sessions (reverse result.trail) }
+    ensures room { IsErrOf result.ran Room → length result.trail ≡ most }
     ensures disks { AllKeep (setting_of N.table N.base) (record {
       base = N.base;
       told = N.told;
       before = N.before;
       first = N.first;
       limit = N.limit;
-    }) D.view result.disks.items (reverse result.trail.items) }
+    }) D.view result.disks.items (reverse result.trail) }
 {
     let (system, first) = System::<D, N>::open(rt, parts);
     run_sessions(rt, alloc, system, first, script, gate, mode)

@@ -15,6 +15,7 @@ use crate::store::{Room, Store};
 use crate::view::{Counts, Gives, Lends, Notes, Unused, View};
 use atomic_table::{Seat, Table};
 use qc_event::{Base, Entry};
+use qc_trail::Trail;
 use std::alloc::{AllocError, Global};
 use std::marker::PhantomData;
 use std::sync::{Mutex, Wait};
@@ -176,13 +177,13 @@ impl<N: Store> Desk<N> {
 
     /// The start tuples and the history, the oldest entry first. Each entry of a client is the pass's own, or that
     /// of one that was joined into it. It takes no memory.
-    pub fn close(self, pass: Pass<N>) -> (Base, Vec<Entry>)
+    pub fn close(self, pass: Pass<N>) -> (Base, Trail)
         requires first { (pass.live ≡ true) × (pass.number ≡ 0) × (pass.out ≡ []) }
         ensures base { result.0 ≡ N.base }
-        ensures legal { Legal (setting_of N.table N.base) (reverse result.1.items) }
-        ensures bounded { length result.1.items ≤ limit }
-        ensures settled { IsOlder pass.seen (reverse result.1.items)
-            × IsSettled (reverse result.1.items) pass }
+        ensures legal { Legal (setting_of N.table N.base) (reverse result.1) }
+        ensures bounded { length result.1 ≤ limit }
+        ensures settled { IsOlder pass.seen (reverse result.1)
+            × IsSettled (reverse result.1) pass }
     {
         let Desk {
             room,

@@ -31,8 +31,7 @@ impl History {
     pub fn refusal(&self, access: &Name) -> Option<Refusal>
         ensures { WhereLegal self.now (result ≡ refused self.now access.now) }
     {
-        self.beside
-            .refusal(&self.index, self.entries.as_slice(), access)
+        self.beside.refusal(&self.index, &self.entries, access)
     }
 
     /// The tuple that an access was granted first, where it was at this copy.
@@ -41,14 +40,14 @@ impl History {
             (result ≡ option_and_then (tuple_at copy) (granted self.now access.now)) }
     {
         self.beside
-            .granted(&self.index, self.entries.as_slice(), copy, access)
+            .granted(&self.index, &self.entries, copy, access)
     }
 
     /// Whether a user transaction is marked to be killed.
     pub fn marked(&self, of: &Name) -> bool
         ensures { WhereLegal self.now (result ≡ is_marked_for self.now of.now) }
     {
-        let Some(kind) = self.index.kind(self.entries.as_slice(), of) else {
+        let Some(kind) = self.index.kind(&self.entries, of) else {
             return false;
         };
         let Some(session) = session_of(&kind) else {
@@ -63,8 +62,7 @@ impl History {
         requires top { length top.now ≡ 1 }
         ensures { IfOk result (λ found. found.items ≡ aborted_below self.now top.now) }
     {
-        self.beside
-            .aborted_below(&self.index, self.entries.as_slice(), top)
+        self.beside.aborted_below(&self.index, &self.entries, top)
     }
 
     /// A copy's grants, in order.
@@ -72,7 +70,7 @@ impl History {
         requires { copy < 16 }
         ensures { IfOk result (λ given. given.items ≡ grants self.now copy) }
     {
-        self.beside.of_copy(self.entries.as_slice(), copy)
+        self.beside.of_copy(&self.entries, copy)
     }
 
     /// The first of a copy's grants where another or none was given, with its index.
@@ -80,7 +78,7 @@ impl History {
         requires { copy < 16 }
         ensures { Differs given.now (grants self.now copy) result }
     {
-        self.beside.differ(self.entries.as_slice(), copy, given)
+        self.beside.differ(&self.entries, copy, given)
     }
 
     /// Whether each started top has its end.

@@ -12,25 +12,27 @@ ghost use Rattle.qc_pass.specs.Entries.{WhereLegal};
 use qc_desk::{Index, Outcomes};
 use qc_event::{Entry, Event, How, Name, Outcome, Short};
 use qc_indexes::Indexes;
+use qc_trail::Trail;
 use std::alloc::{AllocError, Global};
 use std::marker::Model;
 
 /// The most entries that a history takes.
 const LIMIT: usize = 4_294_967_295;
 
-// Room for one more: generic, since the calls at the type of entries get no proof today.
-fn make_room<T: Copy>(items: &mut Vec<T>) -> Result<(), AllocError>
-    ensures same { items.new.items ≡ items.old.items }
-    ensures room { OnOk result (vec_len items.new < vec_capacity items.new) }
-{
-    items.reserve(1)
-}
-
-fn put<T: Copy>(items: &mut Vec<T>, item: T)
-    requires room { vec_len items.old < vec_capacity items.old }
-    ensures { items.new.items ≡ items.old.items ++ item ∷ [] }
-{
-    items.push_reserved(item);
+// The place of an entry's name among those of the started transactions, where most entries are of one. Where it is not
+// told, the trail keeps the name once more.
+fn place_in(index: &Index, event: &Event) -> Option<u32> {
+    match event {
+        Event::Ask(ask) => index.place(&ask.access),
+        Event::Granted { grant, .. } => index.place(&grant.access),
+        Event::Ready { top } => index.place(top),
+        Event::End { name, .. } => index.place(name),
+        Event::Start { .. }
+        | Event::Gone { .. }
+        | Event::Refused { .. }
+        | Event::Unable { .. }
+        | Event::Mark { .. } => None,
+    }
 }
 
 // How a name ended, where the entry is its end.
@@ -47,7 +49,7 @@ fn end_in(entry: &Entry, n: &Name) -> Option<How>
 /// index of names, in a step for each of the name's numbers, however long the history is; no other look scans it either.
 #[derive(Debug, Drop)]
 pub struct History {
-    pub(crate) entries: Vec<Entry>,
+    pub(crate) entries: Trail,
     pub(crate) index: Index,
     pub(crate) beside: Indexes,
 }
@@ -61,10 +63,10 @@ impl Model for History {
 
     ghost Value = { List Entry };
 
-    ghost view = { λ h. reverse h.entries.items };
+    ghost view = { λ h. reverse h.entries };
 
-    ghost invariant = { λ h. (length h.entries.items ≤ limit)
-        × IsOf h.index (reverse h.entries.items) × AreOf h.beside (reverse h.entries.items) };
+    ghost invariant = { λ h. (length h.entries ≤ limit)
+        × IsOf h.index (reverse h.entries) × AreOf h.beside (reverse h.entries) };
 }
 
 impl History {
@@ -73,7 +75,7 @@ impl History {
         ensures { result ≡ [] }
     {
         History {
-            entries: Vec::new(alloc),
+            entries: Trail::new(alloc),
             index: Index::new(alloc),
             beside: Indexes::new(alloc),
         }
@@ -93,12 +95,15 @@ impl History {
         ensures ok { OnOk result (self.new ≡ entry.now ∷ self.old) }
         ensures err { OnErr result (self.new ≡ self.old) }
     {
-        make_room(&mut self.entries)?;
         let at = self.entries.len() as u32;
         self.beside.make_room(entry, &self.index, at)?;
-        self.index.push(entry)?;
+        let place = place_in(&self.index, &entry.event);
+        self.entries.push(entry, place)?;
+        if let Err(AllocError) = self.index.push(entry) {
+            self.entries.pop();
+            return Err(AllocError);
+        }
         self.beside.push(entry, &self.index, at);
-        put(&mut self.entries, *entry);
         Ok(())
     }
 
@@ -135,7 +140,7 @@ impl History {
             return None;
         };
         match self.entries.get(at as usize) {
-            Some(entry) => end_in(entry, name),
+            Some(entry) => end_in(&entry, name),
             None => None,
         }
     }
@@ -179,9 +184,9 @@ impl History {
     }
 
     /// The entries, the oldest first. It takes no memory.
-    pub fn into_entries(self) -> Vec<Entry>
-        ensures entries { reverse result.items ≡ self }
-        ensures bounded { length result.items ≤ limit }
+    pub fn into_trail(self) -> Trail
+        ensures entries { reverse result ≡ self }
+        ensures bounded { length result ≤ limit }
     {
         self.entries
     }

@@ -16,6 +16,7 @@ use crate::store::{Room, Store};
 use crate::view::{Joining, Knowing, Settling, View};
 use atomic_table::Seat;
 use qc_event::{Entry, Event, Short};
+use qc_trail::Trail;
 use std::marker::{Model, PhantomData};
 
 /// What lies under the lock: the history, and the right to append.
@@ -136,13 +137,13 @@ impl<N: Store> Locked<N> {
     }
 
     /// The history. The pass is the first, and has nothing out.
-    pub(crate) fn close(self, room: Room, pass: Pass<N>) -> Vec<Entry>
+    pub(crate) fn close(self, room: Room, pass: Pass<N>) -> Trail
         requires room { IsRoomOf N.desk room.shared.table_id }
         requires first { (pass.live ≡ true) × (pass.number ≡ 0) × (pass.out ≡ []) }
-        ensures legal { Legal (setting_of N.table N.base) (reverse result.items) }
-        ensures bounded { length result.items ≤ limit }
-        ensures settled { IsOlder pass.seen (reverse result.items)
-            × IsSettled (reverse result.items) pass }
+        ensures legal { Legal (setting_of N.table N.base) (reverse result) }
+        ensures bounded { length result ≤ limit }
+        ensures settled { IsOlder pass.seen (reverse result)
+            × IsSettled (reverse result) pass }
     {
         let Locked {
             history,
@@ -152,6 +153,6 @@ impl<N: Store> Locked<N> {
         let Pass { mut seat, .. } = pass;
         lend(&room, &mut seat, &mut right);
         room.shared.load::<Settling>(&mut seat, 0);
-        history.into_entries()
+        history.into_trail()
     }
 }

@@ -7,8 +7,10 @@ ghost use Rattle.qc_event.specs.Legal.{Legal};
 ghost use Rattle.qc_desk.specs.Index.{IsOf};
 ghost use Rattle.qc_report.specs.Indexed.{IsLegal};
 
+use crate::scan::{kind, outcome};
 use qc_desk::{Index, Outcomes};
-use qc_event::{Entry, Kind, Name, Outcome, kind, outcome};
+use qc_event::{Kind, Name, Outcome};
+use qc_trail::Trail;
 use std::alloc::{AllocError, Global};
 use std::marker::Model;
 
@@ -16,7 +18,7 @@ use std::marker::Model;
 /// step for each of its numbers. Without one, each look-up goes over all entries.
 #[derive(Debug, Drop)]
 pub struct History<'a> {
-    entries: &'a [Entry],
+    trail: &'a Trail,
     index: Option<&'a Index>,
 }
 
@@ -28,39 +30,36 @@ impl<'a> Model for History<'a> {
 
     ghost Value = { List Entry };
 
-    ghost view = { λ h. h.entries.now };
+    ghost view = { λ h. h.trail.now };
 
-    ghost invariant = { λ h. IsIndexed h.entries.now (option_map (λ i. i.now) h.index) };
+    ghost invariant = { λ h. IsIndexed h.trail.now (option_map (λ i. i.now) h.index) };
 }
 
 impl<'a> History<'a> {
     /// Any entries, without an index.
-    pub fn plain(entries: &'a [Entry]) -> Self
-        ensures { result ≡ entries.now }
+    pub fn plain(trail: &'a Trail) -> Self
+        ensures { result ≡ trail.now }
     {
-        History {
-            entries,
-            index: None,
-        }
+        History { trail, index: None }
     }
 
     /// The entries of a legal history, and its index.
-    pub fn indexed(entries: &'a [Entry], index: &'a Index) -> Self
-        requires legal { IsLegal entries.now }
-        requires index { IsOf index.now (reverse entries.now) }
-        ensures { result ≡ entries.now }
+    pub fn indexed(trail: &'a Trail, index: &'a Index) -> Self
+        requires legal { IsLegal trail.now }
+        requires index { IsOf index.now (reverse trail.now) }
+        ensures { result ≡ trail.now }
     {
         History {
-            entries,
+            trail,
             index: Some(index),
         }
     }
 
     /// The entries, the oldest first.
-    pub(crate) fn entries(&self) -> &[Entry]
+    pub(crate) fn trail(&self) -> &Trail
         ensures { result.now ≡ self.now }
     {
-        self.entries
+        self.trail
     }
 
     /// What a name was started for.
@@ -68,8 +67,8 @@ impl<'a> History<'a> {
         ensures { result ≡ kind_of (reverse self.now) name.now }
     {
         match self.index {
-            Some(index) => index.kind(self.entries, name),
-            None => kind(self.entries, name),
+            Some(index) => index.kind(self.trail, name),
+            None => kind(self.trail, name),
         }
     }
 
@@ -79,7 +78,7 @@ impl<'a> History<'a> {
     {
         match self.index {
             Some(index) => index.outcome(name),
-            None => outcome(self.entries, name),
+            None => outcome(self.trail, name),
         }
     }
 }
@@ -89,16 +88,16 @@ const LIMIT: usize = 4_294_967_295;
 
 /// The index of a legal history, its oldest entry first: for each entry a step for each number of its name. More
 /// entries than a history takes are answered as want of memory.
-pub fn index_of(alloc: Global, entries: &[Entry]) -> Result<Index, AllocError>
-    ensures { IfOk result (λ index. (setting : Setting) → Legal setting (reverse entries.now)
-        → IsOf index (reverse entries.now)) }
+pub fn index_of(alloc: Global, trail: &Trail) -> Result<Index, AllocError>
+    ensures { IfOk result (λ index. (setting : Setting) → Legal setting (reverse trail.now)
+        → IsOf index (reverse trail.now)) }
 {
-    if entries.len() > LIMIT {
+    if trail.len() > LIMIT {
         return Err(AllocError);
     }
     let mut index = Index::new(alloc);
-    for entry in entries {
-        index.push(entry)?;
+    for at in 0..trail.len() {
+        index.push(&trail.at(at))?;
     }
     Ok(index)
 }

@@ -166,8 +166,9 @@ pub fn finals(
         (λ values. values.items ≡ last.values_by_version base.now (reverse history.now) records) }
 {
     let mut bests = start_bests(alloc, base, records)?;
-    for entry in history.entries() {
-        take_in(&mut bests, history, &entry.event);
+    let trail = history.trail();
+    for at in 0..trail.len() {
+        take_in(&mut bests, history, &trail.at(at).event);
     }
     values_of(alloc, bests.as_slice())
 }

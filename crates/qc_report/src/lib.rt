@@ -12,6 +12,7 @@ mod last_values;
 mod lines;
 mod managers;
 mod page;
+mod scan;
 mod sums;
 mod tally;
 

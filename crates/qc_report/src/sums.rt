@@ -70,8 +70,9 @@ impl Sums {
         ensures tally { IfOk result (λ sums. sums.tally ≡ counts history.now history.now) }
     {
         let mut sums = Sums::new(alloc);
-        for entry in history.entries() {
-            sums.take_in(table, history, entry)?;
+        let trail = history.trail();
+        for at in 0..trail.len() {
+            sums.take_in(table, history, &trail.at(at))?;
         }
         Ok(sums)
     }

@@ -72,10 +72,12 @@ fn aborts_top(event: &Event) -> bool
 pub fn has_doubt(history: &History<'_>) -> bool
     ensures { result ≡ spec.has_doubt history.now }
 {
-    history
-        .entries()
-        .iter()
-        .any(|e| in_doubt(history, &e.event))
+    let trail = history.trail();
+    let mut doubt = false;
+    for at in 0..trail.len() {
+        doubt |= in_doubt(history, &trail.at(at).event);
+    }
+    doubt
 }
 
 /// How many tops were started, committed and aborted, and how many are in doubt.
@@ -117,9 +119,11 @@ impl Tally {
     pub(crate) fn of(history: &History<'_>) -> Self
         ensures { result ≡ counts history.now history.now }
     {
+        let trail = history.trail();
         let mut tally = Tally::none();
-        for entry in history.entries() {
-            tally.count(entry, in_doubt(history, &entry.event));
+        for at in 0..trail.len() {
+            let entry = trail.at(at);
+            tally.count(&entry, in_doubt(history, &entry.event));
         }
         tally
     }

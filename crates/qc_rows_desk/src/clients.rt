@@ -4,8 +4,9 @@ ghost use Rattle.qc_event.specs.Legal.{Legal};
 ghost use Rattle.qc_event.specs.Tables.{setting_of};
 ghost use Rattle.qc_pass.specs.Rules.{IsClient};
 
-use qc_event::{Base, Cause, Entry};
+use qc_event::{Base, Cause};
 use qc_pass::{Blank, Desk, DeskNo, Pass, Store};
+use qc_trail::Trail;
 use std::alloc::{AllocError, Global};
 use std::marker::Brand;
 use std::sync::Wait;
@@ -80,10 +81,10 @@ fn run_named<N: Store + Send + Sync, R: Threads + Wait + Sync>(
     rt: &R,
     blank: Blank,
     tops: u32,
-) -> (Base, Vec<Entry>)
+) -> (Base, Trail)
     requires desk { blank.room.shared.table_id ≡ N.desk }
     requires base { blank.base ≡ N.base }
-    ensures legal { Legal (setting_of N.table N.base) (reverse result.1.items) }
+    ensures legal { Legal (setting_of N.table N.base) (reverse result.1) }
 {
     let (desk, mut first) = blank.name::<N>();
     give_low_numbers(rt, &desk, &mut first, LOW);
@@ -112,7 +113,7 @@ pub fn run<R: Threads + Wait + Sync>(
     rt: &R,
     alloc: Global,
     tops: u32,
-) -> Result<(Base, Vec<Entry>), AllocError> {
+) -> Result<(Base, Trail), AllocError> {
     let blank = Blank::new(alloc, Base::new(Vec::new(alloc)), 1)?;
     Ok(run_named::<Brand, R>(rt, blank, tops))
 }

@@ -212,13 +212,15 @@ fn main(rt: HostRuntime) -> io::Result<()> {
             continue;
         }
         if let Some(tops) = tops_of(line.as_str()) {
-            let (base, entries) = run(&rt, alloc, tops)?;
+            let (base, trail) = run(&rt, alloc, tops)?;
+            let entries = trail.to_vec(alloc)?;
             tell(rt, line.as_str(), &base, &[], entries.as_slice())?;
             continue;
         }
         match config_of(line.as_str()) {
             Some(config) => {
-                let (base, entries) = play_scene(&rt, alloc, &config)?;
+                let (base, trail) = play_scene(&rt, alloc, &config)?;
+                let entries = trail.to_vec(alloc)?;
                 tell(rt, line.as_str(), &base, &[config], entries.as_slice())?;
             }
             None => println!(rt; "{line}")?,

@@ -14,9 +14,10 @@ ghost use Rattle.qc_rows_desk.specs.OneCopy as words;
 
 use qc_config::{Config, Op, Tuple};
 use qc_copy::Verdict;
-use qc_event::{Ask, Base, Cause, Entry, Grant, Kind, Name};
+use qc_event::{Ask, Base, Cause, Grant, Kind, Name};
 use qc_moss::Locks;
 use qc_pass::{Blank, Consulted, Desk, DeskNo, Pass, Store};
+use qc_trail::Trail;
 use std::alloc::{AllocError, Global};
 use std::marker::Brand;
 use std::sync::Wait;
@@ -200,12 +201,12 @@ fn play<N: Store, R: Wait>(
     one_commit(rt, desk, first, ledger)
 }
 
-fn play_named<N: Store, R: Wait>(rt: &R, blank: Blank, mut locks: Locks) -> (Base, Vec<Entry>)
+fn play_named<N: Store, R: Wait>(rt: &R, blank: Blank, mut locks: Locks) -> (Base, Trail)
     requires desk { blank.room.shared.table_id ≡ N.desk }
     requires base { (blank.base ≡ N.base) × (N.base ≡ words.base) }
     requires table { N.table ≡ words.table }
     requires locks { locks ≡ unheld words.start }
-    ensures legal { Legal (setting_of N.table N.base) (reverse result.1.items) }
+    ensures legal { Legal (setting_of N.table N.base) (reverse result.1) }
 {
     let (desk, mut first) = blank.name::<N>();
     let mut ledger = desk.split(rt, &mut first);
@@ -234,7 +235,7 @@ pub fn play_scene<R: Wait>(
     rt: &R,
     alloc: Global,
     config: &Config,
-) -> Result<(Base, Vec<Entry>), AllocError>
+) -> Result<(Base, Trail), AllocError>
     requires { config.now ≡ words.config }
 {
     let (blank, locks) = start_scene(alloc, config)?;

@@ -12,6 +12,7 @@ use qc_disk::MemDisk;
 use qc_event::{Base, Entry, Event, How, Name};
 use qc_ledger::{Book, Ledger};
 use qc_pass::{Blank, Desk, DeskNo, Pass, Store};
+use qc_trail::Trail;
 use std::alloc::{AllocError, Global};
 use std::marker::Brand;
 use std::sync::Wait;
@@ -106,7 +107,7 @@ fn run_named<N: Store, R: Wait>(
     blank: Blank,
     book: Book<MemDisk>,
     words: &[&str],
-) -> (MemDisk, Vec<Entry>, Result<String, AllocError>)
+) -> (MemDisk, Trail, Result<String, AllocError>)
     requires desk { blank.room.shared.table_id ≡ N.desk }
     requires base { blank.base ≡ N.base }
 {
@@ -115,8 +116,8 @@ fn run_named<N: Store, R: Wait>(
     let mut ledger = book.enter(pass);
     let text = all_steps(rt, alloc, &desk, &mut first, &mut ledger, words);
     let (disk, _) = ledger.into_parts();
-    let (_, entries) = desk.close(first);
-    (disk, entries, text)
+    let (_, trail) = desk.close(first);
+    (disk, trail, text)
 }
 
 fn is_commit(entry: &Entry) -> bool {
@@ -143,8 +144,9 @@ pub(crate) fn over_desk<R: Wait>(
     words: &[&str],
 ) -> Result<(MemDisk, String), AllocError> {
     let blank = Blank::new(alloc, Base::new(Vec::new(alloc)), epoch.max(1))?;
-    let (disk, entries, text) = run_named::<Brand, R>(rt, alloc, blank, book, words);
+    let (disk, trail, text) = run_named::<Brand, R>(rt, alloc, blank, book, words);
     let steps = text?;
+    let entries = trail.to_vec(alloc)?;
     let commits = entries.iter().filter(|entry| is_commit(entry)).count();
     let unable = entries.iter().filter(|entry| is_unable(entry)).count();
     let told = format!(in alloc; "{steps}{commits} commits, {unable} unable")?;

@@ -7,6 +7,7 @@ ghost use Rattle.std.specs.Prelude.{◌≡◌, length, IfOk};
 
 use qc_event::{Base, Config, Entry, Label, Log, Row, Rows, Table, Tuple};
 use qc_report::{History, finals, report, summary};
+use qc_trail::Trail;
 use qc_trail_text::append_line;
 use std::alloc::{AllocError, Global};
 use std::io;
@@ -57,15 +58,24 @@ impl Wanted {
     }
 }
 
+fn trail_of(alloc: Global, entries: &[Entry]) -> Result<Trail, AllocError> {
+    let mut trail = Trail::new(alloc);
+    for entry in entries {
+        trail.push(entry, None)?;
+    }
+    Ok(trail)
+}
+
 fn text_of(
     alloc: Global,
     config: Config,
-    trail: &[Entry],
+    entries: &[Entry],
     wanted: Wanted,
 ) -> Result<Vec<u8>, AllocError> {
     let table = table_of(alloc, config)?;
     let base = base_of(alloc, config)?;
-    let history = History::plain(trail);
+    let trail = trail_of(alloc, entries)?;
+    let history = History::plain(&trail);
     let values = finals(alloc, &base, &history, 1)?;
     match wanted {
         Wanted::Report => report(alloc, &table, values.as_slice(), &history),
@@ -77,10 +87,10 @@ fn print_text(
     rt: &HostRuntime,
     alloc: Global,
     config: Config,
-    trail: &[Entry],
+    entries: &[Entry],
     wanted: Wanted,
 ) -> io::Result<()> {
-    let text = text_of(alloc, config, trail, wanted)?;
+    let text = text_of(alloc, config, entries, wanted)?;
     match std::str::from_utf8(text.as_slice()) {
         Ok(text) => print!(rt; "{text}"),
         Err(_) => println!(rt; "no text"),

@@ -1,8 +1,6 @@
 //! What is printed of a run.
 use crate::case::Outcome;
-use qc_disk::MemDisk;
 use qc_event::{Entry, Event, Kind, Op};
-use qc_run::Ran;
 use std::alloc::Global;
 use std::io;
 
@@ -11,8 +9,9 @@ pub(crate) fn print_outcome(rt: &HostRuntime, outcome: &Outcome) -> io::Result<(
     let ran = &outcome.ran;
     println!(rt; "status {}, entries {}", ran.status.code(), ran.trail.len())?;
     if !ran.trail.is_empty() {
-        print_grants(rt, ran)?;
-        print_order(rt, &ran.trail)?;
+        let entries = ran.trail.to_vec(rt.alloc())?;
+        print_grants(rt, ran.start.copies(), entries.as_slice())?;
+        print_order(rt, entries.as_slice())?;
     }
     print_text(rt, outcome.sink.bytes())
 }
@@ -34,10 +33,10 @@ pub(crate) fn print_disks(rt: &HostRuntime, alloc: Global, disks: &[Vec<u8>]) ->
 }
 
 // Prints the number of grants at each copy.
-fn print_grants(rt: &HostRuntime, ran: &Ran<MemDisk>) -> io::Result<()> {
+fn print_grants(rt: &HostRuntime, copies: usize, entries: &[Entry]) -> io::Result<()> {
     print!(rt; "grants")?;
-    for copy in 0..ran.start.copies() {
-        let granted = ran.trail.iter().filter(|e| is_granted_at(e, copy));
+    for copy in 0..copies {
+        let granted = entries.iter().filter(|e| is_granted_at(e, copy));
         print!(rt; " {}", granted.count())?;
     }
     println!(rt;)
@@ -52,9 +51,9 @@ fn is_granted_at(entry: &Entry, at: usize) -> bool {
 
 // Prints what began and what the copies answered, in order: a body by its number, `[0]`; a grant by its
 /// operation and copy, `g0` for a read, `v0` for a value, `c0` for a configuration; a refusal by its copy, `!0`.
-fn print_order(rt: &HostRuntime, trail: &[Entry]) -> io::Result<()> {
+fn print_order(rt: &HostRuntime, entries: &[Entry]) -> io::Result<()> {
     print!(rt; "order")?;
-    for entry in trail {
+    for entry in entries {
         print_step(rt, &entry.event)?;
     }
     println!(rt;)

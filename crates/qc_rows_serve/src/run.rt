@@ -10,9 +10,9 @@ use crate::client::Client;
 use crate::start::{base_of, is_ours};
 use crate::words::{Tools, one_word};
 use qc_disk::HomeDisk;
-use qc_event::Entry;
 use qc_pass::{Blank, Desk, Pass, Store};
 use qc_site::{Mounted, Site};
+use qc_trail::Trail;
 use std::alloc::{AllocError, Global};
 use std::marker::Brand;
 use std::sync::Wait;
@@ -48,7 +48,7 @@ fn run_named<N: Store, R: Wait>(
     blank: Blank,
     copy: Mounted<HomeDisk>,
     words: &[&str],
-) -> (HomeDisk, Vec<Entry>, Result<Vec<String>, AllocError>)
+) -> (HomeDisk, Trail, Result<Vec<String>, AllocError>)
     requires desk { blank.room.shared.table_id ≡ N.desk }
     requires base { blank.base ≡ N.base }
     requires over { IsOver N.table N.base }
@@ -62,8 +62,8 @@ fn run_named<N: Store, R: Wait>(
     let tools = Tools { rt, home, alloc };
     let lines = all_words(&tools, &desk, &mut first, &mut site, words);
     let (disk, _) = site.into_parts();
-    let (_, entries) = desk.close(first);
-    (disk, entries, lines)
+    let (_, trail) = desk.close(first);
+    (disk, trail, lines)
 }
 
 /// The site of a mounted copy over a new desk with this epoch serves a client by its words: a line for each, and one for
@@ -86,8 +86,8 @@ pub(crate) fn over_desk<R: Wait>(
     let words: Vec<&str> = words.split(',').collect(alloc)?;
     let base = base_of(alloc, copy.start())?;
     let blank = Blank::new(alloc, base, epoch.max(1))?;
-    let (disk, entries, lines) = run_named::<Brand, R>(rt, home, alloc, blank, copy, &words);
+    let (disk, trail, lines) = run_named::<Brand, R>(rt, home, alloc, blank, copy, &words);
     let mut lines = lines?;
-    lines.push(history(alloc, entries.as_slice())?)?;
+    lines.push(history(alloc, trail.to_vec(alloc)?.as_slice())?)?;
     Ok((disk, lines))
 }

@@ -12,11 +12,12 @@ use std::alloc::{AllocError, Global};
 use std::sync::Wait;
 use std::thread::Threads;
 
-/// A script, and what came of its run to its end.
+/// A script, what came of its run to its end, and the entries of its history.
 #[derive(Drop)]
 pub(crate) struct Judged {
-    pub(crate) script: Script,
-    pub(crate) ran: Ran<MemDisk>,
+    script: Script,
+    ran: Ran<MemDisk>,
+    pub(crate) entries: Vec<Entry>,
 }
 
 /// Runs a script to its end; nothing where the text is none, or the run ends before.
@@ -32,8 +33,13 @@ pub(crate) fn run_script<R: Threads + Wait + Sync>(
     let mut shop = MemShop::new(Vec::new(alloc), Vec::new(alloc));
     let outcome = run_text(handle, alloc, options, text, &mut shop, &NoGate)?;
     let ran = outcome.ran;
+    let entries = ran.trail.to_vec(alloc)?;
     Ok(match ran.status {
-        Status::Done => Some(Judged { script, ran }),
+        Status::Done => Some(Judged {
+            script,
+            ran,
+            entries,
+        }),
         _ => None,
     })
 }
@@ -51,8 +57,8 @@ impl Judged {
     /// Whether the history is legal.
     pub(crate) fn is_legal(&self, alloc: Global) -> Result<bool, AllocError> {
         let firsts = firsts_of(alloc, &self.script)?;
-        let trail = self.ran.trail.as_slice();
-        Ok(audit(&self.ran.start, firsts.as_slice(), trail).is_ok())
+        let entries = self.entries.as_slice();
+        Ok(audit(&self.ran.start, firsts.as_slice(), entries).is_ok())
     }
 
     /// The fault that the judge finds in a trail of the script.
@@ -62,12 +68,12 @@ impl Judged {
 
     /// The fault that the judge finds in its own trail.
     pub(crate) fn fault(&self, alloc: Global) -> Option<Fault> {
-        self.fault_of(alloc, self.ran.trail.as_slice())
+        self.fault_of(alloc, self.entries.as_slice())
     }
 
     /// Whether a transaction of it was killed.
     pub(crate) fn has_killed(&self) -> bool {
-        self.ran.trail.as_slice().iter().any(|entry| {
+        self.entries.iter().any(|entry| {
             matches!(
                 entry.event,
                 Event::End {

@@ -149,7 +149,7 @@ pub(crate) fn fault_of_slip<R: Threads + Wait + Sync>(
         let text = make_script(alloc, &mut random, tops_of(kind))?;
         if let Some(judged) = run_script(handle, alloc, "--serial", text.as_str())? {
             if judged.fault(alloc).is_none() {
-                let trail = judged.ran.trail.as_slice();
+                let trail = judged.entries.as_slice();
                 if let Some(spoiled) = spoil(alloc, kind, trail)? {
                     return Ok(judged.fault_of(alloc, spoiled.entries.as_slice()));
                 }

@@ -6,6 +6,7 @@ use crate::told::Told;
 use crate::wrong::Wrong;
 use qc_desk::{Index, Look, Outcomes, Scan, Told as Answer, answers};
 use qc_event::{Entry, Event, Name};
+use qc_trail::Trail;
 use qc_trail_text::Words;
 use std::alloc::{AllocError, Global};
 
@@ -48,6 +49,15 @@ fn index_of(alloc: Global, h: &[Entry]) -> Result<Index, Wrong> {
     let mut index = Index::new(alloc);
     told_by(alloc, &mut index, looks.as_slice())?;
     Ok(index)
+}
+
+// The trail of a history.
+fn trail_of(alloc: Global, h: &[Entry]) -> Result<Trail, Wrong> {
+    let mut trail = Trail::new(alloc);
+    for entry in h {
+        trail.push(entry, None)?;
+    }
+    Ok(trail)
 }
 
 fn is_same(a: &Answer, b: &Answer) -> bool {
@@ -93,7 +103,7 @@ pub fn told(alloc: Global, h: &[Entry], word: &str, words: &mut Words<'_>) -> Re
         return Err(Wrong::Place);
     }
     match word {
-        "indexed_kind" => Ok(Told::Kind(index.kind(h, &name))),
+        "indexed_kind" => Ok(Told::Kind(index.kind(&trail_of(alloc, h)?, &name))),
         "start" => Ok(Told::Place(index.start(&name))),
         "end" => Ok(Told::Place(index.end(&name))),
         "ready" => Ok(Told::Place(index.ready(&name))),

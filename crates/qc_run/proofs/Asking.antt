@@ -1,5 +1,5 @@
 -- What was answered to words, by what was answered to what they ask for.
-use Rattle.std.proofs.Common.{ℕ, ◌≡◌, List, [], refl, sym, subst, inl, inr}
+use Rattle.std.proofs.Common.{ℕ, ◌≡◌, List, refl, sym, subst, inl, inr}
 use Rattle.std.specs.Prelude.{None, Some}
 use Rattle.qc_disk.specs.Disk.{View}
 use Rattle.qc_disk.specs.Shop.{View as Shop}

@@ -173,11 +173,11 @@ module _ {D : Type 0} (view : D → View) (words : List (List ℕ)) (source_befo
 
   -- what is so of a run whose session began
   pub of_run : (P : ScriptPlan → Type 0) → Answers → ((s : ScriptPlan) (it : Is s) → Runs s it.asked → P s)
-      → OfRun words source_before.left source_now.left ran.start ran.trail.items P
+      → OfRun words source_before.left source_now.left ran.start ran.trail P
   of_run P (inl refused) so = inl refused.0.none
   of_run P (inr run) so = by_came run.1.1.came
     where
-      by_came : Unmounted run.0 run.1.0.asked ⊎ Runs run.0 run.1.0.asked → OfRun words source_before.left source_now.left ran.start ran.trail.items P
+      by_came : Unmounted run.0 run.1.0.asked ⊎ Runs run.0 run.1.0.asked → OfRun words source_before.left source_now.left ran.start ran.trail P
       by_came (inl un) = inl un.none
       by_came (inr has) = inr (run.0, run.1.0, so run.0 run.1.0 has)
 
@@ -195,14 +195,14 @@ module _ {D : Type 0} (view : D → View) (words : List (List ℕ)) (source_befo
       by_came (inr has) = has
 
   -- what is so where its session was run
-  pub by_run : (P : ScriptPlan → Type 0) → Answers → HadSession ran.status → ((s : ScriptPlan) (it : Is s) → Wrote before now ran.status (text_by (form_of it.asked) s.table ran.start ran.trail.items) → Runs s it.asked → P s)
+  pub by_run : (P : ScriptPlan → Type 0) → Answers → HadSession ran.status → ((s : ScriptPlan) (it : Is s) → Wrote before now ran.status (text_by (form_of it.asked) s.table ran.start ran.trail) → Runs s it.asked → P s)
       → OfScript words source_before.left source_now.left P
   by_run P is had so = by_script P is (ran_read ran.status had) (λ s it to. so s it to.wrote (has_run s it.asked to had))
 
   -- what was written, whatever the text
   wrote : Answers → (text : Text) × Wrote before now ran.status text
   wrote (inl refused) = ([], refused.0.wrote [])
-  wrote (inr run) = (text_by (form_of run.1.0.asked) run.0.table ran.start ran.trail.items, run.1.1.wrote)
+  wrote (inr run) = (text_by (form_of run.1.0.asked) run.0.table ran.start ran.trail, run.1.1.wrote)
 
   pub told : Answers → IsTold ran.status → TellsFault before.taken now.taken before.faults now.faults ran.status
   told is fault = (wrote is).1.line fault
@@ -236,11 +236,11 @@ module _ {D : Type 0} (view : D → View) (words : List (List ℕ)) (source_befo
   script_fault (inl refused) = none_fault words source_before source_now ran.status refused.1
   script_fault (inr run) = no_fault words source_before.left ran.status (λ e is. not_to_script run.0 run.1.0.asked (status.Script e) is (λ disks no. no) (λ no. no) run.1.1)
 
-  pub began_nothing : Answers → BeganNothing ran.status → NoneBegun ran.start ran.trail.items
+  pub began_nothing : Answers → BeganNothing ran.status → NoneBegun ran.start ran.trail
   began_nothing (inl refused) none = refused.0.none
   began_nothing (inr run) none = by_came run.1.1.came
     where
-      by_came : Unmounted run.0 run.1.0.asked ⊎ Runs run.0 run.1.0.asked → NoneBegun ran.start ran.trail.items
+      by_came : Unmounted run.0 run.1.0.asked ⊎ Runs run.0 run.1.0.asked → NoneBegun ran.start ran.trail
       by_came (inl un) = un.none
       by_came (inr has) = absurd (performed_began ran.status has.answer none)
 
@@ -291,15 +291,15 @@ module _ {D : Type 0} (view : D → View) (words : List (List ℕ)) (source_befo
       by_came (inl un) = absurd (no_mounting run.0 run.1.0.asked (subst (Why run.0 run.1.0.asked ran.disks.items) is un.why))
       by_came (inr has) = so run.0 run.1.0.asked has
 
-  pub room : Answers → ran.status ≡ status.Room → length ran.trail.items ≡ limit
-  room is full = by_session status.Room (length ran.trail.items ≡ limit) is full (λ s asked no. no) (λ no. no.1) (λ s asked has. has.room full)
+  pub room : Answers → ran.status ≡ status.Room → length ran.trail ≡ limit
+  room is full = by_session status.Room (length ran.trail ≡ limit) is full (λ s asked no. no) (λ no. no.1) (λ s asked has. has.room full)
 
-  pub in_doubt : Answers → ran.status ≡ status.InDoubt → (top : Name) × IsInDoubt (reverse ran.trail.items) top
-  in_doubt is doubt = by_session status.InDoubt ((top : Name) × IsInDoubt (reverse ran.trail.items) top) is doubt (λ s asked no. no) (λ no. no.1) (λ s asked has. subst (λ a. TellsDoubt a ran.trail.items) doubt has.doubt)
+  pub in_doubt : Answers → ran.status ≡ status.InDoubt → (top : Name) × IsInDoubt (reverse ran.trail) top
+  in_doubt is doubt = by_session status.InDoubt ((top : Name) × IsInDoubt (reverse ran.trail) top) is doubt (λ s asked no. no) (λ no. no.1) (λ s asked has. subst (λ a. TellsDoubt a ran.trail) doubt has.doubt)
 
-  pub none_in_doubt : Answers → ran.status ≡ status.Done → (top : Name) → IsInDoubt (reverse ran.trail.items) top → ⊥
-  none_in_doubt is done = by_session status.Done ((top : Name) → IsInDoubt (reverse ran.trail.items) top → ⊥) is done (λ s asked no. no) (λ no. no.1) (λ s asked has. subst (λ a. TellsDoubt a ran.trail.items) done has.doubt)
+  pub none_in_doubt : Answers → ran.status ≡ status.Done → (top : Name) → IsInDoubt (reverse ran.trail) top → ⊥
+  none_in_doubt is done = by_session status.Done ((top : Name) → IsInDoubt (reverse ran.trail) top → ⊥) is done (λ s asked no. no) (λ no. no.1) (λ s asked has. subst (λ a. TellsDoubt a ran.trail) done has.doubt)
 
-  pub all_have_ended : Answers → ran.status ≡ status.Done → AllEnded (reverse ran.trail.items)
-  all_have_ended is done = by_session status.Done (AllEnded (reverse ran.trail.items)) is done (λ s asked no. no) (λ no. no.1) (λ s asked has.
-      all_ended (reverse ran.trail.items) ((has.follows (subst RanToEnd (sym done) tt)).each_settled) (none_in_doubt is done))
+  pub all_have_ended : Answers → ran.status ≡ status.Done → AllEnded (reverse ran.trail)
+  all_have_ended is done = by_session status.Done (AllEnded (reverse ran.trail)) is done (λ s asked no. no) (λ no. no.1) (λ s asked has.
+      all_ended (reverse ran.trail) ((has.follows (subst RanToEnd (sym done) tt)).each_settled) (none_in_doubt is done))

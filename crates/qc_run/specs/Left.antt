@@ -64,7 +64,7 @@ TellsDoubt _ trail = Unit {0}
 
 -- Nothing was begun, and what is told is the fault, whatever a report would be.
 pub record IsRefusal {D : Type 0} (before now : SinkView) (ran : Ran D) : Type 0 where
-  pub none : NoneBegun ran.start ran.trail.items
+  pub none : NoneBegun ran.start ran.trail
   pub wrote : (text : Text) → Wrote before now ran.status text
 
 module _ {D : Type 0} (view : D → View) (s : ScriptPlan) (shop : Shop) (place : Text) where
@@ -72,19 +72,19 @@ module _ {D : Type 0} (view : D → View) (s : ScriptPlan) (shop : Shop) (place 
   pub record HasRun (ran : Ran D) : Type 0 where
     pub answer : IsPerformed ran.status
     pub epoch : ℕ
-    pub legal : Legal (setting_of s.table ran.start) (reverse ran.trail.items)
-    pub begins : BeginsIn epoch s ran.trail.items
-    pub follows : RanToEnd ran.status → FollowsIn epoch s ran.trail.items
-    pub room : ran.status ≡ status.Room → length ran.trail.items ≡ limit
-    pub doubt : TellsDoubt ran.status ran.trail.items
+    pub legal : Legal (setting_of s.table ran.start) (reverse ran.trail)
+    pub begins : BeginsIn epoch s ran.trail
+    pub follows : RanToEnd ran.status → FollowsIn epoch s ran.trail
+    pub room : ran.status ≡ status.Room → length ran.trail ≡ limit
+    pub doubt : TellsDoubt ran.status ran.trail
     pub sound : (images : List (List ℕ)) → AllOffered s.table (shop.offers place) images → AreSound s.table journal_limit images
     pub restores : (images : List (List ℕ)) → AllOffered s.table (shop.offers place) images → Restores s.table images ran.start
     pub first : HaveNoGrants s.table (shop.offers place) → ran.start ≡ base_of s.table
     pub stands : AllTell s.table.copies (shop.offers place) → (images : List (List ℕ)) → AreImages view ran.disks.items images
-        → ∥ IsStanding s.table ran.start epoch (reverse ran.trail.items) images ∥₁
-    pub grown : HaveGrown view s.table (shop.offers place) epoch ran.start ran.disks.items (reverse ran.trail.items)
-    pub paid : HavePaid view (shop.counts place) ran.disks.items (reverse ran.trail.items)
-    pub full : IsSome (shop.offers place 0) → LedgerWasFull view journal_limit ran.disks.items (reverse ran.trail.items)
+        → ∥ IsStanding s.table ran.start epoch (reverse ran.trail) images ∥₁
+    pub grown : HaveGrown view s.table (shop.offers place) epoch ran.start ran.disks.items (reverse ran.trail)
+    pub paid : HavePaid view (shop.counts place) ran.disks.items (reverse ran.trail)
+    pub full : IsSome (shop.offers place 0) → LedgerWasFull view journal_limit ran.disks.items (reverse ran.trail)
 
   -- why no store was mounted, where the shop's count of faults is this now
   abbrev pub IsUnmounted : ℕ → List D → Status → Type 0
@@ -99,14 +99,14 @@ module _ {D : Type 0} (view : D → View) (s : ScriptPlan) (shop : Shop) (place 
 
   -- No store was mounted, and nothing was begun.
   pub record WasUnmounted (shop_now : ℕ) (ran : Ran D) : Type 0 where
-    pub none : NoneBegun ran.start ran.trail.items
+    pub none : NoneBegun ran.start ran.trail
     pub why : IsUnmounted shop_now ran.disks.items ran.status
     pub back : CameBack ran.disks.items
 
   -- A script was run, and what was written of it has this form; or no store was mounted for it. The shop's count of
   -- faults is this now.
   pub record IsAnswer (form : Form) (shop_now : ℕ) (before now : SinkView) (ran : Ran D) : Type 0 where
-    pub wrote : Wrote before now ran.status (text_by form s.table ran.start ran.trail.items)
+    pub wrote : Wrote before now ran.status (text_by form s.table ran.start ran.trail)
     pub came : WasUnmounted shop_now ran ⊎ HasRun ran
 
 -- the status of a refusal to mount, or want of memory in its place

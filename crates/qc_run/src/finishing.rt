@@ -8,8 +8,9 @@ ghost use Rattle.qc_run.specs.Run as terms;
 
 use crate::io::{Sink, write_all};
 use crate::status::{ROOM_LINE, Status};
-use qc_event::{Base, Entry, Short, Table};
+use qc_event::{Base, Short, Table};
 use qc_report::{History, finals, has_doubt, index_of, report, summary};
+use qc_trail::Trail;
 use std::alloc::{AllocError, Global};
 
 /// What is written of a history: its report, or the summary alone.
@@ -49,7 +50,7 @@ fn page_of(
     form: Form,
     table: &Table,
     start: &Base,
-    trail: &[Entry],
+    trail: &Trail,
 ) -> Result<Page, AllocError>
     requires legal { IsLegal trail.now }
     requires copies { length start.now ≤ 16 }
@@ -73,7 +74,7 @@ fn conclude<K: Sink>(
     form: Form,
     table: &Table,
     start: &Base,
-    trail: &[Entry],
+    trail: &Trail,
     sink: &mut K,
 ) -> Status
     requires legal { IsLegal trail.now }
@@ -117,7 +118,7 @@ pub(crate) fn finish<K: Sink>(
     table: &Table,
     ran: Result<(), Short>,
     start: &Base,
-    trail: &[Entry],
+    trail: &Trail,
     sink: &mut K,
 ) -> Status
     requires legal { IsLegal trail.now }

@@ -53,15 +53,7 @@ where
                 trail,
                 disks,
             } = stored.ended;
-            let status = finish(
-                alloc,
-                form,
-                &script.table,
-                ran,
-                &start,
-                trail.as_slice(),
-                sink,
-            );
+            let status = finish(alloc, form, &script.table, ran, &start, &trail, sink);
             Ran {
                 status,
                 start,

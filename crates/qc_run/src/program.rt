@@ -99,57 +99,57 @@ where
     // Nothing was begun, or the words run a script, which the source held or which was made, and the history is legal
     // over the first configurations of its table and the start.
     ensures legal_history { terms.OfRun (map string_bytes words.now) (S.view source.old).left
-        (S.view source.new).left result.start result.trail.items
-        (λ s. Legal (setting_of s.table result.start) (reverse result.trail.items)) }
+        (S.view source.new).left result.start result.trail
+        (λ s. Legal (setting_of s.table result.start) (reverse result.trail)) }
     ensures nothing_begun { terms.BeganNothing result.status
-        → (result.trail.items ≡ []) × (result.start ≡ []) }
+        → (result.trail ≡ []) × (result.start ≡ []) }
 
     // At each moment of the history, each user transaction without an aborted ancestor has its serial order, from
     // each map of values for which the start is sound.
     ensures serial_order { terms.OfRun (map string_bytes words.now) (S.view source.old).left
-        (S.view source.new).left result.start result.trail.items
-        (λ s. terms.HasSerialOrders s.table result.start result.trail.items) }
+        (S.view source.new).left result.start result.trail
+        (λ s. terms.HasSerialOrders s.table result.start result.trail) }
 
     // The last values of the report, which go by versions, are then those of the serial machine.
     ensures last_values { terms.OfRun (map string_bytes words.now) (S.view source.old).left
-        (S.view source.new).left result.start result.trail.items
-        (λ s. terms.HasSerialValues s.table result.start result.trail.items) }
+        (S.view source.new).left result.start result.trail
+        (λ s. terms.HasSerialValues s.table result.start result.trail) }
 
     // Whatever cut the run off, the history is a beginning of one that follows the script, with requests that meet the
     // fates of its network; what ran to its end follows it.
     ensures begins_script { terms.OfRun (map string_bytes words.now) (S.view source.old).left
-        (S.view source.new).left result.start result.trail.items
-        (λ s. terms.Begins s result.trail.items) }
+        (S.view source.new).left result.start result.trail
+        (λ s. terms.Begins s result.trail) }
     ensures follows_script { terms.RanToEnd result.status
         → terms.OfScript (map string_bytes words.now) (S.view source.old).left
         (S.view source.new).left
-        (λ s. terms.Follows s result.trail.items) }
+        (λ s. terms.Follows s result.trail) }
     ensures started { terms.HadScript result.status
         → terms.OfScript (map string_bytes words.now) (S.view source.old).left
         (S.view source.new).left (λ _. ⊤) }
 
     // Who was in doubt when the sessions had run to their end.
     ensures in_doubt { result.status ≡ Status.InDoubt
-        → (top : Name) × terms.IsInDoubt (reverse result.trail.items) top }
+        → (top : Name) × terms.IsInDoubt (reverse result.trail) top }
     ensures none_in_doubt { result.status ≡ Status.Done
-        → (top : Name) → terms.IsInDoubt (reverse result.trail.items) top → ⊥ }
+        → (top : Name) → terms.IsInDoubt (reverse result.trail) top → ⊥ }
     ensures all_ended { result.status ≡ Status.Done
-        → terms.AllEnded (reverse result.trail.items) }
+        → terms.AllEnded (reverse result.trail) }
 
     // The start is what the disks restore, where the shop tells their bytes. Where no grant stands on them it is the
     // table's own first tuples, which are sound for its start values.
     ensures restores { terms.OfRun (map string_bytes words.now) (S.view source.old).left
-        (S.view source.new).left result.start result.trail.items
+        (S.view source.new).left result.start result.trail
         (λ s. line.AtPlace (map string_bytes words.now) (λ place. (images : List (List ℕ))
         → terms.AllOffered s.table ((H.view shop.old).offers place) images
         → Restores s.table images result.start)) }
     ensures first_start { terms.OfRun (map string_bytes words.now) (S.view source.old).left
-        (S.view source.new).left result.start result.trail.items
+        (S.view source.new).left result.start result.trail
         (λ s. line.AtPlace (map string_bytes words.now)
         (λ place. HaveNoGrants s.table ((H.view shop.old).offers place)
         → result.start ≡ base_of s.table)) }
     ensures sound_start { terms.OfRun (map string_bytes words.now) (S.view source.old).left
-        (S.view source.new).left result.start result.trail.items
+        (S.view source.new).left result.start result.trail
         (λ s. line.AtPlace (map string_bytes words.now)
         (λ place. HaveNoGrants s.table ((H.view shop.old).offers place)
         → IsSound (setting_of s.table result.start) (first_values s.table))) }
@@ -157,39 +157,39 @@ where
     // Where all disks told their bytes, whatever a crash leaves of those that come back stands beside the history, in
     // its epoch.
     ensures images_stand { terms.OfRun (map string_bytes words.now) (S.view source.old).left
-        (S.view source.new).left result.start result.trail.items
+        (S.view source.new).left result.start result.trail
         (λ s. (epoch : ℕ)
-        × terms.BeginsIn epoch s result.trail.items
+        × terms.BeginsIn epoch s result.trail
         × line.AtPlace (map string_bytes words.now)
         (λ place. AllTell s.table.copies ((H.view shop.old).offers place)
         → (images : List (List ℕ)) → AreImages H.D.view result.disks.items images
-        → ∥ IsStanding s.table result.start epoch (reverse result.trail.items) images ∥₁)) }
+        → ∥ IsStanding s.table result.start epoch (reverse result.trail) images ∥₁)) }
     // At each moment since a disk was mounted, where it told its bytes, a crash left the records that it had then, and
     // behind them those of the history up to some time, with at most one more, which could come next then. Of two such
     // moments each image of the later had every record that all images of the earlier had. Before, a crash left of the
     // disk what it left of it as it was when it had been mounted.
     ensures images_grow { terms.OfRun (map string_bytes words.now) (S.view source.old).left
-        (S.view source.new).left result.start result.trail.items
+        (S.view source.new).left result.start result.trail
         (λ s. (epoch : ℕ)
-        × terms.BeginsIn epoch s result.trail.items
+        × terms.BeginsIn epoch s result.trail
         × line.AtPlace (map string_bytes words.now)
         (λ place. HaveGrown H.D.view s.table ((H.view shop.old).offers place) epoch
-        result.start result.disks.items (reverse result.trail.items))) }
+        result.start result.disks.items (reverse result.trail))) }
 
     // Each failure that someone was unable for, a disk has counted since the shop gave it.
     ensures paid { terms.OfRun (map string_bytes words.now) (S.view source.old).left
-        (S.view source.new).left result.start result.trail.items
+        (S.view source.new).left result.start result.trail
         (λ s. line.AtPlace (map string_bytes words.now) (λ place. HavePaid H.D.view
-        ((H.view shop.old).counts place) result.disks.items (reverse result.trail.items))) }
+        ((H.view shop.old).counts place) result.disks.items (reverse result.trail))) }
 
     // Each top that the ledger was unable to log for want of room at its disk, where that told its bytes: with its record
     // behind what the disk has, it would have passed the longest journal.
     ensures full { terms.OfRun (map string_bytes words.now) (S.view source.old).left
-        (S.view source.new).left result.start result.trail.items
+        (S.view source.new).left result.start result.trail
         (λ s. line.AtPlace (map string_bytes words.now)
         (λ place. IsSome ((H.view shop.old).offers place 0)
         → LedgerWasFull H.D.view terms.journal_limit result.disks.items
-        (reverse result.trail.items))) }
+        (reverse result.trail))) }
 
     // The disks that were obtained come back, and no others were. A mounting that was refused leaves each as it says.
     ensures come_back { terms.IsNotMounted result.status
@@ -206,13 +206,13 @@ where
         (S.view source.new).left
         (λ s. line.AsAsked (map string_bytes words.now) (λ asked. Appends
         (K.view sink.old).taken (K.view sink.new).taken
-        (terms.text_by (terms.form_of asked) s.table result.start result.trail.items))) }
+        (terms.text_by (terms.form_of asked) s.table result.start result.trail))) }
     ensures output_front { result.status ≡ Status.WriteFault
         → terms.OfScript (map string_bytes words.now) (S.view source.old).left
         (S.view source.new).left
         (λ s. line.AsAsked (map string_bytes words.now) (λ asked. AppendsFront
         (K.view sink.old).taken (K.view sink.new).taken
-        (terms.text_by (terms.form_of asked) s.table result.start result.trail.items))) }
+        (terms.text_by (terms.form_of asked) s.table result.start result.trail))) }
     ensures output_line { terms.IsTold result.status
         → terms.TellsFault (K.view sink.old).taken (K.view sink.new).taken
         (K.view sink.old).faults (K.view sink.new).faults result.status }
@@ -259,7 +259,7 @@ where
         (λ s. line.AtPlace (map string_bytes words.now) (λ place. (images : List (List ℕ))
         → terms.AllOffered s.table ((H.view shop.old).offers place) images
         → AreSound s.table terms.journal_limit images)) }
-    ensures room { result.status ≡ Status.Room → length result.trail.items ≡ limit }
+    ensures room { result.status ≡ Status.Room → length result.trail ≡ limit }
     ensures source_faults { (S.view source.old).faults ≤ (S.view source.new).faults }
     ensures sink_faults { (K.view sink.old).faults ≤ (K.view sink.new).faults }
     ensures shop_faults { (H.view shop.old).faults ≤ (H.view shop.new).faults }

@@ -1,7 +1,8 @@
 //! What a run answers.
 
 use crate::status::Status;
-use qc_event::{Base, Entry};
+use qc_event::Base;
+use qc_trail::Trail;
 
 /// What a run answers: how it ended, the tuples from which it started, its history, the oldest entry
 /// first, and the disks that it obtained, in the order of their numbers.
@@ -9,6 +10,6 @@ use qc_event::{Base, Entry};
 pub struct Ran<D> {
     pub status: Status,
     pub start: Base,
-    pub trail: Vec<Entry>,
+    pub trail: Trail,
     pub disks: Vec<D>,
 }

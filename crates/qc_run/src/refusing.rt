@@ -10,12 +10,13 @@ use crate::ran::Ran;
 use crate::status::{Status, fault_line};
 use qc_event::Base;
 use qc_mount::MountNo;
+use qc_trail::Trail;
 use std::alloc::{AllocError, Global};
 
 /// A run that began nothing. Want of memory is told nowhere.
 pub(crate) fn nothing<D: Drop>(alloc: Global, status: Status, disks: Vec<D>) -> Ran<D>
     ensures status { result.status ≡ status }
-    ensures none { terms.NoneBegun result.start result.trail.items }
+    ensures none { terms.NoneBegun result.start result.trail }
     ensures disks { result.disks ≡ disks }
     ensures memory { (sink : SinkView) → status ≡ Status.Memory
         → left.IsRefusal sink sink result }
@@ -23,7 +24,7 @@ pub(crate) fn nothing<D: Drop>(alloc: Global, status: Status, disks: Vec<D>) -> 
     Ran {
         status,
         start: Base::new(Vec::new(alloc)),
-        trail: Vec::new(alloc),
+        trail: Trail::new(alloc),
         disks,
     }
 }

@@ -13,11 +13,12 @@ ghost use Rattle.qc_system.specs.Parts.{IsOpening};
 use crate::stage::run_over;
 use qc_board::Board;
 use qc_disk::Disk;
-use qc_event::{Base, Entry, Short};
+use qc_event::{Base, Short};
 use qc_interp::{Gate, Mode};
 use qc_pass::Pass;
 use qc_script::Script;
 use qc_system::{Mounting, System};
+use qc_trail::Trail;
 use std::alloc::{AllocError, Global};
 use std::marker::Brand;
 use std::sync::Wait;
@@ -34,7 +35,7 @@ const EACH: u16 = 0xffff;
 pub struct Ended<D> {
     pub ran: Result<(), Short>,
     pub start: Base,
-    pub trail: Vec<Entry>,
+    pub trail: Trail,
     pub disks: Vec<D>,
 }
 
@@ -47,7 +48,7 @@ fn none_ran<R: Wait, D: Disk + Drop, N: Mounting>(
     requires first { IsOpening first 17 }
     ensures ran { result.ran ≡ Err Memory }
     ensures start { result.start ≡ N.base }
-    ensures nothing { result.trail.items ≡ [] }
+    ensures nothing { result.trail ≡ [] }
     ensures disks { AllKeep (setting_of N.table N.base) (record {
       base = N.base;
       told = N.told;
@@ -87,15 +88,15 @@ pub fn run_sessions<
     requires table { script.now.table ≡ N.table }
     requires copies { length N.base ≡ script.now.table.copies }
     ensures start { result.start ≡ N.base }
-    ensures legal { Legal (setting_of N.table N.base) (reverse result.trail.items) }
-    ensures bounded { length result.trail.items ≤ limit }
+    ensures legal { Legal (setting_of N.table N.base) (reverse result.trail) }
+    ensures bounded { length result.trail ≤ limit }
 
     // What ran to its end follows the script, and what was cut off is a beginning of it.
     ensures follows { OnOk result.ran (FollowsScript system.desk.epoch script.now.patience
-        (plan_of_script script.now).sessions (reverse result.trail.items)) }
+        (plan_of_script script.now).sessions (reverse result.trail)) }
     ensures begins { BeginsScript system.desk.epoch script.now.patience
-        (plan_of_script script.now).sessions (reverse result.trail.items) }
-    ensures room { IsErrOf result.ran Room → length result.trail.items ≡ limit }
+        (plan_of_script script.now).sessions (reverse result.trail) }
+    ensures room { IsErrOf result.ran Room → length result.trail ≡ limit }
 
     // Each disk keeps what was found on it, and then what the history tells.
     ensures disks { AllKeep (setting_of N.table N.base) (record {
@@ -104,7 +105,7 @@ pub fn run_sessions<
       before = N.before;
       first = N.first;
       limit = N.limit;
-    }) D.view result.disks.items (reverse result.trail.items) }
+    }) D.view result.disks.items (reverse result.trail) }
 {
     let (board, seat) = match Board::new(alloc, SESSIONS, EACH) {
         Ok(made) => made,

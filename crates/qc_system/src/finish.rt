@@ -13,8 +13,9 @@ use crate::held::Held;
 use crate::mounting::Mounting;
 use crate::system::{Returns, System};
 use qc_disk::Disk;
-use qc_event::{Base, Entry};
+use qc_event::Base;
 use qc_pass::{Desk, Pass};
+use qc_trail::Trail;
 use std::sync::{Mutex, Wait};
 
 // A site, where it is there, gives its pass and its disk back.
@@ -71,13 +72,13 @@ impl<D: Disk + Drop, N: Mounting> System<D, N> {
     /// The start tuples, the history, the oldest entry first, and the disks, the ledger's first: what each keeps is what
     /// was found on it, and then what the history tells. Each entry of a client is the first pass's own, or that of one
     /// that was joined into it. It takes no memory.
-    pub fn finish<R: Wait>(self, rt: &R, first: Pass<N>) -> (Base, Vec<Entry>, Vec<D>)
+    pub fn finish<R: Wait>(self, rt: &R, first: Pass<N>) -> (Base, Trail, Vec<D>)
         requires first { IsClosing first }
         ensures base { result.0 ≡ N.base }
-        ensures legal { Legal (setting_of N.table N.base) (reverse result.1.items) }
-        ensures bounded { length result.1.items ≤ limit }
-        ensures seen { IsOlder first.seen (reverse result.1.items) }
-        ensures settled { IsSettled (reverse result.1.items) first }
+        ensures legal { Legal (setting_of N.table N.base) (reverse result.1) }
+        ensures bounded { length result.1 ≤ limit }
+        ensures seen { IsOlder first.seen (reverse result.1) }
+        ensures settled { IsSettled (reverse result.1) first }
         ensures disks { AllKeep (setting_of N.table N.base) (record {
           base = N.base;
           told = N.told;
@@ -85,7 +86,7 @@ impl<D: Disk + Drop, N: Mounting> System<D, N> {
           first = N.first;
           limit = N.limit;
         }) D.view
-            result.2.items (reverse result.1.items) }
+            result.2.items (reverse result.1) }
     {
         let System {
             desk,

@@ -1,23 +1,25 @@
 use Rattle.std.proofs.Common.{◌≡◌, ◌∙◌, ◌∷◌, ◌+◌, ap, subst, sym, reverse, take, take_all, arith}
+use Rattle.std.proofs.lemmas.Option.{slice_get_within}
 use Rattle.qc_event.specs.Legal.{Legal}
 use Rattle.qc_event.proofs.Histories.{reverse-take_more}
 use Rattle.qc_desk.specs.Index.{IsOf}
+use Rattle.qc_report.proofs.Further.{read_there}
 use Rattle.qc_report.proofs.history.index_of.Goals as goal
 
-pub loop-entry-preserved : goal.loop-entry-preserved
-loop-entry-preserved c =
-    let i = c.loop-entry.entry-index in
-    let h = c.args.entries.now in
-    let more : reverse (take (i + 1) h) ≡ c.entry-item.result ∷ reverse (take i h) =
-    reverse-take_more h i c.entry-item.result (omega arith) ∙ ap (λ e. e ∷ reverse (take i h)) (sym c.entry-item.is) in
+pub loop-at-preserved : goal.loop-at-preserved
+loop-at-preserved c =
+    let i = c.loop-at.at in
+    let h = c.args.trail.now in
+    let more : reverse (take (i + 1) h) ≡ c.at.result ∷ reverse (take i h) =
+    reverse-take_more h i c.at.result (slice_get_within h i c.at.result c.at.ensures) ∙ ap (λ e. e ∷ reverse (take i h)) (sym (read_there h i c.at.result c.at.ensures)) in
     record {
       index = λ setting legal.
           let allowed = subst (Legal setting) more legal in
-          subst (IsOf c.push.new.self) (sym more) (c.in_ok-push.ensures.ok setting (reverse (take i h)) (c.loop-entry.invariant.index setting allowed.0) allowed);
-      count = c.in_ok-push.ensures.count ∙ ap (λ n. n + 1) c.loop-entry.invariant.count;
+          subst (IsOf c.push.new.self) (sym more) (c.in_ok-push.ensures.ok setting (reverse (take i h)) (c.loop-at.invariant.index setting allowed.0) allowed);
+      count = c.in_ok-push.ensures.count ∙ ap (λ n. n + 1) c.loop-at.invariant.count;
     }
 
 pub returns : goal.returns
 returns c = λ setting legal.
-    let all = take_all c.loop-entry.entry-index c.args.entries.now (omega arith) in
-    subst (λ es. IsOf c.loop-entry.index (reverse es)) all (c.loop-entry.invariant.index setting (subst (λ es. Legal setting (reverse es)) (sym all) legal))
+    let all = take_all c.loop-at.at c.args.trail.now (omega (arith, c.loop-at-test.false, c.len-at-end.ensures)) in
+    subst (λ es. IsOf c.loop-at.index (reverse es)) all (c.loop-at.invariant.index setting (subst (λ es. Legal setting (reverse es)) (sym all) legal))

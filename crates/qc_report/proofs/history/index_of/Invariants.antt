@@ -5,8 +5,8 @@ use Rattle.qc_event.specs.Legal.{Legal}
 use Rattle.qc_desk.specs.Index.{IsOf}
 use Rattle.qc_report.proofs.history.index_of.Given as goal
 
-abbrev pub invariant-loop-entry : goal.invariant-loop-entry
-invariant-loop-entry l = record {
-  index : (setting : Setting) → Legal setting (reverse (take l.entry-index l.entries)) → IsOf l.index (reverse (take l.entry-index l.entries));
-  count : l.index.count ≡ l.entry-index;
+abbrev pub invariant-loop-at : goal.invariant-loop-at
+invariant-loop-at l = record {
+  index : (setting : Setting) → Legal setting (reverse (take l.at l.trail)) → IsOf l.index (reverse (take l.at l.trail));
+  count : l.index.count ≡ l.at;
 }

@@ -1,34 +1,36 @@
-use Rattle.std.proofs.Common.{◌≡◌, ◌∙◌, ap, map, reverse, subst, take, take_all}
+use Rattle.std.proofs.Common.{◌≡◌, ◌∙◌, ap, map, reverse, subst, take, take_all, arith}
+use Rattle.std.proofs.lemmas.Option.{slice_get_within}
 use Rattle.std.proofs.lemmas.Result.{IfOk-weaker}
 use Rattle.qc_report.specs.LastValues.{AreBest, value_of, values_by_version}
+use Rattle.qc_report.proofs.Further.{read_there}
 use Rattle.qc_report.proofs.Bests.{tuples_of, no_entries, entries_more, values_are}
 use Rattle.qc_report.proofs.last_values.finals.Goals as goal
 
-pub loop-entry-init : goal.loop-entry-init
-loop-entry-init c =
+pub loop-at-init : goal.loop-at-init
+loop-at-init c =
     let first = no_entries c.args.base.now (reverse c.args.history.now) c.args.records c.in_ok-bests.bests.items c.in_ok-bests.ensures in
     record { as_many = first.0; best = first.1 }
 
-pub loop-entry-preserved : goal.loop-entry-preserved
-loop-entry-preserved c =
+pub loop-at-preserved : goal.loop-at-preserved
+loop-at-preserved c =
     let base = c.args.base.now in
     let past = reverse c.args.history.now in
-    let es = c.entries-entry-items.result.now in
-    let i = c.loop-entry.entry-index in
-    let put = c.take_in.ensures.best (tuples_of base past (take i es)) c.loop-entry.invariant.best in
+    let es = c.trail-trail.result.now in
+    let i = c.loop-at.at in
+    let put = c.take_in.ensures.best (tuples_of base past (take i es)) c.loop-at.invariant.best in
     record {
-      as_many = c.take_in.ensures.len ∙ c.loop-entry.invariant.as_many;
-      best = entries_more base past es i c.entry-item.result c.take_in.new.bests.items c.loop-entry-test.true c.entry-item.is put;
+      as_many = c.take_in.ensures.len ∙ c.loop-at.invariant.as_many;
+      best = entries_more base past es i c.at.result c.take_in.new.bests.items (slice_get_within es i c.at.result c.at.ensures) (read_there es i c.at.result c.at.ensures) put;
     }
 
 pub returns : goal.returns
 returns c =
     let base = c.args.base.now in
     let h = c.args.history.now in
-    let es = c.entries-entry-items.result.now in
-    let i = c.loop-entry.entry-index in
-    let all : take i es ≡ h = take_all i es c.loop-entry-test.false ∙ c.entries-entry-items.ensures in
-    let best = subst (λ x. AreBest (tuples_of base (reverse h) x) c.loop-entry.bests.items) all c.loop-entry.invariant.best in
+    let es = c.trail-trail.result.now in
+    let i = c.loop-at.at in
+    let all : take i es ≡ h = take_all i es (omega (arith, c.loop-at-test.false, c.len-at-end.ensures)) ∙ c.trail-trail.ensures in
+    let best = subst (λ x. AreBest (tuples_of base (reverse h) x) c.loop-at.bests.items) all c.loop-at.invariant.best in
     IfOk-weaker c.values_of.result (λ v. v.items ≡ map value_of c.as_slice.result.now) (λ v. v.items ≡ values_by_version base (reverse h) c.args.records)
-    (λ v is. values_are base h c.args.records c.loop-entry.bests.items v.items c.loop-entry.invariant.as_many best (is ∙ ap (map value_of) c.as_slice.ensures.value))
+    (λ v is. values_are base h c.args.records c.loop-at.bests.items v.items c.loop-at.invariant.as_many best (is ∙ ap (map value_of) c.as_slice.ensures.value))
     c.values_of.ensures

@@ -4,8 +4,8 @@ use Rattle.qc_report.specs.LastValues.{AreBest}
 use Rattle.qc_report.proofs.Bests.{tuples_of}
 use Rattle.qc_report.proofs.last_values.finals.Given as goal
 
-abbrev pub invariant-loop-entry : goal.invariant-loop-entry
-invariant-loop-entry l = record {
+abbrev pub invariant-loop-at : goal.invariant-loop-at
+invariant-loop-at l = record {
   as_many : length l.bests.items ≡ l.records;
-  best : AreBest (tuples_of l.base (reverse l.history) (take l.entry-index l.entry-items)) l.bests.items;
+  best : AreBest (tuples_of l.base (reverse l.history) (take l.at l.trail)) l.bests.items;
 }

@@ -1,12 +1,8 @@
-use Rattle.std.proofs.Common.{List, reverse, subst, sym, inl, inr}
+use Rattle.std.proofs.Common.{sym, inl, inr}
 use Rattle.std.proofs.lemmas.Bool.{true≢false}
 use Rattle.std.specs.Prelude.{Result, Ok, Err, OnOk, IsOk}
-use Rattle.qc_event.specs.declared.event.Entry.{Entry}
-use Rattle.qc_event.specs.Legal.{Legal}
 use Rattle.qc_event.specs.Tables.{setting_of}
 use Rattle.qc_script.specs.Steps.{plan_of_script}
-use Rattle.qc_run.specs.Left.{Wrote, TellsDoubt}
-use Rattle.qc_run.specs.Run.{text_by}
 use Rattle.qc_run.proofs.Refusals.{why}
 use Rattle.qc_run.proofs.performing.perform.Goals as goal
 
@@ -17,7 +13,7 @@ on_ok (Err e) P is has = absurd (true≢false (sym is))
 pub finish-status-requires-clause-legal : goal.finish-status-requires-clause-legal
 finish-status-requires-clause-legal g c =
     let setting = setting_of c.args.script.now.table c.in-Ok.stored.ended.start in
-    (setting, subst (λ (t : List Entry). Legal setting (reverse t)) (sym c.as_slice.ensures.value) c.in-Ok.ensures.legal)
+    (setting, c.in-Ok.ensures.legal)
 
 pub returns-in-Ok-clause-answer : goal.returns-in-Ok-clause-answer
 returns-in-Ok-clause-answer g c =
@@ -27,7 +23,7 @@ returns-in-Ok-clause-answer g c =
     let tells = c.finish-status.ensures in
     let answer = c.finish-status.result in
     record {
-      wrote = subst (λ (t : List Entry). Wrote (g.K.Sink.view c.args.sink.now) (g.K.Sink.view c.finish-status.new.sink) answer (text_by c.args.form s.table ended.start t)) c.as_slice.ensures.value tells.wrote;
+      wrote = tells.wrote;
       came = inr (record {
         answer = tells.answer;
         epoch = c.in-Ok.stored.epoch;
@@ -35,7 +31,7 @@ returns-in-Ok-clause-answer g c =
         begins = has.begins;
         follows = λ end. on_ok ended.ran _ (tells.ran end) has.follows;
         room = λ full. has.room (tells.room full);
-        doubt = subst (TellsDoubt answer) c.as_slice.ensures.value tells.doubt;
+        doubt = tells.doubt;
         sound = λ images all. has.sound images all.offered all.all;
         restores = λ images all. has.restores images all.offered all.all;
         first = has.first;

@@ -17,10 +17,10 @@ pub returns-clause-nothing_begun : goal.returns-clause-nothing_begun
 returns-clause-nothing_begun g c = λ none. let it = clause.began_nothing _ _ _ _ (g.H.Shop.view c.args.shop.now) _ _ _ _ c.answer.ensures.answer none in (it.1, it.0)
 
 pub returns-clause-serial_order : goal.returns-clause-serial_order
-returns-clause-serial_order g c = clause.of_run _ _ _ _ (g.H.Shop.view c.args.shop.now) _ _ _ _ _ c.answer.ensures.answer (λ s it has. serial_orders s.table c.answer.result.start c.answer.result.trail.items has.legal)
+returns-clause-serial_order g c = clause.of_run _ _ _ _ (g.H.Shop.view c.args.shop.now) _ _ _ _ _ c.answer.ensures.answer (λ s it has. serial_orders s.table c.answer.result.start c.answer.result.trail has.legal)
 
 pub returns-clause-last_values : goal.returns-clause-last_values
-returns-clause-last_values g c = clause.of_run _ _ _ _ (g.H.Shop.view c.args.shop.now) _ _ _ _ _ c.answer.ensures.answer (λ s it has. serial_values s.table c.answer.result.start c.answer.result.trail.items has.legal)
+returns-clause-last_values g c = clause.of_run _ _ _ _ (g.H.Shop.view c.args.shop.now) _ _ _ _ _ c.answer.ensures.answer (λ s it has. serial_values s.table c.answer.result.start c.answer.result.trail has.legal)
 
 pub returns-clause-begins_script : goal.returns-clause-begins_script
 returns-clause-begins_script g c = clause.of_run _ _ _ _ (g.H.Shop.view c.args.shop.now) _ _ _ _ _ c.answer.ensures.answer (λ s it has. (has.epoch, has.begins))

@@ -10,11 +10,11 @@ use Rattle.qc_session.proofs.sessions.none_ran.Goals as goal
 pub finish-start-requires : goal.finish-start-requires
 finish-start-requires g c = record { first = (c.requires.first.live, c.requires.first.number, c.requires.first.out) }
 
-nothing : (g : Over) (c : goal.After-finish-start g) → reverse c.finish-start.result.1.items ≡ []
-nothing g c = none_acted (setting_of g.N.Store.table g.N.Store.base) (reverse c.finish-start.result.1.items) c.args.first c.requires.first c.finish-start.ensures.legal c.finish-start.ensures.settled
+nothing : (g : Over) (c : goal.After-finish-start g) → reverse c.finish-start.result.1 ≡ []
+nothing g c = none_acted (setting_of g.N.Store.table g.N.Store.base) (reverse c.finish-start.result.1) c.args.first c.requires.first c.finish-start.ensures.legal c.finish-start.ensures.settled
 
 pub returns-clause-nothing : goal.returns-clause-nothing
-returns-clause-nothing g c = sym (reverse-reverse c.finish-start.result.1.items) ∙ ap reverse (nothing g c)
+returns-clause-nothing g c = sym (reverse-reverse c.finish-start.result.1) ∙ ap reverse (nothing g c)
 
 pub returns-clause-disks : goal.returns-clause-disks
 returns-clause-disks g c =

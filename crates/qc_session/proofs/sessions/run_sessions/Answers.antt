@@ -33,7 +33,7 @@ returns-clause-follows g c =
     let plan = plan_of_script c.args.script.now in
     let ran : RanEach setting epoch plan.patience 0 plan.sessions c.args.first c.run_over-ran.result.0 c.run_over-ran.result.1 =
     c.run_over-ran.ensures in
-    followed setting epoch plan c.args.first c.run_over-ran.result.1 c.requires.first.kin (reverse c.finish-start.result.1.items) c.finish-start.ensures.legal c.finish-start.ensures.seen c.finish-start.ensures.settled c.run_over-ran.result.0 ran
+    followed setting epoch plan c.args.first c.run_over-ran.result.1 c.requires.first.kin (reverse c.finish-start.result.1) c.finish-start.ensures.legal c.finish-start.ensures.seen c.finish-start.ensures.settled c.run_over-ran.result.0 ran
 
 pub returns-clause-begins : goal.returns-clause-begins
 returns-clause-begins g c =
@@ -42,7 +42,7 @@ returns-clause-begins g c =
     let plan = plan_of_script c.args.script.now in
     let ran : RanEach setting epoch plan.patience 0 plan.sessions c.args.first c.run_over-ran.result.0 c.run_over-ran.result.1 =
     c.run_over-ran.ensures in
-    begun setting epoch plan c.args.first c.run_over-ran.result.1 c.requires.first.kin (reverse c.finish-start.result.1.items) c.finish-start.ensures.legal c.finish-start.ensures.seen c.finish-start.ensures.settled c.run_over-ran.result.0 ran
+    begun setting epoch plan c.args.first c.run_over-ran.result.1 c.requires.first.kin (reverse c.finish-start.result.1) c.finish-start.ensures.legal c.finish-start.ensures.seen c.finish-start.ensures.settled c.run_over-ran.result.0 ran
 
 pub returns-clause-room : goal.returns-clause-room
-returns-clause-room g c = λ is. full_still c.run_over-ran.result.1.seen c.finish-start.result.1.items c.finish-start.ensures.seen c.finish-start.ensures.bounded (c.run_over-ran.ensures.room is)
+returns-clause-room g c = λ is. full_still c.run_over-ran.result.1.seen c.finish-start.result.1 c.finish-start.ensures.seen c.finish-start.ensures.bounded (c.run_over-ran.ensures.room is)

@@ -2,9 +2,9 @@ use Rattle.std.proofs.Common.{◌≡◌, reverse, sym, ap, ◌∙◌, arith}
 use Rattle.std.specs.Prelude.{Some, slice_get}
 use Rattle.std.specs.Option.{option_map}
 use Rattle.std.proofs.lemmas.List.{reverse-reverse, length-reverse}
-use Rattle.std.proofs.lemmas.Option.{slice_get-get_or}
 use Rattle.qc_event.specs.History.{Begun, start}
 use Rattle.qc_event.proofs.OneEntry.{not_some, some_or_none}
+use Rattle.qc_trail.proofs.Within.{something_within}
 use Rattle.qc_desk.proofs.index.Index.kind.Goals as goal
 
 pub returns-in_default : goal.returns-in_default
@@ -15,11 +15,9 @@ returns-in_default c = λ setting is legal.
 pub returns-in-Some-get : goal.returns-in-Some-get
 returns-in-Some-get c = λ setting is legal.
     let entries = c.args.entries.now in
-    let e = c.in-Some-get.entry.now in
+    let e = c.in-Some-get.entry in
     let told = c.start.ensures setting (reverse entries) is legal in
-    let less = told.within c.in-Some.at c.in-Some.is in
-    let here : slice_get entries c.in-Some.at ≡ Some e =
-    slice_get-get_or entries c.in-Some.at e (omega (arith, less, length-reverse entries)) ∙ ap Some (sym (c.in-Some-get.ensures.lookup.3.1 e)) in
+    let here : slice_get entries c.in-Some.at ≡ Some e = sym c.get.ensures ∙ c.in-Some-get.is in
     c.kind_in.ensures ∙ ap (option_map (λ (b : Begun). b.kind)) (told.there c.in-Some.at e c.in-Some.is (ap (λ xs. slice_get xs c.in-Some.at) (reverse-reverse entries) ∙ here))
 
 pub returns-in-None : goal.returns-in-None
@@ -27,4 +25,4 @@ returns-in-None c = λ setting is legal.
     let entries = c.args.entries.now in
     let told = c.start.ensures setting (reverse entries) is legal in
     let less = told.within c.in-Some.at c.in-Some.is in
-    absurd (omega (arith, less, length-reverse entries, c.in-None.ensures.lookup.3))
+    absurd (something_within entries c.in-Some.at (omega (arith, less, length-reverse entries)) (sym c.get.ensures ∙ c.in-None.is))

@@ -1,13 +1,12 @@
 use Rattle.std.proofs.Common.{◌≡◌, ℕ, ◌+◌, ◌-◌, List, ◌++◌, reverse, sym, ap, ◌∙◌, subst, arith}
 use Rattle.std.specs.Prelude.{Some, slice_get, slice_index, option_to_list}
 use Rattle.std.proofs.lemmas.List.{reverse-reverse, length-reverse}
-use Rattle.std.proofs.lemmas.Option.{slice_get-get_or}
 use Rattle.qc_event.specs.History.{Name}
 use Rattle.qc_indexes.proofs.AbortsBelow.{IsMidway, one_further, all_found}
 use Rattle.qc_indexes.proofs.aborts.Aborts.below.Goals as goal
 
-pub bounds-entries-at : goal.bounds-entries-at
-bounds-entries-at c =
+pub at-requires : goal.at-requires
+at-requires c =
     let next = c.loop-next.next in
     let m = c.loop-next.invariant in
     let more : next ≡ next - 1 + 1 = omega (arith, c.loop-next-test.true) in
@@ -29,12 +28,12 @@ loop-next-preserved c =
     let m = c.loop-next.invariant in
     let entries = c.args.entries.now in
     let past = reverse entries in
-    let e = c.index-entries-at.result in
+    let e = c.at.result in
     let more : next ≡ next - 1 + 1 = omega (arith, c.loop-next-test.true) in
     let on = one_further past _ c.args.self.now.before.items c.requires.kept.1 c.args.top.now next (next - 1) c.loop-next.found.items c.requires.top m more in
     let stands = c.slot-next.ensures ∙ ap (λ xs. slice_index xs (next - 1)) c.deref.ensures.value in
     let here : slice_get (reverse past) (next - 1) ≡ Some e =
-    ap (λ es. slice_get es (next - 1)) (reverse-reverse entries) ∙ slice_get-get_or entries (next - 1) e (omega (arith, on.inside, length-reverse entries)) ∙ ap Some (sym c.index-entries-at.is) in
+    ap (λ es. slice_get es (next - 1)) (reverse-reverse entries) ∙ c.at.ensures in
     let added = c.in_ok-append.ensures ∙ ap (λ o. c.loop-next.found.items ++ option_to_list o) (c.aborted_in.ensures c.requires.kept.0 past c.requires.kept.2 c.requires.kept.3) in
     subst (λ (x : ℕ × List Name). IsMidway past c.args.top.now x.0 x.1) (λ i. (sym stands i, sym added i)) (on.goes_on e here)
 

@@ -6,20 +6,20 @@ use Rattle.qc_indexes.specs.Grants.{Differs}
 use Rattle.qc_indexes.proofs.GrantPlaces.{reads, all_listed, same_further, take_whole}
 use Rattle.qc_indexes.proofs.grants.Grants.differ.Goals as goal
 
-pub bounds-entries-place : goal.bounds-entries-place
-bounds-entries-place c = (reads c.args.entries.now _ c.requires.kept c.args.copy _ c.places-place-items.ensures c.loop-index.index c.loop-index-test.true).within
+pub at-requires : goal.at-requires
+at-requires c = (reads c.args.entries.now _ c.requires.kept c.args.copy _ c.places-place-items.ensures c.loop-index.index c.loop-index-test.true).within
 
 pub returns-in-Some : goal.returns-in-Some
 returns-in-Some c =
     let on = reads c.args.entries.now _ c.requires.kept c.args.copy _ c.places-place-items.ensures c.loop-index.index c.loop-index-test.true in
-    let grant = on.grant c.index-entries-place.result c.index-entries-place.is in
+    let grant = on.grant c.at.result c.at.ensures in
     let told = c.other_at.ensures.other grant.0 c.in-Some.found (c.grant_of-grant.ensures ∙ grant.1) c.in-Some.is in
     subst (λ (d : ℕ × Grant). Differs c.args.given.now (grants (reverse c.args.entries.now) c.args.copy) (Some d)) (sym told.0) (c.loop-index.invariant, grant.2, told.1)
 
 pub loop-index-preserved : goal.loop-index-preserved
 loop-index-preserved c =
     let on = reads c.args.entries.now _ c.requires.kept c.args.copy _ c.places-place-items.ensures c.loop-index.index c.loop-index-test.true in
-    let grant = on.grant c.index-entries-place.result c.index-entries-place.is in
+    let grant = on.grant c.at.result c.at.ensures in
     same_further c.args.given.now (grants (reverse c.args.entries.now) c.args.copy) c.loop-index.index grant.0 c.loop-index.invariant
     (c.other_at.ensures.same grant.0 (c.grant_of-grant.ensures ∙ grant.1) c.in_default.is) grant.2
 

@@ -4,15 +4,15 @@ use Rattle.qc_event.specs.History.{grants}
 use Rattle.qc_indexes.proofs.GrantPlaces.{reads, all_listed, take_one, take_whole}
 use Rattle.qc_indexes.proofs.grants.Grants.of_copy.Goals as goal
 
-pub bounds-entries-place : goal.bounds-entries-place
-bounds-entries-place c = (reads c.args.entries.now _ c.requires.kept c.args.copy _ c.places-place-items.ensures c.loop-place.place-index c.loop-place-test.true).within
+pub at-requires : goal.at-requires
+at-requires c = (reads c.args.entries.now _ c.requires.kept c.args.copy _ c.places-place-items.ensures c.loop-place.place-index c.loop-place-test.true).within
 
 pub loop-place-preserved : goal.loop-place-preserved
 loop-place-preserved c =
     let j = c.loop-place.place-index in
     let theirs = grants (reverse c.args.entries.now) c.args.copy in
     let on = reads c.args.entries.now _ c.requires.kept c.args.copy _ c.places-place-items.ensures j c.loop-place-test.true in
-    let grant = on.grant c.index-entries-place.result c.index-entries-place.is in
+    let grant = on.grant c.at.result c.at.ensures in
     c.in_ok-append.ensures ∙ ap (λ gs. gs ++ option_to_list c.grant_of.result) c.loop-place.invariant
     ∙ ap (λ o. take j theirs ++ option_to_list o) (c.grant_of.ensures ∙ grant.1)
     ∙ sym (take_one theirs j grant.0 grant.2)

@@ -1,22 +1,14 @@
-use Rattle.std.proofs.Common.{◌≡◌, reverse, sym, ap, ◌∙◌, subst}
+use Rattle.std.proofs.Common.{◌≡◌, sym, subst}
 use Rattle.std.specs.Prelude.{IfOk}
 use Rattle.qc_event.specs.History.{Past}
 use Rattle.qc_event.specs.Legal.{Legal}
 use Rattle.qc_event.specs.Listed.{aborted_below}
-use Rattle.qc_desk.specs.Index.{IsOf}
-use Rattle.qc_indexes.specs.Indexes.{AreOf}
 use Rattle.qc_pass.proofs.history.History.aborted_below.Goals as goal
 
 pub aborted_below-requires-clause-kept : goal.aborted_below-requires-clause-kept
 aborted_below-requires-clause-kept c =
-    let same = ap reverse (sym c.as_slice.ensures.value) in (
-      c.requires.legal.0,
-      subst (AreOf c.self.inside.beside) same c.self.invariant.2,
-      subst (IsOf c.self.inside.index) same c.self.invariant.1,
-      subst (Legal c.requires.legal.0) (sym c.self.view_is ∙ same) c.requires.legal.1,
-    )
+    (c.requires.legal.0, c.self.invariant.2, c.self.invariant.1, subst (Legal c.requires.legal.0) (sym c.self.view_is) c.requires.legal.1)
 
 pub returns : goal.returns
 returns c =
-    let same = ap reverse (sym c.as_slice.ensures.value) in
-    subst (λ (p : Past). IfOk c.aborted_below.result (λ found. found.items ≡ aborted_below p c.args.top.now)) (sym same ∙ c.self.view_is) c.aborted_below.ensures
+    subst (λ (p : Past). IfOk c.aborted_below.result (λ found. found.items ≡ aborted_below p c.args.top.now)) c.self.view_is c.aborted_below.ensures

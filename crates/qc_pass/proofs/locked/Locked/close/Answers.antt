@@ -22,11 +22,11 @@ load-requires g c =
 pub returns-clause-settled : goal.returns-clause-settled
 returns-clause-settled g c =
     let m = ap (λ m. m.0) c.lend.ensures.seat in
-    let all = ap (λ m. m.0.all) c.self.invariant.1 ∙ sym c.into_entries.ensures.entries in
+    let all = ap (λ m. m.0.all) c.self.invariant.1 ∙ sym c.into_trail.ensures.entries in
     let s = c.load.ensures.2.1 in (
       subst (λ (x : View × List Entry). IsOlder x.0.seen x.1) (λ i. (c.pass.view_is i, all i)) c.lend.ensures.seen,
       subst (λ (x : View × List Entry). IsSettled x.1 x.0) (λ i. (c.pass.view_is i, all i)) (subst (λ (x : View). IsSettled x.all x) m s),
     )
 
 pub returns-clause-legal : goal.returns-clause-legal
-returns-clause-legal g c = subst (Legal (setting_of g.N.Store.table g.N.Store.base)) (sym c.into_entries.ensures.entries) (legal_again (setting_of g.N.Store.table g.N.Store.base) c.self.inside.history c.self.invariant.2)
+returns-clause-legal g c = subst (Legal (setting_of g.N.Store.table g.N.Store.base)) (sym c.into_trail.ensures.entries) (legal_again (setting_of g.N.Store.table g.N.Store.base) c.self.inside.history c.self.invariant.2)

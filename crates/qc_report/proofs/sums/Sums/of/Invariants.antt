@@ -4,9 +4,9 @@ use Rattle.qc_report.specs.Counts.{counts}
 use Rattle.qc_report.specs.Report as spec
 use Rattle.qc_report.proofs.sums.Sums.of.Given as goal
 
-abbrev pub invariant-loop-entry : goal.invariant-loop-entry
-invariant-loop-entry l = record {
-  ends : l.sums.ends ≡ spec.event_lines l.table l.history (take l.entry-index l.entry-items);
-  doubts : l.sums.doubts ≡ spec.doubt_lines l.history (take l.entry-index l.entry-items);
-  tally : l.sums.tally ≡ counts l.history (take l.entry-index l.entry-items);
+abbrev pub invariant-loop-at : goal.invariant-loop-at
+invariant-loop-at l = record {
+  ends : l.sums.ends ≡ spec.event_lines l.table l.history (take l.at l.trail);
+  doubts : l.sums.doubts ≡ spec.doubt_lines l.history (take l.at l.trail);
+  tally : l.sums.tally ≡ counts l.history (take l.at l.trail);
 }

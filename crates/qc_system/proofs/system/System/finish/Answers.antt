@@ -83,7 +83,7 @@ leave_at-requires-16 g c =
 pub returns-clause-disks : goal.returns-clause-disks
 returns-clause-disks g c =
     let found : Findings = record { base = g.N.Store.base; told = g.N.Mounting.told; before = g.N.Mounting.before; first = g.N.Mounting.first; limit = g.N.Mounting.limit } in
-    let log = reverse c.close-base.result.1.items in
+    let log = reverse c.close-base.result.1 in
     all_left (setting_of g.N.Store.table g.N.Store.base) found g.D.Disk.view c.leave_at-16.new.disks.items c.leave_at-16.new.first log
     c.close-base.ensures.settled.0 c.close-base.ensures.legal c.close-base.ensures.settled.1 (subst (λ k. k ≤ 16) c.args.self.whole c.args.self.few) c.leave_at-16.ensures.left
 
@@ -106,7 +106,7 @@ returns-clause-seen g c =
     let s14 = older_trans c.args.first.seen c.leave_at-13.new.first.seen c.leave_at-14.new.first.seen s13 c.leave_at-14.ensures.seen in
     let s15 = older_trans c.args.first.seen c.leave_at-14.new.first.seen c.leave_at-15.new.first.seen s14 c.leave_at-15.ensures.seen in
     let s16 = older_trans c.args.first.seen c.leave_at-15.new.first.seen c.leave_at-16.new.first.seen s15 c.leave_at-16.ensures.seen in
-    older_trans c.args.first.seen c.leave_at-16.new.first.seen (reverse c.close-base.result.1.items) s16 c.close-base.ensures.settled.0
+    older_trans c.args.first.seen c.leave_at-16.new.first.seen (reverse c.close-base.result.1) s16 c.close-base.ensures.settled.0
 
 pub returns-clause-settled : goal.returns-clause-settled
 returns-clause-settled g c =
@@ -128,4 +128,4 @@ returns-clause-settled g c =
     let l14 = low_by_both c.args.first c.leave_at-13.new.first c.leave_at-14.new.first l13 c.leave_at-14.ensures.low in
     let l15 = low_by_both c.args.first c.leave_at-14.new.first c.leave_at-15.new.first l14 c.leave_at-15.ensures.low in
     let l16 = low_by_both c.args.first c.leave_at-15.new.first c.leave_at-16.new.first l15 c.leave_at-16.ensures.low in
-    settled_before c.args.first c.leave_at-16.new.first (reverse c.close-base.result.1.items) l16 c.close-base.ensures.settled.1
+    settled_before c.args.first c.leave_at-16.new.first (reverse c.close-base.result.1) l16 c.close-base.ensures.settled.1
