@@ -25,7 +25,7 @@ use Rattle.qc_event.proofs.OneEntry.{no_child_passes}
 use Rattle.qc_event.proofs.Options.{match_some, still}
 use Rattle.qc_event.proofs.OwnRequests.{IsOwn, asks_own}
 use Rattle.qc_gather.specs.Carrying.{MayCarry, next_ask, entry}
-use Rattle.qc_copy.proofs.Begun.{manager_name}
+use Rattle.qc_event.proofs.Starting.{manager_name}
 use Rattle.qc_pass.specs.Entries.{AreOthers}
 use Rattle.qc_pass.specs.Own.{IsMine, MayAskOwn}
 use Rattle.qc_pass.proofs.OwnAsking.{at_stage_same}

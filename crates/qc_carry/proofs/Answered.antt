@@ -5,7 +5,7 @@ use Rattle.std.specs.List.{AllByRecursion, list_all}
 use Rattle.std.specs.Option.{option_map_or}
 use Rattle.std.proofs.lemmas.Bool.{and_from, and_parts, or_left, or_right}
 use Rattle.std.proofs.lemmas.List.Elements.{Contains-append_right}
-use Rattle.qc_copy.specs.State.{grant_with}
+use Rattle.qc_event.specs.Grants.{grant_with}
 use Rattle.qc_event.specs.declared.event.Answered.{Answered}
 use Rattle.qc_event.specs.declared.event.Answered.TheVariants as answered
 use Rattle.qc_event.specs.declared.event.Ask.{Ask}

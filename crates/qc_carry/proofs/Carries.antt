@@ -32,7 +32,7 @@ use Rattle.qc_event.proofs.OneEntry.{no_child_passes, some_or_none, stays_some, 
 use Rattle.qc_event.proofs.Options.{or_new}
 use Rattle.qc_event.proofs.OwnRequests.{IsOwn, asks_own}
 use Rattle.qc_gather.specs.Carrying.{MayCarry, next_ask, entry, began, access_entries, made_by, name_of, HasGrown, carriage, WasCarried, IsTold}
-use Rattle.qc_copy.proofs.Begun.{manager_name}
+use Rattle.qc_event.proofs.Starting.{manager_name}
 use Rattle.qc_pass.specs.Own.{IsMine, IsOwnAccess}
 use Rattle.qc_pass.proofs.Lists.{entries_append}
 use Rattle.qc_carry.specs.Access.{Waits, orphaning}

@@ -16,7 +16,7 @@ use Rattle.qc_event.specs.Standing.{IsManager}
 use Rattle.qc_event.proofs.LastNumber.{ends_in, front_last, is_child-last, EndsIn}
 use Rattle.qc_event.proofs.OneEntry.{started_stays}
 use Rattle.qc_event.proofs.Options.{some_there, still_mapped}
-use Rattle.qc_copy.proofs.Begun.{access_managed}
+use Rattle.qc_event.proofs.Starting.{access_managed}
 use Rattle.qc_net.specs.Messages.{ask_of, ask_under, asked_under}
 use Rattle.qc_pass.specs.Own.{IsMine}
 use Rattle.qc_pass.proofs.Begun.{not_root}

@@ -31,3 +31,11 @@ pub mod RulesOnce
 pub mod LegalAgain
 pub mod Worked
 pub mod WorkedAborts
+pub mod Starting
+pub mod PutConfigs
+pub mod SizedConfigs
+pub mod AsksFit
+pub mod Asked
+pub mod MayGrant
+pub mod LegalConfigs
+pub mod AccessNames

@@ -14,6 +14,10 @@ use Rattle.qc_event.specs.Dead.{dead}
 use Rattle.qc_event.specs.Seats.{copy_seat}
 use Rattle.qc_event.specs.Seen.{seen, holder}
 
+-- the grant of a request, with a tuple
+abbrev pub grant_with : Ask → Tuple → Grant
+grant_with ask tuple = record { access = ask.access; rec = ask.rec; op = ask.op; tuple = tuple }
+
 -- the tuple has the operation's values in the fields that the operation sets
 abbrev pub Sets : Op → Tuple → Type 0
 Sets Get tuple = Unit {0}

@@ -6,3 +6,5 @@ pub mod Tables
 pub mod Lists
 pub mod Placing
 pub mod Shortness
+pub mod Replaying
+pub mod Verdicts

@@ -17,11 +17,10 @@ use Rattle.qc_config.specs.declared.config.BadConfig.{BadConfig}
 use Rattle.qc_config.specs.declared.tuple.Op.{Op}
 use Rattle.qc_config.specs.declared.tuple.Op.TheVariants.{Get, PutData, PutConfig}
 use Rattle.qc_config.specs.declared.tuple.Tuple.{Tuple}
-use Rattle.qc_copy.proofs.PutConfigs.{GrantHas, OpHas, after_has}
+use Rattle.qc_event.proofs.PutConfigs.{GrantHas, OpHas, after_has}
 use Rattle.qc_event.specs.declared.event.Grant.{Grant}
 use Rattle.qc_event.specs.declared.table.Row.{Row}
-use Rattle.qc_event.specs.Base.{IsConfigFor, IsRowFor, no_tuple, start_tuple}
-use Rattle.qc_event.specs.Base.{IsProper as IsProperSetting}
+use Rattle.qc_event.specs.Base.{IsConfigFor, IsRowFor, no_tuple, start_tuple, IsProper as IsProperSetting}
 use Rattle.qc_event.specs.Grants.{Sets}
 use Rattle.qc_event.specs.Seen.{changed_by}
 use Rattle.qc_event.specs.Tables.{base_of, first_configs, first_tuple, setting_of}

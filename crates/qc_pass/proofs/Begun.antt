@@ -9,7 +9,7 @@ use Rattle.qc_event.specs.Legal.{Legal}
 use Rattle.qc_event.specs.Standing.{IsUser, Started}
 use Rattle.qc_event.specs.Starts.{Stands, Starts}
 use Rattle.qc_event.proofs.Options.{some_there}
-use Rattle.qc_copy.proofs.Begun.{was_begun, user_short, manager_name}
+use Rattle.qc_event.proofs.Starting.{was_begun, user_short, manager_name}
 
 -- the root is never started
 pub not_root : (setting : Setting) (past : Past) (n : Name) (b : Begun) → Legal setting past → start past n ≡ Some b → 0 < length n

@@ -19,12 +19,12 @@ use Rattle.qc_event.specs.Seen.{seen, holder, changed_by, is_live_at}
 use Rattle.qc_moss.specs.Follows.{Follows}
 use Rattle.qc_moss.specs.Locks.{Table}
 use Rattle.qc_moss.proofs.Tables.{grows}
-use Rattle.qc_copy.specs.declared.state.Verdict.{Verdict}
-use Rattle.qc_copy.specs.declared.state.Verdict.TheVariants as verdict
-use Rattle.qc_copy.specs.State as copies
-use Rattle.qc_copy.proofs.Allowing.{may_grant, may_refuse}
-use Rattle.qc_copy.proofs.Asked.{asked_fits}
-use Rattle.qc_copy.proofs.Fits.{AskFits, start_sized}
+use Rattle.qc_moss.specs.declared.consulting.Verdict.{Verdict}
+use Rattle.qc_moss.specs.declared.consulting.Verdict.TheVariants as verdict
+use Rattle.qc_moss.specs.Consulting as copies
+use Rattle.qc_event.proofs.MayGrant.{may_grant, may_refuse}
+use Rattle.qc_event.proofs.Asked.{asked_fits}
+use Rattle.qc_event.proofs.AsksFit.{AskFits, start_sized}
 use Rattle.qc_pass.specs.declared.view.View.{View}
 use Rattle.qc_pass.specs.Calling.{IsLook, IsEntry, Looked, EnteredAs}
 use Rattle.qc_pass.specs.Consulting.{HasAsked, IsFree, IsRefused, IsJudged, granted_before, refusal_of}
@@ -134,10 +134,10 @@ module _ (setting : Setting) (past : Past) (ask : Ask) where
       by_both d h t = option_map_or verdict.Dead d (option_map_or verdict.Blocked h (verdict.Free t))
 
       -- what the locks tell stands
-      pub verdict_stands : (said : Verdict) → said ≡ copies.verdict past (copies.state_of ask.copy table (grants past ask.copy)) ask → Stands said
+      pub verdict_stands : (said : Verdict) → said ≡ copies.verdict past table (grants past ask.copy) ask → Stands said
       verdict_stands said is = by_cases (dead past ask.access) (holder past ask.copy ask.rec ask.op ask.access) refl refl (is ∙ ap (λ t. by_both (dead past ask.access) (holder past ask.copy ask.rec ask.op ask.access) t) same)
         where
-          same : copies.tuple_after past (copies.state_of ask.copy table (grants past ask.copy)) ask ≡ tuple
+          same : copies.tuple_after past table (grants past ask.copy) ask ≡ tuple
           same = ap (λ (ts : List Tuple). after (changed_by (slice_index_or ts ask.rec no_tuple) (filter (is_live_at past ask.rec) (grants past ask.copy))) ask.op) start
 
           by_cases : (d h : Option Name) → dead past ask.access ≡ d → holder past ask.copy ask.rec ask.op ask.access ≡ h → said ≡ by_both (dead past ask.access) (holder past ask.copy ask.rec ask.op ask.access) tuple → Stands said

@@ -26,7 +26,7 @@ use Rattle.qc_event.proofs.Options.{some_there}
 use Rattle.qc_event.proofs.RootAndTops.{ready_started}
 use Rattle.qc_event.proofs.StillTold.{some_stays}
 use Rattle.qc_pass.specs.Entries.{IsOlder, entries_of, entry}
-use Rattle.qc_copy.proofs.Begun.{was_begun}
+use Rattle.qc_event.proofs.Starting.{was_begun}
 
 -- READY TOPS
 

@@ -33,7 +33,7 @@ use Rattle.qc_event.proofs.LegalOrderly.{legal_orderly}
 use Rattle.qc_event.proofs.OneEntry.{first_is, started_stays}
 use Rattle.qc_event.proofs.Options.{some_there, still}
 use Rattle.qc_event.proofs.Orderly.{Belongs}
-use Rattle.qc_copy.proofs.Begun.{manager_name}
+use Rattle.qc_event.proofs.Starting.{manager_name}
 use Rattle.qc_pass.specs.Own.{IsMine}
 
 -- WHO ENDS A MANAGER

@@ -29,7 +29,7 @@ use Rattle.qc_event.proofs.Later.{started_still}
 use Rattle.qc_event.proofs.OneEntry.{none_before}
 use Rattle.qc_event.proofs.Options.{match_wider, some_there}
 use Rattle.qc_event.proofs.StillTold.{match_stays, some_stays, is_stays}
-use Rattle.qc_copy.proofs.Begun.{manager_name, user_short}
+use Rattle.qc_event.proofs.Starting.{manager_name, user_short}
 use Rattle.qc_pass.proofs.Begun.{HasRoom, not_root}
 use Rattle.qc_pass.proofs.Entering.{not_ended, alive, closed}
 use Rattle.qc_pass.proofs.OwnAsking as asking

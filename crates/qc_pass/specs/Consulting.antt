@@ -9,12 +9,11 @@ use Rattle.qc_event.specs.declared.event.Event.{Event}
 use Rattle.qc_event.specs.declared.event.Event.TheVariants as event
 use Rattle.qc_event.specs.declared.event.Refusal.{Refusal}
 use Rattle.qc_event.specs.declared.event.Refusal.TheVariants as refusal
-use Rattle.qc_event.specs.Grants.{IsServed, IsRefusal, MayGrant}
+use Rattle.qc_event.specs.Grants.{IsServed, IsRefusal, MayGrant, grant_with}
 use Rattle.qc_event.specs.History.{Past, Asked, asked, granted}
 use Rattle.qc_event.specs.Seats.{copy_seat}
-use Rattle.qc_copy.specs.declared.state.Verdict.{Verdict}
-use Rattle.qc_copy.specs.declared.state.Verdict.TheVariants as verdict
-use Rattle.qc_copy.specs.State.{grant_with}
+use Rattle.qc_moss.specs.declared.consulting.Verdict.{Verdict}
+use Rattle.qc_moss.specs.declared.consulting.Verdict.TheVariants as verdict
 use Rattle.qc_indexes.specs.Grants.{tuple_at}
 use Rattle.qc_pass.specs.declared.consult.Consulted.{Consulted}
 use Rattle.qc_pass.specs.declared.consult.Consulted.TheVariants as consulted

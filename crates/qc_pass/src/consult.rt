@@ -1,8 +1,9 @@
 //! The call with which a copy asks the desk before it grants.
 ghost use Rattle.std.specs.Prelude.{◌≡◌, [], true, Ok, None, IfOk, IfErr, OnErr, slice_index_or};
 ghost use Rattle.qc_config.specs.declared.tuple.Tuple.{Tuple};
-ghost use Rattle.qc_copy.specs.declared.state.Verdict.TheVariants.{Free};
-ghost use Rattle.qc_copy.specs.State.{grant_of, grant_with};
+ghost use Rattle.qc_moss.specs.declared.consulting.Verdict.TheVariants.{Free};
+ghost use Rattle.qc_event.specs.Grants.{grant_with};
+ghost use Rattle.qc_moss.specs.Consulting.{grant_of};
 ghost use Rattle.qc_event.specs.Base.{IsProper};
 ghost use Rattle.qc_event.specs.History.{grants};
 ghost use Rattle.qc_event.specs.Seats.{copy_seat};
@@ -20,9 +21,8 @@ use crate::pass::Pass;
 use crate::refusal::DeskNo;
 use crate::store::{Room, Store};
 use qc_config::Tuple;
-use qc_copy::{Verdict, consult_locks};
 use qc_event::{Ask, Event, Name, Outcome, Refusal};
-use qc_moss::{Locks, Source};
+use qc_moss::{Locks, Source, Verdict, consult_locks};
 use std::sync::Wait;
 
 /// What the desk tells a copy of a request: what it granted it before, or whether it may be granted.

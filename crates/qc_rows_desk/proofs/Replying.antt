@@ -3,7 +3,7 @@ use Rattle.std.proofs.Common.{◌≡◌, ℕ, Bool, ◌∷◌, refl, sym, ap, �
 use Rattle.std.specs.Prelude.{Option, None, Some, MatchOption, if◌then◌else◌}
 use Rattle.std.specs.Option.{option_or}
 use Rattle.qc_config.specs.declared.tuple.Tuple.{Tuple}
-use Rattle.qc_copy.specs.State.{grant_with}
+use Rattle.qc_event.specs.Grants.{grant_with}
 use Rattle.qc_event.specs.declared.event.Ask.{Ask}
 use Rattle.qc_event.specs.declared.event.Event.TheVariants as event
 use Rattle.qc_event.specs.declared.event.Grant.{Grant}

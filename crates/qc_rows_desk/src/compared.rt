@@ -8,9 +8,8 @@ ghost use Rattle.qc_rows_desk.specs.OneCopy as words;
 
 use crate::scene::{grant_of, one_request, start_scene};
 use qc_config::Config;
-use qc_copy::Verdict;
 use qc_event::Grant;
-use qc_moss::Locks;
+use qc_moss::{Locks, Verdict};
 use qc_pass::{Blank, Consulted, Desk, DeskNo, Pass, Store};
 use std::alloc::Global;
 use std::marker::Brand;

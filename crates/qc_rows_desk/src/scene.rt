@@ -1,6 +1,6 @@
 //! A client, a copy and the ledger over one desk.
 ghost use Rattle.std.specs.Prelude.{◌≡◌, ◌+◌, ◌<◌, [], ◌∷◌, true, IfOk, IfSome, OnOk, reverse, slice_index_or};
-ghost use Rattle.qc_copy.specs.State.{grant_with};
+ghost use Rattle.qc_event.specs.Grants.{grant_with};
 ghost use Rattle.qc_event.specs.History.{grants};
 ghost use Rattle.qc_event.specs.Legal.{Legal};
 ghost use Rattle.qc_event.specs.Seats.{ledger_seat};
@@ -13,9 +13,8 @@ ghost use Rattle.qc_pass.specs.Rules.{IsClient};
 ghost use Rattle.qc_rows_desk.specs.OneCopy as words;
 
 use qc_config::{Config, Op, Tuple};
-use qc_copy::Verdict;
 use qc_event::{Ask, Base, Cause, Grant, Kind, Name};
-use qc_moss::Locks;
+use qc_moss::{Locks, Verdict};
 use qc_pass::{Blank, Consulted, Desk, DeskNo, Pass, Store};
 use qc_trail::Trail;
 use std::alloc::{AllocError, Global};

@@ -5,7 +5,7 @@ use Rattle.std.specs.Option.{option_or, option_map}
 use Rattle.qc_names.specs.Name as name
 use Rattle.qc_config.specs.declared.tuple.Tuple.{Tuple}
 use Rattle.qc_config.specs.declared.tuple.Op.TheVariants.{PutData}
-use Rattle.qc_copy.specs.State.{grant_with}
+use Rattle.qc_event.specs.Grants.{grant_with}
 use Rattle.qc_event.specs.declared.event.Answer.TheVariants.{Reply}
 use Rattle.qc_event.specs.declared.event.Ask.{Ask}
 use Rattle.qc_event.specs.declared.event.Event.TheVariants as event

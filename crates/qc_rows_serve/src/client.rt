@@ -1,6 +1,6 @@
 //! A client, which starts tops that set a record, and what its managers ask.
 ghost use Rattle.std.specs.Prelude.{ℕ, ◌≡◌, ◌<◌, Some, IfOk, IfSome, OnOk};
-ghost use Rattle.qc_copy.specs.State.{grant_with};
+ghost use Rattle.qc_event.specs.Grants.{grant_with};
 ghost use Rattle.qc_event.specs.History.{Past};
 ghost use Rattle.qc_pass.specs.Entries.{IsOlder};
 ghost use Rattle.qc_pass.specs.Rules.{IsClient};

@@ -1,7 +1,7 @@
 //! A client's request, served by the site.
 ghost use Rattle.std.specs.Prelude.{◌≡◌};
 ghost use Rattle.qc_config.specs.declared.tuple.Tuple.{Tuple};
-ghost use Rattle.qc_copy.specs.State.{grant_with};
+ghost use Rattle.qc_event.specs.Grants.{grant_with};
 ghost use Rattle.qc_event.specs.declared.event.Answered.TheVariants.{Granted};
 ghost use Rattle.qc_event.specs.History.{Past};
 ghost use Rattle.qc_pass.specs.Entries.{IsOlder};

@@ -13,7 +13,7 @@ use Rattle.qc_event.specs.Starts.{Stands}
 use Rattle.qc_event.proofs.Lawful.{lawful, started_wider, started_some}
 use Rattle.qc_event.proofs.LegalOrderly.{legal_orderly}
 use Rattle.qc_event.proofs.OneEntry.{some_or_none}
-use Rattle.qc_copy.proofs.Begun.{user_short}
+use Rattle.qc_event.proofs.Starting.{user_short}
 use Rattle.qc_script.specs.Plan.{KindFits}
 use Rattle.qc_session.specs.Acting.{StandsBelow}
 

@@ -4,16 +4,15 @@ use Rattle.std.specs.Prelude.{Option, None, Some, Result, Ok, Err, IfOk, OnErr, 
 use Rattle.std.specs.List.{All}
 use Rattle.std.proofs.lemmas.Bool.{eq-eqb}
 use Rattle.qc_config.specs.declared.tuple.Tuple.{Tuple}
-use Rattle.qc_copy.specs.declared.state.Verdict.{Verdict}
-use Rattle.qc_copy.specs.State.{grant_with}
-use Rattle.qc_copy.proofs.Asked.{asked_fits}
-use Rattle.qc_copy.proofs.PutConfigs.{each_granted}
+use Rattle.qc_moss.specs.declared.consulting.Verdict.{Verdict}
+use Rattle.qc_event.specs.Grants.{grant_with, MayGrant}
+use Rattle.qc_event.proofs.Asked.{asked_fits}
+use Rattle.qc_event.proofs.PutConfigs.{each_granted}
 use Rattle.qc_event.specs.declared.event.Ask.{Ask}
 use Rattle.qc_event.specs.declared.event.Event.{Event}
 use Rattle.qc_event.specs.declared.event.Event.TheVariants as event
 use Rattle.qc_event.specs.declared.event.Grant.{Grant}
 use Rattle.qc_event.specs.Base.{Setting, IsProper}
-use Rattle.qc_event.specs.Grants.{MayGrant}
 use Rattle.qc_event.specs.History.{Past, Name, Asked, Given, same, asked, granted, grant_in, grants}
 use Rattle.qc_event.specs.Legal.{Legal, MayHappen}
 use Rattle.qc_event.proofs.Absent.{same_is}

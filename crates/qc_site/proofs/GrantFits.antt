@@ -13,14 +13,13 @@ use Rattle.qc_config.specs.declared.tuple.Tuple.{Tuple}
 use Rattle.qc_config.specs.Tuple.{after}
 use Rattle.qc_event.specs.declared.event.Ask.{Ask}
 use Rattle.qc_event.specs.Base.{Setting, IsProper, IsConfigFor}
-use Rattle.qc_event.specs.Grants.{Sets}
+use Rattle.qc_event.specs.Grants.{Sets, grant_with}
 use Rattle.qc_event.specs.History.{Past, Name, asked}
 use Rattle.qc_event.specs.Legal.{Legal}
 use Rattle.qc_event.specs.Seen.{seen}
-use Rattle.qc_copy.specs.State.{grant_with}
-use Rattle.qc_copy.proofs.AccessNames.{IsAccessName, asked_name}
-use Rattle.qc_copy.proofs.Allowing.{sets_after}
-use Rattle.qc_copy.proofs.LegalConfigs.{left_config}
+use Rattle.qc_event.proofs.AccessNames.{IsAccessName, asked_name}
+use Rattle.qc_event.proofs.MayGrant.{sets_after}
+use Rattle.qc_event.proofs.LegalConfigs.{left_config}
 use Rattle.qc_pass.specs.Consulting.{HasAsked}
 use Rattle.qc_pass.proofs.Consulting.{stands}
 use Rattle.qc_codec.specs.Form.{byte, only}

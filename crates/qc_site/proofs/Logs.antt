@@ -20,7 +20,7 @@ use Rattle.qc_journal.specs.declared.fault.Fault.TheVariants as fault
 use Rattle.qc_journal.specs.Journal.{disk_of, in_hand, with_hand, AppendLeaves, IsDown, IsUp, Keeps, TakesInHand}
 use Rattle.qc_journal.specs.declared.journal.Journal.{Journal}
 use Rattle.qc_site.specs.Back.{grant_body, AreGrants, IsAnswer, IsFirstApart, IsFirstUnread, IsFound, IsLeft, IsPlain, IsWithHand, Says, Stand}
-use Rattle.qc_copy.specs.State.{grant_with}
+use Rattle.qc_event.specs.Grants.{grant_with}
 use Rattle.qc_event.specs.declared.event.Ask.{Ask}
 use Rattle.qc_event.specs.Base.{no_tuple}
 use Rattle.qc_journal.proofs.Moments.{grows_by_falls, started}

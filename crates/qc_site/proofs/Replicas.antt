@@ -3,8 +3,8 @@ use Rattle.std.proofs.Common.{◌≡◌, ◌<◌, ℕ, Bool, true, List, [], ◌
 use Rattle.std.specs.Prelude.{Option, None, Some, IfSome, Result, Ok, Err, OnOk, IfErr, cond, if◌then◌else◌, option_to_list, slice_index_or}
 use Rattle.std.specs.Option.{option_or}
 use Rattle.std.proofs.lemmas.Bool.{eq-eqb}
-use Rattle.qc_copy.specs.declared.state.Verdict.{Verdict}
-use Rattle.qc_copy.specs.declared.state.Verdict.TheVariants as verdict
+use Rattle.qc_moss.specs.declared.consulting.Verdict.{Verdict}
+use Rattle.qc_moss.specs.declared.consulting.Verdict.TheVariants as verdict
 use Rattle.qc_event.specs.declared.event.Ask.{Ask}
 use Rattle.qc_event.specs.declared.event.Event.{Event}
 use Rattle.qc_event.specs.declared.event.Event.TheVariants as event
@@ -14,7 +14,7 @@ use Rattle.qc_pass.specs.declared.consult.Consulted.{Consulted}
 use Rattle.qc_pass.specs.declared.consult.Consulted.TheVariants as consulted
 use Rattle.qc_pass.specs.declared.refusal.DeskNo.{DeskNo}
 use Rattle.qc_pass.specs.Consulting.{HasAsked, IsJudged, IsTold}
-use Rattle.qc_copy.specs.State.{grant_with}
+use Rattle.qc_event.specs.Grants.{grant_with, MayGrant}
 use Rattle.qc_site.proofs.Again.{none_granted}
 use Rattle.qc_event.proofs.Absent.{same_itself}
 use Rattle.qc_pass.specs.Refusing.{against_nothing}
@@ -24,7 +24,6 @@ use Rattle.qc_config.specs.declared.tuple.Tuple.{Tuple}
 use Rattle.qc_event.specs.declared.event.Entry.{Entry}
 use Rattle.qc_event.specs.declared.event.Grant.{Grant}
 use Rattle.qc_event.specs.Base.{Setting}
-use Rattle.qc_event.specs.Grants.{MayGrant}
 use Rattle.qc_event.specs.History.{Past, Name, grants, grant_at, grant_in}
 use Rattle.qc_event.specs.Legal.{Legal}
 use Rattle.qc_event.specs.Seats.{copy_seat}

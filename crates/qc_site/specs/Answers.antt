@@ -1,6 +1,6 @@
 -- What a copy's answer to a request rests on.
 use Rattle.std.specs.Prelude.{ℕ, IsTrue, Contains}
-use Rattle.qc_copy.specs.State.{grant_with}
+use Rattle.qc_event.specs.Grants.{grant_with}
 use Rattle.qc_event.specs.declared.event.Answered.{Answered}
 use Rattle.qc_event.specs.declared.event.Answered.TheVariants as answer
 use Rattle.qc_event.specs.declared.event.Ask.{Ask}

@@ -1,7 +1,7 @@
 -- What a copy makes of its pass at its desk.
 use Rattle.std.specs.Prelude.{ℕ, ◌≡◌, [], ◌∷◌, Option, None, Some}
-use Rattle.qc_copy.specs.declared.state.Verdict.TheVariants as verdict
-use Rattle.qc_copy.specs.State.{grant_with}
+use Rattle.qc_moss.specs.declared.consulting.Verdict.TheVariants as verdict
+use Rattle.qc_event.specs.Grants.{grant_with}
 use Rattle.qc_event.specs.declared.event.Ask.{Ask}
 use Rattle.qc_event.specs.declared.event.Entry.{Entry}
 use Rattle.qc_event.specs.declared.event.Event.TheVariants as event

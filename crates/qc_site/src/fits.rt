@@ -5,7 +5,7 @@ ghost use Rattle.qc_config.specs.Tuple.{after};
 ghost use Rattle.qc_event.specs.Base.{IsProper};
 ghost use Rattle.qc_event.specs.Seen.{seen};
 ghost use Rattle.qc_event.specs.Tables.{setting_of};
-ghost use Rattle.qc_copy.specs.State.{grant_with};
+ghost use Rattle.qc_event.specs.Grants.{grant_with};
 ghost use Rattle.qc_pass.specs.Consulting.{HasAsked};
 ghost use Rattle.qc_codec.specs.Bodies as body;
 ghost use Rattle.qc_codec.specs.Fields.{format_1};

@@ -2,7 +2,7 @@
 ghost use Rattle.std.specs.Prelude.{◌≡◌, ◌⊎◌, ◌∷◌, ℕ, List, true, IfErr, OnOk, OnErr, IsErrOf, None, Some, Ok, Err, length};
 ghost use Rattle.qc_config.specs.declared.tuple.Tuple.{Tuple};
 ghost use Rattle.qc_config.specs.Tuple.{after};
-ghost use Rattle.qc_copy.specs.State.{grant_with};
+ghost use Rattle.qc_event.specs.Grants.{grant_with};
 ghost use Rattle.qc_event.specs.declared.event.Answered.TheVariants.{Down, Full};
 ghost use Rattle.qc_event.specs.declared.log.Short.TheVariants as short;
 ghost use Rattle.qc_event.specs.Base.{IsProper};

@@ -1,8 +1,7 @@
 //! A copy at its desk: its pass, its locks, and the grant in hand.
 ghost use Rattle.std.specs.Prelude.{◌≡◌, ◌<◌, [], true, false, Option, None, Some, IfSome, slice_index_or, is_some};
 ghost use Rattle.qc_config.specs.declared.tuple.Tuple.{Tuple};
-ghost use Rattle.qc_copy.specs.State.{grant_with};
-ghost use Rattle.qc_event.specs.Grants.{MayGrant};
+ghost use Rattle.qc_event.specs.Grants.{grant_with, MayGrant};
 ghost use Rattle.qc_event.specs.History.{grants};
 ghost use Rattle.qc_event.specs.Legal.{Legal};
 ghost use Rattle.qc_event.specs.Seats.{copy_seat};

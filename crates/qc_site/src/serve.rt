@@ -1,7 +1,7 @@
 //! How a site serves a request.
 ghost use Rattle.std.specs.Prelude.{◌≡◌, ◌++◌, ◌∷◌, ℕ, List, true, IfOk, IfErr, OnOk, OnErr, IsErrOf, None, Some, Ok, Err, length, is_some};
 ghost use Rattle.qc_config.specs.declared.tuple.Tuple.{Tuple};
-ghost use Rattle.qc_copy.specs.State.{grant_with};
+ghost use Rattle.qc_event.specs.Grants.{grant_with};
 ghost use Rattle.qc_event.specs.declared.event.Answered.TheVariants.{Down, Full, Granted, Strange};
 ghost use Rattle.qc_event.specs.declared.log.Short.TheVariants as short;
 ghost use Rattle.qc_event.specs.Base.{IsProper};
@@ -22,9 +22,9 @@ ghost use Rattle.qc_site.specs.Since.{GrantsGrow};
 use crate::fault::{SiteNo, desk_no};
 use crate::site::Site;
 use qc_config::Tuple;
-use qc_copy::Verdict;
 use qc_disk::Disk;
 use qc_event::{Answered, Ask, Short, Why};
+use qc_moss::Verdict;
 use qc_pass::{Consulted, Desk, DeskNo, Pass, Store};
 use std::sync::Wait;
 

@@ -27,8 +27,8 @@ use Rattle.qc_event.proofs.FewerChildren.{fewer}
 use Rattle.qc_event.proofs.Lawful.{lawful}
 use Rattle.qc_event.proofs.LegalOrderly.{legal_orderly}
 use Rattle.qc_event.proofs.OneEntry.{at_most_one, if_is, start_step}
-use Rattle.qc_copy.proofs.AccessNames.{IsNumbered, started_numbered}
-use Rattle.qc_copy.proofs.Begun.{access_managed, manager_name, user_short}
+use Rattle.qc_event.proofs.AccessNames.{IsNumbered, started_numbered}
+use Rattle.qc_event.proofs.Starting.{access_managed, manager_name, user_short}
 use Rattle.qc_codec.specs.Bodies as body
 use Rattle.qc_codec.specs.Fields.{is_length, is_top, long, name as name_form, some_number, top_number, word}
 use Rattle.qc_codec.specs.declared.record.LedgerRecord.TheVariants.{Top}

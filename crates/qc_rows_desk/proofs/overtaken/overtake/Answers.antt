@@ -1,6 +1,6 @@
 use Rattle.std.proofs.Common.{◌≡◌, sym, ◌∙◌, subst, ap}
 use Rattle.std.specs.Prelude.{MatchOption, Some}
-use Rattle.qc_copy.specs.State.{grant_with}
+use Rattle.qc_event.specs.Grants.{grant_with}
 use Rattle.qc_event.specs.declared.event.Event.TheVariants as event
 use Rattle.qc_event.specs.Grants.{MayGrant}
 use Rattle.qc_event.specs.History.{Begun, grants, granted as granted_of}

@@ -1,7 +1,7 @@
 -- A request that was asked is to a copy that is there, and what was answered stands for ever.
 use Rattle.qc_event.specs.History.{asked}
 use Rattle.qc_event.specs.Tables.{setting_of}
-use Rattle.qc_copy.proofs.Asked.{asked_fits}
+use Rattle.qc_event.proofs.Asked.{asked_fits}
 use Rattle.qc_pass.proofs.Consulting.{asked_later, stands}
 use Rattle.qc_carry.proofs.Answered.{gave_later}
 use Rattle.qc_carry.proofs.way.WayPort.deliver.Goals as goal

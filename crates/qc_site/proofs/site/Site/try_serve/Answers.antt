@@ -3,7 +3,7 @@ use Rattle.std.specs.Prelude.{is_some}
 use Rattle.qc_ledger.specs.Runs.{HasOrMore, Leaves}
 use Rattle.qc_pass.proofs.Consulting.{asked_later}
 use Rattle.qc_pass.proofs.Seers.{older_trans}
-use Rattle.qc_copy.specs.State.{grant_with}
+use Rattle.qc_event.specs.Grants.{grant_with}
 use Rattle.qc_event.specs.Base.{no_tuple}
 use Rattle.qc_event.specs.History.{grants}
 use Rattle.qc_event.specs.Tables.{setting_of}

@@ -8,7 +8,7 @@ use Rattle.qc_event.specs.History.{Past}
 use Rattle.qc_moss.specs.Follows.{Follows}
 use Rattle.qc_moss.specs.Locks.{Table, unheld, granted_to}
 use Rattle.qc_moss.proofs.Tables.{starts, granted}
-use Rattle.qc_copy.specs.State.{all_granted}
+use Rattle.qc_moss.specs.Consulting.{all_granted}
 
 -- the record of a grant is one of so many
 abbrev IsThere : ℕ → Grant → Type 0

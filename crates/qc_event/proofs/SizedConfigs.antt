@@ -27,7 +27,7 @@ use Rattle.qc_event.specs.Legal.{Legal, MayHappen, MayEnd}
 use Rattle.qc_event.specs.Manager.{result_by, reply_of, reply, replies, newest}
 use Rattle.qc_event.specs.Seen.{seen}
 use Rattle.qc_event.proofs.OneEntry.{if_is, first_is, end_step}
-use Rattle.qc_copy.proofs.PutConfigs.{OpHas, after_has, seen_has}
+use Rattle.qc_event.proofs.PutConfigs.{OpHas, after_has, seen_has}
 use Rattle.qc_event.proofs.Sizes as sizes
 
 -- a tuple's configuration is for this many copies

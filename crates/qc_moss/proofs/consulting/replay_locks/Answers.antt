@@ -2,9 +2,9 @@ use Rattle.std.proofs.Common.{sym, ap, ◌∙◌, subst, arith}
 use Rattle.std.proofs.lemmas.List.{take_all}
 use Rattle.qc_moss.specs.Follows.{Follows}
 use Rattle.qc_moss.specs.Locks.{unheld}
-use Rattle.qc_copy.specs.State.{all_granted}
-use Rattle.qc_copy.proofs.Replaying.{replay_follows}
-use Rattle.qc_copy.proofs.state.replay_locks.Goals as goal
+use Rattle.qc_moss.specs.Consulting.{all_granted}
+use Rattle.qc_moss.proofs.Replaying.{replay_follows}
+use Rattle.qc_moss.proofs.consulting.replay_locks.Goals as goal
 
 pub returns-clause-follows : goal.returns-clause-follows
 returns-clause-follows c = λ past.

@@ -9,13 +9,12 @@ use Rattle.qc_event.specs.declared.event.Ask.{Ask}
 use Rattle.qc_event.specs.declared.event.Refusal.{Refusal}
 use Rattle.qc_event.specs.Base.{Setting, start_tuple}
 use Rattle.qc_event.specs.Dead.{dead}
-use Rattle.qc_event.specs.Grants.{Sets, IsServed, IsRefusal, MayGrant, MayRefuse}
+use Rattle.qc_event.specs.Grants.{Sets, IsServed, IsRefusal, MayGrant, MayRefuse, grant_with}
 use Rattle.qc_event.specs.History.{Past, Asked, asked, granted}
 use Rattle.qc_event.specs.Legal.{Legal}
 use Rattle.qc_event.specs.Seats.{copy_seat}
 use Rattle.qc_event.specs.Seen.{seen}
-use Rattle.qc_copy.specs.State.{grant_with}
-use Rattle.qc_copy.proofs.Sized.{IsSized, OpSized, after_sized, seen_sized}
+use Rattle.qc_event.proofs.SizedConfigs.{IsSized, OpSized, after_sized, seen_sized}
 
 pub sets_after : (op : Op) (t : Tuple) → Sets op (after t op)
 sets_after Get t = tt

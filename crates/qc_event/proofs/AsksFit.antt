@@ -16,7 +16,7 @@ use Rattle.qc_event.specs.Requests.{IsNextAsk}
 use Rattle.qc_event.specs.Standing.{IsManager}
 use Rattle.qc_event.proofs.Found.{found_holds, found_range, has_place}
 use Rattle.qc_event.proofs.KindFits.{KindFits, record_fits}
-use Rattle.qc_copy.proofs.Sized.{IsSized, OpSized, newest_sized}
+use Rattle.qc_event.proofs.SizedConfigs.{IsSized, OpSized, newest_sized}
 
 -- STAGES
 

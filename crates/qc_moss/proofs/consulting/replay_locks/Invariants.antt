@@ -1,7 +1,7 @@
 use Rattle.std.proofs.Common.{◌≡◌, take, false}
 use Rattle.qc_moss.specs.Locks.{unheld}
-use Rattle.qc_copy.specs.State.{all_granted}
-use Rattle.qc_copy.proofs.state.replay_locks.Given as goal
+use Rattle.qc_moss.specs.Consulting.{all_granted}
+use Rattle.qc_moss.proofs.consulting.replay_locks.Given as goal
 
 -- the grants so far, of which each access holds its own lock
 abbrev pub invariant-loop-grant : goal.invariant-loop-grant

@@ -13,8 +13,8 @@ use Rattle.qc_event.specs.Standing.{IsManager}
 use Rattle.qc_event.proofs.AskedAccess.{asking}
 use Rattle.qc_event.proofs.OneEntry.{first_is}
 use Rattle.qc_event.proofs.KindFits.{KindFits, kind_fits, record_fits}
-use Rattle.qc_copy.proofs.Begun.{IsManaged, access_managed}
-use Rattle.qc_copy.proofs.Fits.{AskFits, ask_fits, first_sized}
+use Rattle.qc_event.proofs.Starting.{IsManaged, access_managed}
+use Rattle.qc_event.proofs.AsksFit.{AskFits, ask_fits, first_sized}
 
 -- the moment at which an access asked
 pub record WasAsked (setting : Setting) (a : Asked) : Type 0 where

@@ -17,8 +17,8 @@ use Rattle.qc_event.specs.Standing.{IsManager}
 use Rattle.qc_event.specs.Starts.{Starts}
 use Rattle.qc_event.proofs.Lawful.{started_some}
 use Rattle.qc_event.proofs.OneEntry.{start_step}
-use Rattle.qc_copy.proofs.Asked.{was_asked, managed}
-use Rattle.qc_copy.proofs.Begun.{IsManagerName, manager_name}
+use Rattle.qc_event.proofs.Asked.{was_asked, managed}
+use Rattle.qc_event.proofs.Starting.{IsManagerName, manager_name}
 
 -- both halves of a name's first number, and each number behind it, are at least 1
 abbrev pub IsNumbered : Name → Type 0

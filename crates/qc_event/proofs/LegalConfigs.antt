@@ -18,11 +18,11 @@ use Rattle.qc_event.specs.Requests.{IsNextAsk}
 use Rattle.qc_event.specs.Seen.{seen}
 use Rattle.qc_event.specs.Standing.{IsUser}
 use Rattle.qc_event.specs.Starts.{Stands, Starts}
-use Rattle.qc_copy.proofs.Asked.{was_asked, asked_fits}
-use Rattle.qc_copy.proofs.Begun.{was_begun}
-use Rattle.qc_copy.proofs.Fits.{stage_holds, start_sized}
-use Rattle.qc_copy.proofs.PutConfigs.{OpHas, GrantHas, after_has, seen_has}
-use Rattle.qc_copy.proofs.Sized.{after_sized, seen_sized}
+use Rattle.qc_event.proofs.Asked.{was_asked, asked_fits}
+use Rattle.qc_event.proofs.Starting.{was_begun}
+use Rattle.qc_event.proofs.AsksFit.{stage_holds, start_sized}
+use Rattle.qc_event.proofs.PutConfigs.{OpHas, GrantHas, after_has, seen_has}
+use Rattle.qc_event.proofs.SizedConfigs.{after_sized, seen_sized}
 
 -- WHAT IS ASKED
 
