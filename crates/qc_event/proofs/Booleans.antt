@@ -1,7 +1,7 @@
 -- Tests: when they are true, and what more a wider test passes.
 use Rattle.std.proofs.Common.{◌≡◌, Bool, true, false, List, [], ◌∷◌, ◌++◌, refl, sym, ap, ◌∙◌}
 use mathlib.Core.Bool.{true≢false}
-use Rattle.std.specs.Prelude.{IsTrue, not, ◌||◌, ◌↔◌}
+use Rattle.std.specs.Prelude.{IsTrue, not, ◌&&◌, ◌||◌, ◌↔◌}
 use Rattle.std.specs.List.{list_all, list_any}
 use Rattle.std.proofs.lemmas.Bool.{and_parts, and_from, or_right}
 use Rattle.std.proofs.lemmas.List.Folds.{list_any-append}
@@ -12,6 +12,18 @@ same_truth true true h = refl
 same_truth false false h = refl
 same_truth true false h = let e = h.0 refl in absurd cc
 same_truth false true h = let e = h.1 refl in absurd cc
+
+pub or_true : (b : Bool) → (b || true) ≡ true
+or_true true = refl
+or_true false = refl
+
+pub and_true : (b : Bool) → b ≡ (b && true)
+and_true true = refl
+and_true false = refl
+
+pub implies : (a b : Bool) → (a ≡ true → b ≡ true) → (not a || b) ≡ true
+implies true b h = h refl
+implies false b h = refl
 
 pub not_both : (b : Bool) → IsTrue (not b) → b ≡ true → ⊥
 not_both true h is = true≢false (sym h)

@@ -11,7 +11,7 @@ use Rattle.qc_event.specs.declared.event.Grant.{Grant}
 use Rattle.qc_event.specs.History.{Past, every, grants, grant_at}
 use Rattle.qc_event.proofs.Histories.{parted, reverse-take_more}
 
-every-append : {Y : Type 0} (f : Entry → Option Y) (newer older : Past) → every f (newer ++ older) ≡ every f older ++ every f newer
+pub every-append : {Y : Type 0} (f : Entry → Option Y) (newer older : Past) → every f (newer ++ older) ≡ every f older ++ every f newer
 every-append f [] older = sym (append-nil (every f older))
 every-append f (e ∷ newer) older = ap (λ ys. ys ++ option_to_list (f e)) (every-append f newer older) ∙ append_assoc (every f older) (every f newer) (option_to_list (f e))
 

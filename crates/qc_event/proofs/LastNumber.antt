@@ -115,3 +115,6 @@ pub below_more : (a n r : Name) → name.is_ancestor a n ≡ true → name.is_an
 below_more a n r h =
     let rest = rest_of a n h in
     ap (λ m. name.is_ancestor a (m ++ r)) rest.1 ∙ ap (name.is_ancestor a) (append_assoc a rest.0 r) ∙ is_ancestor-append a (rest.0 ++ r)
+
+pub ancestor_further : (a b n : Name) → name.is_ancestor a b ≡ true → name.is_ancestor b n ≡ true → name.is_ancestor a n ≡ true
+ancestor_further a b n low also = let r = rest_of b n also in ap (name.is_ancestor a) r.1 ∙ below_more a b r.0 low

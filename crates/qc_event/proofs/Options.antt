@@ -15,6 +15,11 @@ still (Some y) = refl
 pub or_new : {Y : Type 0} (old new : Option Y) → old ≡ None → option_or old new ≡ new
 or_new old new none = ap (λ o. option_or o new) none
 
+-- nothing new leaves what there is
+pub unless_new : {Y : Type 0} (old new : Option Y) → new ≡ None → option_or old new ≡ old
+unless_new None new is = is
+unless_new (Some y) new is = refl
+
 pub still_is : {Y : Type 0} (old new : Option Y) (y : Y) → old ≡ Some y → option_or old new ≡ Some y
 still_is old new y is = ap (λ o. option_or o new) is
 

@@ -19,6 +19,7 @@ use Rattle.qc_interp.proofs.Deeds.{closed_done}
 use Rattle.qc_interp.proofs.Kept.{Answers, earliest_kept, kept_again}
 use Rattle.qc_interp.proofs.Mine.{Closed, closed_still}
 use Rattle.qc_interp.proofs.Rows.{OfAnyChild, all_among, all_both, among_pass}
+use Rattle.qc_event.proofs.Booleans.{and_true}
 
 -- ONE BEHIND ONE
 
@@ -132,11 +133,7 @@ module _ (keep : Entry → Bool) (x y : Name) where
   waits_kept (e ∷ h) all = by_test (keep e) refl (waits_kept h all.1)
     where
       still : (b : Bool) → b ≡ true → waits_for h x y ≡ (waits_for h x y && b)
-      still b is = or_true (waits_for h x y) ∙ ap (λ t. waits_for h x y && t) (sym is)
-        where
-          or_true : (t : Bool) → t ≡ (t && true)
-          or_true true = refl
-          or_true false = refl
+      still b is = and_true (waits_for h x y) ∙ ap (λ t. waits_for h x y && t) (sym is)
 
       unstarted : (b : Bool) → b ≡ false → (not b || (is_done h x && true)) ≡ true
       unstarted b is = ap (λ t. not t || (is_done h x && true)) is

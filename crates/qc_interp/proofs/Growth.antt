@@ -14,10 +14,6 @@ use Rattle.qc_event.proofs.OneEntry.{some_or_none, not_some}
 use Rattle.qc_script.specs.Client.{Client, mine, is_own, scope, concerns, Made, IsLater, AreOurs, all_ours}
 use Rattle.qc_interp.proofs.Mine.{kept_some}
 
-pub implies : (a b : Bool) → (a ≡ true → b ≡ true) → (not a || b) ≡ true
-implies true b h = h refl
-implies false b h = refl
-
 pub implied : (a b : Bool) → (not a || b) ≡ true → a ≡ true → b ≡ true
 implied true b h is = h
 implied false b h is = absurd (true≢false (sym is))

@@ -31,11 +31,11 @@ use Rattle.qc_interp.specs.Reach.{Reach}
 use Rattle.qc_interp.specs.Session.{tops, AreAllOurs}
 use Rattle.qc_interp.specs.Sessions.{top_in, is_of}
 use Rattle.qc_interp.specs.Together.{HasRun, EachHasRun, AreOf}
-use Rattle.qc_interp.proofs.Growth.{implies}
 use Rattle.qc_interp.proofs.Adding.{first_anyhow}
 use Rattle.qc_interp.proofs.Scope.{whole_scope, upward_top}
 use Rattle.qc_interp.proofs.Places.{some_same, at_place, each_place, all_from, any_place, kept_at, any_answered}
 use Rattle.qc_interp.proofs.Starts.{legal_at, started_at, top_is, one_top, StartsTop, starts_top, starts_user, starts_of}
+use Rattle.qc_event.proofs.Booleans.{implies}
 
 -- WHO MAY ENTER WHAT
 

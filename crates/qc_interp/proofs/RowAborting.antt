@@ -20,6 +20,7 @@ use Rattle.qc_interp.specs.AtOnce.{aborts_of, TurnedSome}
 use Rattle.qc_interp.proofs.Growth.{made_is, made_itself, made_after}
 use Rattle.qc_interp.proofs.Mine.{kept_some}
 use Rattle.qc_interp.proofs.Places.{each_place, some_same}
+use Rattle.qc_event.proofs.Numbers.{before_or_at}
 
 -- WHAT THEY ARE
 
@@ -62,15 +63,6 @@ aborted_ended c n a before now m =
     by_old (Some how) = refl
 
 -- ONE AFTER ANOTHER
-
-before_or_at : (i count : ℕ) → i < count + 1 → (i < count) ⊎ (i ≡ count)
-before_or_at zero zero few = inr refl
-before_or_at zero (suc count) few = inl (omega arith)
-before_or_at (suc i) zero few = let z : ⊥ = omega (arith, few) in absurd z
-before_or_at (suc i) (suc count) few = elim (before_or_at i count (omega (arith, few))) [
-  | inl less ↦ inl (omega (arith, less))
-  | inr same ↦ inr (ap suc same)
-]
 
 -- So many of them have ended, whoever ended them.
 pub record AbortedTo (c : Client) (ns : List Name) (before : Past) (count : ℕ) (now : Past) : Type 0 where

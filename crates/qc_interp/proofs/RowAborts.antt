@@ -15,7 +15,7 @@ use Rattle.qc_event.specs.History.{Past, Name, end, is_child, is_ready, same, st
 use Rattle.qc_event.specs.Legal.{Legal}
 use Rattle.qc_event.specs.Standing.{IsUser, IsAbort}
 use Rattle.qc_event.proofs.Absent.{same_is}
-use Rattle.qc_event.proofs.LastNumber.{child_last, child_longer, is_ancestor-append}
+use Rattle.qc_event.proofs.LastNumber.{child_last, child_longer, is_ancestor-append, ancestor_further}
 use Rattle.qc_event.proofs.Lawful.{lawful}
 use Rattle.qc_event.proofs.Later.{started_still}
 use Rattle.qc_event.proofs.LegalOrderly.{legal_orderly, ready_top}
@@ -31,7 +31,6 @@ use Rattle.qc_event.proofs.Lawful.{started_some}
 use Rattle.qc_interp.proofs.Growth.{ended_still, made_itself}
 use Rattle.qc_interp.proofs.RowBack.{turns_back, none_back}
 use Rattle.qc_interp.proofs.RowLeaves.{not_shorter}
-use Rattle.qc_interp.proofs.RowTries.{above_trans}
 use Rattle.qc_interp.proofs.Turning.{itself}
 
 -- OF WHOM THEY ARE ORPHANS
@@ -61,7 +60,7 @@ first_later of newer past n first = (first.0, started_still newer past n _ first
 
 module _ (seen : Past) (of n : Name) (first : IsFirst of seen n) where
   grounded_by : (a : Name) → name.is_ancestor a of ≡ true → is_some (end seen a) ≡ true → IsGrounded seen n (cause.Orphan a)
-  grounded_by a above ended = (above_trans a of n above (child_above of n first.0), ap not other, ended)
+  grounded_by a above ended = (ancestor_further a of n above (child_above of n first.0), ap not other, ended)
     where
       other : same a n ≡ false
       other = false_from_ne_true (same a n) (λ is.

@@ -25,7 +25,8 @@ use Rattle.qc_interp.specs.Turns.{begun_in, acts, is_done, seat_of, is_under, se
 use Rattle.qc_interp.proofs.Apart.{IsToldSeat}
 use Rattle.qc_interp.proofs.Began.{about_started, asker}
 use Rattle.qc_interp.proofs.Places.{some_same}
-use Rattle.qc_interp.proofs.RowTries.{AsksFor, above_trans, stays_about, stays_low}
+use Rattle.qc_interp.proofs.RowTries.{AsksFor, stays_about, stays_low}
+use Rattle.qc_event.proofs.LastNumber.{ancestor_further}
 
 -- WHO ACTS
 
@@ -59,7 +60,7 @@ stays_actor setting past e t by legal stays is = by_event e.event refl is
     asked_by n at =
         let a = asker setting past e n by legal at in (
           elim (stays_about t n e stays (ap about at)) [
-            | inl low ↦ above_trans t n by low a.1
+            | inl low ↦ ancestor_further t n by low a.1
             | inr asks ↦ by_asked asks.by asks.is asks.low
           ],
           start_stays e past by a.0,

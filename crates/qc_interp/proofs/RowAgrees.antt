@@ -26,10 +26,6 @@ tells_of t ev = option_map_or (λ n. name.is_ancestor t n) (about ev) false
 abbrev pub tells : Name → Entry → Bool
 tells t e = tells_of t e.event
 
-pub or_none : {Y : Type 0} (o new : Option Y) → new ≡ None → option_or o new ≡ o
-or_none None new is = is
-or_none (Some y) new is = refl
-
 -- AN ENTRY THAT TELLS NOTHING
 
 module _ (t x : Name) (low : name.is_ancestor t x ≡ true) where

@@ -18,7 +18,7 @@ use Rattle.qc_interp.specs.Follows.{WasOrphan}
 use Rattle.qc_interp.specs.Turns.{begun_in}
 use Rattle.qc_interp.proofs.Deeds.{Silent, deeds_quiet}
 use Rattle.qc_interp.proofs.Places.{some_same}
-use Rattle.qc_interp.proofs.RowAgrees.{or_none}
+use Rattle.qc_event.proofs.Options.{unless_new}
 
 -- the client's abort of the first try of a branch as an orphan, of an ancestor that was aborted
 abbrev pub turned_by : Client → Branch → Name → Entry
@@ -77,7 +77,7 @@ all_orphan_ends d bs above = each_turned d IsOrphanEnd bs above (each bs)
 
 untold : {Y : Type 0} (f : Entry → Option Y) → ((e : Entry) → IsOrphanEnd e → f e ≡ None) → (es h : Past) → AreOrphanEnds es → earliest f (es ++ h) ≡ earliest f h
 untold f quiet [] h ends = refl
-untold f quiet (e ∷ es) h ends = or_none (earliest f (es ++ h)) (f e) (quiet e ends.0) ∙ untold f quiet es h ends.1
+untold f quiet (e ∷ es) h ends = unless_new (earliest f (es ++ h)) (f e) (quiet e ends.0) ∙ untold f quiet es h ends.1
 
 unlisted : {Y : Type 0} (f : Entry → Option Y) → ((e : Entry) → IsOrphanEnd e → f e ≡ None) → (es h : Past) → AreOrphanEnds es → every f (es ++ h) ≡ every f h
 unlisted f quiet [] h ends = refl
@@ -124,4 +124,4 @@ end_kept n d bs above h others = quiet (turns_back d bs above) (each_turned d (�
 
     quiet : (es : Past) → AllByRecursion (λ (e : Entry). end_in n e.event ≡ None) es → end (es ++ h) n ≡ end h n
     quiet [] all = refl
-    quiet (e ∷ es) all = or_none (end (es ++ h) n) (end_in n e.event) all.0 ∙ quiet es all.1
+    quiet (e ∷ es) all = unless_new (end (es ++ h) n) (end_in n e.event) all.0 ∙ quiet es all.1

@@ -30,6 +30,7 @@ use Rattle.qc_interp.proofs.RowRan.{Became, has_become, MadeNoMore, MergedSome}
 use Rattle.qc_interp.proofs.RowRuns.{row_runs_on, row_has_failed}
 use Rattle.qc_interp.proofs.RowStands.{all_tried, one_failed}
 use Rattle.qc_interp.proofs.RowWhole.{StaysOf, all_stay, client_is, no_more, the_row}
+use Rattle.qc_event.proofs.Lists.{get_last}
 
 pub all_become : (olds news : List Stands) → InPairs HasRun olds news → InPairs Became olds news
 all_become [] [] h = tt
@@ -130,10 +131,6 @@ refused_at c of now (b ∷ bs) s w all stay was is = by_came b.came all.0 (λ y 
     by_came (Some (Err why)) h more is = absurd (not_well why (came.Refused w) bs is)
     by_came (Some (Ok y)) h more is = more (came_worse s b.body.must y) (worse s b.body.must y h was) is
 
-last_place : (front : List Name) (last : Name) → slice_get (front ++ last ∷ []) (length front) ≡ Some last
-last_place [] last = refl
-last_place (t ∷ front) last = last_place front last
-
 -- THE STEP
 
 -- whether all were tried as often as they are, and which failed first
@@ -232,7 +229,7 @@ module _ {of : Name} {v w3 : View} {bs2 : List Stands} {bodies : List Numbered} 
         by_case came.Through h = tt
         by_case (came.Failed last) h =
             let f = failed_at w3.seen bs2 last came_all h in
-            row_has_failed (λ b. Unit {0}) c of v.seen w1.seen w3.seen bs row runs f.place f.branch f.at (length f.ends.1.0) last (ap (λ l. slice_get l (length f.ends.1.0)) f.ends.1.1 ∙ last_place f.ends.1.0 last) f.ends.2 f.ends.3
+            row_has_failed (λ b. Unit {0}) c of v.seen w1.seen w3.seen bs row runs f.place f.branch f.at (length f.ends.1.0) last (ap (λ l. slice_get l (length f.ends.1.0)) f.ends.1.1 ∙ get_last f.ends.1.0 last (length f.ends.1.0) refl) f.ends.2 f.ends.3
         by_case (came.Refused why) h =
             refusal_stops (with_all c bs) of w3.seen why (refused_at c of w3.seen bs2 came.Through why came_all (all_stay c of v w1 w1.seen bs0 bs1 bs2 (c.out, refl) began shown became) (λ e. absurd (other why e)) h)
           where

@@ -20,7 +20,8 @@ use Rattle.qc_interp.proofs.RowLater.{HaveRun}
 use Rattle.qc_interp.proofs.RowLeaves.{row_later, mine_now, mine_before}
 use Rattle.qc_interp.proofs.RowOutcome.{row_seats, row_tried, row_failed}
 use Rattle.qc_interp.proofs.RowRuns.{each_ended, row_runs_on}
-use Rattle.qc_interp.proofs.RowStands.{every_older, all_tried, one_failed, row_run, row_at_once, row_begun}
+use Rattle.qc_interp.proofs.RowStands.{all_tried, one_failed, row_run, row_at_once, row_begun}
+use Rattle.qc_event.proofs.Granted.{every-append}
 
 all_ended : (h : Past) (ts : List Name) → list_all (λ t. is_some (end h t)) ts ≡ true → AllByRecursion (OfChild (λ t. is_some (end h t) ≡ true)) (map Deed.child ts)
 all_ended h [] all = tt
@@ -48,7 +49,7 @@ module _ (Stopped : Branch → Type 0) (c : Client) (of : Name) (before shown no
       ended_here =
           (and_parts (list_all (λ t. is_some (end (mine d now) t)) (children (mine d before) of)) (list_all (λ t. is_some (end (mine d now) t)) (children (mine d row.made.newer) of))
           (sym (list_all-append (λ t. is_some (end (mine d now) t)) (children (mine d before) of) (children (mine d row.made.newer) of))
-          ∙ ap (list_all (λ t. is_some (end (mine d now) t))) (sym (every_older (λ e. child_in of e.event) (mine d row.made.newer) (mine d before)) ∙ ap (λ l. children l of) (sym (mine_now Reach.to_the_end Stopped c of before shown now bs row)))
+          ∙ ap (list_all (λ t. is_some (end (mine d now) t))) (sym (every-append (λ e. child_in of e.event) (mine d row.made.newer) (mine d before)) ∙ ap (λ l. children l of) (sym (mine_now Reach.to_the_end Stopped c of before shown now bs row)))
           ∙ each_ended (mine d now) (children (mine d now) of) ((row_runs_on Stopped c of before shown now bs row runs).closed ours))).1
 
   pub row_front : (out : Bool) (failed : Option Name) → (AreOurs (with_all c bs) of now → all_tried now bs ≡ out) → (AreOurs (with_all c bs) of now → out ≡ true → one_failed now bs ≡ option_map Deed.child failed)

@@ -17,7 +17,7 @@ use Rattle.qc_event.specs.declared.event.How.TheVariants.{Abort}
 use Rattle.qc_event.specs.History.{Past, Name, earliest, end, end_in, is_ready, ready_in, is_child, same}
 use Rattle.qc_event.proofs.Absent.{if_not, same_is}
 use Rattle.qc_event.proofs.Histories.{earliest-append}
-use Rattle.qc_event.proofs.LastNumber.{child_longer, rest_of}
+use Rattle.qc_event.proofs.LastNumber.{child_longer, rest_of, ancestor_further}
 use Rattle.qc_event.proofs.OneEntry.{if_is}
 use Rattle.qc_names.specs.Name as name
 use Rattle.qc_script.specs.Client.{Client, mine, is_own, about, is_upward, scope, IsLater, HasJoined}
@@ -32,12 +32,12 @@ use Rattle.qc_interp.specs.Running.{Runs, LeavesIt, LeavesAt}
 use Rattle.qc_interp.specs.Turns.{takes_turn, is_alone}
 use Rattle.qc_interp.proofs.Deeds.{Silent, start_silent, mark_silent, deeds_quiet}
 use Rattle.qc_interp.proofs.Joined.{joined_mine}
-use Rattle.qc_interp.proofs.RowAgrees.{or_none}
 use Rattle.qc_interp.proofs.RowOurs.{none_of, upward_long}
 use Rattle.qc_interp.proofs.RowSeats.{begun_joined}
-use Rattle.qc_interp.proofs.RowTries.{AsksFor, asks_for, above_trans, upward_above, stays_about, stays_low, Owner, owners}
+use Rattle.qc_interp.proofs.RowTries.{AsksFor, asks_for, upward_above, stays_about, stays_low, Owner, owners}
 use Rattle.qc_interp.proofs.RowTurns.{row_turns, row_alone}
 use Rattle.qc_interp.proofs.Scope.{in_or_upward, child_scope, same_scope}
+use Rattle.qc_event.proofs.Options.{unless_new}
 
 -- SOME ENTRIES
 
@@ -182,7 +182,7 @@ module _ (reach : Reach) (Stopped : Branch → Type 0) (c : Client) (of : Name) 
     pub row_ready : is_ready (mine (with_all c bs) now) p ≡ is_ready (mine (with_all c bs) before) p
     row_ready =
         ap (λ h. is_ready h p) mine_now
-        ∙ ap is_some (earliest-append _ (mine d row.made.newer) (mine d before) ∙ or_none (earliest (λ e. ready_in p e.event) (mine d before)) _ (none_told (λ e. ready_in p e.event) (mine d row.made.newer) (each_made _ (λ e t child stays. stays_unready of t p child short e stays))))
+        ∙ ap is_some (earliest-append _ (mine d row.made.newer) (mine d before) ∙ unless_new (earliest (λ e. ready_in p e.event) (mine d before)) _ (none_told (λ e. ready_in p e.event) (mine d row.made.newer) (each_made _ (λ e t child stays. stays_unready of t p child short e stays))))
 
     pub row_unended : IsUnended p (end (mine (with_all c bs) before) p) → IsUnended p (end (mine (with_all c bs) now) p)
     row_unended was =
@@ -208,7 +208,7 @@ module _ (reach : Reach) (Stopped : Branch → Type 0) (c : Client) (of : Name) 
 
   module _ (runs : Runs c of before) where
     pub row_inside : AllStayIn d (scope d of) row.made.newer
-    row_inside = all_pass (mine d row.made.newer) (each_made (λ e. stays_in (scope d of) e ≡ true) (λ e t child stays. stays_wider (scope d of) t e (λ n low. above_trans (scope d of) t n (child_scope d of t child) low) (λ n up.
+    row_inside = all_pass (mine d row.made.newer) (each_made (λ e. stays_in (scope d of) e ≡ true) (λ e t child stays. stays_wider (scope d of) t e (λ n low. ancestor_further (scope d of) t n (child_scope d of t child) low) (λ n up.
         let r = rest_of n t (upward_above t n up) in
         subst (λ s. (name.is_ancestor s n ≡ true) ⊎ (is_upward s n ≡ true)) (same_scope d of t runs.below child) (in_or_upward d t n r.0 r.1 (upward_long t n up))) stays))
       where

@@ -18,7 +18,7 @@ use Rattle.qc_event.specs.Base.{Setting}
 use Rattle.qc_event.specs.History.{Past, Name, earliest, end, end_in, is_ready, ready_in, is_child}
 use Rattle.qc_event.specs.Legal.{Legal}
 use Rattle.qc_event.proofs.Absent.{same_itself}
-use Rattle.qc_event.proofs.LastNumber.{child_last, same_last, child_longer, rest_of, ends_in}
+use Rattle.qc_event.proofs.LastNumber.{child_last, same_last, child_longer, rest_of, ends_in, ancestor_further}
 use Rattle.qc_event.proofs.Lawful.{ends_open}
 use Rattle.qc_event.proofs.LegalOrderly.{legal_orderly}
 use Rattle.qc_event.proofs.OneEntry.{end_now, stays_some, here_some}
@@ -29,14 +29,15 @@ use Rattle.qc_interp.specs.Follows.{IsUnended}
 use Rattle.qc_interp.specs.Reach.{Reach}
 use Rattle.qc_interp.specs.Running.{Runs}
 use Rattle.qc_interp.proofs.Lists.{all_join}
-use Rattle.qc_interp.proofs.Growth.{implied, implies}
+use Rattle.qc_interp.proofs.Growth.{implied}
 use Rattle.qc_interp.proofs.Places.{some_same, at_place, each_place}
 use Rattle.qc_interp.proofs.RowAgrees.{tells}
 use Rattle.qc_interp.proofs.RowSeats.{own_as_before}
-use Rattle.qc_interp.proofs.RowTries.{IsTry, one_child, upward_above, above_trans, stays_about, root_is, try_at, Owner, owners, quiet_before, quiet_other, other_try}
+use Rattle.qc_interp.proofs.RowTries.{IsTry, one_child, upward_above, stays_about, root_is, try_at, Owner, owners, quiet_before, quiet_other, other_try}
 use Rattle.qc_interp.proofs.Scope.{in_or_upward, child_scope, same_scope}
 use Rattle.qc_interp.proofs.Seen.{own_once}
 use Rattle.qc_interp.proofs.Turning.{itself}
+use Rattle.qc_event.proofs.Booleans.{implies}
 
 -- WHOM IT IS ABOUT THAT CONCERNS A SCOPE
 
@@ -203,7 +204,7 @@ module _ (reach : Reach) (Stopped : Branch → Type 0) (c : Client) (of : Name) 
         other e o not_ours (n, whom, inl low) =
             true≢false (sym (ap (λ x. option_map_or (λ m. name.is_ancestor t m) x false) whom ∙ low) ∙ quiet_other reach Stopped c of before shown now bs row i b at t try e o not_ours)
         other e o not_ours (n, whom, inr up) = elim (stays_about o.try n e o.stays whom) [
-          | inl low ↦ other_try reach Stopped c of before shown now bs row i b at t try e o not_ours (one_child of o.try t t o.is_try.child try.child (above_trans o.try n t low (upward_above t n up.0)) (itself t))
+          | inl low ↦ other_try reach Stopped c of before shown now bs row i b at t try e o not_ours (one_child of o.try t t o.is_try.child try.child (ancestor_further o.try n t low (upward_above t n up.0)) (itself t))
           | inr asks ↦ not_asked asks.by asks.is up.1
         ]
           where
@@ -231,7 +232,7 @@ module _ (reach : Reach) (Stopped : Branch → Type 0) (c : Client) (of : Name) 
 
         wider : (ev : Event) → concerns t ev ≡ true → concerns (scope d of) ev ≡ true
         wider ev h =
-            concerns_wider (scope d of) t ev (λ n low. above_trans (scope d of) t n (child_scope d of t try.child) low) (λ n up.
+            concerns_wider (scope d of) t ev (λ n low. ancestor_further (scope d of) t n (child_scope d of t try.child) low) (λ n up.
             let r = rest_of n t (upward_above t n up) in
             subst (λ s. (name.is_ancestor s n ≡ true) ⊎ (is_upward s n ≡ true)) (same_scope d of t runs.below try.child) (in_or_upward d t n r.0 r.1 (upward_long t n up))) h
 

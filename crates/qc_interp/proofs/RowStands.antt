@@ -25,19 +25,16 @@ use Rattle.qc_interp.proofs.RowDeeds.{starts_it}
 use Rattle.qc_interp.proofs.RowHere.{HaveOwnBodies, here, try_kind, tries_here, branch_runs}
 use Rattle.qc_interp.proofs.RowLeaves.{mine_before}
 use Rattle.qc_interp.proofs.RowTries.{begun_at, root_is, Owner, owners}
+use Rattle.qc_event.proofs.Granted.{every-append}
 
 -- THE FIRST TRIES
-
-pub every_older : {Y : Type 0} (f : Entry → Option Y) (newer older : Past) → every f (newer ++ older) ≡ every f older ++ every f newer
-every_older f [] older = sym (append-nil (every f older))
-every_older f (e ∷ newer) older = ap (λ ys. ys ++ option_to_list (f e)) (every_older f newer older) ∙ append_assoc (every f older) (every f newer) (option_to_list (f e))
 
 -- what a row of starts starts, in order
 firsts_started : (c : Client) (of : Name) (bs : List Branch) → AllByRecursion (λ b. is_child of b.first ≡ true) bs → children (reverse (map (start_of c) bs)) of ≡ map (λ (b : Branch). b.first) bs
 firsts_started c of [] all = refl
 firsts_started c of (b ∷ bs) all =
     ap (λ l. children l of) (reverse-append (start_of c b ∷ []) (map (start_of c) bs))
-    ∙ every_older (λ e. child_in of e.event) (reverse (map (start_of c) bs)) (start_of c b ∷ [])
+    ∙ every-append (λ e. child_in of e.event) (reverse (map (start_of c) bs)) (start_of c b ∷ [])
     ∙ ap (λ l. l ++ children (reverse (map (start_of c) bs)) of) (ap (λ (x : Bool). option_to_list (if x then Some b.first else None)) all.0)
     ∙ ap (λ l. b.first ∷ l) (firsts_started c of bs all.1)
 
@@ -115,7 +112,7 @@ module _ (reach : Reach) (Stopped : Branch → Type 0) (c : Client) (of : Name) 
   pub firsts_first : ds ≡ map Deed.child (map (λ (b : Branch). b.first) bs) ++ map Deed.child (children (mine d row.since.newer) of)
   firsts_first =
       ap (λ l. map Deed.child (children l of)) (made_since d ∙ ap (λ l. mine d row.since.newer ++ l) shown_is)
-      ∙ ap (map Deed.child) (every_older (λ e. child_in of e.event) (mine d row.since.newer) (reverse (map (start_of c) bs)) ∙ ap (λ l. l ++ children (mine d row.since.newer) of) (firsts_started c of bs (ones bs row.begun)))
+      ∙ ap (map Deed.child) (every-append (λ e. child_in of e.event) (mine d row.since.newer) (reverse (map (start_of c) bs)) ∙ ap (λ l. l ++ children (mine d row.since.newer) of) (firsts_started c of bs (ones bs row.begun)))
       ∙ map-append Deed.child (map (λ (b : Branch). b.first) bs) (children (mine d row.since.newer) of)
     where
       ones : (xs : List Branch) → AllByRecursion (IsBegun c of before shown) xs → AllByRecursion (λ b. is_child of b.first ≡ true) xs
@@ -128,7 +125,7 @@ module _ (reach : Reach) (Stopped : Branch → Type 0) (c : Client) (of : Name) 
       ap (children (mine b.client now)) (root_is reach Stopped c of before shown now bs row i b at)
       ∙ ap (λ l. children (mine b.client l) of) row.since.grown
       ∙ ap (λ l. children l of) (filter-append (λ (e : Entry). is_own b.client e.seat) row.since.newer shown ∙ ap (λ l. mine b.client row.since.newer ++ l) begun.made)
-      ∙ every_older (λ e. child_in of e.event) (mine b.client row.since.newer) (start_of c b ∷ [])
+      ∙ every-append (λ e. child_in of e.event) (mine b.client row.since.newer) (start_of c b ∷ [])
       ∙ ap (λ (x : Bool). option_to_list (if x then Some b.first else None) ++ children (mine b.client row.since.newer) of) begun.is_one
     where
       begun : IsBegun c of before shown b

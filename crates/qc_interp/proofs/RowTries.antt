@@ -13,7 +13,7 @@ use Rattle.qc_event.specs.declared.event.How.TheVariants.{Abort}
 use Rattle.qc_event.specs.History.{Past, Name, Begun, start, is_child}
 use Rattle.qc_event.specs.Legal.{Legal}
 use Rattle.qc_event.proofs.Later.{earlier_legal, start_still}
-use Rattle.qc_event.proofs.LastNumber.{child_last, child_longer, rest_of, below_more, same_rest}
+use Rattle.qc_event.proofs.LastNumber.{child_last, child_longer, rest_of, below_more, same_rest, ancestor_further}
 use Rattle.qc_event.proofs.Lawful.{lawful}
 use Rattle.qc_event.proofs.LegalOrderly.{legal_orderly}
 use Rattle.qc_event.proofs.Lineage.{above_started}
@@ -58,9 +58,6 @@ one_child of a b n child other low also =
 pub upward_above : (t n : Name) → is_upward t n ≡ true → name.is_ancestor n t ≡ true
 upward_above t [] up = absurd (true≢false (sym up))
 upward_above t (x ∷ n) up = up
-
-pub above_trans : (a b n : Name) → name.is_ancestor a b ≡ true → name.is_ancestor b n ≡ true → name.is_ancestor a n ≡ true
-above_trans a b n low also = let r = rest_of b n also in ap (name.is_ancestor a) r.1 ∙ below_more a b r.0 low
 
 -- WHAT STAYS IN A SCOPE
 
@@ -232,7 +229,7 @@ module _ (reach : Reach) (Stopped : Branch → Type 0) (c : Client) (of : Name) 
         let n = told_about t e tell in
         elim (stays_about o.try n.0 e o.stays n.1) [
           | inl low ↦ other_try e o not_ours (sym (one_child of t o.try n.0 try.child o.is_try.child n.2 low))
-          | inr asks ↦ not_above e o not_ours (above_trans t n.0 o.try n.2 (upward_above o.try n.0 asks.up))
+          | inr asks ↦ not_above e o not_ours (ancestor_further t n.0 o.try n.2 (upward_above o.try n.0 asks.up))
         ])
 
     -- among all that branches made and the client before them, none but the branch's own entries tell of it

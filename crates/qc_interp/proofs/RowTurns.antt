@@ -10,7 +10,7 @@ use Rattle.qc_event.specs.declared.event.Entry.{Entry}
 use Rattle.qc_event.specs.History.{Past, Name, Begun, every, start, is_child}
 use Rattle.qc_event.specs.Legal.{Legal}
 use Rattle.qc_event.proofs.Booleans.{or_wider, all_wider}
-use Rattle.qc_event.proofs.LastNumber.{child_longer, rest_of, below_more}
+use Rattle.qc_event.proofs.LastNumber.{child_longer, rest_of, below_more, ancestor_further}
 use Rattle.qc_event.proofs.Later.{earlier_legal, start_still}
 use Rattle.qc_event.proofs.Lawful.{lawful}
 use Rattle.qc_event.proofs.LegalOrderly.{legal_orderly}
@@ -34,7 +34,7 @@ use Rattle.qc_interp.proofs.Places.{some_same, at_place, each_place}
 use Rattle.qc_interp.proofs.RowActors.{stays_actor, begins_about, done_wider, done_later, each_at, seat_wider}
 use Rattle.qc_interp.proofs.RowOurs.{none_of, tries_ours}
 use Rattle.qc_interp.proofs.RowSeats.{any_own, seats_owned, one_owner, apart_parts, begun_joined}
-use Rattle.qc_interp.proofs.RowTries.{IsTry, above_trans, own_more, ran_at, root_is, apart_branches, try_owned, same_branch, Owner, owners, other_try}
+use Rattle.qc_interp.proofs.RowTries.{IsTry, own_more, ran_at, root_is, apart_branches, try_owned, same_branch, Owner, owners, other_try}
 use Rattle.qc_interp.proofs.Seats.{seat_start, own_start, own_seat, number_own}
 
 module _ (reach : Reach) (Stopped : Branch → Type 0) (c : Client) (of : Name) (before shown now : Past) (bs : List Branch) (row : RanRow reach Stopped c of before shown now bs) where
@@ -172,7 +172,7 @@ module _ (reach : Reach) (Stopped : Branch → Type 0) (c : Client) (of : Name) 
             begun_started k x m t stays at tells = at_place _ h k x (all_started c.setting h legal_here.0) (get_first es before k x at) m (begins_about t m x stays tells).0
 
             above_all : name.is_ancestor of by ≡ true
-            above_all = above_trans of o.try by (and_parts (length o.try == length of + 1) (name.is_ancestor of o.try) o.is_try.child).1 actor.0
+            above_all = ancestor_further of o.try by (and_parts (length o.try == length of + 1) (name.is_ancestor of o.try) o.is_try.child).1 actor.0
 
             by_own : (x : Entry) → Of x → (m : Name) → begun_in x.event ≡ Some m → is_some (start h m) ≡ true → (b : Bool) → is_own o.one.client x.seat ≡ b
                 → (is_own o.one.client x.seat ≡ true → (n : Name) → begun_in x.event ≡ Some n → (is_done (mine o.one.client h) n || (name.is_ancestor n by || are_apart (e ∷ mine o.one.client h) n by)) ≡ true) → passes m ≡ true

@@ -41,6 +41,7 @@ use Rattle.qc_event.specs.declared.event.Cause.{Cause}
 use Rattle.qc_event.specs.declared.event.Cause.TheVariants as cause
 use Rattle.qc_event.specs.declared.event.Kind.{Kind}
 use Rattle.qc_event.proofs.Absent.{same_is}
+use Rattle.qc_event.proofs.Booleans.{or_true}
 
 module _ (c : Client) (of : Name) (past : Past) (ours : AreOurs c of past) where
   same_found : {Y : Type 0} (f : Entry → Option Y) → ((e : Entry) (y : Y) → f e ≡ Some y → concerns (scope c of) e.event ≡ true) → earliest f (mine c past) ≡ earliest f past
@@ -123,10 +124,6 @@ done_top c of x past ours legal low = by_end (end past (x ∷ [])) refl
 
     both_ready : (a b p q : Bool) → p ≡ true → q ≡ true → (a || p) ≡ (b || q)
     both_ready a b p q first second = ap (λ z. a || z) first ∙ or_true a ∙ sym (ap (λ z. b || z) second ∙ or_true b)
-      where
-        or_true : (z : Bool) → (z || true) ≡ true
-        or_true true = refl
-        or_true false = refl
 
     by_same : end (mine c past) (x ∷ []) ≡ end past (x ∷ []) → is_done (mine c past) (x ∷ []) ≡ is_done past (x ∷ [])
     by_same is = ap (λ o. is_some o || is_ready (mine c past) (x ∷ [])) is ∙ ap (λ b. is_some (end past (x ∷ [])) || b) ready

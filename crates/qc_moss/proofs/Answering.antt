@@ -24,7 +24,8 @@ use Rattle.qc_moss.specs.Locks.{Table, alone, joined, effect, with_put, with_cha
 use Rattle.qc_moss.specs.Follows.{IsAmong, IsInherited, AreOf, AreFolded, Follows, IsStill, HoldsStill, IsSettled}
 use Rattle.qc_moss.specs.Follows.AreOf.{none, gone, kept, more, read}
 use Rattle.qc_moss.specs.Follows.AreFolded.{nothing, folded}
-use Rattle.qc_moss.proofs.Ancestry.{ancestor_further, all_above, not_all_above, alive_if, alive_at, committed_lives}
+use Rattle.qc_moss.proofs.Ancestry.{all_above, not_all_above, alive_if, alive_at, committed_lives}
+use Rattle.qc_event.proofs.LastNumber.{ancestor_further}
 
 -- whose holder lives is not dead
 inherited_lives : (past : Past) (n at : Name) → IsInherited past n at → dead past at ≡ None → dead past n ≡ None

@@ -3,7 +3,7 @@ use Rattle.std.proofs.Common.{◌≡◌, ℕ, ◌⊎◌, inl, inr, true, false, 
 use mathlib.Core.Bool.{true≢false}
 use Rattle.std.specs.Prelude.{Option, None, Some, is_some}
 use Rattle.std.proofs.lemmas.Bool.{cases_Bool}
-use Rattle.qc_event.proofs.LastNumber.{EndsIn, ends_in, front_last, is_ancestor-append, rest_of, same_last}
+use Rattle.qc_event.proofs.LastNumber.{EndsIn, ends_in, front_last, is_ancestor-append, rest_of, same_last, ancestor_further}
 use Rattle.qc_names.specs.Name as name
 use Rattle.qc_event.specs.declared.event.Entry.{Entry}
 use Rattle.qc_event.specs.declared.event.Grant.{Grant}
@@ -13,7 +13,7 @@ use Rattle.qc_event.proofs.Later.{committed_stays}
 use Rattle.qc_moss.specs.declared.holder.Holder.{Holder}
 use Rattle.qc_moss.specs.Follows.{IsAmong, IsInherited, AreOf}
 use Rattle.qc_moss.specs.Follows.AreOf.{none, gone, kept, more, read}
-use Rattle.qc_moss.proofs.Ancestry.{ancestor_itself, ancestor_further, alive_if, alive_at}
+use Rattle.qc_moss.proofs.Ancestry.{ancestor_itself, alive_if, alive_at}
 
 -- INHERITING
 

@@ -31,6 +31,7 @@ use Rattle.qc_session.specs.Session.{is_of}
 use Rattle.qc_session.specs.Tidy.{IsTidy}
 use Rattle.qc_session.proofs.Joining.{pair}
 use Rattle.qc_session.proofs.Standing.{manager_above}
+use Rattle.qc_event.proofs.Booleans.{or_true}
 
 -- SEATS
 
@@ -56,11 +57,7 @@ client_seats k is = by_zero (k == 0) refl is
 
 -- a number above those of the ledger and the copies is a client's
 pub client_above : (n : ℕ) → 17 < n → is_client n ≡ true
-client_above n above = ap (λ b. (n == 0) || b) (Rattle.std.proofs.lemmas.Bool.lt-ltb 17 n above) ∙ by_test (n == 0)
-  where
-    by_test : (b : Bool) → (b || true) ≡ true
-    by_test true = refl
-    by_test false = refl
+client_above n above = ap (λ b. (n == 0) || b) (Rattle.std.proofs.lemmas.Bool.lt-ltb 17 n above) ∙ or_true (n == 0)
 
 tail_none : (k : ℕ) (e : Entry) (past : Past) → entries_of k (e ∷ past) ≡ [] → ((e.seat == k) ≡ false) × (entries_of k past ≡ [])
 tail_none k e past none = by_test (e.seat == k) refl none

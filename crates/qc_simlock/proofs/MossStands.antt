@@ -26,6 +26,7 @@ use Rattle.qc_simlock.proofs.MossMoves as moss
 use Rattle.qc_simlock.proofs.MossMoves.{Granted, Commit, Abort, is_dead, is_shown}
 use Rattle.qc_simlock.proofs.MossPast.{end_move, move_in, moves}
 use Rattle.qc_simlock.proofs.MossTurned.{turn_last, turn_back, same_turned, above_turned}
+use Rattle.qc_event.proofs.Booleans.{and_true}
 
 -- OUTCOMES
 
@@ -116,10 +117,6 @@ one_shown past orderly m a =
 
 pub shown_moves : (past : Past) → Orderly past → (b a : Line) → is_shown (moves past) b a ≡ shown_in past (reverse b) (reverse a)
 shown_moves past orderly [] a = one_shown past orderly [] a ∙ and_true _
-  where
-    and_true : (b : Bool) → b ≡ (b && true)
-    and_true true = refl
-    and_true false = refl
 shown_moves past orderly (k ∷ p) a =
     ap₂ (λ x y. x && y) (one_shown past orderly (k ∷ p) a ∙ ap (λ c. is_ancestor c (reverse a) || is_committed (outcome past c)) (turn_last k p)) (shown_moves past orderly p a)
     ∙ and_last (is_ancestor (reverse p ++ k ∷ []) (reverse a) || is_committed (outcome past (reverse p ++ k ∷ []))) (shown_in past (reverse p) (reverse a))

@@ -29,6 +29,7 @@ use Rattle.qc_serial.specs.declared.event.SerialEvent.TheVariants.{Start, Enter,
 use Rattle.qc_simlock.specs.Walk.{ended, added, walk, is_open_or_root, entering, visits, serialise}
 use Rattle.qc_simlock.proofs.Above.{Each, above, ancestors_are, each_ancestor, each_above, front_ancestor, ancestor_short, parent_is}
 use Rattle.qc_simlock.proofs.Ancestors.{visits_more}
+use Rattle.qc_event.proofs.Options.{unless_new}
 
 -- THE ORDER OF A NAME WITH ONE MORE NUMBER
 
@@ -111,10 +112,6 @@ not_of b (event.Start m k) h = h.0
 not_of b (event.End m how) h = h.0
 not_of b _ h = tt
 
-or_nothing : {Y : Type 0} (o new : Option Y) → new ≡ None → option_or o new ≡ o
-or_nothing None new h = h
-or_nothing (Some y) new h = refl
-
 start_in_kept : (b : Name) (seat : ℕ) (ev : Event) → NotOf b ev → start_in b seat ev ≡ None
 start_in_kept b seat (event.Start m k) h = if_not (same m b) _ h
 start_in_kept b seat _ h = refl
@@ -127,8 +124,8 @@ open_of : (past : Past) (e : Entry) (b : Name) → NotOf b e.event → is_open_o
 open_of past e [] h = refl
 open_of past e (x ∷ b) h =
     ap₂ (λ s t. is_some s && is_none t)
-    (or_nothing (start past (x ∷ b)) (start_in (x ∷ b) e.seat e.event) (start_in_kept (x ∷ b) e.seat e.event h))
-    (or_nothing (end past (x ∷ b)) (end_in (x ∷ b) e.event) (end_in_kept (x ∷ b) e.event h))
+    (unless_new (start past (x ∷ b)) (start_in (x ∷ b) e.seat e.event) (start_in_kept (x ∷ b) e.seat e.event h))
+    (unless_new (end past (x ∷ b)) (end_in (x ∷ b) e.event) (end_in_kept (x ∷ b) e.event h))
 
 added_none : (past : Past) (did : Name → List SerialEvent) (b : Name) (ev : Event) → Apart b ev → added past did b ev ≡ []
 added_none past did b (event.Start c (kind.User session body)) h = ap (λ t. if t then Start c ∷ [] else []) h.1

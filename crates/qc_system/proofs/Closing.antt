@@ -26,6 +26,7 @@ use Rattle.qc_system.proofs.Grown.{from_more}
 use Rattle.qc_system.proofs.Left.{keeps_grants_later, keeps_tops_later}
 use Rattle.qc_system.proofs.Listed.{tops_told_later}
 use Rattle.qc_system.proofs.Room.{room_retold}
+use Rattle.qc_event.proofs.Numbers.{before_or_at}
 
 module _ {A : Type 0} where
   get_left : (xs ys : List A) (i : ℕ) (x : A) → slice_get xs i ≡ Some x → slice_get (xs ++ ys) i ≡ Some x
@@ -40,13 +41,6 @@ module _ {A : Type 0} where
   has_next : (xs ys : List A) (x : A) → Has (xs ++ x ∷ ys) x
   has_next [] ys x = (0, refl)
   has_next (y ∷ xs) ys x = let r = has_next xs ys x in (suc r.0, r.1)
-
-lt_or_eq : (k c : ℕ) → k < c + 1 → (k < c) ⊎ (k ≡ c)
-lt_or_eq k c lt = by_test (nat_lt k c) refl
-  where
-    by_test : (b : Bool) → nat_lt k c ≡ b → (k < c) ⊎ (k ≡ c)
-    by_test true is = inl (grind (arith, nat_tests))
-    by_test false is = inr (grind (arith, nat_tests))
 
 module _ (setting : Setting) (found : Findings) {D : Type 0} (view : D → Disk) where
   abbrev all : ℕ
@@ -94,7 +88,7 @@ module _ (setting : Setting) (found : Findings) {D : Type 0} (view : D → Disk)
   one_more c disks disks' x old new more seen mine lt older own_older legal own is now kept h = subst (λ ds. HaveLeft setting found view (c + 1) ds new) (sym now) (record {
     many = omega (arith, length-append disks (x ∷ []), h.many, min-eq_left {n = c} {m = all} (omega (arith, lt)), min-eq_left {n = c + 1} {m = all} (omega (arith, lt)));
     ledger = left_on disks x old new ((copy_seat c, mine) ∷ more) 0 ledger_seat (LedgerKeeps setting found) older is h.ledger;
-    copies = λ k below there. by_case k there (lt_or_eq k c below);
+    copies = λ k below there. by_case k there (before_or_at k c below);
   })
     where
       size : length disks ≡ c + 1
