@@ -2,6 +2,7 @@
 
 use qc_disk::DiskNo;
 use qc_journal::{Body, Fault};
+use rows_kit::{hex, put_hex, records, said};
 use std::alloc::{AllocError, Global};
 
 /// What a step answered.
@@ -49,7 +50,7 @@ impl Answer {
     /// Its text, with bytes in hex.
     pub(crate) fn text(&self, alloc: Global) -> Result<String, AllocError> {
         match self {
-            Answer::Done => String::from_str(alloc, "ok"),
+            Answer::Done => said(alloc, "ok"),
             Answer::Number(number) => number.to_string(alloc),
             Answer::Truth(truth) => truth.to_string(alloc),
             Answer::Bytes(bytes) => hex(alloc, bytes),
@@ -57,34 +58,16 @@ impl Answer {
             Answer::Records(bodies) => records(alloc, bodies),
             Answer::Disk(no) => no.to_string(alloc),
             Answer::Journal(fault) => fault.to_string(alloc),
-            Answer::NoFile => String::from_str(alloc, "no such file"),
-            Answer::Down => String::from_str(alloc, "it is down"),
-            Answer::Unknown => String::from_str(alloc, "no such step here"),
+            Answer::NoFile => said(alloc, "no such file"),
+            Answer::Down => said(alloc, "it is down"),
+            Answer::Unknown => said(alloc, "no such step here"),
         }
     }
-}
-
-// Bytes in hex; none are a stroke.
-fn hex(alloc: Global, bytes: &[u8]) -> Result<String, AllocError> {
-    if bytes.is_empty() {
-        return String::from_str(alloc, "-");
-    }
-    hex::encode(alloc, bytes)
 }
 
 fn images(alloc: Global, synced: &[u8], there: &[u8]) -> Result<String, AllocError> {
     let mut text = hex(alloc, synced)?;
     text.push_str(" or ")?;
-    text.push_str(hex(alloc, there)?.as_str())?;
-    Ok(text)
-}
-
-fn records(alloc: Global, bodies: &[Body]) -> Result<String, AllocError> {
-    let mut text = bodies.len().to_string(alloc)?;
-    text.push_str(" records")?;
-    for body in bodies {
-        text.push(' ')?;
-        text.push_str(hex(alloc, body)?.as_str())?;
-    }
+    put_hex(alloc, &mut text, there)?;
     Ok(text)
 }

@@ -2,15 +2,16 @@
 
 use crate::answer::Answer;
 use crate::state::State;
-use crate::step::{Step, bytes, number};
+use crate::word::bytes;
 use crate::{device, records};
-use qc_disk::{DiskNo, FailAt, HomeDisk, HomeShop, MemDisk, MemShop, Shop};
+use qc_disk::{DiskNo, HomeDisk, HomeShop, MemDisk, MemShop, Shop};
+use rows_kit::{Case, Step, on_folders};
 use std::alloc::{AllocError, Global};
 use std::{fs, mem};
 
-/// A case.
+/// What a case stands on, and where its disks come from.
 #[derive(Drop)]
-pub(crate) struct Case {
+pub(crate) struct DiskCase {
     rt: HostRuntime,
     alloc: Global,
     shop: MemShop,
@@ -18,33 +19,19 @@ pub(crate) struct Case {
     state: State,
 }
 
-// The calls that fail, behind the name and the bytes of a disk: each a number and `done` or `not`.
-fn fails(alloc: Global, step: &Step<'_>) -> Result<Vec<FailAt>, AllocError> {
-    let mut fails = Vec::new(alloc);
-    for pair in step.words.chunks_exact(2).skip(1) {
-        if let [call, done] = pair {
-            fails.push(FailAt {
-                call: number(call),
-                done: *done == "done",
-            })?;
-        }
-    }
-    Ok(fails)
-}
-
-// Disks in memory that do not fail, of the bytes behind the name and a number.
+// Disks in memory that do not fail, of the bytes behind a number.
 fn disks(alloc: Global, step: &Step<'_>) -> Result<Vec<MemDisk>, AllocError> {
     let mut disks = Vec::new(alloc);
-    for word in step.words.iter().skip(2) {
+    for word in step.words_from(1) {
         disks.push(MemDisk::new(bytes(alloc, word)?, Vec::new(alloc)))?;
     }
     Ok(disks)
 }
 
-impl Case {
-    /// A case with no disk, and a shop in memory that has none.
+impl DiskCase {
+    /// No disk, and a shop in memory that has none.
     pub(crate) fn new(rt: HostRuntime, alloc: Global) -> Self {
-        Case {
+        DiskCase {
             rt,
             alloc,
             shop: MemShop::new(Vec::new(alloc), Vec::new(alloc)),
@@ -53,8 +40,8 @@ impl Case {
         }
     }
 
-    /// Makes a step.
-    pub(crate) fn step(&mut self, step: &Step<'_>) -> Result<Answer, AllocError> {
+    // Makes a step.
+    fn answer(&mut self, step: &Step<'_>) -> Result<Answer, AllocError> {
         match step.name {
             "folder" | "remove" | "file" => Ok(self.on_files(step)),
             "mem" => self.memory(step),
@@ -62,30 +49,20 @@ impl Case {
             "obtain" => Ok(self.obtain(step)),
             "home" => Ok(self.home(step)),
             "beside" => Ok(self.beside(step)),
-            "mount" | "append" | "close" | "reopen" | "reread" | "up" => Ok(self.on_journal(step)),
+            "mount" | "append" | "close" | "reopen" | "reread" | "up" => self.on_journal(step),
             _ => self.on_disk(step),
         }
     }
 
     // Makes or removes a folder, or reads a file, in the folder that the program runs in.
     fn on_files(&self, step: &Step<'_>) -> Answer {
-        let name = step.last();
-        let made = match step.name {
-            "folder" => fs::create_dir(&self.rt, name),
-            "remove" => fs::remove_dir_all(&self.rt, name),
-            _ => return self.file(name),
-        };
-        match made {
-            Ok(()) => Answer::Done,
-            Err(_) => Answer::NoFile,
-        }
-    }
-
-    // The bytes of a file.
-    fn file(&self, name: &str) -> Answer {
-        match fs::read(&self.rt, name) {
-            Ok(bytes) => Answer::Bytes(bytes),
-            Err(_) => Answer::NoFile,
+        match on_folders(&self.rt, step) {
+            Some(true) => Answer::Done,
+            Some(false) => Answer::NoFile,
+            None => match fs::read(&self.rt, step.word(0)) {
+                Ok(bytes) => Answer::Bytes(bytes),
+                Err(_) => Answer::NoFile,
+            },
         }
     }
 
@@ -102,9 +79,8 @@ impl Case {
 
     // Makes a disk in memory.
     fn memory(&mut self, step: &Step<'_>) -> Result<Answer, AllocError> {
-        let first = step.words.get(1).copied().unwrap_or("-");
-        let bytes = bytes(self.alloc, first)?;
-        let fails = fails(self.alloc, step)?;
+        let bytes = bytes(self.alloc, step.word(0))?;
+        let fails = step.fails(self.alloc, 1)?;
         Ok(self.take(Ok(HomeDisk::Memory(MemDisk::new(bytes, fails)))))
     }
 
@@ -126,7 +102,8 @@ impl Case {
     // Takes a disk from the real shop. A stroke is no place. The disk before it is let go of first, since it may hold
     // the lock of the same file.
     fn home(&mut self, step: &Step<'_>) -> Answer {
-        let place = if step.last() == "-" { "" } else { step.last() };
+        let place = step.word(1);
+        let place = if place == "-" { "" } else { place };
         self.state = State::Nothing;
         let disk = self.home.obtain(self.alloc, place, step.which());
         self.take(disk)
@@ -134,18 +111,18 @@ impl Case {
 
     // Asks the real shop for a disk beside the one at hand, and lets go of it.
     fn beside(&mut self, step: &Step<'_>) -> Answer {
-        match self.home.obtain(self.alloc, step.last(), step.which()) {
+        match self.home.obtain(self.alloc, step.word(1), step.which()) {
             Ok(_) => Answer::Done,
             Err(no) => Answer::Disk(no),
         }
     }
 
     // Makes a step on a journal.
-    fn on_journal(&mut self, step: &Step<'_>) -> Answer {
+    fn on_journal(&mut self, step: &Step<'_>) -> Result<Answer, AllocError> {
         let state = mem::replace(&mut self.state, State::Nothing);
-        let (state, answer) = records::step(self.alloc, state, step);
+        let (state, answer) = records::step(self.alloc, state, step)?;
         self.state = state;
-        answer
+        Ok(answer)
     }
 
     // Makes a step on a disk. A journal above it ends.
@@ -156,5 +133,11 @@ impl Case {
         let answer = device::step(self.alloc, &mut disk, step)?;
         self.state = State::Disk(disk);
         Ok(answer)
+    }
+}
+
+impl Case for DiskCase {
+    fn step(&mut self, step: &Step<'_>) -> Result<String, AllocError> {
+        self.answer(step)?.text(self.alloc)
     }
 }

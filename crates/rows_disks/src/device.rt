@@ -1,8 +1,9 @@
 //! Steps on a disk, by code that knows of no disk in particular.
 
 use crate::answer::Answer;
-use crate::step::Step;
+use crate::word::bytes;
 use qc_disk::{Disk, DiskNo, HomeDisk, MemDisk};
+use rows_kit::Step;
 use std::alloc::{AllocError, Global};
 use std::iter;
 
@@ -27,17 +28,23 @@ fn read_from<D: Disk>(alloc: Global, disk: &mut D, at: u64) -> Result<Vec<u8>, D
     Ok(bytes)
 }
 
+// Writes the bytes that a word says.
+fn put<D: Disk>(alloc: Global, disk: &mut D, at: u64, word: &str) -> Result<Answer, AllocError> {
+    let bytes = bytes(alloc, word)?;
+    Ok(Answer::done(write(disk, at, &bytes)))
+}
+
 // The calls of a disk.
-fn on_calls<D: Disk>(alloc: Global, disk: &mut D, step: &Step<'_>) -> Answer {
-    match step.name {
+fn on_calls<D: Disk>(alloc: Global, disk: &mut D, step: &Step<'_>) -> Result<Answer, AllocError> {
+    Ok(match step.name {
         "len" => Answer::number(disk.len()),
-        "add" => Answer::done(write(disk, u64::MAX, &step.bytes)),
-        "write" => Answer::done(write(disk, step.number, &step.bytes)),
-        "cut" => Answer::done(cut(disk, step.number)),
-        "read" => Answer::bytes(read_from(alloc, disk, step.number)),
+        "add" => return put(alloc, disk, u64::MAX, step.word(0)),
+        "write" => return put(alloc, disk, step.number(0), step.word(1)),
+        "cut" => Answer::done(cut(disk, step.number(0))),
+        "read" => Answer::bytes(read_from(alloc, disk, step.number(0))),
         "sync" => Answer::done(disk.sync()),
         _ => Answer::Unknown,
-    }
+    })
 }
 
 // What a crash just before a call may leave.
@@ -53,7 +60,7 @@ fn on_record(alloc: Global, disk: &MemDisk, step: &Step<'_>) -> Result<Answer, A
     match step.name {
         "bytes" => Ok(Answer::Bytes(disk.bytes().to_vec(alloc)?)),
         "calls" => Ok(Answer::Number(disk.calls())),
-        _ => images(alloc, disk, step.number),
+        _ => images(alloc, disk, step.number(0)),
     }
 }
 
@@ -68,6 +75,6 @@ pub(crate) fn step(
             HomeDisk::Memory(disk) => on_record(alloc, disk, step),
             HomeDisk::File(_) => Ok(Answer::Unknown),
         },
-        _ => Ok(on_calls(alloc, disk, step)),
+        _ => on_calls(alloc, disk, step),
     }
 }

@@ -4,10 +4,11 @@ ghost use Rattle.qc_journal.specs.Journal.{in_hand};
 
 use crate::answer::Answer;
 use crate::state::{Held, State};
-use crate::step::Step;
+use crate::word::bytes;
 use qc_disk::HomeDisk;
 use qc_journal::{Fault, Journal};
-use std::alloc::Global;
+use rows_kit::Step;
+use std::alloc::{AllocError, Global};
 
 // Mounts a journal.
 fn mount(alloc: Global, disk: HomeDisk, limit: u64) -> (State, Answer) {
@@ -71,17 +72,24 @@ fn close_held(held: Held) -> (State, Answer) {
     (State::Held(Held { journal }), Answer::Done)
 }
 
-fn on_journal(journal: Journal<HomeDisk>, step: &Step<'_>) -> (State, Answer) {
-    match step.name {
+fn on_journal(
+    alloc: Global,
+    journal: Journal<HomeDisk>,
+    step: &Step<'_>,
+) -> Result<(State, Answer), AllocError> {
+    Ok(match step.name {
         "close" => close(journal),
-        "append" => append(journal, &step.bytes),
+        "append" => {
+            let body = bytes(alloc, step.word(0))?;
+            append(journal, &body)
+        }
         "reread" => reread(journal),
         "up" => {
             let up = journal.is_up();
             (State::Journal(journal), Answer::Truth(up))
         }
         _ => (State::Journal(journal), Answer::Unknown),
-    }
+    })
 }
 
 fn on_held(held: Held, step: &Step<'_>) -> (State, Answer) {
@@ -98,11 +106,15 @@ fn on_held(held: Held, step: &Step<'_>) -> (State, Answer) {
 }
 
 /// Mounts a journal, or makes a step on one.
-pub(crate) fn step(alloc: Global, state: State, step: &Step<'_>) -> (State, Answer) {
+pub(crate) fn step(
+    alloc: Global,
+    state: State,
+    step: &Step<'_>,
+) -> Result<(State, Answer), AllocError> {
     match state {
-        State::Disk(disk) => mount(alloc, disk, step.number),
-        State::Journal(journal) => on_journal(journal, step),
-        State::Held(held) => on_held(held, step),
-        State::Nothing => (State::Nothing, Answer::Unknown),
+        State::Disk(disk) => Ok(mount(alloc, disk, step.number(0))),
+        State::Journal(journal) => on_journal(alloc, journal, step),
+        State::Held(held) => Ok(on_held(held, step)),
+        State::Nothing => Ok((State::Nothing, Answer::Unknown)),
     }
 }

@@ -4,15 +4,14 @@ ghost use Rattle.qc_codec.specs.Bodies as body;
 ghost use Rattle.qc_event.specs.History.{is_ready};
 ghost use Rattle.qc_pass.specs.Rules.{IsClient};
 
-use crate::answer::Answer;
-use crate::ledger::done;
-use crate::step::bytes;
+use crate::answer::{done, no_such, not_now};
 use qc_codec::{LedgerRecord, read_ledger};
 use qc_disk::MemDisk;
 use qc_event::{Base, Entry, Event, How, Name};
 use qc_ledger::{Book, Ledger};
 use qc_pass::{Blank, Desk, DeskNo, Pass, Store};
 use qc_trail::Trail;
+use rows_kit::bytes;
 use std::alloc::{AllocError, Global};
 use std::marker::Brand;
 use std::sync::Wait;
@@ -34,26 +33,27 @@ fn ready_top<N: Store, R: Wait>(rt: &R, desk: &Desk<N>, pass: &mut Pass<N>) -> R
 // Logs the next top by this record, where it is that top's.
 fn log_next<N: Store, R: Wait>(
     rt: &R,
+    alloc: Global,
     desk: &Desk<N>,
     pass: &mut Pass<N>,
     ledger: &mut Ledger<MemDisk, N>,
     told: &LedgerRecord,
-) -> Answer
+) -> Result<String, AllocError>
     requires client { IsClient pass.old }
     requires proper { body.ledger.fits told.now }
     ensures same { (pass.new.live ≡ pass.old.live) × (pass.new.number ≡ pass.old.number)
         × (pass.new.out ≡ pass.old.out) }
 {
     let Ok(ready) = ready_top(rt, desk, pass) else {
-        return Answer::NotNow;
+        return not_now(alloc);
     };
     let LedgerRecord::Top { top, aborted } = told else {
-        return Answer::NoSuch;
+        return no_such(alloc);
     };
     if *top != ready {
-        return Answer::NoSuch;
+        return no_such(alloc);
     }
-    done(ledger.log(rt, desk, pass, top, aborted.as_slice()))
+    done(alloc, ledger.log(rt, desk, pass, top, aborted.as_slice()))
 }
 
 // Logs the next top by the record that a word spells; or revives the ledger.
@@ -64,18 +64,18 @@ fn one_step<N: Store, R: Wait>(
     pass: &mut Pass<N>,
     ledger: &mut Ledger<MemDisk, N>,
     word: &str,
-) -> Result<Answer, AllocError>
+) -> Result<String, AllocError>
     requires client { IsClient pass.old }
     ensures same { (pass.new.live ≡ pass.old.live) × (pass.new.number ≡ pass.old.number)
         × (pass.new.out ≡ pass.old.out) }
 {
     if word == "revive" {
-        return Ok(done(ledger.revive(rt, desk)));
+        return done(alloc, ledger.revive(rt, desk));
     }
     let spelled = bytes(alloc, word)?;
     match read_ledger(alloc, &spelled) {
-        Ok(told) => Ok(log_next(rt, desk, pass, ledger, &told)),
-        Err(_) => Ok(Answer::NoSuch),
+        Ok(told) => log_next(rt, alloc, desk, pass, ledger, &told),
+        Err(_) => no_such(alloc),
     }
 }
 
@@ -95,7 +95,7 @@ fn all_steps<N: Store, R: Wait>(
     let mut text = String::new(alloc);
     for word in words {
         let answer = one_step(rt, alloc, desk, pass, ledger, word)?;
-        text.push_str(answer.text(alloc)?.as_str())?;
+        text.push_str(answer.as_str())?;
         text.push_str(", ")?;
     }
     Ok(text)
@@ -134,6 +134,13 @@ fn is_unable(entry: &Entry) -> bool {
     matches!(entry.event, Event::Unable { .. })
 }
 
+// How many commits stand in a history, and how many tops that the ledger was unable to log.
+fn counts(alloc: Global, entries: &[Entry]) -> Result<String, AllocError> {
+    let commits = entries.iter().filter(|entry| is_commit(entry)).count();
+    let unable = entries.iter().filter(|entry| is_unable(entry)).count();
+    format!(in alloc; "{commits} commits, {unable} unable")
+}
+
 /// The ledger of a new desk goes through these words, which spell the records of its tops, or say `revive`. It answers
 /// what each did, and how many commits stand in the history, and how many tops that the ledger was unable to log.
 pub(crate) fn over_desk<R: Wait>(
@@ -145,10 +152,7 @@ pub(crate) fn over_desk<R: Wait>(
 ) -> Result<(MemDisk, String), AllocError> {
     let blank = Blank::new(alloc, Base::new(Vec::new(alloc)), epoch.max(1))?;
     let (disk, trail, text) = run_named::<Brand, R>(rt, alloc, blank, book, words);
-    let steps = text?;
-    let entries = trail.to_vec(alloc)?;
-    let commits = entries.iter().filter(|entry| is_commit(entry)).count();
-    let unable = entries.iter().filter(|entry| is_unable(entry)).count();
-    let told = format!(in alloc; "{steps}{commits} commits, {unable} unable")?;
+    let mut told = text?;
+    told.push_str(counts(alloc, trail.to_vec(alloc)?.as_slice())?.as_str())?;
     Ok((disk, told))
 }

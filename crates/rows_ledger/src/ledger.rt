@@ -1,13 +1,12 @@
 //! Steps on a ledger.
-ghost use Rattle.std.specs.Prelude.{IfOk, IfSome};
 ghost use Rattle.qc_codec.specs.Bodies as body;
 
-use crate::answer::Answer;
+use crate::answer::{done, hand_text, mounted as mounted_text, no_such, not_now};
 use crate::state::State;
-use crate::step::{Step, bytes};
-use qc_codec::{LedgerRecord, Made, read_ledger, read_made};
+use qc_codec::{LedgerRecord, read_ledger};
 use qc_disk::MemDisk;
-use qc_ledger::{Book, LedgerNo, Shelf, mount};
+use qc_ledger::{Shelf, mount};
+use rows_kit::{Step, bytes, made_of, said};
 use std::alloc::{AllocError, Global};
 
 /// How disk 0 was made, for a store of one copy and the record `x`, which starts with 0.
@@ -16,73 +15,62 @@ const X0: &str = "010100010101780000000000000000010100010001";
 /// The same, where it starts with 1.
 const X1: &str = "010100010101780000000000000001010100010001";
 
-// How the ledger is made for a table.
-fn made_for(alloc: Global, table: &str) -> Result<Option<Made>, AllocError>
-    ensures { IfOk result (λ made. IfSome made (λ m. (body.table 1).fits m.table)) }
-{
-    let spelled = bytes(alloc, if table == "x1" { X1 } else { X0 })?;
-    match read_made(alloc, &spelled) {
-        Ok(made) => Ok(Some(made)),
-        Err(_) => Ok(None),
-    }
-}
-
-// Mounts a ledger.
+/// Mounts a ledger.
 pub(crate) fn mounted(
     alloc: Global,
     disk: MemDisk,
     step: &Step<'_>,
-) -> Result<(State, Answer), AllocError> {
-    let Some(made) = made_for(alloc, step.word(1))? else {
-        return Ok((State::Disk(disk), Answer::NoSuch));
+) -> Result<(State, String), AllocError> {
+    let spelled = if step.word(1) == "x1" { X1 } else { X0 };
+    let Some(made) = made_of(alloc, spelled)? else {
+        return State::Disk(disk).no_such(alloc);
     };
-    match mount(alloc, disk, &made.table, step.number()) {
-        Ok((book, past, epoch)) => Ok((State::Book(book, epoch), Answer::Mounted(epoch, past))),
-        Err((disk, no)) => Ok((State::Disk(disk), Answer::Refused(no))),
-    }
-}
-
-// What a step on an open ledger answers that gives nothing.
-pub(crate) fn done(answer: Result<(), LedgerNo>) -> Answer {
-    match answer {
-        Ok(()) => Answer::Done,
-        Err(no) => Answer::Refused(no),
+    match mount(alloc, disk, &made.table, step.number(0)) {
+        Ok((book, past, epoch)) => {
+            let text = mounted_text(alloc, epoch, &past)?;
+            Ok((State::Book(book, epoch), text))
+        }
+        Err((disk, no)) => Ok((State::Disk(disk), no.to_string(alloc)?)),
     }
 }
 
 // Logs a top, where the ledger is up with nothing in hand.
-fn log_top(shelf: &mut Shelf<MemDisk>, told: &LedgerRecord) -> Answer
+fn log_top(
+    alloc: Global,
+    shelf: &mut Shelf<MemDisk>,
+    told: &LedgerRecord,
+) -> Result<String, AllocError>
     requires { body.ledger.fits told.now }
 {
     let LedgerRecord::Top { top, aborted } = told else {
-        return Answer::NoSuch;
+        return no_such(alloc);
     };
     if !shelf.is_up() {
-        return Answer::NotNow;
+        return not_now(alloc);
     }
     match shelf.hand() {
-        Some(_) => Answer::NotNow,
-        None => done(shelf.log(top, aborted.as_slice())),
+        Some(_) => not_now(alloc),
+        None => done(alloc, shelf.log(top, aborted.as_slice())),
     }
 }
 
 // Logs the top that bytes tell.
-fn log(alloc: Global, shelf: &mut Shelf<MemDisk>, word: &str) -> Result<Answer, AllocError> {
+fn log(alloc: Global, shelf: &mut Shelf<MemDisk>, word: &str) -> Result<String, AllocError> {
     let spelled = bytes(alloc, word)?;
     match read_ledger(alloc, &spelled) {
-        Ok(told) => Ok(log_top(shelf, &told)),
-        Err(_) => Ok(Answer::NoSuch),
+        Ok(told) => log_top(alloc, shelf, &told),
+        Err(_) => no_such(alloc),
     }
 }
 
 // Revives a ledger, where it is down.
-fn revive(shelf: &mut Shelf<MemDisk>) -> Answer {
+fn revive(alloc: Global, shelf: &mut Shelf<MemDisk>) -> Result<String, AllocError> {
     if shelf.is_up() {
-        return Answer::NotNow;
+        return not_now(alloc);
     }
     match shelf.revive() {
-        Ok(stands) => Answer::Truth(stands),
-        Err(no) => Answer::Refused(no),
+        Ok(stands) => stands.to_string(alloc),
+        Err(no) => no.to_string(alloc),
     }
 }
 
@@ -91,25 +79,16 @@ pub(crate) fn on_shelf(
     alloc: Global,
     shelf: &mut Shelf<MemDisk>,
     step: &Step<'_>,
-) -> Result<Answer, AllocError> {
+) -> Result<String, AllocError> {
     match step.name {
         "log" => log(alloc, shelf, step.word(0)),
-        "revive" => Ok(revive(shelf)),
+        "revive" => revive(alloc, shelf),
         "let" => {
             shelf.let_go();
-            Ok(Answer::Done)
+            said(alloc, "ok")
         }
-        "hand" => Ok(Answer::Hand(shelf.hand())),
-        "up" => Ok(Answer::Truth(shelf.is_up())),
-        _ => Ok(Answer::NoSuch),
+        "hand" => hand_text(alloc, &shelf.hand()),
+        "up" => shelf.is_up().to_string(alloc),
+        _ => no_such(alloc),
     }
-}
-
-/// The records of a mounted ledger.
-pub(crate) fn records(alloc: Global, book: &Book<MemDisk>) -> Result<Answer, AllocError> {
-    let mut bodies = Vec::new(alloc);
-    for body in book.records() {
-        bodies.push(body.as_slice().to_vec(alloc)?)?;
-    }
-    Ok(Answer::Records(bodies))
 }

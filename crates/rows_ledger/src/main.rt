@@ -15,46 +15,21 @@
 mod answer;
 mod case;
 mod desk;
-mod image;
 mod ledger;
 mod state;
-mod step;
 
-use case::Case;
-use std::alloc::{AllocError, Global};
+use case::LedgerCase;
+use rows_kit::{is_title, print_steps};
 use std::io;
-use std::sync::Wait;
-use step::Step;
-
-// What each step of a case answered, one behind another.
-fn answers<R: Wait>(rt: &R, alloc: Global, line: &str) -> Result<Vec<String>, AllocError> {
-    let mut case = Case::new(alloc);
-    let mut lines = Vec::new(alloc);
-    for text in line.split(';') {
-        let text = text.trim_ascii();
-        let step = Step::of(alloc, text)?;
-        let answer = case.step(rt, &step)?.text(alloc)?;
-        lines.push(format!(in alloc; "{text}: {answer}")?)?;
-    }
-    Ok(lines)
-}
-
-fn print(rt: HostRuntime, lines: &[String]) -> io::Result<()> {
-    for line in lines {
-        println!(rt; "{line}")?;
-    }
-    Ok(())
-}
 
 fn main(rt: HostRuntime) -> io::Result<()> {
     let alloc = rt.alloc();
     for line in rt.lines(alloc) {
         let line = line?;
-        if line.is_empty() || line.as_bytes()[0] == b'#' {
+        if is_title(line.as_str()) {
             println!(rt; "{line}")?;
         } else {
-            let lines = answers(&rt, alloc, line.as_str())?;
-            print(rt, lines.as_slice())?;
+            print_steps(&rt, &mut LedgerCase::new(&rt, alloc), line.as_str())?;
         }
     }
     Ok(())

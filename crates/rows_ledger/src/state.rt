@@ -1,7 +1,9 @@
 //! What a case stands on.
 
+use crate::answer::no_such;
 use qc_disk::MemDisk;
 use qc_ledger::{Book, Shelf};
+use std::alloc::{AllocError, Global};
 
 /// What a case stands on.
 #[derive(Drop)]
@@ -22,5 +24,10 @@ impl State {
             State::Book(book, _) => Some(book.into_disk()),
             State::Shelf(shelf) => Some(shelf.into_disk()),
         }
+    }
+
+    /// It stays, and answers that it has no such step.
+    pub(crate) fn no_such(self, alloc: Global) -> Result<(State, String), AllocError> {
+        Ok((self, no_such(alloc)?))
     }
 }

@@ -15,35 +15,20 @@
 
 mod answer;
 mod case;
-mod image;
 mod mounting;
-mod step;
 
-use case::Case;
-use std::alloc::Global;
+use case::StoreCase;
+use rows_kit::{is_title, print_steps};
 use std::io;
-use step::Step;
-
-// Goes through the steps of one case.
-fn go(rt: HostRuntime, alloc: Global, line: &str) -> io::Result<()> {
-    let mut case = Case::new(rt, alloc);
-    for text in line.split(';') {
-        let text = text.trim_ascii();
-        let step = Step::of(alloc, text)?;
-        let answer = case.step(&step)?;
-        println!(rt; "{text}: {}", answer.as_str())?;
-    }
-    Ok(())
-}
 
 fn main(rt: HostRuntime) -> io::Result<()> {
     let alloc = rt.alloc();
     for line in rt.lines(alloc) {
         let line = line?;
-        if line.is_empty() || line.as_bytes()[0] == b'#' {
+        if is_title(line.as_str()) {
             println!(rt; "{line}")?;
         } else {
-            go(rt, alloc, line.as_str())?;
+            print_steps(&rt, &mut StoreCase::new(rt, alloc), line.as_str())?;
         }
     }
     Ok(())

@@ -1,24 +1,12 @@
 //! Mounting a store.
-ghost use Rattle.std.specs.Prelude.{IfOk, IfSome};
 ghost use Rattle.qc_codec.specs.Bodies as body;
 
-use crate::answer::{failed, refused, store};
-use crate::step::bytes;
-use qc_codec::{Made, read_made};
+use crate::answer::{failed, store};
+use qc_codec::Made;
 use qc_disk::{Disk, Shop};
 use qc_mount::{MountNo, Parts, mount};
+use rows_kit::said;
 use std::alloc::{AllocError, Global};
-
-/// How a disk was made, by the body of that record.
-pub(crate) fn made_by(alloc: Global, word: &str) -> Result<Option<Made>, AllocError>
-    ensures { IfOk result (λ made. IfSome made (λ m. (body.table 1).fits m.table)) }
-{
-    let spelled = bytes(alloc, word)?;
-    match read_made(alloc, &spelled) {
-        Ok(made) => Ok(Some(made)),
-        Err(_) => Ok(None),
-    }
-}
 
 // The disks of a store, in the order of their numbers.
 fn disks_of<D: Disk + Drop>(alloc: Global, parts: Parts<D>) -> Result<Vec<D>, AllocError> {
@@ -47,8 +35,8 @@ pub(crate) fn mounted<D: Disk + Send + Drop, H: Shop<D = D>>(
             Ok((text, disks_of(alloc, parts)?))
         }
         Err(MountNo::Disk { which, disks }) => Ok((failed(alloc, which)?, disks)),
-        Err(MountNo::Image { fault, disks }) => Ok((refused(alloc, &fault)?, disks)),
-        Err(MountNo::Memory { disks }) => Ok((String::from_str(alloc, "no memory")?, disks)),
+        Err(MountNo::Image { fault, disks }) => Ok((fault.to_string(alloc)?, disks)),
+        Err(MountNo::Memory { disks }) => Ok((said(alloc, "no memory")?, disks)),
     }
 }
 

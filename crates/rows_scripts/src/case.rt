@@ -1,8 +1,8 @@
 //! Cases, and how they are run.
-use crate::shelf::Shelf;
 use qc_disk::MemDisk;
 use qc_run::io::{MemSink, MemSource};
 use qc_run::{NoGate, Ran, run};
+use rows_kit::Shelf;
 use std::alloc::{AllocError, Global};
 use std::sync::Wait;
 use std::thread::Threads;
@@ -34,6 +34,20 @@ impl<'l> Case<'l> {
             sink_fails: fields.next()?.parse::<u64>().ok()?,
             script: fields.next()?,
             length: fields.next().unwrap_or("0").parse::<usize>().ok()?,
+        })
+    }
+
+    /// `gen N`: that command, over a source that fails when it is read.
+    pub(crate) fn made(line: &'l str) -> Option<Self> {
+        if !line.starts_with("gen ") {
+            return None;
+        }
+        Some(Case {
+            words: line,
+            source_fails: 1,
+            sink_fails: 0,
+            script: "",
+            length: 0,
         })
     }
 

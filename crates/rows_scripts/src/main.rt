@@ -11,23 +11,24 @@
 //! - `fail N CALL done CALL not ..`: disk N fails at these calls, its work done or not.
 //! - `shop N ..`: the shop fails at these numbers.
 //!
-//! A line `bytes:` prints what the disks that came back from the last case have, in hex.
+//! A line `bytes:` prints what the disks that came back from the last case have, in hex. A line `gen N` runs that command
+//! over a source that fails when it is read, and `text N SCRIPT` tells whether the script made of N is the one that the
+//! text is.
 #![tactic(auto)]
 
 mod case;
-mod shelf;
-mod step;
+mod same;
 mod told;
 
 use case::Case;
 use qc_run::{Status, fault_line};
-use shelf::Shelf;
+use rows_kit::{Shelf, Step, is_title};
+use same::print_same;
 use std::alloc::Global;
 use std::io;
 use std::sync::Wait;
 use std::thread::Threads;
-use step::Step;
-use told::{print_disks, print_outcome, print_text};
+use told::{print_disks, print_end, print_outcome, print_text};
 
 // Prints the line of each status that no case can reach.
 fn print_unreached(rt: &HostRuntime, alloc: Global) -> io::Result<()> {
@@ -42,33 +43,49 @@ fn print_unreached(rt: &HostRuntime, alloc: Global) -> io::Result<()> {
 fn prepare(rt: &HostRuntime, alloc: Global, shelf: &mut Shelf, steps: &str) -> io::Result<()> {
     println!(rt; "disks:{steps}")?;
     for text in steps.split(';') {
-        if !shelf.step(&Step::of(alloc, text)?)? {
+        if shelf.step(&Step::of(alloc, text)?)?.is_none() {
             println!(rt; "no step: {text}")?;
         }
     }
     Ok(())
 }
 
-// Prints a line, makes its steps, or runs the case that it is.
-fn answer<R: Threads + Wait + Sync>(
+// Runs the case that a line is, or compares its text.
+fn run_line<R: Threads + Wait + Sync>(
     handle: &R,
     rt: &HostRuntime,
-    alloc: Global,
     shelf: &mut Shelf,
     line: &str,
 ) -> io::Result<()> {
-    if line.is_empty() || line.starts_with('#') {
+    let alloc = rt.alloc();
+    if let Some(case) = Case::of(line) {
+        return print_outcome(rt, &case.run(handle, alloc, shelf)?);
+    }
+    if let Some(case) = Case::made(line) {
+        return print_end(rt, &case.run(handle, alloc, shelf)?);
+    }
+    match line.strip_prefix("text ") {
+        Some(text) => print_same(rt, alloc, text),
+        None => println!(rt; "no case: {line}"),
+    }
+}
+
+// Prints a line, makes its steps, or runs it.
+fn answer<R: Threads + Wait + Sync>(
+    handle: &R,
+    rt: &HostRuntime,
+    shelf: &mut Shelf,
+    line: &str,
+) -> io::Result<()> {
+    if is_title(line) {
         return println!(rt; "{line}");
     }
     if line == "bytes:" {
-        return print_disks(rt, alloc, shelf.back());
+        return print_disks(rt, rt.alloc(), shelf.back());
     }
-    if let Some(steps) = line.strip_prefix("disks:") {
-        return prepare(rt, alloc, shelf, steps);
-    }
-    match Case::of(line) {
-        Some(case) => print_outcome(rt, &case.run(handle, alloc, shelf)?),
-        None => println!(rt; "no case: {line}"),
+    match line.strip_prefix("disks:") {
+        Some(steps) => prepare(rt, rt.alloc(), shelf, steps),
+        None => run_line(handle, rt, shelf, line),
     }
 }
 
@@ -77,7 +94,7 @@ fn main(rt: HostRuntime) -> io::Result<()> {
     print_unreached(&rt, alloc)?;
     let mut shelf = Shelf::new(alloc);
     for line in rt.lines(alloc) {
-        answer(&rt, &rt, alloc, &mut shelf, line?.as_str())?;
+        answer(&rt, &rt, &mut shelf, line?.as_str())?;
     }
     Ok(())
 }

@@ -16,6 +16,12 @@ pub(crate) fn print_outcome(rt: &HostRuntime, outcome: &Outcome) -> io::Result<(
     print_text(rt, outcome.sink.bytes())
 }
 
+/// Prints the status and the text that was written.
+pub(crate) fn print_end(rt: &HostRuntime, outcome: &Outcome) -> io::Result<()> {
+    println!(rt; "status {}", outcome.ran.status.code())?;
+    print_text(rt, outcome.sink.bytes())
+}
+
 /// Prints a text as it is.
 pub(crate) fn print_text(rt: &HostRuntime, bytes: &[u8]) -> io::Result<()> {
     match std::str::from_utf8(bytes) {

@@ -4,12 +4,8 @@ use qc_codec::read_grant;
 use qc_event::{Answered, Entry, Event, Grant, Op, Short};
 use qc_journal::Body;
 use qc_site::Strange;
+use rows_kit::said;
 use std::alloc::{AllocError, Global};
-
-/// A text of its own.
-pub(crate) fn said(alloc: Global, text: &str) -> Result<String, AllocError> {
-    String::from_str(alloc, text)
-}
 
 /// A line: what was to be done, and what was answered.
 pub(crate) fn told(alloc: Global, step: &str, answer: &str) -> Result<String, AllocError> {
@@ -54,6 +50,18 @@ fn access(alloc: Global, grant: &Option<Grant>) -> Result<String, AllocError> {
     }
 }
 
+// At which record the disk differs from the history, and both accesses.
+fn differs(
+    alloc: Global,
+    index: u64,
+    disk: &Option<Grant>,
+    desk: &Option<Grant>,
+) -> Result<String, AllocError> {
+    let disk = access(alloc, disk)?;
+    let desk = access(alloc, desk)?;
+    format!(in alloc; "at {index} the disk has {disk} and the history {desk}")
+}
+
 /// Why a site is strange.
 pub(crate) fn strange(alloc: Global, why: &Strange) -> Result<String, AllocError> {
     match why {
@@ -62,11 +70,7 @@ pub(crate) fn strange(alloc: Global, why: &Strange) -> Result<String, AllocError
         Strange::Short { records, old } => {
             format!(in alloc; "{records} records where {old} were")
         }
-        Strange::Differs { index, disk, desk } => {
-            let disk = access(alloc, disk)?;
-            let desk = access(alloc, desk)?;
-            format!(in alloc; "at {index} the disk has {disk} and the history {desk}")
-        }
+        Strange::Differs { index, disk, desk } => differs(alloc, *index, disk, desk),
     }
 }
 
@@ -100,14 +104,17 @@ fn is_unable(entry: &Entry) -> bool {
     matches!(entry.event, Event::Unable { .. })
 }
 
-/// What copies did in a history: how many grants there are, refusals and words of being unable, and each grant.
-pub(crate) fn history(alloc: Global, entries: &[Entry]) -> Result<String, AllocError> {
+// How many grants there are, refusals and words of being unable.
+fn counts(alloc: Global, entries: &[Entry]) -> Result<String, AllocError> {
     let granted = entries.iter().filter(|entry| is_granted(entry)).count();
     let refused = entries.iter().filter(|entry| is_refused(entry)).count();
     let unable = entries.iter().filter(|entry| is_unable(entry)).count();
-    let mut text = format!(in alloc;
-        "history: {granted} granted, {refused} refused, {unable} unable"
-    )?;
+    format!(in alloc; "history: {granted} granted, {refused} refused, {unable} unable")
+}
+
+/// What copies did in a history: how many grants there are, refusals and words of being unable, and each grant.
+pub(crate) fn history(alloc: Global, entries: &[Entry]) -> Result<String, AllocError> {
+    let mut text = counts(alloc, entries)?;
     for entry in entries {
         if let Event::Granted { grant: given, .. } = &entry.event {
             text.push_str(grant(alloc, given)?.as_str())?;

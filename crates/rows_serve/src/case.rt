@@ -1,13 +1,13 @@
 //! A case: its disk.
 
-use crate::answer::{records, said, told};
+use crate::answer::{records, told};
 use crate::run::over_desk;
 use crate::start::mounted;
-use crate::step::Step;
 use qc_disk::{HomeDisk, HomeShop, MemDisk, Shop};
+use rows_kit::{Step, on_folders, said, with_fails};
 use std::alloc::{AllocError, Global};
+use std::mem;
 use std::sync::Wait;
-use std::{fs, mem};
 
 /// A case: its disk, and how many runs there were over it.
 #[derive(Drop)]
@@ -54,8 +54,7 @@ impl Case {
 
     // An empty disk in memory.
     fn memory(&mut self, step: &Step<'_>) -> Result<String, AllocError> {
-        let fails = step.fails(self.alloc)?;
-        let disk = MemDisk::new(Vec::new(self.alloc), fails);
+        let disk = with_fails(self.alloc, Vec::new(self.alloc), step)?;
         self.disk = Some(HomeDisk::Memory(disk));
         self.runs = 0;
         self.said("ok")
@@ -123,7 +122,7 @@ impl Case {
             lines.push(told(self.alloc, first, "no such disk")?)?;
             return Ok(lines);
         };
-        let limit = Step::of(self.alloc, first)?.number();
+        let limit = Step::of(self.alloc, first)?.number(0);
         match mounted(self.alloc, disk, self.runs, limit)? {
             Ok(copy) => {
                 self.runs = self.runs.saturating_add(1);
@@ -144,11 +143,10 @@ impl Case {
 
     // Makes or removes a folder, in the folder that the program runs in.
     fn on_folders(&self, step: &Step<'_>) -> Result<String, AllocError> {
-        let made = match step.name {
-            "folder" => fs::create_dir(&self.home, step.word(0)),
-            "remove" => fs::remove_dir_all(&self.home, step.word(0)),
-            _ => return self.said("no such step"),
-        };
-        self.said(if made.is_ok() { "ok" } else { "refused" })
+        self.said(match on_folders(&self.home, step) {
+            Some(true) => "ok",
+            Some(false) => "refused",
+            None => "no such step",
+        })
     }
 }

@@ -26,34 +26,24 @@ mod client;
 mod run;
 mod serve;
 mod start;
-mod step;
 mod words;
 
 use case::Case;
-use std::alloc::{AllocError, Global};
+use rows_kit::is_title;
 use std::io;
 use std::sync::Wait;
 
-// What each step of a case answered, one behind another.
-fn answers<R: Wait>(
-    rt: &R,
-    home: HostRuntime,
-    alloc: Global,
+// Makes the steps of a case, and prints what each answered.
+fn print_case<R: Wait>(
+    handle: &R,
+    rt: &HostRuntime,
+    case: &mut Case,
     line: &str,
-) -> Result<Vec<String>, AllocError> {
-    let mut case = Case::new(home, alloc);
-    let mut lines = Vec::new(alloc);
+) -> io::Result<()> {
     for text in line.split(';') {
-        for told in case.step(rt, text.trim_ascii())? {
-            lines.push(told)?;
+        for told in case.step(handle, text.trim_ascii())? {
+            println!(rt; "{told}")?;
         }
-    }
-    Ok(lines)
-}
-
-fn print(rt: HostRuntime, lines: &[String]) -> io::Result<()> {
-    for line in lines {
-        println!(rt; "{line}")?;
     }
     Ok(())
 }
@@ -62,11 +52,10 @@ fn main(rt: HostRuntime) -> io::Result<()> {
     let alloc = rt.alloc();
     for line in rt.lines(alloc) {
         let line = line?;
-        if line.is_empty() || line.as_bytes()[0] == b'#' {
+        if is_title(line.as_str()) {
             println!(rt; "{line}")?;
         } else {
-            let lines = answers(&rt, rt, alloc, line.as_str())?;
-            print(rt, lines.as_slice())?;
+            print_case(&rt, &rt, &mut Case::new(rt, alloc), line.as_str())?;
         }
     }
     Ok(())

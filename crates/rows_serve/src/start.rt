@@ -1,31 +1,19 @@
 //! The one copy of the store, mounted; and with which tuples it may start.
 ghost use Rattle.std.specs.Prelude.{◌≡◌, [], ◌∷◌, IfOk, IfSome, IsTrue};
-ghost use Rattle.qc_codec.specs.Bodies as body;
 ghost use Rattle.qc_site.specs.Mounted.{copies_of, copy_of};
 ghost use Rattle.rows_serve.specs.TwoRecords as words;
 
-use crate::step::bytes;
-use qc_codec::{Made, Past, Tops, read_made};
+use qc_codec::{Past, Tops};
 use qc_config::{Config, Tuple};
 use qc_disk::HomeDisk;
 use qc_event::Base;
 use qc_scan::same_config;
 use qc_site::{Mounted, mount};
+use rows_kit::{made_of, said};
 use std::alloc::{AllocError, Global};
 
 /// How the copy's disk was made: one copy, with the record `x`, which starts with 5, and `y`, which starts with 7.
 const MADE: &str = "01010101020178000000000000000501010001000101790000000000000007010100010001";
-
-// How the copy's disk is made.
-fn made(alloc: Global) -> Result<Option<Made>, AllocError>
-    ensures { IfOk result (λ made. IfSome made (λ m. (body.table 1).fits m.table)) }
-{
-    let spelled = bytes(alloc, MADE)?;
-    match read_made(alloc, &spelled) {
-        Ok(made) => Ok(Some(made)),
-        Err(_) => Ok(None),
-    }
-}
 
 /// Mounts the copy behind a ledger that told so many epochs, and no top. A refusal hands the disk back, with its text.
 pub(crate) fn mounted(
@@ -40,9 +28,9 @@ pub(crate) fn mounted(
         epoch,
         tops: Tops::new(Vec::new(alloc)),
     };
-    let made = match made(alloc)? {
+    let made = match made_of(alloc, MADE)? {
         Some(made) if made.table.copies == 1 => made,
-        _ => return Ok(Err((disk, String::from_str(alloc, "no table")?))),
+        _ => return Ok(Err((disk, said(alloc, "no table")?))),
     };
     match mount(alloc, 0, disk, &made.table, &past, limit) {
         Ok(copy) => Ok(Ok(copy)),

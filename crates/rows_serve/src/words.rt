@@ -7,13 +7,13 @@ ghost use Rattle.qc_pass.specs.Rules.{IsClient};
 ghost use Rattle.rows_serve.specs.Requests.{Knows};
 ghost use Rattle.rows_serve.specs.TwoRecords.{IsOver};
 
-use crate::answer::{said, served, strange};
+use crate::answer::{served, strange};
 use crate::client::{Client, abort, plain, put, replied, set};
 use crate::serve::serve;
-use crate::step::{Step, bytes, number};
 use qc_disk::HomeDisk;
 use qc_pass::{Desk, Pass, Store};
 use qc_site::Site;
+use rows_kit::{Step, bytes, said};
 use std::alloc::{AllocError, Global};
 use std::fs::OpenOptions;
 use std::os::unix::fs::FileExt;
@@ -75,7 +75,7 @@ fn begin<N: Store, R: Wait>(
 {
     let before = plain(&client.now);
     let rec = record_of(step.word(0));
-    match set(tools.rt, desk, pass, rec, number(step.word(1))) {
+    match set(tools.rt, desk, pass, rec, step.number(1)) {
         Ok(request) => {
             client.now = Some(request);
             client.before = before;
@@ -166,7 +166,7 @@ fn spoil(home: HostRuntime, alloc: Global, step: &Step<'_>) -> Result<String, Al
     let Ok(file) = options.open(&home, path.as_str()) else {
         return said(alloc, "refused");
     };
-    match file.write_all_at(&written, number(step.word(1))) {
+    match file.write_all_at(&written, step.number(1)) {
         Ok(()) => said(alloc, "ok"),
         Err(_) => said(alloc, "refused"),
     }

@@ -1,30 +1,17 @@
 //! Mounting a copy.
-ghost use Rattle.std.specs.Prelude.{IfOk, IfSome};
 ghost use Rattle.qc_codec.specs.Bodies as body;
 
-use crate::answer::Answer;
 use crate::state::State;
-use crate::step::{Step, bytes};
-use qc_codec::{LedgerRecord, Logged, Made, Past, Tops, read_ledger, read_made};
+use qc_codec::{LedgerRecord, Logged, Made, Past, Tops, read_ledger};
 use qc_disk::MemDisk;
 use qc_site::mount;
+use rows_kit::{Step, bytes, made_of, said};
 use std::alloc::{AllocError, Global};
 
 // A generic push: one at the type of logged tops may get no proof.
 fn append<T: Drop>(items: &mut Vec<T>, item: T) -> Result<(), AllocError> {
     items.push(item)?;
     Ok(())
-}
-
-/// How a disk was made, by the body of that record.
-pub(crate) fn made_by(alloc: Global, word: &str) -> Result<Option<Made>, AllocError>
-    ensures { IfOk result (λ made. IfSome made (λ m. (body.table 1).fits m.table)) }
-{
-    let spelled = bytes(alloc, word)?;
-    match read_made(alloc, &spelled) {
-        Ok(made) => Ok(Some(made)),
-        Err(_) => Ok(None),
-    }
 }
 
 // The top that a record tells.
@@ -59,15 +46,21 @@ fn past_by(alloc: Global, epoch: u32, words: &[&str]) -> Result<Past, AllocError
 }
 
 // Mounts the copy of a made record.
-fn mounted_by(alloc: Global, disk: MemDisk, made: &Made, past: &Past, limit: u64) -> (State, Answer)
+fn mounted_by(
+    alloc: Global,
+    disk: MemDisk,
+    made: &Made,
+    past: &Past,
+    limit: u64,
+) -> Result<(State, String), AllocError>
     requires { (body.table 1).fits made.now.table }
 {
     if made.who == 0 || made.who > made.table.copies {
-        return (State::Disk(disk), Answer::NoSuch);
+        return State::Disk(disk).no_such(alloc);
     }
     match mount(alloc, made.who - 1, disk, &made.table, past, limit) {
-        Ok(site) => (State::Mounted(site), Answer::Done),
-        Err((disk, no)) => (State::Disk(disk), Answer::Refused(no)),
+        Ok(site) => Ok((State::Mounted(site), said(alloc, "ok")?)),
+        Err((disk, no)) => Ok((State::Disk(disk), no.to_string(alloc)?)),
     }
 }
 
@@ -76,11 +69,11 @@ pub(crate) fn mounted(
     alloc: Global,
     disk: MemDisk,
     step: &Step<'_>,
-) -> Result<(State, Answer), AllocError> {
-    let Some(made) = made_by(alloc, step.word(1))? else {
-        return Ok((State::Disk(disk), Answer::NoSuch));
+) -> Result<(State, String), AllocError> {
+    let Some(made) = made_of(alloc, step.word(1))? else {
+        return State::Disk(disk).no_such(alloc);
     };
     let epoch = step.word(2).parse::<u32>().unwrap_or(0);
-    let past = past_by(alloc, epoch, step.words.get(3..).unwrap_or(&[]))?;
-    Ok(mounted_by(alloc, disk, &made, &past, step.number()))
+    let past = past_by(alloc, epoch, step.words_from(3))?;
+    mounted_by(alloc, disk, &made, &past, step.number(0))
 }

@@ -2,6 +2,8 @@
 
 use qc_disk::MemDisk;
 use qc_site::Mounted;
+use rows_kit::said;
+use std::alloc::{AllocError, Global};
 
 /// What a case stands on.
 #[derive(Drop)]
@@ -19,5 +21,10 @@ impl State {
             State::Disk(disk) => Some(disk),
             State::Mounted(site) => Some(site.into_disk()),
         }
+    }
+
+    /// It stays, and answers that it has no such step.
+    pub(crate) fn no_such(self, alloc: Global) -> Result<(State, String), AllocError> {
+        Ok((self, said(alloc, "no such step here")?))
     }
 }

@@ -4,7 +4,7 @@ use crate::step::bytes;
 use std::alloc::{AllocError, Global};
 
 /// The image of a journal with records of these bodies, in hex.
-pub(crate) fn image(alloc: Global, bodies: &[&str]) -> Result<Vec<u8>, AllocError> {
+pub fn image(alloc: Global, bodies: &[&str]) -> Result<Vec<u8>, AllocError> {
     let mut image = Vec::new(alloc);
     for word in bodies {
         let body = bytes(alloc, word)?;
