@@ -1,3 +1,5 @@
+//! Why a trail does not follow its script.
+
 use qc_event::Name;
 use std::alloc::{AllocError, AllocFailed};
 use thiserror::Error;

@@ -1,3 +1,5 @@
+//! Why a transaction comes no further through its steps.
+
 use qc_event::Name;
 
 /// Why a transaction comes no further through its steps, which are counted from 0.

@@ -1,3 +1,5 @@
+//! Whether a trail follows its script.
+
 use crate::bodies::Bodies;
 use crate::deeds::{Deed, Told};
 use crate::ends::check_body;

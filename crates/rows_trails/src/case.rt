@@ -1,3 +1,5 @@
+//! What a case has so far.
+
 use crate::setting::Setting;
 use crate::settlement::Settlement;
 use crate::wrong::Wrong;

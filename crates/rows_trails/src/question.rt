@@ -1,3 +1,5 @@
+//! Questions of a line, and their answers.
+
 use crate::case::Case;
 use crate::edit::{copied, edited};
 use crate::told::Told;

@@ -1,3 +1,5 @@
+//! Lines that set up a case.
+
 use crate::wrong::Wrong;
 use qc_event::{Label, Name, Op, Outcome, Row, Tuple};
 use qc_serial::SerialEvent;

@@ -1,3 +1,5 @@
+//! What a question is answered, and its text.
+
 use qc_audit::Illegal;
 use qc_event::{Answered, Kind, Name, Outcome, Tuple, Val};
 use qc_moss::{Holder, Test};

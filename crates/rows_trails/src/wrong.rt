@@ -1,3 +1,5 @@
+//! Why a line cannot be taken.
+
 use qc_event::Short;
 use rows_text::BadLine;
 use std::alloc::{AllocError, AllocFailed};
