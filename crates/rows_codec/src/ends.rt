@@ -1,6 +1,6 @@
 //! How transactions ended.
-use qc_event::{Answer, Cause, How, Lack};
-use rows_text::TupleText;
+use qc_event::{Answer, Cause, How};
+use rows_text::{LackText, TupleText};
 use std::io;
 
 fn print_answer(rt: &HostRuntime, answer: &Answer) -> io::Result<()> {
@@ -15,27 +15,14 @@ fn print_answer(rt: &HostRuntime, answer: &Answer) -> io::Result<()> {
     }
 }
 
-fn print_lack(rt: &HostRuntime, lack: &Lack) -> io::Result<()> {
-    print!(rt; "noquorum {:?}, replied", lack.phase)?;
-    for (copy, replied) in lack.replied.as_slice().iter().enumerate() {
-        if *replied {
-            print!(rt; " {copy}")?;
-        }
-    }
-    print!(rt; ", missing")?;
-    for (copy, why) in lack.missing.iter().enumerate() {
-        if let Some(why) = why {
-            print!(rt; " {copy} {why:?}")?;
-        }
-    }
-    println!(rt;)
-}
-
 fn print_cause(rt: &HostRuntime, cause: &Cause) -> io::Result<()> {
     match cause {
         Cause::Asked { by } => println!(rt; "asked {by}"),
         Cause::Conflict { copy, holder } => println!(rt; "conflict copy {copy} holder {holder}"),
-        Cause::NoQuorum(lack) => print_lack(rt, lack),
+        Cause::NoQuorum(lack) => {
+            let lack = LackText(*lack);
+            println!(rt; "noquorum {lack}")
+        }
         Cause::Last => println!(rt; "last"),
         Cause::Orphan(ancestor) => println!(rt; "orphan {ancestor}"),
         Cause::Killed => println!(rt; "killed"),

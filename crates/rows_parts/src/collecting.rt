@@ -2,9 +2,9 @@
 ghost use Rattle.std.specs.Prelude.{◌<◌, IfOk};
 
 use crate::Answer;
-use qc_event::{Lack, Phase, Why};
+use qc_event::{Phase, Why};
 use qc_gather::{Gather, Next, Puts, Shortage};
-use rows_text::{BadLine, ConfigText, Words};
+use rows_text::{BadLine, ConfigText, LackText, Words};
 use std::io;
 
 /// What a manager does now: `gather C` begins a collection over a first configuration, `puts PHASE C` begins
@@ -46,22 +46,6 @@ fn phase_of(words: &mut Words<'_>) -> Result<Phase, BadLine> {
     }
 }
 
-fn print_lack(rt: &HostRuntime, lack: &Lack) -> io::Result<()> {
-    print!(rt; "short in {:?}, replied", lack.phase)?;
-    for (copy, replied) in lack.replied.as_slice().iter().enumerate() {
-        if *replied {
-            print!(rt; " {copy}")?;
-        }
-    }
-    print!(rt; ", missing")?;
-    for (copy, why) in lack.missing.iter().enumerate() {
-        if let Some(why) = why {
-            print!(rt; " {copy} {why:?}")?;
-        }
-    }
-    println!(rt;)
-}
-
 fn print_next(rt: &HostRuntime, next: Next, shortage: &Shortage) -> io::Result<()> {
     match next {
         Next::Enough => println!(rt; "enough"),
@@ -70,7 +54,10 @@ fn print_next(rt: &HostRuntime, next: Next, shortage: &Shortage) -> io::Result<(
             Shortage::Conflict { copy, holder } => {
                 println!(rt; "short, blocked at {copy} by {holder}")
             }
-            Shortage::NoQuorum(lack) => print_lack(rt, lack),
+            Shortage::NoQuorum(lack) => {
+                let lack = LackText(*lack);
+                println!(rt; "short in {lack}")
+            }
         },
     }
 }

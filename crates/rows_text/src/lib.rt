@@ -8,5 +8,5 @@ mod value;
 mod words;
 
 pub use entry::append_line;
-pub use shown::{ConfigText, KindText, TupleText};
+pub use shown::{ConfigText, KindText, LackText, TupleText};
 pub use words::{BadLine, Words};

@@ -1,5 +1,5 @@
 //! Parts of entries, printed in the words in which they are read.
-use qc_event::{Config, Kind, Tuple};
+use qc_event::{Config, Kind, Lack, Tuple};
 use std::fmt;
 
 /// A configuration, printed as `1,1,1 r2 w2`, or as `none` where it has no votes.
@@ -55,5 +55,27 @@ impl fmt::Display for KindText {
             }
             Kind::Access => write!(f, "access"),
         }
+    }
+}
+
+/// What a phase lacks, printed as the phase, the copies that replied, and those that did not, with why.
+#[derive(Clone, Copy, Debug)]
+pub struct LackText(pub Lack);
+
+impl fmt::Display for LackText {
+    fn fmt<W: fmt::Write>(&self, f: &mut fmt::Formatter<W>) -> fmt::Result {
+        write!(f, "{:?}, replied", self.0.phase)?;
+        for (copy, replied) in self.0.replied.as_slice().iter().enumerate() {
+            if *replied {
+                write!(f, " {copy}")?;
+            }
+        }
+        write!(f, ", missing")?;
+        for (copy, why) in self.0.missing.iter().enumerate() {
+            if let Some(why) = why {
+                write!(f, " {copy} {why:?}")?;
+            }
+        }
+        Ok(())
     }
 }
