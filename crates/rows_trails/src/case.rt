@@ -1,10 +1,10 @@
 //! What a case has so far.
 
+use crate::copies::OwnCopy;
 use crate::setting::Setting;
-use crate::settlement::Settlement;
+use crate::sources::Settlement;
 use crate::wrong::Wrong;
-use qc_copy::CopyState;
-use qc_event::{Ask, Base, Config, Entry, Log, Name, Op, Row, Tuple, Val};
+use qc_event::{Base, Config, Entry, Log, Row, Tuple, Val};
 use qc_serial::SerialEvent;
 use rows_text::append_line;
 use std::alloc::{AllocError, Global};
@@ -18,7 +18,7 @@ pub struct Case {
     tuples: Vec<Vec<Tuple>>,
     log: Log,
     pub events: Vec<SerialEvent>,
-    pub copy: CopyState,
+    pub copy: OwnCopy,
 }
 
 // The tuple with which a record of the table starts.
@@ -40,7 +40,7 @@ impl Case {
             tuples: Vec::new(alloc),
             log: Log::new(alloc),
             events: Vec::new(alloc),
-            copy: CopyState::replay(alloc, 0, Vec::new(alloc), &[])?,
+            copy: OwnCopy::new(alloc, Vec::new(alloc))?,
         })
     }
 
@@ -107,30 +107,8 @@ impl Case {
 
     fn begin(&mut self, copy: u8) -> Result<(), Wrong> {
         let tuples = self.tuples_of(copy)?;
-        self.copy = CopyState::replay(self.alloc, copy, tuples, &[])?;
+        self.copy = OwnCopy::new(self.alloc, tuples)?;
         Ok(())
-    }
-
-    fn grant(&mut self, access: &Name, rec: u8, op: &Op) -> Result<(), Wrong> {
-        if usize::from(rec) >= self.copy.locks().records() {
-            return Err(Wrong::Place);
-        }
-        self.copy.reserve()?;
-        self.copy.admit(&Ask {
-            access: *access,
-            copy: self.copy.copy(),
-            rec,
-            op: *op,
-        });
-        Ok(())
-    }
-
-    fn settle(&mut self, settlement: &Settlement) {
-        for rec in 0..=u8::MAX {
-            if usize::from(rec) < self.copy.locks().records() {
-                self.copy.settle_by(rec, settlement);
-            }
-        }
     }
 
     /// Does what a line says that sets up the case.
@@ -141,9 +119,12 @@ impl Case {
             Setting::Starts { copy, rec, tuple } => self.set_tuple(copy, rec, &tuple),
             Setting::Event(event) => Ok(self.events.push(event)?),
             Setting::Copy(copy) => self.begin(copy),
-            Setting::Grant { access, rec, op } => self.grant(&access, rec, &op),
+            Setting::Grant { access, rec, op } => {
+                self.copy.grant(&access, rec, &op)?;
+                Ok(())
+            }
             Setting::Settle(name, outcome) => {
-                self.settle(&Settlement { name, outcome });
+                self.copy.settle(&Settlement { name, outcome });
                 Ok(())
             }
         }

@@ -1,15 +1,91 @@
-//! Questions about a copy: what it answers by a history, and what its locks are.
-ghost use Rattle.std.specs.Prelude.{◌≡◌, IfOk, length};
-ghost use Rattle.qc_event.specs.History.{Past};
-ghost use Rattle.qc_moss.specs.Follows.{Follows};
+//! A copy that grants what it is asked, by its locks and by the history that it is told; and questions about it.
 
 use crate::case::Case;
+use crate::sources::Scanned;
 use crate::told::Told;
 use crate::wrong::Wrong;
-use qc_copy::CopyState;
-use qc_event::{Ask, Entry, Event, Grant, Name, Tuple};
+use qc_copy::{Verdict, consult_locks, replay_locks};
+use qc_event::{Answered, Ask, Entry, Event, Grant, Name, Op, Tuple};
+use qc_moss::{Locks, Source};
 use rows_text::Words;
 use std::alloc::{AllocError, Global};
+
+/// A copy of a case: its locks, and what it granted, in order.
+#[derive(Drop)]
+pub struct OwnCopy {
+    pub locks: Locks,
+    grants: Vec<Grant>,
+}
+
+impl OwnCopy {
+    /// The copy that starts with these tuples and granted nothing.
+    pub fn new(alloc: Global, start: Vec<Tuple>) -> Result<Self, AllocError> {
+        Ok(OwnCopy {
+            locks: Locks::new(alloc, start)?,
+            grants: Vec::new(alloc),
+        })
+    }
+
+    // The copy that starts with these tuples and granted all this.
+    fn replay(alloc: Global, start: Vec<Tuple>, grants: Vec<Grant>) -> Result<Self, Wrong> {
+        let records = start.len();
+        if !grants.iter().all(|grant| usize::from(grant.rec) < records) {
+            return Err(Wrong::Place);
+        }
+        let locks = replay_locks(alloc, start, grants.as_slice())?;
+        Ok(OwnCopy { locks, grants })
+    }
+
+    /// The tuple that an access was granted first.
+    pub fn again(&self, access: &Name) -> Option<Tuple> {
+        for grant in &self.grants {
+            if grant.access == *access {
+                return Some(grant.tuple);
+            }
+        }
+        None
+    }
+
+    /// Grants an access its operation, though locks be in its way.
+    pub fn grant(&mut self, access: &Name, rec: u8, op: &Op) -> Result<Tuple, Wrong> {
+        if usize::from(rec) >= self.locks.records() {
+            return Err(Wrong::Place);
+        }
+        self.locks.reserve()?;
+        let tuple = self.locks.grant(access, rec, op);
+        self.grants.push(Grant {
+            access: *access,
+            rec,
+            op: *op,
+            tuple,
+        })?;
+        Ok(tuple)
+    }
+
+    /// Settles the locks of all records by what a source tells.
+    pub fn settle<S: Source>(&mut self, source: &S) {
+        for rec in 0..=u8::MAX {
+            if usize::from(rec) < self.locks.records() {
+                self.locks.settle_by(rec, source);
+            }
+        }
+    }
+
+    // Answers a request by a history. A repeat gets what the first request got.
+    fn serve(&mut self, ask: &Ask, h: &[Entry]) -> Result<Answered, Wrong> {
+        if let Some(tuple) = self.again(&ask.access) {
+            return Ok(Answered::Granted(tuple));
+        }
+        if usize::from(ask.rec) >= self.locks.records() {
+            return Err(Wrong::Place);
+        }
+        match consult_locks(&mut self.locks, ask, &Scanned { entries: h }) {
+            Verdict::Dead(ancestor) => Ok(Answered::Dead(ancestor)),
+            Verdict::Blocked(first) => Ok(Answered::Blocked(first)),
+            Verdict::Free(_) => Ok(Answered::Granted(self.grant(&ask.access, ask.rec, &ask.op)?)),
+        }
+    }
+}
 
 fn request(h: &[Entry], copy: u8, access: &Name) -> Option<Ask> {
     for entry in h {
@@ -34,46 +110,24 @@ fn grants_at(alloc: Global, h: &[Entry], copy: u8) -> Result<Vec<Grant>, AllocEr
     Ok(grants)
 }
 
-// The copy that starts with these tuples and granted all this.
-fn replayed(
-    alloc: Global,
-    copy: u8,
-    start: Vec<Tuple>,
-    grants: &[Grant],
-) -> Result<CopyState, Wrong>
-    ensures { IfOk result (λ s. (past : Past) → Follows past s.grants s.table) }
-{
-    let records = start.len();
-    if grants.iter().all(|grant| usize::from(grant.rec) < records) {
-        Ok(CopyState::replay(alloc, copy, start, grants)?)
-    } else {
-        Err(Wrong::Place)
-    }
-}
-
-fn copy_by(case: &Case, h: &[Entry], copy: u8) -> Result<CopyState, Wrong>
-    ensures { IfOk result (λ s. (past : Past) → Follows past s.grants s.table) }
-{
+fn copy_by(case: &Case, h: &[Entry], copy: u8) -> Result<OwnCopy, Wrong> {
     let grants = grants_at(case.alloc, h, copy)?;
-    replayed(case.alloc, copy, case.tuples_of(copy)?, grants.as_slice())
+    OwnCopy::replay(case.alloc, case.tuples_of(copy)?, grants)
 }
 
 /// What a copy that made the history's grants answers an access that asked it, twice.
 pub fn serve(case: &Case, h: &[Entry], words: &mut Words<'_>) -> Result<Told, Wrong> {
     let copy = words.number()?;
     let ask = request(h, copy, &words.name()?).ok_or(Wrong::Ask)?;
-    let mut state = copy_by(case, h, copy)?;
-    if usize::from(ask.rec) >= state.locks().records() {
-        return Err(Wrong::Place);
-    }
-    let first = state.serve_with(&ask, h)?;
-    let second = state.serve_with(&ask, h)?;
-    Ok(Told::Served(first, second, state.grants().len()))
+    let mut copy = copy_by(case, h, copy)?;
+    let first = copy.serve(&ask, h)?;
+    let second = copy.serve(&ask, h)?;
+    Ok(Told::Served(first, second, copy.grants.len()))
 }
 
 /// What a copy that made the history's grants granted an access.
 pub fn again(case: &Case, h: &[Entry], words: &mut Words<'_>) -> Result<Told, Wrong> {
     let copy = words.number()?;
-    let state = copy_by(case, h, copy)?;
-    Ok(Told::Tuple(state.again(&words.name()?)))
+    let copy = copy_by(case, h, copy)?;
+    Ok(Told::Tuple(copy.again(&words.name()?)))
 }

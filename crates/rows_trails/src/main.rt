@@ -20,7 +20,7 @@ mod locks;
 mod orders;
 mod question;
 mod setting;
-mod settlement;
+mod sources;
 mod told;
 mod wrong;
 

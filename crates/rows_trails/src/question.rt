@@ -33,12 +33,12 @@ fn told(case: &Case, h: &[Entry], word: &str, words: &mut Words<'_>) -> Result<T
         "machine" => orders::machine(case, case.events.as_slice()),
         "serve" => copies::serve(case, h, words),
         "again" => copies::again(case, h, words),
-        "records" => Ok(locks::records(&case.copy)),
+        "records" => Ok(locks::records(&case.copy.locks)),
         "granted" => locks::granted(&case.copy, words),
-        "may_read" => locks::test(&case.copy, words, false),
-        "may_write" => locks::test(&case.copy, words, true),
+        "may_read" => locks::test(&case.copy.locks, words, false),
+        "may_write" => locks::test(&case.copy.locks, words, true),
         "locks" => locks::holders(case, words),
-        "holds" => locks::holds(&case.copy, words),
+        "holds" => locks::holds(&case.copy.locks, words),
         _ => Err(Wrong::Line(BadLine::Word)),
     }
 }

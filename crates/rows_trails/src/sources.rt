@@ -1,5 +1,5 @@
-//! One transaction that is settled, as what tells of a history.
-use qc_event::{Name, Outcome};
+//! What tells of a history: its entries, or one transaction that is settled.
+use qc_event::{Entry, Name, Outcome, dead, outcome};
 use qc_moss::Source;
 
 /// A transaction and how it ended; the others are live. It stands for no history.
@@ -26,5 +26,23 @@ impl Source for Settlement {
         } else {
             None
         }
+    }
+}
+
+/// The entries of a history, the oldest first, which need not be legal.
+#[derive(Clone, Copy)]
+pub struct Scanned<'a> {
+    pub entries: &'a [Entry],
+}
+
+impl Source for Scanned<'_> {
+    ghost tells = { λ _ _. ⊥ };
+
+    fn outcome(&self, name: &Name) -> Outcome {
+        outcome(self.entries, name)
+    }
+
+    fn dead(&self, name: &Name) -> Option<Name> {
+        dead(self.entries, name)
     }
 }
