@@ -3,7 +3,7 @@
 
 mod disks;
 mod folders;
-mod image;
+mod images;
 mod made;
 mod shelf;
 mod step;
@@ -12,7 +12,7 @@ mod text;
 
 pub use disks::{on_disk, with_fails};
 pub use folders::on_folders;
-pub use image::image;
+pub use images::image;
 pub use made::made_of;
 pub use shelf::{Blank, Shelf};
 pub use step::{Step, bytes};

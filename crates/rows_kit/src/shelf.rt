@@ -1,6 +1,6 @@
 //! The disks of a case, and at which numbers its shop fails.
 
-use crate::image::image;
+use crate::images::image;
 use crate::step::{Step, bytes};
 use qc_disk::{FailAt, MemDisk, MemShop};
 use std::alloc::{AllocError, Global};

@@ -1,6 +1,7 @@
 //! Sessions that add to one record.
 
 use crate::command::{Outcome, run_text};
+use crate::text::Text;
 use qc_disk::{MemDisk, MemShop};
 use qc_run::NoGate;
 use std::alloc::{AllocError, Global};
@@ -19,15 +20,16 @@ const SESSION: &str = r#"{"tops":[
 
 // A script of so many sessions.
 fn script_of(alloc: Global, sessions: u64) -> Result<String, AllocError> {
-    let mut text = String::from_str(alloc, RECORD)?;
+    let mut text = Text::new(alloc);
+    text.add(RECORD);
     for number in 0..sessions {
         if number > 0 {
-            text.push_str(",")?;
+            text.add(",");
         }
-        text.push_str(SESSION)?;
+        text.add(SESSION);
     }
-    text.push_str("]}")?;
-    Ok(text)
+    text.add("]}");
+    text.whole()
 }
 
 // The number that stands in a report behind these words.

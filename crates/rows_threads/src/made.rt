@@ -2,6 +2,7 @@
 ghost use Rattle.std.specs.Prelude.{◌<◌};
 
 use crate::random::Random;
+use crate::text::Text;
 use std::alloc::{AllocError, Global};
 
 /// Two records at two copies, up to the sessions.
@@ -67,125 +68,93 @@ pub(crate) enum Tops {
 }
 
 // A step with a number below a limit, of at most 6.
-fn add_numbered(
-    random: &mut Random,
-    text: &mut String,
-    word: &str,
-    limit: usize,
-) -> Result<(), AllocError> {
-    text.push_str(word)?;
-    text.push_str(pick(random, &DIGITS[..limit.min(6)]))?;
-    text.push_str("]")?;
-    Ok(())
+fn add_numbered(random: &mut Random, text: &mut Text, word: &str, limit: usize) {
+    text.add(word);
+    text.add(pick(random, &DIGITS[..limit.min(6)]));
+    text.add("]");
 }
 
 // A step of a transaction at a depth, in a script of so many sessions.
-fn add_step(
-    random: &mut Random,
-    text: &mut String,
-    depth: usize,
-    sessions: usize,
-) -> Result<(), AllocError> {
+fn add_step(random: &mut Random, text: &mut Text, depth: usize, sessions: usize) {
     match random.below(14) {
         0 => add_numbered(random, text, r#"["kill","#, sessions),
         1 | 2 => add_numbered(random, text, r#"["abort","#, depth),
-        _ => Ok(text.push_str(pick(random, &STEPS))?),
+        _ => text.add(pick(random, &STEPS)),
     }
 }
 
 // One or two steps, up to the end of the body.
-fn add_steps(
-    random: &mut Random,
-    text: &mut String,
-    depth: usize,
-    sessions: usize,
-) -> Result<(), AllocError> {
-    add_step(random, text, depth, sessions)?;
+fn add_steps(random: &mut Random, text: &mut Text, depth: usize, sessions: usize) {
+    add_step(random, text, depth, sessions);
     for _ in 0..random.below(2) {
-        text.push_str(",")?;
-        add_step(random, text, depth, sessions)?;
+        text.add(",");
+        add_step(random, text, depth, sessions);
     }
-    text.push_str("]}")?;
-    Ok(())
+    text.add("]}");
 }
 
 // A top, which may begin with a child, and that with another.
-fn add_top(random: &mut Random, text: &mut String, sessions: usize) -> Result<(), AllocError> {
-    text.push_str(pick(random, &HEADS))?;
+fn add_top(random: &mut Random, text: &mut Text, sessions: usize) {
+    text.add(pick(random, &HEADS));
     let below = random.below(5);
     if below < 3 {
-        text.push_str(r#"["child","#)?;
-        text.push_str(pick(random, &HEADS))?;
+        text.add(r#"["child","#);
+        text.add(pick(random, &HEADS));
         if below == 0 {
-            text.push_str(r#"["child","#)?;
-            text.push_str(pick(random, &HEADS))?;
-            add_steps(random, text, 3, sessions)?;
-            text.push_str("],")?;
+            text.add(r#"["child","#);
+            text.add(pick(random, &HEADS));
+            add_steps(random, text, 3, sessions);
+            text.add("],");
         }
-        add_steps(random, text, 2, sessions)?;
-        text.push_str("],")?;
+        add_steps(random, text, 2, sessions);
+        text.add("],");
     }
-    add_steps(random, text, 1, sessions)
+    add_steps(random, text, 1, sessions);
 }
 
 // Bodies at a depth that run at once, one to three.
-fn add_leaves(
-    random: &mut Random,
-    text: &mut String,
-    depth: usize,
-    sessions: usize,
-) -> Result<(), AllocError> {
-    text.push_str(r#"["par",["#)?;
-    text.push_str(pick(random, &HEADS))?;
-    add_steps(random, text, depth, sessions)?;
+fn add_leaves(random: &mut Random, text: &mut Text, depth: usize, sessions: usize) {
+    text.add(r#"["par",["#);
+    text.add(pick(random, &HEADS));
+    add_steps(random, text, depth, sessions);
     for _ in 0..random.below(3) {
-        text.push_str(",")?;
-        text.push_str(pick(random, &HEADS))?;
-        add_steps(random, text, depth, sessions)?;
+        text.add(",");
+        text.add(pick(random, &HEADS));
+        add_steps(random, text, depth, sessions);
     }
-    text.push_str("]]")?;
-    Ok(())
+    text.add("]]");
 }
 
 // A body of a top that runs beside others, and may begin with bodies that run at once.
-fn add_branch(random: &mut Random, text: &mut String, sessions: usize) -> Result<(), AllocError> {
+fn add_branch(random: &mut Random, text: &mut Text, sessions: usize) {
     if random.below(4) > 0 {
-        text.push_str(pick(random, &BRANCH_HEADS))?;
-        return add_steps(random, text, 2, sessions);
+        text.add(pick(random, &BRANCH_HEADS));
+    } else {
+        text.add(pick(random, &HEADS));
+        add_leaves(random, text, 3, sessions);
+        text.add(",");
     }
-    text.push_str(pick(random, &HEADS))?;
-    add_leaves(random, text, 3, sessions)?;
-    text.push_str(",")?;
-    add_steps(random, text, 2, sessions)
+    add_steps(random, text, 2, sessions);
 }
 
 // A top with a step of one to four bodies that run at once. It may begin with another step.
-fn add_top_at_once(
-    random: &mut Random,
-    text: &mut String,
-    sessions: usize,
-) -> Result<(), AllocError> {
-    text.push_str(pick(random, &HEADS))?;
+fn add_top_at_once(random: &mut Random, text: &mut Text, sessions: usize) {
+    text.add(pick(random, &HEADS));
     if random.below(3) == 0 {
-        add_step(random, text, 1, sessions)?;
-        text.push_str(",")?;
+        add_step(random, text, 1, sessions);
+        text.add(",");
     }
-    text.push_str(r#"["par",["#)?;
-    add_branch(random, text, sessions)?;
+    text.add(r#"["par",["#);
+    add_branch(random, text, sessions);
     for _ in 0..random.below(4) {
-        text.push_str(",")?;
-        add_branch(random, text, sessions)?;
+        text.add(",");
+        add_branch(random, text, sessions);
     }
-    text.push_str("]],")?;
-    add_steps(random, text, 1, sessions)
+    text.add("]],");
+    add_steps(random, text, 1, sessions);
 }
 
-fn add_one(
-    random: &mut Random,
-    text: &mut String,
-    tops: Tops,
-    sessions: usize,
-) -> Result<(), AllocError> {
+fn add_one(random: &mut Random, text: &mut Text, tops: Tops, sessions: usize) {
     match tops {
         Tops::InTurn => add_top(random, text, sessions),
         Tops::AtOnce => add_top_at_once(random, text, sessions),
@@ -193,25 +162,18 @@ fn add_one(
 }
 
 // A session of one top or more, up to so many.
-fn add_session(
-    random: &mut Random,
-    text: &mut String,
-    tops: Tops,
-    most: u64,
-    sessions: usize,
-) -> Result<(), AllocError>
+fn add_session(random: &mut Random, text: &mut Text, tops: Tops, most: u64, sessions: usize)
     requires { 0 < most }
 {
-    text.push_str(r#"{"net":"#)?;
-    text.push_str(pick(random, &NETS))?;
-    text.push_str(r#","tops":["#)?;
-    add_one(random, text, tops, sessions)?;
+    text.add(r#"{"net":"#);
+    text.add(pick(random, &NETS));
+    text.add(r#","tops":["#);
+    add_one(random, text, tops, sessions);
     for _ in 0..random.below(most) {
-        text.push_str(",")?;
-        add_one(random, text, tops, sessions)?;
+        text.add(",");
+        add_one(random, text, tops, sessions);
     }
-    text.push_str("]}")?;
-    Ok(())
+    text.add("]}");
 }
 
 /// A script of two to six sessions, with at most three tops each and eight together, or of one or
@@ -230,12 +192,13 @@ pub(crate) fn make_script(
         Tops::AtOnce => (random.below(2), 2),
     };
     let sessions = others as usize + 1;
-    let mut text = String::from_str(alloc, RECORDS)?;
-    add_session(random, &mut text, tops, most, sessions)?;
+    let mut text = Text::new(alloc);
+    text.add(RECORDS);
+    add_session(random, &mut text, tops, most, sessions);
     for _ in 0..others {
-        text.push_str(",")?;
-        add_session(random, &mut text, tops, most, sessions)?;
+        text.add(",");
+        add_session(random, &mut text, tops, most, sessions);
     }
-    text.push_str("]}")?;
-    Ok(text)
+    text.add("]}");
+    text.whole()
 }

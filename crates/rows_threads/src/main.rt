@@ -31,6 +31,7 @@ mod slips;
 mod spoiled;
 mod spots;
 mod starts;
+mod text;
 
 use adds::{agrees, count_agreed};
 use audits::count_following;
