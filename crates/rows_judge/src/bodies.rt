@@ -9,7 +9,7 @@ use std::alloc::Global;
 const MOST: usize = 1_048_576;
 
 /// All bodies of a script, and the rows of those that run at once.
-#[derive(Debug, Drop)]
+#[derive(Drop)]
 pub(crate) struct Bodies<'s> {
     list: Vec<&'s Body>,
     rows: Vec<&'s [Body]>,

@@ -6,14 +6,14 @@ use qc_event::{Answer, Cause, Entry, Event, How, Kind, Name};
 use std::alloc::Global;
 
 /// What one came to: it committed, a read with a value, or it was aborted.
-#[derive(Clone, Copy, Debug)]
+#[derive(Clone, Copy)]
 pub(crate) enum Came {
     Committed(Option<u64>),
     Aborted(Cause),
 }
 
 /// Where one ended, under which seat, and how.
-#[derive(Clone, Copy, Debug)]
+#[derive(Clone, Copy)]
 pub(crate) struct Ended {
     pub(crate) at: usize,
     pub(crate) seat: u32,
@@ -21,7 +21,7 @@ pub(crate) struct Ended {
 }
 
 /// A user transaction or a manager, and where it started, was ready, was told to be in doubt, and ended.
-#[derive(Clone, Copy, Debug)]
+#[derive(Clone, Copy)]
 pub(crate) struct Deed {
     pub(crate) name: Name,
     pub(crate) kind: Kind,
@@ -33,7 +33,7 @@ pub(crate) struct Deed {
 }
 
 /// A mark, where it stands, and under which seat.
-#[derive(Clone, Copy, Debug)]
+#[derive(Clone, Copy)]
 pub(crate) struct Marked {
     pub(crate) at: usize,
     pub(crate) seat: u32,
@@ -42,7 +42,7 @@ pub(crate) struct Marked {
 }
 
 /// What a trail tells, in the order of the starts, and of the marks.
-#[derive(Debug, Drop)]
+#[derive(Drop)]
 pub(crate) struct Told {
     pub(crate) deeds: Vec<Deed>,
     pub(crate) marks: Vec<Marked>,

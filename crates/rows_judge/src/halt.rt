@@ -3,7 +3,7 @@
 use qc_event::Name;
 
 /// Why a transaction comes no further through its steps, which are counted from 0.
-#[derive(Clone, Copy, Debug)]
+#[derive(Clone, Copy)]
 pub(crate) enum Halt {
     /// Each step went on.
     Through,

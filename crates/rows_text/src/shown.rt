@@ -3,7 +3,7 @@ use qc_event::{Config, Kind, Lack, Tuple};
 use std::fmt;
 
 /// A configuration, printed as `1,1,1 r2 w2`, or as `none` where it has no votes.
-#[derive(Clone, Copy, Debug)]
+#[derive(Clone, Copy)]
 pub struct ConfigText(pub Config);
 
 impl fmt::Display for ConfigText {
@@ -23,7 +23,7 @@ impl fmt::Display for ConfigText {
 }
 
 /// A tuple, printed as its version, value, generation and configuration.
-#[derive(Clone, Copy, Debug)]
+#[derive(Clone, Copy)]
 pub struct TupleText(pub Tuple);
 
 impl fmt::Display for TupleText {
@@ -40,7 +40,7 @@ impl fmt::Display for TupleText {
 }
 
 /// What a transaction is for, printed as in its start.
-#[derive(Clone, Copy, Debug)]
+#[derive(Clone, Copy)]
 pub struct KindText(pub Kind);
 
 impl fmt::Display for KindText {
@@ -59,7 +59,7 @@ impl fmt::Display for KindText {
 }
 
 /// What a phase lacks, printed as the phase, the copies that replied, and those that did not, with why.
-#[derive(Clone, Copy, Debug)]
+#[derive(Clone, Copy)]
 pub struct LackText(pub Lack);
 
 impl fmt::Display for LackText {

@@ -6,7 +6,7 @@ use std::str::{FromStr, SplitWhitespace};
 use thiserror::Error;
 
 /// Why words do not say what they are to say.
-#[derive(Clone, Copy, PartialEq, Eq, Debug, Error)]
+#[derive(Clone, Copy, Debug, Error)]
 pub enum BadLine {
     /// The line ends where more is wanted.
     #[error("the line ends early")]
@@ -32,7 +32,7 @@ pub enum BadLine {
 }
 
 /// The words of a line that are still to be read.
-#[derive(Debug, Drop)]
+#[derive(Drop)]
 pub struct Words<'a> {
     rest: SplitWhitespace<'a>,
 }
