@@ -12,21 +12,26 @@ fn number(word: &str) -> usize {
     word.parse::<usize>().unwrap_or(0)
 }
 
+// Writes a text to a writer that has so much room, straight or through a buffer.
+fn write(rt: &HostRuntime, alloc: Global, room: usize, way: &str, text: &str) -> io::Result<()> {
+    match way {
+        "straight" => sinks::straight(rt, room, text),
+        "buffered" => sinks::buffered(rt, alloc, room, text),
+        _ => println!(rt; "what is this?"),
+    }
+}
+
 // What a line says: where bytes go to or come from, two numbers, and a text.
 fn case(rt: &HostRuntime, alloc: Global, line: &str) -> io::Result<()> {
     let words: Vec<&str> = line.splitn(4, ' ').collect(alloc)?;
-    match words.as_slice() {
-        ["source", fails, limit, count] => {
-            sources::memory(rt, alloc, number(fails), number(limit), number(count))
-        }
-        ["reader", fails, limit, text] => {
-            sources::reader(rt, alloc, number(fails), number(limit), text)
-        }
-        ["sink", first, second, text] => {
-            sinks::memory(rt, alloc, number(first), number(second), text)
-        }
-        ["writer", room, "straight", text] => sinks::straight(rt, number(room), text),
-        ["writer", room, "buffered", text] => sinks::buffered(rt, alloc, number(room), text),
+    let [kind, first, second, text] = words.as_slice() else {
+        return println!(rt; "what is this?");
+    };
+    match *kind {
+        "source" => sources::memory(rt, alloc, number(first), number(second), number(text)),
+        "reader" => sources::reader(rt, alloc, number(first), number(second), text),
+        "sink" => sinks::memory(rt, alloc, number(first), number(second), text),
+        "writer" => write(rt, alloc, number(first), second, text),
         _ => println!(rt; "what is this?"),
     }
 }

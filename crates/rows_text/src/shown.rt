@@ -64,7 +64,8 @@ pub struct LackText(pub Lack);
 
 impl fmt::Display for LackText {
     fn fmt<W: fmt::Write>(&self, f: &mut fmt::Formatter<W>) -> fmt::Result {
-        write!(f, "{:?}, replied", self.0.phase)?;
+        let phase = self.0.phase;
+        write!(f, "{phase:?}, replied")?;
         for (copy, replied) in self.0.replied.as_slice().iter().enumerate() {
             if *replied {
                 write!(f, " {copy}")?;

@@ -29,11 +29,12 @@ impl OwnCopy {
     // The copy that starts with these tuples and granted all this.
     fn replay(alloc: Global, start: Vec<Tuple>, grants: Vec<Grant>) -> Result<Self, Wrong> {
         let records = start.len();
-        if !grants.iter().all(|grant| usize::from(grant.rec) < records) {
-            return Err(Wrong::Place);
+        if grants.iter().all(|grant| usize::from(grant.rec) < records) {
+            let locks = replay_locks(alloc, start, grants.as_slice())?;
+            Ok(OwnCopy { locks, grants })
+        } else {
+            Err(Wrong::Place)
         }
-        let locks = replay_locks(alloc, start, grants.as_slice())?;
-        Ok(OwnCopy { locks, grants })
     }
 
     /// The tuple that an access was granted first.
