@@ -28,7 +28,8 @@ impl<'a> Step<'a> {
 
     /// The words from a place behind the name on.
     pub fn words_from(&self, at: usize) -> &[&'a str] {
-        self.words.get(at..).unwrap_or(&[])
+        let words = self.words.as_slice();
+        &words[at.min(words.len())..]
     }
 
     /// The number that the word at a place says.
