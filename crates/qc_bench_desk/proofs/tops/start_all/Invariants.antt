@@ -1,6 +1,0 @@
-use Rattle.qc_pass.specs.Rules.{IsClient}
-use Rattle.qc_bench_desk.specs.Tops.{AreStarted}
-use Rattle.qc_bench_desk.proofs.tops.start_all.Given as goal
-
-abbrev pub invariant-loop : goal.invariant-loop
-invariant-loop g l = IsClient l.pass × AreStarted l.pass.seen l.names.items

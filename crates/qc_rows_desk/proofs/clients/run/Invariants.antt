@@ -1,5 +1,0 @@
-use Rattle.qc_pass.specs.Nothing.{no_table}
-use Rattle.qc_rows_desk.proofs.clients.run.Given as goal
-
-abbrev pub ghosts-run_named : goal.ghosts-run_named
-ghosts-run_named g a = record { desk = a.blank.room.shared.table_id; table = no_table; base = a.blank.base }

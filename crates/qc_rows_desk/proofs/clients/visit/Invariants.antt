@@ -1,5 +1,0 @@
-use Rattle.std.proofs.Common.{◌≡◌}
-use Rattle.qc_rows_desk.proofs.clients.visit.Given as goal
-
-abbrev pub invariant-loop : goal.invariant-loop
-invariant-loop g l = (l.pass.live ≡ l.fn.pass.live) × (l.pass.number ≡ l.fn.pass.number) × (l.pass.out ≡ l.fn.pass.out)

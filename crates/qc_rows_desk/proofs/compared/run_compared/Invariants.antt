@@ -1,5 +1,0 @@
-use Rattle.qc_rows_desk.specs.OneCopy.{table}
-use Rattle.qc_rows_desk.proofs.compared.run_compared.Given as goal
-
-abbrev pub ghosts-compared_at : goal.ghosts-compared_at
-ghosts-compared_at g a = record { desk = a.blank.room.shared.table_id; table = table; base = a.blank.base }

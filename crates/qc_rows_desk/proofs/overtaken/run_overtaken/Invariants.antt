@@ -1,5 +1,0 @@
-use Rattle.qc_rows_desk.specs.OneCopy.{table}
-use Rattle.qc_rows_desk.proofs.overtaken.run_overtaken.Given as goal
-
-abbrev pub ghosts-overtaken_at : goal.ghosts-overtaken_at
-ghosts-overtaken_at g a = record { desk = a.blank.room.shared.table_id; table = table; base = a.blank.base }

@@ -1,0 +1,94 @@
+//! Steps on a ledger.
+ghost use Rattle.qc_codec.specs.Bodies as body;
+
+use crate::answer::{done, hand_text, mounted as mounted_text, no_such, not_now};
+use crate::state::State;
+use qc_codec::{LedgerRecord, read_ledger};
+use qc_disk::MemDisk;
+use qc_ledger::{Shelf, mount};
+use rows_kit::{Step, bytes, made_of, said};
+use std::alloc::{AllocError, Global};
+
+/// How disk 0 was made, for a store of one copy and the record `x`, which starts with 0.
+const X0: &str = "010100010101780000000000000000010100010001";
+
+/// The same, where it starts with 1.
+const X1: &str = "010100010101780000000000000001010100010001";
+
+/// Mounts a ledger.
+pub(crate) fn mounted(
+    alloc: Global,
+    disk: MemDisk,
+    step: &Step<'_>,
+) -> Result<(State, String), AllocError> {
+    let spelled = if step.word(1) == "x1" { X1 } else { X0 };
+    let Some(made) = made_of(alloc, spelled)? else {
+        return State::Disk(disk).no_such(alloc);
+    };
+    match mount(alloc, disk, &made.table, step.number(0)) {
+        Ok((book, past, epoch)) => {
+            let text = mounted_text(alloc, epoch, &past)?;
+            Ok((State::Book(book, epoch), text))
+        }
+        Err((disk, no)) => Ok((State::Disk(disk), no.to_string(alloc)?)),
+    }
+}
+
+// Logs a top, where the ledger is up with nothing in hand.
+fn log_top(
+    alloc: Global,
+    shelf: &mut Shelf<MemDisk>,
+    told: &LedgerRecord,
+) -> Result<String, AllocError>
+    requires { body.ledger.fits told.now }
+{
+    let LedgerRecord::Top { top, aborted } = told else {
+        return no_such(alloc);
+    };
+    if !shelf.is_up() {
+        return not_now(alloc);
+    }
+    match shelf.hand() {
+        Some(_) => not_now(alloc),
+        None => done(alloc, shelf.log(top, aborted.as_slice())),
+    }
+}
+
+// Logs the top that bytes tell.
+fn log(alloc: Global, shelf: &mut Shelf<MemDisk>, word: &str) -> Result<String, AllocError> {
+    let spelled = bytes(alloc, word)?;
+    match read_ledger(alloc, &spelled) {
+        Ok(told) => log_top(alloc, shelf, &told),
+        Err(_) => no_such(alloc),
+    }
+}
+
+// Revives a ledger, where it is down.
+fn revive(alloc: Global, shelf: &mut Shelf<MemDisk>) -> Result<String, AllocError> {
+    if shelf.is_up() {
+        return not_now(alloc);
+    }
+    match shelf.revive() {
+        Ok(stands) => stands.to_string(alloc),
+        Err(no) => no.to_string(alloc),
+    }
+}
+
+/// Makes a step on an open ledger.
+pub(crate) fn on_shelf(
+    alloc: Global,
+    shelf: &mut Shelf<MemDisk>,
+    step: &Step<'_>,
+) -> Result<String, AllocError> {
+    match step.name {
+        "log" => log(alloc, shelf, step.word(0)),
+        "revive" => revive(alloc, shelf),
+        "let" => {
+            shelf.let_go();
+            said(alloc, "ok")
+        }
+        "hand" => hand_text(alloc, &shelf.hand()),
+        "up" => shelf.is_up().to_string(alloc),
+        _ => no_such(alloc),
+    }
+}

@@ -1,0 +1,58 @@
+//! Mounting a store.
+ghost use Rattle.qc_codec.specs.Bodies as body;
+
+use crate::answer::{failed, store};
+use qc_codec::Made;
+use qc_disk::{Disk, Shop};
+use qc_mount::{MountNo, Parts, mount};
+use rows_kit::said;
+use std::alloc::{AllocError, Global};
+
+// The disks of a store, in the order of their numbers.
+fn disks_of<D: Disk + Drop>(alloc: Global, parts: Parts<D>) -> Result<Vec<D>, AllocError> {
+    let Parts { book, copies, .. } = parts;
+    let mut disks = Vec::new(alloc);
+    disks.push(book.into_disk())?;
+    for copy in copies {
+        disks.push(copy.into_disk())?;
+    }
+    Ok(disks)
+}
+
+/// Mounts a store over the table of a made record: what came, and the disks.
+pub(crate) fn mounted<D: Disk + Send + Drop, H: Shop<D = D>>(
+    alloc: Global,
+    shop: &mut H,
+    place: &str,
+    made: &Made,
+    limit: u64,
+) -> Result<(String, Vec<D>), AllocError>
+    requires { (body.table 1).fits made.now.table }
+{
+    match mount(alloc, shop, place, &made.table, limit) {
+        Ok(parts) => {
+            let text = store(alloc, &parts)?;
+            Ok((text, disks_of(alloc, parts)?))
+        }
+        Err(MountNo::Disk { which, disks }) => Ok((failed(alloc, which)?, disks)),
+        Err(MountNo::Image { fault, disks }) => Ok((fault.to_string(alloc)?, disks)),
+        Err(MountNo::Memory { disks }) => Ok((said(alloc, "no memory")?, disks)),
+    }
+}
+
+/// What came, and the length of each disk; `?` where it fails again.
+pub(crate) fn with_lengths<D: Disk>(
+    alloc: Global,
+    mut text: String,
+    disks: &mut [D],
+) -> Result<String, AllocError> {
+    text.push_str("; back")?;
+    for disk in disks {
+        text.push(' ')?;
+        match disk.len() {
+            Ok(length) => text.push_str(length.to_string(alloc)?.as_str())?,
+            Err(_) => text.push('?')?,
+        }
+    }
+    Ok(text)
+}

@@ -1,0 +1,34 @@
+use Rattle.std.proofs.Common.{◌∙◌, sym, ap, subst}
+use Rattle.std.specs.Prelude.{Ok, IfSome}
+use Rattle.qc_event.specs.Grants.{grant_with}
+use Rattle.qc_event.specs.declared.event.Ask.{Ask}
+use Rattle.qc_event.specs.Tables.{setting_of}
+use Rattle.qc_site.specs.AtDesk.{IsGranted}
+use Rattle.rows_serve.specs.Requests.{IsFirst}
+use Rattle.rows_serve.proofs.Later.{stands_later, of_others, first_of_since}
+use Rattle.rows_serve.proofs.serve.serve.Goals as goal
+
+pub returns-in-Ok-clause-stands : goal.returns-in-Ok-clause-stands
+returns-in-Ok-clause-stands g c =
+    let now = c.serve-served.new.seer.seen in
+    c.note.ensures.stands now (stands_later c.args.pass.now.seen now c.args.request.now c.serve-served.ensures.seer.older c.requires.stands)
+    (λ tuple is. subst (λ p. IsGranted 0 p (grant_with c.args.request.now.ask tuple)) (sym c.in-Ok.ensures.same) (c.serve-served.ensures.granted tuple (c.in-Ok.is ∙ ap Ok is)))
+
+pub returns-in-Ok-clause-first : goal.returns-in-Ok-clause-first
+returns-in-Ok-clause-first g c =
+    let v = c.args.pass.now in
+    let w = c.serve-served.new.seer in
+    let first = first_of_since (setting_of g.N.Store.table g.N.Store.base) v.seen w.seen v.number c.args.request.now.ask c.args.request.now.writer c.known-2.ensures.legal
+    (of_others v w c.requires.client c.known.ensures.mine c.known-2.ensures.mine c.serve-served.ensures.seer) c.requires.first in
+    subst (λ (ask : Ask). IfSome c.note.new.request.writer (λ m. IsFirst w.seen v.number ask m.manager m.value)) (sym c.note.ensures.ask)
+    (subst (λ o. IfSome o (λ m. IsFirst w.seen v.number c.args.request.now.ask m.manager m.value)) (sym c.note.ensures.writer) first)
+
+pub returns-in-Err-clause-stands : goal.returns-in-Err-clause-stands
+returns-in-Err-clause-stands g c = stands_later c.args.pass.now.seen c.serve-served.new.seer.seen c.args.request.now c.serve-served.ensures.seer.older c.requires.stands
+
+pub returns-in-Err-clause-first : goal.returns-in-Err-clause-first
+returns-in-Err-clause-first g c =
+    let v = c.args.pass.now in
+    let w = c.serve-served.new.seer in
+    first_of_since (setting_of g.N.Store.table g.N.Store.base) v.seen w.seen v.number c.args.request.now.ask c.args.request.now.writer c.known-2.ensures.legal
+    (of_others v w c.requires.client c.known.ensures.mine c.known-2.ensures.mine c.serve-served.ensures.seer) c.requires.first

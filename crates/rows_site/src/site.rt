@@ -1,0 +1,79 @@
+//! Mounting a copy.
+ghost use Rattle.qc_codec.specs.Bodies as body;
+
+use crate::state::State;
+use qc_codec::{LedgerRecord, Logged, Made, Past, Tops, read_ledger};
+use qc_disk::MemDisk;
+use qc_site::mount;
+use rows_kit::{Step, bytes, made_of, said};
+use std::alloc::{AllocError, Global};
+
+// A generic push: one at the type of logged tops may get no proof.
+fn append<T: Drop>(items: &mut Vec<T>, item: T) -> Result<(), AllocError> {
+    items.push(item)?;
+    Ok(())
+}
+
+// The top that a record tells.
+fn logged_in(told: LedgerRecord) -> Option<Logged> {
+    match told {
+        LedgerRecord::Made(_) | LedgerRecord::Epoch(_) => None,
+        LedgerRecord::Top { top, aborted } => Some(Logged { top, aborted }),
+    }
+}
+
+// The top that a body tells.
+fn logged_by(alloc: Global, word: &str) -> Result<Option<Logged>, AllocError> {
+    let spelled = bytes(alloc, word)?;
+    match read_ledger(alloc, &spelled) {
+        Ok(told) => Ok(logged_in(told)),
+        Err(_) => Ok(None),
+    }
+}
+
+// What a ledger told: an epoch, and the tops of bodies. A word that is none tells nothing.
+fn past_by(alloc: Global, epoch: u32, words: &[&str]) -> Result<Past, AllocError> {
+    let mut tops = Vec::new(alloc);
+    for word in words {
+        if let Some(logged) = logged_by(alloc, word)? {
+            append(&mut tops, logged)?;
+        }
+    }
+    Ok(Past {
+        epoch,
+        tops: Tops::new(tops),
+    })
+}
+
+// Mounts the copy of a made record.
+fn mounted_by(
+    alloc: Global,
+    disk: MemDisk,
+    made: &Made,
+    past: &Past,
+    limit: u64,
+) -> Result<(State, String), AllocError>
+    requires { (body.table 1).fits made.now.table }
+{
+    if made.who == 0 || made.who > made.table.copies {
+        return State::Disk(disk).no_such(alloc);
+    }
+    match mount(alloc, made.who - 1, disk, &made.table, past, limit) {
+        Ok(site) => Ok((State::Mounted(site), said(alloc, "ok")?)),
+        Err((disk, no)) => Ok((State::Disk(disk), no.to_string(alloc)?)),
+    }
+}
+
+/// Mounts a copy.
+pub(crate) fn mounted(
+    alloc: Global,
+    disk: MemDisk,
+    step: &Step<'_>,
+) -> Result<(State, String), AllocError> {
+    let Some(made) = made_of(alloc, step.word(1))? else {
+        return State::Disk(disk).no_such(alloc);
+    };
+    let epoch = step.word(2).parse::<u32>().unwrap_or(0);
+    let past = past_by(alloc, epoch, step.words_from(3))?;
+    mounted_by(alloc, disk, &made, &past, step.number(0))
+}

@@ -1,0 +1,12 @@
+//! Entries of a history as lines of text, and their parts as words.
+#![tactic(auto)]
+
+mod cause;
+mod entry;
+mod shown;
+mod value;
+mod words;
+
+pub use entry::append_line;
+pub use shown::{ConfigText, KindText, LackText, TupleText};
+pub use words::{BadLine, Words};

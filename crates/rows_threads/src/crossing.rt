@@ -1,0 +1,45 @@
+//! Disks at which two sessions meet.
+
+use crate::meeting::Meeting;
+use qc_run::Gate;
+use rows_watched::Watch;
+use std::sync::atomic::{AtomicBool, Ordering};
+
+/// Where the first writes at the first two copies meet, once a session has passed.
+#[derive(Drop)]
+pub(crate) struct Crossing {
+    begun: AtomicBool,
+    meeting: Meeting,
+}
+
+impl Crossing {
+    /// No session has passed.
+    pub(crate) fn new() -> Self {
+        Crossing {
+            begun: AtomicBool::new(false),
+            meeting: Meeting::new(),
+        }
+    }
+
+    /// How many of the two writes saw the other.
+    pub(crate) fn met(&self) -> &'static str {
+        self.meeting.met()
+    }
+}
+
+impl Gate for Crossing {
+    fn pass(&self, _session: u8) {
+        self.begun.store(true, Ordering::SeqCst);
+    }
+}
+
+impl Watch for Crossing {
+    // Disk 0 is the ledger's; behind it come those of the copies.
+    fn write(&self, which: u8) {
+        if self.begun.load(Ordering::SeqCst) && which > 0 {
+            self.meeting.come(which - 1);
+        }
+    }
+
+    fn sync(&self, _which: u8) {}
+}

@@ -1,0 +1,86 @@
+//! Runs of scripts made from random numbers, before the checker of histories and before the judge of what follows a script.
+
+use crate::command::run_text;
+use qc_audit::audit;
+use qc_config::Config;
+use qc_disk::{MemDisk, MemShop};
+use qc_event::{Cause, Entry, Event, How};
+use qc_run::{NoGate, Ran, Status};
+use qc_script::Script;
+use rows_judge::{Fault, judge};
+use std::alloc::{AllocError, Global};
+use std::sync::Wait;
+use std::thread::Threads;
+
+/// A script, what came of its run to its end, and the entries of its history.
+#[derive(Drop)]
+pub(crate) struct Judged {
+    script: Script,
+    ran: Ran<MemDisk>,
+    pub(crate) entries: Vec<Entry>,
+}
+
+/// Runs a script to its end; nothing where the text is none, or the run ends before.
+pub(crate) fn run_script<R: Threads + Wait + Sync>(
+    handle: &R,
+    alloc: Global,
+    options: &str,
+    text: &str,
+) -> Result<Option<Judged>, AllocError> {
+    let Ok(script) = Script::read(alloc, text.as_bytes()) else {
+        return Ok(None);
+    };
+    let mut shop = MemShop::new(Vec::new(alloc), Vec::new(alloc));
+    let outcome = run_text(handle, alloc, options, text, &mut shop, &NoGate)?;
+    let ran = outcome.ran;
+    let entries = ran.trail.to_vec(alloc)?;
+    Ok(match ran.status {
+        Status::Done => Some(Judged {
+            script,
+            ran,
+            entries,
+        }),
+        _ => None,
+    })
+}
+
+// The first configurations of a script's records.
+fn firsts_of(alloc: Global, script: &Script) -> Result<Vec<Config>, AllocError> {
+    let mut firsts = Vec::new(alloc);
+    for row in script.table.records.as_slice() {
+        firsts.push(row.config)?;
+    }
+    Ok(firsts)
+}
+
+impl Judged {
+    /// Whether the history is legal.
+    pub(crate) fn is_legal(&self, alloc: Global) -> Result<bool, AllocError> {
+        let firsts = firsts_of(alloc, &self.script)?;
+        let entries = self.entries.as_slice();
+        Ok(audit(&self.ran.start, firsts.as_slice(), entries).is_ok())
+    }
+
+    /// The fault that the judge finds in a trail of the script.
+    pub(crate) fn fault_of(&self, alloc: Global, trail: &[Entry]) -> Option<Fault> {
+        judge(alloc, &self.script, trail).err()
+    }
+
+    /// The fault that the judge finds in its own trail.
+    pub(crate) fn fault(&self, alloc: Global) -> Option<Fault> {
+        self.fault_of(alloc, self.entries.as_slice())
+    }
+
+    /// Whether a transaction of it was killed.
+    pub(crate) fn has_killed(&self) -> bool {
+        self.entries.iter().any(|entry| {
+            matches!(
+                entry.event,
+                Event::End {
+                    how: How::Abort(Cause::Killed),
+                    ..
+                }
+            )
+        })
+    }
+}

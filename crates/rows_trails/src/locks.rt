@@ -1,0 +1,51 @@
+//! Questions about the copy of a case, whose locks the case grants and settles line by line.
+ghost use Rattle.std.specs.Prelude.{◌<◌, IfOk, length};
+
+use crate::case::Case;
+use crate::copies::OwnCopy;
+use crate::told::Told;
+use crate::wrong::Wrong;
+use qc_moss::Locks;
+use rows_text::Words;
+
+/// How many records the copy has.
+pub fn records(locks: &Locks) -> Told {
+    Told::Count(locks.records())
+}
+
+/// What the copy granted an access.
+pub fn granted(copy: &OwnCopy, words: &mut Words<'_>) -> Result<Told, Wrong> {
+    Ok(Told::Tuple(copy.again(&words.name()?)))
+}
+
+// The next word, a record of the copy.
+fn record(locks: &Locks, words: &mut Words<'_>) -> Result<u8, Wrong>
+    ensures { IfOk result (λ rec. rec < length locks.now.start) }
+{
+    let rec = words.number::<u8>()?;
+    if usize::from(rec) < locks.records() {
+        Ok(rec)
+    } else {
+        Err(Wrong::Place)
+    }
+}
+
+/// Whether an access may read a record, or write it.
+pub fn test(locks: &Locks, words: &mut Words<'_>, write: bool) -> Result<Told, Wrong> {
+    let access = words.name()?;
+    let rec = record(locks, words)?;
+    Ok(Told::Test(locks.test(&access, rec, write)))
+}
+
+/// The locks of a record.
+pub fn holders(case: &Case, words: &mut Words<'_>) -> Result<Told, Wrong> {
+    let locks = &case.copy.locks;
+    let rec = record(locks, words)?;
+    Ok(Told::Holders(locks.holders(rec).to_vec(case.alloc)?))
+}
+
+/// What the copy holds of a record.
+pub fn holds(locks: &Locks, words: &mut Words<'_>) -> Result<Told, Wrong> {
+    let rec = record(locks, words)?;
+    Ok(Told::Tuple(Some(locks.seen_by(rec))))
+}
