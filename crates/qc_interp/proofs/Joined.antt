@@ -6,13 +6,14 @@ use Rattle.std.specs.Option.{option_map_or}
 use Rattle.qc_event.specs.declared.event.Entry.{Entry}
 use Rattle.qc_event.specs.declared.event.Event.{Event}
 use Rattle.qc_event.specs.declared.event.Event.TheVariants as event
+use Rattle.qc_event.specs.declared.event.How.{How}
 use Rattle.qc_event.specs.declared.event.Kind.{Kind}
 use Rattle.qc_event.specs.declared.event.Kind.TheVariants as kind
 use Rattle.qc_event.specs.History.{Past, Name, children, end, is_ready}
 use Rattle.qc_event.specs.Standing.{IsAbort, open_child}
 use Rattle.qc_event.specs.Legal.{Legal}
 use Rattle.qc_event.specs.Users.{is_marked, top_number}
-use Rattle.qc_script.specs.Calls.{by_client, HasRun, is_over}
+use Rattle.qc_script.specs.Calls.{by_client, Ran, is_over}
 use Rattle.qc_script.specs.Client.{Client, mine, is_own, scope, concerns, all_ours, AreOurs, Made, IsLater, HasJoined}
 use Rattle.qc_script.specs.Numbers.{each, any_top, is_next_top, own_next, Numbers}
 use Rattle.qc_script.specs.Plan.{Plan}
@@ -175,17 +176,14 @@ module _ (c : Client) (kin : List ℕ) where
     legal = m.legal;
   }
 
-  abbrev pub more_has_run : (of : Name) (k : Kind) (a b : Past) → OwnAlike c d b → HasRun c of k a b → HasRun d of k a b
-  more_has_run of k a b all has = record {
-    given = has.given;
-    ran = record {
-      manager = has.ran.manager;
-      is_one = has.ran.is_one;
-      not_asked = has.ran.not_asked;
-      inner = has.ran.inner;
-      of_accesses = has.ran.of_accesses;
-      made = more_made _ a b all has.ran.made;
-    };
+  pub more_ran : (of : Name) (k : Kind) (how : How) (a b : Past) → OwnAlike c d b → Ran c of k how a b → Ran d of k how a b
+  more_ran of k how a b all ran = record {
+    manager = ran.manager;
+    is_one = ran.is_one;
+    not_asked = ran.not_asked;
+    inner = ran.inner;
+    of_accesses = ran.of_accesses;
+    made = more_made _ a b all ran.made;
   }
 
   -- TOPS
@@ -266,8 +264,8 @@ module _ (c d : Client) (now : Past) (j : HasJoined c now d) where
   pub joined_ends : (reach : Reach) (of : Name) (a : Past) (plan : Plan) → IsLater c a now → EndsAt reach c of a now plan → EndsAt reach d of a now plan
   joined_ends reach of a plan later ends = by_joined (λ x. EndsAt reach x of a now plan) c d now j (λ kin all. more_ends c kin a now later all reach of plan ends)
 
-  pub joined_has_run : (of : Name) (k : Kind) (a : Past) (has : HasRun c of k a now) → (h : HasRun d of k a now) × (h.given ≡ has.given)
-  joined_has_run of k a has = by_joined (λ x. (h : HasRun x of k a now) × (h.given ≡ has.given)) c d now j (λ kin all. (more_has_run c kin of k a now all has, refl))
+  pub joined_ran : (of : Name) (k : Kind) (how : How) (a : Past) → Ran c of k how a now → Ran d of k how a now
+  joined_ran of k how a ran = by_joined (λ x. Ran x of k how a now) c d now j (λ kin all. more_ran c kin of k how a now all ran)
 
   pub joined_made : (ev : Event) (a : Past) → Made c (by_client c ev ∷ []) a now → Made d (by_client d ev ∷ []) a now
   joined_made ev a m = by_joined (λ x. Made x (by_client x ev ∷ []) a now) c d now j (λ kin all. more_made c kin _ a now all m)

@@ -18,14 +18,14 @@ use Rattle.qc_event.proofs.OneEntry.{some_or_none, starting, some_not_none, some
 use Rattle.qc_event.proofs.Later.{started_still}
 use Rattle.qc_event.proofs.Options.{some_match}
 use Rattle.qc_names.specs.Name as name
-use Rattle.qc_script.specs.Calls.{HasRun, Refuses, GaveNone, WasCut, IsOfSession}
+use Rattle.qc_script.specs.Calls.{Ran, Refuses, GaveNone, WasCut, IsOfSession}
 use Rattle.qc_script.specs.Client.{Client, mine, is_own, scope, concerns, Made, IsLater, AreOurs}
 use Rattle.qc_interp.specs.Deeds.{Deed, deeds}
 use Rattle.qc_interp.proofs.Deeds.{one_child_more}
 use Rattle.qc_interp.specs.Follows.{StopsEarly, WasAsked, IsUnended, RunsPlan, FollowsPlan, GoesOn, is_handed_on}
 use Rattle.qc_interp.specs.Reach.{Reach}
 use Rattle.qc_interp.specs.Turns.{is_beside}
-use Rattle.qc_script.specs.Plan.{Plan, manage_then}
+use Rattle.qc_script.specs.Plan.{Plan}
 use Rattle.qc_script.specs.Plan.{KindFits}
 use Rattle.qc_interp.specs.Running.{Runs, Leaves, WhyStop, StopsBy, Stopped, EndsAt, Ended, CutOff, WentOn, WentBy}
 use Rattle.qc_interp.specs.declared.stops.Finish.TheVariants as finish
@@ -37,7 +37,7 @@ use Rattle.qc_interp.proofs.Growth.{made_both, later_itself, ours_before, own_fo
 use Rattle.qc_interp.proofs.Managers.{Managed, managed, Interrupted, interrupted}
 use Rattle.qc_interp.proofs.Stopping.{asked_early, unended_stopped, running_stops, running_unended}
 use Rattle.qc_interp.proofs.Scope.{child_scope}
-use Rattle.qc_interp.proofs.Joined.{joined_before, joined_runs, joined_has_run}
+use Rattle.qc_interp.proofs.Joined.{joined_before, joined_runs, joined_ran}
 use Rattle.qc_interp.proofs.Ending.{not_ready, ended_early, leaves_itself, leaves_trans, leaves_cut, cut_still, still, leaves_still, runs_still}
 use Rattle.qc_interp.specs.Asking.{DoesOn, Asks, AllAsked}
 use Rattle.qc_interp.proofs.Asked.{NoOne, asked_made, asked_none, asked_wider, asked_trans}
@@ -132,19 +132,19 @@ module _ (c : Client) (of : Name) where
   }
 
   -- a manager that committed, and what follows by its answer
-  manage_follows : (k : Kind) (before now : Past) → Runs c of before → (has : HasRun c of k before now) → (reach : Reach) (x : Past) → IsLater c now x → (next : Answer → Plan) → EndsAt reach c of now x (next has.given) → EndsAt reach c of before x (Plan.manage_by k next)
-  manage_follows k before now runs has reach x later next ends ours =
-      let ran = managed c of k (Commit has.given) before now runs.nonroot has.ran in
-      let rest = next has.given in
+  manage_follows : (k : Kind) (given : Answer) (before now : Past) → Runs c of before → Ran c of k (Commit given) before now → (reach : Reach) (x : Past) → IsLater c now x → (next : Answer → Plan) → EndsAt reach c of now x (next given) → EndsAt reach c of before x (Plan.manage_by k next)
+  manage_follows k given before now runs has reach x later next ends ours =
+      let ran = managed c of k (Commit given) before now runs.nonroot has in
+      let rest = next given in
       let h = more_follows k _ _ before now ran x (λ further. RunsPlan reach c.session (mine c x) of rest further (end (mine c x) of)) (λ further. AllAsked c now x (λ by t. Asks (mine c x) of rest further by t)) later (ends ours) in (
-        Deed.child has.ran.manager ∷ h.0,
+        Deed.child has.manager ∷ h.0,
         h.1,
         (
           kind_later now x later _ k ran.kind,
           managed_beside k _ _ before now ran runs x later,
-          subst (λ o. GoesOn reach (mine c x) of o (λ given. RunsPlan reach c.session (mine c x) of (next given) h.0 (end (mine c x) of)) h.0 (end (mine c x) of)) (sym (end_later now x later _ _ ran.end)) h.2,
+          subst (λ o. GoesOn reach (mine c x) of o (λ answered. RunsPlan reach c.session (mine c x) of (next answered) h.0 (end (mine c x) of)) h.0 (end (mine c x) of)) (sym (end_later now x later _ _ ran.end)) h.2,
         ),
-        asked_trans c before now x _ (asked_none c before now _ ran.asked) (asked_wider _ _ (λ by t a. subst (λ o. DoesOn o (λ given. Asks (mine c x) of (next given) h.0 by t)) (sym (end_later now x later _ _ ran.end)) a) c now x h.3),
+        asked_trans c before now x _ (asked_none c before now _ ran.asked) (asked_wider _ _ (λ by t a. subst (λ o. DoesOn o (λ answered. Asks (mine c x) of (next answered) h.0 by t)) (sym (end_later now x later _ _ ran.end)) a) c now x h.3),
       )
 
   -- why a transaction stops whose manager gave no answer
@@ -347,20 +347,13 @@ module _ (c : Client) (of : Name) where
 
 -- A MANAGER THAT COMMITTED
 
-module _ (c : Client) (of : Name) (k : Kind) (before now : Past) (runs : Runs c of before) where
-  -- whatever follows by its answer, and whatever branches the client merges later
-  pub manage_by_on : (has : HasRun c of k before now) → WentBy c of before now k has.given
-  manage_by_on has =
-      let ran = managed c of k (Commit has.given) before now runs.nonroot has.ran in
-      record {
-        leaves = leaves_managed c of k _ _ before now ran;
-        runs = runs_managed c of k _ _ before now ran runs;
-        follows = λ reach d x j later next ends.
-            let h = joined_has_run c d now j of k before has in
-            manage_follows d of k before now (joined_runs c d before (joined_before c d before now ran.later j) of runs) h.0 reach x later next (subst (λ given. EndsAt reach d of now x (next given)) (sym h.1) ends);
-      }
-
-  pub manage_on : HasRun c of k before now → WentOn c of before now (manage_then k)
-  manage_on has =
-      let by = manage_by_on has in
-      record { leaves = by.leaves; runs = by.runs; follows = λ reach d x j later rest ends. by.follows reach d x j later (λ given. rest) ends }
+-- whatever follows by its answer, and whatever branches the client merges later
+pub manage_by_on : (c : Client) (of : Name) (k : Kind) (given : Answer) (before now : Past) → Runs c of before → Ran c of k (Commit given) before now → WentBy c of before now k given
+manage_by_on c of k given before now runs has =
+    let ran = managed c of k (Commit given) before now runs.nonroot has in
+    record {
+      leaves = leaves_managed c of k _ _ before now ran;
+      runs = runs_managed c of k _ _ before now ran runs;
+      follows = λ reach d x j later next ends.
+          manage_follows d of k given before now (joined_runs c d before (joined_before c d before now ran.later j) of runs) (joined_ran c d now j of k _ before has) reach x later next ends;
+    }

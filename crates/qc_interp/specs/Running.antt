@@ -1,7 +1,6 @@
 -- What holds of a transaction between two of its steps, and what a step leaves.
 use Rattle.std.specs.Prelude.{ℕ, ◌≡◌, ◌<◌, ◌⊎◌, Bool, true, false, IsTrue, List, [], ◌++◌, length, Option, None, Some, MatchOption, option_map}
 use Rattle.qc_event.specs.declared.event.Answer.{Answer}
-use Rattle.qc_event.specs.declared.event.Answer.TheVariants as answer
 use Rattle.qc_event.specs.declared.event.Cause.TheVariants as cause
 use Rattle.qc_event.specs.Users.{UserCause, is_marked, top_number}
 use Rattle.qc_script.specs.declared.tx.TxNo.{TxNo}
@@ -22,8 +21,8 @@ use Rattle.qc_interp.specs.Deeds.{Deed, deeds, deed_end, OfChild}
 use Rattle.qc_interp.specs.Follows.{StopsEarly, Stops, StopsBefore, WasAsked, WasOrphan, IsUnended, AfterTries, RunsPlan}
 use Rattle.qc_interp.specs.declared.body.Came.{Came}
 use Rattle.qc_interp.specs.declared.body.Came.TheVariants as came
-use Rattle.qc_interp.specs.declared.managing.Look.{Look}
-use Rattle.qc_interp.specs.declared.managing.Look.TheVariants as look
+use Rattle.qc_interp.specs.declared.managing.Called.{Called}
+use Rattle.qc_interp.specs.declared.managing.Called.TheVariants as called
 use Rattle.qc_interp.specs.declared.stops.Finish.{Finish}
 use Rattle.qc_interp.specs.declared.stops.Finish.TheVariants as finish
 use Rattle.qc_interp.specs.Reach.{Reach, AtTheEnd}
@@ -189,10 +188,10 @@ pub record WentBy (c : Client) (of : Name) (before now : Past) (k : Kind) (given
   pub runs : Runs c of now
   pub follows : (reach : Reach) (d : Client) (x : Past) → HasJoined c now d → IsLater d now x → (next : Answer → Plan) → EndsAt reach d of now x (next given) → EndsAt reach d of before x (Plan.manage_by k next)
 
--- A step's read gave a value, or the transaction stopped there.
-abbrev pub Looked : Client → Name → Past → Past → ℕ → Look → Type 0
-Looked c of before now rec (look.Value value) = WentBy c of before now (kind.Read rec) (answer.Value value)
-Looked c of before now rec (look.Stopped again) = (next : Answer → Plan) → Ended c of before now (Plan.manage_by (kind.Read rec) next) (finish.Stopped again)
+-- A step's manager of a kind answered, or the transaction stopped there.
+abbrev pub HasCalled : Client → Name → Past → Past → Kind → Called → Type 0
+HasCalled c of before now k (called.Answered given) = WentBy c of before now k given
+HasCalled c of before now k (called.Stopped again) = (next : Answer → Plan) → Ended c of before now (Plan.manage_by k next) (finish.Stopped again)
 
 -- A step was done, and the transaction goes on, or has ended so that its body is tried again, or not.
 abbrev pub Stepped : Client → Name → Past → Past → (Plan → Plan) → Option Bool → Type 0

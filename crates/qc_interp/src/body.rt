@@ -15,8 +15,8 @@ use crate::managing::{Change, change_value, manage, need};
 use crate::marks::{look, mark};
 use crate::pause::Pause;
 use crate::stops::{Finish, ask, commit, quit_for, stop};
-use qc_event::{Kind, Name, Short};
-use qc_script::{Body, Step, Tx, TxNo};
+use qc_event::{Name, Short};
+use qc_script::{Body, Managed, Step, Tx, TxNo};
 use row::par;
 use std::thread::Threads;
 
@@ -142,23 +142,23 @@ fn act<T: Tx + Send + Drop, R: Threads + Sync>(
     ensures room { IfErr result (λ e. e ≡ Short.Room → length (T.view tx.new).seen ≡ limit) }
 {
     match step {
-        Step::Read { rec } => manage(tx, of, &Kind::Read { rec: *rec }),
+        Step::Read { rec } => manage(tx, of, &Managed::Read { rec: *rec }),
         Step::Set { rec, value } => {
-            let kind = Kind::Write {
+            let what = Managed::Write {
                 rec: *rec,
                 value: *value,
             };
-            manage(tx, of, &kind)
+            manage(tx, of, &what)
         }
         Step::Add { rec, value } => change_value(tx, of, *rec, Change::Add(*value)),
         Step::Sub { rec, value } => change_value(tx, of, *rec, Change::Sub(*value)),
         Step::Need { rec, value } => need(tx, of, *rec, *value),
         Step::Reconf { rec, config } => {
-            let kind = Kind::Reconf {
+            let what = Managed::Reconf {
                 rec: *rec,
                 config: *config,
             };
-            manage(tx, of, &kind)
+            manage(tx, of, &what)
         }
         Step::Child(body) => child(tx, host, of, body),
         Step::Par(bodies) => par(tx, host, of, bodies.as_slice()),

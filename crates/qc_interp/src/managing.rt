@@ -1,23 +1,24 @@
 //! Steps that are managers.
-ghost use Rattle.std.specs.Prelude.{◌≡◌, ◌<◌, length, IfOk, IfErr, OnOk};
+ghost use Rattle.std.specs.Prelude.{◌≡◌, ◌<◌, length, IfOk, IfErr};
 ghost use Rattle.qc_event.specs.History.{limit};
-ghost use Rattle.qc_event.specs.Standing.{Started, IsUser};
 ghost use Rattle.qc_event.specs.declared.event.Answer.{Answer};
 ghost use Rattle.qc_event.specs.declared.event.Kind.TheVariants as kind;
-ghost use Rattle.qc_script.specs.Calls.{GaveNone, HasRun, MeetsLink};
+ghost use Rattle.qc_script.specs.Calls.{MeetsLink};
+ghost use Rattle.qc_script.specs.Managers.{manager_for};
 ghost use Rattle.qc_script.specs.Plan.{Plan, KindFits, manage_then, change_then, need_then};
+ghost use Rattle.qc_script.specs.Plan as plans;
 ghost use Rattle.qc_interp.specs.Change.{changed};
-ghost use Rattle.qc_interp.specs.Running.{Runs, CutOff, Stepped, Looked};
+ghost use Rattle.qc_interp.specs.Running.{Runs, CutOff, Stepped, HasCalled};
 
 use crate::stops::{ask, stop};
-use qc_event::{Kind, Name, Short};
-use qc_script::{Tx, TxNo};
+use qc_event::{Answer, Name, Short, Val};
+use qc_script::{Managed, Tx, TxNo};
 
-/// What a step's read gave.
-pub(crate) enum Look {
-    /// The value of the record.
-    Value(u64),
-    /// The transaction has stopped, and its body is to be tried again, or not.
+/// What a step's manager came to.
+pub(crate) enum Called {
+    /// It committed with this.
+    Answered(Answer),
+    /// It gave no answer. The transaction has stopped, and its body is to be tried again, or not.
     Stopped { again: bool },
 }
 
@@ -40,81 +41,58 @@ impl Change {
     }
 }
 
-// Has a manager of a kind run for a transaction.
-fn call<T: Tx>(tx: &mut T, of: &Name, kind: &Kind) -> Result<(), TxNo>
-    requires fits { KindFits (T.view tx.old).client.setting kind.now }
-    requires user { Started (T.view tx.old).seen of.now (λ b. IsUser b.kind) }
-    requires met { MeetsLink (T.view tx.old) }
-    ensures met { MeetsLink (T.view tx.new) }
-    ensures client { (T.view tx.new).client ≡ (T.view tx.old).client }
-    ensures ok { OnOk result (HasRun (T.view tx.old).client of.now kind.now (T.view tx.old).seen
-        (T.view tx.new).seen) }
-    ensures err { IfErr result (GaveNone (T.view tx.old).client of.now kind.now
-        (T.view tx.old).seen (T.view tx.new).seen) }
+// The value that a read answered. No read answers anything else.
+fn value_in(answer: &Answer) -> Val
+    ensures { result ≡ plans.value_of answer.now }
 {
-    match kind {
-        Kind::Read { rec } => {
-            tx.read(of, *rec)?;
-            Ok(())
-        }
-        Kind::Write { rec, value } => tx.write(of, *rec, *value),
-        Kind::Reconf { rec, config } => {
-            tx.reconfigure(of, *rec, config)?;
-            Ok(())
-        }
-        Kind::User { .. } | Kind::Access => unreachable!(),
+    match answer {
+        Answer::Value(value) => *value,
+        _ => 0,
     }
 }
 
-// A step that is a manager. It answers nothing where the transaction goes on, else whether its body is tried again.
-pub(crate) fn manage<T: Tx>(tx: &mut T, of: &Name, kind: &Kind) -> Result<Option<bool>, Short>
+// Has a manager run for a transaction that runs, which stops where it gives no answer.
+fn call<T: Tx>(tx: &mut T, of: &Name, what: &Managed) -> Result<Called, Short>
     requires runs { Runs (T.view tx.old).client of.now (T.view tx.old).seen }
-    requires fits { KindFits (T.view tx.old).client.setting kind.now }
+    requires fits { KindFits (T.view tx.old).client.setting (manager_for what.now) }
+    requires met { MeetsLink (T.view tx.old) }
+    ensures met { MeetsLink (T.view tx.new) }
+    ensures client { (T.view tx.new).client ≡ (T.view tx.old).client }
+    ensures ok { IfOk result (HasCalled (T.view tx.old).client of.now (T.view tx.old).seen
+        (T.view tx.new).seen (manager_for what.now)) }
+    ensures cut { IfErr result (λ _. (next : Answer → Plan) → CutOff (T.view tx.old).client of.now
+        (T.view tx.old).seen (T.view tx.new).seen (Plan.manage_by (manager_for what.now) next)) }
+    ensures room { IfErr result (λ e. e ≡ Short.Room → length (T.view tx.new).seen ≡ limit) }
+{
+    match tx.manage(of, what) {
+        Ok(given) => Ok(Called::Answered(given)),
+        Err(why) => match why {
+            TxNo::Memory => Err(Short::Memory),
+            TxNo::Room => Err(Short::Room),
+            _ => {
+                let again = stop(tx, of, &why)?;
+                Ok(Called::Stopped { again })
+            }
+        },
+    }
+}
+
+/// A step that is a manager. It answers nothing where the transaction goes on, else whether its body is tried again.
+pub(crate) fn manage<T: Tx>(tx: &mut T, of: &Name, what: &Managed) -> Result<Option<bool>, Short>
+    requires runs { Runs (T.view tx.old).client of.now (T.view tx.old).seen }
+    requires fits { KindFits (T.view tx.old).client.setting (manager_for what.now) }
     requires met { MeetsLink (T.view tx.old) }
     ensures met { MeetsLink (T.view tx.new) }
     ensures client { (T.view tx.new).client ≡ (T.view tx.old).client }
     ensures ok { IfOk result (Stepped (T.view tx.old).client of.now (T.view tx.old).seen
-        (T.view tx.new).seen (manage_then kind.now)) }
+        (T.view tx.new).seen (manage_then (manager_for what.now))) }
     ensures cut { IfErr result (λ _. (rest : Plan) → CutOff (T.view tx.old).client of.now
-        (T.view tx.old).seen (T.view tx.new).seen (manage_then kind.now rest)) }
+        (T.view tx.old).seen (T.view tx.new).seen (manage_then (manager_for what.now) rest)) }
     ensures room { IfErr result (λ e. e ≡ Short.Room → length (T.view tx.new).seen ≡ limit) }
 {
-    match call(tx, of, kind) {
-        Ok(()) => Ok(None),
-        Err(why) => match why {
-            TxNo::Memory => Err(Short::Memory),
-            TxNo::Room => Err(Short::Room),
-            _ => {
-                let again = stop(tx, of, &why)?;
-                Ok(Some(again))
-            }
-        },
-    }
-}
-
-// Reads a record for a step that goes by its value.
-fn look_up<T: Tx>(tx: &mut T, of: &Name, rec: u8) -> Result<Look, Short>
-    requires runs { Runs (T.view tx.old).client of.now (T.view tx.old).seen }
-    requires fits { KindFits (T.view tx.old).client.setting (kind.Read rec) }
-    requires met { MeetsLink (T.view tx.old) }
-    ensures met { MeetsLink (T.view tx.new) }
-    ensures client { (T.view tx.new).client ≡ (T.view tx.old).client }
-    ensures ok { IfOk result (Looked (T.view tx.old).client of.now (T.view tx.old).seen
-        (T.view tx.new).seen rec) }
-    ensures cut { IfErr result (λ _. (next : Answer → Plan) → CutOff (T.view tx.old).client of.now
-        (T.view tx.old).seen (T.view tx.new).seen (Plan.manage_by (kind.Read rec) next)) }
-    ensures room { IfErr result (λ e. e ≡ Short.Room → length (T.view tx.new).seen ≡ limit) }
-{
-    match tx.read(of, rec) {
-        Ok(value) => Ok(Look::Value(value)),
-        Err(why) => match why {
-            TxNo::Memory => Err(Short::Memory),
-            TxNo::Room => Err(Short::Room),
-            _ => {
-                let again = stop(tx, of, &why)?;
-                Ok(Look::Stopped { again })
-            }
-        },
+    match call(tx, of, what)? {
+        Called::Answered(_) => Ok(None),
+        Called::Stopped { again } => Ok(Some(again)),
     }
 }
 
@@ -136,15 +114,12 @@ pub(crate) fn change_value<T: Tx>(
         (T.view tx.old).seen (T.view tx.new).seen (change_then rec (changed by) rest)) }
     ensures room { IfErr result (λ e. e ≡ Short.Room → length (T.view tx.new).seen ≡ limit) }
 {
-    match look_up(tx, of, rec)? {
-        Look::Value(old) => {
-            let kind = Kind::Write {
-                rec,
-                value: by.applied(old),
-            };
-            manage(tx, of, &kind)
+    match call(tx, of, &Managed::Read { rec })? {
+        Called::Answered(given) => {
+            let value = by.applied(value_in(&given));
+            manage(tx, of, &Managed::Write { rec, value })
         }
-        Look::Stopped { again } => Ok(Some(again)),
+        Called::Stopped { again } => Ok(Some(again)),
     }
 }
 
@@ -161,14 +136,14 @@ pub(crate) fn need<T: Tx>(tx: &mut T, of: &Name, rec: u8, least: u64) -> Result<
         (T.view tx.old).seen (T.view tx.new).seen (need_then rec least rest)) }
     ensures room { IfErr result (λ e. e ≡ Short.Room → length (T.view tx.new).seen ≡ limit) }
 {
-    match look_up(tx, of, rec)? {
-        Look::Value(value) => {
-            if value < least {
+    match call(tx, of, &Managed::Read { rec })? {
+        Called::Answered(given) => {
+            if value_in(&given) < least {
                 let again = ask(tx, of, 0)?;
                 return Ok(Some(again));
             }
             Ok(None)
         }
-        Look::Stopped { again } => Ok(Some(again)),
+        Called::Stopped { again } => Ok(Some(again)),
     }
 }

@@ -1,3 +1,4 @@
+pub mod Managing
 pub mod Objects
 pub mod Parts
 pub mod Plans

@@ -69,11 +69,6 @@ pub record Ran (c : Client) (of : Name) (k : Kind) (how : How) (before now : Pas
   pub of_accesses : AreOfAccesses manager inner
   pub made : Made c (by_client c (event.End manager how) ∷ inner ++ by_client c (event.Start manager k) ∷ []) before now
 
--- a manager ran and committed
-pub record HasRun (c : Client) (of : Name) (k : Kind) (before now : Past) : Type 0 where
-  pub given : Answer
-  pub ran : Ran c of k (Commit given) before now
-
 -- The client started a manager, and want of memory or room cut it off.
 pub record WasCut (c : Client) (of : Name) (k : Kind) (before now : Past) : Type 0 where
   pub manager : Name

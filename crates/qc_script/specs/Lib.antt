@@ -6,5 +6,6 @@ pub mod ScriptText
 pub mod Reading
 pub mod Client
 pub mod Numbers
+pub mod Managers
 pub mod Calls
 pub mod MadePlan

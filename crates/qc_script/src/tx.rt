@@ -2,7 +2,8 @@
 ghost use Rattle.std.specs.Prelude.{◌≡◌};
 ghost use Rattle.qc_script.specs.Client.{View};
 
-use qc_event::{Cause, Config, Lack, Name, Short};
+use crate::managed::Managed;
+use qc_event::{Answer, Cause, Lack, Name, Short};
 use std::alloc::AllocError;
 use thiserror::Error;
 
@@ -50,15 +51,14 @@ pub enum TxNo {
 pub trait Tx: Sized {
     ghost use Rattle.std.specs.Prelude.{◌≡◌, ◌==◌, ◌<◌, ◌⊎◌, [], length, None, IfOk, IfErr, OnOk, IsTrue, true, false};
     ghost use Rattle.std.specs.List.{list_any};
-    ghost use Rattle.qc_event.specs.declared.event.Answer.TheVariants as answer;
     ghost use Rattle.qc_event.specs.declared.event.Cause.TheVariants as cause;
-    ghost use Rattle.qc_event.specs.declared.event.Kind.TheVariants as kind;
     ghost use Rattle.qc_event.specs.Dead.{dead};
     ghost use Rattle.qc_event.specs.History.{is_child};
     ghost use Rattle.qc_event.specs.Standing.{Started, IsUser};
     ghost use Rattle.qc_script.specs.Numbers.{Numbers};
     ghost use Rattle.qc_script.specs.Calls.{Began, Answers, Fails, Aborts, IsGrounded, IsForChild, WasRefused, NotAborted, Committed, NotCommitted, MeetsLink, IsOfSession, Marks, MarksNone, Branched, Showed, Merged};
     ghost use Rattle.qc_script.specs.Client.{Made, View, has_marked_itself};
+    ghost use Rattle.qc_script.specs.Managers.{manager_for, IsAnswerTo};
     ghost use Rattle.qc_script.specs.Plan.{CopyFits, KindFits};
 
     /// Its number, root and branches, its session, table and link, and what it has seen.
@@ -79,41 +79,18 @@ pub trait Tx: Sized {
         ensures err { IfErr result (WasRefused
             (view self.old).client parent.now (view self.old).seen (view self.new).seen) };
 
-    /// Reads a record.
-    fn read(&mut self, of: &Name, rec: u8) -> Result<u64, TxNo>
-        requires fits { KindFits (view self.old).client.setting (kind.Read rec) }
+    /// Has a manager run for a transaction, and answers what it committed with.
+    fn manage(&mut self, of: &Name, what: &Managed) -> Result<Answer, TxNo>
+        requires fits { KindFits (view self.old).client.setting (manager_for what.now) }
         requires user { Started (view self.old).seen of.now (λ b. IsUser b.kind) }
         requires met { MeetsLink (view self.old) }
         ensures met { MeetsLink (view self.new) }
         ensures client { (view self.new).client ≡ (view self.old).client }
-        ensures ok { IfOk result (λ value. Answers
-            (view self.old) (view self.new) of.now (kind.Read rec) (answer.Value value)) }
-        ensures err { IfErr result (Fails (view self.old) (view self.new) of.now (kind.Read rec)) };
-
-    /// Writes a value to a record.
-    fn write(&mut self, of: &Name, rec: u8, value: u64) -> Result<(), TxNo>
-        requires fits { KindFits (view self.old).client.setting (kind.Write rec value) }
-        requires user { Started (view self.old).seen of.now (λ b. IsUser b.kind) }
-        requires met { MeetsLink (view self.old) }
-        ensures met { MeetsLink (view self.new) }
-        ensures client { (view self.new).client ≡ (view self.old).client }
-        ensures ok { OnOk result (Answers
-            (view self.old) (view self.new) of.now (kind.Write rec value) answer.Nothing) }
+        ensures ok { IfOk result (Answers (view self.old) (view self.new) of.now
+            (manager_for what.now)) }
+        ensures answer { IfOk result (IsAnswerTo what.now) }
         ensures err { IfErr result (Fails (view self.old) (view self.new) of.now
-            (kind.Write rec value)) };
-
-    /// Gives a record another configuration, and answers its generation.
-    fn reconfigure(&mut self, of: &Name, rec: u8, config: &Config) -> Result<u64, TxNo>
-        requires fits { KindFits (view self.old).client.setting (kind.Reconf rec config.now) }
-        requires user { Started (view self.old).seen of.now (λ b. IsUser b.kind) }
-        requires met { MeetsLink (view self.old) }
-        ensures met { MeetsLink (view self.new) }
-        ensures client { (view self.new).client ≡ (view self.old).client }
-        ensures ok { IfOk result (λ generation. Answers
-            (view self.old) (view self.new) of.now (kind.Reconf rec config.now)
-            (answer.Generation generation)) }
-        ensures err { IfErr result (Fails
-            (view self.old) (view self.new) of.now (kind.Reconf rec config.now)) };
+            (manager_for what.now)) };
 
     /// Aborts a transaction for a cause that what was seen licenses. For a child it is aborted only where that is aborted,
     /// and no ancestor is.

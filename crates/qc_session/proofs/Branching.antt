@@ -18,13 +18,9 @@ use Rattle.qc_script.specs.Calls.{Branched, MeetsLink}
 use Rattle.qc_board.specs.Boards.{Mark}
 use Rattle.std.specs.Prelude.{List}
 use Rattle.qc_session.specs.Clients.{link_told, view_of}
-use Rattle.qc_session.specs.Marking.{KnowsMarks}
-use Rattle.qc_session.specs.Session.{AreHigh}
-use Rattle.qc_session.specs.Tidy.{AreTidy}
-use Rattle.qc_session.proofs.High.{one_high}
-use Rattle.qc_session.proofs.OwnMarks.{one_known}
+use Rattle.qc_session.specs.Keeping.{IsClientPass}
+use Rattle.qc_session.proofs.Keeping.{new_keeps}
 use Rattle.qc_session.proofs.Settled.{client_above}
-use Rattle.qc_session.proofs.Tidy.{fresh_tidy}
 use Rattle.qc_session.proofs.Walks.{same_net}
 
 module _ (setting : Setting) (root of : Name) (session : ℕ) (v w b : View) (is : IsBranch v w b) where
@@ -64,24 +60,13 @@ module _ (setting : Setting) (root of : Name) (session : ℕ) (v w b : View) (is
   branch_met epoch None patience own = tt
   branch_met epoch (Some p) patience own = subst (λ ns. IsTrue (list_all (λ seat. meets_fates seat (net_of p patience) b.seen) ns)) (sym alone) (ap (λ x. x && true) own)
 
-  -- what is known of the client is known still
-  pub left_high : AreHigh (numbers v) → AreHigh (numbers w)
-  left_high high = subst (λ (x : View). AreHigh (numbers x)) (sym is.left) high
-
-  pub left_tidy : AreTidy (numbers v) v.seen → AreTidy (numbers w) w.seen
-  left_tidy tidy = subst (λ (x : View). AreTidy (numbers x) x.seen) (sym is.left) tidy
-
-  pub left_knows : (marks : List Mark) → KnowsMarks (numbers v) v.seen marks → KnowsMarks (numbers w) w.seen marks
-  left_knows marks known = subst (λ (x : View). KnowsMarks (numbers x) x.seen marks) (sym is.left) known
-
-  pub branch_high : AreHigh (numbers b)
-  branch_high = subst AreHigh (sym alone) (one_high b.number is.number)
+  -- the client keeps its pass
+  pub left_keeps : (marks : List Mark) → IsClientPass v marks → IsClientPass w marks
+  left_keeps marks was = subst (λ (x : View). IsClientPass x marks) (sym is.left) (record { high = was.high; kin = was.kin; tidy = was.tidy; marks_known = was.marks_known })
 
   none_there : entries_of b.number b.seen ≡ []
   none_there = ap (entries_of b.number) seen ∙ is.none
 
-  pub branch_tidy : Legal setting b.seen → AreTidy (numbers b) b.seen
-  branch_tidy legal = subst (λ ns. AreTidy ns b.seen) (sym alone) (fresh_tidy setting b.number b.seen legal none_there, tt)
-
-  pub branch_knows : (marks : List Mark) → KnowsMarks (numbers b) b.seen marks
-  branch_knows marks = subst (λ ns. KnowsMarks ns b.seen marks) (sym alone) (one_known b.number marks b.seen none_there)
+  -- so does the branch, which has entered nothing
+  pub branch_keeps : Legal setting b.seen → (marks : List Mark) → IsClientPass b marks
+  branch_keeps legal marks = new_keeps setting b marks is.number (ap (λ (x : View). x.kin) is.fresh) legal none_there

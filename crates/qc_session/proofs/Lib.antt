@@ -3,12 +3,14 @@ pub mod Accesses
 pub mod AtStart
 pub mod Beginning
 pub mod Branching
+pub mod Going
 pub mod Calling
 pub mod Closed
 pub mod Committing
 pub mod Fallen
 pub mod Followed
 pub mod High
+pub mod Keeping
 pub mod Joining
 pub mod Killing
 pub mod Leaving

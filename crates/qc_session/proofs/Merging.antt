@@ -22,6 +22,7 @@ use Rattle.qc_pass.proofs.Lists.{entries_append}
 use Rattle.qc_script.specs.Calls.{MeetsLink, Merged}
 use Rattle.qc_script.specs.Client.{Client, Made}
 use Rattle.qc_session.specs.Clients.{IsFor, client_of, kin_of, view_of}
+use Rattle.qc_session.specs.Keeping.{IsClientPass}
 use Rattle.qc_session.specs.Marking.{KnowsMarks}
 use Rattle.qc_session.specs.Session.{AreHigh}
 use Rattle.qc_session.specs.Tidy.{AreTidy}
@@ -71,7 +72,7 @@ module _ (setting : Setting) (v w : View) (legal : Legal setting w.seen) (since 
 -- BOTH
 
 -- what follows of two facts that hold
-pub both_held : {A B C : Type 0} → ∥ A ∥₁ → ∥ B ∥₁ → (A → B → C) → ∥ C ∥₁
+both_held : {A B C : Type 0} → ∥ A ∥₁ → ∥ B ∥₁ → (A → B → C) → ∥ C ∥₁
 both_held first second then = ∥∥₁_elim first (hlevel) (λ a. ∥∥₁_map second (then a))
 
 -- what is left without a number
@@ -132,18 +133,27 @@ module _ (setting : Setting) (v b w : View) (took : HasTaken v b w) (live : w.li
     branch_made = none_made setting b w legal took.other_since was_b now their_more root_b session_b epoch_b net_b;
   }
 
-  pub merged_high : AreHigh (numbers v) → AreHigh (numbers b) → AreHigh (numbers w)
+  merged_high : AreHigh (numbers v) → AreHigh (numbers b) → AreHigh (numbers w)
   merged_high first second = subst AreHigh (sym numbers_are) (high_both (numbers v) (numbers b) first second)
 
-  pub merged_tidy : AreTidy (numbers v) v.seen → AreTidy (numbers b) b.seen → AreTidy (numbers w) w.seen
+  merged_tidy : AreTidy (numbers v) v.seen → AreTidy (numbers b) b.seen → AreTidy (numbers w) w.seen
   merged_tidy first second = subst (λ ns. AreTidy ns w.seen) (sym numbers_are)
       (tidy_both (numbers v) (numbers b) w.seen (tidy_since setting v w legal took.since was now own_more first) (tidy_since setting b w legal took.other_since was_b now their_more second))
 
-  pub merged_knows : (marks marks_b : List Mark) → KnowsMarks (numbers v) v.seen marks → KnowsMarks (numbers b) b.seen marks_b → KnowsMarks (numbers w) w.seen (marks ++ marks_b)
+  merged_knows : (marks marks_b : List Mark) → KnowsMarks (numbers v) v.seen marks → KnowsMarks (numbers b) b.seen marks_b → KnowsMarks (numbers w) w.seen (marks ++ marks_b)
   merged_knows marks marks_b first second = subst (λ ns. KnowsMarks ns w.seen (marks ++ marks_b)) (sym numbers_are)
       (known_joined (numbers v) (numbers b) (marks ++ marks_b) w.seen
       (known_since setting v w legal took.since was now own_more marks (marks ++ marks_b) (λ m h. has_left marks marks_b m h) first)
       (known_since setting b w legal took.other_since was_b now their_more marks_b (marks ++ marks_b) (λ m h. has_right marks marks_b m h) second))
+
+  -- a client keeps what both kept
+  pub merged_keeps : (marks marks_b : List Mark) → IsClientPass v marks → IsClientPass b marks_b → IsClientPass w (marks ++ marks_b)
+  merged_keeps marks marks_b first second = record {
+    high = merged_high first.high second.high;
+    kin = now;
+    tidy = both_held first.tidy second.tidy merged_tidy;
+    marks_known = both_held first.marks_known second.marks_known (merged_knows marks marks_b);
+  }
 
   pub merged_met : (root root_b : Name) (session session_b epoch epoch_b epoch_w : ℕ) (net net_b net_w : Option Net) → net_w ≡ net → net_b ≡ net → MeetsLink (view_of setting root session epoch net v) → MeetsLink (view_of setting root_b session_b epoch_b net_b b)
       → MeetsLink (view_of setting root session epoch_w net_w w)

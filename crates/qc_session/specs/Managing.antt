@@ -2,7 +2,6 @@
 use Rattle.std.specs.Prelude.{ℕ, ◌≡◌, ◌+◌, [], ◌∷◌, ◌++◌, length, Result, Ok}
 use Rattle.qc_carry.specs.Walk.{Walk}
 use Rattle.qc_event.specs.declared.event.Answer.{Answer}
-use Rattle.qc_event.specs.declared.event.Answer.TheVariants as answer
 use Rattle.qc_event.specs.declared.event.Cause.TheVariants as cause
 use Rattle.qc_event.specs.declared.event.Event.TheVariants as event
 use Rattle.qc_event.specs.declared.event.How.{How}
@@ -19,13 +18,6 @@ use Rattle.qc_rw.specs.declared.no.MgrNo.{MgrNo}
 use Rattle.qc_rw.specs.declared.no.MgrNo.TheVariants as no
 use Rattle.qc_script.specs.declared.tx.TxNo.{TxNo}
 use Rattle.qc_script.specs.declared.tx.TxNo.TheVariants as tx_no
-
--- what a manager of a kind may answer
-abbrev pub IsAnswerTo : Kind → Answer → Type 0
-IsAnswerTo (kind.Read rec) given = (value : ℕ) × (given ≡ answer.Value value)
-IsAnswerTo (kind.Write rec value) given = given ≡ answer.Nothing
-IsAnswerTo (kind.Reconf rec config) given = (generation : ℕ) × (given ≡ answer.Generation generation)
-IsAnswerTo _ given = ⊥
 
 -- what a client tells where a manager came to no answer
 abbrev pub told : MgrNo → TxNo

@@ -8,9 +8,9 @@ use crate::marks::{mark, marked, number_of_top};
 use crate::starts::{start_child, start_top};
 use qc_board::Boarded;
 use qc_disk::Disk;
-use qc_event::{Answer, Cause, Config, Kind, Name, Short};
+use qc_event::{Answer, Cause, Kind, Name, Short};
 use qc_net::Link;
-use qc_script::{Tx, TxNo};
+use qc_script::{Managed, Tx, TxNo};
 use qc_system::Mounting;
 use std::alloc::AllocError;
 use std::marker::PhantomData;
@@ -36,92 +36,37 @@ impl<'a, R: Wait, D: Disk + Drop, L: Link + Drop, N: Mounting, B: Boarded> Tx
 
     fn begin(&mut self, parent: &Name, body: u32) -> Result<Name, TxNo> {
         let session = self.session;
-        self.line.known();
         if parent.is_empty() {
-            let top = start_top(&mut self.line, session, body);
-            self.line.known();
-            return top;
+            return start_top(&mut self.line, session, body);
         }
-        let child = start_child(&mut self.line, parent, Kind::User { session, body });
-        self.line.known();
-        child
+        start_child(&mut self.line, parent, Kind::User { session, body })
     }
 
-    fn read(&mut self, of: &Name, rec: u8) -> Result<u64, TxNo> {
-        self.line.known();
-        let answer = manage(&mut self.line, self.table, of, &Kind::Read { rec });
-        self.line.known();
-        match answer {
-            Ok(given) => match given {
-                Answer::Value(value) => Ok(value),
-                _ => unreachable!(),
-            },
-            Err(why) => Err(why),
-        }
-    }
-
-    fn write(&mut self, of: &Name, rec: u8, value: u64) -> Result<(), TxNo> {
-        self.line.known();
-        let answer = manage(&mut self.line, self.table, of, &Kind::Write { rec, value });
-        self.line.known();
-        match answer {
-            Ok(_) => Ok(()),
-            Err(why) => Err(why),
-        }
-    }
-
-    fn reconfigure(&mut self, of: &Name, rec: u8, config: &Config) -> Result<u64, TxNo> {
-        let kind = Kind::Reconf {
-            rec,
-            config: *config,
-        };
-        self.line.known();
-        let answer = manage(&mut self.line, self.table, of, &kind);
-        self.line.known();
-        match answer {
-            Ok(given) => match given {
-                Answer::Generation(generation) => Ok(generation),
-                _ => unreachable!(),
-            },
-            Err(why) => Err(why),
-        }
+    fn manage(&mut self, of: &Name, what: &Managed) -> Result<Answer, TxNo> {
+        manage(&mut self.line, self.table, of, what)
     }
 
     fn abort(&mut self, target: &Name, cause: Cause) -> Result<(), TxNo> {
-        self.line.known();
-        let aborted = abort(&mut self.line, target, &cause);
-        self.line.known();
-        aborted
+        abort(&mut self.line, target, &cause)
     }
 
     fn commit(&mut self, of: &Name) -> Result<(), TxNo> {
-        self.line.known();
         if let Some(number) = top_number(of) {
-            let committed = commit_top(&mut self.line, of, number);
-            self.line.known();
-            return committed;
+            return commit_top(&mut self.line, of, number);
         }
-        let committed = commit_below(&mut self.line, of);
-        self.line.known();
-        committed
+        commit_below(&mut self.line, of)
     }
 
     fn killed(&mut self, of: &Name) -> bool {
-        self.line.known();
         let top = number_of_top(of);
         if !self.board.look(&mut self.seat, self.session, top) {
             return false;
         }
-        let seen = marked(&mut self.line, of);
-        self.line.known();
-        seen
+        marked(&mut self.line, of)
     }
 
     fn kill(&mut self, by: &Name, session: u8) -> Result<(), Short> {
-        self.line.known();
-        let made = mark(&mut self.line, by, session);
-        self.line.known();
-        if let Err(short) = made {
+        if let Err(short) = mark(&mut self.line, by, session) {
             return Err(short);
         }
         let upto = number_of_top(by);
@@ -130,9 +75,7 @@ impl<'a, R: Wait, D: Disk + Drop, L: Link + Drop, N: Mounting, B: Boarded> Tx
     }
 
     fn branch(&mut self, of: &Name) -> Result<Self, AllocError> {
-        self.line.known();
         let line = self.line.branch()?;
-        line.known();
         Ok(Client {
             line,
             table: self.table,
@@ -145,19 +88,12 @@ impl<'a, R: Wait, D: Disk + Drop, L: Link + Drop, N: Mounting, B: Boarded> Tx
     }
 
     fn show(&mut self, branch: &mut Self) {
-        self.line.known();
-        branch.line.known();
         self.line.show(&mut branch.line);
-        self.line.known();
-        branch.line.known();
     }
 
     fn merge(&mut self, branch: Self) {
-        self.line.known();
-        branch.line.known();
         let (line, seat) = branch.into_parts();
         self.line.take(line);
-        self.line.known();
         self.board.join(&mut self.seat, seat);
     }
 

@@ -2,7 +2,8 @@
 ghost use Rattle.std.specs.Prelude.{◌≡◌, ◌<◌, []};
 ghost use Rattle.qc_event.specs.Tables.{setting_of};
 ghost use Rattle.qc_pass.specs.Rules.{numbers};
-ghost use Rattle.qc_session.specs.Marking.{IsSeatAt, KnowsMarks};
+ghost use Rattle.qc_session.specs.Keeping.{IsClientPass};
+ghost use Rattle.qc_session.specs.Marking.{IsSeatAt};
 ghost use Rattle.qc_session.specs.Session.{AreHigh};
 ghost use Rattle.qc_session.specs.Tidy.{AreTidy};
 
@@ -31,12 +32,10 @@ where
     pub(crate) seat: BoardSeat,
     pub(crate) at: PhantomData<B>,
     ghost over: { table.now ≡ N.table },
-    ghost high: { AreHigh (numbers line.pass) },
-    ghost tidy: { ∥ AreTidy (numbers line.pass) line.pass.seen ∥₁ },
+    ghost kept: { IsClientPass line.pass seat.marks },
     ghost low: { session < 16 },
     ghost seated: { IsSeatAt board.now seat },
     ghost boarded: { board.now.board ≡ B.board },
-    ghost marks: { ∥ KnowsMarks (numbers line.pass) line.pass.seen seat.marks ∥₁ },
 }
 
 impl<'a, R: Wait, D: Disk + Drop, L: Link + Drop, N: Mounting, B: Boarded> Client<

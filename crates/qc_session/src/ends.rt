@@ -1,23 +1,20 @@
 //! How a client ends user transactions.
 ghost use Rattle.std.specs.Prelude.{◌≡◌, ◌≤◌, ◌∷◌, [], length, None, OnOk, IfErr};
 ghost use Rattle.qc_carry.specs.Walk.{Walk};
-ghost use Rattle.qc_carry.specs.Carried.{HasCarried};
 ghost use Rattle.qc_event.specs.Aborts.{Licensed};
 ghost use Rattle.qc_event.specs.Dead.{dead, is_aborted, is_committed, outcome_of};
 ghost use Rattle.qc_event.specs.declared.event.Cause.TheVariants as cause;
 ghost use Rattle.qc_event.specs.declared.event.Event.TheVariants as event;
 ghost use Rattle.qc_event.specs.declared.event.How.TheVariants.{Abort as Aborts};
-ghost use Rattle.qc_event.specs.Legal.{Legal};
 ghost use Rattle.qc_event.specs.Standing.{IsUser, Started};
 ghost use Rattle.qc_event.specs.Tables.{setting_of};
 ghost use Rattle.qc_gather.specs.Carrying.{entry};
 ghost use Rattle.qc_net.specs.Courier.{link_of};
-ghost use Rattle.qc_pass.specs.Rules.{AreKin};
 ghost use Rattle.qc_script.specs.Calls.{Committed, IsForChild, IsGrounded, NotAborted, NotCommitted, by_client};
 ghost use Rattle.qc_script.specs.Client.{Client, Made};
 ghost use Rattle.qc_session.specs.Acting.{IsUnaborted, IsUnfounded};
 ghost use Rattle.qc_session.specs.Clients.{IsFor};
-ghost use Rattle.qc_session.specs.Tidy.{IsTidy};
+ghost use Rattle.qc_session.specs.Lines.{HasGoneOn};
 
 use crate::refusals::{log_no, no_of};
 use qc_carry::Line;
@@ -55,13 +52,9 @@ fn abort_licensed<R: Wait, D: Disk + Drop, L: Link + Drop, N: Mounting>(
     ensures ok { OnOk result (Walk line.old.pass line.new.pass
         (entry line.old.pass.number (event.End target.now (Aborts cause.now)) ∷ [])) }
     ensures err { IfErr result (IsUnaborted line.old.pass line.new.pass target.now) }
-    ensures still { HasCarried line.old.pass line.new.pass (L.view (link_of line.old.courier)).plan
-        (L.view (link_of line.new.courier)).plan line.old.patience line.new.patience }
-    ensures system { line.new.system ≡ line.old.system }
-    ensures known { AreKin line.new.pass.kin line.new.pass.seen
-        × Legal (setting_of N.table N.base) line.new.pass.seen }
-    ensures tidy { IsTidy line.old.pass.number line.old.pass.seen
-        → IsTidy line.new.pass.number line.new.pass.seen }
+    ensures went { HasGoneOn (setting_of N.table N.base) line.old.pass line.new.pass
+        (L.view (link_of line.old.courier)).plan (L.view (link_of line.new.courier)).plan
+        line.old.patience line.new.patience line.old.system line.new.system }
 {
     let aborted = line.abort(target, cause);
     line.known();
@@ -84,15 +77,10 @@ fn abort_orphan<R: Wait, D: Disk + Drop, L: Link + Drop, N: Mounting>(
         (Aborts (cause.Orphan ancestor.now))) ∷ [])) }
     ensures err { IfErr result (IsUnfounded line.old.pass line.new.pass target.now
         (cause.Orphan ancestor.now)) }
-    ensures still { HasCarried line.old.pass line.new.pass (L.view (link_of line.old.courier)).plan
-        (L.view (link_of line.new.courier)).plan line.old.patience line.new.patience }
-    ensures system { line.new.system ≡ line.old.system }
-    ensures known { AreKin line.new.pass.kin line.new.pass.seen
-        × Legal (setting_of N.table N.base) line.new.pass.seen }
-    ensures tidy { IsTidy line.old.pass.number line.old.pass.seen
-        → IsTidy line.new.pass.number line.new.pass.seen }
+    ensures went { HasGoneOn (setting_of N.table N.base) line.old.pass line.new.pass
+        (L.view (link_of line.old.courier)).plan (L.view (link_of line.new.courier)).plan
+        line.old.patience line.new.patience line.old.system line.new.system }
 {
-    line.known();
     let how = line.ended(ancestor);
     line.known();
     if is_commit(&how) {
@@ -114,15 +102,10 @@ fn abort_with_child<R: Wait, D: Disk + Drop, L: Link + Drop, N: Mounting>(
         (Aborts (cause.Child child.now))) ∷ [])) }
     ensures err { IfErr result (IsUnfounded line.old.pass line.new.pass target.now
         (cause.Child child.now)) }
-    ensures still { HasCarried line.old.pass line.new.pass (L.view (link_of line.old.courier)).plan
-        (L.view (link_of line.new.courier)).plan line.old.patience line.new.patience }
-    ensures system { line.new.system ≡ line.old.system }
-    ensures known { AreKin line.new.pass.kin line.new.pass.seen
-        × Legal (setting_of N.table N.base) line.new.pass.seen }
-    ensures tidy { IsTidy line.old.pass.number line.old.pass.seen
-        → IsTidy line.new.pass.number line.new.pass.seen }
+    ensures went { HasGoneOn (setting_of N.table N.base) line.old.pass line.new.pass
+        (L.view (link_of line.old.courier)).plan (L.view (link_of line.new.courier)).plan
+        line.old.patience line.new.patience line.old.system line.new.system }
 {
-    line.known();
     let how = line.ended(child);
     line.known();
     if !is_abort(&how) {
@@ -145,15 +128,10 @@ fn abort_for_child<R: Wait, D: Disk + Drop, L: Link + Drop, N: Mounting>(
     ensures alive { OnOk result (dead line.old.pass.seen target.now ≡ None) }
     ensures err { IfErr result (IsUnfounded line.old.pass line.new.pass target.now
         (cause.Child child.now)) }
-    ensures still { HasCarried line.old.pass line.new.pass (L.view (link_of line.old.courier)).plan
-        (L.view (link_of line.new.courier)).plan line.old.patience line.new.patience }
-    ensures system { line.new.system ≡ line.old.system }
-    ensures known { AreKin line.new.pass.kin line.new.pass.seen
-        × Legal (setting_of N.table N.base) line.new.pass.seen }
-    ensures tidy { IsTidy line.old.pass.number line.old.pass.seen
-        → IsTidy line.new.pass.number line.new.pass.seen }
+    ensures went { HasGoneOn (setting_of N.table N.base) line.old.pass line.new.pass
+        (L.view (link_of line.old.courier)).plan (L.view (link_of line.new.courier)).plan
+        line.old.patience line.new.patience line.old.system line.new.system }
 {
-    line.known();
     let fallen = line.dead(target);
     line.known();
     if let Some(ancestor) = fallen {
@@ -178,22 +156,15 @@ pub(crate) fn abort<R: Wait, D: Disk + Drop, L: Link + Drop, N: Mounting>(
     ensures err { (c : Client) → IsFor (setting_of N.table N.base) line.old.pass line.new.pass c
         → IfErr result (NotAborted c target.now cause.now line.old.pass.seen
         line.new.pass.seen) }
-    ensures still { HasCarried line.old.pass line.new.pass (L.view (link_of line.old.courier)).plan
-        (L.view (link_of line.new.courier)).plan line.old.patience line.new.patience }
-    ensures system { line.new.system ≡ line.old.system }
-    ensures known { AreKin line.new.pass.kin line.new.pass.seen
-        × Legal (setting_of N.table N.base) line.new.pass.seen }
-    ensures tidy { IsTidy line.old.pass.number line.old.pass.seen
-        → IsTidy line.new.pass.number line.new.pass.seen }
+    ensures went { HasGoneOn (setting_of N.table N.base) line.old.pass line.new.pass
+        (L.view (link_of line.old.courier)).plan (L.view (link_of line.new.courier)).plan
+        line.old.patience line.new.patience line.old.system line.new.system }
 {
-    line.known();
-    let aborted = match cause {
+    match cause {
         Cause::Orphan(ancestor) => abort_orphan(line, target, ancestor),
         Cause::Child(child) => abort_for_child(line, target, child),
         _ => abort_licensed(line, target, cause),
-    };
-    line.known();
-    aborted
+    }
 }
 
 /// Commits a user transaction below a top.
@@ -207,13 +178,9 @@ pub(crate) fn commit_below<R: Wait, D: Disk + Drop, L: Link + Drop, N: Mounting>
         → OnOk result (Committed c of.now line.old.pass.seen line.new.pass.seen) }
     ensures err { (c : Client) → IsFor (setting_of N.table N.base) line.old.pass line.new.pass c
         → IfErr result (NotCommitted c of.now line.old.pass.seen line.new.pass.seen) }
-    ensures still { HasCarried line.old.pass line.new.pass (L.view (link_of line.old.courier)).plan
-        (L.view (link_of line.new.courier)).plan line.old.patience line.new.patience }
-    ensures system { line.new.system ≡ line.old.system }
-    ensures known { AreKin line.new.pass.kin line.new.pass.seen
-        × Legal (setting_of N.table N.base) line.new.pass.seen }
-    ensures tidy { IsTidy line.old.pass.number line.old.pass.seen
-        → IsTidy line.new.pass.number line.new.pass.seen }
+    ensures went { HasGoneOn (setting_of N.table N.base) line.old.pass line.new.pass
+        (L.view (link_of line.old.courier)).plan (L.view (link_of line.new.courier)).plan
+        line.old.patience line.new.patience line.old.system line.new.system }
 {
     let ended = line.end(of, &Answer::Nothing);
     line.known();
@@ -235,13 +202,9 @@ pub(crate) fn commit_top<R: Wait, D: Disk + Drop, L: Link + Drop, N: Mounting>(
         → OnOk result (Committed c top.now line.old.pass.seen line.new.pass.seen) }
     ensures err { (c : Client) → IsFor (setting_of N.table N.base) line.old.pass line.new.pass c
         → IfErr result (NotCommitted c top.now line.old.pass.seen line.new.pass.seen) }
-    ensures still { HasCarried line.old.pass line.new.pass (L.view (link_of line.old.courier)).plan
-        (L.view (link_of line.new.courier)).plan line.old.patience line.new.patience }
-    ensures system { line.new.system ≡ line.old.system }
-    ensures known { AreKin line.new.pass.kin line.new.pass.seen
-        × Legal (setting_of N.table N.base) line.new.pass.seen }
-    ensures tidy { IsTidy line.old.pass.number line.old.pass.seen
-        → IsTidy line.new.pass.number line.new.pass.seen }
+    ensures went { HasGoneOn (setting_of N.table N.base) line.old.pass line.new.pass
+        (L.view (link_of line.old.courier)).plan (L.view (link_of line.new.courier)).plan
+        line.old.patience line.new.patience line.old.system line.new.system }
 {
     let listed = match line.ready(top) {
         Ok(listed) => listed,
@@ -250,9 +213,7 @@ pub(crate) fn commit_top<R: Wait, D: Disk + Drop, L: Link + Drop, N: Mounting>(
             return Err(no_of(&no));
         }
     };
-    line.known();
     line.look();
-    line.known();
     let logged = line.log(top, listed.as_slice());
     line.known();
     match logged {

@@ -1,34 +1,32 @@
 //! The managers that a client runs, from their start to their end.
 ghost use Rattle.std.specs.Prelude.{◌≡◌, ◌<◌, List, [], length, IsTrue, IfOk, IfErr, OnOk};
-ghost use Rattle.qc_carry.specs.Carried.{HasCarried};
 ghost use Rattle.qc_config.specs.declared.tuple.Tuple.{Tuple};
 ghost use Rattle.qc_event.specs.Base.{first_of};
 ghost use Rattle.qc_event.specs.declared.event.How.TheVariants.{Commit as Commits, Abort as Aborts};
 ghost use Rattle.qc_event.specs.History.{children, is_child};
-ghost use Rattle.qc_event.specs.Legal.{Legal};
-ghost use Rattle.qc_event.specs.Standing.{IsManager, IsUser, Started};
+ghost use Rattle.qc_event.specs.Standing.{IsUser, Started};
 ghost use Rattle.qc_event.specs.Tables.{setting_of};
 ghost use Rattle.qc_gather.specs.Carrying.{HasGrown, IsRunning};
 ghost use Rattle.qc_net.specs.Courier.{link_of};
-ghost use Rattle.qc_pass.specs.Rules.{AreKin};
 ghost use Rattle.qc_rw.specs.Managed.{IsAnswered, IsRefused, MayEndFor};
 ghost use Rattle.qc_script.specs.Calls.{GaveNone, Ran};
 ghost use Rattle.qc_script.specs.Client.{Client};
+ghost use Rattle.qc_script.specs.Managers.{manager_for, IsAnswerTo};
 ghost use Rattle.qc_script.specs.Plan.{KindFits};
 ghost use Rattle.qc_session.specs.Acting.{IsWanting};
 ghost use Rattle.qc_session.specs.Clients.{IsFor};
-ghost use Rattle.qc_session.specs.Managing.{Closed, Ends, IsAnswerTo, NotClosed};
-ghost use Rattle.qc_session.specs.Tidy.{IsTidy};
+ghost use Rattle.qc_session.specs.Managing.{Closed, Ends, NotClosed};
+ghost use Rattle.qc_session.specs.Lines.{HasGoneOn};
 
 use crate::refusals::{orphan_told, short_of, told, want_of};
 use crate::starts::start_child;
 use qc_carry::Line;
 use qc_disk::Disk;
-use qc_event::{Answer, Cause, Config, Kind, Name, Short, Table};
+use qc_event::{Answer, Cause, Config, Name, Short, Table};
 use qc_gather::Carrier;
 use qc_net::Link;
 use qc_rw::MgrNo;
-use qc_script::TxNo;
+use qc_script::{Managed, TxNo};
 use qc_system::Mounting;
 use std::sync::Wait;
 
@@ -40,45 +38,44 @@ fn first_config(table: &Table, rec: u8) -> Config
     table.records.as_slice()[rec as usize].config
 }
 
-// The answer or refusal of a manager that has just started as one of a kind, over a carrier. It has not ended yet.
+// The answer or refusal of a manager that has just started, over a carrier. It has not ended yet.
 fn ask<C: Carrier>(
     carrier: &mut C,
     table: &Table,
     name: &Name,
-    kind: &Kind,
+    what: &Managed,
 ) -> Result<Answer, MgrNo>
     requires over { (base : List (List Tuple)) × ((C.view carrier.old).setting
         ≡ setting_of table.now base) }
-    requires fits { KindFits (C.view carrier.old).setting kind.now }
+    requires fits { KindFits (C.view carrier.old).setting (manager_for what.now) }
     requires manager { IsRunning (C.view carrier.old).seat (C.view carrier.old).seen
-        name.now kind.now }
+        name.now (manager_for what.now) }
     requires no_child { children (C.view carrier.old).seen name.now ≡ [] }
     ensures grown { HasGrown (C.view carrier.old).others (λ n. IsTrue (is_child name.now n))
         (C.view carrier.old).seen (C.view carrier.new).seen }
     ensures answered { IfOk result (IsAnswered (C.view carrier.old).setting
-        (C.view carrier.old).seat (C.view carrier.new).seen name.now kind.now) }
-    ensures answers { IfOk result (IsAnswerTo kind.now) }
+        (C.view carrier.old).seat (C.view carrier.new).seen name.now (manager_for what.now)) }
+    ensures answers { IfOk result (IsAnswerTo what.now) }
     ensures refused { IfErr result (IsRefused (C.view carrier.old).setting
-        (C.view carrier.old).seat (C.view carrier.new).seen name.now kind.now) }
+        (C.view carrier.old).seat (C.view carrier.new).seen name.now (manager_for what.now)) }
     ensures became { C.became carrier.old carrier.new }
 {
-    match kind {
-        Kind::Read { rec } => {
+    match what {
+        Managed::Read { rec } => {
             let first = first_config(table, *rec);
             let value = qc_rw::read(carrier, name, *rec, &first);
             value.map(Answer::Value)
         }
-        Kind::Write { rec, value } => {
+        Managed::Write { rec, value } => {
             let first = first_config(table, *rec);
             let version = qc_rw::write(carrier, name, *rec, &first, *value);
             version.and(Ok(Answer::Nothing))
         }
-        Kind::Reconf { rec, config } => {
+        Managed::Reconf { rec, config } => {
             let first = first_config(table, *rec);
             let generation = qc_reconf::reconfigure(carrier, name, *rec, &first, config);
             generation.map(Answer::Generation)
         }
-        Kind::User { .. } | Kind::Access => unreachable!(),
     }
 }
 
@@ -86,21 +83,16 @@ fn ask<C: Carrier>(
 fn abort_manager<R: Wait, D: Disk + Drop, L: Link + Drop, N: Mounting>(
     line: &mut Line<'_, R, D, L, N>,
     name: &Name,
-    kind: &Kind,
+    what: &Managed,
     cause: &Cause,
 ) -> Result<(), Short>
-    requires manages { IsManager kind.now }
     requires may { MayEndFor (setting_of N.table N.base) line.old.pass.number line.old.pass.seen
-        name.now kind.now cause.now }
+        name.now (manager_for what.now) cause.now }
     ensures ok { OnOk result (Ends line.old.pass line.new.pass name.now (Aborts cause.now)) }
     ensures err { IfErr result (IsWanting line.old.pass line.new.pass) }
-    ensures still { HasCarried line.old.pass line.new.pass (L.view (link_of line.old.courier)).plan
-        (L.view (link_of line.new.courier)).plan line.old.patience line.new.patience }
-    ensures system { line.new.system ≡ line.old.system }
-    ensures known { AreKin line.new.pass.kin line.new.pass.seen
-        × Legal (setting_of N.table N.base) line.new.pass.seen }
-    ensures tidy { IsTidy line.old.pass.number line.old.pass.seen
-        → IsTidy line.new.pass.number line.new.pass.seen }
+    ensures went { HasGoneOn (setting_of N.table N.base) line.old.pass line.new.pass
+        (L.view (link_of line.old.courier)).plan (L.view (link_of line.new.courier)).plan
+        line.old.patience line.new.patience line.old.system line.new.system }
 {
     let aborted = line.abort(name, cause);
     line.known();
@@ -114,30 +106,24 @@ fn abort_manager<R: Wait, D: Disk + Drop, L: Link + Drop, N: Mounting>(
 fn commit_manager<R: Wait, D: Disk + Drop, L: Link + Drop, N: Mounting>(
     line: &mut Line<'_, R, D, L, N>,
     name: &Name,
-    kind: &Kind,
+    what: &Managed,
     answer: &Answer,
 ) -> Result<Answer, TxNo>
-    requires manages { IsManager kind.now }
     requires answered { IsAnswered (setting_of N.table N.base) line.old.pass.number
-        line.old.pass.seen name.now kind.now answer.now }
+        line.old.pass.seen name.now (manager_for what.now) answer.now }
     ensures ok { IfOk result (λ given. (given ≡ answer.now)
         × Ends line.old.pass line.new.pass name.now (Commits given)) }
     ensures err { IfErr result (NotClosed line.old.pass line.new.pass name.now) }
-    ensures still { HasCarried line.old.pass line.new.pass (L.view (link_of line.old.courier)).plan
-        (L.view (link_of line.new.courier)).plan line.old.patience line.new.patience }
-    ensures system { line.new.system ≡ line.old.system }
-    ensures known { AreKin line.new.pass.kin line.new.pass.seen
-        × Legal (setting_of N.table N.base) line.new.pass.seen }
-    ensures tidy { IsTidy line.old.pass.number line.old.pass.seen
-        → IsTidy line.new.pass.number line.new.pass.seen }
+    ensures went { HasGoneOn (setting_of N.table N.base) line.old.pass line.new.pass
+        (L.view (link_of line.old.courier)).plan (L.view (link_of line.new.courier)).plan
+        line.old.patience line.new.patience line.old.system line.new.system }
 {
-    line.known();
     let ended = line.end(name, answer);
     line.known();
     match ended {
         Ok(()) => Ok(*answer),
         Err(no) => match orphan_told(&no) {
-            Some(ancestor) => match abort_manager(line, name, kind, &Cause::Orphan(ancestor)) {
+            Some(ancestor) => match abort_manager(line, name, what, &Cause::Orphan(ancestor)) {
                 Ok(()) => Err(TxNo::Orphan(ancestor)),
                 Err(short) => Err(want_of(short)),
             },
@@ -150,28 +136,23 @@ fn commit_manager<R: Wait, D: Disk + Drop, L: Link + Drop, N: Mounting>(
 fn close<R: Wait, D: Disk + Drop, L: Link + Drop, N: Mounting>(
     line: &mut Line<'_, R, D, L, N>,
     name: &Name,
-    kind: &Kind,
+    what: &Managed,
     came_to: &Result<Answer, MgrNo>,
 ) -> Result<Answer, TxNo>
-    requires manages { IsManager kind.now }
     requires answered { IfOk came_to.now (IsAnswered (setting_of N.table N.base)
-        line.old.pass.number line.old.pass.seen name.now kind.now) }
+        line.old.pass.number line.old.pass.seen name.now (manager_for what.now)) }
     requires refused { IfErr came_to.now (IsRefused (setting_of N.table N.base)
-        line.old.pass.number line.old.pass.seen name.now kind.now) }
+        line.old.pass.number line.old.pass.seen name.now (manager_for what.now)) }
     ensures ok { IfOk result (Closed line.old.pass line.new.pass name.now came_to.now) }
     ensures err { IfErr result (NotClosed line.old.pass line.new.pass name.now) }
-    ensures still { HasCarried line.old.pass line.new.pass (L.view (link_of line.old.courier)).plan
-        (L.view (link_of line.new.courier)).plan line.old.patience line.new.patience }
-    ensures system { line.new.system ≡ line.old.system }
-    ensures known { AreKin line.new.pass.kin line.new.pass.seen
-        × Legal (setting_of N.table N.base) line.new.pass.seen }
-    ensures tidy { IsTidy line.old.pass.number line.old.pass.seen
-        → IsTidy line.new.pass.number line.new.pass.seen }
+    ensures went { HasGoneOn (setting_of N.table N.base) line.old.pass line.new.pass
+        (L.view (link_of line.old.courier)).plan (L.view (link_of line.new.courier)).plan
+        line.old.patience line.new.patience line.old.system line.new.system }
 {
     match came_to {
-        Ok(answer) => commit_manager(line, name, kind, answer),
+        Ok(answer) => commit_manager(line, name, what, answer),
         Err(no) => match no.cause() {
-            Some(cause) => match abort_manager(line, name, kind, &cause) {
+            Some(cause) => match abort_manager(line, name, what, &cause) {
                 Ok(()) => Err(told(no)),
                 Err(short) => Err(want_of(short)),
             },
@@ -183,39 +164,31 @@ fn close<R: Wait, D: Disk + Drop, L: Link + Drop, N: Mounting>(
     }
 }
 
-/// Runs a manager of a kind for a user transaction, and answers what it committed with.
+/// Runs a manager for a user transaction, and answers what it committed with.
 pub(crate) fn manage<R: Wait, D: Disk + Drop, L: Link + Drop, N: Mounting>(
     line: &mut Line<'_, R, D, L, N>,
     table: &Table,
     of: &Name,
-    kind: &Kind,
+    what: &Managed,
 ) -> Result<Answer, TxNo>
     requires over { table.now ≡ N.table }
-    requires fits { KindFits (setting_of N.table N.base) kind.now }
+    requires fits { KindFits (setting_of N.table N.base) (manager_for what.now) }
     requires user { Started line.old.pass.seen of.now (λ b. IsUser b.kind) }
     ensures ok { (c : Client) → IsFor (setting_of N.table N.base) line.old.pass line.new.pass c
-        → IfOk result (λ given. Ran c of.now kind.now (Commits given) line.old.pass.seen
-        line.new.pass.seen) }
-    ensures answers { IfOk result (IsAnswerTo kind.now) }
+        → IfOk result (λ given. Ran c of.now (manager_for what.now) (Commits given)
+        line.old.pass.seen line.new.pass.seen) }
+    ensures answers { IfOk result (IsAnswerTo what.now) }
     ensures err { (c : Client) → IsFor (setting_of N.table N.base) line.old.pass line.new.pass c
-        → IfErr result (GaveNone c of.now kind.now line.old.pass.seen line.new.pass.seen) }
-    ensures still { HasCarried line.old.pass line.new.pass (L.view (link_of line.old.courier)).plan
-        (L.view (link_of line.new.courier)).plan line.old.patience line.new.patience }
-    ensures system { line.new.system ≡ line.old.system }
-    ensures known { AreKin line.new.pass.kin line.new.pass.seen
-        × Legal (setting_of N.table N.base) line.new.pass.seen }
-    ensures tidy { IsTidy line.old.pass.number line.old.pass.seen
-        → IsTidy line.new.pass.number line.new.pass.seen }
+        → IfErr result (GaveNone c of.now (manager_for what.now) line.old.pass.seen
+        line.new.pass.seen) }
+    ensures went { HasGoneOn (setting_of N.table N.base) line.old.pass line.new.pass
+        (L.view (link_of line.old.courier)).plan (L.view (link_of line.new.courier)).plan
+        line.old.patience line.new.patience line.old.system line.new.system }
 {
-    line.known();
-    let name = match start_child(line, of, *kind) {
+    let name = match start_child(line, of, what.kind()) {
         Ok(name) => name,
         Err(why) => return Err(why),
     };
-    line.known();
-    let came_to = ask(line, table, &name, kind);
-    line.known();
-    let closed = close(line, &name, kind, &came_to);
-    line.known();
-    closed
+    let came_to = ask(line, table, &name, what);
+    close(line, &name, what, &came_to)
 }

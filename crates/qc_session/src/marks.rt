@@ -1,18 +1,15 @@
 //! How a client marks sessions, and looks whether a transaction is marked.
 ghost use Rattle.std.specs.Prelude.{◌≡◌, ◌<◌, ◌∷◌, [], OnOk, IfErr};
-ghost use Rattle.qc_carry.specs.Carried.{HasCarried};
 ghost use Rattle.qc_carry.specs.Walk.{Walk};
 ghost use Rattle.qc_event.specs.declared.event.Event.TheVariants as event;
-ghost use Rattle.qc_event.specs.Legal.{Legal};
 ghost use Rattle.qc_event.specs.Standing.{IsUser, Started};
 ghost use Rattle.qc_event.specs.Tables.{setting_of};
 ghost use Rattle.qc_event.specs.Users as users;
 ghost use Rattle.qc_gather.specs.Carrying.{entry};
 ghost use Rattle.qc_net.specs.Courier.{link_of};
-ghost use Rattle.qc_pass.specs.Rules.{AreKin};
 ghost use Rattle.qc_pass.specs.Looking.{is_marked_for};
 ghost use Rattle.qc_session.specs.Acting.{IsWanting};
-ghost use Rattle.qc_session.specs.Tidy.{IsTidy};
+ghost use Rattle.qc_session.specs.Lines.{HasGoneOn};
 
 use crate::refusals::short_of;
 use qc_carry::Line;
@@ -43,13 +40,9 @@ pub(crate) fn mark<R: Wait, D: Disk + Drop, L: Link + Drop, N: Mounting>(
     ensures ok { OnOk result (Walk line.old.pass line.new.pass
         (entry line.old.pass.number (event.Mark by.now session) ∷ [])) }
     ensures err { IfErr result (IsWanting line.old.pass line.new.pass) }
-    ensures still { HasCarried line.old.pass line.new.pass (L.view (link_of line.old.courier)).plan
-        (L.view (link_of line.new.courier)).plan line.old.patience line.new.patience }
-    ensures system { line.new.system ≡ line.old.system }
-    ensures known { AreKin line.new.pass.kin line.new.pass.seen
-        × Legal (setting_of N.table N.base) line.new.pass.seen }
-    ensures tidy { IsTidy line.old.pass.number line.old.pass.seen
-        → IsTidy line.new.pass.number line.new.pass.seen }
+    ensures went { HasGoneOn (setting_of N.table N.base) line.old.pass line.new.pass
+        (L.view (link_of line.old.courier)).plan (L.view (link_of line.new.courier)).plan
+        line.old.patience line.new.patience line.old.system line.new.system }
 {
     let marked = line.mark(by, session);
     line.known();
@@ -66,13 +59,9 @@ pub(crate) fn marked<R: Wait, D: Disk + Drop, L: Link + Drop, N: Mounting>(
 ) -> bool
     ensures walk { Walk line.old.pass line.new.pass [] }
     ensures marked { result ≡ is_marked_for line.new.pass.seen of.now }
-    ensures still { HasCarried line.old.pass line.new.pass (L.view (link_of line.old.courier)).plan
-        (L.view (link_of line.new.courier)).plan line.old.patience line.new.patience }
-    ensures system { line.new.system ≡ line.old.system }
-    ensures known { AreKin line.new.pass.kin line.new.pass.seen
-        × Legal (setting_of N.table N.base) line.new.pass.seen }
-    ensures tidy { IsTidy line.old.pass.number line.old.pass.seen
-        → IsTidy line.new.pass.number line.new.pass.seen }
+    ensures went { HasGoneOn (setting_of N.table N.base) line.old.pass line.new.pass
+        (L.view (link_of line.old.courier)).plan (L.view (link_of line.new.courier)).plan
+        line.old.patience line.new.patience line.old.system line.new.system }
 {
     let is_marked = line.marked(of);
     line.known();

@@ -1,21 +1,18 @@
 //! How a client begins user transactions and managers.
 ghost use Rattle.std.specs.Prelude.{◌≡◌, ◌+◌, ◌∷◌, [], length, IsTrue, IfOk, IfErr};
-ghost use Rattle.qc_carry.specs.Carried.{HasCarried};
 ghost use Rattle.qc_event.specs.declared.event.Event.TheVariants as event;
 ghost use Rattle.qc_event.specs.declared.event.Kind.TheVariants as kind;
 ghost use Rattle.qc_event.specs.History.{is_child};
-ghost use Rattle.qc_event.specs.Legal.{Legal};
 ghost use Rattle.qc_event.specs.Standing.{IsUser, Started};
 ghost use Rattle.qc_event.specs.Tables.{setting_of};
 ghost use Rattle.qc_net.specs.Courier.{link_of};
-ghost use Rattle.qc_pass.specs.Rules.{AreKin};
 ghost use Rattle.qc_script.specs.Calls.{WasRefused, by_client};
 ghost use Rattle.qc_script.specs.Client.{Client, Made};
 ghost use Rattle.qc_script.specs.Numbers.{Numbers};
 ghost use Rattle.qc_session.specs.Acting.{StandsBelow};
 ghost use Rattle.qc_session.specs.Clients.{IsFor};
 ghost use Rattle.qc_session.specs.Managing.{HasStarted};
-ghost use Rattle.qc_session.specs.Tidy.{IsTidy};
+ghost use Rattle.qc_session.specs.Lines.{HasGoneOn};
 
 use crate::refusals::no_of;
 use qc_carry::Line;
@@ -41,13 +38,9 @@ pub(crate) fn start_top<R: Wait, D: Disk + Drop, L: Link + Drop, N: Mounting>(
         → IfOk result (λ _. Numbers c line.old.pass.seen line.new.pass.seen) }
     ensures err { (c : Client) → IsFor (setting_of N.table N.base) line.old.pass line.new.pass c
         → IfErr result (WasRefused c [] line.old.pass.seen line.new.pass.seen) }
-    ensures still { HasCarried line.old.pass line.new.pass (L.view (link_of line.old.courier)).plan
-        (L.view (link_of line.new.courier)).plan line.old.patience line.new.patience }
-    ensures system { line.new.system ≡ line.old.system }
-    ensures known { AreKin line.new.pass.kin line.new.pass.seen
-        × Legal (setting_of N.table N.base) line.new.pass.seen }
-    ensures tidy { IsTidy line.old.pass.number line.old.pass.seen
-        → IsTidy line.new.pass.number line.new.pass.seen }
+    ensures went { HasGoneOn (setting_of N.table N.base) line.old.pass line.new.pass
+        (L.view (link_of line.old.courier)).plan (L.view (link_of line.new.courier)).plan
+        line.old.patience line.new.patience line.old.system line.new.system }
 {
     let started = line.start_top(session, body);
     line.known();
@@ -68,13 +61,9 @@ pub(crate) fn start_child<R: Wait, D: Disk + Drop, L: Link + Drop, N: Mounting>(
     ensures ok { IfOk result (λ n. HasStarted line.old.pass line.new.pass of.now n kind) }
     ensures err { (c : Client) → IsFor (setting_of N.table N.base) line.old.pass line.new.pass c
         → IfErr result (WasRefused c of.now line.old.pass.seen line.new.pass.seen) }
-    ensures still { HasCarried line.old.pass line.new.pass (L.view (link_of line.old.courier)).plan
-        (L.view (link_of line.new.courier)).plan line.old.patience line.new.patience }
-    ensures system { line.new.system ≡ line.old.system }
-    ensures known { AreKin line.new.pass.kin line.new.pass.seen
-        × Legal (setting_of N.table N.base) line.new.pass.seen }
-    ensures tidy { IsTidy line.old.pass.number line.old.pass.seen
-        → IsTidy line.new.pass.number line.new.pass.seen }
+    ensures went { HasGoneOn (setting_of N.table N.base) line.old.pass line.new.pass
+        (L.view (link_of line.old.courier)).plan (L.view (link_of line.new.courier)).plan
+        line.old.patience line.new.patience line.old.system line.new.system }
 {
     let started = line.start(of, kind);
     line.known();

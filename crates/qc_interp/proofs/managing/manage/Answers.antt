@@ -1,61 +1,27 @@
-use Rattle.std.proofs.Common.{rules, [], sym, subst, ◌∙◌, inl, inr}
-use Rattle.qc_script.specs.Client.{Made}
-use Rattle.qc_interp.specs.Running.{Runs, Stopped, WhyStop}
-use Rattle.qc_interp.proofs.StepsLeave.{manage_on, manage_stops, manage_over, manage_short, manage_cut}
+-- A step that is a manager goes on behind it, whatever it answered, or has stopped there.
+use Rattle.std.proofs.Common.{refl, subst}
+use Rattle.qc_script.specs.Managers.{manager_for}
+use Rattle.qc_interp.specs.Running.{HasCalled}
+use Rattle.qc_interp.proofs.ByAnswer.{by_here}
 use Rattle.qc_interp.proofs.Results.{any_err}
 use Rattle.qc_interp.proofs.managing.manage.Goals as goal
 
-pub stop-requires : goal.stop-requires
-stop-requires g c =
+pub returns-in-Answered-clause-ok : goal.returns-in-Answered-clause-ok
+returns-in-Answered-clause-ok g c =
     let v = g.T.Tx.view c.args.tx.now in
     let w = g.T.Tx.view c.call.new.tx in
-    let h = manage_stops v.client c.args.of.now c.args.kind.now v.seen w.seen c.in-Err.why c.requires.fits c.requires.runs c.in-Err.ensures.err c.in_default.not-Memory c.in_default.not-Room in
-    record {
-      runs = subst (λ d. Runs d c.args.of.now w.seen) (sym c.call.ensures.client) h.0;
-      met = c.call.ensures.met;
-      why = subst (λ d. WhyStop d w.seen c.args.of.now c.in-Err.why) (sym c.call.ensures.client) h.1;
-    }
+    let of = c.args.of.now in
+    let kd = manager_for c.args.what.now in
+    by_here v.client of kd c.in-Answered.field-0 v.seen w.seen (subst (HasCalled v.client of v.seen w.seen kd) c.in-Answered.is c.in_ok-call.ensures.ok) (λ rest given. rest) (λ rest. refl)
 
-pub returns-in-Ok-clause-ok : goal.returns-in-Ok-clause-ok
-returns-in-Ok-clause-ok g c =
-    let v = g.T.Tx.view c.args.tx.now in
-    manage_on v.client c.args.of.now c.args.kind.now v.seen (g.T.Tx.view c.call.new.tx).seen c.requires.runs c.in-Ok.ensures.ok
-
-pub returns-in_ok-again-in_default : goal.returns-in_ok-again-in_default
-returns-in_ok-again-in_default g c =
+pub returns-in-Stopped-clause-ok : goal.returns-in-Stopped-clause-ok
+returns-in-Stopped-clause-ok g c rest =
     let v = g.T.Tx.view c.args.tx.now in
     let w = g.T.Tx.view c.call.new.tx in
-    record {
-      met = c.stop.ensures.met;
-      client = c.stop.ensures.client ∙ c.call.ensures.client;
-      ok = λ rest.
-          manage_over v.client c.args.of.now c.args.kind.now v.seen w.seen (g.T.Tx.view c.stop.new.tx).seen c.in-Err.why c.in_ok-again-in_default.again (λ given. rest) c.requires.runs c.in-Err.ensures.err c.in_default.not-Memory c.in_default.not-Room
-          (subst (λ d. Stopped d c.args.of.now c.in-Err.why w.seen (g.T.Tx.view c.stop.new.tx).seen c.in_ok-again-in_default.again) c.call.ensures.client c.in_ok-again-in_default.ensures.ok);
-      cut = tt;
-      room = tt;
-    }
+    let ended = subst (HasCalled v.client c.args.of.now v.seen w.seen (manager_for c.args.what.now)) c.in-Stopped.is c.in_ok-call.ensures.ok in
+    ended (λ given. rest)
 
-pub returns-in-Memory-clause-cut : goal.returns-in-Memory-clause-cut
-returns-in-Memory-clause-cut g c rest =
-    let v = g.T.Tx.view c.args.tx.now in
-    manage_short v.client c.args.of.now c.args.kind.now v.seen (g.T.Tx.view c.call.new.tx).seen c.in-Err.why (λ given. rest) (inl c.in-Memory.is) c.requires.runs c.in-Err.ensures.err
+-- where it was cut off
 
-pub returns-in-Room-clause-cut : goal.returns-in-Room-clause-cut
-returns-in-Room-clause-cut g c rest =
-    let v = g.T.Tx.view c.args.tx.now in
-    manage_short v.client c.args.of.now c.args.kind.now v.seen (g.T.Tx.view c.call.new.tx).seen c.in-Err.why (λ given. rest) (inr c.in-Room.is) c.requires.runs c.in-Err.ensures.err
-
-pub returns-in_err-again-in_default : goal.returns-in_err-again-in_default
-returns-in_err-again-in_default g c =
-    let v = g.T.Tx.view c.args.tx.now in
-    let w = g.T.Tx.view c.call.new.tx in
-    let x = g.T.Tx.view c.stop.new.tx in
-    record {
-      met = c.stop.ensures.met;
-      client = c.stop.ensures.client ∙ c.call.ensures.client;
-      ok = search rules;
-      cut = any_err _ c.from_residual.result
-          (λ rest. manage_cut v.client c.args.of.now c.args.kind.now v.seen w.seen x.seen c.in-Err.why (λ given. rest) c.requires.runs c.in-Err.ensures.err c.in_default.not-Memory c.in_default.not-Room
-          (subst (λ d. Made d [] w.seen x.seen) c.call.ensures.client c.in_err-again-in_default.ensures.cut));
-      room = search rules;
-    }
+pub returns-in_err-call-clause-cut : goal.returns-in_err-call-clause-cut
+returns-in_err-call-clause-cut g c = any_err _ c.from_residual.result (λ rest. c.in_err-call.ensures.cut (λ given. rest))

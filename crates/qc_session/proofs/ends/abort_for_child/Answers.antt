@@ -10,9 +10,10 @@ use Rattle.qc_event.specs.declared.event.How.TheVariants.{Abort as Aborts}
 use Rattle.qc_pass.specs.declared.view.View.{View}
 use Rattle.qc_session.proofs.Aborting.{all_ended_on, all_unfounded_on, alive_before, on_any}
 use Rattle.qc_session.proofs.Refused.{dead_refuses}
-use Rattle.qc_session.proofs.Tidy.{looked_tidy}
 use Rattle.std.proofs.Common.{◌≡◌, ap, sym, ◌∙◌, subst}
 use Rattle.std.specs.Prelude.{None}
+use Rattle.qc_net.specs.Courier.{held_of, link_of}
+use Rattle.qc_session.proofs.Going.{went_looking, went_on_from}
 use Rattle.qc_session.proofs.ends.abort_for_child.Goals as goal
 
 pub returns-in-Some-clause-err : goal.returns-in-Some-clause-err
@@ -20,11 +21,6 @@ returns-in-Some-clause-err g c =
     let v = c.args.line.now.pass in
     let u = c.dead-fallen.new.self.pass in
     (of_shown v u c.args.line.now.client c.dead-fallen.ensures.looked, tt, dead_refuses u.seen c.args.target.now c.in-Some.ancestor (sym c.dead-fallen.ensures.dead ∙ c.in-Some.is))
-
-pub returns-in-Some-clause-tidy : goal.returns-in-Some-clause-tidy
-returns-in-Some-clause-tidy g c = λ was.
-    let s = c.dead-fallen.ensures.looked in
-    looked_tidy (setting_of g.N.Store.table g.N.Store.base) c.args.line.now.pass c.dead-fallen.new.self.pass c.known-2.ensures.legal (ap (λ (x : View). x.number) s.1) was (s.2 c.args.line.now.client.0)
 
 pub abort_with_child-requires-clause-user : goal.abort_with_child-requires-clause-user
 abort_with_child-requires-clause-user g c =
@@ -56,7 +52,14 @@ returns-clause-err g c =
     let u = c.dead-fallen.new.self.pass in
     all_unfounded_on v u c.abort_with_child.new.line.pass c.args.target.now (cause.Child c.args.child.now) c.abort_with_child.result (of_shown v u c.args.line.now.client c.dead-fallen.ensures.looked) c.abort_with_child.ensures.err
 
-pub returns-clause-tidy : goal.returns-clause-tidy
-returns-clause-tidy g c = λ was.
-    let s = c.dead-fallen.ensures.looked in
-    c.abort_with_child.ensures.tidy (looked_tidy (setting_of g.N.Store.table g.N.Store.base) c.args.line.now.pass c.dead-fallen.new.self.pass c.known-2.ensures.legal (ap (λ (x : View). x.number) s.1) was (s.2 c.args.line.now.client.0))
+pub returns-in-Some-clause-went : goal.returns-in-Some-clause-went
+returns-in-Some-clause-went g c =
+    let v = c.args.line.now.pass in
+    let line = c.dead-fallen.new.self in
+    went_looking (setting_of g.N.Store.table g.N.Store.base) v line.pass (λ k. (g.L.Link.view (link_of k)).plan) (of_shown v line.pass c.args.line.now.client c.dead-fallen.ensures.looked) c.dead-fallen.ensures.rest line.legal c.known.ensures.kin (held_of line.courier) line.keeps
+
+pub returns-clause-went : goal.returns-clause-went
+returns-clause-went g c =
+    let v = c.args.line.now.pass in
+    let line = c.dead-fallen.new.self in
+    went_on_from (setting_of g.N.Store.table g.N.Store.base) v line.pass c.abort_with_child.new.line.pass (λ k. (g.L.Link.view (link_of k)).plan) line.legal (of_shown v line.pass c.args.line.now.client c.dead-fallen.ensures.looked) c.dead-fallen.ensures.rest c.abort_with_child.ensures.went

@@ -11,20 +11,16 @@ use Rattle.qc_event.specs.declared.event.How.TheVariants.{Abort as Aborts}
 use Rattle.qc_pass.specs.declared.view.View.{View}
 use Rattle.qc_interp.proofs.RowAborting.{ended_later}
 use Rattle.qc_session.proofs.Aborting.{all_licensed, all_ended_on, all_unaborted_on, orphan_grounded}
-use Rattle.qc_session.proofs.Tidy.{looked_tidy}
 use Rattle.std.proofs.Common.{◌≡◌, true, ap, inr, sym, ◌∙◌, subst}
 use Rattle.std.specs.Prelude.{is_some}
+use Rattle.qc_net.specs.Courier.{held_of, link_of}
+use Rattle.qc_session.proofs.Going.{went_looking, went_on_from}
 use Rattle.qc_session.proofs.ends.abort_orphan.Goals as goal
 
 pub returns-then-is_commit-clause-err : goal.returns-then-is_commit-clause-err
 returns-then-is_commit-clause-err g c =
     let v = c.args.line.now.pass in
     (of_shown v c.ended-how.new.self.pass c.args.line.now.client c.ended-how.ensures.looked, inr (ap (λ o. is_committed (outcome_of o)) (sym c.ended-how.ensures.end) ∙ sym c.is_commit.ensures ∙ c.if-is_commit.true))
-
-pub returns-then-is_commit-clause-tidy : goal.returns-then-is_commit-clause-tidy
-returns-then-is_commit-clause-tidy g c = λ was.
-    let s = c.ended-how.ensures.looked in
-    looked_tidy (setting_of g.N.Store.table g.N.Store.base) c.args.line.now.pass c.ended-how.new.self.pass c.known-2.ensures.legal (ap (λ (x : View). x.number) s.1) was (s.2 c.args.line.now.client.0)
 
 pub abort_licensed-requires-clause-user : goal.abort_licensed-requires-clause-user
 abort_licensed-requires-clause-user g c =
@@ -49,7 +45,14 @@ pub returns-clause-err : goal.returns-clause-err
 returns-clause-err g c =
     all_unaborted_on c.args.line.now.pass c.ended-how.new.self.pass c.abort_licensed.new.line.pass c.args.target.now (cause.Orphan c.args.ancestor.now) c.abort_licensed.result (of_shown c.args.line.now.pass c.ended-how.new.self.pass c.args.line.now.client c.ended-how.ensures.looked) c.abort_licensed.ensures.err
 
-pub returns-clause-tidy : goal.returns-clause-tidy
-returns-clause-tidy g c = λ was.
-    let s = c.ended-how.ensures.looked in
-    c.abort_licensed.ensures.tidy (looked_tidy (setting_of g.N.Store.table g.N.Store.base) c.args.line.now.pass c.ended-how.new.self.pass c.known-2.ensures.legal (ap (λ (x : View). x.number) s.1) was (s.2 c.args.line.now.client.0))
+pub returns-then-is_commit-clause-went : goal.returns-then-is_commit-clause-went
+returns-then-is_commit-clause-went g c =
+    let v = c.args.line.now.pass in
+    let line = c.ended-how.new.self in
+    went_looking (setting_of g.N.Store.table g.N.Store.base) v line.pass (λ k. (g.L.Link.view (link_of k)).plan) (of_shown v line.pass c.args.line.now.client c.ended-how.ensures.looked) c.ended-how.ensures.rest line.legal c.known.ensures.kin (held_of line.courier) line.keeps
+
+pub returns-clause-went : goal.returns-clause-went
+returns-clause-went g c =
+    let v = c.args.line.now.pass in
+    let line = c.ended-how.new.self in
+    went_on_from (setting_of g.N.Store.table g.N.Store.base) v line.pass c.abort_licensed.new.line.pass (λ k. (g.L.Link.view (link_of k)).plan) line.legal (of_shown v line.pass c.args.line.now.client c.ended-how.ensures.looked) c.ended-how.ensures.rest c.abort_licensed.ensures.went

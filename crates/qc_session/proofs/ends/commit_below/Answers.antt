@@ -10,8 +10,10 @@ use Rattle.qc_script.specs.Calls.{NotCommitted}
 use Rattle.qc_session.proofs.Committing.{below_committed}
 use Rattle.qc_session.proofs.Own.{made_so}
 use Rattle.qc_session.proofs.Refused.{commit_refused}
-use Rattle.qc_session.proofs.Tidy.{looked_tidy, user_tidy}
+use Rattle.qc_session.proofs.Tidy.{user_tidy}
 use Rattle.std.proofs.Common.{[], ap, refl, sym, subst}
+use Rattle.qc_net.specs.Courier.{held_of, link_of}
+use Rattle.qc_session.proofs.Going.{went_by, went_looking}
 use Rattle.qc_session.proofs.ends.commit_below.Goals as goal
 
 pub returns-in-Ok-clause-ok : goal.returns-in-Ok-clause-ok
@@ -27,12 +29,16 @@ returns-in-Err-clause-err g c = λ client for.
     let r = c.in-Err.ensures.err in
     subst (NotCommitted client c.args.of.now v.seen w.seen) (sym c.no_of.ensures) (commit_refused client v.seen w.seen (made_so (setting_of g.N.Store.table g.N.Store.base) v w client for c.known.ensures.legal [] (of_looked v w r.0)) c.args.of.now c.in-Err.no r.1)
 
-pub returns-in-Ok-clause-tidy : goal.returns-in-Ok-clause-tidy
-returns-in-Ok-clause-tidy g c = λ was.
+pub returns-in-Ok-clause-went : goal.returns-in-Ok-clause-went
+returns-in-Ok-clause-went g c =
+    let v = c.args.line.now.pass in
+    let line = c.end-ended.new.self in
     let s = c.in-Ok.ensures.ok in
-    user_tidy (setting_of g.N.Store.table g.N.Store.base) c.args.line.now.pass c.end-ended.new.self.pass c.known.ensures.legal (ap (λ (x : View). x.number) s.3) was (event.End c.args.of.now (Commits answer.Nothing)) s.0 s.1 (ap (λ (x : View). x.seen) s.3) _ _ refl c.requires.user
+    went_by (setting_of g.N.Store.table g.N.Store.base) v line.pass (λ k. (g.L.Link.view (link_of k)).plan) _ (of_entered (against_commit c.args.of.now) (event.End c.args.of.now (Commits answer.Nothing)) v line.pass s) c.end-ended.ensures.rest line.legal c.known.ensures.kin (held_of line.courier) line.keeps
+    (λ was. user_tidy (setting_of g.N.Store.table g.N.Store.base) v line.pass c.known.ensures.legal (ap (λ (x : View). x.number) s.3) was (event.End c.args.of.now (Commits answer.Nothing)) s.0 s.1 (ap (λ (x : View). x.seen) s.3) _ _ refl c.requires.user)
 
-pub returns-in-Err-clause-tidy : goal.returns-in-Err-clause-tidy
-returns-in-Err-clause-tidy g c = λ was.
-    let r = c.in-Err.ensures.err in
-    looked_tidy (setting_of g.N.Store.table g.N.Store.base) c.args.line.now.pass c.end-ended.new.self.pass c.known.ensures.legal (ap (λ (x : View). x.number) r.0.1) was r.0.0
+pub returns-in-Err-clause-went : goal.returns-in-Err-clause-went
+returns-in-Err-clause-went g c =
+    let v = c.args.line.now.pass in
+    let line = c.end-ended.new.self in
+    went_looking (setting_of g.N.Store.table g.N.Store.base) v line.pass (λ k. (g.L.Link.view (link_of k)).plan) (of_looked v line.pass c.in-Err.ensures.err.0) c.end-ended.ensures.rest line.legal c.known.ensures.kin (held_of line.courier) line.keeps

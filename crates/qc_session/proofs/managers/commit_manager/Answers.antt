@@ -9,33 +9,32 @@ use Rattle.qc_pass.specs.Calling.{Refused}
 use Rattle.qc_pass.specs.Refusing.{against_commit}
 use Rattle.qc_pass.specs.declared.view.View.{View}
 use Rattle.qc_session.proofs.Managing.{commit_wanting, dead_orphan, is_told, left_open, manager_mine, not_closed_on, running_on, wanting_on}
-use Rattle.qc_session.proofs.Tidy.{looked_tidy, manager_tidy}
+use Rattle.qc_session.proofs.Tidy.{manager_tidy}
 use Rattle.qc_session.specs.Acting.{IsWanting}
 use Rattle.qc_session.specs.Managing.{NotClosed}
 use Rattle.std.proofs.Common.{ap, refl, sym, ◌∙◌, subst}
+use Rattle.qc_net.specs.Courier.{held_of, link_of}
+use Rattle.qc_script.proofs.Managing.{is_manager}
+use Rattle.qc_script.specs.Managers.{manager_for}
+use Rattle.qc_session.proofs.Going.{went_by, went_looking, went_on_from}
 use Rattle.qc_session.proofs.managers.commit_manager.Goals as goal
 
-pub abort_manager-requires-clause-may : goal.abort_manager-requires-clause-may
-abort_manager-requires-clause-may g c =
+pub abort_manager-requires : goal.abort_manager-requires
+abort_manager-requires g c =
     let v = c.args.line.now.pass in
     let u = c.end-ended.new.self.pass in
     let r = subst (Refused (against_commit c.args.name.now) c.args.line.now.pass c.end-ended.new.self.pass) (is_told c.in-Err.no c.in-Some.ancestor (sym c.orphan_told.ensures ∙ c.in-Some.is)) c.in-Err.ensures.err in
     let runs = c.requires.answered.running in
     let walk = of_looked v u r.0 in
     record {
-      running = running_on (setting_of g.N.Store.table g.N.Store.base) v u c.args.name.now c.args.kind.now c.requires.manages runs c.known-2.ensures.legal walk r.0.0;
-      licensed = dead_orphan (setting_of g.N.Store.table g.N.Store.base) v u c.args.name.now c.args.kind.now c.requires.manages runs c.known-2.ensures.legal walk c.in-Some.ancestor r;
+      may = record {
+        running = running_on (setting_of g.N.Store.table g.N.Store.base) v u c.args.name.now (manager_for c.args.what.now) (is_manager c.args.what.now) runs c.known.ensures.legal walk r.0.0;
+        licensed = dead_orphan (setting_of g.N.Store.table g.N.Store.base) v u c.args.name.now (manager_for c.args.what.now) (is_manager c.args.what.now) runs c.known.ensures.legal walk c.in-Some.ancestor r;
+      };
     }
 
 pub returns-in-Ok-clause-ok : goal.returns-in-Ok-clause-ok
 returns-in-Ok-clause-ok g c = (refl, of_entered (against_commit c.args.name.now) (event.End c.args.name.now (Commits c.args.answer.now)) c.args.line.now.pass c.end-ended.new.self.pass (c.in-Ok.ensures.ok))
-
-pub returns-in-Ok-clause-tidy : goal.returns-in-Ok-clause-tidy
-returns-in-Ok-clause-tidy g c = λ was.
-    let v = c.args.line.now.pass in
-    let s = c.in-Ok.ensures.ok in
-    let runs = c.requires.answered.running in
-    manager_tidy (setting_of g.N.Store.table g.N.Store.base) v c.end-ended.new.self.pass c.known-2.ensures.legal (ap (λ (x : View). x.number) s.3) was (event.End c.args.name.now (Commits c.args.answer.now)) s.0 s.1 (ap (λ (x : View). x.seen) s.3) c.args.name.now (Commits c.args.answer.now) refl (manager_mine v.number v.seen c.args.name.now c.args.kind.now c.requires.manages runs) runs.children_ended
 
 pub returns-in-Ok-abort_manager-clause-err : goal.returns-in-Ok-abort_manager-clause-err
 returns-in-Ok-abort_manager-clause-err g c =
@@ -45,13 +44,8 @@ returns-in-Ok-abort_manager-clause-err g c =
     let r = subst (Refused (against_commit c.args.name.now) c.args.line.now.pass c.end-ended.new.self.pass) (is_told c.in-Err.no c.in-Some.ancestor (sym c.orphan_told.ensures ∙ c.in-Some.is)) c.in-Err.ensures.err in
     let walk = of_looked v u r.0 in
     let ends = c.in-Ok-abort_manager.ensures.ok in
-    let orphan = dead_orphan (setting_of g.N.Store.table g.N.Store.base) v u c.args.name.now c.args.kind.now c.requires.manages c.requires.answered.running c.known-2.ensures.legal walk c.in-Some.ancestor r in
+    let orphan = dead_orphan (setting_of g.N.Store.table g.N.Store.base) v u c.args.name.now (manager_for c.args.what.now) (is_manager c.args.what.now) c.requires.answered.running c.known.ensures.legal walk c.in-Some.ancestor r in
     (not_closed_on v u w c.args.name.now c.in-Some.ancestor walk ends, subst (λ p. IsOrphanOf p c.args.name.now c.in-Some.ancestor) (sym ends.grown) (orphan_stays ends.newer u.seen c.args.name.now c.in-Some.ancestor orphan))
-
-pub returns-in-Ok-abort_manager-clause-tidy : goal.returns-in-Ok-abort_manager-clause-tidy
-returns-in-Ok-abort_manager-clause-tidy g c = λ was.
-    let r = subst (Refused (against_commit c.args.name.now) c.args.line.now.pass c.end-ended.new.self.pass) (is_told c.in-Err.no c.in-Some.ancestor (sym c.orphan_told.ensures ∙ c.in-Some.is)) c.in-Err.ensures.err in
-    c.abort_manager.ensures.tidy (looked_tidy (setting_of g.N.Store.table g.N.Store.base) c.args.line.now.pass c.end-ended.new.self.pass c.known-2.ensures.legal (ap (λ (x : View). x.number) r.0.1) was r.0.0)
 
 pub returns-in-Err-abort_manager-clause-err : goal.returns-in-Err-abort_manager-clause-err
 returns-in-Err-abort_manager-clause-err g c =
@@ -62,11 +56,6 @@ returns-in-Err-abort_manager-clause-err g c =
     let short = c.in-Err-abort_manager.short in
     subst (NotClosed v w c.args.name.now) (sym c.want_of.ensures) (left_open c.args.name.now v w short (wanting_on v u w c.args.name.now short (of_looked v u r.0) c.in-Err-abort_manager.ensures.err))
 
-pub returns-in-Err-abort_manager-clause-tidy : goal.returns-in-Err-abort_manager-clause-tidy
-returns-in-Err-abort_manager-clause-tidy g c = λ was.
-    let r = subst (Refused (against_commit c.args.name.now) c.args.line.now.pass c.end-ended.new.self.pass) (is_told c.in-Err.no c.in-Some.ancestor (sym c.orphan_told.ensures ∙ c.in-Some.is)) c.in-Err.ensures.err in
-    c.abort_manager.ensures.tidy (looked_tidy (setting_of g.N.Store.table g.N.Store.base) c.args.line.now.pass c.end-ended.new.self.pass c.known-2.ensures.legal (ap (λ (x : View). x.number) r.0.1) was r.0.0)
-
 pub returns-in-None-clause-err : goal.returns-in-None-clause-err
 returns-in-None-clause-err g c =
     let v = c.args.line.now.pass in
@@ -74,7 +63,29 @@ returns-in-None-clause-err g c =
     let r = c.in-Err.ensures.err in
     subst (NotClosed v u c.args.name.now) (sym c.want_of-in-None.ensures) (left_open c.args.name.now v u c.short_of.result (subst (IsWanting v u) (sym c.short_of.ensures) (commit_wanting c.args.name.now v u c.in-Err.no r)))
 
-pub returns-in-None-clause-tidy : goal.returns-in-None-clause-tidy
-returns-in-None-clause-tidy g c = λ was.
-    let r = c.in-Err.ensures.err in
-    looked_tidy (setting_of g.N.Store.table g.N.Store.base) c.args.line.now.pass c.end-ended.new.self.pass c.known-2.ensures.legal (ap (λ (x : View). x.number) r.0.1) was r.0.0
+pub returns-in-Ok-clause-went : goal.returns-in-Ok-clause-went
+returns-in-Ok-clause-went g c =
+    let v = c.args.line.now.pass in
+    let line = c.end-ended.new.self in
+    let s = c.in-Ok.ensures.ok in
+    let runs = c.requires.answered.running in
+    went_by (setting_of g.N.Store.table g.N.Store.base) v line.pass (λ k. (g.L.Link.view (link_of k)).plan) _ (of_entered (against_commit c.args.name.now) (event.End c.args.name.now (Commits c.args.answer.now)) v line.pass s) c.end-ended.ensures.rest line.legal c.known.ensures.kin (held_of line.courier) line.keeps
+    (λ was. manager_tidy (setting_of g.N.Store.table g.N.Store.base) v line.pass c.known.ensures.legal (ap (λ (x : View). x.number) s.3) was (event.End c.args.name.now (Commits c.args.answer.now)) s.0 s.1 (ap (λ (x : View). x.seen) s.3) c.args.name.now (Commits c.args.answer.now) refl (manager_mine v.number v.seen c.args.name.now (manager_for c.args.what.now) (is_manager c.args.what.now) runs) runs.children_ended)
+
+pub returns-in-Ok-abort_manager-clause-went : goal.returns-in-Ok-abort_manager-clause-went
+returns-in-Ok-abort_manager-clause-went g c =
+    let v = c.args.line.now.pass in
+    let line = c.end-ended.new.self in
+    went_on_from (setting_of g.N.Store.table g.N.Store.base) v line.pass c.abort_manager.new.line.pass (λ k. (g.L.Link.view (link_of k)).plan) line.legal (of_looked v line.pass c.in-Err.ensures.err.0) c.end-ended.ensures.rest c.abort_manager.ensures.went
+
+pub returns-in-Err-abort_manager-clause-went : goal.returns-in-Err-abort_manager-clause-went
+returns-in-Err-abort_manager-clause-went g c =
+    let v = c.args.line.now.pass in
+    let line = c.end-ended.new.self in
+    went_on_from (setting_of g.N.Store.table g.N.Store.base) v line.pass c.abort_manager.new.line.pass (λ k. (g.L.Link.view (link_of k)).plan) line.legal (of_looked v line.pass c.in-Err.ensures.err.0) c.end-ended.ensures.rest c.abort_manager.ensures.went
+
+pub returns-in-None-clause-went : goal.returns-in-None-clause-went
+returns-in-None-clause-went g c =
+    let v = c.args.line.now.pass in
+    let line = c.end-ended.new.self in
+    went_looking (setting_of g.N.Store.table g.N.Store.base) v line.pass (λ k. (g.L.Link.view (link_of k)).plan) (of_looked v line.pass c.in-Err.ensures.err.0) c.end-ended.ensures.rest line.legal c.known.ensures.kin (held_of line.courier) line.keeps

@@ -1,13 +1,15 @@
 -- A session is marked, or memory or room was wanting.
-use Rattle.qc_carry.proofs.Walking.{of_entered}
+use Rattle.qc_carry.proofs.Walking.{of_entered, of_looked}
 use Rattle.qc_event.specs.Tables.{setting_of}
 use Rattle.qc_event.specs.declared.event.Event.TheVariants as event
 use Rattle.qc_pass.specs.Refusing.{against_nothing}
 use Rattle.qc_pass.specs.declared.view.View.{View}
 use Rattle.qc_session.proofs.Killing.{unmarked}
-use Rattle.qc_session.proofs.Tidy.{looked_tidy, mark_tidy}
+use Rattle.qc_session.proofs.Tidy.{mark_tidy}
 use Rattle.qc_session.specs.Acting.{IsWanting}
 use Rattle.std.proofs.Common.{ap, refl, sym, subst}
+use Rattle.qc_net.specs.Courier.{held_of, link_of}
+use Rattle.qc_session.proofs.Going.{went_by, went_looking}
 use Rattle.qc_session.proofs.marks.mark.Goals as goal
 
 pub returns-in-Ok-clause-ok : goal.returns-in-Ok-clause-ok
@@ -19,12 +21,16 @@ returns-in-Err-clause-err g c =
     let w = c.mark-marked.new.self.pass in
     subst (IsWanting v w) (sym c.short_of.ensures) (unmarked v w c.in-Err.no c.in-Err.ensures.err)
 
-pub returns-in-Ok-clause-tidy : goal.returns-in-Ok-clause-tidy
-returns-in-Ok-clause-tidy g c = λ was.
+pub returns-in-Ok-clause-went : goal.returns-in-Ok-clause-went
+returns-in-Ok-clause-went g c =
+    let v = c.args.line.now.pass in
+    let line = c.mark-marked.new.self in
     let s = c.in-Ok.ensures.ok in
-    mark_tidy (setting_of g.N.Store.table g.N.Store.base) c.args.line.now.pass c.mark-marked.new.self.pass c.known.ensures.legal (ap (λ (x : View). x.number) s.3) was (event.Mark c.args.by.now c.args.session) s.0 s.1 (ap (λ (x : View). x.seen) s.3) _ _ refl
+    went_by (setting_of g.N.Store.table g.N.Store.base) v line.pass (λ k. (g.L.Link.view (link_of k)).plan) _ (of_entered against_nothing (event.Mark c.args.by.now c.args.session) v line.pass s) c.mark-marked.ensures.rest line.legal c.known.ensures.kin (held_of line.courier) line.keeps
+    (λ was. mark_tidy (setting_of g.N.Store.table g.N.Store.base) v line.pass c.known.ensures.legal (ap (λ (x : View). x.number) s.3) was (event.Mark c.args.by.now c.args.session) s.0 s.1 (ap (λ (x : View). x.seen) s.3) _ _ refl)
 
-pub returns-in-Err-clause-tidy : goal.returns-in-Err-clause-tidy
-returns-in-Err-clause-tidy g c = λ was.
-    let r = c.in-Err.ensures.err in
-    looked_tidy (setting_of g.N.Store.table g.N.Store.base) c.args.line.now.pass c.mark-marked.new.self.pass c.known.ensures.legal (ap (λ (x : View). x.number) r.0.1) was r.0.0
+pub returns-in-Err-clause-went : goal.returns-in-Err-clause-went
+returns-in-Err-clause-went g c =
+    let v = c.args.line.now.pass in
+    let line = c.mark-marked.new.self in
+    went_looking (setting_of g.N.Store.table g.N.Store.base) v line.pass (λ k. (g.L.Link.view (link_of k)).plan) (of_looked v line.pass c.in-Err.ensures.err.0) c.mark-marked.ensures.rest line.legal c.known.ensures.kin (held_of line.courier) line.keeps

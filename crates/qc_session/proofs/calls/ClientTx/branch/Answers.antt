@@ -1,20 +1,19 @@
 -- A branch of a client, and the client beside it.
 use Rattle.std.proofs.Common.{refl, sym, ap, subst, ◌∙◌}
-use Rattle.std.proofs.Math.Logic.{∥∥₁_map}
 use Rattle.qc_board.specs.Boards.{Seated}
 use Rattle.qc_event.specs.Tables.{setting_of}
-use Rattle.qc_net.specs.Courier.{link_of}
+use Rattle.qc_event.proofs.LegalAgain.{legal_again}
+use Rattle.qc_carry.proofs.KeepsStill.{keeps_met}
+use Rattle.qc_net.specs.Courier.{held_of, link_of}
 use Rattle.qc_pass.specs.declared.view.View.{View}
-use Rattle.qc_pass.specs.Rules.{numbers}
 use Rattle.qc_session.specs.Clients.{link_told}
-use Rattle.qc_session.specs.Marking.{IsSeatAt, KnowsMarks}
-use Rattle.qc_session.specs.Session.{AreHigh}
-use Rattle.qc_session.specs.Tidy.{AreTidy}
-use Rattle.qc_session.proofs.Branching.{anew_net, branch_high, branch_knows, branch_met, branch_tidy, branched, left_high, left_knows, left_tidy, still_met}
+use Rattle.qc_session.specs.Keeping.{IsClientPass}
+use Rattle.qc_session.specs.Marking.{IsSeatAt}
+use Rattle.qc_session.proofs.Branching.{anew_net, branch_keeps, branch_met, branched, left_keeps, still_met}
 use Rattle.qc_session.proofs.calls.ClientTx.branch.Goals as goal
 
 pub branch-self-requires : goal.branch-self-requires
-branch-self-requires g c = record { high = c.args.self.now.high c.args.self.now.line.pass.number (0, refl) }
+branch-self-requires g c = record { high = c.args.self.now.kept.high c.args.self.now.line.pass.number (0, refl) }
 
 pub invariant_of-self : goal.invariant_of-self
 invariant_of-self g c =
@@ -22,12 +21,10 @@ invariant_of-self g c =
     let same = sym c.in_err-line.ensures.err in
     record {
       over = me.over;
-      high = subst (λ (v : View). AreHigh (numbers v)) same me.high;
-      tidy = subst (λ (v : View). ∥ AreTidy (numbers v) v.seen ∥₁) same me.tidy;
+      kept = subst (λ (v : View). IsClientPass v me.seat.marks) same me.kept;
       low = me.low;
       seated = me.seated;
       boarded = me.boarded;
-      marks = subst (λ (v : View). ∥ KnowsMarks (numbers v) v.seen me.seat.marks ∥₁) same me.marks;
     }
 
 pub invariant_of-self-2 : goal.invariant_of-self-2
@@ -38,12 +35,10 @@ invariant_of-self-2 g c =
     let is = c.in_ok-line.ensures.ok in
     record {
       over = me.over;
-      high = left_high (setting_of g.N.Store.table g.N.Store.base) me.root c.args.of.now me.session me.line.pass now.pass line.pass is me.high;
-      tidy = ∥∥₁_map me.tidy (left_tidy (setting_of g.N.Store.table g.N.Store.base) me.root c.args.of.now me.session me.line.pass now.pass line.pass is);
+      kept = subst (λ (s : Seated). IsClientPass now.pass s.marks) (sym c.split.ensures.same) (left_keeps (setting_of g.N.Store.table g.N.Store.base) me.root c.args.of.now me.session me.line.pass now.pass line.pass is me.seat.marks me.kept);
       low = me.low;
       seated = subst (IsSeatAt me.board.now) (sym c.split.ensures.same) me.seated;
       boarded = me.boarded;
-      marks = subst (λ (s : Seated). ∥ KnowsMarks (numbers now.pass) now.pass.seen s.marks ∥₁) (sym c.split.ensures.same) (∥∥₁_map me.marks (left_knows (setting_of g.N.Store.table g.N.Store.base) me.root c.args.of.now me.session me.line.pass now.pass line.pass is me.seat.marks));
     }
 
 pub invariant_of-result : goal.invariant_of-result
@@ -54,12 +49,10 @@ invariant_of-result g c =
     let is = c.in_ok-line.ensures.ok in
     record {
       over = me.over;
-      high = branch_high (setting_of g.N.Store.table g.N.Store.base) me.root c.args.of.now me.session me.line.pass now.pass line.pass is;
-      tidy = ∣ branch_tidy (setting_of g.N.Store.table g.N.Store.base) me.root c.args.of.now me.session me.line.pass now.pass line.pass is c.known-2.ensures.legal ∣₁;
+      kept = branch_keeps (setting_of g.N.Store.table g.N.Store.base) me.root c.args.of.now me.session me.line.pass now.pass line.pass is (legal_again (setting_of g.N.Store.table g.N.Store.base) line.pass.seen line.legal) c.split.result.marks;
       low = me.low;
       seated = subst (IsSeatAt me.board.now) (sym c.split.ensures.new) me.seated;
       boarded = me.boarded;
-      marks = ∣ branch_knows (setting_of g.N.Store.table g.N.Store.base) me.root c.args.of.now me.session me.line.pass now.pass line.pass is c.split.result.marks ∣₁;
     }
 
 pub returns-clause-met : goal.returns-clause-met
@@ -76,7 +69,7 @@ returns-clause-branch_met g c =
     let now = c.branch-self.new.self in
     let line = c.in_ok-line.line in
     let is = c.in_ok-line.ensures.ok in
-    branch_met (setting_of g.N.Store.table g.N.Store.base) me.root c.args.of.now me.session me.line.pass now.pass line.pass is line.system.now.desk.epoch (g.L.Link.view (link_of line.courier)).plan line.patience c.known-2.ensures.met
+    branch_met (setting_of g.N.Store.table g.N.Store.base) me.root c.args.of.now me.session me.line.pass now.pass line.pass is line.system.now.desk.epoch (g.L.Link.view (link_of line.courier)).plan line.patience (keeps_met line.pass.number (g.L.Link.view (link_of line.courier)).plan (held_of line.courier) line.patience line.pass.seen line.torn line.keeps)
 
 pub returns-clause-ok : goal.returns-clause-ok
 returns-clause-ok g c =

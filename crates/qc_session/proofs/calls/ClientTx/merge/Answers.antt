@@ -5,10 +5,10 @@ use Rattle.qc_board.specs.Boards.{Seated}
 use Rattle.qc_event.specs.Tables.{setting_of}
 use Rattle.qc_net.specs.Courier.{link_of}
 use Rattle.qc_pass.specs.declared.view.View.{View}
-use Rattle.qc_pass.specs.Rules.{numbers}
 use Rattle.qc_session.specs.Clients.{link_told}
-use Rattle.qc_session.specs.Marking.{IsSeatAt, KnowsMarks}
-use Rattle.qc_session.proofs.Merging.{both_held, merged, merged_high, merged_knows, merged_met, merged_tidy}
+use Rattle.qc_session.specs.Keeping.{IsClientPass}
+use Rattle.qc_session.specs.Marking.{IsSeatAt}
+use Rattle.qc_session.proofs.Merging.{merged, merged_keeps, merged_met}
 use Rattle.qc_session.proofs.calls.ClientTx.merge.Goals as goal
 
 pub invariant_of-self : goal.invariant_of-self
@@ -21,12 +21,10 @@ invariant_of-self g c =
     let joins = c.join.ensures ∙ ap (λ (s : Seated). record me.seat { marks = me.seat.marks ++ s.marks }) c.into_parts-line.ensures.seat in
     record {
       over = me.over;
-      high = merged_high (setting_of g.N.Store.table g.N.Store.base) me.line.pass other.line.pass now.pass took live c.take.ensures.kin.1 c.take.ensures.legal c.known.ensures.kin c.known-2.ensures.kin c.take.ensures.kin.0 me.high other.high;
-      tidy = both_held me.tidy other.tidy (merged_tidy (setting_of g.N.Store.table g.N.Store.base) me.line.pass other.line.pass now.pass took live c.take.ensures.kin.1 c.take.ensures.legal c.known.ensures.kin c.known-2.ensures.kin c.take.ensures.kin.0);
+      kept = subst (λ (s : Seated). IsClientPass now.pass s.marks) (sym joins) (merged_keeps (setting_of g.N.Store.table g.N.Store.base) me.line.pass other.line.pass now.pass took live c.take.ensures.kin.1 c.take.ensures.legal me.kept.kin other.kept.kin c.take.ensures.kin.0 me.seat.marks other.seat.marks me.kept other.kept);
       low = me.low;
       seated = subst (IsSeatAt me.board.now) (sym joins) (record { sessions = me.seated.sessions; same = me.seated.same; may = me.seated.may });
       boarded = me.boarded;
-      marks = subst (λ (s : Seated). ∥ KnowsMarks (numbers now.pass) now.pass.seen s.marks ∥₁) (sym joins) (both_held me.marks other.marks (merged_knows (setting_of g.N.Store.table g.N.Store.base) me.line.pass other.line.pass now.pass took live c.take.ensures.kin.1 c.take.ensures.legal c.known.ensures.kin c.known-2.ensures.kin c.take.ensures.kin.0 me.seat.marks other.seat.marks));
     }
 
 pub returns-clause-met : goal.returns-clause-met
@@ -37,7 +35,7 @@ returns-clause-met g c =
     let took = subst (λ (v : View). HasTaken me.line.pass v now.pass) (ap (λ l. l.pass) c.into_parts-line.ensures.line) c.take.ensures.taken in
     let live = ap (λ (x : View). x.live) took.taken ∙ me.line.client.0 in
     let joins = c.join.ensures ∙ ap (λ (s : Seated). record me.seat { marks = me.seat.marks ++ s.marks }) c.into_parts-line.ensures.seat in
-    merged_met (setting_of g.N.Store.table g.N.Store.base) me.line.pass other.line.pass now.pass took live c.take.ensures.kin.1 c.take.ensures.legal c.known.ensures.kin c.known-2.ensures.kin c.take.ensures.kin.0 me.root other.root me.session other.session me.line.system.now.desk.epoch other.line.system.now.desk.epoch now.system.now.desk.epoch (link_told (g.L.Link.view (link_of me.line.courier)).plan me.line.patience) (link_told (g.L.Link.view (link_of other.line.courier)).plan other.line.patience) (link_told (g.L.Link.view (link_of now.courier)).plan now.patience) (ap (λ k. link_told (g.L.Link.view (link_of k)).plan now.patience) c.take.ensures.rest.0 ∙ ap (link_told (g.L.Link.view (link_of me.line.courier)).plan) c.take.ensures.rest.1) c.requires.net c.requires.met c.requires.branch_met
+    merged_met (setting_of g.N.Store.table g.N.Store.base) me.line.pass other.line.pass now.pass took live c.take.ensures.kin.1 c.take.ensures.legal me.kept.kin other.kept.kin c.take.ensures.kin.0 me.root other.root me.session other.session me.line.system.now.desk.epoch other.line.system.now.desk.epoch now.system.now.desk.epoch (link_told (g.L.Link.view (link_of me.line.courier)).plan me.line.patience) (link_told (g.L.Link.view (link_of other.line.courier)).plan other.line.patience) (link_told (g.L.Link.view (link_of now.courier)).plan now.patience) (ap (λ k. link_told (g.L.Link.view (link_of k)).plan now.patience) c.take.ensures.rest.0 ∙ ap (link_told (g.L.Link.view (link_of me.line.courier)).plan) c.take.ensures.rest.1) c.requires.net c.requires.met c.requires.branch_met
 
 pub returns-clause-merged : goal.returns-clause-merged
 returns-clause-merged g c =
@@ -47,4 +45,4 @@ returns-clause-merged g c =
     let took = subst (λ (v : View). HasTaken me.line.pass v now.pass) (ap (λ l. l.pass) c.into_parts-line.ensures.line) c.take.ensures.taken in
     let live = ap (λ (x : View). x.live) took.taken ∙ me.line.client.0 in
     let joins = c.join.ensures ∙ ap (λ (s : Seated). record me.seat { marks = me.seat.marks ++ s.marks }) c.into_parts-line.ensures.seat in
-    merged (setting_of g.N.Store.table g.N.Store.base) me.line.pass other.line.pass now.pass took live c.take.ensures.kin.1 c.take.ensures.legal c.known.ensures.kin c.known-2.ensures.kin c.take.ensures.kin.0 me.root other.root me.session other.session me.line.system.now.desk.epoch other.line.system.now.desk.epoch now.system.now.desk.epoch (link_told (g.L.Link.view (link_of me.line.courier)).plan me.line.patience) (link_told (g.L.Link.view (link_of other.line.courier)).plan other.line.patience) (link_told (g.L.Link.view (link_of now.courier)).plan now.patience) (ap (λ s. s.now.desk.epoch) c.take.ensures.rest.3) (ap (λ k. link_told (g.L.Link.view (link_of k)).plan now.patience) c.take.ensures.rest.0 ∙ ap (link_told (g.L.Link.view (link_of me.line.courier)).plan) c.take.ensures.rest.1) c.take.ensures.bounded
+    merged (setting_of g.N.Store.table g.N.Store.base) me.line.pass other.line.pass now.pass took live c.take.ensures.kin.1 c.take.ensures.legal me.kept.kin other.kept.kin c.take.ensures.kin.0 me.root other.root me.session other.session me.line.system.now.desk.epoch other.line.system.now.desk.epoch now.system.now.desk.epoch (link_told (g.L.Link.view (link_of me.line.courier)).plan me.line.patience) (link_told (g.L.Link.view (link_of other.line.courier)).plan other.line.patience) (link_told (g.L.Link.view (link_of now.courier)).plan now.patience) (ap (λ s. s.now.desk.epoch) c.take.ensures.rest.3) (ap (λ k. link_told (g.L.Link.view (link_of k)).plan now.patience) c.take.ensures.rest.0 ∙ ap (link_told (g.L.Link.view (link_of me.line.courier)).plan) c.take.ensures.rest.1) c.take.ensures.bounded
