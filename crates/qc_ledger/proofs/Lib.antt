@@ -7,3 +7,4 @@ pub mod Logging
 pub mod Verdicts
 pub mod Passes
 pub mod Since
+pub mod Calls

@@ -1,6 +1,6 @@
 -- What a refused record leaves in hand.
-use Rattle.std.proofs.Common.{◌≡◌, ◌⊎◌, inl, inr, ⊎_elim, ℕ, List, sym, ap, ◌∙◌, subst}
-use Rattle.std.specs.Prelude.{Option, None, Some}
+use Rattle.std.proofs.Common.{◌≡◌, ◌⊎◌, inl, inr, ⊎_elim, ℕ, List, sym, ap, ◌∙◌, subst, arith}
+use Rattle.std.specs.Prelude.{◌↔◌, Option, None, Some}
 use Rattle.qc_disk.specs.Disk.{IsImage}
 use Rattle.qc_disk.specs.declared.disk.Disk.{Ghosts}
 use Rattle.qc_event.specs.History.{Name}
@@ -47,7 +47,7 @@ stands_more place bodies hand body image is stands = by (subst (λ h. Stands pla
     by (inl ends) = inl (inr (place, ends))
     by (inr ends) = inr (inr (_, ends))
 
--- WHAT A LOGGING LEAVES AT EACH MOMENT
+-- WHAT A CALL LEAVES AT EACH MOMENT
 
 told_image : (content : Option (List ℕ)) (images : List ℕ → Type 0) (bytes : List ℕ) → content ≡ Some bytes → IsImage content images → images bytes
 told_image content images bytes told is = subst (λ (o : Option (List ℕ)). IsImage o images) told is
@@ -65,25 +65,39 @@ module _ {D : Type 0} {g : Ghosts D} where
       (λ has. record { earlier = image; was_left = left; bodies = with_hand bodies (in_hand old); had = has; has = inl has })
       (stands_has old.place bodies (in_hand old) image (k.each image left))
 
-  -- calls that leave nothing new, and one record more
-  pub log_moments : (old mid new : Journal D g) (body : List ℕ) (bodies found : List (List ℕ)) → Keeps old bodies → Keeps mid found → IsUp mid → (g.view (disk_of mid)).content ≡ (g.view (disk_of old)).content
-      → IsImage (g.view (disk_of old)).content (g.view (disk_of old)).may_leave → IsImage (g.view (disk_of mid)).content (g.view (disk_of mid)).may_leave
-      → Leaves old mid (g.view (disk_of old)).may_leave → Leaves mid new (HasOrMore found body) → Leaves old new (GrowsBy body (g.view (disk_of old)).may_leave)
-  log_moments old mid new body bodies found k now up same here there first then =
-      continues g.view (disk_of old) (disk_of mid) (disk_of new) (g.view (disk_of old)).may_leave (HasOrMore found body) (GrowsBy body (g.view (disk_of old)).may_leave) first then
-      (λ image left. not_grown old bodies body image k left)
-      (λ image has. record {
-        earlier = now.bytes;
-        was_left = told_image (g.view (disk_of old)).content (g.view (disk_of old)).may_leave now.bytes (sym same ∙ now.told) here;
-        bodies = found;
-        had = kept_has mid found now.bytes up now (told_image (g.view (disk_of mid)).content (g.view (disk_of mid)).may_leave now.bytes now.told there);
-        has = has;
-      })
+  -- one record more is written
+  pub grew_by : (old new : Journal D g) (body : List ℕ) (found : List (List ℕ)) → Keeps old found → IsUp old → IsImage (g.view (disk_of old)).content (g.view (disk_of old)).may_leave
+      → Leaves old new (HasOrMore found body) → Leaves old new (GrowsBy body (g.view (disk_of old)).may_leave)
+  grew_by old new body found now up here run =
+      let left = told_image (g.view (disk_of old)).content (g.view (disk_of old)).may_leave now.bytes now.told here in
+      weakened g.view (disk_of old) (disk_of new) (HasOrMore found body) (GrowsBy body (g.view (disk_of old)).may_leave) run
+      (λ image has. record { earlier = now.bytes; was_left = left; bodies = found; had = kept_has old found now.bytes up now left; has = has })
 
-  pub log_grows : (old mid new : Journal D g) (body : List ℕ) (found : List (List ℕ)) → Leaves old mid (g.view (disk_of old)).may_leave → Falls old mid → Leaves mid new (HasOrMore found body) → LosesNone mid new → LosesNone old new
-  log_grows old mid new body found first falls then grows index had =
-      grows_on g.view (disk_of old) (disk_of mid) (disk_of new) (HasAt index had) (HasOrMore found body) first.later
-      (grows_by_falls g.view (disk_of old) (disk_of mid) (HasAt index had) falls) then (grows index had)
+  -- at its moment a crash leaves of a disk what it may leave
+  abbrev pub LeavesNow : Journal D g → Type 0
+  LeavesNow journal = (c : List ℕ) → (g.view (disk_of journal)).left_at (g.view (disk_of journal)).moment c ↔ (g.view (disk_of journal)).may_leave c
+
+  left_behind : (old mid : Journal D g) (P : List ℕ → Type 0) → LeavesNow mid → Leaves old mid P → (c : List ℕ) → (g.view (disk_of mid)).may_leave c → P c
+  left_behind old mid P law first c left = first.each (g.view (disk_of mid)).moment c first.later (omega arith) ((law c).1 left)
+
+  -- calls, and then some that leave nothing new
+  pub then_none : (old mid new : Journal D g) (P : List ℕ → Type 0) → LeavesNow mid → Leaves old mid P → Leaves mid new (g.view (disk_of mid)).may_leave → Leaves old new P
+  then_none old mid new P law first last = continues g.view (disk_of old) (disk_of mid) (disk_of new) P (g.view (disk_of mid)).may_leave P first last (λ c h. h) (left_behind old mid P law first)
+
+  -- calls that leave nothing new, and then one record more
+  pub then_grew : (old mid new : Journal D g) (body : List ℕ) (bodies : List (List ℕ)) → Keeps old bodies → LeavesNow mid → Leaves old mid (g.view (disk_of old)).may_leave
+      → Leaves mid new (GrowsBy body (g.view (disk_of mid)).may_leave) → Leaves old new (GrowsBy body (g.view (disk_of old)).may_leave)
+  then_grew old mid new body bodies k law first last =
+      continues g.view (disk_of old) (disk_of mid) (disk_of new) (g.view (disk_of old)).may_leave (GrowsBy body (g.view (disk_of mid)).may_leave) (GrowsBy body (g.view (disk_of old)).may_leave) first last
+      (λ c left. not_grown old bodies body c k left)
+      (λ c grew. record { earlier = grew.earlier; was_left = left_behind old mid (g.view (disk_of old)).may_leave law first grew.earlier grew.was_left; bodies = grew.bodies; had = grew.had; has = grew.has })
+
+  -- no record is lost over both
+  pub loses_none_on : (old mid new : Journal D g) (P Q : List ℕ → Type 0) → Leaves old mid P → Leaves mid new Q → LosesNone old mid → LosesNone mid new → LosesNone old new
+  loses_none_on old mid new P Q first last one two index had = grows_on g.view (disk_of old) (disk_of mid) (disk_of new) (HasAt index had) Q first.later (one index had) last (two index had)
+
+  pub falls_grow : (old new : Journal D g) → Falls old new → LosesNone old new
+  falls_grow old new falls index had = grows_by_falls g.view (disk_of old) (disk_of new) (HasAt index had) falls
 
   pub same_moments : (old mid : Journal D g) (body : List ℕ) (bodies : List (List ℕ)) → Keeps old bodies → Leaves old mid (g.view (disk_of old)).may_leave → Leaves old mid (GrowsBy body (g.view (disk_of old)).may_leave)
   same_moments old mid body bodies k first =

@@ -12,13 +12,13 @@ use Rattle.qc_journal.specs.declared.fault.Fault.{Fault}
 use Rattle.qc_journal.specs.declared.fault.Fault.TheVariants.{Disk, Broken, Full, Memory}
 use Rattle.qc_ledger.specs.Image.{IsFault, IsFirstFault}
 use Rattle.qc_ledger.specs.Mounted.{HasSome, MountLeaves}
-use Rattle.qc_ledger.specs.Refusing.{IsImage, IsRefusal, mount_no}
+use Rattle.qc_ledger.specs.Refusing.{IsImage, IsLedgerRefusal, mount_no}
 use Rattle.qc_ledger.specs.declared.fault.LedgerNo.{LedgerNo}
 use Rattle.qc_ledger.specs.declared.fault.LedgerNo.TheVariants as ledger_no
 use Rattle.qc_ledger.proofs.Writing.{some_of_none}
 
 -- the journal's fault is the image's first
-pub mount_refusal : (table : Table) (limit : ℕ) (told : Option (List ℕ)) (fault : Fault) → IsOfReading fault → ((place : ℕ) → fault ≡ Broken place → IfSome told (IsBroken place)) → IsRefusal table limit told (mount_no fault)
+pub mount_refusal : (table : Table) (limit : ℕ) (told : Option (List ℕ)) (fault : Fault) → IsOfReading fault → ((place : ℕ) → fault ≡ Broken place → IfSome told (IsBroken place)) → IsLedgerRefusal table limit told (mount_no fault)
 mount_refusal table limit told Disk of broken = tt
 mount_refusal table limit told (Broken place) of broken = (refl, broken place refl)
 mount_refusal table limit told (Full place) of broken = absurd of
@@ -46,7 +46,7 @@ module _ (Has : List (List ℕ) → ImageFault → Type 0) (bodies : List (List 
 
 -- a fault of the bodies is the image's first
 pub begin_refusal : (K : Type 0) (told : Option (List ℕ)) (table : Table) (limit kept : ℕ) (bodies : List (List ℕ)) → kept ≡ limit → IfSome told (HasRecords bodies) → (IsSome told → K) → (fault : LedgerNo)
-    → IsImage (λ f. K → IsFault table kept bodies f) fault → IsRefusal table limit told fault
+    → IsImage (λ f. K → IsFault table kept bodies f) fault → IsLedgerRefusal table limit told fault
 begin_refusal K told table limit kept bodies same has keeps refused is =
     image_also (λ f. K → IsFault table kept bodies f) (λ f. IfSome told (IsFirstFault (IsFault table limit) f))
     (λ f at. first_told (IsFault table limit) bodies (λ place broken. broken) told f has (λ some. subst (λ n. IsFault table n bodies f) same (at (keeps some)))) refused is

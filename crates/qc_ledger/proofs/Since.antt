@@ -14,7 +14,7 @@ use Rattle.qc_journal.specs.declared.journal.Journal.{Journal}
 use Rattle.qc_journal.specs.declared.journal.State.{State}
 use Rattle.qc_journal.specs.declared.journal.State.TheVariants.{Up, Down}
 use Rattle.qc_journal.proofs.Moments.{grows_by_falls}
-use Rattle.qc_ledger.specs.Entered.{IsOver, pending_by, told_body, tops_of, unsure_by}
+use Rattle.qc_ledger.specs.Entered.{KeepsLogged, pending_by, told_body, tops_of, unsure_by}
 use Rattle.qc_ledger.specs.Runs.{Falls, HasOrMore, Leaves, LosesNone}
 use Rattle.qc_ledger.specs.Since.{AllLeft, AreTopsBy, GrownSince, HasBehind, IsNext, TopsGrow}
 use Rattle.qc_ledger.specs.Shelf.{journal_in, top_in}
@@ -113,7 +113,7 @@ module _ (told : Name → List Name) (before : List (List ℕ)) (past mine : Pas
   pub tops_written : {D : Type 0} {g : Ghosts D} (since : ℕ) (old new : Shelf D g) (bytes : List ℕ) → bytes ≡ told_body told top → top_in old ≡ None
       → ((found : List (List ℕ)) → Keeps (journal_in old) found → Leaves (journal_in old) (journal_in new) (HasOrMore found bytes))
       → ((found : List (List ℕ)) → Keeps (journal_in old) found → LosesNone (journal_in old) (journal_in new))
-      → IsOver told before old (tops_of mine) → TopsGrow told before since old past → TopsGrow told before since new past
+      → KeepsLogged told before old (tops_of mine) → TopsGrow told before since old past → TopsGrow told before since new past
   tops_written {D} {g} since old new bytes is none leaves grows over grown =
       grown_on since before g.view (journal_in old).disk (journal_in new).disk (AreTopsBy told past) (AreTopsBy told past) (HasOrMore found (told_body told top)) (λ more m. m) written_has
       (subst (λ (b : List ℕ). Leaves (journal_in old) (journal_in new) (HasOrMore found b)) is (leaves found keeps)) (grows found keeps) grown
@@ -151,7 +151,7 @@ module _ {D : Type 0} {g : Ghosts D} (told : Name → List Name) (before : List 
       (grown_falls since before g.view (disk_of (journal_in old)) (disk_of (journal_in mid)) (AreTopsBy told past) law run falls grown))
 
   -- what is kept over the same journal, with the same top in hand
-  pub over_same : (tops tops' : List Name) → journal_in new ≡ journal_in old → top_in new ≡ top_in old → tops' ≡ tops → IsOver told before old tops → IsOver told before new tops'
+  pub over_same : (tops tops' : List Name) → journal_in new ≡ journal_in old → top_in new ≡ top_in old → tops' ≡ tops → KeepsLogged told before old tops → KeepsLogged told before new tops'
   over_same tops tops' same hand is over = record {
     keeps = subst (λ (p : Journal D g × (Option Name × List Name)). Keeps p.0 (before ++ map (told_body told) (p.1.1 ++ pending_by p.0.state p.1.0))) (λ i. (sym same i, (sym hand i, sym is i))) over.keeps;
     hand = subst (λ (p : Journal D g × Option Name). in_hand p.0 ≡ option_map (told_body told) (unsure_by p.0.state p.1)) (λ i. (sym same i, sym hand i)) over.hand;

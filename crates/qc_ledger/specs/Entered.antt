@@ -23,8 +23,8 @@ use Rattle.qc_ledger.specs.Shelf.{journal_in, top_body, top_in}
 use Rattle.qc_ledger.specs.declared.shelf.Shelf.{Shelf}
 
 -- that a top was not logged
-abbrev pub unable_entry : Name → Why → Entry
-unable_entry top why = entry ledger_seat (event.Unable top why)
+abbrev pub unlogged_entry : Name → Why → Entry
+unlogged_entry top why = entry ledger_seat (event.Unable top why)
 
 -- the commit of the top in hand
 abbrev pub commits_of : Option Name → Past
@@ -58,7 +58,7 @@ told_body told top = top_body top (told top)
 
 -- The disk tells its bytes. Each image has records from before, then one for each of these tops and the pending one, and
 -- the one in hand may stand behind them.
-pub record IsOver {D : Type 0} {g : Ghosts D} (told : Name → List Name) (before : List (List ℕ)) (shelf : Shelf D g) (tops : List Name) : Type 0 where
+pub record KeepsLogged {D : Type 0} {g : Ghosts D} (told : Name → List Name) (before : List (List ℕ)) (shelf : Shelf D g) (tops : List Name) : Type 0 where
   pub keeps : Keeps (journal_in shelf) (before ++ map (told_body told) (tops ++ pending_by (journal_in shelf).state (top_in shelf)))
   pub hand : in_hand (journal_in shelf) ≡ option_map (told_body told) (unsure_by (journal_in shelf).state (top_in shelf))
 
@@ -73,8 +73,8 @@ pub record IsBehind (first these old new : Past) : Type 0 where
   pub all : new ≡ these ++ mid
 
 -- at most the commit of the top in hand was entered
-abbrev pub EntersHand : Option Name → Past → Past → Type 0
-EntersHand hand old new = AtMost (commits_of hand) old new
+abbrev pub CommitsHand : Option Name → Past → Past → Type 0
+CommitsHand hand old new = AtMost (commits_of hand) old new
 
 -- at most the commit of the top in hand was entered, and then these
 abbrev pub EntersBehind : Option Name → Past → Past → Past → Type 0
@@ -82,15 +82,15 @@ EntersBehind hand these old new = IsBehind (commits_of hand) these old new
 
 -- at most the commit of the top in hand was entered, and then at most that of this top
 abbrev pub EntersTop : Option Name → Name → Past → Past → Type 0
-EntersTop hand top old new = EntersHand hand old new ⊎ EntersBehind hand (commit_of top ∷ []) old new
+EntersTop hand top old new = CommitsHand hand old new ⊎ EntersBehind hand (commit_of top ∷ []) old new
 
 -- what each refusal of a logging enters
 abbrev pub RefusalEnters : LedgerNo → Option Name → Name → Past → Past → Type 0
-RefusalEnters no.Disk hand top old new = EntersBehind hand (unable_entry top Down ∷ []) old new
+RefusalEnters no.Disk hand top old new = EntersBehind hand (unlogged_entry top Down ∷ []) old new
 RefusalEnters (no.Image bad) hand top old new = ⊥
-RefusalEnters (no.Full place) hand top old new = EntersBehind hand (unable_entry top Full ∷ []) old new
-RefusalEnters no.Memory hand top old new = EntersHand hand old new
-RefusalEnters no.Room hand top old new = EntersHand hand old new
+RefusalEnters (no.Full place) hand top old new = EntersBehind hand (unlogged_entry top Full ∷ []) old new
+RefusalEnters no.Memory hand top old new = CommitsHand hand old new
+RefusalEnters no.Room hand top old new = CommitsHand hand old new
 
 -- a logging may be refused for this
 abbrev pub IsLogNo : LedgerNo → Type 0

@@ -7,3 +7,4 @@ pub mod Runs
 pub mod Shelf
 pub mod Entered
 pub mod Since
+pub mod Calls

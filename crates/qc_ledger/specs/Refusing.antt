@@ -17,10 +17,10 @@ want_no desk.Room = Room
 want_no _ = Memory
 
 -- for want of memory or of room
-abbrev pub IsWant : LedgerNo → Type 0
-IsWant Memory = Unit {0}
-IsWant Room = Unit {0}
-IsWant _ = ⊥
+abbrev pub IsWantNo : LedgerNo → Type 0
+IsWantNo Memory = Unit {0}
+IsWantNo Room = Unit {0}
+IsWantNo _ = ⊥
 
 -- the ledger's image is refused
 abbrev pub image_no : ImageFault → LedgerNo
@@ -57,8 +57,8 @@ IsOfBytes P Memory = Unit {0}
 IsOfBytes P Room = ⊥
 
 -- a mounting may be refused: for the first fault of the image that is told, for the disk, or for memory
-abbrev pub IsRefusal : Table → ℕ → Option (List ℕ) → LedgerNo → Type 0
-IsRefusal table limit told fault = IsImage (λ f. IfSome told (IsFirstFault (IsFault table limit) f)) fault
+abbrev pub IsLedgerRefusal : Table → ℕ → Option (List ℕ) → LedgerNo → Type 0
+IsLedgerRefusal table limit told fault = IsImage (λ f. IfSome told (IsFirstFault (IsFault table limit) f)) fault
 
 -- a fault of the disk, of want of room or of the memory
 abbrev pub IsOfWriting : Fault → Type 0

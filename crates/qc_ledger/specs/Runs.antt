@@ -22,12 +22,12 @@ module _ {D : Type 0} {g : Ghosts D} (journal : Journal D g) (bodies : Vec (Vec 
   KeepsAll = Keeps journal (bodies_of bodies.items)
 
   -- of others that are written behind them, the first that would pass the limit goes to this place
-  abbrev pub IsFullFor : List (List ℕ) → ℕ → Type 0
-  IsFullFor more place = IsFull (limit_of journal) (bodies_of bodies.items) more place
+  abbrev pub IsFullBehind : List (List ℕ) → ℕ → Type 0
+  IsFullBehind more place = IsFull (limit_of journal) (bodies_of bodies.items) more place
 
   -- others have room behind them
-  abbrev pub HasRoom : List (List ℕ) → Type 0
-  HasRoom more = (place : ℕ) → IsFullFor more place → ⊥
+  abbrev pub HaveRoomBehind : List (List ℕ) → Type 0
+  HaveRoomBehind more = (place : ℕ) → IsFullBehind more place → ⊥
 
 -- there are these bodies more
 abbrev pub HasMore : Vec (Vec ℕ Global) Global → Vec (Vec ℕ Global) Global → List (List ℕ) → Type 0

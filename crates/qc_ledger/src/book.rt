@@ -23,7 +23,7 @@ impl<D: Disk> Book<D> {
     ghost use Rattle.qc_journal.specs.Image.{bodies_of};
     ghost use Rattle.qc_ledger.specs.Mounted.{journal_of, records_of};
     ghost use Rattle.qc_ledger.specs.Shelf.{journal_in, top_in};
-    ghost use Rattle.qc_ledger.specs.Entered.{tops_of, IsOver};
+    ghost use Rattle.qc_ledger.specs.Entered.{tops_of, KeepsLogged};
     ghost use Rattle.qc_ledger.specs.Since.{TopsGrow};
 
     /// The bodies of its records, the one that says how it was made and this mounting's epoch among them.
@@ -55,7 +55,7 @@ impl<D: Disk> Book<D> {
         ensures pass { result.pass ≡ pass }
         ensures over { (told : List ℕ → List (List ℕ)) → pass.mine ≡ []
             → Keeps (journal_of self) (records_of self)
-            → IsOver told (records_of self) result.shelf (tops_of result.pass.mine) }
+            → KeepsLogged told (records_of self) result.shelf (tops_of result.pass.mine) }
         ensures grown { (told : List ℕ → List (List ℕ)) (since : ℕ)
             → since ≡ (D.view (disk_of (journal_of self))).moment
             → Keeps (journal_of self) (records_of self)

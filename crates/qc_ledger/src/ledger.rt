@@ -6,14 +6,13 @@ ghost use Rattle.qc_codec.specs.declared.record.LedgerRecord.TheVariants.{Top};
 ghost use Rattle.qc_event.specs.History.{end, is_ready, limit};
 ghost use Rattle.qc_event.specs.Requests.{is_ledger_fault};
 ghost use Rattle.qc_event.specs.Seats.{ledger_seat};
-ghost use Rattle.qc_pass.specs.Calling.{Shown};
 ghost use Rattle.qc_pass.specs.Entries.{entries_of, IsOlder};
 ghost use Rattle.qc_journal.specs.Journal.{disk_of, limit_of, place_of, IsTooLong, IsUp, Keeps};
 ghost use Rattle.qc_ledger.specs.Entered.{MayFinish, SeesMore};
-ghost use Rattle.qc_ledger.specs.Refusing.{want_no, IsWant};
+ghost use Rattle.qc_ledger.specs.Refusing.{want_no, IsWantNo};
 ghost use Rattle.qc_ledger.specs.Runs.{HasOrMore, Leaves, LosesNone, Falls, GoesOn, Costs, CostsTwo};
 ghost use Rattle.qc_ledger.specs.Shelf.{journal_in, top_in, top_body, LogLeaves, IsDeviceNo, IsIdle};
-ghost use Rattle.qc_ledger.specs.Since.{IsNext, TopsGrow};
+ghost use Rattle.qc_ledger.specs.Since.{IsNext};
 ghost use Rattle.qc_ledger.specs.declared.fault.LedgerNo.TheVariants.{Disk, Full, Room};
 
 use crate::fault::LedgerNo;
@@ -46,7 +45,8 @@ fn want_no(no: DeskNo) -> LedgerNo
 }
 
 impl<D: Disk, N: Store> Ledger<D, N> {
-    ghost use Rattle.qc_ledger.specs.Entered.{commits_of, tops_of, unable_entry, EntersHand, EntersTop, GrowsBy, IsOver, IsLogNo, IsReviveNo, RefusalEnters};
+    ghost use Rattle.qc_ledger.specs.Entered.{commits_of, tops_of, unlogged_entry, CommitsHand, EntersTop, IsLogNo, KeepsLogged, IsReviveNo, RefusalEnters};
+    ghost use Rattle.qc_ledger.specs.Calls.{ledger_state, HasLogged, LedgerBecame, LedgerWroteNone};
 
     // Commits the top in hand, whose record stands.
     fn settle<R: Wait>(&mut self, rt: &R, desk: &Desk<N>) -> Result<(), LedgerNo>
@@ -60,10 +60,10 @@ impl<D: Disk, N: Store> Ledger<D, N> {
         ensures stands { OnOk result ((top : List ℕ) → top_in self.old.shelf ≡ Some top
             → IsTrue (is_some (end self.new.pass.seen top))) }
         ensures over { (told : List ℕ → List (List ℕ)) (before : List (List ℕ))
-            → IsOver told before self.old.shelf (tops_of self.old.pass.mine)
-            → IsOver told before self.new.shelf (tops_of self.new.pass.mine) }
+            → KeepsLogged told before self.old.shelf (tops_of self.old.pass.mine)
+            → KeepsLogged told before self.new.shelf (tops_of self.new.pass.mine) }
         ensures seen { IsOlder self.old.pass.seen self.new.pass.seen }
-        ensures want { IfErr result IsWant }
+        ensures want { IfErr result IsWantNo }
         ensures room { IsErrOf result Room → length self.new.pass.seen ≡ limit }
     {
         let Some(top) = self.shelf.hand() else {
@@ -86,7 +86,8 @@ impl<D: Disk, N: Store> Ledger<D, N> {
         ensures hand { (top_in self.new.shelf ≡ None)
             ⊎ (top_in self.new.shelf ≡ top_in self.old.shelf) }
         ensures over { (told : List ℕ → List (List ℕ)) (before tops : List (List ℕ))
-            → IsOver told before self.old.shelf tops → IsOver told before self.new.shelf tops }
+            → KeepsLogged told before self.old.shelf tops
+            → KeepsLogged told before self.new.shelf tops }
         ensures refused { IfErr result IsDeviceNo }
         ensures limit { limit_of (journal_in self.new.shelf)
             ≡ limit_of (journal_in self.old.shelf) }
@@ -119,8 +120,8 @@ impl<D: Disk, N: Store> Ledger<D, N> {
         ensures left { IfErr result
             (LogLeaves self.old.shelf self.new.shelf top.now (top_body top.now aborted.now)) }
         ensures over { (told : List ℕ → List (List ℕ)) (before tops : List (List ℕ))
-            → aborted.now ≡ told top.now → IsOver told before self.old.shelf tops
-            → IsOver told before self.new.shelf tops }
+            → aborted.now ≡ told top.now → KeepsLogged told before self.old.shelf tops
+            → KeepsLogged told before self.new.shelf tops }
         ensures limit { limit_of (journal_in self.new.shelf)
             ≡ limit_of (journal_in self.old.shelf) }
         ensures place { GoesOn (journal_in self.old.shelf) (journal_in self.new.shelf) }
@@ -155,14 +156,14 @@ impl<D: Disk, N: Store> Ledger<D, N> {
         ensures journal { journal_in self.new.shelf ≡ journal_in self.old.shelf }
         ensures hand { top_in self.new.shelf ≡ top_in self.old.shelf }
         ensures ok { OnOk result
-            (self.new.pass.mine ≡ unable_entry top.now why ∷ self.old.pass.mine) }
+            (self.new.pass.mine ≡ unlogged_entry top.now why ∷ self.old.pass.mine) }
         ensures err { OnErr result (self.new.pass.mine ≡ self.old.pass.mine) }
         ensures over { (told : List ℕ → List (List ℕ)) (before : List (List ℕ))
-            → IsOver told before self.old.shelf (tops_of self.old.pass.mine)
-            → IsOver told before self.new.shelf (tops_of self.new.pass.mine) }
+            → KeepsLogged told before self.old.shelf (tops_of self.old.pass.mine)
+            → KeepsLogged told before self.new.shelf (tops_of self.new.pass.mine) }
         ensures seen { IsOlder self.old.pass.seen self.new.pass.seen }
         ensures seer { SeesMore seer.old seer.new }
-        ensures want { IfErr result IsWant }
+        ensures want { IfErr result IsWantNo }
         ensures room { IsErrOf result Room → length self.new.pass.seen ≡ limit }
     {
         match desk.unable(rt, &mut self.pass, seer, top, why) {
@@ -220,50 +221,20 @@ impl<D: Disk, N: Store> Ledger<D, N> {
             × (top_in self.new.shelf ≡ None)) }
         ensures enters { OnOk result (EntersTop (top_in self.old.shelf) top.now
             self.old.pass.mine self.new.pass.mine) }
-        ensures none { OnErr result (EntersHand (top_in self.old.shelf)
+        ensures none { OnErr result (CommitsHand (top_in self.old.shelf)
             self.old.pass.mine self.new.pass.mine) }
         ensures refused { IfErr result IsLogNo }
         ensures room { IsErrOf result Room → length self.new.pass.seen ≡ limit }
-
-        // Where the disk tells its bytes, each image has a record for each committed top, and behind them at most that of
-        // the top in hand. At each moment of the call an image has the records of some image from before, or these and
-        // this top's.
-        ensures over { (told : List ℕ → List (List ℕ)) (before : List (List ℕ))
-            → aborted.now ≡ told top.now
-            → IsOver told before self.old.shelf (tops_of self.old.pass.mine)
-            → IsOver told before self.new.shelf (tops_of self.new.pass.mine) }
-        ensures any_moment { (told : List ℕ → List (List ℕ)) (before : List (List ℕ))
-            → IsOver told before self.old.shelf (tops_of self.old.pass.mine)
-            → Leaves (journal_in self.old.shelf) (journal_in self.new.shelf)
-            (GrowsBy (top_body top.now aborted.now)
-            (D.view (disk_of (journal_in self.old.shelf))).may_leave) }
-        ensures grows { (told : List ℕ → List (List ℕ)) (before : List (List ℕ))
-            → IsOver told before self.old.shelf (tops_of self.old.pass.mine)
-            → LosesNone (journal_in self.old.shelf) (journal_in self.new.shelf) }
-
-        // Since a moment each image had the records from before it, and behind them those of tops up to now; and none was
-        // lost.
-        ensures grown { (told : List ℕ → List (List ℕ)) (before : List (List ℕ)) (since : ℕ)
-            → aborted.now ≡ told top.now
-            → IsOver told before self.old.shelf (tops_of self.old.pass.mine)
-            → TopsGrow told before since self.old.shelf self.old.pass.seen
-            → TopsGrow told before since self.new.shelf self.new.pass.seen }
-
-        // A fault of the disk is told only where its count of faults rose, by two where the ledger was up. Full comes only
-        // where the record would pass the limit at its place; the ledger is up then, with nothing in hand. The place of the
-        // next record never falls.
         ensures full { (place : ℕ) → result ≡ Err (Full place) → IsIdle self.new.shelf place
             × IsTooLong place (limit_of (journal_in self.old.shelf))
             (top_body top.now aborted.now) }
-        ensures limit { limit_of (journal_in self.new.shelf)
-            ≡ limit_of (journal_in self.old.shelf) }
-        ensures place { GoesOn (journal_in self.old.shelf) (journal_in self.new.shelf) }
+        ensures became { LedgerBecame (Some (record { top = top.now; aborted = aborted.now }))
+            (ledger_state self.old) (ledger_state self.new) }
+        ensures seer { SeesMore seer.old seer.new }
         ensures cause { Costs (journal_in self.old.shelf) (journal_in self.new.shelf)
             (IsErrOf result Disk) }
         ensures twice { IsUp (journal_in self.old.shelf) → IsErrOf result Disk
             → CostsTwo (journal_in self.old.shelf) (journal_in self.new.shelf) }
-        ensures seen { IsOlder self.old.pass.seen self.new.pass.seen }
-        ensures seer { SeesMore seer.old seer.new }
     {
         self.rise()?;
         self.settle(rt, desk)?;
@@ -290,56 +261,25 @@ impl<D: Disk, N: Store> Ledger<D, N> {
         requires ready { IsTrue (is_ready seer.old.seen top.now) }
         requires proper { body.ledger.fits (Top top.now aborted.now) }
 
-        // At `Ok` the top's commit stands, and the ledger is up with nothing in hand. What was entered is at most the
-        // commit of the top in hand, and then at most this top's, or that it was not logged.
-        ensures stands { OnOk result (IsTrue (is_some (end self.new.pass.seen top.now))) }
-        ensures idle { OnOk result (IsUp (journal_in self.new.shelf)
-            × (top_in self.new.shelf ≡ None)) }
-        ensures enters { OnOk result (EntersTop (top_in self.old.shelf) top.now
-            self.old.pass.mine self.new.pass.mine) }
+        // At an error what was entered is at most the commit of the top in hand, and then that this top was not logged. Full
+        // comes only where the record would pass the limit at its place; the ledger is up then, with nothing in hand.
+        ensures logged { OnOk result
+            (HasLogged top.now (ledger_state self.old) (ledger_state self.new)) }
         ensures refused { IfErr result (λ refusal. RefusalEnters refusal
             (top_in self.old.shelf) top.now self.old.pass.mine self.new.pass.mine) }
         ensures room { IsErrOf result Room → length self.new.pass.seen ≡ limit }
-
-        // Where the disk tells its bytes, each image has a record for each committed top, and behind them at most that of
-        // the top in hand. At each moment of the call an image has the records of some image from before, or these and
-        // this top's.
-        ensures over { (told : List ℕ → List (List ℕ)) (before : List (List ℕ))
-            → aborted.now ≡ told top.now
-            → IsOver told before self.old.shelf (tops_of self.old.pass.mine)
-            → IsOver told before self.new.shelf (tops_of self.new.pass.mine) }
-        ensures any_moment { (told : List ℕ → List (List ℕ)) (before : List (List ℕ))
-            → IsOver told before self.old.shelf (tops_of self.old.pass.mine)
-            → Leaves (journal_in self.old.shelf) (journal_in self.new.shelf)
-            (GrowsBy (top_body top.now aborted.now)
-            (D.view (disk_of (journal_in self.old.shelf))).may_leave) }
-        ensures grows { (told : List ℕ → List (List ℕ)) (before : List (List ℕ))
-            → IsOver told before self.old.shelf (tops_of self.old.pass.mine)
-            → LosesNone (journal_in self.old.shelf) (journal_in self.new.shelf) }
-
-        // Since a moment each image had the records from before it, and behind them those of tops up to now; and none was
-        // lost.
-        ensures grown { (told : List ℕ → List (List ℕ)) (before : List (List ℕ)) (since : ℕ)
-            → aborted.now ≡ told top.now
-            → IsOver told before self.old.shelf (tops_of self.old.pass.mine)
-            → TopsGrow told before since self.old.shelf self.old.pass.seen
-            → TopsGrow told before since self.new.shelf self.new.pass.seen }
-
-        // A fault of the disk is told only where its count of faults rose, by two where the ledger was up. Full comes only
-        // where the record would pass the limit at its place; the ledger is up then, with nothing in hand. The place of the
-        // next record never falls.
         ensures full { (place : ℕ) → result ≡ Err (Full place) → IsIdle self.new.shelf place
             × IsTooLong place (limit_of (journal_in self.old.shelf))
             (top_body top.now aborted.now) }
-        ensures limit { limit_of (journal_in self.new.shelf)
-            ≡ limit_of (journal_in self.old.shelf) }
-        ensures place { GoesOn (journal_in self.old.shelf) (journal_in self.new.shelf) }
+        ensures became { LedgerBecame (Some (record { top = top.now; aborted = aborted.now }))
+            (ledger_state self.old) (ledger_state self.new) }
+        ensures seer { SeesMore seer.old seer.new }
+
+        // A fault of the disk is told only where its count of faults rose, by two where the ledger was up.
         ensures cause { Costs (journal_in self.old.shelf) (journal_in self.new.shelf)
             (IsErrOf result Disk) }
         ensures twice { IsUp (journal_in self.old.shelf) → IsErrOf result Disk
             → CostsTwo (journal_in self.old.shelf) (journal_in self.new.shelf) }
-        ensures seen { IsOlder self.old.pass.seen self.new.pass.seen }
-        ensures seer { SeesMore seer.old seer.new }
     {
         match self.try_log(rt, desk, seer, top, aborted) {
             Err(LedgerNo::Disk) => {
@@ -359,23 +299,12 @@ impl<D: Disk, N: Store> Ledger<D, N> {
     pub fn revive<R: Wait>(&mut self, rt: &R, desk: &Desk<N>) -> Result<(), LedgerNo>
         ensures up { OnOk result (IsUp (journal_in self.new.shelf)) }
         ensures none { OnOk result (top_in self.new.shelf ≡ None) }
-        ensures enters { EntersHand (top_in self.old.shelf)
-            self.old.pass.mine self.new.pass.mine }
         ensures refused { IfErr result IsReviveNo }
         ensures room { IsErrOf result Room → length self.new.pass.seen ≡ limit }
-        ensures over { (told : List ℕ → List (List ℕ)) (before : List (List ℕ))
-            → IsOver told before self.old.shelf (tops_of self.old.pass.mine)
-            → IsOver told before self.new.shelf (tops_of self.new.pass.mine) }
-        ensures seen { IsOlder self.old.pass.seen self.new.pass.seen }
-        ensures any_moment { Leaves (journal_in self.old.shelf) (journal_in self.new.shelf)
-            (D.view (disk_of (journal_in self.old.shelf))).may_leave }
-        ensures falls { Falls (journal_in self.old.shelf) (journal_in self.new.shelf) }
-        ensures grown { (told : List ℕ → List (List ℕ)) (before : List (List ℕ)) (since : ℕ)
-            → TopsGrow told before since self.old.shelf self.old.pass.seen
-            → TopsGrow told before since self.new.shelf self.new.pass.seen }
-        ensures limit { limit_of (journal_in self.new.shelf)
-            ≡ limit_of (journal_in self.old.shelf) }
-        ensures place { GoesOn (journal_in self.old.shelf) (journal_in self.new.shelf) }
+        ensures enters { CommitsHand (top_in self.old.shelf)
+            self.old.pass.mine self.new.pass.mine }
+        ensures became { LedgerBecame None (ledger_state self.old) (ledger_state self.new) }
+        ensures wrote_none { LedgerWroteNone (ledger_state self.old) (ledger_state self.new) }
         ensures cause { Costs (journal_in self.old.shelf) (journal_in self.new.shelf)
             (IsErrOf result Disk) }
     {

@@ -7,9 +7,9 @@ ghost use Rattle.qc_journal.specs.Image.{HasAt, bodies_of};
 ghost use Rattle.qc_journal.specs.Journal.{disk_of, limit_of, IsUp, Keeps};
 ghost use Rattle.qc_journal.specs.declared.fault.Fault.TheVariants.{Full};
 ghost use Rattle.qc_ledger.specs.Image.{made_body, epoch_body, made_where_none, to_write, AreMountable, IsFault, AreLedgers, LAST_EPOCH};
-ghost use Rattle.qc_ledger.specs.Refusing.{IsRefusal, IsImage, IsOfBytes, IsOfWriting};
+ghost use Rattle.qc_ledger.specs.Refusing.{IsLedgerRefusal, IsImage, IsOfBytes, IsOfWriting};
 ghost use Rattle.qc_ledger.specs.Mounted.{Mounts, MountLeaves, journal_of, records_of, disk_after, HasSome};
-ghost use Rattle.qc_ledger.specs.Runs.{Costs, HasMore, HasRoom, IsFullFor, KeepsAll, Leaves, LosesNone};
+ghost use Rattle.qc_ledger.specs.Runs.{Costs, HasMore, HaveRoomBehind, IsFullBehind, KeepsAll, Leaves, LosesNone};
 
 use crate::book::Book;
 use crate::fault::{LedgerNo, mount_no};
@@ -38,9 +38,9 @@ fn write<D: Disk>(journal: &mut Journal<D>, bodies: &mut Vec<Body>, next: Body) 
     ensures keeps { OnOk result (KeepsAll journal.old bodies.old
         → KeepsAll journal.new bodies.new) }
     ensures room { OnOk result (KeepsAll journal.old bodies.old
-        → HasRoom journal.old bodies.old (next.items ∷ [])) }
+        → HaveRoomBehind journal.old bodies.old (next.items ∷ [])) }
     ensures full { (place : ℕ) → result ≡ Err (Full place) → KeepsAll journal.old bodies.old
-        → IsFullFor journal.old bodies.old (next.items ∷ []) place }
+        → IsFullBehind journal.old bodies.old (next.items ∷ []) place }
     ensures fault { IfErr result IsOfWriting }
     ensures any_moment { KeepsAll journal.old bodies.old
         → Leaves journal.old journal.new (HasSome (bodies_of bodies.old.items) (next.items ∷ [])) }
@@ -66,9 +66,9 @@ pub fn make<D: Disk>(
     ensures keeps { OnOk result (KeepsAll journal.old bodies.old
         → KeepsAll journal.new bodies.new) }
     ensures room { OnOk result (KeepsAll journal.old bodies.old
-        → HasRoom journal.old bodies.old (made_where_none made.items (bodies_of bodies.old.items))) }
+        → HaveRoomBehind journal.old bodies.old (made_where_none made.items (bodies_of bodies.old.items))) }
     ensures full { (place : ℕ) → result ≡ Err (Full place) → KeepsAll journal.old bodies.old
-        → IsFullFor journal.old bodies.old (made_where_none made.items (bodies_of bodies.old.items))
+        → IsFullBehind journal.old bodies.old (made_where_none made.items (bodies_of bodies.old.items))
         place }
     ensures fault { IfErr result IsOfWriting }
     ensures any_moment { KeepsAll journal.old bodies.old
@@ -98,10 +98,10 @@ fn write_both<D: Disk>(
     ensures keeps { OnOk result (KeepsAll journal.old bodies.old
         → KeepsAll journal.new bodies.new) }
     ensures room { OnOk result (KeepsAll journal.old bodies.old
-        → HasRoom journal.old bodies.old (made_where_none made.items (bodies_of bodies.old.items) ++
+        → HaveRoomBehind journal.old bodies.old (made_where_none made.items (bodies_of bodies.old.items) ++
         epoch.items ∷ [])) }
     ensures full { (place : ℕ) → result ≡ Err (Full place) → KeepsAll journal.old bodies.old
-        → IsFullFor journal.old bodies.old (made_where_none made.items (bodies_of bodies.old.items)
+        → IsFullBehind journal.old bodies.old (made_where_none made.items (bodies_of bodies.old.items)
         ++ epoch.items ∷ []) place }
     ensures fault { IfErr result IsOfWriting }
     ensures any_moment { KeepsAll journal.old bodies.old
@@ -202,7 +202,7 @@ pub fn mount<D: Disk>(
         → Keeps (journal_of mounted.0) (records_of mounted.0)) }
 
     // It is refused for the image's first fault, where the disk tells its bytes.
-    ensures refused { IfErr result (λ refused. IsRefusal table.now limit (D.view disk).content
+    ensures refused { IfErr result (λ refused. IsLedgerRefusal table.now limit (D.view disk).content
         refused.1) }
 
     ensures any_moment { IsSome (D.view disk).content

@@ -20,7 +20,7 @@ use Rattle.qc_ledger.specs.Refusing.{IsOfWriting}
 use Rattle.qc_ledger.proofs.Mounts.{first_told}
 use Rattle.qc_site.specs.Image.{AreMadeFor, IsFault}
 use Rattle.qc_site.specs.Reading.{IsFirstBad, IsLaterBad}
-use Rattle.qc_site.specs.Refusing.{mount_no, IsImage, IsOfBytes, IsRefusal}
+use Rattle.qc_site.specs.Refusing.{mount_no, IsImage, IsOfBytes, IsCopyRefusal}
 use Rattle.qc_site.specs.declared.fault.SiteNo.{SiteNo}
 use Rattle.qc_site.specs.declared.fault.SiteNo.TheVariants.{Disk, Image, Strange, Memory, Room}
 
@@ -97,7 +97,7 @@ module _ (copy : ℕ) where
     later_fault bodies made (Epoch epoch) bad = bad
 
     -- the journal's fault is the image's first
-    pub mount_refusal : (told : Option (List ℕ)) (fault : Fault) → IsOfReading fault → ((place : ℕ) → fault ≡ journal.Broken place → IfSome told (IsBroken place)) → IsRefusal copy table past limit told (mount_no copy fault)
+    pub mount_refusal : (told : Option (List ℕ)) (fault : Fault) → IsOfReading fault → ((place : ℕ) → fault ≡ journal.Broken place → IfSome told (IsBroken place)) → IsCopyRefusal copy table past limit told (mount_no copy fault)
     mount_refusal told journal.Disk of broken = tt
     mount_refusal told (journal.Broken place) of broken = (refl, broken place refl)
     mount_refusal told (journal.Full place) of broken = absurd of
@@ -105,7 +105,7 @@ module _ (copy : ℕ) where
 
     -- a fault of the bodies is the image's first
     pub begin_refusal : (K : Type 0) (told : Option (List ℕ)) (kept : ℕ) (bodies : List (List ℕ)) → kept ≡ limit → IfSome told (HasRecords bodies) → (IsSome told → K) → (fault : SiteNo)
-        → IsImage copy (λ f. K → IsFault copy table past kept bodies f) fault → IsRefusal copy table past limit told fault
+        → IsImage copy (λ f. K → IsFault copy table past kept bodies f) fault → IsCopyRefusal copy table past limit told fault
     begin_refusal K told kept bodies same has keeps refused is =
         image_also (λ f. K → IsFault copy table past kept bodies f) (λ f. IfSome told (IsFirstFault (IsFault copy table past limit) f))
         (λ f at. first_told (IsFault copy table past limit) bodies (λ place broken. broken) told f has (λ some. subst (λ n. IsFault copy table past n bodies f) same (at (keeps some)))) refused is

@@ -10,13 +10,13 @@ use Rattle.qc_journal.specs.Journal.{in_hand, IsUp, Keeps, Stands}
 use Rattle.qc_journal.specs.declared.journal.Journal.{Journal}
 use Rattle.qc_journal.proofs.Readings.{records-same, records_not_broken}
 use Rattle.qc_ledger.proofs.Writing.{up_hand}
-use Rattle.qc_site.specs.Back.{IsFound, IsLeft, Says}
+use Rattle.qc_site.specs.Back.{WereFound, IsLeft, Says}
 
 -- one that is up has nothing in hand
 pub nothing_in_hand : {D : Type 0} {g : Ghosts D} (journal : Journal D g) → IsUp journal → in_hand journal ≡ None
 nothing_in_hand journal up = up_hand journal.state up
 
-pub found_by : (place : ℕ) (bodies found : List (List ℕ)) (hand : Option (List ℕ)) (image : List ℕ) → Stands place bodies hand image → HasRecords found image → IsFound bodies hand found
+pub found_by : (place : ℕ) (bodies found : List (List ℕ)) (hand : Option (List ℕ)) (image : List ℕ) → Stands place bodies hand image → HasRecords found image → WereFound bodies hand found
 found_by place bodies found None image stands has = inl (records-same image bodies found (inr (place, stands)) has)
 found_by place bodies found (Some body) image (inl stands) has = inl (records-same image bodies found (inr (place, stands)) has)
 found_by place bodies found (Some body) image (inr stands) has = inr (records-same image (bodies ++ body ∷ []) found (inr (_, stands)) has)

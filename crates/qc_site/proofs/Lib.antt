@@ -12,4 +12,4 @@ mod Found
 mod Logs
 mod Refusals
 pub mod Since
-mod Entered
+pub mod Calls

@@ -1,6 +1,6 @@
 -- What a copy's disk goes on to keep of its grants.
 use Rattle.std.proofs.Common.{◌≡◌, ◌⊎◌, inl, inr, ℕ, zero, suc, ◌<◌, ◌≤◌, Bool, true, false, List, [], ◌∷◌, ◌++◌, length, map, drop, refl, sym, ap, ap₂, ◌∙◌, subst, arith, append_assoc, append-nil}
-use Rattle.std.specs.Prelude.{◌↔◌, Option, None, Some, IfSome, IfOk, IfErr, OnOk, OnErr, Result, Ok, Err, option_to_list, slice_get, slice_index_or, if◌then◌else◌}
+use Rattle.std.specs.Prelude.{Option, None, Some, IfSome, IfOk, IfErr, OnOk, OnErr, Result, Ok, Err, option_to_list, slice_get, slice_index_or, if◌then◌else◌}
 use Rattle.std.specs.List.{All}
 use Rattle.std.specs.Option.{option_map}
 use Rattle.std.proofs.lemmas.List.{drop_at, map-append, length-append, length-map}
@@ -13,21 +13,14 @@ use Rattle.qc_codec.proofs.Exact.{all_again}
 use Rattle.std.proofs.lemmas.Option.{same_Some}
 use Rattle.qc_disk.specs.declared.disk.Disk.{Ghosts}
 use Rattle.qc_event.specs.declared.event.Grant.{Grant}
-use Rattle.qc_journal.specs.Image.{HasAt, HasRecords}
+use Rattle.qc_journal.specs.Image.{HasRecords}
 use Rattle.qc_disk.specs.Disk.{HasCause, IsImage}
 use Rattle.qc_journal.specs.declared.fault.Fault.{Fault}
 use Rattle.qc_journal.specs.declared.fault.Fault.TheVariants as fault
-use Rattle.qc_journal.specs.Journal.{disk_of, in_hand, with_hand, AppendLeaves, IsDown, IsUp, Keeps, TakesInHand}
+use Rattle.qc_journal.specs.Journal.{in_hand, with_hand, AppendLeaves, IsDown, IsUp, Keeps, TakesInHand}
 use Rattle.qc_journal.specs.declared.journal.Journal.{Journal}
-use Rattle.qc_site.specs.Back.{grant_body, AreGrants, IsAnswer, IsFirstApart, IsFirstUnread, IsFound, IsLeft, IsPlain, IsWithHand, Says, Stand}
-use Rattle.qc_event.specs.Grants.{grant_with}
-use Rattle.qc_event.specs.declared.event.Ask.{Ask}
-use Rattle.qc_event.specs.Base.{no_tuple}
-use Rattle.qc_journal.proofs.Moments.{grows_by_falls, started}
-use Rattle.qc_ledger.proofs.Writing.{kept_has}
+use Rattle.qc_site.specs.Back.{grant_body, AreGrants, IsAnswer, IsFirstApart, IsFirstUnread, WereFound, IsLeft, IsPlain, IsWithHand, Says, Stand}
 use Rattle.qc_ledger.proofs.Logging.{up_by}
-use Rattle.qc_ledger.specs.Runs.{Falls, HasOrMore, LosesNone}
-use Rattle.qc_site.specs.Sites.{LeavesGrant}
 use Rattle.qc_site.specs.Log.{IsOver}
 use Rattle.qc_site.specs.declared.back.BackNo.{BackNo}
 use Rattle.qc_site.specs.declared.back.BackNo.TheVariants as no_back
@@ -127,7 +120,7 @@ module _ {D : Type 0} {g : Ghosts D} (before : List (List ℕ)) (log : GrantLog 
         hand_fits = k.fits;
       }
 
-  pub spelled : (found : List (List ℕ)) → IsFound bodies (in_hand log.journal) found → IsSpelled log.copies log.earlier before given hand found
+  pub spelled : (found : List (List ℕ)) → WereFound bodies (in_hand log.journal) found → IsSpelled log.copies log.earlier before given hand found
   spelled found (inl is) = as_before found is
   spelled found (inr is) = by_journal k.in_journal
     where
@@ -348,16 +341,6 @@ entered_over before log given hand up k =
 -- the same grants and the same grant in hand
 pub same_over : {D : Type 0} {g : Ghosts D} (before : List (List ℕ)) (log : GrantLog D g) (given now : List Grant) (hand held : Option Grant) → now ≡ given → held ≡ hand → IsOver before log given hand → IsOver before log now held
 same_over before log given now hand held same is k = subst (λ (x : List Grant × Option Grant). IsOver before log x.0 x.1) (λ i. (sym same i, sym is i)) k
-
--- where nothing is written
-pub unchanged : {D : Type 0} {g : Ghosts D} (copies : ℕ) (ask : Ask) (j : Journal D g) (bodies : List (List ℕ)) → ((c : List ℕ) → (g.view (disk_of j)).left_at (g.view (disk_of j)).moment c ↔ (g.view (disk_of j)).may_leave c) → (IsDown j → ⊥) → Keeps j bodies
-    → LeavesGrant copies ask j j bodies
-unchanged {D} {g} copies ask j bodies law never k =
-    (no_tuple, started g.view (disk_of j) (HasOrMore bodies (grant_body copies (grant_with ask no_tuple))) (λ c at. inl (kept_has j bodies c (up_by j.state never) k ((law c).0 at))))
-
--- where images only fall away, none loses a record
-pub falls_grow : {D : Type 0} {g : Ghosts D} (old new : Journal D g) → Falls old new → LosesNone old new
-falls_grow {D} {g} old new falls index had = grows_by_falls g.view (disk_of old) (disk_of new) (HasAt index had) falls
 
 -- a count of faults over two runs
 pub cause_on : (a b c : ℕ) (First Then : Type 0) → HasCause a b First → HasCause b c Then → HasCause a c Then

@@ -1,14 +1,17 @@
 -- Why a site did not do what it was asked.
-use Rattle.std.proofs.Common.{◌≡◌, ℕ, refl, sym, ap, ◌∙◌, subst}
+use Rattle.std.proofs.Common.{◌≡◌, ◌⊎◌, inl, inr, ℕ, refl, sym, ap, ◌∙◌, subst, true, false}
 use Rattle.qc_config.specs.declared.tuple.Tuple.{Tuple}
 use Rattle.qc_event.specs.Grants.{grant_with}
 use Rattle.qc_disk.specs.declared.disk.Disk.{Ghosts}
 use Rattle.qc_event.specs.declared.event.Ask.{Ask}
 use Rattle.qc_event.specs.declared.event.Grant.{Grant}
 use Rattle.qc_event.specs.declared.log.Short.TheVariants as short
-use Rattle.qc_journal.specs.Journal.{limit_of, place_of, IsTooLong}
+use Rattle.qc_event.specs.History.{Past}
+use Rattle.qc_journal.specs.Journal.{limit_of, place_of, IsDown, IsTooLong, IsUp}
+use Rattle.qc_journal.specs.declared.journal.Journal.{Journal}
 use Rattle.qc_journal.specs.declared.fault.Fault.{Fault}
 use Rattle.qc_journal.specs.declared.fault.Fault.TheVariants as fault
+use Rattle.qc_pass.specs.Refusing.{IsWant}
 use Rattle.qc_pass.specs.declared.refusal.DeskNo.{DeskNo}
 use Rattle.qc_pass.specs.declared.refusal.DeskNo.TheVariants as desk
 use Rattle.qc_site.specs.Back.{grant_body}
@@ -18,23 +21,38 @@ use Rattle.qc_site.specs.Serving.{of_fault, of_site}
 use Rattle.qc_site.specs.declared.log.GrantLog.{GrantLog}
 use Rattle.qc_site.specs.declared.serve.ServeNo.{ServeNo}
 use Rattle.qc_site.specs.declared.serve.ServeNo.TheVariants as no_serve
-use Rattle.std.specs.Prelude.{Result, Ok, Err, IfErr, IsErrOf}
-use Rattle.qc_site.specs.Sites.{IsFullFor, IsReviveNo, IsWantNo}
+use Rattle.std.specs.Prelude.{None, Result, Ok, Err, IfErr, IsErrOf}
+use Rattle.qc_site.specs.Calls.{ReviveSays, ServeSays, SiteState}
+use Rattle.qc_site.specs.Replica.{Standing}
+use Rattle.qc_site.specs.Sites.{IsSiteWant}
 use Rattle.qc_site.specs.declared.fault.SiteNo.{SiteNo}
 use Rattle.qc_site.specs.declared.fault.SiteNo.TheVariants.{Disk, Image, Strange, Memory, Room}
 
-pub want_is_revive : {T : Type 0} (r : Result T SiteNo) → IfErr r IsWantNo → IfErr r IsReviveNo
-want_is_revive (Ok x) is = tt
-want_is_revive (Err Disk) is = tt
-want_is_revive (Err (Image bad)) is = is
-want_is_revive (Err Strange) is = tt
-want_is_revive (Err Memory) is = tt
-want_is_revive (Err Room) is = tt
+-- want at the desk is what a revival may say
+pub want_says : {D T : Type 0} {g : Ghosts D} (new : SiteState g) (r : Result T SiteNo) → IfErr r (IsSiteWant new.replica.pass.seen) → IfErr r (ReviveSays new)
+want_says new (Ok x) is = tt
+want_says new (Err Disk) is = absurd is
+want_says new (Err (Image bad)) is = is
+want_says new (Err Strange) is = absurd is
+want_says new (Err Memory) is = tt
+want_says new (Err Room) is = is
 
--- want is no fault of the disk
-pub no_disk_no : {T : Type 0} (r : Result T SiteNo) → IfErr r IsWantNo → IsErrOf r Disk → ⊥
-no_disk_no (Ok x) is of = absurd cc
-no_disk_no (Err refusal) is of = let one : refusal ≡ Disk = cc in subst IsWantNo one is
+-- it is no fault of the disk
+pub no_disk_no : {T : Type 0} (past : Past) (r : Result T SiteNo) → IfErr r (IsSiteWant past) → IsErrOf r Disk → ⊥
+no_disk_no past (Ok x) is of = absurd cc
+no_disk_no past (Err refusal) is of = let one : refusal ≡ Disk = cc in subst (IsSiteWant past) one is
+
+-- what a refusal of the desk says
+pub desk_want : (past : Past) (refusal : DeskNo) (said : SiteNo) → said ≡ desk_no refusal → IsWant past refusal → IsSiteWant past said
+desk_want past refusal said is want = subst (IsSiteWant past) (sym is) (by refusal want)
+  where
+    by : (r : DeskNo) → IsWant past r → IsSiteWant past (desk_no r)
+    by desk.Room w = w
+    by desk.Memory w = tt
+    by desk.Ended w = tt
+    by desk.Ready w = tt
+    by (desk.Orphan a) w = tt
+    by (desk.ChildrenOpen n) w = tt
 
 -- TO A REQUEST
 
@@ -45,18 +63,51 @@ down_is_disk old new (fault.Broken place) e left is failed = absurd left
 down_is_disk old new (fault.Full place) e left is failed = absurd (let one : e ≡ no_serve.Down = cc in let other : no_serve.Full ≡ no_serve.Down = sym is ∙ one in cc)
 down_is_disk old new fault.Memory e left is failed = absurd (let one : e ≡ no_serve.Down = cc in let other : no_serve.Short short.Memory ≡ no_serve.Down = sym is ∙ one in cc)
 
--- it is full where the record would pass the limit
-pub full_is_full : {D : Type 0} {g : Ghosts D} {T : Type 0} (old new : GrantLog D g) (f : Fault) (e : ServeNo) (ask : Ask) (tuple : Tuple) (grant : Grant) → WriteLeaves old new f → e ≡ of_fault f → IsErrOf {T = T} (Err e) no_serve.Full
-    → ((place : ℕ) → f ≡ fault.Full place → IsTooLong (place_of old.journal) (limit_of old.journal) (grant_body old.copies grant)) → new.copies ≡ old.copies → grant ≡ grant_with ask tuple → IsFullFor ask new
-full_is_full old new fault.Disk e ask tuple grant left is failed long copies same = absurd (let one : e ≡ no_serve.Full = cc in let other : no_serve.Down ≡ no_serve.Full = sym is ∙ one in cc)
-full_is_full old new (fault.Broken place) e ask tuple grant left is failed long copies same = absurd left
-full_is_full old new (fault.Full place) e ask tuple grant left is failed long copies same = (
-  tuple,
-  subst (λ j. IsTooLong (place_of j) (limit_of j) (grant_body new.copies (grant_with ask tuple))) (sym left)
-      (subst (λ x. IsTooLong (place_of old.journal) (limit_of old.journal) (grant_body new.copies x)) same
-      (subst (λ n. IsTooLong (place_of old.journal) (limit_of old.journal) (grant_body n grant)) (sym copies) (long place refl))),
-)
-full_is_full old new fault.Memory e ask tuple grant left is failed long copies same = absurd (let one : e ≡ no_serve.Full = cc in let other : no_serve.Short short.Memory ≡ no_serve.Full = sym is ∙ one in cc)
+-- what a fault of the journal says to a request
+pub write_says : {D : Type 0} {g : Ghosts D} (old : GrantLog D g) (new : SiteState g) (was : Standing) (f : Fault) (e : ServeNo) (ask : Ask) (tuple : Tuple) (grant : Grant) → WriteLeaves old new.log f → e ≡ of_fault f → IsUp old.journal → was.up ≡ true
+    → ((IsUp new.log.journal) × (new.replica.hand ≡ None) × (new.replica.up ≡ was.up)) ⊎ ((IsDown new.log.journal) × (new.replica.hand ≡ was.hand) × (new.replica.up ≡ false))
+    → ((place : ℕ) → f ≡ fault.Full place → IsTooLong (place_of old.journal) (limit_of old.journal) (grant_body old.copies grant)) → new.log.copies ≡ old.copies → grant ≡ grant_with ask tuple → ServeSays ask new e
+write_says {D} {g} old new was f e ask tuple grant left is up stood fallen long copies same = subst (ServeSays ask new) (sym is) (by f left long)
+  where
+    by : (f : Fault) → WriteLeaves old new.log f → ((place : ℕ) → f ≡ fault.Full place → IsTooLong (place_of old.journal) (limit_of old.journal) (grant_body old.copies grant)) → ServeSays ask new (of_fault f)
+    by fault.Disk down long = elim fallen [ inl u ↦ absurd (down u.0) | inr d ↦ d.2 ]
+    by (fault.Broken place) never long = absurd never
+    by (fault.Full place) left long = (
+      (
+        tuple,
+        subst (λ (j : Journal D g). IsTooLong (place_of j) (limit_of j) (grant_body new.log.copies (grant_with ask tuple))) (sym left)
+            (subst (λ (x : Grant). IsTooLong (place_of old.journal) (limit_of old.journal) (grant_body new.log.copies x)) same
+            (subst (λ n. IsTooLong (place_of old.journal) (limit_of old.journal) (grant_body n grant)) (sym copies) (long place refl))),
+      ),
+      elim fallen [
+        | inl u ↦ record { up = u.2 ∙ stood; none = u.1 }
+        | inr d ↦ absurd (d.0 (subst (λ (j : Journal D g). IsUp j) (sym left) up))
+      ],
+    )
+    by fault.Memory left long = tt
+
+-- what want at the desk says to a request
+pub desk_says : {D : Type 0} {g : Ghosts D} (ask : Ask) (new : SiteState g) (refusal : DeskNo) (mid : SiteNo) (e : ServeNo) → mid ≡ desk_no refusal → e ≡ of_site mid → IsWant new.replica.pass.seen refusal → ServeSays ask new e
+desk_says ask new refusal mid e first is want = subst (ServeSays ask new) (sym (is ∙ ap of_site first)) (by refusal want)
+  where
+    by : (r : DeskNo) → IsWant new.replica.pass.seen r → ServeSays ask new (of_site (desk_no r))
+    by desk.Room w = w
+    by desk.Memory w = tt
+    by desk.Ended w = tt
+    by desk.Ready w = tt
+    by (desk.Orphan a) w = tt
+    by (desk.ChildrenOpen n) w = tt
+
+-- what a refused revival says to a request
+pub site_says : {D : Type 0} {g : Ghosts D} (ask : Ask) (new : SiteState g) (refused : SiteNo) (e : ServeNo) → e ≡ of_site refused → ReviveSays new refused → ServeSays ask new e
+site_says ask new refused e is says = subst (ServeSays ask new) (sym is) (by refused says)
+  where
+    by : (r : SiteNo) → ReviveSays new r → ServeSays ask new (of_site r)
+    by Disk s = s
+    by (Image bad) s = absurd s
+    by Strange s = s
+    by Memory s = tt
+    by Room s = s
 
 -- want at the desk is no fault of the disk
 pub desk_not_down : {T : Type 0} (refusal : DeskNo) (mid : SiteNo) (e : ServeNo) → mid ≡ desk_no refusal → e ≡ of_site mid → IsErrOf {T = T} (Err e) no_serve.Down → ⊥

@@ -71,12 +71,12 @@ IsPlain (no_back.Strange strange) = ⊥
 IsPlain _ = Unit {0}
 
 -- what was found is what was kept, or that and what was in hand
-abbrev pub IsFound : List (List ℕ) → Option (List ℕ) → List (List ℕ) → Type 0
-IsFound bodies hand found = (found ≡ bodies) ⊎ (found ≡ with_hand bodies hand)
+abbrev pub WereFound : List (List ℕ) → Option (List ℕ) → List (List ℕ) → Type 0
+WereFound bodies hand found = (found ≡ bodies) ⊎ (found ≡ with_hand bodies hand)
 
 -- A reading back leaves the records that it found. Something goes on to be in hand only where nothing changed.
 pub record IsLeft {D : Type 0} {g : Ghosts D} (old new : Journal D g) (bodies : List (List ℕ)) : Type 0 where
   pub found : List (List ℕ)
-  pub is : IsFound bodies (in_hand old) found
+  pub is : WereFound bodies (in_hand old) found
   pub keeps : Keeps new found
   pub hand : (in_hand new ≡ None) ⊎ ((in_hand new ≡ in_hand old) × (found ≡ bodies))

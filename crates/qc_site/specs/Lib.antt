@@ -13,3 +13,4 @@ pub mod Log
 pub mod Sites
 pub mod Serving
 pub mod Since
+pub mod Calls

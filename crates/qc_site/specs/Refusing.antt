@@ -47,5 +47,5 @@ module _ (copy : ℕ) where
   IsOfBytes P Room = ⊥
 
 -- a mounting may be refused: for the first fault of the image that is told, for the disk, or for memory
-abbrev pub IsRefusal : ℕ → Table → Past → ℕ → Option (List ℕ) → SiteNo → Type 0
-IsRefusal copy table past limit told refusal = IsImage copy (λ f. IfSome told (IsFirstFault (IsFault copy table past limit) f)) refusal
+abbrev pub IsCopyRefusal : ℕ → Table → Past → ℕ → Option (List ℕ) → SiteNo → Type 0
+IsCopyRefusal copy table past limit told refusal = IsImage copy (λ f. IfSome told (IsFirstFault (IsFault copy table past limit) f)) refusal

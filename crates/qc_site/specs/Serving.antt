@@ -21,8 +21,3 @@ of_fault fault.Disk = Down
 of_fault (fault.Broken place) = Down
 of_fault (fault.Full place) = Full
 of_fault fault.Memory = Short short.Memory
-
--- a grant may not be written for this
-abbrev pub IsWriteNo : ServeNo → Type 0
-IsWriteNo Strange = ⊥
-IsWriteNo _ = Unit {0}

@@ -1,5 +1,5 @@
 -- A site: what it has in hand, what it enters, and what its disk keeps.
-use Rattle.std.specs.Prelude.{ℕ, ◌≡◌, ◌⊎◌, List, [], ◌∷◌}
+use Rattle.std.specs.Prelude.{ℕ, ◌≡◌, ◌⊎◌, List, [], ◌∷◌, length}
 use Rattle.qc_config.specs.declared.tuple.Tuple.{Tuple}
 use Rattle.qc_event.specs.Grants.{grant_with}
 use Rattle.qc_disk.specs.declared.disk.Disk.{Ghosts}
@@ -10,12 +10,12 @@ use Rattle.qc_event.specs.declared.event.Entry.{Entry}
 use Rattle.qc_event.specs.declared.event.Event.TheVariants as event
 use Rattle.qc_event.specs.declared.event.Refusal.TheVariants as refusal
 use Rattle.qc_event.specs.declared.event.Why.TheVariants as why
-use Rattle.qc_event.specs.History.{Past, grants}
+use Rattle.qc_event.specs.History.{Past, grants, limit}
 use Rattle.qc_event.specs.Seats.{copy_seat}
 use Rattle.qc_journal.specs.Journal.{disk_of, limit_of, place_of, IsTooLong}
 use Rattle.qc_journal.specs.declared.journal.Journal.{Journal}
 use Rattle.qc_ledger.specs.Entered.{AtMost, GrowsBy, IsBehind}
-use Rattle.qc_ledger.specs.Runs.{HasOrMore, Leaves}
+use Rattle.qc_ledger.specs.Runs.{Leaves}
 use Rattle.qc_pass.specs.Entries.{entry}
 use Rattle.qc_site.specs.AtDesk.{hand_entries, refused_entry, unable_entry}
 use Rattle.qc_site.specs.Back.{grant_body}
@@ -57,33 +57,16 @@ IsByLocks (answer.Blocked holder) = Unit {0}
 IsByLocks (answer.Dead ancestor) = Unit {0}
 IsByLocks _ = ⊥
 
--- a revival may be refused for this
-abbrev pub IsReviveNo : SiteNo → Type 0
-IsReviveNo (no_site.Image bad) = ⊥
-IsReviveNo _ = Unit {0}
-
 -- memory was wanting, or the history takes no more entries
-abbrev pub IsWantNo : SiteNo → Type 0
-IsWantNo no_site.Memory = Unit {0}
-IsWantNo no_site.Room = Unit {0}
-IsWantNo _ = ⊥
+abbrev pub IsSiteWant : Past → SiteNo → Type 0
+IsSiteWant past no_site.Memory = Unit {0}
+IsSiteWant past no_site.Room = length past ≡ limit
+IsSiteWant past _ = ⊥
 
 -- the record of a grant of this request would pass the limit
 abbrev pub IsFullFor : {D : Type 0} {g : Ghosts D} → Ask → GrantLog D g → Type 0
 IsFullFor ask log = (tuple : Tuple) × IsTooLong (place_of log.journal) (limit_of log.journal) (grant_body log.copies (grant_with ask tuple))
 
-module _ {D : Type 0} {g : Ghosts D} (copies : ℕ) (ask : Ask) (old new : Journal D g) where
-  -- a crash at any moment leaves these records, or these and that of a grant of this request
-  abbrev pub LeavesGrant : List (List ℕ) → Type 0
-  LeavesGrant bodies = (tuple : Tuple) × Leaves old new (HasOrMore bodies (grant_body copies (grant_with ask tuple)))
-
-  -- it leaves the records that some image had when the call began, or these and that of a grant of this request
-  abbrev pub GrowsByGrant : Type 0
-  GrowsByGrant = (tuple : Tuple) × Leaves old new (GrowsBy (grant_body copies (grant_with ask tuple)) (g.view (disk_of old)).may_leave)
-
--- what the answer of an up copy with nothing in hand enters: a repeat nothing
-abbrev pub LocksEnter : ℕ → Ask → Answered → Past → Past → Type 0
-LocksEnter copy ask (answer.Granted tuple) old new = AtMost (granted_entry copy ask tuple ∷ []) old new
-LocksEnter copy ask (answer.Blocked holder) old new = new ≡ refused_entry copy ask (refusal.Blocked holder) ∷ old
-LocksEnter copy ask (answer.Dead ancestor) old new = new ≡ refused_entry copy ask (refusal.Dead ancestor) ∷ old
-LocksEnter copy ask _ old new = ⊥
+-- a crash at any moment leaves the records that some image had when the call began, or these and that of a grant of this request
+abbrev pub GrowsByGrant : {D : Type 0} {g : Ghosts D} → ℕ → Ask → Journal D g → Journal D g → Type 0
+GrowsByGrant {D} {g} copies ask old new = (tuple : Tuple) × Leaves old new (GrowsBy (grant_body copies (grant_with ask tuple)) (g.view (disk_of old)).may_leave)

@@ -12,7 +12,7 @@ ghost use Rattle.qc_journal.specs.Journal.{disk_of, limit_of, IsUp, Keeps};
 ghost use Rattle.qc_ledger.specs.Mounted.{MountLeaves, HasSome};
 ghost use Rattle.qc_ledger.specs.Runs.{Costs, HasMore, KeepsAll, Leaves, LosesNone};
 ghost use Rattle.qc_site.specs.Image.{made_body, to_write, AreGranted, AreMountable, IsFault};
-ghost use Rattle.qc_site.specs.Refusing.{IsRefusal, IsImage};
+ghost use Rattle.qc_site.specs.Refusing.{IsCopyRefusal, IsImage};
 ghost use Rattle.qc_site.specs.Mounted.{Mounts, copies_of, copy_of, journal_of, records_of, disk_after};
 ghost use Rattle.qc_site.specs.Start.{from_row, start_of};
 
@@ -119,7 +119,7 @@ pub fn mount<D: Disk>(
         → Keeps (journal_of mounted) (records_of mounted)) }
 
     // It is refused for the image's first fault, where the disk tells its bytes.
-    ensures refused { IfErr result (λ refused. IsRefusal copy table.now past.now limit
+    ensures refused { IfErr result (λ refused. IsCopyRefusal copy table.now past.now limit
         (D.view disk).content refused.1) }
 
     ensures any_moment { IsSome (D.view disk).content

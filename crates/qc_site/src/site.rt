@@ -1,5 +1,5 @@
 //! A copy over its desk and its disk: what it granted stands in each image.
-ghost use Rattle.std.specs.Prelude.{◌≡◌, ◌≤◌, ◌⊎◌, ◌++◌, ℕ, List, [], true, false, IfOk, IfSome, IfErr, OnOk, OnErr, IsErrOf, Option, None, Some, Ok, length, is_some, option_to_list};
+ghost use Rattle.std.specs.Prelude.{◌≡◌, ◌≤◌, ◌⊎◌, ◌++◌, ℕ, List, [], true, false, IfOk, IfSome, IfErr, OnOk, OnErr, IsErrOf, None, length, is_some, option_to_list};
 ghost use Rattle.qc_event.specs.Base.{IsProper};
 ghost use Rattle.qc_event.specs.Grants.{MayGrant};
 ghost use Rattle.qc_event.specs.History.{grants, limit};
@@ -9,11 +9,9 @@ ghost use Rattle.qc_event.specs.Tables.{setting_of};
 ghost use Rattle.qc_journal.specs.Journal.{disk_of, limit_of, IsDown, IsUp};
 ghost use Rattle.qc_ledger.specs.Entered.{SeesMore};
 ghost use Rattle.qc_ledger.specs.Runs.{Costs, Falls, Leaves};
-ghost use Rattle.qc_pass.specs.Entries.{entries_of, IsOlder};
+ghost use Rattle.qc_pass.specs.Entries.{entries_of};
 ghost use Rattle.qc_site.specs.AtDesk.{OnlyLooks};
 ghost use Rattle.qc_site.specs.Log.{copies_of, journal_in};
-ghost use Rattle.qc_site.specs.Since.{GrantsGrow};
-ghost use Rattle.qc_site.specs.declared.fault.SiteNo.TheVariants.{Disk, Strange, Room};
 
 use crate::back::{BackNo, Strange};
 use crate::fault::{SiteNo, desk_no};
@@ -49,7 +47,8 @@ fn with_hand(mut given: Vec<Grant>, hand: Option<Grant>) -> Result<Vec<Grant>, A
 }
 
 impl<D: Disk, N: Store, const C: u8> Site<D, N, C> {
-    ghost use Rattle.qc_site.specs.Sites.{EntersHand, IsReviveNo, IsWantNo, KeepsGranted};
+    ghost use Rattle.qc_site.specs.Calls.{site_state, SiteBecame, CanServe, ReviveSays, SiteWroteNone};
+    ghost use Rattle.qc_site.specs.Sites.{EntersHand, IsSiteWant, KeepsGranted};
 
     /// Whether it is up.
     pub fn is_up(&self) -> bool
@@ -81,9 +80,8 @@ impl<D: Disk, N: Store, const C: u8> Site<D, N, C> {
         ensures hand { self.new.replica.hand ≡ self.old.replica.hand }
         ensures log { self.new.log ≡ self.old.log }
         ensures strange { self.new.strange ≡ self.old.strange }
-        ensures over { (before : List (List ℕ))
-            → KeepsGranted C before self.old.log self.old.replica
-            → KeepsGranted C before self.new.log self.new.replica }
+        ensures became { SiteBecame (setting_of N.table N.base) C None (site_state self.old)
+            (site_state self.new) }
         ensures seer { SeesMore seer.old seer.new }
         ensures same { seer.new.seen ≡ self.new.replica.pass.seen }
         ensures bounded { length seer.new.seen ≤ limit }
@@ -111,21 +109,19 @@ impl<D: Disk, N: Store, const C: u8> Site<D, N, C> {
     fn compare(&mut self, given: &[Grant]) -> Result<(), SiteNo>
         requires given { given.now ≡ grants self.old.replica.pass.seen C }
         requires down { self.old.replica.up ≡ false }
-        ensures pass { self.new.replica.pass ≡ self.old.replica.pass }
-        ensures down { self.new.replica.up ≡ false }
         ensures up { OnOk result (IsUp (journal_in self.new.log)) }
+        ensures sound { OnOk result (is_some self.new.strange ≡ is_some self.old.strange) }
+        ensures refused { IfErr result (ReviveSays (site_state self.new)) }
+        ensures down { self.new.replica.up ≡ false }
+        ensures pass { self.new.replica.pass ≡ self.old.replica.pass }
         ensures hand { (self.new.replica.hand ≡ None)
             ⊎ (self.new.replica.hand ≡ self.old.replica.hand) }
         ensures over { (before : List (List ℕ))
             → KeepsGranted C before self.old.log self.old.replica
             → KeepsGranted C before self.new.log self.new.replica }
-        ensures strange { IsErrOf result SiteNo.Strange → is_some self.new.strange ≡ true }
         ensures plain { (before : List (List ℕ))
             → KeepsGranted C before self.old.log self.old.replica
             → is_some self.new.strange ≡ is_some self.old.strange }
-        ensures sound { OnOk result (is_some self.new.strange ≡ is_some self.old.strange) }
-        ensures refused { IfErr result IsReviveNo }
-        ensures room { IsErrOf result Room → ⊥ }
         ensures limit { limit_of (journal_in self.new.log) ≡ limit_of (journal_in self.old.log) }
         ensures content { (D.view (disk_of (journal_in self.new.log))).content
             ≡ (D.view (disk_of (journal_in self.old.log))).content }
@@ -154,22 +150,19 @@ impl<D: Disk, N: Store, const C: u8> Site<D, N, C> {
     pub(crate) fn enter_hand<R: Wait>(&mut self, rt: &R, desk: &Desk<N>) -> Result<(), SiteNo>
         requires up { IsUp (journal_in self.old.log) }
         requires sound { is_some self.old.strange ≡ false }
-        ensures log { journal_in self.new.log ≡ journal_in self.old.log }
-        ensures strange { self.new.strange ≡ self.old.strange }
         ensures none { OnOk result (self.new.replica.hand ≡ None) }
+        ensures grants { OnOk result (grants self.new.replica.pass.seen C
+            ≡ grants self.old.replica.pass.seen C ++ option_to_list self.old.replica.hand) }
         ensures idle { self.old.replica.hand ≡ None
             → (self.new.log ≡ self.old.log) × (self.new.replica ≡ self.old.replica) }
         ensures calm { self.old.replica.hand ≡ None → OnErr result ⊥ }
-        ensures grants { OnOk result (grants self.new.replica.pass.seen C
-            ≡ grants self.old.replica.pass.seen C ++ option_to_list self.old.replica.hand) }
-        ensures up { self.new.replica.up ≡ self.old.replica.up }
+        ensures refused { IfErr result (IsSiteWant self.new.replica.pass.seen) }
         ensures enters { EntersHand C self.old.replica self.new.replica }
-        ensures over { (before : List (List ℕ))
-            → KeepsGranted C before self.old.log self.old.replica
-            → KeepsGranted C before self.new.log self.new.replica }
-        ensures refused { IfErr result IsWantNo }
-        ensures room { IsErrOf result Room → length self.new.replica.pass.seen ≡ limit }
-        ensures seen { IsOlder self.old.replica.pass.seen self.new.replica.pass.seen }
+        ensures up { self.new.replica.up ≡ self.old.replica.up }
+        ensures log { self.new.log ≡ self.old.log }
+        ensures strange { self.new.strange ≡ self.old.strange }
+        ensures became { SiteBecame (setting_of N.table N.base) C None (site_state self.old)
+            (site_state self.new) }
     {
         match self.replica.enter(rt, desk) {
             Ok(()) => Ok(()),
@@ -183,17 +176,12 @@ impl<D: Disk, N: Store, const C: u8> Site<D, N, C> {
         requires given { given.items ≡ grants self.old.replica.pass.seen C }
         requires up { IsUp (journal_in self.old.log) }
         requires sound { is_some self.old.strange ≡ false }
-        ensures log { journal_in self.new.log ≡ journal_in self.old.log }
-        ensures strange { self.new.strange ≡ self.old.strange }
-        ensures up { OnOk result (self.new.replica.up ≡ true) }
-        ensures none { OnOk result (self.new.replica.hand ≡ None) }
+        ensures ready { OnOk result (CanServe self.new.replica) }
+        ensures refused { IfErr result (IsSiteWant self.new.replica.pass.seen) }
         ensures enters { EntersHand C self.old.replica self.new.replica }
-        ensures over { (before : List (List ℕ))
-            → KeepsGranted C before self.old.log self.old.replica
-            → KeepsGranted C before self.new.log self.new.replica }
-        ensures refused { IfErr result IsWantNo }
-        ensures room { IsErrOf result Room → length self.new.replica.pass.seen ≡ limit }
-        ensures seen { IsOlder self.old.replica.pass.seen self.new.replica.pass.seen }
+        ensures log { self.new.log ≡ self.old.log }
+        ensures became { SiteBecame (setting_of N.table N.base) C None (site_state self.old)
+            (site_state self.new) }
     {
         let given = with_hand(given, self.replica.hand())?;
         self.enter_hand(rt, desk)?;
@@ -207,34 +195,14 @@ impl<D: Disk, N: Store, const C: u8> Site<D, N, C> {
         requires proper { IsProper (setting_of N.table N.base) }
         requires down { self.old.replica.up ≡ false }
 
-        // At `Ok` it is up, with nothing in hand. What was entered is at most the grant in hand.
-        ensures up { OnOk result (self.new.replica.up ≡ true) }
-        ensures none { OnOk result (self.new.replica.hand ≡ None) }
+        // What was entered is at most the grant in hand. A fault of the disk is told only where its count of them rose.
+        ensures ready { OnOk result (CanServe self.new.replica) }
+        ensures refused { IfErr result (ReviveSays (site_state self.new)) }
         ensures enters { EntersHand C self.old.replica self.new.replica }
-        ensures refused { IfErr result IsReviveNo }
-        ensures room { IsErrOf result Room → length self.new.replica.pass.seen ≡ limit }
-
-        // Where the disk tells its bytes, each image keeps what the copy granted, and nothing is strange; and no call
-        // leaves what was not there.
-        ensures over { (before : List (List ℕ))
-            → KeepsGranted C before self.old.log self.old.replica
-            → KeepsGranted C before self.new.log self.new.replica }
-        ensures strange { IsErrOf result SiteNo.Strange → is_some self.new.strange ≡ true }
-        ensures plain { (before : List (List ℕ))
-            → KeepsGranted C before self.old.log self.old.replica
-            → is_some self.new.strange ≡ is_some self.old.strange }
-        ensures seen { IsOlder self.old.replica.pass.seen self.new.replica.pass.seen }
-        ensures limit { limit_of (journal_in self.new.log) ≡ limit_of (journal_in self.old.log) }
-        ensures content { (D.view (disk_of (journal_in self.new.log))).content
-            ≡ (D.view (disk_of (journal_in self.old.log))).content }
-        ensures any_moment { Leaves (journal_in self.old.log) (journal_in self.new.log)
-            (D.view (disk_of (journal_in self.old.log))).may_leave }
-        ensures falls { Falls (journal_in self.old.log) (journal_in self.new.log) }
-        ensures grown { (before : List (List ℕ)) (since : ℕ)
-            → GrantsGrow (setting_of N.table N.base) C before since self.old.log
-            self.old.replica.pass.seen
-            → GrantsGrow (setting_of N.table N.base) C before since self.new.log
-            self.new.replica.pass.seen }
+        ensures became { SiteBecame (setting_of N.table N.base) C None (site_state self.old)
+            (site_state self.new) }
+        ensures wrote_none { SiteWroteNone (setting_of N.table N.base) C (site_state self.old)
+            (site_state self.new) }
         ensures cause { Costs (journal_in self.old.log) (journal_in self.new.log)
             (IsErrOf result SiteNo.Disk) }
     {

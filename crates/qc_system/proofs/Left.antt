@@ -19,7 +19,7 @@ use Rattle.qc_journal.specs.Image.{EndsAt, HasRecords}
 use Rattle.qc_journal.specs.Journal.{in_hand, Stands}
 use Rattle.qc_journal.specs.declared.journal.State.{State}
 use Rattle.qc_journal.specs.declared.journal.State.TheVariants as state
-use Rattle.qc_ledger.specs.Entered.{IsOver, MayFinish, pending_by, told_body, tops_of, unsure_by}
+use Rattle.qc_ledger.specs.Entered.{KeepsLogged, MayFinish, pending_by, told_body, tops_of, unsure_by}
 use Rattle.qc_ledger.specs.Shelf.{journal_in, top_in}
 use Rattle.qc_ledger.specs.declared.shelf.Shelf.{Shelf}
 use Rattle.qc_ledger.proofs.Passes.{may_be_next, may_first, ready_stays}
@@ -108,7 +108,7 @@ module _ (setting : Setting) (copy : ℕ) (seen now : Past) (older : IsOlder see
 
 -- THE LEDGER'S TOPS
 
-module _ {D : Type 0} {g : Ghosts D} (setting : Setting) (before : List (List ℕ)) (shelf : Shelf D g) (pass : View) (told : Name → List Name) (own : pass.mine ≡ entries_of ledger_seat pass.seen) (over : IsOver told before shelf (tops_of pass.mine)) where
+module _ {D : Type 0} {g : Ghosts D} (setting : Setting) (before : List (List ℕ)) (shelf : Shelf D g) (pass : View) (told : Name → List Name) (own : pass.mine ≡ entries_of ledger_seat pass.seen) (over : KeepsLogged told before shelf (tops_of pass.mine)) where
   abbrev committed : List Name
   committed = tops_of (entries_of ledger_seat pass.seen)
 
@@ -139,7 +139,7 @@ module _ {D : Type 0} {g : Ghosts D} (setting : Setting) (before : List (List �
       (over.keeps.each image left)))
 
 pub keeps_tops : {D : Type 0} {g : Ghosts D} (setting : Setting) (before : List (List ℕ)) (shelf : Shelf D g) (pass : View) → Legal setting pass.seen → pass.mine ≡ entries_of ledger_seat pass.seen
-    → ((top : Name) → top_in shelf ≡ Some top → MayFinish pass top) → IsOver (listed pass.seen) before shelf (tops_of pass.mine) → KeepsTops before (g.view (journal_in shelf).disk).may_leave pass.seen
+    → ((top : Name) → top_in shelf ≡ Some top → MayFinish pass top) → KeepsLogged (listed pass.seen) before shelf (tops_of pass.mine) → KeepsTops before (g.view (journal_in shelf).disk).may_leave pass.seen
 keeps_tops setting before shelf pass legal own may over = record {
   untold = top_in shelf;
   next = by_hand (top_in shelf) may;

@@ -18,7 +18,7 @@ use Rattle.qc_event.specs.Users.{MayReady}
 use Rattle.qc_event.proofs.Booleans.{not_both}
 use Rattle.qc_event.proofs.OneEntry.{marking}
 use Rattle.qc_event.proofs.StillTold.{some_stays}
-use Rattle.qc_ledger.specs.Entered.{IsOver, MayFinish, pending_by, told_body, tops_of, unsure_by}
+use Rattle.qc_ledger.specs.Entered.{KeepsLogged, MayFinish, pending_by, told_body, tops_of, unsure_by}
 use Rattle.qc_ledger.specs.Shelf.{journal_in, top_body, top_in}
 use Rattle.qc_ledger.specs.declared.shelf.Shelf.{Shelf}
 use Rattle.qc_journal.specs.Journal.{Keeps}
@@ -103,7 +103,7 @@ module _ (setting : Setting) (before now : Past) (older : IsOlder before now) (l
 
   -- what is listed at first is listed later
   pub over_later : {D : Type 0} {g : Ghosts D} (bodies : List (List ℕ)) (shelf : Shelf D g) (n : ℕ) → Legal setting before → ((t : Name) → top_in shelf ≡ Some t → is_ready before t ≡ true)
-      → IsOver (listed before) bodies shelf (tops_of (entries_of n before)) → IsOver (listed now) bodies shelf (tops_of (entries_of n before))
+      → KeepsLogged (listed before) bodies shelf (tops_of (entries_of n before)) → KeepsLogged (listed now) bodies shelf (tops_of (entries_of n before))
   over_later {D} {g} bodies shelf n was ready over = record {
     keeps = subst (λ bs. Keeps (journal_in shelf) (bodies ++ bs)) (same_bodies (listed before) (listed now) tops (agree tops all)) over.keeps;
     hand = over.hand ∙ unsure_same (journal_in shelf).state (top_in shelf) ready;
@@ -136,9 +136,9 @@ same_listed setting before now older legal was n untold next tops these = same_b
 
 -- a pass has seen more, and the disk keeps its tops as they are listed then
 pub over_seen : {D : Type 0} {g : Ghosts D} (setting : Setting) (old : View) (now : Past) (bodies : List (List ℕ)) (shelf : Shelf D g) → IsOlder old.seen now → Legal setting now → Legal setting old.seen → old.mine ≡ entries_of ledger_seat old.seen
-    → ((top : Name) → top_in shelf ≡ Some top → MayFinish old top) → IsOver (listed old.seen) bodies shelf (tops_of old.mine) → IsOver (listed now) bodies shelf (tops_of old.mine)
-over_seen setting old now bodies shelf older legal was own may over = subst (λ p. IsOver (listed now) bodies shelf (tops_of p)) (sym own)
-    (over_later setting old.seen now older legal bodies shelf ledger_seat was (λ t is. (may t is).ready) (subst (λ p. IsOver (listed old.seen) bodies shelf (tops_of p)) own over))
+    → ((top : Name) → top_in shelf ≡ Some top → MayFinish old top) → KeepsLogged (listed old.seen) bodies shelf (tops_of old.mine) → KeepsLogged (listed now) bodies shelf (tops_of old.mine)
+over_seen setting old now bodies shelf older legal was own may over = subst (λ p. KeepsLogged (listed now) bodies shelf (tops_of p)) (sym own)
+    (over_later setting old.seen now older legal bodies shelf ledger_seat was (λ t is. (may t is).ready) (subst (λ p. KeepsLogged (listed old.seen) bodies shelf (tops_of p)) own over))
 
 -- the records of tops up to then are listed the same later
 module _ (setting : Setting) (seen now : Past) (older : IsOlder seen now) (legal : Legal setting now) (was : Legal setting seen) (bodies : List (List ℕ)) where

@@ -16,10 +16,10 @@ use Rattle.qc_event.specs.declared.log.Short.{Short}
 use Rattle.qc_event.specs.History.{Past, Name}
 use Rattle.qc_journal.specs.Journal.{disk_of}
 use Rattle.qc_journal.specs.declared.journal.Journal.{Journal}
-use Rattle.qc_ledger.specs.Entered.{AtMost, EntersHand as LedgerHand, EntersTop, IsBehind, RefusalEnters, commits_of, unable_entry}
+use Rattle.qc_ledger.specs.Entered.{AtMost, CommitsHand, EntersTop, IsBehind, RefusalEnters, commits_of, unlogged_entry}
 use Rattle.qc_ledger.specs.declared.fault.LedgerNo.{LedgerNo}
 use Rattle.qc_ledger.specs.declared.fault.LedgerNo.TheVariants as no
-use Rattle.qc_site.specs.AtDesk.{hand_entries, unable_entry as copy_unable}
+use Rattle.qc_site.specs.AtDesk.{hand_entries, unable_entry}
 use Rattle.qc_site.specs.Replica.{Standing}
 use Rattle.qc_site.specs.Sites.{AnswerEnters, EntersHand}
 use Rattle.qc_system.specs.declared.boxed.Boxed.{Boxed}
@@ -89,7 +89,7 @@ module _ (copy : ℕ) (ask : Ask) (old new : Standing) (first before now : ℕ) 
   answer_pays (answer.Dead ancestor) h Failed cause fails pays = pays_where first _ before now Failed cause pays _ (behind _ refl h)
   answer_pays answer.Down h Failed cause fails pays =
       let mid = at_most downs (hand_entries copy old.hand) old.pass.mine h.mid (hand_none copy old.hand old.pass.mine) h.first_of_all in
-      let is : downs new.pass.mine ≡ 1 + downs old.pass.mine = ap downs h.all ∙ one_down (copy_unable copy ask why.Down) h.mid refl ∙ ap (λ n. 1 + n) mid in
+      let is : downs new.pass.mine ≡ 1 + downs old.pass.mine = ap downs h.all ∙ one_down (unable_entry copy ask why.Down) h.mid refl ∙ ap (λ n. 1 + n) mid in
       subst (λ n. Pays first n now) (sym is) (pays_more first (downs old.pass.mine) before now (cause.failed (fails refl)) pays)
   answer_pays answer.Full h Failed cause fails pays = pays_where first _ before now Failed cause pays _ (behind _ refl h)
   answer_pays answer.Strange h Failed cause fails pays = pays_where first _ before now Failed cause pays _ (behind _ refl h)
@@ -105,7 +105,7 @@ commits_none None old = refl
 commits_none (Some top) old = refl
 
 module _ (hand : Option Name) (top : Name) (old new : Past) (first before now : ℕ) where
-  hand_same : LedgerHand hand old new → downs new ≡ downs old
+  hand_same : CommitsHand hand old new → downs new ≡ downs old
   hand_same h = at_most downs (commits_of hand) old new (commits_none hand old) h
 
   top_same : EntersTop hand top old new → downs new ≡ downs old
@@ -114,7 +114,7 @@ module _ (hand : Option Name) (top : Name) (old new : Past) (first before now : 
 
   refusal_pays : (r : LedgerNo) → RefusalEnters r hand top old new → (Failed : Type 0) → HasCause before now Failed → (r ≡ no.Disk → Failed) → Pays first (downs old) before → Pays first (downs new) now
   refusal_pays no.Disk h Failed cause fails pays =
-      let is : downs new ≡ 1 + downs old = ap downs h.all ∙ one_down (unable_entry top why.Down) h.mid refl ∙ ap (λ n. 1 + n) (at_most downs (commits_of hand) old h.mid (commits_none hand old) h.first_of_all) in
+      let is : downs new ≡ 1 + downs old = ap downs h.all ∙ one_down (unlogged_entry top why.Down) h.mid refl ∙ ap (λ n. 1 + n) (at_most downs (commits_of hand) old h.mid (commits_none hand old) h.first_of_all) in
       subst (λ n. Pays first n now) (sym is) (pays_more first (downs old) before now (cause.failed (fails refl)) pays)
   refusal_pays (no.Image bad) h Failed cause fails pays = absurd h
   refusal_pays (no.Full place) h Failed cause fails pays = pays_where first _ before now Failed cause pays _ (ap downs h.all ∙ at_most downs (commits_of hand) old h.mid (commits_none hand old) h.first_of_all)

@@ -22,7 +22,7 @@ use Rattle.qc_event.proofs.StillTold.{some_stays}
 use Rattle.qc_journal.specs.Image.{EndsAt, row}
 use Rattle.qc_journal.specs.Journal.{IsTooLong, Keeps, Stands, disk_of, in_hand, place_of}
 use Rattle.qc_journal.specs.declared.journal.Journal.{Journal}
-use Rattle.qc_ledger.specs.Entered.{EntersHand, EntersTop, RefusalEnters, commits_of, told_body}
+use Rattle.qc_ledger.specs.Entered.{CommitsHand, EntersTop, RefusalEnters, commits_of, told_body}
 use Rattle.qc_ledger.specs.Shelf.{top_body}
 use Rattle.qc_ledger.specs.declared.fault.LedgerNo.{LedgerNo}
 use Rattle.qc_ledger.specs.declared.fault.LedgerNo.TheVariants as no
@@ -125,7 +125,7 @@ module _ (told : Name → List Name) (hand : Option Name) (top : Name) (old new 
   still : (now : Past) → ((n : Name) → full n now ≡ full n old) → HadNoRoom told later most now
   still now same = λ n unable. too_long_later place later most (told_body told n) on (had n (sym (same n) ∙ unable))
 
-  hand_same : (now : Past) → EntersHand hand old now → (n : Name) → full n now ≡ full n old
+  hand_same : (now : Past) → CommitsHand hand old now → (n : Name) → full n now ≡ full n old
   hand_same now enters n = at_most (full n) (commits_of hand) old now (hand_none n hand old) enters
 
   top_same : EntersTop hand top old new → (n : Name) → full n new ≡ full n old

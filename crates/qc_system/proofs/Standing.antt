@@ -21,12 +21,12 @@ use Rattle.qc_event.specs.Seats.{copy_seat, ledger_seat}
 use Rattle.qc_event.proofs.Absent.{same_itself}
 use Rattle.qc_event.proofs.Booleans.{any_right}
 use Rattle.qc_event.proofs.StillTold.{some_stays}
-use Rattle.qc_ledger.specs.Entered.{RefusalEnters, unable_entry}
+use Rattle.qc_ledger.specs.Entered.{RefusalEnters, unlogged_entry}
 use Rattle.qc_ledger.specs.declared.fault.LedgerNo.{LedgerNo}
 use Rattle.qc_ledger.specs.declared.fault.LedgerNo.TheVariants as no
 use Rattle.qc_pass.specs.Entries.{IsOlder, entries_of, entry}
 use Rattle.qc_site.specs.Answers.{HasAnswered}
-use Rattle.qc_site.specs.AtDesk.{IsGranted, refused_entry, unable_entry as copy_unable}
+use Rattle.qc_site.specs.AtDesk.{IsGranted, refused_entry, unable_entry}
 use Rattle.qc_site.specs.Replica.{Standing}
 use Rattle.qc_site.specs.Sites.{AnswerEnters}
 use Rattle.qc_system.specs.Kept.{HasRefused}
@@ -71,9 +71,9 @@ pub answer_stands : (copy : ℕ) (ask : Ask) (old new : Standing) (said : Answer
 answer_stands copy ask old new (answer.Granted tuple) own granted enters = granted tuple refl
 answer_stands copy ask old new (answer.Blocked holder) own granted enters = own_stands (copy_seat copy) new.pass.seen new.pass.mine enters.mid (refused_entry copy ask (refusal.Blocked holder)) own enters.all
 answer_stands copy ask old new (answer.Dead ancestor) own granted enters = own_stands (copy_seat copy) new.pass.seen new.pass.mine enters.mid (refused_entry copy ask (refusal.Dead ancestor)) own enters.all
-answer_stands copy ask old new answer.Down own granted enters = told_unable new.pass.seen (copy_seat copy) ask.access why.Down refl (own_stands (copy_seat copy) new.pass.seen new.pass.mine enters.mid (copy_unable copy ask why.Down) own enters.all)
-answer_stands copy ask old new answer.Full own granted enters = told_unable new.pass.seen (copy_seat copy) ask.access why.Full refl (own_stands (copy_seat copy) new.pass.seen new.pass.mine enters.mid (copy_unable copy ask why.Full) own enters.all)
-answer_stands copy ask old new answer.Strange own granted enters = told_unable new.pass.seen (copy_seat copy) ask.access why.Strange refl (own_stands (copy_seat copy) new.pass.seen new.pass.mine enters.mid (copy_unable copy ask why.Strange) own enters.all)
+answer_stands copy ask old new answer.Down own granted enters = told_unable new.pass.seen (copy_seat copy) ask.access why.Down refl (own_stands (copy_seat copy) new.pass.seen new.pass.mine enters.mid (unable_entry copy ask why.Down) own enters.all)
+answer_stands copy ask old new answer.Full own granted enters = told_unable new.pass.seen (copy_seat copy) ask.access why.Full refl (own_stands (copy_seat copy) new.pass.seen new.pass.mine enters.mid (unable_entry copy ask why.Full) own enters.all)
+answer_stands copy ask old new answer.Strange own granted enters = told_unable new.pass.seen (copy_seat copy) ask.access why.Strange refl (own_stands (copy_seat copy) new.pass.seen new.pass.mine enters.mid (unable_entry copy ask why.Strange) own enters.all)
 
 -- THE LEDGER'S REFUSALS
 
@@ -83,9 +83,9 @@ full_still before now older most is = omega (arith, is, most, ap length older.1,
 
 -- that the ledger was unable stands in what was seen later
 pub refusal_stands : (past mine old : Past) (hand : Option Name) (top : Name) (r : LedgerNo) → mine ≡ entries_of ledger_seat past → (r ≡ no.Room → length past ≡ limit) → RefusalEnters r hand top old mine → HasRefused past top r
-refusal_stands past mine old hand top no.Disk own room enters = told_unable past ledger_seat top why.Down refl (own_stands ledger_seat past mine enters.mid (unable_entry top why.Down) own enters.all)
+refusal_stands past mine old hand top no.Disk own room enters = told_unable past ledger_seat top why.Down refl (own_stands ledger_seat past mine enters.mid (unlogged_entry top why.Down) own enters.all)
 refusal_stands past mine old hand top (no.Image bad) own room enters = enters
-refusal_stands past mine old hand top (no.Full place) own room enters = told_unable past ledger_seat top why.Full refl (own_stands ledger_seat past mine enters.mid (unable_entry top why.Full) own enters.all)
+refusal_stands past mine old hand top (no.Full place) own room enters = told_unable past ledger_seat top why.Full refl (own_stands ledger_seat past mine enters.mid (unlogged_entry top why.Full) own enters.all)
 refusal_stands past mine old hand top no.Memory own room enters = tt
 refusal_stands past mine old hand top no.Room own room enters = room refl
 

@@ -12,7 +12,7 @@ use Rattle.qc_event.specs.History.{Past, Name, limit}
 use Rattle.qc_event.specs.Listed.{listed}
 use Rattle.qc_event.specs.Requests.{was_unable}
 use Rattle.qc_journal.specs.Journal.{IsTooLong, disk_of, limit_of, place_of}
-use Rattle.qc_ledger.specs.Entered.{IsOver, told_body, tops_of}
+use Rattle.qc_ledger.specs.Entered.{KeepsLogged, told_body, tops_of}
 use Rattle.qc_ledger.specs.Since.{AreTopsBy}
 use Rattle.qc_ledger.specs.declared.fault.LedgerNo.{LedgerNo}
 use Rattle.qc_ledger.specs.declared.fault.LedgerNo.TheVariants as no
@@ -36,7 +36,7 @@ KeepsSince {D} {g} setting copy told before first log standing = told ≡ true
 -- names that are listed of each; and it did at each moment since it was this disk
 abbrev pub TopsSince : {D : Type 0} {g : Ghosts D} → Bool → List (List ℕ) → Disk → Shelf D g → View → Type 0
 TopsSince {D} {g} told before first shelf pass = told ≡ true
-    → IsOver (listed pass.seen) before shelf (tops_of pass.mine) × GrownFrom first before (AreTopsBy (listed pass.seen) pass.seen) (g.view (disk_of (journal_of_shelf shelf)))
+    → KeepsLogged (listed pass.seen) before shelf (tops_of pass.mine) × GrownFrom first before (AreTopsBy (listed pass.seen) pass.seen) (g.view (disk_of (journal_of_shelf shelf)))
 
 -- what a ledger's refusal of a top rests on: that it was unable to log it, for this reason
 abbrev pub HasRefused : Past → Name → LedgerNo → Type 0

@@ -8,7 +8,7 @@ ghost use Rattle.qc_event.specs.Listed.{listed};
 ghost use Rattle.qc_event.specs.Seats.{ledger_seat};
 ghost use Rattle.qc_event.specs.Tables.{setting_of};
 ghost use Rattle.qc_journal.specs.Journal.{disk_of, limit_of};
-ghost use Rattle.qc_ledger.specs.Entered.{tops_of, GrowsBy, IsOver, SeesMore};
+ghost use Rattle.qc_ledger.specs.Entered.{tops_of, GrowsBy, KeepsLogged, SeesMore};
 ghost use Rattle.qc_ledger.specs.Mounted.{journal_of, records_of};
 ghost use Rattle.qc_ledger.specs.Runs.{Leaves};
 ghost use Rattle.qc_ledger.specs.Shelf.{journal_in, top_body};
@@ -56,17 +56,18 @@ fn log_listed<D: Disk + Drop, N: Mounting, R: Wait>(
     requires proper { body.ledger.fits (Top top.now aborted.now) }
     requires listed { aborted.now ≡ listed seer.old.seen top.now }
     ensures keeps { (before : List (List ℕ))
-        → IsOver (listed ledger.old.pass.seen) before ledger.old.shelf (tops_of ledger.old.pass.mine)
-        → IsOver (listed ledger.new.pass.seen) before ledger.new.shelf
+        → KeepsLogged (listed ledger.old.pass.seen) before ledger.old.shelf
+        (tops_of ledger.old.pass.mine)
+        → KeepsLogged (listed ledger.new.pass.seen) before ledger.new.shelf
         (tops_of ledger.new.pass.mine) }
     ensures grown { (before : List (List ℕ)) (since : ℕ)
-        → IsOver (listed ledger.old.pass.seen) before ledger.old.shelf
+        → KeepsLogged (listed ledger.old.pass.seen) before ledger.old.shelf
         (tops_of ledger.old.pass.mine)
         → TopsGrow (listed ledger.old.pass.seen) before since ledger.old.shelf ledger.old.pass.seen
         → TopsGrow (listed ledger.new.pass.seen) before since ledger.new.shelf
         ledger.new.pass.seen }
     ensures any_moment { (before : List (List ℕ))
-        → IsOver (listed ledger.old.pass.seen) before ledger.old.shelf
+        → KeepsLogged (listed ledger.old.pass.seen) before ledger.old.shelf
         (tops_of ledger.old.pass.mine)
         → Leaves (journal_in ledger.old.shelf) (journal_in ledger.new.shelf)
         (GrowsBy (top_body top.now aborted.now)

@@ -5,14 +5,14 @@ use Rattle.qc_journal.specs.Journal.{Keeps, disk_of, limit_of}
 use Rattle.qc_journal.proofs.Moments.{continues, grows_on}
 use Rattle.qc_ledger.specs.Image.{AreMountable, to_write}
 use Rattle.qc_ledger.specs.Mounted.{HasSome, MountLeaves}
-use Rattle.qc_ledger.specs.Refusing.{IsRefusal}
+use Rattle.qc_ledger.specs.Refusing.{IsLedgerRefusal}
 use Rattle.qc_ledger.proofs.Mounts.{begin_refusal, fine_told, leaves_first, leaves_then, mount_refusal}
 use Rattle.qc_ledger.proofs.mounting.mount.Goals as goal
 
 pub returns-in-Err-clause-refused : goal.returns-in-Err-clause-refused
 returns-in-Err-clause-refused g c =
     let told = (g.D.Disk.view c.args.disk).content in
-    subst (IsRefusal c.args.table.now c.args.limit told) (sym c.mount_no.ensures)
+    subst (IsLedgerRefusal c.args.table.now c.args.limit told) (sym c.mount_no.ensures)
     (mount_refusal c.args.table.now c.args.limit told c.in-Err.fault c.in-Err.ensures.fault c.in-Err.ensures.broken)
 
 pub returns-in-Ok-begin-clause-mounts : goal.returns-in-Ok-begin-clause-mounts

@@ -10,7 +10,7 @@ use Rattle.qc_journal.specs.Journal.{Keeps, disk_of, limit_of}
 use Rattle.qc_journal.proofs.Moments.{continues, grows_on}
 use Rattle.qc_site.specs.Image.{to_write, AreMountable}
 use Rattle.qc_ledger.specs.Mounted.{HasSome, MountLeaves}
-use Rattle.qc_site.specs.Refusing.{IsRefusal}
+use Rattle.qc_site.specs.Refusing.{IsCopyRefusal}
 use Rattle.qc_ledger.proofs.Mounts.{leaves_first, leaves_then}
 use Rattle.qc_ledger.proofs.Mounts.{fine_told}
 use Rattle.qc_site.proofs.Faults.{begin_refusal, few_copies, made_proper, mount_refusal}
@@ -21,7 +21,7 @@ use Rattle.qc_site.proofs.mounting.mount.Goals as goal
 pub returns-in-Err-clause-refused : goal.returns-in-Err-clause-refused
 returns-in-Err-clause-refused g c =
     let told = (g.D.Disk.view c.args.disk).content in
-    subst (IsRefusal c.args.copy c.args.table.now c.args.past.now c.args.limit told) (sym c.mount_no.ensures)
+    subst (IsCopyRefusal c.args.copy c.args.table.now c.args.past.now c.args.limit told) (sym c.mount_no.ensures)
     (mount_refusal c.args.copy c.args.table.now c.args.past.now c.args.limit told c.in-Err.fault c.in-Err.ensures.fault c.in-Err.ensures.broken)
 
 pub returns-in-Ok-begin-clause-any_moment : goal.returns-in-Ok-begin-clause-any_moment

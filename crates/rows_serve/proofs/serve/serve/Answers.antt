@@ -1,18 +1,19 @@
-use Rattle.std.proofs.Common.{◌∙◌, sym, ap, subst}
-use Rattle.std.specs.Prelude.{Ok, IfSome}
+use Rattle.std.proofs.Common.{sym, subst}
+use Rattle.std.specs.Prelude.{IfSome}
 use Rattle.qc_event.specs.Grants.{grant_with}
 use Rattle.qc_event.specs.declared.event.Ask.{Ask}
 use Rattle.qc_event.specs.Tables.{setting_of}
 use Rattle.qc_site.specs.AtDesk.{IsGranted}
-use Rattle.rows_serve.specs.Requests.{IsFirst}
-use Rattle.rows_serve.proofs.Later.{stands_later, of_others, first_of_since}
-use Rattle.rows_serve.proofs.serve.serve.Goals as goal
+use Rattle.qc_site.specs.Calls.{AnswerRests, site_state}
+use Rattle.qc_rows_serve.specs.Requests.{IsFirst}
+use Rattle.qc_rows_serve.proofs.Later.{stands_later, of_others, first_of_since}
+use Rattle.qc_rows_serve.proofs.serve.serve.Goals as goal
 
 pub returns-in-Ok-clause-stands : goal.returns-in-Ok-clause-stands
 returns-in-Ok-clause-stands g c =
     let now = c.serve-served.new.seer.seen in
     c.note.ensures.stands now (stands_later c.args.pass.now.seen now c.args.request.now c.serve-served.ensures.seer.older c.requires.stands)
-    (λ tuple is. subst (λ p. IsGranted 0 p (grant_with c.args.request.now.ask tuple)) (sym c.in-Ok.ensures.same) (c.serve-served.ensures.granted tuple (c.in-Ok.is ∙ ap Ok is)))
+    (λ tuple is. subst (λ p. IsGranted 0 p (grant_with c.args.request.now.ask tuple)) (sym c.in-Ok.ensures.served.shown) (subst (AnswerRests 0 c.args.request.now.ask (site_state c.serve-served.new.self)) is c.in-Ok.ensures.served.rests).1)
 
 pub returns-in-Ok-clause-first : goal.returns-in-Ok-clause-first
 returns-in-Ok-clause-first g c =

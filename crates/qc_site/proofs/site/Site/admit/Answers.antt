@@ -1,33 +1,56 @@
-use Rattle.std.specs.Prelude.{None}
-use Rattle.qc_event.specs.History.{grants}
+use Rattle.std.proofs.Common.{inl, inr, refl, sym, ap, ◌∙◌, ◌++◌, subst}
+use Rattle.std.specs.Prelude.{Some, IfSome, is_some}
+use Rattle.qc_event.specs.Grants.{grant_with}
 use Rattle.qc_event.specs.Tables.{setting_of}
-use Rattle.qc_site.proofs.Logs.{entered_over, same_over}
-use Rattle.qc_site.proofs.Refusals.{desk_not_down}
-use Rattle.qc_site.proofs.Since.{grants_seen}
+use Rattle.qc_journal.specs.Journal.{disk_of}
+use Rattle.qc_pass.specs.declared.view.View.{View}
+use Rattle.qc_site.specs.AtDesk.{hand_entries, IsGranted}
+use Rattle.qc_site.specs.Calls.{empty_handed, site_state, SiteState}
+use Rattle.qc_site.specs.Log.{journal_in}
+use Rattle.qc_site.proofs.Calls.{became_last, entered, looked}
+use Rattle.qc_site.proofs.Refusals.{desk_not_down, desk_says}
 use Rattle.qc_site.proofs.site.Site.admit.Goals as goal
 
-pub returns-in-Ok-clause-over : goal.returns-in-Ok-clause-over
-returns-in-Ok-clause-over g c = λ before k.
-    let mid = c.write.new.self in
-    same_over before mid.log _ _ None _ c.in-Ok.ensures.grants c.in-Ok.ensures.none
-    (entered_over before mid.log (grants mid.replica.pass.seen g.row.C) mid.replica.hand c.in_ok-write.ensures.journal (c.in_ok-write.ensures.over before k))
+pub returns-in-Ok-clause-served : goal.returns-in-Ok-clause-served
+returns-in-Ok-clause-served g c =
+    let mid = c.write.new.self.replica in
+    let hand = c.in_ok-write.ensures.hand ∙ c.requires.hand in
+    record {
+      enters = inr record {
+        mid = c.args.self.now.replica.pass.mine;
+        first_of_all = inl refl;
+        all = c.in-Ok.ensures.enters ∙ ap (λ h. hand_entries g.row.C h ++ mid.pass.mine) hand ∙ ap (λ (v : View). hand_entries g.row.C (Some (grant_with c.args.ask.now c.args.tuple.now)) ++ v.mine) c.write.ensures.pass;
+      };
+      rests = (
+        record { up = c.append.ensures.up ∙ c.in_ok-write.ensures.up; none = c.in-Ok.ensures.none },
+        subst (λ h. IfSome h (IsGranted g.row.C c.append.new.self.pass.seen)) hand c.in-Ok.ensures.granted,
+      );
+      shown = elim c.append.ensures.same [ inl none ↦ absurd (let never = sym hand ∙ none in cc) | inr same ↦ same ];
+    }
 
-pub returns-in-Err-clause-over : goal.returns-in-Err-clause-over
-returns-in-Err-clause-over g c = λ before k.
-    same_over before c.write.new.self.log _ _ _ _ c.in-Err.ensures.err.same_grants c.in-Err.ensures.kept (c.in_ok-write.ensures.over before k)
+pub returns-in-Ok-clause-became : goal.returns-in-Ok-clause-became
+returns-in-Ok-clause-became g c =
+    let setting = setting_of g.N.Store.table g.N.Store.base in
+    let mid = c.write.new.self in
+    let law = g.met.D.Disk.leaves_now (disk_of (journal_in mid.log)) in
+    became_last setting g.row.C (Some c.args.ask.now) (empty_handed (site_state c.args.self.now)) (site_state mid) _ law c.write.ensures.became
+    (entered setting g.row.C (site_state mid) _ law c.in_ok-write.ensures.journal refl refl c.in-Ok.ensures.none c.in-Ok.ensures.grants c.append.ensures.seen)
+
+pub returns-in-Err-clause-became : goal.returns-in-Err-clause-became
+returns-in-Err-clause-became g c =
+    let setting = setting_of g.N.Store.table g.N.Store.base in
+    let mid = c.write.new.self in
+    let law = g.met.D.Disk.leaves_now (disk_of (journal_in mid.log)) in
+    became_last setting g.row.C (Some c.args.ask.now) (empty_handed (site_state c.args.self.now)) (site_state mid) _ law c.write.ensures.became
+    (looked setting g.row.C (site_state mid) _ law refl refl c.in-Err.ensures.kept c.in-Err.ensures.err.same_grants c.append.ensures.seen)
+
+pub returns-in-Err-clause-refused : goal.returns-in-Err-clause-refused
+returns-in-Err-clause-refused g c =
+    let new : SiteState g.D.Disk = record { log = c.write.new.self.log; replica = c.append.new.self; strange = is_some c.write.new.self.strange } in
+    desk_says c.args.ask.now new c.in-Err.no c.desk_no.result c.of_site.result c.desk_no.ensures c.of_site.ensures c.in-Err.ensures.want
 
 pub returns-in-Err-clause-cause : goal.returns-in-Err-clause-cause
 returns-in-Err-clause-cause g c = record {
   later = c.in_ok-write.ensures.cause.later;
   failed = λ failed. absurd (desk_not_down c.in-Err.no c.desk_no.result c.of_site.result c.desk_no.ensures c.of_site.ensures failed);
 }
-
-pub returns-in-Ok-clause-grown : goal.returns-in-Ok-clause-grown
-returns-in-Ok-clause-grown g c = λ before since k grown.
-    let mid = c.write.new.self in
-    grants_seen (setting_of g.N.Store.table g.N.Store.base) g.row.C before since mid.log mid.replica.pass.seen c.append.new.self.pass.seen c.append.ensures.seen (c.in_ok-write.ensures.grown before since k grown)
-
-pub returns-in-Err-clause-grown : goal.returns-in-Err-clause-grown
-returns-in-Err-clause-grown g c = λ before since k grown.
-    let mid = c.write.new.self in
-    grants_seen (setting_of g.N.Store.table g.N.Store.base) g.row.C before since mid.log mid.replica.pass.seen c.append.new.self.pass.seen c.append.ensures.seen (c.in_ok-write.ensures.grown before since k grown)

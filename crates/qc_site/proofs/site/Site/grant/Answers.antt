@@ -1,91 +1,45 @@
-use Rattle.std.proofs.Common.{◌≡◌, ◌∷◌, ◌++◌, refl, sym, ap, ◌∙◌, inl, inr}
-use Rattle.std.specs.Prelude.{None, Ok}
+use Rattle.std.proofs.Common.{◌++◌, refl, sym, ap, ◌∙◌, inl}
+use Rattle.std.specs.Prelude.{Ok, Some, is_some}
 use Rattle.qc_event.specs.declared.event.Answered.TheVariants.{Granted}
-use Rattle.qc_event.specs.History.{Past}
 use Rattle.qc_event.specs.Tables.{setting_of}
 use Rattle.qc_journal.specs.Journal.{disk_of}
-use Rattle.qc_pass.proofs.Seers.{older_trans}
-use Rattle.qc_site.specs.Log.{copies_of, journal_in}
 use Rattle.qc_ledger.proofs.Passes.{sees_on}
-use Rattle.qc_pass.specs.declared.consult.Consulted.TheVariants.{Again, Fresh}
-use Rattle.qc_site.specs.AtDesk.{told_entries}
-use Rattle.qc_site.specs.Sites.{granted_entry}
+use Rattle.qc_pass.specs.declared.consult.Consulted.TheVariants.{Fresh}
+use Rattle.qc_site.specs.AtDesk.{hand_after, told_entries}
+use Rattle.qc_site.specs.Calls.{empty_handed, site_state, SiteState}
+use Rattle.qc_site.specs.Log.{journal_in}
 use Rattle.qc_site.proofs.Again.{err_or_again, fresh_or_again, one_tuple}
-use Rattle.qc_site.proofs.Logs.{same_over, unchanged}
-use Rattle.qc_site.proofs.Since.{grants_seen}
+use Rattle.qc_site.proofs.Calls.{asks, became_on, looked, serves_on}
+use Rattle.qc_site.proofs.Refusals.{desk_says}
 use Rattle.qc_site.proofs.site.Site.grant.Goals as goal
 
-pub returns-in-Err-clause-any_moment : goal.returns-in-Err-clause-any_moment
-returns-in-Err-clause-any_moment g c = λ bodies k.
-    let old = c.args.self.now in
-    unchanged (copies_of old.log) c.args.ask.now (journal_in old.log) bodies (g.met.D.Disk.leaves_now (disk_of (journal_in old.log))) (old.journal c.requires.up) k
+-- WHERE MEMORY OR ROOM IS WANTING
 
-pub returns-in_err-admit-in-Free-clause-over : goal.returns-in_err-admit-in-Free-clause-over
-returns-in_err-admit-in-Free-clause-over g c = λ before k.
-    c.admit.ensures.over before (same_over before c.args.self.now.log _ _ _ None c.consult.ensures.grants (sym c.requires.none) k)
+pub returns-in-Err-clause-refused : goal.returns-in-Err-clause-refused
+returns-in-Err-clause-refused g c =
+    let new : SiteState g.D.Disk = record { log = c.args.self.now.log; replica = c.consult.new.self; strange = is_some c.args.self.now.strange } in
+    desk_says c.args.ask.now new c.in-Err.no c.desk_no.result c.of_site.result c.desk_no.ensures c.of_site.ensures c.in-Err.ensures.want
 
-pub returns-in_err-admit-in-Free-clause-seen : goal.returns-in_err-admit-in-Free-clause-seen
-returns-in_err-admit-in-Free-clause-seen g c = older_trans c.args.self.now.replica.pass.seen c.consult.new.self.pass.seen c.admit.new.self.replica.pass.seen c.consult.ensures.seen c.admit.ensures.seen
+pub returns-in-Err-clause-became : goal.returns-in-Err-clause-became
+returns-in-Err-clause-became g c =
+    let setting = setting_of g.N.Store.table g.N.Store.base in
+    let law = g.met.D.Disk.leaves_now (disk_of (journal_in c.args.self.now.log)) in
+    asks setting g.row.C c.args.ask.now _ _ (looked setting g.row.C (site_state c.args.self.now) _ law refl refl (c.in-Err.ensures.none ∙ sym c.requires.ready.none) c.consult.ensures.grants c.consult.ensures.seen)
 
-pub returns-in_err-admit-in-Free-clause-seer : goal.returns-in_err-admit-in-Free-clause-seer
-returns-in_err-admit-in-Free-clause-seer g c = sees_on c.args.seer.now c.consult.new.seer c.admit.new.seer c.consult.ensures.seer c.admit.ensures.seer
-
-pub returns-in_ok-admit-in-Free-clause-over : goal.returns-in_ok-admit-in-Free-clause-over
-returns-in_ok-admit-in-Free-clause-over g c = λ before k.
-    c.admit.ensures.over before (same_over before c.args.self.now.log _ _ _ None c.consult.ensures.grants (sym c.requires.none) k)
-
-pub returns-in_ok-admit-in-Free-clause-seen : goal.returns-in_ok-admit-in-Free-clause-seen
-returns-in_ok-admit-in-Free-clause-seen g c = older_trans c.args.self.now.replica.pass.seen c.consult.new.self.pass.seen c.admit.new.self.replica.pass.seen c.consult.ensures.seen c.admit.ensures.seen
-
-pub returns-in_ok-admit-in-Free-clause-seer : goal.returns-in_ok-admit-in-Free-clause-seer
-returns-in_ok-admit-in-Free-clause-seer g c = sees_on c.args.seer.now c.consult.new.seer c.admit.new.seer c.consult.ensures.seer c.admit.ensures.seer
-
-pub returns-in-Blocked-clause-any_moment : goal.returns-in-Blocked-clause-any_moment
-returns-in-Blocked-clause-any_moment g c = λ bodies k.
-    let old = c.args.self.now in
-    unchanged (copies_of old.log) c.args.ask.now (journal_in old.log) bodies (g.met.D.Disk.leaves_now (disk_of (journal_in old.log))) (old.journal c.requires.up) k
-
-pub returns-in-Dead-clause-any_moment : goal.returns-in-Dead-clause-any_moment
-returns-in-Dead-clause-any_moment g c = λ bodies k.
-    let old = c.args.self.now in
-    unchanged (copies_of old.log) c.args.ask.now (journal_in old.log) bodies (g.met.D.Disk.leaves_now (disk_of (journal_in old.log))) (old.journal c.requires.up) k
-
-pub returns-in-Err-clause-grown : goal.returns-in-Err-clause-grown
-returns-in-Err-clause-grown g c = λ before since k grown.
-    let old = c.args.self.now in
-    grants_seen (setting_of g.N.Store.table g.N.Store.base) g.row.C before since old.log old.replica.pass.seen c.consult.new.self.pass.seen c.consult.ensures.seen grown
-
-pub returns-in_err-admit-in-Free-clause-grown : goal.returns-in_err-admit-in-Free-clause-grown
-returns-in_err-admit-in-Free-clause-grown g c = λ before since k grown.
-    let old = c.args.self.now in
-    c.admit.ensures.grown before since (same_over before old.log _ _ _ None c.consult.ensures.grants (sym c.requires.none) k)
-    (grants_seen (setting_of g.N.Store.table g.N.Store.base) g.row.C before since old.log old.replica.pass.seen c.consult.new.self.pass.seen c.consult.ensures.seen grown)
-
-pub returns-in_ok-admit-in-Free-clause-grown : goal.returns-in_ok-admit-in-Free-clause-grown
-returns-in_ok-admit-in-Free-clause-grown g c = λ before since k grown.
-    let old = c.args.self.now in
-    c.admit.ensures.grown before since (same_over before old.log _ _ _ None c.consult.ensures.grants (sym c.requires.none) k)
-    (grants_seen (setting_of g.N.Store.table g.N.Store.base) g.row.C before since old.log old.replica.pass.seen c.consult.new.self.pass.seen c.consult.ensures.seen grown)
-
-pub returns-in-Blocked-clause-grown : goal.returns-in-Blocked-clause-grown
-returns-in-Blocked-clause-grown g c = λ before since k grown.
-    let old = c.args.self.now in
-    grants_seen (setting_of g.N.Store.table g.N.Store.base) g.row.C before since old.log old.replica.pass.seen c.consult.new.self.pass.seen c.consult.ensures.seen grown
-
-pub returns-in-Dead-clause-grown : goal.returns-in-Dead-clause-grown
-returns-in-Dead-clause-grown g c = λ before since k grown.
-    let old = c.args.self.now in
-    grants_seen (setting_of g.N.Store.table g.N.Store.base) g.row.C before since old.log old.replica.pass.seen c.consult.new.self.pass.seen c.consult.ensures.seen grown
+pub returns-in-Err-clause-again : goal.returns-in-Err-clause-again
+returns-in-Err-clause-again g c = λ tuple told. absurd (err_or_again c.consult.result c.in-Err.no tuple c.in-Err.is (c.consult.ensures.again tuple told))
 
 -- A REPEAT
 
-pub returns-in-Again-clause-enters : goal.returns-in-Again-clause-enters
-returns-in-Again-clause-enters g c = inl (c.in-Ok.ensures.enters ∙ ap (λ x. told_entries g.row.C c.args.ask.now x ++ c.args.self.now.replica.pass.mine) c.in-Again.is)
-
-pub returns-in-Again-clause-granted : goal.returns-in-Again-clause-granted
-returns-in-Again-clause-granted g c = λ tuple is.
-    let same : c.in-Again.tuple ≡ tuple = cc in
-    c.consult.ensures.granted tuple (c.in-Ok.is ∙ ap (λ x. Ok x) (c.in-Again.is ∙ ap (λ t. Again t) same))
+pub returns-in-Again-clause-served : goal.returns-in-Again-clause-served
+returns-in-Again-clause-served g c = record {
+  enters = inl (inl (c.in-Ok.ensures.enters ∙ ap (λ x. told_entries g.row.C c.args.ask.now x ++ c.args.self.now.replica.pass.mine) c.in-Again.is));
+  rests = (
+    record { up = c.consult.ensures.up; none = c.in-Ok.ensures.hand ∙ ap (hand_after c.args.ask.now) c.in-Again.is },
+    c.consult.ensures.granted c.in-Again.tuple (c.in-Ok.is ∙ ap (λ x. Ok x) c.in-Again.is),
+  );
+  shown = c.consult.ensures.same;
+}
 
 pub returns-in-Again-clause-again : goal.returns-in-Again-clause-again
 returns-in-Again-clause-again g c = λ tuple told. (
@@ -94,17 +48,14 @@ returns-in-Again-clause-again g c = λ tuple told. (
   c.in-Ok.ensures.enters ∙ ap (λ x. told_entries g.row.C c.args.ask.now x ++ c.args.self.now.replica.pass.mine) c.in-Again.is,
 )
 
-pub returns-in-Again-clause-any_moment : goal.returns-in-Again-clause-any_moment
-returns-in-Again-clause-any_moment g c = λ bodies k.
-    let old = c.args.self.now in
-    unchanged (copies_of old.log) c.args.ask.now (journal_in old.log) bodies (g.met.D.Disk.leaves_now (disk_of (journal_in old.log))) (old.journal c.requires.up) k
+pub returns-in-Again-clause-became : goal.returns-in-Again-clause-became
+returns-in-Again-clause-became g c =
+    let setting = setting_of g.N.Store.table g.N.Store.base in
+    let law = g.met.D.Disk.leaves_now (disk_of (journal_in c.args.self.now.log)) in
+    let none = c.in-Ok.ensures.hand ∙ ap (hand_after c.args.ask.now) c.in-Again.is in
+    asks setting g.row.C c.args.ask.now _ _ (looked setting g.row.C (site_state c.args.self.now) _ law refl refl (none ∙ sym c.requires.ready.none) c.consult.ensures.grants c.consult.ensures.seen)
 
-pub returns-in-Again-clause-grown : goal.returns-in-Again-clause-grown
-returns-in-Again-clause-grown g c = λ before since k grown.
-    let old = c.args.self.now in
-    grants_seen (setting_of g.N.Store.table g.N.Store.base) g.row.C before since old.log old.replica.pass.seen c.consult.new.self.pass.seen c.consult.ensures.seen grown
-
--- WHAT IS NO REPEAT
+-- WHAT IS FREE
 
 pub returns-in_err-admit-in-Free-clause-again : goal.returns-in_err-admit-in-Free-clause-again
 returns-in_err-admit-in-Free-clause-again g c = λ tuple told. absurd (fresh_or_again c.consult.result c.in-Fresh.verdict tuple (c.in-Ok.is ∙ ap (λ x. Ok x) c.in-Fresh.is) (c.consult.ensures.again tuple told))
@@ -112,22 +63,81 @@ returns-in_err-admit-in-Free-clause-again g c = λ tuple told. absurd (fresh_or_
 pub returns-in_ok-admit-in-Free-clause-again : goal.returns-in_ok-admit-in-Free-clause-again
 returns-in_ok-admit-in-Free-clause-again g c = λ tuple told. absurd (fresh_or_again c.consult.result c.in-Fresh.verdict tuple (c.in-Ok.is ∙ ap (λ x. Ok x) c.in-Fresh.is) (c.consult.ensures.again tuple told))
 
-pub returns-in_ok-admit-in-Free-clause-enters : goal.returns-in_ok-admit-in-Free-clause-enters
-returns-in_ok-admit-in-Free-clause-enters g c =
-    let before = c.in-Ok.ensures.enters ∙ ap (λ x. told_entries g.row.C c.args.ask.now x ++ c.args.self.now.replica.pass.mine) (c.in-Fresh.is ∙ ap (λ x. Fresh x) c.in-Free.is) in
-    inr (c.in_ok-admit-in-Free.ensures.enters ∙ ap (λ (p : Past). granted_entry g.row.C c.args.ask.now c.in-Free.tuple ∷ p) before)
+pub returns-in_ok-admit-in-Free-clause-served : goal.returns-in_ok-admit-in-Free-clause-served
+returns-in_ok-admit-in-Free-clause-served g c =
+    let old = site_state c.args.self.now in
+    let told : SiteState g.D.Disk = record { log = old.log; replica = c.consult.new.self; strange = old.strange } in
+    let before = c.in-Ok.ensures.enters ∙ ap (λ x. told_entries g.row.C c.args.ask.now x ++ old.replica.pass.mine) (c.in-Fresh.is ∙ ap (λ x. Fresh x) c.in-Free.is) in
+    serves_on g.row.C c.args.ask.now c.admit.new.seer old (empty_handed told) (site_state c.admit.new.self) (Granted c.in-Free.tuple) (inl before) refl c.in_ok-admit-in-Free.ensures.served
+
+pub returns-in_ok-admit-in-Free-clause-became : goal.returns-in_ok-admit-in-Free-clause-became
+returns-in_ok-admit-in-Free-clause-became g c =
+    let setting = setting_of g.N.Store.table g.N.Store.base in
+    let old = site_state c.args.self.now in
+    let told : SiteState g.D.Disk = record { log = old.log; replica = c.consult.new.self; strange = old.strange } in
+    let law = g.met.D.Disk.leaves_now (disk_of (journal_in old.log)) in
+    became_on setting g.row.C (Some c.args.ask.now) old (empty_handed told) (site_state c.admit.new.self) law
+    (looked setting g.row.C old (empty_handed told) law refl refl (sym c.requires.ready.none) c.consult.ensures.grants c.consult.ensures.seen) c.admit.ensures.became
+
+pub returns-in_err-admit-in-Free-clause-became : goal.returns-in_err-admit-in-Free-clause-became
+returns-in_err-admit-in-Free-clause-became g c =
+    let setting = setting_of g.N.Store.table g.N.Store.base in
+    let old = site_state c.args.self.now in
+    let told : SiteState g.D.Disk = record { log = old.log; replica = c.consult.new.self; strange = old.strange } in
+    let law = g.met.D.Disk.leaves_now (disk_of (journal_in old.log)) in
+    became_on setting g.row.C (Some c.args.ask.now) old (empty_handed told) (site_state c.admit.new.self) law
+    (looked setting g.row.C old (empty_handed told) law refl refl (sym c.requires.ready.none) c.consult.ensures.grants c.consult.ensures.seen) c.admit.ensures.became
+
+pub returns-in_err-admit-in-Free-clause-seer : goal.returns-in_err-admit-in-Free-clause-seer
+returns-in_err-admit-in-Free-clause-seer g c = sees_on c.args.seer.now c.consult.new.seer c.admit.new.seer c.consult.ensures.seer c.admit.ensures.seer
+
+pub returns-in_ok-admit-in-Free-clause-seer : goal.returns-in_ok-admit-in-Free-clause-seer
+returns-in_ok-admit-in-Free-clause-seer g c = sees_on c.args.seer.now c.consult.new.seer c.admit.new.seer c.consult.ensures.seer c.admit.ensures.seer
+
+-- WHAT IS REFUSED
 
 pub returns-in-Blocked-clause-again : goal.returns-in-Blocked-clause-again
 returns-in-Blocked-clause-again g c = λ tuple told. absurd (fresh_or_again c.consult.result c.in-Fresh.verdict tuple (c.in-Ok.is ∙ ap (λ x. Ok x) c.in-Fresh.is) (c.consult.ensures.again tuple told))
 
-pub returns-in-Blocked-clause-enters : goal.returns-in-Blocked-clause-enters
-returns-in-Blocked-clause-enters g c = c.in-Ok.ensures.enters ∙ ap (λ x. told_entries g.row.C c.args.ask.now x ++ c.args.self.now.replica.pass.mine) (c.in-Fresh.is ∙ ap (λ x. Fresh x) c.in-Blocked.is)
-
 pub returns-in-Dead-clause-again : goal.returns-in-Dead-clause-again
 returns-in-Dead-clause-again g c = λ tuple told. absurd (fresh_or_again c.consult.result c.in-Fresh.verdict tuple (c.in-Ok.is ∙ ap (λ x. Ok x) c.in-Fresh.is) (c.consult.ensures.again tuple told))
 
-pub returns-in-Dead-clause-enters : goal.returns-in-Dead-clause-enters
-returns-in-Dead-clause-enters g c = c.in-Ok.ensures.enters ∙ ap (λ x. told_entries g.row.C c.args.ask.now x ++ c.args.self.now.replica.pass.mine) (c.in-Fresh.is ∙ ap (λ x. Fresh x) c.in-Dead.is)
+pub returns-in-Blocked-clause-served : goal.returns-in-Blocked-clause-served
+returns-in-Blocked-clause-served g c =
+    let told = c.in-Fresh.is ∙ ap (λ x. Fresh x) c.in-Blocked.is in
+    record {
+      enters = record {
+        mid = c.args.self.now.replica.pass.mine;
+        first_of_all = inl refl;
+        all = c.in-Ok.ensures.enters ∙ ap (λ x. told_entries g.row.C c.args.ask.now x ++ c.args.self.now.replica.pass.mine) told;
+      };
+      rests = record { up = c.consult.ensures.up; none = c.in-Ok.ensures.hand ∙ ap (hand_after c.args.ask.now) told };
+      shown = c.consult.ensures.same;
+    }
 
-pub returns-in-Err-clause-again : goal.returns-in-Err-clause-again
-returns-in-Err-clause-again g c = λ tuple told. absurd (err_or_again c.consult.result c.in-Err.no tuple c.in-Err.is (c.consult.ensures.again tuple told))
+pub returns-in-Blocked-clause-became : goal.returns-in-Blocked-clause-became
+returns-in-Blocked-clause-became g c =
+    let setting = setting_of g.N.Store.table g.N.Store.base in
+    let law = g.met.D.Disk.leaves_now (disk_of (journal_in c.args.self.now.log)) in
+    let none = c.in-Ok.ensures.hand ∙ ap (hand_after c.args.ask.now) (c.in-Fresh.is ∙ ap (λ x. Fresh x) c.in-Blocked.is) in
+    asks setting g.row.C c.args.ask.now _ _ (looked setting g.row.C (site_state c.args.self.now) _ law refl refl (none ∙ sym c.requires.ready.none) c.consult.ensures.grants c.consult.ensures.seen)
+
+pub returns-in-Dead-clause-served : goal.returns-in-Dead-clause-served
+returns-in-Dead-clause-served g c =
+    let told = c.in-Fresh.is ∙ ap (λ x. Fresh x) c.in-Dead.is in
+    record {
+      enters = record {
+        mid = c.args.self.now.replica.pass.mine;
+        first_of_all = inl refl;
+        all = c.in-Ok.ensures.enters ∙ ap (λ x. told_entries g.row.C c.args.ask.now x ++ c.args.self.now.replica.pass.mine) told;
+      };
+      rests = record { up = c.consult.ensures.up; none = c.in-Ok.ensures.hand ∙ ap (hand_after c.args.ask.now) told };
+      shown = c.consult.ensures.same;
+    }
+
+pub returns-in-Dead-clause-became : goal.returns-in-Dead-clause-became
+returns-in-Dead-clause-became g c =
+    let setting = setting_of g.N.Store.table g.N.Store.base in
+    let law = g.met.D.Disk.leaves_now (disk_of (journal_in c.args.self.now.log)) in
+    let none = c.in-Ok.ensures.hand ∙ ap (hand_after c.args.ask.now) (c.in-Fresh.is ∙ ap (λ x. Fresh x) c.in-Dead.is) in
+    asks setting g.row.C c.args.ask.now _ _ (looked setting g.row.C (site_state c.args.self.now) _ law refl refl (none ∙ sym c.requires.ready.none) c.consult.ensures.grants c.consult.ensures.seen)

@@ -1,13 +1,15 @@
 -- What the site serves its disk keeps and pays for, and what it answers stands.
-use Rattle.std.proofs.Common.{◌+◌, sym, ap, subst}
+use Rattle.std.proofs.Common.{◌≡◌, ◌+◌, sym, ap, subst}
 use Rattle.std.proofs.Math.Logic.{∥∥₁_map}
-use Rattle.std.specs.Prelude.{Ok}
 use Rattle.qc_ledger.proofs.Passes.{sees_on}
+use Rattle.qc_event.specs.declared.log.Short.TheVariants.{Room}
 use Rattle.qc_event.specs.Tables.{setting_of}
 use Rattle.qc_journal.specs.Journal.{disk_of}
 use Rattle.qc_pass.specs.Entries.{IsOlder}
 use Rattle.qc_site.specs.Answers.{HasAnswered}
+use Rattle.qc_site.specs.Calls.{AnswerRests, ShortSays, site_state}
 use Rattle.qc_site.specs.Log.{journal_in}
+use Rattle.qc_site.proofs.Calls.{served_enters}
 use Rattle.qc_site.proofs.Since.{grants_on}
 use Rattle.qc_system.specs.Grown.{LeftAlike}
 use Rattle.qc_system.specs.Kept.{Pays, downs}
@@ -21,28 +23,28 @@ invariant_of-self g c = record {
   keeps = ∥∥₁_map c.args.self.now.keeps (λ k told.
       let before = g.N.Mounting.before (g.row.C + 1) in
       let first = g.N.Mounting.first (g.row.C + 1) in (
-        c.serve.ensures.over before (k told).0,
+        c.serve.ensures.became.kept before (k told).0,
         record {
-          began = left_on first (disk_of (journal_in c.args.self.now.site.log)) (disk_of (journal_in c.serve.new.self.log)) (λ d. g.D.Disk.view d.disk.value) (c.serve.ensures.any_moment before (k told).0).1.earlier (k told).1.grown.later (k told).1.began;
-          grown = c.serve.ensures.grown before first.moment (k told).0 (k told).1.grown;
+          began = left_on first (disk_of (journal_in c.args.self.now.site.log)) (disk_of (journal_in c.serve.new.self.log)) (λ d. g.D.Disk.view d.disk.value) (c.serve.ensures.became.moments before (k told).0).1.earlier (k told).1.grown.later (k told).1.began;
+          grown = c.serve.ensures.became.grown before first.moment (k told).0 (k told).1.grown;
         },
       ));
-  pays = serve_pays g.row.C c.args.ask.now c.args.self.now.site.replica c.serve.new.self.replica (g.N.Mounting.first (g.row.C + 1)).faults _ _ c.serve.result c.serve.ensures.enters c.serve.ensures.err c.serve.ensures.cause c.args.self.now.pays;
+  pays = serve_pays g.row.C c.args.ask.now c.args.self.now.site.replica c.serve.new.self.replica (g.N.Mounting.first (g.row.C + 1)).faults _ _ c.serve.result (served_enters g.row.C c.args.ask.now c.serve.new.seer (site_state c.args.self.now.site) (site_state c.serve.new.self) c.serve.result c.serve.ensures.served) c.serve.ensures.err c.serve.ensures.cause c.args.self.now.pays;
 }
 
 pub invariant_of-self-in-Err : goal.invariant_of-self-in-Err
 invariant_of-self-in-Err g c =
     let before = g.N.Mounting.before (g.row.C + 1) in
     let first = g.N.Mounting.first (g.row.C + 1) in
-    let served = serve_pays g.row.C c.args.ask.now c.args.self.now.site.replica c.serve.new.self.replica first.faults _ _ c.serve.result c.serve.ensures.enters c.serve.ensures.err c.serve.ensures.cause c.args.self.now.pays in
+    let served = serve_pays g.row.C c.args.ask.now c.args.self.now.site.replica c.serve.new.self.replica first.faults _ _ c.serve.result (served_enters g.row.C c.args.ask.now c.serve.new.seer (site_state c.args.self.now.site) (site_state c.serve.new.self) c.serve.result c.serve.ensures.served) c.serve.ensures.err c.serve.ensures.cause c.args.self.now.pays in
     record {
       keeps = ∥∥₁_map c.args.self.now.keeps (λ k told. (
-        c.show.ensures.over before (c.serve.ensures.over before (k told).0),
+        c.show.ensures.became.kept before (c.serve.ensures.became.kept before (k told).0),
         record {
           began = subst (λ l. LeftAlike first (disk_in (journal_in l))) (sym c.show.ensures.log)
-              (left_on first (disk_of (journal_in c.args.self.now.site.log)) (disk_of (journal_in c.serve.new.self.log)) (λ d. g.D.Disk.view d.disk.value) (c.serve.ensures.any_moment before (k told).0).1.earlier (k told).1.grown.later (k told).1.began);
+              (left_on first (disk_of (journal_in c.args.self.now.site.log)) (disk_of (journal_in c.serve.new.self.log)) (λ d. g.D.Disk.view d.disk.value) (c.serve.ensures.became.moments before (k told).0).1.earlier (k told).1.grown.later (k told).1.began);
           grown = grants_on (setting_of g.N.Store.table g.N.Store.base) g.row.C before first.moment c.serve.new.self.log c.show.new.self.log c.serve.new.self.replica.pass.seen c.show.new.self.replica.pass.seen
-              (ap journal_in c.show.ensures.log) c.show.ensures.looks.older (c.serve.ensures.grown before first.moment (k told).0 (k told).1.grown);
+              (ap journal_in c.show.ensures.log) c.show.ensures.looks.older (c.serve.ensures.became.grown before first.moment (k told).0 (k told).1.grown);
         },
       ));
       pays = subst (λ l. Pays first.faults (downs c.show.new.self.replica.pass.mine) (faults_of l.journal)) (sym c.show.ensures.log)
@@ -51,12 +53,13 @@ invariant_of-self-in-Err g c =
 
 pub returns-in-Ok-clause-answered : goal.returns-in-Ok-clause-answered
 returns-in-Ok-clause-answered g c =
-    subst (λ p. HasAnswered g.row.C p c.args.ask.now c.in-Ok.answered) (sym c.in-Ok.ensures.same)
-    (answer_stands g.row.C c.args.ask.now c.args.self.now.site.replica c.serve.new.self.replica c.in-Ok.answered c.known.ensures.mine (λ tuple is. c.in-Ok.ensures.granted tuple (ap Ok is)) c.in-Ok.ensures.enters)
+    subst (λ p. HasAnswered g.row.C p c.args.ask.now c.in-Ok.answered) (sym c.in-Ok.ensures.served.shown)
+    (answer_stands g.row.C c.args.ask.now c.args.self.now.site.replica c.serve.new.self.replica c.in-Ok.answered c.known.ensures.mine (λ tuple is. (subst (AnswerRests g.row.C c.args.ask.now (site_state c.serve.new.self)) is c.in-Ok.ensures.served.rests).1) c.in-Ok.ensures.served.enters)
 
 pub returns-in-Err-clause-room : goal.returns-in-Err-clause-room
 returns-in-Err-clause-room g c = λ is.
-    full_still c.serve.new.self.replica.pass.seen c.show.new.seer.seen (subst (λ p. IsOlder c.serve.new.self.replica.pass.seen p) (sym c.show.ensures.same) c.show.ensures.looks.older) c.show.ensures.bounded (c.in-Err.ensures.room is)
+    full_still c.serve.new.self.replica.pass.seen c.show.new.seer.seen (subst (λ p. IsOlder c.serve.new.self.replica.pass.seen p) (sym c.show.ensures.same) c.show.ensures.looks.older) c.show.ensures.bounded
+    (let one : c.in-Err.short ≡ Room = cc in subst (ShortSays c.serve.new.self.replica.pass.seen) one c.in-Err.ensures.refused)
 
 pub returns-in-Err-clause-seer : goal.returns-in-Err-clause-seer
 returns-in-Err-clause-seer g c = sees_on c.args.seer.now c.serve.new.seer c.show.new.seer c.serve.ensures.seer c.show.ensures.seer

@@ -5,7 +5,7 @@ use Rattle.qc_event.specs.declared.event.Why.TheVariants as why
 use Rattle.qc_event.specs.Listed.{listed}
 use Rattle.qc_event.specs.Requests.{was_unable}
 use Rattle.qc_journal.specs.Journal.{limit_of}
-use Rattle.qc_ledger.specs.Entered.{IsOver, tops_of}
+use Rattle.qc_ledger.specs.Entered.{KeepsLogged, tops_of}
 use Rattle.qc_ledger.specs.Since.{TopsGrow}
 use Rattle.qc_pass.specs.declared.view.View.{View}
 use Rattle.qc_system.specs.Grown.{LeftAlike}
@@ -23,7 +23,7 @@ invariant_of-result g c =
     let none = ap (λ (v : View). downs v.mine) c.enter.ensures.pass ∙ ap downs c.requires.fresh.0 in
     record {
       keeps = ∣ (λ tells. (
-        subst (λ b. IsOver told b ledger.shelf (tops_of ledger.pass.mine)) (sym found.same) (c.enter.ensures.over told c.requires.fresh.0 (found.keeps tells)),
+        subst (λ b. KeepsLogged told b ledger.shelf (tops_of ledger.pass.mine)) (sym found.same) (c.enter.ensures.over told c.requires.fresh.0 (found.keeps tells)),
         record {
           began = subst (λ j. LeftAlike first (disk_in j)) (sym c.enter.ensures.journal) found.left;
           grown = subst (λ b. TopsGrow told b first.moment ledger.shelf ledger.pass.seen) (sym found.same) (c.enter.ensures.grown told first.moment found.at (found.keeps tells));

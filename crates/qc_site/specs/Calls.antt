@@ -1,0 +1,116 @@
+-- What a call of a site leaves of it, and what its answers and its refusals say.
+use Rattle.std.specs.Prelude.{ℕ, ◌≡◌, Bool, true, false, List, length, Option, None, Some, is_some}
+use Rattle.qc_event.specs.Grants.{grant_with}
+use Rattle.qc_disk.specs.declared.disk.Disk.{Ghosts}
+use Rattle.qc_event.specs.declared.event.Answered.{Answered}
+use Rattle.qc_event.specs.declared.event.Answered.TheVariants as answer
+use Rattle.qc_event.specs.declared.event.Ask.{Ask}
+use Rattle.qc_event.specs.declared.log.Short.{Short}
+use Rattle.qc_event.specs.declared.log.Short.TheVariants as short
+use Rattle.qc_event.specs.Base.{Setting}
+use Rattle.qc_event.specs.History.{Past, limit}
+use Rattle.qc_journal.specs.Journal.{disk_of, limit_of}
+use Rattle.qc_ledger.specs.Runs.{Falls, Leaves, LosesNone}
+use Rattle.qc_pass.specs.declared.store.Store.{Ghosts as Desk}
+use Rattle.qc_pass.specs.declared.view.View.{View}
+use Rattle.qc_pass.specs.Entries.{IsOlder}
+use Rattle.qc_site.specs.AtDesk.{IsGranted}
+use Rattle.qc_site.specs.Log.{journal_in}
+use Rattle.qc_site.specs.Replica.{Standing}
+use Rattle.qc_site.specs.Since.{GrantsGrow}
+use Rattle.qc_site.specs.Sites.{AnswerEnters, GrowsByGrant, IsFullFor, KeepsGranted}
+use Rattle.qc_site.specs.declared.fault.SiteNo.{SiteNo}
+use Rattle.qc_site.specs.declared.fault.SiteNo.TheVariants as no_site
+use Rattle.qc_site.specs.declared.log.GrantLog.{GrantLog}
+use Rattle.qc_site.specs.declared.serve.ServeNo.{ServeNo}
+use Rattle.qc_site.specs.declared.serve.ServeNo.TheVariants as no_serve
+use Rattle.qc_site.specs.declared.site.Site.{Site}
+
+-- A site as a call finds it or leaves it: its journal of grants, its copy at the desk, and whether it is strange.
+pub record SiteState {D : Type 0} (g : Ghosts D) : Type 0 where
+  pub log : GrantLog D g
+  pub replica : Standing
+  pub strange : Bool
+
+abbrev pub site_state : {D N : Type 0} {C : ℕ} {g : Ghosts D} {h : Desk N} → Site D N C g h → SiteState g
+site_state site = record { log = site.log; replica = site.replica; strange = is_some site.strange }
+
+-- as it was with nothing in hand
+abbrev pub empty_handed : {D : Type 0} {g : Ghosts D} → SiteState g → SiteState g
+empty_handed site = record site { replica = record site.replica { hand = None } }
+
+-- WHAT IT LEAVES
+
+module _ (setting : Setting) (copy : ℕ) {D : Type 0} {g : Ghosts D} where
+  -- A crash at any moment of a call leaves an image from before it, or the records of one and behind them that of a grant of
+  -- what was asked.
+  abbrev pub GrantMoments : Option Ask → GrantLog D g → GrantLog D g → Type 0
+  GrantMoments None old new = Leaves (journal_in old) (journal_in new) (g.view (disk_of (journal_in old))).may_leave
+  GrantMoments (Some ask) old new = GrowsByGrant (length setting.base) ask (journal_in old) (journal_in new)
+
+  -- What a call leaves, which writes a grant of what was asked, or nothing. Where the disk tells its bytes, each image goes on
+  -- to keep what the copy granted and at most the grant in hand, none loses a record, and nothing turns strange. Since a
+  -- moment each had the records from before it, and behind them those of grants up to now.
+  pub record SiteBecame (asked : Option Ask) (old new : SiteState g) : Type 0 where
+    pub kept : (before : List (List ℕ)) → KeepsGranted copy before old.log old.replica → KeepsGranted copy before new.log new.replica
+    pub plain : (before : List (List ℕ)) → KeepsGranted copy before old.log old.replica → new.strange ≡ old.strange
+    pub moments : (before : List (List ℕ)) → KeepsGranted copy before old.log old.replica → GrantMoments asked old.log new.log
+    pub grows : (before : List (List ℕ)) → KeepsGranted copy before old.log old.replica → LosesNone (journal_in old.log) (journal_in new.log)
+    pub grown : (before : List (List ℕ)) (since : ℕ) → KeepsGranted copy before old.log old.replica
+        → GrantsGrow setting copy before since old.log old.replica.pass.seen → GrantsGrow setting copy before since new.log new.replica.pass.seen
+    pub seen : IsOlder old.replica.pass.seen new.replica.pass.seen
+    pub limit : limit_of (journal_in new.log) ≡ limit_of (journal_in old.log)
+
+  -- Whatever the disk tells, nothing was written: it goes on to tell what it told, and of what a crash may leave some falls
+  -- away.
+  pub record SiteWroteNone (old new : SiteState g) : Type 0 where
+    pub content : (g.view (disk_of (journal_in new.log))).content ≡ (g.view (disk_of (journal_in old.log))).content
+    pub moments : GrantMoments None old.log new.log
+    pub falls : Falls (journal_in old.log) (journal_in new.log)
+    pub grown : (before : List (List ℕ)) (since : ℕ)
+        → GrantsGrow setting copy before since old.log old.replica.pass.seen → GrantsGrow setting copy before since new.log new.replica.pass.seen
+
+-- WHAT IT SAYS
+
+-- A request can be served: the copy is up, with nothing in hand.
+pub record CanServe (standing : Standing) : Type 0 where
+  pub up : standing.up ≡ true
+  pub none : standing.hand ≡ None
+
+-- what want of memory or of room says: of room, that the history takes no more entries
+abbrev pub ShortSays : Past → Short → Type 0
+ShortSays past short.Memory = Unit {0}
+ShortSays past short.Room = length past ≡ limit
+
+module _ {D : Type 0} {g : Ghosts D} where
+  -- what a refused revival says
+  abbrev pub ReviveSays : SiteState g → SiteNo → Type 0
+  ReviveSays new no_site.Disk = new.replica.up ≡ false
+  ReviveSays new (no_site.Image bad) = ⊥
+  ReviveSays new no_site.Strange = new.strange ≡ true
+  ReviveSays new no_site.Memory = Unit {0}
+  ReviveSays new no_site.Room = length new.replica.pass.seen ≡ limit
+
+  -- what it says that a request was not answered by the desk: that the copy is down, that the record would pass the limit and
+  -- the copy can serve others, or that it is strange
+  abbrev pub ServeSays : Ask → SiteState g → ServeNo → Type 0
+  ServeSays ask new no_serve.Down = new.replica.up ≡ false
+  ServeSays ask new no_serve.Full = IsFullFor ask new.log × CanServe new.replica
+  ServeSays ask new no_serve.Strange = new.strange ≡ true
+  ServeSays ask new (no_serve.Short short) = ShortSays new.replica.pass.seen short
+
+  -- what an answer rests on, beside its entry
+  abbrev pub AnswerRests : ℕ → Ask → SiteState g → Answered → Type 0
+  AnswerRests copy ask new (answer.Granted tuple) = CanServe new.replica × IsGranted copy new.replica.pass.seen (grant_with ask tuple)
+  AnswerRests copy ask new (answer.Blocked holder) = CanServe new.replica
+  AnswerRests copy ask new (answer.Dead ancestor) = CanServe new.replica
+  AnswerRests copy ask new answer.Down = new.replica.up ≡ false
+  AnswerRests copy ask new answer.Full = IsFullFor ask new.log × CanServe new.replica
+  AnswerRests copy ask new answer.Strange = new.strange ≡ true
+
+  -- A request was answered: at most the grant in hand was entered, and then the answer's entry; and the seer has seen what it
+  -- rests on.
+  pub record HasServed (copy : ℕ) (ask : Ask) (seer : View) (old new : SiteState g) (said : Answered) : Type 0 where
+    pub enters : AnswerEnters copy ask said old.replica new.replica
+    pub rests : AnswerRests copy ask new said
+    pub shown : seer.seen ≡ new.replica.pass.seen
