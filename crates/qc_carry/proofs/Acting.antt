@@ -12,7 +12,6 @@ use Rattle.qc_event.specs.declared.event.Kind.{Kind}
 use Rattle.qc_event.specs.declared.event.Kind.TheVariants as kind
 use Rattle.qc_event.specs.Base.{Setting}
 use Rattle.qc_event.specs.History.{Past, Name, Begun, end_in, gone_in, kind_of, same, start}
-use Rattle.qc_event.specs.Legal.{Legal}
 use Rattle.qc_event.specs.Standing.{Started}
 use Rattle.qc_event.proofs.Absent.{if_not, same_is}
 use Rattle.qc_event.proofs.Lawful.{started_wider}
@@ -23,6 +22,7 @@ use Rattle.qc_pass.specs.declared.refusal.DeskNo.{DeskNo}
 use Rattle.qc_pass.specs.declared.view.View.{View}
 use Rattle.qc_pass.specs.Calling.{Entered, EnteredAs, Refused}
 use Rattle.qc_pass.specs.Consulting.{HasAsked}
+use Rattle.qc_pass.specs.Known.{IsKnown}
 use Rattle.qc_pass.specs.Own.{CommitsOwn}
 use Rattle.qc_pass.specs.Rules.{IsClient}
 use Rattle.qc_carry.specs.Acting.{IsNoAccess}
@@ -48,19 +48,20 @@ ends_no_access past m how began n access = (if_not (same m n) (Some how) (false_
     apart None at none is = none
     apart (Some b) at none is = by_kind b.kind (let same : b.kind ≡ kind.Access = cc (sym (ap (option_map (λ (x : Begun). x.kind)) at) ∙ is) in same) none
 
-module _ (setting : Setting) (v w : View) (client : IsClient v) (legal : Legal setting w.seen) (plan : Option Plan) (held : List Ask) (patience : ℕ) (torn : Bool) (was : All (HasAsked v.seen) held) (keeps : Keeps v.number plan held patience v.seen torn) where
+module _ (setting : Setting) (v w : View) (client : IsClient v) (known : IsKnown setting w) (plan : Option Plan) (held : List Ask) (patience : ℕ) (torn : Bool) (was : All (HasAsked v.seen) held) (keeps : Keeps v.number plan held patience v.seen torn) where
   -- what a line keeps
   abbrev pub Still : Type 0
-  Still = IsClient w × All (HasAsked w.seen) held × Keeps w.number plan held patience w.seen torn
+  Still = IsClient w × ∥ IsKnown setting w ∥₁ × All (HasAsked w.seen) held × Keeps w.number plan held patience w.seen torn
 
   pub none_still : Walk v w [] → Still
-  none_still walk = (still_client v w [] walk client, held_on v w [] walk held was, keeps_still setting v w [] legal walk refl (λ n access. (refl, refl)) plan held patience torn keeps)
+  none_still walk = (still_client v w [] walk client, ∣ known ∣₁, held_on v w [] walk held was, keeps_still setting v w [] known.legal walk refl (λ n access. (refl, refl)) plan held patience torn keeps)
 
   pub one_still : (ev : Event) → Walk v w (entry v.number ev ∷ []) → ask_of ev ≡ None → OfNoAccess v.seen ev → Still
   one_still ev walk none of = (
     still_client v w _ walk client,
+    ∣ known ∣₁,
     held_on v w _ walk held was,
-    keeps_still setting v w (entry v.number ev ∷ []) legal walk (no_request v.number ev [] none) of plan held patience torn keeps,
+    keeps_still setting v w (entry v.number ev ∷ []) known.legal walk (no_request v.number ev [] none) of plan held patience torn keeps,
   )
 
   -- a desk's call entered this event, or refused

@@ -1,27 +1,22 @@
 //! What a client does at the desk, on its line. None of it is of an access, so what was sent and what is held stay.
-ghost use Rattle.std.specs.Prelude.{◌≡◌, ◌+◌, [], ◌∷◌, ◌≤◌, ◌++◌, true, length, is_some, IsTrue, OnOk, IfOk, IfErr};
-ghost use Rattle.qc_carry.specs.Acting.{IsNoAccess};
+ghost use Rattle.std.specs.Prelude.{◌≡◌, [], ◌≤◌, true, length, is_some, IsTrue, OnOk, IfOk, IfErr};
+ghost use Rattle.qc_carry.specs.Acting.{KeepsRest, IsNoAccess};
 ghost use Rattle.qc_carry.specs.Walk.{Walk};
 ghost use Rattle.qc_codec.specs.Bodies as body;
 ghost use Rattle.qc_codec.specs.declared.record.LedgerRecord.TheVariants.{Top};
-ghost use Rattle.qc_event.specs.Aborts.{Licensed};
 ghost use Rattle.qc_event.specs.Dead.{dead};
 ghost use Rattle.qc_event.specs.declared.event.Event.TheVariants as event;
 ghost use Rattle.qc_event.specs.declared.event.How.TheVariants.{Commit as Commits, Abort as Aborts};
-ghost use Rattle.qc_event.specs.declared.event.Kind.TheVariants as kind;
-ghost use Rattle.qc_event.specs.History.{children, end, is_ready, limit, start};
+ghost use Rattle.qc_event.specs.History.{end, is_ready, limit, start};
 ghost use Rattle.qc_event.specs.Listed.{listed};
-ghost use Rattle.qc_event.specs.Seats as seats;
 ghost use Rattle.qc_event.specs.Standing.{IsUser, Started};
-ghost use Rattle.qc_event.specs.Starts.{Stands};
 ghost use Rattle.qc_event.specs.Tables.{setting_of};
-ghost use Rattle.qc_pass.specs.Calling.{EnteredAs, Entered, Refused, Shown};
+ghost use Rattle.qc_pass.specs.Calling.{Entered, Refused, Shown, StartsChild, StartsTop};
 ghost use Rattle.qc_pass.specs.Looking.{is_marked_for};
-ghost use Rattle.qc_pass.specs.Own.{CommitsOwn};
+ghost use Rattle.qc_pass.specs.Own.{MayAbortOwn, MayCommitOwn, MayStartOwn};
 ghost use Rattle.qc_pass.specs.Refusing.{against_abort, against_child, against_commit, against_nothing, against_ready};
 ghost use Rattle.qc_system.specs.Kept.{HasRefused};
 
-use crate::desk_calls;
 use crate::line::Line;
 use qc_disk::Disk;
 use qc_event::{Answer, Cause, How, Kind, Name};
@@ -34,89 +29,79 @@ use std::sync::Wait;
 impl<'a, R: Wait, D: Disk + Drop, L: Link + Drop, N: Mounting> Line<'a, R, D, L, N> {
     /// Starts the next top, for a session with a body. The only errors are want of memory and of room.
     pub fn start_top(&mut self, session: u8, body: u32) -> Result<Name, DeskNo>
-        ensures ok { IfOk result (λ n. EnteredAs against_nothing
-            (λ past ev. (n ≡ seats.top_name self.old.system.now.desk.epoch
-            (length (children past []) + 1)) × (ev ≡ event.Start n (kind.User session body)))
+        ensures ok { IfOk result (λ n. StartsTop self.old.system.now.desk.epoch session body n
             self.old.pass self.new.pass) }
         ensures err { IfErr result (Refused against_nothing self.old.pass self.new.pass) }
-        ensures rest { (self.new.courier ≡ self.old.courier)
-            × (self.new.patience ≡ self.old.patience) × (self.new.torn ≡ self.old.torn)
-            × (self.new.system ≡ self.old.system) }
+        ensures rest { KeepsRest self.old self.new }
     {
-        desk_calls::start_top(self.rt, self.system.desk(), &mut self.pass, session, body)
+        self.system
+            .desk()
+            .start_top(self.rt, &mut self.pass, session, body)
     }
 
     /// Starts the next child of a name, for what may stand there. Refused where the parent has committed, is dead, or is
     /// ready.
     pub fn start(&mut self, parent: &Name, kind: Kind) -> Result<Name, DeskNo>
-        requires stands { Started self.old.pass.seen parent.now (λ p. Stands
-            (setting_of N.table N.base) self.old.pass.number p (length parent.now + 1) kind) }
-        ensures ok { IfOk result (λ n. EnteredAs (against_child parent.now)
-            (λ past ev. (n ≡ parent.now ++ (length (children past parent.now) + 1) ∷ [])
-            × (ev ≡ event.Start n kind)) self.old.pass self.new.pass) }
+        requires stands { MayStartOwn (setting_of N.table N.base) self.old.pass parent.now kind }
+        ensures ok { IfOk result (λ n. StartsChild parent.now kind n
+            self.old.pass self.new.pass) }
         ensures err { IfErr result (Refused (against_child parent.now) self.old.pass
             self.new.pass) }
-        ensures rest { (self.new.courier ≡ self.old.courier)
-            × (self.new.patience ≡ self.old.patience) × (self.new.torn ≡ self.old.torn)
-            × (self.new.system ≡ self.old.system) }
+        ensures rest { KeepsRest self.old self.new }
     {
-        desk_calls::start(self.rt, self.system.desk(), &mut self.pass, parent, kind)
+        self.system
+            .desk()
+            .start(self.rt, &mut self.pass, parent, kind)
     }
 
     /// Commits a user transaction below a top, or a manager that is complete by what was seen. Refused where it has
     /// ended, is dead, or has a child that has not ended.
     pub fn end(&mut self, name: &Name, answer: &Answer) -> Result<(), DeskNo>
-        requires may { Started self.old.pass.seen name.now (λ b. CommitsOwn
-            (setting_of N.table N.base) self.old.pass.seen self.old.pass.number name.now
-            answer.now b b.kind) }
+        requires may { MayCommitOwn (setting_of N.table N.base) self.old.pass name.now
+            answer.now }
         ensures ok { OnOk result (Entered (against_commit name.now)
             (event.End name.now (Commits answer.now)) self.old.pass self.new.pass) }
         ensures err { IfErr result (Refused (against_commit name.now) self.old.pass
             self.new.pass) }
-        ensures rest { (self.new.courier ≡ self.old.courier)
-            × (self.new.patience ≡ self.old.patience) × (self.new.torn ≡ self.old.torn)
-            × (self.new.system ≡ self.old.system) }
+        ensures rest { KeepsRest self.old self.new }
     {
-        desk_calls::end(self.rt, self.system.desk(), &mut self.pass, name, answer)
+        self.system
+            .desk()
+            .end(self.rt, &mut self.pass, name, answer)
     }
 
     /// Aborts a user transaction or a manager for a cause that was seen to be licensed. Refused where it has ended, or is
     /// ready.
     pub fn abort(&mut self, name: &Name, cause: &Cause) -> Result<(), DeskNo>
         requires no_access { Started self.old.pass.seen name.now (λ b. IsNoAccess b.kind) }
-        requires licensed { Started self.old.pass.seen name.now (λ b. Licensed
-            (setting_of N.table N.base) self.old.pass.seen self.old.pass.number name.now b
-            b.kind cause.now) }
+        requires licensed { MayAbortOwn (setting_of N.table N.base) self.old.pass name.now
+            cause.now }
         ensures ok { OnOk result (Entered (against_abort name.now)
             (event.End name.now (Aborts cause.now)) self.old.pass self.new.pass) }
         ensures err { IfErr result (Refused (against_abort name.now) self.old.pass self.new.pass) }
-        ensures rest { (self.new.courier ≡ self.old.courier)
-            × (self.new.patience ≡ self.old.patience) × (self.new.torn ≡ self.old.torn)
-            × (self.new.system ≡ self.old.system) }
+        ensures rest { KeepsRest self.old self.new }
     {
-        desk_calls::abort(self.rt, self.system.desk(), &mut self.pass, name, cause)
+        self.system
+            .desk()
+            .abort(self.rt, &mut self.pass, name, cause)
     }
 
     /// How a name ended, in the history at this step; none exactly where it has not.
     pub fn ended(&mut self, name: &Name) -> Option<How>
         ensures looked { Shown self.old.pass self.new.pass }
         ensures end { result ≡ end self.new.pass.seen name.now }
-        ensures rest { (self.new.courier ≡ self.old.courier)
-            × (self.new.patience ≡ self.old.patience) × (self.new.torn ≡ self.old.torn)
-            × (self.new.system ≡ self.old.system) }
+        ensures rest { KeepsRest self.old self.new }
     {
-        desk_calls::ended(self.rt, self.system.desk(), &mut self.pass, name)
+        self.system.desk().ended(self.rt, &mut self.pass, name)
     }
 
     /// The shortest aborted ancestor of a name, itself among them, in the history at this step; none exactly where none is.
     pub fn dead(&mut self, name: &Name) -> Option<Name>
         ensures looked { Shown self.old.pass self.new.pass }
         ensures dead { result ≡ dead self.new.pass.seen name.now }
-        ensures rest { (self.new.courier ≡ self.old.courier)
-            × (self.new.patience ≡ self.old.patience) × (self.new.torn ≡ self.old.torn)
-            × (self.new.system ≡ self.old.system) }
+        ensures rest { KeepsRest self.old self.new }
     {
-        desk_calls::dead(self.rt, self.system.desk(), &mut self.pass, name)
+        self.system.desk().dead(self.rt, &mut self.pass, name)
     }
 
     /// A user transaction marks a session. The only errors are want of memory and of room.
@@ -126,11 +111,11 @@ impl<'a, R: Wait, D: Disk + Drop, L: Link + Drop, N: Mounting> Line<'a, R, D, L,
         ensures ok { OnOk result (Entered against_nothing (event.Mark by.now session)
             self.old.pass self.new.pass) }
         ensures err { IfErr result (Refused against_nothing self.old.pass self.new.pass) }
-        ensures rest { (self.new.courier ≡ self.old.courier)
-            × (self.new.patience ≡ self.old.patience) × (self.new.torn ≡ self.old.torn)
-            × (self.new.system ≡ self.old.system) }
+        ensures rest { KeepsRest self.old self.new }
     {
-        desk_calls::mark(self.rt, self.system.desk(), &mut self.pass, by, session)
+        self.system
+            .desk()
+            .mark(self.rt, &mut self.pass, by, session)
     }
 
     /// Whether a mark stands, in the history at this step, that lets a user transaction be killed: of its session, by
@@ -138,22 +123,19 @@ impl<'a, R: Wait, D: Disk + Drop, L: Link + Drop, N: Mounting> Line<'a, R, D, L,
     pub fn marked(&mut self, of: &Name) -> bool
         ensures looked { Shown self.old.pass self.new.pass }
         ensures marked { result ≡ is_marked_for self.new.pass.seen of.now }
-        ensures rest { (self.new.courier ≡ self.old.courier)
-            × (self.new.patience ≡ self.old.patience) × (self.new.torn ≡ self.old.torn)
-            × (self.new.system ≡ self.old.system) }
+        ensures rest { KeepsRest self.old self.new }
     {
-        desk_calls::marked(self.rt, self.system.desk(), &mut self.pass, of)
+        self.system.desk().marked(self.rt, &mut self.pass, of)
     }
 
     /// Looks at the history, which has no more entries than it takes.
     pub fn look(&mut self)
         ensures looked { Shown self.old.pass self.new.pass }
         ensures bounded { length self.new.pass.seen ≤ limit }
-        ensures rest { (self.new.courier ≡ self.old.courier)
-            × (self.new.patience ≡ self.old.patience) × (self.new.torn ≡ self.old.torn)
-            × (self.new.system ≡ self.old.system) }
+        ensures rest { KeepsRest self.old self.new }
     {
-        desk_calls::look(self.rt, self.system.desk(), &mut self.pass)
+        let mut note = self.system.desk().note(&mut self.pass);
+        self.system.desk().show(self.rt, &mut note, &mut self.pass);
     }
 
     /// A top is ready: from then on it is not aborted. It tells the names that are listed of it. Refused where it has
@@ -165,11 +147,9 @@ impl<'a, R: Wait, D: Disk + Drop, L: Link + Drop, N: Mounting> Line<'a, R, D, L,
             self.old.pass self.new.pass) }
         ensures list { IfOk result (λ found. found.items ≡ listed self.new.pass.seen top.now) }
         ensures err { IfErr result (Refused (against_ready top.now) self.old.pass self.new.pass) }
-        ensures rest { (self.new.courier ≡ self.old.courier)
-            × (self.new.patience ≡ self.old.patience) × (self.new.torn ≡ self.old.torn)
-            × (self.new.system ≡ self.old.system) }
+        ensures rest { KeepsRest self.old self.new }
     {
-        desk_calls::ready(self.rt, self.system.desk(), &mut self.pass, top)
+        self.system.desk().ready(self.rt, &mut self.pass, top)
     }
 
     /// The ledger logs a ready top, with the names that are listed of it.
@@ -181,10 +161,11 @@ impl<'a, R: Wait, D: Disk + Drop, L: Link + Drop, N: Mounting> Line<'a, R, D, L,
         ensures ended { OnOk result (IsTrue (is_some (end self.new.pass.seen top.now))) }
         ensures refused { IfErr result (HasRefused self.new.pass.seen top.now) }
         ensures walk { Walk self.old.pass self.new.pass [] }
-        ensures rest { (self.new.courier ≡ self.old.courier)
-            × (self.new.patience ≡ self.old.patience) × (self.new.torn ≡ self.old.torn)
-            × (self.new.system ≡ self.old.system) }
+        ensures rest { KeepsRest self.old self.new }
     {
-        desk_calls::log(self.rt, self.system, &mut self.pass, top, aborted)
+        let pass = &mut self.pass;
+        let logged = self.system.log_top(self.rt, pass, top, aborted);
+        pass.known();
+        logged
     }
 }

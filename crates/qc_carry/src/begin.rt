@@ -2,10 +2,10 @@
 ghost use Rattle.std.specs.Prelude.{◌≡◌, ◌∷◌, [], IfOk, IfErr};
 ghost use Rattle.qc_event.specs.declared.event.Event.TheVariants as event;
 ghost use Rattle.qc_event.specs.declared.event.Kind.TheVariants as kind;
-ghost use Rattle.qc_event.specs.Legal.{Legal};
 ghost use Rattle.qc_event.specs.Tables.{setting_of};
 ghost use Rattle.qc_gather.specs.Carrying.{MayCarry, began, entry, next_ask};
 ghost use Rattle.qc_names.specs.Name.{front};
+ghost use Rattle.qc_pass.specs.Known.{IsKnown};
 ghost use Rattle.qc_pass.specs.Own.{MayAskOwn};
 ghost use Rattle.qc_pass.specs.Rules.{IsClient};
 ghost use Rattle.qc_carry.specs.Access.{CutUnasked};
@@ -44,10 +44,9 @@ fn start<R: Wait, N: Store>(
         pass.new.number (front ask.access) ask) }
     ensures cut { IfErr result (CutUnasked pass.old pass.new next.now.manager
         (next_ask pass.old.seen next.now.manager next.now.copy next.now.rec next.now.op)) }
-    ensures legal { Legal (setting_of N.table N.base) pass.new.seen }
+    ensures known { IsKnown (setting_of N.table N.base) pass.new }
 {
     let started = desk.start(rt, pass, &next.manager, Kind::Access);
-    pass.known();
     match started {
         Ok(access) => Ok(Ask {
             access,
@@ -74,11 +73,10 @@ pub(crate) fn begin<R: Wait, N: Store>(
     ensures walk { IfOk result (λ ask. Walk pass.old pass.new (began pass.old.number ask)) }
     ensures cut { IfErr result (CutUnasked pass.old pass.new next.now.manager
         (next_ask pass.old.seen next.now.manager next.now.copy next.now.rec next.now.op)) }
-    ensures legal { Legal (setting_of N.table N.base) pass.new.seen }
+    ensures known { IsKnown (setting_of N.table N.base) pass.new }
 {
     let ask = start(rt, desk, pass, next)?;
     let asked = desk.ask(rt, pass, &ask);
-    pass.known();
     match asked {
         Ok(()) => Ok(ask),
         Err(no) => Err(stopped(rt, desk, pass, &ask.access, &no)),

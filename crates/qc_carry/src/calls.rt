@@ -4,11 +4,11 @@ ghost use Rattle.qc_event.specs.Aborts.{AccessCause};
 ghost use Rattle.qc_event.specs.declared.event.Cause.TheVariants as cause;
 ghost use Rattle.qc_event.specs.declared.event.Event.TheVariants as event;
 ghost use Rattle.qc_event.specs.declared.event.How.TheVariants.{Abort as Aborts};
-ghost use Rattle.qc_event.specs.Legal.{Legal};
 ghost use Rattle.qc_event.specs.Requests.{is_fault, was_unable};
 ghost use Rattle.qc_event.specs.Standing.{IsOrphanOf};
 ghost use Rattle.qc_event.specs.Tables.{setting_of};
 ghost use Rattle.qc_gather.specs.Carrying.{entry};
+ghost use Rattle.qc_pass.specs.Known.{IsKnown};
 ghost use Rattle.qc_pass.specs.Own.{IsOwnAccess};
 ghost use Rattle.qc_pass.specs.Refusing.{Refuses, against_access};
 ghost use Rattle.qc_pass.specs.Rules.{IsClient};
@@ -47,10 +47,9 @@ fn abort<R: Wait, N: Store>(
     ensures ok { OnOk result (Walk pass.old pass.new
         (entry pass.old.number (event.End access.now (Aborts why.now)) ∷ [])) }
     ensures err { IfErr result (IsShort pass.old pass.new) }
-    ensures legal { Legal (setting_of N.table N.base) pass.new.seen }
+    ensures known { IsKnown (setting_of N.table N.base) pass.new }
 {
     let aborted = desk.abort(rt, pass, access, why);
-    pass.known();
     match aborted {
         Ok(()) => Ok(()),
         Err(no) => Err(no_of(&no)),
@@ -70,7 +69,7 @@ pub(crate) fn miss<R: Wait, N: Store>(
     ensures ok { OnOk result (Walk pass.old pass.new
         (entry pass.old.number (event.End access.now (Aborts cause.Missed)) ∷ [])) }
     ensures err { IfErr result (IsShort pass.old pass.new) }
-    ensures legal { Legal (setting_of N.table N.base) pass.new.seen }
+    ensures known { IsKnown (setting_of N.table N.base) pass.new }
 {
     abort(rt, desk, pass, access, &Cause::Missed)
 }
@@ -87,7 +86,7 @@ pub(crate) fn orphaned<R: Wait, N: Store>(
     requires own { IsOwnAccess pass.old.seen pass.old.number access.now }
     requires orphan { IsOrphanOf pass.old.seen access.now ancestor.now }
     ensures stopped { IsStopped pass.old pass.new access.now result }
-    ensures legal { Legal (setting_of N.table N.base) pass.new.seen }
+    ensures known { IsKnown (setting_of N.table N.base) pass.new }
 {
     match abort(rt, desk, pass, access, &Cause::Orphan(*ancestor)) {
         Ok(()) => CarryNo::Orphan(*ancestor),
@@ -106,9 +105,9 @@ pub(crate) fn stopped<R: Wait, N: Store>(
     requires client { IsClient pass.old }
     requires own { IsOwnAccess pass.old.seen pass.old.number access.now }
     requires refused { Refuses (against_access access.now) pass.old.seen no.now }
-    requires legal { Legal (setting_of N.table N.base) pass.old.seen }
+    requires known { IsKnown (setting_of N.table N.base) pass.old }
     ensures stopped { IsStopped pass.old pass.new access.now result }
-    ensures legal { Legal (setting_of N.table N.base) pass.new.seen }
+    ensures known { IsKnown (setting_of N.table N.base) pass.new }
 {
     match no {
         DeskNo::Orphan(ancestor) => orphaned(rt, desk, pass, access, ancestor),
@@ -131,10 +130,9 @@ pub(crate) fn give_up<R: Wait, N: Store>(
     ensures ok { OnOk result (Walk pass.old pass.new
         (entry pass.old.number (event.Gone ask.now.access why) ∷ [])) }
     ensures err { IfErr result (IsShort pass.old pass.new) }
-    ensures legal { Legal (setting_of N.table N.base) pass.new.seen }
+    ensures known { IsKnown (setting_of N.table N.base) pass.new }
 {
     let given_up = desk.gone(rt, pass, &ask.access, why);
-    pass.known();
     match given_up {
         Ok(()) => Ok(()),
         Err(no) => Err(no_of(&no)),

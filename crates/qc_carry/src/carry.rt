@@ -1,12 +1,12 @@
 //! One access of a manager: started, sent, and ended by what came back.
 ghost use Rattle.std.specs.Prelude.{◌≡◌, ◌≤◌, false, All, IfOk, option_map};
 ghost use Rattle.qc_event.specs.Counts.{Rose};
-ghost use Rattle.qc_event.specs.Legal.{Legal};
 ghost use Rattle.qc_event.specs.Tables.{setting_of};
 ghost use Rattle.qc_gather.specs.Carrying.{MayCarry, HasReason, carriage, next_ask};
 ghost use Rattle.qc_net.specs.Courier.{link_of, held_of};
 ghost use Rattle.qc_net.specs.Plan.{anew};
 ghost use Rattle.qc_pass.specs.Consulting.{HasAsked};
+ghost use Rattle.qc_pass.specs.Known.{IsKnown};
 ghost use Rattle.qc_pass.specs.Rules.{IsClient};
 ghost use Rattle.qc_carry.specs.Access.{Course};
 ghost use Rattle.qc_carry.specs.Kept as words;
@@ -52,7 +52,7 @@ pub(crate) fn access<R: Wait, D: Disk + Drop, L: Link, N: Mounting>(
     ensures reason { IfOk result (HasReason (carriage pass.old.number pass.old.seen pass.new.seen
         next.now.manager next.now.copy next.now.rec next.now.op)
         (Rose (L.view (link_of courier.old)).troubles (L.view (link_of courier.new)).troubles)) }
-    ensures legal { Legal (setting_of N.table N.base) pass.new.seen }
+    ensures known { IsKnown (setting_of N.table N.base) pass.new }
     ensures held { All (HasAsked pass.new.seen) (held_of courier.new) }
     ensures keeps { Keeps pass.new.number (L.view (link_of courier.new)).plan
         (held_of courier.new) patience pass.new.seen (words.is_cut_off result) }

@@ -3,10 +3,10 @@ ghost use Rattle.std.specs.Prelude.{◌≡◌, true, IsTrue, not, ◌||◌, is_s
 ghost use Rattle.qc_event.specs.declared.event.Answered.TheVariants as answered;
 ghost use Rattle.qc_event.specs.declared.event.Ask.{Ask};
 ghost use Rattle.qc_event.specs.History.{refused};
-ghost use Rattle.qc_event.specs.Legal.{Legal};
 ghost use Rattle.qc_event.specs.Requests.{is_fault, was_unable};
 ghost use Rattle.qc_event.specs.Tables.{setting_of};
 ghost use Rattle.qc_net.specs.Courier.{IsAnswered};
+ghost use Rattle.qc_pass.specs.Known.{IsKnown};
 ghost use Rattle.qc_pass.specs.Own.{IsOwnAccess};
 ghost use Rattle.qc_pass.specs.Rules.{IsClient};
 ghost use Rattle.qc_site.specs.Answers.{HasAnswered};
@@ -34,10 +34,9 @@ fn take<R: Wait, N: Store>(
         (answered.Granted tuple.now) }
     ensures ends { Ends pass.old pass.new ask.now result }
     ensures neither { ToldNoLoss result }
-    ensures legal { Legal (setting_of N.table N.base) pass.new.seen }
+    ensures known { IsKnown (setting_of N.table N.base) pass.new }
 {
     let taken = desk.take_reply(rt, pass, &ask.access, tuple);
-    pass.known();
     match taken {
         Ok(()) => Ok(Carried::Reply(*tuple)),
         Err(no) => Err(stopped(rt, desk, pass, &ask.access, &no)),
@@ -54,11 +53,11 @@ fn refuse<R: Wait, N: Store>(
 ) -> Result<Carried, CarryNo>
     requires client { IsClient pass.old }
     requires own { IsOwnAccess pass.old.seen pass.old.number ask.now.access }
-    requires legal { Legal (setting_of N.table N.base) pass.old.seen }
+    requires known { IsKnown (setting_of N.table N.base) pass.old }
     requires first { refused pass.old.seen ask.now.access ≡ Some first.now }
     ensures ends { Ends pass.old pass.new ask.now result }
     ensures neither { ToldNoLoss result }
-    ensures legal { Legal (setting_of N.table N.base) pass.new.seen }
+    ensures known { IsKnown (setting_of N.table N.base) pass.new }
 {
     match first {
         Refusal::Blocked(holder) => {
@@ -81,10 +80,9 @@ fn end_refused<R: Wait, N: Store>(
     requires refused { is_some (refused pass.old.seen ask.now.access) ≡ true }
     ensures ends { Ends pass.old pass.new ask.now result }
     ensures neither { ToldNoLoss result }
-    ensures legal { Legal (setting_of N.table N.base) pass.new.seen }
+    ensures known { IsKnown (setting_of N.table N.base) pass.new }
 {
     let first = desk.refusal(rt, pass, &ask.access);
-    pass.known();
     match first {
         Some(first) => refuse(rt, desk, pass, ask, &first),
         None => unreachable!(),
@@ -104,7 +102,7 @@ fn lose<R: Wait, N: Store>(
     requires told { IsTrue (not (is_fault why) || was_unable pass.old.seen ask.now.access why) }
     ensures ends { Ends pass.old pass.new ask.now result }
     ensures gone { WasGivenUp why result }
-    ensures legal { Legal (setting_of N.table N.base) pass.new.seen }
+    ensures known { IsKnown (setting_of N.table N.base) pass.new }
 {
     give_up(rt, desk, pass, ask, why)?;
     miss(rt, desk, pass, &ask.access)?;
@@ -124,7 +122,7 @@ fn answer<R: Wait, N: Store>(
     requires came { HasAnswered ask.now.copy pass.old.seen ask.now answered.now }
     ensures ends { Ends pass.old pass.new ask.now result }
     ensures neither { ToldNoLoss result }
-    ensures legal { Legal (setting_of N.table N.base) pass.new.seen }
+    ensures known { IsKnown (setting_of N.table N.base) pass.new }
 {
     match answered {
         Answered::Granted(tuple) => take(rt, desk, pass, ask, tuple),
@@ -149,7 +147,7 @@ pub(crate) fn finish<R: Wait, N: Store>(
     requires came { IsAnswered (λ (a : Ask). HasAnswered a.copy pass.old.seen a) ask.now sent.now }
     ensures ends { Ends pass.old pass.new ask.now result }
     ensures tells { TellsSent sent.now result }
-    ensures legal { Legal (setting_of N.table N.base) pass.new.seen }
+    ensures known { IsKnown (setting_of N.table N.base) pass.new }
 {
     match sent {
         Sent::Answer(answered) => answer(rt, desk, pass, ask, answered),

@@ -6,7 +6,6 @@ mod begin;
 mod branches;
 mod calls;
 mod carry;
-mod desk_calls;
 mod finish;
 mod line;
 mod way;

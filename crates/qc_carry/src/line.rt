@@ -7,6 +7,7 @@ ghost use Rattle.qc_net.specs.Messages.{meets_fates};
 ghost use Rattle.qc_net.specs.Plan.{anew};
 ghost use Rattle.qc_pass.specs.Consulting.{HasAsked};
 ghost use Rattle.qc_pass.specs.Entries.{entries_of};
+ghost use Rattle.qc_pass.specs.Known.{IsKnown};
 ghost use Rattle.qc_pass.specs.Rules.{AreApart, AreKin, IsClient};
 ghost use Rattle.qc_carry.specs.Kept.{Keeps, net_of};
 
@@ -37,7 +38,7 @@ where
     /// An access was cut off, so what was sent and the history may part: nothing more is carried.
     pub torn: bool,
     ghost client: { IsClient pass },
-    ghost legal: { ∥ Legal (setting_of N.table N.base) pass.seen ∥₁ },
+    ghost known: { ∥ IsKnown (setting_of N.table N.base) pass ∥₁ },
     ghost held: { All (HasAsked pass.seen) (held_of courier) },
     ghost keeps: { Keeps pass.number (L.view (link_of courier)).plan (held_of courier) patience
         pass.seen torn },
@@ -86,16 +87,14 @@ impl<'a, R: Wait, D: Disk + Drop, L: Link + Drop, N: Mounting> Line<'a, R, D, L,
         ensures mine { self.now.pass.mine ≡ entries_of self.now.pass.number self.now.pass.seen }
         ensures kin { AreKin self.now.pass.kin self.now.pass.seen }
         ensures apart { AreApart self.now.pass }
-    {
-        self.pass.known();
-    }
+    {}
 }
 
 impl<'a, R: Wait, D: Disk + Drop, L: Link + Drop, N: Mounting> Carrier for Line<'a, R, D, L, N> {
     ghost use Rattle.std.proofs.Common.{refl, ◌∙◌};
     ghost use Rattle.std.specs.Prelude.{◌≡◌, ◌==◌, not};
     ghost use Rattle.qc_event.specs.Tables.{setting_of};
-    ghost use Rattle.qc_event.proofs.LegalAgain.{legal_again};
+    ghost use Rattle.qc_pass.proofs.Known.{known_again};
     ghost use Rattle.qc_net.specs.Courier.{link_of};
     ghost use Rattle.qc_carry.specs.Carried.{HasCarried, carried_itself, carried_by_both};
 
@@ -124,7 +123,7 @@ impl<'a, R: Wait, D: Disk + Drop, L: Link + Drop, N: Mounting> Carrier for Line<
       next.1 ∙ first.1,
     ) };
 
-    ghost is_legal = { λ line. legal_again (setting_of N.table N.base) line.pass.seen line.legal };
+    ghost is_legal = { λ line. (known_again (setting_of N.table N.base) line.pass line.known).legal };
 
     fn carry(&mut self, manager: &Name, copy: u8, rec: u8, op: Op) -> Result<Carried, CarryNo> {
         if self.torn {

@@ -4,12 +4,12 @@ ghost use Rattle.qc_event.specs.Counts.{Rose};
 ghost use Rattle.qc_event.specs.declared.event.Ask.{Ask};
 ghost use Rattle.qc_event.specs.declared.log.Short.TheVariants.{Room};
 ghost use Rattle.qc_event.specs.History.{limit};
-ghost use Rattle.qc_event.specs.Legal.{Legal};
 ghost use Rattle.qc_event.specs.Tables.{setting_of};
 ghost use Rattle.qc_net.specs.Courier.{link_of, held_of, IsAnswered, HasCause};
 ghost use Rattle.qc_net.specs.Plan.{anew};
 ghost use Rattle.qc_net.specs.Sending.{IsSending, sending};
 ghost use Rattle.qc_pass.specs.Consulting.{HasAsked};
+ghost use Rattle.qc_pass.specs.Known.{IsKnown};
 ghost use Rattle.qc_pass.specs.Rules.{IsClient};
 ghost use Rattle.qc_site.specs.Answers.{HasAnswered};
 ghost use Rattle.qc_carry.specs.Access as words;
@@ -37,6 +37,7 @@ where
     /// The last request found the history full.
     full: bool,
     ghost found: { full ≡ true → length pass.seen ≡ limit },
+    ghost known: { ∥ IsKnown (setting_of N.table N.base) pass ∥₁ },
 }
 
 // Whether a request was not served since the history is full.
@@ -82,8 +83,8 @@ impl<'a, R: Wait, D: Disk + Drop, N: Mounting> Port for Way<'a, R, D, N> {
     ghost became_by_both = { λ a b c first second. sees_on a.pass b.pass c.pass first second };
 
     fn deliver(&mut self, ask: &Ask) -> Result<Answered, Short> {
-        self.pass.known();
         let served = self.system.serve(self.rt, &mut self.pass, ask);
+        self.pass.known();
         self.full = is_full(&served);
         match served {
             Ok(answer) => Ok(answer),
@@ -104,8 +105,9 @@ pub(crate) fn send<R: Wait, D: Disk + Drop, L: Link, N: Mounting>(
     requires client { IsClient pass.old }
     requires asked { HasAsked pass.old.seen ask.now }
     requires held { All (HasAsked pass.old.seen) (held_of courier.old) }
+    requires known { IsKnown (setting_of N.table N.base) pass.old }
     ensures walk { Walk pass.old pass.new [] }
-    ensures legal { Legal (setting_of N.table N.base) pass.new.seen }
+    ensures known { IsKnown (setting_of N.table N.base) pass.new }
     ensures held { All (HasAsked pass.new.seen) (held_of courier.new) }
     ensures err { IfErr result (IsShort pass.old pass.new) }
     ensures answered { IfOk result (IsAnswered
@@ -120,7 +122,6 @@ pub(crate) fn send<R: Wait, D: Disk + Drop, L: Link, N: Mounting>(
     ensures plan { option_map anew (L.view (link_of courier.new)).plan ≡ option_map anew
         (L.view (link_of courier.old)).plan }
 {
-    pass.known();
     let note = system.desk().note(pass);
     let mut way = Way {
         rt,
@@ -130,7 +131,6 @@ pub(crate) fn send<R: Wait, D: Disk + Drop, L: Link, N: Mounting>(
     };
     let sent = courier.send(ask, &mut way, patience);
     let Way { pass: own, .. } = way;
-    own.known();
     *pass = own;
     match sent {
         Ok(sent) => Ok(sent),

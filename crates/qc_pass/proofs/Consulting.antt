@@ -155,15 +155,18 @@ pub record IsReady (setting : Setting) (past : Past) (v w : View) (ask : Ask) (t
   pub is : w ≡ knows past v
   pub follows : Follows past (grants past ask.copy) table
 
-pub ready : (setting : Setting) (old now : Past) (v w : View) (ask : Ask) (table : Table) → v.number ≡ copy_seat ask.copy → Legal setting now → HasAsked old ask → IsSince v.number v.seen old → IsLook old now v w → Follows v.seen (grants v.seen ask.copy) table → IsReady setting now v w ask table
+pub ready : (setting : Setting) (old now : Past) (v w : View) (ask : Ask) (table : Table) → v.number ≡ copy_seat ask.copy → Legal setting old → HasAsked old ask → IsSince v.number v.seen old → IsLook old now v w → Follows v.seen (grants v.seen ask.copy) table → IsReady setting now v w ask table
 ready setting old now v w ask table number legal has since look follows = record {
-  legal = legal;
+  legal = now_legal;
   has = subst (λ p. HasAsked p ask) (sym look.0) has;
   since = now_since;
   is = look.1 ∙ ap (λ p. knows p v) (sym look.0);
-  follows = follows_since setting v.seen now ask.copy table legal (subst (λ n. IsSince n v.seen now) number now_since) follows;
+  follows = follows_since setting v.seen now ask.copy table now_legal (subst (λ n. IsSince n v.seen now) number now_since) follows;
 }
   where
+    now_legal : Legal setting now
+    now_legal = subst (Legal setting) (sym look.0) legal
+
     now_since : IsSince v.number v.seen now
     now_since = subst (IsSince v.number v.seen) (sym look.0) since
 

@@ -5,6 +5,7 @@ pub mod Moves
 pub mod Numbers
 pub mod Rests
 pub mod Since
+pub mod Known
 pub mod Begun
 pub mod Counting
 pub mod Calls

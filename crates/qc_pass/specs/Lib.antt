@@ -2,6 +2,7 @@ pub mod Nothing
 pub mod Entries
 pub mod Rules
 pub mod Refusing
+pub mod Known
 pub mod Calling
 pub mod Own
 pub mod Looking

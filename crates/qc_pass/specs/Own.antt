@@ -1,18 +1,22 @@
 -- What a client knows by its own entries, and what is asked of them before an entry of its own.
-use Rattle.std.specs.Prelude.{ℕ, ◌≡◌, ◌≤◌, true, IsTrue, length, None, MatchOption}
+use Rattle.std.specs.Prelude.{ℕ, ◌≡◌, ◌≤◌, ◌+◌, true, IsTrue, length, None, MatchOption}
 use Rattle.qc_config.specs.declared.tuple.Tuple.{Tuple}
 use Rattle.qc_event.specs.Base.{Setting}
 use Rattle.qc_event.specs.declared.event.Answer.{Answer}
 use Rattle.qc_event.specs.declared.event.Answer.TheVariants as answer
 use Rattle.qc_event.specs.declared.event.Ask.{Ask}
+use Rattle.qc_event.specs.declared.event.Cause.{Cause}
 use Rattle.qc_event.specs.declared.event.Kind.{Kind}
 use Rattle.qc_event.specs.declared.event.Kind.TheVariants as kind
+use Rattle.qc_event.specs.Aborts.{Licensed}
 use Rattle.qc_event.specs.Commits.{manager_answer}
 use Rattle.qc_event.specs.History.{Past, Name, Begun, IsOpen, asked, granted, is_child}
 use Rattle.qc_event.specs.Manager.{AtStage, waiting, is_complete, first_for}
 use Rattle.qc_event.specs.Requests.{IsNextAsk}
 use Rattle.qc_event.specs.Seats.{is_client}
 use Rattle.qc_event.specs.Standing.{IsManager, Started}
+use Rattle.qc_event.specs.Starts.{Stands}
+use Rattle.qc_pass.specs.declared.view.View.{View}
 
 -- a manager that was started under a seat
 abbrev pub IsMine : Past → ℕ → Name → Type 0
@@ -54,3 +58,17 @@ abbrev pub CommitsOwn : Setting → Past → ℕ → Name → Answer → Begun �
 CommitsOwn setting past seat n given b (kind.User session body) = (2 ≤ length n) × (given ≡ answer.Nothing)
 CommitsOwn setting past seat n given b kind.Access = ⊥
 CommitsOwn setting past seat n given b k = IsComplete setting past seat n given b
+
+-- WHAT A CLIENT MAY DO BY WHAT IT HAS SEEN
+
+-- a name was started, and a child of this kind may stand below it
+abbrev pub MayStartOwn : Setting → View → Name → Kind → Type 0
+MayStartOwn setting v parent k = Started v.seen parent (λ p. Stands setting v.number p (length parent + 1) k)
+
+-- a name was started, and may commit with this answer
+abbrev pub MayCommitOwn : Setting → View → Name → Answer → Type 0
+MayCommitOwn setting v n answer = Started v.seen n (λ b. CommitsOwn setting v.seen v.number n answer b b.kind)
+
+-- a name was started, and this cause of its abort is licensed
+abbrev pub MayAbortOwn : Setting → View → Name → Cause → Type 0
+MayAbortOwn setting v n cause = Started v.seen n (λ b. Licensed setting v.seen v.number n b b.kind cause)

@@ -7,6 +7,7 @@ ghost use Rattle.qc_event.specs.declared.event.How.TheVariants.{Commit as Commit
 ghost use Rattle.qc_event.specs.Requests.{MayGiveUp};
 ghost use Rattle.qc_event.specs.Tables.{setting_of};
 ghost use Rattle.qc_pass.specs.Calling.{Entered, Refused};
+ghost use Rattle.qc_pass.specs.Known.{IsKnown};
 ghost use Rattle.qc_pass.specs.Own.{IsOwnAccess, MayAskOwn, MayReplyOwn};
 ghost use Rattle.qc_pass.specs.Refusing.{against_access, against_nothing};
 ghost use Rattle.qc_pass.specs.Rules.{IsClient};
@@ -28,10 +29,10 @@ impl<N: Store> Desk<N> {
             (event.Ask ask.now) pass.old pass.new) }
         ensures err { IfErr result
             (Refused (against_access ask.now.access) pass.old pass.new) }
+        ensures known { IsKnown (setting_of N.table N.base) pass.new }
     {
         let mut locked = self.locked.lock(rt);
         locked.look(&self.room, pass);
-        locked.known();
         let no = locked.against_access(&ask.access);
         locked.enter(&self.room, pass, no, Event::Ask(*ask))
     }
@@ -50,10 +51,10 @@ impl<N: Store> Desk<N> {
         ensures ok { OnOk result (Entered against_nothing
             (event.Gone access.now why) pass.old pass.new) }
         ensures err { IfErr result (Refused against_nothing pass.old pass.new) }
+        ensures known { IsKnown (setting_of N.table N.base) pass.new }
     {
         let mut locked = self.locked.lock(rt);
         locked.look(&self.room, pass);
-        locked.known();
         let event = Event::Gone {
             access: *access,
             why,
@@ -75,10 +76,10 @@ impl<N: Store> Desk<N> {
         ensures ok { OnOk result (Entered (against_access access.now)
             (event.End access.now (Commits (answer.Reply tuple.now))) pass.old pass.new) }
         ensures err { IfErr result (Refused (against_access access.now) pass.old pass.new) }
+        ensures known { IsKnown (setting_of N.table N.base) pass.new }
     {
         let mut locked = self.locked.lock(rt);
         locked.look(&self.room, pass);
-        locked.known();
         let no = locked.against_access(access);
         let event = Event::End {
             name: *access,

@@ -13,6 +13,7 @@ ghost use Rattle.qc_pass.specs.Calling.{IsRoomOf, Refused, Shown};
 ghost use Rattle.qc_pass.specs.Consulting as words;
 ghost use Rattle.qc_pass.specs.Consulting.{HasAsked, IsTold, granted_before};
 ghost use Rattle.qc_pass.specs.declared.consult.Consulted.TheVariants.{Fresh};
+ghost use Rattle.qc_pass.specs.Known.{AreKnown, IsKnown};
 ghost use Rattle.qc_pass.specs.Refusing.{against_nothing};
 
 use crate::desk::Desk;
@@ -89,9 +90,9 @@ impl<N: Store> Locked<N> {
         ensures start { locks.new.start ≡ locks.old.start }
         ensures reserved { locks.new.reserved ≡ locks.old.reserved }
         ensures seen { pass.new.seen ≡ self.new }
+        ensures known { IsKnown (setting_of N.table N.base) pass.new }
     {
         self.look(room, pass);
-        self.known();
         if let Some(tuple) = self.granted(ask.copy, &ask.access) {
             return Ok(Consulted::Again(tuple));
         }
@@ -140,6 +141,7 @@ impl<N: Store> Desk<N> {
         ensures reserved { locks.new.reserved ≡ locks.old.reserved }
         ensures shown { Shown seer.old seer.new }
         ensures same { seer.new.seen ≡ pass.new.seen }
+        ensures known { AreKnown (setting_of N.table N.base) pass.new seer.new }
     {
         let mut locked = self.locked.lock(rt);
         locked.look(&self.room, seer);

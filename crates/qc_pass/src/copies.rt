@@ -5,6 +5,7 @@ ghost use Rattle.qc_event.specs.Grants.{MayGrant};
 ghost use Rattle.qc_event.specs.Requests.{MayBeUnable};
 ghost use Rattle.qc_event.specs.Tables.{setting_of};
 ghost use Rattle.qc_pass.specs.Calling.{Entered, Refused, Shown};
+ghost use Rattle.qc_pass.specs.Known.{AreKnown};
 ghost use Rattle.qc_pass.specs.Refusing.{against_nothing};
 
 use crate::desk::Desk;
@@ -32,6 +33,7 @@ impl<N: Store> Desk<N> {
         ensures err { IfErr result (Refused against_nothing pass.old pass.new) }
         ensures shown { Shown seer.old seer.new }
         ensures same { seer.new.seen ≡ pass.new.seen }
+        ensures known { AreKnown (setting_of N.table N.base) pass.new seer.new }
     {
         let mut locked = self.locked.lock(rt);
         locked.look(&self.room, pass);
@@ -60,11 +62,11 @@ impl<N: Store> Desk<N> {
         ensures err { IfErr result (Refused against_nothing pass.old pass.new) }
         ensures shown { Shown seer.old seer.new }
         ensures same { seer.new.seen ≡ pass.new.seen }
+        ensures known { AreKnown (setting_of N.table N.base) pass.new seer.new }
     {
         let mut locked = self.locked.lock(rt);
         locked.look(&self.room, pass);
         locked.look(&self.room, seer);
-        locked.known();
         let event = Event::Granted {
             copy,
             grant: *grant,

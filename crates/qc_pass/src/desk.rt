@@ -5,6 +5,7 @@ ghost use Rattle.qc_event.specs.History.{limit};
 ghost use Rattle.qc_event.specs.Legal.{Legal};
 ghost use Rattle.qc_pass.specs.Calling.{Shown};
 ghost use Rattle.qc_pass.specs.Entries.{IsOlder};
+ghost use Rattle.qc_pass.specs.Known.{AreKnown, IsKnown};
 ghost use Rattle.qc_pass.specs.Rules.{first_of_all, knows, pass, note, joined, IsClient, IsNewTo, IsSplit, IsSettled};
 
 use crate::history::History;
@@ -26,7 +27,8 @@ const LOW: u32 = 17;
 // The number of a note.
 const NOTE: u32 = 0xffff_ffff;
 
-/// The one history, behind a lock. Each call takes the lock once, so it is one step for all others.
+/// The one history, behind a lock. Each call takes the lock once, so it is one step for all others, and tells what the
+/// passes that it leaves know: what they have seen is legal, and which of it is their own.
 #[derive(Drop)]
 pub struct Desk<N: Store> {
     pub(crate) room: Room,
@@ -76,6 +78,7 @@ impl Blank {
         requires base { self.base ≡ N.base }
         ensures pass { result.1 ≡ pass 0 [] }
         ensures epoch { result.0.epoch ≡ self.epoch }
+        ensures known { IsKnown (setting_of N.table N.base) result.1 }
     {
         let Blank {
             room,
@@ -114,6 +117,7 @@ impl<N: Store> Desk<N> {
         requires client { IsClient pass.old }
         ensures split { IsSplit pass.old pass.new result }
         ensures other { IsNewTo pass.old result.number }
+        ensures known { AreKnown (setting_of N.table N.base) pass.new result }
     {
         if pass.number == 0 && pass.count < LOW {
             pass.count += 1;
@@ -154,11 +158,11 @@ impl<N: Store> Desk<N> {
         ensures seer { Shown seer.old seer.new }
         ensures same { seer.new.seen ≡ pass.new.seen }
         ensures bounded { length seer.new.seen ≤ limit }
+        ensures known { AreKnown (setting_of N.table N.base) pass.new seer.new }
     {
         let mut locked = self.locked.lock(rt);
         locked.look(&self.room, pass);
         locked.look(&self.room, seer);
-        locked.known();
     }
 
     /// A pass with nothing out is joined into a pass, which has then seen what both had seen. Its number, its
@@ -169,9 +173,9 @@ impl<N: Store> Desk<N> {
         ensures seen { IsOlder pass.old.seen pass.new.seen × IsOlder other.seen pass.new.seen }
         ensures joined { pass.new ≡ knows pass.new.seen (joined pass.old other) }
         ensures bounded { length pass.new.seen ≤ limit }
+        ensures known { IsKnown (setting_of N.table N.base) pass.new }
     {
         let mut locked = self.locked.lock(rt);
-        locked.known();
         locked.join(&self.room, pass, other);
     }
 

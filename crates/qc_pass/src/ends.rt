@@ -1,14 +1,13 @@
 //! The calls with which a client commits, aborts, and looks whether a name has ended, or is dead.
 ghost use Rattle.std.specs.Prelude.{◌≡◌, OnOk, IfErr};
-ghost use Rattle.qc_event.specs.Aborts.{Licensed};
 ghost use Rattle.qc_event.specs.Dead.{dead};
 ghost use Rattle.qc_event.specs.declared.event.Event.TheVariants as event;
 ghost use Rattle.qc_event.specs.declared.event.How.TheVariants.{Commit as Commits, Abort as Aborts};
 ghost use Rattle.qc_event.specs.History.{end};
-ghost use Rattle.qc_event.specs.Standing.{Started};
 ghost use Rattle.qc_pass.specs.Calling.{Entered, Refused, Shown};
 ghost use Rattle.qc_event.specs.Tables.{setting_of};
-ghost use Rattle.qc_pass.specs.Own.{CommitsOwn};
+ghost use Rattle.qc_pass.specs.Known.{IsKnown};
+ghost use Rattle.qc_pass.specs.Own.{MayAbortOwn, MayCommitOwn};
 ghost use Rattle.qc_pass.specs.Refusing.{against_commit, against_abort};
 ghost use Rattle.qc_pass.specs.Rules.{IsClient};
 
@@ -30,15 +29,14 @@ impl<N: Store> Desk<N> {
         answer: &Answer,
     ) -> Result<(), DeskNo>
         requires client { IsClient pass.old }
-        requires may { Started pass.old.seen name.now (λ b. CommitsOwn (setting_of N.table N.base)
-            pass.old.seen pass.old.number name.now answer.now b b.kind) }
+        requires may { MayCommitOwn (setting_of N.table N.base) pass.old name.now answer.now }
         ensures ok { OnOk result (Entered (against_commit name.now)
             (event.End name.now (Commits answer.now)) pass.old pass.new) }
         ensures err { IfErr result (Refused (against_commit name.now) pass.old pass.new) }
+        ensures known { IsKnown (setting_of N.table N.base) pass.new }
     {
         let mut locked = self.locked.lock(rt);
         locked.look(&self.room, pass);
-        locked.known();
         let no = locked.against_commit(name);
         let event = Event::End {
             name: *name,
@@ -57,15 +55,14 @@ impl<N: Store> Desk<N> {
         cause: &Cause,
     ) -> Result<(), DeskNo>
         requires client { IsClient pass.old }
-        requires licensed { Started pass.old.seen name.now (λ b. Licensed
-            (setting_of N.table N.base) pass.old.seen pass.old.number name.now b b.kind cause.now) }
+        requires licensed { MayAbortOwn (setting_of N.table N.base) pass.old name.now cause.now }
         ensures ok { OnOk result (Entered (against_abort name.now)
             (event.End name.now (Aborts cause.now)) pass.old pass.new) }
         ensures err { IfErr result (Refused (against_abort name.now) pass.old pass.new) }
+        ensures known { IsKnown (setting_of N.table N.base) pass.new }
     {
         let mut locked = self.locked.lock(rt);
         locked.look(&self.room, pass);
-        locked.known();
         let no = locked.against_abort(name);
         let event = Event::End {
             name: *name,
@@ -78,6 +75,7 @@ impl<N: Store> Desk<N> {
     pub fn ended<R: Wait>(&self, rt: &R, pass: &mut Pass<N>, name: &Name) -> Option<How>
         ensures looked { Shown pass.old pass.new }
         ensures end { result ≡ end pass.new.seen name.now }
+        ensures known { IsKnown (setting_of N.table N.base) pass.new }
     {
         let mut locked = self.locked.lock(rt);
         locked.look(&self.room, pass);
@@ -88,6 +86,7 @@ impl<N: Store> Desk<N> {
     pub fn dead<R: Wait>(&self, rt: &R, pass: &mut Pass<N>, name: &Name) -> Option<Name>
         ensures looked { Shown pass.old pass.new }
         ensures dead { result ≡ dead pass.new.seen name.now }
+        ensures known { IsKnown (setting_of N.table N.base) pass.new }
     {
         let mut locked = self.locked.lock(rt);
         locked.look(&self.room, pass);

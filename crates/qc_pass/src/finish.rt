@@ -5,7 +5,9 @@ ghost use Rattle.qc_event.specs.declared.event.Event.TheVariants as event;
 ghost use Rattle.qc_event.specs.declared.event.How.TheVariants.{Commit as Commits};
 ghost use Rattle.qc_event.specs.History.{end, is_ready};
 ghost use Rattle.qc_event.specs.Seats.{ledger_seat};
+ghost use Rattle.qc_event.specs.Tables.{setting_of};
 ghost use Rattle.qc_pass.specs.Calling.{Entered, Refused, Shown};
+ghost use Rattle.qc_pass.specs.Known.{AreKnown};
 ghost use Rattle.qc_pass.specs.Refusing.{against_nothing};
 
 use crate::desk::Desk;
@@ -33,11 +35,11 @@ impl<N: Store> Desk<N> {
         ensures err { IfErr result (Refused against_nothing pass.old pass.new) }
         ensures shown { Shown seer.old seer.new }
         ensures same { seer.new.seen ≡ pass.new.seen }
+        ensures known { AreKnown (setting_of N.table N.base) pass.new seer.new }
     {
         let mut locked = self.locked.lock(rt);
         locked.look(&self.room, pass);
         locked.look(&self.room, seer);
-        locked.known();
         let event = Event::End {
             name: *top,
             how: How::Commit(Answer::Nothing),

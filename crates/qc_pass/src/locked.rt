@@ -5,6 +5,7 @@ ghost use Rattle.qc_event.specs.History.{limit};
 ghost use Rattle.qc_event.specs.Legal.{Legal, Allowed};
 ghost use Rattle.qc_pass.specs.Calling.{IsRoomOf, IsLook, IsEntry};
 ghost use Rattle.qc_pass.specs.Entries.{AreCounted, IsLegal, IsOlder, IsSince, entry, entries_of};
+ghost use Rattle.qc_pass.specs.Known.{IsDeskHistory, IsKnown};
 ghost use Rattle.qc_pass.specs.Refusing.{Refuses};
 ghost use Rattle.qc_pass.specs.Rules.{IsClient, IsSettled, joined};
 
@@ -28,7 +29,8 @@ pub(crate) struct Locked<N: Store> {
 }
 
 impl<N: Store> Model for Locked<N> {
-    ghost use Rattle.std.specs.Prelude.{◌≡◌, List, []};
+    ghost use Rattle.std.specs.Prelude.{◌≡◌, ◌≤◌, List, [], length};
+    ghost use Rattle.qc_event.specs.History.{limit};
     ghost use Rattle.qc_event.specs.Tables.{setting_of};
     ghost use Rattle.qc_event.specs.declared.event.Entry.{Entry};
     ghost use Rattle.qc_pass.specs.Entries.{IsLegal, AreCounted};
@@ -39,19 +41,11 @@ impl<N: Store> Model for Locked<N> {
     ghost view = { λ d. d.history };
 
     ghost invariant = { λ d. (d.seat.table_id ≡ N.desk) × (d.seat.me ≡ (ruler d.history, []))
-        × IsLegal (setting_of N.table N.base) d.history × AreCounted d.history };
+        × IsLegal (setting_of N.table N.base) d.history × AreCounted d.history
+        × (length d.history ≤ limit) };
 }
 
 impl<N: Store> Locked<N> {
-    /// What the history keeps: it is legal, and its tops are counted.
-    pub(crate) fn known(&self)
-        ensures legal { Legal (setting_of N.table N.base) self.now }
-        ensures counted { AreCounted self.now }
-        ensures bounded { length self.now ≤ limit }
-    {
-        let _ = self.history.len();
-    }
-
     /// Appends an entry under the pass's number that may come next.
     pub(crate) fn append(
         &mut self,
@@ -68,6 +62,7 @@ impl<N: Store> Locked<N> {
         ensures ok { OnOk result (IsEntry event self.old self.new pass.old pass.new) }
         ensures err { OnErr result (IsLook self.old self.new pass.old pass.new) }
         ensures room_left { IsErrOf result Short.Room → length self.old ≡ limit }
+        ensures known { IsKnown (setting_of N.table N.base) pass.new }
     {
         lend(room, &mut pass.seat, &mut self.seat);
         let new = Entry {
@@ -97,6 +92,7 @@ impl<N: Store> Locked<N> {
             × IsEntry event self.old self.new pass.old pass.new) }
         ensures err { IfErr result (λ why. IsLook self.old self.new pass.old pass.new
             × Refuses (λ _. no) self.old why) }
+        ensures known { IsKnown (setting_of N.table N.base) pass.new }
     {
         if let Some(why) = no {
             self.look(room, pass);
@@ -116,6 +112,8 @@ impl<N: Store> Locked<N> {
             entries_of pass.old.number self.old ≡ pass.old.mine }
         ensures since { pass.old.live ≡ true → IsSince pass.old.number pass.old.seen self.old }
         ensures same { IsLook self.old self.new pass.old pass.new }
+        ensures history { IsDeskHistory (setting_of N.table N.base) self.old }
+        ensures known { IsKnown (setting_of N.table N.base) pass.new }
     {
         lend(room, &mut pass.seat, &mut self.seat);
         give_back(room, &mut pass.seat, &mut self.seat);
@@ -128,6 +126,8 @@ impl<N: Store> Locked<N> {
         requires other { (other.live ≡ true) × (other.out ≡ []) }
         ensures seen { IsOlder pass.old.seen self.old × IsOlder other.seen self.old }
         ensures same { IsLook self.old self.new (joined pass.old other) pass.new }
+        ensures history { IsDeskHistory (setting_of N.table N.base) self.old }
+        ensures known { IsKnown (setting_of N.table N.base) pass.new }
     {
         self.look(room, pass);
         self.look(room, &mut other);

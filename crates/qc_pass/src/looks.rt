@@ -3,7 +3,9 @@ ghost use Rattle.std.specs.Prelude.{◌≡◌, ◌<◌, [], is_none, option_and_
 ghost use Rattle.qc_event.specs.History.{granted, grants, refused};
 ghost use Rattle.qc_event.specs.Standing.{open_child};
 ghost use Rattle.qc_indexes.specs.Grants.{Differs, tuple_at};
+ghost use Rattle.qc_event.specs.Tables.{setting_of};
 ghost use Rattle.qc_pass.specs.Calling.{Shown};
+ghost use Rattle.qc_pass.specs.Known.{AreKnown, IsKnown};
 ghost use Rattle.qc_pass.specs.Looking.{is_marked_for};
 
 use crate::desk::Desk;
@@ -19,6 +21,7 @@ impl<N: Store> Desk<N> {
     pub fn refusal<R: Wait>(&self, rt: &R, pass: &mut Pass<N>, access: &Name) -> Option<Refusal>
         ensures looked { Shown pass.old pass.new }
         ensures first { result ≡ refused pass.new.seen access.now }
+        ensures known { IsKnown (setting_of N.table N.base) pass.new }
     {
         let mut locked = self.locked.lock(rt);
         locked.look(&self.room, pass);
@@ -41,6 +44,7 @@ impl<N: Store> Desk<N> {
         ensures same { seer.new.seen ≡ pass.new.seen }
         ensures first { result ≡ option_and_then (tuple_at copy)
             (granted pass.new.seen access.now) }
+        ensures known { AreKnown (setting_of N.table N.base) pass.new seer.new }
     {
         let mut locked = self.locked.lock(rt);
         locked.look(&self.room, pass);
@@ -53,6 +57,7 @@ impl<N: Store> Desk<N> {
     pub fn marked<R: Wait>(&self, rt: &R, pass: &mut Pass<N>, of: &Name) -> bool
         ensures looked { Shown pass.old pass.new }
         ensures marked { result ≡ is_marked_for pass.new.seen of.now }
+        ensures known { IsKnown (setting_of N.table N.base) pass.new }
     {
         let mut locked = self.locked.lock(rt);
         locked.look(&self.room, pass);
@@ -63,6 +68,7 @@ impl<N: Store> Desk<N> {
     pub fn settled<R: Wait>(&self, rt: &R, pass: &mut Pass<N>) -> bool
         ensures looked { Shown pass.old pass.new }
         ensures settled { result ≡ is_none (open_child pass.new.seen []) }
+        ensures known { IsKnown (setting_of N.table N.base) pass.new }
     {
         let mut locked = self.locked.lock(rt);
         locked.look(&self.room, pass);
@@ -82,6 +88,7 @@ impl<N: Store> Desk<N> {
         requires { copy < 16 }
         ensures looked { Shown pass.old pass.new }
         ensures differs { Differs given.now (grants pass.new.seen copy) result }
+        ensures known { IsKnown (setting_of N.table N.base) pass.new }
     {
         let mut locked = self.locked.lock(rt);
         locked.look(&self.room, pass);
@@ -99,6 +106,7 @@ impl<N: Store> Desk<N> {
         requires { copy < 16 }
         ensures looked { Shown pass.old pass.new }
         ensures given { IfOk result (λ given. given.items ≡ grants pass.new.seen copy) }
+        ensures known { IsKnown (setting_of N.table N.base) pass.new }
     {
         let mut locked = self.locked.lock(rt);
         locked.look(&self.room, pass);

@@ -1,9 +1,7 @@
 //! A caller's token.
-ghost use Rattle.std.specs.Prelude.{◌≡◌, true};
+ghost use Rattle.std.specs.Prelude.{◌≡◌};
 ghost use Rattle.qc_event.specs.Tables.{setting_of};
-ghost use Rattle.qc_event.specs.Legal.{Legal};
-ghost use Rattle.qc_pass.specs.Entries.{entries_of};
-ghost use Rattle.qc_pass.specs.Rules.{AreApart, AreKin};
+ghost use Rattle.qc_pass.specs.Known.{IsKnown};
 
 use crate::store::Store;
 use crate::view::View;
@@ -44,14 +42,9 @@ impl<N: Store> Pass<N> {
         self.number
     }
 
-    /// What every pass keeps: what it has seen is legal, its own entries are those seen under its number, and so are
-    /// those of each that was joined into it. All these numbers are different.
+    /// What every pass keeps, for who was handed one: each call of the desk tells it of the passes that it leaves.
     pub fn known(&self)
-        ensures legal { Legal (setting_of N.table N.base) self.now.seen }
-        ensures mine { self.now.live ≡ true →
-            self.now.mine ≡ entries_of self.now.number self.now.seen }
-        ensures kin { AreKin self.now.kin self.now.seen }
-        ensures apart { AreApart self.now }
+        ensures { IsKnown (setting_of N.table N.base) self.now }
     {
         let _ = &self.number;
     }

@@ -1,11 +1,9 @@
 //! The call with which a client starts what stands below a top.
-ghost use Rattle.std.specs.Prelude.{◌≡◌, ◌+◌, [], ◌∷◌, ◌++◌, length, IfOk, IfErr};
-ghost use Rattle.qc_event.specs.declared.event.Event.TheVariants as event;
-ghost use Rattle.qc_event.specs.History.{children};
-ghost use Rattle.qc_event.specs.Standing.{Started};
-ghost use Rattle.qc_event.specs.Starts.{Stands};
+ghost use Rattle.std.specs.Prelude.{IfOk, IfErr};
 ghost use Rattle.qc_event.specs.Tables.{setting_of};
-ghost use Rattle.qc_pass.specs.Calling.{EnteredAs, Refused};
+ghost use Rattle.qc_pass.specs.Calling.{Refused, StartsChild};
+ghost use Rattle.qc_pass.specs.Known.{IsKnown};
+ghost use Rattle.qc_pass.specs.Own.{MayStartOwn};
 ghost use Rattle.qc_pass.specs.Refusing.{against_child};
 ghost use Rattle.qc_pass.specs.Rules.{IsClient};
 
@@ -28,16 +26,13 @@ impl<N: Store> Desk<N> {
         kind: Kind,
     ) -> Result<Name, DeskNo>
         requires client { IsClient pass.old }
-        requires stands { Started pass.old.seen parent.now (λ p. Stands
-            (setting_of N.table N.base) pass.old.number p (length parent.now + 1) kind) }
-        ensures ok { IfOk result (λ n. EnteredAs (against_child parent.now)
-            (λ past ev. (n ≡ parent.now ++ (length (children past parent.now) + 1) ∷ [])
-            × (ev ≡ event.Start n kind)) pass.old pass.new) }
+        requires stands { MayStartOwn (setting_of N.table N.base) pass.old parent.now kind }
+        ensures ok { IfOk result (λ n. StartsChild parent.now kind n pass.old pass.new) }
         ensures err { IfErr result (Refused (against_child parent.now) pass.old pass.new) }
+        ensures known { IsKnown (setting_of N.table N.base) pass.new }
     {
         let mut locked = self.locked.lock(rt);
         locked.look(&self.room, pass);
-        locked.known();
         let no = locked.against_child(parent);
         let number = locked.children(parent) + 1;
         let name = parent.child(number as u32);

@@ -1,5 +1,5 @@
 //! The steps of passes at the words of a desk.
-ghost use Rattle.std.specs.Prelude.{◌≡◌, ℕ, ◌+◌, ◌<◌, [], ◌∷◌, ◌++◌, length, true, OnOk, OnErr, IsErrOf, Some};
+ghost use Rattle.std.specs.Prelude.{◌≡◌, ℕ, ◌+◌, ◌<◌, ◌≤◌, [], ◌∷◌, ◌++◌, length, true, OnOk, OnErr, IsErrOf, Some};
 ghost use Rattle.qc_event.specs.Base.{Setting};
 ghost use Rattle.qc_event.specs.History.{limit};
 ghost use Rattle.qc_event.specs.Legal.{Legal};
@@ -92,6 +92,7 @@ pub(crate) fn push(
         × (seat.new.me.0 ≡ taken (posted new.now seat.old.me.0))) }
     ensures err { OnErr result ((history.new ≡ history.old) × (seat.new.me.0 ≡ seat.old.me.0)) }
     ensures room_left { IsErrOf result Short.Room → length history.old ≡ limit }
+    ensures bounded { length history.new ≤ limit }
 {
     let count = history.len() as u64;
     history.push(new)?;

@@ -1,12 +1,12 @@
 //! Calls with which a client starts tops, makes them ready, and marks sessions.
-ghost use Rattle.std.specs.Prelude.{◌≡◌, ◌≤◌, ◌+◌, true, length, is_some, OnOk, IfOk, IfErr, []};
+ghost use Rattle.std.specs.Prelude.{◌≡◌, ◌≤◌, true, length, is_some, OnOk, IfOk, IfErr};
 ghost use Rattle.qc_event.specs.declared.event.Event.TheVariants as event;
-ghost use Rattle.qc_event.specs.declared.event.Kind.TheVariants as kind;
-ghost use Rattle.qc_event.specs.History.{Past, start, children};
+ghost use Rattle.qc_event.specs.History.{start};
 ghost use Rattle.qc_event.specs.Listed.{listed};
-ghost use Rattle.qc_event.specs.Seats as seats;
 ghost use Rattle.qc_event.specs.Standing.{Started, IsUser};
-ghost use Rattle.qc_pass.specs.Calling.{EnteredAs, Entered, Refused};
+ghost use Rattle.qc_event.specs.Tables.{setting_of};
+ghost use Rattle.qc_pass.specs.Calling.{Entered, Refused, StartsTop};
+ghost use Rattle.qc_pass.specs.Known.{IsKnown};
 ghost use Rattle.qc_pass.specs.Refusing.{against_nothing, against_ready};
 ghost use Rattle.qc_pass.specs.Rules.{IsClient};
 
@@ -31,14 +31,13 @@ impl<N: Store> Desk<N> {
         body: u32,
     ) -> Result<Name, DeskNo>
         requires client { IsClient pass.old }
-        ensures ok { IfOk result (λ n. EnteredAs against_nothing
-            (λ past ev. (n ≡ seats.top_name self.now.epoch (length (children past []) + 1))
-            × (ev ≡ event.Start n (kind.User session body))) pass.old pass.new) }
+        ensures ok { IfOk result (λ n. StartsTop self.now.epoch session body n
+            pass.old pass.new) }
         ensures err { IfErr result (Refused against_nothing pass.old pass.new) }
+        ensures known { IsKnown (setting_of N.table N.base) pass.new }
     {
         let mut locked = self.locked.lock(rt);
         locked.look(&self.room, pass);
-        locked.known();
         if locked.len() >= LIMIT {
             return Err(DeskNo::Room);
         }
@@ -66,6 +65,7 @@ impl<N: Store> Desk<N> {
             (Entered (against_ready top.now) (event.Ready top.now) pass.old pass.new) }
         ensures list { IfOk result (λ found. found.items ≡ listed pass.new.seen top.now) }
         ensures err { IfErr result (Refused (against_ready top.now) pass.old pass.new) }
+        ensures known { IsKnown (setting_of N.table N.base) pass.new }
     {
         let mut locked = self.locked.lock(rt);
         locked.look(&self.room, pass);
@@ -94,6 +94,7 @@ impl<N: Store> Desk<N> {
         ensures ok { OnOk result
             (Entered against_nothing (event.Mark by.now session) pass.old pass.new) }
         ensures err { IfErr result (Refused against_nothing pass.old pass.new) }
+        ensures known { IsKnown (setting_of N.table N.base) pass.new }
     {
         let mut locked = self.locked.lock(rt);
         locked.look(&self.room, pass);

@@ -27,7 +27,7 @@ stopped-requires-clause-own g c =
     let next = c.args.next.now in
     let first = subst (λ (q : Ask). Walk v c.start.new.pass (entry v.number (event.Start q.access kind.Access) ∷ [])) c.in_ok-ask.ensures.request c.in_ok-ask.ensures.walk in
     subst (λ (q : Ask). IsOwnAccess u.seen u.number q.access) (sym c.in_ok-ask.ensures.request)
-    (beginning.started_own (setting_of g.N.Store.table g.N.Store.base) v u next.manager next.copy next.rec next.op c.requires.client c.requires.may c.known.ensures.legal
+    (beginning.started_own (setting_of g.N.Store.table g.N.Store.base) v u next.manager next.copy next.rec next.op c.requires.client c.requires.may c.ask-asked.ensures.known.legal
     (walking.walk_on v c.start.new.pass u _ [] first (walking.of_looked c.start.new.pass u c.in-Err.ensures.err.0)))
 
 pub returns-in-Err-clause-cut : goal.returns-in-Err-clause-cut
@@ -36,6 +36,6 @@ returns-in-Err-clause-cut g c =
     let u = c.ask-asked.new.pass in
     let next = c.args.next.now in
     let first = subst (λ (q : Ask). Walk v c.start.new.pass (entry v.number (event.Start q.access kind.Access) ∷ [])) c.in_ok-ask.ensures.request c.in_ok-ask.ensures.walk in
-    beginning.stopped_unasked (setting_of g.N.Store.table g.N.Store.base) v c.stopped.new.pass next.manager next.copy next.rec next.op c.requires.client c.requires.may c.stopped.ensures.legal u c.stopped.result
+    beginning.stopped_unasked (setting_of g.N.Store.table g.N.Store.base) v c.stopped.new.pass next.manager next.copy next.rec next.op c.requires.client c.requires.may c.stopped.ensures.known.legal u c.stopped.result
     (walking.walk_on v c.start.new.pass u _ [] first (walking.of_looked c.start.new.pass u c.in-Err.ensures.err.0))
     (subst (λ (q : Ask). IsStopped u c.stopped.new.pass q.access c.stopped.result) c.in_ok-ask.ensures.request c.stopped.ensures.stopped)

@@ -30,7 +30,7 @@ returns-in_err-ask-clause-held g c = held_on c.args.pass.now c.begin.new.pass _ 
 pub returns-in_err-ask-clause-keeps : goal.returns-in_err-ask-clause-keeps
 returns-in_err-ask-clause-keeps g c =
     let next = c.args.next.now in
-    keeps.unasked (setting_of g.N.Store.table g.N.Store.base) c.args.pass.now c.begin.new.pass next.manager next.copy next.rec next.op c.requires.client c.requires.may c.begin.ensures.legal c.args.patience
+    keeps.unasked (setting_of g.N.Store.table g.N.Store.base) c.args.pass.now c.begin.new.pass next.manager next.copy next.rec next.op c.requires.client c.requires.may c.begin.ensures.known.legal c.args.patience
     _ _ (held_of c.args.courier.now) _ c.in_err-ask.ensures.cut c.requires.keeps
 
 -- IT ASKS
@@ -44,7 +44,7 @@ send-requires-clause-asked g c =
     let u = c.begin.new.pass in
     let next = c.args.next.now in
     subst (λ (q : Ask). HasAsked u.seen q) (sym c.in_ok-ask.ensures.request)
-    (ap (option_map (λ (a : Asked). a.ask)) (beginning.waits (setting_of g.N.Store.table g.N.Store.base) v u next.manager next.copy next.rec next.op c.requires.client c.requires.may c.begin.ensures.legal
+    (ap (option_map (λ (a : Asked). a.ask)) (beginning.waits (setting_of g.N.Store.table g.N.Store.base) v u next.manager next.copy next.rec next.op c.requires.client c.requires.may c.begin.ensures.known.legal
     (subst (λ (q : Ask). Walk v u (began v.number q)) c.in_ok-ask.ensures.request c.in_ok-ask.ensures.walk)).asks_it)
 
 pub returns-in_err-sent-clause-course : goal.returns-in_err-sent-clause-course
@@ -62,7 +62,7 @@ returns-in_err-sent-clause-keeps g c =
     let u = c.begin.new.pass in
     let next = c.args.next.now in
     let p = err_from_is_err_and c.from_residual-in_err-sent.result c.from_residual-in_err-sent.ensures.1 in
-    rw (p.1, p.2) (keeps.cut_short (setting_of g.N.Store.table g.N.Store.base) v c.send.new.pass next.manager next.copy next.rec next.op c.requires.client c.requires.may c.send.ensures.legal c.args.patience
+    rw (p.1, p.2) (keeps.cut_short (setting_of g.N.Store.table g.N.Store.base) v c.send.new.pass next.manager next.copy next.rec next.op c.requires.client c.requires.may c.send.ensures.known.legal c.args.patience
     (g.L.Link.view (link_of c.args.courier.now)).plan (g.L.Link.view (link_of c.send.new.courier)).plan (held_of c.args.courier.now) (held_of c.send.new.courier) c.send.ensures.plan
     u c.in_err-sent.field-0.0 (subst (λ (q : Ask). Walk v u (began v.number q)) c.in_ok-ask.ensures.request c.in_ok-ask.ensures.walk) c.in_err-sent.ensures.err c.requires.keeps)
 
@@ -74,7 +74,7 @@ finish-requires-clause-waits g c =
     let x = c.send.new.pass in
     let next = c.args.next.now in
     subst (λ (q : Ask). Waits x.seen x.number q) (sym c.in_ok-ask.ensures.request)
-    (beginning.waits (setting_of g.N.Store.table g.N.Store.base) v x next.manager next.copy next.rec next.op c.requires.client c.requires.may c.send.ensures.legal
+    (beginning.waits (setting_of g.N.Store.table g.N.Store.base) v x next.manager next.copy next.rec next.op c.requires.client c.requires.may c.send.ensures.known.legal
     (walking.walk_on v c.begin.new.pass x _ [] (subst (λ (q : Ask). Walk v c.begin.new.pass (began v.number q)) c.in_ok-ask.ensures.request c.in_ok-ask.ensures.walk) c.send.ensures.walk))
 
 pub returns-clause-course : goal.returns-clause-course
@@ -82,7 +82,7 @@ returns-clause-course g c =
     let v = c.args.pass.now in
     let x = c.send.new.pass in
     let next = c.args.next.now in
-    course.course (setting_of g.N.Store.table g.N.Store.base) v x c.finish.new.pass next.manager next.copy next.rec next.op c.requires.client c.requires.may c.finish.ensures.legal
+    course.course (setting_of g.N.Store.table g.N.Store.base) v x c.finish.new.pass next.manager next.copy next.rec next.op c.requires.client c.requires.may c.finish.ensures.known.legal
     (walking.walk_on v c.begin.new.pass x _ [] (subst (λ (q : Ask). Walk v c.begin.new.pass (began v.number q)) c.in_ok-ask.ensures.request c.in_ok-ask.ensures.walk) c.send.ensures.walk)
     c.finish.result (subst (λ (q : Ask). Ends x c.finish.new.pass q c.finish.result) c.in_ok-ask.ensures.request c.finish.ensures.ends)
 
@@ -100,7 +100,7 @@ returns-clause-keeps g c =
     let held = held_of c.args.courier.now in
     let held' = held_of c.send.new.courier in
     let on = (ends_walk x w c.in_ok-ask.ask c.finish.result c.finish.ensures.ends).1 in
-    keeps.sent (setting_of g.N.Store.table g.N.Store.base) v w next.manager next.copy next.rec next.op c.requires.client c.requires.may c.finish.ensures.legal c.args.patience
+    keeps.sent (setting_of g.N.Store.table g.N.Store.base) v w next.manager next.copy next.rec next.op c.requires.client c.requires.may c.finish.ensures.known.legal c.args.patience
     (g.L.Link.view (link_of c.args.courier.now)).plan plan' held held' c.send.ensures.plan
     x (walking.walk_on v c.begin.new.pass x _ [] (subst (λ (q : Ask). Walk v c.begin.new.pass (began v.number q)) c.in_ok-ask.ensures.request c.in_ok-ask.ensures.walk) c.send.ensures.walk)
     (on.newer, on.grown) c.in_ok-sent.sent

@@ -14,7 +14,7 @@ pub refuse-requires-clause-own : goal.refuse-requires-clause-own
 refuse-requires-clause-own g c =
     let v = c.args.pass.now in
     let u = c.refusal-first.new.pass in
-    still_own (setting_of g.N.Store.table g.N.Store.base) v u [] (walking.of_shown v u c.requires.client c.refusal-first.ensures.looked) c.known.ensures.legal c.args.ask.now.access c.requires.waits.own refl
+    still_own (setting_of g.N.Store.table g.N.Store.base) v u [] (walking.of_shown v u c.requires.client c.refusal-first.ensures.looked) c.refusal-first.ensures.known.legal c.args.ask.now.access c.requires.waits.own refl
 
 pub unreachable-requires : goal.unreachable-requires
 unreachable-requires g c =

@@ -13,11 +13,11 @@ use Rattle.qc_carry.proofs.finish.lose.Goals as goal
 
 pub miss-requires-clause-own : goal.miss-requires-clause-own
 miss-requires-clause-own g c =
-    still_own (setting_of g.N.Store.table g.N.Store.base) c.args.pass.now c.give_up.new.pass _ c.in_ok-give_up.ensures.ok c.give_up.ensures.legal c.args.ask.now.access c.requires.waits.own refl
+    still_own (setting_of g.N.Store.table g.N.Store.base) c.args.pass.now c.give_up.new.pass _ c.in_ok-give_up.ensures.ok c.give_up.ensures.known.legal c.args.ask.now.access c.requires.waits.own refl
 
 pub miss-requires-clause-missed : goal.miss-requires-clause-missed
 miss-requires-clause-missed g c =
-    missed_gone (setting_of g.N.Store.table g.N.Store.base) c.args.pass.now c.give_up.new.pass c.args.ask.now c.args.why c.requires.waits c.give_up.ensures.legal c.in_ok-give_up.ensures.ok
+    missed_gone (setting_of g.N.Store.table g.N.Store.base) c.args.pass.now c.give_up.new.pass c.args.ask.now c.args.why c.requires.waits c.give_up.ensures.known.legal c.in_ok-give_up.ensures.ok
 
 pub returns-in_err-miss-clause-ends : goal.returns-in_err-miss-clause-ends
 returns-in_err-miss-clause-ends g c =

@@ -15,7 +15,7 @@ miss-requires-clause-missed g c = missed_refused c.args.pass.now.seen c.args.ask
 pub orphaned-requires-clause-orphan : goal.orphaned-requires-clause-orphan
 orphaned-requires-clause-orphan g c =
     let seen = c.args.pass.now.seen in
-    refused_orphan (setting_of g.N.Store.table g.N.Store.base) seen c.args.ask.now.access c.in-Dead.ancestor c.requires.legal
+    refused_orphan (setting_of g.N.Store.table g.N.Store.base) seen c.args.ask.now.access c.in-Dead.ancestor c.requires.known.legal
     (c.requires.first ∙ ap (λ (r : Refusal). Some r) c.in-Dead.is) c.requires.own.is_open.not_ended
 
 pub returns-in_ok-miss-in-Blocked-clause-ends : goal.returns-in_ok-miss-in-Blocked-clause-ends

@@ -14,7 +14,7 @@ pub stopped-requires-clause-own : goal.stopped-requires-clause-own
 stopped-requires-clause-own g c =
     let v = c.args.pass.now in
     let u = c.take_reply-taken.new.pass in
-    still_own (setting_of g.N.Store.table g.N.Store.base) v u [] (walking.of_looked v u c.in-Err.ensures.err.0) c.known.ensures.legal c.args.ask.now.access c.requires.waits.own refl
+    still_own (setting_of g.N.Store.table g.N.Store.base) v u [] (walking.of_looked v u c.in-Err.ensures.err.0) c.take_reply-taken.ensures.known.legal c.args.ask.now.access c.requires.waits.own refl
 
 pub returns-in-Ok-clause-ends : goal.returns-in-Ok-clause-ends
 returns-in-Ok-clause-ends g c = (

@@ -12,5 +12,5 @@ pub invariant_of-self : goal.invariant_of-self
 invariant_of-self g c =
     let line = c.args.self.now in
     let w = c.abort.new.pass in
-    let still = entered_still (setting_of g.N.Store.table g.N.Store.base) line.pass w line.client c.abort.ensures.legal (g.L.Link.view (link_of line.courier)).plan (held_of line.courier) line.patience line.torn line.held line.keeps c.abort.result (against_abort c.args.name.now) (event.End c.args.name.now (Aborts c.args.cause.now)) c.abort.ensures.ok c.abort.ensures.err refl (ends_no_access line.pass.seen c.args.name.now (Aborts c.args.cause.now) c.requires.no_access) in
-    record { client = still.0; legal = ∣ c.abort.ensures.legal ∣₁; held = still.1; keeps = still.2 }
+    let still = entered_still (setting_of g.N.Store.table g.N.Store.base) line.pass w line.client c.abort.ensures.known (g.L.Link.view (link_of line.courier)).plan (held_of line.courier) line.patience line.torn line.held line.keeps c.abort.result (against_abort c.args.name.now) (event.End c.args.name.now (Aborts c.args.cause.now)) c.abort.ensures.ok c.abort.ensures.err refl (ends_no_access line.pass.seen c.args.name.now (Aborts c.args.cause.now) c.requires.no_access) in
+    record { client = still.0; known = still.1; held = still.2; keeps = still.3 }

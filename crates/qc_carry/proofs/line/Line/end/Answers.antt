@@ -12,5 +12,5 @@ pub invariant_of-self : goal.invariant_of-self
 invariant_of-self g c =
     let line = c.args.self.now in
     let w = c.end.new.pass in
-    let still = entered_still (setting_of g.N.Store.table g.N.Store.base) line.pass w line.client c.end.ensures.legal (g.L.Link.view (link_of line.courier)).plan (held_of line.courier) line.patience line.torn line.held line.keeps c.end.result (against_commit c.args.name.now) (event.End c.args.name.now (Commits c.args.answer.now)) c.end.ensures.ok c.end.ensures.err refl (ends_no_access line.pass.seen c.args.name.now (Commits c.args.answer.now) (commits_no_access (setting_of g.N.Store.table g.N.Store.base) line.pass.seen line.pass.number c.args.name.now c.args.answer.now c.requires.may)) in
-    record { client = still.0; legal = ∣ c.end.ensures.legal ∣₁; held = still.1; keeps = still.2 }
+    let still = entered_still (setting_of g.N.Store.table g.N.Store.base) line.pass w line.client c.end.ensures.known (g.L.Link.view (link_of line.courier)).plan (held_of line.courier) line.patience line.torn line.held line.keeps c.end.result (against_commit c.args.name.now) (event.End c.args.name.now (Commits c.args.answer.now)) c.end.ensures.ok c.end.ensures.err refl (ends_no_access line.pass.seen c.args.name.now (Commits c.args.answer.now) (commits_no_access (setting_of g.N.Store.table g.N.Store.base) line.pass.seen line.pass.number c.args.name.now c.args.answer.now c.requires.may)) in
+    record { client = still.0; known = still.1; held = still.2; keeps = still.3 }

@@ -9,5 +9,5 @@ pub invariant_of-self : goal.invariant_of-self
 invariant_of-self g c =
     let line = c.args.self.now in
     let w = c.marked.new.pass in
-    let still = none_still (setting_of g.N.Store.table g.N.Store.base) line.pass w line.client c.marked.ensures.legal (g.L.Link.view (link_of line.courier)).plan (held_of line.courier) line.patience line.torn line.held line.keeps (of_shown line.pass w line.client c.marked.ensures.looked) in
-    record { client = still.0; legal = ∣ c.marked.ensures.legal ∣₁; held = still.1; keeps = still.2 }
+    let still = none_still (setting_of g.N.Store.table g.N.Store.base) line.pass w line.client c.marked.ensures.known (g.L.Link.view (link_of line.courier)).plan (held_of line.courier) line.patience line.torn line.held line.keeps (of_shown line.pass w line.client c.marked.ensures.looked) in
+    record { client = still.0; known = still.1; held = still.2; keeps = still.3 }

@@ -12,7 +12,7 @@ invariant_of-result g c =
     let v = c.args.pass in
     record {
       client = c.requires.client;
-      legal = ∣ c.known.ensures.legal ∣₁;
+      known = ∣ c.known.ensures ∣₁;
       held = subst (All (HasAsked v.seen)) (sym c.requires.none) (All-nil (HasAsked v.seen));
       keeps = keeps_at_start v.number (g.L.Link.view (link_of c.args.courier)).plan (held_of c.args.courier) c.args.patience v.seen
           (sym (c.known.ensures.mine c.requires.client.0) ∙ c.requires.fresh) c.requires.none c.requires.start;

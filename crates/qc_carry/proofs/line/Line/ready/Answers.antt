@@ -11,5 +11,5 @@ pub invariant_of-self : goal.invariant_of-self
 invariant_of-self g c =
     let line = c.args.self.now in
     let w = c.ready.new.pass in
-    let still = entered_still (setting_of g.N.Store.table g.N.Store.base) line.pass w line.client c.ready.ensures.legal (g.L.Link.view (link_of line.courier)).plan (held_of line.courier) line.patience line.torn line.held line.keeps c.ready.result (against_ready c.args.top.now) (event.Ready c.args.top.now) c.ready.ensures.ok c.ready.ensures.err refl (λ n access. (refl, refl)) in
-    record { client = still.0; legal = ∣ c.ready.ensures.legal ∣₁; held = still.1; keeps = still.2 }
+    let still = entered_still (setting_of g.N.Store.table g.N.Store.base) line.pass w line.client c.ready.ensures.known (g.L.Link.view (link_of line.courier)).plan (held_of line.courier) line.patience line.torn line.held line.keeps c.ready.result (against_ready c.args.top.now) (event.Ready c.args.top.now) c.ready.ensures.ok c.ready.ensures.err refl (λ n access. (refl, refl)) in
+    record { client = still.0; known = still.1; held = still.2; keeps = still.3 }

@@ -13,5 +13,5 @@ pub invariant_of-self : goal.invariant_of-self
 invariant_of-self g c =
     let line = c.args.self.now in
     let w = c.start_top.new.pass in
-    let still = started_still (setting_of g.N.Store.table g.N.Store.base) line.pass w line.client c.start_top.ensures.legal (g.L.Link.view (link_of line.courier)).plan (held_of line.courier) line.patience line.torn line.held line.keeps c.start_top.result against_nothing (kind.User c.args.session c.args.body) (λ n past. n ≡ top_name c.desk.result.now.epoch (length (children past []) + 1)) c.start_top.ensures.ok c.start_top.ensures.err in
-    record { client = still.0; legal = ∣ c.start_top.ensures.legal ∣₁; held = still.1; keeps = still.2 }
+    let still = started_still (setting_of g.N.Store.table g.N.Store.base) line.pass w line.client c.start_top.ensures.known (g.L.Link.view (link_of line.courier)).plan (held_of line.courier) line.patience line.torn line.held line.keeps c.start_top.result against_nothing (kind.User c.args.session c.args.body) (λ n past. n ≡ top_name c.desk.result.now.epoch (length (children past []) + 1)) c.start_top.ensures.ok c.start_top.ensures.err in
+    record { client = still.0; known = still.1; held = still.2; keeps = still.3 }

@@ -10,16 +10,16 @@ returns-clause-others g c =
     let v = c.args.self.now.pass in
     let w = c.access-carried.new.pass in
     ap (λ n. λ (e : Entry). not (e.seat == n))
-    (course.made_of (setting_of g.N.Store.table g.N.Store.base) v w c.args.manager.now c.args.copy c.args.rec c.args.op c.args.self.now.client c.requires c.access-carried.ensures.legal c.access-carried.result c.access-carried.ensures.course).1.number
+    (course.made_of (setting_of g.N.Store.table g.N.Store.base) v w c.args.manager.now c.args.copy c.args.rec c.args.op c.args.self.now.client c.requires c.access-carried.ensures.known.legal c.access-carried.result c.access-carried.ensures.course).1.number
 
 pub returns-clause-grown : goal.returns-clause-grown
 returns-clause-grown g c =
     let v = c.args.self.now.pass in
     let w = c.access-carried.new.pass in
-    course.grown (setting_of g.N.Store.table g.N.Store.base) v w c.args.manager.now c.args.copy c.args.rec c.args.op c.args.self.now.client c.requires c.access-carried.ensures.legal c.access-carried.result c.access-carried.ensures.course
+    course.grown (setting_of g.N.Store.table g.N.Store.base) v w c.args.manager.now c.args.copy c.args.rec c.args.op c.args.self.now.client c.requires c.access-carried.ensures.known.legal c.access-carried.result c.access-carried.ensures.course
 
 pub returns-clause-carried : goal.returns-clause-carried
 returns-clause-carried g c =
     let v = c.args.self.now.pass in
     let w = c.access-carried.new.pass in
-    course.carried (setting_of g.N.Store.table g.N.Store.base) v w c.args.manager.now c.args.copy c.args.rec c.args.op c.args.self.now.client c.requires c.access-carried.ensures.legal c.access-carried.result c.access-carried.ensures.course
+    course.carried (setting_of g.N.Store.table g.N.Store.base) v w c.args.manager.now c.args.copy c.args.rec c.args.op c.args.self.now.client c.requires c.access-carried.ensures.known.legal c.access-carried.result c.access-carried.ensures.course

@@ -3,6 +3,7 @@ use Rattle.qc_event.specs.History.{asked}
 use Rattle.qc_event.specs.Tables.{setting_of}
 use Rattle.qc_event.proofs.Asked.{asked_fits}
 use Rattle.qc_pass.proofs.Consulting.{asked_later, stands}
+use Rattle.qc_pass.proofs.Known.{known_again}
 use Rattle.qc_carry.proofs.Answered.{gave_later}
 use Rattle.qc_carry.proofs.way.WayPort.deliver.Goals as goal
 
@@ -11,10 +12,10 @@ serve-served-requires-clause-copy g c =
     let seen = c.args.self.now.pass.seen in
     let ask = c.args.ask.now in
     let there = stands (asked seen ask.access) ask c.requires in
-    (asked_fits (setting_of g.N.Store.table g.N.Store.base) seen ask.access (record { seat = there.0; ask = ask }) c.args.self.now.system.now.proper c.known.ensures.legal there.1).is_copy
+    (asked_fits (setting_of g.N.Store.table g.N.Store.base) seen ask.access (record { seat = there.0; ask = ask }) c.args.self.now.system.now.proper (known_again (setting_of g.N.Store.table g.N.Store.base) c.args.self.now.pass c.args.self.now.known).legal there.1).is_copy
 
 pub invariant_of-self : goal.invariant_of-self
-invariant_of-self g c = record { found = λ full. c.serve-served.ensures.room (c.is_full-self.ensures.room full) }
+invariant_of-self g c = record { found = λ full. c.serve-served.ensures.room (c.is_full-self.ensures.room full); known = ∣ c.known.ensures ∣₁ }
 
 pub returns-in-Ok-clause-may : goal.returns-in-Ok-clause-may
 returns-in-Ok-clause-may g c = λ other h. asked_later c.args.self.now.pass.seen c.serve-served.new.seer.seen other c.serve-served.ensures.seer.older h

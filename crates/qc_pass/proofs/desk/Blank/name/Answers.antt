@@ -1,6 +1,7 @@
 use Rattle.std.proofs.Common.{[], refl, sym, ap, ◌∙◌, arith}
 use Rattle.qc_event.specs.Tables.{setting_of}
 use Rattle.qc_pass.specs.Rules.{returned}
+use Rattle.qc_pass.proofs.Known.{known_at_rest}
 use Rattle.qc_pass.proofs.Rests.{new_rest}
 use Rattle.qc_pass.proofs.Moves.{returns}
 use Rattle.qc_pass.proofs.desk.Blank.name.Goals as goal
@@ -19,3 +20,9 @@ invariant_of-result g c =
       sym (ap (λ m. m.count) m),
       new_rest (setting_of g.N.Store.table g.N.Store.base) 0 [] _ m ∣ tt ∣₁ refl,
     )
+
+pub returns-clause-known : goal.returns-clause-known
+returns-clause-known g c =
+    let s = c.args.self.seat_is in
+    let m = ap (λ m. m.0) c.split_seat-right.ensures.2 ∙ ap (λ m. returned m.0) s.1 in
+    known_at_rest (setting_of g.N.Store.table g.N.Store.base) _ (new_rest (setting_of g.N.Store.table g.N.Store.base) 0 [] _ m ∣ tt ∣₁ refl)

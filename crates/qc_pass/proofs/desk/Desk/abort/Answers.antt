@@ -1,5 +1,3 @@
-use Rattle.std.proofs.Common.{◌∙◌, subst}
-use Rattle.qc_event.specs.Legal.{Legal}
 use Rattle.qc_event.specs.Tables.{setting_of}
 use Rattle.qc_event.specs.declared.event.Event.TheVariants as event
 use Rattle.qc_event.specs.declared.event.How.TheVariants.{Abort}
@@ -13,6 +11,6 @@ enter-requires-clause-allowed g c none =
     let setting = setting_of g.N.Store.table g.N.Store.base in
     let l = c.look.ensures in
     let s = l.since c.requires.client.0 in
-    let legal = subst (Legal setting) (c.deref.ensures ∙ l.same.0) c.known.ensures.legal in
-    after_look setting (event.End c.args.name.now (Abort c.args.cause.now)) (against_abort c.args.name.now) _ _ _ _ c.args.pass.now _ c.against_abort-no.result l.same c.deref-2.ensures c.deref_mut-2.ensures.value c.against_abort-no.ensures
+    let legal = l.history.legal in
+    after_look setting (event.End c.args.name.now (Abort c.args.cause.now)) (against_abort c.args.name.now) _ _ _ _ c.args.pass.now _ c.against_abort-no.result l.same c.deref.ensures c.deref_mut-2.ensures.value c.against_abort-no.ensures
     (abort_allowed setting c.args.pass.now.number c.args.pass.now.seen _ c.args.name.now c.args.cause.now legal s (client c.args.pass.now c.requires.client) c.requires.licensed) none

@@ -1,6 +1,5 @@
-use Rattle.std.proofs.Common.{refl, ◌∙◌, subst}
+use Rattle.std.proofs.Common.{refl, ◌∙◌}
 use Rattle.std.specs.Prelude.{None}
-use Rattle.qc_event.specs.Legal.{Legal}
 use Rattle.qc_event.specs.Tables.{setting_of}
 use Rattle.qc_event.specs.declared.event.Event.TheVariants as event
 use Rattle.qc_pass.specs.Refusing.{against_nothing}
@@ -15,7 +14,7 @@ enter-answer-requires-clause-allowed g c none =
     let k = c.look-2.ensures in
     let same = k.same.0 ∙ c.deref_mut-2.ensures.value in
     after_look setting (event.Granted c.args.copy c.args.grant.now) against_nothing _ _ c.look.new.self _ c.args.pass.now _ None l.same refl (c.deref_mut-3.ensures.value ∙ same) refl
-    (λ _. grant_enters setting c.args.pass.now.number c.args.copy c.args.pass.now.seen _ c.args.grant.now (subst (Legal setting) (c.deref.ensures ∙ same ∙ l.same.0) c.known.ensures.legal) (l.since c.requires.live) c.requires.free) none
+    (λ _. grant_enters setting c.args.pass.now.number c.args.copy c.args.pass.now.seen _ c.args.grant.now l.history.legal (l.since c.requires.live) c.requires.free) none
 
 pub returns-clause-shown : goal.returns-clause-shown
 returns-clause-shown g c =

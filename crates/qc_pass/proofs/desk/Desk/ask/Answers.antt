@@ -1,5 +1,3 @@
-use Rattle.std.proofs.Common.{◌∙◌, subst}
-use Rattle.qc_event.specs.Legal.{Legal}
 use Rattle.qc_event.specs.Tables.{setting_of}
 use Rattle.qc_event.specs.declared.event.Event.TheVariants as event
 use Rattle.qc_pass.specs.Refusing.{against_access}
@@ -12,6 +10,6 @@ enter-requires-clause-allowed g c none =
     let setting = setting_of g.N.Store.table g.N.Store.base in
     let l = c.look.ensures in
     let s = l.since c.requires.client.0 in
-    let legal = subst (Legal setting) (c.deref.ensures ∙ l.same.0) c.known.ensures.legal in
-    after_look setting (event.Ask c.args.ask.now) (against_access c.args.ask.now.access) _ _ _ _ c.args.pass.now _ c.against_access-no.result l.same c.deref-2.ensures c.deref_mut-2.ensures.value c.against_access-no.ensures
+    let legal = l.history.legal in
+    after_look setting (event.Ask c.args.ask.now) (against_access c.args.ask.now.access) _ _ _ _ c.args.pass.now _ c.against_access-no.result l.same c.deref.ensures c.deref_mut-2.ensures.value c.against_access-no.ensures
     (λ living. ask_enters setting c.args.pass.now.number c.args.pass.now.seen _ c.args.ask.now legal s c.requires.own living) none

@@ -1,5 +1,4 @@
-use Rattle.std.proofs.Common.{◌∙◌, subst, arith}
-use Rattle.qc_event.specs.Legal.{Legal}
+use Rattle.std.proofs.Common.{arith}
 use Rattle.qc_event.specs.Tables.{setting_of}
 use Rattle.qc_event.specs.declared.event.Event.TheVariants as event
 use Rattle.qc_event.specs.declared.event.How.TheVariants.{Commit}
@@ -13,7 +12,7 @@ against_commit-no-requires-clause-below_a_top g c =
     let setting = setting_of g.N.Store.table g.N.Store.base in
     let l = c.look.ensures in
     let s = l.since c.requires.client.0 in
-    let legal = subst (Legal setting) (c.deref.ensures ∙ l.same.0) c.known.ensures.legal in
+    let legal = l.history.legal in
     (commit_room setting c.args.pass.now.number c.args.pass.now.seen _ c.args.name.now c.args.answer.now legal s c.requires.may).below_a_top
 
 pub against_commit-no-requires-clause-room : goal.against_commit-no-requires-clause-room
@@ -21,7 +20,7 @@ against_commit-no-requires-clause-room g c =
     let setting = setting_of g.N.Store.table g.N.Store.base in
     let l = c.look.ensures in
     let s = l.since c.requires.client.0 in
-    let legal = subst (Legal setting) (c.deref.ensures ∙ l.same.0) c.known.ensures.legal in
+    let legal = l.history.legal in
     let room = (commit_room setting c.args.pass.now.number c.args.pass.now.seen _ c.args.name.now c.args.answer.now legal s c.requires.may).room in
     omega (arith, room)
 
@@ -30,6 +29,6 @@ enter-requires-clause-allowed g c none =
     let setting = setting_of g.N.Store.table g.N.Store.base in
     let l = c.look.ensures in
     let s = l.since c.requires.client.0 in
-    let legal = subst (Legal setting) (c.deref.ensures ∙ l.same.0) c.known.ensures.legal in
-    after_look setting (event.End c.args.name.now (Commit c.args.answer.now)) (against_commit c.args.name.now) _ _ _ _ c.args.pass.now _ c.against_commit-no.result l.same c.deref-2.ensures c.deref_mut-2.ensures.value c.against_commit-no.ensures
+    let legal = l.history.legal in
+    after_look setting (event.End c.args.name.now (Commit c.args.answer.now)) (against_commit c.args.name.now) _ _ _ _ c.args.pass.now _ c.against_commit-no.result l.same c.deref.ensures c.deref_mut-2.ensures.value c.against_commit-no.ensures
     (λ living. commit_enters setting c.args.pass.now.number c.args.pass.now.seen _ c.args.name.now c.args.answer.now legal s (client c.args.pass.now c.requires.client) c.requires.may living) none

@@ -1,6 +1,5 @@
 use Rattle.std.proofs.Common.{refl, ◌∙◌, subst}
 use Rattle.std.specs.Prelude.{None}
-use Rattle.qc_event.specs.Legal.{Legal}
 use Rattle.qc_event.specs.Tables.{setting_of}
 use Rattle.qc_event.specs.declared.event.Answer.TheVariants as answer
 use Rattle.qc_event.specs.declared.event.Event.TheVariants as event
@@ -19,7 +18,7 @@ enter-answer-requires-clause-allowed g c none =
     let k = c.look-2.ensures in
     let same = k.same.0 ∙ c.deref_mut-2.ensures.value in
     after_look setting (event.End c.args.top.now (Commit answer.Nothing)) against_nothing _ _ c.look.new.self _ c.args.pass.now _ None l.same refl (c.deref_mut-3.ensures.value ∙ same) refl
-    (λ _. finish_allowed setting c.args.pass.now.number c.args.seer.now.seen _ c.args.pass.now.mine c.args.top.now (subst (Legal setting) (c.deref.ensures ∙ same ∙ l.same.0) c.known.ensures.legal)
+    (λ _. finish_allowed setting c.args.pass.now.number c.args.seer.now.seen _ c.args.pass.now.mine c.args.top.now l.history.legal
     (subst (IsOlder c.args.seer.now.seen) (c.deref_mut-2.ensures.value ∙ l.same.0) k.seen) c.requires.ledger.1 (l.mine c.requires.ledger.0) c.requires.ready c.requires.first) none
 
 pub returns-clause-shown : goal.returns-clause-shown

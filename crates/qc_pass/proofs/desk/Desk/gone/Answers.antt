@@ -1,6 +1,5 @@
-use Rattle.std.proofs.Common.{refl, ◌∙◌, subst}
+use Rattle.std.proofs.Common.{refl}
 use Rattle.std.specs.Prelude.{None}
-use Rattle.qc_event.specs.Legal.{Legal}
 use Rattle.qc_event.specs.Tables.{setting_of}
 use Rattle.qc_event.specs.declared.event.Event.TheVariants as event
 use Rattle.qc_pass.specs.Refusing.{against_nothing}
@@ -13,6 +12,6 @@ enter-requires-clause-allowed g c none =
     let setting = setting_of g.N.Store.table g.N.Store.base in
     let l = c.look.ensures in
     let s = l.since c.requires.client.0 in
-    let legal = subst (Legal setting) (c.deref.ensures ∙ l.same.0) c.known.ensures.legal in
-    after_look setting (event.Gone c.args.access.now c.args.why) against_nothing _ _ _ _ c.args.pass.now _ None l.same c.deref.ensures c.deref_mut-2.ensures.value refl
+    let legal = l.history.legal in
+    after_look setting (event.Gone c.args.access.now c.args.why) against_nothing _ _ c.look.new.self _ c.args.pass.now _ None l.same refl c.deref_mut-2.ensures.value refl
     (λ living. gone_enters setting c.args.pass.now.number c.args.pass.now.seen _ c.args.access.now c.args.why legal s c.requires.own c.requires.may) none

@@ -3,6 +3,7 @@ use Rattle.std.proofs.Common.{◌≡◌, ◌+◌, ◌<◌, ◌≤◌, [], refl, 
 use Rattle.qc_pass.specs.declared.view.View.{View}
 use Rattle.qc_pass.specs.Entries.{IsLegal, entries_of}
 use Rattle.qc_pass.specs.Rules.{IsAtRest, IsNewTo, counted, gave, given}
+use Rattle.qc_pass.proofs.Known.{known_at_rest}
 use Rattle.qc_pass.proofs.Numbers.{counts, gives, unused}
 use Rattle.qc_pass.proofs.Rests.{new_rest}
 use Rattle.qc_pass.proofs.desk.Desk.split.Goals as goal
@@ -75,3 +76,13 @@ invariant_of-pass-2 g c =
       i.3 ∙ sym (ap (λ m. m.count) n),
       subst (IsAtRest (setting_of g.N.Store.table g.N.Store.base)) (sym n) (i.4.0, i.4.1, refl, i.4.3, i.4.4, i.4.5, i.4.6, i.4.7),
     )
+
+pub returns-clause-known : goal.returns-clause-known
+returns-clause-known g c =
+    let setting = setting_of g.N.Store.table g.N.Store.base in
+    (known_at_rest setting _ (invariant_of-pass-2 g c).4, known_at_rest setting _ (invariant_of-result-2 g c).4)
+
+pub returns-then-pass-lt-LOW-clause-known : goal.returns-then-pass-lt-LOW-clause-known
+returns-then-pass-lt-LOW-clause-known g c =
+    let setting = setting_of g.N.Store.table g.N.Store.base in
+    (known_at_rest setting _ (invariant_of-pass g c).4, known_at_rest setting _ (invariant_of-result g c).4)

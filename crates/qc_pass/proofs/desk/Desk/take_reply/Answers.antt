@@ -1,5 +1,3 @@
-use Rattle.std.proofs.Common.{◌∙◌, subst}
-use Rattle.qc_event.specs.Legal.{Legal}
 use Rattle.qc_event.specs.Tables.{setting_of}
 use Rattle.qc_event.specs.declared.event.Answer.TheVariants as answer
 use Rattle.qc_event.specs.declared.event.Event.TheVariants as event
@@ -14,6 +12,6 @@ enter-requires-clause-allowed g c none =
     let setting = setting_of g.N.Store.table g.N.Store.base in
     let l = c.look.ensures in
     let s = l.since c.requires.client.0 in
-    let legal = subst (Legal setting) (c.deref.ensures ∙ l.same.0) c.known.ensures.legal in
-    after_look setting (event.End c.args.access.now (Commit (answer.Reply c.args.tuple.now))) (against_access c.args.access.now) _ _ _ _ c.args.pass.now _ c.against_access-no.result l.same c.deref-2.ensures c.deref_mut-2.ensures.value c.against_access-no.ensures
+    let legal = l.history.legal in
+    after_look setting (event.End c.args.access.now (Commit (answer.Reply c.args.tuple.now))) (against_access c.args.access.now) _ _ _ _ c.args.pass.now _ c.against_access-no.result l.same c.deref.ensures c.deref_mut-2.ensures.value c.against_access-no.ensures
     (λ living. reply_enters setting c.args.pass.now.number c.args.pass.now.seen _ c.args.access.now c.args.tuple.now legal s c.requires.own c.requires.may living) none

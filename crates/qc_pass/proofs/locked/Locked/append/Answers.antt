@@ -8,6 +8,7 @@ use Rattle.qc_pass.specs.declared.view.View.{View}
 use Rattle.qc_pass.specs.Entries.{entry, AreCounted}
 use Rattle.qc_pass.proofs.Counting.{counted_after}
 use Rattle.qc_pass.specs.Rules.{ruler, IsHeld, extends}
+use Rattle.qc_pass.proofs.Known.{known_at_rest}
 use Rattle.qc_pass.proofs.Rests.{held_after, own_after, held_lent, rest_after}
 use Rattle.qc_pass.proofs.locked.Locked.append.Goals as goal
 
@@ -21,7 +22,7 @@ invariant_of-self g c =
     let may : Allowed (setting_of g.N.Store.table g.N.Store.base) c.self.inside.history (entry c.pass.inside.number c.args.event) = subst (λ n. Allowed (setting_of g.N.Store.table g.N.Store.base) c.self.inside.history (entry n c.args.event)) (sym i.2) (subst (λ (x : List Entry × View). Allowed (setting_of g.N.Store.table g.N.Store.base) x.0 (entry x.1.number c.args.event)) (λ k. (sym c.self.view_is k, sym c.pass.view_is k)) c.requires.allowed) in
     let live = ap (λ m. m.0.live) l.seat ∙ ap (λ (m : View). m.live) c.pass.view_is ∙ c.requires.live in
     let held : IsHeld (setting_of g.N.Store.table g.N.Store.base) c.push-answer.new.history c.push-answer.new.seat.me.0 = held_after (setting_of g.N.Store.table g.N.Store.base) _ _ _ _ _ _ own live may p.ok p.err (held_lent (setting_of g.N.Store.table g.N.Store.base) _ _ _ _ i.4 s.2 (ap (λ m. m.0) s.1) (ap (λ m. m.0) l.seat) l.mine l.kin l.apart) in
-    (c.give_back.ensures.room.1 ∙ p.seat.0 ∙ l.room.0 ∙ i.0, c.give_back.ensures.right ∙ ap (λ l. (ruler l, [])) held.1, held.4, counted_after _ _ _ _ _ _ _ _ p.ok p.err s.3 (subst (λ (n : ℕ). AreCounted c.self.inside.history → AreCounted (entry n c.args.event ∷ c.self.inside.history)) (sym i.2) (subst (λ (x : List Entry × View). AreCounted x.0 → AreCounted (entry x.1.number c.args.event ∷ x.0)) (λ k. (sym c.self.view_is k, sym c.pass.view_is k)) c.requires.counted)))
+    (c.give_back.ensures.room.1 ∙ p.seat.0 ∙ l.room.0 ∙ i.0, c.give_back.ensures.right ∙ ap (λ l. (ruler l, [])) held.1, held.4, counted_after _ _ _ _ _ _ _ _ p.ok p.err s.3 (subst (λ (n : ℕ). AreCounted c.self.inside.history → AreCounted (entry n c.args.event ∷ c.self.inside.history)) (sym i.2) (subst (λ (x : List Entry × View). AreCounted x.0 → AreCounted (entry x.1.number c.args.event ∷ x.0)) (λ k. (sym c.self.view_is k, sym c.pass.view_is k)) c.requires.counted)), p.bounded)
 
 pub invariant_of-pass : goal.invariant_of-pass
 invariant_of-pass g c =
@@ -49,3 +50,6 @@ push-answer-requires-clause-legal g c =
     let i = c.pass.invariant in
     let may : Allowed (setting_of g.N.Store.table g.N.Store.base) c.self.inside.history (entry c.pass.inside.number c.args.event) = subst (λ n. Allowed (setting_of g.N.Store.table g.N.Store.base) c.self.inside.history (entry n c.args.event)) (sym i.2) (subst (λ (x : List Entry × View). Allowed (setting_of g.N.Store.table g.N.Store.base) x.0 (entry x.1.number c.args.event)) (λ k. (sym c.self.view_is k, sym c.pass.view_is k)) c.requires.allowed) in
     (setting_of g.N.Store.table g.N.Store.base, (legal_again (setting_of g.N.Store.table g.N.Store.base) c.self.inside.history c.self.invariant.2, may))
+
+pub returns-clause-known : goal.returns-clause-known
+returns-clause-known g c = known_at_rest (setting_of g.N.Store.table g.N.Store.base) _ (invariant_of-pass g c).4

@@ -9,7 +9,7 @@ use Rattle.qc_pass.proofs.locked.Locked.consult.Goals as goal
 pub consult_locks-verdict-requires : goal.consult_locks-verdict-requires
 consult_locks-verdict-requires g c =
     let setting = setting_of g.N.Store.table g.N.Store.base in
-    let r = ready setting c.args.self.now c.look.new.self c.args.pass.now c.look.new.pass c.args.ask.now c.args.locks.now c.requires.copy.1 c.known.ensures.legal c.requires.asked (c.look.ensures.since c.requires.copy.0) c.look.ensures.same c.requires.follows in
+    let r = ready setting c.args.self.now c.look.new.self c.args.pass.now c.look.new.pass c.args.ask.now c.args.locks.now c.requires.copy.1 c.look.ensures.history.legal c.requires.asked (c.look.ensures.since c.requires.copy.0) c.look.ensures.same c.requires.follows in
     within setting c.look.new.self c.args.ask.now r.has c.requires.proper r.legal c.args.locks.now c.requires.start
 
 pub returns-in-Some-clause-follows : goal.returns-in-Some-clause-follows
@@ -17,7 +17,7 @@ returns-in-Some-clause-follows g c =
     let setting = setting_of g.N.Store.table g.N.Store.base in
     let h = c.look.new.self in
     let ask = c.args.ask.now in
-    let r = ready setting c.args.self.now h c.args.pass.now c.look.new.pass ask c.args.locks.now c.requires.copy.1 c.known.ensures.legal c.requires.asked (c.look.ensures.since c.requires.copy.0) c.look.ensures.same c.requires.follows in
+    let r = ready setting c.args.self.now h c.args.pass.now c.look.new.pass ask c.args.locks.now c.requires.copy.1 c.look.ensures.history.legal c.requires.asked (c.look.ensures.since c.requires.copy.0) c.look.ensures.same c.requires.follows in
     follows_still setting h c.args.pass.now c.look.new.pass ask c.args.locks.now r c.args.locks.now r.follows
 
 pub returns-in_default-refusal_of-clause-told : goal.returns-in_default-refusal_of-clause-told
@@ -25,7 +25,7 @@ returns-in_default-refusal_of-clause-told g c =
     let setting = setting_of g.N.Store.table g.N.Store.base in
     let h = c.look.new.self in
     let ask = c.args.ask.now in
-    let r = ready setting c.args.self.now h c.args.pass.now c.look.new.pass ask c.args.locks.now c.requires.copy.1 c.known.ensures.legal c.requires.asked (c.look.ensures.since c.requires.copy.0) c.look.ensures.same c.requires.follows in
+    let r = ready setting c.args.self.now h c.args.pass.now c.look.new.pass ask c.args.locks.now c.requires.copy.1 c.look.ensures.history.legal c.requires.asked (c.look.ensures.since c.requires.copy.0) c.look.ensures.same c.requires.follows in
     let said = c.consult_locks-verdict.ensures.verdict h (grants h ask.copy) refl r.follows in
     let seen = ap (λ (x : View). x.seen) r.is in (
       ap (λ p. granted_before p ask) seen ∙ sym c.granted.ensures ∙ c.in_default.is,
@@ -39,7 +39,7 @@ returns-in_default-refusal_of-clause-follows g c =
     let setting = setting_of g.N.Store.table g.N.Store.base in
     let h = c.look.new.self in
     let ask = c.args.ask.now in
-    let r = ready setting c.args.self.now h c.args.pass.now c.look.new.pass ask c.args.locks.now c.requires.copy.1 c.known.ensures.legal c.requires.asked (c.look.ensures.since c.requires.copy.0) c.look.ensures.same c.requires.follows in
+    let r = ready setting c.args.self.now h c.args.pass.now c.look.new.pass ask c.args.locks.now c.requires.copy.1 c.look.ensures.history.legal c.requires.asked (c.look.ensures.since c.requires.copy.0) c.look.ensures.same c.requires.follows in
     follows_still setting h c.args.pass.now c.look.new.pass ask c.args.locks.now r c.consult_locks-verdict.new.locks (c.consult_locks-verdict.ensures.follows h (grants h ask.copy) refl r.follows)
 
 pub enter-requires-clause-allowed : goal.enter-requires-clause-allowed
@@ -47,7 +47,7 @@ enter-requires-clause-allowed g c = λ none.
     let setting = setting_of g.N.Store.table g.N.Store.base in
     let h = c.look.new.self in
     let ask = c.args.ask.now in
-    let r = ready setting c.args.self.now h c.args.pass.now c.look.new.pass ask c.args.locks.now c.requires.copy.1 c.known.ensures.legal c.requires.asked (c.look.ensures.since c.requires.copy.0) c.look.ensures.same c.requires.follows in
+    let r = ready setting c.args.self.now h c.args.pass.now c.look.new.pass ask c.args.locks.now c.requires.copy.1 c.look.ensures.history.legal c.requires.asked (c.look.ensures.since c.requires.copy.0) c.look.ensures.same c.requires.follows in
     let said = c.consult_locks-verdict.ensures.verdict h (grants h ask.copy) refl r.follows in
     refusal_allowed setting h ask r.has c.look.new.pass.number c.in-Some-refusal_of.refusal (ap (λ (x : View). x.number) r.is ∙ c.requires.copy.1)
     (has_reason setting h ask c.consult_locks-verdict.result c.in-Some-refusal_of.refusal (sym c.refusal_of.ensures ∙ c.in-Some-refusal_of.is)
@@ -58,7 +58,7 @@ returns-in_err-enter-clause-follows g c =
     let setting = setting_of g.N.Store.table g.N.Store.base in
     let h = c.look.new.self in
     let ask = c.args.ask.now in
-    let r = ready setting c.args.self.now h c.args.pass.now c.look.new.pass ask c.args.locks.now c.requires.copy.1 c.known.ensures.legal c.requires.asked (c.look.ensures.since c.requires.copy.0) c.look.ensures.same c.requires.follows in
+    let r = ready setting c.args.self.now h c.args.pass.now c.look.new.pass ask c.args.locks.now c.requires.copy.1 c.look.ensures.history.legal c.requires.asked (c.look.ensures.since c.requires.copy.0) c.look.ensures.same c.requires.follows in
     follows_wanting setting h c.args.pass.now c.look.new.pass ask c.args.locks.now r c.consult_locks-verdict.new.locks c.enter.new.self c.enter.new.pass (c.consult_locks-verdict.ensures.follows h (grants h ask.copy) refl r.follows) c.in_err-enter.ensures.err.0
 
 pub returns-clause-told : goal.returns-clause-told
@@ -66,7 +66,7 @@ returns-clause-told g c =
     let setting = setting_of g.N.Store.table g.N.Store.base in
     let h = c.look.new.self in
     let ask = c.args.ask.now in
-    let r = ready setting c.args.self.now h c.args.pass.now c.look.new.pass ask c.args.locks.now c.requires.copy.1 c.known.ensures.legal c.requires.asked (c.look.ensures.since c.requires.copy.0) c.look.ensures.same c.requires.follows in
+    let r = ready setting c.args.self.now h c.args.pass.now c.look.new.pass ask c.args.locks.now c.requires.copy.1 c.look.ensures.history.legal c.requires.asked (c.look.ensures.since c.requires.copy.0) c.look.ensures.same c.requires.follows in
     let said = c.consult_locks-verdict.ensures.verdict h (grants h ask.copy) refl r.follows in
     let some = sym c.refusal_of.ensures ∙ c.in-Some-refusal_of.is in
     let reason = has_reason setting h ask c.consult_locks-verdict.result c.in-Some-refusal_of.refusal some
@@ -82,5 +82,5 @@ returns-clause-follows g c =
     let setting = setting_of g.N.Store.table g.N.Store.base in
     let h = c.look.new.self in
     let ask = c.args.ask.now in
-    let r = ready setting c.args.self.now h c.args.pass.now c.look.new.pass ask c.args.locks.now c.requires.copy.1 c.known.ensures.legal c.requires.asked (c.look.ensures.since c.requires.copy.0) c.look.ensures.same c.requires.follows in
+    let r = ready setting c.args.self.now h c.args.pass.now c.look.new.pass ask c.args.locks.now c.requires.copy.1 c.look.ensures.history.legal c.requires.asked (c.look.ensures.since c.requires.copy.0) c.look.ensures.same c.requires.follows in
     follows_entered setting h c.args.pass.now c.look.new.pass ask c.args.locks.now r c.consult_locks-verdict.new.locks c.enter.new.self c.enter.new.pass c.in-Some-refusal_of.refusal (c.consult_locks-verdict.ensures.follows h (grants h ask.copy) refl r.follows) c.in_ok-enter.ensures.ok.1

@@ -1,6 +1,7 @@
 use Rattle.std.proofs.Common.{◌<◌, ◌≤◌, sym, ap, ◌∙◌, subst, arith}
 use Rattle.qc_event.specs.Tables.{setting_of}
 use Rattle.qc_pass.specs.Rules.{AreApart}
+use Rattle.qc_pass.proofs.Known.{known_at_rest}
 use Rattle.qc_pass.proofs.Numbers.{joins, learns}
 use Rattle.qc_pass.proofs.Rests.{rest_joined}
 use Rattle.qc_pass.proofs.locked.Locked.join.Goals as goal
@@ -38,3 +39,6 @@ invariant_of-pass g c =
       rest_joined (setting_of g.N.Store.table g.N.Store.base) c.args.self.now c.pass.inside.seat.me.0 c.other.inside.seat.me.0 c.load.new.seat.me.0 m (ap (λ m. m.seen) v) (ap (λ m. m.seen) w ∙ c.look.ensures.same.0)
           (ap (λ m. m.live) w ∙ c.requires.other.0) (subst (λ m. AreApart m.0) (sym l.2.0) l.2.1) i.4 o.4,
     )
+
+pub returns-clause-known : goal.returns-clause-known
+returns-clause-known g c = known_at_rest (setting_of g.N.Store.table g.N.Store.base) _ (invariant_of-pass g c).4

@@ -3,6 +3,9 @@ use Rattle.qc_event.specs.Tables.{setting_of}
 use Rattle.qc_event.specs.declared.event.Entry.{Entry}
 use Rattle.qc_pass.specs.declared.view.View.{View}
 use Rattle.qc_pass.specs.Entries.{entries_of, IsSince}
+use Rattle.qc_event.proofs.LegalAgain.{legal_again}
+use Rattle.qc_pass.specs.Known.{IsDeskHistory}
+use Rattle.qc_pass.proofs.Known.{known_at_rest}
 use Rattle.qc_pass.proofs.Rests.{held_lent, rest_after}
 use Rattle.qc_pass.proofs.Since.{since}
 use Rattle.qc_pass.proofs.locked.Locked.look.Goals as goal
@@ -30,3 +33,12 @@ invariant_of-pass g c =
     let number = ap (λ m. m.0.number) b.seat ∙ ap (λ m. m.0.number) l.seat in
     let count = ap (λ m. m.0.count) b.seat ∙ ap (λ m. m.0.count) l.seat in
     (b.room.0 ∙ l.room.0 ∙ i.0, ap (λ m. m.1) b.seat ∙ ap (λ m. m.1) l.seat ∙ i.1, i.2 ∙ sym number, i.3 ∙ sym count, rest)
+
+pub returns-clause-history : goal.returns-clause-history
+returns-clause-history g c =
+    let setting = setting_of g.N.Store.table g.N.Store.base in
+    let s = c.self.invariant in
+    subst (IsDeskHistory setting) c.self.view_is (record { legal = legal_again setting c.self.inside.history s.2; counted = s.3; bounded = s.4 })
+
+pub returns-clause-known : goal.returns-clause-known
+returns-clause-known g c = known_at_rest (setting_of g.N.Store.table g.N.Store.base) _ (invariant_of-pass g c).4
