@@ -1,4 +1,4 @@
-use qc_audit::Illegal;
+use qc_check::Illegal;
 use qc_event::{Answered, Kind, Name, Outcome, Tuple, Val};
 use qc_moss::{Holder, Test};
 use qc_serial::SerialEvent;
