@@ -1,4 +1,7 @@
-ghost use Rattle.std.specs.Prelude.{◌≡◌, ◌≤◌, ◌<◌, ◌↔◌, IsTrue, IfOk, IfErr, length, sum, Some, None};
+ghost use Rattle.std.specs.Prelude.{◌==◌, ◌&&◌, ◌≡◌, ◌≤◌, ◌<◌, ◌↔◌, IsTrue, IfOk, IfErr, length, sum, Some, None};
+ghost use Rattle.std.proofs.Common.{rules};
+ghost use Rattle.std.specs.Cmp.Lexicographic.{pointwise};
+ghost use Rattle.std.specs.Cmp.Rules.{comparing};
 ghost use Rattle.qc_config.specs.Copies as copies;
 ghost use Rattle.qc_config.specs.Config as config;
 
@@ -50,6 +53,22 @@ impl Model for Config {
     ghost inverse = { λ v. record { votes = v.votes ++ replicate (16 - length v.votes) 0; count = length v.votes; read = v.read; write = v.write } };
 
     ghost inverse_ok = { λ a h. λ i. record { votes = front_padded a.count a.votes h.0 h.1 h.2 i; count = front_length a.count a.votes h.0 h.1 i; read = a.read; write = a.write } };
+}
+
+impl PartialEq for Config {
+    ghost eq = { λ a b. pointwise ◌==◌ a.votes b.votes && (a.read == b.read) && (a.write == b.write) };
+
+    ghost laws = { Prim.search (comparing, rules) };
+
+    fn eq(&self, other: &Self) -> bool {
+        self.votes[..self.count()] == other.votes[..other.count()]
+            && self.read == other.read
+            && self.write == other.write
+    }
+}
+
+impl Eq for Config {
+    ghost laws = { Prim.search (comparing, rules) };
 }
 
 impl fmt::Debug for Config {

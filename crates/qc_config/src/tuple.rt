@@ -8,7 +8,7 @@ pub type Val = u64;
 
 /// What a copy keeps of a record: its value with a version number, and the configuration that the
 /// copy knows with a generation number (Gifford's versioned copies).
-#[derive(Clone, Copy, Debug)]
+#[derive(Clone, Copy, PartialEq, Eq, Debug)]
 pub struct Tuple {
     pub version: u64,
     pub value: Val,
@@ -17,7 +17,7 @@ pub struct Tuple {
 }
 
 /// What an access does at a copy.
-#[derive(Clone, Copy, Debug)]
+#[derive(Clone, Copy, PartialEq, Eq, Debug)]
 pub enum Op {
     Get,
     PutData { version: u64, value: Val },

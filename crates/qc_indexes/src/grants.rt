@@ -7,7 +7,6 @@ ghost use Rattle.qc_indexes.specs.Grants.{AreGrants, Differs, HasSpare, granted_
 
 use crate::lists::append;
 use qc_event::{Entry, Event, Grant};
-use qc_scan::{same_name, same_op, same_tuple};
 use qc_trail::Trail;
 use std::alloc::{AllocError, Global};
 
@@ -34,10 +33,7 @@ fn grant_of(entry: &Entry) -> Option<Grant>
 fn same_grant(a: &Grant, b: &Grant) -> bool
     ensures { IsTrue result ↔ (a.now ≡ b.now) }
 {
-    same_name(&a.access, &b.access)
-        && a.rec == b.rec
-        && same_op(&a.op, &b.op)
-        && same_tuple(&a.tuple, &b.tuple)
+    a.access == b.access && a.rec == b.rec && a.op == b.op && a.tuple == b.tuple
 }
 
 // The grant at an index, where another or none was given there.

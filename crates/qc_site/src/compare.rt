@@ -7,7 +7,6 @@ use crate::lists::append;
 use qc_codec::read_grant;
 use qc_event::{Grant, Op};
 use qc_journal::Body;
-use qc_scan::{same_name, same_op, same_tuple};
 use std::alloc::{AllocError, Global};
 
 // It makes the type known that a grant holds.
@@ -53,10 +52,7 @@ pub(crate) fn grant_at(grants: &[Grant], index: usize) -> Option<Grant>
 fn same_grant(a: &Grant, b: &Grant) -> bool
     ensures { IsTrue result ↔ (a.now ≡ b.now) }
 {
-    same_name(&a.access, &b.access)
-        && a.rec == b.rec
-        && same_op(&a.op, &b.op)
-        && same_tuple(&a.tuple, &b.tuple)
+    a.access == b.access && a.rec == b.rec && a.op == b.op && a.tuple == b.tuple
 }
 
 // Where grants first differ from others.

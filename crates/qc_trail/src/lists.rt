@@ -6,7 +6,6 @@ ghost use Rattle.qc_trail.specs.Told.{Apart, GoesOn, GrowsTo, IsWithin, MayTell,
 
 use crate::brief::Brief;
 use qc_event::{Answer, Ask, Event, Grant, How, Kind, Name, Op, Tuple};
-use qc_scan::same_tuple;
 use std::alloc::{AllocError, Global};
 use std::marker::Model;
 
@@ -203,7 +202,7 @@ impl Lists {
             × (tuple_at self.now (length self.now.tuples - 1) ≡ tuple.now) }
     {
         match self.tuples.last() {
-            Some(last) => same_tuple(last, tuple),
+            Some(last) => last == tuple,
             None => false,
         }
     }

@@ -21,7 +21,7 @@ use clients::run;
 use compared::{Compared, run_compared};
 use looks::{Told, run_looks};
 use overtaken::{Overtaken, run_overtaken};
-use qc_audit::audit;
+use qc_check::check_by_scans;
 use qc_config::Config;
 use qc_event::{Base, Entry, Event, Grant, Kind};
 use qc_pass::DeskNo;
@@ -74,7 +74,7 @@ fn tell(
     let started = entries.iter().filter(|entry| is_top(entry)).count();
     let ended = entries.iter().filter(|entry| is_end(entry)).count();
     let answers = entries.iter().filter(|entry| is_answer(entry)).count();
-    let word = match audit(base, firsts, entries) {
+    let word = match check_by_scans(base, firsts, entries) {
         Ok(()) => "legal",
         Err(_) => "not legal",
     };

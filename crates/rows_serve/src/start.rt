@@ -7,7 +7,6 @@ use qc_codec::{Past, Tops};
 use qc_config::{Config, Tuple};
 use qc_disk::HomeDisk;
 use qc_event::Base;
-use qc_scan::same_config;
 use qc_site::{Mounted, mount};
 use rows_kit::{made_of, said};
 use std::alloc::{AllocError, Global};
@@ -54,7 +53,7 @@ fn is_row(start: &[Tuple], config: &Config) -> bool
     ensures { IsTrue result → words.IsRow start.now }
 {
     match start {
-        [x, y] => same_config(&x.config, config) && same_config(&y.config, config),
+        [x, y] => x.config == *config && y.config == *config,
         _ => false,
     }
 }

@@ -1,7 +1,7 @@
 //! Runs of scripts made from random numbers, before the checker of histories and before the judge of what follows a script.
 
 use crate::command::run_text;
-use qc_audit::audit;
+use qc_check::check_by_scans;
 use qc_config::Config;
 use qc_disk::{MemDisk, MemShop};
 use qc_event::{Cause, Entry, Event, How};
@@ -58,7 +58,7 @@ impl Judged {
     pub(crate) fn is_legal(&self, alloc: Global) -> Result<bool, AllocError> {
         let firsts = firsts_of(alloc, &self.script)?;
         let entries = self.entries.as_slice();
-        Ok(audit(&self.ran.start, firsts.as_slice(), entries).is_ok())
+        Ok(check_by_scans(&self.ran.start, firsts.as_slice(), entries).is_ok())
     }
 
     /// The fault that the judge finds in a trail of the script.

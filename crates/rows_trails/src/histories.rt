@@ -5,7 +5,7 @@ ghost use Rattle.qc_event.specs.Base.{IsWithin};
 use crate::case::Case;
 use crate::told::Told;
 use crate::wrong::Wrong;
-use qc_audit::audit;
+use qc_check::check_by_scans;
 use qc_event::{Base, Entry, clear, dead, holder, kind, outcome, seen};
 use rows_text::Words;
 
@@ -84,5 +84,5 @@ pub fn records(case: &Case, words: &mut Words<'_>) -> Result<Told, Wrong> {
 /// Whether the history is legal.
 pub fn verdict(case: &Case, h: &[Entry]) -> Result<Told, Wrong> {
     let base = case.base()?;
-    Ok(Told::Verdict(audit(&base, case.firsts()?.as_slice(), h).err()))
+    Ok(Told::Verdict(check_by_scans(&base, case.firsts()?.as_slice(), h).err()))
 }

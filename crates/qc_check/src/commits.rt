@@ -1,0 +1,100 @@
+//! Who may commit, with which answer. None of these calls takes memory.
+ghost use Rattle.std.specs.Prelude.{◌≡◌, ◌↔◌, IsTrue, reverse, MatchOption};
+ghost use Rattle.qc_event.specs.declared.event.Answer.TheVariants as answer;
+ghost use Rattle.qc_event.specs.Commits as words;
+ghost use Rattle.qc_event.specs.History as history;
+ghost use Rattle.qc_event.specs.Manager as manager;
+ghost use Rattle.qc_check.specs.Parts as parts;
+
+use crate::users::may_commit_user_or_top;
+use qc_event::{Answer, Config, Entry, Kind, Name, is_client};
+use qc_scan::{
+    Begun, Setting, granted, greatest, is_asked_under, is_done, is_going, newest, open_child,
+    record_of, same_answer,
+};
+
+fn is_granted(h: &[Entry], n: &Name, given: &Answer) -> bool
+    ensures { IsTrue result ↔ MatchOption (history.granted (reverse h.now) n.now) ⊥
+        (λ g. given.now ≡ answer.Reply g.grant.tuple) }
+{
+    match granted(h, n) {
+        Some(granted) => same_answer(given, &Answer::Reply(granted.grant().tuple)),
+        None => false,
+    }
+}
+
+fn may_commit_access(h: &[Entry], seat: u32, n: &Name, given: &Answer) -> bool
+    ensures { IsTrue result ↔ words.MayCommitAccess (reverse h.now) seat n.now given.now }
+{
+    is_client(seat) && is_asked_under(h, seat, n) && is_going(h, n) && is_granted(h, n, given)
+}
+
+fn is_manager_answer(h: &[Entry], first: &Config, m: &Name, kind: &Kind, given: &Answer) -> bool
+    ensures { IsTrue result
+        ↔ (given.now ≡ words.manager_answer (reverse h.now) first.now m.now kind.now) }
+{
+    match kind {
+        Kind::Read { .. } => match given {
+            Answer::Value(value) => *value == greatest(h, m).value(),
+            _ => false,
+        },
+        Kind::Reconf { .. } => match given {
+            Answer::Generation(next) => *next > 0 && *next - 1 == newest(h, first, m).generation(),
+            _ => false,
+        },
+        _ => matches!(given, Answer::Nothing),
+    }
+}
+
+fn is_free_to_commit(h: &[Entry], seat: u32, n: &Name, begun: &Begun) -> bool
+    ensures { IsTrue result ↔ parts.IsFreeToCommit (reverse h.now) seat n.now begun.now }
+{
+    is_client(seat) && seat == begun.seat() && is_going(h, n) && open_child(h, n).is_none()
+}
+
+fn gives_answer(setting: &Setting, h: &[Entry], m: &Name, kind: &Kind, given: &Answer) -> bool
+    ensures { IsTrue result ↔ (given.now ≡ words.manager_answer (reverse h.now)
+        (manager.first_for setting.now kind.now) m.now kind.now) }
+{
+    is_manager_answer(h, &setting.first(record_of(kind)), m, kind, given)
+}
+
+fn may_commit_manager(
+    setting: &Setting,
+    h: &[Entry],
+    seat: u32,
+    n: &Name,
+    begun: &Begun,
+    given: &Answer,
+) -> bool
+    ensures { IsTrue result
+        ↔ words.MayCommitManager setting.now (reverse h.now) seat n.now begun.now given.now }
+{
+    if !is_free_to_commit(h, seat, n, begun) {
+        return false;
+    }
+    let kind = begun.kind();
+    if !is_done(setting, h, n, &kind) {
+        return false;
+    }
+    gives_answer(setting, h, n, &kind, given)
+}
+
+/// Whether a started name may commit, by its kind.
+pub fn may_commit(
+    setting: &Setting,
+    h: &[Entry],
+    seat: u32,
+    n: &Name,
+    begun: &Begun,
+    given: &Answer,
+) -> bool
+    ensures { IsTrue result ↔ words.MayCommit setting.now (reverse h.now) seat n.now begun.now
+        given.now begun.now.kind }
+{
+    match begun.kind() {
+        Kind::User { .. } => may_commit_user_or_top(h, seat, n, given),
+        Kind::Access => may_commit_access(h, seat, n, given),
+        _ => may_commit_manager(setting, h, seat, n, begun, given),
+    }
+}

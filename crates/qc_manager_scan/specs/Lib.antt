@@ -1,2 +1,0 @@
-pub mod Blocked
-pub mod Raised

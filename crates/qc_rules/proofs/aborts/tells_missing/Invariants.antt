@@ -1,8 +1,0 @@
-use Rattle.std.proofs.Common.{◌≡◌, ℕ, ◌<◌, get_or, reverse}
-use Rattle.std.specs.Prelude.{None}
-use Rattle.qc_event.specs.Manager.{missing_at}
-use Rattle.qc_rules.proofs.aborts.tells_missing.Given as goal
-
--- of the copies so far it is told why they are missing
-abbrev pub invariant-loop-copy : goal.invariant-loop-copy
-invariant-loop-copy l = (j : ℕ) → j < l.copy → get_or l.missing j None ≡ missing_at (reverse l.h) l.m l.phase j
