@@ -222,7 +222,8 @@ build() {
     # Started before the traps are set: a signal that met the traps of a new process would be lost.
     tell_progress &
     teller=$!
-    trap end_build EXIT
+    # A second signal does not cut the end short.
+    trap 'trap "" INT HUP TERM; end_build' EXIT
     trap 'exit 130' INT
     trap 'exit 143' HUP TERM
     from=$PWD
