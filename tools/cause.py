@@ -92,8 +92,8 @@ def fault_of_folder(folder):
         return f"there is no folder {folder}: make it first"
     if not os.path.isdir(folder):
         return f"{folder} is no folder"
-    if not os.access(folder, os.R_OK | os.W_OK | os.X_OK):
-        return f"there is no permission to read and write the folder {folder}"
+    if not os.access(folder, os.R_OK | os.X_OK):
+        return f"there is no permission to read the folder {folder}"
     return None
 
 
@@ -130,11 +130,13 @@ def fault_of_store(folder, asked):
     table = asked or made
     has_store = any(map(size_of, paths))
     for number, path in enumerate(paths[: table.copies + 1] if table else paths):
+        fault = None
         if os.path.lexists(path):
             fault = fault_of_file(path)
-        else:
-            is_lost = has_store and (table or not number)
-            fault = fault_of_missing(path, made, asked) if is_lost else None
+        elif has_store and (table or not number):
+            fault = fault_of_missing(path, made, asked)
+        elif not os.access(folder, os.W_OK):
+            fault = f"there is no permission to make {path}"
         if fault:
             return number, fault
     return None
@@ -159,7 +161,7 @@ def tell_table(folder):
         made = table_on(os.path.join(folder, str(number)))
         if made and not asked:
             names = ", ".join(made.records)
-            return f"the store was made for {made.copies} copies and the records {names}"
+            return f"where its table is refused: the store was made for {made.copies} copies and the records {names}"
         difference = made and made.difference(asked)
         if difference:
             return f"disk {number}: {difference}"
