@@ -268,6 +268,23 @@ whole_path() {
     esac
 }
 
+# Copies the scripts that stand behind `run` into a folder, under names in their order.
+gather_scripts() {
+    mkdir "$room/cases"
+    number=100
+    while [ $# -gt 1 ]; do
+        shift
+        case $1 in
+        --dir) shift ;;
+        -*) ;;
+        *)
+            number=$((number + 1))
+            cp "$1" "$room/cases/$number-$(basename "$1")" || exit 1
+            ;;
+        esac
+    done
+}
+
 # Runs the same program by `rt try`, which proves nothing, on the standard input or on each script that is named.
 run_unproved() {
     find_rt
@@ -275,27 +292,16 @@ run_unproved() {
     say "the run may take 60 seconds and write 1 MiB, and writes nothing before it has ended"
     room=$(mktemp -d) || exit 1
     trap 'rm -rf "$room"' EXIT
-    mkdir "$room/cases"
+    trap 'exit 130' INT
+    trap 'exit 143' HUP TERM
     if [ "$1" = run ]; then
-        number=100
-        shift
-        while [ $# -gt 0 ]; do
-            case $1 in
-            --dir) shift ;;
-            -*) ;;
-            *)
-                number=$((number + 1))
-                cp "$1" "$room/cases/$number-$(basename "$1")" || exit 1
-                ;;
-            esac
-            shift
-        done
+        gather_scripts "$@"
         set -- run
         # rt try runs in the crate's folder, so the folder of the disks is told from the root on.
         [ "$serial" ] && set -- "$@" --serial
         [ "$place" ] && set -- "$@" --dir "$(whole_path "$place")"
     fi
-    [ "$scripts" -gt 0 ] && set -- --cases "$room/cases" -- "$@" || set -- -- "$@"
+    if [ "$scripts" -gt 0 ]; then set -- --cases "$room/cases" -- "$@"; else set -- -- "$@"; fi
     (cd "$crate" && "$rt" try "$@") 2>"$room/said"
     status=$?
     if ! grep -q '^\(case=.* \)*run=ended ' "$room/said"; then
