@@ -8,12 +8,13 @@ program=$crate/out/qc_prog
 stamp=$crate/out/qc_prog.sources
 log=$crate/out/qc_prog.log
 lock=$crate/out/qc_prog.lock
+usage='usage: qc run [--dir PATH] [--serial] < SCRIPT | qc gen N'
 
 say() { printf 'qc: %s\n' "$*" >&2; }
 
 help() {
-    echo 'usage: qc run [--dir PATH] [--serial] | qc gen N'
-    cat >&2 <<'END'
+    echo "$usage"
+    cat <<'END'
 
 qc runs a script of nested transactions over replicated records, and writes a report of what each
 did. The program is proved before it is built: README.md says of what.
@@ -22,17 +23,19 @@ did. The program is proved before it is built: README.md says of what.
   ./qc run --serial < SCRIPT     one after another, so that the script alone decides the report
   ./qc run --dir P < SCRIPT      over the disks in the folder P, for a later run too, in either way
   ./qc gen N                     makes a script of the number N, runs it, and writes its last values
-  ./qc --unproved run < SCRIPT   the same before the first build is done: in about a minute, unproved
+  ./qc --unproved run < SCRIPT   the same before the first build is done, unproved
+  ./qc --unproved run SCRIPT ..  several scripts, each behind a line "== NAME"
   ./qc --help                    this page
 
 The first call proves and builds the program, which takes a while and is told here; later calls
-start at once.
+start at once. An unproved call builds anew each time, in about a minute. Its run may take 60 seconds
+and write 1 MiB, and writes nothing before it has ended.
 
 A script, examples/sets_and_reads_back.json:
 
 END
-    sed 's/^/  /' "$top/examples/sets_and_reads_back.json" >&2
-    cat >&2 <<'END'
+    sed 's/^/  /' "$top/examples/sets_and_reads_back.json"
+    cat <<'END'
 
 The other steps are ["add", R, n], ["sub", R, n], ["need", R, n], ["reconf", R, config],
 ["child", body], ["par", [body, ..]], ["abort", k], ["crash", c] and ["kill", s]. Beside "steps" a
@@ -46,6 +49,53 @@ is full; and 1 where the program could not be built.
 
 examples/ has more scripts, each with its report; docs/FORMATS.md has every step, refusal and line.
 END
+}
+
+# Words that are no command are refused before anything is built.
+refuse_words() {
+    echo "$usage"
+    say './qc --help says more'
+    exit 2
+}
+
+# Whether a word is a number as the program reads it: in digits alone, without a 0 before them, below 2^64.
+is_number() {
+    case $1 in
+    0) return 0 ;;
+    '' | 0* | *[!0-9]*) return 1 ;;
+    esac
+    [ ${#1} -lt 20 ] && return 0
+    [ ${#1} -eq 20 ] && [ "$(printf '%s\n' "$1" 18446744073709551615 | LC_ALL=C sort | head -n 1)" = "$1" ]
+}
+
+# Takes a word for the folder of the disks, where none was named before and it can be one.
+take_place() {
+    case $1 in '' | -*) return 1 ;; esac
+    [ ! "$place" ] && place=$1
+}
+
+# Whether the words are a command: `run` with its options behind it, or `gen` and a number. Behind `run` an
+# unproved call may also name scripts, whose number is told here.
+read_words() {
+    place=
+    serial=
+    scripts=0
+    case ${1-} in
+    gen) [ $# -eq 2 ] && is_number "$2" ;;
+    run)
+        while [ $# -gt 1 ]; do
+            shift
+            case $1 in
+            --serial) [ ! "$serial" ] && serial=yes || return 1 ;;
+            --dir) [ $# -gt 1 ] && shift && take_place "$1" || return 1 ;;
+            --dir=*) take_place "${1#--dir=}" || return 1 ;;
+            -*) return 1 ;;
+            *) [ "${unproved-}" ] && [ -f "$1" ] && scripts=$((scripts + 1)) || return 1 ;;
+            esac
+        done
+        ;;
+    *) return 1 ;;
+    esac
 }
 
 # The crate of the program and those that it stands on, the lowest first.
@@ -81,29 +131,35 @@ find_rt() {
     exit 1
 }
 
-# What the checker's output tells so far: the place of the crate at hand, how many there are, its name,
-# and how many functions are proved: those of the crates that are done, and of this one so far.
+# What the checker's output tells so far: how many crates there are and are proved, which one is at hand
+# where they go in turn, and how many functions are proved.
 read_log() {
     crates | awk '
         NR == FNR { place[$1] = count = NR; next }
         $1 == "rt:" && $NF in place { name = $NF }
+        $1 == "rt:" && $3 == "proved" && $2 in place { crates++ }
         $2 ~ /^qc_[a-z_]*::/ { name = $2; sub(/::.*/, "", name) }
         $1 " " $2 == "so far:" { far = $3 }
         $1 == "fn" && $NF == "proved" { done++; far = 0 }
-        END { if (name in place) print place[name], count, name, done + far }' - "$log"
+        END { if (name in place) print count, crates + 0, place[name], name, done + far }' - "$log"
 }
 
 # Tells how far the build is, until it is ended: on a terminal in one line that moves, else in a line for
-# each crate and minute.
+# each minute, and for each crate where they go in turn.
 tell_progress() {
     began=$(date +%s)
     last=
     while sleep 1 && kill -0 $$ 2>/dev/null; do
         read_log >"$log.read"
-        read -r place count name proved <"$log.read" || continue
+        read -r count done place name functions <"$log.read" || continue
         seconds=$(($(date +%s) - began))
         minutes=$((seconds / 60))
-        line="qc: crate $place of $count, $name: $proved functions checked, $minutes min $((seconds % 60)) s"
+        if [ "$done" -gt 0 ]; then
+            name="$done of $count crates proved"
+        else
+            name="crate $place of $count, $name"
+        fi
+        line="qc: $name: $functions functions checked, $minutes min $((seconds % 60)) s"
         if [ -t 2 ]; then
             printf '\r%-78s' "$line" >&2
         elif [ "$name $minutes" != "$last" ]; then
@@ -114,23 +170,65 @@ tell_progress() {
 }
 
 end_build() {
+    [ "${prover-}" ] && kill "$prover" 2>/dev/null
     kill "$teller" 2>/dev/null && wait "$teller" 2>/dev/null
     [ -t 2 ] && printf '\r%-78s\r' '' >&2
+    rm -rf "${stage:-$log.read}"
     rm -f "$lock" "$log.read"
 }
+
+# Whether earlier checks kept their work on most of the crates, so that few are left to be checked.
+is_kept() {
+    kept=0
+    missing=0
+    for name in $(crates); do
+        if [ -d "$top/crates/$name/out/incremental" ]; then kept=$((kept + 1)); else missing=$((missing + 1)); fi
+    done
+    [ "$kept" -gt "$missing" ]
+}
+
+# Waits for the prover, so that a signal ends it.
+prove() {
+    "$@" </dev/null >>"$log" 2>&1 &
+    prover=$!
+    wait "$prover"
+    proved=$?
+    prover=
+    return "$proved"
+}
+
+# From nothing. `rt ci` proves crates side by side, those first that most others wait for, and gives what stands
+# alone all processors. It does so for the program's crates alone, in a folder of their own.
+prove_all() {
+    stage=$(mktemp -d "${TMPDIR:-/tmp}/qc-build.XXXXXX") || return 1
+    for name in $(crates); do
+        mkdir -p "$stage/crates/$name" && for part in src specs proofs stdin stdout args status; do
+            [ ! -e "$top/crates/$name/$part" ] || cp -R "$top/crates/$name/$part" "$stage/crates/$name/"
+        done
+        grep -E "^$name *(:| )" "$top/crates.txt" >>"$stage/crates.txt"
+    done
+    cp "$top/HANDLES" "$stage/"
+    cd "$stage" && prove "$rt" ci && cp "$stage/crates/qc_prog/out/qc_prog" "$program"
+}
+
+# Over what earlier checks kept. These words are no command, so the new program ends at once with its usage line.
+prove_changed() { cd "$crate" && prove "$rt" run -- build; }
 
 build() {
     say "proving and building the program; ./qc --unproved answers meanwhile"
     rm -f "$program" "$stamp"
     : >"$log"
+    stage=
     # Started before the traps are set: a signal that met the traps of a new process would be lost.
     tell_progress &
     teller=$!
-    trap end_build EXIT
+    # A second signal does not cut the end short.
+    trap 'trap "" INT HUP TERM; end_build' EXIT
     trap 'exit 130' INT
     trap 'exit 143' HUP TERM
-    # These words are no command, so the new program ends at once with its usage line.
-    (cd "$crate" && "$rt" run -- build) </dev/null >>"$log" 2>&1
+    from=$PWD
+    if is_kept; then prove_changed; else prove_all; fi
+    cd "$from" || exit 1
     # The stamp is there before the lock is gone, so who waits finds the program built.
     [ -x "$program" ] && printf '%s\n' "$now" >"$stamp"
     trap - EXIT INT HUP TERM
@@ -162,43 +260,87 @@ build_once() {
     done
 }
 
-# Runs the same program by `rt try`, which proves nothing.
+# A path from the root on.
+whole_path() {
+    case $1 in
+    /*) printf '%s\n' "$1" ;;
+    *) printf '%s\n' "$PWD/$1" ;;
+    esac
+}
+
+# Copies the scripts that stand behind `run` into a folder, under names in their order.
+gather_scripts() {
+    mkdir "$room/cases"
+    number=100
+    while [ $# -gt 1 ]; do
+        shift
+        case $1 in
+        --dir) shift ;;
+        -*) ;;
+        *)
+            number=$((number + 1))
+            cp "$1" "$room/cases/$number-$(basename "$1")" || exit 1
+            ;;
+        esac
+    done
+}
+
+# Runs the same program by `rt try`, which proves nothing, on the standard input or on each script that is named.
 run_unproved() {
     find_rt
-    say "nothing is proved of this run: rt try builds the program and checks it as it runs"
-    said=$(mktemp) || exit 1
-    trap 'rm -f "$said"' EXIT
-    # rt try runs in the crate's folder, so the folder of --dir is told from the root on.
-    before=
-    for word in "$@"; do
-        shift
-        case $before:$word in
-            --dir:/* | --dir:) ;;
-            --dir:*) word=$PWD/$word ;;
-            *:--dir=/* | *:--dir=) ;;
-            *:--dir=*) word=--dir=$PWD/${word#--dir=} ;;
-        esac
-        set -- "$@" "$word"
-        before=$word
-    done
-    (cd "$crate" && "$rt" try -- "$@") 2>"$said"
+    say "nothing is proved of this run: rt try builds the program anew in each call, which takes about a minute;"
+    say "the run may take 60 seconds and write 1 MiB, and writes nothing before it has ended"
+    room=$(mktemp -d) || exit 1
+    trap 'rm -rf "$room"' EXIT
+    trap 'exit 130' INT
+    trap 'exit 143' HUP TERM
+    if [ "$1" = run ]; then
+        gather_scripts "$@"
+        set -- run
+        # rt try runs in the crate's folder, so the folder of the disks is told from the root on.
+        [ "$serial" ] && set -- "$@" --serial
+        [ "$place" ] && set -- "$@" --dir "$(whole_path "$place")"
+    fi
+    if [ "$scripts" -gt 0 ]; then set -- --cases "$room/cases" -- "$@"; else set -- -- "$@"; fi
+    (cd "$crate" && "$rt" try "$@") 2>"$room/said"
     status=$?
-    if ! grep -q '^run=ended ' "$said"; then
-        cat "$said" >&2
+    if ! grep -q '^\(case=.* \)*run=ended ' "$room/said"; then
+        cat "$room/said" >&2
         say "rt try gave no answer"
         exit 1
     fi
+    [ "$scripts" -gt 0 ] && tell_cases
     return "$status"
 }
 
-# Where the script is a file, says where in it the refused place is.
+# Of each script of an unproved call how it ended, and where it is refused.
+tell_cases() {
+    sed -n 's/^case=\(.*\) run=ended status=\([0-9]*\) .*/\2 \1/p' "$room/said" | while read -r ended name; do
+        [ "$ended" = 0 ] || say "$name ended with status $ended"
+        [ "$ended" != 3 ] || tell_place "$room/cases/$name"
+    done
+    # The status is the first that is not 0.
+    found=$(sed -n 's/^case=.* run=ended status=\([0-9]*\) .*/\1/p' "$room/said" | grep -vx 0 | head -n 1)
+    [ "$status" != 0 ] || status=${found:-0}
+}
+
+# Says where in a script the refused place is.
 tell_place() {
-    [ -f /dev/stdin ] && command -v python3 >/dev/null || return
-    python3 "$top/tools/place.py" </dev/stdin
+    command -v python3 >/dev/null && python3 "$top/tools/place.py" <"$1"
+}
+
+# Says why a disk failed or was refused, as far as a look at the folder tells, and at the script where it is a file.
+tell_cause() {
+    command -v python3 >/dev/null || return
+    if [ -f /dev/stdin ]; then
+        python3 "$top/tools/cause.py" "$1" "$place" </dev/stdin
+    else
+        python3 "$top/tools/cause.py" "$1" "$place" </dev/null
+    fi
 }
 
 run() {
-    if [ "${unproved-}" ] && ! is_built; then
+    if [ "${unproved-}" ] && { [ "$scripts" -gt 0 ] || ! is_built; }; then
         run_unproved "$@"
     else
         [ "${unproved-}" ] && say "the proved program is built, and runs"
@@ -206,7 +348,9 @@ run() {
         "$program" "$@"
     fi
     status=$?
-    [ "$status" = 3 ] && tell_place
+    # Of a script that comes through a pipe nothing is left to look at.
+    [ "$status" = 3 ] && [ "$scripts" = 0 ] && [ -f /dev/stdin ] && tell_place /dev/stdin
+    case $status in 6 | 7) [ "$place" ] && tell_cause "$status" ;; esac
     exit "$status"
 }
 
@@ -214,10 +358,13 @@ if [ "${1-}" = --unproved ]; then
     unproved=yes
     shift
 fi
-case ${1-help} in
--h | --help | help)
+case ${1-} in
+-h | --help)
+    [ $# -eq 1 ] || refuse_words
     help
-    exit 2
     ;;
-*) run "$@" ;;
+*)
+    read_words "$@" || refuse_words
+    run "$@"
+    ;;
 esac

@@ -5,8 +5,12 @@ ghost use Rattle.qc_disk.specs.Disk.{HasCause, next};
 use crate::disk::{Disk, DiskNo};
 use crate::syncs::Syncs;
 use std::fs::{File, OpenOptions};
-use std::io;
-use std::os::unix::fs::FileExt;
+use std::io::ErrorKind;
+use std::os::unix::fs::{FileExt, MetadataExt};
+use std::{fs, io};
+
+/// The first byte of a journal is a gate, closed or open. What begins otherwise is none.
+const OPEN_GATE: u8 = 1;
 
 /// A disk in a file of the operating system. Each error of the system is a fault.
 #[derive(Drop)]
@@ -20,6 +24,33 @@ pub struct FileDisk {
     syncs: Syncs,
 }
 
+// Whether a path still leads to the file that was opened by it: it may have been removed before it was locked.
+fn leads_to(rt: &HostRuntime, path: &str, file: &File) -> io::Result<bool> {
+    let (opened, found) = (file.metadata()?, fs::metadata(rt, path)?);
+    Ok(opened.dev() == found.dev() && opened.ino() == found.ino())
+}
+
+// Whether a file is plain, and is empty or begins with a gate.
+fn may_be_a_journal(file: &File) -> io::Result<bool> {
+    let about = file.metadata()?;
+    if !about.is_file() || about.len() == 0 {
+        return Ok(about.is_file());
+    }
+    let mut gate = [0];
+    file.read_exact_at(&mut gate, 0)?;
+    Ok(gate[0] <= OPEN_GATE)
+}
+
+/// Removes a file that is empty, where no one holds its lock.
+pub(crate) fn remove_empty(rt: &HostRuntime, path: &str) -> io::Result<()> {
+    let file = File::open(rt, path)?;
+    file.try_lock()?;
+    if file.metadata()?.len() == 0 && leads_to(rt, path, &file)? {
+        fs::remove_file(rt, path)?;
+    }
+    Ok(())
+}
+
 impl FileDisk {
     /// Opens a file, or makes it, empty. The folder is synced too, so that a new file outlives a crash. The
     /// file is locked until the disk is dropped: where another open of it holds the lock, that is an error.
@@ -30,8 +61,56 @@ impl FileDisk {
     {
         let mut options = OpenOptions::new();
         options.read(true).write(true).create(true);
+        FileDisk::locked(rt, folder, path, &options)
+    }
+
+    /// Opens a file that is there, as `open` does, and makes none. Where it is not plain, or has bytes and begins with
+    /// no gate, that is an error, and it is left as it is.
+    pub(crate) fn find(rt: &HostRuntime, folder: &str, path: &str) -> io::Result<FileDisk>
+        ensures calls { IfOk result (λ disk. disk.calls ≡ 0) }
+        ensures faults { IfOk result (λ disk. disk.faults ≡ 0) }
+        ensures syncs { IfOk result (λ disk. disk.syncs.count ≡ 1) }
+    {
+        // Before it is opened, since to open a device may do something.
+        if !fs::metadata(rt, path)?.is_file() {
+            return Err(ErrorKind::InvalidInput.into());
+        }
+        let mut options = OpenOptions::new();
+        options.read(true).write(true);
+        let disk = FileDisk::locked(rt, folder, path, &options)?;
+        if !may_be_a_journal(&disk.file)? {
+            return Err(ErrorKind::InvalidData.into());
+        }
+        Ok(disk)
+    }
+
+    /// Makes a file, empty, and opens it as `open` does. Where something of that name is there, that is an error.
+    pub(crate) fn make(rt: &HostRuntime, folder: &str, path: &str) -> io::Result<FileDisk>
+        ensures calls { IfOk result (λ disk. disk.calls ≡ 0) }
+        ensures faults { IfOk result (λ disk. disk.faults ≡ 0) }
+        ensures syncs { IfOk result (λ disk. disk.syncs.count ≡ 1) }
+    {
+        let mut options = OpenOptions::new();
+        options.read(true).write(true).create_new(true);
+        FileDisk::locked(rt, folder, path, &options)
+    }
+
+    // Opens a file and locks it.
+    fn locked(
+        rt: &HostRuntime,
+        folder: &str,
+        path: &str,
+        options: &OpenOptions,
+    ) -> io::Result<FileDisk>
+        ensures calls { IfOk result (λ disk. disk.calls ≡ 0) }
+        ensures faults { IfOk result (λ disk. disk.faults ≡ 0) }
+        ensures syncs { IfOk result (λ disk. disk.syncs.count ≡ 1) }
+    {
         let file = options.open(rt, path)?;
         file.try_lock()?;
+        if !leads_to(rt, path, &file)? {
+            return Err(ErrorKind::NotFound.into());
+        }
         let syncs = Syncs::begin(rt, folder, &file)?;
         let size = file.metadata()?.len();
         Ok(FileDisk {

@@ -1,8 +1,9 @@
 //! The real shop: disks in memory, or in the files of a folder.
-ghost use Rattle.std.specs.Prelude.{◌≡◌};
+ghost use Rattle.std.specs.Prelude.{◌≡◌, IfOk};
 
 use crate::disk::{Disk, DiskNo};
 use crate::file::FileDisk;
+use crate::file_set::FileSet;
 use crate::memory::MemDisk;
 use crate::shop::Shop;
 use std::alloc::Global;
@@ -70,26 +71,55 @@ impl Disk for HomeDisk {
 }
 
 /// Gives empty disks in memory for an empty place, and for another the files `0`, `1` and so on in the folder
-/// of that name.
+/// of that name. A missing file is made where the folder had no store when the shop first looked at it, and else it
+/// is a disk that was lost: then the shop fails. So it does at a file that is no disk, and leaves that as it is. Once
+/// the shop is dropped, a folder that still has no store is as it was.
 #[derive(Drop)]
 pub struct HomeShop {
     rt: HostRuntime,
     faults: u64,
+    /// The files that it was asked for so far.
+    sets: Vec<FileSet>,
 }
 
 impl HomeShop {
+    ghost use Rattle.qc_disk.specs.Home.{file_calls, file_faults, file_syncs};
+
     /// A shop that has not failed.
     pub fn new(rt: HostRuntime) -> Self
         ensures { result.faults ≡ 0 }
     {
-        HomeShop { rt, faults: 0 }
+        let alloc = rt.alloc();
+        HomeShop {
+            rt,
+            faults: 0,
+            sets: Vec::new(alloc),
+        }
+    }
+
+    // Opens a file of a folder, as the set that it is of has it.
+    fn file(&mut self, alloc: Global, place: &str, which: u8) -> Result<FileDisk, DiskNo>
+        ensures calls { IfOk result (λ disk. file_calls disk ≡ 0) }
+        ensures disk_faults { IfOk result (λ disk. file_faults disk ≡ 0) }
+        ensures syncs { IfOk result (λ disk. file_syncs disk ≡ 1) }
+        ensures faults { self.new.faults ≡ self.old.faults }
+    {
+        let at = match self.sets.iter().position(|set| set.has(place, which)) {
+            Some(at) => at,
+            None => {
+                let set = FileSet::look(self.rt, alloc, place, which)?;
+                self.sets.push(set)?;
+                self.sets.len() - 1
+            }
+        };
+        self.sets[at].open(alloc, which)
     }
 }
 
 impl Shop for HomeShop {
     type D = HomeDisk;
 
-    ghost use Rattle.std.specs.Prelude.{◌≢◌, ℕ, List, IfOk, OnErr, IsErrOf, if◌then◌else◌};
+    ghost use Rattle.std.specs.Prelude.{◌≢◌, ℕ, List, OnErr, IsErrOf, if◌then◌else◌};
     ghost use Rattle.qc_disk.specs.Disk.{HasCause, next};
     ghost use Rattle.qc_disk.specs.Shop.{Tells, TellsAlike};
     ghost use Rattle.qc_disk.specs.Home.{home_content, home_faults, home_offers, home_view, HomeGives};
@@ -110,10 +140,10 @@ impl Shop for HomeShop {
             let disk = MemDisk::new(Vec::new(alloc), Vec::new(alloc));
             return Ok(HomeDisk::Memory(disk));
         }
-        let path = format!(in alloc; "{place}/{which}")?;
-        match FileDisk::open(&self.rt, place, path.as_str()) {
+        match self.file(alloc, place, which) {
             Ok(disk) => Ok(HomeDisk::File(disk)),
-            Err(_) => {
+            Err(DiskNo::Memory) => Err(DiskNo::Memory),
+            Err(DiskNo::Failed) => {
                 self.faults = self.faults.saturating_add(1);
                 Err(DiskNo::Failed)
             }

@@ -4,6 +4,7 @@
 mod disk;
 mod faults;
 mod file;
+mod file_set;
 mod home;
 mod law;
 mod memory;

@@ -1,0 +1,179 @@
+#!/usr/bin/env python3
+"""Says why a run over the disks in a folder ended with status 6 or 7, as far as a look at the folder tells:
+python3 tools/cause.py STATUS FOLDER < SCRIPT. Where the input is no script it goes by the folder alone."""
+import fcntl
+import os
+import stat
+import sys
+
+sys.dont_write_bytecode = True
+sys.path.insert(0, os.path.dirname(os.path.abspath(__file__)))
+from script_text import MOST_BYTES, Refused, read_script
+
+MOST_COPIES = 16
+GATES = (b"\x00", b"\x01")
+MADE = b"\x01\x01"
+KINDS = {stat.S_IFDIR: "a folder", stat.S_IFIFO: "a pipe", stat.S_IFSOCK: "a socket"}
+
+
+class Table:
+    """The copies and records that a script has, or that a disk was made for: by each name its start and configuration."""
+
+    def __init__(self, copies, records):
+        self.copies, self.records = copies, records
+
+    def difference(self, other):
+        """How the table of a disk differs from a script's, or nothing."""
+        if self.copies != other.copies:
+            return f"it was made for {self.copies} copies, and the script has {other.copies}"
+        if len(self.records) != len(other.records):
+            return f"it was made for {len(self.records)} records, and the script has {len(other.records)}"
+        for at, (made, asked) in enumerate(zip(self.records.items(), other.records.items())):
+            for what, there, here in zip(("the name", "the start", "the configuration"), *map(parts, (made, asked))):
+                if there != here:
+                    return f"record {at} was made with {what} {there}, and the script has {here}"
+        return None
+
+
+def parts(record):
+    name, (start, (votes, read, write)) = record
+    return name, start, f"votes {votes}, read {read}, write {write}"
+
+
+def table_on(path):
+    """The table that a disk was made for, or nothing where its first record does not tell."""
+    try:
+        with open(path, "rb") as file:
+            gate, length = file.read(1), int.from_bytes(file.read(4), "big")
+            body = file.read(min(length, MOST_BYTES))
+    except OSError:
+        return None
+    if gate != b"\x01" or not body.startswith(MADE) or len(body) != length:
+        return None
+    try:
+        return table_in(body)
+    except (IndexError, UnicodeDecodeError):
+        return None
+
+
+def table_in(body):
+    copies, count, at, records = body[3], body[4], 5, {}
+    for _ in range(count):
+        name = body[at + 1 : at + 1 + body[at]].decode("ascii")
+        at += 1 + body[at]
+        start, voters = int.from_bytes(body[at : at + 8], "big"), body[at + 8]
+        at += 9 + voters
+        votes, read, write = [*body[at - voters : at]], body[at : at + 2], body[at + 2 : at + 4]
+        records[name] = start, (votes, int.from_bytes(read, "big"), int.from_bytes(write, "big"))
+        at += 4
+    return Table(copies, records)
+
+
+def table_asked():
+    """The table of the script that is the input, or nothing."""
+    try:
+        script = read_script(sys.stdin.buffer.read(MOST_BYTES + 1))
+    except Refused:
+        return None
+    return Table(script.copies, script.records)
+
+
+def size_of(path):
+    """How many bytes a plain file has, at the end of links too; of anything else none."""
+    try:
+        found = os.stat(path)
+    except OSError:
+        return 0
+    return found.st_size if stat.S_ISREG(found.st_mode) else 0
+
+
+def fault_of_folder(folder):
+    if not os.path.lexists(folder):
+        return f"there is no folder {folder}: make it first"
+    if not os.path.isdir(folder):
+        return f"{folder} is no folder"
+    if not os.access(folder, os.R_OK | os.X_OK):
+        return f"there is no permission to read the folder {folder}"
+    return None
+
+
+def fault_of_file(path):
+    """What is wrong with a disk that has a name in the folder."""
+    if os.path.islink(path) and not os.path.exists(path):
+        return f"{path} is a link to nowhere"
+    mode = os.stat(path).st_mode
+    if not stat.S_ISREG(mode):
+        return f"{path} is {KINDS.get(stat.S_IFMT(mode), 'a device')}, and no file"
+    if not os.access(path, os.R_OK | os.W_OK):
+        return f"there is no permission to read and write {path}"
+    with open(path, "rb") as file:
+        try:
+            fcntl.flock(file, fcntl.LOCK_EX | fcntl.LOCK_NB)
+        except OSError:
+            return f"another run holds {path}"
+        if file.read(1) not in (b"", *GATES):
+            return f"{path} is no disk of qc, and was left as it is: a disk's first byte is 00 or 01"
+    return None
+
+
+def fault_of_missing(path, made, asked):
+    """What is wrong where a file is missing beside others that have bytes."""
+    if made and asked and asked.copies > made.copies:
+        return f"there is no {path}: the store was made for {made.copies} copies, and the script has {asked.copies}"
+    return f"there is no {path}, and other disks of the store have bytes: it was lost (docs/FORMATS.md, \"Words\")"
+
+
+def fault_of_store(folder, asked):
+    """The first disk with a fault, as they are obtained, and the fault."""
+    paths = [os.path.join(folder, str(number)) for number in range(MOST_COPIES + 1)]
+    made = table_on(paths[0])
+    table = asked or made
+    has_store = any(map(size_of, paths))
+    for number, path in enumerate(paths[: table.copies + 1] if table else paths):
+        fault = None
+        if os.path.lexists(path):
+            fault = fault_of_file(path)
+        elif has_store and (table or not number):
+            fault = fault_of_missing(path, made, asked)
+        elif not os.access(folder, os.W_OK):
+            fault = f"there is no permission to make {path}"
+        if fault:
+            return number, fault
+    return None
+
+
+def tell_fault(folder):
+    fault = fault_of_folder(folder)
+    if fault:
+        return fault
+    found = fault_of_store(folder, table_asked())
+    if found:
+        return f"disk {found[0]}: {found[1]}"
+    if not os.statvfs(folder).f_bavail:
+        return f"there is no room left where {folder} is"
+    return f"a look at {folder} does not tell why; another run may have held it"
+
+
+def tell_table(folder):
+    """How the first disk whose table is another differs from the script, or what the store was made for."""
+    asked = table_asked()
+    for number in range(MOST_COPIES + 1):
+        made = table_on(os.path.join(folder, str(number)))
+        if made and not asked:
+            names = ", ".join(made.records)
+            return f"where its table is refused: the store was made for {made.copies} copies and the records {names}"
+        difference = made and made.difference(asked)
+        if difference:
+            return f"disk {number}: {difference}"
+    return None
+
+
+def main():
+    status, folder = sys.argv[1:3]
+    said = tell_fault(folder) if status == "6" else tell_table(folder)
+    if said:
+        print(f"qc: {said}", file=sys.stderr)
+
+
+if __name__ == "__main__":
+    main()
