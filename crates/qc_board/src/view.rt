@@ -1,3 +1,5 @@
+//! What is known of marks, and the steps that change it.
+
 // What a seat of a board knows.
 use atomic_table::{Join, Play, Split, TableRule};
 use std::collections::LinkedList;

@@ -1,3 +1,4 @@
+//! What a copy keeps of a record, and what operations do to it.
 ghost use Rattle.std.specs.Prelude.{◌≡◌};
 ghost use Rattle.qc_config.specs.Tuple.{after};
 

@@ -1,3 +1,4 @@
+//! The tuples with which copies start.
 ghost use Rattle.std.specs.Prelude.{◌≡◌, [], length, map, slice_index_or};
 ghost use Rattle.qc_event.specs.Base as words;
 

@@ -1,3 +1,4 @@
+//! The entries of a history.
 use qc_config::{Config, Copies, Op, Tuple, Val};
 use qc_names::Name;
 use std::{error, fmt};

@@ -1,3 +1,4 @@
+//! A history as a list that grows.
 ghost use Rattle.std.specs.Prelude.{◌≡◌, ◌≤◌, ◌<◌, ◌↔◌, [], ◌∷◌, ◌++◌, IsTrue, IsErrOf, OnOk, OnErr, reverse, length};
 ghost use Rattle.qc_event.specs.History.{limit};
 

@@ -1,3 +1,4 @@
+//! What a history tells of names and records, by going over its entries.
 ghost use Rattle.std.specs.Prelude.{◌≡◌, reverse};
 ghost use Rattle.qc_event.specs.Base as base_words;
 ghost use Rattle.qc_event.specs.Clear as clear_words;

@@ -1,3 +1,4 @@
+//! Seats, and the names of tops.
 ghost use Rattle.std.specs.Prelude.{◌≡◌};
 ghost use Rattle.qc_event.specs.Seats as seats;
 

@@ -1,3 +1,4 @@
+//! Tables: the records of a store, with their names.
 ghost use Rattle.std.specs.Prelude.{◌≡◌, List, length, IfOk};
 
 use qc_config::{Config, Val};

@@ -1,3 +1,4 @@
+//! A collection, up to a read quorum of the newest configuration.
 ghost use Rattle.std.specs.Prelude.{◌≡◌, ◌<◌, ◌≤◌, length, List, [], ◌∷◌, ◌++◌, option_map};
 ghost use Rattle.qc_config.specs.Config.{Voting, holds_read};
 ghost use Rattle.qc_event.specs.Manager.{Replied, Missing, BlockedBy};

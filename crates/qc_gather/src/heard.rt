@@ -1,3 +1,4 @@
+//! Who was asked in a phase, and what became of it.
 ghost use Rattle.std.specs.Prelude.{◌≡◌, ◌<◌, ◌≤◌, length, List, [], ◌∷◌, ◌++◌};
 ghost use Rattle.qc_config.specs.declared.tuple.Tuple.{Tuple};
 ghost use Rattle.qc_event.specs.Manager.{Replied, Missing, BlockedBy};

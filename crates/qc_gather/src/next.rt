@@ -1,3 +1,5 @@
+//! What a manager does next.
+
 /// What a manager does next in a phase.
 #[derive(Clone, Copy, PartialEq, Eq, Debug)]
 pub enum Next {

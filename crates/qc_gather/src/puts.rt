@@ -1,3 +1,4 @@
+//! Puts, up to a write quorum.
 ghost use Rattle.std.specs.Prelude.{◌≡◌, ◌<◌, ◌≤◌, length, List, [], ◌∷◌, ◌++◌};
 ghost use Rattle.qc_config.specs.Config.{Voting, holds_write};
 ghost use Rattle.qc_config.specs.declared.tuple.Tuple.{Tuple};

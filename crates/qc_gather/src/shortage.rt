@@ -1,3 +1,4 @@
+//! Why a phase failed.
 use qc_event::{Lack, Name};
 use thiserror::Error;
 

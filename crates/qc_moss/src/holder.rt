@@ -1,3 +1,4 @@
+//! Locks, and what they keep to be put.
 ghost use Rattle.std.specs.Prelude.{◌≡◌};
 ghost use Rattle.qc_moss.specs.Locks as words;
 

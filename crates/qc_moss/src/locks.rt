@@ -1,3 +1,4 @@
+//! The locks of a copy.
 ghost use Rattle.std.specs.Prelude.{ℕ, false, List, ◌∷◌, ◌++◌, [], ◌≡◌, ◌<◌, true, IsTrue, IfOk, OnOk, OnErr, length, fold, vec_len, vec_capacity, All};
 ghost use Rattle.qc_names.specs.Name.{front};
 ghost use Rattle.qc_config.specs.Tuple.{after};

@@ -1,3 +1,4 @@
+//! Locks that go up or away as transactions end.
 ghost use Rattle.std.specs.Prelude.{ℕ, List, ◌≡◌, ◌<◌, ◌≤◌, ◌+◌, ◌⊎◌, true, false, [], None, Some, All, is_some, take, drop, vec_len, vec_capacity};
 ghost use Rattle.qc_event.specs.Dead as dead_words;
 ghost use Rattle.qc_event.specs.History.{Past};

@@ -1,3 +1,4 @@
+//! What tells how names stand.
 ghost use Rattle.std.specs.Prelude.{◌≡◌};
 ghost use Rattle.qc_event.specs.Dead as dead_words;
 ghost use Rattle.qc_event.specs.History.{Past};

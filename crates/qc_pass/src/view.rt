@@ -1,3 +1,5 @@
+//! What a pass knows, and the steps that change it.
+
 // What a seat of a desk knows.
 use atomic_table::{Join, Play, Split, TableRule};
 use qc_event::Entry;

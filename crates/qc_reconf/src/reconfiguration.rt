@@ -1,3 +1,4 @@
+//! Changing a record's configuration.
 ghost use Rattle.std.specs.Prelude.{◌≡◌, ◌≤◌, ◌+◌, [], IsTrue, IfOk, IfErr};
 ghost use Rattle.qc_config.specs.Config.{holds_write};
 ghost use Rattle.qc_event.specs.Base.{first_of};

@@ -1,3 +1,4 @@
+//! The lines of a report.
 ghost use Rattle.std.specs.Prelude.{◌≡◌, ◌++◌, OnOk};
 ghost use Rattle.qc_report.specs.Report as spec;
 

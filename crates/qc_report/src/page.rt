@@ -1,3 +1,4 @@
+//! Bytes that are written one text after another.
 ghost use Rattle.std.specs.Prelude.{◌≡◌, [], ◌++◌, OnOk};
 ghost use Rattle.std.specs.Fmt.{AppendsText};
 

@@ -1,3 +1,4 @@
+//! How a run ended, and its line.
 ghost use Rattle.std.specs.Prelude.{◌≡◌, ◌++◌, IfOk, OnOk};
 ghost use Rattle.qc_run.specs.FaultLine as spec;
 

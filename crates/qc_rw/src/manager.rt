@@ -1,3 +1,4 @@
+//! Reading and writing a record.
 ghost use Rattle.std.specs.Prelude.{◌≡◌, ◌≤◌, ◌+◌, [], IsTrue, IfOk, IfErr};
 ghost use Rattle.qc_event.specs.Base.{first_of};
 ghost use Rattle.qc_event.specs.declared.event.Answer.TheVariants as answer;

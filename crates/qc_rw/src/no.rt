@@ -1,3 +1,4 @@
+//! Why a manager has no answer.
 ghost use Rattle.std.specs.Prelude.{◌≡◌};
 ghost use Rattle.qc_rw.specs.Managed.{cause_of};
 

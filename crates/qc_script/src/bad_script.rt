@@ -1,3 +1,4 @@
+//! Why bytes are no script.
 ghost use Rattle.qc_script.specs.declared.bad_script.BadScript.TheVariants.{Memory};
 ghost use Rattle.std.specs.Prelude.{◌≡◌};
 

@@ -1,3 +1,4 @@
+//! Scripts.
 use qc_event::{Config, Table};
 use qc_net::Fate;
 

@@ -4,9 +4,8 @@ use crate::case::Case;
 use crate::sources::Scanned;
 use crate::told::Told;
 use crate::wrong::Wrong;
-use qc_copy::{Verdict, consult_locks, replay_locks};
 use qc_event::{Answered, Ask, Entry, Event, Grant, Name, Op, Tuple};
-use qc_moss::{Locks, Source};
+use qc_moss::{Locks, Source, Verdict, consult_locks, replay_locks};
 use rows_text::Words;
 use std::alloc::{AllocError, Global};
 

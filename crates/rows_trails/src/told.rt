@@ -1,8 +1,9 @@
+//! What a question is answered, and its text.
 use qc_check::Illegal;
 use qc_event::{Answered, Kind, Name, Outcome, Tuple, Val};
 use qc_moss::{Holder, Test};
 use qc_serial::SerialEvent;
-use qc_trail_text::{KindText, TupleText};
+use rows_text::{KindText, TupleText};
 use std::fmt;
 
 /// What a question is answered.

@@ -5,9 +5,9 @@ use Rattle.qc_event.specs.declared.event.Ask.{Ask}
 use Rattle.qc_event.specs.Tables.{setting_of}
 use Rattle.qc_site.specs.AtDesk.{IsGranted}
 use Rattle.qc_site.specs.Calls.{AnswerRests, site_state}
-use Rattle.qc_rows_serve.specs.Requests.{IsFirst}
-use Rattle.qc_rows_serve.proofs.Later.{stands_later, of_others, first_of_since}
-use Rattle.qc_rows_serve.proofs.serve.serve.Goals as goal
+use Rattle.rows_serve.specs.Requests.{IsFirst}
+use Rattle.rows_serve.proofs.Later.{stands_later, of_others, first_of_since}
+use Rattle.rows_serve.proofs.serve.serve.Goals as goal
 
 pub returns-in-Ok-clause-stands : goal.returns-in-Ok-clause-stands
 returns-in-Ok-clause-stands g c =
