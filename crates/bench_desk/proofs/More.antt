@@ -4,8 +4,8 @@ use Rattle.std.specs.Prelude.{All}
 use Rattle.std.proofs.lemmas.List.Elements.{All-append, All-cons, All-nil}
 use Rattle.qc_event.specs.History.{Past, Name}
 use Rattle.qc_event.specs.Standing.{Started, IsUser}
-use Rattle.qc_pass.specs.Entries.{IsOlder}
-use Rattle.qc_pass.proofs.Entering.{started_later}
+use Rattle.qc_desk.specs.Entries.{IsOlder}
+use Rattle.qc_desk.proofs.Entering.{started_later}
 use Rattle.bench_desk.specs.Tops.{AreStarted}
 
 pub still_started : (before now : Past) (names : List Name) → IsOlder before now → AreStarted before names → AreStarted now names

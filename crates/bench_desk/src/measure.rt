@@ -2,8 +2,8 @@
 ghost use Rattle.std.specs.Prelude.{◌≡◌};
 
 use crate::tops::{abort_all, ended_all, start_all};
+use qc_desk::{Blank, DeskNo, Store};
 use qc_event::Base;
-use qc_pass::{Blank, DeskNo, Store};
 use std::alloc::{AllocError, Global};
 use std::io;
 use std::marker::Brand;

@@ -1,10 +1,10 @@
 //! Many tops at a desk, by one pass.
 ghost use Rattle.std.specs.Prelude.{◌≡◌, [], ◌∷◌, ◌++◌, OnOk, OnErr, IfOk};
-ghost use Rattle.qc_pass.specs.Rules.{IsClient};
+ghost use Rattle.qc_desk.specs.Rules.{IsClient};
 ghost use Rattle.bench_desk.specs.Tops.{AreStarted};
 
+use qc_desk::{Desk, DeskNo, Pass, Store};
 use qc_event::{Cause, Name};
-use qc_pass::{Desk, DeskNo, Pass, Store};
 use std::alloc::{AllocError, Global};
 use std::sync::Wait;
 

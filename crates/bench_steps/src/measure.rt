@@ -1,12 +1,12 @@
 //! The time of a run, and that of its report.
 ghost use Rattle.std.specs.Prelude.{reverse};
-ghost use Rattle.qc_desk.specs.Index.{IsOf};
+ghost use Rattle.qc_history.specs.Index.{IsOf};
 ghost use Rattle.qc_report.specs.Indexed.{IsLegal};
 
 use crate::trouble::Trouble;
-use qc_desk::Index;
 use qc_disk::{MemDisk, MemShop};
 use qc_event::Table;
+use qc_history::Index;
 use qc_report::{History, finals, index_of, report};
 use qc_run::io::{MemSink, MemSource};
 use qc_run::{NoGate, Ran, Status, run};

@@ -15,16 +15,16 @@ use Rattle.qc_event.specs.History.{Past, Name, Begun, end_in, gone_in, kind_of, 
 use Rattle.qc_event.specs.Standing.{Started}
 use Rattle.qc_event.proofs.Absent.{if_not, same_is}
 use Rattle.qc_event.proofs.Lawful.{started_wider}
-use Rattle.qc_gather.specs.Carrying.{entry}
+use Rattle.qc_managers.specs.Carrying.{entry}
 use Rattle.qc_net.specs.Messages.{ask_of}
 use Rattle.qc_net.specs.Plan.{Plan}
-use Rattle.qc_pass.specs.declared.refusal.DeskNo.{DeskNo}
-use Rattle.qc_pass.specs.declared.view.View.{View}
-use Rattle.qc_pass.specs.Calling.{Entered, EnteredAs, Refused}
-use Rattle.qc_pass.specs.Consulting.{HasAsked}
-use Rattle.qc_pass.specs.Known.{IsKnown}
-use Rattle.qc_pass.specs.Own.{CommitsOwn}
-use Rattle.qc_pass.specs.Rules.{IsClient}
+use Rattle.qc_desk.specs.declared.refusal.DeskNo.{DeskNo}
+use Rattle.qc_desk.specs.declared.view.View.{View}
+use Rattle.qc_desk.specs.Calling.{Entered, EnteredAs, Refused}
+use Rattle.qc_desk.specs.Consulting.{HasAsked}
+use Rattle.qc_desk.specs.Known.{IsKnown}
+use Rattle.qc_desk.specs.Own.{CommitsOwn}
+use Rattle.qc_desk.specs.Rules.{IsClient}
 use Rattle.qc_carry.specs.Acting.{IsNoAccess}
 use Rattle.qc_carry.specs.Kept.{Keeps}
 use Rattle.qc_carry.specs.Walk.{Walk}

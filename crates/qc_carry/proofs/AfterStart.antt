@@ -24,12 +24,12 @@ use Rattle.qc_event.proofs.Lineage.{IsFresh, fresh_child}
 use Rattle.qc_event.proofs.OneEntry.{no_child_passes}
 use Rattle.qc_event.proofs.Options.{match_some, still}
 use Rattle.qc_event.proofs.OwnRequests.{IsOwn, asks_own}
-use Rattle.qc_gather.specs.Carrying.{MayCarry, next_ask, entry}
+use Rattle.qc_managers.specs.Carrying.{MayCarry, next_ask, entry}
 use Rattle.qc_event.proofs.Starting.{manager_name}
-use Rattle.qc_pass.specs.Entries.{AreOthers}
-use Rattle.qc_pass.specs.Own.{IsMine, MayAskOwn}
-use Rattle.qc_pass.proofs.OwnAsking.{at_stage_same}
-use Rattle.qc_pass.proofs.OwnSince as since
+use Rattle.qc_desk.specs.Entries.{AreOthers}
+use Rattle.qc_desk.specs.Own.{IsMine, MayAskOwn}
+use Rattle.qc_desk.proofs.OwnAsking.{at_stage_same}
+use Rattle.qc_desk.proofs.OwnSince as since
 use Rattle.qc_carry.proofs.Unheard as unheard
 use Rattle.qc_carry.proofs.Walks as walks
 

@@ -22,7 +22,7 @@ use Rattle.qc_event.proofs.OneEntry.{here_some, stays_some}
 use Rattle.qc_event.proofs.StillTold.{is_stays, some_stays}
 use Rattle.qc_net.specs.Given.{Given}
 use Rattle.qc_net.specs.Messages.{was_answered}
-use Rattle.qc_pass.specs.Entries.{IsOlder}
+use Rattle.qc_desk.specs.Entries.{IsOlder}
 use Rattle.qc_site.specs.Answers.{HasAnswered}
 use Rattle.qc_site.specs.AtDesk.{refused_entry}
 

@@ -14,17 +14,17 @@ use Rattle.qc_event.specs.History.{Past, Name, end, children}
 use Rattle.qc_event.specs.Legal.{Legal}
 use Rattle.qc_event.specs.Seats.{is_client}
 use Rattle.qc_event.specs.Standing.{IsOrphanOf, open_child}
-use Rattle.qc_gather.specs.Carrying.{MayCarry, next_ask, entry, began}
-use Rattle.qc_gather.specs.declared.carrier.CarryNo.{CarryNo}
-use Rattle.qc_gather.specs.declared.carrier.CarryNo.TheVariants as carry
-use Rattle.qc_pass.specs.declared.refusal.DeskNo.{DeskNo}
-use Rattle.qc_pass.specs.declared.refusal.DeskNo.TheVariants as no
-use Rattle.qc_pass.specs.declared.view.View.{View}
-use Rattle.qc_pass.specs.Calling.{EnteredAs, Refused}
-use Rattle.qc_pass.specs.Own.{IsOwnAccess, MayAskOwn}
-use Rattle.qc_pass.specs.Refusing.{against_child}
-use Rattle.qc_pass.specs.Rules.{IsClient}
-use Rattle.qc_pass.proofs.Calls as calls
+use Rattle.qc_managers.specs.Carrying.{MayCarry, next_ask, entry, began}
+use Rattle.qc_managers.specs.declared.carrier.CarryNo.{CarryNo}
+use Rattle.qc_managers.specs.declared.carrier.CarryNo.TheVariants as carry
+use Rattle.qc_desk.specs.declared.refusal.DeskNo.{DeskNo}
+use Rattle.qc_desk.specs.declared.refusal.DeskNo.TheVariants as no
+use Rattle.qc_desk.specs.declared.view.View.{View}
+use Rattle.qc_desk.specs.Calling.{EnteredAs, Refused}
+use Rattle.qc_desk.specs.Own.{IsOwnAccess, MayAskOwn}
+use Rattle.qc_desk.specs.Refusing.{against_child}
+use Rattle.qc_desk.specs.Rules.{IsClient}
+use Rattle.qc_desk.proofs.Calls as calls
 use Rattle.qc_carry.specs.Access.{CutUnasked, IsStopped, Waits, no_of, orphaning}
 use Rattle.qc_carry.specs.Walk.{Walk}
 use Rattle.qc_carry.proofs.AfterStart as after

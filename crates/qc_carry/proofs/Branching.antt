@@ -5,13 +5,13 @@ use Rattle.std.specs.Prelude.{All, MatchBool, Option}
 use Rattle.qc_event.specs.declared.event.Ask.{Ask}
 use Rattle.qc_event.specs.Base.{Setting}
 use Rattle.qc_net.specs.Plan.{Plan}
-use Rattle.qc_pass.specs.declared.view.View.{View}
-use Rattle.qc_pass.specs.Consulting.{HasAsked}
-use Rattle.qc_pass.specs.Entries.{IsOlder, entries_of}
-use Rattle.qc_pass.specs.Known.{IsKnown}
-use Rattle.qc_pass.specs.Rules.{Has, IsClient, joined, knows, sees}
-use Rattle.qc_pass.proofs.Having.{has_right}
-use Rattle.qc_pass.proofs.Since as since
+use Rattle.qc_desk.specs.declared.view.View.{View}
+use Rattle.qc_desk.specs.Consulting.{HasAsked}
+use Rattle.qc_desk.specs.Entries.{IsOlder, entries_of}
+use Rattle.qc_desk.specs.Known.{IsKnown}
+use Rattle.qc_desk.specs.Rules.{Has, IsClient, joined, knows, sees}
+use Rattle.qc_desk.proofs.Having.{has_right}
+use Rattle.qc_desk.proofs.Since as since
 use Rattle.qc_carry.specs.Branching.{HasTaken}
 use Rattle.qc_carry.specs.Kept.{Keeps}
 use Rattle.qc_carry.specs.Walk.{Walk}

@@ -31,10 +31,10 @@ use Rattle.qc_event.proofs.Lineage.{IsFresh, fresh_child}
 use Rattle.qc_event.proofs.OneEntry.{no_child_passes, some_or_none, stays_some, some_not_none, some_if_not_none, all_children}
 use Rattle.qc_event.proofs.Options.{or_new}
 use Rattle.qc_event.proofs.OwnRequests.{IsOwn, asks_own}
-use Rattle.qc_gather.specs.Carrying.{MayCarry, next_ask, entry, began, access_entries, made_by, name_of, HasGrown, carriage, WasCarried, IsTold}
+use Rattle.qc_managers.specs.Carrying.{MayCarry, next_ask, entry, began, access_entries, made_by, name_of, HasGrown, carriage, WasCarried, IsTold}
 use Rattle.qc_event.proofs.Starting.{manager_name}
-use Rattle.qc_pass.specs.Own.{IsMine, IsOwnAccess}
-use Rattle.qc_pass.proofs.Lists.{entries_append}
+use Rattle.qc_desk.specs.Own.{IsMine, IsOwnAccess}
+use Rattle.qc_desk.proofs.Lists.{entries_append}
 use Rattle.qc_carry.specs.Access.{Waits, orphaning}
 use Rattle.qc_carry.proofs.AfterStart as after
 use Rattle.qc_carry.proofs.Unheard as unheard

@@ -9,15 +9,15 @@ use Rattle.qc_event.specs.Base.{Setting}
 use Rattle.qc_event.specs.History.{Past, Name, refused}
 use Rattle.qc_event.specs.Legal.{Legal}
 use Rattle.qc_event.specs.Manager.{Result as Became, Replied, Missing, BlockedBy}
-use Rattle.qc_gather.specs.Carrying.{MayCarry, next_ask, entry, began, access_entries, became, carriage, made_by, HasGrown, WasCarried, WasNotCarried, WasStopped, IsBegun}
-use Rattle.qc_gather.specs.declared.carrier.Carried.{Carried}
-use Rattle.qc_gather.specs.declared.carrier.Carried.TheVariants.{Reply, Blocked, Gone}
-use Rattle.qc_gather.specs.declared.carrier.CarryNo.{CarryNo}
-use Rattle.qc_gather.specs.declared.carrier.CarryNo.TheVariants as no
-use Rattle.qc_pass.specs.declared.view.View.{View}
-use Rattle.qc_pass.specs.Rules.{IsClient}
-use Rattle.qc_pass.proofs.Calls as calls
-use Rattle.qc_pass.proofs.Lists.{entries_append}
+use Rattle.qc_managers.specs.Carrying.{MayCarry, next_ask, entry, began, access_entries, became, carriage, made_by, HasGrown, WasCarried, WasNotCarried, WasStopped, IsBegun}
+use Rattle.qc_managers.specs.declared.carrier.Carried.{Carried}
+use Rattle.qc_managers.specs.declared.carrier.Carried.TheVariants.{Reply, Blocked, Gone}
+use Rattle.qc_managers.specs.declared.carrier.CarryNo.{CarryNo}
+use Rattle.qc_managers.specs.declared.carrier.CarryNo.TheVariants as no
+use Rattle.qc_desk.specs.declared.view.View.{View}
+use Rattle.qc_desk.specs.Rules.{IsClient}
+use Rattle.qc_desk.proofs.Calls as calls
+use Rattle.qc_desk.proofs.Lists.{entries_append}
 use Rattle.qc_carry.specs.Access.{Course, Cut, Ends, IsLeft, IsPart, IsShort, Stands, ending, orphaning}
 use Rattle.qc_carry.specs.Walk.{Walk}
 use Rattle.qc_carry.proofs.Beginning as beginning

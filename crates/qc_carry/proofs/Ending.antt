@@ -19,12 +19,12 @@ use Rattle.qc_event.specs.declared.log.Short.{Short}
 use Rattle.qc_event.specs.declared.log.Short.TheVariants as short
 use Rattle.qc_event.proofs.Booleans.{or_wider}
 use Rattle.qc_event.proofs.StillTold.{is_stays}
-use Rattle.qc_gather.specs.Carrying.{entry, became}
-use Rattle.qc_gather.specs.declared.carrier.Carried.{Carried}
-use Rattle.qc_gather.specs.declared.carrier.CarryNo.{CarryNo}
-use Rattle.qc_gather.specs.declared.carrier.CarryNo.TheVariants as no
-use Rattle.qc_pass.specs.declared.view.View.{View}
-use Rattle.qc_pass.proofs.Lasting.{orphan_stays}
+use Rattle.qc_managers.specs.Carrying.{entry, became}
+use Rattle.qc_managers.specs.declared.carrier.Carried.{Carried}
+use Rattle.qc_managers.specs.declared.carrier.CarryNo.{CarryNo}
+use Rattle.qc_managers.specs.declared.carrier.CarryNo.TheVariants as no
+use Rattle.qc_desk.specs.declared.view.View.{View}
+use Rattle.qc_desk.proofs.Lasting.{orphan_stays}
 use Rattle.qc_carry.specs.Access.{Ends, IsLeft, IsShort, IsStopped, Waits, ending, orphaning, want_of}
 use Rattle.qc_carry.specs.Walk.{Walk}
 use Rattle.qc_carry.proofs.Answered.{unable_still}

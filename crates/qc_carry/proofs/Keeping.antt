@@ -16,17 +16,17 @@ use Rattle.qc_event.specs.Legal.{Legal}
 use Rattle.qc_event.proofs.Later.{earlier_legal}
 use Rattle.qc_event.proofs.OneEntry.{some_or_none}
 use Rattle.qc_event.proofs.Options.{still}
-use Rattle.qc_gather.specs.Carrying.{MayCarry, next_ask, made_by}
+use Rattle.qc_managers.specs.Carrying.{MayCarry, next_ask, made_by}
 use Rattle.qc_net.specs.Given.{Given}
 use Rattle.qc_net.specs.Messages.{Net, was_answered, is_told, is_met, are_met, asked_under, meets_fates}
 use Rattle.qc_net.specs.Plan.{Plan, anew}
 use Rattle.qc_net.specs.Sending as net
 use Rattle.qc_net.specs.Sending.{Outcome, Sending, Way, IsSending, sending}
 use Rattle.qc_net.specs.declared.courier.Sent.{Sent}
-use Rattle.qc_pass.specs.declared.view.View.{View}
-use Rattle.qc_pass.specs.Entries.{IsOlder}
-use Rattle.qc_pass.specs.Rules.{IsClient}
-use Rattle.qc_pass.proofs.Calls as calls
+use Rattle.qc_desk.specs.declared.view.View.{View}
+use Rattle.qc_desk.specs.Entries.{IsOlder}
+use Rattle.qc_desk.specs.Rules.{IsClient}
+use Rattle.qc_desk.proofs.Calls as calls
 use Rattle.qc_site.specs.Answers.{HasAnswered}
 use Rattle.qc_carry.specs.Kept.{IsInStep, IsKept, net_of, at_start, sendings, way_of, is_loss, TellsLoss}
 use Rattle.qc_carry.specs.Walk.{Walk}

@@ -15,18 +15,18 @@ use Rattle.qc_event.specs.Base.{Setting}
 use Rattle.qc_event.specs.History.{Past, Name, end, gone}
 use Rattle.qc_event.specs.Legal.{Legal}
 use Rattle.qc_event.proofs.Absent.{same_itself}
-use Rattle.qc_gather.specs.Carrying.{MayCarry, next_ask, entry, began, access_entries, became}
-use Rattle.qc_gather.specs.declared.carrier.Carried.{Carried}
-use Rattle.qc_gather.specs.declared.carrier.Carried.TheVariants.{Reply, Blocked, Gone}
-use Rattle.qc_gather.specs.declared.carrier.CarryNo.{CarryNo}
-use Rattle.qc_gather.specs.declared.carrier.CarryNo.TheVariants as no
+use Rattle.qc_managers.specs.Carrying.{MayCarry, next_ask, entry, began, access_entries, became}
+use Rattle.qc_managers.specs.declared.carrier.Carried.{Carried}
+use Rattle.qc_managers.specs.declared.carrier.Carried.TheVariants.{Reply, Blocked, Gone}
+use Rattle.qc_managers.specs.declared.carrier.CarryNo.{CarryNo}
+use Rattle.qc_managers.specs.declared.carrier.CarryNo.TheVariants as no
 use Rattle.qc_net.specs.Messages.{asked_under}
 use Rattle.qc_net.specs.Plan.{Plan, anew}
 use Rattle.qc_net.specs.Sending.{IsSending, sending}
 use Rattle.qc_net.specs.declared.courier.Sent.{Sent}
-use Rattle.qc_pass.specs.declared.view.View.{View}
-use Rattle.qc_pass.specs.Entries.{IsOlder}
-use Rattle.qc_pass.specs.Rules.{IsClient}
+use Rattle.qc_desk.specs.declared.view.View.{View}
+use Rattle.qc_desk.specs.Entries.{IsOlder}
+use Rattle.qc_desk.specs.Rules.{IsClient}
 use Rattle.qc_site.specs.Answers.{HasAnswered}
 use Rattle.qc_carry.specs.Access.{CutUnasked, Ends, IsLeft, IsShort, ending, orphaning}
 use Rattle.qc_carry.specs.Kept.{IsKept, Keeps, TellsLoss, TellsSent, reason_of, is_cut_off}

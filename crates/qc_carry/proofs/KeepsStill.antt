@@ -12,10 +12,10 @@ use Rattle.qc_event.specs.History.{Past, Name, kind_of, end, gone}
 use Rattle.qc_event.specs.Legal.{Legal}
 use Rattle.qc_event.proofs.Later.{earlier_legal}
 use Rattle.qc_event.proofs.Options.{still}
-use Rattle.qc_gather.specs.Carrying.{made_by}
+use Rattle.qc_managers.specs.Carrying.{made_by}
 use Rattle.qc_net.specs.Messages.{are_met, asked_under, meets_fates}
 use Rattle.qc_net.specs.Plan.{Plan, anew}
-use Rattle.qc_pass.specs.declared.view.View.{View}
+use Rattle.qc_desk.specs.declared.view.View.{View}
 use Rattle.qc_carry.specs.Kept.{IsKept, Keeps, at_start, net_of, sendings}
 use Rattle.qc_carry.specs.Walk.{Walk}
 use Rattle.qc_carry.proofs.Keeping.{no_request_kept}

@@ -22,7 +22,7 @@ use Rattle.qc_event.proofs.LastNumber.{EndsIn, ends_in, is_ancestor-append, rest
 use Rattle.qc_event.proofs.OneEntry.{first_is, if_is, open_before}
 use Rattle.qc_event.proofs.Options.{some_there}
 use Rattle.qc_event.proofs.Outcomes.{aborted_is_abort}
-use Rattle.qc_pass.proofs.Lasting.{orphan_stays}
+use Rattle.qc_desk.proofs.Lasting.{orphan_stays}
 
 abbrev Above : Name → Name → Type 0
 Above n a = name.is_ancestor a n ≡ true

@@ -18,8 +18,8 @@ use Rattle.qc_event.proofs.OneEntry.{started_stays}
 use Rattle.qc_event.proofs.Options.{some_there, still_mapped}
 use Rattle.qc_event.proofs.Starting.{access_managed}
 use Rattle.qc_net.specs.Messages.{ask_of, ask_under, asked_under}
-use Rattle.qc_pass.specs.Own.{IsMine}
-use Rattle.qc_pass.proofs.Begun.{not_root}
+use Rattle.qc_desk.specs.Own.{IsMine}
+use Rattle.qc_desk.proofs.Begun.{not_root}
 
 -- the request is of a started access of a manager that was started under a seat
 pub record IsOwnRequest (past : Past) (seat : ℕ) (ask : Ask) : Type 0 where

@@ -7,7 +7,7 @@ use Rattle.qc_event.specs.declared.event.Event.{Event}
 use Rattle.qc_event.specs.declared.event.Event.TheVariants as event
 use Rattle.qc_event.specs.declared.event.Kind.TheVariants as kind
 use Rattle.qc_event.specs.History.{Past}
-use Rattle.qc_gather.specs.Carrying.{entry, began, made_by}
+use Rattle.qc_managers.specs.Carrying.{entry, began, made_by}
 use Rattle.qc_net.specs.Messages.{ask_of, asked_under}
 
 pub own_request : (seat : ℕ) (ev : Event) (past : Past) → asked_under seat (entry seat ev ∷ past) ≡ asked_under seat past ++ option_to_list (ask_of ev)

@@ -18,8 +18,8 @@ use Rattle.qc_event.proofs.Later.{started_still}
 use Rattle.qc_event.proofs.Lawful.{started_wider}
 use Rattle.qc_event.proofs.Options.{match_wider, match_some}
 use Rattle.qc_event.proofs.StillTold.{begun_still}
-use Rattle.qc_pass.specs.declared.view.View.{View}
-use Rattle.qc_pass.specs.Own.{IsOwnAccess}
+use Rattle.qc_desk.specs.declared.view.View.{View}
+use Rattle.qc_desk.specs.Own.{IsOwnAccess}
 use Rattle.qc_carry.specs.Access.{Waits}
 use Rattle.qc_carry.specs.Walk.{Walk}
 use Rattle.qc_carry.proofs.Walks as walks

@@ -4,11 +4,11 @@ use Rattle.std.specs.Prelude.{Option, None, Some, if◌then◌else◌}
 use Rattle.std.specs.Option.{option_or, option_map}
 use Rattle.qc_event.specs.Dead.{dead, outcome, is_live, is_committed}
 use Rattle.qc_event.specs.History.{Past, Name, is_ready}
-use Rattle.qc_pass.specs.declared.refusal.DeskNo.{DeskNo}
-use Rattle.qc_pass.specs.declared.refusal.DeskNo.TheVariants as no
-use Rattle.qc_pass.specs.declared.view.View.{View}
-use Rattle.qc_pass.specs.Calling.{Refused}
-use Rattle.qc_pass.specs.Refusing.{against_child, against_access, against_abort, against_nothing, Refuses, IsWant}
+use Rattle.qc_desk.specs.declared.refusal.DeskNo.{DeskNo}
+use Rattle.qc_desk.specs.declared.refusal.DeskNo.TheVariants as no
+use Rattle.qc_desk.specs.declared.view.View.{View}
+use Rattle.qc_desk.specs.Calling.{Refused}
+use Rattle.qc_desk.specs.Refusing.{against_child, against_access, against_abort, against_nothing, Refuses, IsWant}
 use Rattle.qc_carry.specs.Access.{IsShort, no_of}
 use Rattle.qc_carry.proofs.Walking as walking
 

@@ -4,15 +4,15 @@ use Rattle.std.specs.Prelude.{◌<◌, ◌≤◌, Option}
 use Rattle.std.proofs.lemmas.Bool.{false_from_ne_true}
 use Rattle.qc_event.specs.declared.event.Event.{Event}
 use Rattle.qc_event.specs.History.{Past}
-use Rattle.qc_gather.specs.Carrying.{made_by, entry}
+use Rattle.qc_managers.specs.Carrying.{made_by, entry}
 use Rattle.qc_ledger.specs.Entered.{SeesMore}
-use Rattle.qc_pass.specs.declared.refusal.DeskNo.{DeskNo}
-use Rattle.qc_pass.specs.declared.view.View.{View}
-use Rattle.qc_pass.specs.Calling.{Looked, Entered, EnteredAs, Shown}
-use Rattle.qc_pass.specs.Entries.{AreOthers, IsSince, entries_of}
-use Rattle.qc_pass.specs.Rules.{IsClient, knows, extends}
-use Rattle.qc_pass.proofs.Lists.{entries_append}
-use Rattle.qc_pass.proofs.Since as since
+use Rattle.qc_desk.specs.declared.refusal.DeskNo.{DeskNo}
+use Rattle.qc_desk.specs.declared.view.View.{View}
+use Rattle.qc_desk.specs.Calling.{Looked, Entered, EnteredAs, Shown}
+use Rattle.qc_desk.specs.Entries.{AreOthers, IsSince, entries_of}
+use Rattle.qc_desk.specs.Rules.{IsClient, knows, extends}
+use Rattle.qc_desk.proofs.Lists.{entries_append}
+use Rattle.qc_desk.proofs.Since as since
 use Rattle.qc_carry.specs.Walk.{Walk}
 
 pub none_own : (seat : ℕ) (xs : Past) → AreOthers seat xs → made_by seat xs ≡ []

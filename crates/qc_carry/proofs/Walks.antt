@@ -18,9 +18,9 @@ use Rattle.qc_event.proofs.Later.{started_still}
 use Rattle.qc_event.proofs.Histories.{or_first}
 use Rattle.qc_event.proofs.OneEntry.{stays_some}
 use Rattle.qc_event.proofs.Options.{still}
-use Rattle.qc_gather.specs.Carrying.{made_by, name_of}
-use Rattle.qc_pass.specs.Own.{IsMine}
-use Rattle.qc_pass.proofs.Others as others
+use Rattle.qc_managers.specs.Carrying.{made_by, name_of}
+use Rattle.qc_desk.specs.Own.{IsMine}
+use Rattle.qc_desk.proofs.Others as others
 
 -- a result by the same end, reason and refusal is the same
 pub result_same : (before now : Past) (x : Name) → end now x ≡ end before x → gone now x ≡ gone before x → refused now x ≡ refused before x → result now x ≡ result before x

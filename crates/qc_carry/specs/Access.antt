@@ -13,16 +13,16 @@ use Rattle.qc_event.specs.History.{Past, Name, limit, asked, gone, refused, end}
 use Rattle.qc_event.specs.Manager.{Replied, Missing, BlockedBy, Result as Became}
 use Rattle.qc_event.specs.Requests.{is_fault, was_unable}
 use Rattle.qc_event.specs.Standing.{IsOrphanOf, open_child}
-use Rattle.qc_gather.specs.Carrying.{entry, access_entries, became, IsBegun, WasStopped}
-use Rattle.qc_gather.specs.declared.carrier.Carried.{Carried}
-use Rattle.qc_gather.specs.declared.carrier.Carried.TheVariants.{Reply, Blocked, Gone}
-use Rattle.qc_gather.specs.declared.carrier.CarryNo.{CarryNo}
-use Rattle.qc_gather.specs.declared.carrier.CarryNo.TheVariants as no
+use Rattle.qc_managers.specs.Carrying.{entry, access_entries, became, IsBegun, WasStopped}
+use Rattle.qc_managers.specs.declared.carrier.Carried.{Carried}
+use Rattle.qc_managers.specs.declared.carrier.Carried.TheVariants.{Reply, Blocked, Gone}
+use Rattle.qc_managers.specs.declared.carrier.CarryNo.{CarryNo}
+use Rattle.qc_managers.specs.declared.carrier.CarryNo.TheVariants as no
 use Rattle.qc_net.specs.Messages.{asked_under}
-use Rattle.qc_pass.specs.declared.refusal.DeskNo.{DeskNo}
-use Rattle.qc_pass.specs.declared.refusal.DeskNo.TheVariants as desk_no
-use Rattle.qc_pass.specs.declared.view.View.{View}
-use Rattle.qc_pass.specs.Own.{IsOwnAccess}
+use Rattle.qc_desk.specs.declared.refusal.DeskNo.{DeskNo}
+use Rattle.qc_desk.specs.declared.refusal.DeskNo.TheVariants as desk_no
+use Rattle.qc_desk.specs.declared.view.View.{View}
+use Rattle.qc_desk.specs.Own.{IsOwnAccess}
 use Rattle.qc_carry.specs.Walk.{Walk}
 
 -- An access of one's own has asked, is open, and was not given up.

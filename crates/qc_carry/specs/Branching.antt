@@ -1,8 +1,8 @@
 -- What becomes of passes as a client gets a branch, and takes one in.
 use Rattle.std.specs.Prelude.{◌≡◌, ◌<◌, [], ◌∷◌}
-use Rattle.qc_pass.specs.declared.view.View.{View}
-use Rattle.qc_pass.specs.Entries.{IsSince, entries_of}
-use Rattle.qc_pass.specs.Rules.{IsNewTo, joined, knows, pass}
+use Rattle.qc_desk.specs.declared.view.View.{View}
+use Rattle.qc_desk.specs.Entries.{IsSince, entries_of}
+use Rattle.qc_desk.specs.Rules.{IsNewTo, joined, knows, pass}
 
 -- A pass was split: the new one has a client's number that is new to it, has seen the same, and has entered nothing.
 pub record IsBranch (v w branch : View) : Type 0 where

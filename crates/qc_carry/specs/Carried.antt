@@ -2,7 +2,7 @@
 use Rattle.std.proofs.Common.{◌≡◌, ℕ, refl, ◌∙◌}
 use Rattle.std.specs.Prelude.{Option, option_map}
 use Rattle.qc_net.specs.Plan.{Plan, anew}
-use Rattle.qc_pass.specs.declared.view.View.{View}
+use Rattle.qc_desk.specs.declared.view.View.{View}
 
 -- A line has carried: its pass has the same number, what was split from it and joined into it is the same, and so are the
 -- fates of its link, and its patience.

@@ -6,10 +6,10 @@ use Rattle.qc_event.specs.declared.event.Why.{Why}
 use Rattle.qc_event.specs.declared.event.Why.TheVariants as why
 use Rattle.qc_event.specs.History.{Past}
 use Rattle.qc_event.specs.Requests.{is_why}
-use Rattle.qc_gather.specs.declared.carrier.Carried.{Carried}
-use Rattle.qc_gather.specs.declared.carrier.Carried.TheVariants as carried
-use Rattle.qc_gather.specs.declared.carrier.CarryNo.{CarryNo}
-use Rattle.qc_gather.specs.declared.carrier.CarryNo.TheVariants as no
+use Rattle.qc_managers.specs.declared.carrier.Carried.{Carried}
+use Rattle.qc_managers.specs.declared.carrier.Carried.TheVariants as carried
+use Rattle.qc_managers.specs.declared.carrier.CarryNo.{CarryNo}
+use Rattle.qc_managers.specs.declared.carrier.CarryNo.TheVariants as no
 use Rattle.qc_net.specs.Messages.{Net, asked_under, meets_fates}
 use Rattle.qc_net.specs.Plan.{Plan, starting}
 use Rattle.qc_net.specs.Sending.{Way, sending}

@@ -1,7 +1,7 @@
 -- Seeing nothing more is seeing more.
 use Rattle.std.proofs.Common.{[], refl}
 use Rattle.qc_ledger.specs.Entered.{SeesMore}
-use Rattle.qc_pass.specs.declared.view.View.{View}
+use Rattle.qc_desk.specs.declared.view.View.{View}
 
 -- a pass sees what it saw
 pub sees_itself : (v : View) → SeesMore v v

@@ -11,18 +11,18 @@ ghost use Rattle.qc_event.specs.History.{end, is_ready, limit, start};
 ghost use Rattle.qc_event.specs.Listed.{listed};
 ghost use Rattle.qc_event.specs.Standing.{IsUser, Started};
 ghost use Rattle.qc_event.specs.Tables.{setting_of};
-ghost use Rattle.qc_pass.specs.Calling.{Entered, Refused, Shown, StartsChild, StartsTop};
-ghost use Rattle.qc_pass.specs.Looking.{is_marked_for};
-ghost use Rattle.qc_pass.specs.Own.{MayAbortOwn, MayCommitOwn, MayStartOwn};
-ghost use Rattle.qc_pass.specs.Refusing.{against_abort, against_child, against_commit, against_nothing, against_ready};
+ghost use Rattle.qc_desk.specs.Calling.{Entered, Refused, Shown, StartsChild, StartsTop};
+ghost use Rattle.qc_history.specs.Looking.{is_marked_for};
+ghost use Rattle.qc_desk.specs.Own.{MayAbortOwn, MayCommitOwn, MayStartOwn};
+ghost use Rattle.qc_desk.specs.Refusing.{against_abort, against_child, against_commit, against_nothing, against_ready};
 ghost use Rattle.qc_system.specs.Kept.{HasRefused};
 
 use crate::line::Line;
+use qc_desk::DeskNo;
 use qc_disk::Disk;
 use qc_event::{Answer, Cause, How, Kind, Name};
 use qc_ledger::LedgerNo;
 use qc_net::Link;
-use qc_pass::DeskNo;
 use qc_system::Mounting;
 use std::sync::Wait;
 

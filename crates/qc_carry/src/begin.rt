@@ -3,18 +3,18 @@ ghost use Rattle.std.specs.Prelude.{◌≡◌, ◌∷◌, [], IfOk, IfErr};
 ghost use Rattle.qc_event.specs.declared.event.Event.TheVariants as event;
 ghost use Rattle.qc_event.specs.declared.event.Kind.TheVariants as kind;
 ghost use Rattle.qc_event.specs.Tables.{setting_of};
-ghost use Rattle.qc_gather.specs.Carrying.{MayCarry, began, entry, next_ask};
+ghost use Rattle.qc_managers.specs.Carrying.{MayCarry, began, entry, next_ask};
 ghost use Rattle.qc_names.specs.Name.{front};
-ghost use Rattle.qc_pass.specs.Known.{IsKnown};
-ghost use Rattle.qc_pass.specs.Own.{MayAskOwn};
-ghost use Rattle.qc_pass.specs.Rules.{IsClient};
+ghost use Rattle.qc_desk.specs.Known.{IsKnown};
+ghost use Rattle.qc_desk.specs.Own.{MayAskOwn};
+ghost use Rattle.qc_desk.specs.Rules.{IsClient};
 ghost use Rattle.qc_carry.specs.Access.{CutUnasked};
 ghost use Rattle.qc_carry.specs.Walk.{Walk};
 
 use crate::calls::{no_of, stopped};
+use qc_desk::{Desk, Pass, Store};
 use qc_event::{Ask, Kind, Name, Op};
-use qc_gather::CarryNo;
-use qc_pass::{Desk, Pass, Store};
+use qc_managers::CarryNo;
 use std::sync::Wait;
 
 /// What a manager's next access is to be.

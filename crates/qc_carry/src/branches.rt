@@ -8,7 +8,7 @@ ghost use Rattle.qc_event.specs.Legal.{Legal};
 ghost use Rattle.qc_event.specs.Tables.{setting_of};
 ghost use Rattle.qc_net.specs.Courier.{link_of};
 ghost use Rattle.qc_net.specs.Plan.{anew};
-ghost use Rattle.qc_pass.specs.Rules.{AreApart, AreKin};
+ghost use Rattle.qc_desk.specs.Rules.{AreApart, AreKin};
 
 use crate::line::Line;
 use qc_disk::Disk;

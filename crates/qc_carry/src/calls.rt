@@ -7,18 +7,18 @@ ghost use Rattle.qc_event.specs.declared.event.How.TheVariants.{Abort as Aborts}
 ghost use Rattle.qc_event.specs.Requests.{is_fault, was_unable};
 ghost use Rattle.qc_event.specs.Standing.{IsOrphanOf};
 ghost use Rattle.qc_event.specs.Tables.{setting_of};
-ghost use Rattle.qc_gather.specs.Carrying.{entry};
-ghost use Rattle.qc_pass.specs.Known.{IsKnown};
-ghost use Rattle.qc_pass.specs.Own.{IsOwnAccess};
-ghost use Rattle.qc_pass.specs.Refusing.{Refuses, against_access};
-ghost use Rattle.qc_pass.specs.Rules.{IsClient};
+ghost use Rattle.qc_managers.specs.Carrying.{entry};
+ghost use Rattle.qc_desk.specs.Known.{IsKnown};
+ghost use Rattle.qc_desk.specs.Own.{IsOwnAccess};
+ghost use Rattle.qc_desk.specs.Refusing.{Refuses, against_access};
+ghost use Rattle.qc_desk.specs.Rules.{IsClient};
 ghost use Rattle.qc_carry.specs.Access as words;
 ghost use Rattle.qc_carry.specs.Access.{IsShort, IsStopped, Waits};
 ghost use Rattle.qc_carry.specs.Walk.{Walk};
 
+use qc_desk::{Desk, DeskNo, Pass, Store};
 use qc_event::{Ask, Cause, Name, Why};
-use qc_gather::CarryNo;
-use qc_pass::{Desk, DeskNo, Pass, Store};
+use qc_managers::CarryNo;
 use std::sync::Wait;
 
 /// Why an access is not carried on, by a desk's answer. That its manager has ended or is ready, or has an open child,

@@ -6,18 +6,18 @@ ghost use Rattle.qc_event.specs.History.{refused};
 ghost use Rattle.qc_event.specs.Requests.{is_fault, was_unable};
 ghost use Rattle.qc_event.specs.Tables.{setting_of};
 ghost use Rattle.qc_net.specs.Courier.{IsAnswered};
-ghost use Rattle.qc_pass.specs.Known.{IsKnown};
-ghost use Rattle.qc_pass.specs.Own.{IsOwnAccess};
-ghost use Rattle.qc_pass.specs.Rules.{IsClient};
+ghost use Rattle.qc_desk.specs.Known.{IsKnown};
+ghost use Rattle.qc_desk.specs.Own.{IsOwnAccess};
+ghost use Rattle.qc_desk.specs.Rules.{IsClient};
 ghost use Rattle.qc_site.specs.Answers.{HasAnswered};
 ghost use Rattle.qc_carry.specs.Access.{Ends, Waits};
 ghost use Rattle.qc_carry.specs.Kept.{TellsSent, ToldNoLoss, WasGivenUp};
 
 use crate::calls::{give_up, miss, orphaned, stopped};
+use qc_desk::{Desk, Pass, Store};
 use qc_event::{Answered, Ask, Refusal, Tuple, Why};
-use qc_gather::{Carried, CarryNo};
+use qc_managers::{Carried, CarryNo};
 use qc_net::Sent;
-use qc_pass::{Desk, Pass, Store};
 use std::sync::Wait;
 
 // An access takes the reply that was granted, unless it is dead.

@@ -5,19 +5,19 @@ ghost use Rattle.qc_event.specs.Tables.{setting_of};
 ghost use Rattle.qc_net.specs.Courier.{link_of, held_of};
 ghost use Rattle.qc_net.specs.Messages.{meets_fates};
 ghost use Rattle.qc_net.specs.Plan.{anew};
-ghost use Rattle.qc_pass.specs.Consulting.{HasAsked};
-ghost use Rattle.qc_pass.specs.Entries.{entries_of};
-ghost use Rattle.qc_pass.specs.Known.{IsKnown};
-ghost use Rattle.qc_pass.specs.Rules.{AreApart, AreKin, IsClient};
+ghost use Rattle.qc_desk.specs.Consulting.{HasAsked};
+ghost use Rattle.qc_desk.specs.Entries.{entries_of};
+ghost use Rattle.qc_desk.specs.Known.{IsKnown};
+ghost use Rattle.qc_desk.specs.Rules.{AreApart, AreKin, IsClient};
 ghost use Rattle.qc_carry.specs.Kept.{Keeps, net_of};
 
 use crate::begin::NextAccess;
 use crate::carry::{access, is_cut_off};
+use qc_desk::Pass;
 use qc_disk::Disk;
 use qc_event::{Name, Op};
-use qc_gather::{Carried, Carrier, CarryNo};
+use qc_managers::{Carried, Carrier, CarryNo};
 use qc_net::{Courier, Link};
-use qc_pass::Pass;
 use qc_system::{Boxed, Mounting, System};
 use std::sync::Wait;
 
@@ -94,7 +94,7 @@ impl<'a, R: Wait, D: Disk + Drop, L: Link + Drop, N: Mounting> Carrier for Line<
     ghost use Rattle.std.proofs.Common.{refl, ◌∙◌};
     ghost use Rattle.std.specs.Prelude.{◌≡◌, ◌==◌, not};
     ghost use Rattle.qc_event.specs.Tables.{setting_of};
-    ghost use Rattle.qc_pass.proofs.Known.{known_again};
+    ghost use Rattle.qc_desk.proofs.Known.{known_again};
     ghost use Rattle.qc_net.specs.Courier.{link_of};
     ghost use Rattle.qc_carry.specs.Carried.{HasCarried, carried_itself, carried_by_both};
 

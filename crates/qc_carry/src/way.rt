@@ -8,19 +8,19 @@ ghost use Rattle.qc_event.specs.Tables.{setting_of};
 ghost use Rattle.qc_net.specs.Courier.{link_of, held_of, IsAnswered, HasCause};
 ghost use Rattle.qc_net.specs.Plan.{anew};
 ghost use Rattle.qc_net.specs.Sending.{IsSending, sending};
-ghost use Rattle.qc_pass.specs.Consulting.{HasAsked};
-ghost use Rattle.qc_pass.specs.Known.{IsKnown};
-ghost use Rattle.qc_pass.specs.Rules.{IsClient};
+ghost use Rattle.qc_desk.specs.Consulting.{HasAsked};
+ghost use Rattle.qc_desk.specs.Known.{IsKnown};
+ghost use Rattle.qc_desk.specs.Rules.{IsClient};
 ghost use Rattle.qc_site.specs.Answers.{HasAnswered};
 ghost use Rattle.qc_carry.specs.Access as words;
 ghost use Rattle.qc_carry.specs.Access.{IsShort};
 ghost use Rattle.qc_carry.specs.Walk.{Walk};
 
+use qc_desk::Pass;
 use qc_disk::Disk;
 use qc_event::{Answered, Ask, Short};
-use qc_gather::CarryNo;
+use qc_managers::CarryNo;
 use qc_net::{Courier, Link, Port, Sent};
-use qc_pass::Pass;
 use qc_system::{Boxed, Mounting, System};
 use std::mem::replace;
 use std::sync::Wait;
@@ -64,7 +64,7 @@ fn want_of(short: Short) -> CarryNo
 impl<'a, R: Wait, D: Disk + Drop, N: Mounting> Port for Way<'a, R, D, N> {
     ghost use Rattle.std.specs.Prelude.{◌≡◌, true, None};
     ghost use Rattle.qc_ledger.specs.Entered.{SeesMore};
-    ghost use Rattle.qc_pass.specs.Consulting.{HasAsked};
+    ghost use Rattle.qc_desk.specs.Consulting.{HasAsked};
     ghost use Rattle.qc_site.specs.Answers.{HasAnswered};
     ghost use Rattle.qc_ledger.proofs.Passes.{sees_on};
     ghost use Rattle.qc_carry.specs.Seeing.{sees_itself};

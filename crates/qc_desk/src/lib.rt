@@ -1,15 +1,27 @@
-//! The desk: what stands in the one history, found without a scan.
+//! One legal history behind a lock, and passes that know a beginning of it.
 #![tactic(auto)]
 
-mod index;
+mod accesses;
+mod consult;
+mod copies;
+mod desk;
+mod ends;
+mod finish;
+mod found;
+mod locked;
 mod looks;
 mod lookups;
-mod nodes;
-mod outcomes;
+mod pass;
+mod refusal;
+mod starts;
 mod steps;
+mod store;
+mod tops;
+mod view;
 
-pub use index::Index;
-pub use looks::{Look, Told, answers};
-pub use nodes::{Node, Nodes};
-pub use outcomes::{Outcomes, Scan};
-pub use steps::Steps;
+pub use consult::Consulted;
+pub use desk::{Blank, Desk};
+pub use pass::Pass;
+pub use refusal::DeskNo;
+pub use store::Store;
+pub use view::View;

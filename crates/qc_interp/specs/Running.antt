@@ -5,7 +5,7 @@ use Rattle.qc_event.specs.declared.event.Cause.TheVariants as cause
 use Rattle.qc_event.specs.Users.{UserCause, is_marked, top_number}
 use Rattle.qc_script.specs.declared.tx.TxNo.{TxNo}
 use Rattle.qc_script.specs.declared.tx.TxNo.TheVariants as tx_no
-use Rattle.qc_script.specs.Calls.{Refuses, IsOfSession}
+use Rattle.qc_script.specs.Calls.{Refuses, IsOfSession, is_over}
 use Rattle.qc_event.specs.declared.event.How.{How}
 use Rattle.qc_event.specs.declared.event.How.TheVariants.{Commit, Abort}
 use Rattle.qc_event.specs.declared.event.Kind.{Kind}
@@ -15,7 +15,6 @@ use Rattle.qc_event.specs.Legal.{Legal}
 use Rattle.qc_names.specs.Name as name
 use Rattle.qc_event.specs.Standing.{Started, IsUser, IsAbort, open_child}
 use Rattle.qc_interp.specs.Adding.{AllStayIn}
-use Rattle.qc_script.specs.Calls.{is_over}
 use Rattle.qc_script.specs.Client.{Client, mine, scope, Made, IsLater, HasJoined, AreOurs}
 use Rattle.qc_interp.specs.Deeds.{Deed, deeds, deed_end, OfChild}
 use Rattle.qc_interp.specs.Follows.{StopsEarly, Stops, StopsBefore, WasAsked, WasOrphan, IsUnended, AfterTries, RunsPlan}

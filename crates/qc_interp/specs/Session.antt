@@ -3,12 +3,11 @@ use Rattle.std.specs.Prelude.{ℕ, ◌≡◌, true, List, [], ◌∷◌, ◌++�
 use Rattle.std.specs.List.{AllByRecursion, list_all}
 use Rattle.qc_event.specs.History.{Past, Name, end, children}
 use Rattle.qc_interp.specs.Adding.{AllOfOne, AllForIts, own_after, all_over}
-use Rattle.qc_script.specs.Numbers.{Numbers}
+use Rattle.qc_script.specs.Numbers.{Numbers, each}
 use Rattle.qc_script.specs.Client.{Client, mine, IsLater, HasJoined, AreOurs}
 use Rattle.qc_interp.specs.Follows.{RunsBody}
 use Rattle.qc_interp.specs.Reach.{Reach, AtTheEnd}
 use Rattle.qc_script.specs.Plan.{Numbered}
-use Rattle.qc_script.specs.Numbers.{each}
 use Rattle.qc_interp.specs.Turns.{takes_turn, is_alone, is_under}
 use Rattle.qc_interp.specs.Tries.{Tries}
 use Rattle.qc_interp.specs.Asking.{BodiesAsk, AllAsked}

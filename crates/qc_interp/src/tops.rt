@@ -4,10 +4,9 @@ ghost use Rattle.qc_event.specs.History.{limit};
 ghost use Rattle.qc_event.specs.Legal.{Legal};
 ghost use Rattle.qc_script.specs.Calls.{MeetsLink};
 ghost use Rattle.qc_script.specs.Client.{HasJoined};
-ghost use Rattle.qc_script.specs.Plan.{Numbered, PlanFits};
+ghost use Rattle.qc_script.specs.Plan.{Numbered, PlanFits, BodiesFit};
 ghost use Rattle.qc_script.specs.Steps.{numbered};
 ghost use Rattle.qc_interp.specs.Session.{EndsTops, RanTops, RanInTurn, CutTops};
-ghost use Rattle.qc_script.specs.Plan.{BodiesFit};
 
 use crate::body::steps;
 use crate::host::Host;

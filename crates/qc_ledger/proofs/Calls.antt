@@ -17,9 +17,9 @@ use Rattle.qc_ledger.specs.Since.{IsNext, TopsGrow}
 use Rattle.qc_ledger.specs.declared.shelf.Shelf.{Shelf}
 use Rattle.qc_ledger.proofs.Logging.{LeavesNow, falls_grow, grew_by, loses_none_on, same_moments, then_grew, then_none}
 use Rattle.qc_ledger.proofs.Since.{over_same, tops_on, tops_risen, tops_written}
-use Rattle.qc_pass.specs.declared.view.View.{View}
-use Rattle.qc_pass.specs.Entries.{IsOlder, entries_of}
-use Rattle.qc_pass.proofs.Seers.{older_trans}
+use Rattle.qc_desk.specs.declared.view.View.{View}
+use Rattle.qc_desk.specs.Entries.{IsOlder, entries_of}
+use Rattle.qc_desk.proofs.Seers.{older_trans}
 
 module _ {D : Type 0} {g : Ghosts D} where
   abbrev left_by : Shelf D g → List ℕ → Type 0

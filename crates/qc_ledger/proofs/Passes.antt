@@ -7,19 +7,19 @@ use Rattle.qc_event.specs.declared.event.Entry.{Entry}
 use Rattle.qc_event.specs.declared.event.Event.TheVariants as event
 use Rattle.qc_event.specs.declared.event.Why.{Why}
 use Rattle.qc_event.specs.History.{Name, Past, earliest, end, end_in, is_ready, ready_in}
-use Rattle.qc_pass.specs.declared.refusal.DeskNo.{DeskNo}
-use Rattle.qc_pass.specs.declared.view.View.{View}
-use Rattle.qc_pass.specs.Calling.{Entered, Refused, Shown}
-use Rattle.qc_pass.specs.Entries.{IsOlder, entries_of, entry}
-use Rattle.qc_pass.specs.Refusing.{against_nothing}
+use Rattle.qc_desk.specs.declared.refusal.DeskNo.{DeskNo}
+use Rattle.qc_desk.specs.declared.view.View.{View}
+use Rattle.qc_desk.specs.Calling.{Entered, Refused, Shown}
+use Rattle.qc_desk.specs.Entries.{IsOlder, entries_of, entry}
+use Rattle.qc_desk.specs.Refusing.{against_nothing}
 use Rattle.qc_event.specs.Base.{Setting}
 use Rattle.qc_event.specs.Legal.{Legal}
 use Rattle.qc_event.specs.Seats.{ledger_seat}
 use Rattle.qc_event.proofs.OneEntry.{no_some, none_before, not_some, some_or_none}
 use Rattle.qc_event.proofs.RootAndTops.{ready_started}
 use Rattle.qc_event.proofs.StillTold.{some_stays}
-use Rattle.qc_pass.proofs.Finishing.{ended_by_ledger}
-use Rattle.qc_pass.proofs.Seers.{older_trans}
+use Rattle.qc_desk.proofs.Finishing.{ended_by_ledger}
+use Rattle.qc_desk.proofs.Seers.{older_trans}
 use Rattle.qc_ledger.specs.Entered.{MayFinish, SeesMore}
 use Rattle.qc_ledger.specs.Since.{IsNext}
 

@@ -20,8 +20,8 @@ use Rattle.qc_ledger.specs.Since.{AllLeft, AreTopsBy, GrownSince, HasBehind, IsN
 use Rattle.qc_ledger.specs.Shelf.{journal_in, top_in}
 use Rattle.qc_ledger.specs.declared.shelf.Shelf.{Shelf}
 use Rattle.qc_ledger.proofs.Writing.{kept_has}
-use Rattle.qc_pass.specs.Entries.{IsOlder, entries_of}
-use Rattle.qc_pass.proofs.Seers.{older_trans}
+use Rattle.qc_desk.specs.Entries.{IsOlder, entries_of}
+use Rattle.qc_desk.proofs.Seers.{older_trans}
 
 -- THE LAW OF A RUN
 

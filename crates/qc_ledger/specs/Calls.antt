@@ -10,9 +10,9 @@ use Rattle.qc_ledger.specs.Shelf.{journal_in, top_body, top_in}
 use Rattle.qc_ledger.specs.Since.{TopsGrow}
 use Rattle.qc_ledger.specs.declared.ledger.Ledger.{Ledger}
 use Rattle.qc_ledger.specs.declared.shelf.Shelf.{Shelf}
-use Rattle.qc_pass.specs.declared.store.Store.{Ghosts as Desk}
-use Rattle.qc_pass.specs.declared.view.View.{View}
-use Rattle.qc_pass.specs.Entries.{IsOlder}
+use Rattle.qc_desk.specs.declared.store.Store.{Ghosts as Desk}
+use Rattle.qc_desk.specs.declared.view.View.{View}
+use Rattle.qc_desk.specs.Entries.{IsOlder}
 
 -- A ledger as a call finds it or leaves it: its journal with the top in hand, and its pass.
 pub record LedgerState {D : Type 0} (g : Ghosts D) : Type 0 where

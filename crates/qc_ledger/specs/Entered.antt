@@ -10,8 +10,8 @@ use Rattle.qc_codec.specs.Ledger as records
 use Rattle.qc_codec.specs.Ledger.{commit_of}
 use Rattle.qc_event.specs.History.{Name, Past, end, every, is_ready}
 use Rattle.qc_event.specs.Seats.{ledger_seat}
-use Rattle.qc_pass.specs.declared.view.View.{View}
-use Rattle.qc_pass.specs.Entries.{IsOlder, entry}
+use Rattle.qc_desk.specs.declared.view.View.{View}
+use Rattle.qc_desk.specs.Entries.{IsOlder, entry}
 use Rattle.qc_journal.specs.Journal.{Keeps, in_hand}
 use Rattle.qc_journal.specs.declared.journal.State.{State}
 use Rattle.qc_journal.specs.declared.journal.State.TheVariants as state

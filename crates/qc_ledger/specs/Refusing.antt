@@ -5,8 +5,8 @@ use Rattle.qc_codec.specs.declared.image.ImageFault.TheVariants as image
 use Rattle.qc_event.specs.declared.table.Table.{Table}
 use Rattle.qc_journal.specs.declared.fault.Fault.{Fault}
 use Rattle.qc_journal.specs.declared.fault.Fault.TheVariants as fault
-use Rattle.qc_pass.specs.declared.refusal.DeskNo.{DeskNo}
-use Rattle.qc_pass.specs.declared.refusal.DeskNo.TheVariants as desk
+use Rattle.qc_desk.specs.declared.refusal.DeskNo.{DeskNo}
+use Rattle.qc_desk.specs.declared.refusal.DeskNo.TheVariants as desk
 use Rattle.qc_ledger.specs.Image.{IsFault, IsFirstFault}
 use Rattle.qc_ledger.specs.declared.fault.LedgerNo.{LedgerNo}
 use Rattle.qc_ledger.specs.declared.fault.LedgerNo.TheVariants.{Disk, Image, Full, Memory, Room}

@@ -8,7 +8,7 @@ use Rattle.qc_journal.specs.Image.{HasAt, HasRecords}
 use Rattle.qc_ledger.specs.Entered.{told_body, tops_of}
 use Rattle.qc_ledger.specs.Shelf.{journal_in}
 use Rattle.qc_ledger.specs.declared.shelf.Shelf.{Shelf}
-use Rattle.qc_pass.specs.Entries.{IsOlder, entries_of}
+use Rattle.qc_desk.specs.Entries.{IsOlder, entries_of}
 
 -- THE LAW OF A RUN
 

@@ -5,9 +5,9 @@ ghost use Rattle.qc_journal.specs.Journal.{disk_of, IsDown, IsUp, Keeps};
 
 use crate::ledger::Ledger;
 use crate::shelf::Shelf;
+use qc_desk::{Pass, Store};
 use qc_disk::Disk;
 use qc_journal::{Body, Journal};
-use qc_pass::{Pass, Store};
 use std::alloc::Global;
 
 /// A ledger that was mounted: its journal, which is up, and the bodies of its records.

@@ -6,7 +6,7 @@ ghost use Rattle.qc_codec.specs.declared.record.LedgerRecord.TheVariants.{Top};
 ghost use Rattle.qc_event.specs.History.{end, is_ready, limit};
 ghost use Rattle.qc_event.specs.Requests.{is_ledger_fault};
 ghost use Rattle.qc_event.specs.Seats.{ledger_seat};
-ghost use Rattle.qc_pass.specs.Entries.{entries_of, IsOlder};
+ghost use Rattle.qc_desk.specs.Entries.{entries_of, IsOlder};
 ghost use Rattle.qc_journal.specs.Journal.{disk_of, limit_of, place_of, IsTooLong, IsUp, Keeps};
 ghost use Rattle.qc_ledger.specs.Entered.{MayFinish, SeesMore};
 ghost use Rattle.qc_ledger.specs.Refusing.{want_no, IsWantNo};
@@ -17,9 +17,9 @@ ghost use Rattle.qc_ledger.specs.declared.fault.LedgerNo.TheVariants.{Disk, Full
 
 use crate::fault::LedgerNo;
 use crate::shelf::Shelf;
+use qc_desk::{Desk, DeskNo, Pass, Store};
 use qc_disk::Disk;
 use qc_event::{Name, Why};
-use qc_pass::{Desk, DeskNo, Pass, Store};
 use std::sync::Wait;
 
 /// The ledger of a desk, with its pass.

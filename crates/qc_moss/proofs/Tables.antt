@@ -3,7 +3,7 @@ use Rattle.std.proofs.Common.{◌≡◌, ℕ, ◌<◌, Bool, All, true, false, L
 use mathlib.Core.Bool.{true≢false}
 use Rattle.std.specs.Prelude.{◌==◌, filter, slice_set, if◌then◌else◌}
 use Rattle.std.proofs.lemmas.Bool.{cases_Bool, eqb-true, eq-eqb}
-use Rattle.std.proofs.lemmas.List.Elements.{filter-append}
+use Rattle.std.proofs.lemmas.List.Elements.{filter-append, All-tail}
 use Rattle.std.proofs.Math.ListN.{get_or-map}
 use Rattle.qc_config.specs.declared.tuple.Tuple.{Tuple}
 use Rattle.qc_event.specs.Base.{no_tuple}
@@ -13,7 +13,6 @@ use Rattle.qc_event.specs.History.{Past, Name}
 use Rattle.qc_moss.specs.declared.holder.Holder.{Holder}
 use Rattle.qc_moss.specs.Locks.{Table, unheld, holders_of, start_of, base_of, granted_to, alone, joined, effect, is_root, unfolded, folded_into}
 use Rattle.qc_moss.proofs.Answering.{both_effects}
-use Rattle.std.proofs.lemmas.List.Elements.{All-tail}
 use Rattle.qc_moss.specs.Follows.{AreOf, AreFolded, Follows, Becomes, HoldsStill}
 use Rattle.qc_moss.specs.Follows.AreOf.{none}
 use Rattle.qc_moss.specs.Follows.AreFolded.{nothing, folded}

@@ -1,5 +1,5 @@
 //! What lock tables have to do with histories, as a law.
-ghost use Rattle.std.specs.Prelude.{ℕ, ◌≡◌, ◌<◌, not, List, [], ◌∷◌, ◌++◌, length, filter, find};
+ghost use Rattle.std.specs.Prelude.{ℕ, ◌≡◌, ◌<◌, not, List, [], ◌∷◌, ◌++◌, length, filter, find, None};
 ghost use Rattle.std.specs.Option.{option_map};
 ghost use Rattle.qc_config.specs.declared.tuple.Op.{Op};
 ghost use Rattle.qc_config.specs.declared.tuple.Tuple.{Tuple};
@@ -9,7 +9,6 @@ ghost use Rattle.qc_event.specs.Seen.{is_in_way, is_live_at, changed_by};
 ghost use Rattle.qc_event.specs.declared.event.Entry.{Entry};
 ghost use Rattle.qc_event.specs.declared.event.Grant.{Grant};
 ghost use Rattle.qc_event.specs.Dead.{dead};
-ghost use Rattle.std.specs.Prelude.{None};
 ghost use Rattle.qc_moss.specs.Follows.{Follows, IsSettled};
 ghost use Rattle.qc_moss.specs.Locks.{Table, unheld, test_of, test_by, start_of, tuple_of, granted_to};
 

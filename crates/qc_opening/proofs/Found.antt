@@ -18,12 +18,12 @@ use Rattle.qc_ledger.specs.Mounted as book
 use Rattle.qc_ledger.proofs.Logging.{up_by}
 use Rattle.qc_ledger.proofs.Writing.{kept_has}
 use Rattle.qc_ledger.specs.declared.book.Book.{Book}
-use Rattle.qc_mount.specs.Mounted.{copy_disk, IsCopy}
-use Rattle.qc_mount.specs.declared.parts.Parts.{Parts}
+use Rattle.qc_opening.specs.Mounted.{copy_disk, IsCopy}
+use Rattle.qc_opening.specs.declared.parts.Parts.{Parts}
 use Rattle.qc_site.specs.Mounted as copy
 use Rattle.qc_site.specs.Start.{start_of}
 use Rattle.qc_site.specs.declared.mounted.Mounted.{Mounted}
-use Rattle.qc_standing.specs.Mountings.{AreBytes, IsMounted}
+use Rattle.qc_opening.specs.Mountings.{AreBytes, IsMounted}
 use Rattle.qc_system.specs.Grown.{LeftAlike}
 use Rattle.qc_system.specs.Parts.{AreMounted, Findings, IsFound}
 use Rattle.qc_system.specs.Parts as system

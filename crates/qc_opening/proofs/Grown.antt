@@ -7,7 +7,7 @@ use Rattle.qc_disk.specs.Disk.{View}
 use Rattle.qc_event.specs.Tables.{setting_of}
 use Rattle.qc_event.specs.declared.table.Table.{Table}
 use Rattle.qc_system.specs.Grown.{GrownFrom}
-use Rattle.qc_interp.proofs.Places.{some_same}
+use Rattle.qc_interp.proofs.Listing.Places.{some_same}
 use Rattle.qc_opening.specs.Stored.{disks_of, past_of, AreOfRun, HasGrown, HasKept, HaveGrown}
 use Rattle.qc_opening.specs.declared.stored.Stored.{Stored}
 

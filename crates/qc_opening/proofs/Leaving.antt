@@ -6,14 +6,14 @@ use Rattle.qc_disk.specs.declared.disk.Disk.{Ghosts}
 use Rattle.qc_event.specs.declared.table.Table.{Table}
 use Rattle.qc_journal.specs.Journal.{disk_of}
 use Rattle.qc_ledger.specs.Mounted.{journal_of}
-use Rattle.qc_mount.specs.Disks.{IsLeft}
-use Rattle.qc_mount.specs.Mounted.{copy_disk, IsCopy, IsStoreOf}
-use Rattle.qc_mount.specs.Numbered.{PairsFrom}
-use Rattle.qc_mount.specs.Refusing.{reason_in, AreLeft, FailedAt, IsBehind}
-use Rattle.qc_mount.specs.declared.parts.Parts.{Parts}
-use Rattle.qc_mount.specs.declared.refusing.MountNo.TheVariants as no
-use Rattle.qc_mount.proofs.InTurn.{written_next}
-use Rattle.qc_mount.proofs.Numbered.{pairs_mapped, pairs_shifted}
+use Rattle.qc_opening.specs.Disks.{IsLeft}
+use Rattle.qc_opening.specs.Mounted.{copy_disk, IsCopy, IsStoreOf}
+use Rattle.qc_opening.specs.Numbered.{PairsFrom}
+use Rattle.qc_opening.specs.Refusing.{reason_in, AreLeft, FailedAt, IsBehind}
+use Rattle.qc_opening.specs.declared.parts.Parts.{Parts}
+use Rattle.qc_opening.specs.declared.mount_no.MountNo.TheVariants as no
+use Rattle.qc_opening.proofs.Mountings.InTurn.{written_next}
+use Rattle.qc_opening.proofs.Mountings.Numbered.{pairs_mapped, pairs_shifted}
 use Rattle.qc_opening.specs.Parts.{disks_held}
 
 module _ {D : Type 0} {g : Ghosts D} {E : Type 0} (table : Table) (limit : ℕ) (back : Vec E Global) where

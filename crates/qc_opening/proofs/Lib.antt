@@ -8,3 +8,5 @@ pub mod Paid
 pub mod Leaving
 pub mod Ran
 pub mod Grown
+pub mod KeptDisks
+pub mod Mountings

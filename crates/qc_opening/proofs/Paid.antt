@@ -6,8 +6,8 @@ use Rattle.qc_disk.specs.Disk.{View}
 use Rattle.qc_event.specs.Base.{Setting}
 use Rattle.qc_event.specs.History.{Past}
 use Rattle.qc_event.specs.Seats.{copy_seat, ledger_seat}
-use Rattle.qc_interp.proofs.Places.{some_same}
-use Rattle.qc_pass.specs.Entries.{entries_of}
+use Rattle.qc_interp.proofs.Listing.Places.{some_same}
+use Rattle.qc_desk.specs.Entries.{entries_of}
 use Rattle.qc_system.specs.Closing.{AllKeep}
 use Rattle.qc_system.specs.Kept.{Pays, downs}
 use Rattle.qc_system.specs.Parts.{Findings}

@@ -3,7 +3,7 @@ use Rattle.std.proofs.Common.{◌≡◌, ℕ, zero, suc, ◌+◌, ◌<◌, List,
 use Rattle.std.specs.Prelude.{All, Some, slice_get, reverse}
 use Rattle.std.proofs.lemmas.List.{append_assoc, map-append, reverse-append, reverse-reverse}
 use Rattle.std.proofs.lemmas.Option.{get_or_from_slice_get, slice_get_within}
-use Rattle.qc_mount.specs.Numbered.{PairsFrom}
+use Rattle.qc_opening.specs.Numbered.{PairsFrom}
 
 -- one item goes from the end of a list to the end of another
 pub last_over : {A B : Type 0} (f : A → B) (there : List B) (all rest : List A) (last : A) → all ≡ rest ++ last ∷ [] → (there ++ f last ∷ []) ++ reverse (map f rest) ≡ there ++ reverse (map f all)

@@ -27,8 +27,8 @@ use Rattle.qc_event.specs.Tables.{base_of, first_configs, first_tuple, setting_o
 use Rattle.qc_script.specs.Plan.{ScriptPlan}
 use Rattle.qc_script.proofs.Proper.{legal_unless_fault}
 use Rattle.qc_script.specs.Reading.{IsProper, IsProperRow}
-use Rattle.qc_standing.specs.Mountings.{IsMounted}
-use Rattle.qc_standing.proofs.Stands.{copy_spelled}
+use Rattle.qc_opening.specs.Mountings.{IsMounted}
+use Rattle.qc_opening.proofs.KeptDisks.Stands.{copy_spelled}
 
 -- CONFIGURATIONS
 

@@ -9,7 +9,7 @@ use Rattle.qc_event.specs.Legal.{Legal}
 use Rattle.qc_event.specs.Tables.{setting_of}
 use Rattle.qc_interp.specs.FollowsScript.{BeginsScript, FollowsScript}
 use Rattle.qc_script.specs.Plan.{ScriptPlan}
-use Rattle.qc_standing.specs.Mountings.{IsMounted}
+use Rattle.qc_opening.specs.Mountings.{IsMounted}
 use Rattle.qc_system.specs.Closing.{AllKeep}
 use Rattle.qc_opening.specs.Stored.{past_of, HasRun, WasMounted}
 use Rattle.qc_opening.specs.declared.stored.Stored.{Stored}

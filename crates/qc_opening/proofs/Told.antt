@@ -13,19 +13,19 @@ use Rattle.qc_event.specs.History.{limit}
 use Rattle.qc_event.specs.Listed.{listed}
 use Rattle.qc_event.specs.Seats.{ledger_seat}
 use Rattle.qc_event.specs.Tables.{base_of, setting_of}
-use Rattle.qc_interp.proofs.Places.{some_same}
-use Rattle.qc_mount.specs.Disks.{AreCounted, AreOffered}
-use Rattle.qc_mount.specs.Images.{Offers}
-use Rattle.qc_mount.specs.Numbered.{EachFrom, PairsFrom}
-use Rattle.qc_mount.specs.Refusing.{disks_in, reason_in, AreLeft}
-use Rattle.qc_mount.specs.declared.refusing.MountNo.{MountNo}
-use Rattle.qc_pass.specs.Entries.{entries_of}
+use Rattle.qc_interp.proofs.Listing.Places.{some_same}
+use Rattle.qc_opening.specs.Disks.{AreCounted, AreOffered}
+use Rattle.qc_opening.specs.Images.{Offers}
+use Rattle.qc_opening.specs.Numbered.{EachFrom, PairsFrom}
+use Rattle.qc_opening.specs.Refusing.{disks_in, reason_in, AreLeft}
+use Rattle.qc_opening.specs.declared.mount_no.MountNo.{MountNo}
+use Rattle.qc_desk.specs.Entries.{entries_of}
 use Rattle.qc_refine.specs.Images.{IsStanding, Restores}
 use Rattle.qc_script.specs.Plan.{ScriptPlan}
-use Rattle.qc_standing.specs.Mountings.{HaveNoGrants, IsMounted}
-use Rattle.qc_standing.proofs.KeptImages.{images_kept}
-use Rattle.qc_standing.proofs.Restarts.{first_start, restores}
-use Rattle.qc_standing.proofs.Stands.{stand}
+use Rattle.qc_opening.specs.Mountings.{HaveNoGrants, IsMounted}
+use Rattle.qc_opening.proofs.KeptDisks.KeptImages.{images_kept}
+use Rattle.qc_opening.proofs.KeptDisks.Restarts.{first_start, restores}
+use Rattle.qc_opening.proofs.KeptDisks.Stands.{stand}
 use Rattle.qc_system.specs.Closing.{AllKeep, CopyKeeps, DiskKeeps, LedgerKeeps}
 use Rattle.qc_system.specs.Kept.{HadNoRoom, Pays, downs}
 use Rattle.qc_system.specs.Parts.{Findings}

@@ -6,13 +6,13 @@ use Rattle.qc_disk.specs.Disk.{View}
 use Rattle.qc_disk.specs.declared.disk.Disk.{Ghosts}
 use Rattle.qc_event.specs.declared.table.Table.{Table}
 use Rattle.qc_codec.specs.declared.image.BadImage.{BadImage}
-use Rattle.qc_mount.specs.Disks.{to_write, IsLeft, IsMounted}
-use Rattle.qc_mount.specs.Mounted.{IsStoreOf}
-use Rattle.qc_mount.specs.declared.parts.Parts.{Parts}
-use Rattle.qc_mount.proofs.Numbered.{pairs_length}
-use Rattle.qc_mount.specs.Refusing.{reason_in, AreLeft, FailedAt, IsBehind, IsReasonAmong}
-use Rattle.qc_mount.specs.declared.refusing.MountNo.{MountNo}
-use Rattle.qc_mount.specs.declared.refusing.MountNo.TheVariants as no
+use Rattle.qc_opening.specs.Disks.{to_write, IsLeft, IsMounted}
+use Rattle.qc_opening.specs.Mounted.{IsStoreOf}
+use Rattle.qc_opening.specs.declared.parts.Parts.{Parts}
+use Rattle.qc_opening.proofs.Mountings.Numbered.{pairs_length}
+use Rattle.qc_opening.specs.Refusing.{reason_in, AreLeft, FailedAt, IsBehind, IsReasonAmong}
+use Rattle.qc_opening.specs.declared.mount_no.MountNo.{MountNo}
+use Rattle.qc_opening.specs.declared.mount_no.MountNo.TheVariants as no
 use Rattle.qc_system.specs.declared.boxed.Boxed.{Boxed}
 use Rattle.qc_opening.specs.Boxes.{unboxed}
 use Rattle.qc_opening.specs.Parts.{IsStoreOver}

@@ -1,3 +1,11 @@
 pub mod Boxes
 pub mod Parts
 pub mod Stored
+pub mod Numbered
+pub mod Waiting
+pub mod Disks
+pub mod Images
+pub mod Refusing
+pub mod Obtained
+pub mod Mounted
+pub mod Mountings

@@ -4,8 +4,8 @@ use Rattle.qc_disk.specs.declared.disk.Disk.{Ghosts}
 use Rattle.qc_event.specs.declared.table.Table.{Table}
 use Rattle.qc_journal.specs.Journal.{disk_of}
 use Rattle.qc_ledger.specs.Mounted.{journal_of}
-use Rattle.qc_mount.specs.Mounted.{copy_disk, IsStoreOf}
-use Rattle.qc_mount.specs.declared.parts.Parts.{Parts}
+use Rattle.qc_opening.specs.Mounted.{copy_disk, IsStoreOf}
+use Rattle.qc_opening.specs.declared.parts.Parts.{Parts}
 
 -- what the disk of a number told, where they told this
 abbrev pub told_by : List (Option (List ℕ)) → ℕ → Option (List ℕ)

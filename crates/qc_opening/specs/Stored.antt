@@ -13,13 +13,13 @@ use Rattle.qc_event.specs.Tables.{setting_of}
 use Rattle.qc_interp.specs.FollowsScript.{BeginsScript, FollowsScript}
 use Rattle.qc_journal.specs.Image.{HasRecords}
 use Rattle.qc_ledger.specs.Since.{AreTopsBy}
-use Rattle.qc_mount.specs.Numbered.{PairsFrom}
-use Rattle.qc_mount.specs.Refusing.{disks_in}
-use Rattle.qc_mount.specs.declared.refusing.MountNo.{MountNo}
-use Rattle.qc_pass.specs.Entries.{entries_of}
+use Rattle.qc_opening.specs.Numbered.{PairsFrom}
+use Rattle.qc_opening.specs.Refusing.{disks_in}
+use Rattle.qc_opening.specs.declared.mount_no.MountNo.{MountNo}
+use Rattle.qc_desk.specs.Entries.{entries_of}
 use Rattle.qc_script.specs.Plan.{ScriptPlan}
 use Rattle.qc_site.specs.Since.{AreGrantsBy}
-use Rattle.qc_standing.specs.Mountings.{IsMounted}
+use Rattle.qc_opening.specs.Mountings.{IsMounted}
 use Rattle.qc_system.specs.Closing.{AllKeep}
 use Rattle.qc_system.specs.Grown.{GrownFrom}
 use Rattle.qc_system.specs.Kept.{HadNoRoom, Pays, downs}

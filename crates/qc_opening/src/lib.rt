@@ -1,12 +1,29 @@
-//! From a shop of disks to what a session left of the store on them.
+//! From a shop of disks to what the sessions of a script left of the store on them: its disks mounted, a system opened over
+//! them and run, and what the disks keep.
 #![tactic(auto)]
 
 mod boxing;
+mod bytes;
+mod copies;
+mod law;
+mod ledger;
+mod mount_no;
+mod mounting;
+mod obtaining;
 mod opening;
+mod parts;
 mod refusing;
 mod running;
+mod standing;
 mod starting;
 mod stored;
+mod waiting;
 
+pub use law::one_verdict;
+pub use mount_no::MountNo;
+pub use mounting::{mount, mount_disks};
+pub use obtaining::obtain_all;
 pub use opening::run_stored;
+pub use parts::Parts;
+pub use standing::kept_disks_stand;
 pub use stored::Stored;

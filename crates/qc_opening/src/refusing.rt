@@ -1,14 +1,15 @@
 //! What a refusal of a mounting is once its disks are out of their places.
 ghost use Rattle.std.specs.Prelude.{◌≡◌, ◌≤◌, ◌+◌, ◌++◌, [], length, map, reverse};
 ghost use Rattle.std.specs.Vec.{vec_capacity};
-ghost use Rattle.qc_mount.specs.Mounted.{copy_disk};
-ghost use Rattle.qc_mount.specs.Refusing.{disks_in, reason_in};
+ghost use Rattle.qc_opening.specs.Mounted.{copy_disk};
+ghost use Rattle.qc_opening.specs.Refusing.{disks_in, reason_in};
 ghost use Rattle.qc_opening.specs.Boxes.{unboxed};
 ghost use Rattle.qc_opening.specs.Parts.{disks_held};
 
 use crate::boxing::{turned, unbox_all};
+use crate::mount_no::MountNo;
+use crate::parts::Parts;
 use qc_disk::Disk;
-use qc_mount::{MountNo, Parts};
 use qc_site::Mounted;
 use qc_system::Boxed;
 

@@ -10,8 +10,8 @@ ghost use Rattle.qc_event.specs.Tables.{setting_of};
 ghost use Rattle.qc_interp.specs.FollowsScript.{FollowsScript, BeginsScript};
 ghost use Rattle.qc_journal.specs.Journal.{limit_of};
 ghost use Rattle.qc_ledger.specs.Mounted as book;
-ghost use Rattle.qc_mount.specs.Images.{AreSound, IsFirstFault};
-ghost use Rattle.qc_mount.specs.Refusing.{disks_in, reason_in, AreLeft, IsReasonAmong, TellImages};
+ghost use Rattle.qc_opening.specs.Images.{AreSound, IsFirstFault};
+ghost use Rattle.qc_opening.specs.Refusing.{disks_in, reason_in, AreLeft, IsReasonAmong, TellImages};
 ghost use Rattle.qc_opening.specs.Boxes.{unboxed};
 ghost use Rattle.qc_opening.specs.Parts.{counted_by, disks_held, told_by, IsStoreOver};
 ghost use Rattle.qc_opening.specs.Stored.{HasRun};
@@ -21,15 +21,16 @@ ghost use Rattle.qc_system.specs.Closing.{AllKeep};
 ghost use Rattle.qc_system.specs.Parts.{AreMounted, IsFound};
 
 use crate::boxing::box_all;
+use crate::bytes::are_bytes;
+use crate::mount_no::MountNo;
+use crate::mounting::mount_disks;
 use crate::refusing::{take_apart, unbox_refusal};
 use crate::starting::{blank_over, copies_are_of_bytes};
 use crate::stored::Stored;
 use qc_disk::Disk;
 use qc_interp::{Gate, Mode};
-use qc_mount::{MountNo, mount_disks};
 use qc_script::Script;
 use qc_session::{Ended, run_sessions};
-use qc_standing::are_bytes;
 use qc_system::{Boxed, Mounting, Parts, System};
 use std::alloc::Global;
 use std::marker::Brand;
@@ -99,7 +100,7 @@ fn known_range(epoch: u32)
 fn run_mounted<R: Threads + Wait + Sync, D: Disk + Drop + Send, G: Gate + Sync>(
     rt: &R,
     alloc: Global,
-    parts: qc_mount::Parts<Boxed<D>>,
+    parts: crate::Parts<Boxed<D>>,
     room: Vec<D>,
     script: &Script,
     gate: &G,
@@ -125,7 +126,7 @@ fn run_mounted<R: Threads + Wait + Sync, D: Disk + Drop + Send, G: Gate + Sync>(
     known_range(epoch);
     match blank_over(alloc, parts.copies.as_slice(), epoch) {
         Ok(blank) => {
-            let qc_mount::Parts { book, copies, .. } = parts;
+            let crate::Parts { book, copies, .. } = parts;
             let parts = Parts {
                 blank,
                 book,

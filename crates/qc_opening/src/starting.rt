@@ -3,14 +3,14 @@ ghost use Rattle.std.specs.Prelude.{◌≡◌, ◌≤◌, All, map, IfOk};
 ghost use Rattle.qc_ledger.specs.Mounted as book;
 ghost use Rattle.qc_site.specs.Mounted.{records_of};
 ghost use Rattle.qc_site.specs.Start.{start_of};
-ghost use Rattle.qc_standing.specs.Mountings.{AreBytes};
+ghost use Rattle.qc_opening.specs.Mountings.{AreBytes};
 
+use crate::bytes::are_bytes;
 use qc_config::Tuple;
+use qc_desk::Blank;
 use qc_disk::Disk;
 use qc_event::Base;
-use qc_pass::Blank;
 use qc_site::Mounted;
-use qc_standing::are_bytes;
 use std::alloc::{AllocError, Global};
 
 // The tuples with which each copy starts, in order.

@@ -4,5 +4,5 @@
 use std::process::ExitCode;
 
 fn main(rt: HostRuntime) -> ExitCode {
-    qc_main::start(&rt, rt)
+    qc_run::start(&rt, rt)
 }

@@ -10,7 +10,7 @@ use Rattle.qc_event.specs.declared.event.Phase.TheVariants.{Collect, Values, Con
 use Rattle.qc_event.specs.Base.{Setting, first_of}
 use Rattle.qc_event.specs.History.{Past, Name, Given}
 use Rattle.qc_event.specs.Manager.{replies, replied, newest, greatest, record_of}
-use Rattle.qc_simlock.specs.Visible.{served}
+use Rattle.qc_serial.specs.Visible.{served}
 use Rattle.qc_refine.specs.Given.{tuples_of, marks_of, AllDo}
 
 -- What was collected: the replies are those of the gets, and their copies hold a read quorum of the newest

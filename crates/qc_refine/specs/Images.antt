@@ -14,7 +14,7 @@ use Rattle.qc_event.specs.History.{Past}
 use Rattle.qc_event.specs.Sound.{IsSound}
 use Rattle.qc_event.specs.Tables.{base_of, setting_of}
 use Rattle.qc_journal.specs.Image.{HasRecords}
-use Rattle.qc_simlock.specs.Serial.{final_values}
+use Rattle.qc_serial.specs.Serial.{final_values}
 use Rattle.qc_refine.specs.Listed.{logged}
 use Rattle.qc_refine.specs.Restored.{Kept, granted_at, restored, restored_value}
 use Rattle.qc_refine.specs.Standing.{StandBeside}

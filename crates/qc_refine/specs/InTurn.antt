@@ -11,7 +11,7 @@ use Rattle.qc_event.specs.declared.event.Answer.{Answer}
 use Rattle.qc_event.specs.declared.event.Answer.TheVariants.{Nothing, Value, Generation}
 use Rattle.qc_event.specs.declared.event.Kind.{Kind}
 use Rattle.qc_event.specs.declared.event.Kind.TheVariants.{Read, Write, Reconf}
-use Rattle.qc_simlock.specs.Visible.{left_at}
+use Rattle.qc_serial.specs.Visible.{left_at}
 use Rattle.qc_refine.specs.Completed.{ReadDone, WriteDone, MoveDone}
 
 -- a manager that is done: its kind, its answer, and what it was given, in order

@@ -8,8 +8,8 @@ use Rattle.qc_event.specs.declared.event.Kind.{Kind}
 use Rattle.qc_event.specs.declared.event.Kind.TheVariants as kind
 use Rattle.qc_event.specs.Dead.{ancestors}
 use Rattle.qc_event.specs.History.{Past, Name, Given, is_child, kind_of}
-use Rattle.qc_simlock.specs.Visible.{served}
-use Rattle.qc_simlock.specs.Walk.{is_open_or_root}
+use Rattle.qc_serial.specs.Visible.{served}
+use Rattle.qc_serial.specs.Walk.{is_open_or_root}
 use Rattle.qc_refine.specs.InTurn.{Done}
 
 -- What the commit of a child adds: a manager is done, with what it was given before, and a user child adds

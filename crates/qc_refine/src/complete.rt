@@ -8,7 +8,7 @@ ghost use Rattle.qc_event.specs.Legal.{Legal};
 ghost use Rattle.qc_event.specs.Manager.{first_for};
 ghost use Rattle.qc_event.specs.Standing.{IsManager};
 ghost use Rattle.qc_refine.specs.Complete.{AllWithin, HasDone};
-ghost use Rattle.qc_simlock.specs.Visible.{served};
+ghost use Rattle.qc_serial.specs.Visible.{served};
 
 /// In a legal history a manager that committed was given, one after another, the reads of a read quorum, and then
 /// what its kind writes, at write quorums. All of it is of its record, and where the record's first configuration

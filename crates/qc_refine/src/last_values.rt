@@ -5,7 +5,7 @@ ghost use Rattle.qc_event.specs.Base.{Setting};
 ghost use Rattle.qc_event.specs.History.{Past};
 ghost use Rattle.qc_event.specs.Legal.{Legal};
 ghost use Rattle.qc_event.specs.Sound.{IsSound};
-ghost use Rattle.qc_simlock.specs.Serial.{final_values};
+ghost use Rattle.qc_serial.specs.Serial.{final_values};
 ghost use Rattle.qc_refine.specs.Final.{final_value};
 
 /// In a legal history over sound start tuples a record's last value at the serial machine is that of the greatest

@@ -8,7 +8,7 @@ ghost use Rattle.qc_event.specs.History.{Past};
 ghost use Rattle.qc_event.specs.Legal.{Legal};
 ghost use Rattle.qc_event.specs.Sound.{IsSound};
 ghost use Rattle.qc_event.specs.Tables.{base_of, setting_of};
-ghost use Rattle.qc_simlock.specs.Serial.{final_values};
+ghost use Rattle.qc_serial.specs.Serial.{final_values};
 ghost use Rattle.qc_refine.specs.Images.{AreFresh, CarryFinal, IsStanding, Restores};
 ghost use Rattle.qc_refine.specs.Restored.{Kept, restored_setting};
 ghost use Rattle.qc_refine.specs.Standing.{AreNext, StandBeside, committed_too};

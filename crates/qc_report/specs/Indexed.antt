@@ -3,7 +3,7 @@ use Rattle.std.specs.Prelude.{List, reverse, Option, None, Some}
 use Rattle.qc_event.specs.declared.event.Entry.{Entry}
 use Rattle.qc_event.specs.Base.{Setting}
 use Rattle.qc_event.specs.Legal.{Legal}
-use Rattle.qc_desk.specs.Index.{Shape, IsOf}
+use Rattle.qc_history.specs.Index.{Shape, IsOf}
 
 -- the entries, the oldest first, are a legal history from some start
 abbrev pub IsLegal : List Entry → Type 0

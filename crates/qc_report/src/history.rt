@@ -4,12 +4,12 @@ ghost use Rattle.qc_event.specs.Base.{Setting};
 ghost use Rattle.qc_event.specs.Dead as dead_words;
 ghost use Rattle.qc_event.specs.History.{kind_of};
 ghost use Rattle.qc_event.specs.Legal.{Legal};
-ghost use Rattle.qc_desk.specs.Index.{IsOf};
+ghost use Rattle.qc_history.specs.Index.{IsOf};
 ghost use Rattle.qc_report.specs.Indexed.{IsLegal};
 
 use crate::scan::{kind, outcome};
-use qc_desk::{Index, Outcomes};
 use qc_event::{Kind, Name, Outcome};
+use qc_history::{Index, Outcomes};
 use qc_trail::Trail;
 use std::alloc::{AllocError, Global};
 use std::marker::Model;

@@ -6,7 +6,7 @@ use Rattle.qc_disk.specs.Disk.{View}
 use Rattle.qc_disk.specs.Shop.{View as Shop}
 use Rattle.qc_event.specs.History.{Name, limit}
 use Rattle.qc_io.specs.Io.{Rose, Keeps, SinkView, SourceView}
-use Rattle.qc_mount.specs.Images.{IsFirstFault}
+use Rattle.qc_opening.specs.Images.{IsFirstFault}
 use Rattle.qc_report.specs.Report.{Text}
 use Rattle.qc_script.specs.Plan.{ScriptPlan}
 use Rattle.qc_script.specs.declared.bad_script.BadScript.{BadScript}

@@ -7,7 +7,7 @@ use Rattle.qc_event.specs.Tables.{setting_of}
 use Rattle.qc_event.specs.declared.event.Entry.{Entry}
 use Rattle.qc_event.specs.declared.table.Table.{Table}
 use Rattle.qc_event.proofs.Later.{earlier_legal}
-use Rattle.qc_refine.proofs.CopiesSerial.{serial_order}
+use Rattle.qc_refine.proofs.Order.CopiesSerial.{serial_order}
 use Rattle.qc_run.specs.Run.{HasSerialOrders}
 
 pub serial_orders : (table : Table) (start : List (List Tuple)) (trail : List Entry) → Legal (setting_of table start) (reverse trail) → HasSerialOrders table start trail

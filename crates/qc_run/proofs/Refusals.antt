@@ -4,13 +4,13 @@ use Rattle.std.specs.Prelude.{◌⊎◌, slice_get, Some}
 use Rattle.qc_disk.specs.Disk.{View, Rose}
 use Rattle.qc_disk.specs.Shop.{View as Shop}
 use Rattle.qc_event.specs.declared.table.Table.{Table}
-use Rattle.qc_mount.specs.Disks.{AreCounted, IsLeft}
-use Rattle.qc_mount.specs.Images.{Offers}
-use Rattle.qc_mount.specs.Numbered.{PairsFrom}
-use Rattle.qc_mount.specs.Obtained.{IsNotGiven}
-use Rattle.qc_mount.specs.Refusing.{disks_in, ComeBack, IsFaultOf, IsNotMounted}
-use Rattle.qc_mount.specs.declared.refusing.MountNo.{MountNo}
-use Rattle.qc_mount.specs.declared.refusing.MountNo.TheVariants as no
+use Rattle.qc_opening.specs.Disks.{AreCounted, IsLeft}
+use Rattle.qc_opening.specs.Images.{Offers}
+use Rattle.qc_opening.specs.Numbered.{PairsFrom}
+use Rattle.qc_opening.specs.Obtained.{IsNotGiven}
+use Rattle.qc_opening.specs.Refusing.{disks_in, ComeBack, IsFaultOf, IsNotMounted}
+use Rattle.qc_opening.specs.declared.mount_no.MountNo.{MountNo}
+use Rattle.qc_opening.specs.declared.mount_no.MountNo.TheVariants as no
 use Rattle.qc_script.specs.Plan.{ScriptPlan}
 use Rattle.qc_run.specs.Left.{IsStatusOf, IsUnmounted}
 use Rattle.qc_run.specs.Run.{journal_limit}

@@ -9,7 +9,7 @@ use Rattle.qc_event.specs.Tables.{base_of, setting_of, first_values}
 use Rattle.qc_event.specs.declared.event.Entry.{Entry}
 use Rattle.qc_event.specs.declared.table.Table.{Table}
 use Rattle.qc_refine.specs.Final.{final_value}
-use Rattle.qc_refine.proofs.LastValues.{last_values}
+use Rattle.qc_refine.proofs.Order.LastValues.{last_values}
 use Rattle.qc_script.specs.Plan.{ScriptPlan}
 use Rattle.qc_script.specs.Reading.{IsProper}
 use Rattle.qc_run.specs.Run.{HasSerialValues}

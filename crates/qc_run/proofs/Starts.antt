@@ -14,7 +14,7 @@ use Rattle.qc_event.specs.Sound.{Carries, IsSound, HasValue, column, greatest_ve
 use Rattle.qc_event.specs.Tables.{base_of, setting_of, first_tuple, first_configs, first_values}
 use Rattle.qc_event.specs.declared.table.Row.{Row}
 use Rattle.qc_event.specs.declared.table.Table.{Table}
-use Rattle.qc_interp.proofs.Places.{at_place}
+use Rattle.qc_interp.proofs.Listing.Places.{at_place}
 use Rattle.qc_script.specs.Plan.{ScriptPlan}
 use Rattle.qc_script.specs.Reading.{IsProper, IsProperRow}
 

@@ -9,17 +9,17 @@ use Rattle.qc_event.specs.declared.event.Entry.{Entry}
 use Rattle.qc_event.specs.declared.log.Short.{Short}
 use Rattle.qc_event.specs.declared.log.Short.TheVariants as short
 use Rattle.qc_io.specs.Io.{Rose, Keeps, Appends, AppendsFront, SinkView, SourceView}
-use Rattle.qc_mount.specs.Images.{AreSound, IsFirstFault}
-use Rattle.qc_mount.specs.Refusing.{disks_in, ComeBack}
-use Rattle.qc_mount.specs.declared.refusing.MountNo.{MountNo}
-use Rattle.qc_mount.specs.declared.refusing.MountNo.TheVariants as no
+use Rattle.qc_opening.specs.Images.{AreSound, IsFirstFault}
+use Rattle.qc_opening.specs.Refusing.{disks_in, ComeBack}
+use Rattle.qc_opening.specs.declared.mount_no.MountNo.{MountNo}
+use Rattle.qc_opening.specs.declared.mount_no.MountNo.TheVariants as no
 use Rattle.qc_opening.specs.Stored.{AllTell, AreImages, HaveGrown, HavePaid, LedgerWasFull}
 use Rattle.qc_refine.specs.Images.{IsStanding, Restores}
 use Rattle.qc_report.specs.Report.{Text}
 use Rattle.qc_script.specs.Plan.{ScriptPlan}
 use Rattle.qc_script.specs.Reading.{IsScript, IsRefused}
 use Rattle.qc_script.specs.declared.bad_script.BadScript.TheVariants.{Memory}
-use Rattle.qc_standing.specs.Mountings.{HaveNoGrants}
+use Rattle.qc_opening.specs.Mountings.{HaveNoGrants}
 use Rattle.qc_run.specs.Run.{journal_limit, form_of, text_by, AllOffered, BeginsIn, FollowsIn, IsDiskFault, IsInDoubt, IsOrMemory, IsReported, IsTold, NoneBegun, RanToEnd, ReadsScript, RunsScript, TellsFault}
 use Rattle.qc_run.specs.Words.{place_of, IsNoCommand, IsReading}
 use Rattle.qc_run.specs.declared.finishing.Form.{Form}

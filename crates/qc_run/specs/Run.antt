@@ -10,14 +10,14 @@ use Rattle.qc_event.specs.declared.event.Entry.{Entry}
 use Rattle.qc_event.specs.declared.table.Table.{Table}
 use Rattle.qc_interp.specs.FollowsScript.{FollowsScript, BeginsScript, started}
 use Rattle.qc_io.specs.Io.{IsAtEnd, Rose, Appends, AppendsFront}
-use Rattle.qc_mount.specs.Images.{Offers}
+use Rattle.qc_opening.specs.Images.{Offers}
 use Rattle.qc_report.specs.LastValues.{values_by_version}
 use Rattle.qc_report.specs.Report.{Text, report, summary}
 use Rattle.qc_script.specs.MadePlan.{made_plan}
 use Rattle.qc_script.specs.Plan.{ScriptPlan}
 use Rattle.qc_script.specs.Reading.{IsScript, IsRefused}
 use Rattle.qc_script.specs.declared.bad_script.BadScript.TheVariants.{Memory}
-use Rattle.qc_simlock.specs.Serial.{IsSerialThroughout, final_values}
+use Rattle.qc_serial.specs.Serial.{IsSerialThroughout, final_values}
 use Rattle.qc_run.specs.FaultLine.{fault_line}
 use Rattle.qc_run.specs.Words.{Asked, IsCommand, IsReading}
 use Rattle.qc_run.specs.declared.finishing.Form.{Form}

@@ -4,6 +4,7 @@
 mod finishing;
 mod making;
 mod performing;
+mod process;
 mod program;
 mod ran;
 mod reading;
@@ -12,6 +13,7 @@ mod spelling;
 mod status;
 mod words;
 
+pub use process::start;
 pub use program::run;
 pub use qc_interp::{Gate, NoGate};
 pub use qc_io as io;

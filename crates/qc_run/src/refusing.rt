@@ -1,7 +1,7 @@
 //! Runs that are refused before a session begins.
 ghost use Rattle.std.specs.Prelude.{ℕ, ◌≡◌, List};
 ghost use Rattle.qc_io.specs.Io.{SinkView};
-ghost use Rattle.qc_mount.specs.Refusing.{disks_in};
+ghost use Rattle.qc_opening.specs.Refusing.{disks_in};
 ghost use Rattle.qc_run.specs.Left as left;
 ghost use Rattle.qc_run.specs.Run as terms;
 
@@ -9,7 +9,7 @@ use crate::io::{Sink, write_all};
 use crate::ran::Ran;
 use crate::status::{Status, fault_line};
 use qc_event::Base;
-use qc_mount::MountNo;
+use qc_opening::MountNo;
 use qc_trail::Trail;
 use std::alloc::{AllocError, Global};
 

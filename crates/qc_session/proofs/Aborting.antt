@@ -24,12 +24,12 @@ use Rattle.qc_carry.proofs.Walking as walking
 use Rattle.qc_event.proofs.Lawful.{started_wider}
 use Rattle.qc_event.proofs.Later.{started_still}
 use Rattle.qc_event.proofs.Outcomes.{aborted_is_abort}
-use Rattle.qc_pass.proofs.Granting.{dead_stays}
-use Rattle.qc_gather.specs.Carrying.{entry}
-use Rattle.qc_pass.specs.declared.refusal.DeskNo.{DeskNo}
-use Rattle.qc_pass.specs.declared.view.View.{View}
-use Rattle.qc_pass.specs.Calling.{Refused}
-use Rattle.qc_pass.specs.Refusing.{against_abort}
+use Rattle.qc_desk.proofs.Granting.{dead_stays}
+use Rattle.qc_managers.specs.Carrying.{entry}
+use Rattle.qc_desk.specs.declared.refusal.DeskNo.{DeskNo}
+use Rattle.qc_desk.specs.declared.view.View.{View}
+use Rattle.qc_desk.specs.Calling.{Refused}
+use Rattle.qc_desk.specs.Refusing.{against_abort}
 use Rattle.qc_script.specs.Calls.{IsGrounded, IsMarkedFor, NotAborted, by_client}
 use Rattle.qc_script.specs.Client.{Client, Made}
 use Rattle.qc_script.specs.declared.tx.TxNo.{TxNo}

@@ -24,7 +24,7 @@ use Rattle.qc_event.proofs.LastNumber.{child_last, front_last, child_longer}
 use Rattle.qc_event.proofs.Lawful.{started_wider}
 use Rattle.qc_event.proofs.Later.{started_still}
 use Rattle.qc_event.proofs.BelowTops.{next_below}
-use Rattle.qc_gather.specs.Carrying.{made_by, name_of}
+use Rattle.qc_managers.specs.Carrying.{made_by, name_of}
 use Rattle.qc_script.specs.Calls.{IsOfAccess, is_access, is_asked}
 use Rattle.qc_session.proofs.Standing.{not_both, no_user_below}
 

@@ -6,7 +6,7 @@ use Rattle.qc_event.specs.History.{Name}
 use Rattle.qc_net.specs.Plan.{Plan, starting}
 use Rattle.qc_net.specs.Messages.{Net}
 use Rattle.qc_net.specs.declared.link.Fate.{Fate}
-use Rattle.qc_pass.specs.declared.view.View.{View}
+use Rattle.qc_desk.specs.declared.view.View.{View}
 use Rattle.qc_session.specs.Clients.{client_of, link_told}
 
 abbrev pub net_with : List Fate → ℕ → ℕ → Net

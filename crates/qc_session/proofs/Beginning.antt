@@ -16,14 +16,14 @@ use Rattle.qc_event.specs.Seats.{top_name}
 use Rattle.qc_event.proofs.LastNumber.{length_last, is_child-last, child_longer}
 use Rattle.qc_carry.specs.Walk.{Walk}
 use Rattle.qc_carry.proofs.Walking as walking
-use Rattle.qc_gather.specs.Carrying.{entry}
-use Rattle.qc_interp.proofs.Adding.{no_top}
-use Rattle.qc_pass.specs.declared.refusal.DeskNo.{DeskNo}
-use Rattle.qc_pass.specs.declared.view.View.{View}
-use Rattle.qc_pass.specs.Calling.{EnteredAs, Refused}
-use Rattle.qc_pass.specs.Entries.{AreOthers, IsSince}
-use Rattle.qc_pass.specs.Refusing.{against_nothing}
-use Rattle.qc_pass.specs.Rules.{extends}
+use Rattle.qc_managers.specs.Carrying.{entry}
+use Rattle.qc_interp.proofs.Scopes.Adding.{no_top}
+use Rattle.qc_desk.specs.declared.refusal.DeskNo.{DeskNo}
+use Rattle.qc_desk.specs.declared.view.View.{View}
+use Rattle.qc_desk.specs.Calling.{EnteredAs, Refused}
+use Rattle.qc_desk.specs.Entries.{AreOthers, IsSince}
+use Rattle.qc_desk.specs.Refusing.{against_nothing}
+use Rattle.qc_desk.specs.Rules.{extends}
 use Rattle.qc_script.specs.Calls.{by_client}
 use Rattle.qc_script.specs.Client.{Client, Made, is_own}
 use Rattle.qc_script.specs.Numbers.{any_top, each, is_next_top, own_next, next_top, Numbers}

@@ -1,6 +1,6 @@
 -- What a client's branch is, and what both are told once they have seen the same.
 use Rattle.std.proofs.Common.{◌≡◌, ℕ, [], ◌∷◌, ap, sym, subst, ◌∙◌}
-use Rattle.std.specs.Prelude.{Option, None, Some, IfSome, IsTrue, MatchOption, ◌&&◌, true}
+use Rattle.std.specs.Prelude.{Option, None, Some, IfSome, IsTrue, MatchOption, ◌&&◌, true, option_map, List}
 use Rattle.std.specs.List.{list_all}
 use Rattle.qc_carry.specs.Branching.{IsBranch}
 use Rattle.qc_carry.specs.Kept.{net_of}
@@ -9,14 +9,12 @@ use Rattle.qc_event.specs.History.{Name}
 use Rattle.qc_event.specs.Legal.{Legal}
 use Rattle.qc_net.specs.Messages.{Net, meets_fates}
 use Rattle.qc_net.specs.Plan.{Plan, anew}
-use Rattle.std.specs.Prelude.{option_map}
-use Rattle.qc_pass.specs.declared.view.View.{View}
-use Rattle.qc_pass.specs.Entries.{entries_of}
-use Rattle.qc_pass.specs.Rules.{numbers}
-use Rattle.qc_pass.proofs.Since.{others_where_none}
+use Rattle.qc_desk.specs.declared.view.View.{View}
+use Rattle.qc_desk.specs.Entries.{entries_of}
+use Rattle.qc_desk.specs.Rules.{numbers}
+use Rattle.qc_desk.proofs.Since.{others_where_none}
 use Rattle.qc_script.specs.Calls.{Branched, MeetsLink}
 use Rattle.qc_board.specs.Boards.{Mark}
-use Rattle.std.specs.Prelude.{List}
 use Rattle.qc_session.specs.Clients.{link_told, view_of}
 use Rattle.qc_session.specs.Keeping.{IsClientPass}
 use Rattle.qc_session.proofs.Keeping.{new_keeps}

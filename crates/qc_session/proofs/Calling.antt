@@ -12,11 +12,11 @@ use Rattle.qc_event.specs.declared.event.How.TheVariants.{Abort, Commit}
 use Rattle.qc_event.specs.declared.event.Kind.{Kind}
 use Rattle.qc_event.specs.History.{Name}
 use Rattle.qc_event.specs.Users.{top_number}
-use Rattle.qc_gather.specs.Carrying.{entry}
+use Rattle.qc_managers.specs.Carrying.{entry}
 use Rattle.qc_net.specs.Messages.{Net}
 use Rattle.qc_net.specs.Plan.{Plan}
-use Rattle.qc_pass.specs.declared.view.View.{View}
-use Rattle.qc_pass.specs.Rules.{AreKin, numbers}
+use Rattle.qc_desk.specs.declared.view.View.{View}
+use Rattle.qc_desk.specs.Rules.{AreKin, numbers}
 use Rattle.qc_script.specs.Calls.{Committed, GaveNone, MeetsLink, NotAborted, NotCommitted, Ran, WasRefused, by_client}
 use Rattle.qc_script.specs.Client.{Client, Made}
 use Rattle.qc_script.specs.declared.tx.TxNo.{TxNo}

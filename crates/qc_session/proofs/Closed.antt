@@ -7,9 +7,9 @@ use Rattle.qc_event.specs.declared.table.Table.{Table}
 use Rattle.qc_event.specs.Tables.{first_configs, setting_of}
 use Rattle.qc_interp.specs.Reach.{Reach}
 use Rattle.qc_event.specs.Base.{Setting}
-use Rattle.qc_pass.specs.declared.view.View.{View}
-use Rattle.qc_pass.specs.Rules.{Has}
-use Rattle.qc_pass.proofs.Having.{has_none}
+use Rattle.qc_desk.specs.declared.view.View.{View}
+use Rattle.qc_desk.specs.Rules.{Has}
+use Rattle.qc_desk.proofs.Having.{has_none}
 use Rattle.qc_script.specs.Plan.{ScriptPlan, SessionPlan, SessionsFit, SessionsWithin}
 use Rattle.qc_script.specs.Reading.{IsProper}
 use Rattle.qc_session.specs.Session.{HaveRun, IsFirst}

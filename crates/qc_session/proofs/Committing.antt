@@ -26,13 +26,13 @@ use Rattle.qc_event.proofs.Absent.{same_itself}
 use Rattle.qc_event.proofs.Lawful.{some_how, started_some, started_wider}
 use Rattle.qc_event.proofs.OneEntry.{end_step, here_some, ready_step, some_or_none}
 use Rattle.qc_event.proofs.StillTold.{some_stays}
-use Rattle.qc_refine.proofs.LoggedTops.{top_user}
+use Rattle.qc_refine.proofs.Restoring.LoggedTops.{top_user}
 use Rattle.qc_carry.specs.Walk.{Walk}
-use Rattle.qc_gather.specs.Carrying.{entry}
+use Rattle.qc_managers.specs.Carrying.{entry}
 use Rattle.qc_ledger.specs.declared.fault.LedgerNo.{LedgerNo}
 use Rattle.qc_ledger.specs.declared.fault.LedgerNo.TheVariants as ledger
-use Rattle.qc_pass.specs.declared.view.View.{View}
-use Rattle.qc_pass.specs.Own.{CommitsOwn}
+use Rattle.qc_desk.specs.declared.view.View.{View}
+use Rattle.qc_desk.specs.Own.{CommitsOwn}
 use Rattle.qc_script.specs.Calls.{Committed, NotCommitted, by_client, is_over, unable_in}
 use Rattle.qc_script.specs.Client.{Client, Made}
 use Rattle.qc_system.specs.Kept.{HasRefused}

@@ -7,9 +7,9 @@ use Rattle.qc_event.specs.History.{Past}
 use Rattle.qc_event.specs.Legal.{Legal}
 use Rattle.qc_interp.specs.FollowsScript.{BeginsScript, FollowsScript}
 use Rattle.qc_interp.specs.Reach.{Reach}
-use Rattle.qc_pass.specs.declared.view.View.{View}
-use Rattle.qc_pass.specs.Entries.{IsOlder}
-use Rattle.qc_pass.specs.Rules.{IsSettled}
+use Rattle.qc_desk.specs.declared.view.View.{View}
+use Rattle.qc_desk.specs.Entries.{IsOlder}
+use Rattle.qc_desk.specs.Rules.{IsSettled}
 use Rattle.qc_script.specs.Plan.{ScriptPlan}
 use Rattle.qc_session.specs.Session.{HaveRun, RanEach}
 use Rattle.qc_session.proofs.Ran.{script_runs}

@@ -11,10 +11,10 @@ use Rattle.qc_event.specs.History.{Past}
 use Rattle.qc_event.specs.Legal.{Legal}
 use Rattle.qc_event.proofs.LegalAgain.{legal_again}
 use Rattle.qc_net.specs.Plan.{Plan}
-use Rattle.qc_pass.specs.declared.view.View.{View}
-use Rattle.qc_pass.specs.Entries.{IsOlder}
-use Rattle.qc_pass.specs.Rules.{AreKin}
-use Rattle.qc_pass.proofs.Seers.{older_trans}
+use Rattle.qc_desk.specs.declared.view.View.{View}
+use Rattle.qc_desk.specs.Entries.{IsOlder}
+use Rattle.qc_desk.specs.Rules.{AreKin}
+use Rattle.qc_desk.proofs.Seers.{older_trans}
 use Rattle.qc_session.specs.Lines.{HasGoneOn}
 use Rattle.qc_session.specs.Tidy.{IsTidy}
 use Rattle.qc_session.proofs.Tidy.{walked_tidy}

@@ -3,7 +3,7 @@ use Rattle.std.proofs.Common.{◌≡◌, ℕ, suc, ◌<◌, inl, inr, true, List
 use Rattle.std.specs.Prelude.{◌&&◌}
 use Rattle.std.specs.List.{list_all}
 use Rattle.qc_event.specs.Seats.{is_client}
-use Rattle.qc_pass.proofs.Having.{has_both, has_cons, has_none}
+use Rattle.qc_desk.proofs.Having.{has_both, has_cons, has_none}
 use Rattle.qc_session.specs.Session.{AreHigh}
 use Rattle.qc_session.proofs.Settled.{client_above}
 

@@ -12,13 +12,13 @@ use Rattle.qc_event.specs.declared.log.Short.TheVariants.{Memory, Room}
 use Rattle.qc_event.specs.Base.{Setting}
 use Rattle.qc_event.specs.History.{Past, limit}
 use Rattle.qc_interp.specs.Reach.{Reach}
-use Rattle.qc_pass.specs.declared.view.View.{View}
-use Rattle.qc_pass.specs.Entries.{IsOlder, entries_of}
-use Rattle.qc_pass.specs.Rules.{AreKin, Has, IsSplit, joined, knows, numbers, pass, without}
+use Rattle.qc_desk.specs.declared.view.View.{View}
+use Rattle.qc_desk.specs.Entries.{IsOlder, entries_of}
+use Rattle.qc_desk.specs.Rules.{AreKin, Has, IsSplit, joined, knows, numbers, pass, without}
 use Rattle.qc_carry.proofs.Branching.{by_count}
-use Rattle.qc_pass.proofs.Apart.{number_of_kin}
-use Rattle.qc_pass.proofs.Having.{has_both, has_cons, has_left, has_none, has_right}
-use Rattle.qc_pass.proofs.Seers.{older_trans}
+use Rattle.qc_desk.proofs.Apart.{number_of_kin}
+use Rattle.qc_desk.proofs.Having.{has_both, has_cons, has_left, has_none, has_right}
+use Rattle.qc_desk.proofs.Seers.{older_trans}
 use Rattle.qc_script.specs.Plan.{SessionPlan}
 use Rattle.qc_session.specs.Marking.{made_under}
 use Rattle.qc_session.specs.Session.{AreHigh, EachJoined, HaveRun, IsFirst, IsNew, Leaves, RanEach, RanOne, first_want, is_of}

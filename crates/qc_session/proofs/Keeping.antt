@@ -4,10 +4,10 @@ use Rattle.qc_board.specs.Boards.{Mark}
 use Rattle.qc_event.specs.Base.{Setting}
 use Rattle.qc_event.specs.History.{Past}
 use Rattle.qc_event.specs.Legal.{Legal}
-use Rattle.qc_pass.specs.declared.view.View.{View}
-use Rattle.qc_pass.specs.Entries.{entries_of}
-use Rattle.qc_pass.specs.Rules.{AreKin, numbers}
-use Rattle.qc_pass.proofs.Having.{has_none}
+use Rattle.qc_desk.specs.declared.view.View.{View}
+use Rattle.qc_desk.specs.Entries.{entries_of}
+use Rattle.qc_desk.specs.Rules.{AreKin, numbers}
+use Rattle.qc_desk.proofs.Having.{has_none}
 use Rattle.qc_session.specs.Keeping.{IsClientPass}
 use Rattle.qc_session.specs.Marking.{KnowsMarks}
 use Rattle.qc_session.specs.Session.{AreHigh}

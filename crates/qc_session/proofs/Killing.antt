@@ -20,12 +20,12 @@ use Rattle.qc_event.specs.History.{Past, Name, Begun, limit, start}
 use Rattle.qc_event.specs.Legal.{Legal}
 use Rattle.qc_event.specs.Standing.{Started}
 use Rattle.qc_event.specs.Users.{is_marked, top_number}
-use Rattle.qc_pass.specs.declared.refusal.DeskNo.{DeskNo}
-use Rattle.qc_pass.specs.declared.refusal.DeskNo.TheVariants as desk
-use Rattle.qc_pass.specs.declared.view.View.{View as Pass}
-use Rattle.qc_pass.specs.Calling.{Refused}
-use Rattle.qc_pass.specs.Looking.{is_marked_for, session_of}
-use Rattle.qc_pass.specs.Refusing.{against_nothing, Refuses}
+use Rattle.qc_desk.specs.declared.refusal.DeskNo.{DeskNo}
+use Rattle.qc_desk.specs.declared.refusal.DeskNo.TheVariants as desk
+use Rattle.qc_desk.specs.declared.view.View.{View as Pass}
+use Rattle.qc_desk.specs.Calling.{Refused}
+use Rattle.qc_history.specs.Looking.{is_marked_for, session_of}
+use Rattle.qc_desk.specs.Refusing.{against_nothing, Refuses}
 use Rattle.qc_script.specs.Calls.{IsGrounded, IsMarkedFor, IsOfSession}
 use Rattle.qc_script.specs.Client.{Client, Made, is_own, mine}
 use Rattle.qc_session.specs.Acting.{IsWanting, short_of}

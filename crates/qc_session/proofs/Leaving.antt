@@ -11,12 +11,12 @@ use Rattle.qc_event.specs.Legal.{Legal}
 use Rattle.qc_interp.specs.FollowsScript.{net_of}
 use Rattle.qc_interp.specs.Reach.{Reach}
 use Rattle.qc_interp.specs.Session.{CutTops, EndsTops, EndsTopsAt, InTurnAt, RanInTurn}
-use Rattle.qc_interp.proofs.RanLater.{ends_begun, turns_begun}
-use Rattle.qc_interp.proofs.TopsRun.{none_cut}
+use Rattle.qc_interp.proofs.Following.RanLater.{ends_begun, turns_begun}
+use Rattle.qc_interp.proofs.Sessions.TopsRun.{none_cut}
 use Rattle.qc_net.specs.Messages.{Net, meets_fates}
-use Rattle.qc_pass.specs.declared.view.View.{View}
-use Rattle.qc_pass.specs.Rules.{Has, numbers}
-use Rattle.qc_pass.proofs.Having.{has_none}
+use Rattle.qc_desk.specs.declared.view.View.{View}
+use Rattle.qc_desk.specs.Rules.{Has, numbers}
+use Rattle.qc_desk.proofs.Having.{has_none}
 use Rattle.qc_script.specs.Client.{Client, HasJoined, is_own, mine}
 use Rattle.qc_script.specs.Plan.{SessionPlan}
 use Rattle.qc_session.specs.Clients.{client_for, client_of, kin_of}

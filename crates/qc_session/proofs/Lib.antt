@@ -1,3 +1,4 @@
+pub mod Knowing
 pub mod Aborting
 pub mod Accesses
 pub mod AtStart

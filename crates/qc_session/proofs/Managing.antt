@@ -28,18 +28,18 @@ use Rattle.qc_carry.specs.Walk.{Walk}
 use Rattle.qc_carry.proofs.Orphans.{above_parent, orphan_of}
 use Rattle.qc_carry.proofs.Walking as walking
 use Rattle.qc_carry.proofs.Walks as walks
-use Rattle.qc_gather.specs.Carrying.{HasGrown, IsRunning, entry, made_by}
-use Rattle.qc_pass.specs.declared.refusal.DeskNo.{DeskNo}
-use Rattle.qc_pass.specs.declared.refusal.DeskNo.TheVariants as desk
-use Rattle.qc_pass.specs.declared.view.View.{View}
-use Rattle.qc_pass.specs.Calling.{Refused}
-use Rattle.qc_pass.specs.Entries.{IsSince}
-use Rattle.qc_pass.specs.Own.{CommitsOwn, IsMine}
-use Rattle.qc_pass.specs.Refusing.{against_abort, against_commit}
-use Rattle.qc_pass.proofs.Lasting.{orphan_stays}
-use Rattle.qc_rw.specs.Managed.{IsAnswered, IsRefused, IsShort, MayEndFor, cause_of}
-use Rattle.qc_rw.specs.declared.no.MgrNo.{MgrNo}
-use Rattle.qc_rw.specs.declared.no.MgrNo.TheVariants as no
+use Rattle.qc_managers.specs.Carrying.{HasGrown, IsRunning, entry, made_by}
+use Rattle.qc_desk.specs.declared.refusal.DeskNo.{DeskNo}
+use Rattle.qc_desk.specs.declared.refusal.DeskNo.TheVariants as desk
+use Rattle.qc_desk.specs.declared.view.View.{View}
+use Rattle.qc_desk.specs.Calling.{Refused}
+use Rattle.qc_desk.specs.Entries.{IsSince}
+use Rattle.qc_desk.specs.Own.{CommitsOwn, IsMine}
+use Rattle.qc_desk.specs.Refusing.{against_abort, against_commit}
+use Rattle.qc_desk.proofs.Lasting.{orphan_stays}
+use Rattle.qc_managers.specs.Managed.{IsAnswered, IsRefused, IsShort, MayEndFor, cause_of}
+use Rattle.qc_managers.specs.declared.no.MgrNo.{MgrNo}
+use Rattle.qc_managers.specs.declared.no.MgrNo.TheVariants as no
 use Rattle.qc_script.specs.Calls.{GaveNone, IsOfAccess, Ran, Refuses, WasCut, WasRefused, is_asked}
 use Rattle.qc_script.specs.Client.{Client, Made}
 use Rattle.qc_script.specs.declared.tx.TxNo.{TxNo}

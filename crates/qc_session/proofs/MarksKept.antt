@@ -12,9 +12,9 @@ use Rattle.qc_event.specs.declared.event.How.{How}
 use Rattle.qc_event.specs.declared.event.How.TheVariants.{Abort, Commit}
 use Rattle.qc_event.specs.declared.event.Kind.{Kind}
 use Rattle.qc_event.specs.History.{Past, Name}
-use Rattle.qc_pass.specs.declared.view.View.{View as Pass}
-use Rattle.qc_pass.specs.Entries.{IsOlder}
-use Rattle.qc_pass.specs.Rules.{numbers}
+use Rattle.qc_desk.specs.declared.view.View.{View as Pass}
+use Rattle.qc_desk.specs.Entries.{IsOlder}
+use Rattle.qc_desk.specs.Rules.{numbers}
 use Rattle.qc_script.specs.Calls.{AreOfAccesses, by_client, Committed, GaveNone, IsOfAccess, MadeReady, NotAborted, NotCommitted, Ran, WasCut, WasRefused}
 use Rattle.qc_script.specs.Client.{Client, Made}
 use Rattle.qc_script.specs.declared.tx.TxNo.{TxNo}

@@ -13,12 +13,12 @@ use Rattle.qc_event.specs.Base.{Setting}
 use Rattle.qc_event.specs.History.{Past, Name, limit}
 use Rattle.qc_event.specs.Legal.{Legal}
 use Rattle.qc_net.specs.Messages.{Net, meets_fates}
-use Rattle.qc_pass.specs.declared.view.View.{View}
-use Rattle.qc_pass.specs.Entries.{IsOlder, IsSince, entries_of}
-use Rattle.qc_pass.specs.Rules.{AreApart, AreKin, Has, numbers, sees, without}
-use Rattle.qc_pass.proofs.Apart.{kin_of_number}
-use Rattle.qc_pass.proofs.Having.{has_left, has_right}
-use Rattle.qc_pass.proofs.Lists.{entries_append}
+use Rattle.qc_desk.specs.declared.view.View.{View}
+use Rattle.qc_desk.specs.Entries.{IsOlder, IsSince, entries_of}
+use Rattle.qc_desk.specs.Rules.{AreApart, AreKin, Has, numbers, sees, without}
+use Rattle.qc_desk.proofs.Apart.{kin_of_number}
+use Rattle.qc_desk.proofs.Having.{has_left, has_right}
+use Rattle.qc_desk.proofs.Lists.{entries_append}
 use Rattle.qc_script.specs.Calls.{MeetsLink, Merged}
 use Rattle.qc_script.specs.Client.{Client, Made}
 use Rattle.qc_session.specs.Clients.{IsFor, client_of, kin_of, view_of}

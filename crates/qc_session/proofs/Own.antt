@@ -9,13 +9,13 @@ use Rattle.qc_event.specs.declared.event.Event.{Event}
 use Rattle.qc_event.specs.Base.{Setting}
 use Rattle.qc_event.specs.History.{Past, Name}
 use Rattle.qc_event.specs.Legal.{Legal}
-use Rattle.qc_gather.specs.Carrying.{entry, made_by}
-use Rattle.qc_pass.specs.declared.view.View.{View}
-use Rattle.qc_pass.specs.Entries.{AreOthers, entries_of}
-use Rattle.qc_pass.specs.Rules.{AreKin, Has}
-use Rattle.qc_pass.proofs.Apart.{kin_of_number, none_is}
-use Rattle.qc_pass.proofs.Lists.{entries_append}
-use Rattle.qc_pass.proofs.Since.{nothing_more, others_where_none}
+use Rattle.qc_managers.specs.Carrying.{entry, made_by}
+use Rattle.qc_desk.specs.declared.view.View.{View}
+use Rattle.qc_desk.specs.Entries.{AreOthers, entries_of}
+use Rattle.qc_desk.specs.Rules.{AreKin, Has}
+use Rattle.qc_desk.proofs.Apart.{kin_of_number, none_is}
+use Rattle.qc_desk.proofs.Lists.{entries_append}
+use Rattle.qc_desk.proofs.Since.{nothing_more, others_where_none}
 use Rattle.qc_net.specs.Messages.{Net}
 use Rattle.qc_carry.specs.Walk.{Walk}
 use Rattle.qc_script.specs.Calls.{by_client}

@@ -23,9 +23,9 @@ use Rattle.qc_event.specs.Legal.{Legal, MayHappen}
 use Rattle.qc_event.specs.Starts.{Starts}
 use Rattle.qc_event.specs.Users.{is_marked, mark_of, top_number}
 use Rattle.qc_event.proofs.OneEntry.{start_step}
-use Rattle.qc_gather.specs.Carrying.{entry}
-use Rattle.qc_pass.specs.Entries.{AreOthers, entries_of}
-use Rattle.qc_pass.proofs.Since.{others_where_none}
+use Rattle.qc_managers.specs.Carrying.{entry}
+use Rattle.qc_desk.specs.Entries.{AreOthers, entries_of}
+use Rattle.qc_desk.proofs.Since.{others_where_none}
 use Rattle.qc_session.specs.Marking.{KnowsMark, KnowsMarks, made_under}
 
 -- WHAT IT KNOWS AS IT GOES ON

@@ -15,17 +15,17 @@ use Rattle.qc_event.specs.Seats.{is_client}
 use Rattle.qc_interp.specs.FollowsScript.{RunsScript, net_of}
 use Rattle.qc_interp.specs.Reach.{Reach}
 use Rattle.qc_interp.specs.Together.{AreOf, EachHasRun, HasRun}
-use Rattle.qc_interp.proofs.Ending.{at_any}
-use Rattle.qc_interp.proofs.FromStart.{ends_from_start, turns_from_start}
-use Rattle.qc_interp.proofs.RanLater.{has_run_later}
-use Rattle.qc_interp.proofs.Together.{together}
-use Rattle.qc_pass.specs.declared.view.View.{View}
+use Rattle.qc_interp.proofs.Stepping.Ending.{at_any}
+use Rattle.qc_interp.proofs.Sessions.FromStart.{ends_from_start, turns_from_start}
+use Rattle.qc_interp.proofs.Following.RanLater.{has_run_later}
+use Rattle.qc_interp.proofs.Sessions.Together.{together}
+use Rattle.qc_desk.specs.declared.view.View.{View}
 use Rattle.qc_net.specs.Messages.{meets_fates}
-use Rattle.qc_pass.specs.Entries.{AreOthers, IsOlder, entries_of}
-use Rattle.qc_pass.specs.Rules.{Has, IsSettled, numbers}
-use Rattle.qc_pass.proofs.Apart.{kin_of_number}
-use Rattle.qc_pass.proofs.Having.{has_none}
-use Rattle.qc_pass.proofs.Seers.{older_trans}
+use Rattle.qc_desk.specs.Entries.{AreOthers, IsOlder, entries_of}
+use Rattle.qc_desk.specs.Rules.{Has, IsSettled, numbers}
+use Rattle.qc_desk.proofs.Apart.{kin_of_number}
+use Rattle.qc_desk.proofs.Having.{has_none}
+use Rattle.qc_desk.proofs.Seers.{older_trans}
 use Rattle.qc_script.specs.Client.{Client, is_own, mine}
 use Rattle.qc_script.specs.Plan.{SessionPlan}
 use Rattle.qc_session.specs.Clients.{client_for}

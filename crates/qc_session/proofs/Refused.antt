@@ -15,10 +15,10 @@ use Rattle.qc_event.specs.Standing.{open_child}
 use Rattle.qc_event.proofs.Lawful.{committed_is}
 use Rattle.qc_event.proofs.OneEntry.{start_stays, start_now}
 use Rattle.qc_event.proofs.Outcomes.{aborted_is_abort}
-use Rattle.qc_pass.specs.declared.refusal.DeskNo.{DeskNo}
-use Rattle.qc_pass.specs.declared.refusal.DeskNo.TheVariants as desk
-use Rattle.qc_pass.specs.Refusing.{Refuses as Against, IsWant, against_abort, against_child, against_commit, against_nothing, against_ready, if_committed, if_dead, if_ended, if_open, if_ready}
-use Rattle.qc_pass.specs.declared.view.View.{View}
+use Rattle.qc_desk.specs.declared.refusal.DeskNo.{DeskNo}
+use Rattle.qc_desk.specs.declared.refusal.DeskNo.TheVariants as desk
+use Rattle.qc_desk.specs.Refusing.{Refuses as Against, IsWant, against_abort, against_child, against_commit, against_nothing, against_ready, if_committed, if_dead, if_ended, if_open, if_ready}
+use Rattle.qc_desk.specs.declared.view.View.{View}
 use Rattle.qc_carry.specs.Walk.{Walk}
 use Rattle.qc_session.specs.Acting.{IsUnaborted, no_of}
 use Rattle.qc_session.proofs.Fallen.{dead_is}

@@ -9,13 +9,13 @@ use Rattle.qc_carry.proofs.Walking.{none_own}
 use Rattle.qc_event.specs.Base.{Setting}
 use Rattle.qc_event.specs.History.{Past}
 use Rattle.qc_event.specs.Legal.{Legal}
-use Rattle.qc_gather.specs.Carrying.{made_by}
+use Rattle.qc_managers.specs.Carrying.{made_by}
 use Rattle.qc_net.specs.declared.link.Fate.{Fate}
 use Rattle.qc_net.specs.Messages.{meets_fates}
 use Rattle.qc_net.specs.Plan.{starting}
-use Rattle.qc_pass.specs.declared.view.View.{View}
-use Rattle.qc_pass.specs.Entries.{AreOthers}
-use Rattle.qc_pass.specs.Rules.{sees}
+use Rattle.qc_desk.specs.declared.view.View.{View}
+use Rattle.qc_desk.specs.Entries.{AreOthers}
+use Rattle.qc_desk.specs.Rules.{sees}
 
 -- who has entered nothing has asked nothing
 pub met_none : (seat : ℕ) (fates : List Fate) (hold patience : ℕ) (past : Past) → made_by seat past ≡ [] → IsTrue (meets_fates seat (record { fates = fates; hold = hold; patience = patience }) past)

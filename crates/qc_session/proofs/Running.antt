@@ -12,8 +12,8 @@ use Rattle.qc_event.proofs.LastNumber.{no_child_length}
 use Rattle.qc_event.proofs.Lawful.{lawful}
 use Rattle.qc_event.proofs.LegalOrderly.{legal_orderly}
 use Rattle.qc_event.proofs.Lineage.{IsFresh, fresh_child}
-use Rattle.qc_gather.specs.Carrying.{IsRunning, entry}
-use Rattle.qc_pass.specs.declared.view.View.{View}
+use Rattle.qc_managers.specs.Carrying.{IsRunning, entry}
+use Rattle.qc_desk.specs.declared.view.View.{View}
 use Rattle.qc_session.specs.Managing.{HasStarted}
 
 -- THE NEXT CHILD

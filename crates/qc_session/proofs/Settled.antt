@@ -21,11 +21,11 @@ use Rattle.qc_event.proofs.Lawful.{lawful, no_open_child, started_some}
 use Rattle.qc_event.proofs.LegalOrderly.{legal_orderly}
 use Rattle.qc_event.proofs.OneEntry.{first_is, if_is, some_or_none}
 use Rattle.qc_interp.specs.Sessions.{AccessesEnd}
-use Rattle.qc_interp.proofs.Owners.{starts_client}
-use Rattle.qc_pass.specs.declared.view.View.{View}
-use Rattle.qc_pass.specs.Entries.{entries_of}
-use Rattle.qc_pass.specs.Own.{IsMine}
-use Rattle.qc_pass.specs.Rules.{Has, IsSettled}
+use Rattle.qc_interp.proofs.Sessions.Owners.{starts_client}
+use Rattle.qc_desk.specs.declared.view.View.{View}
+use Rattle.qc_desk.specs.Entries.{entries_of}
+use Rattle.qc_desk.specs.Own.{IsMine}
+use Rattle.qc_desk.specs.Rules.{Has, IsSettled}
 use Rattle.qc_script.specs.Calls.{is_access}
 use Rattle.qc_session.specs.Session.{is_of}
 use Rattle.qc_session.specs.Tidy.{IsTidy}

@@ -21,13 +21,13 @@ use Rattle.qc_event.proofs.LegalOrderly.{legal_orderly}
 use Rattle.qc_event.proofs.SameEvents.{same_end}
 use Rattle.qc_event.proofs.OneEntry.{Ending, end_now, end_step, end_stays, some_if_not_none, some_not_none, some_or_none, start_or_end}
 use Rattle.qc_event.proofs.Later.{started_still}
-use Rattle.qc_gather.specs.Carrying.{entry, name_of}
-use Rattle.qc_pass.specs.declared.view.View.{View}
-use Rattle.qc_pass.specs.Entries.{AreOthers, IsOlder, IsSince, entries_of}
-use Rattle.qc_pass.specs.Rules.{Has, numbers}
-use Rattle.qc_pass.specs.Own.{IsMine}
-use Rattle.qc_pass.proofs.Others as others
-use Rattle.qc_pass.proofs.Since.{others_where_none, since}
+use Rattle.qc_managers.specs.Carrying.{entry, name_of}
+use Rattle.qc_desk.specs.declared.view.View.{View}
+use Rattle.qc_desk.specs.Entries.{AreOthers, IsOlder, IsSince, entries_of}
+use Rattle.qc_desk.specs.Rules.{Has, numbers}
+use Rattle.qc_desk.specs.Own.{IsMine}
+use Rattle.qc_desk.proofs.Others as others
+use Rattle.qc_desk.proofs.Since.{others_where_none, since}
 use Rattle.qc_session.specs.Clients.{kin_of}
 use Rattle.qc_session.specs.Tidy.{AreTidy, IsTidy}
 use Rattle.qc_session.proofs.Accesses.{OfManager}

@@ -8,10 +8,10 @@ use Rattle.qc_event.specs.History.{Past}
 use Rattle.qc_event.specs.Legal.{Legal, MayHappen}
 use Rattle.qc_event.specs.Requests.{IsUnableCopy, IsUnableLedger}
 use Rattle.qc_event.specs.Seats.{is_client}
-use Rattle.qc_interp.proofs.Owners.{starts_client}
-use Rattle.qc_pass.specs.declared.view.View.{View}
-use Rattle.qc_pass.specs.Rules.{Has, IsSettled}
-use Rattle.qc_pass.proofs.Having.{has_none}
+use Rattle.qc_interp.proofs.Sessions.Owners.{starts_client}
+use Rattle.qc_desk.specs.declared.view.View.{View}
+use Rattle.qc_desk.specs.Rules.{Has, IsSettled}
+use Rattle.qc_desk.proofs.Having.{has_none}
 use Rattle.qc_system.specs.Parts.{IsOpening}
 use Rattle.qc_session.proofs.Settled.{AreTheirs, all_theirs}
 

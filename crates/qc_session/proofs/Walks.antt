@@ -13,15 +13,15 @@ use Rattle.qc_event.specs.declared.event.Kind.{Kind}
 use Rattle.qc_event.specs.Base.{Setting}
 use Rattle.qc_event.specs.History.{Past, Name, children}
 use Rattle.qc_event.specs.Legal.{Legal}
-use Rattle.qc_gather.specs.Carrying.{HasGrown, entry, made_by}
+use Rattle.qc_managers.specs.Carrying.{HasGrown, entry, made_by}
 use Rattle.qc_net.specs.Messages.{Net, meets_fates}
 use Rattle.qc_net.specs.Plan.{Plan, anew}
-use Rattle.qc_pass.specs.declared.view.View.{View}
-use Rattle.qc_pass.specs.Calling.{EnteredAs}
-use Rattle.qc_pass.specs.Refusing.{against_child, against_nothing}
-use Rattle.qc_pass.specs.Entries.{IsOlder, entries_of}
-use Rattle.qc_pass.specs.Rules.{Has, extends, numbers, pass}
-use Rattle.qc_pass.proofs.Since.{since}
+use Rattle.qc_desk.specs.declared.view.View.{View}
+use Rattle.qc_desk.specs.Calling.{EnteredAs}
+use Rattle.qc_desk.specs.Refusing.{against_child, against_nothing}
+use Rattle.qc_desk.specs.Entries.{IsOlder, entries_of}
+use Rattle.qc_desk.specs.Rules.{Has, extends, numbers, pass}
+use Rattle.qc_desk.proofs.Since.{since}
 use Rattle.qc_script.specs.Calls.{MeetsLink}
 use Rattle.qc_script.specs.Client.{Client}
 use Rattle.qc_session.specs.Clients.{IsFor, client_of, kin_of, link_told, view_of}

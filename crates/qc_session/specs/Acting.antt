@@ -10,9 +10,9 @@ use Rattle.qc_event.specs.declared.log.Short.TheVariants as short
 use Rattle.qc_event.specs.History.{Name, limit, end, is_ready}
 use Rattle.qc_ledger.specs.declared.fault.LedgerNo.{LedgerNo}
 use Rattle.qc_ledger.specs.declared.fault.LedgerNo.TheVariants as ledger
-use Rattle.qc_pass.specs.declared.refusal.DeskNo.{DeskNo}
-use Rattle.qc_pass.specs.declared.view.View.{View}
-use Rattle.qc_pass.specs.declared.refusal.DeskNo.TheVariants as desk
+use Rattle.qc_desk.specs.declared.refusal.DeskNo.{DeskNo}
+use Rattle.qc_desk.specs.declared.view.View.{View}
+use Rattle.qc_desk.specs.declared.refusal.DeskNo.TheVariants as desk
 use Rattle.qc_script.specs.Calls.{IsForChild, IsNone, Refuses}
 use Rattle.qc_script.specs.Plan.{KindFits}
 use Rattle.qc_script.specs.declared.tx.TxNo.{TxNo}

@@ -1,8 +1,8 @@
 -- What a client keeps of its pass, and of the marks that it made.
 use Rattle.std.specs.Prelude.{List}
 use Rattle.qc_board.specs.Boards.{Mark}
-use Rattle.qc_pass.specs.declared.view.View.{View as Pass}
-use Rattle.qc_pass.specs.Rules.{AreKin, numbers}
+use Rattle.qc_desk.specs.declared.view.View.{View as Pass}
+use Rattle.qc_desk.specs.Rules.{AreKin, numbers}
 use Rattle.qc_session.specs.Marking.{KnowsMarks}
 use Rattle.qc_session.specs.Session.{AreHigh}
 use Rattle.qc_session.specs.Tidy.{AreTidy}

@@ -6,9 +6,9 @@ use Rattle.qc_event.specs.Base.{Setting}
 use Rattle.qc_event.specs.Legal.{Legal}
 use Rattle.qc_net.specs.Messages.{meets_fates}
 use Rattle.qc_net.specs.Plan.{Plan}
-use Rattle.qc_pass.specs.declared.view.View.{View}
-use Rattle.qc_pass.specs.Entries.{IsOlder}
-use Rattle.qc_pass.specs.Rules.{AreKin}
+use Rattle.qc_desk.specs.declared.view.View.{View}
+use Rattle.qc_desk.specs.Entries.{IsOlder}
+use Rattle.qc_desk.specs.Rules.{AreKin}
 use Rattle.qc_session.specs.Tidy.{IsTidy}
 
 module _ {System : Type 0} where

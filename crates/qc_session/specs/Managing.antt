@@ -10,12 +10,12 @@ use Rattle.qc_event.specs.declared.event.Kind.{Kind}
 use Rattle.qc_event.specs.declared.event.Kind.TheVariants as kind
 use Rattle.qc_event.specs.History.{Past, Name, children, limit}
 use Rattle.qc_event.specs.Standing.{IsOrphanOf}
-use Rattle.qc_gather.specs.Carrying.{entry}
-use Rattle.qc_pass.specs.declared.view.View.{View}
-use Rattle.qc_pass.specs.Entries.{IsSince}
-use Rattle.qc_pass.specs.Rules.{extends}
-use Rattle.qc_rw.specs.declared.no.MgrNo.{MgrNo}
-use Rattle.qc_rw.specs.declared.no.MgrNo.TheVariants as no
+use Rattle.qc_managers.specs.Carrying.{entry}
+use Rattle.qc_desk.specs.declared.view.View.{View}
+use Rattle.qc_desk.specs.Entries.{IsSince}
+use Rattle.qc_desk.specs.Rules.{extends}
+use Rattle.qc_managers.specs.declared.no.MgrNo.{MgrNo}
+use Rattle.qc_managers.specs.declared.no.MgrNo.TheVariants as no
 use Rattle.qc_script.specs.declared.tx.TxNo.{TxNo}
 use Rattle.qc_script.specs.declared.tx.TxNo.TheVariants as tx_no
 

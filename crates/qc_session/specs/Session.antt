@@ -10,9 +10,9 @@ use Rattle.qc_interp.specs.FollowsScript.{net_of}
 use Rattle.qc_interp.specs.Reach.{Reach}
 use Rattle.qc_interp.specs.Session.{EndsTopsAt, InTurnAt}
 use Rattle.qc_net.specs.Messages.{meets_fates}
-use Rattle.qc_pass.specs.declared.view.View.{View as Pass}
-use Rattle.qc_pass.specs.Entries.{IsOlder, entries_of}
-use Rattle.qc_pass.specs.Rules.{AreKin, Has, numbers}
+use Rattle.qc_desk.specs.declared.view.View.{View as Pass}
+use Rattle.qc_desk.specs.Entries.{IsOlder, entries_of}
+use Rattle.qc_desk.specs.Rules.{AreKin, Has, numbers}
 use Rattle.qc_script.specs.Plan.{SessionPlan, SessionWithin}
 use Rattle.qc_session.specs.Clients.{client_for}
 use Rattle.qc_session.specs.Marking.{made_under}

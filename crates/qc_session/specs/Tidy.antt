@@ -3,7 +3,7 @@ use Rattle.std.specs.Prelude.{ℕ, ◌≡◌, true, List, None, is_some}
 use Rattle.std.specs.List.{AllByRecursion}
 use Rattle.qc_event.specs.History.{Past, Name, end}
 use Rattle.qc_event.specs.Standing.{open_child}
-use Rattle.qc_pass.specs.Own.{IsMine}
+use Rattle.qc_desk.specs.Own.{IsMine}
 
 -- Each manager that was started under a seat and has ended has no open access.
 pub record IsTidy (seat : ℕ) (past : Past) : Type 0 where

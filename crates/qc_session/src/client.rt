@@ -1,7 +1,7 @@
 //! A client of a session.
 ghost use Rattle.std.specs.Prelude.{◌≡◌, ◌<◌, []};
 ghost use Rattle.qc_event.specs.Tables.{setting_of};
-ghost use Rattle.qc_pass.specs.Rules.{numbers};
+ghost use Rattle.qc_desk.specs.Rules.{numbers};
 ghost use Rattle.qc_session.specs.Keeping.{IsClientPass};
 ghost use Rattle.qc_session.specs.Marking.{IsSeatAt};
 ghost use Rattle.qc_session.specs.Session.{AreHigh};
@@ -9,10 +9,10 @@ ghost use Rattle.qc_session.specs.Tidy.{AreTidy};
 
 use qc_board::{Board, BoardSeat, Boarded};
 use qc_carry::Line;
+use qc_desk::Pass;
 use qc_disk::Disk;
 use qc_event::{Name, Table};
 use qc_net::Link;
-use qc_pass::Pass;
 use qc_system::{Boxed, Mounting};
 use std::marker::PhantomData;
 use std::sync::Wait;

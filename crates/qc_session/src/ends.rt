@@ -8,7 +8,7 @@ ghost use Rattle.qc_event.specs.declared.event.Event.TheVariants as event;
 ghost use Rattle.qc_event.specs.declared.event.How.TheVariants.{Abort as Aborts};
 ghost use Rattle.qc_event.specs.Standing.{IsUser, Started};
 ghost use Rattle.qc_event.specs.Tables.{setting_of};
-ghost use Rattle.qc_gather.specs.Carrying.{entry};
+ghost use Rattle.qc_managers.specs.Carrying.{entry};
 ghost use Rattle.qc_net.specs.Courier.{link_of};
 ghost use Rattle.qc_script.specs.Calls.{Committed, IsForChild, IsGrounded, NotAborted, NotCommitted, by_client};
 ghost use Rattle.qc_script.specs.Client.{Client, Made};

@@ -6,9 +6,9 @@ ghost use Rattle.qc_event.specs.declared.event.How.TheVariants.{Commit as Commit
 ghost use Rattle.qc_event.specs.History.{children, is_child};
 ghost use Rattle.qc_event.specs.Standing.{IsUser, Started};
 ghost use Rattle.qc_event.specs.Tables.{setting_of};
-ghost use Rattle.qc_gather.specs.Carrying.{HasGrown, IsRunning};
+ghost use Rattle.qc_managers.specs.Carrying.{HasGrown, IsRunning};
 ghost use Rattle.qc_net.specs.Courier.{link_of};
-ghost use Rattle.qc_rw.specs.Managed.{IsAnswered, IsRefused, MayEndFor};
+ghost use Rattle.qc_managers.specs.Managed.{IsAnswered, IsRefused, MayEndFor};
 ghost use Rattle.qc_script.specs.Calls.{GaveNone, Ran};
 ghost use Rattle.qc_script.specs.Client.{Client};
 ghost use Rattle.qc_script.specs.Managers.{manager_for, IsAnswerTo};
@@ -23,9 +23,8 @@ use crate::starts::start_child;
 use qc_carry::Line;
 use qc_disk::Disk;
 use qc_event::{Answer, Cause, Config, Name, Short, Table};
-use qc_gather::Carrier;
+use qc_managers::{Carrier, MgrNo};
 use qc_net::Link;
-use qc_rw::MgrNo;
 use qc_script::{Managed, TxNo};
 use qc_system::Mounting;
 use std::sync::Wait;
@@ -63,17 +62,17 @@ fn ask<C: Carrier>(
     match what {
         Managed::Read { rec } => {
             let first = first_config(table, *rec);
-            let value = qc_rw::read(carrier, name, *rec, &first);
+            let value = qc_managers::read(carrier, name, *rec, &first);
             value.map(Answer::Value)
         }
         Managed::Write { rec, value } => {
             let first = first_config(table, *rec);
-            let version = qc_rw::write(carrier, name, *rec, &first, *value);
+            let version = qc_managers::write(carrier, name, *rec, &first, *value);
             version.and(Ok(Answer::Nothing))
         }
         Managed::Reconf { rec, config } => {
             let first = first_config(table, *rec);
-            let generation = qc_reconf::reconfigure(carrier, name, *rec, &first, config);
+            let generation = qc_managers::reconfigure(carrier, name, *rec, &first, config);
             generation.map(Answer::Generation)
         }
     }

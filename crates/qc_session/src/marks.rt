@@ -5,9 +5,9 @@ ghost use Rattle.qc_event.specs.declared.event.Event.TheVariants as event;
 ghost use Rattle.qc_event.specs.Standing.{IsUser, Started};
 ghost use Rattle.qc_event.specs.Tables.{setting_of};
 ghost use Rattle.qc_event.specs.Users as users;
-ghost use Rattle.qc_gather.specs.Carrying.{entry};
+ghost use Rattle.qc_managers.specs.Carrying.{entry};
 ghost use Rattle.qc_net.specs.Courier.{link_of};
-ghost use Rattle.qc_pass.specs.Looking.{is_marked_for};
+ghost use Rattle.qc_history.specs.Looking.{is_marked_for};
 ghost use Rattle.qc_session.specs.Acting.{IsWanting};
 ghost use Rattle.qc_session.specs.Lines.{HasGoneOn};
 

@@ -3,10 +3,10 @@ ghost use Rattle.std.specs.Prelude.{◌≡◌};
 ghost use Rattle.qc_session.specs.Acting as words;
 ghost use Rattle.qc_session.specs.Managing as managing;
 
+use qc_desk::DeskNo;
 use qc_event::{Name, Short};
 use qc_ledger::LedgerNo;
-use qc_pass::DeskNo;
-use qc_rw::MgrNo;
+use qc_managers::MgrNo;
 use qc_script::TxNo;
 
 /// Why, where a desk refused.

@@ -12,10 +12,10 @@ ghost use Rattle.qc_system.specs.Parts.{IsOpening};
 
 use crate::stage::run_over;
 use qc_board::Board;
+use qc_desk::Pass;
 use qc_disk::Disk;
 use qc_event::{Base, Short};
 use qc_interp::{Gate, Mode};
-use qc_pass::Pass;
 use qc_script::Script;
 use qc_system::{Mounting, System};
 use qc_trail::Trail;

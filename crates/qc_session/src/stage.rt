@@ -10,11 +10,11 @@ ghost use Rattle.qc_session.specs.Session.{IsFirst, IsNew, RanEach, RanOne, Sess
 use crate::client::Client;
 use qc_board::{Board, BoardSeat, Boarded};
 use qc_carry::Line;
+use qc_desk::Pass;
 use qc_disk::Disk;
 use qc_event::Short;
 use qc_interp::{Gate, Host, Mode, run_tops, told_want};
 use qc_net::{Courier, Fate, PlanLink};
-use qc_pass::Pass;
 use qc_script::{Script, Session};
 use qc_system::{Boxed, Mounting, System};
 use std::alloc::{AllocError, Global};

@@ -19,15 +19,15 @@ use Rattle.qc_event.proofs.Absent.{same_is}
 use Rattle.qc_event.proofs.OneEntry.{if_is, first_is}
 use Rattle.qc_event.proofs.Options.{some_there}
 use Rattle.qc_event.proofs.StillTold.{is_stays}
-use Rattle.qc_indexes.specs.Grants.{tuple_at}
-use Rattle.qc_pass.specs.Consulting.{HasAsked, IsTold, granted_before}
-use Rattle.qc_pass.specs.declared.consult.Consulted.{Consulted}
-use Rattle.qc_pass.specs.declared.consult.Consulted.TheVariants.{Again, Fresh}
-use Rattle.qc_pass.specs.declared.refusal.DeskNo.{DeskNo}
-use Rattle.qc_pass.specs.declared.view.View.{View}
-use Rattle.qc_pass.specs.Entries.{IsOlder}
-use Rattle.qc_pass.proofs.Consulting.{stands}
-use Rattle.qc_pass.proofs.Granting.{asked_stays}
+use Rattle.qc_history.specs.Grants.{tuple_at}
+use Rattle.qc_desk.specs.Consulting.{HasAsked, IsTold, granted_before}
+use Rattle.qc_desk.specs.declared.consult.Consulted.{Consulted}
+use Rattle.qc_desk.specs.declared.consult.Consulted.TheVariants.{Again, Fresh}
+use Rattle.qc_desk.specs.declared.refusal.DeskNo.{DeskNo}
+use Rattle.qc_desk.specs.declared.view.View.{View}
+use Rattle.qc_desk.specs.Entries.{IsOlder}
+use Rattle.qc_desk.proofs.Consulting.{stands}
+use Rattle.qc_desk.proofs.Granting.{asked_stays}
 use Rattle.qc_site.specs.AtDesk.{IsGranted}
 
 -- WHAT THE TABLE TELLS

@@ -2,7 +2,7 @@
 use Rattle.std.proofs.Common.{◌≡◌, inl, inr, ℕ, [], List, ◌++◌, length, refl, sym, ap, ◌∙◌, subst}
 use Rattle.std.specs.Prelude.{Option, None, Some, Result, Ok, Err, IfOk, OnOk, option_to_list, true}
 use Rattle.qc_config.specs.declared.tuple.Tuple.{Tuple}
-use Rattle.qc_event.specs.Grants.{grant_with}
+use Rattle.qc_event.specs.Grants.{grant_with, MayGrant}
 use Rattle.qc_disk.specs.Disk.{IsImage}
 use Rattle.qc_disk.specs.declared.disk.Disk.{Ghosts}
 use Rattle.qc_event.specs.declared.event.Answered.{Answered}
@@ -11,7 +11,6 @@ use Rattle.qc_event.specs.declared.event.Ask.{Ask}
 use Rattle.qc_event.specs.declared.event.Entry.{Entry}
 use Rattle.qc_event.specs.declared.event.Grant.{Grant}
 use Rattle.qc_event.specs.Base.{Setting, no_tuple}
-use Rattle.qc_event.specs.Grants.{MayGrant}
 use Rattle.qc_event.specs.History.{Past, grants}
 use Rattle.qc_event.specs.Seats.{copy_seat}
 use Rattle.qc_journal.specs.Journal.{disk_of, limit_of, IsUp, Keeps}
@@ -20,9 +19,9 @@ use Rattle.qc_journal.proofs.Moments.{falls_none, started, weakened}
 use Rattle.qc_ledger.specs.Entered.{AtMost, GrowsBy}
 use Rattle.qc_ledger.specs.Runs.{Falls, HasOrMore, Leaves, LosesNone}
 use Rattle.qc_ledger.proofs.Logging.{LeavesNow, falls_grow, grew_by, loses_none_on, same_moments, then_grew, then_none}
-use Rattle.qc_pass.specs.declared.view.View.{View}
-use Rattle.qc_pass.specs.Entries.{IsOlder}
-use Rattle.qc_pass.proofs.Seers.{older_trans}
+use Rattle.qc_desk.specs.declared.view.View.{View}
+use Rattle.qc_desk.specs.Entries.{IsOlder}
+use Rattle.qc_desk.proofs.Seers.{older_trans}
 use Rattle.qc_site.specs.AtDesk.{hand_entries}
 use Rattle.qc_site.specs.Back.{grant_body}
 use Rattle.qc_site.specs.Calls.{empty_handed, SiteBecame, CanServe, HasServed, GrantMoments, SiteState, SiteWroteNone}

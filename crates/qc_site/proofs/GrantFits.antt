@@ -20,8 +20,8 @@ use Rattle.qc_event.specs.Seen.{seen}
 use Rattle.qc_event.proofs.AccessNames.{IsAccessName, asked_name}
 use Rattle.qc_event.proofs.MayGrant.{sets_after}
 use Rattle.qc_event.proofs.LegalConfigs.{left_config}
-use Rattle.qc_pass.specs.Consulting.{HasAsked}
-use Rattle.qc_pass.proofs.Consulting.{stands}
+use Rattle.qc_desk.specs.Consulting.{HasAsked}
+use Rattle.qc_desk.proofs.Consulting.{stands}
 use Rattle.qc_codec.specs.Form.{byte, only}
 use Rattle.qc_codec.specs.Fields.{format_1, half, word, long, name, config, tuple, is_length, is_top, some_number, has_no_fault}
 use Rattle.qc_codec.specs.Bodies.{granted, grant, code_of, is_code}

@@ -12,7 +12,7 @@ use Rattle.std.proofs.lemmas.List.Elements.{All-push}
 use Rattle.std.proofs.lemmas.List.Folds.{list_any_at, list_any_none}
 use Rattle.std.proofs.lemmas.Option.{none-some, same_Some}
 use Rattle.std.specs.Map.{lookup}
-use Rattle.qc_desk.proofs.Finding.{only_root, first_and_rest}
+use Rattle.qc_history.proofs.Finding.{only_root, first_and_rest}
 use Rattle.qc_ledger.proofs.Numbers.{is_at_apart}
 use Rattle.qc_names.specs.Name as name
 use Rattle.qc_event.specs.History.{Name}

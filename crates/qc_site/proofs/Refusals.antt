@@ -11,9 +11,9 @@ use Rattle.qc_journal.specs.Journal.{limit_of, place_of, IsDown, IsTooLong, IsUp
 use Rattle.qc_journal.specs.declared.journal.Journal.{Journal}
 use Rattle.qc_journal.specs.declared.fault.Fault.{Fault}
 use Rattle.qc_journal.specs.declared.fault.Fault.TheVariants as fault
-use Rattle.qc_pass.specs.Refusing.{IsWant}
-use Rattle.qc_pass.specs.declared.refusal.DeskNo.{DeskNo}
-use Rattle.qc_pass.specs.declared.refusal.DeskNo.TheVariants as desk
+use Rattle.qc_desk.specs.Refusing.{IsWant}
+use Rattle.qc_desk.specs.declared.refusal.DeskNo.{DeskNo}
+use Rattle.qc_desk.specs.declared.refusal.DeskNo.TheVariants as desk
 use Rattle.qc_site.specs.Back.{grant_body}
 use Rattle.qc_site.specs.Log.{WriteLeaves}
 use Rattle.qc_site.specs.Refusing.{desk_no}

@@ -10,15 +10,15 @@ use Rattle.qc_event.specs.declared.event.Event.{Event}
 use Rattle.qc_event.specs.declared.event.Event.TheVariants as event
 use Rattle.qc_event.specs.declared.event.Why.{Why}
 use Rattle.qc_ledger.specs.Entered.{SeesMore}
-use Rattle.qc_pass.specs.declared.consult.Consulted.{Consulted}
-use Rattle.qc_pass.specs.declared.consult.Consulted.TheVariants as consulted
-use Rattle.qc_pass.specs.declared.refusal.DeskNo.{DeskNo}
-use Rattle.qc_pass.specs.Consulting.{HasAsked, IsJudged, IsTold}
+use Rattle.qc_desk.specs.declared.consult.Consulted.{Consulted}
+use Rattle.qc_desk.specs.declared.consult.Consulted.TheVariants as consulted
+use Rattle.qc_desk.specs.declared.refusal.DeskNo.{DeskNo}
+use Rattle.qc_desk.specs.Consulting.{HasAsked, IsJudged, IsTold}
 use Rattle.qc_event.specs.Grants.{grant_with, MayGrant}
 use Rattle.qc_site.proofs.Again.{none_granted}
 use Rattle.qc_event.proofs.Absent.{same_itself}
-use Rattle.qc_pass.specs.Refusing.{against_nothing}
-use Rattle.qc_pass.specs.Rules.{knows, extends}
+use Rattle.qc_desk.specs.Refusing.{against_nothing}
+use Rattle.qc_desk.specs.Rules.{knows, extends}
 use Rattle.qc_site.specs.AtDesk.{hand_after, IsGranted, OnlyLooks}
 use Rattle.qc_config.specs.declared.tuple.Tuple.{Tuple}
 use Rattle.qc_event.specs.declared.event.Entry.{Entry}
@@ -30,13 +30,13 @@ use Rattle.qc_event.specs.Seats.{copy_seat}
 use Rattle.qc_moss.specs.Follows.{Follows}
 use Rattle.qc_moss.specs.Locks.{Table, granted_to, unheld}
 use Rattle.qc_moss.proofs.Tables.{granted, grows, starts}
-use Rattle.qc_pass.specs.declared.view.View.{View}
-use Rattle.qc_pass.specs.Calling.{Entered, Looked, Refused, Shown}
-use Rattle.qc_pass.proofs.Consulting.{follows_more}
-use Rattle.qc_pass.proofs.Seers.{older_trans}
-use Rattle.qc_pass.proofs.Since.{others_where_none}
-use Rattle.qc_pass.specs.Entries.{entries_of, AreOthers, IsOlder, IsSince, entry}
-use Rattle.qc_pass.proofs.NoGrants.{AreNoGrants, grants_kept, grant_still_allowed, others_grant_none}
+use Rattle.qc_desk.specs.declared.view.View.{View}
+use Rattle.qc_desk.specs.Calling.{Entered, Looked, Refused, Shown}
+use Rattle.qc_desk.proofs.Consulting.{follows_more}
+use Rattle.qc_desk.proofs.Seers.{older_trans}
+use Rattle.qc_desk.proofs.Since.{others_where_none}
+use Rattle.qc_desk.specs.Entries.{entries_of, AreOthers, IsOlder, IsSince, entry}
+use Rattle.qc_desk.proofs.NoGrants.{AreNoGrants, grants_kept, grant_still_allowed, others_grant_none}
 use Rattle.qc_site.specs.Replica.{IsKept, IsTableOf, HasRoomFor, Standing}
 
 -- ENTRIES THAT ARE NO GRANT OF THE COPY

@@ -15,8 +15,8 @@ use Rattle.qc_ledger.specs.Runs.{Falls, HasOrMore, Leaves, LosesNone}
 use Rattle.qc_ledger.specs.Since.{GrownSince, HasBehind}
 use Rattle.qc_ledger.proofs.Since.{grown_falls, grown_first, grown_more, grown_on}
 use Rattle.qc_ledger.proofs.Writing.{kept_has}
-use Rattle.qc_pass.specs.Entries.{IsOlder}
-use Rattle.qc_pass.proofs.Seers.{older_trans}
+use Rattle.qc_desk.specs.Entries.{IsOlder}
+use Rattle.qc_desk.proofs.Seers.{older_trans}
 use Rattle.qc_site.specs.Back.{grant_body}
 use Rattle.qc_site.specs.Log.{IsOver, journal_in}
 use Rattle.qc_site.specs.Since.{AreGrantsBy, GrantsGrow}

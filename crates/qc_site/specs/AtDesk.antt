@@ -11,12 +11,12 @@ use Rattle.qc_event.specs.declared.event.Refusal.TheVariants as refusal
 use Rattle.qc_event.specs.declared.event.Why.{Why}
 use Rattle.qc_event.specs.History.{Past, granted, grants}
 use Rattle.qc_event.specs.Seats.{copy_seat}
-use Rattle.qc_pass.specs.declared.consult.Consulted.{Consulted}
-use Rattle.qc_pass.specs.declared.consult.Consulted.TheVariants as consulted
-use Rattle.qc_pass.specs.declared.refusal.DeskNo.{DeskNo}
-use Rattle.qc_pass.specs.declared.view.View.{View}
-use Rattle.qc_pass.specs.Entries.{IsOlder, entry}
-use Rattle.qc_pass.specs.Refusing.{IsWant}
+use Rattle.qc_desk.specs.declared.consult.Consulted.{Consulted}
+use Rattle.qc_desk.specs.declared.consult.Consulted.TheVariants as consulted
+use Rattle.qc_desk.specs.declared.refusal.DeskNo.{DeskNo}
+use Rattle.qc_desk.specs.declared.view.View.{View}
+use Rattle.qc_desk.specs.Entries.{IsOlder, entry}
+use Rattle.qc_desk.specs.Refusing.{IsWant}
 use Rattle.qc_site.specs.Replica.{Standing}
 
 -- what is in hand after a consultation: the grant of a free request

@@ -11,9 +11,9 @@ use Rattle.qc_event.specs.Base.{Setting}
 use Rattle.qc_event.specs.History.{Past, limit}
 use Rattle.qc_journal.specs.Journal.{disk_of, limit_of}
 use Rattle.qc_ledger.specs.Runs.{Falls, Leaves, LosesNone}
-use Rattle.qc_pass.specs.declared.store.Store.{Ghosts as Desk}
-use Rattle.qc_pass.specs.declared.view.View.{View}
-use Rattle.qc_pass.specs.Entries.{IsOlder}
+use Rattle.qc_desk.specs.declared.store.Store.{Ghosts as Desk}
+use Rattle.qc_desk.specs.declared.view.View.{View}
+use Rattle.qc_desk.specs.Entries.{IsOlder}
 use Rattle.qc_site.specs.AtDesk.{IsGranted}
 use Rattle.qc_site.specs.Log.{journal_in}
 use Rattle.qc_site.specs.Replica.{Standing}

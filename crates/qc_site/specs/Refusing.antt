@@ -6,8 +6,8 @@ use Rattle.qc_codec.specs.declared.past.Past.{Past}
 use Rattle.qc_event.specs.declared.table.Table.{Table}
 use Rattle.qc_journal.specs.declared.fault.Fault.{Fault}
 use Rattle.qc_journal.specs.declared.fault.Fault.TheVariants as fault
-use Rattle.qc_pass.specs.declared.refusal.DeskNo.{DeskNo}
-use Rattle.qc_pass.specs.declared.refusal.DeskNo.TheVariants as desk
+use Rattle.qc_desk.specs.declared.refusal.DeskNo.{DeskNo}
+use Rattle.qc_desk.specs.declared.refusal.DeskNo.TheVariants as desk
 use Rattle.qc_ledger.specs.Image.{IsFirstFault}
 use Rattle.qc_site.specs.Image.{IsFault}
 use Rattle.qc_site.specs.declared.fault.SiteNo.{SiteNo}

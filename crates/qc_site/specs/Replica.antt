@@ -8,7 +8,7 @@ use Rattle.qc_event.specs.History.{Past, grants}
 use Rattle.qc_event.specs.Seats.{copy_seat}
 use Rattle.qc_moss.specs.Follows.{Follows}
 use Rattle.qc_moss.specs.Locks.{Table}
-use Rattle.qc_pass.specs.declared.view.View.{View}
+use Rattle.qc_desk.specs.declared.view.View.{View}
 
 -- A copy at its desk: its pass, the grant in hand, which is not entered yet, and whether it has its locks.
 pub record Standing : Type 0 where

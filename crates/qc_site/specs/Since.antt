@@ -8,7 +8,7 @@ use Rattle.qc_event.specs.History.{Past, grants}
 use Rattle.qc_event.specs.Seats.{copy_seat}
 use Rattle.qc_journal.specs.Journal.{disk_of}
 use Rattle.qc_ledger.specs.Since.{GrownSince, OrMore}
-use Rattle.qc_pass.specs.Entries.{IsOlder}
+use Rattle.qc_desk.specs.Entries.{IsOlder}
 use Rattle.qc_site.specs.Back.{grant_body}
 use Rattle.qc_site.specs.Log.{journal_in}
 use Rattle.qc_site.specs.declared.log.GrantLog.{GrantLog}

@@ -16,7 +16,7 @@ use Rattle.qc_journal.specs.Journal.{disk_of, limit_of, place_of, IsTooLong}
 use Rattle.qc_journal.specs.declared.journal.Journal.{Journal}
 use Rattle.qc_ledger.specs.Entered.{AtMost, GrowsBy, IsBehind}
 use Rattle.qc_ledger.specs.Runs.{Leaves}
-use Rattle.qc_pass.specs.Entries.{entry}
+use Rattle.qc_desk.specs.Entries.{entry}
 use Rattle.qc_site.specs.AtDesk.{hand_entries, refused_entry, unable_entry}
 use Rattle.qc_site.specs.Back.{grant_body}
 use Rattle.qc_site.specs.Log.{IsOver}

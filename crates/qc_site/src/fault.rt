@@ -4,8 +4,8 @@ ghost use Rattle.qc_site.specs.Refusing.{desk_no, image_no, mount_no};
 ghost use Rattle.qc_site.specs.declared.fault.SiteNo.TheVariants.{Memory};
 
 use qc_codec::{BadImage, ImageFault};
+use qc_desk::DeskNo;
 use qc_journal::Fault;
-use qc_pass::DeskNo;
 use std::alloc::{AllocError, AllocFailed};
 use thiserror::Error;
 

@@ -6,13 +6,13 @@ ghost use Rattle.qc_event.specs.Base.{IsProper};
 ghost use Rattle.qc_event.specs.Seen.{seen};
 ghost use Rattle.qc_event.specs.Tables.{setting_of};
 ghost use Rattle.qc_event.specs.Grants.{grant_with};
-ghost use Rattle.qc_pass.specs.Consulting.{HasAsked};
+ghost use Rattle.qc_desk.specs.Consulting.{HasAsked};
 ghost use Rattle.qc_codec.specs.Bodies as body;
 ghost use Rattle.qc_codec.specs.Fields.{format_1};
 
 use qc_config::{Config, Tuple};
+use qc_desk::{Pass, Store};
 use qc_event::{Ask, Name};
-use qc_pass::{Pass, Store};
 
 // The numbers of a name are in range.
 fn name_in_range(name: &Name)

@@ -9,7 +9,7 @@ ghost use Rattle.qc_event.specs.Tables.{setting_of};
 ghost use Rattle.qc_journal.specs.Journal.{IsDown, IsUp};
 ghost use Rattle.qc_ledger.specs.Entered.{SeesMore};
 ghost use Rattle.qc_ledger.specs.Runs.{Costs};
-ghost use Rattle.qc_pass.specs.Consulting.{HasAsked};
+ghost use Rattle.qc_desk.specs.Consulting.{HasAsked};
 ghost use Rattle.qc_site.specs.Log.{journal_in};
 ghost use Rattle.qc_site.specs.Serving as words;
 
@@ -19,10 +19,10 @@ use crate::replica::{Replica, grant_of};
 use crate::serve::{ServeNo, of_site};
 use crate::site::Site;
 use qc_config::Tuple;
+use qc_desk::{Desk, Pass, Store};
 use qc_disk::Disk;
 use qc_event::{Ask, Short};
 use qc_journal::Fault;
-use qc_pass::{Desk, Pass, Store};
 use std::sync::Wait;
 
 // What a fault of the journal is to a request.

@@ -10,9 +10,9 @@ use crate::log::GrantLog;
 use crate::replica::Replica;
 use crate::site::Site;
 use qc_config::Tuple;
+use qc_desk::{Pass, Store};
 use qc_disk::Disk;
 use qc_journal::{Body, Journal};
-use qc_pass::{Pass, Store};
 use std::alloc::Global;
 
 /// A copy that was mounted: its number, of so many copies, its journal, which is up, the bodies of its records, and what

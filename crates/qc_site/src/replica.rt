@@ -6,13 +6,13 @@ ghost use Rattle.qc_event.specs.History.{grants};
 ghost use Rattle.qc_event.specs.Legal.{Legal};
 ghost use Rattle.qc_event.specs.Seats.{copy_seat};
 ghost use Rattle.qc_event.specs.Tables.{setting_of};
-ghost use Rattle.qc_pass.specs.Entries.{entries_of};
+ghost use Rattle.qc_desk.specs.Entries.{entries_of};
 ghost use Rattle.qc_site.specs.Replica.{IsTableOf};
 
 use qc_config::Tuple;
+use qc_desk::{Pass, Store};
 use qc_event::{Ask, Grant};
 use qc_moss::Locks;
-use qc_pass::{Pass, Store};
 use std::marker::Model;
 
 /// A copy at its desk. It is up where it has its locks. A grant may be in hand, which is not entered in the history yet.

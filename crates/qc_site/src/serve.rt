@@ -8,7 +8,7 @@ ghost use Rattle.qc_event.specs.Requests.{is_fault};
 ghost use Rattle.qc_event.specs.Tables.{setting_of};
 ghost use Rattle.qc_ledger.specs.Entered.{SeesMore};
 ghost use Rattle.qc_ledger.specs.Runs.{Costs};
-ghost use Rattle.qc_pass.specs.Consulting.{HasAsked};
+ghost use Rattle.qc_desk.specs.Consulting.{HasAsked};
 ghost use Rattle.qc_site.specs.AtDesk.{unable_entry, IsGranted};
 ghost use Rattle.qc_site.specs.Log.{journal_in};
 ghost use Rattle.qc_site.specs.Serving as words;
@@ -16,10 +16,10 @@ ghost use Rattle.qc_site.specs.Serving as words;
 use crate::fault::{SiteNo, desk_no};
 use crate::site::Site;
 use qc_config::Tuple;
-use qc_moss::Verdict;
+use qc_desk::{Consulted, Desk, DeskNo, Pass, Store};
 use qc_disk::Disk;
 use qc_event::{Answered, Ask, Short, Why};
-use qc_pass::{Consulted, Desk, DeskNo, Pass, Store};
+use qc_moss::Verdict;
 use std::sync::Wait;
 
 /// Why the desk did not answer a request: the copy was unable to serve it, or memory or room was wanting.

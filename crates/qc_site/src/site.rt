@@ -9,7 +9,7 @@ ghost use Rattle.qc_event.specs.Tables.{setting_of};
 ghost use Rattle.qc_journal.specs.Journal.{disk_of, limit_of, IsDown, IsUp};
 ghost use Rattle.qc_ledger.specs.Entered.{SeesMore};
 ghost use Rattle.qc_ledger.specs.Runs.{Costs, Falls, Leaves};
-ghost use Rattle.qc_pass.specs.Entries.{entries_of};
+ghost use Rattle.qc_desk.specs.Entries.{entries_of};
 ghost use Rattle.qc_site.specs.AtDesk.{OnlyLooks};
 ghost use Rattle.qc_site.specs.Log.{copies_of, journal_in};
 
@@ -18,9 +18,9 @@ use crate::fault::{SiteNo, desk_no};
 use crate::lists::append;
 use crate::log::GrantLog;
 use crate::replica::Replica;
+use qc_desk::{Desk, Pass, Store};
 use qc_disk::Disk;
 use qc_event::Grant;
-use qc_pass::{Desk, Pass, Store};
 use std::alloc::{AllocError, Global};
 use std::sync::Wait;
 

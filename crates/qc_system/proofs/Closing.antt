@@ -11,11 +11,11 @@ use Rattle.qc_event.specs.History.{Past}
 use Rattle.qc_event.specs.Legal.{Legal}
 use Rattle.qc_event.specs.Listed.{listed}
 use Rattle.qc_event.specs.Seats.{copy_seat, ledger_seat}
-use Rattle.qc_pass.specs.declared.view.View.{View}
-use Rattle.qc_pass.specs.Entries.{IsOlder, entries_of}
-use Rattle.qc_pass.specs.Rules.{Has, IsSettled, joined, knows, without}
-use Rattle.qc_pass.proofs.Having.{has_left}
-use Rattle.qc_pass.proofs.Seers.{older_trans}
+use Rattle.qc_desk.specs.declared.view.View.{View}
+use Rattle.qc_desk.specs.Entries.{IsOlder, entries_of}
+use Rattle.qc_desk.specs.Rules.{Has, IsSettled, joined, knows, without}
+use Rattle.qc_desk.proofs.Having.{has_left}
+use Rattle.qc_desk.proofs.Seers.{older_trans}
 use Rattle.qc_system.specs.Closing.{AllKeep, CopyKeeps, DiskKeeps, HaveLeft, Keeping, LedgerKeeps, WasLeft}
 use Rattle.qc_system.specs.Kept.{HadNoRoom, Pays, downs}
 use Rattle.qc_system.specs.Parts.{Findings, IsClosing, IsThere}

@@ -1,10 +1,10 @@
 -- What the first pass has once the passes of the ledger and of the copies are joined into it.
 use Rattle.std.proofs.Common.{◌≡◌, ℕ, ◌<◌, ◌≤◌, ◌⊎◌, inl, inr, [], ◌∷◌, ◌++◌, refl, sym, ap, ◌∙◌, arith, subst}
 use Rattle.qc_event.specs.History.{Past}
-use Rattle.qc_pass.specs.declared.view.View.{View}
-use Rattle.qc_pass.specs.Entries.{entries_of}
-use Rattle.qc_pass.specs.Rules.{Has, IsSettled, joined, knows}
-use Rattle.qc_pass.proofs.Having.{has_both, has_cons, has_left, has_none}
+use Rattle.qc_desk.specs.declared.view.View.{View}
+use Rattle.qc_desk.specs.Entries.{entries_of}
+use Rattle.qc_desk.specs.Rules.{Has, IsSettled, joined, knows}
+use Rattle.qc_desk.proofs.Having.{has_both, has_cons, has_left, has_none}
 use Rattle.qc_system.specs.Parts.{JoinsLow}
 
 pub low_itself : (v : View) → JoinsLow v v

@@ -23,11 +23,11 @@ use Rattle.qc_ledger.specs.Entered.{KeepsLogged, MayFinish, pending_by, told_bod
 use Rattle.qc_ledger.specs.Shelf.{journal_in, top_in}
 use Rattle.qc_ledger.specs.declared.shelf.Shelf.{Shelf}
 use Rattle.qc_ledger.proofs.Passes.{may_be_next, may_first, ready_stays}
-use Rattle.qc_pass.specs.Entries.{IsOlder, IsSince, entries_of}
-use Rattle.qc_pass.specs.declared.view.View.{View}
-use Rattle.qc_pass.proofs.Finishing.{ended_by_ledger}
-use Rattle.qc_pass.proofs.NoGrants.{AreNoGrants, grants_kept, grant_still_allowed, others_grant_none}
-use Rattle.qc_pass.proofs.Since.{since}
+use Rattle.qc_desk.specs.Entries.{IsOlder, IsSince, entries_of}
+use Rattle.qc_desk.specs.declared.view.View.{View}
+use Rattle.qc_desk.proofs.Finishing.{ended_by_ledger}
+use Rattle.qc_desk.proofs.NoGrants.{AreNoGrants, grants_kept, grant_still_allowed, others_grant_none}
+use Rattle.qc_desk.proofs.Since.{since}
 use Rattle.qc_site.specs.Back.{grant_body}
 use Rattle.qc_site.specs.Replica.{Standing}
 use Rattle.qc_site.specs.Sites.{KeepsGranted}

@@ -24,10 +24,10 @@ use Rattle.qc_ledger.specs.declared.shelf.Shelf.{Shelf}
 use Rattle.qc_journal.specs.Journal.{Keeps}
 use Rattle.qc_journal.specs.declared.journal.State.{State}
 use Rattle.qc_journal.specs.declared.journal.State.TheVariants as state
-use Rattle.qc_pass.specs.Entries.{IsOlder, entries_of}
-use Rattle.qc_pass.specs.declared.view.View.{View}
-use Rattle.qc_pass.proofs.Finishing.{commit_ready}
-use Rattle.qc_pass.proofs.Seers.{older_trans}
+use Rattle.qc_desk.specs.Entries.{IsOlder, entries_of}
+use Rattle.qc_desk.specs.declared.view.View.{View}
+use Rattle.qc_desk.proofs.Finishing.{commit_ready}
+use Rattle.qc_desk.proofs.Seers.{older_trans}
 use Rattle.qc_event.proofs.Later.{earlier_legal}
 use Rattle.qc_ledger.specs.Since.{AreTopsBy, IsNext, OrMore}
 use Rattle.qc_ledger.proofs.Since.{tops_later}

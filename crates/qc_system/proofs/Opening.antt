@@ -4,8 +4,8 @@ use mathlib.Core.Bool.{true≢false}
 use Rattle.std.specs.Prelude.{slice_index_or, MatchBool, nat_lt, ◌&&◌}
 use Rattle.std.proofs.lemmas.Bool.Decides.{nat_tests}
 use Rattle.qc_disk.specs.declared.disk.Disk.{Ghosts}
-use Rattle.qc_pass.specs.declared.view.View.{View}
-use Rattle.qc_pass.specs.Rules.{IsSplit, counted, pass}
+use Rattle.qc_desk.specs.declared.view.View.{View}
+use Rattle.qc_desk.specs.Rules.{IsSplit, counted, pass}
 use Rattle.qc_site.specs.declared.mounted.Mounted.{Mounted}
 use Rattle.qc_system.specs.Parts.{AreWaiting, Findings, IsMounted, IsOpening}
 

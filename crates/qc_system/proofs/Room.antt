@@ -26,7 +26,7 @@ use Rattle.qc_ledger.specs.Entered.{CommitsHand, EntersTop, RefusalEnters, commi
 use Rattle.qc_ledger.specs.Shelf.{top_body}
 use Rattle.qc_ledger.specs.declared.fault.LedgerNo.{LedgerNo}
 use Rattle.qc_ledger.specs.declared.fault.LedgerNo.TheVariants as no
-use Rattle.qc_pass.specs.Entries.{IsOlder, entries_of}
+use Rattle.qc_desk.specs.Entries.{IsOlder, entries_of}
 use Rattle.qc_system.specs.Kept.{HadNoRoom}
 use Rattle.qc_system.proofs.Listed.{listed_stays}
 use Rattle.qc_system.proofs.Paying.{at_most}

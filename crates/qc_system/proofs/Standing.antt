@@ -24,7 +24,7 @@ use Rattle.qc_event.proofs.StillTold.{some_stays}
 use Rattle.qc_ledger.specs.Entered.{RefusalEnters, unlogged_entry}
 use Rattle.qc_ledger.specs.declared.fault.LedgerNo.{LedgerNo}
 use Rattle.qc_ledger.specs.declared.fault.LedgerNo.TheVariants as no
-use Rattle.qc_pass.specs.Entries.{IsOlder, entries_of, entry}
+use Rattle.qc_desk.specs.Entries.{IsOlder, entries_of, entry}
 use Rattle.qc_site.specs.Answers.{HasAnswered}
 use Rattle.qc_site.specs.AtDesk.{IsGranted, refused_entry, unable_entry}
 use Rattle.qc_site.specs.Replica.{Standing}

@@ -18,7 +18,7 @@ use Rattle.qc_ledger.specs.declared.fault.LedgerNo.{LedgerNo}
 use Rattle.qc_ledger.specs.declared.fault.LedgerNo.TheVariants as no
 use Rattle.qc_ledger.specs.Shelf.{journal_in as journal_of_shelf}
 use Rattle.qc_ledger.specs.declared.shelf.Shelf.{Shelf}
-use Rattle.qc_pass.specs.declared.view.View.{View}
+use Rattle.qc_desk.specs.declared.view.View.{View}
 use Rattle.qc_site.specs.Log.{journal_in}
 use Rattle.qc_site.specs.Replica.{Standing}
 use Rattle.qc_site.specs.Since.{AreGrantsBy}

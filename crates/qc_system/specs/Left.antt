@@ -11,7 +11,7 @@ use Rattle.qc_event.specs.Seats.{copy_seat, ledger_seat}
 use Rattle.qc_journal.specs.Image.{HasRecords}
 use Rattle.qc_ledger.specs.Entered.{told_body, tops_of}
 use Rattle.qc_ledger.specs.Since.{IsNext, OrMore}
-use Rattle.qc_pass.specs.Entries.{entries_of}
+use Rattle.qc_desk.specs.Entries.{entries_of}
 use Rattle.qc_site.specs.Back.{grant_body}
 
 -- Each image of a copy's disk has the records from before, then one for each of the copy's grants in the history, and

@@ -6,8 +6,8 @@ use Rattle.qc_disk.specs.declared.disk.Disk.{Ghosts}
 use Rattle.qc_journal.specs.Journal.{disk_of, Keeps}
 use Rattle.qc_journal.specs.declared.journal.Journal.{Journal}
 use Rattle.qc_event.specs.History.{Past}
-use Rattle.qc_pass.specs.declared.view.View.{View}
-use Rattle.qc_pass.specs.Rules.{Has}
+use Rattle.qc_desk.specs.declared.view.View.{View}
+use Rattle.qc_desk.specs.Rules.{Has}
 use Rattle.qc_site.specs.Mounted.{copies_of, copy_of, journal_of, records_of}
 use Rattle.qc_site.specs.Start.{start_of}
 use Rattle.qc_site.specs.declared.mounted.Mounted.{Mounted}

@@ -4,17 +4,17 @@ ghost use Rattle.qc_event.specs.Base.{IsProper};
 ghost use Rattle.qc_event.specs.History.{limit};
 ghost use Rattle.qc_event.specs.Legal.{Legal};
 ghost use Rattle.qc_event.specs.Tables.{setting_of};
-ghost use Rattle.qc_pass.specs.Entries.{IsOlder};
-ghost use Rattle.qc_pass.specs.Rules.{IsSettled};
+ghost use Rattle.qc_desk.specs.Entries.{IsOlder};
+ghost use Rattle.qc_desk.specs.Rules.{IsSettled};
 ghost use Rattle.qc_system.specs.Closing.{AllKeep, HaveLeft};
 ghost use Rattle.qc_system.specs.Parts.{IsClosing, IsThere, JoinsLow};
 
 use crate::held::Held;
 use crate::mounting::Mounting;
 use crate::system::{Returns, System};
+use qc_desk::{Desk, Pass};
 use qc_disk::Disk;
 use qc_event::Base;
-use qc_pass::{Desk, Pass};
 use qc_trail::Trail;
 use std::sync::{Mutex, Wait};
 

@@ -8,8 +8,8 @@ ghost use Rattle.qc_event.specs.Seats.{copy_seat};
 ghost use Rattle.qc_event.specs.Tables.{setting_of};
 ghost use Rattle.qc_journal.specs.Journal.{disk_of};
 ghost use Rattle.qc_ledger.specs.Entered.{SeesMore};
-ghost use Rattle.qc_pass.specs.Consulting.{HasAsked};
-ghost use Rattle.qc_pass.specs.Entries.{entries_of};
+ghost use Rattle.qc_desk.specs.Consulting.{HasAsked};
+ghost use Rattle.qc_desk.specs.Entries.{entries_of};
 ghost use Rattle.qc_site.specs.Answers.{HasAnswered};
 ghost use Rattle.qc_site.specs.Log.{journal_in};
 ghost use Rattle.qc_system.specs.Closing.{CopyKeeps};
@@ -18,9 +18,9 @@ ghost use Rattle.qc_system.specs.Parts.{IsMounted};
 
 use crate::boxed::Boxed;
 use crate::mounting::Mounting;
+use qc_desk::{Desk, Pass};
 use qc_disk::Disk;
 use qc_event::{Answered, Ask, Short};
-use qc_pass::{Desk, Pass};
 use qc_site::{Mounted, Site};
 use std::sync::Wait;
 

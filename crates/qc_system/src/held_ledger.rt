@@ -13,17 +13,17 @@ ghost use Rattle.qc_ledger.specs.Mounted.{journal_of, records_of};
 ghost use Rattle.qc_ledger.specs.Runs.{Leaves};
 ghost use Rattle.qc_ledger.specs.Shelf.{journal_in, top_body};
 ghost use Rattle.qc_ledger.specs.Since.{TopsGrow};
-ghost use Rattle.qc_pass.specs.Entries.{entries_of};
+ghost use Rattle.qc_desk.specs.Entries.{entries_of};
 ghost use Rattle.qc_system.specs.Closing.{LedgerKeeps};
 ghost use Rattle.qc_system.specs.Kept.{HadNoRoomIn, HasRefused, Pays, TopsSince, downs};
 ghost use Rattle.qc_system.specs.Parts.{IsFound};
 
 use crate::boxed::Boxed;
 use crate::mounting::Mounting;
+use qc_desk::{Desk, Pass};
 use qc_disk::Disk;
 use qc_event::Name;
 use qc_ledger::{Book, Ledger, LedgerNo};
-use qc_pass::{Desk, Pass};
 use std::sync::Wait;
 
 /// The ledger in its lock. Its disk keeps what was found there at the mounting, and the tops that were committed since,

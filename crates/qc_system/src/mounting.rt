@@ -1,6 +1,6 @@
 //! What was found on each disk at its mounting.
 
-use qc_pass::Store;
+use qc_desk::Store;
 use std::marker::Brand;
 
 /// What was found on each disk at its mounting, by the disk's number: the ledger's is 0, and copy `c`'s is `c + 1`; and

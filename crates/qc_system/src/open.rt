@@ -12,8 +12,8 @@ use crate::held_ledger::HeldLedger;
 use crate::mounting::Mounting;
 use crate::parts::Parts;
 use crate::system::{Returns, System};
+use qc_desk::{Desk, Pass};
 use qc_disk::Disk;
-use qc_pass::{Desk, Pass};
 use qc_site::Mounted;
 use std::sync::{Mutex, Wait};
 

@@ -1,9 +1,9 @@
 //! What was mounted, without a name.
 
 use crate::boxed::Boxed;
+use qc_desk::Blank;
 use qc_disk::Disk;
 use qc_ledger::Book;
-use qc_pass::Blank;
 use qc_site::Mounted;
 
 /// All that was mounted, without a name: a desk, the ledger, and the copies in rising number, with the room to hand all

@@ -8,7 +8,7 @@ ghost use Rattle.qc_event.specs.History.{end, is_ready, limit};
 ghost use Rattle.qc_event.specs.Listed.{listed};
 ghost use Rattle.qc_event.specs.Tables.{setting_of};
 ghost use Rattle.qc_ledger.specs.Entered.{SeesMore};
-ghost use Rattle.qc_pass.specs.Consulting.{HasAsked};
+ghost use Rattle.qc_desk.specs.Consulting.{HasAsked};
 ghost use Rattle.qc_site.specs.Answers.{HasAnswered};
 ghost use Rattle.qc_system.specs.Kept.{HasRefused};
 ghost use Rattle.qc_system.specs.Parts.{IsThere};
@@ -17,10 +17,10 @@ use crate::boxed::Boxed;
 use crate::held::Held;
 use crate::held_ledger::HeldLedger;
 use crate::mounting::Mounting;
+use qc_desk::{Desk, Pass};
 use qc_disk::Disk;
 use qc_event::{Answered, Ask, Name, Short};
 use qc_ledger::LedgerNo;
-use qc_pass::{Desk, Pass};
 use std::sync::{Mutex, Wait};
 
 // The room to hand the disks back. A lock of its own makes the system shareable where a disk is not.

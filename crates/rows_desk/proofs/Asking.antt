@@ -20,21 +20,21 @@ use Rattle.qc_event.specs.Starts.{Stands}
 use Rattle.qc_event.proofs.Absent.{same_itself}
 use Rattle.qc_event.proofs.LastNumber.{front_last}
 use Rattle.qc_event.proofs.StillTold.{is_stays}
-use Rattle.qc_pass.specs.declared.refusal.DeskNo.{DeskNo}
-use Rattle.qc_pass.specs.declared.view.View.{View}
-use Rattle.qc_pass.specs.Calling.{Entered, EnteredAs}
-use Rattle.qc_pass.specs.Entries.{IsOlder, entry}
-use Rattle.qc_pass.specs.Refusing.{against_nothing, against_child, against_access}
-use Rattle.qc_pass.specs.Own.{IsMine, IsOwnAccess, MayAskOwn}
-use Rattle.qc_pass.specs.Rules.{IsClient}
-use Rattle.qc_pass.proofs.Calls as calls
-use Rattle.qc_pass.proofs.Seers.{older_trans}
-use Rattle.qc_pass.proofs.NewChild.{IsNext, IsChild, child_of, begun, is_child_of, long, still_open, not_asked, no_asks, same_asks, granted_none}
+use Rattle.qc_desk.specs.declared.refusal.DeskNo.{DeskNo}
+use Rattle.qc_desk.specs.declared.view.View.{View}
+use Rattle.qc_desk.specs.Calling.{Entered, EnteredAs}
+use Rattle.qc_desk.specs.Entries.{IsOlder, entry}
+use Rattle.qc_desk.specs.Refusing.{against_nothing, against_child, against_access}
+use Rattle.qc_desk.specs.Own.{IsMine, IsOwnAccess, MayAskOwn}
+use Rattle.qc_desk.specs.Rules.{IsClient}
+use Rattle.qc_desk.proofs.Calls as calls
+use Rattle.qc_desk.proofs.Seers.{older_trans}
+use Rattle.qc_desk.proofs.NewChild.{IsNext, IsChild, child_of, begun, is_child_of, long, still_open, not_asked, no_asks, same_asks, granted_none}
 use Rattle.rows_desk.specs.OneCopy.{IsRequest}
 use Rattle.rows_desk.proofs.OwnAccess.{own_asked}
 use Rattle.rows_desk.proofs.OneCopy.{at_first}
 use Rattle.rows_desk.proofs.OneCopy as one_copy
-use Rattle.qc_pass.proofs.AskedTops.{IsTop, entered_as_later, entered_later, may_be_ready, top_started}
+use Rattle.qc_desk.proofs.AskedTops.{IsTop, entered_as_later, entered_later, may_be_ready, top_started}
 
 -- THE REQUEST
 

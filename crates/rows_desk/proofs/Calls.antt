@@ -4,13 +4,13 @@ use Rattle.std.specs.Prelude.{Option, Result, Ok, Err, OnOk, IfErr}
 use Rattle.qc_event.specs.declared.event.Event.{Event}
 use Rattle.qc_event.specs.History.{Past, Name}
 use Rattle.qc_event.specs.Standing.{IsUser}
-use Rattle.qc_pass.specs.declared.refusal.DeskNo.{DeskNo}
-use Rattle.qc_pass.specs.declared.view.View.{View}
-use Rattle.qc_pass.specs.Calling.{Entered, Refused}
-use Rattle.qc_pass.specs.Entries.{IsOlder}
-use Rattle.qc_pass.specs.Rules.{IsClient}
-use Rattle.qc_pass.proofs.AskedTops.{entered_later}
-use Rattle.qc_pass.proofs.Entering.{started_later}
+use Rattle.qc_desk.specs.declared.refusal.DeskNo.{DeskNo}
+use Rattle.qc_desk.specs.declared.view.View.{View}
+use Rattle.qc_desk.specs.Calling.{Entered, Refused}
+use Rattle.qc_desk.specs.Entries.{IsOlder}
+use Rattle.qc_desk.specs.Rules.{IsClient}
+use Rattle.qc_desk.proofs.AskedTops.{entered_later}
+use Rattle.qc_desk.proofs.Entering.{started_later}
 use Rattle.rows_desk.specs.Tops.{AreUsers}
 use Rattle.rows_desk.proofs.Children.{still_top}
 

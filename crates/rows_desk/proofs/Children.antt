@@ -16,11 +16,11 @@ use Rattle.qc_event.proofs.Lawful.{lawful, child_starts}
 use Rattle.qc_event.proofs.LegalOrderly.{legal_orderly}
 use Rattle.qc_event.proofs.OneEntry.{not_some, start_is}
 use Rattle.qc_event.proofs.Options.{match_wider}
-use Rattle.qc_pass.specs.declared.view.View.{View}
-use Rattle.qc_pass.specs.Calling.{EnteredAs}
-use Rattle.qc_pass.specs.Entries.{IsOlder, entry}
-use Rattle.qc_pass.specs.Refusing.{against_child}
-use Rattle.qc_pass.proofs.Entering.{started_later}
+use Rattle.qc_desk.specs.declared.view.View.{View}
+use Rattle.qc_desk.specs.Calling.{EnteredAs}
+use Rattle.qc_desk.specs.Entries.{IsOlder, entry}
+use Rattle.qc_desk.specs.Refusing.{against_child}
+use Rattle.qc_desk.proofs.Entering.{started_later}
 use Rattle.rows_desk.specs.Tops.{IsUserTop}
 
 abbrev pub IsChild : Name → ℕ → ℕ → Name → Past → Event → Type 0

@@ -4,8 +4,8 @@ use Rattle.qc_event.specs.History.{grants}
 use Rattle.qc_moss.specs.Follows.{Follows}
 use Rattle.qc_moss.specs.Locks.{Table, unheld}
 use Rattle.qc_moss.proofs.Tables.{starts}
-use Rattle.qc_pass.specs.declared.view.View.{View}
-use Rattle.qc_pass.specs.Rules.{IsSplit, pass}
+use Rattle.qc_desk.specs.declared.view.View.{View}
+use Rattle.qc_desk.specs.Rules.{IsSplit, pass}
 use Rattle.rows_desk.specs.OneCopy.{start}
 use Rattle.rows_desk.proofs.Tops.{low, next_low}
 

@@ -9,11 +9,11 @@ use Rattle.qc_event.specs.Legal.{Legal}
 use Rattle.qc_moss.specs.Follows.{Follows}
 use Rattle.qc_moss.specs.Locks.{Table, granted_to}
 use Rattle.qc_moss.proofs.Tables.{granted, grows}
-use Rattle.qc_pass.specs.declared.view.View.{View}
-use Rattle.qc_pass.specs.Calling.{Entered}
-use Rattle.qc_pass.specs.Entries.{IsSince, entry}
-use Rattle.qc_pass.specs.Refusing.{against_nothing}
-use Rattle.qc_pass.proofs.Consulting.{follows_since}
+use Rattle.qc_desk.specs.declared.view.View.{View}
+use Rattle.qc_desk.specs.Calling.{Entered}
+use Rattle.qc_desk.specs.Entries.{IsSince, entry}
+use Rattle.qc_desk.specs.Refusing.{against_nothing}
+use Rattle.qc_desk.proofs.Consulting.{follows_since}
 
 -- room that is made, or not, changes no lock
 pub reserved_follows : {T E : Type 0} (r : Result T E) (past : Past) (given : List Grant) (old new : Table) → OnOk r (new ≡ record old { reserved = true }) → OnErr r (new ≡ old) → Follows past given old → Follows past given new

@@ -11,21 +11,20 @@ use Rattle.qc_event.specs.declared.event.Kind.TheVariants as kind
 use Rattle.qc_event.specs.declared.event.Phase.TheVariants.{Collect}
 use Rattle.qc_event.specs.Base.{Setting, IsProper, IsConfigFor, IsRowFor}
 use Rattle.qc_event.specs.declared.table.Table.{Table}
-use Rattle.qc_event.specs.Grants.{MayGrant}
+use Rattle.qc_event.specs.Grants.{MayGrant, grant_with}
 use Rattle.qc_event.specs.History.{Past, Name, asks, asked, granted}
 use Rattle.qc_event.specs.Legal.{Legal}
 use Rattle.qc_event.specs.Seats.{copy_seat}
-use Rattle.qc_event.specs.Grants.{grant_with}
-use Rattle.qc_pass.specs.declared.view.View.{View}
-use Rattle.qc_pass.specs.Calling.{Looked}
-use Rattle.qc_pass.specs.Consulting.{HasAsked, IsFree}
-use Rattle.qc_pass.proofs.Consulting.{stands}
-use Rattle.qc_pass.proofs.NoGrants.{others_grant_none, ungranted}
+use Rattle.qc_desk.specs.declared.view.View.{View}
+use Rattle.qc_desk.specs.Calling.{Looked}
+use Rattle.qc_desk.specs.Consulting.{HasAsked, IsFree}
+use Rattle.qc_desk.proofs.Consulting.{stands}
+use Rattle.qc_desk.proofs.NoGrants.{others_grant_none, ungranted}
 use Rattle.qc_event.specs.Manager.{Stage, result, stage, collecting, is_phase, phase_of, all_copies, AtStage}
 use Rattle.qc_event.specs.Requests.{IsNextAsk}
 use Rattle.qc_event.specs.Tables.{setting_of}
-use Rattle.qc_pass.specs.Entries.{AreOthers, IsOlder, IsSince}
-use Rattle.qc_pass.proofs.OwnSince.{stage_of, replies_by, has_by}
+use Rattle.qc_desk.specs.Entries.{AreOthers, IsOlder, IsSince}
+use Rattle.qc_desk.proofs.OwnSince.{stage_of, replies_by, has_by}
 use Rattle.rows_desk.specs.OneCopy.{config, start, base, table}
 
 abbrev pub setting : Setting

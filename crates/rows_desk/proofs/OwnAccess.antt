@@ -12,12 +12,12 @@ use Rattle.qc_event.specs.Standing.{IsManager}
 use Rattle.qc_event.proofs.Later.{started_still}
 use Rattle.qc_event.proofs.OneEntry.{started_stays}
 use Rattle.qc_event.proofs.StillTold.{begun_still}
-use Rattle.qc_pass.specs.declared.refusal.DeskNo.{DeskNo}
-use Rattle.qc_pass.specs.declared.view.View.{View}
-use Rattle.qc_pass.specs.Calling.{Entered, Shown}
-use Rattle.qc_pass.specs.Entries.{IsSince, entry}
-use Rattle.qc_pass.specs.Own.{IsOwnAccess, MayAskOwn}
-use Rattle.qc_pass.proofs.OwnSince.{access_end_same}
+use Rattle.qc_desk.specs.declared.refusal.DeskNo.{DeskNo}
+use Rattle.qc_desk.specs.declared.view.View.{View}
+use Rattle.qc_desk.specs.Calling.{Entered, Shown}
+use Rattle.qc_desk.specs.Entries.{IsSince, entry}
+use Rattle.qc_desk.specs.Own.{IsOwnAccess, MayAskOwn}
+use Rattle.qc_desk.proofs.OwnSince.{access_end_same}
 
 pub own_since : (setting : Setting) (past now : Past) (seat : ℕ) (n : Name) → Legal setting now → IsSince seat past now → IsOwnAccess past seat n → IsOwnAccess now seat n
 own_since setting past now seat n legal (newer, is, others) own = subst (λ p. IsOwnAccess p seat n) (sym is) (record {

@@ -3,23 +3,22 @@ use Rattle.std.proofs.Common.{◌≡◌, ℕ, Bool, ◌∷◌, refl, sym, ap, �
 use Rattle.std.specs.Prelude.{Option, None, Some, MatchOption, if◌then◌else◌}
 use Rattle.std.specs.Option.{option_or}
 use Rattle.qc_config.specs.declared.tuple.Tuple.{Tuple}
-use Rattle.qc_event.specs.Grants.{grant_with}
+use Rattle.qc_event.specs.Grants.{grant_with, MayGrant}
 use Rattle.qc_event.specs.declared.event.Ask.{Ask}
 use Rattle.qc_event.specs.declared.event.Event.TheVariants as event
 use Rattle.qc_event.specs.declared.event.Grant.{Grant}
 use Rattle.qc_event.specs.Base.{Setting}
-use Rattle.qc_event.specs.Grants.{MayGrant}
 use Rattle.qc_event.specs.History.{Past, Asked, Given, asked, granted, grant_in}
 use Rattle.qc_event.specs.Legal.{Legal}
 use Rattle.qc_event.proofs.Absent.{same_itself}
 use Rattle.qc_event.proofs.StillTold.{is_stays, match_stays}
-use Rattle.qc_pass.specs.declared.refusal.DeskNo.{DeskNo}
-use Rattle.qc_pass.specs.declared.view.View.{View}
-use Rattle.qc_pass.specs.Calling.{Entered, Shown}
-use Rattle.qc_pass.specs.Entries.{IsSince, entry}
-use Rattle.qc_pass.specs.Own.{MayReplyOwn}
-use Rattle.qc_pass.specs.Rules.{knows}
-use Rattle.qc_pass.proofs.Seers.{older_trans, since_trans}
+use Rattle.qc_desk.specs.declared.refusal.DeskNo.{DeskNo}
+use Rattle.qc_desk.specs.declared.view.View.{View}
+use Rattle.qc_desk.specs.Calling.{Entered, Shown}
+use Rattle.qc_desk.specs.Entries.{IsSince, entry}
+use Rattle.qc_desk.specs.Own.{MayReplyOwn}
+use Rattle.qc_desk.specs.Rules.{knows}
+use Rattle.qc_desk.proofs.Seers.{older_trans, since_trans}
 
 pub shown_on : (v u w : View) → Shown v u → Shown u w → Shown v w
 shown_on v u w (older, is, since) (older_then, is_then, since_then) = (

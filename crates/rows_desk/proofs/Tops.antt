@@ -7,9 +7,9 @@ use Rattle.qc_event.specs.Aborts.{Licensed}
 use Rattle.qc_event.specs.Base.{Setting}
 use Rattle.qc_event.specs.History.{Past, Name, Begun, start}
 use Rattle.qc_event.specs.Standing.{Started, IsUser}
-use Rattle.qc_pass.specs.declared.view.View.{View}
-use Rattle.qc_pass.specs.Rules.{IsSplit, IsClient, without, knows, joined, pass, counted}
-use Rattle.qc_pass.proofs.AskedTops.{may_ask_abort}
+use Rattle.qc_desk.specs.declared.view.View.{View}
+use Rattle.qc_desk.specs.Rules.{IsSplit, IsClient, without, knows, joined, pass, counted}
+use Rattle.qc_desk.proofs.AskedTops.{may_ask_abort}
 
 -- who stands so may be aborted as it asked
 pub asked_itself : (setting : Setting) (past : Past) (by seat session body : ℕ) (n : Name) → start past n ≡ Some (record { seat = by; kind = kind.User session body }) → Started past n (λ b. Licensed setting past seat n b b.kind (cause.Asked n))

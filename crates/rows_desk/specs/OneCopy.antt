@@ -6,8 +6,8 @@ use Rattle.qc_event.specs.declared.event.Ask.{Ask}
 use Rattle.qc_event.specs.declared.event.Kind.TheVariants as kind
 use Rattle.qc_event.specs.declared.table.Table.{Table}
 use Rattle.qc_event.specs.History.{Past, Name, asked as asked_of, granted, start as start_of}
-use Rattle.qc_pass.specs.Consulting.{HasAsked}
-use Rattle.qc_pass.specs.Own.{IsOwnAccess}
+use Rattle.qc_desk.specs.Consulting.{HasAsked}
+use Rattle.qc_desk.specs.Own.{IsOwnAccess}
 
 abbrev pub config : Voting
 config = record { votes = 1 ∷ []; read = 1; write = 1 }

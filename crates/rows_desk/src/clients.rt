@@ -2,10 +2,10 @@
 ghost use Rattle.std.specs.Prelude.{◌≡◌, ◌+◌, ◌<◌, ◌≤◌, [], true, reverse};
 ghost use Rattle.qc_event.specs.Legal.{Legal};
 ghost use Rattle.qc_event.specs.Tables.{setting_of};
-ghost use Rattle.qc_pass.specs.Rules.{IsClient};
+ghost use Rattle.qc_desk.specs.Rules.{IsClient};
 
+use qc_desk::{Blank, Desk, DeskNo, Pass, Store};
 use qc_event::{Base, Cause};
-use qc_pass::{Blank, Desk, DeskNo, Pass, Store};
 use qc_trail::Trail;
 use std::alloc::{AllocError, Global};
 use std::marker::Brand;

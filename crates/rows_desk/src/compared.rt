@@ -3,14 +3,14 @@ ghost use Rattle.std.specs.Prelude.{◌≡◌, true, IfOk, IfSome};
 ghost use Rattle.qc_event.specs.History.{grants};
 ghost use Rattle.qc_moss.specs.Follows.{Follows};
 ghost use Rattle.qc_moss.specs.Locks.{unheld};
-ghost use Rattle.qc_pass.specs.Rules.{IsClient};
+ghost use Rattle.qc_desk.specs.Rules.{IsClient};
 ghost use Rattle.rows_desk.specs.OneCopy as words;
 
 use crate::scene::{grant_of, one_request, start_scene};
 use qc_config::Config;
+use qc_desk::{Blank, Consulted, Desk, DeskNo, Pass, Store};
 use qc_event::Grant;
 use qc_moss::{Locks, Verdict};
-use qc_pass::{Blank, Consulted, Desk, DeskNo, Pass, Store};
 use std::alloc::Global;
 use std::marker::Brand;
 use std::sync::Wait;

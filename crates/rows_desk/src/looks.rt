@@ -1,11 +1,11 @@
 //! What a desk tells of a top whose session is marked, whose child is aborted, and that is then ready.
 ghost use Rattle.std.specs.Prelude.{◌≡◌, OnOk, IfOk};
 ghost use Rattle.qc_event.specs.Standing.{Started, IsUser};
-ghost use Rattle.qc_pass.specs.Rules.{IsClient};
+ghost use Rattle.qc_desk.specs.Rules.{IsClient};
 ghost use Rattle.rows_desk.specs.Tops.{IsUserTop};
 
+use qc_desk::{Blank, Desk, DeskNo, Pass, Store};
 use qc_event::{Base, Cause, Kind, Name};
-use qc_pass::{Blank, Desk, DeskNo, Pass, Store};
 use std::alloc::Global;
 use std::marker::Brand;
 use std::sync::Wait;

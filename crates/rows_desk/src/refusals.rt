@@ -1,11 +1,11 @@
 //! What a desk refuses a client of a top and of its child.
 ghost use Rattle.std.specs.Prelude.{◌≡◌, OnOk, IfOk};
-ghost use Rattle.qc_pass.specs.Rules.{IsClient};
+ghost use Rattle.qc_desk.specs.Rules.{IsClient};
 ghost use Rattle.rows_desk.specs.Tops.{AreUsers};
 
 use crate::looks::{begin, start_child};
+use qc_desk::{Blank, Desk, DeskNo, Pass, Store};
 use qc_event::{Base, Cause, Name};
-use qc_pass::{Blank, Desk, DeskNo, Pass, Store};
 use std::alloc::Global;
 use std::marker::Brand;
 use std::sync::Wait;

@@ -2,14 +2,14 @@
 ghost use Rattle.std.specs.Prelude.{◌≡◌, IfOk, IsTrue, length};
 ghost use Rattle.qc_codec.specs.Bodies as body;
 ghost use Rattle.qc_event.specs.History.{is_ready};
-ghost use Rattle.qc_pass.specs.Rules.{IsClient};
+ghost use Rattle.qc_desk.specs.Rules.{IsClient};
 
 use crate::answer::{done, no_such, not_now};
 use qc_codec::{LedgerRecord, read_ledger};
+use qc_desk::{Blank, Desk, DeskNo, Pass, Store};
 use qc_disk::MemDisk;
 use qc_event::{Base, Entry, Event, How, Name};
 use qc_ledger::{Book, Ledger};
-use qc_pass::{Blank, Desk, DeskNo, Pass, Store};
 use qc_trail::Trail;
 use rows_kit::bytes;
 use std::alloc::{AllocError, Global};

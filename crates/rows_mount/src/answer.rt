@@ -2,7 +2,7 @@
 
 use qc_config::Tuple;
 use qc_disk::Disk;
-use qc_mount::Parts;
+use qc_opening::Parts;
 use qc_site::Mounted;
 use rows_kit::tuple;
 use std::alloc::{AllocError, Global};

@@ -4,7 +4,7 @@ ghost use Rattle.qc_codec.specs.Bodies as body;
 use crate::answer::{failed, store};
 use qc_codec::Made;
 use qc_disk::{Disk, Shop};
-use qc_mount::{MountNo, Parts, mount};
+use qc_opening::{MountNo, Parts, mount};
 use rows_kit::said;
 use std::alloc::{AllocError, Global};
 

@@ -3,7 +3,7 @@ ghost use Rattle.std.specs.Prelude.{◌<◌, IfOk};
 
 use crate::Answer;
 use qc_event::{Phase, Why};
-use qc_gather::{Gather, Next, Puts, Shortage};
+use qc_managers::{Gather, Next, Puts, Shortage};
 use rows_text::{BadLine, ConfigText, LackText, Words};
 use std::io;
 

@@ -19,21 +19,20 @@ use Rattle.qc_event.specs.Seats.{is_client}
 use Rattle.qc_event.specs.Standing.{Started, IsManager}
 use Rattle.qc_event.specs.Starts.{Stands}
 use Rattle.qc_event.proofs.Absent.{same_is, if_not}
-use Rattle.qc_event.proofs.LastNumber.{child_front, is_child-last, length_last}
+use Rattle.qc_event.proofs.LastNumber.{child_front, is_child-last, length_last, child_last}
 use Rattle.qc_event.proofs.Lawful.{lawful, started_some}
 use Rattle.qc_event.proofs.LegalOrderly.{legal_orderly}
 use Rattle.qc_event.proofs.Lineage.{IsFresh, fresh_child, fresh_below}
-use Rattle.qc_event.proofs.LastNumber.{child_last}
 use Rattle.qc_event.proofs.OneEntry.{none_before, some_or_none, start_is}
 use Rattle.qc_event.proofs.Options.{match_some}
 use Rattle.qc_event.proofs.OwnRequests.{IsOwn, asks_own}
-use Rattle.qc_pass.specs.declared.view.View.{View}
-use Rattle.qc_pass.specs.Calling.{EnteredAs}
-use Rattle.qc_pass.specs.Entries.{AreOthers, IsOlder, entry}
-use Rattle.qc_pass.specs.Own.{IsMine, MayAskOwn}
-use Rattle.qc_pass.specs.Refusing.{against_child}
-use Rattle.qc_pass.proofs.AskedTops.{entered_as_later}
-use Rattle.qc_pass.proofs.NewChild.{IsNext}
+use Rattle.qc_desk.specs.declared.view.View.{View}
+use Rattle.qc_desk.specs.Calling.{EnteredAs}
+use Rattle.qc_desk.specs.Entries.{AreOthers, IsOlder, entry}
+use Rattle.qc_desk.specs.Own.{IsMine, MayAskOwn}
+use Rattle.qc_desk.specs.Refusing.{against_child}
+use Rattle.qc_desk.proofs.AskedTops.{entered_as_later}
+use Rattle.qc_desk.proofs.NewChild.{IsNext}
 
 -- A NEW CHILD
 

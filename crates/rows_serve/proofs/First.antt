@@ -26,24 +26,24 @@ use Rattle.qc_event.proofs.Lawful.{lawful, nonroot}
 use Rattle.qc_event.proofs.LegalOrderly.{legal_orderly}
 use Rattle.qc_event.proofs.Options.{match_some, match_wider}
 use Rattle.qc_event.proofs.StillTold.{is_stays}
-use Rattle.qc_pass.specs.declared.refusal.DeskNo.{DeskNo}
-use Rattle.qc_pass.specs.declared.view.View.{View}
-use Rattle.qc_pass.specs.Calling.{Entered, EnteredAs}
-use Rattle.qc_pass.specs.Consulting.{HasAsked}
-use Rattle.qc_pass.specs.Entries.{IsOlder, entry}
-use Rattle.qc_pass.specs.Own.{IsMine, MayAskOwn, MayReplyOwn}
-use Rattle.qc_pass.specs.Refusing.{against_access, against_child, against_nothing}
-use Rattle.qc_pass.proofs.AskedTops.{IsTop, entered_as_later, entered_later, top_begun}
-use Rattle.qc_pass.proofs.Calls as calls
-use Rattle.qc_pass.proofs.Entering.{started_later}
-use Rattle.qc_pass.proofs.OwnSince.{asks_same, access_end_same}
-use Rattle.qc_pass.proofs.Seers.{older_trans}
-use Rattle.qc_pass.specs.Rules.{IsClient}
+use Rattle.qc_desk.specs.declared.refusal.DeskNo.{DeskNo}
+use Rattle.qc_desk.specs.declared.view.View.{View}
+use Rattle.qc_desk.specs.Calling.{Entered, EnteredAs}
+use Rattle.qc_desk.specs.Consulting.{HasAsked}
+use Rattle.qc_desk.specs.Entries.{IsOlder, entry}
+use Rattle.qc_desk.specs.Own.{IsMine, MayAskOwn, MayReplyOwn}
+use Rattle.qc_desk.specs.Refusing.{against_access, against_child, against_nothing}
+use Rattle.qc_desk.proofs.AskedTops.{IsTop, entered_as_later, entered_later, top_begun}
+use Rattle.qc_desk.proofs.Calls as calls
+use Rattle.qc_desk.proofs.Entering.{started_later}
+use Rattle.qc_desk.proofs.OwnSince.{asks_same, access_end_same}
+use Rattle.qc_desk.proofs.Seers.{older_trans}
+use Rattle.qc_desk.specs.Rules.{IsClient}
 use Rattle.qc_site.specs.AtDesk.{IsGranted}
 use Rattle.rows_serve.specs.declared.client.Writer.{Writer}
 use Rattle.rows_serve.specs.Requests.{IsFirst, MayPut, Stands}
 use Rattle.rows_serve.specs.TwoRecords.{IsOver}
-use Rattle.qc_pass.proofs.NewChild as child
+use Rattle.qc_desk.proofs.NewChild as child
 use Rattle.rows_serve.proofs.Children as children
 use Rattle.rows_serve.proofs.Children.{Starts, same_number, later}
 use Rattle.rows_serve.proofs.Stages.{getting, at_first, at_put, waits_for_none, waits_no_more}

@@ -12,14 +12,14 @@ use Rattle.qc_event.specs.Standing.{IsUser, IsManager}
 use Rattle.qc_event.proofs.Later.{start_still, started_still}
 use Rattle.qc_event.proofs.StillTold.{begun_still, is_stays, match_stays}
 use Rattle.qc_ledger.specs.Entered.{SeesMore}
-use Rattle.qc_pass.specs.declared.view.View.{View}
-use Rattle.qc_pass.specs.Entries.{AreOthers, IsOlder, IsSince, entries_of}
-use Rattle.qc_pass.specs.Own.{IsMine}
-use Rattle.qc_pass.specs.Rules.{IsClient}
-use Rattle.qc_pass.proofs.Consulting.{asked_later}
-use Rattle.qc_pass.proofs.Entering.{started_later}
-use Rattle.qc_pass.proofs.OwnSince as own
-use Rattle.qc_pass.proofs.Since as since
+use Rattle.qc_desk.specs.declared.view.View.{View}
+use Rattle.qc_desk.specs.Entries.{AreOthers, IsOlder, IsSince, entries_of}
+use Rattle.qc_desk.specs.Own.{IsMine}
+use Rattle.qc_desk.specs.Rules.{IsClient}
+use Rattle.qc_desk.proofs.Consulting.{asked_later}
+use Rattle.qc_desk.proofs.Entering.{started_later}
+use Rattle.qc_desk.proofs.OwnSince as own
+use Rattle.qc_desk.proofs.Since as since
 use Rattle.qc_site.specs.AtDesk.{IsGranted}
 use Rattle.rows_serve.specs.declared.client.Client.{Client}
 use Rattle.rows_serve.specs.declared.client.Request.{Request}

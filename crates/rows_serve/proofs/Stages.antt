@@ -16,7 +16,7 @@ use Rattle.qc_event.specs.History.{Past, Name, end, asks, gone, refused}
 use Rattle.qc_event.specs.Manager.{Result, Replied, result, result_by, Stage, stage, collecting, is_phase, phase_of, all_copies, AtStage, waiting}
 use Rattle.qc_event.specs.Requests.{IsNextAsk}
 use Rattle.qc_event.specs.Tables.{setting_of}
-use Rattle.qc_pass.proofs.OwnSince.{stage_of, replies_by, has_by}
+use Rattle.qc_desk.proofs.OwnSince.{stage_of, replies_by, has_by}
 use Rattle.rows_serve.specs.TwoRecords.{config, IsOver}
 use Rattle.rows_serve.proofs.TwoRecords.{first_is}
 

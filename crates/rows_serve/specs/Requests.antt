@@ -7,8 +7,8 @@ use Rattle.qc_event.specs.declared.event.Ask.{Ask}
 use Rattle.qc_event.specs.declared.event.Kind.TheVariants as kind
 use Rattle.qc_event.specs.History.{Past, Name, start, asked, asks, is_child}
 use Rattle.qc_event.specs.Standing.{Started, IsUser}
-use Rattle.qc_pass.specs.Consulting.{HasAsked}
-use Rattle.qc_pass.specs.Own.{IsOwnAccess}
+use Rattle.qc_desk.specs.Consulting.{HasAsked}
+use Rattle.qc_desk.specs.Own.{IsOwnAccess}
 use Rattle.qc_site.specs.AtDesk.{IsGranted}
 use Rattle.rows_serve.specs.declared.client.Client.{Client}
 use Rattle.rows_serve.specs.declared.client.Request.{Request}

@@ -2,15 +2,15 @@
 ghost use Rattle.std.specs.Prelude.{ℕ, ◌≡◌, ◌<◌, Some, IfOk, IfSome, OnOk};
 ghost use Rattle.qc_event.specs.Grants.{grant_with};
 ghost use Rattle.qc_event.specs.History.{Past};
-ghost use Rattle.qc_pass.specs.Entries.{IsOlder};
-ghost use Rattle.qc_pass.specs.Rules.{IsClient};
+ghost use Rattle.qc_desk.specs.Entries.{IsOlder};
+ghost use Rattle.qc_desk.specs.Rules.{IsClient};
 ghost use Rattle.qc_site.specs.AtDesk.{IsGranted};
 ghost use Rattle.rows_serve.specs.Requests.{IsFirst, IsFirstOf, Knows, MayPut, Stands};
 ghost use Rattle.rows_serve.specs.TwoRecords.{IsOver};
 
 use qc_config::{Op, Tuple};
+use qc_desk::{Desk, DeskNo, Pass, Store};
 use qc_event::{Ask, Cause, Kind, Name};
-use qc_pass::{Desk, DeskNo, Pass, Store};
 use std::sync::Wait;
 
 /// A manager that writes a value.

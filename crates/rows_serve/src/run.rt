@@ -1,6 +1,6 @@
 //! A run of a site over a desk of its own.
 ghost use Rattle.std.specs.Prelude.{◌≡◌, [], length, slice_index_or};
-ghost use Rattle.qc_pass.specs.Rules.{IsClient};
+ghost use Rattle.qc_desk.specs.Rules.{IsClient};
 ghost use Rattle.qc_site.specs.Mounted.{copies_of, copy_of};
 ghost use Rattle.qc_site.specs.Start.{start_of};
 ghost use Rattle.rows_serve.specs.TwoRecords.{IsOver};
@@ -9,8 +9,8 @@ use crate::answer::{history, told};
 use crate::client::Client;
 use crate::start::{base_of, is_ours};
 use crate::words::{Tools, one_word};
+use qc_desk::{Blank, Desk, Pass, Store};
 use qc_disk::HomeDisk;
-use qc_pass::{Blank, Desk, Pass, Store};
 use qc_site::{Mounted, Site};
 use qc_trail::Trail;
 use std::alloc::{AllocError, Global};

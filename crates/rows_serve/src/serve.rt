@@ -4,16 +4,16 @@ ghost use Rattle.qc_config.specs.declared.tuple.Tuple.{Tuple};
 ghost use Rattle.qc_event.specs.Grants.{grant_with};
 ghost use Rattle.qc_event.specs.declared.event.Answered.TheVariants.{Granted};
 ghost use Rattle.qc_event.specs.History.{Past};
-ghost use Rattle.qc_pass.specs.Entries.{IsOlder};
-ghost use Rattle.qc_pass.specs.Rules.{IsClient};
+ghost use Rattle.qc_desk.specs.Entries.{IsOlder};
+ghost use Rattle.qc_desk.specs.Rules.{IsClient};
 ghost use Rattle.qc_site.specs.AtDesk.{IsGranted};
 ghost use Rattle.rows_serve.specs.Requests.{IsFirstOf, Stands};
 ghost use Rattle.rows_serve.specs.TwoRecords.{IsOver};
 
 use crate::client::Request;
+use qc_desk::{Desk, Pass, Store};
 use qc_disk::HomeDisk;
 use qc_event::{Answered, Short};
-use qc_pass::{Desk, Pass, Store};
 use qc_site::Site;
 use std::sync::Wait;
 

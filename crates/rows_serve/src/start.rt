@@ -1,5 +1,5 @@
 //! The one copy of the store, mounted; and with which tuples it may start.
-ghost use Rattle.std.specs.Prelude.{◌≡◌, [], ◌∷◌, IfOk, IfSome, IsTrue};
+ghost use Rattle.std.specs.Prelude.{◌↔◌, ◌≡◌, [], ◌∷◌, IfOk, IfSome, IsTrue};
 ghost use Rattle.qc_site.specs.Mounted.{copies_of, copy_of};
 ghost use Rattle.rows_serve.specs.TwoRecords as words;
 
@@ -47,13 +47,20 @@ fn one_vote() -> Option<Config>
     }
 }
 
+// Whether two configurations are the same.
+fn is_same(a: &Config, b: &Config) -> bool
+    ensures { IsTrue result ↔ (a.now ≡ b.now) }
+{
+    *a == *b
+}
+
 // Whether these are tuples of both records, each with that configuration.
 fn is_row(start: &[Tuple], config: &Config) -> bool
     requires { config.now ≡ words.config }
     ensures { IsTrue result → words.IsRow start.now }
 {
     match start {
-        [x, y] => x.config == *config && y.config == *config,
+        [x, y] => is_same(&x.config, config) && is_same(&y.config, config),
         _ => false,
     }
 }

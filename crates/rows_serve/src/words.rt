@@ -3,15 +3,15 @@ ghost use Rattle.std.specs.Prelude.{ℕ, ◌≡◌, ◌<◌};
 ghost use Rattle.qc_event.specs.Base.{IsProper};
 ghost use Rattle.qc_event.specs.History.{Past};
 ghost use Rattle.qc_event.specs.Tables.{setting_of};
-ghost use Rattle.qc_pass.specs.Rules.{IsClient};
+ghost use Rattle.qc_desk.specs.Rules.{IsClient};
 ghost use Rattle.rows_serve.specs.Requests.{Knows};
 ghost use Rattle.rows_serve.specs.TwoRecords.{IsOver};
 
 use crate::answer::{served, strange};
 use crate::client::{Client, abort, plain, put, replied, set};
 use crate::serve::serve;
+use qc_desk::{Desk, Pass, Store};
 use qc_disk::HomeDisk;
-use qc_pass::{Desk, Pass, Store};
 use qc_site::Site;
 use rows_kit::{Step, bytes, said};
 use std::alloc::{AllocError, Global};

@@ -9,6 +9,16 @@ use qc_moss::{Locks, Source, Verdict, consult_locks, replay_locks};
 use rows_text::Words;
 use std::alloc::{AllocError, Global};
 
+// The grant of an operation, with the tuple after it.
+fn grant_of(access: &Name, rec: u8, op: &Op, tuple: &Tuple) -> Grant {
+    Grant {
+        access: *access,
+        rec,
+        op: *op,
+        tuple: *tuple,
+    }
+}
+
 /// A copy of a case: its locks, and what it granted, in order.
 #[derive(Drop)]
 pub struct OwnCopy {
@@ -53,12 +63,8 @@ impl OwnCopy {
         }
         self.locks.reserve()?;
         let tuple = self.locks.grant(access, rec, op);
-        self.grants.push(Grant {
-            access: *access,
-            rec,
-            op: *op,
-            tuple,
-        })?;
+        let grant = grant_of(access, rec, op, &tuple);
+        self.grants.push(grant)?;
         Ok(tuple)
     }
 

@@ -4,8 +4,8 @@ ghost use Rattle.qc_names.specs.Name.{longest};
 
 use crate::told::Told;
 use crate::wrong::Wrong;
-use qc_desk::{Index, Look, Outcomes, Scan, Told as Answer, answers};
 use qc_event::{Entry, Event, Name};
+use qc_history::{Index, Look, Outcomes, Scan, Told as Answer, answers};
 use qc_trail::Trail;
 use rows_text::Words;
 use std::alloc::{AllocError, Global};

@@ -3,8 +3,7 @@ use crate::case::Case;
 use crate::told::Told;
 use crate::wrong::Wrong;
 use qc_event::Entry;
-use qc_serial::{NotSerial, SerialEvent, accepts};
-use qc_simlock::serialise;
+use qc_serial::{NotSerial, SerialEvent, accepts, serialise};
 use rows_text::Words;
 
 /// What the serial machine makes of these events.

@@ -1,5 +1,5 @@
-use Rattle.qc_refine.proofs.CopiesSerial.{serial_order, left_copies}
-use Rattle.qc_refine.proofs.EachManager.{each_manager}
+use Rattle.qc_refine.proofs.Order.CopiesSerial.{serial_order, left_copies}
+use Rattle.qc_refine.proofs.Managers.EachManager.{each_manager}
 use Rattle.qc_refine.proofs.copies_keep_serial_order.Goals as goal
 
 pub returns-clause-serial : goal.returns-clause-serial

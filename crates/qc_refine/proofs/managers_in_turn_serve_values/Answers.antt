@@ -1,4 +1,4 @@
-use Rattle.qc_refine.proofs.InTurn.{reads_answer, left_sound}
+use Rattle.qc_refine.proofs.Copies.InTurn.{reads_answer, left_sound}
 use Rattle.qc_refine.proofs.managers_in_turn_serve_values.Goals as goal
 
 pub returns-clause-reads : goal.returns-clause-reads

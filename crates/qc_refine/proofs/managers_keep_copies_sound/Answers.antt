@@ -1,5 +1,5 @@
-use Rattle.qc_refine.proofs.Writes.{read_answers, read_leaves, write_carries}
-use Rattle.qc_refine.proofs.Moves.{move_carries}
+use Rattle.qc_refine.proofs.Copies.Writes.{read_answers, read_leaves, write_carries}
+use Rattle.qc_refine.proofs.Copies.Moves.{move_carries}
 use Rattle.qc_refine.proofs.managers_keep_copies_sound.Goals as goal
 
 pub returns-clause-read : goal.returns-clause-read

@@ -1,4 +1,4 @@
-use Rattle.qc_pass.specs.Nothing.{no_table}
+use Rattle.qc_desk.specs.Nothing.{no_table}
 use Rattle.bench_desk.proofs.measure.measured.Given as goal
 
 abbrev pub ghosts-measured_at : goal.ghosts-measured_at

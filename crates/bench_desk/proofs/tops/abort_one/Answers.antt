@@ -2,8 +2,8 @@ use Rattle.qc_event.specs.Tables.{setting_of}
 use Rattle.qc_event.specs.declared.event.Cause.TheVariants as cause
 use Rattle.qc_event.specs.declared.event.Event.TheVariants as event
 use Rattle.qc_event.specs.declared.event.How.TheVariants.{Abort}
-use Rattle.qc_pass.specs.Refusing.{against_abort}
-use Rattle.qc_pass.proofs.AskedTops.{may_ask_abort, entered_later, on_ok}
+use Rattle.qc_desk.specs.Refusing.{against_abort}
+use Rattle.qc_desk.proofs.AskedTops.{may_ask_abort, entered_later, on_ok}
 use Rattle.bench_desk.proofs.More.{still_started, one_of_them}
 use Rattle.bench_desk.proofs.tops.abort_one.Goals as goal
 

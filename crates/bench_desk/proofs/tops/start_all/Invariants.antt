@@ -1,4 +1,4 @@
-use Rattle.qc_pass.specs.Rules.{IsClient}
+use Rattle.qc_desk.specs.Rules.{IsClient}
 use Rattle.bench_desk.specs.Tops.{AreStarted}
 use Rattle.bench_desk.proofs.tops.start_all.Given as goal
 

@@ -1,7 +1,7 @@
 use Rattle.std.proofs.Common.{sym, subst}
 use Rattle.qc_event.specs.Tables.{setting_of}
-use Rattle.qc_pass.specs.Refusing.{against_nothing}
-use Rattle.qc_pass.proofs.AskedTops.{IsTop, top_begun, entered_as_later}
+use Rattle.qc_desk.specs.Refusing.{against_nothing}
+use Rattle.qc_desk.proofs.AskedTops.{IsTop, top_begun, entered_as_later}
 use Rattle.bench_desk.specs.Tops.{AreStarted}
 use Rattle.bench_desk.proofs.More.{still_started, one_more}
 use Rattle.bench_desk.proofs.tops.start_one.Goals as goal

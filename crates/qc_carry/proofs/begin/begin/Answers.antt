@@ -4,9 +4,9 @@ use Rattle.qc_event.specs.declared.event.Ask.{Ask}
 use Rattle.qc_event.specs.declared.event.Event.TheVariants as event
 use Rattle.qc_event.specs.declared.event.Kind.TheVariants as kind
 use Rattle.qc_event.specs.Tables.{setting_of}
-use Rattle.qc_gather.specs.Carrying.{entry}
-use Rattle.qc_pass.specs.Own.{IsOwnAccess}
-use Rattle.qc_pass.specs.Refusing.{against_access}
+use Rattle.qc_managers.specs.Carrying.{entry}
+use Rattle.qc_desk.specs.Own.{IsOwnAccess}
+use Rattle.qc_desk.specs.Refusing.{against_access}
 use Rattle.qc_carry.specs.Access.{IsStopped}
 use Rattle.qc_carry.specs.Walk.{Walk}
 use Rattle.qc_carry.proofs.Beginning as beginning

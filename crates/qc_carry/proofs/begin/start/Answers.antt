@@ -3,9 +3,9 @@ use Rattle.std.proofs.Common.{sym, ap, subst}
 use Rattle.qc_event.specs.declared.event.Ask.{Ask}
 use Rattle.qc_event.specs.Tables.{setting_of}
 use Rattle.qc_event.specs.History.{Name}
-use Rattle.qc_gather.specs.Carrying.{next_ask}
+use Rattle.qc_managers.specs.Carrying.{next_ask}
 use Rattle.qc_names.specs.Name as name
-use Rattle.qc_pass.specs.Own.{MayAskOwn}
+use Rattle.qc_desk.specs.Own.{MayAskOwn}
 use Rattle.qc_carry.specs.Access.{CutUnasked}
 use Rattle.qc_carry.proofs.Beginning as beginning
 use Rattle.qc_carry.proofs.begin.start.Goals as goal

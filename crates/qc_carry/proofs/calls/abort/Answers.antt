@@ -3,7 +3,7 @@ use Rattle.std.proofs.Common.{sym, subst}
 use Rattle.qc_event.specs.declared.event.Event.TheVariants as event
 use Rattle.qc_event.specs.declared.event.How.TheVariants.{Abort as Aborts}
 use Rattle.qc_event.specs.Tables.{setting_of}
-use Rattle.qc_pass.specs.Refusing.{against_abort}
+use Rattle.qc_desk.specs.Refusing.{against_abort}
 use Rattle.qc_carry.specs.Access.{IsShort}
 use Rattle.qc_carry.proofs.OwnStays.{licensed}
 use Rattle.qc_carry.proofs.Refusing.{abort_short}

@@ -1,7 +1,7 @@
 -- An access is given up, or memory or room was wanting.
 use Rattle.std.proofs.Common.{sym, subst}
 use Rattle.qc_event.specs.declared.event.Event.TheVariants as event
-use Rattle.qc_pass.specs.Refusing.{against_nothing}
+use Rattle.qc_desk.specs.Refusing.{against_nothing}
 use Rattle.qc_carry.specs.Access.{IsShort}
 use Rattle.qc_carry.proofs.OwnStays.{may_give_up}
 use Rattle.qc_carry.proofs.Refusing.{nothing_short}

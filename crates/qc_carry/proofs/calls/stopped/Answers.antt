@@ -1,6 +1,6 @@
 -- An access that was refused as an orphan is one.
 use Rattle.std.proofs.Common.{subst}
-use Rattle.qc_pass.specs.Refusing.{against_access, Refuses}
+use Rattle.qc_desk.specs.Refusing.{against_access, Refuses}
 use Rattle.qc_carry.proofs.Orphans.{orphan_of}
 use Rattle.qc_carry.proofs.Refusing.{access_dead}
 use Rattle.qc_carry.proofs.calls.stopped.Goals as goal

@@ -6,11 +6,11 @@ use Rattle.std.proofs.lemmas.Result.{err_from_is_err_and}
 use Rattle.qc_event.specs.declared.event.Ask.{Ask}
 use Rattle.qc_event.specs.History.{Asked}
 use Rattle.qc_event.specs.Tables.{setting_of}
-use Rattle.qc_gather.specs.Carrying.{began}
+use Rattle.qc_managers.specs.Carrying.{began}
 use Rattle.qc_net.specs.Courier.{held_of, link_of}
 use Rattle.qc_net.specs.Plan.{Plan}
 use Rattle.qc_net.specs.Sending.{IsSending, sending}
-use Rattle.qc_pass.specs.Consulting.{HasAsked}
+use Rattle.qc_desk.specs.Consulting.{HasAsked}
 use Rattle.qc_site.specs.Answers.{HasAnswered}
 use Rattle.qc_carry.specs.Access.{Ends, Waits}
 use Rattle.qc_carry.specs.Walk.{Walk}

@@ -5,7 +5,7 @@ use Rattle.qc_event.specs.declared.event.Cause.TheVariants as cause
 use Rattle.qc_event.specs.declared.event.Event.TheVariants as event
 use Rattle.qc_event.specs.declared.event.How.TheVariants.{Abort}
 use Rattle.qc_event.specs.Tables.{setting_of}
-use Rattle.qc_gather.specs.Carrying.{entry}
+use Rattle.qc_managers.specs.Carrying.{entry}
 use Rattle.qc_carry.proofs.Course.{go_on}
 use Rattle.qc_carry.proofs.Ending.{ends_gone, missed_gone, still_told}
 use Rattle.qc_carry.proofs.OwnStays.{still_own}

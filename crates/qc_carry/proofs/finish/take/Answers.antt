@@ -4,7 +4,7 @@ use Rattle.qc_event.specs.declared.event.Answer.TheVariants as answer
 use Rattle.qc_event.specs.declared.event.Event.TheVariants as event
 use Rattle.qc_event.specs.declared.event.How.TheVariants.{Commit}
 use Rattle.qc_event.specs.Tables.{setting_of}
-use Rattle.qc_pass.specs.Refusing.{against_access}
+use Rattle.qc_desk.specs.Refusing.{against_access}
 use Rattle.qc_carry.proofs.Ending.{ends_stopped}
 use Rattle.qc_carry.proofs.OwnStays.{still_own}
 use Rattle.qc_carry.proofs.Walking as walking

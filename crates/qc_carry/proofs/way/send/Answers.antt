@@ -4,10 +4,10 @@ use Rattle.std.specs.Prelude.{All, Err}
 use Rattle.qc_net.specs.Courier.{held_of}
 use Rattle.qc_ledger.specs.Entered.{SeesMore}
 use Rattle.qc_event.specs.Tables.{setting_of}
-use Rattle.qc_pass.specs.Consulting.{HasAsked}
-use Rattle.qc_pass.specs.Known.{IsKnown}
-use Rattle.qc_pass.specs.declared.view.View.{View}
-use Rattle.qc_pass.proofs.Known.{known_again}
+use Rattle.qc_desk.specs.Consulting.{HasAsked}
+use Rattle.qc_desk.specs.Known.{IsKnown}
+use Rattle.qc_desk.specs.declared.view.View.{View}
+use Rattle.qc_desk.proofs.Known.{known_again}
 use Rattle.qc_carry.specs.Access.{IsShort}
 use Rattle.qc_carry.proofs.Ending.{want_short}
 use Rattle.qc_carry.proofs.Walking as walking

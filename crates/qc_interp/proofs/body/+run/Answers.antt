@@ -6,42 +6,41 @@ use Rattle.qc_script.specs.Plan.{Plan, PlanFits, row_of}
 use Rattle.qc_script.specs.Steps.{put, plan_of, numbered}
 use Rattle.qc_interp.specs.Running.{Runs, WhyStop, Ended, CutOff, Acted, HasActed, HasLooked, Stepped, WentOn, child_step, TriesCame}
 use Rattle.qc_interp.specs.declared.stops.Finish.TheVariants as finish
-use Rattle.qc_interp.proofs.Lists.{kept_whole}
-use Rattle.qc_interp.proofs.Results.{if_ok, if_err, any_err, same_err}
+use Rattle.qc_interp.proofs.Listing.Lists.{kept_whole}
+use Rattle.qc_interp.proofs.Stepping.Results.{if_ok, if_err, any_err, same_err}
 use Rattle.qc_event.specs.declared.log.Short.TheVariants as short
 use Rattle.qc_event.specs.History.{limit}
-use Rattle.qc_interp.proofs.Ending.{cut_still}
-use Rattle.qc_interp.proofs.Joined.{joined_itself, joined_same, joined_trans}
-use Rattle.qc_interp.proofs.Plans.{weight, plan_is, tries_of, number_of, must_of, put_read, put_set, put_add, put_sub, put_need, put_reconf, put_child, put_par, put_abort, put_crash, put_kill, step_lighter}
-use Rattle.qc_interp.proofs.Loops.{StepsLeft, steps_joined, fits_step, one_done, stopped_there, cut_there, cut_at_last, all_done, none_done}
-use Rattle.qc_interp.proofs.Failing.{failed_on, failed_quit, failed_cut}
-use Rattle.qc_interp.proofs.ChildAnswers.{fits_child, unbegun, ran_try}
-use Rattle.qc_interp.proofs.Acted.{acted_so, cut_so}
-use Rattle.qc_interp.proofs.Marking.{acted_on, looked_behind, acted_cut, killed_first}
-use Rattle.qc_interp.proofs.StepsLeave.{crash_on}
-use Rattle.qc_interp.proofs.Tried.{may_begin, runs_begun}
-use Rattle.qc_interp.proofs.TriesLeft.{TriesLeft, all_failed, none_to_begin, none_tried}
+use Rattle.qc_interp.proofs.Stepping.Ending.{cut_still}
+use Rattle.qc_interp.proofs.Branching.Joined.{joined_itself, joined_same, joined_trans}
+use Rattle.qc_interp.proofs.Stepping.Plans.{weight, plan_is, tries_of, number_of, must_of, put_read, put_set, put_add, put_sub, put_need, put_reconf, put_child, put_par, put_abort, put_crash, put_kill, step_lighter}
+use Rattle.qc_interp.proofs.Stepping.Loops.{StepsLeft, steps_joined, fits_step, one_done, stopped_there, cut_there, cut_at_last, all_done, none_done}
+use Rattle.qc_interp.proofs.Trying.Failing.{failed_on, failed_quit, failed_cut}
+use Rattle.qc_interp.proofs.Trying.ChildAnswers.{fits_child, unbegun, ran_try}
+use Rattle.qc_interp.proofs.Stepping.Acted.{acted_so, cut_so}
+use Rattle.qc_interp.proofs.Stepping.Marking.{acted_on, looked_behind, acted_cut, killed_first}
+use Rattle.qc_interp.proofs.Stepping.StepsLeave.{crash_on}
+use Rattle.qc_interp.proofs.Trying.Tried.{may_begin, runs_begun}
+use Rattle.qc_interp.proofs.Trying.TriesLeft.{TriesLeft, all_failed, none_to_begin, none_tried}
 use mathlib.Core.Bool.{true≢false}
 use Rattle.qc_interp.specs.declared.body.branch.Branch.{Branch as Held}
 use Rattle.qc_interp.specs.AtOnce.{Stands, stands, row_came, WentBehind, MayRun, HasRun, TriesEnd}
-use Rattle.qc_interp.proofs.BranchPlans.{row_heavier}
+use Rattle.qc_interp.proofs.Branching.Plans.{row_heavier}
 use Rattle.qc_interp.specs.declared.body.branch.BranchCame.TheVariants as came
 use Rattle.qc_interp.specs.Branches.{row_step}
-use Rattle.qc_script.specs.Calls.{MeetsLink}
+use Rattle.qc_script.specs.Calls.{MeetsLink, by_client}
 use Rattle.std.specs.List.{AllByRecursion}
-use Rattle.qc_interp.proofs.RowDone.{done_joined, done_cut, done_room, done_out, done_knows, done_acted, done_cut_behind}
-use Rattle.qc_interp.proofs.RowStep.{row_depth, bodies_begun, row_may, row_out, row_done, few_out, row_turned, row_room}
-use Rattle.qc_interp.proofs.RowTurnedOut.{back_joined, back_legal}
-use Rattle.qc_interp.proofs.RowTurnedDone.{turned_refused_so, turned_are_firsts, turned_cut_at_once, turned_cut_off, turned_row_out, turned_knows, turned_acted, turned_cut_behind}
-use Rattle.qc_interp.proofs.InOrder.{pairs_at}
-use Rattle.qc_interp.proofs.Shown.{each_at}
+use Rattle.qc_interp.proofs.Rows.Done.{done_joined, done_cut, done_room, done_out, done_knows, done_acted, done_cut_behind}
+use Rattle.qc_interp.proofs.Rows.Step.{row_depth, bodies_begun, row_may, row_out, row_done, few_out, row_turned, row_room}
+use Rattle.qc_interp.proofs.Rows.TurnedOut.{back_joined, back_legal}
+use Rattle.qc_interp.proofs.Rows.TurnedDone.{turned_refused_so, turned_are_firsts, turned_cut_at_once, turned_cut_off, turned_row_out, turned_knows, turned_acted, turned_cut_behind}
+use Rattle.qc_interp.proofs.Listing.InOrder.{pairs_at}
+use Rattle.qc_interp.proofs.Branching.Shown.{each_at}
 use Rattle.qc_interp.specs.Reach.{Reach}
-use Rattle.qc_script.specs.Calls.{by_client}
 use Rattle.qc_event.specs.declared.event.Event.TheVariants as event
-use Rattle.qc_interp.proofs.BranchAnswers.{fits_try, branch_cut_off, branch_ended, branch_refused, further_runs}
-use Rattle.qc_interp.proofs.BranchLeft.{try_starts}
-use Rattle.qc_interp.proofs.BranchEnds.{may_start}
-use Rattle.qc_interp.proofs.Growth.{made_itself, later_itself}
+use Rattle.qc_interp.proofs.Branching.Answers.{fits_try, branch_cut_off, branch_ended, branch_refused, further_runs}
+use Rattle.qc_interp.proofs.Branching.Left.{try_starts}
+use Rattle.qc_interp.proofs.Branching.Ends.{may_start}
+use Rattle.qc_interp.proofs.Scopes.Growth.{made_itself, later_itself}
 use Rattle.qc_interp.proofs.body.+run.Goals as goal
 
 -- CHILDREN

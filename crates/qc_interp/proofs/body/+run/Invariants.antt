@@ -4,11 +4,11 @@ use Rattle.qc_event.specs.History.{Past}
 use Rattle.qc_script.specs.Client.{HasJoined}
 use Rattle.qc_script.specs.Plan.{Plan, row_of}
 use Rattle.qc_script.specs.Steps.{put, plan_of, numbered}
-use Rattle.qc_interp.proofs.BranchEnds.{GoesOn}
-use Rattle.qc_interp.proofs.BranchLeft.{TryRuns}
-use Rattle.qc_interp.proofs.Loops.{StepsLeft}
-use Rattle.qc_interp.proofs.Plans.{weight}
-use Rattle.qc_interp.proofs.TriesLeft.{TriesLeft}
+use Rattle.qc_interp.proofs.Branching.Ends.{GoesOn}
+use Rattle.qc_interp.proofs.Branching.Left.{TryRuns}
+use Rattle.qc_interp.proofs.Stepping.Loops.{StepsLeft}
+use Rattle.qc_interp.proofs.Stepping.Plans.{weight}
+use Rattle.qc_interp.proofs.Trying.TriesLeft.{TriesLeft}
 use Rattle.qc_interp.proofs.body.+run.Given as goal
 
 abbrev pub invariant-tries-loop : goal.invariant-tries-loop

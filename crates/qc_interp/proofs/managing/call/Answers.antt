@@ -2,8 +2,8 @@ use Rattle.std.proofs.Common.{rules, [], sym, subst, ◌∙◌, inl, inr}
 use Rattle.qc_script.specs.Client.{Made}
 use Rattle.qc_script.specs.Managers.{manager_for}
 use Rattle.qc_interp.specs.Running.{Runs, Stopped, WhyStop}
-use Rattle.qc_interp.proofs.StepsLeave.{manage_by_on, manage_stops, manage_over, manage_short, manage_cut}
-use Rattle.qc_interp.proofs.Results.{any_err}
+use Rattle.qc_interp.proofs.Stepping.StepsLeave.{manage_by_on, manage_stops, manage_over, manage_short, manage_cut}
+use Rattle.qc_interp.proofs.Stepping.Results.{any_err}
 use Rattle.qc_interp.proofs.managing.call.Goals as goal
 
 pub stop-requires : goal.stop-requires

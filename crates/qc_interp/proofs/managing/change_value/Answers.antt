@@ -4,8 +4,8 @@ use Rattle.qc_event.specs.declared.event.Kind.TheVariants as kind
 use Rattle.qc_script.specs.Plan.{Plan, manage_then, change_then, value_of}
 use Rattle.qc_interp.specs.Change.{changed}
 use Rattle.qc_interp.specs.Running.{CutOff, HasCalled, Stepped}
-use Rattle.qc_interp.proofs.ByAnswer.{by_stepped, by_cut}
-use Rattle.qc_interp.proofs.Results.{any_err, if_ok, if_err}
+use Rattle.qc_interp.proofs.Stepping.ByAnswer.{by_stepped, by_cut}
+use Rattle.qc_interp.proofs.Stepping.Results.{any_err, if_ok, if_err}
 use Rattle.qc_interp.proofs.managing.change_value.Goals as goal
 
 pub returns-in-Answered-clause-ok : goal.returns-in-Answered-clause-ok

@@ -2,8 +2,8 @@
 use Rattle.std.proofs.Common.{refl, subst}
 use Rattle.qc_script.specs.Managers.{manager_for}
 use Rattle.qc_interp.specs.Running.{HasCalled}
-use Rattle.qc_interp.proofs.ByAnswer.{by_here}
-use Rattle.qc_interp.proofs.Results.{any_err}
+use Rattle.qc_interp.proofs.Stepping.ByAnswer.{by_here}
+use Rattle.qc_interp.proofs.Stepping.Results.{any_err}
 use Rattle.qc_interp.proofs.managing.manage.Goals as goal
 
 pub returns-in-Answered-clause-ok : goal.returns-in-Answered-clause-ok

@@ -5,8 +5,8 @@ use Rattle.qc_event.specs.declared.event.Kind.TheVariants as kind
 use Rattle.qc_script.specs.Plan.{Plan, value_of}
 use Rattle.qc_interp.specs.Running.{Ended, CutOff, HasCalled}
 use Rattle.qc_interp.specs.declared.stops.Finish.TheVariants as finish
-use Rattle.qc_interp.proofs.ByAnswer.{by_here, by_ended, by_cut}
-use Rattle.qc_interp.proofs.Results.{any_err}
+use Rattle.qc_interp.proofs.Stepping.ByAnswer.{by_here, by_ended, by_cut}
+use Rattle.qc_interp.proofs.Stepping.Results.{any_err}
 use Rattle.qc_interp.proofs.managing.need.Goals as goal
 
 pub returns-then-value_in-least-clause-ok : goal.returns-then-value_in-least-clause-ok

@@ -3,10 +3,10 @@ use Rattle.qc_event.specs.declared.event.Cause.TheVariants as cause
 use Rattle.qc_event.specs.declared.event.How.TheVariants.{Abort}
 use Rattle.qc_script.specs.Client.{Made}
 use Rattle.qc_interp.specs.Running.{Runs, Quit}
-use Rattle.qc_interp.proofs.Ending.{runs_still}
-use Rattle.qc_interp.proofs.Growth.{made_both}
-use Rattle.qc_interp.proofs.Marking.{quit_later}
-use Rattle.qc_interp.proofs.Results.{any_err}
+use Rattle.qc_interp.proofs.Stepping.Ending.{runs_still}
+use Rattle.qc_interp.proofs.Scopes.Growth.{made_both}
+use Rattle.qc_interp.proofs.Stepping.Marking.{quit_later}
+use Rattle.qc_interp.proofs.Stepping.Results.{any_err}
 use Rattle.qc_interp.proofs.marks.look.Goals as goal
 
 pub quit-requires-clause-runs : goal.quit-requires-clause-runs

@@ -1,8 +1,8 @@
 use Rattle.qc_script.specs.Calls.{Marks}
 use Rattle.qc_script.specs.Plan.{Plan}
 use Rattle.qc_interp.specs.Running.{Acted}
-use Rattle.qc_interp.proofs.Marking.{marked_on}
-use Rattle.qc_interp.proofs.Results.{on_ok}
+use Rattle.qc_interp.proofs.Stepping.Marking.{marked_on}
+use Rattle.qc_interp.proofs.Stepping.Results.{on_ok}
 use Rattle.qc_interp.proofs.marks.mark.Goals as goal
 
 pub returns-clause-ok : goal.returns-clause-ok

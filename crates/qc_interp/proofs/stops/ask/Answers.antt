@@ -6,13 +6,13 @@ use Rattle.qc_event.proofs.LastNumber.{is_ancestor-append}
 use Rattle.qc_names.specs.Name as name
 use Rattle.qc_script.specs.Plan.{Plan}
 use Rattle.qc_script.specs.Client.{Made}
-use Rattle.qc_interp.proofs.Growth.{made_both}
+use Rattle.qc_interp.proofs.Scopes.Growth.{made_both}
 use Rattle.qc_interp.specs.Running.{Runs, Quit, Ended, CutOff}
 use Rattle.qc_interp.specs.declared.stops.Finish.TheVariants as finish
-use Rattle.qc_interp.proofs.Results.{if_ok, if_err}
-use Rattle.qc_interp.proofs.Ending.{user_is, runs_still, leaves_still, still, cut_still}
-use Rattle.qc_interp.proofs.Asked.{asked_made}
-use Rattle.qc_interp.proofs.Asking.{above_is, user_above, asked_orphan, runs_asked, leaves_asked, asked_one, same_asked, ended_asked, ask_no, ask_ended, asked_itself, asked_cut, not_aborted_made}
+use Rattle.qc_interp.proofs.Stepping.Results.{if_ok, if_err}
+use Rattle.qc_interp.proofs.Stepping.Ending.{user_is, runs_still, leaves_still, still, cut_still}
+use Rattle.qc_interp.proofs.Stepping.Asked.{asked_made}
+use Rattle.qc_interp.proofs.Stepping.Asking.{above_is, user_above, asked_orphan, runs_asked, leaves_asked, asked_one, same_asked, ended_asked, ask_no, ask_ended, asked_itself, asked_cut, not_aborted_made}
 use Rattle.qc_interp.specs.Deeds.{deeds}
 use Rattle.qc_interp.proofs.stops.ask.Goals as goal
 

@@ -2,10 +2,10 @@ use Rattle.std.proofs.Common.{rules, [], sym, subst, ◌∙◌, inl, inr}
 use Rattle.qc_script.specs.Client.{Made}
 use Rattle.qc_script.specs.Plan.{Plan}
 use Rattle.qc_interp.specs.Running.{Runs, WhyStop, Stopped}
-use Rattle.qc_interp.proofs.Results.{any_err}
-use Rattle.qc_interp.proofs.Asking.{commit_ok, commit_ledger, commit_stops, commit_short, commit_over}
-use Rattle.qc_interp.proofs.Ending.{cut_still}
-use Rattle.qc_interp.proofs.Growth.{made_both}
+use Rattle.qc_interp.proofs.Stepping.Results.{any_err}
+use Rattle.qc_interp.proofs.Stepping.Asking.{commit_ok, commit_ledger, commit_stops, commit_short, commit_over}
+use Rattle.qc_interp.proofs.Stepping.Ending.{cut_still}
+use Rattle.qc_interp.proofs.Scopes.Growth.{made_both}
 use Rattle.qc_interp.proofs.stops.commit.Goals as goal
 
 pub stop-requires : goal.stop-requires

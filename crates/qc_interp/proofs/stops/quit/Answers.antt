@@ -1,7 +1,7 @@
 use Rattle.std.proofs.Common.{sym, subst}
 use Rattle.qc_event.specs.declared.event.How.TheVariants.{Abort}
 use Rattle.qc_interp.specs.Running.{Quit}
-use Rattle.qc_interp.proofs.Ending.{quit_ok, quit_no}
+use Rattle.qc_interp.proofs.Stepping.Ending.{quit_ok, quit_no}
 use Rattle.qc_interp.proofs.stops.quit.Goals as goal
 
 pub returns-in-Ok-clause-ok : goal.returns-in-Ok-clause-ok

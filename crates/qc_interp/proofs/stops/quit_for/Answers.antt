@@ -2,11 +2,11 @@ use Rattle.std.proofs.Common.{[], sym, subst}
 use Rattle.qc_event.specs.declared.event.Cause.TheVariants as cause
 use Rattle.qc_script.specs.Client.{Made}
 use Rattle.qc_interp.specs.Running.{Runs, Stopped, QuitFor}
-use Rattle.qc_interp.proofs.Asking.{not_aborted_made}
-use Rattle.qc_interp.proofs.Ending.{runs_still}
-use Rattle.qc_interp.proofs.Failing.{quit_for_ok, quit_for_no, quit_for_dead}
-use Rattle.qc_interp.proofs.Growth.{made_both}
-use Rattle.qc_interp.proofs.Results.{if_ok, if_err}
+use Rattle.qc_interp.proofs.Stepping.Asking.{not_aborted_made}
+use Rattle.qc_interp.proofs.Stepping.Ending.{runs_still}
+use Rattle.qc_interp.proofs.Trying.Failing.{quit_for_ok, quit_for_no, quit_for_dead}
+use Rattle.qc_interp.proofs.Scopes.Growth.{made_both}
+use Rattle.qc_interp.proofs.Stepping.Results.{if_ok, if_err}
 use Rattle.qc_interp.proofs.stops.quit_for.Goals as goal
 
 pub stop-requires-clause-runs : goal.stop-requires-clause-runs

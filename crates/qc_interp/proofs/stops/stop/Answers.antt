@@ -1,8 +1,7 @@
-use Rattle.std.proofs.Common.{sym, subst, false}
-use Rattle.std.proofs.Common.{refl}
+use Rattle.std.proofs.Common.{sym, subst, false, refl}
 use Rattle.qc_event.proofs.Absent.{same_is}
 use Rattle.qc_interp.specs.Running.{Stopped, WhyStop}
-use Rattle.qc_interp.proofs.StepsLeave.{stop_itself, stop_other}
+use Rattle.qc_interp.proofs.Stepping.StepsLeave.{stop_itself, stop_other}
 use Rattle.qc_interp.proofs.stops.stop.Goals as goal
 
 pub returns-then-eq-clause-ok : goal.returns-then-eq-clause-ok

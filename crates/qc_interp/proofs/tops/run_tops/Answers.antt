@@ -1,7 +1,7 @@
 use Rattle.std.proofs.Common.{arith}
-use Rattle.qc_interp.proofs.Results.{any_err}
-use Rattle.qc_interp.proofs.Joined.{joined_itself, joined_trans}
-use Rattle.qc_interp.proofs.TopLoops.{bodies_joined, one_body, no_body, bodies_cut, all_bodies}
+use Rattle.qc_interp.proofs.Stepping.Results.{any_err}
+use Rattle.qc_interp.proofs.Branching.Joined.{joined_itself, joined_trans}
+use Rattle.qc_interp.proofs.Sessions.TopLoops.{bodies_joined, one_body, no_body, bodies_cut, all_bodies}
 use Rattle.qc_interp.proofs.tops.run_tops.Goals as goal
 
 pub loop-body-preserved : goal.loop-body-preserved

@@ -1,6 +1,6 @@
 use Rattle.qc_script.specs.Calls.{MeetsLink}
 use Rattle.qc_script.specs.Client.{HasJoined}
-use Rattle.qc_interp.proofs.TopLoops.{BodiesLeft}
+use Rattle.qc_interp.proofs.Sessions.TopLoops.{BodiesLeft}
 use Rattle.qc_interp.proofs.tops.run_tops.Given as goal
 
 abbrev pub invariant-loop-body : goal.invariant-loop-body

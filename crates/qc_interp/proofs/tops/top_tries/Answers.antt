@@ -4,13 +4,13 @@ use Rattle.qc_script.specs.Client.{Client, HasJoined}
 use Rattle.qc_script.specs.Plan.{PlanFits}
 use Rattle.qc_script.specs.Steps.{plan_of, numbered}
 use Rattle.qc_interp.specs.Running.{Runs}
-use Rattle.qc_interp.proofs.TopAnswers.{ran_top, top_unbegun}
-use Rattle.qc_interp.proofs.ChildAnswers.{fits_child}
-use Rattle.qc_interp.proofs.Plans.{plan_is, tries_of, number_of}
-use Rattle.qc_interp.proofs.Joined.{joined_itself, joined_root}
-use Rattle.qc_interp.proofs.TopLoops.{TopTriesLeft, no_top, tops_out}
-use Rattle.qc_interp.proofs.TopsRun.{runs_top}
-use Rattle.qc_interp.proofs.Results.{any_err}
+use Rattle.qc_interp.proofs.Sessions.TopAnswers.{ran_top, top_unbegun}
+use Rattle.qc_interp.proofs.Trying.ChildAnswers.{fits_child}
+use Rattle.qc_interp.proofs.Stepping.Plans.{plan_is, tries_of, number_of}
+use Rattle.qc_interp.proofs.Branching.Joined.{joined_itself, joined_root}
+use Rattle.qc_interp.proofs.Sessions.TopLoops.{TopTriesLeft, no_top, tops_out}
+use Rattle.qc_interp.proofs.Sessions.TopsRun.{runs_top}
+use Rattle.qc_interp.proofs.Stepping.Results.{any_err}
 use Rattle.qc_interp.proofs.tops.top_tries.Goals as goal
 
 -- the parent of a top is the root of all

@@ -2,7 +2,7 @@ use Rattle.qc_script.specs.Calls.{MeetsLink}
 use Rattle.qc_script.specs.Client.{HasJoined}
 use Rattle.std.proofs.Common.{◌-◌}
 use Rattle.qc_script.specs.Steps.{numbered}
-use Rattle.qc_interp.proofs.TopLoops.{TopTriesLeft}
+use Rattle.qc_interp.proofs.Sessions.TopLoops.{TopTriesLeft}
 use Rattle.qc_interp.proofs.tops.top_tries.Given as goal
 
 abbrev pub invariant-loop : goal.invariant-loop

@@ -3,7 +3,7 @@ use Rattle.std.proofs.Common.{◌++◌, List, ap, sym, arith, ◌∙◌}
 use Rattle.std.specs.Prelude.{reverse}
 use Rattle.qc_system.specs.declared.boxed.Boxed.{Boxed}
 use Rattle.qc_opening.specs.Boxes.{unboxed}
-use Rattle.qc_mount.proofs.InTurn.{nil_of}
+use Rattle.qc_opening.proofs.Mountings.InTurn.{nil_of}
 use Rattle.qc_opening.proofs.Places.{map_reverse}
 use Rattle.qc_opening.proofs.boxing.box_all.Goals as goal
 

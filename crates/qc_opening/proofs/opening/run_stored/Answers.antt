@@ -2,11 +2,11 @@
 use Rattle.std.proofs.Common.{ℕ, ◌≡◌, ◌+◌, ◌⊎◌, List, map, refl, sym, arith, inr, ◌∙◌}
 use Rattle.qc_codec.specs.declared.image.BadImage.{BadImage}
 use Rattle.qc_event.specs.Tables.{base_of}
-use Rattle.qc_mount.specs.Images.{IsFirstFault}
-use Rattle.qc_mount.specs.Obtained.{IsNotGiven}
-use Rattle.qc_mount.specs.Refusing.{disks_in, reason_in, AreLeft, ComeBack, IsFaultOf, IsNotMounted, IsReasonAmong, TellImages}
-use Rattle.qc_mount.proofs.Disks.{tell}
-use Rattle.qc_mount.proofs.Stores.{by_err, come_back, fault_of, given_back, if_err, if_ok, not_mounted}
+use Rattle.qc_opening.specs.Images.{IsFirstFault}
+use Rattle.qc_opening.specs.Obtained.{IsNotGiven}
+use Rattle.qc_opening.specs.Refusing.{disks_in, reason_in, AreLeft, ComeBack, IsFaultOf, IsNotMounted, IsReasonAmong, TellImages}
+use Rattle.qc_opening.proofs.Mountings.Disks.{tell}
+use Rattle.qc_opening.proofs.Mountings.Stores.{by_err, come_back, fault_of, given_back, if_err, if_ok, not_mounted}
 use Rattle.qc_refine.specs.Images.{IsStanding, Restores}
 use Rattle.qc_script.specs.Steps.{plan_of_script}
 use Rattle.qc_opening.specs.Parts.{counted_by, told_by}

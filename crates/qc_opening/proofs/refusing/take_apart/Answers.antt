@@ -1,6 +1,6 @@
 -- The ledger's disk, and the copies' behind it.
 use Rattle.std.proofs.Common.{map}
-use Rattle.qc_mount.specs.Mounted.{copy_disk}
+use Rattle.qc_opening.specs.Mounted.{copy_disk}
 use Rattle.qc_opening.proofs.Places.{map_turned, turned_out}
 use Rattle.qc_opening.proofs.refusing.take_apart.Goals as goal
 

@@ -2,7 +2,7 @@
 use Rattle.std.proofs.Common.{◌∷◌, ◌++◌, [], length, map, ap, ◌∙◌, arith, length-append}
 use Rattle.std.specs.Prelude.{reverse}
 use Rattle.std.proofs.lemmas.List.{map-append}
-use Rattle.qc_mount.specs.Mounted.{copy_disk}
+use Rattle.qc_opening.specs.Mounted.{copy_disk}
 use Rattle.qc_system.specs.declared.boxed.Boxed.{Boxed}
 use Rattle.qc_opening.specs.Boxes.{unboxed}
 use Rattle.qc_opening.proofs.Places.{last_over}

@@ -2,7 +2,7 @@
 use Rattle.std.proofs.Common.{◌≡◌, ◌+◌, ◌≤◌, ◌++◌, length, map, vec_len}
 use Rattle.std.specs.Prelude.{reverse}
 use Rattle.std.specs.Vec.{vec_capacity}
-use Rattle.qc_mount.specs.Mounted.{copy_disk}
+use Rattle.qc_opening.specs.Mounted.{copy_disk}
 use Rattle.qc_opening.specs.Boxes.{unboxed}
 use Rattle.qc_opening.proofs.refusing.take_out_copies.Given as goal
 

@@ -3,11 +3,11 @@ use Rattle.std.proofs.Common.{ℕ, ◌≡◌, ◌+◌, ◌≤◌, List, [], map,
 use Rattle.std.specs.Vec.{vec_capacity}
 use Rattle.qc_codec.specs.Bodies as body
 use Rattle.qc_codec.specs.declared.image.BadImage.{BadImage}
-use Rattle.qc_mount.specs.Images.{IsFirstFault}
-use Rattle.qc_mount.specs.Refusing.{disks_in, reason_in, AreLeft, IsReasonAmong, TellImages}
-use Rattle.qc_mount.specs.declared.refusing.MountNo.TheVariants as no
-use Rattle.qc_mount.proofs.Disks.{unreached}
-use Rattle.qc_mount.proofs.Stores.{sound_store, store_size}
+use Rattle.qc_opening.specs.Images.{IsFirstFault}
+use Rattle.qc_opening.specs.Refusing.{disks_in, reason_in, AreLeft, IsReasonAmong, TellImages}
+use Rattle.qc_opening.specs.declared.mount_no.MountNo.TheVariants as no
+use Rattle.qc_opening.proofs.Mountings.Disks.{unreached}
+use Rattle.qc_opening.proofs.Mountings.Stores.{sound_store, store_size}
 use Rattle.qc_script.specs.Reading.{IsProper}
 use Rattle.qc_script.specs.Steps.{plan_of_script}
 use Rattle.qc_opening.specs.Parts.{counted_by, disks_held, told_by}

@@ -1,5 +1,5 @@
 -- Each clause is a lemma on managers.
-use Rattle.qc_refine.proofs.Finished.{committed_done, manager_within}
+use Rattle.qc_refine.proofs.Managers.Finished.{committed_done, manager_within}
 use Rattle.qc_refine.proofs.complete.committed_managers_are_complete.Goals as goal
 
 pub returns-clause-done : goal.returns-clause-done

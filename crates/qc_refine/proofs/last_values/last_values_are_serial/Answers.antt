@@ -1,4 +1,4 @@
-use Rattle.qc_refine.proofs.LastValues.{last_value, last_values}
+use Rattle.qc_refine.proofs.Order.LastValues.{last_value, last_values}
 use Rattle.qc_refine.proofs.last_values.last_values_are_serial.Goals as goal
 
 pub returns-clause-one : goal.returns-clause-one

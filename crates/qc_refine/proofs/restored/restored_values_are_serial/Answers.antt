@@ -1,6 +1,6 @@
 -- Each clause is a lemma on what disks restore.
-use Rattle.qc_refine.proofs.RestoredImages.{carry_final, fresh_stand, restore_one, restore_some}
-use Rattle.qc_refine.proofs.RestoredSound.{legal_too, restored_sound}
+use Rattle.qc_refine.proofs.Restoring.RestoredImages.{carry_final, fresh_stand, restore_one, restore_some}
+use Rattle.qc_refine.proofs.Restoring.RestoredSound.{legal_too, restored_sound}
 use Rattle.qc_refine.proofs.restored.restored_values_are_serial.Goals as goal
 
 pub returns-clause-legal : goal.returns-clause-legal

@@ -2,7 +2,7 @@ use Rattle.std.proofs.Common.{◌≡◌, ◌∙◌, ◌∷◌, ◌+◌, ap, subs
 use Rattle.std.proofs.lemmas.Option.{slice_get_within}
 use Rattle.qc_event.specs.Legal.{Legal}
 use Rattle.qc_event.proofs.Histories.{reverse-take_more}
-use Rattle.qc_desk.specs.Index.{IsOf}
+use Rattle.qc_history.specs.Index.{IsOf}
 use Rattle.qc_report.proofs.Further.{read_there}
 use Rattle.qc_report.proofs.history.index_of.Goals as goal
 

@@ -2,7 +2,7 @@
 use Rattle.std.proofs.Common.{◌≡◌, reverse, take}
 use Rattle.qc_event.specs.Base.{Setting}
 use Rattle.qc_event.specs.Legal.{Legal}
-use Rattle.qc_desk.specs.Index.{IsOf}
+use Rattle.qc_history.specs.Index.{IsOf}
 use Rattle.qc_report.proofs.history.index_of.Given as goal
 
 abbrev pub invariant-loop-at : goal.invariant-loop-at

@@ -1,6 +1,6 @@
 use Rattle.std.proofs.Common.{refl, sym, subst, map}
 use Rattle.std.specs.Prelude.{string_bytes}
-use Rattle.qc_mount.specs.Images.{IsFirstFault}
+use Rattle.qc_opening.specs.Images.{IsFirstFault}
 use Rattle.qc_script.specs.Plan.{ScriptPlan}
 use Rattle.qc_run.specs.Run.{journal_limit, AllOffered}
 use Rattle.qc_run.specs.Words.{mode_of, place_of, Asked}

@@ -5,7 +5,7 @@ use Rattle.qc_carry.specs.Walk.{Walk}
 use Rattle.qc_event.specs.declared.event.Event.TheVariants as event
 use Rattle.qc_event.specs.declared.event.How.TheVariants.{Abort as Aborts}
 use Rattle.qc_event.specs.Tables.{setting_of}
-use Rattle.qc_gather.specs.Carrying.{entry}
+use Rattle.qc_managers.specs.Carrying.{entry}
 use Rattle.qc_session.specs.Acting.{IsUnfounded}
 use Rattle.qc_session.proofs.Aborting.{aborted_made, all_licensed, grounded, is_other, none_aborted, all_unfounded}
 use Rattle.qc_session.proofs.ends.abort.Goals as goal

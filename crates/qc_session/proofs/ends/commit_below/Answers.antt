@@ -4,8 +4,8 @@ use Rattle.qc_event.specs.Tables.{setting_of}
 use Rattle.qc_event.specs.declared.event.Answer.TheVariants as answer
 use Rattle.qc_event.specs.declared.event.Event.TheVariants as event
 use Rattle.qc_event.specs.declared.event.How.TheVariants.{Commit as Commits}
-use Rattle.qc_pass.specs.Refusing.{against_commit}
-use Rattle.qc_pass.specs.declared.view.View.{View}
+use Rattle.qc_desk.specs.Refusing.{against_commit}
+use Rattle.qc_desk.specs.declared.view.View.{View}
 use Rattle.qc_script.specs.Calls.{NotCommitted}
 use Rattle.qc_session.proofs.Committing.{below_committed}
 use Rattle.qc_session.proofs.Own.{made_so}
@@ -15,6 +15,7 @@ use Rattle.std.proofs.Common.{[], ap, refl, sym, subst}
 use Rattle.qc_net.specs.Courier.{held_of, link_of}
 use Rattle.qc_session.proofs.Going.{went_by, went_looking}
 use Rattle.qc_session.proofs.ends.commit_below.Goals as goal
+use Rattle.qc_session.proofs.Knowing.{seen_legal}
 
 pub returns-in-Ok-clause-ok : goal.returns-in-Ok-clause-ok
 returns-in-Ok-clause-ok g c = λ client for.
@@ -34,11 +35,11 @@ returns-in-Ok-clause-went g c =
     let v = c.args.line.now.pass in
     let line = c.end-ended.new.self in
     let s = c.in-Ok.ensures.ok in
-    went_by (setting_of g.N.Store.table g.N.Store.base) v line.pass (λ k. (g.L.Link.view (link_of k)).plan) _ (of_entered (against_commit c.args.of.now) (event.End c.args.of.now (Commits answer.Nothing)) v line.pass s) c.end-ended.ensures.rest line.legal c.known.ensures.kin (held_of line.courier) line.keeps
+    went_by (setting_of g.N.Store.table g.N.Store.base) v line.pass (λ k. (g.L.Link.view (link_of k)).plan) _ (of_entered (against_commit c.args.of.now) (event.End c.args.of.now (Commits answer.Nothing)) v line.pass s) c.end-ended.ensures.rest (seen_legal line.known) c.known.ensures.kin (held_of line.courier) line.keeps
     (λ was. user_tidy (setting_of g.N.Store.table g.N.Store.base) v line.pass c.known.ensures.legal (ap (λ (x : View). x.number) s.3) was (event.End c.args.of.now (Commits answer.Nothing)) s.0 s.1 (ap (λ (x : View). x.seen) s.3) _ _ refl c.requires.user)
 
 pub returns-in-Err-clause-went : goal.returns-in-Err-clause-went
 returns-in-Err-clause-went g c =
     let v = c.args.line.now.pass in
     let line = c.end-ended.new.self in
-    went_looking (setting_of g.N.Store.table g.N.Store.base) v line.pass (λ k. (g.L.Link.view (link_of k)).plan) (of_looked v line.pass c.in-Err.ensures.err.0) c.end-ended.ensures.rest line.legal c.known.ensures.kin (held_of line.courier) line.keeps
+    went_looking (setting_of g.N.Store.table g.N.Store.base) v line.pass (λ k. (g.L.Link.view (link_of k)).plan) (of_looked v line.pass c.in-Err.ensures.err.0) c.end-ended.ensures.rest (seen_legal line.known) c.known.ensures.kin (held_of line.courier) line.keeps

@@ -4,10 +4,10 @@ use Rattle.qc_event.specs.Standing.{IsOrphanOf}
 use Rattle.qc_event.specs.Tables.{setting_of}
 use Rattle.qc_event.specs.declared.event.Event.TheVariants as event
 use Rattle.qc_event.specs.declared.event.How.TheVariants.{Commit as Commits}
-use Rattle.qc_pass.proofs.Lasting.{orphan_stays}
-use Rattle.qc_pass.specs.Calling.{Refused}
-use Rattle.qc_pass.specs.Refusing.{against_commit}
-use Rattle.qc_pass.specs.declared.view.View.{View}
+use Rattle.qc_desk.proofs.Lasting.{orphan_stays}
+use Rattle.qc_desk.specs.Calling.{Refused}
+use Rattle.qc_desk.specs.Refusing.{against_commit}
+use Rattle.qc_desk.specs.declared.view.View.{View}
 use Rattle.qc_session.proofs.Managing.{commit_wanting, dead_orphan, is_told, left_open, manager_mine, not_closed_on, running_on, wanting_on}
 use Rattle.qc_session.proofs.Tidy.{manager_tidy}
 use Rattle.qc_session.specs.Acting.{IsWanting}
@@ -18,6 +18,7 @@ use Rattle.qc_script.proofs.Managing.{is_manager}
 use Rattle.qc_script.specs.Managers.{manager_for}
 use Rattle.qc_session.proofs.Going.{went_by, went_looking, went_on_from}
 use Rattle.qc_session.proofs.managers.commit_manager.Goals as goal
+use Rattle.qc_session.proofs.Knowing.{seen_legal}
 
 pub abort_manager-requires : goal.abort_manager-requires
 abort_manager-requires g c =
@@ -69,23 +70,23 @@ returns-in-Ok-clause-went g c =
     let line = c.end-ended.new.self in
     let s = c.in-Ok.ensures.ok in
     let runs = c.requires.answered.running in
-    went_by (setting_of g.N.Store.table g.N.Store.base) v line.pass (λ k. (g.L.Link.view (link_of k)).plan) _ (of_entered (against_commit c.args.name.now) (event.End c.args.name.now (Commits c.args.answer.now)) v line.pass s) c.end-ended.ensures.rest line.legal c.known.ensures.kin (held_of line.courier) line.keeps
+    went_by (setting_of g.N.Store.table g.N.Store.base) v line.pass (λ k. (g.L.Link.view (link_of k)).plan) _ (of_entered (against_commit c.args.name.now) (event.End c.args.name.now (Commits c.args.answer.now)) v line.pass s) c.end-ended.ensures.rest (seen_legal line.known) c.known.ensures.kin (held_of line.courier) line.keeps
     (λ was. manager_tidy (setting_of g.N.Store.table g.N.Store.base) v line.pass c.known.ensures.legal (ap (λ (x : View). x.number) s.3) was (event.End c.args.name.now (Commits c.args.answer.now)) s.0 s.1 (ap (λ (x : View). x.seen) s.3) c.args.name.now (Commits c.args.answer.now) refl (manager_mine v.number v.seen c.args.name.now (manager_for c.args.what.now) (is_manager c.args.what.now) runs) runs.children_ended)
 
 pub returns-in-Ok-abort_manager-clause-went : goal.returns-in-Ok-abort_manager-clause-went
 returns-in-Ok-abort_manager-clause-went g c =
     let v = c.args.line.now.pass in
     let line = c.end-ended.new.self in
-    went_on_from (setting_of g.N.Store.table g.N.Store.base) v line.pass c.abort_manager.new.line.pass (λ k. (g.L.Link.view (link_of k)).plan) line.legal (of_looked v line.pass c.in-Err.ensures.err.0) c.end-ended.ensures.rest c.abort_manager.ensures.went
+    went_on_from (setting_of g.N.Store.table g.N.Store.base) v line.pass c.abort_manager.new.line.pass (λ k. (g.L.Link.view (link_of k)).plan) (seen_legal line.known) (of_looked v line.pass c.in-Err.ensures.err.0) c.end-ended.ensures.rest c.abort_manager.ensures.went
 
 pub returns-in-Err-abort_manager-clause-went : goal.returns-in-Err-abort_manager-clause-went
 returns-in-Err-abort_manager-clause-went g c =
     let v = c.args.line.now.pass in
     let line = c.end-ended.new.self in
-    went_on_from (setting_of g.N.Store.table g.N.Store.base) v line.pass c.abort_manager.new.line.pass (λ k. (g.L.Link.view (link_of k)).plan) line.legal (of_looked v line.pass c.in-Err.ensures.err.0) c.end-ended.ensures.rest c.abort_manager.ensures.went
+    went_on_from (setting_of g.N.Store.table g.N.Store.base) v line.pass c.abort_manager.new.line.pass (λ k. (g.L.Link.view (link_of k)).plan) (seen_legal line.known) (of_looked v line.pass c.in-Err.ensures.err.0) c.end-ended.ensures.rest c.abort_manager.ensures.went
 
 pub returns-in-None-clause-went : goal.returns-in-None-clause-went
 returns-in-None-clause-went g c =
     let v = c.args.line.now.pass in
     let line = c.end-ended.new.self in
-    went_looking (setting_of g.N.Store.table g.N.Store.base) v line.pass (λ k. (g.L.Link.view (link_of k)).plan) (of_looked v line.pass c.in-Err.ensures.err.0) c.end-ended.ensures.rest line.legal c.known.ensures.kin (held_of line.courier) line.keeps
+    went_looking (setting_of g.N.Store.table g.N.Store.base) v line.pass (λ k. (g.L.Link.view (link_of k)).plan) (of_looked v line.pass c.in-Err.ensures.err.0) c.end-ended.ensures.rest (seen_legal line.known) c.known.ensures.kin (held_of line.courier) line.keeps

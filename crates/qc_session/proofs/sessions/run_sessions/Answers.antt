@@ -2,7 +2,7 @@
 use Rattle.std.proofs.Common.{sym, subst, reverse}
 use Rattle.qc_event.specs.Tables.{setting_of}
 use Rattle.qc_interp.specs.Reach.{Reach}
-use Rattle.qc_interp.proofs.FromStart.{begins_none}
+use Rattle.qc_interp.proofs.Sessions.FromStart.{begins_none}
 use Rattle.qc_interp.specs.FollowsScript.{BeginsScript}
 use Rattle.qc_event.specs.History.{Past}
 use Rattle.qc_script.specs.Steps.{plan_of_script}

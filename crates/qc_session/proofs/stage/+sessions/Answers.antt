@@ -4,9 +4,9 @@ use Rattle.std.proofs.lemmas.List.{take_all}
 use Rattle.qc_event.specs.Base.{Setting}
 use Rattle.qc_event.specs.declared.log.Short.{Short}
 use Rattle.qc_event.specs.Tables.{setting_of}
-use Rattle.qc_pass.specs.declared.view.View.{View}
-use Rattle.qc_pass.specs.Entries.{IsOlder, entries_of}
-use Rattle.qc_pass.specs.Rules.{AreKin, IsSplit, joined, knows}
+use Rattle.qc_desk.specs.declared.view.View.{View}
+use Rattle.qc_desk.specs.Entries.{IsOlder, entries_of}
+use Rattle.qc_desk.specs.Rules.{AreKin, IsSplit, joined, knows}
 use Rattle.qc_script.specs.declared.script.Session.{Session}
 use Rattle.qc_script.specs.Steps.{plan_of_session}
 use Rattle.qc_session.specs.Session.{IsFirst, RanEach, RanOne, first_want}

@@ -8,14 +8,14 @@ use Rattle.qc_net.specs.declared.courier.Courier.{Courier}
 use Rattle.qc_net.specs.declared.plan.PlanLink.{PlanLink}
 use Rattle.qc_net.specs.Plan.{starting}
 use Rattle.qc_net.specs.PlanLink.{plan_of}
-use Rattle.qc_pass.specs.declared.view.View.{View}
+use Rattle.qc_desk.specs.declared.view.View.{View}
 use Rattle.qc_script.specs.Client.{Client}
 use Rattle.qc_script.specs.declared.script.Body.{Body}
 use Rattle.qc_script.specs.Plan.{SessionPlan}
 use Rattle.qc_script.specs.Steps.{numbered, plan_of_session}
 use Rattle.qc_session.specs.Clients.{client_for, client_of, link_told}
 use Rattle.qc_session.specs.Session.{AreHigh, RanOne}
-use Rattle.qc_pass.specs.Rules.{numbers}
+use Rattle.qc_desk.specs.Rules.{numbers}
 use Rattle.qc_session.specs.Tidy.{AreTidy}
 use Rattle.qc_session.proofs.AtStart.{client_is}
 use Rattle.qc_session.proofs.Leaving.{none_ran, one_ran}

@@ -1,7 +1,7 @@
 -- What a child leaves once it has started, or why it has not.
 use Rattle.qc_carry.proofs.Walking.{of_entered_as, of_looked}
 use Rattle.qc_event.specs.Tables.{setting_of}
-use Rattle.qc_pass.specs.declared.view.View.{View}
+use Rattle.qc_desk.specs.declared.view.View.{View}
 use Rattle.qc_script.specs.Calls.{WasRefused}
 use Rattle.qc_session.proofs.Own.{made_so}
 use Rattle.qc_session.proofs.Refused.{child_refused}
@@ -9,8 +9,9 @@ use Rattle.qc_session.proofs.Tidy.{start_tidy}
 use Rattle.std.proofs.Common.{[], ap, sym, subst}
 use Rattle.qc_net.specs.Courier.{held_of, link_of}
 use Rattle.qc_session.proofs.Going.{went_by, went_looking}
-use Rattle.qc_pass.specs.Refusing.{against_child}
+use Rattle.qc_desk.specs.Refusing.{against_child}
 use Rattle.qc_session.proofs.starts.start_child.Goals as goal
+use Rattle.qc_session.proofs.Knowing.{seen_legal}
 
 pub returns-in-Err-clause-err : goal.returns-in-Err-clause-err
 returns-in-Err-clause-err g c = λ client for.
@@ -24,11 +25,11 @@ returns-in-Ok-clause-went g c =
     let v = c.args.line.now.pass in
     let line = c.start-started.new.self in
     let s = c.in-Ok.ensures.ok in
-    went_by (setting_of g.N.Store.table g.N.Store.base) v line.pass (λ k. (g.L.Link.view (link_of k)).plan) _ (of_entered_as (against_child c.args.of.now) _ v line.pass s) c.start-started.ensures.rest line.legal c.known.ensures.kin (held_of line.courier) line.keeps
+    went_by (setting_of g.N.Store.table g.N.Store.base) v line.pass (λ k. (g.L.Link.view (link_of k)).plan) _ (of_entered_as (against_child c.args.of.now) _ v line.pass s) c.start-started.ensures.rest (seen_legal line.known) c.known.ensures.kin (held_of line.courier) line.keeps
     (λ was. start_tidy (setting_of g.N.Store.table g.N.Store.base) v line.pass c.known.ensures.legal (ap (λ (x : View). x.number) s.5) was s.1 s.0 s.3 (ap (λ (x : View). x.seen) s.5) c.in-Ok.name c.args.kind s.2.1)
 
 pub returns-in-Err-clause-went : goal.returns-in-Err-clause-went
 returns-in-Err-clause-went g c =
     let v = c.args.line.now.pass in
     let line = c.start-started.new.self in
-    went_looking (setting_of g.N.Store.table g.N.Store.base) v line.pass (λ k. (g.L.Link.view (link_of k)).plan) (of_looked v line.pass c.in-Err.ensures.err.0) c.start-started.ensures.rest line.legal c.known.ensures.kin (held_of line.courier) line.keeps
+    went_looking (setting_of g.N.Store.table g.N.Store.base) v line.pass (λ k. (g.L.Link.view (link_of k)).plan) (of_looked v line.pass c.in-Err.ensures.err.0) c.start-started.ensures.rest (seen_legal line.known) c.known.ensures.kin (held_of line.courier) line.keeps

@@ -2,7 +2,7 @@
 use Rattle.qc_carry.proofs.Walking.{of_entered_as, of_looked}
 use Rattle.qc_event.specs.Tables.{setting_of}
 use Rattle.qc_event.specs.declared.event.Kind.TheVariants as kind
-use Rattle.qc_pass.specs.declared.view.View.{View}
+use Rattle.qc_desk.specs.declared.view.View.{View}
 use Rattle.qc_script.specs.Calls.{WasRefused}
 use Rattle.qc_session.proofs.Beginning.{top_begun, top_numbers}
 use Rattle.qc_session.proofs.Own.{made_so}
@@ -11,8 +11,9 @@ use Rattle.qc_session.proofs.Tidy.{start_tidy}
 use Rattle.std.proofs.Common.{[], ap, sym, subst}
 use Rattle.qc_net.specs.Courier.{held_of, link_of}
 use Rattle.qc_session.proofs.Going.{went_by, went_looking}
-use Rattle.qc_pass.specs.Refusing.{against_nothing}
+use Rattle.qc_desk.specs.Refusing.{against_nothing}
 use Rattle.qc_session.proofs.starts.start_top.Goals as goal
+use Rattle.qc_session.proofs.Knowing.{seen_legal}
 
 pub returns-in-Ok-clause-ok : goal.returns-in-Ok-clause-ok
 returns-in-Ok-clause-ok g c = λ client for.
@@ -34,11 +35,11 @@ returns-in-Ok-clause-went g c =
     let v = c.args.line.now.pass in
     let line = c.start_top-started.new.self in
     let s = c.in-Ok.ensures.ok in
-    went_by (setting_of g.N.Store.table g.N.Store.base) v line.pass (λ k. (g.L.Link.view (link_of k)).plan) _ (of_entered_as against_nothing _ v line.pass s) c.start_top-started.ensures.rest line.legal c.known.ensures.kin (held_of line.courier) line.keeps
+    went_by (setting_of g.N.Store.table g.N.Store.base) v line.pass (λ k. (g.L.Link.view (link_of k)).plan) _ (of_entered_as against_nothing _ v line.pass s) c.start_top-started.ensures.rest (seen_legal line.known) c.known.ensures.kin (held_of line.courier) line.keeps
     (λ was. start_tidy (setting_of g.N.Store.table g.N.Store.base) v line.pass c.known.ensures.legal (ap (λ (x : View). x.number) s.5) was s.1 s.0 s.3 (ap (λ (x : View). x.seen) s.5) c.in-Ok.name (kind.User c.args.session c.args.body) s.2.1)
 
 pub returns-in-Err-clause-went : goal.returns-in-Err-clause-went
 returns-in-Err-clause-went g c =
     let v = c.args.line.now.pass in
     let line = c.start_top-started.new.self in
-    went_looking (setting_of g.N.Store.table g.N.Store.base) v line.pass (λ k. (g.L.Link.view (link_of k)).plan) (of_looked v line.pass c.in-Err.ensures.err.0) c.start_top-started.ensures.rest line.legal c.known.ensures.kin (held_of line.courier) line.keeps
+    went_looking (setting_of g.N.Store.table g.N.Store.base) v line.pass (λ k. (g.L.Link.view (link_of k)).plan) (of_looked v line.pass c.in-Err.ensures.err.0) c.start_top-started.ensures.rest (seen_legal line.known) c.known.ensures.kin (held_of line.courier) line.keeps

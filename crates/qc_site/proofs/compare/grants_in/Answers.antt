@@ -1,9 +1,8 @@
 -- A body more.
-use Rattle.std.proofs.Common.{List, sym, subst}
+use Rattle.std.proofs.Common.{List, sym, subst, ◌+◌, take}
 use Rattle.qc_event.specs.declared.event.Grant.{Grant}
 use Rattle.qc_journal.specs.Image.{bodies_of}
 use Rattle.qc_site.specs.Back.{AreGrants}
-use Rattle.std.proofs.Common.{◌+◌, take}
 use Rattle.qc_site.proofs.Backs.{read_more, unread}
 use Rattle.qc_site.proofs.compare.grants_in.Goals as goal
 

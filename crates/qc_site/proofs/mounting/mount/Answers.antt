@@ -11,8 +11,7 @@ use Rattle.qc_journal.proofs.Moments.{continues, grows_on}
 use Rattle.qc_site.specs.Image.{to_write, AreMountable}
 use Rattle.qc_ledger.specs.Mounted.{HasSome, MountLeaves}
 use Rattle.qc_site.specs.Refusing.{IsCopyRefusal}
-use Rattle.qc_ledger.proofs.Mounts.{leaves_first, leaves_then}
-use Rattle.qc_ledger.proofs.Mounts.{fine_told}
+use Rattle.qc_ledger.proofs.Mounts.{leaves_first, leaves_then, fine_told}
 use Rattle.qc_site.proofs.Faults.{begin_refusal, few_copies, made_proper, mount_refusal}
 use Rattle.qc_site.proofs.Rests.{written_none}
 use Rattle.qc_site.proofs.Rows.{start_is}

@@ -2,8 +2,8 @@ use Rattle.std.proofs.Common.{[], ◌∙◌, ap, sym, subst}
 use Rattle.std.specs.Prelude.{slice_index_or}
 use Rattle.qc_event.specs.Tables.{setting_of}
 use Rattle.qc_moss.specs.Locks.{Table}
-use Rattle.qc_pass.specs.Consulting.{HasAsked}
-use Rattle.qc_pass.proofs.Consulting.{asked_later}
+use Rattle.qc_desk.specs.Consulting.{HasAsked}
+use Rattle.qc_desk.proofs.Consulting.{asked_later}
 use Rattle.qc_site.specs.Replica.{IsTableOf}
 use Rattle.qc_site.proofs.Replicas.{looked_none, table_on, table_reserved}
 use Rattle.qc_site.proofs.replica_desk.ask_desk.Goals as goal

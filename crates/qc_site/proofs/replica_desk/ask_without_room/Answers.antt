@@ -1,6 +1,6 @@
 use Rattle.std.proofs.Common.{subst}
-use Rattle.qc_pass.specs.Consulting.{HasAsked}
-use Rattle.qc_pass.proofs.Consulting.{asked_later}
+use Rattle.qc_desk.specs.Consulting.{HasAsked}
+use Rattle.qc_desk.proofs.Consulting.{asked_later}
 use Rattle.qc_site.proofs.replica_desk.ask_without_room.Goals as goal
 
 pub returns-in-Some-clause-asked : goal.returns-in-Some-clause-asked

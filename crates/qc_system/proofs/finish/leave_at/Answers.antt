@@ -2,7 +2,7 @@
 use Rattle.std.proofs.Common.{◌<◌, ◌≤◌, ◌++◌, ◌∷◌, ap, ◌∙◌, subst, arith}
 use Rattle.std.specs.Prelude.{is_some}
 use Rattle.qc_event.specs.Tables.{setting_of}
-use Rattle.qc_pass.specs.declared.view.View.{View}
+use Rattle.qc_desk.specs.declared.view.View.{View}
 use Rattle.qc_system.specs.Parts.{Findings}
 use Rattle.qc_system.proofs.Closing.{is_below, is_past, no_more, one_more}
 use Rattle.qc_system.proofs.Joining.{joins_low, low_itself}

@@ -14,8 +14,8 @@ use Rattle.qc_ledger.specs.Since.{AreTopsBy, TopsGrow}
 use Rattle.qc_ledger.proofs.Calls.{logged_enters, logged_stands}
 use Rattle.qc_ledger.proofs.Passes.{sees_on}
 use Rattle.qc_ledger.proofs.Since.{grown_more, tops_on}
-use Rattle.qc_pass.specs.Entries.{IsOlder, entries_of}
-use Rattle.qc_pass.proofs.Seers.{older_trans}
+use Rattle.qc_desk.specs.Entries.{IsOlder, entries_of}
+use Rattle.qc_desk.proofs.Seers.{older_trans}
 use Rattle.qc_system.specs.Kept.{HadNoRoom, Pays, downs}
 use Rattle.qc_system.proofs.Listed.{listed_stays, over_seen, tops_retold}
 use Rattle.qc_system.proofs.Paying.{log_pays}

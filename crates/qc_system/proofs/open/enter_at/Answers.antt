@@ -1,7 +1,7 @@
 -- The next copy is entered.
 use Rattle.std.proofs.Common.{◌≡◌, ◌+◌, ◌<◌, eqb-true, sym, ap, ◌∙◌, subst, arith, length}
 use Rattle.qc_event.specs.Seats.{copy_seat}
-use Rattle.qc_pass.specs.declared.view.View.{View}
+use Rattle.qc_desk.specs.declared.view.View.{View}
 use Rattle.qc_system.specs.Parts.{Findings, IsMounted}
 use Rattle.qc_system.proofs.Opening.{first_waits, given_next, none_waits}
 use Rattle.qc_system.proofs.open.enter_at.Goals as goal

@@ -1,4 +1,4 @@
-use Rattle.qc_pass.specs.Nothing.{no_table}
+use Rattle.qc_desk.specs.Nothing.{no_table}
 use Rattle.rows_desk.proofs.clients.run.Given as goal
 
 abbrev pub ghosts-run_named : goal.ghosts-run_named

@@ -1,5 +1,5 @@
 use Rattle.std.proofs.Common.{◌+◌, ap, ◌∙◌}
-use Rattle.qc_pass.specs.declared.view.View.{View}
+use Rattle.qc_desk.specs.declared.view.View.{View}
 use Rattle.rows_desk.proofs.Tops.{IsFull, closes}
 use Rattle.rows_desk.proofs.clients.run_named.Goals as goal
 

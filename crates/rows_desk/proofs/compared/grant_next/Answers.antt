@@ -4,10 +4,10 @@ use Rattle.qc_event.specs.Grants.{MayGrant}
 use Rattle.qc_event.specs.History.{grants}
 use Rattle.qc_event.specs.Tables.{setting_of}
 use Rattle.qc_moss.specs.Follows.{Follows}
-use Rattle.qc_pass.specs.declared.view.View.{View}
-use Rattle.qc_pass.specs.Consulting.{IsTold}
-use Rattle.qc_pass.specs.declared.consult.Consulted.TheVariants.{Fresh}
-use Rattle.qc_pass.specs.Entries.{IsOlder}
+use Rattle.qc_desk.specs.declared.view.View.{View}
+use Rattle.qc_desk.specs.Consulting.{IsTold}
+use Rattle.qc_desk.specs.declared.consult.Consulted.TheVariants.{Fresh}
+use Rattle.qc_desk.specs.Entries.{IsOlder}
 use Rattle.rows_desk.proofs.OneCopy.{may_append}
 use Rattle.rows_desk.proofs.Granting.{reserved_follows, reserved_start, follows_granted}
 use Rattle.rows_desk.proofs.compared.grant_next.Goals as goal

@@ -1,6 +1,6 @@
 use Rattle.std.proofs.Common.{length, ap}
 use Rattle.qc_event.specs.Tables.{setting_of}
-use Rattle.qc_pass.proofs.AskedTops.{top_begun}
+use Rattle.qc_desk.proofs.AskedTops.{top_begun}
 use Rattle.rows_desk.proofs.looks.begin.Goals as goal
 
 pub returns-clause-top : goal.returns-clause-top

@@ -1,6 +1,6 @@
 use Rattle.qc_event.specs.declared.event.Event.TheVariants as event
-use Rattle.qc_pass.specs.Refusing.{against_nothing}
-use Rattle.qc_pass.proofs.AskedTops.{entered_later, on_ok}
+use Rattle.qc_desk.specs.Refusing.{against_nothing}
+use Rattle.qc_desk.proofs.AskedTops.{entered_later, on_ok}
 use Rattle.rows_desk.proofs.Children.{still_top}
 use Rattle.rows_desk.proofs.looks.mark.Goals as goal
 

@@ -1,4 +1,4 @@
-use Rattle.qc_pass.specs.Nothing.{no_table}
+use Rattle.qc_desk.specs.Nothing.{no_table}
 use Rattle.rows_desk.proofs.looks.run_looks.Given as goal
 
 abbrev pub ghosts-told_at : goal.ghosts-told_at

@@ -1,7 +1,7 @@
 use Rattle.std.proofs.Common.{arith}
 use Rattle.qc_event.specs.Tables.{setting_of}
-use Rattle.qc_pass.specs.Refusing.{against_child}
-use Rattle.qc_pass.proofs.AskedTops.{entered_as_later}
+use Rattle.qc_desk.specs.Refusing.{against_child}
+use Rattle.qc_desk.proofs.AskedTops.{entered_as_later}
 use Rattle.rows_desk.proofs.Children.{IsChild, child_begun, stands_below, still_top}
 use Rattle.rows_desk.proofs.looks.start_child.Goals as goal
 

@@ -1,9 +1,9 @@
 use Rattle.std.proofs.Common.{sym, subst}
 use Rattle.qc_event.specs.Tables.{setting_of}
 use Rattle.qc_event.specs.Standing.{IsUser}
-use Rattle.qc_pass.specs.Entries.{IsOlder}
-use Rattle.qc_pass.proofs.AskedTops.{may_ask_abort}
-use Rattle.qc_pass.proofs.Entering.{started_later}
+use Rattle.qc_desk.specs.Entries.{IsOlder}
+use Rattle.qc_desk.proofs.AskedTops.{may_ask_abort}
+use Rattle.qc_desk.proofs.Entering.{started_later}
 use Rattle.rows_desk.proofs.overtaken.abort_by_other.Goals as goal
 
 pub abort-requires-clause-licensed : goal.abort-requires-clause-licensed

@@ -1,20 +1,19 @@
 use Rattle.std.proofs.Common.{◌≡◌, sym, ◌∙◌, subst, ap}
 use Rattle.std.specs.Prelude.{MatchOption, Some}
-use Rattle.qc_event.specs.Grants.{grant_with}
+use Rattle.qc_event.specs.Grants.{grant_with, MayGrant}
 use Rattle.qc_event.specs.declared.event.Event.TheVariants as event
-use Rattle.qc_event.specs.Grants.{MayGrant}
 use Rattle.qc_event.specs.History.{Begun, grants, granted as granted_of}
 use Rattle.qc_event.specs.Legal.{Legal}
 use Rattle.qc_event.specs.Standing.{IsUser}
 use Rattle.qc_event.specs.Tables.{setting_of}
 use Rattle.qc_event.proofs.Later.{earlier_legal}
 use Rattle.qc_moss.specs.Follows.{Follows}
-use Rattle.qc_pass.specs.Calling.{Entered}
-use Rattle.qc_pass.specs.Consulting.{IsTold}
-use Rattle.qc_pass.specs.declared.consult.Consulted.TheVariants.{Fresh}
-use Rattle.qc_pass.specs.Entries.{IsOlder}
-use Rattle.qc_pass.specs.Refusing.{against_nothing}
-use Rattle.qc_pass.proofs.Entering.{started_later}
+use Rattle.qc_desk.specs.Calling.{Entered}
+use Rattle.qc_desk.specs.Consulting.{IsTold}
+use Rattle.qc_desk.specs.declared.consult.Consulted.TheVariants.{Fresh}
+use Rattle.qc_desk.specs.Entries.{IsOlder}
+use Rattle.qc_desk.specs.Refusing.{against_nothing}
+use Rattle.qc_desk.proofs.Entering.{started_later}
 use Rattle.rows_desk.proofs.OneCopy.{may_append}
 use Rattle.rows_desk.proofs.OwnAccess.{own_shown}
 use Rattle.rows_desk.proofs.Replying.{shown_on, granted_is, may_reply}

@@ -2,8 +2,8 @@ use Rattle.qc_event.specs.Tables.{setting_of}
 use Rattle.qc_event.specs.declared.event.Cause.TheVariants as cause
 use Rattle.qc_event.specs.declared.event.Event.TheVariants as event
 use Rattle.qc_event.specs.declared.event.How.TheVariants.{Abort}
-use Rattle.qc_pass.specs.Refusing.{against_abort}
-use Rattle.qc_pass.proofs.AskedTops.{may_ask_abort}
+use Rattle.qc_desk.specs.Refusing.{against_abort}
+use Rattle.qc_desk.proofs.AskedTops.{may_ask_abort}
 use Rattle.rows_desk.proofs.Calls.{either_way, still_users}
 use Rattle.rows_desk.proofs.refusals.abort_top.Goals as goal
 

@@ -2,7 +2,7 @@ use Rattle.qc_event.specs.declared.event.Event.TheVariants as event
 use Rattle.qc_event.specs.History.{start}
 use Rattle.qc_event.specs.Standing.{IsUser}
 use Rattle.qc_event.proofs.Lawful.{started_some}
-use Rattle.qc_pass.specs.Refusing.{against_ready}
+use Rattle.qc_desk.specs.Refusing.{against_ready}
 use Rattle.rows_desk.proofs.Calls.{either_way, still_users}
 use Rattle.rows_desk.proofs.refusals.make_ready.Goals as goal
 

@@ -1,4 +1,4 @@
-use Rattle.qc_pass.specs.Nothing.{no_table}
+use Rattle.qc_desk.specs.Nothing.{no_table}
 use Rattle.rows_desk.proofs.refusals.run_refusals.Given as goal
 
 abbrev pub ghosts-refused_at : goal.ghosts-refused_at

@@ -1,6 +1,6 @@
 use Rattle.qc_event.specs.Tables.{setting_of}
-use Rattle.qc_pass.proofs.Consulting.{asked_later}
-use Rattle.qc_pass.proofs.AskedTops.{entered_later}
+use Rattle.qc_desk.proofs.Consulting.{asked_later}
+use Rattle.qc_desk.proofs.AskedTops.{entered_later}
 use Rattle.rows_desk.proofs.Tops.{asked_itself}
 use Rattle.rows_desk.proofs.scene.dead_request.Goals as goal
 

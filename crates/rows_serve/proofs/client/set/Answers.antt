@@ -1,6 +1,6 @@
 use Rattle.std.proofs.Common.{arith}
 use Rattle.qc_event.specs.Tables.{setting_of}
-use Rattle.qc_pass.proofs.AskedTops.{may_be_ready}
+use Rattle.qc_desk.proofs.AskedTops.{may_be_ready}
 use Rattle.rows_serve.proofs.First.{manager_stands, access_stands, own_request, set_client, set_later, set_stands, set_first}
 use Rattle.rows_serve.proofs.client.set.Goals as goal
 

@@ -2,7 +2,7 @@
 use Rattle.std.proofs.Common.{refl}
 use Rattle.qc_event.specs.declared.event.Event.TheVariants as event
 use Rattle.qc_event.specs.declared.event.How.TheVariants.{Abort as Aborts}
-use Rattle.qc_pass.specs.Refusing.{against_abort}
+use Rattle.qc_desk.specs.Refusing.{against_abort}
 use Rattle.qc_carry.proofs.Acting.{ends_no_access, entered_still}
 use Rattle.qc_event.specs.Tables.{setting_of}
 use Rattle.qc_net.specs.Courier.{held_of, link_of}

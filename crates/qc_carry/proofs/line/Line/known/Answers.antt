@@ -1,7 +1,7 @@
 -- A line's requests meet the fates of its link.
 use Rattle.qc_event.specs.Tables.{setting_of}
 use Rattle.qc_net.specs.Courier.{held_of, link_of}
-use Rattle.qc_pass.proofs.Known.{known_again}
+use Rattle.qc_desk.proofs.Known.{known_again}
 use Rattle.qc_carry.proofs.KeepsStill.{keeps_met}
 use Rattle.qc_carry.proofs.line.Line.known.Goals as goal
 

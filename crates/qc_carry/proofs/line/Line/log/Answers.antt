@@ -1,5 +1,5 @@
 -- The line stays one: the ledger acted, and its client has seen it.
-use Rattle.qc_pass.proofs.Known.{known_again}
+use Rattle.qc_desk.proofs.Known.{known_again}
 use Rattle.qc_carry.proofs.Acting.{none_still}
 use Rattle.qc_carry.proofs.Walking.{of_seen}
 use Rattle.qc_event.specs.Tables.{setting_of}

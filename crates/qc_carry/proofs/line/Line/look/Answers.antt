@@ -1,7 +1,7 @@
 -- The line stays one: its client looked.
 use Rattle.std.proofs.Common.{subst}
-use Rattle.qc_pass.specs.declared.view.View.{View}
-use Rattle.qc_pass.specs.Calling.{Shown}
+use Rattle.qc_desk.specs.declared.view.View.{View}
+use Rattle.qc_desk.specs.Calling.{Shown}
 use Rattle.qc_carry.proofs.Acting.{none_still}
 use Rattle.qc_carry.proofs.Walking.{of_shown}
 use Rattle.qc_event.specs.Tables.{setting_of}

@@ -1,7 +1,7 @@
 -- The line stays one: a session was marked, or nothing entered.
 use Rattle.std.proofs.Common.{refl}
 use Rattle.qc_event.specs.declared.event.Event.TheVariants as event
-use Rattle.qc_pass.specs.Refusing.{against_nothing}
+use Rattle.qc_desk.specs.Refusing.{against_nothing}
 use Rattle.qc_carry.proofs.Acting.{entered_still}
 use Rattle.qc_event.specs.Tables.{setting_of}
 use Rattle.qc_net.specs.Courier.{held_of, link_of}

@@ -3,7 +3,7 @@ use Rattle.std.proofs.Common.{sym, ◌∙◌, subst}
 use Rattle.std.specs.Prelude.{All}
 use Rattle.std.proofs.lemmas.List.Elements.{All-nil}
 use Rattle.qc_net.specs.Courier.{held_of, link_of}
-use Rattle.qc_pass.specs.Consulting.{HasAsked}
+use Rattle.qc_desk.specs.Consulting.{HasAsked}
 use Rattle.qc_carry.proofs.KeepsStill.{keeps_at_start}
 use Rattle.qc_carry.proofs.line.Line.new.Goals as goal
 

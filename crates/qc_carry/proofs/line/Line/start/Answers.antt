@@ -1,7 +1,7 @@
 -- The line stays one: a child was started, or nothing entered.
 use Rattle.std.proofs.Common.{◌≡◌, ◌+◌, [], ◌∷◌, ◌++◌, length}
 use Rattle.qc_event.specs.History.{children}
-use Rattle.qc_pass.specs.Refusing.{against_child}
+use Rattle.qc_desk.specs.Refusing.{against_child}
 use Rattle.qc_carry.proofs.Acting.{started_still}
 use Rattle.qc_event.specs.Tables.{setting_of}
 use Rattle.qc_net.specs.Courier.{held_of, link_of}

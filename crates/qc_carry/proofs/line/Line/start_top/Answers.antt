@@ -3,7 +3,7 @@ use Rattle.std.proofs.Common.{◌≡◌, ◌+◌, [], length}
 use Rattle.qc_event.specs.declared.event.Kind.TheVariants as kind
 use Rattle.qc_event.specs.History.{children}
 use Rattle.qc_event.specs.Seats.{top_name}
-use Rattle.qc_pass.specs.Refusing.{against_nothing}
+use Rattle.qc_desk.specs.Refusing.{against_nothing}
 use Rattle.qc_carry.proofs.Acting.{started_still}
 use Rattle.qc_event.specs.Tables.{setting_of}
 use Rattle.qc_net.specs.Courier.{held_of, link_of}

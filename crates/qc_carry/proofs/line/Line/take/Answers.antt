@@ -1,5 +1,5 @@
 -- The line stays one that has taken another in.
-use Rattle.qc_pass.proofs.Known.{known_again}
+use Rattle.qc_desk.proofs.Known.{known_again}
 use Rattle.qc_carry.proofs.Branching.{taken_still, took}
 use Rattle.qc_event.specs.Tables.{setting_of}
 use Rattle.qc_net.specs.Courier.{held_of, link_of}

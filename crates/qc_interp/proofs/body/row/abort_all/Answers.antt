@@ -4,9 +4,9 @@ use Rattle.qc_event.specs.declared.event.Cause.TheVariants as cause
 use Rattle.qc_script.specs.Calls.{IsGrounded}
 use Rattle.qc_script.specs.Client.{Client, Made}
 use Rattle.qc_interp.specs.AtOnce.{TurnedOne}
-use Rattle.qc_interp.proofs.Results.{any_err}
-use Rattle.qc_interp.proofs.RowAborting.{aborted_none, aborted_cut, at_index}
-use Rattle.qc_interp.proofs.RowAbortNext.{IsBy, by_orphan, by_ended, next_first, next_grounded, next_turned, last_turned}
+use Rattle.qc_interp.proofs.Stepping.Results.{any_err}
+use Rattle.qc_interp.proofs.Rows.Aborting.{aborted_none, aborted_cut, at_index}
+use Rattle.qc_interp.proofs.Rows.AbortNext.{IsBy, by_orphan, by_ended, next_first, next_grounded, next_turned, last_turned}
 use Rattle.qc_interp.proofs.body.row.abort_all.Goals as goal
 use Rattle.qc_interp.proofs.body.row.abort_all.Goals.{in-Orphan, in-Ended}
 

@@ -1,7 +1,7 @@
 use Rattle.std.proofs.Common.{◌≡◌}
 use Rattle.qc_script.specs.Calls.{MeetsLink}
-use Rattle.qc_interp.proofs.RowAborting.{AbortedTo}
-use Rattle.qc_interp.proofs.RowAbortNext.{IsBy}
+use Rattle.qc_interp.proofs.Rows.Aborting.{AbortedTo}
+use Rattle.qc_interp.proofs.Rows.AbortNext.{IsBy}
 use Rattle.qc_interp.proofs.body.row.abort_all.Given as goal
 
 abbrev pub invariant-loop-first : goal.invariant-loop-first

@@ -2,10 +2,10 @@ use Rattle.std.proofs.Common.{◌+◌, ◌∷◌, ◌++◌, ◌∙◌, [], refl,
 use Rattle.std.proofs.lemmas.List.{map-append, take-append-drop}
 use Rattle.qc_script.specs.Steps.{numbered}
 use Rattle.qc_interp.specs.AtOnce.{stands, BeganInTurn, BeganSome}
-use Rattle.qc_interp.proofs.BranchBegins.{begun_legal, begun_started, not_begun_legal}
-use Rattle.qc_interp.proofs.RowMet.{all_met}
-use Rattle.qc_interp.proofs.InOrder.{next_taken, some_left}
-use Rattle.qc_interp.proofs.Results.{any_err, same_err}
+use Rattle.qc_interp.proofs.Branching.Begins.{begun_legal, begun_started, not_begun_legal}
+use Rattle.qc_interp.proofs.Rows.Met.{all_met}
+use Rattle.qc_interp.proofs.Listing.InOrder.{next_taken, some_left}
+use Rattle.qc_interp.proofs.Stepping.Results.{any_err, same_err}
 use Rattle.qc_interp.proofs.body.row.begin_all.Goals as goal
 
 pub returns-in_err-begin_one-clause-err : goal.returns-in_err-begin_one-clause-err

@@ -2,8 +2,8 @@ use Rattle.std.proofs.Common.{sym, subst}
 use Rattle.qc_script.specs.declared.tx.TxNo.TheVariants as tx_no
 use Rattle.qc_script.specs.Steps.{numbered}
 use Rattle.qc_interp.specs.AtOnce.{NotBegun}
-use Rattle.qc_interp.proofs.BranchBegins.{began, not_begun, none_begun}
-use Rattle.qc_interp.proofs.Plans.{number_of}
+use Rattle.qc_interp.proofs.Branching.Begins.{began, not_begun, none_begun}
+use Rattle.qc_interp.proofs.Stepping.Plans.{number_of}
 use Rattle.qc_interp.proofs.body.row.begin_one.Goals as goal
 
 pub returns-in_default-branch-clause-err : goal.returns-in_default-branch-clause-err

@@ -2,7 +2,7 @@ use Rattle.std.proofs.Common.{◌∙◌, sym, ap, subst, map}
 use Rattle.std.specs.Vec.Iter.{into_iter_items}
 use Rattle.qc_interp.specs.AtOnce as at_once
 use Rattle.qc_interp.specs.AtOnce.{stands, AreOut, MergedInTurn, row_came}
-use Rattle.qc_interp.proofs.Plans.{must_of}
+use Rattle.qc_interp.proofs.Stepping.Plans.{must_of}
 use Rattle.qc_interp.proofs.body.row.merge_all.Goals as goal
 
 pub merge-requires-clause-out : goal.merge-requires-clause-out

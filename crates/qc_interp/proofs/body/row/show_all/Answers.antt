@@ -2,8 +2,8 @@ use Rattle.std.proofs.Common.{◌∙◌, refl, sym, ap, subst, slice_index_or, l
 use Rattle.qc_script.specs.Calls.{MeetsLink}
 use Rattle.qc_interp.specs.declared.body.branch.Branch.{Branch as Held}
 use Rattle.qc_interp.specs.AtOnce.{stands, WasShown}
-use Rattle.qc_interp.proofs.InOrder.{as_it_was, one_so_far}
-use Rattle.qc_interp.proofs.Shown.{each_at, made_on, was_shown}
+use Rattle.qc_interp.proofs.Listing.InOrder.{as_it_was, one_so_far}
+use Rattle.qc_interp.proofs.Branching.Shown.{each_at, made_on, was_shown}
 use Rattle.qc_interp.proofs.body.row.show_all.Goals as goal
 
 pub show-requires-clause-branch_met : goal.show-requires-clause-branch_met

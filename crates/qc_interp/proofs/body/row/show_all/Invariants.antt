@@ -3,7 +3,7 @@ use Rattle.std.specs.List.{AllByRecursion}
 use Rattle.qc_script.specs.Calls.{MeetsLink}
 use Rattle.qc_script.specs.Client.{Made}
 use Rattle.qc_interp.specs.AtOnce.{stands, WasShown}
-use Rattle.qc_interp.proofs.InOrder.{SoFar}
+use Rattle.qc_interp.proofs.Listing.InOrder.{SoFar}
 use Rattle.qc_interp.proofs.body.row.show_all.Given as goal
 
 abbrev pub invariant-loop-branch : goal.invariant-loop-branch

@@ -3,7 +3,7 @@ use Rattle.std.proofs.Common.{◌≡◌, ap, sym, ◌∙◌, subst}
 use Rattle.std.specs.Prelude.{is_some, true}
 use Rattle.qc_event.specs.History.{Past, is_ready}
 use Rattle.qc_event.specs.Tables.{setting_of}
-use Rattle.qc_pass.specs.Entries.{entries_of}
+use Rattle.qc_desk.specs.Entries.{entries_of}
 use Rattle.qc_ledger.proofs.Passes.{kept_on, may_first, may_next, ready_stays, shown_kept}
 use Rattle.qc_ledger.proofs.ledger.Ledger.has_ended.Goals as goal
 

@@ -1,7 +1,7 @@
 -- What was refused leaves the top in hand one that may be committed.
 use Rattle.std.proofs.Common.{ap, ◌∙◌, subst}
-use Rattle.qc_pass.specs.declared.view.View.{View}
-use Rattle.qc_pass.specs.Entries.{IsOlder}
+use Rattle.qc_desk.specs.declared.view.View.{View}
+use Rattle.qc_desk.specs.Entries.{IsOlder}
 use Rattle.qc_ledger.proofs.Passes.{may_still}
 use Rattle.qc_ledger.proofs.ledger.Ledger.settle.Goals as goal
 

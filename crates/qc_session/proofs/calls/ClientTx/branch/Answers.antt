@@ -5,12 +5,13 @@ use Rattle.qc_event.specs.Tables.{setting_of}
 use Rattle.qc_event.proofs.LegalAgain.{legal_again}
 use Rattle.qc_carry.proofs.KeepsStill.{keeps_met}
 use Rattle.qc_net.specs.Courier.{held_of, link_of}
-use Rattle.qc_pass.specs.declared.view.View.{View}
+use Rattle.qc_desk.specs.declared.view.View.{View}
 use Rattle.qc_session.specs.Clients.{link_told}
 use Rattle.qc_session.specs.Keeping.{IsClientPass}
 use Rattle.qc_session.specs.Marking.{IsSeatAt}
 use Rattle.qc_session.proofs.Branching.{anew_net, branch_keeps, branch_met, branched, left_keeps, still_met}
 use Rattle.qc_session.proofs.calls.ClientTx.branch.Goals as goal
+use Rattle.qc_session.proofs.Knowing.{seen_legal}
 
 pub branch-self-requires : goal.branch-self-requires
 branch-self-requires g c = record { high = c.args.self.now.kept.high c.args.self.now.line.pass.number (0, refl) }
@@ -49,7 +50,7 @@ invariant_of-result g c =
     let is = c.in_ok-line.ensures.ok in
     record {
       over = me.over;
-      kept = branch_keeps (setting_of g.N.Store.table g.N.Store.base) me.root c.args.of.now me.session me.line.pass now.pass line.pass is (legal_again (setting_of g.N.Store.table g.N.Store.base) line.pass.seen line.legal) c.split.result.marks;
+      kept = branch_keeps (setting_of g.N.Store.table g.N.Store.base) me.root c.args.of.now me.session me.line.pass now.pass line.pass is (legal_again (setting_of g.N.Store.table g.N.Store.base) line.pass.seen (seen_legal line.known)) c.split.result.marks;
       low = me.low;
       seated = subst (IsSeatAt me.board.now) (sym c.split.ensures.new) me.seated;
       boarded = me.boarded;

@@ -4,7 +4,7 @@ use Rattle.qc_carry.specs.Branching.{HasTaken}
 use Rattle.qc_board.specs.Boards.{Seated}
 use Rattle.qc_event.specs.Tables.{setting_of}
 use Rattle.qc_net.specs.Courier.{link_of}
-use Rattle.qc_pass.specs.declared.view.View.{View}
+use Rattle.qc_desk.specs.declared.view.View.{View}
 use Rattle.qc_session.specs.Clients.{link_told}
 use Rattle.qc_session.specs.Keeping.{IsClientPass}
 use Rattle.qc_session.specs.Marking.{IsSeatAt}

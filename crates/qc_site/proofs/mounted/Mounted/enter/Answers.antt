@@ -1,13 +1,12 @@
-use Rattle.std.proofs.Common.{[], length, sym, ap, ◌∙◌, subst, arith, true≢false}
+use Rattle.std.proofs.Common.{[], length, sym, ap, ◌∙◌, subst, arith, true≢false, ℕ, List}
 use Rattle.std.specs.Prelude.{None, Vec}
 use Rattle.std.specs.declared.alloc.Global.{Global}
-use Rattle.std.proofs.Common.{ℕ, List}
 use Rattle.std.proofs.lemmas.List.{length-map}
 use Rattle.qc_config.specs.declared.tuple.Tuple.{Tuple}
 use Rattle.qc_event.specs.History.{grants}
 use Rattle.qc_journal.specs.Journal.{disk_of}
 use Rattle.qc_event.specs.Tables.{setting_of}
-use Rattle.qc_pass.specs.declared.view.View.{View}
+use Rattle.qc_desk.specs.declared.view.View.{View}
 use Rattle.qc_site.specs.Mounted.{records_of}
 use Rattle.qc_site.specs.Replica.{IsTableOf}
 use Rattle.qc_ledger.proofs.Logging.{up_by}

@@ -1,8 +1,8 @@
 use Rattle.std.proofs.Common.{◌<◌, ◌++◌, length, sym, ap, ◌∙◌, subst, arith}
 use Rattle.std.specs.Prelude.{Some, IfSome, option_to_list}
 use Rattle.qc_event.specs.History.{grants}
-use Rattle.qc_pass.specs.declared.view.View.{View}
-use Rattle.qc_pass.specs.Entries.{IsOlder}
+use Rattle.qc_desk.specs.declared.view.View.{View}
+use Rattle.qc_desk.specs.Entries.{IsOlder}
 use Rattle.qc_site.proofs.Backs.{on_err}
 use Rattle.qc_event.specs.Tables.{setting_of}
 use Rattle.qc_site.specs.Replica.{HasRoomFor, IsKept, IsTableOf, Standing}

@@ -3,9 +3,9 @@ use Rattle.std.specs.Prelude.{None, Some, Ok}
 use Rattle.qc_event.specs.Grants.{grant_with}
 use Rattle.qc_event.specs.History.{grants}
 use Rattle.qc_event.specs.Tables.{setting_of}
-use Rattle.qc_pass.specs.Consulting.{IsTold}
-use Rattle.qc_pass.specs.declared.consult.Consulted.{Consulted}
-use Rattle.qc_pass.specs.declared.consult.Consulted.TheVariants as consulted
+use Rattle.qc_desk.specs.Consulting.{IsTold}
+use Rattle.qc_desk.specs.declared.consult.Consulted.{Consulted}
+use Rattle.qc_desk.specs.declared.consult.Consulted.TheVariants as consulted
 use Rattle.qc_site.specs.AtDesk.{IsGranted}
 use Rattle.qc_site.specs.Replica.{IsTableOf, Standing}
 use Rattle.qc_site.proofs.Again.{again_granted, again_is_told, again_of, ask_within, granted_earlier}

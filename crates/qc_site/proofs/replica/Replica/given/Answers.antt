@@ -1,5 +1,5 @@
 use Rattle.std.proofs.Common.{ap}
-use Rattle.qc_pass.specs.declared.view.View.{View}
+use Rattle.qc_desk.specs.declared.view.View.{View}
 use Rattle.qc_site.specs.Replica.{Standing}
 use Rattle.qc_event.specs.Tables.{setting_of}
 use Rattle.qc_site.proofs.Replicas.{kept_on, looked_none, only_looks, shown_looked}

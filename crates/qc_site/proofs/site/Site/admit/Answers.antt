@@ -3,7 +3,7 @@ use Rattle.std.specs.Prelude.{Some, IfSome, is_some}
 use Rattle.qc_event.specs.Grants.{grant_with}
 use Rattle.qc_event.specs.Tables.{setting_of}
 use Rattle.qc_journal.specs.Journal.{disk_of}
-use Rattle.qc_pass.specs.declared.view.View.{View}
+use Rattle.qc_desk.specs.declared.view.View.{View}
 use Rattle.qc_site.specs.AtDesk.{hand_entries, IsGranted}
 use Rattle.qc_site.specs.Calls.{empty_handed, site_state, SiteState}
 use Rattle.qc_site.specs.Log.{journal_in}

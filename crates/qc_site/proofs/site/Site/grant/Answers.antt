@@ -4,7 +4,7 @@ use Rattle.qc_event.specs.declared.event.Answered.TheVariants.{Granted}
 use Rattle.qc_event.specs.Tables.{setting_of}
 use Rattle.qc_journal.specs.Journal.{disk_of}
 use Rattle.qc_ledger.proofs.Passes.{sees_on}
-use Rattle.qc_pass.specs.declared.consult.Consulted.TheVariants.{Fresh}
+use Rattle.qc_desk.specs.declared.consult.Consulted.TheVariants.{Fresh}
 use Rattle.qc_site.specs.AtDesk.{hand_after, told_entries}
 use Rattle.qc_site.specs.Calls.{empty_handed, site_state, SiteState}
 use Rattle.qc_site.specs.Log.{journal_in}

@@ -3,7 +3,7 @@ use Rattle.std.specs.Prelude.{Some}
 use Rattle.qc_event.specs.Grants.{grant_with}
 use Rattle.qc_event.specs.Tables.{setting_of}
 use Rattle.qc_journal.specs.Journal.{disk_of}
-use Rattle.qc_pass.proofs.Consulting.{asked_later}
+use Rattle.qc_desk.proofs.Consulting.{asked_later}
 use Rattle.qc_site.specs.AtDesk.{IsGranted}
 use Rattle.qc_site.specs.Calls.{site_state}
 use Rattle.qc_site.specs.Log.{journal_in}

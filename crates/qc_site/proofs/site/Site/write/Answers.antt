@@ -6,7 +6,7 @@ use Rattle.qc_event.specs.Seats.{copy_seat}
 use Rattle.qc_event.specs.Tables.{setting_of}
 use Rattle.qc_journal.specs.Journal.{disk_of}
 use Rattle.qc_ledger.proofs.Logging.{up_by}
-use Rattle.qc_pass.specs.declared.view.View.{View}
+use Rattle.qc_desk.specs.declared.view.View.{View}
 use Rattle.qc_site.specs.Calls.{site_state, SiteState}
 use Rattle.qc_site.specs.Log.{journal_in}
 use Rattle.qc_site.proofs.Calls.{wrote}

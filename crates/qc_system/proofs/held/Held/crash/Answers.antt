@@ -3,7 +3,7 @@ use Rattle.std.proofs.Common.{ℕ, ◌+◌, sym, ap, subst}
 use Rattle.std.proofs.Math.Logic.{∥∥₁_map}
 use Rattle.qc_event.specs.Tables.{setting_of}
 use Rattle.qc_site.specs.Since.{AreGrantsBy}
-use Rattle.qc_pass.specs.declared.view.View.{View}
+use Rattle.qc_desk.specs.declared.view.View.{View}
 use Rattle.qc_system.specs.Grown.{GrownFrom}
 use Rattle.qc_system.specs.Kept.{Pays, downs}
 use Rattle.qc_system.proofs.held.Held.crash.Goals as goal

@@ -1,6 +1,6 @@
 -- What was found on the disk is kept, and nothing of this run.
 use Rattle.std.proofs.Common.{◌+◌, sym, ap, ◌∙◌, subst}
-use Rattle.qc_pass.specs.declared.view.View.{View}
+use Rattle.qc_desk.specs.declared.view.View.{View}
 use Rattle.qc_event.specs.Tables.{setting_of}
 use Rattle.qc_site.specs.Since.{GrantsGrow}
 use Rattle.qc_site.specs.Sites.{KeepsGranted}

@@ -5,7 +5,7 @@ use Rattle.qc_ledger.proofs.Passes.{sees_on}
 use Rattle.qc_event.specs.declared.log.Short.TheVariants.{Room}
 use Rattle.qc_event.specs.Tables.{setting_of}
 use Rattle.qc_journal.specs.Journal.{disk_of}
-use Rattle.qc_pass.specs.Entries.{IsOlder}
+use Rattle.qc_desk.specs.Entries.{IsOlder}
 use Rattle.qc_site.specs.Answers.{HasAnswered}
 use Rattle.qc_site.specs.Calls.{AnswerRests, ShortSays, site_state}
 use Rattle.qc_site.specs.Log.{journal_in}

@@ -11,8 +11,8 @@ use Rattle.qc_journal.specs.Journal.{IsTooLong, disk_of, limit_of, place_of}
 use Rattle.qc_ledger.specs.Entered.{told_body}
 use Rattle.qc_ledger.specs.Shelf.{journal_in}
 use Rattle.qc_ledger.specs.Since.{AreTopsBy}
-use Rattle.qc_pass.specs.Entries.{entries_of}
-use Rattle.qc_pass.specs.declared.view.View.{View}
+use Rattle.qc_desk.specs.Entries.{entries_of}
+use Rattle.qc_desk.specs.declared.view.View.{View}
 use Rattle.qc_system.specs.Grown.{GrownFrom}
 use Rattle.qc_system.specs.Kept.{HadNoRoom, Pays, TopsSince, downs}
 use Rattle.qc_system.specs.Left.{KeepsTops}

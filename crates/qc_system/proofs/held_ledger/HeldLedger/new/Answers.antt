@@ -7,7 +7,7 @@ use Rattle.qc_event.specs.Requests.{was_unable}
 use Rattle.qc_journal.specs.Journal.{limit_of}
 use Rattle.qc_ledger.specs.Entered.{KeepsLogged, tops_of}
 use Rattle.qc_ledger.specs.Since.{TopsGrow}
-use Rattle.qc_pass.specs.declared.view.View.{View}
+use Rattle.qc_desk.specs.declared.view.View.{View}
 use Rattle.qc_system.specs.Grown.{LeftAlike}
 use Rattle.qc_system.specs.Kept.{Pays, downs}
 use Rattle.qc_system.proofs.Grown.{disk_in}

@@ -1,9 +1,9 @@
 -- The ledger leaves, and then the copies, one after another; then the desk is closed.
 use Rattle.std.proofs.Common.{◌++◌, ◌∷◌, ◌≤◌, sym, ap, ◌∙◌, subst, arith, reverse, vec_capacity}
 use Rattle.qc_event.specs.Tables.{setting_of}
-use Rattle.qc_pass.specs.declared.view.View.{View}
-use Rattle.qc_pass.specs.Entries.{IsOlder}
-use Rattle.qc_pass.proofs.Seers.{older_trans}
+use Rattle.qc_desk.specs.declared.view.View.{View}
+use Rattle.qc_desk.specs.Entries.{IsOlder}
+use Rattle.qc_desk.proofs.Seers.{older_trans}
 use Rattle.qc_system.specs.Parts.{Findings}
 use Rattle.qc_system.proofs.Closing.{all_left, closing_still, ledger_left}
 use Rattle.qc_system.proofs.Joining.{joins_low, low_by_both, settled_before}

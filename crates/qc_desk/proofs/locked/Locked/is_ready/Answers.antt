@@ -1,0 +1,10 @@
+use Rattle.std.proofs.Common.{◌≡◌, subst}
+use Rattle.qc_event.proofs.LegalAgain.{legal_again}
+use Rattle.qc_event.specs.History.{is_ready, Past}
+use Rattle.qc_event.specs.Tables.{setting_of}
+use Rattle.qc_desk.proofs.locked.Locked.is_ready.Goals as goal
+
+pub returns : goal.returns
+returns g c =
+    let setting = setting_of g.N.Store.table g.N.Store.base in
+    subst (λ (p : Past). c.is_ready.result ≡ is_ready p c.args.name.now) c.self.view_is (c.is_ready.ensures setting (legal_again setting c.self.inside.history c.self.invariant.2))

@@ -1,0 +1,12 @@
+use Rattle.std.proofs.Common.{◌≡◌, [], subst}
+use Rattle.std.specs.Prelude.{is_none}
+use Rattle.qc_event.proofs.LegalAgain.{legal_again}
+use Rattle.qc_event.specs.History.{Past}
+use Rattle.qc_event.specs.Standing.{open_child}
+use Rattle.qc_event.specs.Tables.{setting_of}
+use Rattle.qc_desk.proofs.locked.Locked.settled.Goals as goal
+
+pub returns : goal.returns
+returns g c =
+    let setting = setting_of g.N.Store.table g.N.Store.base in
+    subst (λ (p : Past). c.settled.result ≡ is_none (open_child p [])) c.self.view_is (c.settled.ensures setting (legal_again setting c.self.inside.history c.self.invariant.2))

@@ -1,4 +1,0 @@
-pub mod Rows
-pub mod OneMore
-pub mod HeardMore
-pub mod GatheredMore

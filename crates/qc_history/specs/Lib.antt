@@ -1,0 +1,17 @@
+pub mod Spots
+pub mod Places
+pub mod Index
+pub mod Standing
+pub mod Scan
+pub mod Answers
+pub mod Growing
+pub mod Opens
+pub mod Slots
+pub mod Firsts
+pub mod Refusals
+pub mod Marks
+pub mod Chains
+pub mod Aborts
+pub mod Grants
+pub mod Indexes
+pub mod Looking

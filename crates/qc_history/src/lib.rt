@@ -1,0 +1,29 @@
+//! A legal history with all that is kept beside it: its trail of entries, the index of its names, and what else is
+//! looked up, so that no look scans it.
+#![tactic(auto)]
+
+mod aborts;
+mod answered;
+mod firsts;
+mod found;
+mod grants;
+mod history;
+mod index;
+mod indexes;
+mod lists;
+mod looks;
+mod lookups;
+mod marks;
+mod nodes;
+mod opens;
+mod outcomes;
+mod slots;
+mod steps;
+
+pub use history::History;
+pub use index::Index;
+pub use indexes::Indexes;
+pub use looks::{Look, Told, answers};
+pub use nodes::{Node, Nodes};
+pub use outcomes::{Outcomes, Scan};
+pub use steps::Steps;

@@ -1,7 +1,0 @@
-use Rattle.std.proofs.Common.{sym, subst}
-use Rattle.qc_indexes.specs.Firsts.{AreFirstsOf}
-use Rattle.qc_indexes.proofs.FirstEntries.{firsts_none}
-use Rattle.qc_indexes.proofs.firsts.Firsts.new.Goals as goal
-
-pub returns : goal.returns
-returns c = λ subject. subst (AreFirstsOf subject _) (sym c.new.ensures.items) (firsts_none subject)

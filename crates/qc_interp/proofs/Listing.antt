@@ -1,0 +1,4 @@
+-- Lists.
+pub mod Lists
+pub mod Places
+pub mod InOrder

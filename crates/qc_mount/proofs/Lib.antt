@@ -1,5 +1,0 @@
-pub mod Numbered
-pub mod Disks
-pub mod InTurn
-pub mod Stores
-mod Verdicts

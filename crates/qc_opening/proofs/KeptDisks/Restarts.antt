@@ -1,0 +1,116 @@
+-- What the next mounting over a store's images starts from: what they restore, and where no grant stands on them the start
+-- tuples of the table.
+use Rattle.std.proofs.Common.{◌≡◌, ℕ, zero, suc, ◌+◌, ◌<◌, ◌≤◌, inl, inr, ◌⊎◌, List, [], ◌++◌, length, get_or, refl, sym, ap, ap₂, ◌∙◌, subst, arith, append-nil}
+use Rattle.std.specs.Prelude.{Option, None, Some, IfSome, IsSome}
+use Rattle.std.proofs.Math.Logic.{∥∥₁_map}
+use Rattle.std.proofs.lemmas.Bool.{cases_lt}
+use Rattle.std.proofs.lemmas.List.{get_or_past, length-map}
+use Rattle.std.proofs.lemmas.List.FromFn.{get_or-map-range_with_len}
+use Rattle.qc_config.specs.declared.tuple.Tuple.{Tuple}
+use Rattle.qc_event.specs.declared.event.Grant.{Grant}
+use Rattle.qc_event.specs.declared.table.Row.{Row}
+use Rattle.qc_event.specs.declared.table.Table.{Table}
+use Rattle.qc_event.specs.Base.{start_tuple}
+use Rattle.qc_event.specs.History.{Past, limit}
+use Rattle.qc_event.specs.Legal.{Legal}
+use Rattle.qc_event.specs.Sound.{IsSound}
+use Rattle.qc_event.specs.Tables.{base_of, setting_of}
+use Rattle.qc_codec.specs.Copy.{grant_form}
+use Rattle.qc_codec.specs.Ledger.{readings}
+use Rattle.qc_codec.specs.Restored.{restored_row}
+use Rattle.qc_codec.specs.declared.past.Logged.{Logged}
+use Rattle.qc_codec.specs.declared.past.Past.{Past as Logs}
+use Rattle.qc_journal.proofs.Readings.{records-same}
+use Rattle.qc_journal.specs.Image.{HasRecords}
+use Rattle.qc_refine.specs.Images.{CarryFinal, IsCopyImage, IsStanding, Restores, kept_in}
+use Rattle.qc_refine.specs.Restored.{granted_at, restored}
+use Rattle.qc_refine.specs.Standing.{IsOfEpoch, committed_too}
+use Rattle.qc_refine.proofs.Restoring.ImageReadings.{copy_told}
+use Rattle.qc_refine.proofs.Restoring.RestoredImages.{carry_final, nothing_restored, restore_one, restore_some}
+use Rattle.qc_site.specs.Image.{AreMountable, to_write}
+use Rattle.qc_opening.specs.Mountings.{AreKept, AreLeft, CarryNext, HaveNoGrants, IsMounted}
+use Rattle.qc_opening.proofs.KeptDisks.CutOff.{left_many, left_restored, same_grants}
+use Rattle.qc_opening.proofs.KeptDisks.Stands.{rows_restored, stand}
+
+-- what a mounting writes on a copy's disk tells no grant
+written_same : (table : Table) (copy : ℕ) (found : List (List ℕ)) → readings (grant_form table) (found ++ to_write copy table found) ≡ readings (grant_form table) found
+written_same table copy found = same_grants copy table found (to_write copy table found) [] (sym (append-nil (to_write copy table found)))
+
+-- THE NEXT MOUNTING
+
+module _ (table : Table) (images : List (List ℕ)) (records : ℕ → List (List ℕ)) (epoch : ℕ) (base : List (List Tuple))
+    (m : IsMounted table (λ number. Some (get_or images number [])) records epoch base) (as_many : length images ≡ table.copies + 1) where
+  -- each image has records
+  read : (number : ℕ) → (bodies : List (List ℕ)) × HasRecords bodies (get_or images number [])
+  read zero = (m.ledger.found, m.ledger.fine.0)
+  read (suc copy) = elim (cases_lt copy table.copies) [
+    | inl there ↦ subst (λ n. (bodies : List (List ℕ)) × HasRecords bodies (get_or images n [])) (omega arith) ((m.copies copy there).found, (m.copies copy there).fine.0)
+    | inr past_all ↦ ([], inl (refl, omega (arith, ap length (get_or_past images (suc copy) [] (omega (arith, as_many, past_all))))))
+  ]
+
+  abbrev bodies : ℕ → List (List ℕ)
+  bodies number = (read number).0
+
+  grants_read : (copy : ℕ) → copy < table.copies → readings (grant_form table) (records (copy + 1)) ≡ granted_at (kept_in table bodies) copy
+  grants_read copy there =
+      ap (readings (grant_form table)) (m.copies copy there).all
+      ∙ written_same table copy (m.copies copy there).found
+      ∙ ap (readings (grant_form table)) (records-same (get_or images (copy + 1) []) (read (copy + 1)).0 (m.copies copy there).found (read (copy + 1)).1 (m.copies copy there).fine.0)
+      ∙ sym (get_or-map-range_with_len (λ c. readings (grant_form table) ((read (c + 1)).0)) 0 table.copies copy copy [] there (omega arith))
+
+  tops_read : m.past.tops ≡ (kept_in table bodies).tops
+  unfolding read
+  tops_read = ap (λ (p : Logs). p.tops) m.ledger.past_is
+
+  -- what the copies start with is what the images restore
+  pub restores : Restores table images base
+  restores = record {
+    bodies = bodies;
+    has = λ number. (read number).1;
+    same = rows_restored table base (kept_in table bodies) m.as_many (λ copy there.
+        m.starts copy there ∙ ap₂ (λ (tops : List Logged) (gs : List Grant). restored_row tops (length table.records) (start_tuple (base_of table) copy) gs) tops_read (grants_read copy there));
+  }
+
+module _ (table : Table) (told : ℕ → Option (List ℕ)) (records later_records : ℕ → List (List ℕ)) (epoch later_epoch : ℕ) (base later_base : List (List Tuple)) (past : Past) (images last : List (List ℕ)) (later : List (List (List ℕ)))
+    (values : List ℕ) where
+  -- the next mounting that is not cut off carries the serial machine's values after the history, and after tops whose
+  -- commits may come next
+  pub restart : IsMounted table told records epoch base → Legal (setting_of table base) past → length past ≤ limit → IsOfEpoch epoch past → AreKept table base records past images → IsSound (setting_of table base) values
+      → AreLeft table images later last → IsMounted table (λ number. Some (get_or last number [])) later_records later_epoch later_base
+      → ∥ CarryNext table values past later_base ∥₁
+  restart m legal few of_epoch kept sound left mounted = ∥∥₁_map (stand table told records epoch base m past images legal few of_epoch kept) carried
+    where
+      carried : IsStanding table base epoch past images → CarryNext table values past later_base
+      carried s =
+          let (tuples, restored) = restore_some table images base epoch past s in
+          let same : tuples ≡ later_base = restore_one table last tuples later_base (left_restored table images last later left tuples restored)
+          (restores table last later_records later_epoch later_base mounted (left_many table images last later kept.as_many left)) in
+          record {
+            more = s.beside.more;
+            next = s.beside.next;
+            carry = subst (CarryFinal table values (committed_too past s.beside.more)) same (carry_final table images base epoch past s tuples restored values legal sound);
+          }
+
+-- THE FIRST MOUNTING
+
+module _ (table : Table) (told : ℕ → Option (List ℕ)) (records : ℕ → List (List ℕ)) (epoch : ℕ) (base : List (List Tuple)) (m : IsMounted table told records epoch base) (none : HaveNoGrants table told) where
+  no_grants : (copy : ℕ) (past : Logs) (limit : ℕ) (found : List (List ℕ)) (o : Option (List ℕ)) → IsSome o → IfSome o (λ image. HasRecords [] image ⊎ IsCopyImage table copy [] image)
+      → IfSome o (λ bytes. HasRecords found bytes × AreMountable copy table past limit found) → readings (grant_form table) found ≡ []
+  no_grants copy past limit found None some fresh fine = absurd cc
+  no_grants copy past limit found (Some image) some (inl empty) fine = ap (readings (grant_form table)) (records-same image [] found empty fine.0)
+  no_grants copy past limit found (Some image) some (inr fresh) fine = copy_told table image found fine.0 copy [] fresh
+
+  nothing_read : (copy : ℕ) → copy < table.copies → readings (grant_form table) (records (copy + 1)) ≡ []
+  nothing_read copy there =
+      let c = m.copies copy there in
+      ap (readings (grant_form table)) c.all
+      ∙ written_same table copy c.found
+      ∙ no_grants copy m.past (m.limit (copy + 1)) c.found (told (copy + 1)) (none copy there).0 (none copy there).1 c.fine
+
+  -- where no grant stands, the copies start with the table's start tuples
+  pub first_start : base ≡ base_of table
+  first_start =
+      rows_restored table base (record { tops = m.past.tops; granted = [] }) m.as_many (λ copy there.
+      m.starts copy there ∙ ap (restored_row m.past.tops (length table.records) (start_tuple (base_of table) copy)) (nothing_read copy there))
+      ∙ ap (λ n. restored (base_of table) n (record { tops = []; granted = [] })) (sym (length-map table.records (λ (r : Row). r.config)))
+      ∙ nothing_restored table

@@ -1,0 +1,21 @@
+-- What the managers of a legal history did.
+pub mod Replies
+pub mod KindsBelow
+pub mod AloneServed
+pub mod LastOpen
+pub mod Delivers
+pub mod ServedAsked
+pub mod Gathered
+pub mod Stages
+pub mod Shapes
+pub mod AskedInOrder
+pub mod AskedOnce
+pub mod Parted
+pub mod CompleteDone
+pub mod AllDone
+pub mod GivenDones
+pub mod LiveGrants
+pub mod ServedThere
+pub mod Steady
+pub mod Finished
+pub mod EachManager

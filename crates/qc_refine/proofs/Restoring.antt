@@ -1,0 +1,8 @@
+-- What disks restore.
+pub mod BelowReady
+pub mod LoggedTops
+pub mod RestoredTuples
+pub mod RestoredSound
+pub mod ImageReadings
+pub mod RestoredImages
+pub mod ListedNames

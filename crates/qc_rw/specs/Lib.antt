@@ -1,4 +1,0 @@
-pub mod Told
-pub mod Managed
-pub mod Going
-pub mod Undisturbed
