@@ -5,16 +5,9 @@ ghost use Rattle.bench_desk.specs.Tops.{AreStarted};
 
 use qc_desk::{Desk, DeskNo, Pass, Store};
 use qc_event::{Cause, Name};
+use qc_names::lists::append;
 use std::alloc::{AllocError, Global};
 use std::sync::Wait;
-
-// Generic: a push at the type of names gets no proof today.
-fn append<T: Copy>(items: &mut Vec<T>, item: T) -> Result<(), AllocError>
-    ensures { OnOk result (items.new.items ≡ items.old.items ++ item ∷ []) }
-{
-    items.push(item)?;
-    Ok(())
-}
 
 fn start_one<N: Store, R: Wait>(
     rt: &R,

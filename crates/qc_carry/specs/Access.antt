@@ -7,12 +7,12 @@ use Rattle.qc_event.specs.declared.event.Event.TheVariants as event
 use Rattle.qc_event.specs.declared.event.How.TheVariants.{Commit, Abort}
 use Rattle.qc_event.specs.declared.event.Refusal.TheVariants as refusal
 use Rattle.qc_event.specs.declared.event.Why.{Why}
-use Rattle.qc_event.specs.declared.log.Short.{Short}
-use Rattle.qc_event.specs.declared.log.Short.TheVariants as short
-use Rattle.qc_event.specs.History.{Past, Name, limit, asked, gone, refused, end}
+use Rattle.qc_event.specs.declared.short.Short.{Short}
+use Rattle.qc_event.specs.declared.short.Short.TheVariants as short
+use Rattle.qc_event.specs.History.{Past, Name, limit, gone, refused, end}
 use Rattle.qc_event.specs.Manager.{Replied, Missing, BlockedBy, Result as Became}
 use Rattle.qc_event.specs.Requests.{is_fault, was_unable}
-use Rattle.qc_event.specs.Standing.{IsOrphanOf, open_child}
+use Rattle.qc_event.specs.Standing.{AsksUnder, IsOrphanOf, open_child}
 use Rattle.qc_managers.specs.Carrying.{entry, access_entries, became, IsBegun, WasStopped}
 use Rattle.qc_managers.specs.declared.carrier.Carried.{Carried}
 use Rattle.qc_managers.specs.declared.carrier.Carried.TheVariants.{Reply, Blocked, Gone}
@@ -28,7 +28,7 @@ use Rattle.qc_carry.specs.Walk.{Walk}
 -- An access of one's own has asked, is open, and was not given up.
 pub record Waits (past : Past) (seat : ℕ) (ask : Ask) : Type 0 where
   pub own : IsOwnAccess past seat ask.access
-  pub asks_it : asked past ask.access ≡ Some (record { seat = seat; ask = ask })
+  pub asks_it : AsksUnder past seat ask
   pub ungone : gone past ask.access ≡ None
 
 -- what a manager is told of an access that is not granted stands in the history: the first refusal, or the copy's own word

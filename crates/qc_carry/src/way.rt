@@ -2,7 +2,7 @@
 ghost use Rattle.std.specs.Prelude.{◌≡◌, ◌≤◌, [], true, All, IfErr, IfOk, IfSome, IsErrOf, None, length, option_map};
 ghost use Rattle.qc_event.specs.Counts.{Rose};
 ghost use Rattle.qc_event.specs.declared.event.Ask.{Ask};
-ghost use Rattle.qc_event.specs.declared.log.Short.TheVariants.{Room};
+ghost use Rattle.qc_event.specs.declared.short.Short.TheVariants.{Room};
 ghost use Rattle.qc_event.specs.History.{limit};
 ghost use Rattle.qc_event.specs.Tables.{setting_of};
 ghost use Rattle.qc_net.specs.Courier.{link_of, held_of, IsAnswered, HasCause};

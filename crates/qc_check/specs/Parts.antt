@@ -2,18 +2,17 @@
 use Rattle.std.specs.Prelude.{ℕ, ◌≡◌, IsTrue, None}
 use Rattle.qc_names.specs.Name as name
 use Rattle.qc_event.specs.declared.event.Ask.{Ask}
-use Rattle.qc_event.specs.declared.event.Kind.TheVariants as kind
 use Rattle.qc_event.specs.History.{Past, Name, Begun, asked}
 use Rattle.qc_event.specs.Manager.{waiting}
 use Rattle.qc_event.specs.Seats.{is_client}
-use Rattle.qc_event.specs.Standing.{open_child, Started, IsGoing}
+use Rattle.qc_event.specs.Standing.{open_child, StartedUnder, IsAccessUnder, IsGoing}
 
 -- An access may ask something: once, under the seat at which it and its manager started, and only where
 -- the manager waits for no other access.
 pub record IsFreeToAsk (past : Past) (seat : ℕ) (ask : Ask) : Type 0 where
   pub by_client : IsTrue (is_client seat)
-  pub started : Started past ask.access (λ a. (a.seat ≡ seat) × (a.kind ≡ kind.Access))
-  pub manager_started : Started past (name.front ask.access) (λ m. m.seat ≡ seat)
+  pub started : IsAccessUnder past seat ask.access
+  pub manager_started : StartedUnder past seat (name.front ask.access)
   pub going : IsGoing past ask.access
   pub not_asked : asked past ask.access ≡ None
   pub nothing_open : waiting past (name.front ask.access) ≡ None

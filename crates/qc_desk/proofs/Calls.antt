@@ -8,8 +8,8 @@ use Rattle.qc_event.specs.History.{Past, limit}
 use Rattle.qc_event.specs.Legal.{Allowed}
 use Rattle.qc_event.specs.Seats.{is_client}
 use Rattle.qc_desk.specs.declared.refusal.DeskNo.{DeskNo}
-use Rattle.qc_event.specs.declared.log.Short.{Short}
-use Rattle.qc_event.specs.declared.log.Short.TheVariants as short
+use Rattle.qc_event.specs.declared.short.Short.{Short}
+use Rattle.qc_event.specs.declared.short.Short.TheVariants as short
 use Rattle.qc_desk.specs.declared.view.View.{View}
 use Rattle.qc_desk.specs.Calling.{IsLook, IsEntry, Entered, Refused}
 use Rattle.qc_desk.specs.Entries.{IsSince, entry}

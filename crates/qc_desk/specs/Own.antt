@@ -14,7 +14,7 @@ use Rattle.qc_event.specs.History.{Past, Name, Begun, IsOpen, asked, granted, is
 use Rattle.qc_event.specs.Manager.{AtStage, waiting, is_complete, first_for}
 use Rattle.qc_event.specs.Requests.{IsNextAsk}
 use Rattle.qc_event.specs.Seats.{is_client}
-use Rattle.qc_event.specs.Standing.{IsManager, Started}
+use Rattle.qc_event.specs.Standing.{AskedUnder, IsAccessUnder, IsManager, Started}
 use Rattle.qc_event.specs.Starts.{Stands}
 use Rattle.qc_desk.specs.declared.view.View.{View}
 
@@ -27,7 +27,7 @@ pub record MayAskOwn (setting : Setting) (past : Past) (seat : ℕ) (m : Name) (
   pub by_client : IsTrue (is_client seat)
   pub child : is_child m ask.access ≡ true
   pub mine : IsMine past seat m
-  pub started : Started past ask.access (λ a. (a.seat ≡ seat) × (a.kind ≡ kind.Access))
+  pub started : IsAccessUnder past seat ask.access
   pub is_open : IsOpen past ask.access
   pub not_asked : asked past ask.access ≡ None
   pub nothing_open : waiting past m ≡ None
@@ -39,12 +39,12 @@ pub record IsOwnAccess (past : Past) (seat : ℕ) (n : Name) : Type 0 where
   pub manager : Name
   pub child : is_child manager n ≡ true
   pub mine : IsMine past seat manager
-  pub started : Started past n (λ a. (a.seat ≡ seat) × (a.kind ≡ kind.Access))
+  pub started : IsAccessUnder past seat n
   pub is_open : IsOpen past n
 
 -- It asked under this seat, and a grant with this tuple was seen.
 pub record MayReplyOwn (past : Past) (seat : ℕ) (n : Name) (tuple : Tuple) : Type 0 where
-  pub asked_here : MatchOption (asked past n) ⊥ (λ a. a.seat ≡ seat)
+  pub asked_here : AskedUnder past seat n
   pub reply : MatchOption (granted past n) ⊥ (λ g. g.grant.tuple ≡ tuple)
 
 -- A manager of one's own is complete by what was seen, and this is its answer.

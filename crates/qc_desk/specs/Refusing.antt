@@ -1,8 +1,8 @@
 -- Why a call appends nothing, by the history at its step: each test in turn, the first that fails.
 use Rattle.std.specs.Prelude.{◌≡◌, ◌⊎◌, length, Option, None, Some, if◌then◌else◌}
 use Rattle.std.specs.Option.{option_or, option_map}
-use Rattle.qc_event.specs.declared.log.Short.{Short}
-use Rattle.qc_event.specs.declared.log.Short.TheVariants as short
+use Rattle.qc_event.specs.declared.short.Short.{Short}
+use Rattle.qc_event.specs.declared.short.Short.TheVariants as short
 use Rattle.qc_event.specs.Dead.{dead, outcome, is_live, is_committed}
 use Rattle.qc_event.specs.History.{Past, Name, limit, is_ready}
 use Rattle.qc_event.specs.Standing.{open_child}

@@ -14,11 +14,8 @@ use crate::desk::Desk;
 use crate::pass::Pass;
 use crate::refusal::DeskNo;
 use crate::store::Store;
-use qc_event::{Event, Kind, Name, top_name};
+use qc_event::{Event, Kind, LIMIT, Name, top_name};
 use std::sync::Wait;
-
-// The most entries that a history takes.
-const LIMIT: usize = 4_294_967_295;
 
 impl<N: Store> Desk<N> {
     /// Starts the next top, for a session with a body. Its number is the desk's epoch and one more than tops were

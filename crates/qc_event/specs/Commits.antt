@@ -6,16 +6,16 @@ use Rattle.qc_event.specs.declared.event.Answer.{Answer}
 use Rattle.qc_event.specs.declared.event.Answer.TheVariants as answer
 use Rattle.qc_event.specs.declared.event.Kind.{Kind}
 use Rattle.qc_event.specs.declared.event.Kind.TheVariants as kind
-use Rattle.qc_event.specs.History.{Past, Name, Begun, asked, granted}
+use Rattle.qc_event.specs.History.{Past, Name, Begun, granted}
 use Rattle.qc_event.specs.Manager.{newest, greatest, is_complete, first_for}
 use Rattle.qc_event.specs.Seats.{is_client}
-use Rattle.qc_event.specs.Standing.{open_child, IsGoing}
+use Rattle.qc_event.specs.Standing.{open_child, AskedUnder, IsGoing}
 use Rattle.qc_event.specs.Users.{MayCommitUserOrTop}
 
 -- An access commits under the seat at which it asked, with the tuple that was granted.
 pub record MayCommitAccess (past : Past) (seat : ℕ) (n : Name) (given : Answer) : Type 0 where
   pub by_client : IsTrue (is_client seat)
-  pub asked_here : MatchOption (asked past n) ⊥ (λ a. a.seat ≡ seat)
+  pub asked_here : AskedUnder past seat n
   pub going : IsGoing past n
   pub reply : MatchOption (granted past n) ⊥ (λ g. given ≡ answer.Reply g.grant.tuple)
 

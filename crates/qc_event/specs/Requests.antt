@@ -15,7 +15,7 @@ use Rattle.qc_event.specs.declared.event.Why.TheVariants.{Lost, Late, Down, Full
 use Rattle.qc_event.specs.History.{Past, Name, same, asked, gone, is_ready, IsOpen}
 use Rattle.qc_event.specs.Manager.{Stage, next_copy, waiting, record_of, AtStage}
 use Rattle.qc_event.specs.Seats.{ledger_seat, copy_seat, is_client}
-use Rattle.qc_event.specs.Standing.{Started, IsGoing}
+use Rattle.qc_event.specs.Standing.{Started, StartedUnder, IsAccessUnder, AskedUnder, IsGoing}
 
 -- REQUESTS
 
@@ -29,8 +29,8 @@ pub record IsNextAsk (past : Past) (m : Name) (k : Kind) (ask : Ask) (s : Stage)
 -- and only where the manager waits for no other access.
 pub record MayAsk (setting : Setting) (past : Past) (seat : ℕ) (ask : Ask) : Type 0 where
   pub by_client : IsTrue (is_client seat)
-  pub started : Started past ask.access (λ a. (a.seat ≡ seat) × (a.kind ≡ kind.Access))
-  pub manager_started : Started past (name.front ask.access) (λ m. m.seat ≡ seat)
+  pub started : IsAccessUnder past seat ask.access
+  pub manager_started : StartedUnder past seat (name.front ask.access)
   pub going : IsGoing past ask.access
   pub not_asked : asked past ask.access ≡ None
   pub nothing_open : waiting past (name.front ask.access) ≡ None
@@ -90,7 +90,7 @@ was_unable past n why = list_any (λ (e : Entry). option_map_or (is_why why) (un
 -- wants the copy's own word.
 pub record MayGiveUp (past : Past) (seat : ℕ) (access : Name) (why : Why) : Type 0 where
   pub by_client : IsTrue (is_client seat)
-  pub asked_here : MatchOption (asked past access) ⊥ (λ a. a.seat ≡ seat)
+  pub asked_here : AskedUnder past seat access
   pub is_open : IsOpen past access
   pub first_time : gone past access ≡ None
   pub told : IsTrue (not (is_fault why) || was_unable past access why)

@@ -1,11 +1,12 @@
 -- How names stand in a history: who may act, and what is open.
-use Rattle.std.specs.Prelude.{◌≡◌, not, IsTrue, find, is_none, Option, None, MatchOption}
+use Rattle.std.specs.Prelude.{ℕ, ◌≡◌, not, IsTrue, find, is_none, Option, None, Some, MatchOption}
 use Rattle.qc_names.specs.Name as name
+use Rattle.qc_event.specs.declared.event.Ask.{Ask}
 use Rattle.qc_event.specs.declared.event.How.{How}
 use Rattle.qc_event.specs.declared.event.How.TheVariants.{Commit, Abort}
 use Rattle.qc_event.specs.declared.event.Kind.{Kind}
 use Rattle.qc_event.specs.declared.event.Kind.TheVariants as kind
-use Rattle.qc_event.specs.History.{Past, Name, Begun, same, start, end, IsOpen, children}
+use Rattle.qc_event.specs.History.{Past, Name, Begun, same, start, end, asked, IsOpen, children}
 use Rattle.qc_event.specs.Dead.{dead}
 
 -- the kind is a user transaction
@@ -23,6 +24,22 @@ IsManager _ = ⊥
 -- a started name of a kind
 abbrev pub Started : Past → Name → (Begun → Type 0) → Type 0
 Started past n P = MatchOption (start past n) ⊥ P
+
+-- a name that was started under a seat
+abbrev pub StartedUnder : Past → ℕ → Name → Type 0
+StartedUnder past seat n = Started past n (λ b. b.seat ≡ seat)
+
+-- an access that was started under a seat
+abbrev pub IsAccessUnder : Past → ℕ → Name → Type 0
+IsAccessUnder past seat n = Started past n (λ a. (a.seat ≡ seat) × (a.kind ≡ kind.Access))
+
+-- an access that asked under a seat
+abbrev pub AskedUnder : Past → ℕ → Name → Type 0
+AskedUnder past seat n = MatchOption (asked past n) ⊥ (λ a. a.seat ≡ seat)
+
+-- an access asked this under a seat
+abbrev pub AsksUnder : Past → ℕ → Ask → Type 0
+AsksUnder past seat ask = asked past ask.access ≡ Some (record { seat = seat; ask = ask })
 
 -- the first started child that has no end
 abbrev pub open_child : Past → Name → Option Name

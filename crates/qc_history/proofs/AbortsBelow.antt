@@ -29,9 +29,6 @@ use Rattle.qc_history.proofs.Linking.{entry_there, last_here, last_stays, last_f
 
 -- TOPS
 
-one_number : (m : Name) (x y : ℕ) → x ∷ [] ≡ y ∷ [] → x ≡ y
-one_number m x y h = cc
-
 abort_no_start : (ev : Event) (x : ℕ) → abort_top ev ≡ Some x → starts_in ev ≡ 0
 abort_no_start (event.Start n k) x is = absurd cc
 abort_no_start _ x is = refl

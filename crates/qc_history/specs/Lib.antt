@@ -2,8 +2,6 @@ pub mod Spots
 pub mod Places
 pub mod Index
 pub mod Standing
-pub mod Scan
-pub mod Answers
 pub mod Growing
 pub mod Opens
 pub mod Slots

@@ -1,14 +1,9 @@
 -- What stands for histories: it may be known of which, and is asked of the legal ones among them.
-use Rattle.std.specs.Prelude.{ℕ, ◌∷◌}
+use Rattle.std.specs.Prelude.{◌∷◌}
 use Rattle.qc_event.specs.declared.event.Entry.{Entry}
 use Rattle.qc_event.specs.Base.{Setting}
 use Rattle.qc_event.specs.History.{Past}
 use Rattle.qc_event.specs.Legal.{Legal}
-
--- For which histories something stands, and of how many entries.
-pub record Standing : Type 1 where
-  pub is_of : Past → Type 0
-  pub count : ℕ
 
 -- a fact holds of each legal history for which it stands
 abbrev pub OfEach : (Past → Type 0) → (Past → Type 0) → Type 0

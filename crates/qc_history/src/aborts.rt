@@ -11,10 +11,9 @@ ghost use Rattle.qc_history.specs.Standing.{OfEach};
 ghost use Rattle.qc_history.specs.Aborts.{AreAborts, HaveRoomFor, last_abort, top_name};
 
 use crate::index::Index;
-use crate::lists::{append, turn};
-use crate::outcomes::Outcomes;
 use crate::slots::{reach, reach_name, set_slot, slot};
 use qc_event::{Entry, Event, How, Name};
+use qc_names::lists::{append_some, turn};
 use qc_trail::Trail;
 use std::alloc::{AllocError, Global};
 
@@ -146,7 +145,7 @@ impl Aborts {
         let mut next = self.last_below(names, top);
         while next > 0 {
             let at = next as usize - 1;
-            append(&mut found, aborted_in(names, &entries.at(at), top))?;
+            append_some(&mut found, aborted_in(names, &entries.at(at), top))?;
             next = slot(&self.before, at);
         }
         turn(&mut found);

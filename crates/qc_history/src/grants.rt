@@ -5,8 +5,8 @@ ghost use Rattle.qc_event.specs.History.{Past, grants};
 ghost use Rattle.qc_history.specs.Grants as words;
 ghost use Rattle.qc_history.specs.Grants.{AreGrants, Differs, HasSpare, granted_at, listed};
 
-use crate::lists::append;
 use qc_event::{Entry, Event, Grant};
+use qc_names::lists::append_some;
 use qc_trail::Trail;
 use std::alloc::{AllocError, Global};
 
@@ -157,7 +157,7 @@ impl Grants {
     {
         let mut given = Vec::new(alloc);
         for place in self.places(copy) {
-            append(&mut given, grant_of(&entries.at(*place as usize)))?;
+            append_some(&mut given, grant_of(&entries.at(*place as usize)))?;
         }
         Ok(given)
     }

@@ -11,14 +11,10 @@ ghost use Rattle.qc_history.specs.Looking.{WhereLegal};
 
 use crate::index::Index;
 use crate::indexes::Indexes;
-use crate::outcomes::Outcomes;
-use qc_event::{Entry, Event, How, Name, Outcome, Short};
+use qc_event::{Entry, Event, How, LIMIT, Name, Outcome, Short};
 use qc_trail::Trail;
 use std::alloc::{AllocError, Global};
 use std::marker::Model;
-
-/// The most entries that a history takes.
-const LIMIT: usize = 4_294_967_295;
 
 // The place of an entry's name among those of the started transactions, where most entries are of one. Where it is not
 // told, the trail keeps the name once more.

@@ -129,14 +129,14 @@ impl Index {
     }
 
     /// How a name stands.
-    pub(crate) fn stands(&self, name: &Name) -> Outcome
+    pub fn outcome(&self, name: &Name) -> Outcome
         ensures { OfEach (IsOf self.now) (λ past. result ≡ dead_words.outcome past name.now) }
     {
         uncounted_outcome::<Brand>(self, name, Blank::new(1))
     }
 
     /// The shortest aborted ancestor of a name.
-    pub(crate) fn dead_above(&self, name: &Name) -> Option<Name>
+    pub fn dead(&self, name: &Name) -> Option<Name>
         ensures { OfEach (IsOf self.now) (λ past. result ≡ dead_words.dead past name.now) }
     {
         uncounted_dead::<Brand>(self, name, Blank::new(1))
@@ -214,7 +214,7 @@ impl Index {
     }
 
     /// Takes in an entry that may come next. An error leaves all as it was.
-    pub(crate) fn take_in(&mut self, entry: &Entry) -> Result<(), AllocError>
+    pub fn push(&mut self, entry: &Entry) -> Result<(), AllocError>
         requires { self.old.count < limit }
         ensures ok { OnOk result (Grows (IsOf self.old) (IsOf self.new) entry.now) }
         ensures count { OnOk result (self.new.count ≡ self.old.count + 1) }

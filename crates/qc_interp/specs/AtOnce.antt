@@ -5,8 +5,8 @@ use Rattle.qc_event.specs.declared.event.Event.TheVariants as event
 use Rattle.qc_event.specs.declared.event.Kind.TheVariants as kind
 use Rattle.qc_event.specs.declared.event.Cause.TheVariants as cause
 use Rattle.qc_event.specs.declared.event.How.TheVariants.{Abort}
-use Rattle.qc_event.specs.declared.log.Short.{Short}
-use Rattle.qc_event.specs.declared.log.Short.TheVariants as short
+use Rattle.qc_event.specs.declared.short.Short.{Short}
+use Rattle.qc_event.specs.declared.short.Short.TheVariants as short
 use Rattle.qc_event.specs.History.{Past, Name, limit, end, is_child}
 use Rattle.qc_event.specs.Legal.{Legal}
 use Rattle.qc_event.specs.Standing.{Started, IsUser}
@@ -14,7 +14,7 @@ use Rattle.qc_net.specs.Messages.{Net}
 use Rattle.qc_script.specs.declared.tx.TxNo.{TxNo}
 use Rattle.qc_script.specs.declared.tx.TxNo.TheVariants as tx_no
 use Rattle.qc_script.specs.Calls.{by_client, MeetsLink, NoneUnder, Refuses, WasRefused, NotAborted, Merged}
-use Rattle.qc_script.specs.Client.{Client, View, mine, is_own, branch_of, Made, IsLater, HasJoined}
+use Rattle.qc_script.specs.Client.{Client, ClientView, mine, is_own, branch_of, Made, IsLater, HasJoined}
 use Rattle.qc_script.specs.Plan.{Numbered, PlanFits}
 use Rattle.qc_script.specs.Steps.{numbered}
 use Rattle.qc_interp.specs.declared.body.branch.Branch.{Branch as Held}
@@ -31,16 +31,16 @@ use Rattle.qc_interp.specs.Deeds.{Deed}
 -- A branch as it stands: its client and what that has seen, its body, the first of its tries, and what they came to once it
 -- has run.
 pub record Stands : Type 0 where
-  pub view : View
+  pub view : ClientView
   pub body : Numbered
   pub first : Name
   pub came : Option (Result BranchCame Short)
 
-abbrev pub stands : {T : Type 0} → (T → View) → Held T → Stands
+abbrev pub stands : {T : Type 0} → (T → ClientView) → Held T → Stands
 stands view b = record { view = view b.tx; body = numbered b.body.now; first = b.first; came = b.came }
 
 -- a branch whose first try has begun
-abbrev pub at_first : View → Numbered → Name → Stands
+abbrev pub at_first : ClientView → Numbered → Name → Stands
 at_first view body first = record { view = view; body = body; first = first; came = None }
 
 -- the branch of which it stands so
@@ -50,7 +50,7 @@ branch_in b = record { client = b.view.client; body = b.body; first = b.first }
 -- AS THEY BEGIN
 
 -- A branch was made, and the first try of its body begun: both have seen its start, and neither made anything else.
-pub record HasBegun (old new : View) (of : Name) (b : Stands) : Type 0 where
+pub record HasBegun (old new : ClientView) (of : Name) (b : Stands) : Type 0 where
   pub client : b.view.client ≡ branch_of old.client b.view.client.number of
   pub other : is_own old.client b.view.client.number ≡ false
   pub not_out : list_any (λ k. k == b.view.client.number) old.client.out ≡ false
@@ -63,18 +63,18 @@ pub record HasBegun (old new : View) (of : Name) (b : Stands) : Type 0 where
   pub met : MeetsLink b.view
 
 -- A branch was not begun, and was merged at once where it was made.
-pub record NotBegun (old new : View) (of : Name) (why : TxNo) : Type 0 where
+pub record NotBegun (old new : ClientView) (of : Name) (why : TxNo) : Type 0 where
   pub joined : HasJoined old.client old.seen new.client
   pub refused : WasRefused new.client of old.seen new.seen why
 
 -- branches were begun one after another
-abbrev pub BeganInTurn : View → Name → List Stands → View → Type 0
+abbrev pub BeganInTurn : ClientView → Name → List Stands → ClientView → Type 0
 BeganInTurn old of [] new = new ≡ old
-BeganInTurn old of (b ∷ bs) new = (mid : View) × HasBegun old mid of b × BeganInTurn mid of bs new
+BeganInTurn old of (b ∷ bs) new = (mid : ClientView) × HasBegun old mid of b × BeganInTurn mid of bs new
 
 -- Some of them were begun, and the next was not.
-abbrev pub BeganSome : View → Name → List Stands → View → TxNo → Type 0
-BeganSome old of bs new why = (mid : View) × BeganInTurn old of bs mid × NotBegun mid new of why
+abbrev pub BeganSome : ClientView → Name → List Stands → ClientView → TxNo → Type 0
+BeganSome old of bs new why = (mid : ClientView) × BeganInTurn old of bs mid × NotBegun mid new of why
 
 -- AS THEY ARE SHOWN
 
@@ -157,9 +157,9 @@ AreOut out net (b ∷ bs) =
     × AreOut (filter (λ k. not (k == b.view.client.number)) out) net bs
 
 -- branches were merged one after another
-abbrev pub MergedInTurn : View → List Stands → View → Type 0
+abbrev pub MergedInTurn : ClientView → List Stands → ClientView → Type 0
 MergedInTurn old [] new = new ≡ old
-MergedInTurn old (b ∷ bs) new = (mid : View) × Merged old b.view mid × MergedInTurn mid bs new
+MergedInTurn old (b ∷ bs) new = (mid : ClientView) × Merged old b.view mid × MergedInTurn mid bs new
 
 -- of two wants that of memory is told
 abbrev pub told_want : Short → Short → Short

@@ -18,16 +18,8 @@ use qc_codec::{LedgerRecord, Made, Past, copy_table, write_ledger, write_made};
 use qc_disk::Disk;
 use qc_event::Table;
 use qc_journal::{Body, Fault, Journal};
+use qc_names::lists::append;
 use std::alloc::{AllocError, Global};
-
-// A generic push: one at the type of bodies may get no proof.
-fn append<T: Drop>(items: &mut Vec<T>, item: T) -> Result<(), AllocError>
-    ensures ok { OnOk result (items.new.items ≡ items.old.items ++ item ∷ []) }
-    ensures err { OnErr result (items.new.items ≡ items.old.items) }
-{
-    items.push(item)?;
-    Ok(())
-}
 
 // Writes a record, and keeps its body.
 fn write<D: Disk>(journal: &mut Journal<D>, bodies: &mut Vec<Body>, next: Body) -> Result<(), Fault>

@@ -6,6 +6,7 @@ ghost use Rattle.qc_codec.specs.declared.record.LedgerRecord.TheVariants.{Epoch,
 
 use qc_codec::{LedgerRecord, Logged, Names, Past, Tops};
 use qc_event::Name;
+use qc_names::lists::append;
 use std::alloc::{AllocError, Global};
 use std::collections::BTreeSet;
 
@@ -18,15 +19,6 @@ pub(crate) struct Seen {
     epoch: u32,
     tops: Vec<Logged>,
     numbers: BTreeSet<u64>,
-}
-
-// A generic push: one at the type of logged tops may get no proof.
-fn append<T: Drop>(items: &mut Vec<T>, item: T) -> Result<(), AllocError>
-    ensures ok { OnOk result (items.new.items ≡ items.old.items ++ item ∷ []) }
-    ensures err { OnErr result (items.new.items ≡ items.old.items) }
-{
-    items.push(item)?;
-    Ok(())
 }
 
 impl Seen {

@@ -14,7 +14,7 @@ use Rattle.qc_event.specs.declared.event.Why.TheVariants.{Lost, Late, Down, Full
 use Rattle.qc_event.specs.Counts.{Rose}
 use Rattle.qc_event.specs.History.{Past, Name, asks, ask_below}
 use Rattle.qc_event.specs.Requests.{is_why, is_fault, unable_in, was_unable}
-use Rattle.qc_managers.specs.Carrying.{View, Carriage, HasGrown, HasReason, WasCarried, became}
+use Rattle.qc_managers.specs.Carrying.{CarrierView, Carriage, HasGrown, HasReason, WasCarried, became}
 use Rattle.qc_managers.specs.declared.carrier.Carried.{Carried}
 use Rattle.qc_managers.specs.declared.carrier.Carried.TheVariants as carried
 use Rattle.qc_managers.specs.Told.{Told, why_in}
@@ -93,11 +93,11 @@ cause_of_request way m Trouble c its was reason = of_carried c reason
     of_carried (carried.Gone Strange) h = word Strange h
 
 -- where nothing was told, nothing wants a cause
-pub causes_none : (a : View) (m : Name) (phase : Phase) → told_in a.seen m phase ≡ [] → All (HasCause a.seen m (Rose a.troubles a.troubles)) (told_in a.seen m phase)
+pub causes_none : (a : CarrierView) (m : Name) (phase : Phase) → told_in a.seen m phase ≡ [] → All (HasCause a.seen m (Rose a.troubles a.troubles)) (told_in a.seen m phase)
 causes_none a m phase none = subst (All (HasCause a.seen m (Rose a.troubles a.troubles))) (sym none) (All-nil (HasCause a.seen m (Rose a.troubles a.troubles)))
 
 -- with one more that was told, each has its cause
-pub causes_further : (a now then : View) (m : Name) (phase : Phase) (t : Told) → HasServed m a now → HasServed m now then → told_in then.seen m phase ≡ told_in now.seen m phase ++ t ∷ [] → All (HasCause now.seen m (Rose a.troubles now.troubles)) (told_in now.seen m phase) → HasCause then.seen m (Rose now.troubles then.troubles) t → All (HasCause then.seen m (Rose a.troubles then.troubles)) (told_in then.seen m phase)
+pub causes_further : (a now then : CarrierView) (m : Name) (phase : Phase) (t : Told) → HasServed m a now → HasServed m now then → told_in then.seen m phase ≡ told_in now.seen m phase ++ t ∷ [] → All (HasCause now.seen m (Rose a.troubles now.troubles)) (told_in now.seen m phase) → HasCause then.seen m (Rose now.troubles then.troubles) t → All (HasCause then.seen m (Rose a.troubles then.troubles)) (told_in then.seen m phase)
 causes_further a now then m phase t before served more causes cause =
     let Had : Told → Type 0 = HasCause now.seen m (Rose a.troubles now.troubles) in
     let Has : Told → Type 0 = HasCause then.seen m (Rose a.troubles then.troubles) in

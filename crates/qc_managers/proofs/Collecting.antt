@@ -8,7 +8,7 @@ use Rattle.qc_event.specs.declared.event.Phase.TheVariants.{Collect}
 use Rattle.qc_event.specs.Counts.{Rose}
 use Rattle.qc_event.specs.History.{Past, Name}
 use Rattle.qc_event.specs.Manager.{Stage, Newest, collecting, newest, is_enough, stage, record_of, first_for}
-use Rattle.qc_managers.specs.Carrying.{View, MayCarry}
+use Rattle.qc_managers.specs.Carrying.{CarrierView, MayCarry}
 use Rattle.qc_managers.specs.declared.next.Next.{Next}
 use Rattle.qc_managers.specs.declared.next.Next.TheVariants.{Enough, Copy, Short}
 use Rattle.qc_managers.specs.declared.shortage.Shortage.{Shortage}
@@ -30,14 +30,14 @@ use Rattle.qc_managers.proofs.Undisturbed.{never_short}
 use Rattle.qc_managers.proofs.Unasked.{unasked, unasked_fewer, next_within}
 
 -- a manager that collects, between the carrier where it began and the carrier now
-pub record IsCollecting (a now : View) (m : Name) (k : Kind) (first : Voting) (kept : Gathered) : Type 0 where
+pub record IsCollecting (a now : CarrierView) (m : Name) (k : Kind) (first : Voting) (kept : Gathered) : Type 0 where
   pub served : HasServed m a now
   pub goes_on : MayGoOn a.seat now.seen m k
   pub elsewhere : SameElsewhere a.seen now.seen m Collect
   pub kept_is : kept ≡ gathered first (told_in now.seen m Collect)
   pub causes : All (HasCause now.seen m (Rose a.troubles now.troubles)) (told_in now.seen m Collect)
 
-pub collecting_begins : (a : View) (m : Name) (k : Kind) (rec : ℕ) (first : Voting) (kept : Gathered) → MayCollect a.setting a.seat a.seen m k rec first → kept ≡ gathered first [] → IsCollecting a a m k first kept
+pub collecting_begins : (a : CarrierView) (m : Name) (k : Kind) (rec : ℕ) (first : Voting) (kept : Gathered) → MayCollect a.setting a.seat a.seen m k rec first → kept ≡ gathered first [] → IsCollecting a a m k first kept
 collecting_begins a m k rec first kept may is =
     record { served = served_none m a; goes_on = may.goes_on; elsewhere = λ p other. refl; kept_is = is ∙ ap (gathered first) (sym may.nothing_told); causes = causes_none a m Collect may.nothing_told }
 
@@ -47,7 +47,7 @@ got-told past first m =
     ap (λ (n : Newest). is_enough past m (collecting n)) (newest-told past first m)
     ∙ ap (holds_read (newest_in first (told_in past m Collect)).config) (replied-told past m Collect)
 
-module _ (a now : View) (m : Name) (k : Kind) (first : Voting) (kept : Gathered) (h : IsCollecting a now m k first kept) where
+module _ (a now : CarrierView) (m : Name) (k : Kind) (first : Voting) (kept : Gathered) (h : IsCollecting a now m k first kept) where
   abbrev told : List Told
   told = told_in now.seen m Collect
 
@@ -97,7 +97,7 @@ module _ (a now : View) (m : Name) (k : Kind) (first : Voting) (kept : Gathered)
   pub may_go_on : MayGoOn now.seat now.seen m k
   may_go_on = subst (λ seat. MayGoOn seat now.seen m k) (sym h.served.seat) h.goes_on
 
-  module _ (then : View) (t : Told) (served : HasServed m now then) (heard : HasHeard now.seat now.seen then.seen m k Collect (t ∷ [])) where
+  module _ (then : CarrierView) (t : Told) (served : HasServed m now then) (heard : HasHeard now.seat now.seen then.seen m k Collect (t ∷ [])) where
     pub collects_on : HasCause then.seen m (Rose now.troubles then.troubles) t → (kept' : Gathered) → kept' ≡ gathered first (told ++ t ∷ []) → IsCollecting a then m k first kept'
     collects_on cause kept' is =
         record {

@@ -16,7 +16,7 @@ use Rattle.qc_managers.specs.Gathered.{Gathered}
 use Rattle.qc_managers.specs.Told.{Told, newest_in, greatest_in}
 use Rattle.qc_managers.specs.declared.no.MgrNo.TheVariants as mgr
 use Rattle.qc_managers.specs.Answered.{told_in}
-use Rattle.qc_managers.specs.Carrying.{View}
+use Rattle.qc_managers.specs.Carrying.{CarrierView}
 use Rattle.qc_managers.specs.Going.{HasServed, HasPut, putting}
 use Rattle.qc_managers.specs.Managed.{IsAnswered, IsRefused}
 use Rattle.qc_managers.proofs.Answered.{kind_at, nothing_told}
@@ -24,7 +24,7 @@ use Rattle.qc_managers.proofs.Known.{newest-told, greatest-told}
 use Rattle.qc_managers.proofs.Onwards.{HasGathered, IsAtStage, at_last, at_first, at_next, may_commit}
 use Rattle.qc_managers.proofs.Stages.{enough_stays, newest_stays}
 
-module _ (a now : View) (m : Name) (rec : ℕ) (new : Voting) (kept : Gathered) (h : HasGathered a now m (kind.Reconf rec new) kept) where
+module _ (a now : CarrierView) (m : Name) (rec : ℕ) (new : Voting) (kept : Gathered) (h : HasGathered a now m (kind.Reconf rec new) kept) where
   abbrev first : Voting
   first = first_of a.setting rec
 
@@ -65,7 +65,7 @@ module _ (a now : View) (m : Name) (rec : ℕ) (new : Voting) (kept : Gathered) 
         ∙ ap (λ n. collects ∷ moves ∷ putting old Configs (PutConfig (n + 1) new) ∷ []) (found generation generation_is)) refl refl
 
     -- once it has moved the value
-    module _ (mid : View) (served : HasServed m now mid) (moved : HasPut now.seat now.seen mid.seen m (kind_at now.seen m) moves) where
+    module _ (mid : CarrierView) (served : HasServed m now mid) (moved : HasPut now.seat now.seen mid.seen m (kind_at now.seen m) moves) where
       pub comes_to_teach : IsAtStage a mid m reconf (collects ∷ moves ∷ []) teaches []
       comes_to_teach =
           at_next a now m reconf (collects ∷ []) moves (teaches ∷ []) comes_to_move mid moved served teaches [] refl refl refl
@@ -73,7 +73,7 @@ module _ (a now : View) (m : Name) (rec : ℕ) (new : Voting) (kept : Gathered) 
           (moved.elsewhere Configs refl ∙ h.collected.elsewhere Configs refl ∙ nothing_told a.seen m Configs h.nothing_asked)
 
       -- and once it has put the new configuration too
-      module _ (after : View) (taught : HasPut mid.seat mid.seen after.seen m (kind_at mid.seen m) teaches) where
+      module _ (after : CarrierView) (taught : HasPut mid.seat mid.seen after.seen m (kind_at mid.seen m) teaches) where
         newest_after : newest after.seen first m ≡ newest now.seen first m
         newest_after =
             newest_stays mid.seen after.seen m Configs taught.elsewhere first reconf refl ∙ newest_stays now.seen mid.seen m Values moved.elsewhere first reconf refl

@@ -15,7 +15,7 @@ use Rattle.qc_event.specs.History.{Past, Name, children, asks}
 use Rattle.qc_event.specs.Legal.{Legal}
 use Rattle.qc_event.specs.Manager.{Stage, collecting, newest, greatest, is_enough, is_last, is_phase, phase_of, at_last_number, stages, record_of, first_for}
 use Rattle.qc_event.specs.Standing.{IsManager}
-use Rattle.qc_managers.specs.Carrying.{View, IsRunning}
+use Rattle.qc_managers.specs.Carrying.{CarrierView, IsRunning}
 use Rattle.qc_managers.specs.Gathered.{Gathered}
 use Rattle.qc_managers.specs.declared.no.MgrNo.{MgrNo}
 use Rattle.qc_managers.specs.declared.no.MgrNo.TheVariants as mgr
@@ -35,7 +35,7 @@ kind_is seat past m k running = ap kind_or running.started
 -- AFTER THE COLLECTION
 
 -- a manager that has collected, between the carrier where it began and the carrier now
-pub record HasGathered (a now : View) (m : Name) (k : Kind) (kept : Gathered) : Type 0 where
+pub record HasGathered (a now : CarrierView) (m : Name) (k : Kind) (kept : Gathered) : Type 0 where
   pub manages : IsManager k
   pub served : HasServed m a now
   pub collected : HasCollected a.seat a.seen now.seen m k (first_for a.setting k) kept
@@ -46,7 +46,7 @@ pub collected_by : (seat : ℕ) (before now : Past) (m : Name) (k : Kind) (f fir
 collected_by seat before now m k f first kept by h = subst (λ x. HasCollected seat before now m k x kept) by h
 
 -- what was collected for the kind with which it was started, by the first configuration that it was given
-pub has_gathered : (a now : View) (m : Name) (k : Kind) (f : Voting) (kept : Gathered) → Legal a.setting a.seen → IsManager k → IsRunning a.seat a.seen m k → children a.seen m ≡ [] → f ≡ first_for a.setting k → HasServed m a now → HasCollected a.seat a.seen now.seen m (kind_at a.seen m) f kept → HasGathered a now m k kept
+pub has_gathered : (a now : CarrierView) (m : Name) (k : Kind) (f : Voting) (kept : Gathered) → Legal a.setting a.seen → IsManager k → IsRunning a.seat a.seen m k → children a.seen m ≡ [] → f ≡ first_for a.setting k → HasServed m a now → HasCollected a.seat a.seen now.seen m (kind_at a.seen m) f kept → HasGathered a now m k kept
 has_gathered a now m k f kept legal manages running none by served h =
     record {
       manages = manages;
@@ -56,7 +56,7 @@ has_gathered a now m k f kept legal manages running none by served h =
     }
 
 -- A manager has come to a stage, with these before it and these after.
-pub record IsAtStage (a now : View) (m : Name) (k : Kind) (earlier : List Stage) (s : Stage) (later : List Stage) : Type 0 where
+pub record IsAtStage (a now : CarrierView) (m : Name) (k : Kind) (earlier : List Stage) (s : Stage) (later : List Stage) : Type 0 where
   pub served : HasServed m a now
   pub may : MayPut a.setting a.seat now.seen m k (record_of k) s
   pub before_it : may.reached.earlier ≡ earlier
@@ -67,7 +67,7 @@ apart_back Collect apart = apart
 apart_back Values apart = refl
 apart_back Configs apart = refl
 
-module _ (a now : View) (m : Name) (k : Kind) (kept : Gathered) (h : HasGathered a now m k kept) where
+module _ (a now : CarrierView) (m : Name) (k : Kind) (kept : Gathered) (h : HasGathered a now m k kept) where
   abbrev first : Voting
   first = first_for a.setting k
 
@@ -105,7 +105,7 @@ module _ (a now : View) (m : Name) (k : Kind) (kept : Gathered) (h : HasGathered
 
 -- FROM STAGE TO STAGE
 
-module _ (a now : View) (m : Name) (k : Kind) (earlier : List Stage) (s : Stage) (later : List Stage) (h : IsAtStage a now m k earlier s later) where
+module _ (a now : CarrierView) (m : Name) (k : Kind) (earlier : List Stage) (s : Stage) (later : List Stage) (h : IsAtStage a now m k earlier s later) where
   -- it may put there, for the kind with which it was started
   pub may_put : MayPut now.setting now.seat now.seen m (kind_at now.seen m) (record_of k) s
   may_put =
@@ -127,7 +127,7 @@ module _ (a now : View) (m : Name) (k : Kind) (earlier : List Stage) (s : Stage)
       (undisturbed_since a.setting now.setting past m k a.troubles now.troubles troubles h.served.setting h.served.later u))
 
   -- it has put enough there
-  module _ (then : View) (did : HasPut now.seat now.seen then.seen m (kind_at now.seen m) s) where
+  module _ (then : CarrierView) (did : HasPut now.seat now.seen then.seen m (kind_at now.seen m) s) where
     put : HasPut a.seat now.seen then.seen m k s
     put =
         subst (λ x. HasPut x now.seen then.seen m k s) h.served.seat

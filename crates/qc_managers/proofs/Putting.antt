@@ -8,7 +8,7 @@ use Rattle.qc_event.specs.declared.event.Phase.{Phase}
 use Rattle.qc_event.specs.Counts.{Rose}
 use Rattle.qc_event.specs.History.{Name}
 use Rattle.qc_event.specs.Manager.{phase_of, stage, record_of, first_for}
-use Rattle.qc_managers.specs.Carrying.{View, MayCarry}
+use Rattle.qc_managers.specs.Carrying.{CarrierView, MayCarry}
 use Rattle.qc_managers.specs.declared.next.Next.{Next}
 use Rattle.qc_managers.specs.declared.next.Next.TheVariants.{Enough, Copy, Short}
 use Rattle.qc_managers.specs.declared.shortage.Shortage.{Shortage}
@@ -29,18 +29,18 @@ use Rattle.qc_managers.proofs.Undisturbed.{never_short}
 use Rattle.qc_managers.proofs.Unasked.{unasked, unasked_fewer, next_within}
 
 -- a manager that puts, between the carrier where it began and the carrier now
-pub record IsPutting (a now : View) (m : Name) (k : Kind) (config : Voting) (phase : Phase) (kept : Putting) : Type 0 where
+pub record IsPutting (a now : CarrierView) (m : Name) (k : Kind) (config : Voting) (phase : Phase) (kept : Putting) : Type 0 where
   pub served : HasServed m a now
   pub goes_on : MayGoOn a.seat now.seen m k
   pub elsewhere : SameElsewhere a.seen now.seen m phase
   pub kept_is : kept ≡ put config phase (told_in now.seen m phase)
   pub causes : All (HasCause now.seen m (Rose a.troubles now.troubles)) (told_in now.seen m phase)
 
-pub putting_begins : (a : View) (m : Name) (k : Kind) (rec : ℕ) (config : Voting) (phase : Phase) (op : Op) (kept : Putting) → MayPut a.setting a.seat a.seen m k rec (putting config phase op) → kept ≡ put config phase [] → IsPutting a a m k config phase kept
+pub putting_begins : (a : CarrierView) (m : Name) (k : Kind) (rec : ℕ) (config : Voting) (phase : Phase) (op : Op) (kept : Putting) → MayPut a.setting a.seat a.seen m k rec (putting config phase op) → kept ≡ put config phase [] → IsPutting a a m k config phase kept
 putting_begins a m k rec config phase op kept may is =
     record { served = served_none m a; goes_on = may.goes_on; elsewhere = λ p other. refl; kept_is = is ∙ ap (put config phase) (sym may.nothing_told); causes = causes_none a m phase may.nothing_told }
 
-module _ (a now : View) (m : Name) (k : Kind) (config : Voting) (phase : Phase) (kept : Putting) (h : IsPutting a now m k config phase kept) where
+module _ (a now : CarrierView) (m : Name) (k : Kind) (config : Voting) (phase : Phase) (kept : Putting) (h : IsPutting a now m k config phase kept) where
   abbrev told : List Told
   told = told_in now.seen m phase
 
@@ -75,7 +75,7 @@ module _ (a now : View) (m : Name) (k : Kind) (config : Voting) (phase : Phase) 
         let next = next_short _ config told does in
         never_short a.setting now.seen m k a.troubles now.troubles u (putting config phase op) (at_here next.0) (subst (λ (p : Putting). length p.config.votes ≤ 16) h.kept_is few) h.causes next.1 next.0
 
-    module _ (then : View) (t : Told) (served : HasServed m now then) (heard : HasHeard now.seat now.seen then.seen m k (phase_of op) (t ∷ [])) where
+    module _ (then : CarrierView) (t : Told) (served : HasServed m now then) (heard : HasHeard now.seat now.seen then.seen m k (phase_of op) (t ∷ [])) where
       heard_here : HasHeard now.seat now.seen then.seen m k phase (t ∷ [])
       heard_here = subst (λ p. HasHeard now.seat now.seen then.seen m k p (t ∷ [])) (sym may.of_phase) heard
 

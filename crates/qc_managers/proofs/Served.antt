@@ -11,7 +11,7 @@ use Rattle.qc_event.specs.declared.event.How.TheVariants.{Abort}
 use Rattle.qc_event.specs.declared.event.Kind.TheVariants as kind
 use Rattle.qc_event.specs.History.{Past, Name, is_child}
 use Rattle.qc_event.specs.Manager.{Result, Replied, Missing, BlockedBy}
-use Rattle.qc_managers.specs.Carrying.{own_entries, made_by, View, name_of, entry, began, HasGrown, WasStopped, IsBegun, access_entries}
+use Rattle.qc_managers.specs.Carrying.{own_entries, made_by, CarrierView, name_of, entry, began, HasGrown, WasStopped, IsBegun, access_entries}
 use Rattle.qc_managers.specs.Going.{HasMade, HasServed}
 
 -- GROWTH
@@ -81,11 +81,11 @@ module _ (m : Name) (seat : ℕ) (ask : Ask) (child : is_child m ask.access ≡ 
 
 -- THE CARRIER
 
-pub served_none : (m : Name) (l : View) → HasServed m l l
+pub served_none : (m : Name) (l : CarrierView) → HasServed m l l
 served_none m l =
     record { setting = refl; seat = refl; others = refl; grown = grown_none _ _ l.seen; own = made_none m (own_entries l); later = omega arith }
 
-pub served_further : (m : Name) (a b c : View) → HasServed m a b → HasServed m b c → HasServed m a c
+pub served_further : (m : Name) (a b c : CarrierView) → HasServed m a b → HasServed m b c → HasServed m a c
 served_further m a b c first then =
     record {
       setting = then.setting ∙ first.setting;
@@ -97,7 +97,7 @@ served_further m a b c first then =
     }
 
 -- one access of a carrier for a manager
-pub served_once : (m : Name) (a b : View) (n : Name) → is_child m n ≡ true → b.setting ≡ a.setting → b.seat ≡ a.seat → b.others ≡ a.others → HasGrown a.others (λ x. x ≡ n) a.seen b.seen → HasMade m (own_entries a) (made_by a.seat b.seen) → a.troubles ≤ b.troubles → HasServed m a b
+pub served_once : (m : Name) (a b : CarrierView) (n : Name) → is_child m n ≡ true → b.setting ≡ a.setting → b.seat ≡ a.seat → b.others ≡ a.others → HasGrown a.others (λ x. x ≡ n) a.seen b.seen → HasMade m (own_entries a) (made_by a.seat b.seen) → a.troubles ≤ b.troubles → HasServed m a b
 served_once m a b n child setting seat others grown made later =
     record {
       setting = setting;

@@ -19,7 +19,7 @@ use Rattle.qc_event.specs.Standing.{IsOrphanOf}
 use Rattle.qc_event.proofs.LastNumber.{rest_of}
 use Rattle.qc_event.proofs.Lineage.{alive_above, alive_not_aborted}
 use Rattle.qc_event.proofs.Outcomes.{abort_or_alive}
-use Rattle.qc_managers.specs.Carrying.{Carriage, WasNotCarried, View}
+use Rattle.qc_managers.specs.Carrying.{Carriage, WasNotCarried, CarrierView}
 use Rattle.qc_managers.specs.declared.carrier.CarryNo.{CarryNo}
 use Rattle.qc_managers.specs.declared.carrier.CarryNo.TheVariants as carry
 use Rattle.qc_managers.specs.Told.{Told, why_in, missing_in, blocked_in, next_in, replied_in}
@@ -103,7 +103,7 @@ undisturbed_since setting then past m k before later now same more u =
 
 -- WHAT IS TOLD SINCE A CARRIER BEGAN
 
-module _ (m : Name) (k : Kind) (a now : View) (served : HasServed m a now) where
+module _ (m : Name) (k : Kind) (a now : CarrierView) (served : HasServed m a now) where
   -- where the next request is refused, the manager is
   pub refused_on : (past : Past) (why : MgrNo) → IsRefused now.setting now.seat past m k why → IsRefused a.setting a.seat past m k why
   refused_on past why refused =

@@ -13,7 +13,7 @@ use Rattle.qc_event.specs.Manager.{Stage, Newest, Greatest, collecting, newest, 
 use Rattle.qc_managers.specs.Gathered.{Gathered}
 use Rattle.qc_managers.specs.Told.{Told, newest_in, greatest_in}
 use Rattle.qc_managers.specs.Answered.{told_in}
-use Rattle.qc_managers.specs.Carrying.{View}
+use Rattle.qc_managers.specs.Carrying.{CarrierView}
 use Rattle.qc_managers.specs.Going.{HasPut, putting}
 use Rattle.qc_managers.specs.declared.no.MgrNo.TheVariants as mgr
 use Rattle.qc_managers.specs.Managed.{IsAnswered, IsRefused}
@@ -22,7 +22,7 @@ use Rattle.qc_managers.proofs.Known.{newest-told, greatest-told}
 use Rattle.qc_managers.proofs.Onwards.{HasGathered, IsAtStage, at_last, at_first, may_commit}
 use Rattle.qc_managers.proofs.Stages.{greatest_stays}
 
-module _ (a now : View) (m : Name) (rec value : ℕ) (kept : Gathered) (h : HasGathered a now m (kind.Write rec value) kept) where
+module _ (a now : CarrierView) (m : Name) (rec value : ℕ) (kept : Gathered) (h : HasGathered a now m (kind.Write rec value) kept) where
   abbrev first : Voting
   first = first_of a.setting rec
 
@@ -52,7 +52,7 @@ module _ (a now : View) (m : Name) (rec value : ℕ) (kept : Gathered) (h : HasG
         (ap (λ (c : Voting). collecting (newest now.seen first m) ∷ putting c Values (PutData ((greatest now.seen m).version + 1) value) ∷ []) newest_is
         ∙ ap (λ v. collecting (newest now.seen first m) ∷ putting config Values (PutData (v + 1) value) ∷ []) (found version is)) refl refl
 
-    module _ (after : View) (put : HasPut now.seat now.seen after.seen m (kind_at now.seen m) puts) where
+    module _ (after : CarrierView) (put : HasPut now.seat now.seen after.seen m (kind_at now.seen m) puts) where
       pub is_next : version + 1 ≡ (greatest after.seen m).version + 1
       is_next = ap (λ v. v + 1) (sym (ap (λ (g : Greatest). g.version) (greatest_stays now.seen after.seen m Values put.elsewhere first write refl) ∙ found version is))
 

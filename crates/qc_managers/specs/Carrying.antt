@@ -50,7 +50,7 @@ abbrev pub made_by : ℕ → Past → Past
 made_by seat past = filter (λ (e : Entry). e.seat == seat) past
 
 -- A carrier at a moment.
-pub record View : Type 0 where
+pub record CarrierView : Type 0 where
   -- the start tuples and the records' first configurations
   pub setting : Setting
   -- the seat under which it makes entries
@@ -63,7 +63,7 @@ pub record View : Type 0 where
   pub troubles : ℕ
 
 -- the entries that it made, the latest first
-abbrev pub own_entries : View → Past
+abbrev pub own_entries : CarrierView → Past
 own_entries view = made_by view.seat view.seen
 
 -- THE ENTRIES OF ONE ACCESS

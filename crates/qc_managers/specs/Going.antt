@@ -9,7 +9,7 @@ use Rattle.qc_event.specs.declared.event.Phase.TheVariants.{Collect}
 use Rattle.qc_event.specs.History.{Past, Name, is_child}
 use Rattle.qc_event.specs.Manager.{Stage, is_phase, phase_of, is_enough, newest, collecting, stages, at_last_number, record_of, first_for}
 use Rattle.qc_event.specs.Standing.{IsManager}
-use Rattle.qc_managers.specs.Carrying.{View, own_entries, IsRunning, HasGrown, name_of}
+use Rattle.qc_managers.specs.Carrying.{CarrierView, own_entries, IsRunning, HasGrown, name_of}
 use Rattle.qc_managers.specs.Gathered.{Gathered, gathered}
 use Rattle.qc_managers.specs.Told.{Told}
 use Rattle.qc_managers.specs.Answered.{told_in, EachTold}
@@ -41,7 +41,7 @@ pub record HasMade (m : Name) (before now : Past) : Type 0 where
 
 -- A carrier has carried for a manager: what it saw and made are entries of the manager's accesses, or such
 -- as others may make.
-pub record HasServed (m : Name) (before now : View) : Type 0 where
+pub record HasServed (m : Name) (before now : CarrierView) : Type 0 where
   pub setting : now.setting ≡ before.setting
   pub seat : now.seat ≡ before.seat
   pub others : now.others ≡ before.others

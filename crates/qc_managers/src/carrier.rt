@@ -2,7 +2,7 @@
 ghost use Rattle.std.specs.Prelude.{◌≡◌, ◌≤◌, IfOk, IfErr};
 ghost use Rattle.qc_event.specs.Counts.{Rose};
 ghost use Rattle.qc_event.specs.Legal.{Legal};
-ghost use Rattle.qc_managers.specs.Carrying.{View, MayCarry, next_ask, HasGrown, carriage, became as result_of, WasCarried, WasNotCarried, HasReason};
+ghost use Rattle.qc_managers.specs.Carrying.{CarrierView, MayCarry, next_ask, HasGrown, carriage, became as result_of, WasCarried, WasNotCarried, HasReason};
 
 use qc_config::{Op, Tuple};
 use qc_event::{Name, Why};
@@ -36,7 +36,7 @@ pub enum CarryNo {
 /// Carries a manager's accesses to the copies, one at a time.
 pub trait Carrier {
     /// Its setting and seat, what it has seen and what others may make, and the troubles of its link.
-    ghost view: { Self → View };
+    ghost view: { Self → CarrierView };
 
     /// Whether carrying alone has made the second of the first.
     ghost became: { Self → Self → Type 0 };

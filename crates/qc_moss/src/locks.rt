@@ -13,6 +13,7 @@ use crate::settling::{fold_first, settle_list};
 use crate::source::Source;
 use qc_config::{Op, Tuple};
 use qc_names::Name;
+use qc_names::lists::add;
 use std::alloc::{AllocError, Global};
 use std::marker::Model;
 
@@ -50,14 +51,6 @@ impl Model for Locks {
       same_base : vec_len l.base ≡ vec_len l.start;
       has_room : l.reserved ≡ true → All HasRoom l.held.items;
     } };
-}
-
-// A generic push: one at the type of locks gets no proof today.
-fn add<T: Copy>(items: &mut Vec<T>, item: T)
-    requires { vec_len items.old < vec_capacity items.old }
-    ensures { items.new.items ≡ items.old.items ++ item ∷ [] }
-{
-    items.push_reserved(item);
 }
 
 fn first_barred(held: &[Holder], access: &Name, write: bool) -> Test

@@ -8,7 +8,7 @@ use Rattle.std.proofs.lemmas.List.{append-nil}
 use Rattle.std.proofs.lemmas.Option.{slice_get_within}
 use Rattle.qc_event.specs.declared.event.Ask.{Ask}
 use Rattle.qc_event.specs.declared.event.Answered.{Answered}
-use Rattle.qc_event.specs.declared.log.Short.{Short}
+use Rattle.qc_event.specs.declared.short.Short.{Short}
 use Rattle.qc_net.specs.Given.{Given}
 use Rattle.qc_net.specs.Courier.{WasAnswered, IsLeft, IsHeldBehind, HeldAfter, Stepped}
 use Rattle.qc_net.specs.declared.courier.Sent.{Sent}

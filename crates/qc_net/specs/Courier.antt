@@ -2,7 +2,7 @@
 use Rattle.std.specs.Prelude.{◌≡◌, ◌<◌, ◌⊎◌, ℕ, List, [], ◌∷◌, ◌++◌, Option, Some, None, Result, Ok, Err, slice_get, remove, option_map, vec_len, vec_capacity}
 use Rattle.qc_event.specs.declared.event.Ask.{Ask}
 use Rattle.qc_event.specs.declared.event.Answered.{Answered}
-use Rattle.qc_event.specs.declared.log.Short.{Short}
+use Rattle.qc_event.specs.declared.short.Short.{Short}
 use Rattle.qc_net.specs.Given.{Given, given}
 use Rattle.qc_net.specs.declared.courier.Courier.{Courier}
 use Rattle.qc_net.specs.declared.courier.Sent.{Sent}

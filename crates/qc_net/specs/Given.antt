@@ -2,8 +2,8 @@
 use Rattle.std.specs.Prelude.{◌≡◌, List, ◌∷◌, Option, option_map}
 use Rattle.qc_event.specs.declared.event.Ask.{Ask}
 use Rattle.qc_event.specs.declared.event.Answered.{Answered}
-use Rattle.qc_event.specs.declared.log.Short.{Short}
-use Rattle.qc_event.specs.declared.log.Short.TheVariants.{Memory, Room}
+use Rattle.qc_event.specs.declared.short.Short.{Short}
+use Rattle.qc_event.specs.declared.short.Short.TheVariants.{Memory, Room}
 
 -- a request, and the answer that was given to it
 pub record Given : Type 0 where
@@ -14,7 +14,7 @@ abbrev pub given : Ask → Answered → Given
 given ask answer = record { ask = ask; answer = answer }
 
 -- A port at a moment.
-pub record View : Type 1 where
+pub record PortView : Type 1 where
   -- which requests it may be given
   pub may : Ask → Type 0
   -- whether it has given an answer to a request

@@ -26,7 +26,7 @@ pub record Plan : Type 0 where
   pub waited : ℕ
 
 -- A link at a moment.
-pub record View : Type 0 where
+pub record LinkView : Type 0 where
   -- how often it gave trouble, up to `2^64 - 1`; the count never falls
   pub troubles : ℕ
   -- its fates and its hold, from here on, where it tells them

@@ -10,6 +10,7 @@ ghost use Rattle.qc_net.specs.Sending.{waiting, meeting, sending, IsSending};
 use crate::link::{Fate, Link};
 use crate::port::{Port, deliver_twice};
 use qc_event::{Answered, Ask, Short};
+use qc_names::lists::add;
 use std::alloc::{AllocError, Global};
 
 /// What came back of a request.
@@ -21,14 +22,6 @@ pub enum Sent {
     Lost,
     /// It is held, and was not delivered while its sender waited.
     Late,
-}
-
-// A generic push: one at the type of requests gets no proof today.
-fn add<T: Copy>(items: &mut Vec<T>, item: T)
-    requires { vec_len items.old < vec_capacity items.old }
-    ensures { items.new.items ≡ items.old.items ++ item ∷ [] }
-{
-    items.push_reserved(item);
 }
 
 /// Carries requests over a link, and holds those that are delivered later.

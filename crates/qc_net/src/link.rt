@@ -1,7 +1,7 @@
 //! What may become of a request on its way.
 ghost use Rattle.std.specs.Prelude.{◌≡◌, ◌<◌, option_map, IfSome, IfOk};
 ghost use Rattle.qc_net.specs.Plan as words;
-ghost use Rattle.qc_net.specs.Plan.{View, Counts, next_fate, asked, due_in, passed, anew};
+ghost use Rattle.qc_net.specs.Plan.{LinkView, Counts, next_fate, asked, due_in, passed, anew};
 
 use std::alloc::AllocError;
 
@@ -35,7 +35,7 @@ impl Fate {
 /// Says what becomes of requests, and when those that are held are delivered.
 pub trait Link: Sized {
     /// Its troubles so far, and its plan from here on, where it tells one.
-    ghost view: { Self → View };
+    ghost view: { Self → LinkView };
 
     /// What becomes of the next request, which goes to this copy.
     fn fate(&mut self, to: u8) -> Fate

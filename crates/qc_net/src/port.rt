@@ -2,7 +2,7 @@
 ghost use Rattle.std.specs.Prelude.{◌≡◌, ◌∷◌, option_map, IfOk, IfErr, OnErr};
 ghost use Rattle.qc_event.specs.declared.event.Ask.{Ask};
 ghost use Rattle.qc_event.specs.declared.event.Answered.{Answered};
-ghost use Rattle.qc_net.specs.Given.{View, IsWant, given, GaveTwice};
+ghost use Rattle.qc_net.specs.Given.{PortView, IsWant, given, GaveTwice};
 
 use qc_event::{Answered, Ask, Short};
 
@@ -10,7 +10,7 @@ use qc_event::{Answered, Ask, Short};
 pub trait Port {
     /// Which requests it may be given, which answers it has given, its deliveries, where it tells them, and whether
     /// its history is full.
-    ghost view: { Self → View };
+    ghost view: { Self → PortView };
 
     /// Whether deliveries alone have made the second of the first.
     ghost became: { Self → Self → Type 0 };

@@ -3,7 +3,7 @@ use Rattle.std.proofs.Common.{◌≡◌, ℕ, ◌≤◌, List, length, sym, subs
 use Rattle.std.specs.Prelude.{Option, is_some, OnOk, IsErrOf}
 use Rattle.qc_config.specs.declared.tuple.Tuple.{Tuple}
 use Rattle.qc_disk.specs.Disk.{View}
-use Rattle.qc_event.specs.declared.log.Short.TheVariants.{Room}
+use Rattle.qc_event.specs.declared.short.Short.TheVariants.{Room}
 use Rattle.qc_event.specs.History.{limit}
 use Rattle.qc_event.specs.Legal.{Legal}
 use Rattle.qc_event.specs.Tables.{setting_of}

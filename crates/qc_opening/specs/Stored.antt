@@ -2,7 +2,7 @@
 use Rattle.std.specs.Prelude.{ℕ, zero, suc, true, ◌≡◌, ◌+◌, ◌<◌, ◌≤◌, ◌^◌, List, length, reverse, Option, Some, IsSome, is_some, OnOk, IsErrOf, Result, Ok, Err, slice_get}
 use Rattle.qc_config.specs.declared.tuple.Tuple.{Tuple}
 use Rattle.qc_disk.specs.Disk.{View}
-use Rattle.qc_event.specs.declared.log.Short.TheVariants.{Room}
+use Rattle.qc_event.specs.declared.short.Short.TheVariants.{Room}
 use Rattle.qc_event.specs.declared.table.Table.{Table}
 use Rattle.qc_event.specs.Base.{Setting}
 use Rattle.qc_event.specs.History.{Past, limit}

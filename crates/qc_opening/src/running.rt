@@ -2,7 +2,7 @@
 ghost use Rattle.std.specs.Prelude.{ℕ, ◌≡◌, ◌<◌, ◌≤◌, ◌+◌, ◌^◌, ◌↔◌, List, [], length, map, reverse, IfOk, IfErr, OnOk, IsErrOf};
 ghost use Rattle.std.specs.Vec.{vec_capacity};
 ghost use Rattle.qc_codec.specs.Bodies as body;
-ghost use Rattle.qc_event.specs.declared.log.Short.TheVariants.{Room};
+ghost use Rattle.qc_event.specs.declared.short.Short.TheVariants.{Room};
 ghost use Rattle.qc_event.specs.Base.{IsProper as IsProperSetting};
 ghost use Rattle.qc_event.specs.History.{limit as most};
 ghost use Rattle.qc_event.specs.Legal.{Legal};

@@ -27,12 +27,16 @@ ledger_records table old epoch since = ledger_record.Made (made_for 0 table) ∷
 
 -- STANDING
 
+-- records tell the epochs from 1 up to the one before this
+abbrev pub CountUpTo : List LedgerRecord → ℕ → Type 0
+CountUpTo old epoch = filter_map body.epoch_of old ++ epoch ∷ [] ≡ range_with_len 1 epoch
+
 -- The ledger's image tells the tops that it told before an epoch, and those since. Its epochs count up from 1 to this.
 pub record IsLedgerImage (table : Table) (epoch : ℕ) (before since : List Logged) (image : List ℕ) : Type 0 where
   pub old : List LedgerRecord
   pub made_once : filter_map body.made_of old ≡ []
   pub old_tops : filter_map logged_in old ≡ before
-  pub epochs : filter_map body.epoch_of old ++ epoch ∷ [] ≡ range_with_len 1 epoch
+  pub epochs : CountUpTo old epoch
   pub fit : All body.ledger.fits (ledger_records table old epoch since)
   pub has : HasRecords (map body.ledger.spell (ledger_records table old epoch since)) image
 

@@ -8,8 +8,8 @@ ghost use Rattle.qc_history.specs.Index.{IsOf};
 ghost use Rattle.qc_report.specs.Indexed.{IsLegal};
 
 use crate::scan::{kind, outcome};
-use qc_event::{Kind, Name, Outcome};
-use qc_history::{Index, Outcomes};
+use qc_event::{Kind, LIMIT, Name, Outcome};
+use qc_history::Index;
 use qc_trail::Trail;
 use std::alloc::{AllocError, Global};
 use std::marker::Model;
@@ -82,9 +82,6 @@ impl<'a> History<'a> {
         }
     }
 }
-
-/// The most entries that an index takes in.
-const LIMIT: usize = 4_294_967_295;
 
 /// The index of a legal history, its oldest entry first: for each entry a step for each number of its name. More
 /// entries than a history takes are answered as want of memory.

@@ -30,12 +30,15 @@ none_of (options ∷ rows) words (inr is) = none_of rows words is
 gen_found : (words : List Text) (n : ℕ) → IsGenOf words n → behind_gen words ≡ Some (decimal n)
 gen_found words n is = subst (λ w. behind_gen w ≡ Some (decimal n)) (sym is.1) refl
 
--- words that have a script made do not read one
-pub not_both : (words : List Text) (place : Text) (n : ℕ) → IsRunAt words place → IsGenOf words n → ⊥
-not_both words place n run gen = by_answers (none_of (options_at place) words run) (gen_found words n gen)
+pub none_made : (words : List Text) (n : ℕ) → behind_gen words ≡ None → IsGenOf words n → ⊥
+none_made words n none is = by_answers none (gen_found words n is)
   where
     by_answers : behind_gen words ≡ None → behind_gen words ≡ Some (decimal n) → ⊥
     by_answers a b = cc
+
+-- words that have a script made do not read one
+pub not_both : (words : List Text) (place : Text) (n : ℕ) → IsRunAt words place → IsGenOf words n → ⊥
+not_both words place n run gen = none_made words n (none_of (options_at place) words run) gen
 
 -- they have one made of one number
 pub one_number : (words : List Text) (n m : ℕ) → IsGenOf words n → IsGenOf words m → n ≡ m
@@ -66,12 +69,6 @@ number_behind words spelled n found is = (is.0, gen_words words spelled found �
 
 pub number_spelled : (words : List Text) (spelled : Text) (n : ℕ) → behind_gen words ≡ Some spelled → IsGenOf words n → (n < 2 ^ 64) × (spelled ≡ decimal n)
 number_spelled words spelled n found is = (is.0, one_word (behind_gen words) spelled (decimal n) found (gen_found words n is))
-
-pub none_made : (words : List Text) (n : ℕ) → behind_gen words ≡ None → IsGenOf words n → ⊥
-none_made words n none is = by_answers none (gen_found words n is)
-  where
-    by_answers : behind_gen words ≡ None → behind_gen words ≡ Some (decimal n) → ⊥
-    by_answers a b = cc
 
 -- WHAT IS FOUND
 

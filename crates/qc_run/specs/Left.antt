@@ -6,8 +6,8 @@ use Rattle.qc_event.specs.History.{Name, limit}
 use Rattle.qc_event.specs.Legal.{Legal}
 use Rattle.qc_event.specs.Tables.{base_of, setting_of}
 use Rattle.qc_event.specs.declared.event.Entry.{Entry}
-use Rattle.qc_event.specs.declared.log.Short.{Short}
-use Rattle.qc_event.specs.declared.log.Short.TheVariants as short
+use Rattle.qc_event.specs.declared.short.Short.{Short}
+use Rattle.qc_event.specs.declared.short.Short.TheVariants as short
 use Rattle.qc_io.specs.Io.{Rose, Keeps, Appends, AppendsFront, SinkView, SourceView}
 use Rattle.qc_opening.specs.Images.{AreSound, IsFirstFault}
 use Rattle.qc_opening.specs.Refusing.{disks_in, ComeBack}

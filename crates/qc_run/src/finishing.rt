@@ -1,6 +1,6 @@
 //! Runs whose session has ended.
 ghost use Rattle.std.specs.Prelude.{ℕ, ◌≡◌, ◌≤◌, List, length, reverse, IfOk, IsOk, IsErrOf};
-ghost use Rattle.qc_event.specs.declared.log.Short.TheVariants.{Room};
+ghost use Rattle.qc_event.specs.declared.short.Short.TheVariants.{Room};
 ghost use Rattle.qc_report.specs.Indexed.{IsLegal};
 ghost use Rattle.qc_report.specs.Report.{has_doubt};
 ghost use Rattle.qc_run.specs.Left as left;

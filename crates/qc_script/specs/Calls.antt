@@ -12,8 +12,8 @@ use Rattle.qc_event.specs.declared.event.How.{How}
 use Rattle.qc_event.specs.declared.event.How.TheVariants.{Commit, Abort}
 use Rattle.qc_event.specs.declared.event.Kind.{Kind}
 use Rattle.qc_event.specs.declared.event.Kind.TheVariants as kind
-use Rattle.qc_event.specs.declared.log.Short.{Short}
-use Rattle.qc_event.specs.declared.log.Short.TheVariants as short
+use Rattle.qc_event.specs.declared.short.Short.{Short}
+use Rattle.qc_event.specs.declared.short.Short.TheVariants as short
 use Rattle.qc_event.specs.Dead.{outcome, is_committed, is_aborted}
 use Rattle.qc_event.specs.History.{Past, Name, limit, same, start, end, is_ready, is_child}
 use Rattle.qc_event.specs.Seats.{is_client}
@@ -23,7 +23,7 @@ use Rattle.qc_names.specs.Name as name
 use Rattle.qc_net.specs.Messages.{meets_fates}
 use Rattle.qc_script.specs.declared.tx.TxNo.{TxNo}
 use Rattle.qc_script.specs.declared.tx.TxNo.TheVariants as tx_no
-use Rattle.qc_script.specs.Client.{Client, View, Made, branch_of, is_own}
+use Rattle.qc_script.specs.Client.{Client, ClientView, Made, branch_of, is_own}
 
 abbrev pub by_client : Client → Event → Entry
 by_client c event = record { seat = c.number; event = event }
@@ -162,19 +162,19 @@ NotCommitted c of before now why = Made c [] before now × Refuses now of why
 -- WHAT A CALL DOES TO A VIEW
 
 -- where the link is told, the requests under the client's seat, and under each of its merged branches', meet its fates
-abbrev pub MeetsLink : View → Type 0
+abbrev pub MeetsLink : ClientView → Type 0
 MeetsLink view = MatchOption view.client.net (Unit {0}) (λ net. IsTrue (list_all (λ seat. meets_fates seat net view.seen) (view.client.number ∷ view.client.kin)))
 
 -- a user transaction of the client's session and of a body was started
-abbrev pub Began : View → View → ℕ → Name → Type 0
+abbrev pub Began : ClientView → ClientView → ℕ → Name → Type 0
 Began old new body n = Made old.client (by_client old.client (event.Start n (kind.User old.client.session body)) ∷ []) old.seen new.seen
 
 -- a manager ran for a transaction and committed with this answer
-abbrev pub Answers : View → View → Name → Kind → Answer → Type 0
+abbrev pub Answers : ClientView → ClientView → Name → Kind → Answer → Type 0
 Answers old new of k given = Ran old.client of k (Commit given) old.seen new.seen
 
 -- a manager gave no answer
-abbrev pub Fails : View → View → Name → Kind → TxNo → Type 0
+abbrev pub Fails : ClientView → ClientView → Name → Kind → TxNo → Type 0
 Fails old new of k why = GaveNone old.client of k old.seen new.seen why
 
 -- a user transaction is of a session
@@ -183,15 +183,15 @@ IsOfSession session (kind.User s body) = s ≡ session
 IsOfSession session _ = ⊥
 
 -- a transaction marked a session
-abbrev pub Marks : View → View → Name → ℕ → Type 0
+abbrev pub Marks : ClientView → ClientView → Name → ℕ → Type 0
 Marks old new by session = Made old.client (by_client old.client (event.Mark by session) ∷ []) old.seen new.seen
 
 -- A mark was not made, for want of memory or room.
-abbrev pub MarksNone : View → View → Short → Type 0
+abbrev pub MarksNone : ClientView → ClientView → Short → Type 0
 MarksNone old new why = Made old.client [] old.seen new.seen × (why ≡ short.Room → length new.seen ≡ limit)
 
 -- a transaction was aborted for a cause
-abbrev pub Aborts : View → View → Name → Cause → Type 0
+abbrev pub Aborts : ClientView → ClientView → Name → Cause → Type 0
 Aborts old new n why = Made old.client (by_client old.client (event.End n (Abort why)) ∷ []) old.seen new.seen
 
 -- BRANCHES
@@ -202,7 +202,7 @@ NoneUnder seat past = AllByRecursion (λ (e : Entry). e.seat ≡ seat → ⊥) p
 
 -- A branch of a client was made, which stands below a transaction. It has seen the same, and has a client's number that no
 -- other branch has, under which nothing was entered.
-pub record Branched (old new : View) (of : Name) (b : View) : Type 0 where
+pub record Branched (old new : ClientView) (of : Name) (b : ClientView) : Type 0 where
   pub number : ℕ
   pub is_one : IsTrue (is_client number)
   pub other : is_own old.client number ≡ false
@@ -212,7 +212,7 @@ pub record Branched (old new : View) (of : Name) (b : View) : Type 0 where
   pub left : new ≡ record { client = record old.client { out = number ∷ old.client.out }; seen = old.seen }
 
 -- A client and a branch have then seen the same, and made nothing meanwhile.
-pub record Showed (old new branch shown : View) : Type 0 where
+pub record Showed (old new branch shown : ClientView) : Type 0 where
   pub client : new.client ≡ old.client
   pub branch_client : shown.client ≡ branch.client
   pub seen : shown.seen ≡ new.seen
@@ -221,7 +221,7 @@ pub record Showed (old new branch shown : View) : Type 0 where
 
 -- A branch was merged: its number and its kin are then the client's kin, which has seen what both had. Neither made anything
 -- meanwhile, no two of these numbers are the same, and the history is within its limit.
-pub record Merged (old branch new : View) : Type 0 where
+pub record Merged (old branch new : ClientView) : Type 0 where
   pub client : new.client ≡ record old.client { kin = old.client.kin ++ branch.client.number ∷ branch.client.kin; out = filter (λ k. not (k == branch.client.number)) old.client.out }
   pub apart : IsDistinct (λ a b. a == b) (new.client.number ∷ new.client.kin)
   pub bounded : length new.seen ≤ limit

@@ -1,6 +1,6 @@
 //! What a session asks of whoever carries it out.
 ghost use Rattle.std.specs.Prelude.{◌≡◌};
-ghost use Rattle.qc_script.specs.Client.{View};
+ghost use Rattle.qc_script.specs.Client.{ClientView};
 
 use crate::managed::Managed;
 use qc_event::{Answer, Cause, Lack, Name, Short};
@@ -57,12 +57,12 @@ pub trait Tx: Sized {
     ghost use Rattle.qc_event.specs.Standing.{Started, IsUser};
     ghost use Rattle.qc_script.specs.Numbers.{Numbers};
     ghost use Rattle.qc_script.specs.Calls.{Began, Answers, Fails, Aborts, IsGrounded, IsForChild, WasRefused, NotAborted, Committed, NotCommitted, MeetsLink, IsOfSession, Marks, MarksNone, Branched, Showed, Merged};
-    ghost use Rattle.qc_script.specs.Client.{Made, View, has_marked_itself};
+    ghost use Rattle.qc_script.specs.Client.{Made, ClientView, has_marked_itself};
     ghost use Rattle.qc_script.specs.Managers.{manager_for, IsAnswerTo};
     ghost use Rattle.qc_script.specs.Plan.{CopyFits, KindFits};
 
     /// Its number, root and branches, its session, table and link, and what it has seen.
-    ghost view: { Self → View };
+    ghost view: { Self → ClientView };
 
     /// Starts a child of a body, under the root a top with the next number.
     fn begin(&mut self, parent: &Name, body: u32) -> Result<Name, TxNo>

@@ -6,6 +6,7 @@ use Rattle.std.specs.List.{list_all}
 use Rattle.std.proofs.Math.Seq.{take-append_seam}
 use Rattle.std.proofs.lemmas.Bool.{or_right}
 use Rattle.qc_names.specs.Name as name
+use Rattle.qc_event.proofs.Booleans.{implies}
 use Rattle.qc_serial.specs.declared.event.SerialEvent.TheVariants.{Leave}
 use Rattle.qc_serial.specs.Machine.{Name, State, same, is_in, is_child, top, on_top, parent_on, may_begin, is_waiting, all_closed, allows}
 use Rattle.qc_serial.proofs.Known.{Known, known, same_itself}
@@ -62,8 +63,4 @@ pub leaves : (m : State) (n : Name) → top m.stack ≡ Some n → same n [] ≡
 leaves m n on nonroot closed =
     both (on_top m.stack n && not (same n [])) (all_closed m.started m.closed n)
     (both (on_top m.stack n) (not (same n [])) (is_on_top m.stack n on) (ap not nonroot))
-    (each_passes _ m.started (λ x h. by_test (is_child n x) (is_in x m.closed) (λ is. closed x is h)))
-  where
-    by_test : (a b : Bool) → (a ≡ true → b ≡ true) → (not a || b) ≡ true
-    by_test true b h = h refl
-    by_test false b h = refl
+    (each_passes _ m.started (λ x h. implies (is_child n x) (is_in x m.closed) (λ is. closed x is h)))

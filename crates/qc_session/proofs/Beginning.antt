@@ -2,7 +2,7 @@
 use Rattle.std.proofs.Common.{◌≡◌, ℕ, ◌+◌, ◌<◌, Bool, true, false, [], ◌∷◌, ◌++◌, length, refl, sym, ap, ◌∙◌, subst, arith}
 use Rattle.std.specs.Prelude.{None, Some, Result, Ok, Err, IfOk, IfErr, IsTrue, not, option_to_list, ◌==◌, ◌||◌, ◌&&◌, if◌then◌else◌}
 use Rattle.std.specs.Option.{option_map_or}
-use Rattle.std.proofs.lemmas.Bool.{eq-eqb, eqb-true, false_from_ne_true}
+use Rattle.std.proofs.lemmas.Bool.{eq-eqb, eqb-true, false_from_ne_true, or_right}
 use Rattle.std.proofs.lemmas.List.{length-append}
 use Rattle.qc_event.specs.declared.event.Entry.{Entry}
 use Rattle.qc_event.specs.declared.event.Event.{Event}
@@ -12,7 +12,6 @@ use Rattle.qc_event.specs.declared.event.Kind.TheVariants as kind
 use Rattle.qc_event.specs.Base.{Setting}
 use Rattle.qc_event.specs.History.{Past, Name, child_in, children, every, is_child}
 use Rattle.qc_event.specs.Legal.{Legal}
-use Rattle.qc_event.specs.Seats.{top_name}
 use Rattle.qc_event.proofs.LastNumber.{length_last, is_child-last, child_longer}
 use Rattle.qc_carry.specs.Walk.{Walk}
 use Rattle.qc_carry.proofs.Walking as walking
@@ -20,7 +19,7 @@ use Rattle.qc_managers.specs.Carrying.{entry}
 use Rattle.qc_interp.proofs.Scopes.Adding.{no_top}
 use Rattle.qc_desk.specs.declared.refusal.DeskNo.{DeskNo}
 use Rattle.qc_desk.specs.declared.view.View.{View}
-use Rattle.qc_desk.specs.Calling.{EnteredAs, Refused}
+use Rattle.qc_desk.specs.Calling.{Refused, StartsTop}
 use Rattle.qc_desk.specs.Entries.{AreOthers, IsSince}
 use Rattle.qc_desk.specs.Refusing.{against_nothing}
 use Rattle.qc_desk.specs.Rules.{extends}
@@ -67,35 +66,27 @@ others_numbered c seat (e ∷ newer) past number none others was =
 numbered : (c : Client) (seat : ℕ) (old before : Past) (e : Entry) → c.number ≡ seat → (since : IsSince seat old before) → KinMadeNone c since.0 → is_next_top c.epoch e before ≡ true → Numbers c old (e ∷ before)
 numbered c seat old before e number since none next was =
     ap (λ b. b && own_next c e before) (subst (λ p. each (own_next c) p ≡ true) (sym since.1) (others_numbered c seat since.0 old number none since.2 was))
-    ∙ by_own (not (is_own c e.seat)) next
-  where
-    by_own : (b : Bool) {d : Bool} → d ≡ true → (b || d) ≡ true
-    by_own true h = refl
-    by_own false h = h
+    ∙ or_right (not (is_own c e.seat)) _ next
 
 -- A TOP
 
--- a pass has started the next top
-abbrev pub StartsTop : ℕ → ℕ → ℕ → View → View → Name → Type 0
-StartsTop epoch session body v w n = EnteredAs against_nothing (λ past ev. (n ≡ top_name epoch (length (children past []) + 1)) × (ev ≡ event.Start n (kind.User session body))) v w
-
 module _ (setting : Setting) (v w : View) (epoch session body : ℕ) (legal : Legal setting w.seen) where
-  top_walk : (n : Name) → StartsTop epoch session body v w n → Walk v w (entry v.number (event.Start n (kind.User session body)) ∷ [])
+  top_walk : (n : Name) → StartsTop epoch session body n v w → Walk v w (entry v.number (event.Start n (kind.User session body)) ∷ [])
   top_walk n s = walking.of_entered against_nothing (event.Start n (kind.User session body)) v w (s.0, s.3, refl, s.5 ∙ ap (λ ev. extends (entry v.number ev) s.0 v) s.2.1)
 
-  pub top_child : (r : Result Name DeskNo) → IfOk r (StartsTop epoch session body v w) → IfOk r (λ n. IsTrue (is_child [] n))
+  pub top_child : (r : Result Name DeskNo) → IfOk r (λ n. StartsTop epoch session body n v w) → IfOk r (λ n. IsTrue (is_child [] n))
   top_child (Ok n) s = ap (is_child []) s.2.0
   top_child (Err e) s = tt
 
-  pub top_walks : (r : Result Name DeskNo) → IfOk r (StartsTop epoch session body v w) → IfErr r (Refused against_nothing v w) → (made : Past) × Walk v w made
+  pub top_walks : (r : Result Name DeskNo) → IfOk r (λ n. StartsTop epoch session body n v w) → IfErr r (Refused against_nothing v w) → (made : Past) × Walk v w made
   top_walks (Ok n) s e = (_, top_walk n s)
   top_walks (Err why) s e = (_, walking.of_looked v w e.0)
 
   module _ (c : Client) (for : IsFor setting v w c) where
-    pub top_begun : (n : Name) → StartsTop epoch session body v w n → Made c (by_client c (event.Start n (kind.User session body)) ∷ []) v.seen w.seen
+    pub top_begun : (n : Name) → StartsTop epoch session body n v w → Made c (by_client c (event.Start n (kind.User session body)) ∷ []) v.seen w.seen
     top_begun n s = made_one setting v w c for legal (event.Start n (kind.User session body)) (top_walk n s)
 
-    pub top_numbers : (n : Name) → c.epoch ≡ epoch → StartsTop epoch session body v w n → Numbers c v.seen w.seen
+    pub top_numbers : (n : Name) → c.epoch ≡ epoch → StartsTop epoch session body n v w → Numbers c v.seen w.seen
     top_numbers n same s =
         subst (Numbers c v.seen) (sym (ap (λ (x : View). x.seen) s.5))
         (numbered c v.number v.seen s.0 (entry v.number s.1) for.number s.3 (λ k h. (kin_made_none setting v w c for (entry v.number s.1 ∷ s.3.0) (ap (λ (x : View). x.seen) s.5 ∙ ap (λ p. entry v.number s.1 ∷ p) s.3.1) k h).1)

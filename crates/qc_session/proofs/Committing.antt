@@ -4,6 +4,7 @@ use mathlib.Core.Bool.{true≢false}
 use Rattle.std.specs.Prelude.{Option, None, Some, MatchOption, is_some, not, ◌||◌, if◌then◌else◌}
 use Rattle.std.specs.List.{list_any}
 use Rattle.std.specs.Option.{option_map_or}
+use Rattle.std.proofs.lemmas.Bool.{or_left, or_right}
 use Rattle.qc_event.specs.Base.{Setting}
 use Rattle.qc_event.specs.Commits.{MayCommit}
 use Rattle.qc_event.specs.declared.event.Answer.{Answer}
@@ -101,24 +102,13 @@ any_unable : (past : Past) (n : Name) (y : Why) → was_unable past n y ≡ true
 any_unable [] n y was = absurd (true≢false (sym was))
 any_unable (e ∷ past) n y was = by_first (option_map_or (is_why y) (requests.unable_in n e.event) false) refl (λ h. any_unable past n y h) was
   where
-    or_left : (a b : Bool) → a ≡ true → (a || b) ≡ true
-    or_left a b h = ap (λ t. t || b) h
-
-    or_right : (a b : Bool) → b ≡ true → (a || b) ≡ true
-    or_right true b h = refl
-    or_right false b h = h
-
     by_first : (b : Bool) → option_map_or (is_why y) (requests.unable_in n e.event) false ≡ b → (was_unable past n y ≡ true → list_any (λ (x : Entry). unable_in n x.event) past ≡ true) → (b || was_unable past n y) ≡ true
         → list_any (λ (x : Entry). unable_in n x.event) (e ∷ past) ≡ true
     by_first true is rest h = or_left _ _ (told_unable n y e.event is)
     by_first false is rest h = or_right _ _ (rest h)
 
 unable_over : (past : Past) (n : Name) (y : Why) → was_unable past n y ≡ true → is_over past n ≡ true
-unable_over past n y was = by_end (is_some (end past n)) (any_unable past n y was)
-  where
-    by_end : (b : Bool) {d : Bool} → d ≡ true → (b || d) ≡ true
-    by_end true is = refl
-    by_end false is = is
+unable_over past n y was = or_right (is_some (end past n)) _ (any_unable past n y was)
 
 -- A TOP
 

@@ -2,7 +2,7 @@
 use Rattle.std.specs.Prelude.{ℕ, Result, Ok, Err, OnOk}
 use Rattle.std.proofs.Common.{◌≡◌, []}
 use Rattle.qc_event.specs.Base.{Setting}
-use Rattle.qc_event.specs.declared.log.Short.{Short}
+use Rattle.qc_event.specs.declared.short.Short.{Short}
 use Rattle.qc_event.specs.History.{Past}
 use Rattle.qc_event.specs.Legal.{Legal}
 use Rattle.qc_interp.specs.FollowsScript.{BeginsScript, FollowsScript}

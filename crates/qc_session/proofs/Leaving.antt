@@ -4,8 +4,8 @@ use Rattle.std.specs.Prelude.{Option, Result, Ok, Err, OnOk, IfErr, IsErrOf, IsT
 use Rattle.std.specs.List.{AllByRecursion, list_all}
 use Rattle.qc_event.specs.Base.{Setting}
 use Rattle.qc_event.specs.declared.event.Entry.{Entry}
-use Rattle.qc_event.specs.declared.log.Short.{Short}
-use Rattle.qc_event.specs.declared.log.Short.TheVariants.{Memory, Room}
+use Rattle.qc_event.specs.declared.short.Short.{Short}
+use Rattle.qc_event.specs.declared.short.Short.TheVariants.{Memory, Room}
 use Rattle.qc_event.specs.History.{Past, Name, limit}
 use Rattle.qc_event.specs.Legal.{Legal}
 use Rattle.qc_interp.specs.FollowsScript.{net_of}

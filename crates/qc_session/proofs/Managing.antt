@@ -16,8 +16,8 @@ use Rattle.qc_event.specs.declared.event.How.{How}
 use Rattle.qc_event.specs.declared.event.How.TheVariants.{Commit, Abort}
 use Rattle.qc_event.specs.declared.event.Kind.{Kind}
 use Rattle.qc_event.specs.declared.event.Kind.TheVariants as kind
-use Rattle.qc_event.specs.declared.log.Short.{Short}
-use Rattle.qc_event.specs.declared.log.Short.TheVariants as short
+use Rattle.qc_event.specs.declared.short.Short.{Short}
+use Rattle.qc_event.specs.declared.short.Short.TheVariants as short
 use Rattle.qc_event.specs.History.{Past, Name, Begun, same, start, end, is_child, children}
 use Rattle.qc_event.specs.Legal.{Legal}
 use Rattle.qc_event.specs.Standing.{IsManager, IsOrphanOf, Started, open_child}

@@ -5,8 +5,8 @@ use Rattle.qc_event.specs.Base.{Setting}
 use Rattle.qc_event.specs.declared.event.Cause.{Cause}
 use Rattle.qc_event.specs.declared.event.Kind.{Kind}
 use Rattle.qc_event.specs.declared.event.Kind.TheVariants as kind
-use Rattle.qc_event.specs.declared.log.Short.{Short}
-use Rattle.qc_event.specs.declared.log.Short.TheVariants as short
+use Rattle.qc_event.specs.declared.short.Short.{Short}
+use Rattle.qc_event.specs.declared.short.Short.TheVariants as short
 use Rattle.qc_event.specs.History.{Name, limit, end, is_ready}
 use Rattle.qc_ledger.specs.declared.fault.LedgerNo.{LedgerNo}
 use Rattle.qc_ledger.specs.declared.fault.LedgerNo.TheVariants as ledger

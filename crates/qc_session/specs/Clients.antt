@@ -7,10 +7,10 @@ use Rattle.qc_event.specs.History.{Past, Name}
 use Rattle.qc_interp.specs.FollowsScript.{net_of}
 use Rattle.qc_net.specs.Messages.{Net}
 use Rattle.qc_net.specs.Plan.{Plan}
-use Rattle.qc_desk.specs.declared.view.View.{View as Pass}
+use Rattle.qc_desk.specs.declared.view.View.{ClientView as Pass}
 use Rattle.qc_desk.specs.Entries.{entries_of}
 use Rattle.qc_desk.specs.Rules.{Has}
-use Rattle.qc_script.specs.Client.{Client, View}
+use Rattle.qc_script.specs.Client.{Client, ClientView}
 use Rattle.qc_script.specs.Plan.{SessionPlan}
 
 -- the link of a client, where it tells its plan
@@ -39,7 +39,7 @@ abbrev pub client_for : Setting → ℕ → ℕ → ℕ → SessionPlan → Pass
 client_for setting epoch patience session plan pass = client_of setting [] session epoch (Some (net_of patience plan)) pass
 
 -- that client, and what its pass has seen
-abbrev pub view_of : Setting → Name → ℕ → ℕ → Option Net → Pass → View
+abbrev pub view_of : Setting → Name → ℕ → ℕ → Option Net → Pass → ClientView
 view_of setting root session epoch net pass = record { client = client_of setting root session epoch net pass; seen = pass.seen }
 
 -- A pass is of a client, which has gone on since, while none of the client's merged branches has entered anything.

@@ -1,8 +1,8 @@
 -- What the client of a session leaves in its pass, and what the clients of a script's sessions leave in the first pass.
 use Rattle.std.specs.Prelude.{ℕ, ◌≡◌, ◌+◌, ◌<◌, ◌≤◌, ◌==◌, ◌⊎◌, Bool, true, IsTrue, List, [], ◌∷◌, length, OnOk, IsErrOf, Result, Ok, Err}
 use Rattle.std.specs.List.{list_all, list_any}
-use Rattle.qc_event.specs.declared.log.Short.{Short}
-use Rattle.qc_event.specs.declared.log.Short.TheVariants.{Room}
+use Rattle.qc_event.specs.declared.short.Short.{Short}
+use Rattle.qc_event.specs.declared.short.Short.TheVariants.{Room}
 use Rattle.qc_event.specs.Base.{Setting}
 use Rattle.qc_event.specs.History.{Past, limit}
 use Rattle.qc_interp.specs.AtOnce.{told_want}

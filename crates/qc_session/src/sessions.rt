@@ -1,6 +1,6 @@
 //! The sessions of a script, run over a system from its opening to its end.
 ghost use Rattle.std.specs.Prelude.{◌≡◌, ◌≤◌, [], length, reverse, OnOk, IsErrOf, Err};
-ghost use Rattle.qc_event.specs.declared.log.Short.TheVariants.{Memory, Room};
+ghost use Rattle.qc_event.specs.declared.short.Short.TheVariants.{Memory, Room};
 ghost use Rattle.qc_event.specs.History.{limit};
 ghost use Rattle.qc_event.specs.Legal.{Legal};
 ghost use Rattle.qc_event.specs.Tables.{setting_of};

@@ -15,6 +15,7 @@ use Rattle.std.specs.Map.{lookup}
 use Rattle.qc_history.proofs.Finding.{only_root, first_and_rest}
 use Rattle.qc_ledger.proofs.Numbers.{is_at_apart}
 use Rattle.qc_names.specs.Name as name
+use Rattle.qc_names.specs.Padded.{head_of}
 use Rattle.qc_event.specs.History.{Name}
 use Rattle.qc_codec.specs.Restored.{is_kept, keeps}
 use Rattle.qc_codec.specs.declared.past.Logged.{Logged}
@@ -82,9 +83,6 @@ no_places places none = record {
     nothing : (n p : ℕ) → get nat_cmp places n ≡ Some p → ⊥
     nothing n p found = let empty : get nat_cmp places n ≡ None = ap (λ es. lookup (is_at (nat_cmp n)) es) none in let both : None ≡ Some p = sym empty ∙ found in cc
 
-head_is : (a b : ℕ) → a ∷ [] ≡ b ∷ [] → a ≡ b
-head_is a b both = cc
-
 module _ (old new : BTreeMap ℕ ℕ) (tops : List Logged) (l : Logged) (n : ℕ) (top : l.top ≡ n ∷ []) (absent : get nat_cmp old n ≡ None) (updates : Updates nat_cmp old new n (Some (length tops))) (are : ArePlaces old tops) where
   longer : length (tops ++ l ∷ []) ≡ length tops + 1
   longer = length-append tops (l ∷ [])
@@ -119,7 +117,7 @@ module _ (old new : BTreeMap ℕ ℕ) (tops : List Logged) (l : Logged) (n : ℕ
         other_of m (λ same. none-some p (sym absent ∙ ap (get nat_cmp old) same ∙ before)) ∙ before
     | inr past ↦
         let at : p ≡ length tops = omega (arith, past, within, longer) in
-        let same : m ≡ n = head_is m n (sym is ∙ ap (λ (t : Logged). t.top) (ap (λ i. get_or (tops ++ l ∷ []) i d) at ∙ last_top d) ∙ top) in
+        let same : m ≡ n = head_of m n [] [] (sym is ∙ ap (λ (t : Logged). t.top) (ap (λ i. get_or (tops ++ l ∷ []) i d) at ∙ last_top d) ∙ top) in
         ap (get nat_cmp new) same ∙ updates.1 ∙ ap Some (sym at)
   ]
 

@@ -5,7 +5,7 @@ use Rattle.qc_event.specs.Grants.{grant_with}
 use Rattle.qc_disk.specs.declared.disk.Disk.{Ghosts}
 use Rattle.qc_event.specs.declared.event.Ask.{Ask}
 use Rattle.qc_event.specs.declared.event.Grant.{Grant}
-use Rattle.qc_event.specs.declared.log.Short.TheVariants as short
+use Rattle.qc_event.specs.declared.short.Short.TheVariants as short
 use Rattle.qc_event.specs.History.{Past}
 use Rattle.qc_journal.specs.Journal.{limit_of, place_of, IsDown, IsTooLong, IsUp}
 use Rattle.qc_journal.specs.declared.journal.Journal.{Journal}

@@ -1,5 +1,5 @@
 -- Why a request was not answered by the desk.
-use Rattle.qc_event.specs.declared.log.Short.TheVariants as short
+use Rattle.qc_event.specs.declared.short.Short.TheVariants as short
 use Rattle.qc_journal.specs.declared.fault.Fault.{Fault}
 use Rattle.qc_journal.specs.declared.fault.Fault.TheVariants as fault
 use Rattle.qc_site.specs.declared.fault.SiteNo.{SiteNo}

@@ -3,10 +3,10 @@ ghost use Rattle.std.specs.Prelude.{◌≡◌, ◌≤◌, ◌↔◌, true, false
 ghost use Rattle.qc_journal.specs.Image.{bodies_of};
 ghost use Rattle.qc_site.specs.Back.{AreGrants, IsFirstApart, IsFirstUnread, IsWithHand};
 
-use crate::lists::append;
 use qc_codec::read_grant;
 use qc_event::{Grant, Op};
 use qc_journal::Body;
+use qc_names::lists::append;
 use std::alloc::{AllocError, Global};
 
 // It makes the type known that a grant holds.

@@ -4,9 +4,9 @@ ghost use Rattle.std.specs.Bool.{OnTrue};
 ghost use Rattle.qc_codec.specs.Copy.{MayFollow};
 ghost use Rattle.qc_codec.specs.Ledger.{IsOld};
 
-use crate::lists::append;
 use qc_codec::Past;
 use qc_event::{Grant, Name, Table};
+use qc_names::lists::append;
 use std::alloc::{AllocError, Global};
 use std::collections::BTreeSet;
 

@@ -9,7 +9,6 @@ mod fits;
 mod granted;
 mod granting;
 mod law;
-mod lists;
 mod log;
 mod mounted;
 mod mounting;

@@ -15,12 +15,12 @@ ghost use Rattle.qc_site.specs.Log.{copies_of, journal_in};
 
 use crate::back::{BackNo, Strange};
 use crate::fault::{SiteNo, desk_no};
-use crate::lists::append;
 use crate::log::GrantLog;
 use crate::replica::Replica;
 use qc_desk::{Desk, Pass, Store};
 use qc_disk::Disk;
 use qc_event::Grant;
+use qc_names::lists::append;
 use std::alloc::{AllocError, Global};
 use std::sync::Wait;
 

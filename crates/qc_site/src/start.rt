@@ -6,11 +6,11 @@ ghost use Rattle.qc_event.specs.Tables.{first_tuple};
 ghost use Rattle.qc_site.specs.Start.{from_row};
 
 use crate::beginning::Beginning;
-use crate::lists::append;
 use crate::tops::{is_kept, places_of};
 use qc_codec::Logged;
 use qc_config::{Op, Tuple};
 use qc_event::{Grant, Table};
+use qc_names::lists::append;
 use std::alloc::{AllocError, Global};
 
 // The first tuples of a table's records.

@@ -12,7 +12,7 @@ use Rattle.qc_event.specs.declared.event.Ask.{Ask}
 use Rattle.qc_event.specs.declared.event.Entry.{Entry}
 use Rattle.qc_event.specs.declared.event.Grant.{Grant}
 use Rattle.qc_event.specs.declared.event.Why.TheVariants as why
-use Rattle.qc_event.specs.declared.log.Short.{Short}
+use Rattle.qc_event.specs.declared.short.Short.{Short}
 use Rattle.qc_event.specs.History.{Past, Name}
 use Rattle.qc_journal.specs.Journal.{disk_of}
 use Rattle.qc_journal.specs.declared.journal.Journal.{Journal}

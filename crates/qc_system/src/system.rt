@@ -3,7 +3,7 @@ ghost use Rattle.std.specs.Prelude.{◌≡◌, ◌≤◌, ◌<◌, [], true, IfO
 ghost use Rattle.qc_codec.specs.Bodies as body;
 ghost use Rattle.qc_codec.specs.declared.record.LedgerRecord.TheVariants.{Top};
 ghost use Rattle.qc_event.specs.Base.{IsProper};
-ghost use Rattle.qc_event.specs.declared.log.Short.TheVariants.{Room};
+ghost use Rattle.qc_event.specs.declared.short.Short.TheVariants.{Room};
 ghost use Rattle.qc_event.specs.History.{end, is_ready, limit};
 ghost use Rattle.qc_event.specs.Listed.{listed};
 ghost use Rattle.qc_event.specs.Tables.{setting_of};

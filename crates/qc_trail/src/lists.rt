@@ -6,10 +6,11 @@ ghost use Rattle.qc_trail.specs.Told.{Apart, GoesOn, GrowsTo, IsWithin, MayTell,
 
 use crate::brief::Brief;
 use qc_event::{Answer, Ask, Event, Grant, How, Kind, Name, Op, Tuple};
+use qc_names::lists;
 use std::alloc::{AllocError, Global};
 use std::marker::Model;
 
-// A generic push: one at the type of events gets no proof today.
+// Adds an item at the end, and tells its place.
 fn append<T: Copy>(items: &mut Vec<T>, item: T) -> Result<u32, AllocError>
     ensures grows { GoesOn items.old.items items.new.items }
     ensures within { IfOk result (λ at. at < length items.new.items) }
@@ -18,7 +19,7 @@ fn append<T: Copy>(items: &mut Vec<T>, item: T) -> Result<u32, AllocError>
     let Ok(at) = u32::try_from(items.len()) else {
         return Err(AllocError);
     };
-    items.push(item)?;
+    lists::append(items, item)?;
     Ok(at)
 }
 

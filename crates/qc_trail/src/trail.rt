@@ -4,6 +4,7 @@ ghost use Rattle.std.specs.Prelude.{◌≡◌, ◌<◌, ◌-◌, ◌↔◌, [], 
 use crate::brief::BriefEntry;
 use crate::lists::Lists;
 use qc_event::Entry;
+use qc_names::lists::{add, append_some, make_room};
 use std::alloc::{AllocError, Global};
 use std::marker::Model;
 
@@ -25,30 +26,6 @@ impl Model for Trail {
     ghost view = { λ t. map (told t.lists) t.briefs.items };
 
     ghost invariant = { λ t. AreWithin t.lists t.briefs.items };
-}
-
-// A generic push: one at the type of entries in brief gets no proof today.
-fn add<T: Copy>(items: &mut Vec<T>, item: T)
-    requires room { vec_len items.old < vec_capacity items.old }
-    ensures { items.new.items ≡ items.old.items ++ item ∷ [] }
-{
-    items.push_reserved(item);
-}
-
-fn make_room<T: Copy>(items: &mut Vec<T>) -> Result<(), AllocError>
-    ensures same { items.new.items ≡ items.old.items }
-    ensures room { OnOk result (vec_len items.new < vec_capacity items.new) }
-{
-    items.reserve(1)
-}
-
-fn append<T: Copy>(items: &mut Vec<T>, item: Option<T>) -> Result<(), AllocError>
-    ensures { OnOk result (items.new.items ≡ items.old.items ++ option_to_list item) }
-{
-    if let Some(item) = item {
-        items.push(item)?;
-    }
-    Ok(())
 }
 
 fn drop_last<T: Copy>(items: &mut Vec<T>)
@@ -137,7 +114,7 @@ impl Trail {
     {
         let mut entries = Vec::new(alloc);
         for at in 0..self.len() {
-            append(&mut entries, self.get(at))?;
+            append_some(&mut entries, self.get(at))?;
         }
         Ok(entries)
     }

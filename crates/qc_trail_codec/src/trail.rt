@@ -12,15 +12,8 @@ use crate::event::{entry, put_entry};
 use crate::record::{Entries, Trail};
 use qc_codec::{CodecNo, Cursor, put_long};
 use qc_event::{Base, Entry};
+use qc_names::lists::append;
 use std::alloc::{AllocError, Global};
-
-// A generic push: one at the type of entries gets no proof today.
-fn append<T: Copy>(items: &mut Vec<T>, item: T) -> Result<(), AllocError>
-    ensures { OnOk result (items.new.items ≡ items.old.items ++ item ∷ []) }
-{
-    items.push(item)?;
-    Ok(())
-}
 
 // So many entries.
 fn entries(

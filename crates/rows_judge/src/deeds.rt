@@ -3,6 +3,7 @@
 use crate::causes::same_cause;
 use crate::fault::Fault;
 use qc_event::{Answer, Cause, Entry, Event, How, Kind, Name};
+use qc_names::lists::append;
 use std::alloc::Global;
 
 /// What one came to: it committed, a read with a value, or it was aborted.
@@ -64,12 +65,6 @@ pub(crate) fn number_below(parent: &Name, child: &Name) -> Option<u64> {
 /// Whether one stands strictly below another.
 pub(crate) fn is_below(lower: &Name, upper: &Name) -> bool {
     upper.is_ancestor(lower) && upper != lower
-}
-
-// A generic push: one at the type of deeds gets no proof today.
-fn append<T: Copy>(items: &mut Vec<T>, item: T) -> Result<(), Fault> {
-    items.push(item)?;
-    Ok(())
 }
 
 impl Came {
@@ -267,7 +262,8 @@ impl Told {
         if self.of(&name).is_some() {
             return Err(Fault::Twice(name));
         }
-        append(&mut self.deeds, Deed::new(at, seat, name, kind))
+        append(&mut self.deeds, Deed::new(at, seat, name, kind))?;
+        Ok(())
     }
 
     fn note(&mut self, at: usize, entry: &Entry) -> Result<(), Fault> {

@@ -5,10 +5,10 @@
 
 ghost use Rattle.std.specs.Prelude.{◌≡◌, length, IfOk};
 
-use qc_event::{Base, Config, Entry, Label, Log, Row, Rows, Table, Tuple};
+use qc_event::{Base, Config, Entry, Label, Row, Rows, Table, Tuple};
 use qc_report::{History, finals, report, summary};
 use qc_trail::Trail;
-use rows_text::append_line;
+use rows_text::{Log, append_line};
 use std::alloc::{AllocError, Global};
 use std::io;
 

@@ -27,7 +27,7 @@ use Rattle.qc_event.proofs.OneEntry.{none_before, some_or_none, start_is}
 use Rattle.qc_event.proofs.Options.{match_some}
 use Rattle.qc_event.proofs.OwnRequests.{IsOwn, asks_own}
 use Rattle.qc_desk.specs.declared.view.View.{View}
-use Rattle.qc_desk.specs.Calling.{EnteredAs}
+use Rattle.qc_desk.specs.Calling.{EnteredAs, StartsChild}
 use Rattle.qc_desk.specs.Entries.{AreOthers, IsOlder, entry}
 use Rattle.qc_desk.specs.Own.{IsMine, MayAskOwn}
 use Rattle.qc_desk.specs.Refusing.{against_child}
@@ -36,14 +36,10 @@ use Rattle.qc_desk.proofs.NewChild.{IsNext}
 
 -- A NEW CHILD
 
--- the child has entered its start
-abbrev pub Starts : Name → Kind → Name → View → View → Type 0
-Starts p k n v w = EnteredAs (against_child p) (IsNext p k n) v w
-
-pub same_number : (p : Name) (k : Kind) (n : Name) (v w : View) → Starts p k n v w → w.number ≡ v.number
+pub same_number : (p : Name) (k : Kind) (n : Name) (v w : View) → StartsChild p k n v w → w.number ≡ v.number
 same_number p k n v w s = ap (λ (x : View). x.number) s.5
 
-pub later : (p : Name) (k : Kind) (n : Name) (v w : View) → Starts p k n v w → IsOlder v.seen w.seen
+pub later : (p : Name) (k : Kind) (n : Name) (v w : View) → StartsChild p k n v w → IsOlder v.seen w.seen
 later p k n v w s = entered_as_later (against_child p) (IsNext p k n) v w s
 
 -- A MANAGER THAT WRITES

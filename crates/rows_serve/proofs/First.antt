@@ -45,7 +45,7 @@ use Rattle.rows_serve.specs.Requests.{IsFirst, MayPut, Stands}
 use Rattle.rows_serve.specs.TwoRecords.{IsOver}
 use Rattle.qc_desk.proofs.NewChild as child
 use Rattle.rows_serve.proofs.Children as children
-use Rattle.rows_serve.proofs.Children.{Starts, same_number, later}
+use Rattle.rows_serve.proofs.Children.{same_number, later}
 use Rattle.rows_serve.proofs.Stages.{getting, at_first, at_put, waits_for_none, waits_no_more}
 use Rattle.rows_serve.proofs.TwoRecords.{is_record}
 
@@ -78,14 +78,14 @@ module _ (over : Table) (base : List (List Tuple)) (o : IsOver over base) where
   manager_stands epoch rec value top u v less t legal =
       match_wider (start v.seen top) (λ b. IsUser b.kind) (λ p. StandsThere s v.number p (length top + 1) (kind.Write rec value)) (λ b is. (is, is_record over base rec o less)) (top_begun s epoch 0 0 u v top t legal)
 
-  module _ (rec value : ℕ) (top manager : Name) (v w : View) (m : Starts top (kind.Write rec value) manager v w) (legal_w : Legal s w.seen) (long : 0 < length top) where
+  module _ (rec value : ℕ) (top manager : Name) (v w : View) (m : StartsChild top (kind.Write rec value) manager v w) (legal_w : Legal s w.seen) (long : 0 < length top) where
     begun_by : (seat : ℕ) → v.number ≡ seat → start w.seen manager ≡ Some (record { seat = seat; kind = kind.Write rec value })
     begun_by seat number = child.begun s seat top (kind.Write rec value) v w manager (child.child_of s (against_child top) seat top (kind.Write rec value) v w manager m legal_w number long)
 
     pub access_stands : Started w.seen manager (λ p. StandsThere s w.number p (length manager + 1) kind.Access)
     access_stands = children.may_stand s w.number manager rec value w.seen (begun_by w.number (sym (same_number top (kind.Write rec value) manager v w m)))
 
-    module _ (access : Name) (x : View) (a : Starts manager kind.Access access w x) (legal_x : Legal s x.seen) (client : IsTrue (is_client x.number)) (less : rec < 2) where
+    module _ (access : Name) (x : View) (a : StartsChild manager kind.Access access w x) (legal_x : Legal s x.seen) (client : IsTrue (is_client x.number)) (less : rec < 2) where
       w_number : w.number ≡ x.number
       w_number = sym (same_number manager kind.Access access w x a)
 
@@ -164,7 +164,7 @@ module _ (over : Table) (base : List (List Tuple)) (o : IsOver over base) where
 
   -- THE WAY OF A NEW TOP
 
-  module _ (epoch rec value : ℕ) (top manager access : Name) (u v w x : View) (t : EnteredAs against_nothing (IsTop epoch 0 0 top) u v) (m : Starts top (kind.Write rec value) manager v w) (a : Starts manager kind.Access access w x) where
+  module _ (epoch rec value : ℕ) (top manager access : Name) (u v w x : View) (t : EnteredAs against_nothing (IsTop epoch 0 0 top) u v) (m : StartsChild top (kind.Write rec value) manager v w) (a : StartsChild manager kind.Access access w x) where
     set_number : x.number ≡ u.number
     set_number = same_number manager kind.Access access w x a ∙ same_number top (kind.Write rec value) manager v w m ∙ ap (λ (z : View). z.number) t.5
 
@@ -238,7 +238,7 @@ module _ (over : Table) (base : List (List Tuple)) (o : IsOver over base) where
     abbrev puts : Name → Ask
     puts access = record { access = access; copy = 0; rec = ask.rec; op = PutData (t.version + 1) value }
 
-    module _ (access : Name) (x : View) (a : Starts manager kind.Access access w x) where
+    module _ (access : Name) (x : View) (a : StartsChild manager kind.Access access w x) where
       x_number : w.number ≡ x.number
       x_number = sym (same_number manager kind.Access access w x a)
 

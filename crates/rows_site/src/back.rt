@@ -6,15 +6,10 @@ use qc_codec::read_grant;
 use qc_disk::MemDisk;
 use qc_event::{Grant, Op};
 use qc_journal::Journal;
+use qc_names::lists::append;
 use qc_site::{BackNo, Strange, read_back};
 use rows_kit::{Step, bytes, made_of, said};
 use std::alloc::{AllocError, Global};
-
-// A generic push: one at the type of grants may get no proof.
-fn append<T: Copy>(items: &mut Vec<T>, item: T) -> Result<(), AllocError> {
-    items.push(item)?;
-    Ok(())
-}
 
 // It makes the type known that a grant holds.
 fn is_op(_op: &Op) {}

@@ -4,15 +4,10 @@ ghost use Rattle.qc_codec.specs.Bodies as body;
 use crate::state::State;
 use qc_codec::{LedgerRecord, Logged, Made, Past, Tops, read_ledger};
 use qc_disk::MemDisk;
+use qc_names::lists::append;
 use qc_site::mount;
 use rows_kit::{Step, bytes, made_of, said};
 use std::alloc::{AllocError, Global};
-
-// A generic push: one at the type of logged tops may get no proof.
-fn append<T: Drop>(items: &mut Vec<T>, item: T) -> Result<(), AllocError> {
-    items.push(item)?;
-    Ok(())
-}
 
 // The top that a record tells.
 fn logged_in(told: LedgerRecord) -> Option<Logged> {

@@ -1,6 +1,6 @@
 //! Entries of a history in words.
 use crate::words::{BadLine, Words};
-use qc_event::{Answer, Ask, Entry, Event, Grant, How, Kind, Log, Name};
+use qc_event::{Answer, Ask, Entry, Event, Grant, How, Kind, Name};
 
 impl Words<'_> {
     // What a transaction is for: `user SESSION BODY`, `read RECORD`, `write RECORD VALUE`,

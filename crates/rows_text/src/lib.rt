@@ -3,10 +3,12 @@
 
 mod cause;
 mod entry;
+mod log;
 mod shown;
 mod value;
 mod words;
 
 pub use entry::append_line;
+pub use log::Log;
 pub use shown::{ConfigText, KindText, LackText, TupleText};
 pub use words::{BadLine, Words};

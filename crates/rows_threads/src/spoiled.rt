@@ -2,18 +2,13 @@
 
 use crate::renamed::{about, renamed};
 use qc_event::{Entry, Name};
+use qc_names::lists::append;
 use std::alloc::{AllocError, Global};
 
 /// A trail that is spoilt.
 #[derive(Drop)]
 pub(crate) struct Spoiled {
     pub(crate) entries: Vec<Entry>,
-}
-
-// A generic push: one at the type of entries gets no proof today.
-fn append<T: Copy>(items: &mut Vec<T>, item: T) -> Result<(), AllocError> {
-    items.push(item)?;
-    Ok(())
 }
 
 impl Spoiled {

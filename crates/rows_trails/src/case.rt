@@ -4,9 +4,9 @@ use crate::copies::OwnCopy;
 use crate::setting::Setting;
 use crate::sources::Settlement;
 use crate::wrong::Wrong;
-use qc_event::{Base, Config, Entry, Log, Row, Tuple, Val};
+use qc_event::{Base, Config, Entry, Row, Tuple, Val};
 use qc_serial::SerialEvent;
-use rows_text::append_line;
+use rows_text::{Log, append_line};
 use std::alloc::{AllocError, Global};
 
 /// What a case has so far: its table, the tuples with which its copies start, its history, and a copy and a

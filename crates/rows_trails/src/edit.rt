@@ -2,8 +2,8 @@
 ghost use Rattle.std.specs.Prelude.{◌<◌, IfOk, length};
 
 use crate::wrong::Wrong;
-use qc_event::{Entry, Log};
-use rows_text::{BadLine, Words};
+use qc_event::Entry;
+use rows_text::{BadLine, Log, Words};
 use std::alloc::Global;
 
 fn append(log: &mut Log, entries: &[Entry]) -> Result<(), Wrong> {

@@ -4,52 +4,11 @@ ghost use Rattle.qc_names.specs.Name.{longest};
 
 use crate::told::Told;
 use crate::wrong::Wrong;
-use qc_event::{Entry, Event, Name};
-use qc_history::{Index, Look, Outcomes, Scan, Told as Answer, answers};
+use qc_event::{Entry, Event, Name, dead, outcome};
+use qc_history::Index;
 use qc_trail::Trail;
 use rows_text::Words;
-use std::alloc::{AllocError, Global};
-
-/// The most looks that are answered.
-const MOST: usize = 4_294_967_295;
-
-// A generic push: one at the type of looks gets no proof today.
-fn append<T: Copy>(items: &mut Vec<T>, item: T) -> Result<(), AllocError> {
-    items.push(item)?;
-    Ok(())
-}
-
-// How each name that has started stands, and by whom it is dead.
-fn ask_of_all(looks: &mut Vec<Look>, h: &[Entry]) -> Result<(), AllocError> {
-    for entry in h {
-        if let Event::Start { name, .. } = &entry.event {
-            append(looks, Look::Outcome(*name))?;
-            append(looks, Look::Dead(*name))?;
-        }
-    }
-    Ok(())
-}
-
-// What `o` answers, or that it is too much.
-fn told_by<O: Outcomes>(alloc: Global, o: &mut O, looks: &[Look]) -> Result<Vec<Answer>, Wrong>
-    requires { (O.standing o.old).count < 1 }
-{
-    if looks.len() > MOST {
-        return Err(Wrong::Memory);
-    }
-    Ok(answers(alloc, o, looks)?)
-}
-
-// The index of a history.
-fn index_of(alloc: Global, h: &[Entry]) -> Result<Index, Wrong> {
-    let mut looks = Vec::new(alloc);
-    for entry in h {
-        append(&mut looks, Look::Push(*entry))?;
-    }
-    let mut index = Index::new(alloc);
-    told_by(alloc, &mut index, looks.as_slice())?;
-    Ok(index)
-}
+use std::alloc::Global;
 
 // The trail of a history.
 fn trail_of(alloc: Global, h: &[Entry]) -> Result<Trail, Wrong> {
@@ -60,31 +19,52 @@ fn trail_of(alloc: Global, h: &[Entry]) -> Result<Trail, Wrong> {
     Ok(trail)
 }
 
-fn is_same(a: &Answer, b: &Answer) -> bool {
-    match (a, b) {
-        (Answer::Done, Answer::Done) => true,
-        (Answer::Outcome(a), Answer::Outcome(b)) => a == b,
-        (Answer::Dead(a), Answer::Dead(b)) => a == b,
-        _ => false,
+// The index of a history.
+fn index_of(alloc: Global, h: &[Entry]) -> Result<Index, Wrong> {
+    Ok(qc_report::index_of(alloc, &trail_of(alloc, h)?)?)
+}
+
+// What was looked up, and whether a scan and an index answered it alike.
+#[derive(Drop)]
+struct Looks {
+    count: usize,
+    alike: bool,
+}
+
+impl Looks {
+    fn note(&mut self, alike: bool) {
+        self.count = self.count.saturating_add(1);
+        self.alike = self.alike && alike;
+    }
+
+    // How a name stands, and by whom it is dead.
+    fn compare(&mut self, h: &[Entry], index: &Index, name: &Name) {
+        self.note(outcome(h, name) == index.outcome(name));
+        self.note(dead(h, name) == index.dead(name));
+    }
+
+    fn compare_all(&mut self, h: &[Entry], index: &Index) {
+        for entry in h {
+            if let Event::Start { name, .. } = &entry.event {
+                self.compare(h, index, name);
+            }
+        }
     }
 }
 
-fn are_same(a: &[Answer], b: &[Answer]) -> bool {
-    a.len() == b.len() && a.iter().zip(b.iter()).all(|(a, b)| is_same(a, b))
-}
-
-/// The history entry by entry, and after each how every name stands that has started: how many looks that
-/// are, and whether a scan and an index answer them alike.
+/// The history entry by entry, and after each how every name stands that has started: how many entries and looks
+/// that are, and whether a scan and an index answer them alike.
 pub fn looks(alloc: Global, h: &[Entry]) -> Result<Told, Wrong> {
-    let mut looks = Vec::new(alloc);
+    let mut looks = Looks {
+        count: h.len(),
+        alike: true,
+    };
     for place in 0..h.len() {
-        append(&mut looks, Look::Push(h[place]))?;
-        ask_of_all(&mut looks, &h[..place + 1])?;
+        let past = &h[..place + 1];
+        looks.compare_all(past, &index_of(alloc, past)?);
     }
-    let scanned = told_by(alloc, &mut Scan::new(alloc), looks.as_slice())?;
-    let indexed = told_by(alloc, &mut Index::new(alloc), looks.as_slice())?;
-    let alike = are_same(scanned.as_slice(), indexed.as_slice());
-    Ok(Told::Looks(looks.len(), alike))
+    let Looks { count, alike } = looks;
+    Ok(Told::Looks(count, alike))
 }
 
 // Whether a name is below a top, or one, and can have children.

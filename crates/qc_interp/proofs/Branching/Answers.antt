@@ -8,7 +8,7 @@ use Rattle.qc_event.specs.History.{Past, Name, is_child}
 use Rattle.qc_script.specs.declared.tx.TxNo.{TxNo}
 use Rattle.qc_script.specs.declared.tx.TxNo.TheVariants as tx_no
 use Rattle.qc_script.specs.Calls.{by_client, Refuses, WasRefused}
-use Rattle.qc_script.specs.Client.{Client, View, mine, Made, HasJoined}
+use Rattle.qc_script.specs.Client.{Client, ClientView, mine, Made, HasJoined}
 use Rattle.qc_script.specs.Plan.{Plan, Numbered, PlanFits}
 use Rattle.qc_interp.specs.AtOnce.{IsRefusal, TriesEnd, came_at_last}
 use Rattle.qc_interp.specs.Branches.{RanTries, AreTriesOurs, tries_by}
@@ -31,18 +31,18 @@ pub fits_try : (v d : Client) (before : Past) (of n : Name) (plan other : Plan) 
 fits_try v d before of n plan other joined root child same fits = fits_child v d before of n plan other joined (ap (λ r. is_child r n) (sym root) ∙ child) same fits
 
 -- what a try that ended leaves; it may be the last
-pub record EndedTry (v y : View) (of n : Name) (body : Numbered) (left : ℕ) (to : Finish) : Type 0 where
+pub record EndedTry (v y : ClientView) (of n : Name) (body : Numbered) (left : ℕ) (to : Finish) : Type 0 where
   pub goes : GoesOn v.client v.seen of y.client y.seen
   pub ends : (is_again to ≡ true → left ≡ zero) → TriesEnd y.client body y.seen (came_at_last to n)
 
 -- and where a further one was refused to begin
-pub record RefusedTry (v x : View) (of : Name) (body : Numbered) (why : TxNo) : Type 0 where
+pub record RefusedTry (v x : ClientView) (of : Name) (body : Numbered) (why : TxNo) : Type 0 where
   pub goes : GoesOn v.client v.seen of x.client x.seen
   pub ran : (reach : Reach) → RanTries reach (Unit {0}) x.client body x.seen
   pub due : AreTriesOurs x.client x.seen → was_tried (mine x.client x.seen) false body.tries (map Deed.child (tries_by x.client x.seen)) ≡ false
   pub refused : (why ≡ tx_no.Memory → ⊥) → (why ≡ tx_no.Room → ⊥) → Refuses x.seen x.client.root why × IsRefusal why
 
-module _ (v w y : View) (of n : Name) (body : Numbered) (counter : ℕ) (goes : GoesOn v.client v.seen of w.client w.seen) (start : Past) (runs : TryRuns w.client body start n w.seen (body.tries - counter)) (joined : HasJoined w.client w.seen y.client) (steps : Plan) (plan : steps ≡ body.plan) where
+module _ (v w y : ClientView) (of n : Name) (body : Numbered) (counter : ℕ) (goes : GoesOn v.client v.seen of w.client w.seen) (start : Past) (runs : TryRuns w.client body start n w.seen (body.tries - counter)) (joined : HasJoined w.client w.seen y.client) (steps : Plan) (plan : steps ≡ body.plan) where
   abbrev left : ℕ
   left = body.tries - counter
 
@@ -68,7 +68,7 @@ module _ (v w y : View) (of n : Name) (body : Numbered) (counter : ℕ) (goes : 
     branch_ended = record { goes = goes_then; ends = tries_end y.client body start n w.seen y.seen left then_runs to ended.leaves.later one }
 
     -- a further one is due
-    module _ (few : counter < body.tries) (again : is_again to ≡ true) (x : View) (same : x.client ≡ y.client) where
+    module _ (few : counter < body.tries) (again : is_again to ≡ true) (x : ClientView) (same : x.client ≡ y.client) where
       due : BranchLeft y.client body start y.seen (Some n) (suc (body.tries - (counter + 1)))
       due = subst (BranchLeft y.client body start y.seen (Some n)) (one_less body.tries counter few) (tried_further y.client body start n w.seen y.seen left to then_runs again one)
 

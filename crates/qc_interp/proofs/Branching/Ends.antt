@@ -12,7 +12,7 @@ use Rattle.qc_event.specs.declared.event.How.{How}
 use Rattle.qc_event.specs.Legal.{Legal}
 use Rattle.qc_event.specs.Standing.{Started, IsUser}
 use Rattle.qc_event.proofs.Later.{started_still}
-use Rattle.qc_script.specs.Client.{Client, View, mine, Made, IsLater, HasJoined}
+use Rattle.qc_script.specs.Client.{Client, ClientView, mine, Made, IsLater, HasJoined}
 use Rattle.qc_script.specs.Plan.{Numbered}
 use Rattle.qc_interp.specs.AtOnce.{MayRun, at_first, IsRefusal, TriesEnd, came_at_last}
 use Rattle.qc_interp.specs.Branches.{RanTries, AreTriesOurs, stays_with, tries_by}
@@ -93,7 +93,7 @@ pub one_less : (tries counter : ℕ) → counter < tries → tries - counter ≡
 one_less tries counter few = omega (arith, few)
 
 -- a branch that may run runs its first try
-pub may_start : (of : Name) (v : View) (body : Numbered) (first : Name) → MayRun of (at_first v body first) → (start : Past) × TryRuns v.client body start first v.seen (body.tries - 1)
+pub may_start : (of : Name) (v : ClientView) (body : Numbered) (first : Name) → MayRun of (at_first v body first) → (start : Past) × TryRuns v.client body start first v.seen (body.tries - 1)
 may_start of v body first may =
     first_runs v.client body first v.seen (body.tries - 1) (let some = may.tried in let e : body.tries ≡ suc (body.tries - 1) = omega (arith, some) in e) may.legal
     (subst (λ r. 0 < length r) (sym may.root) may.nonroot) (ap (λ r. is_child r first) may.root ∙ may.is_one) may.made

@@ -3,8 +3,8 @@ use Rattle.std.proofs.Common.{◌≡◌, ◌≤◌, Bool, true, false, List, [],
 use Rattle.std.specs.Prelude.{Option, None, Some, Result, ◌&&◌}
 use Rattle.std.specs.List.{AllByRecursion, list_all, last_or}
 use Rattle.std.specs.Option.{option_or}
-use Rattle.qc_event.specs.declared.log.Short.{Short}
-use Rattle.qc_event.specs.declared.log.Short.TheVariants as short
+use Rattle.qc_event.specs.declared.short.Short.{Short}
+use Rattle.qc_event.specs.declared.short.Short.TheVariants as short
 use Rattle.qc_event.specs.History.{Past, Name, limit, end, children, kind_of}
 use Rattle.qc_event.specs.Standing.{Started, IsUser}
 use Rattle.qc_event.proofs.Later.{started_still}

@@ -3,11 +3,11 @@ use Rattle.std.proofs.Common.{◌≡◌, ℕ, suc, ◌≤◌, Bool, true, false,
 use mathlib.Core.Bool.{true≢false}
 use Rattle.std.specs.Prelude.{Option, None, Some, Result, slice_get, option_map}
 use Rattle.std.specs.List.{AllByRecursion}
-use Rattle.qc_event.specs.declared.log.Short.{Short}
-use Rattle.qc_event.specs.declared.log.Short.TheVariants as short
+use Rattle.qc_event.specs.declared.short.Short.{Short}
+use Rattle.qc_event.specs.declared.short.Short.TheVariants as short
 use Rattle.qc_event.specs.History.{Past, Name, limit}
 use Rattle.qc_script.specs.declared.tx.TxNo.{TxNo}
-use Rattle.qc_script.specs.Client.{Client, View, Made, HasJoined, AreOurs}
+use Rattle.qc_script.specs.Client.{Client, ClientView, Made, HasJoined, AreOurs}
 use Rattle.qc_script.specs.Plan.{Plan, Numbered}
 use Rattle.qc_interp.specs.declared.body.branch.BranchCame.{BranchCame}
 use Rattle.qc_interp.specs.declared.body.branch.BranchCame.TheVariants as came
@@ -143,9 +143,9 @@ failed_of (came.Failed last) = Some last
 failed_of x = None
 
 -- The bodies of a step were all begun; their branches were shown the starts of all, ran and were merged.
-pub record RowDone (of : Name) (v w3 : View) (bs2 : List Stands) (bodies : List Numbered) : Type 0 where
-  pub w1 : View
-  pub w2 : View
+pub record RowDone (of : Name) (v w3 : ClientView) (bs2 : List Stands) (bodies : List Numbered) : Type 0 where
+  pub w1 : ClientView
+  pub w2 : ClientView
   pub bs0 : List Stands
   pub bs1 : List Stands
   pub runs : Runs v.client of v.seen
@@ -159,7 +159,7 @@ pub record RowDone (of : Name) (v w3 : View) (bs2 : List Stands) (bodies : List 
   pub own : HaveOwnBodies (map branch_in bs2)
   pub are : map (λ (b : Branch). b.body) (map branch_in bs2) ≡ bodies
 
-module _ {of : Name} {v w3 : View} {bs2 : List Stands} {bodies : List Numbered} (r : RowDone of v w3 bs2 bodies) where
+module _ {of : Name} {v w3 : ClientView} {bs2 : List Stands} {bodies : List Numbered} (r : RowDone of v w3 bs2 bodies) where
   open r use {w1, w2, bs0, bs1, runs, began, shown, same, made, ran, merged, some, own, are}
 
   abbrev c : Client

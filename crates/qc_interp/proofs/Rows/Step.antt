@@ -6,7 +6,7 @@ use Rattle.std.proofs.lemmas.List.{length-map}
 use Rattle.qc_event.specs.History.{Past, Name, limit}
 use Rattle.qc_script.specs.declared.tx.TxNo.{TxNo}
 use Rattle.qc_script.specs.declared.tx.TxNo.TheVariants as tx_no
-use Rattle.qc_script.specs.Client.{Client, View, Made}
+use Rattle.qc_script.specs.Client.{Client, ClientView, Made}
 use Rattle.qc_script.specs.Plan.{Plan, Numbered, PlanFits}
 use Rattle.qc_interp.specs.AtOnce.{Stands, branch_in, BeganInTurn, BeganSome, InPairs, WasShown, HasRun, MayRun, AreOut, MergedInTurn}
 use Rattle.qc_interp.specs.Branches.{Branch, row_step}
@@ -37,12 +37,12 @@ none_given f [] [] long is = refl
 none_given f [] (x ∷ olds) long is = absurd cc
 none_given f (x ∷ news) olds long is = absurd cc
 
-none_merged : (v w : View) (ones : List Stands) → MergedInTurn v ones w → ones ≡ [] → w ≡ v
+none_merged : (v w : ClientView) (ones : List Stands) → MergedInTurn v ones w → ones ≡ [] → w ≡ v
 none_merged v w [] merged is = merged
 none_merged v w (b ∷ ones) merged is = absurd cc
 
 -- The bodies were begun, and their branches shown the starts of all. `lent` are the branches before that, as they were lent to it.
-module _ {B : Type 0} (st : B → Stands) (of : Name) (v w1 w2 : View) (items lent ones : List B) (bodies : List Numbered) (runs : Runs v.client of v.seen) (fits : PlanFits v.client.setting (length of) (row_step bodies Plan.done)) (all : lent ≡ items)
+module _ {B : Type 0} (st : B → Stands) (of : Name) (v w1 w2 : ClientView) (items lent ones : List B) (bodies : List Numbered) (runs : Runs v.client of v.seen) (fits : PlanFits v.client.setting (length of) (row_step bodies Plan.done)) (all : lent ≡ items)
     (lent_shown : InPairs (WasShown w1.seen) (map st lent) (map st ones)) (same : w2.client ≡ w1.client) (made : Made w1.client [] w1.seen w2.seen) where
   shown : InPairs (WasShown w1.seen) (map st items) (map st ones)
   shown = subst (λ l. InPairs (WasShown w1.seen) (map st l) (map st ones)) all lent_shown
@@ -65,7 +65,7 @@ module _ {B : Type 0} (st : B → Stands) (of : Name) (v w1 w2 : View) (items le
       pub row_out : AreOut w2.client.out w2.client.net (map st whole)
       row_out = subst (λ l. AreOut w2.client.out w2.client.net (map st l)) (sym merged_all) (all_out of v w1 w2 (map st items) (map st ones) (map st twos) runs.legal began shown same (all_become (map st ones) (map st twos) ran) (ran_met (map st ones) (map st twos) ran))
 
-      pub row_done : (w3 : View) → MergedInTurn w2 (map st whole) w3 → RowDone of v w3 (map st twos) bodies
+      pub row_done : (w3 : ClientView) → MergedInTurn w2 (map st whole) w3 → RowDone of v w3 (map st twos) bodies
       row_done w3 whole_merged = record {
         w1 = w1;
         w2 = w2;
@@ -99,7 +99,7 @@ module _ {B : Type 0} (st : B → Stands) (of : Name) (v w1 w2 : View) (items le
     pub few_out : AreOut w2.client.out w2.client.net (map st whole)
     few_out = subst (λ l. AreOut w2.client.out w2.client.net (map st l)) (sym merged_all) (turned_out of v w1 w2 (map st items) (map st ones) why runs began shown same made)
 
-    module _ (w3 : View) (whole_merged : MergedInTurn w2 (map st whole) w3) (others : (others : List Numbered) × (0 < length others) × (bodies ≡ map (λ b. (st b).body) items ++ others)) (firsts : List Name) (are : firsts ≡ map (λ b. (st b).first) ones) where
+    module _ (w3 : ClientView) (whole_merged : MergedInTurn w2 (map st whole) w3) (others : (others : List Numbered) × (0 < length others) × (bodies ≡ map (λ b. (st b).body) items ++ others)) (firsts : List Name) (are : firsts ≡ map (λ b. (st b).first) ones) where
       merged : MergedInTurn w2 (map st ones) w3
       merged = subst (λ l. MergedInTurn w2 (map st l) w3) merged_all whole_merged
 
@@ -126,4 +126,4 @@ module _ {B : Type 0} (st : B → Stands) (of : Name) (v w1 w2 : View) (items le
       -- where there was no room to begin that one, there is none
       pub row_room : length ones ≡ length lent → (lent ≡ [] → w2.seen ≡ w1.seen) → why ≡ tx_no.Room → length w3.seen ≡ limit
       unfolding row_turned
-      row_room long idle = turned_room row_turned (λ empty. ap (λ (x : View). x.seen) (none_merged w2 w3 (map st ones) merged empty) ∙ idle (none_given st ones lent long empty))
+      row_room long idle = turned_room row_turned (λ empty. ap (λ (x : ClientView). x.seen) (none_merged w2 w3 (map st ones) merged empty) ∙ idle (none_given st ones lent long empty))

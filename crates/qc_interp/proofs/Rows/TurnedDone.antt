@@ -7,7 +7,7 @@ use Rattle.qc_event.specs.Legal.{Legal}
 use Rattle.qc_script.specs.declared.tx.TxNo.{TxNo}
 use Rattle.qc_script.specs.declared.tx.TxNo.TheVariants as tx_no
 use Rattle.qc_script.specs.Calls.{Refuses}
-use Rattle.qc_script.specs.Client.{View, Made}
+use Rattle.qc_script.specs.Client.{ClientView, Made}
 use Rattle.qc_script.specs.Plan.{Plan, Numbered}
 use Rattle.qc_interp.specs.declared.body.branch.BranchCame.TheVariants as came
 use Rattle.qc_interp.specs.AtOnce.{Stands, branch_in, RefusedSo, IsFirst, TurnedSome, TurnedAll, KnowsBehind, WentBehind}
@@ -24,7 +24,7 @@ use Rattle.qc_interp.proofs.Rows.Out.{RowOut, row_stops, row_cut_behind}
 use Rattle.qc_interp.proofs.Rows.TurnedOut.{RowTurned, back_cut, back_out, back_legal}
 use Rattle.qc_interp.proofs.Rows.Turning.{turned_firsts, turned_grown, turned_refused}
 
-module _ {of : Name} {v w : View} {bodies : List Numbered} {why : TxNo} {firsts : List Name} (t : RowTurned of v w bodies why firsts) where
+module _ {of : Name} {v w : ClientView} {bodies : List Numbered} {why : TxNo} {firsts : List Name} (t : RowTurned of v w bodies why firsts) where
   open t use {begun as m, seen_by_all as m1, bs, ones, others, runs, began, shown, same, made, merged, first, then, fits, are}
 
   legal : Legal w.client.setting w.seen

@@ -6,7 +6,7 @@ use Rattle.std.specs.List.{AllByRecursion}
 use Rattle.qc_event.specs.History.{Past, Name, end}
 use Rattle.qc_event.specs.Legal.{Legal}
 use Rattle.qc_script.specs.declared.tx.TxNo.{TxNo}
-use Rattle.qc_script.specs.Client.{Client, View, Made, HasJoined}
+use Rattle.qc_script.specs.Client.{Client, ClientView, Made, HasJoined}
 use Rattle.qc_script.specs.Plan.{Plan, Numbered, PlanFits}
 use Rattle.qc_interp.specs.AtOnce.{Stands, branch_in, BeganSome, InPairs, WasShown, MergedInTurn}
 use Rattle.qc_interp.specs.Branches.{Branch, with_all, RanRow, row_step}
@@ -30,9 +30,9 @@ use Rattle.qc_interp.proofs.Rows.Whole.{same_numbers}
 
 -- The first bodies of a step were begun and the next was refused; their branches were shown the starts of all and merged. These
 -- are their first tries.
-pub record RowTurned (of : Name) (v w : View) (bodies : List Numbered) (why : TxNo) (firsts : List Name) : Type 0 where
-  pub begun : View
-  pub seen_by_all : View
+pub record RowTurned (of : Name) (v w : ClientView) (bodies : List Numbered) (why : TxNo) (firsts : List Name) : Type 0 where
+  pub begun : ClientView
+  pub seen_by_all : ClientView
   pub bs : List Stands
   pub ones : List Stands
   pub others : List Numbered
@@ -48,7 +48,7 @@ pub record RowTurned (of : Name) (v w : View) (bodies : List Numbered) (why : Tx
   pub fits : PlanFits v.client.setting (length of) (row_step bodies then)
   pub are : firsts ≡ map (λ (b : Stands). b.first) ones
 
-module _ {of : Name} {v w : View} {bodies : List Numbered} {why : TxNo} {firsts : List Name} (t : RowTurned of v w bodies why firsts) where
+module _ {of : Name} {v w : ClientView} {bodies : List Numbered} {why : TxNo} {firsts : List Name} (t : RowTurned of v w bodies why firsts) where
   open t use {begun as m, seen_by_all as m1, bs, ones, others, runs, began, shown, same, made, merged, first, some, then, fits}
 
   abbrev c : Client

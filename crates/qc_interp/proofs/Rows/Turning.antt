@@ -14,7 +14,7 @@ use Rattle.qc_interp.proofs.Scopes.Began.{kept_start}
 use Rattle.qc_script.specs.declared.tx.TxNo.{TxNo}
 use Rattle.qc_script.specs.declared.tx.TxNo.TheVariants as tx_no
 use Rattle.qc_script.specs.Calls.{by_client, Refuses, WasRefused}
-use Rattle.qc_script.specs.Client.{Client, View, mine, Made, HasJoined, is_own}
+use Rattle.qc_script.specs.Client.{Client, ClientView, mine, Made, HasJoined, is_own}
 use Rattle.qc_script.specs.Plan.{Plan, Numbered}
 use Rattle.qc_interp.specs.AtOnce.{IsFirst, Stands, branch_in, BeganSome, InPairs, WasShown, MayRun, AreOut, MergedInTurn}
 use Rattle.qc_interp.specs.Branches.{Branch, with_all, seats_of, RanTries, RanRow}
@@ -96,11 +96,11 @@ pub bodies_in : (bs : List Stands) → map (λ (b : Branch). b.body) (map branch
 bodies_in [] = refl
 bodies_in (b ∷ bs) = ap (λ l. b.body ∷ l) (bodies_in bs)
 
-module _ (of : Name) (v m m1 : View) (bs ones : List Stands) (why : TxNo) (runs : Runs v.client of v.seen) (began : BeganSome v of bs m why) (shown : InPairs (WasShown m.seen) bs ones) (same : m1.client ≡ m.client) (made : Made m.client [] m.seen m1.seen) where
+module _ (of : Name) (v m m1 : ClientView) (bs ones : List Stands) (why : TxNo) (runs : Runs v.client of v.seen) (began : BeganSome v of bs m why) (shown : InPairs (WasShown m.seen) bs ones) (same : m1.client ≡ m.client) (made : Made m.client [] m.seen m1.seen) where
   abbrev c : Client
   c = v.client
 
-  abbrev mid : View
+  abbrev mid : ClientView
   mid = began.0
 
   -- the client, with the one that was merged as it could not begin
@@ -175,7 +175,7 @@ module _ (of : Name) (v m m1 : View) (bs ones : List Stands) (why : TxNo) (runs 
 
   -- AS THEY ARE MERGED
 
-  module _ (w : View) (merged : MergedInTurn m1 ones w) where
+  module _ (w : ClientView) (merged : MergedInTurn m1 ones w) where
     pub turned_client : w.client ≡ with_all joined_one (map branch_in ones)
     turned_client =
         merged_client m1 w ones merged ∙ ap (λ (x : Client). record x { kin = x.kin ++ seats_of branches; out = merged_out ones x.out }) m1_is

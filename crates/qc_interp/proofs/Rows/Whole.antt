@@ -5,7 +5,7 @@ use Rattle.std.specs.List.{AllByRecursion}
 use Rattle.qc_event.specs.History.{Past, Name}
 use Rattle.qc_event.specs.Legal.{Legal}
 use Rattle.qc_script.specs.Calls.{MeetsLink}
-use Rattle.qc_script.specs.Client.{Client, View, mine, Made, IsLater, HasJoined, AreOurs}
+use Rattle.qc_script.specs.Client.{Client, ClientView, mine, Made, IsLater, HasJoined, AreOurs}
 use Rattle.qc_interp.specs.AtOnce.{Stands, branch_in, BeganInTurn, HasBegun, InPairs, WasShown, MergedInTurn, AreOut}
 use Rattle.qc_interp.specs.Branches.{Branch, with_all, RanTries, RanRow, AreTriesOurs, tries_by, row_step, FrontRow}
 use Rattle.qc_interp.specs.Reach.{Reach}
@@ -22,7 +22,7 @@ pub record StaysOf (c : Client) (of : Name) (b : Stands) : Type 0 where
   pub none_out : b.view.client.out ≡ []
 
 module _ (c : Client) (of : Name) where
-  stays_one : (v u : View) (seen : Past) (b0 b1 b2 : Stands) → WithOut c v.client → HasBegun v u of b0 → WasShown seen b0 b1 → Became b1 b2 → StaysOf c of b2
+  stays_one : (v u : ClientView) (seen : Past) (b0 b1 b2 : Stands) → WithOut c v.client → HasBegun v u of b0 → WasShown seen b0 b1 → Became b1 b2 → StaysOf c of b2
   stays_one v u seen b0 b1 b2 same begun shown became = subst (StaysOf c of) refl (record {
     root = ap (λ (x : Client). x.root) is;
     setting = ap (λ (x : Client). x.setting) is;
@@ -33,7 +33,7 @@ module _ (c : Client) (of : Name) where
       is : b2.view.client ≡ record (Rattle.qc_script.specs.Client.branch_of c (number_of b0) of) { kin = became.joined.kin }
       is = became.joined.same ∙ ap (λ (x : Client). record x { kin = became.joined.kin }) (shown.client ∙ begun.client ∙ ap (λ (x : Client). Rattle.qc_script.specs.Client.branch_of x (number_of b0) of) same.1)
 
-  pub all_stay : (v w : View) (seen : Past) (bs0 bs1 bs2 : List Stands) → WithOut c v.client → BeganInTurn v of bs0 w → InPairs (WasShown seen) bs0 bs1 → InPairs Became bs1 bs2 → AllByRecursion (StaysOf c of) bs2
+  pub all_stay : (v w : ClientView) (seen : Past) (bs0 bs1 bs2 : List Stands) → WithOut c v.client → BeganInTurn v of bs0 w → InPairs (WasShown seen) bs0 bs1 → InPairs Became bs1 bs2 → AllByRecursion (StaysOf c of) bs2
   all_stay v w seen [] [] [] same h shown became = tt
   all_stay v w seen [] [] (b ∷ bs) same h shown became = absurd became
   all_stay v w seen [] (b ∷ bs) bs2 same h shown became = absurd shown
@@ -59,7 +59,7 @@ can_all : (c : Client) (of : Name) (bs : List Stands) → AllByRecursion (StaysO
 can_all c of [] stay met = tt
 can_all c of (b ∷ bs) stay met = ((stay.0.none_out, stay.0.net, met.0), can_all c of bs stay.1 met.1)
 
-module _ (of : Name) (v w1 w2 : View) (bs0 bs1 bs2 : List Stands) (legal : Legal v.client.setting v.seen) (began : BeganInTurn v of bs0 w1) (shown : InPairs (WasShown w1.seen) bs0 bs1) (same : w2.client ≡ w1.client) (became : InPairs Became bs1 bs2) where
+module _ (of : Name) (v w1 w2 : ClientView) (bs0 bs1 bs2 : List Stands) (legal : Legal v.client.setting v.seen) (began : BeganInTurn v of bs0 w1) (shown : InPairs (WasShown w1.seen) bs0 bs1) (same : w2.client ≡ w1.client) (became : InPairs Became bs1 bs2) where
   abbrev c : Client
   c = v.client
 
@@ -81,7 +81,7 @@ module _ (of : Name) (v w1 w2 : View) (bs0 bs1 bs2 : List Stands) (legal : Legal
   pub all_out : AllByRecursion (λ (b : Stands). MeetsLink b.view) bs2 → AreOut w2.client.out w2.client.net bs2
   all_out met = subst (λ (x : Client). AreOut x.out x.net bs2) (sym w2_is) (are_out c.net bs2 c.out fresh (can_all c of bs2 (all_stay c of v w1 w1.seen bs0 bs1 bs2 itself began shown became) met))
 
-  module _ (made : Made w1.client [] w1.seen w2.seen) (w3 : View) (merged : MergedInTurn w2 bs2 w3) where
+  module _ (made : Made w1.client [] w1.seen w2.seen) (w3 : ClientView) (merged : MergedInTurn w2 bs2 w3) where
     out_too : WithOut c w1.client
     out_too = (out_with (map number_of bs0) c.out, began_out c of v w1 bs0 c.out refl began)
 

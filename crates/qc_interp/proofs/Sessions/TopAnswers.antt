@@ -6,7 +6,7 @@ use Rattle.qc_event.specs.declared.event.Kind.TheVariants as kind
 use Rattle.qc_event.specs.History.{Past, Name, is_child}
 use Rattle.qc_script.specs.declared.tx.TxNo.{TxNo}
 use Rattle.qc_script.specs.Calls.{by_client, WasRefused}
-use Rattle.qc_script.specs.Client.{Client, View, Made, HasJoined}
+use Rattle.qc_script.specs.Client.{Client, ClientView, Made, HasJoined}
 use Rattle.qc_script.specs.Numbers.{Numbers}
 use Rattle.qc_script.specs.Plan.{Plan, Numbered}
 use Rattle.qc_interp.specs.Running.{Ended, CutOff}
@@ -19,7 +19,7 @@ use Rattle.qc_interp.proofs.Sessions.TopsRun.{TriedTop, top_once, top_cut}
 use Rattle.qc_interp.proofs.Trying.TriesLeft.{refused_made}
 
 -- what a try that ran leaves, by what it came to; `left` are the tries left behind it
-pub record RanTop (v w x y : View) (n : Name) (body : Numbered) (left : ℕ) (steps : Plan) : Type 0 where
+pub record RanTop (v w x y : ClientView) (n : Name) (body : Numbered) (left : ℕ) (steps : Plan) : Type 0 where
   pub joined : HasJoined v.client v.seen w.client → HasJoined v.client v.seen y.client
   pub out : (to : Finish) → Ended y.client n x.seen y.seen steps to → is_again to ≡ false → RanTops y.client v.seen y.seen (λ rest. body ∷ rest)
   pub more : (to : Finish) → Ended y.client n x.seen y.seen steps to → is_again to ≡ true → TopTriesLeft y.client body v.seen y.seen left
@@ -28,13 +28,13 @@ pub record RanTop (v w x y : View) (n : Name) (body : Numbered) (left : ℕ) (st
 fewer : (c : Client) (body : Numbered) (before now : Past) (counter : ℕ) → counter < body.tries → TopTriesLeft c body before now (body.tries - counter) → TopTriesLeft c body before now (suc (body.tries - (counter + 1)))
 fewer c body before now counter few left = subst (TopTriesLeft c body before now) (let e : body.tries - counter ≡ suc (body.tries - (counter + 1)) = omega (arith, few) in e) left
 
-module _ (v w x : View) (body : Numbered) (counter : ℕ) (left : TopTriesLeft w.client body v.seen w.seen (body.tries - counter)) (few : counter < body.tries) (same : x.client ≡ w.client) where
+module _ (v w x : ClientView) (body : Numbered) (counter : ℕ) (left : TopTriesLeft w.client body v.seen w.seen (body.tries - counter)) (few : counter < body.tries) (same : x.client ≡ w.client) where
   -- it was refused to begin
   pub top_unbegun : (of : Name) (why : TxNo) → WasRefused w.client of w.seen x.seen why → (rest : List Numbered) → CutTops x.client v.seen x.seen (body ∷ rest)
   top_unbegun of why refused rest =
       subst (λ d. CutTops d v.seen x.seen (body ∷ rest)) (sym same) (top_not_begun w.client body v.seen w.seen x.seen _ rest (fewer w.client body v.seen w.seen counter few left) (refused_made w.client of body w.seen x.seen why refused))
 
-  module _ (y : View) (n : Name) (top : is_child [] n ≡ true) (number : ℕ) (is : number ≡ body.number) (begun : Made w.client (by_client w.client (event.Start n (kind.User w.client.session number)) ∷ []) w.seen x.seen) (numbers : Numbers w.client w.seen x.seen) (ran : HasJoined x.client x.seen y.client) (steps : Plan) (plan : steps ≡ body.plan) where
+  module _ (y : ClientView) (n : Name) (top : is_child [] n ≡ true) (number : ℕ) (is : number ≡ body.number) (begun : Made w.client (by_client w.client (event.Start n (kind.User w.client.session number)) ∷ []) w.seen x.seen) (numbers : Numbers w.client w.seen x.seen) (ran : HasJoined x.client x.seen y.client) (steps : Plan) (plan : steps ≡ body.plan) where
     by : StartedBy w.client y.client n body.number w.seen x.seen
     by = started_by w.client x.client y.client n body.number number w.seen x.seen same is ran begun
 

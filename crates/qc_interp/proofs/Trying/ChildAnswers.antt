@@ -9,7 +9,7 @@ use Rattle.qc_event.proofs.LastNumber.{child_longer}
 use Rattle.qc_script.specs.declared.tx.TxNo.{TxNo}
 use Rattle.qc_script.specs.declared.tx.TxNo.TheVariants as tx_no
 use Rattle.qc_script.specs.Calls.{by_client, WasRefused}
-use Rattle.qc_script.specs.Client.{Client, View, Made, HasJoined}
+use Rattle.qc_script.specs.Client.{Client, ClientView, Made, HasJoined}
 use Rattle.qc_script.specs.Plan.{Plan, Numbered, PlanFits}
 use Rattle.qc_interp.specs.Running.{Runs, WhyStop, Stopped, Ended, CutOff, WentOn, Failed, child_step}
 use Rattle.qc_interp.specs.declared.stops.Finish.{Finish}
@@ -25,21 +25,21 @@ fits_child v d before of n plan other joined child same fits =
     subst (λ p. PlanFits d.setting (length n) p) (sym same) (subst (λ s. PlanFits s (length n) plan) (sym (joined_setting v d before joined)) (subst (λ k. PlanFits v.setting k plan) (sym (child_longer of n child)) fits))
 
 -- what a try that was refused to begin leaves, as it is for want of memory or room, and as it stops or is cut off there
-pub record Unbegun (v x y : View) (of : Name) (body : Numbered) (why : TxNo) : Type 0 where
+pub record Unbegun (v x y : ClientView) (of : Name) (body : Numbered) (why : TxNo) : Type 0 where
   pub cut : (rest : Plan) → CutOff x.client of v.seen x.seen (child_step body rest)
   pub stopped_cut : y.client ≡ x.client → Made x.client [] x.seen y.seen → (rest : Plan) → CutOff y.client of v.seen y.seen (child_step body rest)
   pub stops : (why ≡ tx_no.Memory → ⊥) → (why ≡ tx_no.Room → ⊥) → Runs x.client of x.seen × WhyStop x.client x.seen of why
   pub ended : (why ≡ tx_no.Memory → ⊥) → (why ≡ tx_no.Room → ⊥) → (again : Bool) → y.client ≡ x.client → Stopped x.client of why x.seen y.seen again → (rest : Plan) → Ended y.client of v.seen y.seen (child_step body rest) (finish.Stopped again)
 
 -- what a try that ran leaves, by what it came to; `left` are the tries left behind it
-pub record RanTry (v w x y : View) (of n : Name) (body : Numbered) (left : ℕ) (steps : Plan) : Type 0 where
+pub record RanTry (v w x y : ClientView) (of n : Name) (body : Numbered) (left : ℕ) (steps : Plan) : Type 0 where
   pub joined : HasJoined v.client v.seen w.client → HasJoined v.client v.seen y.client
   pub through : Ended y.client n x.seen y.seen steps finish.Committed → WentOn y.client of v.seen y.seen (child_step body)
   pub failed : Ended y.client n x.seen y.seen steps (finish.Stopped false) → Failed y.client of v.seen y.seen body n
   pub again : Ended y.client n x.seen y.seen steps (finish.Stopped true) → TriesLeft y.client of body v.seen y.seen (Some n) left
   pub cut : CutOff y.client n x.seen y.seen steps → (rest : Plan) → CutOff y.client of v.seen y.seen (child_step body rest)
 
-module _ (v w x y : View) (of : Name) (body : Numbered) (last : Option Name) (counter : ℕ) (left : TriesLeft w.client of body v.seen w.seen last (body.tries - counter)) (few : counter < body.tries) (same : x.client ≡ w.client) where
+module _ (v w x y : ClientView) (of : Name) (body : Numbered) (last : Option Name) (counter : ℕ) (left : TriesLeft w.client of body v.seen w.seen last (body.tries - counter)) (few : counter < body.tries) (same : x.client ≡ w.client) where
   fewer : (c : Client) → TriesLeft c of body v.seen w.seen last (body.tries - counter) → TriesLeft c of body v.seen w.seen last (suc (body.tries - (counter + 1)))
   fewer c l = subst (TriesLeft c of body v.seen w.seen last) (let e : body.tries - counter ≡ suc (body.tries - (counter + 1)) = omega (arith, few) in e) l
 

@@ -19,6 +19,7 @@ use Rattle.qc_ledger.specs.Image.{AreLedgers, epoch_body, made_body, to_write}
 use Rattle.qc_ledger.specs.Mounted.{Mounts}
 use Rattle.qc_ledger.proofs.Firsts.{made_proper}
 use Rattle.qc_ledger.proofs.Writing.{epoch_fits}
+use Rattle.qc_refine.specs.Images.{CountUpTo}
 use Rattle.qc_refine.proofs.Restoring.ImageReadings.{read_again}
 use Rattle.qc_opening.proofs.KeptDisks.InOrder.{Bytes, are_bytes, each_holds}
 use Rattle.qc_refine.proofs.Order.DonesWalk.{all_front}
@@ -140,7 +141,7 @@ module _ (table : Table) where
     pub spelled : records ≡ map body.ledger.spell (Made (made_for 0 table) ∷ (old ++ Epoch epoch ∷ []))
     pub fit : All body.ledger.fits (Made (made_for 0 table) ∷ (old ++ Epoch epoch ∷ []))
     pub made_once : filter_map body.made_of old ≡ []
-    pub epochs : filter_map body.epoch_of old ++ epoch ∷ [] ≡ range_with_len 1 epoch
+    pub epochs : CountUpTo old epoch
     pub tops : filter_map logged_in old ≡ past.tops
     pub are_old : AreOld epoch past.tops
 

@@ -2,6 +2,7 @@
 use Rattle.std.proofs.Common.{◌≡◌, ℕ, ◌+◌, ◌<◌, List, [], ◌∷◌, ◌++◌, length, map, subst, sym, ap, refl, arith, inl, inr, ◌∙◌, add-one}
 use Rattle.std.specs.Prelude.{◌↔◌, Some, IfSome}
 use Rattle.std.proofs.lemmas.List.{append-nil, append_assoc, length-append, map-append}
+use Rattle.qc_names.specs.Padded.{head_of, tail_of}
 use Rattle.qc_codec.specs.declared.image.BadImage.{BadImage}
 use Rattle.qc_codec.specs.declared.image.ImageFault.{ImageFault}
 use Rattle.qc_codec.specs.declared.past.Past.{Past}
@@ -21,13 +22,6 @@ use Rattle.qc_opening.specs.Waiting.{GoesBack, IsTaken}
 use Rattle.qc_opening.specs.declared.mount_no.Reason.{Reason}
 use Rattle.qc_opening.proofs.Mountings.Disks.{among_at, mounted_for, not_behind, not_failed, unreached}
 use Rattle.qc_opening.proofs.Mountings.Numbered.{pairs_append, pairs_length, pairs_mapped, pairs_more, pairs_shifted}
-
--- what a disk tells, and what those behind it do
-pub told_first : {A : Type 0} (o p : A) (os ps : List A) → o ∷ os ≡ p ∷ ps → o ≡ p
-told_first o p os ps same = cc
-
-pub told_rest : {A : Type 0} (o p : A) (os ps : List A) → o ∷ os ≡ p ∷ ps → os ≡ ps
-told_rest o p os ps same = cc
 
 -- disk `copy + 1` is a copy's
 pub written_next : {D : Type 0} (view : D → View) (table : Table) (copy : ℕ) (Failed : Type 0) (old new : D) → IsMounted view (site.to_write copy table) Failed old new → IsMounted view (to_write table (copy + 1)) Failed old new
@@ -50,8 +44,8 @@ module _ {D : Type 0} {g : Ghosts D} (table : Table) (past : Past) (limit : ℕ)
   sound_copies number (disk ∷ disks) [] images copies tell = absurd copies
   sound_copies number (disk ∷ disks) (m ∷ mounted) [] copies tell = absurd cc
   sound_copies number (disk ∷ disks) (m ∷ mounted) (image ∷ images) copies tell = (
-    sound_copy number disk m image copies.0 (told_first _ _ _ _ tell),
-    sound_copies (number + 1) disks mounted images copies.1 (told_rest _ _ _ _ tell),
+    sound_copy number disk m image copies.0 (head_of _ _ _ _ tell),
+    sound_copies (number + 1) disks mounted images copies.1 (tail_of _ _ _ _ tell),
   )
 
   -- behind copies without a fault
@@ -62,13 +56,13 @@ module _ {D : Type 0} {g : Ghosts D} (table : Table) (past : Past) (limit : ℕ)
   fault_behind number copy [] [] disk rest (image ∷ images) bad copies is tell at fault =
       let same : copy ≡ number = omega (arith, is) in
       let Here : ℕ → Type 0 = λ n. (bad.disk ≡ n + 1) × IsFirstFault (site.IsFault n table past limit) bad.fault image in
-      inl (subst Here same (at, subst (λ o. IfSome o (IsFirstFault (site.IsFault copy table past limit) bad.fault)) (told_first _ _ _ _ tell) fault))
+      inl (subst Here same (at, subst (λ o. IfSome o (IsFirstFault (site.IsFault copy table past limit) bad.fault)) (head_of _ _ _ _ tell) fault))
   fault_behind number copy [] (m ∷ mounted) disk rest images bad copies is tell at fault = absurd copies
   fault_behind number copy (t ∷ taken) [] disk rest images bad copies is tell at fault = absurd copies
   fault_behind number copy (t ∷ taken) (m ∷ mounted) disk rest [] bad copies is tell at fault = absurd cc
   fault_behind number copy (t ∷ taken) (m ∷ mounted) disk rest (image ∷ images) bad copies is tell at fault = inr (
-    sound_copy number t m image copies.0 (told_first _ _ _ _ tell),
-    fault_behind (number + 1) copy taken mounted disk rest images bad copies.1 (omega (arith, is)) (told_rest _ _ _ _ tell) at fault,
+    sound_copy number t m image copies.0 (head_of _ _ _ _ tell),
+    fault_behind (number + 1) copy taken mounted disk rest images bad copies.1 (omega (arith, is)) (tail_of _ _ _ _ tell) at fault,
   )
 
   -- ONE AFTER ANOTHER

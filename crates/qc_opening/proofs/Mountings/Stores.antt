@@ -2,6 +2,7 @@
 use Rattle.std.proofs.Common.{◌≡◌, ℕ, ◌+◌, ◌<◌, ◌≤◌, List, [], ◌∷◌, length, subst, sym, ap, refl, arith, inl, inr, ◌∙◌, suc}
 use Rattle.std.specs.Prelude.{◌↔◌, Option, Some, IfSome, Result, Ok, Err, IfErr, IfOk, OnOk}
 use Rattle.std.specs.Result.{IsErrAnd}
+use Rattle.qc_names.specs.Padded.{head_of, tail_of}
 use Rattle.qc_codec.specs.declared.image.BadImage.{BadImage}
 use Rattle.qc_codec.specs.declared.image.ImageFault.{ImageFault}
 use Rattle.qc_codec.specs.declared.past.Past.{Past}
@@ -25,7 +26,7 @@ use Rattle.qc_opening.specs.declared.mount_no.MountNo.{MountNo}
 use Rattle.qc_opening.specs.declared.mount_no.MountNo.TheVariants as no
 use Rattle.qc_opening.specs.declared.mount_no.Reason.{Reason}
 use Rattle.qc_opening.specs.declared.mount_no.Reason.TheVariants.{Disk, Image, Memory}
-use Rattle.qc_opening.proofs.Mountings.InTurn.{sound_copies, told_first, told_rest}
+use Rattle.qc_opening.proofs.Mountings.InTurn.{sound_copies}
 use Rattle.qc_opening.proofs.Mountings.Disks.{among_at, among_more, mounted_for, not_behind_first, not_failed, not_first_failed, unreached}
 use Rattle.qc_opening.proofs.Mountings.Numbered.{pairs_length}
 
@@ -75,7 +76,7 @@ module _ {D : Type 0} {g : Ghosts D} (table : Table) (limit : ℕ) where
       where
         first_image : (images : List (List ℕ)) (bad : BadImage) → bad.disk ≡ 0 → IfSome (g.view back.before).content (ledger.IsFirstFault (ledger.IsFault table limit) bad.fault) → TellImages g.view (back.before ∷ back.rest) images → IsFirstFault table limit bad images
         first_image [] bad at fault told = absurd cc
-        first_image (image ∷ images) bad at fault told = inl (at, subst (λ o. IfSome o (ledger.IsFirstFault (ledger.IsFault table limit) bad.fault)) (told_first _ _ _ _ told) fault)
+        first_image (image ∷ images) bad at fault told = inl (at, subst (λ o. IfSome o (ledger.IsFirstFault (ledger.IsFault table limit) bad.fault)) (head_of _ _ _ _ told) fault)
 
   -- THE COPIES BEHIND IT
 
@@ -98,7 +99,7 @@ module _ {D : Type 0} {g : Ghosts D} (table : Table) (limit : ℕ) where
           later_image : (images : List (List ℕ)) (bad : BadImage) → ((behind : List (List ℕ)) → TellImages g.view mid behind → IsCopiesFault table limit past bad 0 behind) → TellImages g.view (taken.disk ∷ mid) images → IsFirstFault table limit bad images
           later_image [] bad fault told = absurd cc
           later_image (image ∷ images) bad fault told =
-              inr (sound_ledger taken.disk mounted past epoch image (λ p. IsCopiesFault table limit p bad 0 images) taken.has (told_first _ _ _ _ told) (fault images (told_rest _ _ _ _ told)))
+              inr (sound_ledger taken.disk mounted past epoch image (λ p. IsCopiesFault table limit p bad 0 images) taken.has (head_of _ _ _ _ told) (fault images (tail_of _ _ _ _ told)))
 
   -- THE STORE
 
@@ -108,8 +109,8 @@ module _ {D : Type 0} {g : Ghosts D} (table : Table) (limit : ℕ) where
     where
       by : (images : List (List ℕ)) → TellImages g.view (store.ledger_disk ∷ store.copy_disks) images → AreSound table limit images
       by [] told = absurd cc
-      by (image ∷ images) told = sound_ledger store.ledger_disk parts.book parts.past parts.epoch image (λ p. EachFrom (IsSoundCopy table limit p) 0 images) store.ledger_is (told_first _ _ _ _ told)
-          (sound_copies table parts.past limit 0 store.copy_disks parts.copies.items images store.copies_are (told_rest _ _ _ _ told))
+      by (image ∷ images) told = sound_ledger store.ledger_disk parts.book parts.past parts.epoch image (λ p. EachFrom (IsSoundCopy table limit p) 0 images) store.ledger_is (head_of _ _ _ _ told)
+          (sound_copies table parts.past limit 0 store.copy_disks parts.copies.items images store.copies_are (tail_of _ _ _ _ told))
 
   -- as many copies as disks behind the first
   pub store_size : (disks : List D) (parts : Parts D g) (copies : ℕ) → IsStoreOf table limit disks parts → length disks ≡ copies + 1 → length parts.copies.items ≡ copies

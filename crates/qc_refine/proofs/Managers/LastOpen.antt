@@ -13,6 +13,7 @@ use Rattle.qc_event.specs.Base.{Setting}
 use Rattle.qc_event.specs.History.{Past, Name, Asked, end, end_in, asked, ask_in, asks, ask_below, is_child}
 use Rattle.qc_event.specs.Manager.{waiting}
 use Rattle.qc_event.specs.Requests.{MayAsk}
+use Rattle.qc_event.specs.Standing.{AsksUnder}
 use Rattle.qc_event.specs.Legal.{Legal, MayHappen}
 use Rattle.qc_event.proofs.Absent.{same_itself}
 use Rattle.qc_event.proofs.LastNumber.{child_front}
@@ -78,7 +79,7 @@ pub record IsWaiting (past : Past) (m : Name) : Type 0 where
   pub parts : asks past m ≡ before ++ ask ∷ []
   pub ended : AllEnded past before
   pub going : end past ask.access ≡ None
-  pub asked_as : asked past ask.access ≡ Some (record { seat = seat; ask = ask })
+  pub asked_as : AsksUnder past seat ask
   pub child : is_child m ask.access ≡ true
 
 asked_now : (e : Entry) (past : Past) (ask : Ask) → e.event ≡ event.Ask ask → asked past ask.access ≡ None → asked (e ∷ past) ask.access ≡ Some (record { seat = e.seat; ask = ask })

@@ -1,5 +1,6 @@
 use Rattle.std.proofs.Common.{◌≡◌, ℕ, [], ◌∷◌, arith, refl, sym, inl, inr}
 use mathlib.Core.Bool.{true≢false}
+use Rattle.qc_names.specs.Padded.{head_of}
 use Rattle.qc_event.specs.Seats.{number_in}
 use Rattle.rows_laws.specs.Trails.{top, top2}
 use Rattle.rows_laws.proofs.runs_not_together.Goals as goal
@@ -16,11 +17,8 @@ returns-clause-third c = λ f. f.each_runs.1.1.0.bodies_run
 pub returns-clause-of_one_session : goal.returns-clause-of_one_session
 returns-clause-of_one_session c = λ f. true≢false (sym f.each_runs.0.in_turn.in_order)
 
-one_number : (first second : ℕ) → first ∷ [] ≡ second ∷ [] → first ≡ second
-one_number first second same = cc
-
 tops_apart : top ≡ top2 → ⊥
-tops_apart same = let numbers = one_number (number_in 1 1) (number_in 1 2) same in omega (arith, numbers)
+tops_apart same = let numbers = head_of (number_in 1 1) (number_in 1 2) [] [] same in omega (arith, numbers)
 
 -- no step of either session names it
 pub returns-clause-aborts_the_other : goal.returns-clause-aborts_the_other

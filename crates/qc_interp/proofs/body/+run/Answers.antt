@@ -8,7 +8,7 @@ use Rattle.qc_interp.specs.Running.{Runs, WhyStop, Ended, CutOff, Acted, HasActe
 use Rattle.qc_interp.specs.declared.stops.Finish.TheVariants as finish
 use Rattle.qc_interp.proofs.Listing.Lists.{kept_whole}
 use Rattle.qc_interp.proofs.Stepping.Results.{if_ok, if_err, any_err, same_err}
-use Rattle.qc_event.specs.declared.log.Short.TheVariants as short
+use Rattle.qc_event.specs.declared.short.Short.TheVariants as short
 use Rattle.qc_event.specs.History.{limit}
 use Rattle.qc_interp.proofs.Stepping.Ending.{cut_still}
 use Rattle.qc_interp.proofs.Branching.Joined.{joined_itself, joined_same, joined_trans}

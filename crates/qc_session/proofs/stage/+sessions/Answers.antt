@@ -2,7 +2,7 @@
 use Rattle.std.proofs.Common.{◌≡◌, ◌+◌, ◌-◌, ◌<◌, ◌≤◌, ℕ, true, List, [], ◌∷◌, length, map, take, drop, get_or, refl, sym, ap, ◌∙◌, subst, arith, Ok, Result}
 use Rattle.std.proofs.lemmas.List.{take_all}
 use Rattle.qc_event.specs.Base.{Setting}
-use Rattle.qc_event.specs.declared.log.Short.{Short}
+use Rattle.qc_event.specs.declared.short.Short.{Short}
 use Rattle.qc_event.specs.Tables.{setting_of}
 use Rattle.qc_desk.specs.declared.view.View.{View}
 use Rattle.qc_desk.specs.Entries.{IsOlder, entries_of}

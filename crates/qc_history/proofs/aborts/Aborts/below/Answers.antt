@@ -34,7 +34,7 @@ loop-next-preserved c =
     let stands = c.slot-next.ensures ∙ ap (λ xs. slice_index xs (next - 1)) c.deref.ensures.value in
     let here : slice_get (reverse past) (next - 1) ≡ Some e =
     ap (λ es. slice_get es (next - 1)) (reverse-reverse entries) ∙ c.at.ensures in
-    let added = c.in_ok-append.ensures ∙ ap (λ o. c.loop-next.found.items ++ option_to_list o) (c.aborted_in.ensures c.requires.kept.0 past c.requires.kept.2 c.requires.kept.3) in
+    let added = c.in_ok-append_some.ensures ∙ ap (λ o. c.loop-next.found.items ++ option_to_list o) (c.aborted_in.ensures c.requires.kept.0 past c.requires.kept.2 c.requires.kept.3) in
     subst (λ (x : ℕ × List Name). IsMidway past c.args.top.now x.0 x.1) (λ i. (sym stands i, sym added i)) (on.goes_on e here)
 
 pub returns : goal.returns

@@ -13,7 +13,7 @@ loop-place-preserved c =
     let theirs = grants (reverse c.args.entries.now) c.args.copy in
     let on = reads c.args.entries.now _ c.requires.kept c.args.copy _ c.places-place-items.ensures j c.loop-place-test.true in
     let grant = on.grant c.at.result c.at.ensures in
-    c.in_ok-append.ensures ∙ ap (λ gs. gs ++ option_to_list c.grant_of.result) c.loop-place.invariant
+    c.in_ok-append_some.ensures ∙ ap (λ gs. gs ++ option_to_list c.grant_of.result) c.loop-place.invariant
     ∙ ap (λ o. take j theirs ++ option_to_list o) (c.grant_of.ensures ∙ grant.1)
     ∙ sym (take_one theirs j grant.0 grant.2)
 

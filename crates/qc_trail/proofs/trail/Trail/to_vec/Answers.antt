@@ -13,7 +13,7 @@ one_more (x ∷ xs) (suc i) (suc n) is = ap (λ (l : List _). x ∷ l) (one_more
 
 pub loop-at-preserved : goal.loop-at-preserved
 loop-at-preserved c =
-    c.in_ok-append.ensures
+    c.in_ok-append_some.ensures
     ∙ ap (λ (l : List _). l ++ option_to_list c.get.result) c.loop-at.invariant
     ∙ ap (λ (o : _). take c.loop-at.at c.args.self.now ++ option_to_list o) c.get.ensures
     ∙ sym (one_more c.args.self.now c.loop-at.at (c.loop-at.at + 1) refl)

@@ -1,4 +1,4 @@
-use Rattle.qc_history.proofs.index.Index.take_in.Goals as goal
+use Rattle.qc_history.proofs.index.Index.push.Goals as goal
 
 pub returns-in_ok-add-in-Start-clause-ok : goal.returns-in_ok-add-in-Start-clause-ok
 returns-in_ok-add-in-Start-clause-ok c = c.in_ok-add-in-Start.ensures.ok c.args.entry.now c.in-Start.kind c.in-Start.is
