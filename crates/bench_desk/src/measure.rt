@@ -3,7 +3,7 @@ ghost use Rattle.std.specs.Prelude.{◌≡◌};
 
 use crate::tops::{abort_all, ended_all, start_all};
 use qc_desk::{Blank, DeskNo, Store};
-use qc_event::Base;
+use qc_event::{Base, Short};
 use std::alloc::{AllocError, Global};
 use std::io;
 use std::marker::Brand;
@@ -40,7 +40,7 @@ impl From<AllocError> for Trouble {
 impl From<DeskNo> for Trouble {
     fn from(no: DeskNo) -> Self {
         match no {
-            DeskNo::Memory => Trouble::Memory,
+            DeskNo::Short(Short::Memory) => Trouble::Memory,
             _ => Trouble::Desk,
         }
     }

@@ -4,7 +4,7 @@ ghost use Rattle.qc_desk.specs.Rules.{IsClient};
 ghost use Rattle.bench_desk.specs.Tops.{AreStarted};
 
 use qc_desk::{Desk, DeskNo, Pass, Store};
-use qc_event::{Cause, Name};
+use qc_event::{Cause, Name, Short};
 use qc_names::lists::append;
 use std::alloc::{AllocError, Global};
 use std::sync::Wait;
@@ -24,7 +24,7 @@ fn start_one<N: Store, R: Wait>(
     pass.known();
     match append(tops, top) {
         Ok(()) => Ok(()),
-        Err(AllocError) => Err(DeskNo::Memory),
+        Err(AllocError) => Err(DeskNo::Short(Short::Memory)),
     }
 }
 

@@ -20,7 +20,7 @@ use Rattle.qc_net.specs.Messages.{ask_of}
 use Rattle.qc_net.specs.Plan.{Plan}
 use Rattle.qc_desk.specs.declared.refusal.DeskNo.{DeskNo}
 use Rattle.qc_desk.specs.declared.view.View.{View}
-use Rattle.qc_desk.specs.Calling.{Entered, EnteredAs, Refused}
+use Rattle.qc_desk.specs.Calling.{Entered, EnteredAs, Looked}
 use Rattle.qc_desk.specs.Consulting.{HasAsked}
 use Rattle.qc_desk.specs.Known.{IsKnown}
 use Rattle.qc_desk.specs.Own.{CommitsOwn}
@@ -65,16 +65,16 @@ module _ (setting : Setting) (v w : View) (client : IsClient v) (known : IsKnown
   )
 
   -- a desk's call entered this event, or refused
-  pub entered_still : {T : Type 0} (r : Result T DeskNo) (against : Past → Option DeskNo) (ev : Event) → OnOk r (Entered against ev v w) → IfErr r (Refused against v w) → ask_of ev ≡ None → OfNoAccess v.seen ev → Still
-  entered_still (Ok x) against ev ok err none of = one_still ev (of_entered against ev v w ok) none of
-  entered_still (Err why) against ev ok err none of = none_still (of_looked v w err.0)
+  pub entered_still : {T E : Type 0} (r : Result T E) (Says : E → Type 0) (against : Past → Option DeskNo) (ev : Event) → OnOk r (Entered against ev v w) → IfErr r (λ why. Looked v w × Says why) → ask_of ev ≡ None → OfNoAccess v.seen ev → Still
+  entered_still (Ok x) Says against ev ok err none of = one_still ev (of_entered against ev v w ok) none of
+  entered_still (Err why) Says against ev ok err none of = none_still (of_looked v w err.0)
 
   -- it started a name, or refused
-  pub started_still : (r : Result Name DeskNo) (against : Past → Option DeskNo) (kd : Kind) (IsNext : Name → Past → Type 0) → IfOk r (λ n. EnteredAs against (λ past ev. IsNext n past × (ev ≡ event.Start n kd)) v w) → IfErr r (Refused against v w) → Still
-  started_still (Ok n) against kd IsNext ok err =
+  pub started_still : {E : Type 0} (r : Result Name E) (Says : E → Type 0) (against : Past → Option DeskNo) (kd : Kind) (IsNext : Name → Past → Type 0) → IfOk r (λ n. EnteredAs against (λ past ev. IsNext n past × (ev ≡ event.Start n kd)) v w) → IfErr r (λ why. Looked v w × Says why) → Still
+  started_still (Ok n) Says against kd IsNext ok err =
       one_still ok.1 (of_entered_as against (λ past ev. IsNext n past × (ev ≡ event.Start n kd)) v w ok) (ap ask_of ok.2.1)
       (λ m access. (ap (end_in m) ok.2.1, ap (gone_in m) ok.2.1))
-  started_still (Err why) against kd IsNext ok err = none_still (of_looked v w err.0)
+  started_still (Err why) Says against kd IsNext ok err = none_still (of_looked v w err.0)
 
 -- who commits at a client's word is no access
 pub commits_no_access : (setting : Setting) (past : Past) (seat : ℕ) (n : Name) (given : Answer) → Started past n (λ b. CommitsOwn setting past seat n given b b.kind) → Started past n (λ b. IsNoAccess b.kind)

@@ -31,7 +31,7 @@ use Rattle.qc_carry.proofs.AfterStart as after
 use Rattle.qc_carry.proofs.Carries as carries
 use Rattle.qc_carry.proofs.Orphans.{orphan_of, parent_orphan}
 use Rattle.qc_carry.proofs.OwnRequests.{no_request}
-use Rattle.qc_carry.proofs.Refusing.{child_dead, child_full}
+use Rattle.qc_carry.proofs.Refusing.{child_dead, child_want}
 use Rattle.qc_carry.proofs.Walking as walking
 
 -- which child was started, for an access
@@ -68,11 +68,10 @@ module _ (setting : Setting) (v w : View) (m : Name) (copy rec : ℕ) (op : Op) 
       let walk = walking.of_looked v w r.0 in
       let going = manager_open [] walk refl in
       ([], walk, (inl refl, orphan_of w.seen m a (child_dead w.seen m a r.1) going, going, no_child_new walk), refl)
-  cut_at_start no.Room r = ([], walking.of_looked v w r.0, (inl refl, child_full w.seen m r.1), refl)
-  cut_at_start no.Memory r = ([], walking.of_looked v w r.0, inl refl, refl)
-  cut_at_start no.Ended r = ([], walking.of_looked v w r.0, inl refl, refl)
-  cut_at_start no.Ready r = ([], walking.of_looked v w r.0, inl refl, refl)
-  cut_at_start (no.ChildrenOpen c) r = ([], walking.of_looked v w r.0, inl refl, refl)
+  cut_at_start (no.Short short) r = ([], walking.of_looked v w r.0, (inl refl, child_want w.seen m short r.1), refl)
+  cut_at_start no.Ended r = ([], walking.of_looked v w r.0, (inl refl, tt), refl)
+  cut_at_start no.Ready r = ([], walking.of_looked v w r.0, (inl refl, tt), refl)
+  cut_at_start (no.ChildrenOpen c) r = ([], walking.of_looked v w r.0, (inl refl, tt), refl)
 
   -- IT STARTS
 
@@ -124,10 +123,8 @@ module _ (setting : Setting) (v w : View) (m : Name) (copy rec : ℕ) (op : Op) 
         (inr (inl refl), managers_orphan a orphan freed.0, freed.0, freed.1),
         no_request v.number (event.End q.access (Abort (OrphanOf a))) (entry v.number (event.Start q.access kind.Access) ∷ []) refl ∙ no_request v.number (event.Start q.access kind.Access) [] refl,
       )
-  stopped_unasked u carry.Memory first second =
-      (entry v.number (event.Start q.access kind.Access) ∷ [], walking.walk_on v u w _ [] first second, inr (inl refl), no_request v.number (event.Start q.access kind.Access) [] refl)
-  stopped_unasked u carry.Room first (second, full) =
-      (entry v.number (event.Start q.access kind.Access) ∷ [], walking.walk_on v u w _ [] first second, (inr (inl refl), full), no_request v.number (event.Start q.access kind.Access) [] refl)
+  stopped_unasked u (carry.Short short) first (second, want) =
+      (entry v.number (event.Start q.access kind.Access) ∷ [], walking.walk_on v u w _ [] first second, (inr (inl refl), want), no_request v.number (event.Start q.access kind.Access) [] refl)
 
   -- IT HAS ASKED
 

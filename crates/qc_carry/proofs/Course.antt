@@ -40,8 +40,7 @@ of_begun seat q made (inr (inr (inr (why, is)))) = subst (AllByRecursion (IsOf q
 
 pub of_part : (v w : View) (m : Name) (q : Ask) (made : Past) (why : CarryNo) → IsPart v w m q made why → AllByRecursion (IsOf q.access) made
 of_part v w m q made (no.Orphan a) part = of_stopped v.number q a made part.0
-of_part v w m q made no.Memory part = of_begun v.number q made part
-of_part v w m q made no.Room part = of_begun v.number q made part.0
+of_part v w m q made (no.Short short) part = of_begun v.number q made part.0
 
 pub of_ended : (seat : ℕ) (q : Ask) (r : Became) → AllByRecursion (IsOf q.access) (access_entries seat q r)
 of_ended seat q (Replied tuple) = (refl, (refl, (refl, tt)))
@@ -76,14 +75,12 @@ module _ (setting : Setting) (v u w : View) (m : Name) (copy rec : ℕ) (op : Op
       let freed = beginning.freed_at setting v w m copy rec op client may legal _ all
       (carries.orphaned_asked setting v.number v.seen m copy rec op (calls.client v client) may all.newer (subst (Legal setting) all.grown legal) a all.own) in
       (orphaning v.number q.access a ++ began v.number q, all, (inr (inr refl), beginning.managers_orphan setting v w m copy rec op client may legal a orphan freed.0, freed.0, freed.1))
-  course (Err no.Memory) ends = left no.Memory (λ made begun. begun) ends
-  course (Err no.Room) (ends, full) = left no.Room (λ made begun. (begun, full)) ends
+  course (Err (no.Short short)) (ends, want) = left (no.Short short) (λ made begun. (begun, want)) ends
 
 -- its answer did not come, for want of memory or of room
 pub cut_asked : (v u w : View) (m : Name) (q : Ask) (why : CarryNo) → Walk v u (began v.number q) → IsShort u w why → Cut v w m q why
 cut_asked v u w m q (no.Orphan a) first second = absurd second
-cut_asked v u w m q no.Memory first second = (began v.number q, walking.walk_on v u w (began v.number q) [] first second, inr (inr (inl refl)))
-cut_asked v u w m q no.Room first second = (began v.number q, walking.walk_on v u w (began v.number q) [] first second.0, (inr (inr (inl refl)), second.1))
+cut_asked v u w m q (no.Short short) first second = (began v.number q, walking.walk_on v u w (began v.number q) [] first second.0, (inr (inr (inl refl)), second.1))
 
 -- WHAT ITS CARRIER SAYS
 
@@ -122,5 +119,4 @@ module _ (setting : Setting) (v w : View) (m : Name) (copy rec : ℕ) (op : Op) 
 
       by_why : (x : CarryNo) → IsPart v w m request made x → WasNotCarried (carriage v.number v.seen w.seen m copy rec op) x
       by_why (no.Orphan a) (stopped, orphan, going, closed) = record { made = made; stopped = stopped; added = added; orphan = orphan; not_ended = going; children_ended = closed }
-      by_why no.Memory begun = record { made = made; part = begun; added = added }
-      by_why no.Room (begun, full) = (record { made = made; part = begun; added = added }, full)
+      by_why (no.Short short) (begun, want) = (record { made = made; part = begun; added = added }, want)

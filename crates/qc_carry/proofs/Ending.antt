@@ -25,7 +25,7 @@ use Rattle.qc_managers.specs.declared.carrier.CarryNo.{CarryNo}
 use Rattle.qc_managers.specs.declared.carrier.CarryNo.TheVariants as no
 use Rattle.qc_desk.specs.declared.view.View.{View}
 use Rattle.qc_desk.proofs.Lasting.{orphan_stays}
-use Rattle.qc_carry.specs.Access.{Ends, IsLeft, IsShort, IsStopped, Waits, ending, orphaning, want_of}
+use Rattle.qc_carry.specs.Access.{Ends, IsLeft, IsShort, IsStopped, Waits, ending, orphaning}
 use Rattle.qc_carry.specs.Walk.{Walk}
 use Rattle.qc_carry.proofs.Answered.{unable_still}
 use Rattle.qc_carry.proofs.Course.{go_on}
@@ -62,18 +62,15 @@ missed_refused past n r is = or_right (is_some (gone past n)) (is_some (refused 
 
 pub ends_stopped : (v u w : View) (ask : Ask) (why : CarryNo) → Walk v u [] → IsStopped u w ask.access why → Ends v w ask (Err why)
 ends_stopped v u w ask (no.Orphan a) first (second, orphan) = (go_on v u w [] (λ k. orphaning k ask.access a) first second, orphan)
-ends_stopped v u w ask no.Memory first second = inl (walking.walk_on v u w [] [] first second)
-ends_stopped v u w ask no.Room first (second, full) = (inl (walking.walk_on v u w [] [] first second), full)
+ends_stopped v u w ask (no.Short short) first (second, want) = (inl (walking.walk_on v u w [] [] first second), want)
 
 pub ends_short : (v u w : View) (ask : Ask) (why : CarryNo) → Walk v u [] → IsShort u w why → Ends v w ask (Err why)
 ends_short v u w ask (no.Orphan a) first second = absurd second
-ends_short v u w ask no.Memory first second = inl (walking.walk_on v u w [] [] first second)
-ends_short v u w ask no.Room first (second, full) = (inl (walking.walk_on v u w [] [] first second), full)
+ends_short v u w ask (no.Short short) first (second, want) = (inl (walking.walk_on v u w [] [] first second), want)
 
 pub ends_gone : (v u w : View) (ask : Ask) (reason : Why) (why : CarryNo) → Walk v u (entry v.number (event.Gone ask.access reason) ∷ []) → IsShort u w why → Ends v w ask (Err why)
 ends_gone v u w ask reason (no.Orphan a) first second = absurd second
-ends_gone v u w ask reason no.Memory first second = inr (reason, walking.walk_on v u w _ [] first second)
-ends_gone v u w ask reason no.Room first (second, full) = (inr (reason, walking.walk_on v u w _ [] first second), full)
+ends_gone v u w ask reason (no.Short short) first (second, want) = (inr (reason, walking.walk_on v u w _ [] first second), want)
 
 -- IT ENDS AFTER ITS PASS HAS SEEN MORE
 
@@ -87,13 +84,12 @@ left_on v u w n first (inr (why, walk)) = inr (why, on_nothing v u w (λ k. entr
 pub ends_on : (v u w : View) (ask : Ask) (result : Result Carried CarryNo) → Walk v u [] → Ends u w ask result → Ends v w ask result
 ends_on v u w ask (Ok told) first (walk, stands) = (on_nothing v u w (λ k. ending k ask (became told)) first walk, stands)
 ends_on v u w ask (Err (no.Orphan a)) first (walk, orphan) = (on_nothing v u w (λ k. orphaning k ask.access a) first walk, orphan)
-ends_on v u w ask (Err no.Memory) first left = left_on v u w ask.access first left
-ends_on v u w ask (Err no.Room) first (left, full) = (left_on v u w ask.access first left, full)
+ends_on v u w ask (Err (no.Short short)) first (left, want) = (left_on v u w ask.access first left, want)
 
 -- what was wanting for an answer
-pub want_short : (v w : View) (want : Short) → Walk v w [] → (want ≡ short.Room → length w.seen ≡ limit) → IsShort v w (want_of want)
+pub want_short : (v w : View) (want : Short) → Walk v w [] → (want ≡ short.Room → length w.seen ≡ limit) → IsShort v w (no.Short want)
 want_short v w short.Room walk full = (walk, full refl)
-want_short v w short.Memory walk full = walk
+want_short v w short.Memory walk full = (walk, tt)
 
 -- THE ENTRIES OF ITS END
 
@@ -104,5 +100,4 @@ left_walk v w n (inr (why, walk)) = (entry v.number (event.Gone n why) ∷ [], w
 pub ends_walk : (v w : View) (ask : Ask) (result : Result Carried CarryNo) → Ends v w ask result → (made : Past) × Walk v w made
 ends_walk v w ask (Ok told) (walk, stands) = (ending v.number ask (became told), walk)
 ends_walk v w ask (Err (no.Orphan a)) (walk, orphan) = (orphaning v.number ask.access a, walk)
-ends_walk v w ask (Err no.Memory) left = left_walk v w ask.access left
-ends_walk v w ask (Err no.Room) (left, full) = left_walk v w ask.access left
+ends_walk v w ask (Err (no.Short short)) (left, want) = left_walk v w ask.access left

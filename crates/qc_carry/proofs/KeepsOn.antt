@@ -82,8 +82,7 @@ module _ (setting : Setting) (v w : View) (m : Name) (copy rec : ℕ) (op : Op) 
 
     pub cut_short : (u : View) (why : CarryNo) → Walk v u (began v.number q) → IsShort u w why → Keeps v.number plan held patience v.seen false → Keeps w.number plan' held' patience w.seen (is_cut_off (Err why))
     cut_short u (no.Orphan a) first second keeps = absurd second
-    cut_short u no.Memory first second keeps = unsent (walking.walk_on v u w (began v.number q) [] first second) keeps
-    cut_short u no.Room first second keeps = unsent (walking.walk_on v u w (began v.number q) [] first second.0) keeps
+    cut_short u (no.Short short) first second keeps = unsent (walking.walk_on v u w (began v.number q) [] first second.0) keeps
 
     -- it has asked, and what was sent came back
     module _ (u : View) (first : Walk v u (began v.number q)) (older : IsOlder u.seen w.seen) (what : Sent) (told : IfSome plan (λ p. IsSending (sending p held q patience) plan' held' (λ (a : Ask). HasAnswered a.copy u.seen a) None None what)) where
@@ -109,5 +108,4 @@ module _ (setting : Setting) (v w : View) (m : Name) (copy rec : ℕ) (op : Op) 
       sent (Err (no.Orphan a)) (walk, orphan) tells keeps =
           ∥∥₁_map keeps (ended_after (orphaning v.number q.access a ++ began v.number q) (go_on v u w _ (λ k. orphaning k q.access a) first walk)
           (refl, (refl, (refl, tt))) (no_request v.number (event.End q.access (Abort (OrphanOf a))) (began v.number q) refl ∙ began_request v.number q) None tells refl)
-      sent (Err no.Memory) ends tells keeps = ∥∥₁_map keeps (left_after ends)
-      sent (Err no.Room) (ends, full) tells keeps = ∥∥₁_map keeps (left_after ends)
+      sent (Err (no.Short short)) (ends, want) tells keeps = ∥∥₁_map keeps (left_after ends)

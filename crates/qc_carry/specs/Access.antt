@@ -1,5 +1,5 @@
 -- One access of a manager, by the entries of its client alone: what it waits for, how it ends, and what is left where it is cut off.
-use Rattle.std.specs.Prelude.{ℕ, ◌≡◌, ◌⊎◌, ◌||◌, not, IsTrue, [], ◌∷◌, length, None, Some, Result, Ok, Err}
+use Rattle.std.specs.Prelude.{ℕ, ◌≡◌, ◌⊎◌, ◌||◌, not, IsTrue, [], ◌∷◌, None, Some, Result, Ok, Err}
 use Rattle.qc_event.specs.declared.event.Answer.TheVariants as answer
 use Rattle.qc_event.specs.declared.event.Ask.{Ask}
 use Rattle.qc_event.specs.declared.event.Cause.TheVariants.{Missed, Orphan as OrphanOf}
@@ -7,12 +7,12 @@ use Rattle.qc_event.specs.declared.event.Event.TheVariants as event
 use Rattle.qc_event.specs.declared.event.How.TheVariants.{Commit, Abort}
 use Rattle.qc_event.specs.declared.event.Refusal.TheVariants as refusal
 use Rattle.qc_event.specs.declared.event.Why.{Why}
-use Rattle.qc_event.specs.declared.short.Short.{Short}
-use Rattle.qc_event.specs.declared.short.Short.TheVariants as short
-use Rattle.qc_event.specs.History.{Past, Name, limit, gone, refused, end}
+use Rattle.qc_event.specs.declared.short.Short.TheVariants.{Memory}
+use Rattle.qc_event.specs.History.{Past, Name, gone, refused, end}
 use Rattle.qc_event.specs.Manager.{Replied, Missing, BlockedBy, Result as Became}
 use Rattle.qc_event.specs.Requests.{is_fault, was_unable}
 use Rattle.qc_event.specs.Standing.{AsksUnder, IsOrphanOf, open_child}
+use Rattle.qc_event.specs.Wants.{IsWant}
 use Rattle.qc_managers.specs.Carrying.{entry, access_entries, became, IsBegun, WasStopped}
 use Rattle.qc_managers.specs.declared.carrier.Carried.{Carried}
 use Rattle.qc_managers.specs.declared.carrier.Carried.TheVariants.{Reply, Blocked, Gone}
@@ -50,25 +50,18 @@ orphaning seat access ancestor = entry seat (event.End access (Abort (OrphanOf a
 -- why an access is not carried on, by what a desk answers to a call
 abbrev pub no_of : DeskNo → CarryNo
 no_of (desk_no.Orphan a) = no.Orphan a
-no_of desk_no.Room = no.Room
-no_of _ = no.Memory
-
--- why an access is not carried on for want of memory or of room
-abbrev pub want_of : Short → CarryNo
-want_of short.Room = no.Room
-want_of short.Memory = no.Memory
+no_of (desk_no.Short short) = no.Short short
+no_of _ = no.Short Memory
 
 -- nothing was entered, for want of memory or of room
 abbrev pub IsShort : View → View → CarryNo → Type 0
 IsShort v w (no.Orphan a) = ⊥
-IsShort v w no.Memory = Walk v w []
-IsShort v w no.Room = Walk v w [] × (length w.seen ≡ limit)
+IsShort v w (no.Short short) = Walk v w [] × IsWant w.seen short
 
 -- an access that has started is stopped: it ended as an orphan, or nothing was entered
 abbrev pub IsStopped : View → View → Name → CarryNo → Type 0
 IsStopped v w access (no.Orphan a) = Walk v w (orphaning v.number access a) × IsOrphanOf w.seen access a
-IsStopped v w access no.Memory = Walk v w []
-IsStopped v w access no.Room = Walk v w [] × (length w.seen ≡ limit)
+IsStopped v w access (no.Short short) = Walk v w [] × IsWant w.seen short
 
 -- nothing was entered, or the access was given up
 abbrev pub IsLeft : View → View → Name → Type 0
@@ -78,14 +71,12 @@ IsLeft v w access = Walk v w [] ⊎ ((why : Why) × Walk v w (entry v.number (ev
 abbrev pub Ends : View → View → Ask → Result Carried CarryNo → Type 0
 Ends v w ask (Ok told) = Walk v w (ending v.number ask (became told)) × Stands w.seen ask.access told
 Ends v w ask (Err (no.Orphan a)) = Walk v w (orphaning v.number ask.access a) × IsOrphanOf w.seen ask.access a
-Ends v w ask (Err no.Memory) = IsLeft v w ask.access
-Ends v w ask (Err no.Room) = IsLeft v w ask.access × (length w.seen ≡ limit)
+Ends v w ask (Err (no.Short short)) = IsLeft v w ask.access × IsWant w.seen short
 
 -- the entries of an access that was cut off, by why
 abbrev pub IsPart : View → View → Name → Ask → Past → CarryNo → Type 0
 IsPart v w m ask made (no.Orphan a) = WasStopped v.number ask a made × IsOrphanOf w.seen m a × (end w.seen m ≡ None) × (open_child w.seen m ≡ None)
-IsPart v w m ask made no.Memory = IsBegun v.number ask made
-IsPart v w m ask made no.Room = IsBegun v.number ask made × (length w.seen ≡ limit)
+IsPart v w m ask made (no.Short short) = IsBegun v.number ask made × IsWant w.seen short
 
 -- a manager's next access was cut off
 abbrev pub Cut : View → View → Name → Ask → CarryNo → Type 0

@@ -85,6 +85,5 @@ WasGivenUp reason (Err e) = Unit {0}
 
 -- whether an access was cut off, so that what was sent and the history may part
 abbrev pub is_cut_off : Result Carried CarryNo → Bool
-is_cut_off (Err no.Memory) = true
-is_cut_off (Err no.Room) = true
+is_cut_off (Err (no.Short short)) = true
 is_cut_off _ = false

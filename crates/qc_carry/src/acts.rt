@@ -11,7 +11,7 @@ ghost use Rattle.qc_event.specs.History.{end, is_ready, limit, start};
 ghost use Rattle.qc_event.specs.Listed.{listed};
 ghost use Rattle.qc_event.specs.Standing.{IsUser, Started};
 ghost use Rattle.qc_event.specs.Tables.{setting_of};
-ghost use Rattle.qc_desk.specs.Calling.{Entered, Refused, Shown, StartsChild, StartsTop};
+ghost use Rattle.qc_desk.specs.Calling.{Entered, Refused, Shown, StartsChild, StartsTop, Wanted};
 ghost use Rattle.qc_history.specs.Looking.{is_marked_for};
 ghost use Rattle.qc_desk.specs.Own.{MayAbortOwn, MayCommitOwn, MayStartOwn};
 ghost use Rattle.qc_desk.specs.Refusing.{against_abort, against_child, against_commit, against_nothing, against_ready};
@@ -20,7 +20,7 @@ ghost use Rattle.qc_system.specs.Kept.{HasRefused};
 use crate::line::Line;
 use qc_desk::DeskNo;
 use qc_disk::Disk;
-use qc_event::{Answer, Cause, How, Kind, Name};
+use qc_event::{Answer, Cause, How, Kind, Name, Short};
 use qc_ledger::LedgerNo;
 use qc_net::Link;
 use qc_system::Mounting;
@@ -28,10 +28,10 @@ use std::sync::Wait;
 
 impl<'a, R: Wait, D: Disk + Drop, L: Link + Drop, N: Mounting> Line<'a, R, D, L, N> {
     /// Starts the next top, for a session with a body. The only errors are want of memory and of room.
-    pub fn start_top(&mut self, session: u8, body: u32) -> Result<Name, DeskNo>
+    pub fn start_top(&mut self, session: u8, body: u32) -> Result<Name, Short>
         ensures ok { IfOk result (λ n. StartsTop self.old.system.now.desk.epoch session body n
             self.old.pass self.new.pass) }
-        ensures err { IfErr result (Refused against_nothing self.old.pass self.new.pass) }
+        ensures err { IfErr result (Wanted self.old.pass self.new.pass) }
         ensures rest { KeepsRest self.old self.new }
     {
         self.system
@@ -105,12 +105,12 @@ impl<'a, R: Wait, D: Disk + Drop, L: Link + Drop, N: Mounting> Line<'a, R, D, L,
     }
 
     /// A user transaction marks a session. The only errors are want of memory and of room.
-    pub fn mark(&mut self, by: &Name, session: u8) -> Result<(), DeskNo>
+    pub fn mark(&mut self, by: &Name, session: u8) -> Result<(), Short>
         requires user { Started self.old.pass.seen by.now (λ b. IsUser b.kind) }
         requires small { session ≤ 15 }
         ensures ok { OnOk result (Entered against_nothing (event.Mark by.now session)
             self.old.pass self.new.pass) }
-        ensures err { IfErr result (Refused against_nothing self.old.pass self.new.pass) }
+        ensures err { IfErr result (Wanted self.old.pass self.new.pass) }
         ensures rest { KeepsRest self.old self.new }
     {
         self.system

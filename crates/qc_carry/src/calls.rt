@@ -17,7 +17,7 @@ ghost use Rattle.qc_carry.specs.Access.{IsShort, IsStopped, Waits};
 ghost use Rattle.qc_carry.specs.Walk.{Walk};
 
 use qc_desk::{Desk, DeskNo, Pass, Store};
-use qc_event::{Ask, Cause, Name, Why};
+use qc_event::{Ask, Cause, Name, Short, Why};
 use qc_managers::CarryNo;
 use std::sync::Wait;
 
@@ -28,8 +28,8 @@ pub(crate) fn no_of(no: &DeskNo) -> CarryNo
 {
     match no {
         DeskNo::Orphan(ancestor) => CarryNo::Orphan(*ancestor),
-        DeskNo::Room => CarryNo::Room,
-        DeskNo::Memory | DeskNo::Ended | DeskNo::Ready | DeskNo::ChildrenOpen(_) => CarryNo::Memory,
+        DeskNo::Short(short) => CarryNo::Short(*short),
+        DeskNo::Ended | DeskNo::Ready | DeskNo::ChildrenOpen(_) => CarryNo::Short(Short::Memory),
     }
 }
 
@@ -111,8 +111,8 @@ pub(crate) fn stopped<R: Wait, N: Store>(
 {
     match no {
         DeskNo::Orphan(ancestor) => orphaned(rt, desk, pass, access, ancestor),
-        DeskNo::Room => CarryNo::Room,
-        DeskNo::Memory | DeskNo::Ended | DeskNo::Ready | DeskNo::ChildrenOpen(_) => CarryNo::Memory,
+        DeskNo::Short(short) => CarryNo::Short(*short),
+        DeskNo::Ended | DeskNo::Ready | DeskNo::ChildrenOpen(_) => CarryNo::Short(Short::Memory),
     }
 }
 
@@ -132,9 +132,6 @@ pub(crate) fn give_up<R: Wait, N: Store>(
     ensures err { IfErr result (IsShort pass.old pass.new) }
     ensures known { IsKnown (setting_of N.table N.base) pass.new }
 {
-    let given_up = desk.gone(rt, pass, &ask.access, why);
-    match given_up {
-        Ok(()) => Ok(()),
-        Err(no) => Err(no_of(&no)),
-    }
+    desk.gone(rt, pass, &ask.access, why)?;
+    Ok(())
 }

@@ -27,7 +27,7 @@ pub(crate) fn is_cut_off(carried: &Result<Carried, CarryNo>) -> bool
     ensures { result ≡ words.is_cut_off carried.now }
 {
     match carried {
-        Err(CarryNo::Memory | CarryNo::Room) => true,
+        Err(CarryNo::Short(_)) => true,
         Ok(_) | Err(CarryNo::Orphan(_)) => false,
     }
 }

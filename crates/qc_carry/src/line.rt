@@ -15,7 +15,7 @@ use crate::begin::NextAccess;
 use crate::carry::{access, is_cut_off};
 use qc_desk::Pass;
 use qc_disk::Disk;
-use qc_event::{Name, Op};
+use qc_event::{Name, Op, Short};
 use qc_managers::{Carried, Carrier, CarryNo};
 use qc_net::{Courier, Link};
 use qc_system::{Boxed, Mounting, System};
@@ -127,7 +127,7 @@ impl<'a, R: Wait, D: Disk + Drop, L: Link + Drop, N: Mounting> Carrier for Line<
 
     fn carry(&mut self, manager: &Name, copy: u8, rec: u8, op: Op) -> Result<Carried, CarryNo> {
         if self.torn {
-            return Err(CarryNo::Memory);
+            return Err(CarryNo::Short(Short::Memory));
         }
         let next = NextAccess {
             manager: *manager,

@@ -12,7 +12,6 @@ ghost use Rattle.qc_desk.specs.Consulting.{HasAsked};
 ghost use Rattle.qc_desk.specs.Known.{IsKnown};
 ghost use Rattle.qc_desk.specs.Rules.{IsClient};
 ghost use Rattle.qc_site.specs.Answers.{HasAnswered};
-ghost use Rattle.qc_carry.specs.Access as words;
 ghost use Rattle.qc_carry.specs.Access.{IsShort};
 ghost use Rattle.qc_carry.specs.Walk.{Walk};
 
@@ -48,16 +47,6 @@ fn is_full(served: &Result<Answered, Short>) -> bool
     match served {
         Err(Short::Room) => true,
         Ok(_) | Err(Short::Memory) => false,
-    }
-}
-
-// Why an access is not carried on where its copy did not answer.
-fn want_of(short: Short) -> CarryNo
-    ensures { result ≡ words.want_of short }
-{
-    match short {
-        Short::Room => CarryNo::Room,
-        Short::Memory => CarryNo::Memory,
     }
 }
 
@@ -132,8 +121,5 @@ pub(crate) fn send<R: Wait, D: Disk + Drop, L: Link, N: Mounting>(
     let sent = courier.send(ask, &mut way, patience);
     let Way { pass: own, .. } = way;
     *pass = own;
-    match sent {
-        Ok(sent) => Ok(sent),
-        Err(short) => Err(want_of(short)),
-    }
+    Ok(sent?)
 }

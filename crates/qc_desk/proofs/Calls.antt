@@ -1,19 +1,20 @@
 -- What a call under the lock has made of a pass, put together of its look and what it entered.
 use Rattle.std.proofs.Common.{◌≡◌, ℕ, length, ◌<◌, ◌≤◌, zero, suc, refl, sym, ap, ◌∙◌, subst, arith, inl, inr}
-use Rattle.std.specs.Prelude.{Option, None, Result, Err, IsErrOf, nat_lt, ◌==◌, IsTrue}
+use Rattle.std.specs.Prelude.{Option, None, Result, Ok, Err, IfErr, IsErrOf, nat_lt, ◌==◌, IsTrue}
 use Rattle.std.proofs.lemmas.Bool.{lt-ltb, or_right}
 use Rattle.qc_event.specs.Base.{Setting}
 use Rattle.qc_event.specs.declared.event.Event.{Event}
 use Rattle.qc_event.specs.History.{Past, limit}
 use Rattle.qc_event.specs.Legal.{Allowed}
 use Rattle.qc_event.specs.Seats.{is_client}
+use Rattle.qc_event.specs.Wants.{IsWant}
 use Rattle.qc_desk.specs.declared.refusal.DeskNo.{DeskNo}
 use Rattle.qc_event.specs.declared.short.Short.{Short}
 use Rattle.qc_event.specs.declared.short.Short.TheVariants as short
 use Rattle.qc_desk.specs.declared.view.View.{View}
 use Rattle.qc_desk.specs.Calling.{IsLook, IsEntry, Entered, Refused}
 use Rattle.qc_desk.specs.Entries.{IsSince, entry}
-use Rattle.qc_desk.specs.Refusing.{Refuses, IsWant, want}
+use Rattle.qc_desk.specs.Refusing.{Refuses}
 use Rattle.qc_desk.specs.Rules.{IsClient, knows, extends}
 
 -- the number of a client's pass is a client's
@@ -25,9 +26,10 @@ client v c = by_number v.number c.1
     by_number (suc n) h = or_right (suc n == 0) (nat_lt 17 (suc n)) (lt-ltb 17 (suc n) (h (omega arith)))
 
 -- why nothing was appended, where nothing was against it
-pub wanted : (past : Past) (s : Short) (why : DeskNo) (r : Result (Unit {0}) Short) → r ≡ Err s → why ≡ want s → (IsErrOf r short.Room → length past ≡ limit) → IsWant past why
-wanted past short.Memory why r is named room = subst (IsWant past) (sym named) tt
-wanted past short.Room why r is named room = subst (IsWant past) (sym named) (room is)
+pub wants : (past : Past) (r : Result (Unit {0}) Short) → (IsErrOf r short.Room → length past ≡ limit) → IfErr r (IsWant past)
+wants past (Ok u) room = tt
+wants past (Err short.Memory) room = tt
+wants past (Err short.Room) room = room refl
 
 -- what holds of a history and a number still does after a look
 pub at_look : (P : Past → ℕ → Type 0) (past now : Past) (v w : View) → IsLook past now v w → P past v.number → P now w.number

@@ -1,18 +1,12 @@
 -- Why a call appends nothing, by the history at its step: each test in turn, the first that fails.
-use Rattle.std.specs.Prelude.{◌≡◌, ◌⊎◌, length, Option, None, Some, if◌then◌else◌}
+use Rattle.std.specs.Prelude.{◌≡◌, ◌⊎◌, Option, None, Some, if◌then◌else◌}
 use Rattle.std.specs.Option.{option_or, option_map}
-use Rattle.qc_event.specs.declared.short.Short.{Short}
-use Rattle.qc_event.specs.declared.short.Short.TheVariants as short
 use Rattle.qc_event.specs.Dead.{dead, outcome, is_live, is_committed}
-use Rattle.qc_event.specs.History.{Past, Name, limit, is_ready}
+use Rattle.qc_event.specs.History.{Past, Name, is_ready}
 use Rattle.qc_event.specs.Standing.{open_child}
+use Rattle.qc_event.specs.Wants.{IsWant}
 use Rattle.qc_desk.specs.declared.refusal.DeskNo.{DeskNo}
 use Rattle.qc_desk.specs.declared.refusal.DeskNo.TheVariants as no
-
--- memory or room was wanting
-abbrev pub want : Short → DeskNo
-want short.Memory = no.Memory
-want short.Room = no.Room
 
 -- THE TESTS
 
@@ -62,12 +56,11 @@ against_access n past = if_dead past n
 abbrev pub against_nothing : Past → Option DeskNo
 against_nothing past = None
 
--- memory was wanting, or the history takes no more entries
-abbrev pub IsWant : Past → DeskNo → Type 0
-IsWant past no.Memory = Unit {0}
-IsWant past no.Room = length past ≡ limit
-IsWant past _ = ⊥
+-- memory or room was wanting
+abbrev pub IsShort : Past → DeskNo → Type 0
+IsShort past (no.Short short) = IsWant past short
+IsShort past _ = ⊥
 
 -- Why nothing was appended: this test failed first, or none did and memory or room was wanting.
 abbrev pub Refuses : (Past → Option DeskNo) → Past → DeskNo → Type 0
-Refuses against past why = (against past ≡ Some why) ⊎ ((against past ≡ None) × IsWant past why)
+Refuses against past why = (against past ≡ Some why) ⊎ ((against past ≡ None) × IsShort past why)

@@ -6,7 +6,7 @@ ghost use Rattle.qc_event.specs.declared.event.Event.TheVariants as event;
 ghost use Rattle.qc_event.specs.declared.event.How.TheVariants.{Commit as Commits};
 ghost use Rattle.qc_event.specs.Requests.{MayGiveUp};
 ghost use Rattle.qc_event.specs.Tables.{setting_of};
-ghost use Rattle.qc_desk.specs.Calling.{Entered, Refused};
+ghost use Rattle.qc_desk.specs.Calling.{Entered, Refused, Wanted};
 ghost use Rattle.qc_desk.specs.Known.{IsKnown};
 ghost use Rattle.qc_desk.specs.Own.{IsOwnAccess, MayAskOwn, MayReplyOwn};
 ghost use Rattle.qc_desk.specs.Refusing.{against_access, against_nothing};
@@ -16,7 +16,7 @@ use crate::desk::Desk;
 use crate::pass::Pass;
 use crate::refusal::DeskNo;
 use crate::store::Store;
-use qc_event::{Answer, Ask, Event, How, Name, Tuple, Why};
+use qc_event::{Answer, Ask, Event, How, Name, Short, Tuple, Why};
 use std::sync::Wait;
 
 impl<N: Store> Desk<N> {
@@ -44,13 +44,13 @@ impl<N: Store> Desk<N> {
         pass: &mut Pass<N>,
         access: &Name,
         why: Why,
-    ) -> Result<(), DeskNo>
+    ) -> Result<(), Short>
         requires client { IsClient pass.old }
         requires own { IsOwnAccess pass.old.seen pass.old.number access.now }
         requires may { MayGiveUp pass.old.seen pass.old.number access.now why }
         ensures ok { OnOk result (Entered against_nothing
             (event.Gone access.now why) pass.old pass.new) }
-        ensures err { IfErr result (Refused against_nothing pass.old pass.new) }
+        ensures err { IfErr result (Wanted pass.old pass.new) }
         ensures known { IsKnown (setting_of N.table N.base) pass.new }
     {
         let mut locked = self.locked.lock(rt);
@@ -59,7 +59,7 @@ impl<N: Store> Desk<N> {
             access: *access,
             why,
         };
-        locked.enter(&self.room, pass, None, event)
+        locked.append(&self.room, pass, event)
     }
 
     /// An access commits with the reply that was granted, and seen. Refused where it is dead.

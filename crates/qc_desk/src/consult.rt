@@ -9,20 +9,18 @@ ghost use Rattle.qc_event.specs.History.{grants};
 ghost use Rattle.qc_event.specs.Seats.{copy_seat};
 ghost use Rattle.qc_event.specs.Tables.{setting_of};
 ghost use Rattle.qc_moss.specs.Follows.{Follows};
-ghost use Rattle.qc_desk.specs.Calling.{IsRoomOf, Refused, Shown};
+ghost use Rattle.qc_desk.specs.Calling.{IsRoomOf, Shown, Wanted};
 ghost use Rattle.qc_desk.specs.Consulting as words;
 ghost use Rattle.qc_desk.specs.Consulting.{HasAsked, IsTold, granted_before};
 ghost use Rattle.qc_desk.specs.declared.consult.Consulted.TheVariants.{Fresh};
 ghost use Rattle.qc_desk.specs.Known.{AreKnown, IsKnown};
-ghost use Rattle.qc_desk.specs.Refusing.{against_nothing};
 
 use crate::desk::Desk;
 use crate::locked::Locked;
 use crate::pass::Pass;
-use crate::refusal::DeskNo;
 use crate::store::{Room, Store};
 use qc_config::Tuple;
-use qc_event::{Ask, Event, Name, Outcome, Refusal};
+use qc_event::{Ask, Event, Name, Outcome, Refusal, Short};
 use qc_moss::{Locks, Source, Verdict, consult_locks};
 use std::sync::Wait;
 
@@ -73,7 +71,7 @@ impl<N: Store> Locked<N> {
         pass: &mut Pass<N>,
         ask: &Ask,
         locks: &mut Locks,
-    ) -> Result<Consulted, DeskNo>
+    ) -> Result<Consulted, Short>
         requires room { IsRoomOf N.desk room.now.shared.table_id }
         requires copy { (pass.old.live ≡ true) × (pass.old.number ≡ copy_seat ask.now.copy) }
         requires asked { HasAsked self.old ask.now }
@@ -84,7 +82,7 @@ impl<N: Store> Locked<N> {
             (IsTold (setting_of N.table N.base) ask.now pass.old pass.new) }
         ensures admits { (tuple : Tuple) → result ≡ Ok (Fresh (Free tuple))
             → grant_of locks.new ask.now ≡ grant_with ask.now tuple }
-        ensures err { IfErr result (Refused against_nothing pass.old pass.new) }
+        ensures err { IfErr result (Wanted pass.old pass.new) }
         ensures fresh { OnErr result (granted_before pass.new.seen ask.now ≡ None) }
         ensures follows { Follows pass.new.seen (grants pass.new.seen ask.now.copy) locks.new }
         ensures start { locks.new.start ≡ locks.old.start }
@@ -105,7 +103,7 @@ impl<N: Store> Locked<N> {
             copy: ask.copy,
             refusal,
         };
-        self.enter(room, pass, None, event)?;
+        self.append(room, pass, event)?;
         Ok(Consulted::Fresh(verdict))
     }
 }
@@ -124,7 +122,7 @@ impl<N: Store> Desk<N> {
         seer: &mut Pass<N>,
         ask: &Ask,
         locks: &mut Locks,
-    ) -> Result<Consulted, DeskNo>
+    ) -> Result<Consulted, Short>
         requires copy { (pass.old.live ≡ true) × (pass.old.number ≡ copy_seat ask.now.copy) }
         requires asked { HasAsked seer.old.seen ask.now }
         requires proper { IsProper (setting_of N.table N.base) }
@@ -134,7 +132,7 @@ impl<N: Store> Desk<N> {
             (IsTold (setting_of N.table N.base) ask.now pass.old pass.new) }
         ensures admits { (tuple : Tuple) → result ≡ Ok (Fresh (Free tuple))
             → grant_of locks.new ask.now ≡ grant_with ask.now tuple }
-        ensures err { IfErr result (Refused against_nothing pass.old pass.new) }
+        ensures err { IfErr result (Wanted pass.old pass.new) }
         ensures fresh { OnErr result (granted_before pass.new.seen ask.now ≡ None) }
         ensures follows { Follows pass.new.seen (grants pass.new.seen ask.now.copy) locks.new }
         ensures start { locks.new.start ≡ locks.old.start }

@@ -4,15 +4,14 @@ ghost use Rattle.qc_event.specs.declared.event.Event.TheVariants as event;
 ghost use Rattle.qc_event.specs.Grants.{MayGrant};
 ghost use Rattle.qc_event.specs.Requests.{MayBeUnable};
 ghost use Rattle.qc_event.specs.Tables.{setting_of};
-ghost use Rattle.qc_desk.specs.Calling.{Entered, Refused, Shown};
+ghost use Rattle.qc_desk.specs.Calling.{Entered, Shown, Wanted};
 ghost use Rattle.qc_desk.specs.Known.{AreKnown};
 ghost use Rattle.qc_desk.specs.Refusing.{against_nothing};
 
 use crate::desk::Desk;
 use crate::pass::Pass;
-use crate::refusal::DeskNo;
 use crate::store::Store;
-use qc_event::{Event, Grant, Name, Why};
+use qc_event::{Event, Grant, Name, Short, Why};
 use std::sync::Wait;
 
 impl<N: Store> Desk<N> {
@@ -25,12 +24,12 @@ impl<N: Store> Desk<N> {
         seer: &mut Pass<N>,
         name: &Name,
         why: Why,
-    ) -> Result<(), DeskNo>
+    ) -> Result<(), Short>
         requires live { pass.old.live ≡ true }
         requires may { MayBeUnable seer.old.seen pass.old.number name.now why }
         ensures ok { OnOk result
             (Entered against_nothing (event.Unable name.now why) pass.old pass.new) }
-        ensures err { IfErr result (Refused against_nothing pass.old pass.new) }
+        ensures err { IfErr result (Wanted pass.old pass.new) }
         ensures shown { Shown seer.old seer.new }
         ensures same { seer.new.seen ≡ pass.new.seen }
         ensures known { AreKnown (setting_of N.table N.base) pass.new seer.new }
@@ -39,7 +38,7 @@ impl<N: Store> Desk<N> {
         locked.look(&self.room, pass);
         locked.look(&self.room, seer);
         let event = Event::Unable { name: *name, why };
-        let answer = locked.enter(&self.room, pass, None, event);
+        let answer = locked.append(&self.room, pass, event);
         locked.look(&self.room, seer);
         answer
     }
@@ -53,13 +52,13 @@ impl<N: Store> Desk<N> {
         seer: &mut Pass<N>,
         copy: u8,
         grant: &Grant,
-    ) -> Result<(), DeskNo>
+    ) -> Result<(), Short>
         requires live { pass.old.live ≡ true }
         requires free { MayGrant (setting_of N.table N.base) pass.old.seen pass.old.number copy
             grant.now }
         ensures ok { OnOk result
             (Entered against_nothing (event.Granted copy grant.now) pass.old pass.new) }
-        ensures err { IfErr result (Refused against_nothing pass.old pass.new) }
+        ensures err { IfErr result (Wanted pass.old pass.new) }
         ensures shown { Shown seer.old seer.new }
         ensures same { seer.new.seen ≡ pass.new.seen }
         ensures known { AreKnown (setting_of N.table N.base) pass.new seer.new }
@@ -71,7 +70,7 @@ impl<N: Store> Desk<N> {
             copy,
             grant: *grant,
         };
-        let answer = locked.enter(&self.room, pass, None, event);
+        let answer = locked.append(&self.room, pass, event);
         locked.look(&self.room, seer);
         answer
     }

@@ -6,15 +6,14 @@ ghost use Rattle.qc_event.specs.declared.event.How.TheVariants.{Commit as Commit
 ghost use Rattle.qc_event.specs.History.{end, is_ready};
 ghost use Rattle.qc_event.specs.Seats.{ledger_seat};
 ghost use Rattle.qc_event.specs.Tables.{setting_of};
-ghost use Rattle.qc_desk.specs.Calling.{Entered, Refused, Shown};
+ghost use Rattle.qc_desk.specs.Calling.{Entered, Shown, Wanted};
 ghost use Rattle.qc_desk.specs.Known.{AreKnown};
 ghost use Rattle.qc_desk.specs.Refusing.{against_nothing};
 
 use crate::desk::Desk;
 use crate::pass::Pass;
-use crate::refusal::DeskNo;
 use crate::store::Store;
-use qc_event::{Answer, Event, How, Name};
+use qc_event::{Answer, Event, How, Name, Short};
 use std::sync::Wait;
 
 impl<N: Store> Desk<N> {
@@ -26,13 +25,13 @@ impl<N: Store> Desk<N> {
         pass: &mut Pass<N>,
         seer: &mut Pass<N>,
         top: &Name,
-    ) -> Result<(), DeskNo>
+    ) -> Result<(), Short>
         requires ledger { (pass.old.live ≡ true) × (pass.old.number ≡ ledger_seat) }
         requires ready { IsTrue (is_ready seer.old.seen top.now) }
         requires first { end pass.old.mine top.now ≡ None }
         ensures ok { OnOk result (Entered against_nothing
             (event.End top.now (Commits answer.Nothing)) pass.old pass.new) }
-        ensures err { IfErr result (Refused against_nothing pass.old pass.new) }
+        ensures err { IfErr result (Wanted pass.old pass.new) }
         ensures shown { Shown seer.old seer.new }
         ensures same { seer.new.seen ≡ pass.new.seen }
         ensures known { AreKnown (setting_of N.table N.base) pass.new seer.new }
@@ -44,7 +43,7 @@ impl<N: Store> Desk<N> {
             name: *top,
             how: How::Commit(Answer::Nothing),
         };
-        let answer = locked.enter(&self.room, pass, None, event);
+        let answer = locked.append(&self.room, pass, event);
         locked.look(&self.room, seer);
         answer
     }

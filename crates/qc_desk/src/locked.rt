@@ -1,8 +1,9 @@
 //! What lies under the lock of a desk: the one history, and the right to append.
-ghost use Rattle.std.specs.Prelude.{◌≡◌, ◌≤◌, List, [], ◌∷◌, ◌++◌, true, None, IfErr, reverse, length, OnOk, OnErr, IsErrOf};
+ghost use Rattle.std.specs.Prelude.{◌≡◌, ◌≤◌, List, [], ◌∷◌, ◌++◌, true, None, IfErr, reverse, length, OnOk, OnErr};
 ghost use Rattle.qc_event.specs.Tables.{setting_of};
 ghost use Rattle.qc_event.specs.History.{limit};
 ghost use Rattle.qc_event.specs.Legal.{Legal, Allowed};
+ghost use Rattle.qc_event.specs.Wants.{IsWant};
 ghost use Rattle.qc_desk.specs.Calling.{IsRoomOf, IsLook, IsEntry};
 ghost use Rattle.qc_desk.specs.Entries.{AreCounted, IsLegal, IsOlder, IsSince, entry, entries_of};
 ghost use Rattle.qc_desk.specs.Known.{IsDeskHistory, IsKnown};
@@ -10,7 +11,7 @@ ghost use Rattle.qc_desk.specs.Refusing.{Refuses};
 ghost use Rattle.qc_desk.specs.Rules.{IsClient, IsSettled, joined};
 
 use crate::pass::Pass;
-use crate::refusal::{DeskNo, no_of};
+use crate::refusal::DeskNo;
 use crate::steps::{give_back, lend, push};
 use crate::store::{Room, Store};
 use crate::view::{Joining, Knowing, Settling, View};
@@ -61,7 +62,7 @@ impl<N: Store> Locked<N> {
             AreCounted (entry pass.old.number event ∷ self.old) }
         ensures ok { OnOk result (IsEntry event self.old self.new pass.old pass.new) }
         ensures err { OnErr result (IsLook self.old self.new pass.old pass.new) }
-        ensures room_left { IsErrOf result Short.Room → length self.old ≡ limit }
+        ensures want { IfErr result (IsWant self.old) }
         ensures known { IsKnown (setting_of N.table N.base) pass.new }
     {
         lend(room, &mut pass.seat, &mut self.seat);
@@ -98,10 +99,8 @@ impl<N: Store> Locked<N> {
             self.look(room, pass);
             return Err(why);
         }
-        match self.append(room, pass, event) {
-            Ok(()) => Ok(()),
-            Err(short) => Err(no_of(short)),
-        }
+        self.append(room, pass, event)?;
+        Ok(())
     }
 
     /// The pass sees the history.

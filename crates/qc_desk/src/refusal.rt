@@ -1,6 +1,6 @@
 //! Why a call of a desk appended nothing.
 ghost use Rattle.std.specs.Prelude.{◌≡◌};
-ghost use Rattle.qc_desk.specs.Refusing as words;
+ghost use Rattle.qc_desk.specs.declared.refusal.DeskNo.TheVariants as no;
 
 use qc_event::{Name, Short};
 use thiserror::Error;
@@ -20,20 +20,15 @@ pub enum DeskNo {
     /// The top is ready.
     #[error("the top is ready")]
     Ready,
-    /// There was no memory.
-    #[error("no memory")]
-    Memory,
-    /// The history takes no more entries.
-    #[error("no room in the history")]
-    Room,
+    /// There was no memory, or the history takes no more entries.
+    #[error("{0}")]
+    Short(Short),
 }
 
-/// Why, where memory or room was wanting.
-pub(crate) fn no_of(short: Short) -> DeskNo
-    ensures { result ≡ words.want short }
-{
-    match short {
-        Short::Memory => DeskNo::Memory,
-        Short::Room => DeskNo::Room,
+impl From<Short> for DeskNo {
+    ghost from_gives = { λ short e. e ≡ no.Short short };
+
+    fn from(short: Short) -> Self {
+        DeskNo::Short(short)
     }
 }

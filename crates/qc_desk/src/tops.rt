@@ -5,7 +5,7 @@ ghost use Rattle.qc_event.specs.History.{start};
 ghost use Rattle.qc_event.specs.Listed.{listed};
 ghost use Rattle.qc_event.specs.Standing.{Started, IsUser};
 ghost use Rattle.qc_event.specs.Tables.{setting_of};
-ghost use Rattle.qc_desk.specs.Calling.{Entered, Refused, StartsTop};
+ghost use Rattle.qc_desk.specs.Calling.{Entered, Refused, StartsTop, Wanted};
 ghost use Rattle.qc_desk.specs.Known.{IsKnown};
 ghost use Rattle.qc_desk.specs.Refusing.{against_nothing, against_ready};
 ghost use Rattle.qc_desk.specs.Rules.{IsClient};
@@ -14,7 +14,7 @@ use crate::desk::Desk;
 use crate::pass::Pass;
 use crate::refusal::DeskNo;
 use crate::store::Store;
-use qc_event::{Event, Kind, LIMIT, Name, top_name};
+use qc_event::{Event, Kind, LIMIT, Name, Short, top_name};
 use std::sync::Wait;
 
 impl<N: Store> Desk<N> {
@@ -26,24 +26,24 @@ impl<N: Store> Desk<N> {
         pass: &mut Pass<N>,
         session: u8,
         body: u32,
-    ) -> Result<Name, DeskNo>
+    ) -> Result<Name, Short>
         requires client { IsClient pass.old }
         ensures ok { IfOk result (λ n. StartsTop self.now.epoch session body n
             pass.old pass.new) }
-        ensures err { IfErr result (Refused against_nothing pass.old pass.new) }
+        ensures err { IfErr result (Wanted pass.old pass.new) }
         ensures known { IsKnown (setting_of N.table N.base) pass.new }
     {
         let mut locked = self.locked.lock(rt);
         locked.look(&self.room, pass);
         if locked.len() >= LIMIT {
-            return Err(DeskNo::Room);
+            return Err(Short::Room);
         }
         let top = top_name(self.epoch, locked.tops() as u32 + 1);
         let event = Event::Start {
             name: top,
             kind: Kind::User { session, body },
         };
-        locked.enter(&self.room, pass, None, event)?;
+        locked.append(&self.room, pass, event)?;
         Ok(top)
     }
 
@@ -70,7 +70,7 @@ impl<N: Store> Desk<N> {
             return Err(why);
         }
         let Ok(found) = locked.aborted_below(top) else {
-            return Err(DeskNo::Memory);
+            return Err(DeskNo::Short(Short::Memory));
         };
         locked.enter(&self.room, pass, None, Event::Ready { top: *top })?;
         Ok(found)
@@ -84,18 +84,18 @@ impl<N: Store> Desk<N> {
         pass: &mut Pass<N>,
         by: &Name,
         session: u8,
-    ) -> Result<(), DeskNo>
+    ) -> Result<(), Short>
         requires client { IsClient pass.old }
         requires user { Started pass.old.seen by.now (λ b. IsUser b.kind) }
         requires small { session ≤ 15 }
         ensures ok { OnOk result
             (Entered against_nothing (event.Mark by.now session) pass.old pass.new) }
-        ensures err { IfErr result (Refused against_nothing pass.old pass.new) }
+        ensures err { IfErr result (Wanted pass.old pass.new) }
         ensures known { IsKnown (setting_of N.table N.base) pass.new }
     {
         let mut locked = self.locked.lock(rt);
         locked.look(&self.room, pass);
         let event = Event::Mark { by: *by, session };
-        locked.enter(&self.room, pass, None, event)
+        locked.append(&self.room, pass, event)
     }
 }

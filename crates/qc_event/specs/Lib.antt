@@ -17,3 +17,4 @@ pub mod Commits
 pub mod Aborts
 pub mod Legal
 pub mod Listed
+pub mod Wants

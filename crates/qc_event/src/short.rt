@@ -5,7 +5,7 @@ use thiserror::Error;
 /// The most entries that a history takes.
 pub const LIMIT: usize = 4_294_967_295;
 
-/// Why a history did not take an entry.
+/// Why a history did not take an entry, or why a step was not done that needs one.
 #[derive(Clone, Copy, PartialEq, Eq, Debug, Error)]
 pub enum Short {
     /// There was no memory.

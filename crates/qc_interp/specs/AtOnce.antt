@@ -7,9 +7,10 @@ use Rattle.qc_event.specs.declared.event.Cause.TheVariants as cause
 use Rattle.qc_event.specs.declared.event.How.TheVariants.{Abort}
 use Rattle.qc_event.specs.declared.short.Short.{Short}
 use Rattle.qc_event.specs.declared.short.Short.TheVariants as short
-use Rattle.qc_event.specs.History.{Past, Name, limit, end, is_child}
+use Rattle.qc_event.specs.History.{Past, Name, end, is_child}
 use Rattle.qc_event.specs.Legal.{Legal}
 use Rattle.qc_event.specs.Standing.{Started, IsUser}
+use Rattle.qc_event.specs.Wants.{IsWant}
 use Rattle.qc_net.specs.Messages.{Net}
 use Rattle.qc_script.specs.declared.tx.TxNo.{TxNo}
 use Rattle.qc_script.specs.declared.tx.TxNo.TheVariants as tx_no
@@ -137,7 +138,7 @@ TriesEnd c body now (came.Refused why) =
 abbrev pub CameSo : Client → Numbered → Past → Option (Result BranchCame Short) → Type 0
 CameSo c body now None = ⊥
 CameSo c body now (Some (Ok came)) = TriesEnd c body now came
-CameSo c body now (Some (Err why)) = RanTries Reach.cut_off (Unit {0}) c body now × (why ≡ short.Room → length now ≡ limit)
+CameSo c body now (Some (Err why)) = RanTries Reach.cut_off (Unit {0}) c body now × IsWant now why
 
 pub record HasRun (old new : Stands) : Type 0 where
   pub joined : HasJoined old.view.client old.view.seen new.view.client
@@ -224,7 +225,7 @@ aborts_of c (n ∷ ns) (None ∷ above) = aborts_of c ns above
 abbrev pub TurnedOne : Client → Name → Name → Past → Past → Type 0
 TurnedOne c n above before now =
     Made c (by_client c (event.End n (Abort (cause.Orphan above))) ∷ []) before now
-    ⊎ ((why : TxNo) × NotAborted c n (cause.Orphan above) before now why × (why ≡ tx_no.Memory → ⊥) × (why ≡ tx_no.Room → ⊥))
+    ⊎ ((why : TxNo) × NotAborted c n (cause.Orphan above) before now why × ((s : Short) → why ≡ tx_no.Short s → ⊥))
 
 abbrev pub TurnedSome : Client → List Name → Past → Past → Type 0
 TurnedSome c ns before now = (above : List (Option Name)) × Made c (aborts_of c ns above) before now

@@ -102,8 +102,7 @@ pub record Quit (c : Client) (of : Name) (how : How) (before now : Past) (again 
 
 -- why a transaction stops that a call refused
 abbrev pub WhyStop : Client → Past → Name → TxNo → Type 0
-WhyStop c seen of tx_no.Memory = ⊥
-WhyStop c seen of tx_no.Room = ⊥
+WhyStop c seen of (tx_no.Short s) = ⊥
 WhyStop c seen of (tx_no.Conflict copy holder) = UserCause seen of c.session (cause.Conflict copy holder)
 WhyStop c seen of (tx_no.NoQuorum lack) = UserCause seen of c.session (cause.NoQuorum lack)
 WhyStop c seen of tx_no.Last = UserCause seen of c.session cause.Last

@@ -1,6 +1,6 @@
 //! How the steps of a transaction are run.
 ghost use Rattle.std.specs.Prelude.{◌≡◌, ◌<◌, ◌+◌, length, IfOk, IfErr};
-ghost use Rattle.qc_event.specs.History.{limit};
+ghost use Rattle.qc_event.specs.Wants.{IsWant};
 ghost use Rattle.qc_script.specs.Calls.{MeetsLink};
 ghost use Rattle.qc_script.specs.Client.{HasJoined};
 ghost use Rattle.qc_script.specs.Plan.{Plan, PlanFits};
@@ -50,7 +50,7 @@ fn tries<T: Tx + Send + Drop, R: Threads + Sync>(
         (T.view tx.new).seen (numbered body.now)) }
     ensures cut { IfErr result (λ _. (rest : Plan) → CutOff (T.view tx.new).client of.now
         (T.view tx.old).seen (T.view tx.new).seen (child_step (numbered body.now) rest)) }
-    ensures room { IfErr result (λ e. e ≡ Short.Room → length (T.view tx.new).seen ≡ limit) }
+    ensures room { IfErr result (IsWant (T.view tx.new).seen) }
 {
     let mut last = None;
     let mut pause = Pause::none();
@@ -69,8 +69,7 @@ fn tries<T: Tx + Send + Drop, R: Threads + Sync>(
             },
             Err(why) => {
                 return match why {
-                    TxNo::Memory => Err(Short::Memory),
-                    TxNo::Room => Err(Short::Room),
+                    TxNo::Short(short) => Err(short),
                     _ => {
                         let again = stop(tx, of, &why)?;
                         Ok(Came::Stopped { again })
@@ -105,7 +104,7 @@ fn child<T: Tx + Send + Drop, R: Threads + Sync>(
         (T.view tx.new).seen (child_step (numbered body.now))) }
     ensures cut { IfErr result (λ _. (rest : Plan) → CutOff (T.view tx.new).client of.now
         (T.view tx.old).seen (T.view tx.new).seen (child_step (numbered body.now) rest)) }
-    ensures room { IfErr result (λ e. e ≡ Short.Room → length (T.view tx.new).seen ≡ limit) }
+    ensures room { IfErr result (IsWant (T.view tx.new).seen) }
 {
     match tries(tx, host, of, body)? {
         Came::Through => Ok(None),
@@ -139,7 +138,7 @@ fn act<T: Tx + Send + Drop, R: Threads + Sync>(
         (T.view tx.new).seen (put step.now)) }
     ensures cut { IfErr result (λ _. (rest : Plan) → CutOff (T.view tx.new).client of.now
         (T.view tx.old).seen (T.view tx.new).seen (put step.now rest)) }
-    ensures room { IfErr result (λ e. e ≡ Short.Room → length (T.view tx.new).seen ≡ limit) }
+    ensures room { IfErr result (IsWant (T.view tx.new).seen) }
 {
     match step {
         Step::Read { rec } => manage(tx, of, &Managed::Read { rec: *rec }),
@@ -196,7 +195,7 @@ fn step<T: Tx + Send + Drop, R: Threads + Sync>(
         (T.view tx.new).seen (put step.now)) }
     ensures cut { IfErr result (λ _. (rest : Plan) → CutOff (T.view tx.new).client of.now
         (T.view tx.old).seen (T.view tx.new).seen (put step.now rest)) }
-    ensures room { IfErr result (λ e. e ≡ Short.Room → length (T.view tx.new).seen ≡ limit) }
+    ensures room { IfErr result (IsWant (T.view tx.new).seen) }
 {
     match act(tx, host, of, step)? {
         Some(again) => Ok(Some(again)),
@@ -223,7 +222,7 @@ pub fn steps<T: Tx + Send + Drop, R: Threads + Sync>(
         (T.view tx.new).seen (plan_of steps.now)) }
     ensures cut { IfErr result (λ _. CutOff (T.view tx.new).client of.now
         (T.view tx.old).seen (T.view tx.new).seen (plan_of steps.now)) }
-    ensures room { IfErr result (λ e. e ≡ Short.Room → length (T.view tx.new).seen ≡ limit) }
+    ensures room { IfErr result (IsWant (T.view tx.new).seen) }
 {
     if let Some(again) = look(tx, of)? {
         return Ok(Finish::Stopped { again });

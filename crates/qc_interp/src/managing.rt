@@ -1,6 +1,6 @@
 //! Steps that are managers.
 ghost use Rattle.std.specs.Prelude.{◌≡◌, ◌<◌, length, IfOk, IfErr};
-ghost use Rattle.qc_event.specs.History.{limit};
+ghost use Rattle.qc_event.specs.Wants.{IsWant};
 ghost use Rattle.qc_event.specs.declared.event.Answer.{Answer};
 ghost use Rattle.qc_event.specs.declared.event.Kind.TheVariants as kind;
 ghost use Rattle.qc_script.specs.Calls.{MeetsLink};
@@ -62,13 +62,12 @@ fn call<T: Tx>(tx: &mut T, of: &Name, what: &Managed) -> Result<Called, Short>
         (T.view tx.new).seen (manager_for what.now)) }
     ensures cut { IfErr result (λ _. (next : Answer → Plan) → CutOff (T.view tx.old).client of.now
         (T.view tx.old).seen (T.view tx.new).seen (Plan.manage_by (manager_for what.now) next)) }
-    ensures room { IfErr result (λ e. e ≡ Short.Room → length (T.view tx.new).seen ≡ limit) }
+    ensures room { IfErr result (IsWant (T.view tx.new).seen) }
 {
     match tx.manage(of, what) {
         Ok(given) => Ok(Called::Answered(given)),
         Err(why) => match why {
-            TxNo::Memory => Err(Short::Memory),
-            TxNo::Room => Err(Short::Room),
+            TxNo::Short(short) => Err(short),
             _ => {
                 let again = stop(tx, of, &why)?;
                 Ok(Called::Stopped { again })
@@ -88,7 +87,7 @@ pub(crate) fn manage<T: Tx>(tx: &mut T, of: &Name, what: &Managed) -> Result<Opt
         (T.view tx.new).seen (manage_then (manager_for what.now))) }
     ensures cut { IfErr result (λ _. (rest : Plan) → CutOff (T.view tx.old).client of.now
         (T.view tx.old).seen (T.view tx.new).seen (manage_then (manager_for what.now) rest)) }
-    ensures room { IfErr result (λ e. e ≡ Short.Room → length (T.view tx.new).seen ≡ limit) }
+    ensures room { IfErr result (IsWant (T.view tx.new).seen) }
 {
     match call(tx, of, what)? {
         Called::Answered(_) => Ok(None),
@@ -112,7 +111,7 @@ pub(crate) fn change_value<T: Tx>(
         (T.view tx.new).seen (change_then rec (changed by))) }
     ensures cut { IfErr result (λ _. (rest : Plan) → CutOff (T.view tx.old).client of.now
         (T.view tx.old).seen (T.view tx.new).seen (change_then rec (changed by) rest)) }
-    ensures room { IfErr result (λ e. e ≡ Short.Room → length (T.view tx.new).seen ≡ limit) }
+    ensures room { IfErr result (IsWant (T.view tx.new).seen) }
 {
     match call(tx, of, &Managed::Read { rec })? {
         Called::Answered(given) => {
@@ -134,7 +133,7 @@ pub(crate) fn need<T: Tx>(tx: &mut T, of: &Name, rec: u8, least: u64) -> Result<
         (T.view tx.new).seen (need_then rec least)) }
     ensures cut { IfErr result (λ _. (rest : Plan) → CutOff (T.view tx.old).client of.now
         (T.view tx.old).seen (T.view tx.new).seen (need_then rec least rest)) }
-    ensures room { IfErr result (λ e. e ≡ Short.Room → length (T.view tx.new).seen ≡ limit) }
+    ensures room { IfErr result (IsWant (T.view tx.new).seen) }
 {
     match call(tx, of, &Managed::Read { rec })? {
         Called::Answered(given) => {

@@ -1,6 +1,6 @@
 //! How sessions are marked to be killed, and where a transaction looks whether it is.
 ghost use Rattle.std.specs.Prelude.{◌≡◌, ◌<◌, [], length, OnOk, IfOk, IfErr};
-ghost use Rattle.qc_event.specs.History.{limit};
+ghost use Rattle.qc_event.specs.Wants.{IsWant};
 ghost use Rattle.qc_script.specs.Calls.{MeetsLink};
 ghost use Rattle.qc_script.specs.Client.{Made};
 ghost use Rattle.qc_script.specs.Plan.{Plan};
@@ -21,7 +21,7 @@ pub(crate) fn look<T: Tx>(tx: &mut T, of: &Name) -> Result<Option<bool>, Short>
         (T.view tx.old).seen (T.view tx.new).seen) }
     ensures cut { IfErr result (λ _. Made (T.view tx.old).client []
         (T.view tx.old).seen (T.view tx.new).seen) }
-    ensures room { IfErr result (λ e. e ≡ Short.Room → length (T.view tx.new).seen ≡ limit) }
+    ensures room { IfErr result (IsWant (T.view tx.new).seen) }
 {
     if tx.killed(of) {
         let again = quit(tx, of, Cause::Killed)?;
@@ -41,7 +41,7 @@ pub(crate) fn mark<T: Tx>(tx: &mut T, of: &Name, session: u8) -> Result<(), Shor
         (T.view tx.old).seen (T.view tx.new).seen (Plan.kill_then session)) }
     ensures cut { IfErr result (λ _. Made (T.view tx.old).client []
         (T.view tx.old).seen (T.view tx.new).seen) }
-    ensures room { IfErr result (λ e. e ≡ Short.Room → length (T.view tx.new).seen ≡ limit) }
+    ensures room { IfErr result (IsWant (T.view tx.new).seen) }
 {
     tx.kill(of, session)
 }

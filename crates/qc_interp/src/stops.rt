@@ -1,6 +1,6 @@
 //! How a transaction ends.
 ghost use Rattle.std.specs.Prelude.{◌≡◌, ◌<◌, [], length, Some, IfOk, IfErr};
-ghost use Rattle.qc_event.specs.History.{limit};
+ghost use Rattle.qc_event.specs.Wants.{IsWant};
 ghost use Rattle.qc_event.specs.declared.event.How.TheVariants.{Abort};
 ghost use Rattle.qc_interp.specs.declared.stops.Finish.TheVariants as finish;
 ghost use Rattle.qc_script.specs.Calls.{IsGrounded, MeetsLink};
@@ -56,13 +56,12 @@ pub(crate) fn quit<T: Tx>(tx: &mut T, of: &Name, cause: Cause) -> Result<bool, S
         (T.view tx.old).seen (T.view tx.new).seen) }
     ensures cut { IfErr result (λ _. Made (T.view tx.old).client []
         (T.view tx.old).seen (T.view tx.new).seen) }
-    ensures room { IfErr result (λ e. e ≡ Short.Room → length (T.view tx.new).seen ≡ limit) }
+    ensures room { IfErr result (IsWant (T.view tx.new).seen) }
 {
     match tx.abort(of, cause) {
         Ok(()) => Ok(is_tried_again(&cause)),
         Err(why) => match why {
-            TxNo::Memory => Err(Short::Memory),
-            TxNo::Room => Err(Short::Room),
+            TxNo::Short(short) => Err(short),
             _ => Ok(false),
         },
     }
@@ -79,7 +78,7 @@ pub(crate) fn stop<T: Tx>(tx: &mut T, of: &Name, why: &TxNo) -> Result<bool, Sho
         (T.view tx.new).seen) }
     ensures cut { IfErr result (λ _. Made (T.view tx.old).client []
         (T.view tx.old).seen (T.view tx.new).seen) }
-    ensures room { IfErr result (λ e. e ≡ Short.Room → length (T.view tx.new).seen ≡ limit) }
+    ensures room { IfErr result (IsWant (T.view tx.new).seen) }
 {
     match why {
         TxNo::Conflict { copy, holder } => quit(
@@ -114,7 +113,7 @@ pub(crate) fn ask<T: Tx>(tx: &mut T, of: &Name, levels: u8) -> Result<bool, Shor
         (Plan.abort_then levels rest) (finish.Stopped again)) }
     ensures cut { IfErr result (λ _. (rest : Plan) → CutOff (T.view tx.old).client of.now
         (T.view tx.old).seen (T.view tx.new).seen (Plan.abort_then levels rest)) }
-    ensures room { IfErr result (λ e. e ≡ Short.Room → length (T.view tx.new).seen ≡ limit) }
+    ensures room { IfErr result (IsWant (T.view tx.new).seen) }
 {
     if levels == 0 {
         return quit(tx, of, Cause::Asked { by: *of });
@@ -123,8 +122,7 @@ pub(crate) fn ask<T: Tx>(tx: &mut T, of: &Name, levels: u8) -> Result<bool, Shor
     match tx.abort(&ancestor, Cause::Asked { by: *of }) {
         Ok(()) => quit(tx, of, Cause::Orphan(ancestor)),
         Err(why) => match why {
-            TxNo::Memory => Err(Short::Memory),
-            TxNo::Room => Err(Short::Room),
+            TxNo::Short(short) => Err(short),
             TxNo::Ended => quit(tx, of, Cause::Orphan(ancestor)),
             _ => Ok(false),
         },
@@ -142,13 +140,12 @@ pub(crate) fn quit_for<T: Tx>(tx: &mut T, of: &Name, child: &Name) -> Result<boo
         (T.view tx.new).seen) }
     ensures cut { IfErr result (λ _. Made (T.view tx.old).client []
         (T.view tx.old).seen (T.view tx.new).seen) }
-    ensures room { IfErr result (λ e. e ≡ Short.Room → length (T.view tx.new).seen ≡ limit) }
+    ensures room { IfErr result (IsWant (T.view tx.new).seen) }
 {
     match tx.abort(of, Cause::Child(*child)) {
         Ok(()) => Ok(true),
         Err(why) => match why {
-            TxNo::Memory => Err(Short::Memory),
-            TxNo::Room => Err(Short::Room),
+            TxNo::Short(short) => Err(short),
             TxNo::Orphan(_) => stop(tx, of, &why),
             _ => Ok(false),
         },
@@ -165,13 +162,12 @@ pub(crate) fn commit<T: Tx>(tx: &mut T, of: &Name) -> Result<Finish, Short>
         (T.view tx.new).seen Plan.done) }
     ensures cut { IfErr result (λ _. CutOff (T.view tx.old).client of.now
         (T.view tx.old).seen (T.view tx.new).seen Plan.done) }
-    ensures room { IfErr result (λ e. e ≡ Short.Room → length (T.view tx.new).seen ≡ limit) }
+    ensures room { IfErr result (IsWant (T.view tx.new).seen) }
 {
     match tx.commit(of) {
         Ok(()) => Ok(Finish::Committed),
         Err(why) => match why {
-            TxNo::Memory => Err(Short::Memory),
-            TxNo::Room => Err(Short::Room),
+            TxNo::Short(short) => Err(short),
             TxNo::Ledger => Ok(Finish::Stopped { again: false }),
             _ => {
                 let again = stop(tx, of, &why)?;

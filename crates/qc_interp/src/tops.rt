@@ -1,6 +1,6 @@
 //! The tops of a session.
 ghost use Rattle.std.specs.Prelude.{◌≡◌, ◌∷◌, ◌++◌, List, [], length, map, OnOk, IfOk, IfErr};
-ghost use Rattle.qc_event.specs.History.{limit};
+ghost use Rattle.qc_event.specs.Wants.{IsWant};
 ghost use Rattle.qc_event.specs.Legal.{Legal};
 ghost use Rattle.qc_script.specs.Calls.{MeetsLink};
 ghost use Rattle.qc_script.specs.Client.{HasJoined};
@@ -32,7 +32,7 @@ fn top_tries<T: Tx + Send + Drop, R: Threads + Sync>(
         (T.view tx.new).seen (λ rest. numbered body.now ∷ rest)) }
     ensures cut { IfErr result (λ _. (rest : List Numbered) → CutTops (T.view tx.new).client
         (T.view tx.old).seen (T.view tx.new).seen (numbered body.now ∷ rest)) }
-    ensures room { IfErr result (λ e. e ≡ Short.Room → length (T.view tx.new).seen ≡ limit) }
+    ensures room { IfErr result (IsWant (T.view tx.new).seen) }
 {
     let mut pause = Pause::none();
     for _ in 0..body.tries {
@@ -44,7 +44,7 @@ fn top_tries<T: Tx + Send + Drop, R: Threads + Sync>(
                 }
                 pause.grow(&name);
             }
-            Err(TxNo::Room) => return Err(Short::Room),
+            Err(TxNo::Short(short)) => return Err(short),
             Err(_) => return Err(Short::Memory),
         }
     }
@@ -75,7 +75,7 @@ pub fn run_tops<T: Tx + Send + Drop, R: Threads + Sync>(
         (T.view tx.new).seen (map numbered bodies.now)) }
     ensures cut { IfErr result (λ _. CutTops (T.view tx.new).client (T.view tx.old).seen
         (T.view tx.new).seen (map numbered bodies.now)) }
-    ensures room { IfErr result (λ e. e ≡ Short.Room → length (T.view tx.new).seen ≡ limit) }
+    ensures room { IfErr result (IsWant (T.view tx.new).seen) }
 {
     for body in bodies {
         top_tries(tx, host, body)?;

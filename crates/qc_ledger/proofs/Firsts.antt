@@ -17,13 +17,14 @@ use Rattle.qc_codec.specs.declared.record.LedgerRecord.TheVariants as ledger_rec
 use Rattle.qc_codec.proofs.Bodies.{exact_ledger}
 use Rattle.qc_codec.proofs.Exact.{all_again}
 use Rattle.qc_codec.proofs.Order.{each_none, each_push}
+use Rattle.qc_event.specs.declared.short.Short.TheVariants.{Memory, Room}
 use Rattle.qc_journal.specs.Image.{bodies_of}
 use Rattle.qc_ledger.specs.Image.{made_body, AreMadeFor, IsFault}
 use Rattle.qc_ledger.specs.Reading.{IsFirstBad, IsLaterBad}
 use Rattle.qc_ledger.specs.Seen.{with_body}
 use Rattle.qc_ledger.specs.Refusing.{IsImage, IsOfBytes}
 use Rattle.qc_ledger.specs.declared.fault.LedgerNo.{LedgerNo}
-use Rattle.qc_ledger.specs.declared.fault.LedgerNo.TheVariants.{Disk, Image, Memory, Room}
+use Rattle.qc_ledger.specs.declared.fault.LedgerNo.TheVariants.{Disk, Image, Short}
 use Rattle.qc_ledger.specs.declared.fault.LedgerNo.TheVariants as ledger_no
 use Rattle.qc_ledger.proofs.Told.{by_stands, past_push, stands_by}
 
@@ -48,8 +49,8 @@ pub bytes_also : (P Q : ImageFault → Type 0) → ((f : ImageFault) → P f →
 bytes_also P Q also Disk is = is
 bytes_also P Q also (Image bad) is = (is.0, also bad.fault is.1)
 bytes_also P Q also (ledger_no.Full place) is = is
-bytes_also P Q also Memory is = tt
-bytes_also P Q also Room is = is
+bytes_also P Q also (Short Memory) is = tt
+bytes_also P Q also (Short Room) is = is
 
 -- what is handed on
 pub handed_on : {T : Type 0} (r : Result T LedgerNo) (fault : LedgerNo) (P Q : ImageFault → Type 0) → ((f : ImageFault) → P f → Q f) → IsErrAnd r (λ e. e ≡ fault) → IsOfBytes P fault → IfErr r (IsOfBytes Q)
@@ -129,8 +130,8 @@ image_of_bytes : (P Q : ImageFault → Type 0) → ((f : ImageFault) → P f →
 image_of_bytes P Q also Disk is = tt
 image_of_bytes P Q also (Image bad) is = (is.0, also bad.fault is.1)
 image_of_bytes P Q also (ledger_no.Full place) is = is
-image_of_bytes P Q also Memory is = tt
-image_of_bytes P Q also Room is = is
+image_of_bytes P Q also (Short Memory) is = tt
+image_of_bytes P Q also (Short Room) is = is
 
 pub passed_on : {T : Type 0} (r : Result T LedgerNo) (fault : LedgerNo) (P Q : ImageFault → Type 0) → ((f : ImageFault) → P f → Q f) → IsErrAnd r (λ e. e ≡ fault) → IsOfBytes P fault → IfErr r (IsImage Q)
 passed_on (Ok x) fault P Q also same is = tt

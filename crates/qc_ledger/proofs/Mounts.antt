@@ -5,6 +5,7 @@ use Rattle.qc_disk.specs.Disk.{IsImage as IsDiskImage}
 use Rattle.qc_event.specs.declared.table.Table.{Table}
 use Rattle.qc_codec.specs.declared.image.ImageFault.{ImageFault}
 use Rattle.qc_codec.specs.declared.image.ImageFault.TheVariants as fault
+use Rattle.qc_event.specs.declared.short.Short.TheVariants as short
 use Rattle.qc_journal.specs.Device.{IsAlike, LeftOrAlike}
 use Rattle.qc_journal.specs.Fault.{IsOfReading}
 use Rattle.qc_journal.specs.Image.{HasRecords, IsBroken}
@@ -28,8 +29,8 @@ image_also : (P Q : ImageFault → Type 0) → ((f : ImageFault) → P f → Q f
 image_also P Q also ledger_no.Disk is = tt
 image_also P Q also (ledger_no.Image bad) is = (is.0, also bad.fault is.1)
 image_also P Q also (ledger_no.Full place) is = is
-image_also P Q also ledger_no.Memory is = tt
-image_also P Q also ledger_no.Room is = is
+image_also P Q also (ledger_no.Short short.Memory) is = tt
+image_also P Q also (ledger_no.Short short.Room) is = is
 
 -- a fault of the records of an image is its first
 module _ (Has : List (List ℕ) → ImageFault → Type 0) (bodies : List (List ℕ)) (unbroken : (place : ℕ) → Has bodies (fault.Broken place) → ⊥) where

@@ -7,9 +7,9 @@ use Rattle.qc_event.specs.declared.event.Entry.{Entry}
 use Rattle.qc_event.specs.declared.event.Event.TheVariants as event
 use Rattle.qc_event.specs.declared.event.Why.{Why}
 use Rattle.qc_event.specs.History.{Name, Past, earliest, end, end_in, is_ready, ready_in}
-use Rattle.qc_desk.specs.declared.refusal.DeskNo.{DeskNo}
+use Rattle.qc_event.specs.declared.short.Short.{Short}
 use Rattle.qc_desk.specs.declared.view.View.{View}
-use Rattle.qc_desk.specs.Calling.{Entered, Refused, Shown}
+use Rattle.qc_desk.specs.Calling.{Entered, Shown, Wanted}
 use Rattle.qc_desk.specs.Entries.{IsOlder, entries_of, entry}
 use Rattle.qc_desk.specs.Refusing.{against_nothing}
 use Rattle.qc_event.specs.Base.{Setting}
@@ -67,7 +67,7 @@ shown_kept old new shown =
     }
 
 -- it entered that a top was not logged
-pub unable_kept : {T : Type 0} (r : Result T DeskNo) (old new : View) (top : Name) (why : Why) → OnOk r (Entered against_nothing (event.Unable top why) old new) → IfErr r (Refused against_nothing old new) → IsKept old new
+pub unable_kept : {T : Type 0} (r : Result T Short) (old new : View) (top : Name) (why : Why) → OnOk r (Entered against_nothing (event.Unable top why) old new) → IfErr r (Wanted old new) → IsKept old new
 unable_kept (Ok x) old new top why ok err =
     let is = ok.3 in
     let e = entry old.number (event.Unable top why) in

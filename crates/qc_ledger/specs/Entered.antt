@@ -89,8 +89,7 @@ abbrev pub RefusalEnters : LedgerNo → Option Name → Name → Past → Past �
 RefusalEnters no.Disk hand top old new = EntersBehind hand (unlogged_entry top Down ∷ []) old new
 RefusalEnters (no.Image bad) hand top old new = ⊥
 RefusalEnters (no.Full place) hand top old new = EntersBehind hand (unlogged_entry top Full ∷ []) old new
-RefusalEnters no.Memory hand top old new = CommitsHand hand old new
-RefusalEnters no.Room hand top old new = CommitsHand hand old new
+RefusalEnters (no.Short short) hand top old new = CommitsHand hand old new
 
 -- a logging may be refused for this
 abbrev pub IsLogNo : LedgerNo → Type 0

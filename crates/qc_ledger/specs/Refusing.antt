@@ -2,24 +2,17 @@
 use Rattle.std.specs.Prelude.{ℕ, ◌≡◌, List, Option, IfSome}
 use Rattle.qc_codec.specs.declared.image.ImageFault.{ImageFault}
 use Rattle.qc_codec.specs.declared.image.ImageFault.TheVariants as image
+use Rattle.qc_event.specs.declared.short.Short.TheVariants.{Memory, Room}
 use Rattle.qc_event.specs.declared.table.Table.{Table}
 use Rattle.qc_journal.specs.declared.fault.Fault.{Fault}
 use Rattle.qc_journal.specs.declared.fault.Fault.TheVariants as fault
-use Rattle.qc_desk.specs.declared.refusal.DeskNo.{DeskNo}
-use Rattle.qc_desk.specs.declared.refusal.DeskNo.TheVariants as desk
 use Rattle.qc_ledger.specs.Image.{IsFault, IsFirstFault}
 use Rattle.qc_ledger.specs.declared.fault.LedgerNo.{LedgerNo}
-use Rattle.qc_ledger.specs.declared.fault.LedgerNo.TheVariants.{Disk, Image, Full, Memory, Room}
-
--- why nothing was entered, where memory or room was wanting
-abbrev pub want_no : DeskNo → LedgerNo
-want_no desk.Room = Room
-want_no _ = Memory
+use Rattle.qc_ledger.specs.declared.fault.LedgerNo.TheVariants.{Disk, Image, Full, Short}
 
 -- for want of memory or of room
 abbrev pub IsWantNo : LedgerNo → Type 0
-IsWantNo Memory = Unit {0}
-IsWantNo Room = Unit {0}
+IsWantNo (Short short) = Unit {0}
 IsWantNo _ = ⊥
 
 -- the ledger's image is refused
@@ -31,30 +24,30 @@ abbrev pub mount_no : Fault → LedgerNo
 mount_no fault.Disk = Disk
 mount_no (fault.Broken place) = image_no (image.Broken place)
 mount_no (fault.Full place) = image_no (image.Full place)
-mount_no fault.Memory = Memory
+mount_no fault.Memory = Short Memory
 
 -- what a fault of the journal is to a logging
 abbrev pub log_no : Fault → LedgerNo
 log_no fault.Disk = Disk
 log_no (fault.Broken place) = Disk
 log_no (fault.Full place) = Full place
-log_no fault.Memory = Memory
+log_no fault.Memory = Short Memory
 
 -- a fault of the ledger's image, of which this holds; or of the disk or the memory
 abbrev pub IsImage : (ImageFault → Type 0) → LedgerNo → Type 0
 IsImage P Disk = Unit {0}
 IsImage P (Image bad) = (bad.disk ≡ 0) × P bad.fault
 IsImage P (Full place) = ⊥
-IsImage P Memory = Unit {0}
-IsImage P Room = ⊥
+IsImage P (Short Memory) = Unit {0}
+IsImage P (Short Room) = ⊥
 
 -- a fault of the ledger's image, of which this holds; or of the memory
 abbrev pub IsOfBytes : (ImageFault → Type 0) → LedgerNo → Type 0
 IsOfBytes P Disk = ⊥
 IsOfBytes P (Image bad) = (bad.disk ≡ 0) × P bad.fault
 IsOfBytes P (Full place) = ⊥
-IsOfBytes P Memory = Unit {0}
-IsOfBytes P Room = ⊥
+IsOfBytes P (Short Memory) = Unit {0}
+IsOfBytes P (Short Room) = ⊥
 
 -- a mounting may be refused: for the first fault of the image that is told, for the disk, or for memory
 abbrev pub IsLedgerRefusal : Table → ℕ → Option (List ℕ) → LedgerNo → Type 0

@@ -3,11 +3,12 @@ use Rattle.std.specs.Prelude.{◌≡◌, ◌⊎◌, ℕ, List, Option, None, Som
 use Rattle.qc_disk.specs.declared.disk.Disk.{Ghosts}
 use Rattle.qc_codec.specs.Bodies as body
 use Rattle.qc_codec.specs.declared.record.LedgerRecord.TheVariants.{Top}
+use Rattle.qc_event.specs.declared.short.Short.TheVariants.{Memory, Room}
 use Rattle.qc_event.specs.History.{Name}
 use Rattle.qc_journal.specs.Journal.{IsDown, IsUp, in_hand, place_of}
 use Rattle.qc_journal.specs.declared.journal.Journal.{Journal}
 use Rattle.qc_ledger.specs.declared.fault.LedgerNo.{LedgerNo}
-use Rattle.qc_ledger.specs.declared.fault.LedgerNo.TheVariants.{Disk, Image, Full, Memory, Room}
+use Rattle.qc_ledger.specs.declared.fault.LedgerNo.TheVariants.{Disk, Image, Full, Short}
 use Rattle.qc_ledger.specs.declared.shelf.Shelf.{Shelf}
 
 -- the journal
@@ -40,17 +41,17 @@ abbrev pub LogLeaves : {D : Type 0} {g : Ghosts D} → Shelf D g → Shelf D g �
 LogLeaves old new top body Disk = IsUnsure new (place_of old.journal) top body
 LogLeaves old new top body (Image bad) = ⊥
 LogLeaves old new top body (Full place) = (place ≡ place_of old.journal) × (new.journal ≡ old.journal) × (new.hand ≡ old.hand)
-LogLeaves old new top body Room = ⊥
-LogLeaves old new top body Memory = IsIdle new (place_of old.journal) ⊎ IsUnsure new (place_of old.journal) top body
+LogLeaves old new top body (Short Room) = ⊥
+LogLeaves old new top body (Short Memory) = IsIdle new (place_of old.journal) ⊎ IsUnsure new (place_of old.journal) top body
 
 -- a refusal by the disk or for memory
 abbrev pub IsDeviceNo : LedgerNo → Type 0
 IsDeviceNo Disk = Unit {0}
 IsDeviceNo (Image bad) = ⊥
 IsDeviceNo (Full place) = ⊥
-IsDeviceNo Memory = Unit {0}
-IsDeviceNo Room = ⊥
+IsDeviceNo (Short Memory) = Unit {0}
+IsDeviceNo (Short Room) = ⊥
 
 -- this refusal, or for memory
 abbrev pub IsRefusedFor : {T : Type 0} → LedgerNo → Result T LedgerNo → Type 0
-IsRefusedFor refusal result = (result ≡ Err refusal) ⊎ (result ≡ Err Memory)
+IsRefusedFor refusal result = (result ≡ Err refusal) ⊎ (result ≡ Err (Short Memory))

@@ -1,9 +1,11 @@
 //! Why the ledger did not do what it was asked.
 ghost use Rattle.std.specs.Prelude.{◌≡◌};
 ghost use Rattle.qc_ledger.specs.Refusing.{mount_no, image_no, log_no};
-ghost use Rattle.qc_ledger.specs.declared.fault.LedgerNo.TheVariants.{Memory};
+ghost use Rattle.qc_event.specs.declared.short.Short.TheVariants.{Memory};
+ghost use Rattle.qc_ledger.specs.declared.fault.LedgerNo.TheVariants as no;
 
 use qc_codec::{BadImage, ImageFault};
+use qc_event::Short;
 use qc_journal::Fault;
 use std::alloc::{AllocError, AllocFailed};
 use thiserror::Error;
@@ -20,27 +22,32 @@ pub enum LedgerNo {
     /// A top's record, behind the gate at this place, would pass the limit. Logging alone says so.
     #[error("no room at {place}")]
     Full { place: u64 },
-    /// There was no memory.
-    #[error("no memory")]
-    Memory,
-    /// The history takes no more entries. Logging alone says so.
-    #[error("no room in the history")]
-    Room,
+    /// There was no memory; or the history takes no more entries, which logging and reviving alone say.
+    #[error("{0}")]
+    Short(Short),
+}
+
+impl From<Short> for LedgerNo {
+    ghost from_gives = { λ short e. e ≡ no.Short short };
+
+    fn from(short: Short) -> Self {
+        LedgerNo::Short(short)
+    }
 }
 
 impl From<AllocError> for LedgerNo {
-    ghost from_gives = { λ _ e. e ≡ Memory };
+    ghost from_gives = { λ _ e. e ≡ no.Short Memory };
 
     fn from(_: AllocError) -> Self {
-        LedgerNo::Memory
+        LedgerNo::Short(Short::Memory)
     }
 }
 
 impl<T: Drop> From<AllocFailed<T>> for LedgerNo {
-    ghost from_gives = { λ _ e. e ≡ Memory };
+    ghost from_gives = { λ _ e. e ≡ no.Short Memory };
 
     fn from(_: AllocFailed<T>) -> Self {
-        LedgerNo::Memory
+        LedgerNo::Short(Short::Memory)
     }
 }
 
@@ -51,7 +58,7 @@ pub(crate) fn log_no(fault: Fault) -> LedgerNo
     match fault {
         Fault::Disk | Fault::Broken { .. } => LedgerNo::Disk,
         Fault::Full { place } => LedgerNo::Full { place },
-        Fault::Memory => LedgerNo::Memory,
+        Fault::Memory => LedgerNo::Short(Short::Memory),
     }
 }
 
@@ -70,6 +77,6 @@ pub(crate) fn mount_no(fault: Fault) -> LedgerNo
         Fault::Disk => LedgerNo::Disk,
         Fault::Broken { place } => image_no(ImageFault::Broken { place }),
         Fault::Full { place } => image_no(ImageFault::Full { place }),
-        Fault::Memory => LedgerNo::Memory,
+        Fault::Memory => LedgerNo::Short(Short::Memory),
     }
 }

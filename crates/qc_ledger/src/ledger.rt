@@ -3,21 +3,22 @@ ghost use Rattle.std.specs.Prelude.{◌≡◌, ◌≤◌, ◌⊎◌, ◌∷◌, 
 ghost use Rattle.std.specs.Bool.{OnFalse, OnTrue};
 ghost use Rattle.qc_codec.specs.Bodies as body;
 ghost use Rattle.qc_codec.specs.declared.record.LedgerRecord.TheVariants.{Top};
+ghost use Rattle.qc_event.specs.declared.short.Short.TheVariants.{Room};
 ghost use Rattle.qc_event.specs.History.{end, is_ready, limit};
 ghost use Rattle.qc_event.specs.Requests.{is_ledger_fault};
 ghost use Rattle.qc_event.specs.Seats.{ledger_seat};
 ghost use Rattle.qc_desk.specs.Entries.{entries_of, IsOlder};
 ghost use Rattle.qc_journal.specs.Journal.{disk_of, limit_of, place_of, IsTooLong, IsUp, Keeps};
 ghost use Rattle.qc_ledger.specs.Entered.{MayFinish, SeesMore};
-ghost use Rattle.qc_ledger.specs.Refusing.{want_no, IsWantNo};
+ghost use Rattle.qc_ledger.specs.Refusing.{IsWantNo};
 ghost use Rattle.qc_ledger.specs.Runs.{HasOrMore, Leaves, LosesNone, Falls, GoesOn, Costs, CostsTwo};
 ghost use Rattle.qc_ledger.specs.Shelf.{journal_in, top_in, top_body, LogLeaves, IsDeviceNo, IsIdle};
 ghost use Rattle.qc_ledger.specs.Since.{IsNext};
-ghost use Rattle.qc_ledger.specs.declared.fault.LedgerNo.TheVariants.{Disk, Full, Room};
+ghost use Rattle.qc_ledger.specs.declared.fault.LedgerNo.TheVariants.{Disk, Full};
 
 use crate::fault::LedgerNo;
 use crate::shelf::Shelf;
-use qc_desk::{Desk, DeskNo, Pass, Store};
+use qc_desk::{Desk, Pass, Store};
 use qc_disk::Disk;
 use qc_event::{Name, Why};
 use std::sync::Wait;
@@ -32,16 +33,6 @@ pub struct Ledger<D: Disk, N: Store> {
     ghost out: { pass.out ≡ [] },
     ghost kin: { pass.kin ≡ [] },
     ghost may: { (top : List ℕ) → top_in shelf ≡ Some top → MayFinish pass top },
-}
-
-// Why nothing was entered, where memory or room was wanting.
-fn want_no(no: DeskNo) -> LedgerNo
-    ensures { result ≡ want_no no }
-{
-    match no {
-        DeskNo::Room => LedgerNo::Room,
-        _ => LedgerNo::Memory,
-    }
 }
 
 impl<D: Disk, N: Store> Ledger<D, N> {
@@ -64,19 +55,15 @@ impl<D: Disk, N: Store> Ledger<D, N> {
             → KeepsLogged told before self.new.shelf (tops_of self.new.pass.mine) }
         ensures seen { IsOlder self.old.pass.seen self.new.pass.seen }
         ensures want { IfErr result IsWantNo }
-        ensures room { IsErrOf result Room → length self.new.pass.seen ≡ limit }
+        ensures room { IsErrOf result (LedgerNo.Short Room) → length self.new.pass.seen ≡ limit }
     {
         let Some(top) = self.shelf.hand() else {
             return Ok(());
         };
         let mut seer = desk.note(&mut self.pass);
-        match desk.finish(rt, &mut self.pass, &mut seer, &top) {
-            Ok(()) => {
-                self.shelf.let_go();
-                Ok(())
-            }
-            Err(no) => Err(want_no(no)),
-        }
+        desk.finish(rt, &mut self.pass, &mut seer, &top)?;
+        self.shelf.let_go();
+        Ok(())
     }
 
     // Brings the journal up. A top in hand whose record does not stand is let go of.
@@ -164,12 +151,10 @@ impl<D: Disk, N: Store> Ledger<D, N> {
         ensures seen { IsOlder self.old.pass.seen self.new.pass.seen }
         ensures seer { SeesMore seer.old seer.new }
         ensures want { IfErr result IsWantNo }
-        ensures room { IsErrOf result Room → length self.new.pass.seen ≡ limit }
+        ensures room { IsErrOf result (LedgerNo.Short Room) → length self.new.pass.seen ≡ limit }
     {
-        match desk.unable(rt, &mut self.pass, seer, top, why) {
-            Ok(()) => Ok(()),
-            Err(no) => Err(want_no(no)),
-        }
+        desk.unable(rt, &mut self.pass, seer, top, why)?;
+        Ok(())
     }
 
     /// The seer is shown the history at this step, which the pass has then seen too.
@@ -224,7 +209,7 @@ impl<D: Disk, N: Store> Ledger<D, N> {
         ensures none { OnErr result (CommitsHand (top_in self.old.shelf)
             self.old.pass.mine self.new.pass.mine) }
         ensures refused { IfErr result IsLogNo }
-        ensures room { IsErrOf result Room → length self.new.pass.seen ≡ limit }
+        ensures room { IsErrOf result (LedgerNo.Short Room) → length self.new.pass.seen ≡ limit }
         ensures full { (place : ℕ) → result ≡ Err (Full place) → IsIdle self.new.shelf place
             × IsTooLong place (limit_of (journal_in self.old.shelf))
             (top_body top.now aborted.now) }
@@ -267,7 +252,7 @@ impl<D: Disk, N: Store> Ledger<D, N> {
             (HasLogged top.now (ledger_state self.old) (ledger_state self.new)) }
         ensures refused { IfErr result (λ refusal. RefusalEnters refusal
             (top_in self.old.shelf) top.now self.old.pass.mine self.new.pass.mine) }
-        ensures room { IsErrOf result Room → length self.new.pass.seen ≡ limit }
+        ensures room { IsErrOf result (LedgerNo.Short Room) → length self.new.pass.seen ≡ limit }
         ensures full { (place : ℕ) → result ≡ Err (Full place) → IsIdle self.new.shelf place
             × IsTooLong place (limit_of (journal_in self.old.shelf))
             (top_body top.now aborted.now) }
@@ -300,7 +285,7 @@ impl<D: Disk, N: Store> Ledger<D, N> {
         ensures up { OnOk result (IsUp (journal_in self.new.shelf)) }
         ensures none { OnOk result (top_in self.new.shelf ≡ None) }
         ensures refused { IfErr result IsReviveNo }
-        ensures room { IsErrOf result Room → length self.new.pass.seen ≡ limit }
+        ensures room { IsErrOf result (LedgerNo.Short Room) → length self.new.pass.seen ≡ limit }
         ensures enters { CommitsHand (top_in self.old.shelf)
             self.old.pass.mine self.new.pass.mine }
         ensures became { LedgerBecame None (ledger_state self.old) (ledger_state self.new) }

@@ -13,6 +13,7 @@ ghost use Rattle.qc_ledger.specs.Seen.{told_by, HasNumbers, with_body};
 use crate::fault::{LedgerNo, image_no};
 use crate::seen::Seen;
 use qc_codec::{CodecNo, ImageFault, LedgerRecord, Made, Past, read_ledger};
+use qc_event::Short;
 use qc_journal::Body;
 use std::alloc::Global;
 
@@ -33,7 +34,7 @@ fn check_made(alloc: Global, first: &[u8], made: Made, spelled: &[u8]) -> Result
             asked: made.table,
         })),
         Ok(_) | Err(CodecNo::Bad) => Err(image_no(ImageFault::Grammar { index: 0 })),
-        Err(CodecNo::Memory) => Err(LedgerNo::Memory),
+        Err(CodecNo::Memory) => Err(LedgerNo::Short(Short::Memory)),
     }
 }
 
@@ -45,12 +46,12 @@ fn take_next(alloc: Global, seen: &mut Seen, bytes: &[u8]) -> Result<bool, Ledge
     ensures taken { IfOk result (λ taken. OnTrue taken (told_by seen.new ≡ with_body
         (told_by seen.old) (all_of body.ledger bytes.now))) }
     ensures numbers { IfOk result (λ taken. OnTrue taken (HasNumbers seen.new)) }
-    ensures memory { IfErr result (λ no. no ≡ LedgerNo.Memory) }
+    ensures memory { IfErr result (λ no. no ≡ LedgerNo.Short Short.Memory) }
 {
     match read_ledger(alloc, bytes) {
         Ok(next) => Ok(seen.take(next)?),
         Err(CodecNo::Bad) => Ok(false),
-        Err(CodecNo::Memory) => Err(LedgerNo::Memory),
+        Err(CodecNo::Memory) => Err(LedgerNo::Short(Short::Memory)),
     }
 }
 

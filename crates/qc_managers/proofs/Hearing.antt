@@ -118,8 +118,7 @@ refused_of setting others Names seat m k way (carry.Orphan a) one stopped =
       };
       licensed = subst (λ n. IsOrphanOf way.now n a) one.its stopped.orphan;
     }
-refused_of setting others Names seat m k way carry.Memory one cut = tt
-refused_of setting others Names seat m k way carry.Room one cut = cut.1
+refused_of setting others Names seat m k way (carry.Short short) one cut = cut.1
 
 -- what a carrier made for an access that was carried, and for one that was not
 pub made_carried : (m : Name) (way : Carriage) (r : Result) → is_child m way.ask.access ≡ true → WasCarried way r → HasMade m (own_before way) (own_now way)
@@ -127,5 +126,4 @@ made_carried m way r child carried = record { made = access_entries way.seat way
 
 pub made_not_carried : (m : Name) (way : Carriage) (why : CarryNo) → is_child m way.ask.access ≡ true → WasNotCarried way why → HasMade m (own_before way) (own_now way)
 made_not_carried m way (carry.Orphan a) child stopped = record { made = stopped.made; added = stopped.added; each = stopped_by m way.seat way.ask child a stopped.made stopped.stopped }
-made_not_carried m way carry.Memory child cut = record { made = cut.made; added = cut.added; each = begun_by m way.seat way.ask child cut.made cut.part }
-made_not_carried m way carry.Room child cut = record { made = cut.0.made; added = cut.0.added; each = begun_by m way.seat way.ask child cut.0.made cut.0.part }
+made_not_carried m way (carry.Short short) child cut = record { made = cut.0.made; added = cut.0.added; each = begun_by m way.seat way.ask child cut.0.made cut.0.part }

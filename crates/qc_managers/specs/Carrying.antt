@@ -14,10 +14,11 @@ use Rattle.qc_event.specs.declared.event.Why.{Why}
 use Rattle.qc_event.specs.declared.event.Why.TheVariants.{Lost, Late}
 use Rattle.qc_event.specs.Base.{Setting}
 use Rattle.qc_event.specs.Counts.{Rose}
-use Rattle.qc_event.specs.History.{Past, Name, limit, start, end, children, asks}
+use Rattle.qc_event.specs.History.{Past, Name, start, end, children, asks}
 use Rattle.qc_event.specs.Manager.{Result, Replied, Missing, BlockedBy, result, AtStage}
 use Rattle.qc_event.specs.Requests.{IsNextAsk, was_unable}
 use Rattle.qc_event.specs.Standing.{IsManager, open_child, IsOrphanOf}
+use Rattle.qc_event.specs.Wants.{IsWant}
 use Rattle.qc_managers.specs.declared.carrier.Carried.{Carried}
 use Rattle.qc_managers.specs.declared.carrier.Carried.TheVariants as carried
 use Rattle.qc_managers.specs.declared.carrier.CarryNo.{CarryNo}
@@ -175,8 +176,7 @@ pub record WasCutOff (way : Carriage) : Type 0 where
 -- what stands where an access was not carried to an answer
 abbrev pub WasNotCarried : Carriage → CarryNo → Type 0
 WasNotCarried way (no.Orphan a) = WasOrphaned way a
-WasNotCarried way no.Memory = WasCutOff way
-WasNotCarried way no.Room = WasCutOff way × (length way.now ≡ limit)
+WasNotCarried way (no.Short short) = WasCutOff way × IsWant way.now short
 
 -- A reason for no answer stands on something: a trouble of the link, or the copy's own word.
 abbrev pub HasReason : Carriage → Type 0 → Carried → Type 0

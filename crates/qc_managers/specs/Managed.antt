@@ -1,5 +1,5 @@
 -- What a manager's answer, or its reason for none, says of the history.
-use Rattle.std.specs.Prelude.{ℕ, ◌≡◌, IsTrue, length, Option, Some, None, MatchOption}
+use Rattle.std.specs.Prelude.{ℕ, ◌≡◌, IsTrue, Option, Some, None, MatchOption}
 use Rattle.qc_event.specs.Aborts.{ManagerCause}
 use Rattle.qc_event.specs.Base.{Setting}
 use Rattle.qc_event.specs.Commits.{manager_answer}
@@ -7,7 +7,8 @@ use Rattle.qc_event.specs.declared.event.Answer.{Answer}
 use Rattle.qc_event.specs.declared.event.Cause.{Cause}
 use Rattle.qc_event.specs.declared.event.Cause.TheVariants as cause
 use Rattle.qc_event.specs.declared.event.Kind.{Kind}
-use Rattle.qc_event.specs.History.{Past, Name, limit}
+use Rattle.qc_event.specs.History.{Past, Name}
+use Rattle.qc_event.specs.Wants.{IsWant}
 use Rattle.qc_event.specs.Manager.{is_complete, first_for}
 use Rattle.qc_managers.specs.Carrying.{IsRunning}
 use Rattle.qc_managers.specs.declared.carrier.CarryNo.{CarryNo}
@@ -29,17 +30,16 @@ cause_of (no.Orphan ancestor) = Some (cause.Orphan ancestor)
 cause_of (no.Conflict copy holder) = Some (cause.Conflict copy holder)
 cause_of (no.NoQuorum lack) = Some (cause.NoQuorum lack)
 cause_of no.Last = Some cause.Last
-cause_of no.Memory = None
-cause_of no.Room = None
+cause_of (no.Short short) = None
 
 -- A manager that runs may end for this cause.
 pub record MayEndFor (setting : Setting) (seat : ℕ) (past : Past) (m : Name) (k : Kind) (c : Cause) : Type 0 where
   pub running : IsRunning seat past m k
   pub licensed : ManagerCause setting past m k c
 
--- where the history was full, it has as many entries as it takes
+-- where memory or room was wanting, what that says
 abbrev pub IsShort : Past → MgrNo → Type 0
-IsShort past no.Room = length past ≡ limit
+IsShort past (no.Short short) = IsWant past short
 IsShort past _ = Unit {0}
 
 -- A manager came to no answer: it may end for the cause, or memory or room was wanting.
@@ -49,8 +49,7 @@ IsRefused setting seat past m k why = MatchOption (cause_of why) (IsShort past w
 -- the reason of a manager whose access was not carried to an answer
 abbrev pub mgr_no : CarryNo → MgrNo
 mgr_no (carry.Orphan ancestor) = no.Orphan ancestor
-mgr_no carry.Memory = no.Memory
-mgr_no carry.Room = no.Room
+mgr_no (carry.Short short) = no.Short short
 
 -- the reason of a manager that is short of a quorum
 abbrev pub no_of : Shortage → MgrNo

@@ -47,6 +47,5 @@ pub record IsUndisturbed (setting : Setting) (past : Past) (m : Name) (k : Kind)
 
 -- memory or room was wanting
 abbrev pub IsShortage : MgrNo → Type 0
-IsShortage no.Memory = Unit {0}
-IsShortage no.Room = Unit {0}
+IsShortage (no.Short short) = Unit {0}
 IsShortage _ = ⊥

@@ -5,7 +5,7 @@ ghost use Rattle.qc_event.specs.Legal.{Legal};
 ghost use Rattle.qc_managers.specs.Carrying.{CarrierView, MayCarry, next_ask, HasGrown, carriage, became as result_of, WasCarried, WasNotCarried, HasReason};
 
 use qc_config::{Op, Tuple};
-use qc_event::{Name, Why};
+use qc_event::{Name, Short, Why};
 use thiserror::Error;
 
 /// What became of an access that ended.
@@ -25,12 +25,19 @@ pub enum CarryNo {
     /// An ancestor of the manager is aborted. The access, where it started, ended as its orphan.
     #[error("{0} is aborted")]
     Orphan(Name),
-    /// There was no memory. The steps done before stand.
-    #[error("no memory")]
-    Memory,
-    /// The history takes no more entries. The steps done before stand.
-    #[error("no room in the history")]
-    Room,
+    /// There was no memory, or the history takes no more entries. The steps done before stand.
+    #[error("{0}")]
+    Short(Short),
+}
+
+impl From<Short> for CarryNo {
+    ghost use Rattle.qc_managers.specs.declared.carrier.CarryNo.TheVariants as no;
+
+    ghost from_gives = { λ short e. e ≡ no.Short short };
+
+    fn from(short: Short) -> Self {
+        CarryNo::Short(short)
+    }
 }
 
 /// Carries a manager's accesses to the copies, one at a time.

@@ -4,7 +4,7 @@ ghost use Rattle.qc_managers.specs.Managed.{cause_of};
 
 use crate::carrier::CarryNo;
 use crate::shortage::Shortage;
-use qc_event::{Cause, Lack, Name};
+use qc_event::{Cause, Lack, Name, Short};
 use thiserror::Error;
 
 /// Why a manager has no answer.
@@ -22,12 +22,9 @@ pub enum MgrNo {
     /// The number to raise is at `2^64 - 1`.
     #[error("a number is at its last value")]
     Last,
-    /// There was no memory. The steps done before stand.
-    #[error("no memory")]
-    Memory,
-    /// The history takes no more entries. The steps done before stand.
-    #[error("no room in the history")]
-    Room,
+    /// There was no memory, or the history takes no more entries. The steps done before stand.
+    #[error("{0}")]
+    Short(Short),
 }
 
 impl MgrNo {
@@ -41,7 +38,7 @@ impl MgrNo {
             MgrNo::Conflict { copy, holder } => Some(Cause::Conflict { copy, holder }),
             MgrNo::NoQuorum(lack) => Some(Cause::NoQuorum(lack)),
             MgrNo::Last => Some(Cause::Last),
-            MgrNo::Memory | MgrNo::Room => None,
+            MgrNo::Short(_) => None,
         }
     }
 }
@@ -54,8 +51,7 @@ impl From<CarryNo> for MgrNo {
     fn from(no: CarryNo) -> Self {
         match no {
             CarryNo::Orphan(ancestor) => MgrNo::Orphan(ancestor),
-            CarryNo::Memory => MgrNo::Memory,
-            CarryNo::Room => MgrNo::Room,
+            CarryNo::Short(short) => MgrNo::Short(short),
         }
     }
 }

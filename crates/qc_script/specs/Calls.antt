@@ -13,12 +13,12 @@ use Rattle.qc_event.specs.declared.event.How.TheVariants.{Commit, Abort}
 use Rattle.qc_event.specs.declared.event.Kind.{Kind}
 use Rattle.qc_event.specs.declared.event.Kind.TheVariants as kind
 use Rattle.qc_event.specs.declared.short.Short.{Short}
-use Rattle.qc_event.specs.declared.short.Short.TheVariants as short
 use Rattle.qc_event.specs.Dead.{outcome, is_committed, is_aborted}
 use Rattle.qc_event.specs.History.{Past, Name, limit, same, start, end, is_ready, is_child}
 use Rattle.qc_event.specs.Seats.{is_client}
 use Rattle.qc_event.specs.Standing.{Started, IsAbort, IsUser}
 use Rattle.qc_event.specs.Users.{UserCause}
+use Rattle.qc_event.specs.Wants.{IsWant}
 use Rattle.qc_names.specs.Name as name
 use Rattle.qc_net.specs.Messages.{meets_fates}
 use Rattle.qc_script.specs.declared.tx.TxNo.{TxNo}
@@ -86,8 +86,7 @@ Refuses seen of (tx_no.Orphan a) = IsTrue (name.is_ancestor a of) × MatchOption
 Refuses seen of tx_no.Ended = is_some (end seen of) ≡ true
 Refuses seen of (tx_no.ChildrenOpen child) = IsTrue (is_child of child) × (is_some (start seen child) ≡ true) × (end seen child ≡ None)
 Refuses seen of tx_no.Ready = is_ready seen of ≡ true
-Refuses seen of tx_no.Memory = Unit {0}
-Refuses seen of tx_no.Room = length seen ≡ limit
+Refuses seen of (tx_no.Short short) = IsWant seen short
 Refuses seen of _ = ⊥
 
 -- A call to begin a child, or a manager, was refused: nothing was made.
@@ -122,8 +121,7 @@ IsForChild c = ⊥
 -- An abort was refused: nothing was made, and it had ended or was ready, or the cause does not hold, or it was want of
 -- memory or room. No transaction with an aborted ancestor is aborted for a child.
 abbrev pub NotAborted : Client → Name → Cause → Past → Past → TxNo → Type 0
-NotAborted c of why before now tx_no.Memory = Made c [] before now
-NotAborted c of why before now tx_no.Room = Made c [] before now × (length now ≡ limit)
+NotAborted c of why before now (tx_no.Short short) = Made c [] before now × IsWant now short
 NotAborted c of why before now tx_no.Ended = Made c [] before now × ((is_some (end now of) ≡ true) ⊎ IsNone now why)
 NotAborted c of why before now tx_no.Ready = Made c [] before now × (is_ready now of ≡ true)
 NotAborted c of why before now (tx_no.Orphan a) = Made c [] before now × IsForChild why × Refuses now of (tx_no.Orphan a)
@@ -135,8 +133,7 @@ GaveNone c of k before now (tx_no.Orphan a) = Refuses now of (tx_no.Orphan a) ×
 GaveNone c of k before now (tx_no.Conflict copy holder) = Ran c of k (Abort (cause.Conflict copy holder)) before now
 GaveNone c of k before now (tx_no.NoQuorum lack) = Ran c of k (Abort (cause.NoQuorum lack)) before now
 GaveNone c of k before now tx_no.Last = Ran c of k (Abort cause.Last) before now
-GaveNone c of k before now tx_no.Memory = Made c [] before now ⊎ WasCut c of k before now
-GaveNone c of k before now tx_no.Room = (Made c [] before now ⊎ WasCut c of k before now) × (length now ≡ limit)
+GaveNone c of k before now (tx_no.Short short) = (Made c [] before now ⊎ WasCut c of k before now) × IsWant now short
 GaveNone c of k before now why = WasRefused c of before now why
 
 -- COMMITS
@@ -155,8 +152,7 @@ Committed c of before now = Made c (by_client c (event.End of (Commit answer.Not
 -- come before a top is ready or after.
 abbrev pub NotCommitted : Client → Name → Past → Past → TxNo → Type 0
 NotCommitted c of before now tx_no.Ledger = (length of ≡ 1) × Made c (by_client c (event.Ready of) ∷ []) before now × (is_over now of ≡ true)
-NotCommitted c of before now tx_no.Memory = Made c [] before now ⊎ MadeReady c of before now
-NotCommitted c of before now tx_no.Room = (Made c [] before now ⊎ MadeReady c of before now) × (length now ≡ limit)
+NotCommitted c of before now (tx_no.Short short) = (Made c [] before now ⊎ MadeReady c of before now) × IsWant now short
 NotCommitted c of before now why = Made c [] before now × Refuses now of why
 
 -- WHAT A CALL DOES TO A VIEW
@@ -188,7 +184,7 @@ Marks old new by session = Made old.client (by_client old.client (event.Mark by 
 
 -- A mark was not made, for want of memory or room.
 abbrev pub MarksNone : ClientView → ClientView → Short → Type 0
-MarksNone old new why = Made old.client [] old.seen new.seen × (why ≡ short.Room → length new.seen ≡ limit)
+MarksNone old new why = Made old.client [] old.seen new.seen × IsWant new.seen why
 
 -- a transaction was aborted for a cause
 abbrev pub Aborts : ClientView → ClientView → Name → Cause → Type 0

@@ -37,12 +37,19 @@ pub enum TxNo {
     /// The ledger could not log the top.
     #[error("the ledger did not log the top")]
     Ledger,
-    /// Memory ran out.
-    #[error("no memory")]
-    Memory,
-    /// The history is full.
-    #[error("no room in the history")]
-    Room,
+    /// Memory ran out, or the history is full.
+    #[error("{0}")]
+    Short(Short),
+}
+
+impl From<Short> for TxNo {
+    ghost use Rattle.qc_script.specs.declared.tx.TxNo.TheVariants as no;
+
+    ghost from_gives = { λ short e. e ≡ no.Short short };
+
+    fn from(short: Short) -> Self {
+        TxNo::Short(short)
+    }
 }
 
 /// Carries out what a session asks, in one transaction after another. No call but `branch` and `merge` changes what stays of

@@ -118,8 +118,7 @@ module _ (setting : Setting) (v w : View) (c : Client) (for : IsFor setting v w 
   none walk = made_so setting v w c for legal [] walk
 
   not_aborted : (why : Cause) (no : TxNo) → IsUnaborted v w n no → NotAborted c n why v.seen w.seen no
-  not_aborted why tx_no.Memory h = none h
-  not_aborted why tx_no.Room h = (none h.0, h.1)
+  not_aborted why (tx_no.Short s) h = (none h.0, h.1)
   not_aborted why tx_no.Ended h = (none h.0, inl h.1)
   not_aborted why tx_no.Ready h = (none h.0, h.1)
   not_aborted why (tx_no.Orphan a) h = absurd h
@@ -135,8 +134,7 @@ module _ (setting : Setting) (v w : View) (c : Client) (for : IsFor setting v w 
 
   unfounded : (why : Cause) (no : TxNo) → IsUnfounded v w n why no → NotAborted c n why v.seen w.seen no
   unfounded why tx_no.Ended h = (none h.0, h.1)
-  unfounded why tx_no.Memory h = none h
-  unfounded why tx_no.Room h = (none h.0, h.1)
+  unfounded why (tx_no.Short s) h = (none h.0, h.1)
   unfounded why tx_no.Ready h = (none h.0, h.1)
   unfounded why (tx_no.Orphan a) h = (none h.0, h.1, h.2)
   unfounded why (tx_no.Conflict copy holder) h = absurd h
@@ -153,8 +151,7 @@ module _ (setting : Setting) (v w : View) (c : Client) (for : IsFor setting v w 
 unaborted_on : (v u w : View) (n : Name) (why : Cause) (no : TxNo) → Walk v u [] → IsUnaborted u w n no → IsUnfounded v w n why no
 unaborted_on v u w n why tx_no.Ended first h = (walking.walk_on v u w [] [] first h.0, inl h.1)
 unaborted_on v u w n why tx_no.Ready first h = (walking.walk_on v u w [] [] first h.0, h.1)
-unaborted_on v u w n why tx_no.Memory first h = walking.walk_on v u w [] [] first h
-unaborted_on v u w n why tx_no.Room first h = (walking.walk_on v u w [] [] first h.0, h.1)
+unaborted_on v u w n why (tx_no.Short s) first h = (walking.walk_on v u w [] [] first h.0, h.1)
 unaborted_on v u w n why (tx_no.Orphan x) first h = absurd h
 unaborted_on v u w n why (tx_no.Conflict copy holder) first h = absurd h
 unaborted_on v u w n why (tx_no.NoQuorum lack) first h = absurd h
@@ -169,8 +166,7 @@ all_unaborted_on v u w n why (Err e) first h = unaborted_on v u w n why e first 
 unfounded_on : (v u w : View) (n : Name) (why : Cause) (no : TxNo) → Walk v u [] → IsUnfounded u w n why no → IsUnfounded v w n why no
 unfounded_on v u w n why tx_no.Ended first h = (walking.walk_on v u w [] [] first h.0, h.1)
 unfounded_on v u w n why tx_no.Ready first h = (walking.walk_on v u w [] [] first h.0, h.1)
-unfounded_on v u w n why tx_no.Memory first h = walking.walk_on v u w [] [] first h
-unfounded_on v u w n why tx_no.Room first h = (walking.walk_on v u w [] [] first h.0, h.1)
+unfounded_on v u w n why (tx_no.Short s) first h = (walking.walk_on v u w [] [] first h.0, h.1)
 unfounded_on v u w n why (tx_no.Orphan x) first h = (walking.walk_on v u w [] [] first h.0, h.1, h.2)
 unfounded_on v u w n why (tx_no.Conflict copy holder) first h = absurd h
 unfounded_on v u w n why (tx_no.NoQuorum lack) first h = absurd h

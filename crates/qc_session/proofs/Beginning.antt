@@ -13,13 +13,13 @@ use Rattle.qc_event.specs.Base.{Setting}
 use Rattle.qc_event.specs.History.{Past, Name, child_in, children, every, is_child}
 use Rattle.qc_event.specs.Legal.{Legal}
 use Rattle.qc_event.proofs.LastNumber.{length_last, is_child-last, child_longer}
+use Rattle.qc_event.specs.declared.short.Short.{Short}
 use Rattle.qc_carry.specs.Walk.{Walk}
 use Rattle.qc_carry.proofs.Walking as walking
 use Rattle.qc_managers.specs.Carrying.{entry}
 use Rattle.qc_interp.proofs.Scopes.Adding.{no_top}
-use Rattle.qc_desk.specs.declared.refusal.DeskNo.{DeskNo}
 use Rattle.qc_desk.specs.declared.view.View.{View}
-use Rattle.qc_desk.specs.Calling.{Refused, StartsTop}
+use Rattle.qc_desk.specs.Calling.{StartsTop, Wanted}
 use Rattle.qc_desk.specs.Entries.{AreOthers, IsSince}
 use Rattle.qc_desk.specs.Refusing.{against_nothing}
 use Rattle.qc_desk.specs.Rules.{extends}
@@ -74,11 +74,11 @@ module _ (setting : Setting) (v w : View) (epoch session body : ℕ) (legal : Le
   top_walk : (n : Name) → StartsTop epoch session body n v w → Walk v w (entry v.number (event.Start n (kind.User session body)) ∷ [])
   top_walk n s = walking.of_entered against_nothing (event.Start n (kind.User session body)) v w (s.0, s.3, refl, s.5 ∙ ap (λ ev. extends (entry v.number ev) s.0 v) s.2.1)
 
-  pub top_child : (r : Result Name DeskNo) → IfOk r (λ n. StartsTop epoch session body n v w) → IfOk r (λ n. IsTrue (is_child [] n))
+  pub top_child : (r : Result Name Short) → IfOk r (λ n. StartsTop epoch session body n v w) → IfOk r (λ n. IsTrue (is_child [] n))
   top_child (Ok n) s = ap (is_child []) s.2.0
   top_child (Err e) s = tt
 
-  pub top_walks : (r : Result Name DeskNo) → IfOk r (λ n. StartsTop epoch session body n v w) → IfErr r (Refused against_nothing v w) → (made : Past) × Walk v w made
+  pub top_walks : (r : Result Name Short) → IfOk r (λ n. StartsTop epoch session body n v w) → IfErr r (Wanted v w) → (made : Past) × Walk v w made
   top_walks (Ok n) s e = (_, top_walk n s)
   top_walks (Err why) s e = (_, walking.of_looked v w e.0)
 

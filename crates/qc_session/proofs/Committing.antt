@@ -126,8 +126,7 @@ module _ (setting : Setting) (v w : View) (c : Client) (for : IsFor setting v w 
   top_uncommitted ledger.Disk refused = (refl, readied, unable_over w.seen (x ∷ []) why.Down refused)
   top_uncommitted (ledger.Image bad) refused = absurd refused
   top_uncommitted (ledger.Full place) refused = (refl, readied, unable_over w.seen (x ∷ []) why.Full refused)
-  top_uncommitted ledger.Memory refused = inr (refl, readied)
-  top_uncommitted ledger.Room refused = (inr (refl, readied), refused)
+  top_uncommitted (ledger.Short s) refused = (inr (refl, readied), refused)
 
 -- a top that is ready stays so
 pub ready_later : (newer past : Past) (n : Name) → is_ready past n ≡ true → is_ready (newer ++ past) n ≡ true

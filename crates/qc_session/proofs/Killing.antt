@@ -14,21 +14,17 @@ use Rattle.qc_event.specs.declared.event.Entry.{Entry}
 use Rattle.qc_event.specs.declared.event.Kind.{Kind}
 use Rattle.qc_event.specs.declared.event.Kind.TheVariants as kind
 use Rattle.qc_event.specs.declared.short.Short.{Short}
-use Rattle.qc_event.specs.declared.short.Short.TheVariants.{Memory, Room}
 use Rattle.qc_event.specs.Base.{Setting}
 use Rattle.qc_event.specs.History.{Past, Name, Begun, limit, start}
 use Rattle.qc_event.specs.Legal.{Legal}
 use Rattle.qc_event.specs.Standing.{Started}
 use Rattle.qc_event.specs.Users.{is_marked, top_number}
-use Rattle.qc_desk.specs.declared.refusal.DeskNo.{DeskNo}
-use Rattle.qc_desk.specs.declared.refusal.DeskNo.TheVariants as desk
+use Rattle.qc_event.specs.Wants.{IsWant}
 use Rattle.qc_desk.specs.declared.view.View.{View as Pass}
-use Rattle.qc_desk.specs.Calling.{Refused}
 use Rattle.qc_history.specs.Looking.{is_marked_for, session_of}
-use Rattle.qc_desk.specs.Refusing.{against_nothing, Refuses}
 use Rattle.qc_script.specs.Calls.{IsGrounded, IsMarkedFor, IsOfSession}
 use Rattle.qc_script.specs.Client.{Client, Made, is_own, mine}
-use Rattle.qc_session.specs.Acting.{IsWanting, short_of}
+use Rattle.qc_session.specs.Acting.{IsWanting}
 use Rattle.qc_session.specs.Clients.{IsFor}
 use Rattle.qc_session.specs.Marking.{KnowsMarks}
 use Rattle.qc_session.proofs.OwnMarks.{none_marks, some_unmarked}
@@ -76,27 +72,6 @@ none_told c seen top word may marks bound low known = ∥∥₁_elim known (hlev
 
 -- MARKS THAT WERE NOT MADE
 
--- nothing is against a mark but want of memory and of room
-pub unmarked : (v w : Pass) (why : DeskNo) → Refused against_nothing v w why → IsWanting v w (short_of why)
-unmarked v w why refused = by_why why refused.1
-  where
-    walk : Walk v w []
-    walk = walking.of_looked v w refused.0
-
-    by_why : (d : DeskNo) → Refuses against_nothing w.seen d → IsWanting v w (short_of d)
-    by_why desk.Room (inr want) = (walk, want.1)
-    by_why desk.Memory (inr want) = walk
-    by_why (desk.Orphan a) (inr want) = absurd want.1
-    by_why desk.Ended (inr want) = absurd want.1
-    by_why (desk.ChildrenOpen child) (inr want) = absurd want.1
-    by_why desk.Ready (inr want) = absurd want.1
-    by_why _ (inl against) = absurd (none-some _ against)
-
-pub wanting_walk : (v w : Pass) (short : Short) → IsWanting v w short → Walk v w []
-wanting_walk v w Memory walk = walk
-wanting_walk v w Room wanting = wanting.0
-
--- its client tells of want of room only where the history is full
-pub not_marked : (setting : Setting) (v w : Pass) (c : Client) (short : Short) → IsFor setting v w c → Legal setting w.seen → IsWanting v w short → Made c [] v.seen w.seen × (short ≡ Room → length w.seen ≡ limit)
-not_marked setting v w c Memory for legal walk = (made_so setting v w c for legal [] walk, λ is. cc)
-not_marked setting v w c Room for legal wanting = (made_so setting v w c for legal [] wanting.0, λ is. wanting.1)
+-- its client tells what was wanting
+pub not_marked : (setting : Setting) (v w : Pass) (c : Client) (short : Short) → IsFor setting v w c → Legal setting w.seen → IsWanting v w short → Made c [] v.seen w.seen × IsWant w.seen short
+not_marked setting v w c short for legal wanting = (made_so setting v w c for legal [] wanting.0, wanting.1)

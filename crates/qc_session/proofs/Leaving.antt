@@ -8,6 +8,7 @@ use Rattle.qc_event.specs.declared.short.Short.{Short}
 use Rattle.qc_event.specs.declared.short.Short.TheVariants.{Memory, Room}
 use Rattle.qc_event.specs.History.{Past, Name, limit}
 use Rattle.qc_event.specs.Legal.{Legal}
+use Rattle.qc_event.specs.Wants.{IsWant}
 use Rattle.qc_interp.specs.FollowsScript.{net_of}
 use Rattle.qc_interp.specs.Reach.{Reach}
 use Rattle.qc_interp.specs.Session.{CutTops, EndsTops, EndsTopsAt, InTurnAt, RanInTurn}
@@ -31,6 +32,11 @@ use Rattle.qc_session.proofs.Tidy.{fresh_tidy}
 mine_alike : (c d : Client) (past : Past) → AllByRecursion (λ (e : Entry). is_own d e.seat ≡ is_own c e.seat) past → mine d past ≡ mine c past
 mine_alike c d [] all = refl
 mine_alike c d (e ∷ past) all = ap (λ b. cond b (e ∷ mine d past) (mine d past)) all.0 ∙ ap (λ l. cond (is_own c e.seat) (e ∷ l) l) (mine_alike c d past all.1)
+
+-- where room was wanting the history is full
+full_of : (r : Result (Unit {0}) Short) (past : Past) → IfErr r (IsWant past) → IsErrOf r Room → length past ≡ limit
+full_of (Ok x) past want is = absurd cc
+full_of (Err e) past want is = let one : e ≡ Room = cc in subst (IsWant past) one want
 
 module _ (setting : Setting) (epoch patience session : ℕ) (plan : SessionPlan) (given : View) (new : IsNew given) where
   abbrev c : Client
@@ -83,9 +89,9 @@ module _ (setting : Setting) (epoch patience session : ℕ) (plan : SessionPlan)
       begins (Ok done) ends turns cut = leaves Reach.cut_off (ends_begun told_as before back.seen plan.tops ends) (turns_begun told_as before back.seen turns)
       begins (Err why) ends turns cut = leaves Reach.cut_off cut.begins cut.in_turn
 
-      pub one_ran : (ran : Result (Unit {0}) Short) → OnOk ran (EndsTops told_as before back.seen plan.tops) → OnOk ran (RanInTurn told_as before back.seen) → IfErr ran (λ _. CutTops told_as before back.seen plan.tops) → (IsErrOf ran Room → length back.seen ≡ limit)
+      pub one_ran : (ran : Result (Unit {0}) Short) → OnOk ran (EndsTops told_as before back.seen plan.tops) → OnOk ran (RanInTurn told_as before back.seen) → IfErr ran (λ _. CutTops told_as before back.seen plan.tops) → IfErr ran (IsWant back.seen)
           → RanOne setting epoch patience session plan given ran back
-      one_ran ran ends turns cut room = record {
+      one_ran ran ends turns cut want = record {
         number = ap (λ (x : Client). x.number) joined_now.same;
         live = live;
         out = ap (λ (x : Client). x.out) joined_now.same ∙ new.out;
@@ -93,7 +99,7 @@ module _ (setting : Setting) (epoch patience session : ℕ) (plan : SessionPlan)
         none = mine_alike c d given.seen joined_now.own ∙ nothing_made;
         follows = follows ran ends turns;
         begins = begins ran ends turns cut;
-        room = room;
+        room = full_of ran back.seen want;
       }
 
   alone : numbers given ≡ given.number ∷ []

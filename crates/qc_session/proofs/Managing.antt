@@ -44,13 +44,13 @@ use Rattle.qc_script.specs.Calls.{GaveNone, IsOfAccess, Ran, Refuses, WasCut, Wa
 use Rattle.qc_script.specs.Client.{Client, Made}
 use Rattle.qc_script.specs.declared.tx.TxNo.{TxNo}
 use Rattle.qc_script.specs.declared.tx.TxNo.TheVariants as tx_no
-use Rattle.qc_session.specs.Acting.{IsUnaborted, IsWanting, no_of, orphan_told, short_of, want_of}
+use Rattle.qc_session.specs.Acting.{IsUnaborted, IsWanting, no_of, orphan_told, short_of}
 use Rattle.qc_session.specs.Clients.{IsFor}
 use Rattle.qc_session.specs.Managing.{Closed, Ends, HasStarted, NotClosed, told}
 use Rattle.qc_session.specs.Tidy.{IsTidy}
 use Rattle.qc_session.proofs.Accesses.{accesses_do}
 use Rattle.qc_session.proofs.Own.{made_so}
-use Rattle.qc_session.proofs.Refused.{abort_says, commit_dead, commit_full}
+use Rattle.qc_session.proofs.Refused.{abort_says, commit_dead, commit_want}
 use Rattle.qc_session.proofs.Tidy.{accesses_tidy, others_closed}
 use Rattle.qc_session.proofs.Walks.{started_walk}
 
@@ -104,32 +104,24 @@ is_told (desk.Orphan x) a is = ap desk.Orphan (same_Some x a is)
 is_told desk.Ended a is = absurd cc
 is_told (desk.ChildrenOpen x) a is = absurd cc
 is_told desk.Ready a is = absurd cc
-is_told desk.Memory a is = absurd cc
-is_told desk.Room a is = absurd cc
+is_told (desk.Short s) a is = absurd cc
 
 pub wanting : (n : Name) (v w : View) (why : DeskNo) → Refused (against_abort n) v w why → IsWanting v w (short_of why)
 wanting n v w why r = by_why why (walking.of_looked v w r.0) (abort_says n v w why (walking.of_looked v w r.0) r.1)
   where
     by_why : (x : DeskNo) → Walk v w [] → IsUnaborted v w n (no_of x) → IsWanting v w (short_of x)
-    by_why desk.Room walk h = (walk, h.1)
-    by_why desk.Memory walk h = walk
-    by_why desk.Ended walk h = walk
-    by_why desk.Ready walk h = walk
-    by_why (desk.Orphan a) walk h = walk
-    by_why (desk.ChildrenOpen c) walk h = walk
-
--- what memory or room left of it
-pub left_open : (n : Name) (v w : View) (s : Short) → IsWanting v w s → NotClosed v w n (want_of s)
-left_open n v w short.Memory h = h
-left_open n v w short.Room h = h
+    by_why (desk.Short s) walk h = (walk, h.1)
+    by_why desk.Ended walk h = (walk, tt)
+    by_why desk.Ready walk h = (walk, tt)
+    by_why (desk.Orphan a) walk h = (walk, tt)
+    by_why (desk.ChildrenOpen c) walk h = (walk, tt)
 
 pub commit_wanting : (n : Name) (v w : View) (why : DeskNo) → Refused (against_commit n) v w why → IsWanting v w (short_of why)
-commit_wanting n v w desk.Room r = (walking.of_looked v w r.0, commit_full w.seen n r.1)
-commit_wanting n v w desk.Memory r = walking.of_looked v w r.0
-commit_wanting n v w desk.Ended r = walking.of_looked v w r.0
-commit_wanting n v w desk.Ready r = walking.of_looked v w r.0
-commit_wanting n v w (desk.Orphan a) r = walking.of_looked v w r.0
-commit_wanting n v w (desk.ChildrenOpen c) r = walking.of_looked v w r.0
+commit_wanting n v w (desk.Short s) r = (walking.of_looked v w r.0, commit_want w.seen n s r.1)
+commit_wanting n v w desk.Ended r = (walking.of_looked v w r.0, tt)
+commit_wanting n v w desk.Ready r = (walking.of_looked v w r.0, tt)
+commit_wanting n v w (desk.Orphan a) r = (walking.of_looked v w r.0, tt)
+commit_wanting n v w (desk.ChildrenOpen c) r = (walking.of_looked v w r.0, tt)
 
 -- WHILE OTHERS ACT
 
@@ -172,8 +164,7 @@ module _ (setting : Setting) (v w : View) (n : Name) (k : Kind) where
   closed_for (no.Conflict copy holder) x is may ends = let same : x ≡ cause.Conflict copy holder = cc in subst (λ y. Ends v w n (Abort y)) same ends
   closed_for (no.NoQuorum lack) x is may ends = let same : x ≡ cause.NoQuorum lack = cc in subst (λ y. Ends v w n (Abort y)) same ends
   closed_for no.Last x is may ends = let same : x ≡ cause.Last = cc in subst (λ y. Ends v w n (Abort y)) same ends
-  closed_for no.Memory x is may ends = absurd cc
-  closed_for no.Room x is may ends = absurd cc
+  closed_for (no.Short s) x is may ends = absurd cc
 
   -- it may end for its cause
   pub refused_may : (reason : MgrNo) (x : Cause) → cause_of reason ≡ Some x → IsRefused setting v.number v.seen n k reason → MayEndFor setting v.number v.seen n k x
@@ -181,8 +172,7 @@ module _ (setting : Setting) (v w : View) (n : Name) (k : Kind) where
 
   -- it has no cause, and stays open
   pub unended : (reason : MgrNo) → cause_of reason ≡ None → IsRefused setting v.number v.seen n k reason → NotClosed v v n (told reason)
-  unended no.Memory is refused = walking.nothing v
-  unended no.Room is refused = (walking.nothing v, refused)
+  unended (no.Short s) is refused = (walking.nothing v, refused)
   unended (no.Orphan a) is refused = absurd cc
   unended (no.Conflict copy holder) is refused = absurd cc
   unended (no.NoQuorum lack) is refused = absurd cc
@@ -193,8 +183,7 @@ pub not_closed_on : (v u w : View) (n : Name) (a : Name) → Walk v u [] → End
 not_closed_on v u w n a first ends = subst (λ s. Walk v w (entry s (event.End n (Abort (cause.Orphan a))) ∷ [])) first.number (walking.walk_on v u w [] _ first ends)
 
 pub wanting_on : (v u w : View) (n : Name) (s : Short) → Walk v u [] → IsWanting u w s → IsWanting v w s
-wanting_on v u w n short.Memory first h = walking.walk_on v u w [] [] first h
-wanting_on v u w n short.Room first h = (walking.walk_on v u w [] [] first h.0, h.1)
+wanting_on v u w n s first h = (walking.walk_on v u w [] [] first h.0, h.1)
 
 -- THE WHOLE OF IT
 
@@ -255,8 +244,7 @@ module _ (setting : Setting) (v w x y : View) (c : Client) (for : IsFor setting 
   gave_none (tx_no.Conflict copy holder) not = ran (Abort (cause.Conflict copy holder)) refl not
   gave_none (tx_no.NoQuorum lack) not = ran (Abort (cause.NoQuorum lack)) refl not
   gave_none tx_no.Last not = ran (Abort cause.Last) refl not
-  gave_none tx_no.Memory not = inr (was_cut not)
-  gave_none tx_no.Room not = (inr (was_cut not.0), not.1)
+  gave_none (tx_no.Short s) not = (inr (was_cut not.0), not.1)
   gave_none tx_no.Ended not = absurd not
   gave_none (tx_no.ChildrenOpen m) not = absurd not
   gave_none tx_no.Ready not = absurd not
@@ -288,8 +276,7 @@ refused_gave c of k before now (tx_no.Orphan a) h = (h.1, inl h.0)
 refused_gave c of k before now (tx_no.Conflict copy holder) h = absurd h.1
 refused_gave c of k before now (tx_no.NoQuorum lack) h = absurd h.1
 refused_gave c of k before now tx_no.Last h = absurd h.1
-refused_gave c of k before now tx_no.Memory h = inl h.0
-refused_gave c of k before now tx_no.Room h = (inl h.0, h.1)
+refused_gave c of k before now (tx_no.Short s) h = (inl h.0, h.1)
 refused_gave c of k before now tx_no.Ended h = h
 refused_gave c of k before now (tx_no.ChildrenOpen child) h = absurd h
 refused_gave c of k before now tx_no.Ready h = h

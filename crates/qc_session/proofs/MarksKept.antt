@@ -60,16 +60,14 @@ module _ (c : Client) (marks : List Mark) (before now : Past) where
   did_gave_none of k (tx_no.Conflict copy holder) h = did_run of k (Abort (cause.Conflict copy holder)) h
   did_gave_none of k (tx_no.NoQuorum lack) h = did_run of k (Abort (cause.NoQuorum lack)) h
   did_gave_none of k tx_no.Last h = did_run of k (Abort cause.Last) h
-  did_gave_none of k tx_no.Memory h = none_or_cut of k h
-  did_gave_none of k tx_no.Room h = none_or_cut of k h.0
+  did_gave_none of k (tx_no.Short s) h = none_or_cut of k h.0
   did_gave_none of k tx_no.Ended h = did_none h.0
   did_gave_none of k tx_no.Ready h = did_none h.0
   did_gave_none of k tx_no.Ledger h = did_none h.0
   did_gave_none of k (tx_no.ChildrenOpen child) h = absurd h
 
   did_not_aborted : (of : Name) (why : Cause) (no : TxNo) → NotAborted c of why before now no → Did
-  did_not_aborted of why tx_no.Memory h = did_none h
-  did_not_aborted of why tx_no.Room h = did_none h.0
+  did_not_aborted of why (tx_no.Short s) h = did_none h.0
   did_not_aborted of why tx_no.Ended h = did_none h.0
   did_not_aborted of why tx_no.Ready h = did_none h.0
   did_not_aborted of why (tx_no.Orphan a) h = did_none h.0
@@ -85,8 +83,7 @@ module _ (c : Client) (marks : List Mark) (before now : Past) where
 
   did_not_committed : (of : Name) (no : TxNo) → NotCommitted c of before now no → Did
   did_not_committed of tx_no.Ledger h = did_made _ (tt, tt) h.1
-  did_not_committed of tx_no.Memory h = did_ready of h
-  did_not_committed of tx_no.Room h = did_ready of h.0
+  did_not_committed of (tx_no.Short s) h = did_ready of h.0
   did_not_committed of _ h = did_none h.0
 
   -- a manager ran for its client, or gave none

@@ -15,9 +15,11 @@ use Rattle.qc_event.specs.Standing.{open_child}
 use Rattle.qc_event.proofs.Lawful.{committed_is}
 use Rattle.qc_event.proofs.OneEntry.{start_stays, start_now}
 use Rattle.qc_event.proofs.Outcomes.{aborted_is_abort}
+use Rattle.qc_event.specs.Wants.{IsWant}
+use Rattle.qc_event.specs.declared.short.Short.{Short}
 use Rattle.qc_desk.specs.declared.refusal.DeskNo.{DeskNo}
 use Rattle.qc_desk.specs.declared.refusal.DeskNo.TheVariants as desk
-use Rattle.qc_desk.specs.Refusing.{Refuses as Against, IsWant, against_abort, against_child, against_commit, against_nothing, against_ready, if_committed, if_dead, if_ended, if_open, if_ready}
+use Rattle.qc_desk.specs.Refusing.{Refuses as Against, IsShort, against_abort, against_child, against_commit, against_ready, if_committed, if_dead, if_ended, if_open, if_ready}
 use Rattle.qc_desk.specs.declared.view.View.{View}
 use Rattle.qc_carry.specs.Walk.{Walk}
 use Rattle.qc_session.specs.Acting.{IsUnaborted, no_of}
@@ -119,9 +121,8 @@ module _ (c : Client) (before now : Past) (none : Made c [] before now) where
   pub child_refused : (of : Name) (why : DeskNo) → Against (against_child of) now why → WasRefused c of before now (no_of why)
   child_refused of why (inr (free, want)) = by_want why want
     where
-      by_want : (w : DeskNo) → IsWant now w → WasRefused c of before now (no_of w)
-      by_want desk.Memory h = (none, tt)
-      by_want desk.Room h = (none, h)
+      by_want : (w : DeskNo) → IsShort now w → WasRefused c of before now (no_of w)
+      by_want (desk.Short s) h = (none, h)
       by_want (desk.Orphan a) h = absurd h
       by_want desk.Ended h = absurd h
       by_want (desk.ChildrenOpen x) h = absurd h
@@ -133,23 +134,9 @@ module _ (c : Client) (before now : Past) (none : Made c [] before now) where
       (λ w h. let s = ready_says now of w h in subst (λ x. WasRefused c of before now (no_of x)) (sym s.0) (none, s.1)))
       why is
 
-  -- a call to begin a top
-  pub top_refused : (why : DeskNo) → Against against_nothing now why → WasRefused c [] before now (no_of why)
-  top_refused why (inl is) = absurd (none-some why is)
-  top_refused why (inr (free, want)) = by_want why want
-    where
-      by_want : (w : DeskNo) → IsWant now w → WasRefused c [] before now (no_of w)
-      by_want desk.Memory h = (none, tt)
-      by_want desk.Room h = (none, h)
-      by_want (desk.Orphan a) h = absurd h
-      by_want desk.Ended h = absurd h
-      by_want (desk.ChildrenOpen x) h = absurd h
-      by_want desk.Ready h = absurd h
-
   -- a call to commit
-  want_refused : (of : Name) (w : DeskNo) → IsWant now w → NotCommitted c of before now (no_of w)
-  want_refused of desk.Memory h = inl none
-  want_refused of desk.Room h = (inl none, h)
+  want_refused : (of : Name) (w : DeskNo) → IsShort now w → NotCommitted c of before now (no_of w)
+  want_refused of (desk.Short s) h = (inl none, h)
   want_refused of (desk.Orphan a) h = absurd h
   want_refused of desk.Ended h = absurd h
   want_refused of (desk.ChildrenOpen x) h = absurd h
@@ -182,9 +169,8 @@ module _ (c : Client) (before now : Past) (none : Made c [] before now) where
 pub abort_says : (n : Name) (v w : View) (why : DeskNo) → Walk v w [] → Against (against_abort n) w.seen why → IsUnaborted v w n (no_of why)
 abort_says n v w why walk (inr (free, want)) = by_want why want
   where
-    by_want : (x : DeskNo) → IsWant w.seen x → IsUnaborted v w n (no_of x)
-    by_want desk.Memory h = walk
-    by_want desk.Room h = (walk, h)
+    by_want : (x : DeskNo) → IsShort w.seen x → IsUnaborted v w n (no_of x)
+    by_want (desk.Short s) h = (walk, h)
     by_want (desk.Orphan a) h = absurd h
     by_want desk.Ended h = absurd h
     by_want (desk.ChildrenOpen x) h = absurd h
@@ -208,16 +194,16 @@ commit_dead past n a (inl is) = either Is (if_ended past n) _
     Is (desk.Orphan x) = dead past n ≡ Some x
     Is _ = Unit {0}
 
--- and where it is refused for room, the history is full
-pub commit_full : (past : Past) (n : Name) → Against (against_commit n) past desk.Room → length past ≡ limit
-commit_full past n (inr (free, want)) = want
-commit_full past n (inl is) = either Is (if_ended past n) _
-    (λ x h. let s = ended_says past n x h in subst Is (sym s.0) tt)
+-- and where it is refused for want of memory or of room, that is what was wanting
+pub commit_want : (past : Past) (n : Name) (s : Short) → Against (against_commit n) past (desk.Short s) → IsWant past s
+commit_want past n s (inr (free, want)) = want
+commit_want past n s (inl is) = either Is (if_ended past n) _
+    (λ x h. let e = ended_says past n x h in subst Is (sym e.0) tt)
     (either Is (if_dead past n) _
-    (λ x h. let s = dead_says past n x h in subst Is (sym s.1) tt)
-    (λ x h. let s = open_says past n x h in subst Is (sym s.1) tt))
-    desk.Room is
+    (λ x h. let e = dead_says past n x h in subst Is (sym e.1) tt)
+    (λ x h. let e = open_says past n x h in subst Is (sym e.1) tt))
+    (desk.Short s) is
   where
     Is : DeskNo → Type 0
-    Is desk.Room = length past ≡ limit
+    Is (desk.Short x) = IsWant past x
     Is _ = Unit {0}

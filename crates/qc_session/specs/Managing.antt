@@ -25,8 +25,7 @@ told (no.Orphan ancestor) = tx_no.Orphan ancestor
 told (no.Conflict copy holder) = tx_no.Conflict copy holder
 told (no.NoQuorum lack) = tx_no.NoQuorum lack
 told no.Last = tx_no.Last
-told no.Memory = tx_no.Memory
-told no.Room = tx_no.Room
+told (no.Short short) = tx_no.Short short
 
 -- A client started a transaction as the next child of a name, behind what others had entered.
 pub record HasStarted (v w : View) (of n : Name) (k : Kind) : Type 0 where
@@ -45,8 +44,7 @@ NotClosed v w n (tx_no.Orphan a) = Ends v w n (Abort (cause.Orphan a)) × IsOrph
 NotClosed v w n (tx_no.Conflict copy holder) = Ends v w n (Abort (cause.Conflict copy holder))
 NotClosed v w n (tx_no.NoQuorum lack) = Ends v w n (Abort (cause.NoQuorum lack))
 NotClosed v w n tx_no.Last = Ends v w n (Abort cause.Last)
-NotClosed v w n tx_no.Memory = Walk v w []
-NotClosed v w n tx_no.Room = Walk v w [] × (length w.seen ≡ limit)
+NotClosed v w n (tx_no.Short short) = Walk v w [] × IsWant w.seen short
 NotClosed v w n _ = ⊥
 
 -- a manager committed with what it came to

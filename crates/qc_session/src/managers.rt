@@ -18,7 +18,7 @@ ghost use Rattle.qc_session.specs.Clients.{IsFor};
 ghost use Rattle.qc_session.specs.Managing.{Closed, Ends, NotClosed};
 ghost use Rattle.qc_session.specs.Lines.{HasGoneOn};
 
-use crate::refusals::{orphan_told, short_of, told, want_of};
+use crate::refusals::{orphan_told, short_of, told};
 use crate::starts::start_child;
 use qc_carry::Line;
 use qc_disk::Disk;
@@ -124,9 +124,9 @@ fn commit_manager<R: Wait, D: Disk + Drop, L: Link + Drop, N: Mounting>(
         Err(no) => match orphan_told(&no) {
             Some(ancestor) => match abort_manager(line, name, what, &Cause::Orphan(ancestor)) {
                 Ok(()) => Err(TxNo::Orphan(ancestor)),
-                Err(short) => Err(want_of(short)),
+                Err(short) => Err(TxNo::Short(short)),
             },
-            None => Err(want_of(short_of(&no))),
+            None => Err(TxNo::Short(short_of(&no))),
         },
     }
 }
@@ -153,7 +153,7 @@ fn close<R: Wait, D: Disk + Drop, L: Link + Drop, N: Mounting>(
         Err(no) => match no.cause() {
             Some(cause) => match abort_manager(line, name, what, &cause) {
                 Ok(()) => Err(told(no)),
-                Err(short) => Err(want_of(short)),
+                Err(short) => Err(TxNo::Short(short)),
             },
             None => {
                 line.known();

@@ -11,7 +11,6 @@ ghost use Rattle.qc_history.specs.Looking.{is_marked_for};
 ghost use Rattle.qc_session.specs.Acting.{IsWanting};
 ghost use Rattle.qc_session.specs.Lines.{HasGoneOn};
 
-use crate::refusals::short_of;
 use qc_carry::Line;
 use qc_disk::Disk;
 use qc_event::{Name, Short};
@@ -46,10 +45,8 @@ pub(crate) fn mark<R: Wait, D: Disk + Drop, L: Link + Drop, N: Mounting>(
 {
     let marked = line.mark(by, session);
     line.known();
-    match marked {
-        Ok(()) => Ok(()),
-        Err(no) => Err(short_of(&no)),
-    }
+    marked?;
+    Ok(())
 }
 
 /// Looks whether a mark stands in the history that lets a user transaction be killed.

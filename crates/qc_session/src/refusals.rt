@@ -18,8 +18,7 @@ pub(crate) fn no_of(no: &DeskNo) -> TxNo
         DeskNo::Ended => TxNo::Ended,
         DeskNo::ChildrenOpen(child) => TxNo::ChildrenOpen(*child),
         DeskNo::Ready => TxNo::Ready,
-        DeskNo::Memory => TxNo::Memory,
-        DeskNo::Room => TxNo::Room,
+        DeskNo::Short(short) => TxNo::Short(*short),
     }
 }
 
@@ -38,18 +37,8 @@ pub(crate) fn short_of(no: &DeskNo) -> Short
     ensures { result ≡ words.short_of no.now }
 {
     match no {
-        DeskNo::Room => Short::Room,
+        DeskNo::Short(short) => *short,
         _ => Short::Memory,
-    }
-}
-
-/// Why, where memory or room was wanting.
-pub(crate) fn want_of(short: Short) -> TxNo
-    ensures { result ≡ words.want_of short }
-{
-    match short {
-        Short::Memory => TxNo::Memory,
-        Short::Room => TxNo::Room,
     }
 }
 
@@ -59,8 +48,8 @@ pub(crate) fn log_no(no: &LedgerNo) -> TxNo
 {
     match no {
         LedgerNo::Disk | LedgerNo::Full { .. } => TxNo::Ledger,
-        LedgerNo::Room => TxNo::Room,
-        LedgerNo::Memory | LedgerNo::Image(_) => TxNo::Memory,
+        LedgerNo::Image(_) => TxNo::Short(Short::Memory),
+        LedgerNo::Short(short) => TxNo::Short(*short),
     }
 }
 
@@ -73,7 +62,6 @@ pub(crate) fn told(no: &MgrNo) -> TxNo
         MgrNo::Conflict { copy, holder } => TxNo::Conflict { copy, holder },
         MgrNo::NoQuorum(lack) => TxNo::NoQuorum(lack),
         MgrNo::Last => TxNo::Last,
-        MgrNo::Memory => TxNo::Memory,
-        MgrNo::Room => TxNo::Room,
+        MgrNo::Short(short) => TxNo::Short(short),
     }
 }

@@ -44,10 +44,8 @@ pub(crate) fn start_top<R: Wait, D: Disk + Drop, L: Link + Drop, N: Mounting>(
 {
     let started = line.start_top(session, body);
     line.known();
-    match started {
-        Ok(name) => Ok(name),
-        Err(no) => Err(no_of(&no)),
-    }
+    let name = started?;
+    Ok(name)
 }
 
 /// Starts the next child of a user transaction, for what may stand there.

@@ -23,7 +23,7 @@ use Rattle.qc_history.specs.Grants.{tuple_at}
 use Rattle.qc_desk.specs.Consulting.{HasAsked, IsTold, granted_before}
 use Rattle.qc_desk.specs.declared.consult.Consulted.{Consulted}
 use Rattle.qc_desk.specs.declared.consult.Consulted.TheVariants.{Again, Fresh}
-use Rattle.qc_desk.specs.declared.refusal.DeskNo.{DeskNo}
+use Rattle.qc_event.specs.declared.short.Short.{Short}
 use Rattle.qc_desk.specs.declared.view.View.{View}
 use Rattle.qc_desk.specs.Entries.{IsOlder}
 use Rattle.qc_desk.proofs.Consulting.{stands}
@@ -121,25 +121,25 @@ granted_earlier copy past now ask tuple is older told =
     ap (option_and_then (tuple_at ask.copy)) still ∙ ap (λ (b : Bool). if b then Some tuple else None) (eq-eqb copy ask.copy (sym is))
 
 -- so a consultation tells it
-pub again_is_told : (setting : Setting) (ask : Ask) (v w : View) (r : Result Consulted DeskNo) (tuple : Tuple) → IfOk r (IsTold setting ask v w) → OnErr r (granted_before w.seen ask ≡ None)
+pub again_is_told : (setting : Setting) (ask : Ask) (v w : View) (r : Result Consulted Short) (tuple : Tuple) → IfOk r (IsTold setting ask v w) → OnErr r (granted_before w.seen ask ≡ None)
     → granted_before w.seen ask ≡ Some tuple → r ≡ Ok (Again tuple)
 again_is_told setting ask v w (Ok (Again t)) tuple told fresh there = let same : Some t ≡ Some tuple = sym told.1 ∙ there in cc
 again_is_told setting ask v w (Ok (Fresh said)) tuple told fresh there = let never : None ≡ Some tuple = sym told.0 ∙ there in absurd cc
 again_is_told setting ask v w (Err why) tuple told fresh there = let never : None ≡ Some tuple = sym fresh ∙ there in absurd cc
 
 -- and what it tells so stands
-pub again_of : (setting : Setting) (ask : Ask) (v w : View) (r : Result Consulted DeskNo) (tuple : Tuple) → IfOk r (IsTold setting ask v w) → r ≡ Ok (Again tuple) → IsTold setting ask v w (Again tuple)
+pub again_of : (setting : Setting) (ask : Ask) (v w : View) (r : Result Consulted Short) (tuple : Tuple) → IfOk r (IsTold setting ask v w) → r ≡ Ok (Again tuple) → IsTold setting ask v w (Again tuple)
 again_of setting ask v w r tuple told is = subst (λ x. IfOk x (IsTold setting ask v w)) is told
 
 -- A CONSULTATION HAS ONE RESULT
 
-pub one_tuple : (r : Result Consulted DeskNo) (t u : Tuple) → r ≡ Ok (Again t) → r ≡ Ok (Again u) → t ≡ u
+pub one_tuple : (r : Result Consulted Short) (t u : Tuple) → r ≡ Ok (Again t) → r ≡ Ok (Again u) → t ≡ u
 one_tuple r t u one two = let both : Ok (Again t) ≡ Ok (Again u) = sym one ∙ two in cc
 
-pub fresh_or_again : (r : Result Consulted DeskNo) (said : Verdict) (tuple : Tuple) → r ≡ Ok (Fresh said) → r ≡ Ok (Again tuple) → ⊥
+pub fresh_or_again : (r : Result Consulted Short) (said : Verdict) (tuple : Tuple) → r ≡ Ok (Fresh said) → r ≡ Ok (Again tuple) → ⊥
 fresh_or_again r said tuple fresh again = let both : Ok (Fresh said) ≡ Ok (Again tuple) = sym fresh ∙ again in cc
 
-pub err_or_again : (r : Result Consulted DeskNo) (why : DeskNo) (tuple : Tuple) → r ≡ Err why → r ≡ Ok (Again tuple) → ⊥
+pub err_or_again : (r : Result Consulted Short) (why : Short) (tuple : Tuple) → r ≡ Err why → r ≡ Ok (Again tuple) → ⊥
 err_or_again r why tuple err again = let both : Err why ≡ Ok (Again tuple) = sym err ∙ again in cc
 
 -- a request is for a record that its copy has

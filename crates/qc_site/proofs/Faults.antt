@@ -21,8 +21,9 @@ use Rattle.qc_ledger.proofs.Mounts.{first_told}
 use Rattle.qc_site.specs.Image.{AreMadeFor, IsFault}
 use Rattle.qc_site.specs.Reading.{IsFirstBad, IsLaterBad}
 use Rattle.qc_site.specs.Refusing.{mount_no, IsImage, IsOfBytes, IsCopyRefusal}
+use Rattle.qc_event.specs.declared.short.Short.TheVariants as short
 use Rattle.qc_site.specs.declared.fault.SiteNo.{SiteNo}
-use Rattle.qc_site.specs.declared.fault.SiteNo.TheVariants.{Disk, Image, Strange, Memory, Room}
+use Rattle.qc_site.specs.declared.fault.SiteNo.TheVariants.{Disk, Image, Strange, Short}
 
 -- how a copy's disk was made has a body
 pub made_proper : (copy : ℕ) (table : Table) → copy < 16 → (body.table 1).fits table → body.made.fits (made_for (copy + 1) table)
@@ -40,8 +41,8 @@ module _ (copy : ℕ) where
   bytes_also P Q also Disk is = is
   bytes_also P Q also (Image bad) is = (is.0, also bad.fault is.1)
   bytes_also P Q also Strange is = is
-  bytes_also P Q also Memory is = tt
-  bytes_also P Q also Room is = is
+  bytes_also P Q also (Short short.Memory) is = tt
+  bytes_also P Q also (Short short.Room) is = is
 
   pub handed_on : {T : Type 0} (r : Result T SiteNo) (fault : SiteNo) (P Q : ImageFault → Type 0) → ((f : ImageFault) → P f → Q f) → IsErrAnd r (λ e. e ≡ fault) → IsOfBytes copy P fault → IfErr r (IsOfBytes copy Q)
   handed_on (Ok x) fault P Q also same is = tt
@@ -51,8 +52,8 @@ module _ (copy : ℕ) where
   image_of_bytes P Q also Disk is = tt
   image_of_bytes P Q also (Image bad) is = (is.0, also bad.fault is.1)
   image_of_bytes P Q also Strange is = is
-  image_of_bytes P Q also Memory is = tt
-  image_of_bytes P Q also Room is = is
+  image_of_bytes P Q also (Short short.Memory) is = tt
+  image_of_bytes P Q also (Short short.Room) is = is
 
   pub passed_on : {T : Type 0} (r : Result T SiteNo) (fault : SiteNo) (P Q : ImageFault → Type 0) → ((f : ImageFault) → P f → Q f) → IsErrAnd r (λ e. e ≡ fault) → IsOfBytes copy P fault → IfErr r (IsImage copy Q)
   passed_on (Ok x) fault P Q also same is = tt
@@ -66,8 +67,8 @@ module _ (copy : ℕ) where
   image_also P Q also Disk is = tt
   image_also P Q also (Image bad) is = (is.0, also bad.fault is.1)
   image_also P Q also Strange is = is
-  image_also P Q also Memory is = tt
-  image_also P Q also Room is = is
+  image_also P Q also (Short short.Memory) is = tt
+  image_also P Q also (Short short.Room) is = is
 
   -- a fault of writing is that there is no room, or one of the disk or the memory
   pub write_refusal : (P : ImageFault → Type 0) (fault : Fault) → IsOfWriting fault → ((place : ℕ) → fault ≡ journal.Full place → P (Full place)) → IsImage copy P (mount_no copy fault)

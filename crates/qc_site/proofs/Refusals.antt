@@ -5,28 +5,26 @@ use Rattle.qc_event.specs.Grants.{grant_with}
 use Rattle.qc_disk.specs.declared.disk.Disk.{Ghosts}
 use Rattle.qc_event.specs.declared.event.Ask.{Ask}
 use Rattle.qc_event.specs.declared.event.Grant.{Grant}
+use Rattle.qc_event.specs.declared.short.Short.{Short as Wanting}
 use Rattle.qc_event.specs.declared.short.Short.TheVariants as short
 use Rattle.qc_event.specs.History.{Past}
+use Rattle.qc_event.specs.Wants.{IsWant}
 use Rattle.qc_journal.specs.Journal.{limit_of, place_of, IsDown, IsTooLong, IsUp}
 use Rattle.qc_journal.specs.declared.journal.Journal.{Journal}
 use Rattle.qc_journal.specs.declared.fault.Fault.{Fault}
 use Rattle.qc_journal.specs.declared.fault.Fault.TheVariants as fault
-use Rattle.qc_desk.specs.Refusing.{IsWant}
-use Rattle.qc_desk.specs.declared.refusal.DeskNo.{DeskNo}
-use Rattle.qc_desk.specs.declared.refusal.DeskNo.TheVariants as desk
 use Rattle.qc_site.specs.Back.{grant_body}
 use Rattle.qc_site.specs.Log.{WriteLeaves}
-use Rattle.qc_site.specs.Refusing.{desk_no}
 use Rattle.qc_site.specs.Serving.{of_fault, of_site}
 use Rattle.qc_site.specs.declared.log.GrantLog.{GrantLog}
 use Rattle.qc_site.specs.declared.serve.ServeNo.{ServeNo}
 use Rattle.qc_site.specs.declared.serve.ServeNo.TheVariants as no_serve
-use Rattle.std.specs.Prelude.{None, Result, Ok, Err, IfErr, IsErrOf}
+use Rattle.std.specs.Prelude.{None, Result, Ok, Err, IfErr, IsErrAnd, IsErrOf}
 use Rattle.qc_site.specs.Calls.{ReviveSays, ServeSays, SiteState}
 use Rattle.qc_site.specs.Replica.{Standing}
 use Rattle.qc_site.specs.Sites.{IsSiteWant}
 use Rattle.qc_site.specs.declared.fault.SiteNo.{SiteNo}
-use Rattle.qc_site.specs.declared.fault.SiteNo.TheVariants.{Disk, Image, Strange, Memory, Room}
+use Rattle.qc_site.specs.declared.fault.SiteNo.TheVariants.{Disk, Image, Strange, Short}
 
 -- want at the desk is what a revival may say
 pub want_says : {D T : Type 0} {g : Ghosts D} (new : SiteState g) (r : Result T SiteNo) → IfErr r (IsSiteWant new.replica.pass.seen) → IfErr r (ReviveSays new)
@@ -34,25 +32,17 @@ want_says new (Ok x) is = tt
 want_says new (Err Disk) is = absurd is
 want_says new (Err (Image bad)) is = is
 want_says new (Err Strange) is = absurd is
-want_says new (Err Memory) is = tt
-want_says new (Err Room) is = is
+want_says new (Err (Short want)) is = is
 
 -- it is no fault of the disk
 pub no_disk_no : {T : Type 0} (past : Past) (r : Result T SiteNo) → IfErr r (IsSiteWant past) → IsErrOf r Disk → ⊥
 no_disk_no past (Ok x) is of = absurd cc
 no_disk_no past (Err refusal) is of = let one : refusal ≡ Disk = cc in subst (IsSiteWant past) one is
 
--- what a refusal of the desk says
-pub desk_want : (past : Past) (refusal : DeskNo) (said : SiteNo) → said ≡ desk_no refusal → IsWant past refusal → IsSiteWant past said
-desk_want past refusal said is want = subst (IsSiteWant past) (sym is) (by refusal want)
-  where
-    by : (r : DeskNo) → IsWant past r → IsSiteWant past (desk_no r)
-    by desk.Room w = w
-    by desk.Memory w = tt
-    by desk.Ended w = tt
-    by desk.Ready w = tt
-    by (desk.Orphan a) w = tt
-    by (desk.ChildrenOpen n) w = tt
+-- want of memory or of room is what a site may want
+pub site_want : {T : Type 0} (past : Past) (want : Wanting) (r : Result T SiteNo) → IsErrAnd r (λ e. e ≡ Short want) → IsWant past want → IfErr r (IsSiteWant past)
+site_want past want (Ok x) is wanted = tt
+site_want past want (Err e) is wanted = subst (IsSiteWant past) (sym is) wanted
 
 -- TO A REQUEST
 
@@ -86,17 +76,10 @@ write_says {D} {g} old new was f e ask tuple grant left is up stood fallen long 
     )
     by fault.Memory left long = tt
 
--- what want at the desk says to a request
-pub desk_says : {D : Type 0} {g : Ghosts D} (ask : Ask) (new : SiteState g) (refusal : DeskNo) (mid : SiteNo) (e : ServeNo) → mid ≡ desk_no refusal → e ≡ of_site mid → IsWant new.replica.pass.seen refusal → ServeSays ask new e
-desk_says ask new refusal mid e first is want = subst (ServeSays ask new) (sym (is ∙ ap of_site first)) (by refusal want)
-  where
-    by : (r : DeskNo) → IsWant new.replica.pass.seen r → ServeSays ask new (of_site (desk_no r))
-    by desk.Room w = w
-    by desk.Memory w = tt
-    by desk.Ended w = tt
-    by desk.Ready w = tt
-    by (desk.Orphan a) w = tt
-    by (desk.ChildrenOpen n) w = tt
+-- what want of memory or of room says to a request
+pub short_says : {D T : Type 0} {g : Ghosts D} (ask : Ask) (new : SiteState g) (want : Wanting) (r : Result T ServeNo) → IsErrAnd r (λ e. e ≡ no_serve.Short want) → IsWant new.replica.pass.seen want → IfErr r (ServeSays ask new)
+short_says ask new want (Ok x) is wanted = tt
+short_says ask new want (Err e) is wanted = subst (ServeSays ask new) (sym is) wanted
 
 -- what a refused revival says to a request
 pub site_says : {D : Type 0} {g : Ghosts D} (ask : Ask) (new : SiteState g) (refused : SiteNo) (e : ServeNo) → e ≡ of_site refused → ReviveSays new refused → ServeSays ask new e
@@ -106,22 +89,15 @@ site_says ask new refused e is says = subst (ServeSays ask new) (sym is) (by ref
     by Disk s = s
     by (Image bad) s = absurd s
     by Strange s = s
-    by Memory s = tt
-    by Room s = s
+    by (Short want) s = s
 
--- want at the desk is no fault of the disk
-pub desk_not_down : {T : Type 0} (refusal : DeskNo) (mid : SiteNo) (e : ServeNo) → mid ≡ desk_no refusal → e ≡ of_site mid → IsErrOf {T = T} (Err e) no_serve.Down → ⊥
-desk_not_down refusal mid e first is failed =
+-- it is no fault of the disk
+pub short_not_down : {T : Type 0} (want : Wanting) (r : Result T ServeNo) → IsErrAnd r (λ e. e ≡ no_serve.Short want) → IsErrOf r no_serve.Down → ⊥
+short_not_down want (Ok x) is failed = absurd cc
+short_not_down want (Err e) is failed =
     let one : e ≡ no_serve.Down = cc in
-    never refusal (ap of_site (sym first) ∙ sym is ∙ one)
-  where
-    never : (r : DeskNo) → of_site (desk_no r) ≡ no_serve.Down → ⊥
-    never desk.Room at = cc
-    never desk.Memory at = cc
-    never desk.Ended at = cc
-    never desk.Ready at = cc
-    never (desk.Orphan a) at = cc
-    never (desk.ChildrenOpen n) at = cc
+    let never : no_serve.Short want ≡ no_serve.Down = sym is ∙ one in
+    cc
 
 -- a site is down where the disk failed
 pub site_down : {T S : Type 0} (refusal : SiteNo) (e : ServeNo) → e ≡ of_site refusal → IsErrOf {T = T} (Err e) no_serve.Down → IsErrOf {T = S} (Err refusal) Disk
@@ -133,5 +109,4 @@ site_down refusal e is failed =
     by_case Disk at = refl
     by_case (Image bad) at = cc
     by_case Strange at = cc
-    by_case Memory at = cc
-    by_case Room at = cc
+    by_case (Short want) at = cc

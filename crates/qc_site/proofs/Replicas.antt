@@ -12,7 +12,7 @@ use Rattle.qc_event.specs.declared.event.Why.{Why}
 use Rattle.qc_ledger.specs.Entered.{SeesMore}
 use Rattle.qc_desk.specs.declared.consult.Consulted.{Consulted}
 use Rattle.qc_desk.specs.declared.consult.Consulted.TheVariants as consulted
-use Rattle.qc_desk.specs.declared.refusal.DeskNo.{DeskNo}
+use Rattle.qc_event.specs.declared.short.Short.{Short}
 use Rattle.qc_desk.specs.Consulting.{HasAsked, IsJudged, IsTold}
 use Rattle.qc_event.specs.Grants.{grant_with, MayGrant}
 use Rattle.qc_site.proofs.Again.{none_granted}
@@ -31,7 +31,7 @@ use Rattle.qc_moss.specs.Follows.{Follows}
 use Rattle.qc_moss.specs.Locks.{Table, granted_to, unheld}
 use Rattle.qc_moss.proofs.Tables.{granted, grows, starts}
 use Rattle.qc_desk.specs.declared.view.View.{View}
-use Rattle.qc_desk.specs.Calling.{Entered, Looked, Refused, Shown}
+use Rattle.qc_desk.specs.Calling.{Entered, Looked, Shown, Wanted}
 use Rattle.qc_desk.proofs.Consulting.{follows_more}
 use Rattle.qc_desk.proofs.Seers.{older_trans}
 use Rattle.qc_desk.proofs.Since.{others_where_none}
@@ -130,8 +130,8 @@ pub told_none : (setting : Setting) (copy : ℕ) (v w : View) (ask : Ask) (told 
 told_none setting copy v w ask (consulted.Again tuple) number legal told = looked_none setting copy v w number legal told.0
 told_none setting copy v w ask (consulted.Fresh said) number legal told = judged_none setting copy v w ask said number legal told.1
 
-pub unable_none : {T : Type 0} (setting : Setting) (copy : ℕ) (v w : View) (n : Name) (why : Why) (r : Result T DeskNo) → v.number ≡ copy_seat copy → Legal setting w.seen
-    → OnOk r (Entered against_nothing (event.Unable n why) v w) → IfErr r (Refused against_nothing v w) → HasNoGrant copy v w
+pub unable_none : {T : Type 0} (setting : Setting) (copy : ℕ) (v w : View) (n : Name) (why : Why) (r : Result T Short) → v.number ≡ copy_seat copy → Legal setting w.seen
+    → OnOk r (Entered against_nothing (event.Unable n why) v w) → IfErr r (Wanted v w) → HasNoGrant copy v w
 unable_none setting copy v w n why (Ok x) number legal (before, since, against, same) err = entered_none setting copy v w (event.Unable n why) before number legal refl since same
 unable_none setting copy v w n why (Err refusal) number legal ok err = looked_none setting copy v w number legal err.0
 

@@ -13,20 +13,14 @@ use Rattle.qc_event.specs.History.{Past, granted, grants}
 use Rattle.qc_event.specs.Seats.{copy_seat}
 use Rattle.qc_desk.specs.declared.consult.Consulted.{Consulted}
 use Rattle.qc_desk.specs.declared.consult.Consulted.TheVariants as consulted
-use Rattle.qc_desk.specs.declared.refusal.DeskNo.{DeskNo}
 use Rattle.qc_desk.specs.declared.view.View.{View}
 use Rattle.qc_desk.specs.Entries.{IsOlder, entry}
-use Rattle.qc_desk.specs.Refusing.{IsWant}
 use Rattle.qc_site.specs.Replica.{Standing}
 
 -- what is in hand after a consultation: the grant of a free request
 abbrev pub hand_after : Ask → Consulted → Option Grant
 hand_after ask (consulted.Fresh (verdict.Free tuple)) = Some (grant_with ask tuple)
 hand_after ask _ = None
-
--- memory was wanting, or the history takes no more entries
-abbrev pub IsWantAt : View → DeskNo → Type 0
-IsWantAt v refusal = IsWant v.seen refusal
 
 module _ (copy : ℕ) where
   -- the entry of the grant in hand

@@ -5,10 +5,8 @@ use Rattle.qc_disk.specs.declared.disk.Disk.{Ghosts}
 use Rattle.qc_event.specs.declared.event.Answered.{Answered}
 use Rattle.qc_event.specs.declared.event.Answered.TheVariants as answer
 use Rattle.qc_event.specs.declared.event.Ask.{Ask}
-use Rattle.qc_event.specs.declared.short.Short.{Short}
-use Rattle.qc_event.specs.declared.short.Short.TheVariants as short
 use Rattle.qc_event.specs.Base.{Setting}
-use Rattle.qc_event.specs.History.{Past, limit}
+use Rattle.qc_event.specs.Wants.{IsWant}
 use Rattle.qc_journal.specs.Journal.{disk_of, limit_of}
 use Rattle.qc_ledger.specs.Runs.{Falls, Leaves, LosesNone}
 use Rattle.qc_desk.specs.declared.store.Store.{Ghosts as Desk}
@@ -77,19 +75,13 @@ pub record CanServe (standing : Standing) : Type 0 where
   pub up : standing.up ≡ true
   pub none : standing.hand ≡ None
 
--- what want of memory or of room says: of room, that the history takes no more entries
-abbrev pub ShortSays : Past → Short → Type 0
-ShortSays past short.Memory = Unit {0}
-ShortSays past short.Room = length past ≡ limit
-
 module _ {D : Type 0} {g : Ghosts D} where
   -- what a refused revival says
   abbrev pub ReviveSays : SiteState g → SiteNo → Type 0
   ReviveSays new no_site.Disk = new.replica.up ≡ false
   ReviveSays new (no_site.Image bad) = ⊥
   ReviveSays new no_site.Strange = new.strange ≡ true
-  ReviveSays new no_site.Memory = Unit {0}
-  ReviveSays new no_site.Room = length new.replica.pass.seen ≡ limit
+  ReviveSays new (no_site.Short short) = IsWant new.replica.pass.seen short
 
   -- what it says that a request was not answered by the desk: that the copy is down, that the record would pass the limit and
   -- the copy can serve others, or that it is strange
@@ -97,7 +89,7 @@ module _ {D : Type 0} {g : Ghosts D} where
   ServeSays ask new no_serve.Down = new.replica.up ≡ false
   ServeSays ask new no_serve.Full = IsFullFor ask new.log × CanServe new.replica
   ServeSays ask new no_serve.Strange = new.strange ≡ true
-  ServeSays ask new (no_serve.Short short) = ShortSays new.replica.pass.seen short
+  ServeSays ask new (no_serve.Short short) = IsWant new.replica.pass.seen short
 
   -- what an answer rests on, beside its entry
   abbrev pub AnswerRests : ℕ → Ask → SiteState g → Answered → Type 0

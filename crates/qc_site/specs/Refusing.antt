@@ -3,20 +3,14 @@ use Rattle.std.specs.Prelude.{ℕ, ◌≡◌, ◌+◌, List, Option, IfSome}
 use Rattle.qc_codec.specs.declared.image.ImageFault.{ImageFault}
 use Rattle.qc_codec.specs.declared.image.ImageFault.TheVariants as image
 use Rattle.qc_codec.specs.declared.past.Past.{Past}
+use Rattle.qc_event.specs.declared.short.Short.TheVariants.{Memory, Room}
 use Rattle.qc_event.specs.declared.table.Table.{Table}
 use Rattle.qc_journal.specs.declared.fault.Fault.{Fault}
 use Rattle.qc_journal.specs.declared.fault.Fault.TheVariants as fault
-use Rattle.qc_desk.specs.declared.refusal.DeskNo.{DeskNo}
-use Rattle.qc_desk.specs.declared.refusal.DeskNo.TheVariants as desk
 use Rattle.qc_ledger.specs.Image.{IsFirstFault}
 use Rattle.qc_site.specs.Image.{IsFault}
 use Rattle.qc_site.specs.declared.fault.SiteNo.{SiteNo}
-use Rattle.qc_site.specs.declared.fault.SiteNo.TheVariants.{Disk, Image, Strange, Memory, Room}
-
--- what a refusal of the desk is to a site
-abbrev pub desk_no : DeskNo → SiteNo
-desk_no desk.Room = Room
-desk_no _ = Memory
+use Rattle.qc_site.specs.declared.fault.SiteNo.TheVariants.{Disk, Image, Strange, Short}
 
 module _ (copy : ℕ) where
   -- the image of a copy's disk is refused
@@ -28,23 +22,23 @@ module _ (copy : ℕ) where
   mount_no fault.Disk = Disk
   mount_no (fault.Broken place) = image_no (image.Broken place)
   mount_no (fault.Full place) = image_no (image.Full place)
-  mount_no fault.Memory = Memory
+  mount_no fault.Memory = Short Memory
 
   -- a fault of the image of the copy's disk, of which this holds; or of the disk or the memory
   abbrev pub IsImage : (ImageFault → Type 0) → SiteNo → Type 0
   IsImage P Disk = Unit {0}
   IsImage P (Image bad) = (bad.disk ≡ copy + 1) × P bad.fault
   IsImage P Strange = ⊥
-  IsImage P Memory = Unit {0}
-  IsImage P Room = ⊥
+  IsImage P (Short Memory) = Unit {0}
+  IsImage P (Short Room) = ⊥
 
   -- a fault of the image of the copy's disk, of which this holds; or of the memory
   abbrev pub IsOfBytes : (ImageFault → Type 0) → SiteNo → Type 0
   IsOfBytes P Disk = ⊥
   IsOfBytes P (Image bad) = (bad.disk ≡ copy + 1) × P bad.fault
   IsOfBytes P Strange = ⊥
-  IsOfBytes P Memory = Unit {0}
-  IsOfBytes P Room = ⊥
+  IsOfBytes P (Short Memory) = Unit {0}
+  IsOfBytes P (Short Room) = ⊥
 
 -- a mounting may be refused: for the first fault of the image that is told, for the disk, or for memory
 abbrev pub IsCopyRefusal : ℕ → Table → Past → ℕ → Option (List ℕ) → SiteNo → Type 0

@@ -12,8 +12,7 @@ abbrev pub of_site : SiteNo → ServeNo
 of_site site.Disk = Down
 of_site (site.Image bad) = Short short.Memory
 of_site site.Strange = Strange
-of_site site.Memory = Short short.Memory
-of_site site.Room = Short short.Room
+of_site (site.Short want) = Short want
 
 -- what a fault of the journal is to a request
 abbrev pub of_fault : Fault → ServeNo

@@ -10,7 +10,8 @@ use Rattle.qc_event.specs.declared.event.Entry.{Entry}
 use Rattle.qc_event.specs.declared.event.Event.TheVariants as event
 use Rattle.qc_event.specs.declared.event.Refusal.TheVariants as refusal
 use Rattle.qc_event.specs.declared.event.Why.TheVariants as why
-use Rattle.qc_event.specs.History.{Past, grants, limit}
+use Rattle.qc_event.specs.History.{Past, grants}
+use Rattle.qc_event.specs.Wants.{IsWant}
 use Rattle.qc_event.specs.Seats.{copy_seat}
 use Rattle.qc_journal.specs.Journal.{disk_of, limit_of, place_of, IsTooLong}
 use Rattle.qc_journal.specs.declared.journal.Journal.{Journal}
@@ -59,8 +60,7 @@ IsByLocks _ = ⊥
 
 -- memory was wanting, or the history takes no more entries
 abbrev pub IsSiteWant : Past → SiteNo → Type 0
-IsSiteWant past no_site.Memory = Unit {0}
-IsSiteWant past no_site.Room = length past ≡ limit
+IsSiteWant past (no_site.Short short) = IsWant past short
 IsSiteWant past _ = ⊥
 
 -- the record of a grant of this request would pass the limit

@@ -1,10 +1,11 @@
 //! Why a site did not do what it was asked.
 ghost use Rattle.std.specs.Prelude.{◌≡◌, ◌<◌};
-ghost use Rattle.qc_site.specs.Refusing.{desk_no, image_no, mount_no};
-ghost use Rattle.qc_site.specs.declared.fault.SiteNo.TheVariants.{Memory};
+ghost use Rattle.qc_event.specs.declared.short.Short.TheVariants.{Memory};
+ghost use Rattle.qc_site.specs.Refusing.{image_no, mount_no};
+ghost use Rattle.qc_site.specs.declared.fault.SiteNo.TheVariants as no;
 
 use qc_codec::{BadImage, ImageFault};
-use qc_desk::DeskNo;
+use qc_event::Short;
 use qc_journal::Fault;
 use std::alloc::{AllocError, AllocFailed};
 use thiserror::Error;
@@ -21,37 +22,32 @@ pub enum SiteNo {
     /// The disk does not say what the history says. Mounting never answers so.
     #[error("the disk is strange")]
     Strange,
-    /// There was no memory.
-    #[error("no memory")]
-    Memory,
-    /// The history takes no more entries. Mounting never answers so.
-    #[error("no room for another entry")]
-    Room,
+    /// There was no memory; or the history takes no more entries, which mounting never answers.
+    #[error("{0}")]
+    Short(Short),
 }
 
-/// What a refusal of the desk is to a site.
-pub(crate) fn desk_no(no: DeskNo) -> SiteNo
-    ensures { result ≡ desk_no no }
-{
-    match no {
-        DeskNo::Room => SiteNo::Room,
-        _ => SiteNo::Memory,
+impl From<Short> for SiteNo {
+    ghost from_gives = { λ short e. e ≡ no.Short short };
+
+    fn from(short: Short) -> Self {
+        SiteNo::Short(short)
     }
 }
 
 impl From<AllocError> for SiteNo {
-    ghost from_gives = { λ _ e. e ≡ Memory };
+    ghost from_gives = { λ _ e. e ≡ no.Short Memory };
 
     fn from(_: AllocError) -> Self {
-        SiteNo::Memory
+        SiteNo::Short(Short::Memory)
     }
 }
 
 impl<T: Drop> From<AllocFailed<T>> for SiteNo {
-    ghost from_gives = { λ _ e. e ≡ Memory };
+    ghost from_gives = { λ _ e. e ≡ no.Short Memory };
 
     fn from(_: AllocFailed<T>) -> Self {
-        SiteNo::Memory
+        SiteNo::Short(Short::Memory)
     }
 }
 
@@ -75,6 +71,6 @@ pub(crate) fn mount_no(copy: u8, fault: Fault) -> SiteNo
         Fault::Disk => SiteNo::Disk,
         Fault::Broken { place } => image_no(copy, ImageFault::Broken { place }),
         Fault::Full { place } => image_no(copy, ImageFault::Full { place }),
-        Fault::Memory => SiteNo::Memory,
+        Fault::Memory => SiteNo::Short(Short::Memory),
     }
 }

@@ -13,10 +13,9 @@ ghost use Rattle.qc_desk.specs.Consulting.{HasAsked};
 ghost use Rattle.qc_site.specs.Log.{journal_in};
 ghost use Rattle.qc_site.specs.Serving as words;
 
-use crate::fault::desk_no;
 use crate::log::GrantLog;
 use crate::replica::{Replica, grant_of};
-use crate::serve::{ServeNo, of_site};
+use crate::serve::ServeNo;
 use crate::site::Site;
 use qc_config::Tuple;
 use qc_desk::{Desk, Pass, Store};
@@ -111,9 +110,7 @@ impl<D: Disk, N: Store, const C: u8> Site<D, N, C> {
             (IsErrOf result ServeNo.Down) }
     {
         self.write(ask, tuple)?;
-        match self.replica.append(rt, desk, seer) {
-            Ok(()) => Ok(()),
-            Err(no) => Err(of_site(desk_no(no))),
-        }
+        self.replica.append(rt, desk, seer)?;
+        Ok(())
     }
 }

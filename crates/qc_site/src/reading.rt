@@ -15,7 +15,7 @@ ghost use Rattle.qc_site.specs.Refusing.{IsOfBytes};
 use crate::fault::{SiteNo, image_no};
 use crate::granted::Granted;
 use qc_codec::{CodecNo, ImageFault, Past, copy_table, read_grant, read_made};
-use qc_event::{Grant, Table};
+use qc_event::{Grant, Short, Table};
 use qc_journal::Body;
 use std::alloc::{AllocError, Global};
 
@@ -45,7 +45,7 @@ fn check_made(
             Err(image_no(copy, ImageFault::Table { kept, asked }))
         }
         Ok(_) | Err(CodecNo::Bad) => Err(image_no(copy, ImageFault::Grammar { index: 0 })),
-        Err(CodecNo::Memory) => Err(SiteNo::Memory),
+        Err(CodecNo::Memory) => Err(SiteNo::Short(Short::Memory)),
     }
 }
 

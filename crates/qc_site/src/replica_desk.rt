@@ -13,19 +13,20 @@ ghost use Rattle.qc_event.specs.Legal.{Legal};
 ghost use Rattle.qc_event.specs.Requests.{is_fault};
 ghost use Rattle.qc_event.specs.Seats.{copy_seat};
 ghost use Rattle.qc_event.specs.Tables.{setting_of};
+ghost use Rattle.qc_event.specs.Wants.{IsWant};
 ghost use Rattle.qc_desk.specs.Entries.{IsOlder};
 ghost use Rattle.qc_desk.specs.Calling.{Looked};
 ghost use Rattle.qc_desk.specs.Consulting.{HasAsked, IsTold, granted_before};
 ghost use Rattle.qc_desk.specs.declared.consult.Consulted.TheVariants.{Again, Fresh};
 ghost use Rattle.qc_ledger.specs.Entered.{SeesMore};
-ghost use Rattle.qc_site.specs.AtDesk.{hand_after, hand_entries, told_entries, unable_entry, IsGranted, IsWantAt, OnlyLooks};
+ghost use Rattle.qc_site.specs.AtDesk.{hand_after, hand_entries, told_entries, unable_entry, IsGranted, OnlyLooks};
 ghost use Rattle.qc_site.specs.Replica.{IsTableOf};
 
 use crate::fits::known_to_fit;
 use crate::replica::{Replica, grant_of};
 use qc_config::Tuple;
-use qc_desk::{Consulted, Desk, DeskNo, Pass, Store};
-use qc_event::{Ask, Grant, Why};
+use qc_desk::{Consulted, Desk, Pass, Store};
+use qc_event::{Ask, Grant, Short, Why};
 use qc_moss::{Locks, Verdict, replay_locks};
 use std::alloc::{AllocError, Global};
 use std::sync::Wait;
@@ -37,7 +38,7 @@ fn ask_without_room<N: Store, R: Wait>(
     pass: &mut Pass<N>,
     seer: &mut Pass<N>,
     ask: &Ask,
-) -> Result<Consulted, DeskNo>
+) -> Result<Consulted, Short>
     requires live { pass.old.live ≡ true }
     requires asked { HasAsked seer.old.seen ask.now }
     ensures told { IfOk result (IsTold (setting_of N.table N.base) ask.now pass.old pass.new) }
@@ -46,7 +47,7 @@ fn ask_without_room<N: Store, R: Wait>(
     ensures legal { Legal (setting_of N.table N.base) pass.new.seen }
     ensures asked { HasAsked pass.new.seen ask.now }
     ensures fresh { OnErr result (granted_before pass.new.seen ask.now ≡ None) }
-    ensures want { IfErr result (IsWantAt pass.new) }
+    ensures want { IfErr result (IsWant pass.new.seen) }
     ensures seer { SeesMore seer.old seer.new }
     ensures same { seer.new.seen ≡ pass.new.seen }
 {
@@ -54,7 +55,7 @@ fn ask_without_room<N: Store, R: Wait>(
     pass.known();
     match before {
         Some(tuple) => Ok(Consulted::Again(tuple)),
-        None => Err(DeskNo::Memory),
+        None => Err(Short::Memory),
     }
 }
 
@@ -66,7 +67,7 @@ fn ask_desk<N: Store, R: Wait>(
     seer: &mut Pass<N>,
     ask: &Ask,
     locks: &mut Locks,
-) -> Result<Consulted, DeskNo>
+) -> Result<Consulted, Short>
     requires copy { (pass.old.live ≡ true) × (pass.old.number ≡ copy_seat ask.now.copy) }
     requires asked { HasAsked seer.old.seen ask.now }
     requires proper { IsProper (setting_of N.table N.base) }
@@ -76,7 +77,7 @@ fn ask_desk<N: Store, R: Wait>(
     ensures asked { HasAsked pass.new.seen ask.now }
     ensures err { OnErr result (Looked pass.old pass.new) }
     ensures fresh { OnErr result (granted_before pass.new.seen ask.now ≡ None) }
-    ensures want { IfErr result (IsWantAt pass.new) }
+    ensures want { IfErr result (IsWant pass.new.seen) }
     ensures locks { IsTableOf (slice_index_or N.base ask.now.copy []) pass.new.seen ask.now.copy
         locks.new }
     ensures room { (tuple : Tuple) → result ≡ Ok (Fresh (Free tuple)) → locks.new.reserved ≡ true }
@@ -127,7 +128,7 @@ impl<N: Store, const C: u8> Replica<N, C> {
         desk: &Desk<N>,
         seer: &mut Pass<N>,
         ask: &Ask,
-    ) -> Result<Consulted, DeskNo>
+    ) -> Result<Consulted, Short>
         requires up { self.old.up ≡ true }
         requires none { self.old.hand ≡ None }
         requires copy { ask.now.copy ≡ C }
@@ -148,7 +149,7 @@ impl<N: Store, const C: u8> Replica<N, C> {
         ensures err { OnErr result (self.new.pass.mine ≡ self.old.pass.mine) }
         ensures grants { grants self.new.pass.seen C ≡ grants self.old.pass.seen C }
         ensures seen { IsOlder self.old.pass.seen self.new.pass.seen }
-        ensures want { IfErr result (IsWantAt self.new.pass) }
+        ensures want { IfErr result (IsWant self.new.pass.seen) }
         ensures up { self.new.up ≡ true }
         ensures seer { SeesMore seer.old seer.new }
         ensures same { seer.new.seen ≡ self.new.pass.seen }
@@ -170,7 +171,7 @@ impl<N: Store, const C: u8> Replica<N, C> {
         rt: &R,
         desk: &Desk<N>,
         seer: &mut Pass<N>,
-    ) -> Result<(), DeskNo>
+    ) -> Result<(), Short>
         ensures enters { OnOk result
             (self.new.pass.mine ≡ hand_entries C self.old.hand ++ self.old.pass.mine) }
         ensures granted { OnOk result (IfSome self.old.hand (IsGranted C self.new.pass.seen)) }
@@ -182,7 +183,7 @@ impl<N: Store, const C: u8> Replica<N, C> {
         ensures err { OnErr result (OnlyLooks C self.old self.new) }
         ensures kept { OnErr result (self.new.hand ≡ self.old.hand) }
         ensures seen { IsOlder self.old.pass.seen self.new.pass.seen }
-        ensures want { IfErr result (IsWantAt self.new.pass) }
+        ensures want { IfErr result (IsWant self.new.pass.seen) }
         ensures up { self.new.up ≡ self.old.up }
         ensures seer { SeesMore seer.old seer.new }
         ensures same { (self.old.hand ≡ None) ⊎ (seer.new.seen ≡ self.new.pass.seen) }
@@ -209,7 +210,7 @@ impl<N: Store, const C: u8> Replica<N, C> {
         seer: &mut Pass<N>,
         ask: &Ask,
         why: Why,
-    ) -> Result<(), DeskNo>
+    ) -> Result<(), Short>
         requires copy { ask.now.copy ≡ C }
         requires asked { HasAsked seer.old.seen ask.now }
         requires fault { is_fault why ≡ true }
@@ -218,7 +219,7 @@ impl<N: Store, const C: u8> Replica<N, C> {
         ensures err { OnErr result (self.new.pass.mine ≡ self.old.pass.mine) }
         ensures grants { grants self.new.pass.seen C ≡ grants self.old.pass.seen C }
         ensures seen { IsOlder self.old.pass.seen self.new.pass.seen }
-        ensures want { IfErr result (IsWantAt self.new.pass) }
+        ensures want { IfErr result (IsWant self.new.pass.seen) }
         ensures hand { self.new.hand ≡ self.old.hand }
         ensures up { self.new.up ≡ self.old.up }
         ensures seer { SeesMore seer.old seer.new }
@@ -243,7 +244,7 @@ impl<N: Store, const C: u8> Replica<N, C> {
     }
 
     /// Enters the grant in hand, where there is one, for no one.
-    pub(crate) fn enter<R: Wait>(&mut self, rt: &R, desk: &Desk<N>) -> Result<(), DeskNo>
+    pub(crate) fn enter<R: Wait>(&mut self, rt: &R, desk: &Desk<N>) -> Result<(), Short>
         ensures enters { OnOk result
             (self.new.pass.mine ≡ hand_entries C self.old.hand ++ self.old.pass.mine) }
         ensures grants { OnOk result (grants self.new.pass.seen C
@@ -254,7 +255,7 @@ impl<N: Store, const C: u8> Replica<N, C> {
         ensures err { OnErr result (OnlyLooks C self.old self.new) }
         ensures kept { OnErr result (self.new.hand ≡ self.old.hand) }
         ensures seen { IsOlder self.old.pass.seen self.new.pass.seen }
-        ensures want { IfErr result (IsWantAt self.new.pass) }
+        ensures want { IfErr result (IsWant self.new.pass.seen) }
         ensures up { self.new.up ≡ self.old.up }
     {
         let mut seer = desk.note(&mut self.pass);

@@ -6,17 +6,19 @@ ghost use Rattle.qc_event.specs.declared.event.Answered.TheVariants.{Down, Grant
 ghost use Rattle.qc_event.specs.Base.{IsProper};
 ghost use Rattle.qc_event.specs.Requests.{is_fault};
 ghost use Rattle.qc_event.specs.Tables.{setting_of};
+ghost use Rattle.qc_event.specs.Wants.{IsWant};
 ghost use Rattle.qc_ledger.specs.Entered.{SeesMore};
 ghost use Rattle.qc_ledger.specs.Runs.{Costs};
 ghost use Rattle.qc_desk.specs.Consulting.{HasAsked};
 ghost use Rattle.qc_site.specs.AtDesk.{unable_entry, IsGranted};
 ghost use Rattle.qc_site.specs.Log.{journal_in};
 ghost use Rattle.qc_site.specs.Serving as words;
+ghost use Rattle.qc_site.specs.declared.serve.ServeNo.TheVariants as no;
 
-use crate::fault::{SiteNo, desk_no};
+use crate::fault::SiteNo;
 use crate::site::Site;
 use qc_config::Tuple;
-use qc_desk::{Consulted, Desk, DeskNo, Pass, Store};
+use qc_desk::{Consulted, Desk, Pass, Store};
 use qc_disk::Disk;
 use qc_event::{Answered, Ask, Short, Why};
 use qc_moss::Verdict;
@@ -34,20 +36,28 @@ pub(crate) enum ServeNo {
     Short(Short),
 }
 
-/// What a refused revival is to a request.
-pub(crate) fn of_site(no: SiteNo) -> ServeNo
+impl From<Short> for ServeNo {
+    ghost from_gives = { λ short e. e ≡ no.Short short };
+
+    fn from(short: Short) -> Self {
+        ServeNo::Short(short)
+    }
+}
+
+// What a refused revival is to a request.
+fn of_site(no: SiteNo) -> ServeNo
     ensures { result ≡ words.of_site no }
 {
     match no {
         SiteNo::Disk => ServeNo::Down,
         SiteNo::Strange => ServeNo::Strange,
-        SiteNo::Room => ServeNo::Short(Short::Room),
-        SiteNo::Image(_) | SiteNo::Memory => ServeNo::Short(Short::Memory),
+        SiteNo::Image(_) => ServeNo::Short(Short::Memory),
+        SiteNo::Short(short) => ServeNo::Short(short),
     }
 }
 
 impl<D: Disk, N: Store, const C: u8> Site<D, N, C> {
-    ghost use Rattle.qc_site.specs.Calls.{site_state, SiteBecame, CanServe, HasServed, ReviveSays, ServeSays, ShortSays};
+    ghost use Rattle.qc_site.specs.Calls.{site_state, SiteBecame, CanServe, HasServed, ReviveSays, ServeSays};
     ghost use Rattle.qc_site.specs.Sites.{EntersHand, IsByLocks};
 
     // Is up, with nothing in hand.
@@ -98,10 +108,7 @@ impl<D: Disk, N: Store, const C: u8> Site<D, N, C> {
         ensures cause { Costs (journal_in self.old.log) (journal_in self.new.log)
             (IsErrOf result ServeNo.Down) }
     {
-        let told = match self.replica.consult(rt, desk, seer, ask) {
-            Ok(told) => told,
-            Err(no) => return Err(of_site(desk_no(no))),
-        };
+        let told = self.replica.consult(rt, desk, seer, ask)?;
         let verdict = match &told {
             Consulted::Again(tuple) => return Ok(Answered::Granted(*tuple)),
             Consulted::Fresh(verdict) => verdict,
@@ -164,7 +171,7 @@ impl<D: Disk, N: Store, const C: u8> Site<D, N, C> {
         requires fault { is_fault why ≡ true }
         ensures enters { OnOk result (self.new.replica.pass.mine
             ≡ unable_entry C ask.now why ∷ self.old.replica.pass.mine) }
-        ensures refused { IfErr result (ShortSays self.new.replica.pass.seen) }
+        ensures refused { IfErr result (IsWant self.new.replica.pass.seen) }
         ensures err { OnErr result (self.new.replica.pass.mine ≡ self.old.replica.pass.mine) }
         ensures still { (self.new.log ≡ self.old.log) × (self.new.strange ≡ self.old.strange)
             × (self.new.replica.hand ≡ self.old.replica.hand)
@@ -174,11 +181,7 @@ impl<D: Disk, N: Store, const C: u8> Site<D, N, C> {
         ensures seer { SeesMore seer.old seer.new }
         ensures same { seer.new.seen ≡ self.new.replica.pass.seen }
     {
-        match self.replica.unable(rt, desk, seer, ask, why) {
-            Ok(()) => Ok(()),
-            Err(DeskNo::Room) => Err(Short::Room),
-            Err(_) => Err(Short::Memory),
-        }
+        self.replica.unable(rt, desk, seer, ask, why)
     }
 
     /// Serves a request that the seer saw. A grant whose record stands and that is not yet entered comes first; a copy
@@ -200,7 +203,7 @@ impl<D: Disk, N: Store, const C: u8> Site<D, N, C> {
         // disk where the copy can serve.
         ensures served { IfOk result
             (HasServed C ask.now seer.new (site_state self.old) (site_state self.new)) }
-        ensures refused { IfErr result (ShortSays self.new.replica.pass.seen) }
+        ensures refused { IfErr result (IsWant self.new.replica.pass.seen) }
         ensures err { OnErr result (EntersHand C self.old.replica self.new.replica) }
         ensures again { (tuple : Tuple) → CanServe self.old.replica
             → IsGranted C self.old.replica.pass.seen (grant_with ask.now tuple)

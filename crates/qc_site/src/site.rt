@@ -14,12 +14,12 @@ ghost use Rattle.qc_site.specs.AtDesk.{OnlyLooks};
 ghost use Rattle.qc_site.specs.Log.{copies_of, journal_in};
 
 use crate::back::{BackNo, Strange};
-use crate::fault::{SiteNo, desk_no};
+use crate::fault::SiteNo;
 use crate::log::GrantLog;
 use crate::replica::Replica;
 use qc_desk::{Desk, Pass, Store};
 use qc_disk::Disk;
-use qc_event::Grant;
+use qc_event::{Grant, Short};
 use qc_names::lists::append;
 use std::alloc::{AllocError, Global};
 use std::sync::Wait;
@@ -138,7 +138,7 @@ impl<D: Disk, N: Store, const C: u8> Site<D, N, C> {
                 Ok(())
             }
             Err(BackNo::Disk) => Err(SiteNo::Disk),
-            Err(BackNo::Memory) => Err(SiteNo::Memory),
+            Err(BackNo::Memory) => Err(SiteNo::Short(Short::Memory)),
             Err(BackNo::Strange(strange)) => {
                 self.strange = Some(strange);
                 Err(SiteNo::Strange)
@@ -164,10 +164,8 @@ impl<D: Disk, N: Store, const C: u8> Site<D, N, C> {
         ensures became { SiteBecame (setting_of N.table N.base) C None (site_state self.old)
             (site_state self.new) }
     {
-        match self.replica.enter(rt, desk) {
-            Ok(()) => Ok(()),
-            Err(no) => Err(desk_no(no)),
-        }
+        self.replica.enter(rt, desk)?;
+        Ok(())
     }
 
     // Enters the grant in hand, where there is one, and has the locks again.

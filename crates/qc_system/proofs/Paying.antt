@@ -118,8 +118,7 @@ module _ (hand : Option Name) (top : Name) (old new : Past) (first before now : 
       subst (λ n. Pays first n now) (sym is) (pays_more first (downs old) before now (cause.failed (fails refl)) pays)
   refusal_pays (no.Image bad) h Failed cause fails pays = absurd h
   refusal_pays (no.Full place) h Failed cause fails pays = pays_where first _ before now Failed cause pays _ (ap downs h.all ∙ at_most downs (commits_of hand) old h.mid (commits_none hand old) h.first_of_all)
-  refusal_pays no.Memory h Failed cause fails pays = pays_where first _ before now Failed cause pays _ (hand_same h)
-  refusal_pays no.Room h Failed cause fails pays = pays_where first _ before now Failed cause pays _ (hand_same h)
+  refusal_pays (no.Short want) h Failed cause fails pays = pays_where first _ before now Failed cause pays _ (hand_same h)
 
   pub log_pays : (r : Result (Unit {0}) LedgerNo) → OnOk r (EntersTop hand top old new) → IfErr r (λ refusal. RefusalEnters refusal hand top old new) → HasCause before now (IsErrOf r no.Disk) → Pays first (downs old) before → Pays first (downs new) now
   log_pays (Ok x) ok err cause pays = pays_where first _ before now _ cause pays _ (top_same ok)

@@ -145,8 +145,7 @@ module _ (told : Name → List Name) (hand : Option Name) (top : Name) (old new 
       by_test : (n : Name) (b : Bool) → same top n ≡ b → (option_map_or (is_why why.Full) (if b then Some why.Full else None) false || full n enters.mid) ≡ true → IsTooLong later most (told_body told n)
       by_test n true is h = subst (λ x. IsTooLong later most (told_body told x)) (same_is top n is) (long at refl)
       by_test n false is h = still enters.mid (hand_same enters.mid enters.first_of_all) n h
-  refusal_room no.Memory enters long = still new (hand_same new enters)
-  refusal_room no.Room enters long = still new (hand_same new enters)
+  refusal_room (no.Short want) enters long = still new (hand_same new enters)
 
   pub log_room : (r : Result (Unit {0}) LedgerNo) → OnOk r (EntersTop hand top old new) → IfErr r (λ refusal. RefusalEnters refusal hand top old new) → ((at : ℕ) → r ≡ Err (no.Full at) → IsTooLong later most (told_body told top)) → HadNoRoom told later most new
   log_room (Ok x) ok err long = still new (top_same ok)

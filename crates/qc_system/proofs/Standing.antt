@@ -15,6 +15,7 @@ use Rattle.qc_event.specs.declared.event.Event.TheVariants as event
 use Rattle.qc_event.specs.declared.event.Refusal.TheVariants as refusal
 use Rattle.qc_event.specs.declared.event.Why.{Why}
 use Rattle.qc_event.specs.declared.event.Why.TheVariants as why
+use Rattle.qc_event.specs.declared.short.Short.TheVariants as short
 use Rattle.qc_event.specs.History.{Past, Name, end, end_in, limit}
 use Rattle.qc_event.specs.Requests.{is_why, unable_in, was_unable}
 use Rattle.qc_event.specs.Seats.{copy_seat, ledger_seat}
@@ -82,12 +83,12 @@ pub full_still : (before now : Past) → IsOlder before now → length now ≤ l
 full_still before now older most is = omega (arith, is, most, ap length older.1, length-append older.0 before)
 
 -- that the ledger was unable stands in what was seen later
-pub refusal_stands : (past mine old : Past) (hand : Option Name) (top : Name) (r : LedgerNo) → mine ≡ entries_of ledger_seat past → (r ≡ no.Room → length past ≡ limit) → RefusalEnters r hand top old mine → HasRefused past top r
+pub refusal_stands : (past mine old : Past) (hand : Option Name) (top : Name) (r : LedgerNo) → mine ≡ entries_of ledger_seat past → (r ≡ no.Short short.Room → length past ≡ limit) → RefusalEnters r hand top old mine → HasRefused past top r
 refusal_stands past mine old hand top no.Disk own room enters = told_unable past ledger_seat top why.Down refl (own_stands ledger_seat past mine enters.mid (unlogged_entry top why.Down) own enters.all)
 refusal_stands past mine old hand top (no.Image bad) own room enters = enters
 refusal_stands past mine old hand top (no.Full place) own room enters = told_unable past ledger_seat top why.Full refl (own_stands ledger_seat past mine enters.mid (unlogged_entry top why.Full) own enters.all)
-refusal_stands past mine old hand top no.Memory own room enters = tt
-refusal_stands past mine old hand top no.Room own room enters = room refl
+refusal_stands past mine old hand top (no.Short short.Memory) own room enters = tt
+refusal_stands past mine old hand top (no.Short short.Room) own room enters = room refl
 
 -- what is told of a ledger's answer stands in what was seen later
 unable_still : (newer past : Past) (n : Name) (w : Why) → IsTrue (was_unable past n w) → IsTrue (was_unable (newer ++ past) n w)
@@ -97,10 +98,10 @@ later_refused : (before now : Past) → IsOlder before now → length now ≤ li
 later_refused before now older most top no.Disk h = subst (λ p. IsTrue (was_unable p top why.Down)) (sym older.1) (unable_still older.0 before top why.Down h)
 later_refused before now older most top (no.Image bad) h = h
 later_refused before now older most top (no.Full place) h = subst (λ p. IsTrue (was_unable p top why.Full)) (sym older.1) (unable_still older.0 before top why.Full h)
-later_refused before now older most top no.Memory h = tt
-later_refused before now older most top no.Room h = full_still before now older most h
+later_refused before now older most top (no.Short short.Memory) h = tt
+later_refused before now older most top (no.Short short.Room) h = full_still before now older most h
 
-pub refused_still : (r : Result (Unit {0}) LedgerNo) (mid now mine old : Past) (hand : Option Name) (top : Name) → mine ≡ entries_of ledger_seat mid → IsOlder mid now → length now ≤ limit → (IsErrOf r no.Room → length mid ≡ limit)
+pub refused_still : (r : Result (Unit {0}) LedgerNo) (mid now mine old : Past) (hand : Option Name) (top : Name) → mine ≡ entries_of ledger_seat mid → IsOlder mid now → length now ≤ limit → (IsErrOf r (no.Short short.Room) → length mid ≡ limit)
     → IfErr r (λ refusal. RefusalEnters refusal hand top old mine) → IfErr r (HasRefused now top)
 refused_still (Ok x) mid now mine old hand top own older most room enters = tt
 refused_still (Err r) mid now mine old hand top own older most room enters = later_refused mid now older most top r (refusal_stands mid mine old hand top r own (λ is. room (ap Err is)) enters)

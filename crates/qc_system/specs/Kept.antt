@@ -8,7 +8,8 @@ use Rattle.qc_event.specs.declared.event.Event.{Event}
 use Rattle.qc_event.specs.declared.event.Event.TheVariants as event
 use Rattle.qc_event.specs.declared.event.Why.TheVariants as why
 use Rattle.qc_event.specs.Base.{Setting}
-use Rattle.qc_event.specs.History.{Past, Name, limit}
+use Rattle.qc_event.specs.History.{Past, Name}
+use Rattle.qc_event.specs.Wants.{IsWant}
 use Rattle.qc_event.specs.Listed.{listed}
 use Rattle.qc_event.specs.Requests.{was_unable}
 use Rattle.qc_journal.specs.Journal.{IsTooLong, disk_of, limit_of, place_of}
@@ -43,8 +44,7 @@ abbrev pub HasRefused : Past → Name → LedgerNo → Type 0
 HasRefused past top no.Disk = IsTrue (was_unable past top why.Down)
 HasRefused past top (no.Image bad) = ⊥
 HasRefused past top (no.Full place) = IsTrue (was_unable past top why.Full)
-HasRefused past top no.Memory = Unit {0}
-HasRefused past top no.Room = length past ≡ limit
+HasRefused past top (no.Short short) = IsWant past short
 
 -- whether someone was unable since a disk failed
 abbrev pub is_down : Event → Bool

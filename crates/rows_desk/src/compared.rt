@@ -9,7 +9,7 @@ ghost use Rattle.rows_desk.specs.OneCopy as words;
 use crate::scene::{grant_of, one_request, start_scene};
 use qc_config::Config;
 use qc_desk::{Blank, Consulted, Desk, DeskNo, Pass, Store};
-use qc_event::Grant;
+use qc_event::{Grant, Short};
 use qc_moss::{Locks, Verdict};
 use std::alloc::Global;
 use std::marker::Brand;
@@ -55,7 +55,7 @@ fn grant_next<N: Store, R: Wait>(
     };
     let grant = grant_of(&ask, &tuple);
     if locks.reserve().is_err() {
-        return Err(DeskNo::Memory);
+        return Err(DeskNo::Short(Short::Memory));
     }
     desk.append(rt, copy, pass, 0, &grant)?;
     copy.known();
@@ -130,7 +130,7 @@ pub fn run_compared<R: Wait>(
     requires { config.now ≡ words.config }
 {
     let Ok((blank, locks)) = start_scene(alloc, config) else {
-        return Err(DeskNo::Memory);
+        return Err(DeskNo::Short(Short::Memory));
     };
     compared_at::<Brand, R>(rt, blank, locks)
 }

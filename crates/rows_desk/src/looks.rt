@@ -5,7 +5,7 @@ ghost use Rattle.qc_desk.specs.Rules.{IsClient};
 ghost use Rattle.rows_desk.specs.Tops.{IsUserTop};
 
 use qc_desk::{Blank, Desk, DeskNo, Pass, Store};
-use qc_event::{Base, Cause, Kind, Name};
+use qc_event::{Base, Cause, Kind, Name, Short};
 use std::alloc::Global;
 use std::marker::Brand;
 use std::sync::Wait;
@@ -43,7 +43,7 @@ fn mark<N: Store, R: Wait>(
     desk: &Desk<N>,
     pass: &mut Pass<N>,
     top: &Name,
-) -> Result<(), DeskNo>
+) -> Result<(), Short>
     requires client { IsClient pass.old }
     requires top { IsUserTop pass.old.seen top.now }
     ensures client { OnOk result (IsClient pass.new) }
@@ -123,7 +123,7 @@ fn told_at<N: Store, R: Wait>(rt: &R, blank: Blank) -> Result<Told, DeskNo>
 /// What a desk of its own tells. An error is the desk's, or want of memory.
 pub fn run_looks<R: Wait>(rt: &R, alloc: Global) -> Result<Told, DeskNo> {
     let Ok(blank) = Blank::new(alloc, Base::new(Vec::new(alloc)), 1) else {
-        return Err(DeskNo::Memory);
+        return Err(DeskNo::Short(Short::Memory));
     };
     told_at::<Brand, R>(rt, blank)
 }

@@ -12,7 +12,7 @@ use crate::clients::give_low_numbers;
 use crate::scene::{grant_of, one_request, start_scene};
 use qc_config::Config;
 use qc_desk::{Blank, Consulted, Desk, DeskNo, Pass, Store};
-use qc_event::{Cause, Name};
+use qc_event::{Cause, Name, Short};
 use qc_moss::{Locks, Verdict};
 use std::alloc::Global;
 use std::marker::Brand;
@@ -108,7 +108,7 @@ pub fn run_overtaken<R: Wait>(
     requires { config.now ≡ words.config }
 {
     let Ok((blank, locks)) = start_scene(alloc, config) else {
-        return Err(DeskNo::Memory);
+        return Err(DeskNo::Short(Short::Memory));
     };
     overtaken_at::<Brand, R>(rt, blank, locks)
 }

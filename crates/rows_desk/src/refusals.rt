@@ -5,7 +5,7 @@ ghost use Rattle.rows_desk.specs.Tops.{AreUsers};
 
 use crate::looks::{begin, start_child};
 use qc_desk::{Blank, Desk, DeskNo, Pass, Store};
-use qc_event::{Base, Cause, Name};
+use qc_event::{Base, Cause, Name, Short};
 use std::alloc::Global;
 use std::marker::Brand;
 use std::sync::Wait;
@@ -101,7 +101,7 @@ fn refused_at<N: Store, R: Wait>(rt: &R, blank: Blank) -> Result<Refusals, DeskN
 /// What a desk of its own refuses. An error is the desk's, or want of memory.
 pub fn run_refusals<R: Wait>(rt: &R, alloc: Global) -> Result<Refusals, DeskNo> {
     let Ok(blank) = Blank::new(alloc, Base::new(Vec::new(alloc)), 1) else {
-        return Err(DeskNo::Memory);
+        return Err(DeskNo::Short(Short::Memory));
     };
     refused_at::<Brand, R>(rt, blank)
 }

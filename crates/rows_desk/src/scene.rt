@@ -152,7 +152,10 @@ fn grant_free<N: Store, R: Wait>(
         return Ok(());
     };
     match verdict {
-        Verdict::Free(tuple) => desk.append(rt, copy, pass, 0, &grant_of(&ask, &tuple)),
+        Verdict::Free(tuple) => {
+            desk.append(rt, copy, pass, 0, &grant_of(&ask, &tuple))?;
+            Ok(())
+        }
         _ => Ok(()),
     }
 }
@@ -173,7 +176,8 @@ fn one_commit<N: Store, R: Wait>(
     let top = desk.start_top(rt, pass, 0, 0)?;
     pass.known();
     desk.ready(rt, pass, &top)?;
-    desk.finish(rt, ledger, pass, &top)
+    desk.finish(rt, ledger, pass, &top)?;
+    Ok(())
 }
 
 // The copy refuses a dead request and grants a free one, and the ledger commits a top.

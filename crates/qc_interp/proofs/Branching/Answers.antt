@@ -5,6 +5,7 @@ use Rattle.std.specs.Prelude.{Some}
 use Rattle.qc_event.specs.declared.event.Event.TheVariants as event
 use Rattle.qc_event.specs.declared.event.Kind.TheVariants as kind
 use Rattle.qc_event.specs.History.{Past, Name, is_child}
+use Rattle.qc_event.specs.declared.short.Short.{Short}
 use Rattle.qc_script.specs.declared.tx.TxNo.{TxNo}
 use Rattle.qc_script.specs.declared.tx.TxNo.TheVariants as tx_no
 use Rattle.qc_script.specs.Calls.{by_client, Refuses, WasRefused}
@@ -40,7 +41,7 @@ pub record RefusedTry (v x : ClientView) (of : Name) (body : Numbered) (why : Tx
   pub goes : GoesOn v.client v.seen of x.client x.seen
   pub ran : (reach : Reach) → RanTries reach (Unit {0}) x.client body x.seen
   pub due : AreTriesOurs x.client x.seen → was_tried (mine x.client x.seen) false body.tries (map Deed.child (tries_by x.client x.seen)) ≡ false
-  pub refused : (why ≡ tx_no.Memory → ⊥) → (why ≡ tx_no.Room → ⊥) → Refuses x.seen x.client.root why × IsRefusal why
+  pub refused : ((s : Short) → why ≡ tx_no.Short s → ⊥) → Refuses x.seen x.client.root why × IsRefusal why
 
 module _ (v w y : ClientView) (of n : Name) (body : Numbered) (counter : ℕ) (goes : GoesOn v.client v.seen of w.client w.seen) (start : Past) (runs : TryRuns w.client body start n w.seen (body.tries - counter)) (joined : HasJoined w.client w.seen y.client) (steps : Plan) (plan : steps ≡ body.plan) where
   abbrev left : ℕ
@@ -81,7 +82,7 @@ module _ (v w y : ClientView) (of n : Name) (body : Numbered) (counter : ℕ) (g
             goes = further;
             ran = λ reach. subst (λ d. RanTries reach (Unit {0}) d body x.seen) (sym same) (tries_stop y.client body start y.seen x.seen (Some n) _ due made reach);
             due = subst (λ d. AreTriesOurs d x.seen → was_tried (mine d x.seen) false body.tries (map Deed.child (tries_by d x.seen)) ≡ false) (sym same) (try_was_due y.client body start y.seen x.seen (Some n) _ due made);
-            refused = λ other full. subst (λ r. Refuses x.seen r why × IsRefusal why) (sym further.root) (why_refused y.client of y.seen x.seen why refused other full);
+            refused = λ other. subst (λ r. Refuses x.seen r why × IsRefusal why) (sym further.root) (why_refused y.client of y.seen x.seen why refused other);
           }
 
       -- it began

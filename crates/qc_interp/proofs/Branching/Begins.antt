@@ -13,6 +13,7 @@ use Rattle.qc_script.specs.Client.{Client, ClientView, is_own, branch_of, Made, 
 use Rattle.qc_script.specs.Plan.{Numbered}
 use Rattle.qc_event.specs.Standing.{Started, IsUser}
 use Rattle.qc_event.proofs.Later.{started_still}
+use Rattle.qc_event.specs.declared.short.Short.TheVariants.{Memory}
 use Rattle.qc_interp.specs.AtOnce.{Stands, HasBegun, NotBegun}
 use Rattle.qc_interp.proofs.Scopes.Growth.{made_itself, made_after, made_both}
 use Rattle.qc_interp.proofs.Branching.Joined.{joined_itself}
@@ -97,7 +98,7 @@ module _ (v u : ClientView) (of : Name) (b : ClientView) (made : Branched v u of
           }
 
 -- no branch was made
-pub none_begun : (v : ClientView) (of : Name) → Legal v.client.setting v.seen → NotBegun v v of tx_no.Memory
+pub none_begun : (v : ClientView) (of : Name) → Legal v.client.setting v.seen → NotBegun v v of (tx_no.Short Memory)
 none_begun v of legal = record { joined = joined_itself v.client v.seen; refused = (made_itself v.client v.seen legal, tt) }
 
 -- behind one that was begun the next may begin

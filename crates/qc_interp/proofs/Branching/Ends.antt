@@ -12,6 +12,7 @@ use Rattle.qc_event.specs.declared.event.How.{How}
 use Rattle.qc_event.specs.Legal.{Legal}
 use Rattle.qc_event.specs.Standing.{Started, IsUser}
 use Rattle.qc_event.proofs.Later.{started_still}
+use Rattle.qc_event.specs.declared.short.Short.{Short}
 use Rattle.qc_script.specs.Client.{Client, ClientView, mine, Made, IsLater, HasJoined}
 use Rattle.qc_script.specs.Plan.{Numbered}
 use Rattle.qc_interp.specs.AtOnce.{MayRun, at_first, IsRefusal, TriesEnd, came_at_last}
@@ -117,25 +118,23 @@ goes_on c before of d e now next g joined later =
     }
 
 -- why it was refused to begin, where that is not want of memory or room
-pub why_refused : (c : Client) (of : Name) (now mid : Past) (why : TxNo) → WasRefused c of now mid why → (why ≡ tx_no.Memory → ⊥) → (why ≡ tx_no.Room → ⊥) → Refuses mid of why × IsRefusal why
-why_refused c of now mid tx_no.Memory refused other full = absurd (other refl)
-why_refused c of now mid tx_no.Room refused other full = absurd (full refl)
-why_refused c of now mid (tx_no.Orphan a) refused other full = (refused.1, tt)
-why_refused c of now mid tx_no.Ended refused other full = (refused.1, tt)
-why_refused c of now mid tx_no.Ready refused other full = (refused.1, tt)
-why_refused c of now mid (tx_no.ChildrenOpen child) refused other full = absurd refused
-why_refused c of now mid (tx_no.Conflict copy holder) refused other full = absurd refused.1
-why_refused c of now mid (tx_no.NoQuorum lack) refused other full = absurd refused.1
-why_refused c of now mid tx_no.Last refused other full = absurd refused.1
-why_refused c of now mid tx_no.Ledger refused other full = absurd refused.1
+pub why_refused : (c : Client) (of : Name) (now mid : Past) (why : TxNo) → WasRefused c of now mid why → ((s : Short) → why ≡ tx_no.Short s → ⊥) → Refuses mid of why × IsRefusal why
+why_refused c of now mid (tx_no.Short s) refused other = absurd (other s refl)
+why_refused c of now mid (tx_no.Orphan a) refused other = (refused.1, tt)
+why_refused c of now mid tx_no.Ended refused other = (refused.1, tt)
+why_refused c of now mid tx_no.Ready refused other = (refused.1, tt)
+why_refused c of now mid (tx_no.ChildrenOpen child) refused other = absurd refused
+why_refused c of now mid (tx_no.Conflict copy holder) refused other = absurd refused.1
+why_refused c of now mid (tx_no.NoQuorum lack) refused other = absurd refused.1
+why_refused c of now mid tx_no.Last refused other = absurd refused.1
+why_refused c of now mid tx_no.Ledger refused other = absurd refused.1
 
 -- it is then why a transaction stops
 pub refusal_stops : (c : Client) (of : Name) (now : Past) (why : TxNo) → Refuses now of why × IsRefusal why → WhyStop c now of why
 refusal_stops c of now (tx_no.Orphan a) h = h.0
 refusal_stops c of now tx_no.Ended h = h.0
 refusal_stops c of now tx_no.Ready h = h.0
-refusal_stops c of now tx_no.Memory h = absurd h.1
-refusal_stops c of now tx_no.Room h = absurd h.1
+refusal_stops c of now (tx_no.Short s) h = absurd h.1
 refusal_stops c of now (tx_no.ChildrenOpen child) h = absurd h.1
 refusal_stops c of now (tx_no.Conflict copy holder) h = absurd h.1
 refusal_stops c of now (tx_no.NoQuorum lack) h = absurd h.1
@@ -147,8 +146,7 @@ pub refusal_early : (c : Client) (of : Name) (why : TxNo) (how : Option How) →
 refusal_early c of (tx_no.Orphan a) how is h = orphan_early c of a how h
 refusal_early c of tx_no.Ended how is h = asked_early of how h
 refusal_early c of tx_no.Ready how is h = asked_early of how h
-refusal_early c of tx_no.Memory how is h = absurd is
-refusal_early c of tx_no.Room how is h = absurd is
+refusal_early c of (tx_no.Short s) how is h = absurd is
 refusal_early c of (tx_no.ChildrenOpen child) how is h = absurd is
 refusal_early c of (tx_no.Conflict copy holder) how is h = absurd is
 refusal_early c of (tx_no.NoQuorum lack) how is h = absurd is

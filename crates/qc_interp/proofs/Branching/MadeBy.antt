@@ -18,6 +18,9 @@ use Rattle.qc_script.specs.Calls.{NoneUnder, Refuses, WasRefused}
 use Rattle.qc_script.specs.Client.{Client, mine, is_own, Made, IsLater, HasJoined}
 use Rattle.qc_event.proofs.OneEntry.{both_empty}
 use Rattle.qc_event.proofs.StillTold.{some_stays}
+use Rattle.qc_event.specs.declared.short.Short.TheVariants as short
+use Rattle.qc_event.specs.declared.short.Short.{Short}
+use Rattle.qc_event.specs.Wants.{IsWant}
 use Rattle.qc_interp.proofs.Scopes.Growth.{made_is, ended_still}
 
 -- no entry is the client's
@@ -140,14 +143,18 @@ left_out n l none = ap (λ b. if not b then n ∷ without n l else without n l) 
 
 -- REFUSALS
 
--- where what was seen is within its limit, a refusal to begin stands later
+-- where what was seen is within its limit, what want says of it stands later
+pub want_later : (newer seen : Past) (s : Short) → length (newer ++ seen) ≤ limit → IsWant seen s → IsWant (newer ++ seen) s
+want_later newer seen short.Memory bound h = tt
+want_later newer seen short.Room bound h = omega (arith, h, bound, length-append newer seen)
+
+-- so does a refusal to begin
 pub refuses_later : (newer seen : Past) (of : Name) (why : TxNo) → length (newer ++ seen) ≤ limit → ((child : Name) → why ≡ tx_no.ChildrenOpen child → ⊥) → Refuses seen of why → Refuses (newer ++ seen) of why
 refuses_later newer seen of (tx_no.Orphan a) bound closed h = (h.0, ended_still newer seen a IsAbort h.1)
 refuses_later newer seen of tx_no.Ended bound closed h = some_stays (λ e. end_in of e.event) newer seen h
 refuses_later newer seen of (tx_no.ChildrenOpen child) bound closed h = absurd (closed child refl)
 refuses_later newer seen of tx_no.Ready bound closed h = some_stays (λ e. ready_in of e.event) newer seen h
-refuses_later newer seen of tx_no.Memory bound closed h = tt
-refuses_later newer seen of tx_no.Room bound closed h = omega (arith, h, bound, length-append newer seen)
+refuses_later newer seen of (tx_no.Short s) bound closed h = want_later newer seen s bound h
 refuses_later newer seen of (tx_no.Conflict copy holder) bound closed h = absurd h
 refuses_later newer seen of (tx_no.NoQuorum lack) bound closed h = absurd h
 refuses_later newer seen of tx_no.Last bound closed h = absurd h
@@ -161,8 +168,7 @@ refused_later c d of a b x y newer why is bound m = by_why why
     later why closed h = subst (λ h. Refuses h of why) (sym is) (refuses_later newer b of why (subst (λ h. length h ≤ limit) is bound) closed h)
 
     by_why : (why : TxNo) → WasRefused c of a b why → WasRefused d of x y why
-    by_why tx_no.Memory h = (m, tt)
-    by_why tx_no.Room h = (m, later tx_no.Room (λ child is. cc) h.1)
+    by_why (tx_no.Short s) h = (m, later (tx_no.Short s) (λ child is. cc) h.1)
     by_why (tx_no.Orphan ancestor) h = (m, later (tx_no.Orphan ancestor) (λ child is. cc) h.1)
     by_why tx_no.Ended h = (m, later tx_no.Ended (λ child is. cc) h.1)
     by_why tx_no.Ready h = (m, later tx_no.Ready (λ child is. cc) h.1)

@@ -27,6 +27,7 @@ use Rattle.qc_script.specs.Client.{Client, Made}
 use Rattle.qc_interp.specs.AtOnce.{Stands, branch_in, RefusedSo, IsFirst, aborts_of, TurnedSome, TurnedAll}
 use Rattle.qc_interp.specs.Branches.{Branch}
 use Rattle.qc_event.proofs.StillTold.{some_stays}
+use Rattle.qc_event.specs.declared.short.Short.{Short}
 use Rattle.qc_interp.proofs.Scopes.Growth.{ended_still, made_itself}
 use Rattle.qc_interp.proofs.Rows.Back.{turns_back, none_back}
 use Rattle.qc_interp.proofs.Rows.Leaves.{not_shorter}
@@ -73,8 +74,7 @@ module _ (seen : Past) (of n : Name) (first : IsFirst of seen n) where
   first_grounded (tx_no.Orphan a) refused other = grounded_by a refused.0.0 (abort_some (end seen a) refused.0.1)
   first_grounded tx_no.Ended refused other = grounded_by of (itself of) refused.0
   first_grounded tx_no.Ready refused other = absurd (other refl)
-  first_grounded tx_no.Memory refused other = absurd refused.1
-  first_grounded tx_no.Room refused other = absurd refused.1
+  first_grounded (tx_no.Short s) refused other = absurd refused.1
   first_grounded (tx_no.ChildrenOpen child) refused other = absurd refused.1
   first_grounded (tx_no.Conflict copy holder) refused other = absurd refused.1
   first_grounded (tx_no.NoQuorum lack) refused other = absurd refused.1
@@ -107,8 +107,7 @@ pub refused_still : (newer seen : Past) (of : Name) (why : TxNo) → RefusedSo s
 refused_still newer seen of (tx_no.Orphan a) h = ((h.0.0, ended_still newer seen a IsAbort h.0.1), tt)
 refused_still newer seen of tx_no.Ended h = (some_stays (λ e. end_in of e.event) newer seen h.0, tt)
 refused_still newer seen of tx_no.Ready h = (some_stays (λ e. ready_in of e.event) newer seen h.0, tt)
-refused_still newer seen of tx_no.Memory h = absurd h.1
-refused_still newer seen of tx_no.Room h = absurd h.1
+refused_still newer seen of (tx_no.Short s) h = absurd h.1
 refused_still newer seen of (tx_no.ChildrenOpen child) h = absurd h.1
 refused_still newer seen of (tx_no.Conflict copy holder) h = absurd h.1
 refused_still newer seen of (tx_no.NoQuorum lack) h = absurd h.1
@@ -121,8 +120,7 @@ pub refused_further : (newer seen : Past) (of : Name) (why : TxNo) → RefusedSo
 refused_further newer seen of (tx_no.Orphan a) refused other setting legal nonroot n first committed = absurd (not_committed (end (newer ++ seen) a) (ended_still newer seen a IsAbort refused.0.1) committed)
 refused_further newer seen of tx_no.Ended refused other setting legal nonroot n first committed = committed_ended setting (newer ++ seen) legal of nonroot n first committed
 refused_further newer seen of tx_no.Ready refused other setting legal nonroot n first committed = absurd (other refl)
-refused_further newer seen of tx_no.Memory refused other setting legal nonroot n first committed = absurd refused.1
-refused_further newer seen of tx_no.Room refused other setting legal nonroot n first committed = absurd refused.1
+refused_further newer seen of (tx_no.Short s) refused other setting legal nonroot n first committed = absurd refused.1
 refused_further newer seen of (tx_no.ChildrenOpen child) refused other setting legal nonroot n first committed = absurd refused.1
 refused_further newer seen of (tx_no.Conflict copy holder) refused other setting legal nonroot n first committed = absurd refused.1
 refused_further newer seen of (tx_no.NoQuorum lack) refused other setting legal nonroot n first committed = absurd refused.1
@@ -131,23 +129,22 @@ refused_further newer seen of tx_no.Ledger refused other setting legal nonroot n
 
 -- the abort made nothing, and the try has ended
 pub first_refused : (c : Client) (of n above : Name) (before now : Past) (why : TxNo) → 0 < length of → IsFirst of now n → (is_committed (outcome now above) ≡ true → is_some (end now n) ≡ true)
-    → NotAborted c n (cause.Orphan above) before now why → (why ≡ tx_no.Memory → ⊥) → (why ≡ tx_no.Room → ⊥) → Made c [] before now × (is_some (end now n) ≡ true)
-first_refused c of n above before now tx_no.Memory nonroot first committed h other full = absurd (other refl)
-first_refused c of n above before now tx_no.Room nonroot first committed h other full = absurd (full refl)
-first_refused c of n above before now tx_no.Ended nonroot first committed h other full = (
+    → NotAborted c n (cause.Orphan above) before now why → ((s : Short) → why ≡ tx_no.Short s → ⊥) → Made c [] before now × (is_some (end now n) ≡ true)
+first_refused c of n above before now (tx_no.Short s) nonroot first committed h other = absurd (other s refl)
+first_refused c of n above before now tx_no.Ended nonroot first committed h other = (
   h.0,
   elim h.1 [
     | inl ended ↦ ended
     | inr none ↦ committed none
   ],
 )
-first_refused c of n above before now tx_no.Ready nonroot first committed h other full = absurd (first_unready c.setting now h.0.legal of nonroot n first h.1)
-first_refused c of n above before now (tx_no.Orphan a) nonroot first committed h other full = absurd h.1
-first_refused c of n above before now (tx_no.ChildrenOpen child) nonroot first committed h other full = absurd h
-first_refused c of n above before now (tx_no.Conflict copy holder) nonroot first committed h other full = absurd h
-first_refused c of n above before now (tx_no.NoQuorum lack) nonroot first committed h other full = absurd h
-first_refused c of n above before now tx_no.Last nonroot first committed h other full = absurd h
-first_refused c of n above before now tx_no.Ledger nonroot first committed h other full = absurd h
+first_refused c of n above before now tx_no.Ready nonroot first committed h other = absurd (first_unready c.setting now h.0.legal of nonroot n first h.1)
+first_refused c of n above before now (tx_no.Orphan a) nonroot first committed h other = absurd h.1
+first_refused c of n above before now (tx_no.ChildrenOpen child) nonroot first committed h other = absurd h
+first_refused c of n above before now (tx_no.Conflict copy holder) nonroot first committed h other = absurd h
+first_refused c of n above before now (tx_no.NoQuorum lack) nonroot first committed h other = absurd h
+first_refused c of n above before now tx_no.Last nonroot first committed h other = absurd h
+first_refused c of n above before now tx_no.Ledger nonroot first committed h other = absurd h
 
 -- AS THEY ARE TOLD OF BRANCHES
 
@@ -182,8 +179,7 @@ back_all c of bs before now tx_no.Ready legal nonroot refused firsts turned =
         (([], subst (λ es. Made c es before before) (sym (none_back c (map branch_in bs))) (made_itself c before legal)), firsts_ended before bs (each (map (λ (b : Stands). b.first) bs) firsts))
 back_all c of bs before now (tx_no.Orphan a) legal nonroot refused firsts turned = (back_some c bs before now turned.0, firsts_ended now bs turned.1)
 back_all c of bs before now tx_no.Ended legal nonroot refused firsts turned = (back_some c bs before now turned.0, firsts_ended now bs turned.1)
-back_all c of bs before now tx_no.Memory legal nonroot refused firsts turned = absurd refused.1
-back_all c of bs before now tx_no.Room legal nonroot refused firsts turned = absurd refused.1
+back_all c of bs before now (tx_no.Short s) legal nonroot refused firsts turned = absurd refused.1
 back_all c of bs before now (tx_no.ChildrenOpen child) legal nonroot refused firsts turned = absurd refused.1
 back_all c of bs before now (tx_no.Conflict copy holder) legal nonroot refused firsts turned = absurd refused.1
 back_all c of bs before now (tx_no.NoQuorum lack) legal nonroot refused firsts turned = absurd refused.1

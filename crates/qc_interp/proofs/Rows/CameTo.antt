@@ -1,6 +1,6 @@
 -- What branches came to together, by what each came to.
-use Rattle.std.proofs.Common.{◌≡◌, ◌≤◌, Bool, true, false, List, [], ◌∷◌, map, length, refl, sym, ap, ◌∙◌, subst, arith, length-append, Ok, Err}
-use Rattle.std.specs.Prelude.{Option, None, Some, Result, ◌&&◌}
+use Rattle.std.proofs.Common.{◌≡◌, ◌≤◌, Bool, true, false, List, [], ◌∷◌, map, length, refl, sym, ap, ◌∙◌, subst, Ok, Err}
+use Rattle.std.specs.Prelude.{Option, None, Some, Result, IfErr, ◌&&◌}
 use Rattle.std.specs.List.{AllByRecursion, list_all, last_or}
 use Rattle.std.specs.Option.{option_or}
 use Rattle.qc_event.specs.declared.short.Short.{Short}
@@ -18,6 +18,7 @@ use Rattle.qc_interp.specs.declared.body.branch.BranchCame.TheVariants as came
 use Rattle.qc_interp.specs.AtOnce.{Stands, branch_in, IsRefusal, LastCommitted, TriesEnd, CameSo, came_worse, came_behind, told_want, row_came}
 use Rattle.qc_event.specs.declared.event.Entry.{Entry}
 use Rattle.qc_event.specs.declared.event.Kind.TheVariants as kind
+use Rattle.qc_event.specs.Wants.{IsWant}
 use Rattle.qc_interp.specs.Asking.{Asks, IsAskedBy}
 use Rattle.qc_interp.specs.Branches.{Branch, IsLast, RanTries, AreTriesOurs, tries_by, stays_with}
 use Rattle.qc_interp.specs.Follows.{RunsPlan}
@@ -28,7 +29,7 @@ use Rattle.qc_interp.specs.Deeds.{Deed, deeds, deed_end, OfChild}
 use Rattle.qc_interp.specs.Reach.{Reach, AtTheEnd}
 use Rattle.qc_interp.specs.Rows.{OneOf, has_committed, was_tried, failed_last}
 use Rattle.qc_interp.proofs.Scopes.Growth.{made_is, made_later, ours_before}
-use Rattle.qc_interp.proofs.Branching.MadeBy.{refuses_later}
+use Rattle.qc_interp.proofs.Branching.MadeBy.{refuses_later, want_later}
 use Rattle.qc_interp.proofs.Rows.Came.{tried_whole, failed_as, failed_by, ran_stopped, ran_cut}
 use Rattle.qc_interp.proofs.Rows.Stands.{all_tried, one_failed}
 
@@ -79,7 +80,7 @@ module _ (c : Client) (body : Numbered) (before now : Past) (m : Made c [] befor
   came_later bound (Some (Ok came)) h = ends_later bound came h
   came_later bound (Some (Err why)) h = (
     ran_later Reach.cut_off (Unit {0}) h.0,
-    λ is. let full = h.1 is in let long = ap length m.grown ∙ length-append m.newer before in omega (arith, full, long, bound),
+    subst (λ l. IsWant l why) (sym m.grown) (want_later m.newer before why (subst (λ l. length l ≤ limit) m.grown bound) h.1),
   )
 
 -- so what ran to the end, or not, was cut off
@@ -133,21 +134,18 @@ all_whole now (b ∷ bs) so_far x all is = by_came b.came all.0 (λ y h. all_who
     by_came (Some (Err why)) h more is = absurd (not_well why x bs is)
     by_came (Some (Ok y)) h more is = (ended_whole b.view.client b.body now y h, more (came_worse so_far b.body.must y) is)
 
--- Want of room is told only where one told it, and the history was full then.
-pub short_room : (now : Past) (bs : List Stands) (so_far : Result BranchCame Short) → AllByRecursion (CameAt now) bs → (so_far ≡ Err short.Room → length now ≡ limit) → row_came so_far bs ≡ Err short.Room → length now ≡ limit
-short_room now [] so_far all full is = full is
-short_room now (b ∷ bs) so_far all full is = short_room now bs (came_behind so_far b.body.must b.came) all.1 (by_came so_far b.came all.0 full) is
+-- What was wanting is told only where one told it.
+pub wants : (now : Past) (bs : List Stands) (so_far : Result BranchCame Short) → AllByRecursion (CameAt now) bs → IfErr so_far (IsWant now) → IfErr (row_came so_far bs) (IsWant now)
+wants now [] so_far all want = want
+wants now (b ∷ bs) so_far all want = wants now bs (came_behind so_far b.body.must b.came) all.1 (by_came so_far b.came all.0 want)
   where
-    same_short : (one other : Short) → err one ≡ err other → one ≡ other
-    same_short one other e = cc
-
-    by_came : (r : Result BranchCame Short) (o : Option (Result BranchCame Short)) → CameSo b.view.client b.body now o → (r ≡ Err short.Room → length now ≡ limit) → came_behind r b.body.must o ≡ Err short.Room → length now ≡ limit
-    by_came r None h full is = absurd h
-    by_came (Ok s) (Some (Ok y)) h full is = absurd (not_both short.Room (came_worse s b.body.must y) (sym is))
-    by_came (Ok s) (Some (Err why)) h full is = h.1 (same_short why short.Room is)
-    by_came (Err one) (Some (Ok y)) h full is = full is
-    by_came (Err short.Memory) (Some (Err other)) h full is = full is
-    by_came (Err short.Room) (Some (Err other)) h full is = h.1 (same_short other short.Room is)
+    by_came : (r : Result BranchCame Short) (o : Option (Result BranchCame Short)) → CameSo b.view.client b.body now o → IfErr r (IsWant now) → IfErr (came_behind r b.body.must o) (IsWant now)
+    by_came r None h want = absurd h
+    by_came (Ok s) (Some (Ok y)) h want = tt
+    by_came (Ok s) (Some (Err why)) h want = h.1
+    by_came (Err one) (Some (Ok y)) h want = want
+    by_came (Err short.Memory) (Some (Err other)) h want = tt
+    by_came (Err short.Room) (Some (Err other)) h want = h.1
 
 pub all_cut : (now : Past) (bs : List Stands) → AllByRecursion (CameAt now) bs → AllByRecursion (λ (b : Branch). RanTries Reach.cut_off (Unit {0}) b.client b.body now) (map branch_in bs)
 all_cut now [] all = tt

@@ -1,10 +1,9 @@
 -- What a step leaves whose branches all ran.
 use Rattle.std.proofs.Common.{◌≡◌, ℕ, suc, ◌≤◌, Bool, true, false, List, [], ◌∷◌, ◌++◌, map, length, refl, sym, ap, ◌∙◌, subst, Ok, Err}
 use mathlib.Core.Bool.{true≢false}
-use Rattle.std.specs.Prelude.{Option, None, Some, Result, slice_get, option_map}
+use Rattle.std.specs.Prelude.{Option, None, Some, Result, IfErr, slice_get, option_map}
 use Rattle.std.specs.List.{AllByRecursion}
 use Rattle.qc_event.specs.declared.short.Short.{Short}
-use Rattle.qc_event.specs.declared.short.Short.TheVariants as short
 use Rattle.qc_event.specs.History.{Past, Name, limit}
 use Rattle.qc_script.specs.declared.tx.TxNo.{TxNo}
 use Rattle.qc_script.specs.Client.{Client, ClientView, Made, HasJoined, AreOurs}
@@ -19,7 +18,7 @@ use Rattle.qc_interp.specs.Running.{Runs, CutOff, HasActed, Stepped}
 use Rattle.qc_interp.proofs.Branching.Ends.{refusal_stops}
 use Rattle.qc_interp.proofs.Stepping.Marking.{acted_by}
 use Rattle.qc_interp.proofs.Listing.Places.{each_place}
-use Rattle.qc_interp.proofs.Rows.CameTo.{CameAt, Whole, ok, err, not_well, came_later, all_whole, all_cut, short_room, CameOut, how_out}
+use Rattle.qc_interp.proofs.Rows.CameTo.{CameAt, Whole, ok, err, not_well, came_later, all_whole, all_cut, wants, CameOut, how_out}
 use Rattle.qc_interp.proofs.Rows.Cut.{row_cut}
 use Rattle.qc_interp.proofs.Rows.Ends.{row_front}
 use Rattle.qc_interp.proofs.Rows.Here.{HaveOwnBodies}
@@ -31,6 +30,7 @@ use Rattle.qc_interp.proofs.Rows.Runs.{row_runs_on, row_has_failed}
 use Rattle.qc_interp.proofs.Rows.Stands.{all_tried, one_failed}
 use Rattle.qc_interp.proofs.Rows.Whole.{StaysOf, all_stay, client_is, no_more, the_row}
 use Rattle.qc_event.proofs.Lists.{get_last}
+use Rattle.qc_event.specs.Wants.{IsWant}
 
 pub all_become : (olds news : List Stands) → InPairs HasRun olds news → InPairs Became olds news
 all_become [] [] h = tt
@@ -188,11 +188,8 @@ module _ {of : Name} {v w3 : ClientView} {bs2 : List Stands} {bodies : List Numb
   done_cut rest = subst (λ l. CutOff w3.client of v.seen w3.seen (row_step l rest)) are
       (subst (λ d. CutOff d of v.seen w3.seen (row_step (map (λ (b : Branch). b.body) bs) rest)) (sym is) (row_cut (λ b. Unit {0}) c of v.seen w1.seen w3.seen bs cut_row runs own rest))
 
-  pub done_room : (why : Short) → row_came (Ok came.Through) bs2 ≡ Err why → why ≡ short.Room → length w3.seen ≡ limit
-  done_room why told is = short_room w3.seen bs2 (Ok came.Through) came_all (λ e. absurd (other e)) (told ∙ ap err is)
-    where
-      other : ok came.Through ≡ err short.Room → ⊥
-      other e = cc
+  pub done_want : (why : Short) → row_came (Ok came.Through) bs2 ≡ Err why → IsWant w3.seen why
+  done_want why told = subst (λ r. IfErr r (IsWant w3.seen)) told (wants w3.seen bs2 (Ok came.Through) came_all tt)
 
   -- where all ran
   module _ (x : BranchCame) (came_to : row_came (Ok came.Through) bs2 ≡ Ok x) where

@@ -4,6 +4,8 @@ use Rattle.std.specs.Prelude.{◌==◌}
 use Rattle.std.specs.List.{AllByRecursion, IsDistinct}
 use Rattle.std.proofs.lemmas.List.{length-map}
 use Rattle.qc_event.specs.History.{Past, Name, limit}
+use Rattle.qc_event.specs.declared.short.Short.{Short}
+use Rattle.qc_event.specs.Wants.{IsWant}
 use Rattle.qc_script.specs.declared.tx.TxNo.{TxNo}
 use Rattle.qc_script.specs.declared.tx.TxNo.TheVariants as tx_no
 use Rattle.qc_script.specs.Client.{Client, ClientView, Made}
@@ -16,7 +18,7 @@ use Rattle.qc_interp.proofs.Branching.Plans.{BodyFits}
 use Rattle.qc_interp.proofs.Rows.Done.{RowDone, all_become}
 use Rattle.qc_interp.proofs.Rows.Fits.{fits_own, fits_some, fits_each, may_run}
 use Rattle.qc_interp.proofs.Rows.Met.{merged_any, ran_met}
-use Rattle.qc_interp.proofs.Rows.TurnedDone.{turned_room}
+use Rattle.qc_interp.proofs.Rows.TurnedDone.{turned_want}
 use Rattle.qc_interp.proofs.Rows.TurnedOut.{RowTurned}
 use Rattle.qc_interp.proofs.Rows.Turning.{turned_out}
 use Rattle.qc_interp.proofs.Rows.Whole.{same_numbers, all_out}
@@ -124,6 +126,6 @@ module _ {B : Type 0} (st : B → Stands) (of : Name) (v w1 w2 : ClientView) (it
       }
 
       -- where there was no room to begin that one, there is none
-      pub row_room : length ones ≡ length lent → (lent ≡ [] → w2.seen ≡ w1.seen) → why ≡ tx_no.Room → length w3.seen ≡ limit
+      pub row_want : length ones ≡ length lent → (lent ≡ [] → w2.seen ≡ w1.seen) → (s : Short) → why ≡ tx_no.Short s → IsWant w3.seen s
       unfolding row_turned
-      row_room long idle = turned_room row_turned (λ empty. ap (λ (x : ClientView). x.seen) (none_merged w2 w3 (map st ones) merged empty) ∙ idle (none_given st ones lent long empty))
+      row_want long idle = turned_want row_turned (λ empty. ap (λ (x : ClientView). x.seen) (none_merged w2 w3 (map st ones) merged empty) ∙ idle (none_given st ones lent long empty))

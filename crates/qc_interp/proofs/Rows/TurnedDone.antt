@@ -4,6 +4,8 @@ use Rattle.std.specs.Prelude.{Option, None, Some, is_some}
 use Rattle.std.specs.List.{AllByRecursion}
 use Rattle.qc_event.specs.History.{Past, Name, end, limit}
 use Rattle.qc_event.specs.Legal.{Legal}
+use Rattle.qc_event.specs.declared.short.Short.{Short}
+use Rattle.qc_event.specs.Wants.{IsWant}
 use Rattle.qc_script.specs.declared.tx.TxNo.{TxNo}
 use Rattle.qc_script.specs.declared.tx.TxNo.TheVariants as tx_no
 use Rattle.qc_script.specs.Calls.{Refuses}
@@ -31,14 +33,14 @@ module _ {of : Name} {v w : ClientView} {bodies : List Numbered} {why : TxNo} {f
   legal = back_legal t
 
   -- it is refused still
-  pub turned_refused_so : (why ≡ tx_no.Memory → ⊥) → (why ≡ tx_no.Room → ⊥) → RefusedSo w.seen of why
-  turned_refused_so other full =
+  pub turned_refused_so : ((s : Short) → why ≡ tx_no.Short s → ⊥) → RefusedSo w.seen of why
+  turned_refused_so other =
       let grown = turned_grown of v m m1 bs ones why runs began shown same made w merged in
-      subst (λ h. RefusedSo h of why) (sym grown.1) (refused_still grown.0 m.seen of why (why_refused m.client of began.0.seen m.seen why began.2.refused other full))
+      subst (λ h. RefusedSo h of why) (sym grown.1) (refused_still grown.0 m.seen of why (why_refused m.client of began.0.seen m.seen why began.2.refused other))
 
   -- Where there was no room to begin it, there is none. Where none was begun nothing was seen meanwhile.
-  pub turned_room : (ones ≡ [] → w.seen ≡ m.seen) → why ≡ tx_no.Room → length w.seen ≡ limit
-  turned_room idle is = subst (Refuses w.seen of) is (turned_refused of v m m1 bs ones why runs began shown same made w merged idle)
+  pub turned_want : (ones ≡ [] → w.seen ≡ m.seen) → (s : Short) → why ≡ tx_no.Short s → IsWant w.seen s
+  turned_want idle s is = subst (Refuses w.seen of) is (turned_refused of v m m1 bs ones why runs began shown same made w merged idle)
 
   -- those that it aborts
   first_tries : AllByRecursion (IsFirst of w.seen) (map (λ (b : Stands). b.first) ones)

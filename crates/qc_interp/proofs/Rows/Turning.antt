@@ -74,8 +74,7 @@ started_more c kin of old (b ∷ bs) now legal j (mid, one, rest) =
 
 -- what a refusal to begin tells
 told : (c : Client) (of : Name) (a b : Past) (why : TxNo) → WasRefused c of a b why → Refuses b of why × ((child : Name) → why ≡ tx_no.ChildrenOpen child → ⊥)
-told c of a b tx_no.Memory h = (h.1, λ child is. cc)
-told c of a b tx_no.Room h = (h.1, λ child is. cc)
+told c of a b (tx_no.Short s) h = (h.1, λ child is. cc)
 told c of a b (tx_no.Orphan n) h = (h.1, λ child is. cc)
 told c of a b tx_no.Ended h = (h.1, λ child is. cc)
 told c of a b tx_no.Ready h = (h.1, λ child is. cc)

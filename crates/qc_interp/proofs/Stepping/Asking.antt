@@ -38,6 +38,7 @@ use Rattle.qc_interp.proofs.Scopes.Seats.{later_seat}
 use Rattle.qc_interp.proofs.Scopes.Growth.{made_is, made_later, ours_before}
 use Rattle.qc_interp.proofs.Following.Followed.{follows_runs}
 use Rattle.qc_event.proofs.Orderly.{KeepsOrder}
+use Rattle.qc_event.specs.declared.short.Short.{Short}
 use Rattle.qc_interp.proofs.Stepping.Managers.{absent, came_after, one_end, one_ready}
 use Rattle.qc_interp.proofs.Stepping.Stopping.{asked_early, unended_stopped, unended_unkilled, running_unended}
 use Rattle.qc_interp.proofs.Stepping.Ending.{at_any, at_the_end, not_ready, leaves_trans, leaves_cut, cut_still, still, leaves_still, runs_still, user_is, leaves_end, deeds_end, ends_so}
@@ -179,28 +180,26 @@ module _ (c : Client) (of : Name) where
   user_above now t levels runs a = above_user now t a.rest (lawful now (legal_orderly c.setting now runs.legal)) a.nonroot (subst (λ n. Started now n (λ b. IsUser b.kind)) a.is (user_is c.session now of runs.user))
 
   -- an ancestor that could not be aborted, as it was ready
-  pub ask_no : (t : Name) (levels : ℕ) (before now : Past) (why : TxNo) (rest : Plan) → Above t levels → Runs c of before → NotAborted c t (cause.Asked of) before now why → (why ≡ tx_no.Memory → ⊥) → (why ≡ tx_no.Room → ⊥) → (why ≡ tx_no.Ended → ⊥) → Ended c of before now (Plan.abort_then levels rest) (finish.Stopped false)
-  ask_no t levels before now tx_no.Memory rest a runs none n1 n0 n2 = absurd (n1 refl)
-  ask_no t levels before now tx_no.Room rest a runs none n1 n0 n2 = absurd (n0 refl)
-  ask_no t levels before now tx_no.Ended rest a runs none n1 n0 n2 = absurd (n2 refl)
-  ask_no t levels before now tx_no.Ready rest a runs none n1 n0 n2 =
+  pub ask_no : (t : Name) (levels : ℕ) (before now : Past) (why : TxNo) (rest : Plan) → Above t levels → Runs c of before → NotAborted c t (cause.Asked of) before now why → ((s : Short) → why ≡ tx_no.Short s → ⊥) → (why ≡ tx_no.Ended → ⊥) → Ended c of before now (Plan.abort_then levels rest) (finish.Stopped false)
+  ask_no t levels before now (tx_no.Short s) rest a runs none n1 n2 = absurd (n1 s refl)
+  ask_no t levels before now tx_no.Ended rest a runs none n1 n2 = absurd (n2 refl)
+  ask_no t levels before now tx_no.Ready rest a runs none n1 n2 =
       let after = runs_still c of before now none.0 runs in
       record {
         leaves = leaves_still c of before now none.0;
         tried = unended_stopped of _ (after.above of [] (sym (append-nil of)) after.nonroot).0;
         ends = λ ours. absurd (not_ready c of now after ours t a.rest a.is a.nonroot none.1);
       }
-  ask_no t levels before now (tx_no.Orphan x) rest a runs none n1 n0 n2 = absurd none.1
-  ask_no t levels before now (tx_no.Conflict copy holder) rest a runs none n1 n0 n2 = absurd none
-  ask_no t levels before now (tx_no.NoQuorum lack) rest a runs none n1 n0 n2 = absurd none
-  ask_no t levels before now tx_no.Last rest a runs none n1 n0 n2 = absurd none
-  ask_no t levels before now (tx_no.ChildrenOpen x) rest a runs none n1 n0 n2 = absurd none
-  ask_no t levels before now tx_no.Ledger rest a runs none n1 n0 n2 = absurd none
+  ask_no t levels before now (tx_no.Orphan x) rest a runs none n1 n2 = absurd none.1
+  ask_no t levels before now (tx_no.Conflict copy holder) rest a runs none n1 n2 = absurd none
+  ask_no t levels before now (tx_no.NoQuorum lack) rest a runs none n1 n2 = absurd none
+  ask_no t levels before now tx_no.Last rest a runs none n1 n2 = absurd none
+  ask_no t levels before now (tx_no.ChildrenOpen x) rest a runs none n1 n2 = absurd none
+  ask_no t levels before now tx_no.Ledger rest a runs none n1 n2 = absurd none
 
   -- whatever a refused abort tells, nothing was made
   pub not_aborted_made : (t : Name) (x : Rattle.qc_event.specs.declared.event.Cause.Cause) (before now : Past) (why : TxNo) → NotAborted c t x before now why → Made c [] before now
-  not_aborted_made t x before now tx_no.Memory none = none
-  not_aborted_made t x before now tx_no.Room none = none.0
+  not_aborted_made t x before now (tx_no.Short s) none = none.0
   not_aborted_made t x before now tx_no.Ended none = none.0
   not_aborted_made t x before now tx_no.Ready none = none.0
   not_aborted_made t x before now (tx_no.Orphan a) none = none.0
@@ -291,11 +290,8 @@ module _ (c : Client) (of : Name) where
     }
 
   -- a commit was refused for want of memory or room
-  pub commit_short : (before now : Past) (why : TxNo) → (why ≡ tx_no.Memory) ⊎ (why ≡ tx_no.Room) → Runs c of before → NotCommitted c of before now why → CutOff c of before now Plan.done
-  commit_short before now why short runs none = elim short [
-    | inl is ↦ either (subst (NotCommitted c of before now) is none)
-    | inr is ↦ either (subst (NotCommitted c of before now) is none).0
-  ]
+  pub commit_short : (before now : Past) (why : TxNo) (s : Short) → why ≡ tx_no.Short s → Runs c of before → NotCommitted c of before now why → CutOff c of before now Plan.done
+  commit_short before now why s is runs none = either (subst (NotCommitted c of before now) is none).0
     where
       either : Made c [] before now ⊎ MadeReady c of before now → CutOff c of before now Plan.done
       either (inl m) = cut_still c of before now runs m Plan.done
@@ -311,30 +307,28 @@ module _ (c : Client) (of : Name) where
   pub commit_ledger : (before now : Past) (why : TxNo) → why ≡ tx_no.Ledger → Runs c of before → NotCommitted c of before now why → Ended c of before now Plan.done (finish.Stopped false)
   commit_ledger before now why is runs none = let x = subst (NotCommitted c of before now) is none in ready_made before now runs x.1 (finish.Stopped false) refl x.2
 
-  pub commit_stops : (before now : Past) (why : TxNo) → Runs c of before → NotCommitted c of before now why → (why ≡ tx_no.Memory → ⊥) → (why ≡ tx_no.Room → ⊥) → (why ≡ tx_no.Ledger → ⊥) → Runs c of now × WhyStop c now of why × Made c [] before now
-  commit_stops before now tx_no.Memory runs none n1 n0 n2 = absurd (n1 refl)
-  commit_stops before now tx_no.Room runs none n1 n0 n2 = absurd (n0 refl)
-  commit_stops before now tx_no.Ledger runs none n1 n0 n2 = absurd (n2 refl)
-  commit_stops before now tx_no.Ended runs none n1 n0 n2 = (runs_still c of before now none.0 runs, none.1, none.0)
-  commit_stops before now tx_no.Ready runs none n1 n0 n2 = (runs_still c of before now none.0 runs, none.1, none.0)
-  commit_stops before now (tx_no.Orphan a) runs none n1 n0 n2 = (runs_still c of before now none.0 runs, none.1, none.0)
-  commit_stops before now (tx_no.ChildrenOpen a) runs none n1 n0 n2 = (runs_still c of before now none.0 runs, none.1, none.0)
-  commit_stops before now (tx_no.Conflict copy holder) runs none n1 n0 n2 = absurd none.1
-  commit_stops before now (tx_no.NoQuorum lack) runs none n1 n0 n2 = absurd none.1
-  commit_stops before now tx_no.Last runs none n1 n0 n2 = absurd none.1
+  pub commit_stops : (before now : Past) (why : TxNo) → Runs c of before → NotCommitted c of before now why → ((s : Short) → why ≡ tx_no.Short s → ⊥) → (why ≡ tx_no.Ledger → ⊥) → Runs c of now × WhyStop c now of why × Made c [] before now
+  commit_stops before now (tx_no.Short s) runs none n1 n2 = absurd (n1 s refl)
+  commit_stops before now tx_no.Ledger runs none n1 n2 = absurd (n2 refl)
+  commit_stops before now tx_no.Ended runs none n1 n2 = (runs_still c of before now none.0 runs, none.1, none.0)
+  commit_stops before now tx_no.Ready runs none n1 n2 = (runs_still c of before now none.0 runs, none.1, none.0)
+  commit_stops before now (tx_no.Orphan a) runs none n1 n2 = (runs_still c of before now none.0 runs, none.1, none.0)
+  commit_stops before now (tx_no.ChildrenOpen a) runs none n1 n2 = (runs_still c of before now none.0 runs, none.1, none.0)
+  commit_stops before now (tx_no.Conflict copy holder) runs none n1 n2 = absurd none.1
+  commit_stops before now (tx_no.NoQuorum lack) runs none n1 n2 = absurd none.1
+  commit_stops before now tx_no.Last runs none n1 n2 = absurd none.1
 
 -- a commit that was refused, so that the transaction stops
-pub commit_over : (c : Client) (of : Name) (before mid now : Past) (why : TxNo) (again : Bool) → Runs c of before → NotCommitted c of before mid why → (why ≡ tx_no.Memory → ⊥) → (why ≡ tx_no.Room → ⊥) → (why ≡ tx_no.Ledger → ⊥) → Stopped c of why mid now again → Ended c of before now Plan.done (finish.Stopped again)
-commit_over c of before mid now tx_no.Memory again runs none n1 n0 n2 stopped = absurd (n1 refl)
-commit_over c of before mid now tx_no.Room again runs none n1 n0 n2 stopped = absurd (n0 refl)
-commit_over c of before mid now tx_no.Ledger again runs none n1 n0 n2 stopped = absurd (n2 refl)
-commit_over c of before mid now tx_no.Ended again runs none n1 n0 n2 stopped = stopped_still c of before mid now tx_no.Ended again Plan.done none.0 stopped (λ s. inr (asked_early of _ s))
-commit_over c of before mid now tx_no.Ready again runs none n1 n0 n2 stopped = stopped_still c of before mid now tx_no.Ready again Plan.done none.0 stopped (λ s. inr (asked_early of _ s))
-commit_over c of before mid now (tx_no.Orphan a) again runs none n1 n0 n2 stopped = stopped_still c of before mid now (tx_no.Orphan a) again Plan.done none.0 stopped (λ s. inr (orphan_early c of a _ s))
-commit_over c of before mid now (tx_no.ChildrenOpen a) again runs none n1 n0 n2 stopped = stopped_still c of before mid now (tx_no.ChildrenOpen a) again Plan.done none.0 stopped (λ s. inr (asked_early of _ s))
-commit_over c of before mid now (tx_no.Conflict copy holder) again runs none n1 n0 n2 stopped = absurd none.1
-commit_over c of before mid now (tx_no.NoQuorum lack) again runs none n1 n0 n2 stopped = absurd none.1
-commit_over c of before mid now tx_no.Last again runs none n1 n0 n2 stopped = absurd none.1
+pub commit_over : (c : Client) (of : Name) (before mid now : Past) (why : TxNo) (again : Bool) → Runs c of before → NotCommitted c of before mid why → ((s : Short) → why ≡ tx_no.Short s → ⊥) → (why ≡ tx_no.Ledger → ⊥) → Stopped c of why mid now again → Ended c of before now Plan.done (finish.Stopped again)
+commit_over c of before mid now (tx_no.Short s) again runs none n1 n2 stopped = absurd (n1 s refl)
+commit_over c of before mid now tx_no.Ledger again runs none n1 n2 stopped = absurd (n2 refl)
+commit_over c of before mid now tx_no.Ended again runs none n1 n2 stopped = stopped_still c of before mid now tx_no.Ended again Plan.done none.0 stopped (λ s. inr (asked_early of _ s))
+commit_over c of before mid now tx_no.Ready again runs none n1 n2 stopped = stopped_still c of before mid now tx_no.Ready again Plan.done none.0 stopped (λ s. inr (asked_early of _ s))
+commit_over c of before mid now (tx_no.Orphan a) again runs none n1 n2 stopped = stopped_still c of before mid now (tx_no.Orphan a) again Plan.done none.0 stopped (λ s. inr (orphan_early c of a _ s))
+commit_over c of before mid now (tx_no.ChildrenOpen a) again runs none n1 n2 stopped = stopped_still c of before mid now (tx_no.ChildrenOpen a) again Plan.done none.0 stopped (λ s. inr (asked_early of _ s))
+commit_over c of before mid now (tx_no.Conflict copy holder) again runs none n1 n2 stopped = absurd none.1
+commit_over c of before mid now (tx_no.NoQuorum lack) again runs none n1 n2 stopped = absurd none.1
+commit_over c of before mid now tx_no.Last again runs none n1 n2 stopped = absurd none.1
 
 pub commit_ok : (c : Client) (of : Name) (before now : Past) → Runs c of before → Committed c of before now → Ended c of before now Plan.done finish.Committed
 commit_ok c [] before now runs m = end_made c [] before now runs m

@@ -24,6 +24,7 @@ use Rattle.qc_event.proofs.LegalOrderly.{legal_orderly}
 use Rattle.qc_event.proofs.OneEntry.{end_now, end_step, ending, marking, stays_some, some_or_none, first_is, if_is}
 use Rattle.qc_event.proofs.Orderly.{KeepsOrder, Begins}
 use Rattle.qc_event.proofs.Later.{started_still}
+use Rattle.qc_event.specs.declared.short.Short.{Short}
 use Rattle.qc_names.specs.Name as name
 use Rattle.qc_script.specs.Calls.{by_client, NotAborted, IsGrounded, IsForChild, IsNone, IsOfSession}
 use Rattle.qc_script.specs.Client.{Client, mine, scope, concerns, Made, AreOurs}
@@ -298,10 +299,9 @@ module _ (c : Client) (of : Name) where
   not_for_child cause.Killed itself h = h
   not_for_child cause.Missed itself h = h
 
-  pub quit_no : (cause : Cause) (before now : Past) (why : TxNo) → Runs c of before → IsGrounded before of cause → ByItself of cause → NotAborted c of cause before now why → (why ≡ tx_no.Memory → ⊥) → (why ≡ tx_no.Room → ⊥) → Quit c of (Abort cause) before now false
-  quit_no x before now tx_no.Memory runs grounded itself none_made other full = absurd (other refl)
-  quit_no x before now tx_no.Room runs grounded itself none_made other full = absurd (full refl)
-  quit_no x before now tx_no.Ended runs grounded itself none_made other full = quit_still (Abort x) before now runs none_made.0 (λ after ours. elim none_made.1 [
+  pub quit_no : (cause : Cause) (before now : Past) (why : TxNo) → Runs c of before → IsGrounded before of cause → ByItself of cause → NotAborted c of cause before now why → ((s : Short) → why ≡ tx_no.Short s → ⊥) → Quit c of (Abort cause) before now false
+  quit_no x before now (tx_no.Short s) runs grounded itself none_made other = absurd (other s refl)
+  quit_no x before now tx_no.Ended runs grounded itself none_made other = quit_still (Abort x) before now runs none_made.0 (λ after ours. elim none_made.1 [
     | inl some ↦ ended_early now after ours some
     | inr none ↦ absurd (by_cause now x after ours grounded itself none)
   ])
@@ -317,10 +317,10 @@ module _ (c : Client) (of : Name) where
       by_cause now cause.Killed after ours grounded itself none = none
       by_cause now (cause.Child y) after ours grounded itself none = itself
       by_cause now cause.Missed after ours grounded itself none = none
-  quit_no x before now tx_no.Ready runs grounded itself none_made other full = quit_still (Abort x) before now runs none_made.0 (λ after ours. absurd (not_ready now after ours of [] (sym (append-nil of)) after.nonroot none_made.1))
-  quit_no x before now (tx_no.Orphan a) runs grounded itself none_made other full = absurd (not_for_child x itself none_made.1)
-  quit_no x before now (tx_no.Conflict copy holder) runs grounded itself none_made other full = absurd none_made
-  quit_no x before now (tx_no.NoQuorum lack) runs grounded itself none_made other full = absurd none_made
-  quit_no x before now tx_no.Last runs grounded itself none_made other full = absurd none_made
-  quit_no x before now (tx_no.ChildrenOpen y) runs grounded itself none_made other full = absurd none_made
-  quit_no x before now tx_no.Ledger runs grounded itself none_made other full = absurd none_made
+  quit_no x before now tx_no.Ready runs grounded itself none_made other = quit_still (Abort x) before now runs none_made.0 (λ after ours. absurd (not_ready now after ours of [] (sym (append-nil of)) after.nonroot none_made.1))
+  quit_no x before now (tx_no.Orphan a) runs grounded itself none_made other = absurd (not_for_child x itself none_made.1)
+  quit_no x before now (tx_no.Conflict copy holder) runs grounded itself none_made other = absurd none_made
+  quit_no x before now (tx_no.NoQuorum lack) runs grounded itself none_made other = absurd none_made
+  quit_no x before now tx_no.Last runs grounded itself none_made other = absurd none_made
+  quit_no x before now (tx_no.ChildrenOpen y) runs grounded itself none_made other = absurd none_made
+  quit_no x before now tx_no.Ledger runs grounded itself none_made other = absurd none_made

@@ -17,6 +17,7 @@ use Rattle.qc_event.proofs.Lawful.{no_open_child}
 use Rattle.qc_event.proofs.OneEntry.{some_or_none, starting, some_not_none, some_if_not_none}
 use Rattle.qc_event.proofs.Later.{started_still}
 use Rattle.qc_event.proofs.Options.{some_match}
+use Rattle.qc_event.specs.declared.short.Short.{Short}
 use Rattle.qc_names.specs.Name as name
 use Rattle.qc_script.specs.Calls.{Ran, Refuses, GaveNone, WasCut, IsOfSession}
 use Rattle.qc_script.specs.Client.{Client, mine, is_own, scope, concerns, Made, IsLater, AreOurs}
@@ -147,26 +148,25 @@ module _ (c : Client) (of : Name) where
       )
 
   -- why a transaction stops whose manager gave no answer
-  pub manage_stops : (k : Kind) (before mid : Past) (why : TxNo) → KindFits c.setting k → Runs c of before → GaveNone c of k before mid why → (why ≡ tx_no.Memory → ⊥) → (why ≡ tx_no.Room → ⊥) → Runs c of mid × WhyStop c mid of why
-  manage_stops k before mid tx_no.Memory fits runs none other full = absurd (other refl)
-  manage_stops k before mid tx_no.Room fits runs none other full = absurd (full refl)
-  manage_stops k before mid (tx_no.Orphan a) fits runs none other full = elim none.1 [
+  pub manage_stops : (k : Kind) (before mid : Past) (why : TxNo) → KindFits c.setting k → Runs c of before → GaveNone c of k before mid why → ((s : Short) → why ≡ tx_no.Short s → ⊥) → Runs c of mid × WhyStop c mid of why
+  manage_stops k before mid (tx_no.Short s) fits runs none other = absurd (other s refl)
+  manage_stops k before mid (tx_no.Orphan a) fits runs none other = elim none.1 [
     | inl m ↦ (runs_still c of before mid m runs, none.0)
     | inr ran ↦ (runs_managed k _ _ before mid (managed c of k _ before mid runs.nonroot ran) runs, none.0)
   ]
-  manage_stops k before mid (tx_no.Conflict copy holder) fits runs ran other full =
+  manage_stops k before mid (tx_no.Conflict copy holder) fits runs ran other =
       let m = managed c of k _ before mid runs.nonroot ran in
       (runs_managed k _ _ before mid m runs, user_cause k _ _ before mid (manages c.setting k fits) m)
-  manage_stops k before mid (tx_no.NoQuorum lack) fits runs ran other full =
+  manage_stops k before mid (tx_no.NoQuorum lack) fits runs ran other =
       let m = managed c of k _ before mid runs.nonroot ran in
       (runs_managed k _ _ before mid m runs, user_cause k _ _ before mid (manages c.setting k fits) m)
-  manage_stops k before mid tx_no.Last fits runs ran other full =
+  manage_stops k before mid tx_no.Last fits runs ran other =
       let m = managed c of k _ before mid runs.nonroot ran in
       (runs_managed k _ _ before mid m runs, user_cause k _ _ before mid (manages c.setting k fits) m)
-  manage_stops k before mid tx_no.Ended fits runs none other full = (runs_still c of before mid none.0 runs, none.1)
-  manage_stops k before mid tx_no.Ready fits runs none other full = (runs_still c of before mid none.0 runs, none.1)
-  manage_stops k before mid (tx_no.ChildrenOpen child) fits runs none other full = absurd none
-  manage_stops k before mid tx_no.Ledger fits runs none other full = absurd none.1
+  manage_stops k before mid tx_no.Ended fits runs none other = (runs_still c of before mid none.0 runs, none.1)
+  manage_stops k before mid tx_no.Ready fits runs none other = (runs_still c of before mid none.0 runs, none.1)
+  manage_stops k before mid (tx_no.ChildrenOpen child) fits runs none other = absurd none
+  manage_stops k before mid tx_no.Ledger fits runs none other = absurd none.1
 
   -- it stops without a child
   pub stopped_still : (before mid now : Past) (why : TxNo) (again : Bool) (plan : Plan) → Made c [] before mid → Stopped c of why mid now again
@@ -204,23 +204,22 @@ module _ (c : Client) (of : Name) where
   orphan_early a how (inl e) = subst (StopsEarly of) (sym e) tt
   orphan_early a how (inr s) = asked_early of how s
 
-  pub manage_over : (k : Kind) (before mid now : Past) (why : TxNo) (again : Bool) (next : Answer → Plan) → Runs c of before → GaveNone c of k before mid why → (why ≡ tx_no.Memory → ⊥) → (why ≡ tx_no.Room → ⊥) → Stopped c of why mid now again → Ended c of before now (Plan.manage_by k next) (finish.Stopped again)
-  manage_over k before mid now tx_no.Memory again next runs none other full stopped = absurd (other refl)
-  manage_over k before mid now tx_no.Room again next runs none other full stopped = absurd (full refl)
-  manage_over k before mid now (tx_no.Orphan a) again next runs none other full stopped = elim none.1 [
+  pub manage_over : (k : Kind) (before mid now : Past) (why : TxNo) (again : Bool) (next : Answer → Plan) → Runs c of before → GaveNone c of k before mid why → ((s : Short) → why ≡ tx_no.Short s → ⊥) → Stopped c of why mid now again → Ended c of before now (Plan.manage_by k next) (finish.Stopped again)
+  manage_over k before mid now (tx_no.Short s) again next runs none other stopped = absurd (other s refl)
+  manage_over k before mid now (tx_no.Orphan a) again next runs none other stopped = elim none.1 [
     | inl m ↦ stopped_still before mid now _ again _ m stopped (λ s. orphan_early a _ s)
     | inr ran ↦ stopped_managed k _ _ before mid now _ again next runs (managed c of k _ before mid runs.nonroot ran) stopped (λ s. inr (orphan_early a _ s))
   ]
-  manage_over k before mid now (tx_no.Conflict copy holder) again next runs ran other full stopped =
+  manage_over k before mid now (tx_no.Conflict copy holder) again next runs ran other stopped =
       stopped_managed k _ _ before mid now _ again next runs (managed c of k _ before mid runs.nonroot ran) stopped (λ s. handed_on (cause.Conflict copy holder) _ refl s)
-  manage_over k before mid now (tx_no.NoQuorum lack) again next runs ran other full stopped =
+  manage_over k before mid now (tx_no.NoQuorum lack) again next runs ran other stopped =
       stopped_managed k _ _ before mid now _ again next runs (managed c of k _ before mid runs.nonroot ran) stopped (λ s. handed_on (cause.NoQuorum lack) _ refl s)
-  manage_over k before mid now tx_no.Last again next runs ran other full stopped =
+  manage_over k before mid now tx_no.Last again next runs ran other stopped =
       stopped_managed k _ _ before mid now _ again next runs (managed c of k _ before mid runs.nonroot ran) stopped (λ s. handed_on cause.Last _ refl s)
-  manage_over k before mid now tx_no.Ended again next runs none other full stopped = stopped_still before mid now _ again _ none.0 stopped (λ s. asked_early of _ s)
-  manage_over k before mid now tx_no.Ready again next runs none other full stopped = stopped_still before mid now _ again _ none.0 stopped (λ s. asked_early of _ s)
-  manage_over k before mid now (tx_no.ChildrenOpen child) again next runs none other full stopped = absurd none
-  manage_over k before mid now tx_no.Ledger again next runs none other full stopped = absurd none.1
+  manage_over k before mid now tx_no.Ended again next runs none other stopped = stopped_still before mid now _ again _ none.0 stopped (λ s. asked_early of _ s)
+  manage_over k before mid now tx_no.Ready again next runs none other stopped = stopped_still before mid now _ again _ none.0 stopped (λ s. asked_early of _ s)
+  manage_over k before mid now (tx_no.ChildrenOpen child) again next runs none other stopped = absurd none
+  manage_over k before mid now tx_no.Ledger again next runs none other stopped = absurd none.1
 
   -- A MANAGER THAT WAS CUT OFF, OR AFTER WHICH ITS TRANSACTION WAS
 
@@ -275,31 +274,27 @@ module _ (c : Client) (of : Name) where
       }
 
   -- a manager gave no answer for want of memory or room
-  pub manage_short : (k : Kind) (before now : Past) (why : TxNo) (next : Answer → Plan) → (why ≡ tx_no.Memory) ⊎ (why ≡ tx_no.Room) → Runs c of before → GaveNone c of k before now why → CutOff c of before now (Plan.manage_by k next)
-  manage_short k before now why next short runs none = elim short [
-    | inl is ↦ either (subst (GaveNone c of k before now) is none)
-    | inr is ↦ either (subst (GaveNone c of k before now) is none).0
-  ]
+  pub manage_short : (k : Kind) (before now : Past) (why : TxNo) (next : Answer → Plan) (s : Short) → why ≡ tx_no.Short s → Runs c of before → GaveNone c of k before now why → CutOff c of before now (Plan.manage_by k next)
+  manage_short k before now why next s is runs none = either (subst (GaveNone c of k before now) is none).0
     where
       either : Made c [] before now ⊎ WasCut c of k before now → CutOff c of before now (Plan.manage_by k next)
       either (inl m) = cut_still c of before now runs m (Plan.manage_by k next)
       either (inr cut) = cut_interrupted k cut.manager before now next runs (interrupted c of k before now runs.nonroot cut)
 
   -- a manager gave no answer for another reason, and nothing was made after it
-  pub manage_cut : (k : Kind) (before mid now : Past) (why : TxNo) (next : Answer → Plan) → Runs c of before → GaveNone c of k before mid why → (why ≡ tx_no.Memory → ⊥) → (why ≡ tx_no.Room → ⊥) → Made c [] mid now → CutOff c of before now (Plan.manage_by k next)
-  manage_cut k before mid now tx_no.Memory next runs none other full made = absurd (other refl)
-  manage_cut k before mid now tx_no.Room next runs none other full made = absurd (full refl)
-  manage_cut k before mid now (tx_no.Orphan a) next runs none other full made = elim none.1 [
+  pub manage_cut : (k : Kind) (before mid now : Past) (why : TxNo) (next : Answer → Plan) → Runs c of before → GaveNone c of k before mid why → ((s : Short) → why ≡ tx_no.Short s → ⊥) → Made c [] mid now → CutOff c of before now (Plan.manage_by k next)
+  manage_cut k before mid now (tx_no.Short s) next runs none other made = absurd (other s refl)
+  manage_cut k before mid now (tx_no.Orphan a) next runs none other made = elim none.1 [
     | inl m ↦ cut_still c of before now runs (made_both c before mid now m made) (Plan.manage_by k next)
     | inr ran ↦ cut_managed k _ _ before mid now next runs (managed c of k _ before mid runs.nonroot ran) made
   ]
-  manage_cut k before mid now (tx_no.Conflict copy holder) next runs ran other full made = cut_managed k _ _ before mid now next runs (managed c of k _ before mid runs.nonroot ran) made
-  manage_cut k before mid now (tx_no.NoQuorum lack) next runs ran other full made = cut_managed k _ _ before mid now next runs (managed c of k _ before mid runs.nonroot ran) made
-  manage_cut k before mid now tx_no.Last next runs ran other full made = cut_managed k _ _ before mid now next runs (managed c of k _ before mid runs.nonroot ran) made
-  manage_cut k before mid now tx_no.Ended next runs none other full made = cut_still c of before now runs (made_both c before mid now none.0 made) (Plan.manage_by k next)
-  manage_cut k before mid now tx_no.Ready next runs none other full made = cut_still c of before now runs (made_both c before mid now none.0 made) (Plan.manage_by k next)
-  manage_cut k before mid now (tx_no.ChildrenOpen child) next runs none other full made = absurd none
-  manage_cut k before mid now tx_no.Ledger next runs none other full made = absurd none.1
+  manage_cut k before mid now (tx_no.Conflict copy holder) next runs ran other made = cut_managed k _ _ before mid now next runs (managed c of k _ before mid runs.nonroot ran) made
+  manage_cut k before mid now (tx_no.NoQuorum lack) next runs ran other made = cut_managed k _ _ before mid now next runs (managed c of k _ before mid runs.nonroot ran) made
+  manage_cut k before mid now tx_no.Last next runs ran other made = cut_managed k _ _ before mid now next runs (managed c of k _ before mid runs.nonroot ran) made
+  manage_cut k before mid now tx_no.Ended next runs none other made = cut_still c of before now runs (made_both c before mid now none.0 made) (Plan.manage_by k next)
+  manage_cut k before mid now tx_no.Ready next runs none other made = cut_still c of before now runs (made_both c before mid now none.0 made) (Plan.manage_by k next)
+  manage_cut k before mid now (tx_no.ChildrenOpen child) next runs none other made = absurd none
+  manage_cut k before mid now tx_no.Ledger next runs none other made = absurd none.1
 
   -- A COPY CRASHES
 
@@ -333,8 +328,7 @@ module _ (c : Client) (of : Name) where
 
   -- a refusal of any other kind
   pub stop_other : (now : Past) (why : TxNo) → Runs c of now → WhyStop c now of why → ((copy : ℕ) (h : Name) → why ≡ tx_no.Conflict copy h → ⊥) → ((a : Name) → why ≡ tx_no.Orphan a → ⊥) → ((l : Rattle.qc_event.specs.declared.event.Lack.Lack) → why ≡ tx_no.NoQuorum l → ⊥) → (why ≡ tx_no.Last → ⊥) → Stopped c of why now now false
-  stop_other now tx_no.Memory runs why n1 n2 n3 n4 = absurd why
-  stop_other now tx_no.Room runs why n1 n2 n3 n4 = absurd why
+  stop_other now (tx_no.Short s) runs why n1 n2 n3 n4 = absurd why
   stop_other now (tx_no.Orphan a) runs why n1 n2 n3 n4 = absurd (n2 a refl)
   stop_other now (tx_no.Conflict copy h) runs why n1 n2 n3 n4 = absurd (n1 copy h refl)
   stop_other now (tx_no.NoQuorum l) runs why n1 n2 n3 n4 = absurd (n3 l refl)

@@ -6,6 +6,7 @@ use Rattle.qc_event.specs.declared.event.Event.TheVariants as event
 use Rattle.qc_event.specs.declared.event.Kind.TheVariants as kind
 use Rattle.qc_event.specs.History.{Past, Name, is_child}
 use Rattle.qc_event.proofs.LastNumber.{child_longer}
+use Rattle.qc_event.specs.declared.short.Short.{Short}
 use Rattle.qc_script.specs.declared.tx.TxNo.{TxNo}
 use Rattle.qc_script.specs.declared.tx.TxNo.TheVariants as tx_no
 use Rattle.qc_script.specs.Calls.{by_client, WasRefused}
@@ -28,8 +29,8 @@ fits_child v d before of n plan other joined child same fits =
 pub record Unbegun (v x y : ClientView) (of : Name) (body : Numbered) (why : TxNo) : Type 0 where
   pub cut : (rest : Plan) → CutOff x.client of v.seen x.seen (child_step body rest)
   pub stopped_cut : y.client ≡ x.client → Made x.client [] x.seen y.seen → (rest : Plan) → CutOff y.client of v.seen y.seen (child_step body rest)
-  pub stops : (why ≡ tx_no.Memory → ⊥) → (why ≡ tx_no.Room → ⊥) → Runs x.client of x.seen × WhyStop x.client x.seen of why
-  pub ended : (why ≡ tx_no.Memory → ⊥) → (why ≡ tx_no.Room → ⊥) → (again : Bool) → y.client ≡ x.client → Stopped x.client of why x.seen y.seen again → (rest : Plan) → Ended y.client of v.seen y.seen (child_step body rest) (finish.Stopped again)
+  pub stops : ((s : Short) → why ≡ tx_no.Short s → ⊥) → Runs x.client of x.seen × WhyStop x.client x.seen of why
+  pub ended : ((s : Short) → why ≡ tx_no.Short s → ⊥) → (again : Bool) → y.client ≡ x.client → Stopped x.client of why x.seen y.seen again → (rest : Plan) → Ended y.client of v.seen y.seen (child_step body rest) (finish.Stopped again)
 
 -- what a try that ran leaves, by what it came to; `left` are the tries left behind it
 pub record RanTry (v w x y : ClientView) (of n : Name) (body : Numbered) (left : ℕ) (steps : Plan) : Type 0 where
@@ -51,10 +52,10 @@ module _ (v w x y : ClientView) (of : Name) (body : Numbered) (last : Option Nam
         stopped_cut = λ still more rest.
             subst (λ d. CutOff d of v.seen y.seen (child_step body rest)) (sym (still ∙ same))
             (begin_cut w.client of body v.seen w.seen y.seen _ _ rest (fewer w.client left) (made_both w.client w.seen x.seen y.seen made (subst (λ (d : Client). Made d [] x.seen y.seen) same more)));
-        stops = λ other full. subst (λ d. Runs d of x.seen × WhyStop d x.seen of why) (sym same) (begin_stops w.client of body w.seen x.seen why left.runs refused other full);
-        ended = λ other full again still stopped rest.
+        stops = λ other. subst (λ d. Runs d of x.seen × WhyStop d x.seen of why) (sym same) (begin_stops w.client of body w.seen x.seen why left.runs refused other);
+        ended = λ other again still stopped rest.
             subst (λ d. Ended d of v.seen y.seen (child_step body rest) (finish.Stopped again)) (sym (still ∙ same))
-            (not_begun w.client of body v.seen w.seen x.seen y.seen _ _ why again rest (fewer w.client left) refused other full (subst (λ d. Stopped d of why x.seen y.seen again) same stopped));
+            (not_begun w.client of body v.seen w.seen x.seen y.seen _ _ why again rest (fewer w.client left) refused other (subst (λ d. Stopped d of why x.seen y.seen again) same stopped));
       }
 
   module _ (n : Name) (child : is_child of n ≡ true) (number : ℕ) (is : number ≡ body.number) (begun : Made w.client (by_client w.client (event.Start n (kind.User w.client.session number)) ∷ []) w.seen x.seen) (ran : HasJoined x.client x.seen y.client) (steps : Plan) (plan : steps ≡ body.plan) where

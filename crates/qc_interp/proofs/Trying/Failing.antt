@@ -22,6 +22,7 @@ use Rattle.qc_event.proofs.Absent.{same_itself}
 use Rattle.qc_event.proofs.LastNumber.{child_last, rest_of, ends_in, same_last}
 use Rattle.qc_event.proofs.Lineage.{alive_above, alive_not_aborted}
 use Rattle.qc_event.proofs.OneEntry.{end_step}
+use Rattle.qc_event.specs.declared.short.Short.{Short}
 use Rattle.qc_script.specs.Calls.{by_client, NotAborted}
 use Rattle.qc_script.specs.Client.{Client, mine, Made, IsLater, AreOurs}
 use Rattle.qc_script.specs.Plan.{Plan, Numbered}
@@ -154,23 +155,22 @@ module _ (c : Client) (of child : Name) where
         ended = λ ours. inr (asked_early of _ (early after ours));
       }
 
-  pub quit_for_no : (before now : Past) (why : TxNo) → Runs c of before → HasFailed c of before child → NotAborted c of (cause.Child child) before now why → (why ≡ tx_no.Memory → ⊥) → (why ≡ tx_no.Room → ⊥) → ((a : Name) → why ≡ tx_no.Orphan a → ⊥) → QuitFor c of child before now false
-  quit_for_no before now tx_no.Memory runs failed none n1 n2 n3 = absurd (n1 refl)
-  quit_for_no before now tx_no.Room runs failed none n1 n2 n3 = absurd (n2 refl)
-  quit_for_no before now (tx_no.Orphan a) runs failed none n1 n2 n3 = absurd (n3 a refl)
-  quit_for_no before now tx_no.Ended runs failed none n1 n2 n3 = quit_still before now runs none.0 (λ after ours. elim none.1 [
+  pub quit_for_no : (before now : Past) (why : TxNo) → Runs c of before → HasFailed c of before child → NotAborted c of (cause.Child child) before now why → ((s : Short) → why ≡ tx_no.Short s → ⊥) → ((a : Name) → why ≡ tx_no.Orphan a → ⊥) → QuitFor c of child before now false
+  quit_for_no before now (tx_no.Short s) runs failed none n1 n3 = absurd (n1 s refl)
+  quit_for_no before now (tx_no.Orphan a) runs failed none n1 n3 = absurd (n3 a refl)
+  quit_for_no before now tx_no.Ended runs failed none n1 n3 = quit_still before now runs none.0 (λ after ours. elim none.1 [
     | inl some ↦ ended_early c of now after ours some
     | inr not_aborted ↦
         let was = still_aborted before now (made_later c [] before now none.0) failed ours in
         let seen = own_once c now child (Abort was.0) after.legal was.1 in
         absurd (true≢false (sym (ap (λ o. is_aborted (outcome_of o)) seen) ∙ not_aborted))
   ])
-  quit_for_no before now tx_no.Ready runs failed none n1 n2 n3 = quit_still before now runs none.0 (λ after ours. absurd (not_ready c of now after ours of [] (sym (append-nil of)) after.nonroot none.1))
-  quit_for_no before now (tx_no.Conflict copy holder) runs failed none n1 n2 n3 = absurd none
-  quit_for_no before now (tx_no.NoQuorum lack) runs failed none n1 n2 n3 = absurd none
-  quit_for_no before now tx_no.Last runs failed none n1 n2 n3 = absurd none
-  quit_for_no before now (tx_no.ChildrenOpen y) runs failed none n1 n2 n3 = absurd none
-  quit_for_no before now tx_no.Ledger runs failed none n1 n2 n3 = absurd none
+  quit_for_no before now tx_no.Ready runs failed none n1 n3 = quit_still before now runs none.0 (λ after ours. absurd (not_ready c of now after ours of [] (sym (append-nil of)) after.nonroot none.1))
+  quit_for_no before now (tx_no.Conflict copy holder) runs failed none n1 n3 = absurd none
+  quit_for_no before now (tx_no.NoQuorum lack) runs failed none n1 n3 = absurd none
+  quit_for_no before now tx_no.Last runs failed none n1 n3 = absurd none
+  quit_for_no before now (tx_no.ChildrenOpen y) runs failed none n1 n3 = absurd none
+  quit_for_no before now tx_no.Ledger runs failed none n1 n3 = absurd none
 
   -- it was dead, and stopped as an orphan
   pub quit_for_dead : (before mid now : Past) (a : Name) (again : Bool) → Made c [] before mid → Stopped c of (tx_no.Orphan a) mid now again → QuitFor c of child before now again

@@ -2,6 +2,7 @@
 use Rattle.std.proofs.Common.{◌≡◌, ℕ, suc, Bool, true, false, [], ◌∷◌, ◌++◌, refl, sym, ap, ◌∙◌, subst, append-nil}
 use Rattle.std.specs.Prelude.{Option, None, Some, is_some}
 use Rattle.qc_event.specs.History.{Past, Name, end}
+use Rattle.qc_event.specs.declared.short.Short.{Short}
 use Rattle.qc_script.specs.Calls.{WasRefused}
 use Rattle.qc_script.specs.Client.{Client, HasJoined, mine, Made, AreOurs}
 use Rattle.qc_interp.specs.Deeds.{Deed, deeds}
@@ -106,9 +107,9 @@ module _ (c : Client) (of : Name) (body : Numbered) where
   none_to_begin before now l = record { leaves = l.leaves; runs = l.runs; follows = l.front }
 
   -- a try was not begun, and the parent has stopped
-  pub not_begun : (before now mid next : Past) (last : Option Name) (left : ℕ) (why : TxNo) (again : Bool) (rest : Plan) → TriesLeft c of body before now last (suc left) → WasRefused c of now mid why → (why ≡ tx_no.Memory → ⊥) → (why ≡ tx_no.Room → ⊥) → Stopped c of why mid next again
+  pub not_begun : (before now mid next : Past) (last : Option Name) (left : ℕ) (why : TxNo) (again : Bool) (rest : Plan) → TriesLeft c of body before now last (suc left) → WasRefused c of now mid why → ((s : Short) → why ≡ tx_no.Short s → ⊥) → Stopped c of why mid next again
       → Ended c of before next (child_step body rest) (finish.Stopped again)
-  not_begun before now mid next last left why again rest l refused other full stopped = by_why why refused other full stopped
+  not_begun before now mid next last left why again rest l refused other stopped = by_why why refused other stopped
     where
       stops : (why : TxNo) → Made c [] now mid → Stopped c of why mid next again → (StopsBy of why (end (mine c next) of) → StopsEarly of (end (mine c next) of)) → Ended c of before next (child_step body rest) (finish.Stopped again)
       stops why m stopped early = record {
@@ -118,17 +119,16 @@ module _ (c : Client) (of : Name) (body : Numbered) where
             ([], stopped.deeds ∙ ap (λ h. deeds h of) (still c of now mid m) ∙ sym (append-nil _), early (stopped.ended ours), asked_none c now next _ (asked_trans c now mid next NoOne (asked_made c [] now mid NoOne m tt) stopped.asked)));
       }
 
-      by_why : (why : TxNo) → WasRefused c of now mid why → (why ≡ tx_no.Memory → ⊥) → (why ≡ tx_no.Room → ⊥) → Stopped c of why mid next again → Ended c of before next (child_step body rest) (finish.Stopped again)
-      by_why tx_no.Memory refused other full stopped = absurd (other refl)
-      by_why tx_no.Room refused other full stopped = absurd (full refl)
-      by_why (tx_no.Orphan a) refused other full stopped = stops (tx_no.Orphan a) refused.0 stopped (λ s. Rattle.qc_interp.proofs.Stepping.StepsLeave.orphan_early c of a _ s)
-      by_why tx_no.Ended refused other full stopped = stops tx_no.Ended refused.0 stopped (λ s. Rattle.qc_interp.proofs.Stepping.Stopping.asked_early of _ s)
-      by_why tx_no.Ready refused other full stopped = stops tx_no.Ready refused.0 stopped (λ s. Rattle.qc_interp.proofs.Stepping.Stopping.asked_early of _ s)
-      by_why (tx_no.ChildrenOpen child) refused other full stopped = absurd refused
-      by_why (tx_no.Conflict copy holder) refused other full stopped = absurd refused.1
-      by_why (tx_no.NoQuorum lack) refused other full stopped = absurd refused.1
-      by_why tx_no.Last refused other full stopped = absurd refused.1
-      by_why tx_no.Ledger refused other full stopped = absurd refused.1
+      by_why : (why : TxNo) → WasRefused c of now mid why → ((s : Short) → why ≡ tx_no.Short s → ⊥) → Stopped c of why mid next again → Ended c of before next (child_step body rest) (finish.Stopped again)
+      by_why (tx_no.Short s) refused other stopped = absurd (other s refl)
+      by_why (tx_no.Orphan a) refused other stopped = stops (tx_no.Orphan a) refused.0 stopped (λ s. Rattle.qc_interp.proofs.Stepping.StepsLeave.orphan_early c of a _ s)
+      by_why tx_no.Ended refused other stopped = stops tx_no.Ended refused.0 stopped (λ s. Rattle.qc_interp.proofs.Stepping.Stopping.asked_early of _ s)
+      by_why tx_no.Ready refused other stopped = stops tx_no.Ready refused.0 stopped (λ s. Rattle.qc_interp.proofs.Stepping.Stopping.asked_early of _ s)
+      by_why (tx_no.ChildrenOpen child) refused other stopped = absurd refused
+      by_why (tx_no.Conflict copy holder) refused other stopped = absurd refused.1
+      by_why (tx_no.NoQuorum lack) refused other stopped = absurd refused.1
+      by_why tx_no.Last refused other stopped = absurd refused.1
+      by_why tx_no.Ledger refused other stopped = absurd refused.1
 
   pub tries_cut : (before now next : Past) (last : Option Name) (left : ℕ) (rest : Plan) → TriesLeft c of body before now last (suc left) → CutTry c of body now next → CutOff c of before next (child_step body rest)
   tries_cut before now next last left rest l t = record {
@@ -149,8 +149,7 @@ module _ (c : Client) (of : Name) (body : Numbered) where
 
   -- whatever a refusal to begin tells, nothing was made
   pub refused_made : (now mid : Past) (why : TxNo) → WasRefused c of now mid why → Made c [] now mid
-  refused_made now mid tx_no.Memory refused = refused.0
-  refused_made now mid tx_no.Room refused = refused.0
+  refused_made now mid (tx_no.Short s) refused = refused.0
   refused_made now mid (tx_no.Orphan a) refused = refused.0
   refused_made now mid tx_no.Ended refused = refused.0
   refused_made now mid tx_no.Ready refused = refused.0
@@ -160,14 +159,13 @@ module _ (c : Client) (of : Name) (body : Numbered) where
   refused_made now mid tx_no.Last refused = refused.0
   refused_made now mid tx_no.Ledger refused = refused.0
 
-  pub begin_stops : (now mid : Past) (why : TxNo) → Runs c of now → WasRefused c of now mid why → (why ≡ tx_no.Memory → ⊥) → (why ≡ tx_no.Room → ⊥) → Runs c of mid × WhyStop c mid of why
-  begin_stops now mid tx_no.Memory runs refused other full = absurd (other refl)
-  begin_stops now mid tx_no.Room runs refused other full = absurd (full refl)
-  begin_stops now mid (tx_no.Orphan a) runs refused other full = (runs_still c of now mid refused.0 runs, refused.1)
-  begin_stops now mid tx_no.Ended runs refused other full = (runs_still c of now mid refused.0 runs, refused.1)
-  begin_stops now mid tx_no.Ready runs refused other full = (runs_still c of now mid refused.0 runs, refused.1)
-  begin_stops now mid (tx_no.ChildrenOpen child) runs refused other full = absurd refused
-  begin_stops now mid (tx_no.Conflict copy holder) runs refused other full = absurd refused.1
-  begin_stops now mid (tx_no.NoQuorum lack) runs refused other full = absurd refused.1
-  begin_stops now mid tx_no.Last runs refused other full = absurd refused.1
-  begin_stops now mid tx_no.Ledger runs refused other full = absurd refused.1
+  pub begin_stops : (now mid : Past) (why : TxNo) → Runs c of now → WasRefused c of now mid why → ((s : Short) → why ≡ tx_no.Short s → ⊥) → Runs c of mid × WhyStop c mid of why
+  begin_stops now mid (tx_no.Short s) runs refused other = absurd (other s refl)
+  begin_stops now mid (tx_no.Orphan a) runs refused other = (runs_still c of now mid refused.0 runs, refused.1)
+  begin_stops now mid tx_no.Ended runs refused other = (runs_still c of now mid refused.0 runs, refused.1)
+  begin_stops now mid tx_no.Ready runs refused other = (runs_still c of now mid refused.0 runs, refused.1)
+  begin_stops now mid (tx_no.ChildrenOpen child) runs refused other = absurd refused
+  begin_stops now mid (tx_no.Conflict copy holder) runs refused other = absurd refused.1
+  begin_stops now mid (tx_no.NoQuorum lack) runs refused other = absurd refused.1
+  begin_stops now mid tx_no.Last runs refused other = absurd refused.1
+  begin_stops now mid tx_no.Ledger runs refused other = absurd refused.1

@@ -1,6 +1,6 @@
 //! A branch of a step that runs bodies at once.
 ghost use Rattle.std.specs.Prelude.{◌≡◌, ◌<◌, ◌+◌, ◌∷◌, [], length, IfOk, IfErr};
-ghost use Rattle.qc_event.specs.History.{limit};
+ghost use Rattle.qc_event.specs.Wants.{IsWant};
 ghost use Rattle.qc_script.specs.Calls.{MeetsLink};
 ghost use Rattle.qc_script.specs.Client.{HasJoined, IsLater};
 ghost use Rattle.qc_script.specs.Steps.{numbered};
@@ -64,7 +64,7 @@ fn branch_tries<T: Tx + Send + Drop, R: Threads + Sync>(
         (T.view tx.new).seen) }
     ensures cut { IfErr result (λ _. RanTries Reach.cut_off (Unit {0}) (T.view tx.new).client
         (numbered body.now) (T.view tx.new).seen) }
-    ensures room { IfErr result (λ e. e ≡ Short.Room → length (T.view tx.new).seen ≡ limit) }
+    ensures room { IfErr result (IsWant (T.view tx.new).seen) }
 {
     let mut name = *first;
     let mut pause = Pause::none();
@@ -79,8 +79,7 @@ fn branch_tries<T: Tx + Send + Drop, R: Threads + Sync>(
             Ok(next) => next,
             Err(why) => {
                 return match why {
-                    TxNo::Memory => Err(Short::Memory),
-                    TxNo::Room => Err(Short::Room),
+                    TxNo::Short(short) => Err(short),
                     _ => Ok(BranchCame::Refused { why }),
                 };
             }

@@ -2,7 +2,7 @@
 ghost use Rattle.std.specs.Prelude.{◌≡◌, ◌≤◌, ◌<◌, ◌+◌, ◌++◌, ◌⊎◌, [], Ok, None, List, length, map, vec_len, vec_capacity, slice_index_or, IfOk, IfErr, OnOk};
 ghost use Rattle.std.specs.List.{AllByRecursion};
 ghost use Rattle.qc_event.specs.declared.event.Cause.TheVariants as cause;
-ghost use Rattle.qc_event.specs.History.{limit};
+ghost use Rattle.qc_event.specs.Wants.{IsWant};
 ghost use Rattle.qc_event.specs.Legal.{Legal};
 ghost use Rattle.qc_event.specs.Standing.{Started, IsUser};
 ghost use Rattle.qc_script.specs.Calls.{MeetsLink, Refuses, IsGrounded};
@@ -38,7 +38,7 @@ fn begin_one<'b, T: Tx + Drop>(tx: &mut T, of: &Name, body: &'b Body) -> Result<
     ensures err { IfErr result (λ why. NotBegun (T.view tx.old) (T.view tx.new) of.now why) }
 {
     let Ok(mut branch) = tx.branch(of) else {
-        return Err(TxNo::Memory);
+        return Err(TxNo::Short(Short::Memory));
     };
     match branch.begin(of, body.number) {
         Ok(first) => {
@@ -209,7 +209,7 @@ pub(crate) fn par<T: Tx + Send + Drop, R: Threads + Sync>(
         (T.view tx.new).seen (row_step (map numbered bodies.now))) }
     ensures cut { IfErr result (λ _. (rest : Plan) → CutOff (T.view tx.new).client of.now
         (T.view tx.old).seen (T.view tx.new).seen (row_step (map numbered bodies.now) rest)) }
-    ensures room { IfErr result (λ e. e ≡ Short.Room → length (T.view tx.new).seen ≡ limit) }
+    ensures room { IfErr result (IsWant (T.view tx.new).seen) }
 {
     let Ok(mut branches) = Vec::with_capacity(host.alloc, bodies.len()) else {
         return Err(Short::Memory);
@@ -229,8 +229,7 @@ pub(crate) fn par<T: Tx + Send + Drop, R: Threads + Sync>(
                 return Err(Short::Memory);
             };
             match why {
-                TxNo::Memory => Err(Short::Memory),
-                TxNo::Room => Err(Short::Room),
+                TxNo::Short(short) => Err(short),
                 _ => {
                     abort_all(tx, of, &why, firsts.as_slice())?;
                     behind(tx, of, &BranchCame::Refused { why })
@@ -251,7 +250,7 @@ fn behind<T: Tx>(tx: &mut T, of: &Name, came: &BranchCame) -> Result<Option<bool
         (T.view tx.new).seen came.now) }
     ensures cut { IfErr result (λ _. Made (T.view tx.old).client []
         (T.view tx.old).seen (T.view tx.new).seen) }
-    ensures room { IfErr result (λ e. e ≡ Short.Room → length (T.view tx.new).seen ≡ limit) }
+    ensures room { IfErr result (IsWant (T.view tx.new).seen) }
 {
     match came {
         BranchCame::Through => Ok(None),
@@ -291,7 +290,7 @@ fn abort_all<T: Tx>(tx: &mut T, of: &Name, why: &TxNo, firsts: &[Name]) -> Resul
         (T.view tx.old).seen (T.view tx.new).seen) }
     ensures cut { IfErr result (λ _. TurnedSome (T.view tx.old).client firsts.now
         (T.view tx.old).seen (T.view tx.new).seen) }
-    ensures room { IfErr result (λ e. e ≡ Short.Room → length (T.view tx.new).seen ≡ limit) }
+    ensures room { IfErr result (IsWant (T.view tx.new).seen) }
 {
     let above = match why {
         TxNo::Orphan(ancestor) => *ancestor,
@@ -315,12 +314,11 @@ fn abort_one<T: Tx>(tx: &mut T, first: &Name, above: Name) -> Result<(), Short>
         (T.view tx.old).seen (T.view tx.new).seen) }
     ensures cut { IfErr result (λ _. Made (T.view tx.old).client []
         (T.view tx.old).seen (T.view tx.new).seen) }
-    ensures room { IfErr result (λ e. e ≡ Short.Room → length (T.view tx.new).seen ≡ limit) }
+    ensures room { IfErr result (IsWant (T.view tx.new).seen) }
 {
     match tx.abort(first, Cause::Orphan(above)) {
         Ok(()) => Ok(()),
-        Err(TxNo::Memory) => Err(Short::Memory),
-        Err(TxNo::Room) => Err(Short::Room),
+        Err(TxNo::Short(short)) => Err(short),
         Err(_) => Ok(()),
     }
 }

@@ -63,29 +63,25 @@ pub ledger_reason_at : (P : ImageFault → Type 0) (refusal : LedgerNo) → ledg
 ledger_reason_at P ledger.Disk is = refl
 ledger_reason_at P (ledger.Image bad) is = is
 ledger_reason_at P (ledger.Full place) is = tt
-ledger_reason_at P ledger.Memory is = tt
-ledger_reason_at P ledger.Room is = tt
+ledger_reason_at P (ledger.Short short) is = tt
 
 pub ledger_failed : (refusal : LedgerNo) → FailedAt (ledger_reason refusal) 0 → refusal ≡ ledger.Disk
 ledger_failed ledger.Disk failed = refl
 ledger_failed (ledger.Image bad) failed = absurd failed
 ledger_failed (ledger.Full place) failed = absurd failed
-ledger_failed ledger.Memory failed = absurd failed
-ledger_failed ledger.Room failed = absurd failed
+ledger_failed (ledger.Short short) failed = absurd failed
 
 pub copy_reason_at : (copy : ℕ) (P : ImageFault → Type 0) (refusal : SiteNo) → site_refusing.IsImage copy P refusal → IsReasonAt (copy + 1) P (copy_reason copy refusal)
 copy_reason_at copy P site.Disk is = refl
 copy_reason_at copy P (site.Image bad) is = is
 copy_reason_at copy P site.Strange is = tt
-copy_reason_at copy P site.Memory is = tt
-copy_reason_at copy P site.Room is = tt
+copy_reason_at copy P (site.Short short) is = tt
 
 pub copy_failed : (copy : ℕ) (refusal : SiteNo) → FailedAt (copy_reason copy refusal) (copy + 1) → refusal ≡ site.Disk
 copy_failed copy site.Disk failed = refl
 copy_failed copy (site.Image bad) failed = absurd failed
 copy_failed copy site.Strange failed = absurd failed
-copy_failed copy site.Memory failed = absurd failed
-copy_failed copy site.Room failed = absurd failed
+copy_failed copy (site.Short short) failed = absurd failed
 
 -- DISKS
 

@@ -8,8 +8,7 @@ use Rattle.qc_interp.specs.Running.{Runs, WhyStop, Ended, CutOff, Acted, HasActe
 use Rattle.qc_interp.specs.declared.stops.Finish.TheVariants as finish
 use Rattle.qc_interp.proofs.Listing.Lists.{kept_whole}
 use Rattle.qc_interp.proofs.Stepping.Results.{if_ok, if_err, any_err, same_err}
-use Rattle.qc_event.specs.declared.short.Short.TheVariants as short
-use Rattle.qc_event.specs.History.{limit}
+use Rattle.qc_event.specs.Wants.{IsWant}
 use Rattle.qc_interp.proofs.Stepping.Ending.{cut_still}
 use Rattle.qc_interp.proofs.Branching.Joined.{joined_itself, joined_same, joined_trans}
 use Rattle.qc_interp.proofs.Stepping.Plans.{weight, plan_is, tries_of, number_of, must_of, put_read, put_set, put_add, put_sub, put_need, put_reconf, put_child, put_par, put_abort, put_crash, put_kill, step_lighter}
@@ -29,8 +28,8 @@ use Rattle.qc_interp.specs.declared.body.branch.BranchCame.TheVariants as came
 use Rattle.qc_interp.specs.Branches.{row_step}
 use Rattle.qc_script.specs.Calls.{MeetsLink, by_client}
 use Rattle.std.specs.List.{AllByRecursion}
-use Rattle.qc_interp.proofs.Rows.Done.{done_joined, done_cut, done_room, done_out, done_knows, done_acted, done_cut_behind}
-use Rattle.qc_interp.proofs.Rows.Step.{row_depth, bodies_begun, row_may, row_out, row_done, few_out, row_turned, row_room}
+use Rattle.qc_interp.proofs.Rows.Done.{done_joined, done_cut, done_want, done_out, done_knows, done_acted, done_cut_behind}
+use Rattle.qc_interp.proofs.Rows.Step.{row_depth, bodies_begun, row_may, row_out, row_done, few_out, row_turned, row_want}
 use Rattle.qc_interp.proofs.Rows.TurnedOut.{back_joined, back_legal}
 use Rattle.qc_interp.proofs.Rows.TurnedDone.{turned_refused_so, turned_are_firsts, turned_cut_at_once, turned_cut_off, turned_row_out, turned_knows, turned_acted, turned_cut_behind}
 use Rattle.qc_interp.proofs.Listing.InOrder.{pairs_at}
@@ -96,7 +95,7 @@ tries-stop-requires g t c =
     let body = numbered c.args.body.now in
     let few : c.loop.counter < body.tries = subst (λ n. c.loop.counter < n) (sym (tries_of c.args.body.now)) c.loop-test.true in
     let no = unbegun v w x x c.args.of.now body c.loop.last c.loop.counter inv.left few c.begin.ensures.client c.in-Err.why c.in-Err.ensures.err in
-    let stops = no.stops c.in_default.not-Memory c.in_default.not-Room in
+    let stops = no.stops c.in_default.not-Short in
     record { met = c.begin.ensures.met; runs = stops.0; why = stops.1 }
 
 pub tries-returns-in_ok-again-in_default : goal.tries-returns-in_ok-again-in_default
@@ -112,7 +111,7 @@ tries-returns-in_ok-again-in_default g t c =
     record {
       met = c.stop.ensures.met;
       joined = subst (HasJoined v.client v.seen) (sym (c.stop.ensures.client ∙ c.begin.ensures.client)) inv.joined;
-      ok = no.ended c.in_default.not-Memory c.in_default.not-Room c.in_ok-again-in_default.again c.stop.ensures.client c.in_ok-again-in_default.ensures.ok;
+      ok = no.ended c.in_default.not-Short c.in_ok-again-in_default.again c.stop.ensures.client c.in_ok-again-in_default.ensures.ok;
       cut = tt;
       room = tt;
     }
@@ -166,19 +165,8 @@ tries-returns-in_err-steps-in-Ok g t c =
     let ran = ran_try v w x y c.args.of.now body c.loop.last c.loop.counter inv.left few c.begin.ensures.client c.in-Ok.name c.in-Ok.ensures.child _ (sym (number_of c.args.body.now)) c.in-Ok.ensures.ok c.steps.ensures.joined _ plan in
     record { met = c.steps.ensures.met; joined = ran.joined inv.joined; ok = search rules; cut = any_err _ c.from_residual.result (ran.cut c.in_err-steps-in-Ok.ensures.cut); room = search rules }
 
-pub tries-returns-in-Memory : goal.tries-returns-in-Memory
-tries-returns-in-Memory g t c =
-    let inv = c.loop.invariant in
-    let v = g.T.Tx.view c.args.tx.now in
-    let w = g.T.Tx.view c.loop.tx in
-    let x = g.T.Tx.view c.begin.new.self in
-    let body = numbered c.args.body.now in
-    let few : c.loop.counter < body.tries = subst (λ n. c.loop.counter < n) (sym (tries_of c.args.body.now)) c.loop-test.true in
-    let no = unbegun v w x x c.args.of.now body c.loop.last c.loop.counter inv.left few c.begin.ensures.client c.in-Err.why c.in-Err.ensures.err in
-    record { met = c.begin.ensures.met; joined = subst (HasJoined v.client v.seen) (sym c.begin.ensures.client) inv.joined; ok = tt; cut = no.cut; room = λ is. cc }
-
-pub tries-returns-in-Room : goal.tries-returns-in-Room
-tries-returns-in-Room g t c =
+pub tries-returns-in-Short : goal.tries-returns-in-Short
+tries-returns-in-Short g t c =
     let inv = c.loop.invariant in
     let v = g.T.Tx.view c.args.tx.now in
     let w = g.T.Tx.view c.loop.tx in
@@ -619,22 +607,8 @@ branch::branch_tries-begin-requires-clause-parent g t c =
     let plan = plan_is c.args.body.now c.as_slice.result.now c.as_slice.ensures.value in
     inr (branch_ended v w y c.args.of.now c.loop.name body c.loop.counter inv.goes inv.runs.0 inv.runs.1 c.steps.ensures.joined _ plan c.in_ok-finish.finish c.in_ok-finish.ensures.ok).goes.parent
 
-pub branch::branch_tries-returns-in-Memory : goal.branch::branch_tries-returns-in-Memory
-branch::branch_tries-returns-in-Memory g t c =
-    let inv = c.loop.invariant in
-    let v = g.T.Tx.view c.args.tx.now in
-    let w = g.T.Tx.view c.loop.tx in
-    let y = g.T.Tx.view c.steps.new.tx in
-    let body = numbered c.args.body.now in
-    let plan = plan_is c.args.body.now c.as_slice.result.now c.as_slice.ensures.value in
-    let few : c.loop.counter < body.tries = subst (λ n. c.loop.counter < n) (sym (tries_of c.args.body.now)) c.loop-test.true in
-    let again = sym c.is_again.ensures ∙ c.if-not-is_again.false in
-    let x = g.T.Tx.view c.begin.new.self in
-    let no = branch_refused v w y c.args.of.now c.loop.name body c.loop.counter inv.goes inv.runs.0 inv.runs.1 c.steps.ensures.joined _ plan c.in_ok-finish.finish c.in_ok-finish.ensures.ok few again x c.begin.ensures.client c.in-Err.why c.in-Err.ensures.err in
-    record { met = c.begin.ensures.met; joined = no.goes.joined; later = no.goes.later; ok = tt; cut = no.ran Reach.cut_off; room = λ is. cc }
-
-pub branch::branch_tries-returns-in-Room : goal.branch::branch_tries-returns-in-Room
-branch::branch_tries-returns-in-Room g t c =
+pub branch::branch_tries-returns-in-Short : goal.branch::branch_tries-returns-in-Short
+branch::branch_tries-returns-in-Short g t c =
     let inv = c.loop.invariant in
     let v = g.T.Tx.view c.args.tx.now in
     let w = g.T.Tx.view c.loop.tx in
@@ -659,7 +633,7 @@ branch::branch_tries-returns-in_default g t c =
     let again = sym c.is_again.ensures ∙ c.if-not-is_again.false in
     let x = g.T.Tx.view c.begin.new.self in
     let no = branch_refused v w y c.args.of.now c.loop.name body c.loop.counter inv.goes inv.runs.0 inv.runs.1 c.steps.ensures.joined _ plan c.in_ok-finish.finish c.in_ok-finish.ensures.ok few again x c.begin.ensures.client c.in-Err.why c.in-Err.ensures.err in
-    record { met = c.begin.ensures.met; joined = no.goes.joined; later = no.goes.later; ok = (no.ran Reach.to_the_end, no.refused c.in_default.not-Memory c.in_default.not-Room, no.due); cut = tt; room = tt }
+    record { met = c.begin.ensures.met; joined = no.goes.joined; later = no.goes.later; ok = (no.ran Reach.to_the_end, no.refused c.in_default.not-Short, no.due); cut = tt; room = tt }
 
 pub branch::branch_tries-loop-preserved : goal.branch::branch_tries-loop-preserved
 branch::branch_tries-loop-preserved g t c =
@@ -723,7 +697,7 @@ row::par-returns-in_default g t c =
       joined = joined_itself (g.T.Tx.view c.args.tx.now).client (g.T.Tx.view c.args.tx.now).seen;
       ok = tt;
       cut = λ rest. cut_still v.client c.args.of.now v.seen v.seen c.requires.runs (made_itself v.client v.seen c.requires.runs.legal) (row_step (map numbered c.args.bodies.now) rest);
-      room = λ is. cc;
+      room = tt;
     }
 
 pub row::par-begin_all-begun-requires-clause-depth : goal.row::par-begin_all-begun-requires-clause-depth
@@ -783,7 +757,7 @@ row::par-returns-in_err-came-in-Ok-begun g t c =
       joined = done_joined row;
       ok = search rules;
       cut = any_err _ c.from_residual.result (done_cut row);
-      room = same_err (λ e. e ≡ short.Room → length w3.seen ≡ limit) c.from_residual.result c.in_err-came-in-Ok-begun.field-0.0 c.from_residual.ensures.1 (done_room row c.in_err-came-in-Ok-begun.field-0.0 came_to);
+      room = same_err (IsWant w3.seen) c.from_residual.result c.in_err-came-in-Ok-begun.field-0.0 c.from_residual.ensures.1 (done_want row c.in_err-came-in-Ok-begun.field-0.0 came_to);
     }
 
 pub row::par-behind-requires : goal.row::par-behind-requires
@@ -858,10 +832,10 @@ row::par-returns-in_default-firsts g t c =
     let whole = kept_whole _ n1 _ long in
     let w3 = view c.merge_all-came.new.tx in
     let row = row_turned st c.args.of.now v (view c.begin_all-begun.new.tx) w2 _ _ n1 bodies c.requires.runs c.requires.fits c.as_mut_slice.ensures.value c.show_all.ensures.shown c.show_all.ensures.client c.show_all.ensures.made c.in-Err.why c.in-Err.ensures.err _ whole w3 c.merge_all-came.ensures.merged c.in-Err.ensures.first _ refl in
-    record { met = c.merge_all-came.ensures.met; joined = back_joined row; ok = tt; cut = turned_cut_at_once row; room = λ is. cc }
+    record { met = c.merge_all-came.ensures.met; joined = back_joined row; ok = tt; cut = turned_cut_at_once row; room = tt }
 
-pub row::par-returns-in-Memory : goal.row::par-returns-in-Memory
-row::par-returns-in-Memory g t c =
+pub row::par-returns-in-Short : goal.row::par-returns-in-Short
+row::par-returns-in-Short g t c =
     let view = g.T.Tx.view in
     let st = stands view in
     let v = view c.args.tx.now in
@@ -872,22 +846,8 @@ row::par-returns-in-Memory g t c =
     let whole = kept_whole _ n1 _ long in
     let w3 = view c.merge_all-came.new.tx in
     let row = row_turned st c.args.of.now v (view c.begin_all-begun.new.tx) w2 _ _ n1 bodies c.requires.runs c.requires.fits c.as_mut_slice.ensures.value c.show_all.ensures.shown c.show_all.ensures.client c.show_all.ensures.made c.in-Err.why c.in-Err.ensures.err _ whole w3 c.merge_all-came.ensures.merged c.in-Err.ensures.first _ refl in
-    record { met = c.merge_all-came.ensures.met; joined = back_joined row; ok = tt; cut = turned_cut_at_once row; room = λ is. cc }
-
-pub row::par-returns-in-Room : goal.row::par-returns-in-Room
-row::par-returns-in-Room g t c =
-    let view = g.T.Tx.view in
-    let st = stands view in
-    let v = view c.args.tx.now in
-    let w2 = view c.show_all.new.tx in
-    let bodies = map numbered c.args.bodies.now in
-    let n1 = c.show_all.new.branches in
-    let long = c.show_all.auto.branches ∙ c.as_mut_slice.ensures.len in
-    let whole = kept_whole _ n1 _ long in
-    let w3 = view c.merge_all-came.new.tx in
-    let row = row_turned st c.args.of.now v (view c.begin_all-begun.new.tx) w2 _ _ n1 bodies c.requires.runs c.requires.fits c.as_mut_slice.ensures.value c.show_all.ensures.shown c.show_all.ensures.client c.show_all.ensures.made c.in-Err.why c.in-Err.ensures.err _ whole w3 c.merge_all-came.ensures.merged c.in-Err.ensures.first _ refl in
-    let full = row_room st c.args.of.now v (view c.begin_all-begun.new.tx) w2 _ _ n1 bodies c.requires.runs c.requires.fits c.as_mut_slice.ensures.value c.show_all.ensures.shown c.show_all.ensures.client c.show_all.ensures.made c.in-Err.why c.in-Err.ensures.err _ whole w3 c.merge_all-came.ensures.merged c.in-Err.ensures.first _ refl c.show_all.auto.branches c.show_all.ensures.none c.in-Room.is in
-    record { met = c.merge_all-came.ensures.met; joined = back_joined row; ok = tt; cut = turned_cut_at_once row; room = λ _. full }
+    let want = row_want st c.args.of.now v (view c.begin_all-begun.new.tx) w2 _ _ n1 bodies c.requires.runs c.requires.fits c.as_mut_slice.ensures.value c.show_all.ensures.shown c.show_all.ensures.client c.show_all.ensures.made c.in-Err.why c.in-Err.ensures.err _ whole w3 c.merge_all-came.ensures.merged c.in-Err.ensures.first _ refl c.show_all.auto.branches c.show_all.ensures.none c.in-Short.short c.in-Short.is in
+    record { met = c.merge_all-came.ensures.met; joined = back_joined row; ok = tt; cut = turned_cut_at_once row; room = want }
 
 pub row::par-abort_all-requires : goal.row::par-abort_all-requires
 row::par-abort_all-requires g t c =
@@ -902,7 +862,7 @@ row::par-abort_all-requires g t c =
     let firsts = c.as_slice-in_default-why.ensures.value ∙ (c.in-Ok-firsts.ensures ∙ ap (map (λ b. b.first)) (c.as_slice.ensures.value ∙ whole)) in
     let w3 = view c.merge_all-came.new.tx in
     let row = row_turned st c.args.of.now v (view c.begin_all-begun.new.tx) w2 _ _ n1 bodies c.requires.runs c.requires.fits c.as_mut_slice.ensures.value c.show_all.ensures.shown c.show_all.ensures.client c.show_all.ensures.made c.in-Err.why c.in-Err.ensures.err _ whole w3 c.merge_all-came.ensures.merged c.in-Err.ensures.first _ firsts in
-    let refused = turned_refused_so row c.in_default-why.not-Memory c.in_default-why.not-Room in
+    let refused = turned_refused_so row c.in_default-why.not-Short in
     record { nonroot = c.requires.runs.nonroot; legal = back_legal row; refused = refused; firsts = turned_are_firsts row; met = c.merge_all-came.ensures.met }
 
 pub row::par-returns-in_err-abort_all-in_default-why : goal.row::par-returns-in_err-abort_all-in_default-why
@@ -941,7 +901,7 @@ row::par-behind-requires-in_default-why g t c =
     let firsts = c.as_slice-in_default-why.ensures.value ∙ (c.in-Ok-firsts.ensures ∙ ap (map (λ b. b.first)) (c.as_slice.ensures.value ∙ whole)) in
     let w3 = view c.merge_all-came.new.tx in
     let row = row_turned st c.args.of.now v (view c.begin_all-begun.new.tx) w2 _ _ n1 bodies c.requires.runs c.requires.fits c.as_mut_slice.ensures.value c.show_all.ensures.shown c.show_all.ensures.client c.show_all.ensures.made c.in-Err.why c.in-Err.ensures.err _ whole w3 c.merge_all-came.ensures.merged c.in-Err.ensures.first _ firsts in
-    let refused = turned_refused_so row c.in_default-why.not-Memory c.in_default-why.not-Room in
+    let refused = turned_refused_so row c.in_default-why.not-Short in
     let x = view c.abort_all.new.tx in
     let turned = c.in_ok-abort_all-in_default-why.ensures.ok in
     let client = sym c.abort_all.ensures.client in
@@ -964,7 +924,7 @@ row::par-returns g t c =
     let firsts = c.as_slice-in_default-why.ensures.value ∙ (c.in-Ok-firsts.ensures ∙ ap (map (λ b. b.first)) (c.as_slice.ensures.value ∙ whole)) in
     let w3 = view c.merge_all-came.new.tx in
     let row = row_turned st c.args.of.now v (view c.begin_all-begun.new.tx) w2 _ _ n1 bodies c.requires.runs c.requires.fits c.as_mut_slice.ensures.value c.show_all.ensures.shown c.show_all.ensures.client c.show_all.ensures.made c.in-Err.why c.in-Err.ensures.err _ whole w3 c.merge_all-came.ensures.merged c.in-Err.ensures.first _ firsts in
-    let refused = turned_refused_so row c.in_default-why.not-Memory c.in_default-why.not-Room in
+    let refused = turned_refused_so row c.in_default-why.not-Short in
     let of = c.args.of.now in
     let why = c.in-Err.why in
     let x = view c.abort_all.new.tx in

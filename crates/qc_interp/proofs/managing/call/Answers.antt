@@ -1,4 +1,4 @@
-use Rattle.std.proofs.Common.{rules, [], sym, subst, ◌∙◌, inl, inr}
+use Rattle.std.proofs.Common.{rules, [], sym, subst, ◌∙◌}
 use Rattle.qc_script.specs.Client.{Made}
 use Rattle.qc_script.specs.Managers.{manager_for}
 use Rattle.qc_interp.specs.Running.{Runs, Stopped, WhyStop}
@@ -10,7 +10,7 @@ pub stop-requires : goal.stop-requires
 stop-requires g c =
     let v = g.T.Tx.view c.args.tx.now in
     let w = g.T.Tx.view c.manage.new.self in
-    let h = manage_stops v.client c.args.of.now (manager_for c.args.what.now) v.seen w.seen c.in-Err.why c.requires.fits c.requires.runs c.in-Err.ensures.err c.in_default.not-Memory c.in_default.not-Room in
+    let h = manage_stops v.client c.args.of.now (manager_for c.args.what.now) v.seen w.seen c.in-Err.why c.requires.fits c.requires.runs c.in-Err.ensures.err c.in_default.not-Short in
     record {
       runs = subst (λ d. Runs d c.args.of.now w.seen) (sym c.manage.ensures.client) h.0;
       met = c.manage.ensures.met;
@@ -30,21 +30,16 @@ returns-in_ok-again-in_default g c =
       met = c.stop.ensures.met;
       client = c.stop.ensures.client ∙ c.manage.ensures.client;
       ok = λ next.
-          manage_over v.client c.args.of.now (manager_for c.args.what.now) v.seen w.seen (g.T.Tx.view c.stop.new.tx).seen c.in-Err.why c.in_ok-again-in_default.again next c.requires.runs c.in-Err.ensures.err c.in_default.not-Memory c.in_default.not-Room
+          manage_over v.client c.args.of.now (manager_for c.args.what.now) v.seen w.seen (g.T.Tx.view c.stop.new.tx).seen c.in-Err.why c.in_ok-again-in_default.again next c.requires.runs c.in-Err.ensures.err c.in_default.not-Short
           (subst (λ d. Stopped d c.args.of.now c.in-Err.why w.seen (g.T.Tx.view c.stop.new.tx).seen c.in_ok-again-in_default.again) c.manage.ensures.client c.in_ok-again-in_default.ensures.ok);
       cut = tt;
       room = tt;
     }
 
-pub returns-in-Memory-clause-cut : goal.returns-in-Memory-clause-cut
-returns-in-Memory-clause-cut g c next =
+pub returns-in-Short-clause-cut : goal.returns-in-Short-clause-cut
+returns-in-Short-clause-cut g c next =
     let v = g.T.Tx.view c.args.tx.now in
-    manage_short v.client c.args.of.now (manager_for c.args.what.now) v.seen (g.T.Tx.view c.manage.new.self).seen c.in-Err.why next (inl c.in-Memory.is) c.requires.runs c.in-Err.ensures.err
-
-pub returns-in-Room-clause-cut : goal.returns-in-Room-clause-cut
-returns-in-Room-clause-cut g c next =
-    let v = g.T.Tx.view c.args.tx.now in
-    manage_short v.client c.args.of.now (manager_for c.args.what.now) v.seen (g.T.Tx.view c.manage.new.self).seen c.in-Err.why next (inr c.in-Room.is) c.requires.runs c.in-Err.ensures.err
+    manage_short v.client c.args.of.now (manager_for c.args.what.now) v.seen (g.T.Tx.view c.manage.new.self).seen c.in-Err.why next c.in-Short.short c.in-Short.is c.requires.runs c.in-Err.ensures.err
 
 pub returns-in_err-again-in_default : goal.returns-in_err-again-in_default
 returns-in_err-again-in_default g c =
@@ -56,7 +51,7 @@ returns-in_err-again-in_default g c =
       client = c.stop.ensures.client ∙ c.manage.ensures.client;
       ok = search rules;
       cut = any_err _ c.from_residual.result
-          (λ next. manage_cut v.client c.args.of.now (manager_for c.args.what.now) v.seen w.seen x.seen c.in-Err.why next c.requires.runs c.in-Err.ensures.err c.in_default.not-Memory c.in_default.not-Room
+          (λ next. manage_cut v.client c.args.of.now (manager_for c.args.what.now) v.seen w.seen x.seen c.in-Err.why next c.requires.runs c.in-Err.ensures.err c.in_default.not-Short
           (subst (λ d. Made d [] w.seen x.seen) c.manage.ensures.client c.in_err-again-in_default.ensures.cut));
       room = search rules;
     }

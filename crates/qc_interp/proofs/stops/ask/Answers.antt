@@ -98,7 +98,7 @@ returns-in_default g c =
     let of = c.args.of.now in
     let t = c.ancestor-ancestor.result in
     let up = above_is v.client of t c.args.levels c.len.result c.len.ensures.length c.ancestor-ancestor.ensures c.if-levels-eq0.false c.requires.within in
-    record { met = c.abort.ensures.met; client = c.abort.ensures.client; ok = λ rest. ask_no v.client of t c.args.levels v.seen w.seen c.in-Err.why rest up c.requires.runs c.in-Err.ensures.err c.in_default.not-Memory c.in_default.not-Room c.in_default.not-Ended; cut = tt; room = tt }
+    record { met = c.abort.ensures.met; client = c.abort.ensures.client; ok = λ rest. ask_no v.client of t c.args.levels v.seen w.seen c.in-Err.why rest up c.requires.runs c.in-Err.ensures.err c.in_default.not-Short c.in_default.not-Ended; cut = tt; room = tt }
 
 pub returns-then-levels-eq0-clause-ok : goal.returns-then-levels-eq0-clause-ok
 returns-then-levels-eq0-clause-ok g c =
@@ -146,15 +146,8 @@ returns-in-Ended-clause-cut g c =
     cut_still v.client of v.seen x.seen c.requires.runs
     (made_both v.client v.seen w.seen x.seen (not_aborted_made v.client of c.ancestor-ancestor.result (cause.Asked of) v.seen w.seen c.in-Err.why c.in-Err.ensures.err) (subst (λ d. Made d [] w.seen x.seen) c.abort.ensures.client m)) (Plan.abort_then c.args.levels rest)) c.quit-in-Ended.ensures.cut
 
-pub returns-in-Memory-clause-cut : goal.returns-in-Memory-clause-cut
-returns-in-Memory-clause-cut g c rest =
-    let v = g.T.Tx.view c.args.tx.now in
-    let w = g.T.Tx.view c.abort.new.self in
-    let of = c.args.of.now in
-    cut_still v.client of v.seen w.seen c.requires.runs (not_aborted_made v.client of c.ancestor-ancestor.result (cause.Asked of) v.seen w.seen c.in-Err.why c.in-Err.ensures.err) (Plan.abort_then c.args.levels rest)
-
-pub returns-in-Room-clause-cut : goal.returns-in-Room-clause-cut
-returns-in-Room-clause-cut g c rest =
+pub returns-in-Short-clause-cut : goal.returns-in-Short-clause-cut
+returns-in-Short-clause-cut g c rest =
     let v = g.T.Tx.view c.args.tx.now in
     let w = g.T.Tx.view c.abort.new.self in
     let of = c.args.of.now in

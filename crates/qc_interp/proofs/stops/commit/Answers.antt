@@ -1,4 +1,4 @@
-use Rattle.std.proofs.Common.{rules, [], sym, subst, ◌∙◌, inl, inr}
+use Rattle.std.proofs.Common.{rules, [], sym, subst, ◌∙◌}
 use Rattle.qc_script.specs.Client.{Made}
 use Rattle.qc_script.specs.Plan.{Plan}
 use Rattle.qc_interp.specs.Running.{Runs, WhyStop, Stopped}
@@ -12,7 +12,7 @@ pub stop-requires : goal.stop-requires
 stop-requires g c =
     let v = g.T.Tx.view c.args.tx.now in
     let w = g.T.Tx.view c.commit.new.self in
-    let h = commit_stops v.client c.args.of.now v.seen w.seen c.in-Err.why c.requires.runs c.in-Err.ensures.err c.in_default.not-Memory c.in_default.not-Room c.in_default.not-Ledger in
+    let h = commit_stops v.client c.args.of.now v.seen w.seen c.in-Err.why c.requires.runs c.in-Err.ensures.err c.in_default.not-Short c.in_default.not-Ledger in
     record {
       runs = subst (λ d. Runs d c.args.of.now w.seen) (sym c.commit.ensures.client) h.0;
       met = c.commit.ensures.met;
@@ -38,7 +38,7 @@ returns-in_ok-again-in_default g c =
     record {
       met = c.stop.ensures.met;
       client = c.stop.ensures.client ∙ c.commit.ensures.client;
-      ok = commit_over v.client of v.seen w.seen x.seen c.in-Err.why c.in_ok-again-in_default.again c.requires.runs c.in-Err.ensures.err c.in_default.not-Memory c.in_default.not-Room c.in_default.not-Ledger
+      ok = commit_over v.client of v.seen w.seen x.seen c.in-Err.why c.in_ok-again-in_default.again c.requires.runs c.in-Err.ensures.err c.in_default.not-Short c.in_default.not-Ledger
           (subst (λ d. Stopped d of c.in-Err.why w.seen x.seen c.in_ok-again-in_default.again) c.commit.ensures.client c.in_ok-again-in_default.ensures.ok);
       cut = tt;
       room = tt;
@@ -56,17 +56,12 @@ returns-in_err-again-in_default g c =
       ok = search rules;
       cut = any_err _ c.from_residual.result
           (cut_still v.client of v.seen x.seen c.requires.runs
-          (made_both v.client v.seen w.seen x.seen (commit_stops v.client of v.seen w.seen c.in-Err.why c.requires.runs c.in-Err.ensures.err c.in_default.not-Memory c.in_default.not-Room c.in_default.not-Ledger).2
+          (made_both v.client v.seen w.seen x.seen (commit_stops v.client of v.seen w.seen c.in-Err.why c.requires.runs c.in-Err.ensures.err c.in_default.not-Short c.in_default.not-Ledger).2
           (subst (λ d. Made d [] w.seen x.seen) c.commit.ensures.client c.in_err-again-in_default.ensures.cut)) Plan.done);
       room = search rules;
     }
 
-pub returns-in-Memory-clause-cut : goal.returns-in-Memory-clause-cut
-returns-in-Memory-clause-cut g c =
+pub returns-in-Short-clause-cut : goal.returns-in-Short-clause-cut
+returns-in-Short-clause-cut g c =
     let v = g.T.Tx.view c.args.tx.now in
-    commit_short v.client c.args.of.now v.seen (g.T.Tx.view c.commit.new.self).seen c.in-Err.why (inl c.in-Memory.is) c.requires.runs c.in-Err.ensures.err
-
-pub returns-in-Room-clause-cut : goal.returns-in-Room-clause-cut
-returns-in-Room-clause-cut g c =
-    let v = g.T.Tx.view c.args.tx.now in
-    commit_short v.client c.args.of.now v.seen (g.T.Tx.view c.commit.new.self).seen c.in-Err.why (inr c.in-Room.is) c.requires.runs c.in-Err.ensures.err
+    commit_short v.client c.args.of.now v.seen (g.T.Tx.view c.commit.new.self).seen c.in-Err.why c.in-Short.short c.in-Short.is c.requires.runs c.in-Err.ensures.err

@@ -13,4 +13,4 @@ returns-in-Ok-clause-ok g c =
 pub returns-in_default : goal.returns-in_default
 returns-in_default g c =
     let v = g.T.Tx.view c.args.tx.now in
-    record { met = c.abort.ensures.met; client = c.abort.ensures.client; ok = quit_no v.client c.args.of.now c.args.cause v.seen (g.T.Tx.view c.abort.new.self).seen c.in-Err.why c.requires.runs c.requires.grounded c.requires.itself c.in-Err.ensures.err c.in_default.not-Memory c.in_default.not-Room; cut = tt; room = tt }
+    record { met = c.abort.ensures.met; client = c.abort.ensures.client; ok = quit_no v.client c.args.of.now c.args.cause v.seen (g.T.Tx.view c.abort.new.self).seen c.in-Err.why c.requires.runs c.requires.grounded c.requires.itself c.in-Err.ensures.err c.in_default.not-Short; cut = tt; room = tt }

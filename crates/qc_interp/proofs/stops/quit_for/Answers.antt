@@ -47,7 +47,7 @@ returns-in_default g c =
     record {
       met = c.abort.ensures.met;
       client = c.abort.ensures.client;
-      ok = quit_for_no v.client c.args.of.now c.args.child.now v.seen (g.T.Tx.view c.abort.new.self).seen c.in-Err.why c.requires.runs c.requires.failed c.in-Err.ensures.err c.in_default.not-Memory c.in_default.not-Room c.in_default.not-Orphan;
+      ok = quit_for_no v.client c.args.of.now c.args.child.now v.seen (g.T.Tx.view c.abort.new.self).seen c.in-Err.why c.requires.runs c.requires.failed c.in-Err.ensures.err c.in_default.not-Short c.in_default.not-Orphan;
       cut = tt;
       room = tt;
     }

@@ -95,15 +95,15 @@ returns-in_err-steps-in-Ok g c =
     let ran = ran_top v w x body c.loop.counter inv.left few c.begin.ensures.client y c.in-Ok.name top _ (sym (number_of c.args.body.now)) c.in-Ok.ensures.ok c.in-Ok.ensures.number c.steps.ensures.joined _ plan in
     record { met = c.steps.ensures.met; joined = ran.joined inv.joined; ok = search rules; cut = any_err _ c.from_residual.result (ran.cut c.in_err-steps-in-Ok.ensures.cut); room = search rules }
 
-pub returns-in-Err-Room : goal.returns-in-Err-Room
-returns-in-Err-Room g c =
+pub returns-in-Err-Short : goal.returns-in-Err-Short
+returns-in-Err-Short g c =
     let inv = c.loop.invariant in
     let v = g.T.Tx.view c.args.tx.now in
     let w = g.T.Tx.view c.loop.tx in
     let x = g.T.Tx.view c.begin.new.self in
     let body = numbered c.args.body.now in
     let few : c.loop.counter < body.tries = subst (λ n. c.loop.counter < n) (sym (tries_of c.args.body.now)) c.loop-test.true in
-    record { met = c.begin.ensures.met; joined = subst (HasJoined v.client v.seen) (sym c.begin.ensures.client) inv.joined; ok = tt; cut = top_unbegun v w x body c.loop.counter inv.left few c.begin.ensures.client c.root.result c.in-Err-Room.field-0 c.in-Err-Room.ensures.err; room = search rules }
+    record { met = c.begin.ensures.met; joined = subst (HasJoined v.client v.seen) (sym c.begin.ensures.client) inv.joined; ok = tt; cut = top_unbegun v w x body c.loop.counter inv.left few c.begin.ensures.client c.root.result c.in-Err-Short.field-0 c.in-Err-Short.ensures.err; room = search rules }
 
 pub returns-in-Err : goal.returns-in-Err
 returns-in-Err g c =
@@ -113,4 +113,4 @@ returns-in-Err g c =
     let x = g.T.Tx.view c.begin.new.self in
     let body = numbered c.args.body.now in
     let few : c.loop.counter < body.tries = subst (λ n. c.loop.counter < n) (sym (tries_of c.args.body.now)) c.loop-test.true in
-    record { met = c.begin.ensures.met; joined = subst (HasJoined v.client v.seen) (sym c.begin.ensures.client) inv.joined; ok = tt; cut = top_unbegun v w x body c.loop.counter inv.left few c.begin.ensures.client c.root.result c.in-Err.field-0 c.in-Err.ensures.err; room = λ is. absurd cc }
+    record { met = c.begin.ensures.met; joined = subst (HasJoined v.client v.seen) (sym c.begin.ensures.client) inv.joined; ok = tt; cut = top_unbegun v w x body c.loop.counter inv.left few c.begin.ensures.client c.root.result c.in-Err.field-0 c.in-Err.ensures.err; room = tt }

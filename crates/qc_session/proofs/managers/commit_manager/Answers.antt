@@ -8,10 +8,9 @@ use Rattle.qc_desk.proofs.Lasting.{orphan_stays}
 use Rattle.qc_desk.specs.Calling.{Refused}
 use Rattle.qc_desk.specs.Refusing.{against_commit}
 use Rattle.qc_desk.specs.declared.view.View.{View}
-use Rattle.qc_session.proofs.Managing.{commit_wanting, dead_orphan, is_told, left_open, manager_mine, not_closed_on, running_on, wanting_on}
+use Rattle.qc_session.proofs.Managing.{commit_wanting, dead_orphan, is_told, manager_mine, not_closed_on, running_on, wanting_on}
 use Rattle.qc_session.proofs.Tidy.{manager_tidy}
 use Rattle.qc_session.specs.Acting.{IsWanting}
-use Rattle.qc_session.specs.Managing.{NotClosed}
 use Rattle.std.proofs.Common.{ap, refl, sym, ◌∙◌, subst}
 use Rattle.qc_net.specs.Courier.{held_of, link_of}
 use Rattle.qc_script.proofs.Managing.{is_manager}
@@ -55,14 +54,14 @@ returns-in-Err-abort_manager-clause-err g c =
     let w = c.abort_manager.new.line.pass in
     let r = subst (Refused (against_commit c.args.name.now) c.args.line.now.pass c.end-ended.new.self.pass) (is_told c.in-Err.no c.in-Some.ancestor (sym c.orphan_told.ensures ∙ c.in-Some.is)) c.in-Err.ensures.err in
     let short = c.in-Err-abort_manager.short in
-    subst (NotClosed v w c.args.name.now) (sym c.want_of.ensures) (left_open c.args.name.now v w short (wanting_on v u w c.args.name.now short (of_looked v u r.0) c.in-Err-abort_manager.ensures.err))
+    wanting_on v u w c.args.name.now short (of_looked v u r.0) c.in-Err-abort_manager.ensures.err
 
 pub returns-in-None-clause-err : goal.returns-in-None-clause-err
 returns-in-None-clause-err g c =
     let v = c.args.line.now.pass in
     let u = c.end-ended.new.self.pass in
     let r = c.in-Err.ensures.err in
-    subst (NotClosed v u c.args.name.now) (sym c.want_of-in-None.ensures) (left_open c.args.name.now v u c.short_of.result (subst (IsWanting v u) (sym c.short_of.ensures) (commit_wanting c.args.name.now v u c.in-Err.no r)))
+    subst (IsWanting v u) (sym c.short_of.ensures) (commit_wanting c.args.name.now v u c.in-Err.no r)
 
 pub returns-in-Ok-clause-went : goal.returns-in-Ok-clause-went
 returns-in-Ok-clause-went g c =

@@ -7,14 +7,14 @@ use Rattle.qc_desk.proofs.Calls.{after_look}
 use Rattle.qc_desk.proofs.Seers.{shown_twice, grant_enters}
 use Rattle.qc_desk.proofs.desk.Desk.append.Goals as goal
 
-pub enter-answer-requires-clause-allowed : goal.enter-answer-requires-clause-allowed
-enter-answer-requires-clause-allowed g c none =
+pub append-answer-requires-clause-allowed : goal.append-answer-requires-clause-allowed
+append-answer-requires-clause-allowed g c =
     let setting = setting_of g.N.Store.table g.N.Store.base in
     let l = c.look.ensures in
     let k = c.look-2.ensures in
     let same = k.same.0 ∙ c.deref_mut-2.ensures.value in
     after_look setting (event.Granted c.args.copy c.args.grant.now) against_nothing _ _ c.look.new.self _ c.args.pass.now _ None l.same refl (c.deref_mut-3.ensures.value ∙ same) refl
-    (λ _. grant_enters setting c.args.pass.now.number c.args.copy c.args.pass.now.seen _ c.args.grant.now l.history.legal (l.since c.requires.live) c.requires.free) none
+    (λ _. grant_enters setting c.args.pass.now.number c.args.copy c.args.pass.now.seen _ c.args.grant.now l.history.legal (l.since c.requires.live) c.requires.free) refl
 
 pub returns-clause-shown : goal.returns-clause-shown
 returns-clause-shown g c =

@@ -11,15 +11,15 @@ use Rattle.qc_desk.proofs.Finishing.{finish_allowed}
 use Rattle.qc_desk.proofs.Seers.{shown_twice}
 use Rattle.qc_desk.proofs.desk.Desk.finish.Goals as goal
 
-pub enter-answer-requires-clause-allowed : goal.enter-answer-requires-clause-allowed
-enter-answer-requires-clause-allowed g c none =
+pub append-answer-requires-clause-allowed : goal.append-answer-requires-clause-allowed
+append-answer-requires-clause-allowed g c =
     let setting = setting_of g.N.Store.table g.N.Store.base in
     let l = c.look.ensures in
     let k = c.look-2.ensures in
     let same = k.same.0 ∙ c.deref_mut-2.ensures.value in
     after_look setting (event.End c.args.top.now (Commit answer.Nothing)) against_nothing _ _ c.look.new.self _ c.args.pass.now _ None l.same refl (c.deref_mut-3.ensures.value ∙ same) refl
     (λ _. finish_allowed setting c.args.pass.now.number c.args.seer.now.seen _ c.args.pass.now.mine c.args.top.now l.history.legal
-    (subst (IsOlder c.args.seer.now.seen) (c.deref_mut-2.ensures.value ∙ l.same.0) k.seen) c.requires.ledger.1 (l.mine c.requires.ledger.0) c.requires.ready c.requires.first) none
+    (subst (IsOlder c.args.seer.now.seen) (c.deref_mut-2.ensures.value ∙ l.same.0) k.seen) c.requires.ledger.1 (l.mine c.requires.ledger.0) c.requires.ready c.requires.first) refl
 
 pub returns-clause-shown : goal.returns-clause-shown
 returns-clause-shown g c =

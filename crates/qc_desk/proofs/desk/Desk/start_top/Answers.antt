@@ -23,8 +23,8 @@ overflow_add-tops g c =
     let few = fewer c.deref-2.result.now [] in
     omega (arith, few, c.tops.ensures, c.len.ensures.length, ap length (c.deref-2.ensures ∙ sym c.deref.ensures), c.if-len-ge-LIMIT.false)
 
-pub enter-requires-clause-allowed : goal.enter-requires-clause-allowed
-enter-requires-clause-allowed g c none =
+pub append-requires-clause-allowed : goal.append-requires-clause-allowed
+append-requires-clause-allowed g c =
     let setting = setting_of g.N.Store.table g.N.Store.base in
     let l = c.look.ensures in
     let past = c.deref_mut.result.now in
@@ -35,4 +35,4 @@ enter-requires-clause-allowed g c none =
     (λ nothing. subst (λ n. Allowed setting past (entry c.args.pass.now.number (event.Start n (kind.User c.args.session c.args.body)))) (sym named)
     (top_allowed setting c.args.self.now.epoch c.args.pass.now.number past c.args.session c.args.body c.args.self.now.some
     (omega (arith, few, ap (λ h. length (children h [])) at3, c.len.ensures.length, ap length (c.deref-2.ensures ∙ sym c.deref.ensures), c.if-len-ge-LIMIT.false))
-    l.history.counted (client c.args.pass.now c.requires.client))) none
+    l.history.counted (client c.args.pass.now c.requires.client))) refl

@@ -1,13 +1,15 @@
 use Rattle.qc_event.specs.Tables.{setting_of}
 use Rattle.std.proofs.Common.{◌≡◌, ℕ, List, [], ◌∷◌, sym, ap, ◌∙◌, subst}
-use Rattle.std.specs.Prelude.{OnOk}
+use Rattle.std.specs.Prelude.{IfErr, OnOk}
 use Rattle.qc_event.specs.Legal.{Allowed}
+use Rattle.qc_event.specs.Wants.{IsWant}
 use Rattle.qc_event.proofs.LegalAgain.{legal_again}
 use Rattle.qc_event.specs.declared.event.Entry.{Entry}
 use Rattle.qc_desk.specs.declared.view.View.{View}
 use Rattle.qc_desk.specs.Entries.{entry, AreCounted}
 use Rattle.qc_desk.proofs.Counting.{counted_after}
 use Rattle.qc_desk.specs.Rules.{ruler, IsHeld, extends}
+use Rattle.qc_desk.proofs.Calls.{wants}
 use Rattle.qc_desk.proofs.Known.{known_at_rest}
 use Rattle.qc_desk.proofs.Rests.{held_after, own_after, held_lent, rest_after}
 use Rattle.qc_desk.proofs.locked.Locked.append.Goals as goal
@@ -53,3 +55,6 @@ push-answer-requires-clause-legal g c =
 
 pub returns-clause-known : goal.returns-clause-known
 returns-clause-known g c = known_at_rest (setting_of g.N.Store.table g.N.Store.base) _ (invariant_of-pass g c).4
+
+pub returns-clause-want : goal.returns-clause-want
+returns-clause-want g c = subst (λ p. IfErr c.push-answer.result (IsWant p)) c.self.view_is (wants c.self.inside.history c.push-answer.result c.push-answer.ensures.room_left)

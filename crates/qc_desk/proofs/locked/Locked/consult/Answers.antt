@@ -42,8 +42,8 @@ returns-in_default-refusal_of-clause-follows g c =
     let r = ready setting c.args.self.now h c.args.pass.now c.look.new.pass ask c.args.locks.now c.requires.copy.1 c.look.ensures.history.legal c.requires.asked (c.look.ensures.since c.requires.copy.0) c.look.ensures.same c.requires.follows in
     follows_still setting h c.args.pass.now c.look.new.pass ask c.args.locks.now r c.consult_locks-verdict.new.locks (c.consult_locks-verdict.ensures.follows h (grants h ask.copy) refl r.follows)
 
-pub enter-requires-clause-allowed : goal.enter-requires-clause-allowed
-enter-requires-clause-allowed g c = λ none.
+pub append-requires-clause-allowed : goal.append-requires-clause-allowed
+append-requires-clause-allowed g c =
     let setting = setting_of g.N.Store.table g.N.Store.base in
     let h = c.look.new.self in
     let ask = c.args.ask.now in
@@ -53,13 +53,13 @@ enter-requires-clause-allowed g c = λ none.
     (has_reason setting h ask c.consult_locks-verdict.result c.in-Some-refusal_of.refusal (sym c.refusal_of.ensures ∙ c.in-Some-refusal_of.is)
     (verdict_stands setting h ask r.has c.requires.proper r.legal c.args.locks.now c.requires.start c.consult_locks-verdict.result said))
 
-pub returns-in_err-enter-clause-follows : goal.returns-in_err-enter-clause-follows
-returns-in_err-enter-clause-follows g c =
+pub returns-in_err-append-clause-follows : goal.returns-in_err-append-clause-follows
+returns-in_err-append-clause-follows g c =
     let setting = setting_of g.N.Store.table g.N.Store.base in
     let h = c.look.new.self in
     let ask = c.args.ask.now in
     let r = ready setting c.args.self.now h c.args.pass.now c.look.new.pass ask c.args.locks.now c.requires.copy.1 c.look.ensures.history.legal c.requires.asked (c.look.ensures.since c.requires.copy.0) c.look.ensures.same c.requires.follows in
-    follows_wanting setting h c.args.pass.now c.look.new.pass ask c.args.locks.now r c.consult_locks-verdict.new.locks c.enter.new.self c.enter.new.pass (c.consult_locks-verdict.ensures.follows h (grants h ask.copy) refl r.follows) c.in_err-enter.ensures.err.0
+    follows_wanting setting h c.args.pass.now c.look.new.pass ask c.args.locks.now r c.consult_locks-verdict.new.locks c.append.new.self c.append.new.pass (c.consult_locks-verdict.ensures.follows h (grants h ask.copy) refl r.follows) c.in_err-append.ensures.err
 
 pub returns-clause-told : goal.returns-clause-told
 returns-clause-told g c =
@@ -71,10 +71,10 @@ returns-clause-told g c =
     let some = sym c.refusal_of.ensures ∙ c.in-Some-refusal_of.is in
     let reason = has_reason setting h ask c.consult_locks-verdict.result c.in-Some-refusal_of.refusal some
     (verdict_stands setting h ask r.has c.requires.proper r.legal c.args.locks.now c.requires.start c.consult_locks-verdict.result said) in
-    let entered = c.in_ok-enter.ensures.ok.1 in (
+    let entered = c.in_ok-append.ensures.ok in (
       ap (λ (x : View). granted_before x.seen ask) entered.1 ∙ before_refused h c.look.new.pass.number ask.copy ask.access c.in-Some-refusal_of.refusal ask ∙ sym c.granted.ensures ∙ c.in_default.is,
-      judged_refused setting h ask c.args.pass.now c.enter.new.pass c.consult_locks-verdict.result c.in-Some-refusal_of.refusal some
-          (entered_refusal setting h c.args.pass.now c.look.new.pass ask c.args.locks.now r c.enter.new.self c.enter.new.pass c.in-Some-refusal_of.refusal reason entered),
+      judged_refused setting h ask c.args.pass.now c.append.new.pass c.consult_locks-verdict.result c.in-Some-refusal_of.refusal some
+          (entered_refusal setting h c.args.pass.now c.look.new.pass ask c.args.locks.now r c.append.new.self c.append.new.pass c.in-Some-refusal_of.refusal reason entered),
     )
 
 pub returns-clause-follows : goal.returns-clause-follows
@@ -83,4 +83,4 @@ returns-clause-follows g c =
     let h = c.look.new.self in
     let ask = c.args.ask.now in
     let r = ready setting c.args.self.now h c.args.pass.now c.look.new.pass ask c.args.locks.now c.requires.copy.1 c.look.ensures.history.legal c.requires.asked (c.look.ensures.since c.requires.copy.0) c.look.ensures.same c.requires.follows in
-    follows_entered setting h c.args.pass.now c.look.new.pass ask c.args.locks.now r c.consult_locks-verdict.new.locks c.enter.new.self c.enter.new.pass c.in-Some-refusal_of.refusal (c.consult_locks-verdict.ensures.follows h (grants h ask.copy) refl r.follows) c.in_ok-enter.ensures.ok.1
+    follows_entered setting h c.args.pass.now c.look.new.pass ask c.args.locks.now r c.consult_locks-verdict.new.locks c.append.new.self c.append.new.pass c.in-Some-refusal_of.refusal (c.consult_locks-verdict.ensures.follows h (grants h ask.copy) refl r.follows) c.in_ok-append.ensures.ok

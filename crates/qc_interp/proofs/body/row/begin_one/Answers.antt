@@ -1,4 +1,5 @@
 use Rattle.std.proofs.Common.{sym, subst}
+use Rattle.qc_event.specs.declared.short.Short.TheVariants.{Memory}
 use Rattle.qc_script.specs.declared.tx.TxNo.TheVariants as tx_no
 use Rattle.qc_script.specs.Steps.{numbered}
 use Rattle.qc_interp.specs.AtOnce.{NotBegun}
@@ -9,7 +10,7 @@ use Rattle.qc_interp.proofs.body.row.begin_one.Goals as goal
 pub returns-in_default-branch-clause-err : goal.returns-in_default-branch-clause-err
 returns-in_default-branch-clause-err g c =
     let v = g.T.Tx.view c.args.tx.now in
-    subst (λ w. NotBegun v w c.args.of.now tx_no.Memory) (sym c.in_default-branch.ensures.err) (none_begun v c.args.of.now c.requires.legal)
+    subst (λ w. NotBegun v w c.args.of.now (tx_no.Short Memory)) (sym c.in_default-branch.ensures.err) (none_begun v c.args.of.now c.requires.legal)
 
 pub returns-in-Ok-clause-ok : goal.returns-in-Ok-clause-ok
 returns-in-Ok-clause-ok g c =

@@ -5,13 +5,13 @@ use Rattle.qc_desk.specs.Entries.{IsOlder}
 use Rattle.qc_ledger.proofs.Passes.{may_still}
 use Rattle.qc_ledger.proofs.ledger.Ledger.settle.Goals as goal
 
-pub invariant_of-self-in-Err-1 : goal.invariant_of-self-in-Err-1
-invariant_of-self-in-Err-1 g c =
+pub invariant_of-self-in_err-finish-1 : goal.invariant_of-self-in_err-finish-1
+invariant_of-self-in_err-finish-1 g c =
     let old = c.args.self.now.pass in
     let mid = c.note-seer.new.pass in
     let new = c.finish.new.pass in
     let same = c.note-seer.ensures.1 in
-    let r = c.in-Err.ensures.err in
+    let r = c.in_err-finish.ensures.err in
     let is = r.0.1 in
     let older : IsOlder old.seen new.seen = subst (λ (v : View). IsOlder v.seen new.seen) same (r.0.0.0, r.0.0.1) in
     record {

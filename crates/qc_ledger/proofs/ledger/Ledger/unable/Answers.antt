@@ -14,5 +14,5 @@ invariant_of-self g c =
       may = λ top here. kept.still top (c.args.self.now.may top here);
     }
 
-pub returns-in-Ok-clause-seen : goal.returns-in-Ok-clause-seen
-returns-in-Ok-clause-seen g c = (unable_kept c.unable.result c.args.self.now.pass c.unable.new.pass c.args.top.now c.args.why c.unable.ensures.ok c.unable.ensures.err).older
+pub returns-clause-seen : goal.returns-clause-seen
+returns-clause-seen g c = (unable_kept c.unable.result c.args.self.now.pass c.unable.new.pass c.args.top.now c.args.why c.unable.ensures.ok c.unable.ensures.err).older

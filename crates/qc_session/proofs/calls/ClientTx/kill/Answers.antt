@@ -6,7 +6,7 @@ use Rattle.qc_event.specs.Tables.{setting_of}
 use Rattle.qc_session.specs.Keeping.{IsClientPass}
 use Rattle.qc_session.specs.Marking.{IsSeatAt}
 use Rattle.qc_session.proofs.Calling.{client_now, for, mark_keeps, met_now, none_keeps}
-use Rattle.qc_session.proofs.Killing.{not_marked, wanting_walk}
+use Rattle.qc_session.proofs.Killing.{not_marked}
 use Rattle.qc_session.proofs.Own.{made_one}
 use Rattle.qc_session.proofs.OwnMarks.{may_mark}
 use Rattle.qc_session.proofs.calls.ClientTx.kill.Goals as goal
@@ -16,7 +16,7 @@ invariant_of-self g c =
     let me = c.args.self.now in
     record {
       over = me.over;
-      kept = none_keeps c.mark.ensures.went me.kept.kin me.seat.marks (wanting_walk me.line.pass c.mark.new.line.pass c.in-Err.short c.in-Err.ensures.err) me.kept;
+      kept = none_keeps c.mark.ensures.went me.kept.kin me.seat.marks c.in-Err.ensures.err.0 me.kept;
       low = me.low;
       seated = me.seated;
       boarded = me.boarded;

@@ -8,49 +8,49 @@ use Rattle.qc_site.specs.AtDesk.{hand_entries, IsGranted}
 use Rattle.qc_site.specs.Calls.{empty_handed, site_state, SiteState}
 use Rattle.qc_site.specs.Log.{journal_in}
 use Rattle.qc_site.proofs.Calls.{became_last, entered, looked}
-use Rattle.qc_site.proofs.Refusals.{desk_not_down, desk_says}
+use Rattle.qc_site.proofs.Refusals.{short_not_down, short_says}
 use Rattle.qc_site.proofs.site.Site.admit.Goals as goal
 
-pub returns-in-Ok-clause-served : goal.returns-in-Ok-clause-served
-returns-in-Ok-clause-served g c =
+pub returns-clause-served : goal.returns-clause-served
+returns-clause-served g c =
     let mid = c.write.new.self.replica in
     let hand = c.in_ok-write.ensures.hand ∙ c.requires.hand in
     record {
       enters = inr record {
         mid = c.args.self.now.replica.pass.mine;
         first_of_all = inl refl;
-        all = c.in-Ok.ensures.enters ∙ ap (λ h. hand_entries g.row.C h ++ mid.pass.mine) hand ∙ ap (λ (v : View). hand_entries g.row.C (Some (grant_with c.args.ask.now c.args.tuple.now)) ++ v.mine) c.write.ensures.pass;
+        all = c.in_ok-append.ensures.enters ∙ ap (λ h. hand_entries g.row.C h ++ mid.pass.mine) hand ∙ ap (λ (v : View). hand_entries g.row.C (Some (grant_with c.args.ask.now c.args.tuple.now)) ++ v.mine) c.write.ensures.pass;
       };
       rests = (
-        record { up = c.append.ensures.up ∙ c.in_ok-write.ensures.up; none = c.in-Ok.ensures.none },
-        subst (λ h. IfSome h (IsGranted g.row.C c.append.new.self.pass.seen)) hand c.in-Ok.ensures.granted,
+        record { up = c.append.ensures.up ∙ c.in_ok-write.ensures.up; none = c.in_ok-append.ensures.none },
+        subst (λ h. IfSome h (IsGranted g.row.C c.append.new.self.pass.seen)) hand c.in_ok-append.ensures.granted,
       );
       shown = elim c.append.ensures.same [ inl none ↦ absurd (let never = sym hand ∙ none in cc) | inr same ↦ same ];
     }
 
-pub returns-in-Ok-clause-became : goal.returns-in-Ok-clause-became
-returns-in-Ok-clause-became g c =
+pub returns-clause-became : goal.returns-clause-became
+returns-clause-became g c =
     let setting = setting_of g.N.Store.table g.N.Store.base in
     let mid = c.write.new.self in
     let law = g.met.D.Disk.leaves_now (disk_of (journal_in mid.log)) in
     became_last setting g.row.C (Some c.args.ask.now) (empty_handed (site_state c.args.self.now)) (site_state mid) _ law c.write.ensures.became
-    (entered setting g.row.C (site_state mid) _ law c.in_ok-write.ensures.journal refl refl c.in-Ok.ensures.none c.in-Ok.ensures.grants c.append.ensures.seen)
+    (entered setting g.row.C (site_state mid) _ law c.in_ok-write.ensures.journal refl refl c.in_ok-append.ensures.none c.in_ok-append.ensures.grants c.append.ensures.seen)
 
-pub returns-in-Err-clause-became : goal.returns-in-Err-clause-became
-returns-in-Err-clause-became g c =
+pub returns-in_err-append-clause-became : goal.returns-in_err-append-clause-became
+returns-in_err-append-clause-became g c =
     let setting = setting_of g.N.Store.table g.N.Store.base in
     let mid = c.write.new.self in
     let law = g.met.D.Disk.leaves_now (disk_of (journal_in mid.log)) in
     became_last setting g.row.C (Some c.args.ask.now) (empty_handed (site_state c.args.self.now)) (site_state mid) _ law c.write.ensures.became
-    (looked setting g.row.C (site_state mid) _ law refl refl c.in-Err.ensures.kept c.in-Err.ensures.err.same_grants c.append.ensures.seen)
+    (looked setting g.row.C (site_state mid) _ law refl refl c.in_err-append.ensures.kept c.in_err-append.ensures.err.same_grants c.append.ensures.seen)
 
-pub returns-in-Err-clause-refused : goal.returns-in-Err-clause-refused
-returns-in-Err-clause-refused g c =
+pub returns-in_err-append-clause-refused : goal.returns-in_err-append-clause-refused
+returns-in_err-append-clause-refused g c =
     let new : SiteState g.D.Disk = record { log = c.write.new.self.log; replica = c.append.new.self; strange = is_some c.write.new.self.strange } in
-    desk_says c.args.ask.now new c.in-Err.no c.desk_no.result c.of_site.result c.desk_no.ensures c.of_site.ensures c.in-Err.ensures.want
+    short_says c.args.ask.now new c.in_err-append.field-0.0 c.from_residual-in_err-append.result c.from_residual-in_err-append.ensures.1 c.in_err-append.ensures.want
 
-pub returns-in-Err-clause-cause : goal.returns-in-Err-clause-cause
-returns-in-Err-clause-cause g c = record {
+pub returns-in_err-append-clause-cause : goal.returns-in_err-append-clause-cause
+returns-in_err-append-clause-cause g c = record {
   later = c.in_ok-write.ensures.cause.later;
-  failed = λ failed. absurd (desk_not_down c.in-Err.no c.desk_no.result c.of_site.result c.desk_no.ensures c.of_site.ensures failed);
+  failed = λ failed. absurd (short_not_down c.in_err-append.field-0.0 c.from_residual-in_err-append.result c.from_residual-in_err-append.ensures.1 failed);
 }

@@ -10,64 +10,64 @@ use Rattle.qc_site.specs.Calls.{empty_handed, site_state, SiteState}
 use Rattle.qc_site.specs.Log.{journal_in}
 use Rattle.qc_site.proofs.Again.{err_or_again, fresh_or_again, one_tuple}
 use Rattle.qc_site.proofs.Calls.{asks, became_on, looked, serves_on}
-use Rattle.qc_site.proofs.Refusals.{desk_says}
+use Rattle.qc_site.proofs.Refusals.{short_says}
 use Rattle.qc_site.proofs.site.Site.grant.Goals as goal
 
 -- WHERE MEMORY OR ROOM IS WANTING
 
-pub returns-in-Err-clause-refused : goal.returns-in-Err-clause-refused
-returns-in-Err-clause-refused g c =
+pub returns-in_err-told-clause-refused : goal.returns-in_err-told-clause-refused
+returns-in_err-told-clause-refused g c =
     let new : SiteState g.D.Disk = record { log = c.args.self.now.log; replica = c.consult.new.self; strange = is_some c.args.self.now.strange } in
-    desk_says c.args.ask.now new c.in-Err.no c.desk_no.result c.of_site.result c.desk_no.ensures c.of_site.ensures c.in-Err.ensures.want
+    short_says c.args.ask.now new c.in_err-told.field-0.0 c.from_residual.result c.from_residual.ensures.1 c.in_err-told.ensures.want
 
-pub returns-in-Err-clause-became : goal.returns-in-Err-clause-became
-returns-in-Err-clause-became g c =
+pub returns-in_err-told-clause-became : goal.returns-in_err-told-clause-became
+returns-in_err-told-clause-became g c =
     let setting = setting_of g.N.Store.table g.N.Store.base in
     let law = g.met.D.Disk.leaves_now (disk_of (journal_in c.args.self.now.log)) in
-    asks setting g.row.C c.args.ask.now _ _ (looked setting g.row.C (site_state c.args.self.now) _ law refl refl (c.in-Err.ensures.none ∙ sym c.requires.ready.none) c.consult.ensures.grants c.consult.ensures.seen)
+    asks setting g.row.C c.args.ask.now _ _ (looked setting g.row.C (site_state c.args.self.now) _ law refl refl (c.in_err-told.ensures.none ∙ sym c.requires.ready.none) c.consult.ensures.grants c.consult.ensures.seen)
 
-pub returns-in-Err-clause-again : goal.returns-in-Err-clause-again
-returns-in-Err-clause-again g c = λ tuple told. absurd (err_or_again c.consult.result c.in-Err.no tuple c.in-Err.is (c.consult.ensures.again tuple told))
+pub returns-in_err-told-clause-again : goal.returns-in_err-told-clause-again
+returns-in_err-told-clause-again g c = λ tuple told. absurd (err_or_again c.consult.result c.in_err-told.field-0.0 tuple c.in_err-told.was (c.consult.ensures.again tuple told))
 
 -- A REPEAT
 
 pub returns-in-Again-clause-served : goal.returns-in-Again-clause-served
 returns-in-Again-clause-served g c = record {
-  enters = inl (inl (c.in-Ok.ensures.enters ∙ ap (λ x. told_entries g.row.C c.args.ask.now x ++ c.args.self.now.replica.pass.mine) c.in-Again.is));
+  enters = inl (inl (c.in_ok-told.ensures.enters ∙ ap (λ x. told_entries g.row.C c.args.ask.now x ++ c.args.self.now.replica.pass.mine) c.in-Again.is));
   rests = (
-    record { up = c.consult.ensures.up; none = c.in-Ok.ensures.hand ∙ ap (hand_after c.args.ask.now) c.in-Again.is },
-    c.consult.ensures.granted c.in-Again.tuple (c.in-Ok.is ∙ ap (λ x. Ok x) c.in-Again.is),
+    record { up = c.consult.ensures.up; none = c.in_ok-told.ensures.hand ∙ ap (hand_after c.args.ask.now) c.in-Again.is },
+    c.consult.ensures.granted c.in-Again.tuple (c.in_ok-told.was ∙ ap (λ x. Ok x) c.in-Again.is),
   );
   shown = c.consult.ensures.same;
 }
 
 pub returns-in-Again-clause-again : goal.returns-in-Again-clause-again
 returns-in-Again-clause-again g c = λ tuple told. (
-  ap (λ t. Ok (Granted t)) (one_tuple c.consult.result c.in-Again.tuple tuple (c.in-Ok.is ∙ ap (λ x. Ok x) c.in-Again.is) (c.consult.ensures.again tuple told)),
+  ap (λ t. Ok (Granted t)) (one_tuple c.consult.result c.in-Again.tuple tuple (c.in_ok-told.was ∙ ap (λ x. Ok x) c.in-Again.is) (c.consult.ensures.again tuple told)),
   refl,
-  c.in-Ok.ensures.enters ∙ ap (λ x. told_entries g.row.C c.args.ask.now x ++ c.args.self.now.replica.pass.mine) c.in-Again.is,
+  c.in_ok-told.ensures.enters ∙ ap (λ x. told_entries g.row.C c.args.ask.now x ++ c.args.self.now.replica.pass.mine) c.in-Again.is,
 )
 
 pub returns-in-Again-clause-became : goal.returns-in-Again-clause-became
 returns-in-Again-clause-became g c =
     let setting = setting_of g.N.Store.table g.N.Store.base in
     let law = g.met.D.Disk.leaves_now (disk_of (journal_in c.args.self.now.log)) in
-    let none = c.in-Ok.ensures.hand ∙ ap (hand_after c.args.ask.now) c.in-Again.is in
+    let none = c.in_ok-told.ensures.hand ∙ ap (hand_after c.args.ask.now) c.in-Again.is in
     asks setting g.row.C c.args.ask.now _ _ (looked setting g.row.C (site_state c.args.self.now) _ law refl refl (none ∙ sym c.requires.ready.none) c.consult.ensures.grants c.consult.ensures.seen)
 
 -- WHAT IS FREE
 
 pub returns-in_err-admit-in-Free-clause-again : goal.returns-in_err-admit-in-Free-clause-again
-returns-in_err-admit-in-Free-clause-again g c = λ tuple told. absurd (fresh_or_again c.consult.result c.in-Fresh.verdict tuple (c.in-Ok.is ∙ ap (λ x. Ok x) c.in-Fresh.is) (c.consult.ensures.again tuple told))
+returns-in_err-admit-in-Free-clause-again g c = λ tuple told. absurd (fresh_or_again c.consult.result c.in-Fresh.verdict tuple (c.in_ok-told.was ∙ ap (λ x. Ok x) c.in-Fresh.is) (c.consult.ensures.again tuple told))
 
 pub returns-in_ok-admit-in-Free-clause-again : goal.returns-in_ok-admit-in-Free-clause-again
-returns-in_ok-admit-in-Free-clause-again g c = λ tuple told. absurd (fresh_or_again c.consult.result c.in-Fresh.verdict tuple (c.in-Ok.is ∙ ap (λ x. Ok x) c.in-Fresh.is) (c.consult.ensures.again tuple told))
+returns-in_ok-admit-in-Free-clause-again g c = λ tuple told. absurd (fresh_or_again c.consult.result c.in-Fresh.verdict tuple (c.in_ok-told.was ∙ ap (λ x. Ok x) c.in-Fresh.is) (c.consult.ensures.again tuple told))
 
 pub returns-in_ok-admit-in-Free-clause-served : goal.returns-in_ok-admit-in-Free-clause-served
 returns-in_ok-admit-in-Free-clause-served g c =
     let old = site_state c.args.self.now in
     let told : SiteState g.D.Disk = record { log = old.log; replica = c.consult.new.self; strange = old.strange } in
-    let before = c.in-Ok.ensures.enters ∙ ap (λ x. told_entries g.row.C c.args.ask.now x ++ old.replica.pass.mine) (c.in-Fresh.is ∙ ap (λ x. Fresh x) c.in-Free.is) in
+    let before = c.in_ok-told.ensures.enters ∙ ap (λ x. told_entries g.row.C c.args.ask.now x ++ old.replica.pass.mine) (c.in-Fresh.is ∙ ap (λ x. Fresh x) c.in-Free.is) in
     serves_on g.row.C c.args.ask.now c.admit.new.seer old (empty_handed told) (site_state c.admit.new.self) (Granted c.in-Free.tuple) (inl before) refl c.in_ok-admit-in-Free.ensures.served
 
 pub returns-in_ok-admit-in-Free-clause-became : goal.returns-in_ok-admit-in-Free-clause-became
@@ -97,10 +97,10 @@ returns-in_ok-admit-in-Free-clause-seer g c = sees_on c.args.seer.now c.consult.
 -- WHAT IS REFUSED
 
 pub returns-in-Blocked-clause-again : goal.returns-in-Blocked-clause-again
-returns-in-Blocked-clause-again g c = λ tuple told. absurd (fresh_or_again c.consult.result c.in-Fresh.verdict tuple (c.in-Ok.is ∙ ap (λ x. Ok x) c.in-Fresh.is) (c.consult.ensures.again tuple told))
+returns-in-Blocked-clause-again g c = λ tuple told. absurd (fresh_or_again c.consult.result c.in-Fresh.verdict tuple (c.in_ok-told.was ∙ ap (λ x. Ok x) c.in-Fresh.is) (c.consult.ensures.again tuple told))
 
 pub returns-in-Dead-clause-again : goal.returns-in-Dead-clause-again
-returns-in-Dead-clause-again g c = λ tuple told. absurd (fresh_or_again c.consult.result c.in-Fresh.verdict tuple (c.in-Ok.is ∙ ap (λ x. Ok x) c.in-Fresh.is) (c.consult.ensures.again tuple told))
+returns-in-Dead-clause-again g c = λ tuple told. absurd (fresh_or_again c.consult.result c.in-Fresh.verdict tuple (c.in_ok-told.was ∙ ap (λ x. Ok x) c.in-Fresh.is) (c.consult.ensures.again tuple told))
 
 pub returns-in-Blocked-clause-served : goal.returns-in-Blocked-clause-served
 returns-in-Blocked-clause-served g c =
@@ -109,9 +109,9 @@ returns-in-Blocked-clause-served g c =
       enters = record {
         mid = c.args.self.now.replica.pass.mine;
         first_of_all = inl refl;
-        all = c.in-Ok.ensures.enters ∙ ap (λ x. told_entries g.row.C c.args.ask.now x ++ c.args.self.now.replica.pass.mine) told;
+        all = c.in_ok-told.ensures.enters ∙ ap (λ x. told_entries g.row.C c.args.ask.now x ++ c.args.self.now.replica.pass.mine) told;
       };
-      rests = record { up = c.consult.ensures.up; none = c.in-Ok.ensures.hand ∙ ap (hand_after c.args.ask.now) told };
+      rests = record { up = c.consult.ensures.up; none = c.in_ok-told.ensures.hand ∙ ap (hand_after c.args.ask.now) told };
       shown = c.consult.ensures.same;
     }
 
@@ -119,7 +119,7 @@ pub returns-in-Blocked-clause-became : goal.returns-in-Blocked-clause-became
 returns-in-Blocked-clause-became g c =
     let setting = setting_of g.N.Store.table g.N.Store.base in
     let law = g.met.D.Disk.leaves_now (disk_of (journal_in c.args.self.now.log)) in
-    let none = c.in-Ok.ensures.hand ∙ ap (hand_after c.args.ask.now) (c.in-Fresh.is ∙ ap (λ x. Fresh x) c.in-Blocked.is) in
+    let none = c.in_ok-told.ensures.hand ∙ ap (hand_after c.args.ask.now) (c.in-Fresh.is ∙ ap (λ x. Fresh x) c.in-Blocked.is) in
     asks setting g.row.C c.args.ask.now _ _ (looked setting g.row.C (site_state c.args.self.now) _ law refl refl (none ∙ sym c.requires.ready.none) c.consult.ensures.grants c.consult.ensures.seen)
 
 pub returns-in-Dead-clause-served : goal.returns-in-Dead-clause-served
@@ -129,9 +129,9 @@ returns-in-Dead-clause-served g c =
       enters = record {
         mid = c.args.self.now.replica.pass.mine;
         first_of_all = inl refl;
-        all = c.in-Ok.ensures.enters ∙ ap (λ x. told_entries g.row.C c.args.ask.now x ++ c.args.self.now.replica.pass.mine) told;
+        all = c.in_ok-told.ensures.enters ∙ ap (λ x. told_entries g.row.C c.args.ask.now x ++ c.args.self.now.replica.pass.mine) told;
       };
-      rests = record { up = c.consult.ensures.up; none = c.in-Ok.ensures.hand ∙ ap (hand_after c.args.ask.now) told };
+      rests = record { up = c.consult.ensures.up; none = c.in_ok-told.ensures.hand ∙ ap (hand_after c.args.ask.now) told };
       shown = c.consult.ensures.same;
     }
 
@@ -139,5 +139,5 @@ pub returns-in-Dead-clause-became : goal.returns-in-Dead-clause-became
 returns-in-Dead-clause-became g c =
     let setting = setting_of g.N.Store.table g.N.Store.base in
     let law = g.met.D.Disk.leaves_now (disk_of (journal_in c.args.self.now.log)) in
-    let none = c.in-Ok.ensures.hand ∙ ap (hand_after c.args.ask.now) (c.in-Fresh.is ∙ ap (λ x. Fresh x) c.in-Dead.is) in
+    let none = c.in_ok-told.ensures.hand ∙ ap (hand_after c.args.ask.now) (c.in-Fresh.is ∙ ap (λ x. Fresh x) c.in-Dead.is) in
     asks setting g.row.C c.args.ask.now _ _ (looked setting g.row.C (site_state c.args.self.now) _ law refl refl (none ∙ sym c.requires.ready.none) c.consult.ensures.grants c.consult.ensures.seen)

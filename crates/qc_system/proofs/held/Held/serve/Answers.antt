@@ -4,10 +4,11 @@ use Rattle.std.proofs.Math.Logic.{∥∥₁_map}
 use Rattle.qc_ledger.proofs.Passes.{sees_on}
 use Rattle.qc_event.specs.declared.short.Short.TheVariants.{Room}
 use Rattle.qc_event.specs.Tables.{setting_of}
+use Rattle.qc_event.specs.Wants.{IsWant}
 use Rattle.qc_journal.specs.Journal.{disk_of}
 use Rattle.qc_desk.specs.Entries.{IsOlder}
 use Rattle.qc_site.specs.Answers.{HasAnswered}
-use Rattle.qc_site.specs.Calls.{AnswerRests, ShortSays, site_state}
+use Rattle.qc_site.specs.Calls.{AnswerRests, site_state}
 use Rattle.qc_site.specs.Log.{journal_in}
 use Rattle.qc_site.proofs.Calls.{served_enters}
 use Rattle.qc_site.proofs.Since.{grants_on}
@@ -59,7 +60,7 @@ returns-in-Ok-clause-answered g c =
 pub returns-in-Err-clause-room : goal.returns-in-Err-clause-room
 returns-in-Err-clause-room g c = λ is.
     full_still c.serve.new.self.replica.pass.seen c.show.new.seer.seen (subst (λ p. IsOlder c.serve.new.self.replica.pass.seen p) (sym c.show.ensures.same) c.show.ensures.looks.older) c.show.ensures.bounded
-    (let one : c.in-Err.short ≡ Room = cc in subst (ShortSays c.serve.new.self.replica.pass.seen) one c.in-Err.ensures.refused)
+    (let one : c.in-Err.short ≡ Room = cc in subst (IsWant c.serve.new.self.replica.pass.seen) one c.in-Err.ensures.refused)
 
 pub returns-in-Err-clause-seer : goal.returns-in-Err-clause-seer
 returns-in-Err-clause-seer g c = sees_on c.args.seer.now c.serve.new.seer c.show.new.seer c.serve.ensures.seer c.show.ensures.seer
