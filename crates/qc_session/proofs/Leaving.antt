@@ -7,7 +7,6 @@ use Rattle.qc_event.specs.declared.event.Entry.{Entry}
 use Rattle.qc_event.specs.declared.short.Short.{Short}
 use Rattle.qc_event.specs.declared.short.Short.TheVariants.{Memory, Room}
 use Rattle.qc_event.specs.History.{Past, Name, limit}
-use Rattle.qc_event.specs.Legal.{Legal}
 use Rattle.qc_event.specs.Wants.{IsWant}
 use Rattle.qc_interp.specs.FollowsScript.{net_of}
 use Rattle.qc_interp.specs.Reach.{Reach}
@@ -16,6 +15,7 @@ use Rattle.qc_interp.proofs.Following.RanLater.{ends_begun, turns_begun}
 use Rattle.qc_interp.proofs.Sessions.TopsRun.{none_cut}
 use Rattle.qc_net.specs.Messages.{Net, meets_fates}
 use Rattle.qc_desk.specs.declared.view.View.{View}
+use Rattle.qc_desk.specs.Known.{IsKnown}
 use Rattle.qc_desk.specs.Rules.{Has, numbers}
 use Rattle.qc_desk.proofs.Having.{has_none}
 use Rattle.qc_script.specs.Client.{Client, HasJoined, is_own, mine}
@@ -89,9 +89,9 @@ module _ (setting : Setting) (epoch patience session : ℕ) (plan : SessionPlan)
       begins (Ok done) ends turns cut = leaves Reach.cut_off (ends_begun told_as before back.seen plan.tops ends) (turns_begun told_as before back.seen turns)
       begins (Err why) ends turns cut = leaves Reach.cut_off cut.begins cut.in_turn
 
-      pub one_ran : (ran : Result (Unit {0}) Short) → OnOk ran (EndsTops told_as before back.seen plan.tops) → OnOk ran (RanInTurn told_as before back.seen) → IfErr ran (λ _. CutTops told_as before back.seen plan.tops) → IfErr ran (IsWant back.seen)
+      pub one_ran : (ran : Result (Unit {0}) Short) → OnOk ran (EndsTops told_as before back.seen plan.tops) → OnOk ran (RanInTurn told_as before back.seen) → IfErr ran (λ _. CutTops told_as before back.seen plan.tops) → IfErr ran (IsWant back.seen) → IsKnown setting back
           → RanOne setting epoch patience session plan given ran back
-      one_ran ran ends turns cut want = record {
+      one_ran ran ends turns cut want known = record {
         number = ap (λ (x : Client). x.number) joined_now.same;
         live = live;
         out = ap (λ (x : Client). x.out) joined_now.same ∙ new.out;
@@ -100,14 +100,15 @@ module _ (setting : Setting) (epoch patience session : ℕ) (plan : SessionPlan)
         follows = follows ran ends turns;
         begins = begins ran ends turns cut;
         room = full_of ran back.seen want;
+        known = known;
       }
 
   alone : numbers given ≡ given.number ∷ []
   alone = ap (λ ks. given.number ∷ ks) kinless
 
   -- it got no memory to begin with
-  pub none_ran : Legal setting given.seen → RanOne setting epoch patience session plan given (Err Memory) given
-  none_ran legal = record {
+  pub none_ran : IsKnown setting given → RanOne setting epoch patience session plan given (Err Memory) given
+  none_ran known = record {
     number = refl;
     live = new.live;
     out = new.out;
@@ -119,13 +120,14 @@ module _ (setting : Setting) (epoch patience session : ℕ) (plan : SessionPlan)
       in_turn = cut.in_turn;
       met = subst (λ ns. IsTrue (list_all (λ seat. meets_fates seat (net_of patience plan) given.seen) ns)) (sym alone)
           (ap (λ b. b && true) (met_none given.number plan.fates plan.hold patience given.seen new.none));
-      tidy = ∣ subst (λ ns. AreTidy ns given.seen) (sym alone) (fresh_tidy setting given.number given.seen legal new.none, tt) ∣₁;
+      tidy = ∣ subst (λ ns. AreTidy ns given.seen) (sym alone) (fresh_tidy setting given.number given.seen known.legal new.none, tt) ∣₁;
     };
     room = λ is. absurd (no_room (Err Memory) refl is);
+    known = known;
   }
     where
       cut : CutTops c given.seen given.seen plan.tops
-      cut = none_cut c plan.tops given.seen given.seen (record { newer = []; grown = refl; made = refl; legal = legal })
+      cut = none_cut c plan.tops given.seen given.seen (record { newer = []; grown = refl; made = refl; legal = known.legal })
 
       no_room : (r : Result (Unit {0}) Short) → r ≡ Err Memory → IsErrOf r Room → ⊥
       no_room (Ok done) at is = cc

@@ -12,6 +12,7 @@ use Rattle.qc_interp.specs.Session.{EndsTopsAt, InTurnAt}
 use Rattle.qc_net.specs.Messages.{meets_fates}
 use Rattle.qc_desk.specs.declared.view.View.{View as Pass}
 use Rattle.qc_desk.specs.Entries.{IsOlder, entries_of}
+use Rattle.qc_desk.specs.Known.{IsKnown}
 use Rattle.qc_desk.specs.Rules.{AreKin, Has, numbers}
 use Rattle.qc_script.specs.Plan.{SessionPlan, SessionWithin}
 use Rattle.qc_session.specs.Clients.{client_for}
@@ -56,6 +57,7 @@ pub record RanOne (setting : Setting) (epoch patience session : ℕ) (plan : Ses
   pub follows : OnOk ran (Leaves Reach.to_the_end setting epoch patience session plan given.seen back)
   pub begins : Leaves Reach.cut_off setting epoch patience session plan given.seen back
   pub room : IsErrOf ran Room → length back.seen ≡ limit
+  pub known : IsKnown setting back
 
 -- EACH OF THEM
 

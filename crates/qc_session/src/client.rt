@@ -64,7 +64,6 @@ impl<'a, R: Wait, D: Disk + Drop, L: Link + Drop, N: Mounting, B: Boarded> Clien
         ensures root { result.root ≡ [] }
         ensures session { result.session ≡ session }
     {
-        line.pass.known();
         Client {
             line,
             table,

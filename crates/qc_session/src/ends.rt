@@ -57,7 +57,6 @@ fn abort_licensed<R: Wait, D: Disk + Drop, L: Link + Drop, N: Mounting>(
         line.old.patience line.new.patience line.old.system line.new.system }
 {
     let aborted = line.abort(target, cause);
-    line.known();
     match aborted {
         Ok(()) => Ok(()),
         Err(no) => Err(no_of(&no)),
@@ -82,7 +81,6 @@ fn abort_orphan<R: Wait, D: Disk + Drop, L: Link + Drop, N: Mounting>(
         line.old.patience line.new.patience line.old.system line.new.system }
 {
     let how = line.ended(ancestor);
-    line.known();
     if is_commit(&how) {
         return Err(TxNo::Ended);
     }
@@ -107,7 +105,6 @@ fn abort_with_child<R: Wait, D: Disk + Drop, L: Link + Drop, N: Mounting>(
         line.old.patience line.new.patience line.old.system line.new.system }
 {
     let how = line.ended(child);
-    line.known();
     if !is_abort(&how) {
         return Err(TxNo::Ended);
     }
@@ -133,7 +130,6 @@ fn abort_for_child<R: Wait, D: Disk + Drop, L: Link + Drop, N: Mounting>(
         line.old.patience line.new.patience line.old.system line.new.system }
 {
     let fallen = line.dead(target);
-    line.known();
     if let Some(ancestor) = fallen {
         return Err(TxNo::Orphan(ancestor));
     }
@@ -183,7 +179,6 @@ pub(crate) fn commit_below<R: Wait, D: Disk + Drop, L: Link + Drop, N: Mounting>
         line.old.patience line.new.patience line.old.system line.new.system }
 {
     let ended = line.end(of, &Answer::Nothing);
-    line.known();
     match ended {
         Ok(()) => Ok(()),
         Err(no) => Err(no_of(&no)),
@@ -209,13 +204,11 @@ pub(crate) fn commit_top<R: Wait, D: Disk + Drop, L: Link + Drop, N: Mounting>(
     let listed = match line.ready(top) {
         Ok(listed) => listed,
         Err(no) => {
-            line.known();
             return Err(no_of(&no));
         }
     };
     line.look();
     let logged = line.log(top, listed.as_slice());
-    line.known();
     match logged {
         Ok(()) => Ok(()),
         Err(no) => Err(log_no(&no)),

@@ -94,7 +94,6 @@ fn abort_manager<R: Wait, D: Disk + Drop, L: Link + Drop, N: Mounting>(
         line.old.patience line.new.patience line.old.system line.new.system }
 {
     let aborted = line.abort(name, cause);
-    line.known();
     match aborted {
         Ok(()) => Ok(()),
         Err(no) => Err(short_of(&no)),
@@ -118,7 +117,6 @@ fn commit_manager<R: Wait, D: Disk + Drop, L: Link + Drop, N: Mounting>(
         line.old.patience line.new.patience line.old.system line.new.system }
 {
     let ended = line.end(name, answer);
-    line.known();
     match ended {
         Ok(()) => Ok(*answer),
         Err(no) => match orphan_told(&no) {
@@ -156,7 +154,6 @@ fn close<R: Wait, D: Disk + Drop, L: Link + Drop, N: Mounting>(
                 Err(short) => Err(TxNo::Short(short)),
             },
             None => {
-                line.known();
                 Err(told(no))
             }
         },

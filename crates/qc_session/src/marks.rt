@@ -44,7 +44,6 @@ pub(crate) fn mark<R: Wait, D: Disk + Drop, L: Link + Drop, N: Mounting>(
         line.old.patience line.new.patience line.old.system line.new.system }
 {
     let marked = line.mark(by, session);
-    line.known();
     marked?;
     Ok(())
 }
@@ -61,6 +60,5 @@ pub(crate) fn marked<R: Wait, D: Disk + Drop, L: Link + Drop, N: Mounting>(
         line.old.patience line.new.patience line.old.system line.new.system }
 {
     let is_marked = line.marked(of);
-    line.known();
     is_marked
 }

@@ -1,6 +1,7 @@
 //! The sessions of a script, each run by a client of its own over a system.
 ghost use Rattle.std.specs.Prelude.{◌≡◌, ◌+◌, ◌<◌, ◌≤◌, length, map, IfOk};
 ghost use Rattle.qc_event.specs.Tables.{setting_of};
+ghost use Rattle.qc_desk.specs.Known.{IsKnown};
 ghost use Rattle.qc_script.specs.Plan.{SessionsFit};
 ghost use Rattle.qc_script.specs.Steps.{plan_of_session};
 ghost use Rattle.qc_session.specs.Marking.{IsSeatAt};
@@ -79,6 +80,7 @@ fn run_client<
     number: u8,
 ) -> (Result<(), Short>, Pass<N>)
     requires new { IsNew pass }
+    requires known { IsKnown (setting_of N.table N.base) pass }
     requires seated { IsSeatAt board.now seat }
     requires boarded { board.now.board ≡ B.board }
     requires low { number < 16 }
@@ -87,7 +89,6 @@ fn run_client<
     ensures { RanOne (setting_of N.table N.base) system.now.desk.epoch script.now.patience number
         (plan_of_session session.now) pass result.0 result.1 }
 {
-    pass.known();
     let fates = match fates_of(session) {
         Ok(fates) => fates,
         Err(AllocError) => return (Err(Short::Memory), pass),
@@ -95,11 +96,9 @@ fn run_client<
     let courier = Courier::new(alloc, PlanLink::new(fates, session.hold));
     let line = Line::new(rt, system, pass, courier, script.patience);
     let mut client = Client::<_, _, _, _, B>::new(line, &script.table, number, board, seat);
-    client.line.known();
     gate.pass(number);
     let host = Host { rt, alloc, mode };
     let ran = run_tops(&mut client, &host, session.tops.as_slice());
-    client.line.known();
     (ran, client.into_pass())
 }
 
@@ -124,6 +123,7 @@ impl<
         number: u8,
     ) -> ((Result<(), Short>, Pass<N>), (Result<(), Short>, Pass<N>))
         requires new { IsNew pass }
+        requires known { IsKnown (setting_of N.table N.base) pass }
         requires first { IsFirst first }
         requires seated { IsSeatAt self.now.board.now seat
             × IsSeatAt self.now.board.now first_seat }
@@ -150,7 +150,7 @@ impl<
         join(
             rt,
             || -> (Result<(), Short>, Pass<N>)
-                requires { IsNew pass
+                requires { IsNew pass × IsKnown (setting_of N.table N.base) pass
                     × SessionFits (setting_of N.table N.base) (plan_of_session session.now)
                     × (script.now.table ≡ N.table) × IsSeatAt board.now seat
                     × (board.now.board ≡ B.board) × (number < 16) }
@@ -200,11 +200,9 @@ impl<
         let (mut first, mut first_seat) = (first, first_seat);
         let pass = self.system.desk().split(self.rt, &mut first);
         let seat = self.board.split(&mut first_seat);
-        pass.known();
         let ((ran, pass), (others, mut first)) = self.run_both(
             pass, seat, session, first, first_seat, rest, number,
         );
-        pass.known();
         self.system.desk().join(self.rt, &mut first, pass);
         (first_want(ran, others), first)
     }

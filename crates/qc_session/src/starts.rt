@@ -43,7 +43,6 @@ pub(crate) fn start_top<R: Wait, D: Disk + Drop, L: Link + Drop, N: Mounting>(
         line.old.patience line.new.patience line.old.system line.new.system }
 {
     let started = line.start_top(session, body);
-    line.known();
     let name = started?;
     Ok(name)
 }
@@ -64,7 +63,6 @@ pub(crate) fn start_child<R: Wait, D: Disk + Drop, L: Link + Drop, N: Mounting>(
         line.old.patience line.new.patience line.old.system line.new.system }
 {
     let started = line.start(of, kind);
-    line.known();
     match started {
         Ok(name) => Ok(name),
         Err(no) => Err(no_of(&no)),

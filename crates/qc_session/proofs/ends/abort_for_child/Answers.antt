@@ -7,15 +7,13 @@ use Rattle.qc_event.specs.Tables.{setting_of}
 use Rattle.qc_event.specs.declared.event.Cause.TheVariants as cause
 use Rattle.qc_event.specs.declared.event.Event.TheVariants as event
 use Rattle.qc_event.specs.declared.event.How.TheVariants.{Abort as Aborts}
-use Rattle.qc_desk.specs.declared.view.View.{View}
 use Rattle.qc_session.proofs.Aborting.{all_ended_on, all_unfounded_on, alive_before, on_any}
 use Rattle.qc_session.proofs.Refused.{dead_refuses}
-use Rattle.std.proofs.Common.{◌≡◌, ap, sym, ◌∙◌, subst}
+use Rattle.std.proofs.Common.{◌≡◌, sym, ◌∙◌, subst}
 use Rattle.std.specs.Prelude.{None}
 use Rattle.qc_net.specs.Courier.{held_of, link_of}
 use Rattle.qc_session.proofs.Going.{went_looking, went_on_from}
 use Rattle.qc_session.proofs.ends.abort_for_child.Goals as goal
-use Rattle.qc_session.proofs.Knowing.{seen_legal}
 
 pub returns-in-Some-clause-err : goal.returns-in-Some-clause-err
 returns-in-Some-clause-err g c =
@@ -57,10 +55,10 @@ pub returns-in-Some-clause-went : goal.returns-in-Some-clause-went
 returns-in-Some-clause-went g c =
     let v = c.args.line.now.pass in
     let line = c.dead-fallen.new.self in
-    went_looking (setting_of g.N.Store.table g.N.Store.base) v line.pass (λ k. (g.L.Link.view (link_of k)).plan) (of_shown v line.pass c.args.line.now.client c.dead-fallen.ensures.looked) c.dead-fallen.ensures.rest (seen_legal line.known) c.known.ensures.kin (held_of line.courier) line.keeps
+    went_looking (setting_of g.N.Store.table g.N.Store.base) v line.pass (λ k. (g.L.Link.view (link_of k)).plan) (of_shown v line.pass c.args.line.now.client c.dead-fallen.ensures.looked) c.dead-fallen.ensures.rest line.known (held_of line.courier) line.keeps
 
 pub returns-clause-went : goal.returns-clause-went
 returns-clause-went g c =
     let v = c.args.line.now.pass in
     let line = c.dead-fallen.new.self in
-    went_on_from (setting_of g.N.Store.table g.N.Store.base) v line.pass c.abort_with_child.new.line.pass (λ k. (g.L.Link.view (link_of k)).plan) (seen_legal line.known) (of_shown v line.pass c.args.line.now.client c.dead-fallen.ensures.looked) c.dead-fallen.ensures.rest c.abort_with_child.ensures.went
+    went_on_from (setting_of g.N.Store.table g.N.Store.base) v line.pass c.abort_with_child.new.line.pass (λ k. (g.L.Link.view (link_of k)).plan) line.known (of_shown v line.pass c.args.line.now.client c.dead-fallen.ensures.looked) c.dead-fallen.ensures.rest c.abort_with_child.ensures.went

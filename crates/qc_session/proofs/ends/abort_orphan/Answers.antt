@@ -8,7 +8,6 @@ use Rattle.qc_event.specs.Tables.{setting_of}
 use Rattle.qc_event.specs.declared.event.Cause.TheVariants as cause
 use Rattle.qc_event.specs.declared.event.Event.TheVariants as event
 use Rattle.qc_event.specs.declared.event.How.TheVariants.{Abort as Aborts}
-use Rattle.qc_desk.specs.declared.view.View.{View}
 use Rattle.qc_interp.proofs.Rows.Aborting.{ended_later}
 use Rattle.qc_session.proofs.Aborting.{all_licensed, all_ended_on, all_unaborted_on, orphan_grounded}
 use Rattle.std.proofs.Common.{◌≡◌, true, ap, inr, sym, ◌∙◌, subst}
@@ -16,7 +15,6 @@ use Rattle.std.specs.Prelude.{is_some}
 use Rattle.qc_net.specs.Courier.{held_of, link_of}
 use Rattle.qc_session.proofs.Going.{went_looking, went_on_from}
 use Rattle.qc_session.proofs.ends.abort_orphan.Goals as goal
-use Rattle.qc_session.proofs.Knowing.{seen_legal}
 
 pub returns-then-is_commit-clause-err : goal.returns-then-is_commit-clause-err
 returns-then-is_commit-clause-err g c =
@@ -50,10 +48,10 @@ pub returns-then-is_commit-clause-went : goal.returns-then-is_commit-clause-went
 returns-then-is_commit-clause-went g c =
     let v = c.args.line.now.pass in
     let line = c.ended-how.new.self in
-    went_looking (setting_of g.N.Store.table g.N.Store.base) v line.pass (λ k. (g.L.Link.view (link_of k)).plan) (of_shown v line.pass c.args.line.now.client c.ended-how.ensures.looked) c.ended-how.ensures.rest (seen_legal line.known) c.known.ensures.kin (held_of line.courier) line.keeps
+    went_looking (setting_of g.N.Store.table g.N.Store.base) v line.pass (λ k. (g.L.Link.view (link_of k)).plan) (of_shown v line.pass c.args.line.now.client c.ended-how.ensures.looked) c.ended-how.ensures.rest line.known (held_of line.courier) line.keeps
 
 pub returns-clause-went : goal.returns-clause-went
 returns-clause-went g c =
     let v = c.args.line.now.pass in
     let line = c.ended-how.new.self in
-    went_on_from (setting_of g.N.Store.table g.N.Store.base) v line.pass c.abort_licensed.new.line.pass (λ k. (g.L.Link.view (link_of k)).plan) (seen_legal line.known) (of_shown v line.pass c.args.line.now.client c.ended-how.ensures.looked) c.ended-how.ensures.rest c.abort_licensed.ensures.went
+    went_on_from (setting_of g.N.Store.table g.N.Store.base) v line.pass c.abort_licensed.new.line.pass (λ k. (g.L.Link.view (link_of k)).plan) line.known (of_shown v line.pass c.args.line.now.client c.ended-how.ensures.looked) c.ended-how.ensures.rest c.abort_licensed.ensures.went

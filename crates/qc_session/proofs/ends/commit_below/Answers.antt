@@ -21,25 +21,25 @@ pub returns-in-Ok-clause-ok : goal.returns-in-Ok-clause-ok
 returns-in-Ok-clause-ok g c = λ client for.
     let v = c.args.line.now.pass in
     let w = c.end-ended.new.self.pass in
-    below_committed (setting_of g.N.Store.table g.N.Store.base) v w client for c.known.ensures.legal c.args.of.now c.requires.below (of_entered (against_commit c.args.of.now) (event.End c.args.of.now (Commits answer.Nothing)) v w c.in-Ok.ensures.ok)
+    below_committed (setting_of g.N.Store.table g.N.Store.base) v w client for (seen_legal c.end-ended.new.self.known) c.args.of.now c.requires.below (of_entered (against_commit c.args.of.now) (event.End c.args.of.now (Commits answer.Nothing)) v w c.in-Ok.ensures.ok)
 
 pub returns-in-Err-clause-err : goal.returns-in-Err-clause-err
 returns-in-Err-clause-err g c = λ client for.
     let v = c.args.line.now.pass in
     let w = c.end-ended.new.self.pass in
     let r = c.in-Err.ensures.err in
-    subst (NotCommitted client c.args.of.now v.seen w.seen) (sym c.no_of.ensures) (commit_refused client v.seen w.seen (made_so (setting_of g.N.Store.table g.N.Store.base) v w client for c.known.ensures.legal [] (of_looked v w r.0)) c.args.of.now c.in-Err.no r.1)
+    subst (NotCommitted client c.args.of.now v.seen w.seen) (sym c.no_of.ensures) (commit_refused client v.seen w.seen (made_so (setting_of g.N.Store.table g.N.Store.base) v w client for (seen_legal c.end-ended.new.self.known) [] (of_looked v w r.0)) c.args.of.now c.in-Err.no r.1)
 
 pub returns-in-Ok-clause-went : goal.returns-in-Ok-clause-went
 returns-in-Ok-clause-went g c =
     let v = c.args.line.now.pass in
     let line = c.end-ended.new.self in
     let s = c.in-Ok.ensures.ok in
-    went_by (setting_of g.N.Store.table g.N.Store.base) v line.pass (λ k. (g.L.Link.view (link_of k)).plan) _ (of_entered (against_commit c.args.of.now) (event.End c.args.of.now (Commits answer.Nothing)) v line.pass s) c.end-ended.ensures.rest (seen_legal line.known) c.known.ensures.kin (held_of line.courier) line.keeps
-    (λ was. user_tidy (setting_of g.N.Store.table g.N.Store.base) v line.pass c.known.ensures.legal (ap (λ (x : View). x.number) s.3) was (event.End c.args.of.now (Commits answer.Nothing)) s.0 s.1 (ap (λ (x : View). x.seen) s.3) _ _ refl c.requires.user)
+    went_by (setting_of g.N.Store.table g.N.Store.base) v line.pass (λ k. (g.L.Link.view (link_of k)).plan) _ (of_entered (against_commit c.args.of.now) (event.End c.args.of.now (Commits answer.Nothing)) v line.pass s) c.end-ended.ensures.rest line.known (held_of line.courier) line.keeps
+    (λ was. user_tidy (setting_of g.N.Store.table g.N.Store.base) v line.pass (seen_legal line.known) (ap (λ (x : View). x.number) s.3) was (event.End c.args.of.now (Commits answer.Nothing)) s.0 s.1 (ap (λ (x : View). x.seen) s.3) _ _ refl c.requires.user)
 
 pub returns-in-Err-clause-went : goal.returns-in-Err-clause-went
 returns-in-Err-clause-went g c =
     let v = c.args.line.now.pass in
     let line = c.end-ended.new.self in
-    went_looking (setting_of g.N.Store.table g.N.Store.base) v line.pass (λ k. (g.L.Link.view (link_of k)).plan) (of_looked v line.pass c.in-Err.ensures.err.0) c.end-ended.ensures.rest (seen_legal line.known) c.known.ensures.kin (held_of line.courier) line.keeps
+    went_looking (setting_of g.N.Store.table g.N.Store.base) v line.pass (λ k. (g.L.Link.view (link_of k)).plan) (of_looked v line.pass c.in-Err.ensures.err.0) c.end-ended.ensures.rest line.known (held_of line.courier) line.keeps

@@ -31,11 +31,11 @@ returns-in-Ok-clause-went g c =
     let line = c.abort-aborted.new.self in
     let s = c.in-Ok.ensures.ok in
     let runs = c.requires.may.running in
-    went_by (setting_of g.N.Store.table g.N.Store.base) v line.pass (λ k. (g.L.Link.view (link_of k)).plan) _ (of_entered (against_abort c.args.name.now) (event.End c.args.name.now (Aborts c.args.cause.now)) v line.pass s) c.abort-aborted.ensures.rest (seen_legal line.known) c.known.ensures.kin (held_of line.courier) line.keeps
-    (λ was. manager_tidy (setting_of g.N.Store.table g.N.Store.base) v line.pass c.known.ensures.legal (ap (λ (x : View). x.number) s.3) was (event.End c.args.name.now (Aborts c.args.cause.now)) s.0 s.1 (ap (λ (x : View). x.seen) s.3) c.args.name.now (Aborts c.args.cause.now) refl (manager_mine v.number v.seen c.args.name.now (manager_for c.args.what.now) (is_manager c.args.what.now) runs) runs.children_ended)
+    went_by (setting_of g.N.Store.table g.N.Store.base) v line.pass (λ k. (g.L.Link.view (link_of k)).plan) _ (of_entered (against_abort c.args.name.now) (event.End c.args.name.now (Aborts c.args.cause.now)) v line.pass s) c.abort-aborted.ensures.rest line.known (held_of line.courier) line.keeps
+    (λ was. manager_tidy (setting_of g.N.Store.table g.N.Store.base) v line.pass (seen_legal line.known) (ap (λ (x : View). x.number) s.3) was (event.End c.args.name.now (Aborts c.args.cause.now)) s.0 s.1 (ap (λ (x : View). x.seen) s.3) c.args.name.now (Aborts c.args.cause.now) refl (manager_mine v.number v.seen c.args.name.now (manager_for c.args.what.now) (is_manager c.args.what.now) runs) runs.children_ended)
 
 pub returns-in-Err-clause-went : goal.returns-in-Err-clause-went
 returns-in-Err-clause-went g c =
     let v = c.args.line.now.pass in
     let line = c.abort-aborted.new.self in
-    went_looking (setting_of g.N.Store.table g.N.Store.base) v line.pass (λ k. (g.L.Link.view (link_of k)).plan) (of_looked v line.pass c.in-Err.ensures.err.0) c.abort-aborted.ensures.rest (seen_legal line.known) c.known.ensures.kin (held_of line.courier) line.keeps
+    went_looking (setting_of g.N.Store.table g.N.Store.base) v line.pass (λ k. (g.L.Link.view (link_of k)).plan) (of_looked v line.pass c.in-Err.ensures.err.0) c.abort-aborted.ensures.rest line.known (held_of line.courier) line.keeps

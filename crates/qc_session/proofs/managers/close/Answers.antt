@@ -9,7 +9,6 @@ use Rattle.qc_net.specs.Courier.{held_of, link_of}
 use Rattle.qc_script.specs.Managers.{manager_for}
 use Rattle.qc_session.proofs.Going.{went_nowhere}
 use Rattle.qc_session.proofs.managers.close.Goals as goal
-use Rattle.qc_session.proofs.Knowing.{seen_legal}
 
 pub returns-in-Ok-abort_manager-clause-err : goal.returns-in-Ok-abort_manager-clause-err
 returns-in-Ok-abort_manager-clause-err g c =
@@ -22,4 +21,4 @@ returns-in-Ok-abort_manager-clause-err g c =
 pub returns-in-None-clause-went : goal.returns-in-None-clause-went
 returns-in-None-clause-went g c =
     let line = c.args.line.now in
-    went_nowhere (setting_of g.N.Store.table g.N.Store.base) line.pass (g.L.Link.view (link_of line.courier)).plan line.patience line.system line.torn (held_of line.courier) (seen_legal line.known) c.known.ensures.kin line.keeps
+    went_nowhere (setting_of g.N.Store.table g.N.Store.base) line.pass (g.L.Link.view (link_of line.courier)).plan line.patience line.system line.torn (held_of line.courier) line.known line.keeps

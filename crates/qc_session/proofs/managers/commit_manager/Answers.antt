@@ -28,8 +28,8 @@ abort_manager-requires g c =
     let walk = of_looked v u r.0 in
     record {
       may = record {
-        running = running_on (setting_of g.N.Store.table g.N.Store.base) v u c.args.name.now (manager_for c.args.what.now) (is_manager c.args.what.now) runs c.known.ensures.legal walk r.0.0;
-        licensed = dead_orphan (setting_of g.N.Store.table g.N.Store.base) v u c.args.name.now (manager_for c.args.what.now) (is_manager c.args.what.now) runs c.known.ensures.legal walk c.in-Some.ancestor r;
+        running = running_on (setting_of g.N.Store.table g.N.Store.base) v u c.args.name.now (manager_for c.args.what.now) (is_manager c.args.what.now) runs (seen_legal c.end-ended.new.self.known) walk r.0.0;
+        licensed = dead_orphan (setting_of g.N.Store.table g.N.Store.base) v u c.args.name.now (manager_for c.args.what.now) (is_manager c.args.what.now) runs (seen_legal c.end-ended.new.self.known) walk c.in-Some.ancestor r;
       };
     }
 
@@ -44,7 +44,7 @@ returns-in-Ok-abort_manager-clause-err g c =
     let r = subst (Refused (against_commit c.args.name.now) c.args.line.now.pass c.end-ended.new.self.pass) (is_told c.in-Err.no c.in-Some.ancestor (sym c.orphan_told.ensures ∙ c.in-Some.is)) c.in-Err.ensures.err in
     let walk = of_looked v u r.0 in
     let ends = c.in-Ok-abort_manager.ensures.ok in
-    let orphan = dead_orphan (setting_of g.N.Store.table g.N.Store.base) v u c.args.name.now (manager_for c.args.what.now) (is_manager c.args.what.now) c.requires.answered.running c.known.ensures.legal walk c.in-Some.ancestor r in
+    let orphan = dead_orphan (setting_of g.N.Store.table g.N.Store.base) v u c.args.name.now (manager_for c.args.what.now) (is_manager c.args.what.now) c.requires.answered.running (seen_legal c.end-ended.new.self.known) walk c.in-Some.ancestor r in
     (not_closed_on v u w c.args.name.now c.in-Some.ancestor walk ends, subst (λ p. IsOrphanOf p c.args.name.now c.in-Some.ancestor) (sym ends.grown) (orphan_stays ends.newer u.seen c.args.name.now c.in-Some.ancestor orphan))
 
 pub returns-in-Err-abort_manager-clause-err : goal.returns-in-Err-abort_manager-clause-err
@@ -69,23 +69,23 @@ returns-in-Ok-clause-went g c =
     let line = c.end-ended.new.self in
     let s = c.in-Ok.ensures.ok in
     let runs = c.requires.answered.running in
-    went_by (setting_of g.N.Store.table g.N.Store.base) v line.pass (λ k. (g.L.Link.view (link_of k)).plan) _ (of_entered (against_commit c.args.name.now) (event.End c.args.name.now (Commits c.args.answer.now)) v line.pass s) c.end-ended.ensures.rest (seen_legal line.known) c.known.ensures.kin (held_of line.courier) line.keeps
-    (λ was. manager_tidy (setting_of g.N.Store.table g.N.Store.base) v line.pass c.known.ensures.legal (ap (λ (x : View). x.number) s.3) was (event.End c.args.name.now (Commits c.args.answer.now)) s.0 s.1 (ap (λ (x : View). x.seen) s.3) c.args.name.now (Commits c.args.answer.now) refl (manager_mine v.number v.seen c.args.name.now (manager_for c.args.what.now) (is_manager c.args.what.now) runs) runs.children_ended)
+    went_by (setting_of g.N.Store.table g.N.Store.base) v line.pass (λ k. (g.L.Link.view (link_of k)).plan) _ (of_entered (against_commit c.args.name.now) (event.End c.args.name.now (Commits c.args.answer.now)) v line.pass s) c.end-ended.ensures.rest line.known (held_of line.courier) line.keeps
+    (λ was. manager_tidy (setting_of g.N.Store.table g.N.Store.base) v line.pass (seen_legal line.known) (ap (λ (x : View). x.number) s.3) was (event.End c.args.name.now (Commits c.args.answer.now)) s.0 s.1 (ap (λ (x : View). x.seen) s.3) c.args.name.now (Commits c.args.answer.now) refl (manager_mine v.number v.seen c.args.name.now (manager_for c.args.what.now) (is_manager c.args.what.now) runs) runs.children_ended)
 
 pub returns-in-Ok-abort_manager-clause-went : goal.returns-in-Ok-abort_manager-clause-went
 returns-in-Ok-abort_manager-clause-went g c =
     let v = c.args.line.now.pass in
     let line = c.end-ended.new.self in
-    went_on_from (setting_of g.N.Store.table g.N.Store.base) v line.pass c.abort_manager.new.line.pass (λ k. (g.L.Link.view (link_of k)).plan) (seen_legal line.known) (of_looked v line.pass c.in-Err.ensures.err.0) c.end-ended.ensures.rest c.abort_manager.ensures.went
+    went_on_from (setting_of g.N.Store.table g.N.Store.base) v line.pass c.abort_manager.new.line.pass (λ k. (g.L.Link.view (link_of k)).plan) line.known (of_looked v line.pass c.in-Err.ensures.err.0) c.end-ended.ensures.rest c.abort_manager.ensures.went
 
 pub returns-in-Err-abort_manager-clause-went : goal.returns-in-Err-abort_manager-clause-went
 returns-in-Err-abort_manager-clause-went g c =
     let v = c.args.line.now.pass in
     let line = c.end-ended.new.self in
-    went_on_from (setting_of g.N.Store.table g.N.Store.base) v line.pass c.abort_manager.new.line.pass (λ k. (g.L.Link.view (link_of k)).plan) (seen_legal line.known) (of_looked v line.pass c.in-Err.ensures.err.0) c.end-ended.ensures.rest c.abort_manager.ensures.went
+    went_on_from (setting_of g.N.Store.table g.N.Store.base) v line.pass c.abort_manager.new.line.pass (λ k. (g.L.Link.view (link_of k)).plan) line.known (of_looked v line.pass c.in-Err.ensures.err.0) c.end-ended.ensures.rest c.abort_manager.ensures.went
 
 pub returns-in-None-clause-went : goal.returns-in-None-clause-went
 returns-in-None-clause-went g c =
     let v = c.args.line.now.pass in
     let line = c.end-ended.new.self in
-    went_looking (setting_of g.N.Store.table g.N.Store.base) v line.pass (λ k. (g.L.Link.view (link_of k)).plan) (of_looked v line.pass c.in-Err.ensures.err.0) c.end-ended.ensures.rest (seen_legal line.known) c.known.ensures.kin (held_of line.courier) line.keeps
+    went_looking (setting_of g.N.Store.table g.N.Store.base) v line.pass (λ k. (g.L.Link.view (link_of k)).plan) (of_looked v line.pass c.in-Err.ensures.err.0) c.end-ended.ensures.rest line.known (held_of line.courier) line.keeps

@@ -3,7 +3,6 @@ use Rattle.std.proofs.Common.{sym, subst, ◌+◌, length}
 use Rattle.std.specs.Prelude.{IsTrue}
 use Rattle.qc_event.specs.History.{is_child}
 use Rattle.qc_event.specs.Tables.{setting_of}
-use Rattle.qc_event.proofs.LegalAgain.{legal_again}
 use Rattle.qc_net.specs.Courier.{link_of}
 use Rattle.qc_script.specs.Managers.{manager_for}
 use Rattle.qc_script.proofs.Managing.{is_manager}
@@ -31,7 +30,7 @@ ask-came_to-requires-clause-manager g c =
     let w = c.start_child.new.line.pass in
     let of = c.args.of.now in
     let kd = manager_for c.args.what.now in
-    let nonroot = user_nonroot (setting_of g.N.Store.table g.N.Store.base) v.seen of (legal_again (setting_of g.N.Store.table g.N.Store.base) v.seen (seen_legal line.known)) c.requires.user in
+    let nonroot = user_nonroot (setting_of g.N.Store.table g.N.Store.base) v.seen of (seen_legal line.known) c.requires.user in
     let h = subst (HasStarted v w of c.in-Ok.name) c.kind.ensures c.in-Ok.ensures.ok in
     let began = runs_now (setting_of g.N.Store.table g.N.Store.base) v w of c.in-Ok.name kd h c.start_child.ensures.went.legal nonroot in
     began.0
@@ -43,7 +42,7 @@ ask-came_to-requires-clause-no_child g c =
     let w = c.start_child.new.line.pass in
     let of = c.args.of.now in
     let kd = manager_for c.args.what.now in
-    let nonroot = user_nonroot (setting_of g.N.Store.table g.N.Store.base) v.seen of (legal_again (setting_of g.N.Store.table g.N.Store.base) v.seen (seen_legal line.known)) c.requires.user in
+    let nonroot = user_nonroot (setting_of g.N.Store.table g.N.Store.base) v.seen of (seen_legal line.known) c.requires.user in
     let h = subst (HasStarted v w of c.in-Ok.name) c.kind.ensures c.in-Ok.ensures.ok in
     let began = runs_now (setting_of g.N.Store.table g.N.Store.base) v w of c.in-Ok.name kd h c.start_child.ensures.went.legal nonroot in
     began.1
@@ -55,7 +54,7 @@ returns-clause-ok g c = λ client for.
     let w = c.start_child.new.line.pass in
     let of = c.args.of.now in
     let kd = manager_for c.args.what.now in
-    let nonroot = user_nonroot (setting_of g.N.Store.table g.N.Store.base) v.seen of (legal_again (setting_of g.N.Store.table g.N.Store.base) v.seen (seen_legal line.known)) c.requires.user in
+    let nonroot = user_nonroot (setting_of g.N.Store.table g.N.Store.base) v.seen of (seen_legal line.known) c.requires.user in
     let h = subst (HasStarted v w of c.in-Ok.name) c.kind.ensures c.in-Ok.ensures.ok in
     let began = runs_now (setting_of g.N.Store.table g.N.Store.base) v w of c.in-Ok.name kd h c.start_child.ensures.went.legal nonroot in
     let asked = c.ask-came_to.new.carrier in
@@ -63,7 +62,7 @@ returns-clause-ok g c = λ client for.
     let y = c.close.new.line.pass in
     let grown = c.ask-came_to.ensures.grown in
     let carried = carried_walk w x (g.L.Link.view (link_of c.start_child.new.line.courier)).plan (g.L.Link.view (link_of asked.courier)).plan c.start_child.new.line.patience asked.patience (λ n. IsTrue (is_child c.in-Ok.name n)) c.ask-came_to.ensures.became.0 grown in
-    let legal = legal_again (setting_of g.N.Store.table g.N.Store.base) x.seen (seen_legal asked.known) in
+    let legal = seen_legal asked.known in
     all_answers (setting_of g.N.Store.table g.N.Store.base) v w x y client for of c.in-Ok.name kd (is_manager c.args.what.now) nonroot h began.0 grown carried c.close.ensures.went.legal legal c.ask-came_to.result c.close.result c.close.ensures.ok
 
 pub returns-clause-err : goal.returns-clause-err
@@ -73,7 +72,7 @@ returns-clause-err g c = λ client for.
     let w = c.start_child.new.line.pass in
     let of = c.args.of.now in
     let kd = manager_for c.args.what.now in
-    let nonroot = user_nonroot (setting_of g.N.Store.table g.N.Store.base) v.seen of (legal_again (setting_of g.N.Store.table g.N.Store.base) v.seen (seen_legal line.known)) c.requires.user in
+    let nonroot = user_nonroot (setting_of g.N.Store.table g.N.Store.base) v.seen of (seen_legal line.known) c.requires.user in
     let h = subst (HasStarted v w of c.in-Ok.name) c.kind.ensures c.in-Ok.ensures.ok in
     let began = runs_now (setting_of g.N.Store.table g.N.Store.base) v w of c.in-Ok.name kd h c.start_child.ensures.went.legal nonroot in
     let asked = c.ask-came_to.new.carrier in
@@ -81,7 +80,7 @@ returns-clause-err g c = λ client for.
     let y = c.close.new.line.pass in
     let grown = c.ask-came_to.ensures.grown in
     let carried = carried_walk w x (g.L.Link.view (link_of c.start_child.new.line.courier)).plan (g.L.Link.view (link_of asked.courier)).plan c.start_child.new.line.patience asked.patience (λ n. IsTrue (is_child c.in-Ok.name n)) c.ask-came_to.ensures.became.0 grown in
-    let legal = legal_again (setting_of g.N.Store.table g.N.Store.base) x.seen (seen_legal asked.known) in
+    let legal = seen_legal asked.known in
     all_fail (setting_of g.N.Store.table g.N.Store.base) v w x y client for of c.in-Ok.name kd (is_manager c.args.what.now) nonroot h began.0 grown carried c.close.ensures.went.legal legal c.close.result c.close.ensures.err
 
 pub returns-clause-went : goal.returns-clause-went
@@ -91,7 +90,7 @@ returns-clause-went g c =
     let w = c.start_child.new.line.pass in
     let of = c.args.of.now in
     let kd = manager_for c.args.what.now in
-    let nonroot = user_nonroot (setting_of g.N.Store.table g.N.Store.base) v.seen of (legal_again (setting_of g.N.Store.table g.N.Store.base) v.seen (seen_legal line.known)) c.requires.user in
+    let nonroot = user_nonroot (setting_of g.N.Store.table g.N.Store.base) v.seen of (seen_legal line.known) c.requires.user in
     let h = subst (HasStarted v w of c.in-Ok.name) c.kind.ensures c.in-Ok.ensures.ok in
     let began = runs_now (setting_of g.N.Store.table g.N.Store.base) v w of c.in-Ok.name kd h c.start_child.ensures.went.legal nonroot in
     let asked = c.ask-came_to.new.carrier in
@@ -99,6 +98,6 @@ returns-clause-went g c =
     let y = c.close.new.line.pass in
     let grown = c.ask-came_to.ensures.grown in
     let carried = carried_walk w x (g.L.Link.view (link_of c.start_child.new.line.courier)).plan (g.L.Link.view (link_of asked.courier)).plan c.start_child.new.line.patience asked.patience (λ n. IsTrue (is_child c.in-Ok.name n)) c.ask-came_to.ensures.became.0 grown in
-    let legal = legal_again (setting_of g.N.Store.table g.N.Store.base) x.seen (seen_legal asked.known) in
+    let legal = seen_legal asked.known in
     went_both (went_after c.close.ensures.went c.ask-came_to.ensures.became.0 c.ask-came_to.ensures.became.1 (grown.newer, grown.grown)
     (λ was. carried_tidy (setting_of g.N.Store.table g.N.Store.base) v w x of c.in-Ok.name kd (is_manager c.args.what.now) h began.0 grown carried legal was)) c.start_child.ensures.went

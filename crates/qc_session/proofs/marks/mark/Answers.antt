@@ -28,11 +28,11 @@ returns-clause-went g c =
     let v = c.args.line.now.pass in
     let line = c.mark-marked.new.self in
     let s = c.in_ok-marked.ensures.ok in
-    went_by (setting_of g.N.Store.table g.N.Store.base) v line.pass (λ k. (g.L.Link.view (link_of k)).plan) _ (of_entered against_nothing (event.Mark c.args.by.now c.args.session) v line.pass s) c.mark-marked.ensures.rest (seen_legal line.known) c.known.ensures.kin (held_of line.courier) line.keeps
-    (λ was. mark_tidy (setting_of g.N.Store.table g.N.Store.base) v line.pass c.known.ensures.legal (ap (λ (x : View). x.number) s.3) was (event.Mark c.args.by.now c.args.session) s.0 s.1 (ap (λ (x : View). x.seen) s.3) _ _ refl)
+    went_by (setting_of g.N.Store.table g.N.Store.base) v line.pass (λ k. (g.L.Link.view (link_of k)).plan) _ (of_entered against_nothing (event.Mark c.args.by.now c.args.session) v line.pass s) c.mark-marked.ensures.rest line.known (held_of line.courier) line.keeps
+    (λ was. mark_tidy (setting_of g.N.Store.table g.N.Store.base) v line.pass (seen_legal line.known) (ap (λ (x : View). x.number) s.3) was (event.Mark c.args.by.now c.args.session) s.0 s.1 (ap (λ (x : View). x.seen) s.3) _ _ refl)
 
 pub returns-in_err-marked-clause-went : goal.returns-in_err-marked-clause-went
 returns-in_err-marked-clause-went g c =
     let v = c.args.line.now.pass in
     let line = c.mark-marked.new.self in
-    went_looking (setting_of g.N.Store.table g.N.Store.base) v line.pass (λ k. (g.L.Link.view (link_of k)).plan) (of_looked v line.pass c.in_err-marked.ensures.err.0) c.mark-marked.ensures.rest (seen_legal line.known) c.known.ensures.kin (held_of line.courier) line.keeps
+    went_looking (setting_of g.N.Store.table g.N.Store.base) v line.pass (λ k. (g.L.Link.view (link_of k)).plan) (of_looked v line.pass c.in_err-marked.ensures.err.0) c.mark-marked.ensures.rest line.known (held_of line.courier) line.keeps

@@ -49,4 +49,4 @@ Stage::run_from-returns g t c =
     let ran = c.run_both-pass.result in
     subst (λ (r : Result (Unit {0}) Short). RanEach setting epoch patience c.args.number (map plan_of_session c.args.sessions.now) c.args.first r c.join.new.pass) (sym c.first_want.ensures)
     (both setting epoch patience c.args.number c.args.sessions.now c.session-item.result c.args.first c.split-pass.new.pass c.split-pass.result ran.0.1 ran.1.1 c.join.new.pass ran.0.0 ran.1.0 (omega (arith, c.in-len1-up.len_at_least)) c.session-item.is
-    c.requires.first c.split-pass.ensures.split c.known.ensures.mine c.run_both-pass.ensures.one c.run_both-pass.ensures.others c.known-2.ensures.mine c.known-2.ensures.kin c.join.ensures.joined c.join.ensures.seen)
+    c.requires.first c.split-pass.ensures.split c.split-pass.ensures.known.1.mine c.run_both-pass.ensures.one c.run_both-pass.ensures.others c.run_both-pass.ensures.one.known.mine c.run_both-pass.ensures.one.known.kin c.join.ensures.joined c.join.ensures.seen)

@@ -8,7 +8,9 @@ use Rattle.qc_net.specs.declared.courier.Courier.{Courier}
 use Rattle.qc_net.specs.declared.plan.PlanLink.{PlanLink}
 use Rattle.qc_net.specs.Plan.{starting}
 use Rattle.qc_net.specs.PlanLink.{plan_of}
+use Rattle.qc_desk.specs.Known.{IsKnown}
 use Rattle.qc_desk.specs.declared.view.View.{View}
+use Rattle.qc_desk.proofs.Known.{known_again}
 use Rattle.qc_script.specs.Client.{Client}
 use Rattle.qc_script.specs.declared.script.Body.{Body}
 use Rattle.qc_script.specs.Plan.{SessionPlan}
@@ -24,7 +26,7 @@ use Rattle.qc_session.proofs.stage.run_client.Goals as goal
 
 pub returns-in-Err : goal.returns-in-Err
 returns-in-Err g c =
-    none_ran (setting_of g.N.Store.table g.N.Store.base) c.args.system.now.desk.epoch c.args.script.now.patience c.args.number (plan_of_session c.args.session.now) c.args.pass c.requires.new c.known.ensures.legal
+    none_ran (setting_of g.N.Store.table g.N.Store.base) c.args.system.now.desk.epoch c.args.script.now.patience c.args.number (plan_of_session c.args.session.now) c.args.pass c.requires.new c.requires.known
 
 pub new-requires : goal.new-requires
 new-requires g c = let held = c.requires.fits.some_hold in omega (arith, held)
@@ -78,4 +80,5 @@ returns g c =
     (subst (λ (bodies : List Body). OnOk c.run_tops-ran.result (EndsTops ran before back.seen (map numbered bodies))) c.as_slice.ensures.value c.run_tops-ran.ensures.ok)
     c.run_tops-ran.ensures.turns
     (subst (λ (bodies : List Body). IfErr c.run_tops-ran.result (λ _. CutTops ran before back.seen (map numbered bodies))) c.as_slice.ensures.value c.run_tops-ran.ensures.cut)
-    (search rules))
+    (search rules)
+    (subst (IsKnown (setting g c)) c.into_pass.ensures.pass (known_again (setting g c) tx.line.pass tx.line.known)))

@@ -2,7 +2,6 @@
 use Rattle.std.proofs.Common.{refl, sym, ap, subst, ◌∙◌}
 use Rattle.qc_board.specs.Boards.{Seated}
 use Rattle.qc_event.specs.Tables.{setting_of}
-use Rattle.qc_event.proofs.LegalAgain.{legal_again}
 use Rattle.qc_carry.proofs.KeepsStill.{keeps_met}
 use Rattle.qc_net.specs.Courier.{held_of, link_of}
 use Rattle.qc_desk.specs.declared.view.View.{View}
@@ -50,7 +49,7 @@ invariant_of-result g c =
     let is = c.in_ok-line.ensures.ok in
     record {
       over = me.over;
-      kept = branch_keeps (setting_of g.N.Store.table g.N.Store.base) me.root c.args.of.now me.session me.line.pass now.pass line.pass is (legal_again (setting_of g.N.Store.table g.N.Store.base) line.pass.seen (seen_legal line.known)) c.split.result.marks;
+      kept = branch_keeps (setting_of g.N.Store.table g.N.Store.base) me.root c.args.of.now me.session me.line.pass now.pass line.pass is (seen_legal line.known) c.split.result.marks;
       low = me.low;
       seated = subst (IsSeatAt me.board.now) (sym c.split.ensures.new) me.seated;
       boarded = me.boarded;

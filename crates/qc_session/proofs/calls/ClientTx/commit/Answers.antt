@@ -1,6 +1,5 @@
 -- A commit is what its client made.
 use Rattle.qc_event.specs.Tables.{setting_of}
-use Rattle.qc_event.proofs.LegalAgain.{legal_again}
 use Rattle.qc_session.proofs.Calling.{client_now, ended_keeps, for, met_now}
 use Rattle.qc_session.proofs.Starting.{below_top, user_nonroot}
 use Rattle.qc_session.proofs.calls.ClientTx.commit.Goals as goal
@@ -71,4 +70,4 @@ returns-clause-err g c =
 pub commit_below-requires-clause-below : goal.commit_below-requires-clause-below
 commit_below-requires-clause-below g c =
     let line = c.args.self.now.line in
-    below_top c.args.of.now (user_nonroot (setting_of g.N.Store.table g.N.Store.base) line.pass.seen c.args.of.now (legal_again (setting_of g.N.Store.table g.N.Store.base) line.pass.seen (seen_legal line.known)) c.requires.user) (c.top_number.ensures.none c.in_default.is)
+    below_top c.args.of.now (user_nonroot (setting_of g.N.Store.table g.N.Store.base) line.pass.seen c.args.of.now (seen_legal line.known) c.requires.user) (c.top_number.ensures.none c.in_default.is)

@@ -6,7 +6,6 @@ use Rattle.qc_event.specs.History.{start}
 use Rattle.qc_event.specs.Tables.{setting_of}
 use Rattle.qc_event.specs.Users.{top_number}
 use Rattle.qc_event.proofs.Lawful.{started_some}
-use Rattle.qc_event.proofs.LegalAgain.{legal_again}
 use Rattle.qc_net.specs.Courier.{link_of}
 use Rattle.qc_desk.proofs.Entering.{started_later}
 use Rattle.qc_script.specs.Calls.{IsOfSession}
@@ -23,7 +22,7 @@ use Rattle.qc_session.proofs.Knowing.{seen_legal}
 pub look-requires-clause-top : goal.look-requires-clause-top
 look-requires-clause-top g c =
     let line = c.args.self.now.line in
-    subst (λ n. 1 ≤ n) (sym c.number_of_top-top.ensures) (top_some (setting_of g.N.Store.table g.N.Store.base) line.pass.seen c.args.of.now (legal_again (setting_of g.N.Store.table g.N.Store.base) line.pass.seen (seen_legal line.known)) (started_some (λ b. IsOfSession c.args.self.now.session b.kind) (start line.pass.seen c.args.of.now) c.requires.own))
+    subst (λ n. 1 ≤ n) (sym c.number_of_top-top.ensures) (top_some (setting_of g.N.Store.table g.N.Store.base) line.pass.seen c.args.of.now (seen_legal line.known) (started_some (λ b. IsOfSession c.args.self.now.session b.kind) (start line.pass.seen c.args.of.now) c.requires.own))
 
 pub invariant_of-self : goal.invariant_of-self
 invariant_of-self g c =
@@ -57,7 +56,7 @@ returns-then-not-look-clause-unmarked g c = λ _.
 pub returns-then-not-look-clause-made : goal.returns-then-not-look-clause-made
 returns-then-not-look-clause-made g c =
     let line = c.args.self.now.line in
-    record { newer = []; grown = refl; made = refl; legal = legal_again (setting_of g.N.Store.table g.N.Store.base) line.pass.seen (seen_legal line.known) }
+    record { newer = []; grown = refl; made = refl; legal = seen_legal line.known }
 
 pub returns-clause-made : goal.returns-clause-made
 returns-clause-made g c =
