@@ -15,7 +15,7 @@ use Rattle.qc_script.specs.Plan.{SessionPlan}
 use Rattle.qc_interp.specs.Asking.{BodiesAsk}
 use Rattle.qc_interp.specs.Reach.{Reach, AtTheEnd}
 use Rattle.qc_interp.specs.Session.{RunsBodies}
-use Rattle.qc_interp.specs.Sessions.{tops_of, RunsInTurn, meets, is_settled}
+use Rattle.qc_interp.specs.Sessions.{tops_of, RunsInTurn, has_own_seats, meets, is_settled}
 
 abbrev pub started_in : Event → Option Name
 started_in (Start n k) = Some n
@@ -60,12 +60,14 @@ abbrev pub is_in_session : ℕ → Past → Name → Bool
 is_in_session count past t = option_map_or (is_of_session count) (kind_of past t) false
 
 -- A history is of a script of sessions, in an epoch, with so much patience. Each top is of a session of the script, and
--- the history has each session; tops are numbered in order, whatever their sessions; whoever was aborted as another asked
+-- the history has each session, under seats of its own, so that each begins its fates by itself; tops are numbered in order,
+-- whatever their sessions; whoever was aborted as another asked
 -- is named by a step `abort` to which that one came; and where the run came to its end, each that has started has ended, or
 -- is a ready top that was unable to be logged.
 pub record RunsScript (reach : Reach) (epoch patience : ℕ) (sessions : List SessionPlan) (past : Past) : Type 0 where
   pub only : IsTrue (list_all (is_in_session (length sessions) past) (children past []))
   pub each_runs : EachRuns reach 0 patience sessions past
+  pub own_seats : IsTrue (has_own_seats past)
   pub numbers : IsTrue (each (is_next_top epoch) past)
   pub as_asked : (n by : Name) → end past n ≡ Some (Abort (Asked by)) → (n ≡ by) ⊎ OneAsks 0 sessions past by n
   pub each_settled : AtTheEnd reach (IsTrue (list_all (is_settled past) (started past)))

@@ -1,5 +1,5 @@
 -- What is of a session in a history: its tops, its part, its seats, and its messages.
-use Rattle.std.specs.Prelude.{ℕ, ◌≡◌, ◌==◌, Bool, true, false, ◌&&◌, ◌||◌, if◌then◌else◌, IsTrue, List, [], ◌∷◌, filter, Option, None, Some, is_some}
+use Rattle.std.specs.Prelude.{ℕ, ◌≡◌, ◌==◌, Bool, true, false, ◌&&◌, ◌||◌, not, if◌then◌else◌, IsTrue, List, [], ◌∷◌, filter, Option, None, Some, is_some}
 use Rattle.std.specs.List.{list_all, list_any}
 use Rattle.std.specs.Option.{option_map_or}
 use Rattle.qc_names.specs.Name as name
@@ -53,6 +53,25 @@ after_others s e past = option_map_or (λ t. list_all (is_over past) (tops_of s 
 pub record RunsInTurn (s : ℕ) (past : Past) : Type 0 where
   pub turns : IsTrue (each takes_turn (part_of s past))
   pub in_order : IsTrue (each (after_others s) past)
+
+-- SEATS
+
+abbrev pub session_by : Name → Kind → Option ℕ
+session_by (number ∷ []) (kind.User s body) = Some s
+session_by _ k = None
+
+-- the session of the top that an event starts
+abbrev pub session_in : Event → Option ℕ
+session_in (event.Start n k) = session_by n k
+session_in _ = None
+
+-- whether two entries do not start, under one seat, tops of two sessions
+abbrev pub are_apart : Entry → Entry → Bool
+are_apart e f = not (e.seat == f.seat) || option_map_or (λ s. option_map_or (λ t. s == t) (session_in f.event) true) (session_in e.event) true
+
+-- whether each session has seats of its own
+abbrev pub has_own_seats : Past → Bool
+has_own_seats past = list_all (λ e. list_all (are_apart e) past) past
 
 -- MESSAGES
 

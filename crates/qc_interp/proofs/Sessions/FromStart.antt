@@ -61,6 +61,7 @@ pub begins_none : (epoch patience : ℕ) (sessions : List SessionPlan) → Begin
 begins_none epoch patience sessions = record {
   only = refl;
   each_runs = each_begins 0 patience sessions;
+  own_seats = refl;
   numbers = refl;
   as_asked = λ n by is. absurd cc;
   each_settled = tt;

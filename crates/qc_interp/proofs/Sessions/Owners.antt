@@ -144,6 +144,10 @@ module _ (reach : Reach) (setting : Setting) (s epoch patience : ℕ) (c : Clien
         kind_is = ap (option_map (λ (b : Begun). b.kind)) (started_at setting past a.place a.entry (top.number ∷ []) top.kind legal a.is top.starts) ∙ ap (λ k. Some k) user.1;
       }
 
+-- a kind of user transaction is of one session
+pub one_session : (s r b d : ℕ) → Some (kind.User s b) ≡ Some (kind.User r d) → s ≡ r
+one_session s r b d is = cc
+
 -- ALL CLIENTS
 
 module _ (reach : Reach) (setting : Setting) (epoch patience : ℕ) (past : Past) where
@@ -209,9 +213,6 @@ module _ (reach : Reach) (setting : Setting) (epoch patience : ℕ) (past : Past
     -- one session has one client
     same_client : (i j : ℕ) (c d : Client) → slice_get clients i ≡ Some c → slice_get clients j ≡ Some d → i ≡ j → d ≡ c
     same_client i j c d at also is = some_same d c (sym also ∙ sym (ap (slice_get clients) is) ∙ at)
-
-    one_session : (s r b d : ℕ) → Some (kind.User s b) ≡ Some (kind.User r d) → s ≡ r
-    one_session s r b d is = cc
 
     module _ (s : ℕ) (c : Client) (plan : SessionPlan) (is_one : slice_get clients s ≡ Some c) (ran : HasRun reach setting s epoch patience c plan past) where
       starts_own : (i : ℕ) (e : Entry) → slice_get past i ≡ Some e → is_some (top_in s e.event) ≡ true → is_own c e.seat ≡ true

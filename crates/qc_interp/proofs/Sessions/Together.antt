@@ -1,9 +1,9 @@
 -- What clients ran together follows the script of their sessions.
 use Rattle.std.proofs.Common.{◌≡◌, ◌⊎◌, inl, inr, ◌+◌, ℕ, zero, suc, arith, true, false, List, [], ◌∷◌, length, refl, sym, ap, ◌∙◌, subst, append-nil}
-use Rattle.std.specs.Prelude.{Option, None, Some, slice_get, is_some, IsTrue, ◌==◌, not, ◌||◌}
+use Rattle.std.specs.Prelude.{Bool, Option, None, Some, slice_get, is_some, IsTrue, ◌==◌, not, ◌||◌}
 use Rattle.std.specs.List.{AllByRecursion, list_all}
 use Rattle.std.specs.Option.{option_map, option_map_or}
-use Rattle.std.proofs.lemmas.Bool.{and_parts, and_from, lt-ltb}
+use Rattle.std.proofs.lemmas.Bool.{and_parts, and_from, eq-eqb, eqb-true, lt-ltb, or_right}
 use Rattle.qc_event.specs.declared.event.Cause.TheVariants.{Asked}
 use Rattle.std.proofs.lemmas.Option.{slice_get_within}
 use Rattle.qc_event.specs.declared.event.Entry.{Entry}
@@ -25,14 +25,14 @@ use Rattle.qc_interp.specs.Asking.{BodiesAsk, IsAskedBy}
 use Rattle.qc_interp.specs.FollowsScript.{net_of, RunsSession, EachRuns, OneAsks, is_of_session, is_in_session, RunsScript, started}
 use Rattle.qc_interp.specs.Reach.{Reach, AtTheEnd}
 use Rattle.qc_interp.specs.Session.{tops, RunsBodies, AreAllOurs}
-use Rattle.qc_interp.specs.Sessions.{tops_of, is_settled, AccessesEnd}
+use Rattle.qc_interp.specs.Sessions.{tops_of, are_apart, has_own_seats, is_settled, session_in, AccessesEnd}
 use Rattle.qc_interp.specs.Together.{HasRun, EachHasRun, AreOf}
-use Rattle.qc_interp.proofs.Sessions.Owners.{starts_client, aborts_client, IsItsOwn, ran_inside, for_at, ran_client, ran_plan, Owner, owner, its_own, all_its_own}
+use Rattle.qc_interp.proofs.Sessions.Owners.{one_session, starts_client, aborts_client, IsItsOwn, ran_inside, for_at, ran_client, ran_plan, Owner, owner, its_own, all_its_own}
 use Rattle.qc_interp.proofs.Sessions.OwnSessions.{AreIts, same_tops, turns_own, messages_own, order_own}
-use Rattle.qc_interp.proofs.Listing.Places.{some_same, at_place, each_place, any_place, kept_place, earliest_place, every_passes}
+use Rattle.qc_interp.proofs.Listing.Places.{some_same, all_from, at_place, each_place, any_place, kept_place, earliest_place, every_passes}
 use Rattle.qc_interp.proofs.Sessions.SeenBodies.{IsOurTop, bodies_seen, bodies_ask_seen}
 use Rattle.qc_interp.proofs.Sessions.Settled.{begun_settled, all_settled}
-use Rattle.qc_interp.proofs.Scopes.Starts.{legal_at, started_at, start_seat, starts_top, starts_user}
+use Rattle.qc_interp.proofs.Scopes.Starts.{legal_at, started_at, start_seat, starts_top, starts_user, StartsOf, StartsTop}
 
 -- SESSIONS, BY THEIR PLACES
 
@@ -56,6 +56,12 @@ one_asks past by n session (x ∷ sessions) (suc i) s is h =
 any_start : (ev : Event) (number : ℕ) → any_top ev ≡ Some number → (k : Kind) × (ev ≡ event.Start (number ∷ []) k)
 any_start (event.Start (x ∷ []) k) number is = (k, ap (λ y. event.Start (y ∷ []) k) (some_same x number is))
 any_start _ number is = absurd cc
+
+-- what starts a top of a session
+starts_in : (ev : Event) (s : ℕ) → session_in ev ≡ Some s → (t : Name) × StartsOf s ev t
+starts_in (event.Start (x ∷ []) (kind.User of body)) s is =
+    (x ∷ [], record { number = x; body = body; starts = ap (λ y. event.Start (x ∷ []) (kind.User y body)) (some_same of s is); top = refl })
+starts_in _ s is = absurd cc
 
 -- a client numbers its tops in an epoch
 abbrev NumbersIn : ℕ → Past → Client → Type 0
@@ -182,6 +188,36 @@ module _ (reach : Reach) (setting : Setting) (epoch patience : ℕ) (clients : L
       subst (λ n. RunsSession reach n patience s past) (sym from_zero)
       (subst (λ p. RunsSession reach i patience p past) (some_same r.plan s (sym r.plan_is ∙ is)) (session_runs reach setting i epoch patience r.client r.plan past legal ran its))
 
+  -- under a seat that a client owns it starts tops of its own session alone
+  of_its_session : (seat : ℕ) (o : OwnerOf seat) (i : ℕ) (e : Entry) (s : ℕ) → slice_get past i ≡ Some e → is_own o.client e.seat ≡ true → session_in e.event ≡ Some s → s ≡ o.session
+  of_its_session seat o i e s at own is =
+      let (t, begun) = starts_in e.event s is in
+      let top : StartsTop e.event t = record { number = begun.number; kind = kind.User s begun.body; starts = begun.starts; top = begun.top } in
+      let user = starts_user o.session e t top (for_at reach setting o.session epoch patience o.client o.plan past o.ran i e at own) in
+      one_session s o.session begun.body user.0 (ap (λ k. Some k) user.1)
+
+  all_apart : has_own_seats past ≡ true
+  all_apart = all_from (λ e. list_all (are_apart e) past) past (λ i e at. all_from (are_apart e) past (λ j f there. apart i e at j f there))
+    where
+      same_or : (e f : Entry) → ((s t : ℕ) → e.seat ≡ f.seat → session_in e.event ≡ Some s → session_in f.event ≡ Some t → s ≡ t) → are_apart e f ≡ true
+      same_or e f same = by_seat (e.seat == f.seat) refl
+        where
+          by_sessions : (x y : Option ℕ) → session_in e.event ≡ x → session_in f.event ≡ y → e.seat ≡ f.seat → option_map_or (λ s. option_map_or (λ t. s == t) y true) x true ≡ true
+          by_sessions None y one other seat = refl
+          by_sessions (Some s) None one other seat = refl
+          by_sessions (Some s) (Some t) one other seat = eq-eqb s t (same s t seat one other)
+
+          by_seat : (b : Bool) → (e.seat == f.seat) ≡ b → are_apart e f ≡ true
+          by_seat false is = ap (λ b. not b || option_map_or (λ s. option_map_or (λ t. s == t) (session_in f.event) true) (session_in e.event) true) is
+          by_seat true is = or_right (not (e.seat == f.seat)) _ (by_sessions (session_in e.event) (session_in f.event) refl refl (eqb-true e.seat f.seat is))
+
+      apart : (i : ℕ) (e : Entry) → slice_get past i ≡ Some e → (j : ℕ) (f : Entry) → slice_get past j ≡ Some f → are_apart e f ≡ true
+      apart i e at j f there = same_or e f (λ s t seat one other.
+          let begun = (starts_in e.event s one).1 in
+          let o = starter i e (begun.number ∷ []) (kind.User s begun.body) at begun.starts in
+          of_its_session e.seat o i e s at o.owns one
+          ∙ sym (of_its_session e.seat o j f t there (subst (λ n. is_own o.client n ≡ true) seat o.owns) other))
+
   all_numbered : each (is_next_top epoch) past ≡ true
   all_numbered = numbers_all setting epoch clients past legal of (each_place (NumbersIn epoch past) clients at)
     where
@@ -228,6 +264,7 @@ pub together : (reach : Reach) (setting : Setting) (epoch patience : ℕ) (clien
 together reach setting epoch patience clients sessions past legal of all accesses = record {
   only = only_sessions reach setting epoch patience clients sessions past legal of all;
   each_runs = each_runs_from reach patience past 0 sessions (session_at reach setting epoch patience clients sessions past legal of all);
+  own_seats = all_apart reach setting epoch patience clients sessions past legal of all;
   numbers = all_numbered reach setting epoch patience clients sessions past legal of all;
   as_asked = all_asked reach setting epoch patience clients sessions past legal of all;
   each_settled = settled_together reach setting epoch patience clients sessions past legal of all accesses;
