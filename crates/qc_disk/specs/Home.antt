@@ -1,6 +1,7 @@
 -- A disk of either kind, and the shop that gives it.
 use Rattle.std.specs.Prelude.{◌≡◌, ◌↔◌, ℕ, List, [], ◌∷◌, length, Option, Some, None, refl}
 use Rattle.qc_disk.specs.Disk.{IsImage, HasLength}
+use Rattle.qc_disk.specs.Given.{given_list}
 use Rattle.qc_disk.specs.Laws.{image_now, at_end}
 use Rattle.qc_disk.specs.MemDisk.{mem_first, mem_acts, mem_bytes, mem_replays, mem_images, mem_at, mem_faults, mem_syncs, IsEmpty}
 use Rattle.qc_disk.specs.declared.file.FileDisk.{FileDisk}
@@ -71,6 +72,7 @@ home_view shop = record {
   offers = λ place which. home_offers place;
   counts = λ place which. 0;
   faults = shop.faults;
+  gave = given_list shop.given;
 }
 
 -- an empty place gives an empty disk in memory, and a folder a file that was not called and has not failed, and whose folder was synced

@@ -6,5 +6,6 @@ pub mod Laws
 pub mod MemDisk
 pub mod Shop
 pub mod MemShop
+pub mod Given
 pub mod Home
 pub mod Between

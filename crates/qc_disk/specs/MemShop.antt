@@ -1,7 +1,10 @@
 -- The parts of a shop of disks in memory, and the disk that it gives.
-use Rattle.std.specs.Prelude.{◌≡◌, ℕ, List, [], map, Some, slice_index_or, slice_set}
+use Rattle.std.specs.Prelude.{◌≡◌, ℕ, List, [], map, Some, slice_index_or, slice_set, Bool, true, false, Result, Ok, Err}
+use Rattle.qc_disk.specs.Given.{given_list}
 use Rattle.qc_disk.specs.MemDisk.{mem_bytes, mem_faults, IsEmpty}
 use Rattle.qc_disk.specs.Shop.{View}
+use Rattle.qc_disk.specs.declared.disk.DiskNo.{DiskNo}
+use Rattle.qc_disk.specs.declared.disk.DiskNo.TheVariants.{Failed, Memory}
 use Rattle.qc_disk.specs.declared.memory.MemDisk.{MemDisk}
 use Rattle.qc_disk.specs.declared.shop.memory.MemShop.{MemShop}
 
@@ -31,6 +34,7 @@ shop_view shop = record {
   offers = λ place which. Some (shop_bytes shop which);
   counts = λ place which. shop_counts shop which;
   faults = shop_faults shop;
+  gave = given_list shop.given;
 }
 
 -- The shop gives the disk of a number, or an empty one where it has none, and an empty one takes its place.
@@ -39,3 +43,9 @@ pub record Gives (old new : MemShop) (which : ℕ) (given : MemDisk) : Type 0 wh
   pub is_empty : IsEmpty empty
   pub disk : given ≡ slice_index_or (shop_disks old) which empty
   pub disks : shop_disks new ≡ slice_set (shop_disks old) which empty
+
+-- whether a call failed, and not for want of memory
+abbrev pub has_failed : {D : Type 0} → Result D DiskNo → Bool
+has_failed (Ok disk) = false
+has_failed (Err Failed) = true
+has_failed (Err Memory) = false

@@ -1,5 +1,6 @@
 -- What a shop that gives disks says of the disk that it gives.
-use Rattle.std.specs.Prelude.{◌≡◌, ℕ, List, Option, Some, None}
+use Rattle.std.specs.Prelude.{◌≡◌, ℕ, List, [], ◌∷◌, Option, Some, None, Result, Ok, Err, map}
+use Rattle.std.specs.List.{range_with_len}
 
 -- A shop at a moment.
 pub record View : Type 0 where
@@ -9,6 +10,8 @@ pub record View : Type 0 where
   pub counts : List ℕ → ℕ → ℕ
   -- how often the shop has failed, up to `2^64 - 1`
   pub faults : ℕ
+  -- the disks that it gave, by their place and number, the first one first
+  pub gave : List (List ℕ × ℕ)
 
 -- It tells the same of the disk that it would give for a place and a number.
 pub record TellsAlike (before now : View) (place : List ℕ) (which : ℕ) : Type 0 where
@@ -19,3 +22,12 @@ pub record TellsAlike (before now : View) (place : List ℕ) (which : ℕ) : Typ
 abbrev pub Tells : Option (List ℕ) → Option (List ℕ) → Type 0
 Tells None told = Unit {0}
 Tells (Some bytes) told = told ≡ Some bytes
+
+-- the disk that was given for a place and a number, where one was
+abbrev pub if_given : {D E : Type 0} → Result D E → List ℕ → ℕ → List (List ℕ × ℕ)
+if_given (Ok disk) place which = (place, which) ∷ []
+if_given (Err e) place which = []
+
+-- so many disks of a place, from 0 on
+abbrev pub first_disks : List ℕ → ℕ → List (List ℕ × ℕ)
+first_disks place many = map (λ which. (place, which)) (range_with_len 0 many)

@@ -5,7 +5,7 @@ use crate::disk::{Disk, DiskNo};
 use crate::file::FileDisk;
 use crate::file_set::FileSet;
 use crate::memory::MemDisk;
-use crate::shop::Shop;
+use crate::shop::{Given, Shop};
 use std::alloc::Global;
 
 /// A disk in memory, which tells its bytes, or in a file, which does not.
@@ -80,9 +80,11 @@ pub struct HomeShop {
     faults: u64,
     /// The files that it was asked for so far.
     sets: Vec<FileSet>,
+    given: Given,
 }
 
 impl HomeShop {
+    ghost use Rattle.qc_disk.specs.Given.{given_list};
     ghost use Rattle.qc_disk.specs.Home.{file_calls, file_faults, file_syncs};
 
     /// A shop that has not failed.
@@ -94,6 +96,7 @@ impl HomeShop {
             rt,
             faults: 0,
             sets: Vec::new(alloc),
+            given: Given::new(alloc),
         }
     }
 
@@ -103,6 +106,7 @@ impl HomeShop {
         ensures disk_faults { IfOk result (λ disk. file_faults disk ≡ 0) }
         ensures syncs { IfOk result (λ disk. file_syncs disk ≡ 1) }
         ensures faults { self.new.faults ≡ self.old.faults }
+        ensures given { given_list self.new.given ≡ given_list self.old.given }
     {
         let at = match self.sets.iter().position(|set| set.has(place, which)) {
             Some(at) => at,
@@ -119,9 +123,10 @@ impl HomeShop {
 impl Shop for HomeShop {
     type D = HomeDisk;
 
-    ghost use Rattle.std.specs.Prelude.{◌≢◌, ℕ, List, OnErr, IsErrOf, if◌then◌else◌};
+    ghost use Rattle.std.specs.Prelude.{◌≢◌, ◌++◌, ℕ, List, OnErr, IsErrOf, if◌then◌else◌};
     ghost use Rattle.qc_disk.specs.Disk.{HasCause, next};
-    ghost use Rattle.qc_disk.specs.Shop.{Tells, TellsAlike};
+    ghost use Rattle.qc_disk.specs.Shop.{Tells, TellsAlike, if_given};
+    ghost use Rattle.qc_disk.specs.Given.{given_list};
     ghost use Rattle.qc_disk.specs.Home.{home_content, home_faults, home_offers, home_view, HomeGives};
 
     ghost view = { home_view };
@@ -135,13 +140,19 @@ impl Shop for HomeShop {
             → TellsAlike (home_view self.old) (home_view self.new) p n) }
         ensures cause { HasCause self.old.faults self.new.faults (IsErrOf result DiskNo.Failed) }
         ensures gives { IfOk result (HomeGives place.now) }
+        ensures gave { given_list self.new.given ≡ given_list self.old.given
+            ++ if_given result place.now which }
     {
         if place.is_empty() {
+            self.given.add(alloc, place, which)?;
             let disk = MemDisk::new(Vec::new(alloc), Vec::new(alloc));
             return Ok(HomeDisk::Memory(disk));
         }
         match self.file(alloc, place, which) {
-            Ok(disk) => Ok(HomeDisk::File(disk)),
+            Ok(disk) => {
+                self.given.add(alloc, place, which)?;
+                Ok(HomeDisk::File(disk))
+            }
             Err(DiskNo::Memory) => Err(DiskNo::Memory),
             Err(DiskNo::Failed) => {
                 self.faults = self.faults.saturating_add(1);

@@ -1,11 +1,13 @@
 //! Where disks come from.
-ghost use Rattle.std.specs.Prelude.{◌≡◌, ◌≢◌, ℕ, List, IfOk, OnErr, IsErrOf};
+ghost use Rattle.std.specs.Prelude.{◌≡◌, ◌≢◌, ◌++◌, ℕ, List, IfOk, OnErr, IsErrOf};
 ghost use Rattle.qc_disk.specs.Disk.{HasCause};
-ghost use Rattle.qc_disk.specs.Shop.{View, Tells, TellsAlike};
+ghost use Rattle.qc_disk.specs.Shop.{View, Tells, TellsAlike, if_given};
 
+mod given;
 mod memory;
 
 use crate::disk::{Disk, DiskNo};
+pub(crate) use given::Given;
 pub use memory::MemShop;
 use std::alloc::Global;
 
@@ -13,7 +15,8 @@ use std::alloc::Global;
 pub trait Shop {
     type D: Disk + Send;
 
-    /// The bytes of the disks that it would give, where it tells, how often each has failed, and its own faults.
+    /// The bytes of the disks that it would give, where it tells, how often each has failed, its own faults, and what
+    /// it gave.
     ghost view: { Self → View };
 
     /// Gives a disk. The others are as before, and so is each where it fails.
@@ -26,6 +29,8 @@ pub trait Shop {
             → TellsAlike (view self.old) (view self.new) p n }
         ensures kept { OnErr result ((p : List ℕ) (n : ℕ)
             → TellsAlike (view self.old) (view self.new) p n) }
+        ensures gave { (view self.new).gave ≡ (view self.old).gave
+            ++ if_given result place.now which }
         ensures cause { HasCause (view self.old).faults (view self.new).faults
             (IsErrOf result DiskNo.Failed) };
 }

@@ -20,7 +20,7 @@ use Rattle.qc_opening.specs.Numbered.{EachFrom, PairsFrom}
 use Rattle.qc_opening.specs.Refusing.{disks_in, reason_in, AreLeft}
 use Rattle.qc_opening.specs.declared.mount_no.MountNo.{MountNo}
 use Rattle.qc_desk.specs.Entries.{entries_of}
-use Rattle.qc_refine.specs.Images.{IsStanding, Restores}
+use Rattle.qc_refine.specs.Images.{IsStandingWithin, Restores}
 use Rattle.qc_script.specs.Plan.{ScriptPlan}
 use Rattle.qc_opening.specs.Mountings.{HaveNoGrants, IsMounted}
 use Rattle.qc_opening.proofs.KeptDisks.KeptImages.{images_kept}
@@ -176,7 +176,7 @@ module _ {D : Type 0} (view : D → View) (plan : ScriptPlan) (most : ℕ) (told
   as_many_images number (d ∷ disks) [] pairs = absurd pairs
   as_many_images number (d ∷ disks) (image ∷ images) pairs = ap suc (as_many_images (number + 1) disks images pairs.1)
 
-  pub stands : AllTell plan.table.copies offers → (images : List (List ℕ)) → AreImages view stored.ended.disks.items images → ∥ IsStanding plan.table stored.ended.start stored.epoch (past_of stored) images ∥₁
+  pub stands : AllTell plan.table.copies offers → (images : List (List ℕ)) → AreImages view stored.ended.disks.items images → ∥ IsStandingWithin 1 plan.table stored.ended.start stored.epoch (past_of stored) images ∥₁
   stands all_tell images left =
       stand plan.table told run.kept.records stored.epoch stored.ended.start run.kept.mounted (past_of stored) images run.legal bounded (of_epoch stored.epoch (past_of stored) bounded run.begins.numbers)
       (images_kept plan.table (found told) view stored.ended.disks.items (past_of stored) images run.kept.kept run.kept.mounted.as_many

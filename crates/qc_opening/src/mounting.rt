@@ -1,7 +1,7 @@
 //! Mounting a store.
-ghost use Rattle.std.specs.Prelude.{ℕ, ◌≡◌, ◌+◌, ◌<◌, ◌≤◌, ◌⊎◌, ◌↔◌, List, [], ◌∷◌, length, IfOk, IfErr, OnOk};
+ghost use Rattle.std.specs.Prelude.{◌++◌, ℕ, ◌≡◌, ◌+◌, ◌<◌, ◌≤◌, ◌⊎◌, ◌↔◌, List, [], ◌∷◌, length, IfOk, IfErr, OnOk};
 ghost use Rattle.qc_codec.specs.Bodies as body;
-ghost use Rattle.qc_disk.specs.Shop.{TellsAlike};
+ghost use Rattle.qc_disk.specs.Shop.{TellsAlike, first_disks};
 ghost use Rattle.qc_opening.specs.Images.{AreSound, IsFirstFault, Offers};
 ghost use Rattle.qc_opening.specs.Mounted.{given_by, IsStore, IsStoreOf};
 ghost use Rattle.qc_opening.specs.Obtained.{IsNotGiven};
@@ -114,9 +114,11 @@ pub fn mount<H: Shop>(
     ensures disks { IfErr result (ComeBack H.D.view ((H.view shop.old).offers place.now)
         ((H.view shop.old).counts place.now) table.now) }
 
-    // No other disks were obtained, and the shop's count of faults never falls.
+    // Those that come back are all that the shop gave, and the shop's count of faults never falls.
     ensures others { (p : List ℕ) (n : ℕ) → given_by result ≤ n
         → TellsAlike (H.view shop.old) (H.view shop.new) p n }
+    ensures gave { (H.view shop.new).gave ≡ (H.view shop.old).gave
+        ++ first_disks place.now (given_by result) }
     ensures faults { (H.view shop.old).faults ≤ (H.view shop.new).faults }
 {
     known_now::<H::D>();

@@ -1,6 +1,6 @@
 //! Obtaining the disks of a store.
-ghost use Rattle.std.specs.Prelude.{ℕ, ◌≡◌, ◌≤◌, List, length, IfOk, IfErr};
-ghost use Rattle.qc_disk.specs.Shop.{TellsAlike};
+ghost use Rattle.std.specs.Prelude.{◌++◌, ℕ, ◌≡◌, ◌≤◌, List, length, IfOk, IfErr};
+ghost use Rattle.qc_disk.specs.Shop.{TellsAlike, first_disks};
 ghost use Rattle.qc_opening.specs.Disks.{AreCounted, AreOffered};
 ghost use Rattle.qc_opening.specs.Obtained.{disks_of, IsNotGiven};
 
@@ -25,6 +25,8 @@ pub fn obtain_all<H: Shop>(
         (H.view shop.new).faults) }
     ensures others { (p : List ℕ) (n : ℕ) → length (disks_of result) ≤ n
         → TellsAlike (H.view shop.old) (H.view shop.new) p n }
+    ensures gave { (H.view shop.new).gave ≡ (H.view shop.old).gave
+        ++ first_disks place.now (length (disks_of result)) }
     ensures later { (H.view shop.old).faults ≤ (H.view shop.new).faults }
 {
     let Ok(mut disks) = Vec::with_capacity(alloc, usize::from(count)) else {

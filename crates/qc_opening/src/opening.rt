@@ -1,7 +1,7 @@
 //! From a shop to what the sessions left.
-ghost use Rattle.std.specs.Prelude.{ℕ, ◌≡◌, ◌+◌, ◌<◌, ◌≤◌, ◌^◌, ◌⊎◌, List, length, IfOk, IfErr, IsSome, OnOk, IsErrOf};
+ghost use Rattle.std.specs.Prelude.{◌++◌, ℕ, ◌≡◌, ◌+◌, ◌<◌, ◌≤◌, ◌^◌, ◌⊎◌, List, length, IfOk, IfErr, IsSome, OnOk, IsErrOf};
 ghost use Rattle.qc_codec.specs.Bodies as body;
-ghost use Rattle.qc_disk.specs.Shop.{TellsAlike};
+ghost use Rattle.qc_disk.specs.Shop.{TellsAlike, first_disks};
 ghost use Rattle.qc_event.specs.declared.short.Short.TheVariants.{Room};
 ghost use Rattle.qc_event.specs.History.{limit as most_entries};
 ghost use Rattle.qc_event.specs.Legal.{Legal};
@@ -11,7 +11,7 @@ ghost use Rattle.qc_opening.specs.Images.{AreSound, Offers};
 ghost use Rattle.qc_opening.specs.Obtained.{IsNotGiven};
 ghost use Rattle.qc_opening.specs.Refusing.{ComeBack, IsFaultOf, IsNotMounted};
 ghost use Rattle.qc_opening.specs.Stored.{disks_of, past_of, returned, AllTell, AreImages, HasKept, HaveGrown, HavePaid, LedgerWasFull};
-ghost use Rattle.qc_refine.specs.Images.{IsStanding, Restores};
+ghost use Rattle.qc_refine.specs.Images.{IsStandingWithin, Restores};
 ghost use Rattle.qc_script.specs.Reading.{IsProper};
 ghost use Rattle.qc_script.specs.Steps.{plan_of_script};
 ghost use Rattle.qc_opening.specs.Mountings.{HaveNoGrants};
@@ -80,8 +80,8 @@ where
     ensures stands { AllTell script.now.table.copies ((H.view shop.old).offers place.now)
         → IfOk result (λ stored. (images : List (List ℕ))
         → AreImages H.D.view (disks_of stored) images
-        → ∥ IsStanding script.now.table stored.ended.start stored.epoch (past_of stored)
-        images ∥₁) }
+        → ∥ IsStandingWithin 1 script.now.table stored.ended.start stored.epoch
+        (past_of stored) images ∥₁) }
     ensures grown { IfOk result (λ stored. HaveGrown H.D.view script.now.table
         ((H.view shop.old).offers place.now) stored.epoch stored.ended.start (disks_of stored)
         (past_of stored)) }
@@ -105,9 +105,11 @@ where
     ensures disks { IfErr result (ComeBack H.D.view ((H.view shop.old).offers place.now)
         ((H.view shop.old).counts place.now) script.now.table) }
 
-    // No other disks were obtained, and the shop's count of faults never falls.
+    // Those that come back are all that the shop gave, and the shop's count of faults never falls.
     ensures others { (p : List ℕ) (n : ℕ) → returned result ≤ n
         → TellsAlike (H.view shop.old) (H.view shop.new) p n }
+    ensures gave { (H.view shop.new).gave ≡ (H.view shop.old).gave
+        ++ first_disks place.now (returned result) }
     ensures faults { (H.view shop.old).faults ≤ (H.view shop.new).faults }
 {
     known_now::<H::D>();

@@ -6,14 +6,15 @@ ghost use Rattle.qc_event.specs.History.{Past, limit};
 ghost use Rattle.qc_event.specs.Legal.{Legal};
 ghost use Rattle.qc_event.specs.Sound.{IsSound};
 ghost use Rattle.qc_event.specs.Tables.{base_of, setting_of};
-ghost use Rattle.qc_refine.specs.Images.{IsStanding, Restores};
+ghost use Rattle.qc_refine.specs.Images.{IsStandingWithin, Restores};
 ghost use Rattle.qc_refine.specs.Standing.{IsOfEpoch};
 ghost use Rattle.qc_opening.specs.Mountings.{AreCutOff, AreKept, AreLeft, CarryNext, HaveNoGrants, IsMounted};
 
 /// A store is mounted, and runs from what its disks restore. Its history is legal, is no longer than a desk's may be, and
 /// has tops of the mounting's epoch alone. Each disk keeps, behind the records of the mounting, what the history tells.
 ///
-/// Then images of these disks, one of each, stand beside the history (`stands`). Mountings over them may be cut off, any
+/// Then images of these disks, one of each, stand beside the history, each with at most one record that it does not tell
+/// yet (`stands`). Mountings over them may be cut off, any
 /// number of times. The next one that is not starts with tuples that carry the serial machine's values, after the history
 /// and at most the commits of tops that may come next (`restarts`). What a mounting starts with is what the images restore
 /// (`restores`), and one that is cut off leaves images that restore the same (`cut_off`). A mounting over disks that are
@@ -24,7 +25,7 @@ pub fn kept_disks_stand()
         → (past : Past) (images : List (List ℕ))
         → Legal (setting_of table base) past → length past ≤ limit → IsOfEpoch epoch past
         → AreKept table base records past images
-        → ∥ IsStanding table base epoch past images ∥₁ }
+        → ∥ IsStandingWithin 1 table base epoch past images ∥₁ }
     ensures restarts { (table : Table) (told : ℕ → Option (List ℕ))
         → (records later_records : ℕ → List (List ℕ)) (epoch later_epoch : ℕ)
         → (base later_base : List (List Tuple)) (past : Past) (images last : List (List ℕ))

@@ -1,5 +1,5 @@
 -- When images of disks stand beside a history, and what they restore: image 0 is the ledger's, image c + 1 copy c's.
-use Rattle.std.specs.Prelude.{ℕ, ◌≡◌, ◌+◌, ◌<◌, List, [], ◌∷◌, ◌++◌, length, map, slice_get, slice_index_or, All, Some}
+use Rattle.std.specs.Prelude.{ℕ, ◌≡◌, ◌+◌, ◌<◌, ◌≤◌, List, [], ◌∷◌, ◌++◌, length, map, slice_get, slice_index_or, All, Some}
 use Rattle.std.specs.List.{filter_map, range_with_len}
 use Rattle.qc_codec.specs.Bodies as body
 use Rattle.qc_codec.specs.Copy.{grant_form}
@@ -17,7 +17,7 @@ use Rattle.qc_journal.specs.Image.{HasRecords}
 use Rattle.qc_serial.specs.Serial.{final_values}
 use Rattle.qc_refine.specs.Listed.{logged}
 use Rattle.qc_refine.specs.Restored.{Kept, granted_at, restored, restored_value}
-use Rattle.qc_refine.specs.Standing.{StandBeside}
+use Rattle.qc_refine.specs.Standing.{IsAskedOf, StandBeside}
 
 -- WHAT STANDS IN BODIES
 
@@ -54,6 +54,14 @@ pub record IsStanding (table : Table) (base : List (List Tuple)) (epoch : ℕ) (
   pub as_many : length images ≡ table.copies + 1
   pub ledger : IsLedgerImage table epoch before.tops (logged past ++ beside.more) (slice_index_or images 0 [])
   pub copies : (copy : ℕ) → copy < table.copies → IsCopyImage table copy (granted_at now copy) (slice_index_or images (copy + 1) [])
+
+-- The same, with few records that the history does not tell yet: of the ledger those of at most so many tops, of a copy at most
+-- one, of a grant that was asked of it.
+pub record IsStandingWithin (most : ℕ) (table : Table) (base : List (List Tuple)) (epoch : ℕ) (past : Past) (images : List (List ℕ)) : Type 0 where
+  pub standing : IsStanding table base epoch past images
+  pub few_tops : length standing.beside.more ≤ most
+  pub few_grants : (copy : ℕ) → copy < table.copies → length (standing.beside.untold copy) ≤ 1
+  pub asked : (copy : ℕ) → copy < table.copies → All (IsAskedOf past copy) (standing.beside.untold copy)
 
 -- Images of a store that was just made, in its first epoch: nothing was logged, and nothing granted.
 pub record AreFresh (table : Table) (images : List (List ℕ)) : Type 0 where

@@ -1,5 +1,5 @@
 -- When disks stand beside a history: what they tell is what they told before it, and what it tells.
-use Rattle.std.specs.Prelude.{ℕ, ◌≡◌, ◌<◌, true, is_some, List, [], ◌∷◌, ◌++◌, length, All, None}
+use Rattle.std.specs.Prelude.{ℕ, ◌≡◌, ◌<◌, true, is_some, List, [], ◌∷◌, ◌++◌, length, All, None, MatchOption}
 use Rattle.qc_codec.specs.Ledger.{IsOld, commit_of, epoch_in}
 use Rattle.qc_codec.specs.declared.past.Logged.{Logged}
 use Rattle.qc_config.specs.declared.tuple.Tuple.{Tuple}
@@ -34,6 +34,10 @@ committed_too past (l ∷ ls) = committed_too (commit_of l.top ∷ past) ls
 pub record IsUntold (past : Past) (g : Grant) : Type 0 where
   pub asked : is_some (asked past g.access) ≡ true
   pub not_granted : granted past g.access ≡ None
+
+-- A grant is what its access asked of this copy.
+abbrev pub IsAskedOf : Past → ℕ → Grant → Type 0
+IsAskedOf past copy g = MatchOption (asked past g.access) ⊥ (λ a. a.ask ≡ record { access = g.access; copy = copy; rec = g.rec; op = g.op })
 
 -- EPOCHS
 

@@ -6,7 +6,7 @@ use Rattle.qc_disk.specs.Shop.{View as Shop}
 use Rattle.qc_interp.specs.declared.gate.Mode.{Mode}
 use Rattle.qc_io.specs.Io.{SinkView, SourceView}
 use Rattle.qc_script.specs.MadePlan.{made_plan}
-use Rattle.qc_run.specs.Left.{HadNoScript, IsAnswerToMaking, IsAnswerToSource, IsAnswerToWords, IsRefusal, IsUnread}
+use Rattle.qc_run.specs.Left.{HadNoScript, IsAnswerToMaking, IsAnswerToSource, IsAnswerToWords, IsEarly, IsUnread}
 use Rattle.qc_run.specs.Run.{IsOrMemory}
 use Rattle.qc_run.specs.Words.{mode_of, Asked, IsCommand, IsMaking, IsNoCommand, IsReading}
 use Rattle.qc_run.specs.declared.ran.Ran.{Ran}
@@ -58,6 +58,6 @@ module _ {D : Type 0} (view : D → View) (words : List (List ℕ)) (source_befo
   by_making n is (inl refused) = inl (refused.0, subst (HadNoScript words source_before source_now) (sym refused.1) tt)
   by_making n is (inr answer) = inr (made_plan n, (record { asked = Asked.made_of n; is_command = is; is_script = refl }, answer))
 
-  pub by_nothing : IsNoCommand words → IsOrMemory status.Usage ran.status → IsRefusal before now ran → ToWords
+  pub by_nothing : IsNoCommand words → IsOrMemory status.Usage ran.status → IsEarly before now ran → ToWords
   by_nothing none (inl usage) refusal = inl (refusal, subst (HadNoScript words source_before source_now) (sym usage) none)
   by_nothing none (inr memory) refusal = inl (refusal, subst (HadNoScript words source_before source_now) (sym memory) tt)

@@ -1,5 +1,5 @@
 -- The clauses of a run, each from what it answered to its words.
-use Rattle.std.proofs.Common.{ℕ, ◌≡◌, ◌≤◌, List, [], length, reverse, refl, sym, subst, inl, inr}
+use Rattle.std.proofs.Common.{ℕ, ◌≡◌, ◌≤◌, List, [], length, reverse, refl, sym, ap, subst, inl, inr, arith}
 use Rattle.std.specs.Prelude.{◌⊎◌, Option}
 use Rattle.qc_codec.specs.declared.image.BadImage.{BadImage}
 use Rattle.qc_disk.specs.Disk.{View}
@@ -10,13 +10,14 @@ use Rattle.qc_opening.specs.Images.{IsFirstFault}
 use Rattle.qc_report.specs.Report.{Text}
 use Rattle.qc_script.specs.Plan.{ScriptPlan}
 use Rattle.qc_script.specs.declared.bad_script.BadScript.{BadScript}
-use Rattle.qc_run.specs.Left.{Wrote, IsPerformed, TellsDoubt, HasRun, IsUnmounted, WasUnmounted, CameBack, IsAnswer, HadNoScript, IsAnswerToWords}
-use Rattle.qc_run.specs.Run.{journal_limit, form_of, text_by, AllEnded, AllOffered, BeganNothing, HadScript, HadSession, IsDiskFault, IsInDoubt, IsNotMounted, IsReadFault, IsReported, IsScriptFault, IsTold, NoneBegun, OfRun, OfScript, RanToEnd, RunsScript, TellsFault}
+use Rattle.qc_run.specs.Left.{Wrote, IsPerformed, TellsDoubt, HasRun, IsUnmounted, WasUnmounted, CameBack, IsAnswer, HadNoScript, IsAnswerToWords, IsEarly}
+use Rattle.qc_run.specs.Run.{journal_limit, form_of, text_by, AllEnded, AllOffered, BeganNothing, HadNone, HadNoSession, HadScript, HadSession, IsDiskFault, IsInDoubt, IsNotMounted, IsReadFault, IsReported, IsScriptFault, IsTold, NoneBegun, OfRun, OfScript, RanToEnd, RunsScript, TellsFault}
 use Rattle.qc_run.specs.Words.{place_of, AsAsked, Asked, AtPlace, IsCommand, IsNoCommand}
 use Rattle.qc_run.specs.declared.ran.Ran.{Ran}
 use Rattle.qc_run.specs.declared.status.Status.{Status}
 use Rattle.qc_run.specs.declared.status.Status.TheVariants as status
 use Rattle.qc_run.proofs.OneCommand.{one_command}
+use Rattle.qc_run.proofs.Taken.{proper_one}
 use Rattle.qc_run.proofs.Doubts.{all_ended}
 
 -- WORDS
@@ -122,6 +123,30 @@ performed_mounted (status.Image bad) is un = absurd is
 performed_mounted status.Memory is un = absurd un
 performed_mounted status.Room is un = absurd un
 
+unmounted_had : {D : Type 0} (view : D → View) (s : ScriptPlan) (shop : Shop) (place : List ℕ) (now : ℕ) (disks : List D) (answer : Status) → IsUnmounted view s shop place now disks answer → HadNone answer → ⊥
+unmounted_had view s shop place now disks status.Done un is = absurd un
+unmounted_had view s shop place now disks status.InDoubt un is = absurd un
+unmounted_had view s shop place now disks status.WriteFault un is = absurd un
+unmounted_had view s shop place now disks status.Usage un is = absurd un
+unmounted_had view s shop place now disks (status.Script e) un is = absurd un
+unmounted_had view s shop place now disks status.ReadFault un is = absurd un
+unmounted_had view s shop place now disks (status.DiskFault which) un is = absurd is
+unmounted_had view s shop place now disks (status.Image bad) un is = absurd is
+unmounted_had view s shop place now disks status.Memory un is = absurd is
+unmounted_had view s shop place now disks status.Room un is = absurd is
+
+performed_had : (answer : Status) → IsPerformed answer → HadNone answer → ⊥
+performed_had status.Usage is none = absurd is
+performed_had (status.Script e) is none = absurd is
+performed_had status.ReadFault is none = absurd is
+performed_had status.Done is none = absurd none
+performed_had status.InDoubt is none = absurd none
+performed_had status.WriteFault is none = absurd none
+performed_had (status.DiskFault which) is none = absurd none
+performed_had (status.Image bad) is none = absurd none
+performed_had status.Memory is none = absurd none
+performed_had status.Room is none = absurd none
+
 none_fault : (words : List (List ℕ)) (before now : SourceView) (answer : Status) → HadNoScript words before now answer → IsScriptFault words before.left answer
 none_fault words before now (status.Script e) none = (none.0, none.1.0, none.1.1)
 none_fault words before now status.Done none = tt
@@ -171,14 +196,22 @@ module _ {D : Type 0} (view : D → View) (words : List (List ℕ)) (source_befo
   abbrev Why : ScriptPlan → Asked → List D → Status → Type 0
   Why s asked disks answer = IsUnmounted view s shop_before (place_of asked) shop_faults disks answer
 
+  -- no session was begun where there was no script
+  no_script : IsEarly before now ran × HadNoScript words source_before source_now ran.status → HadNoSession ran
+  no_script refused = record { other = λ had. none_had words source_before source_now ran.status refused.1 (ran_read ran.status had); none = refused.0.refusal.none }
+
+  -- nor where no store was mounted
+  no_store : (s : ScriptPlan) (asked : Asked) → Unmounted s asked → HadNoSession ran
+  no_store s asked un = record { other = unmounted_not_ran view s shop_before (place_of asked) shop_faults ran.disks.items ran.status un.why; none = un.none }
+
   -- what is so of a run whose session began
   pub of_run : (P : ScriptPlan → Type 0) → Answers → ((s : ScriptPlan) (it : Is s) → Runs s it.asked → P s)
-      → OfRun words source_before.left source_now.left ran.start ran.trail P
-  of_run P (inl refused) so = inl refused.0.none
+      → OfRun words source_before.left source_now.left ran P
+  of_run P (inl refused) so = inl (no_script refused)
   of_run P (inr run) so = by_came run.1.1.came
     where
-      by_came : Unmounted run.0 run.1.0.asked ⊎ Runs run.0 run.1.0.asked → OfRun words source_before.left source_now.left ran.start ran.trail P
-      by_came (inl un) = inl un.none
+      by_came : Unmounted run.0 run.1.0.asked ⊎ Runs run.0 run.1.0.asked → OfRun words source_before.left source_now.left ran P
+      by_came (inl un) = inl (no_store run.0 run.1.0.asked un)
       by_came (inr has) = inr (run.0, run.1.0, so run.0 run.1.0 has)
 
   -- what is so where there was a script
@@ -201,7 +234,7 @@ module _ {D : Type 0} (view : D → View) (words : List (List ℕ)) (source_befo
 
   -- what was written, whatever the text
   wrote : Answers → (text : Text) × Wrote before now ran.status text
-  wrote (inl refused) = ([], refused.0.wrote [])
+  wrote (inl refused) = ([], refused.0.refusal.wrote [])
   wrote (inr run) = (text_by (form_of run.1.0.asked) run.0.table ran.start ran.trail, run.1.1.wrote)
 
   pub told : Answers → IsTold ran.status → TellsFault before.taken now.taken before.faults now.faults ran.status
@@ -237,7 +270,7 @@ module _ {D : Type 0} (view : D → View) (words : List (List ℕ)) (source_befo
   script_fault (inr run) = no_fault words source_before.left ran.status (λ e is. not_to_script run.0 run.1.0.asked (status.Script e) is (λ disks no. no) (λ no. no) run.1.1)
 
   pub began_nothing : Answers → BeganNothing ran.status → NoneBegun ran.start ran.trail
-  began_nothing (inl refused) none = refused.0.none
+  began_nothing (inl refused) none = refused.0.refusal.none
   began_nothing (inr run) none = by_came run.1.1.came
     where
       by_came : Unmounted run.0 run.1.0.asked ⊎ Runs run.0 run.1.0.asked → NoneBegun ran.start ran.trail
@@ -280,6 +313,29 @@ module _ {D : Type 0} (view : D → View) (words : List (List ℕ)) (source_befo
   pub came_back : Answers → IsNotMounted ran.status → OfScript words source_before.left source_now.left (λ s. AtPlace words (λ place. CameBack view s shop_before place ran.disks.items))
   came_back is un = by_script (λ s. AtPlace words (λ place. CameBack view s shop_before place ran.disks.items)) is (unmounted_read ran.status un) (λ s it to.
       at_place words it.asked (λ p. CameBack view s shop_before p ran.disks.items) it.is_command (left_back s it.asked un to.came))
+
+  -- no disk was obtained where there was no script
+  pub none_obtained : Answers → HadNone ran.status → ran.disks.items ≡ []
+  none_obtained (inl refused) none = refused.0.no_disks
+  none_obtained (inr run) none = absurd (none_of_script run.0 run.1.0.asked run.1.1.came)
+    where
+      none_of_script : (s : ScriptPlan) (asked : Asked) → Unmounted s asked ⊎ Runs s asked → ⊥
+      none_of_script s asked (inl un) = unmounted_had view s shop_before (place_of asked) shop_faults ran.disks.items ran.status un.why none
+      none_of_script s asked (inr has) = performed_had ran.status has.answer none
+
+  -- where no session was begun, no disk was obtained, or those that were come back as a mounting left them
+  pub wanting : Answers → ran.start ≡ [] → (ran.disks.items ≡ []) ⊎ OfScript words source_before.left source_now.left (λ s. AtPlace words (λ place. CameBack view s shop_before place ran.disks.items))
+  wanting (inl refused) none = inl refused.0.no_disks
+  wanting (inr run) none = inr (run.0, run.1.0, at_place words run.1.0.asked (λ p. CameBack view run.0 shop_before p ran.disks.items) run.1.0.is_command (unmounted run.1.1.came))
+    where
+      unmounted : Unmounted run.0 run.1.0.asked ⊎ Runs run.0 run.1.0.asked → CameBack view run.0 shop_before (place_of run.1.0.asked) ran.disks.items
+      unmounted (inl un) = un.back
+      unmounted (inr has) = absurd (begun has)
+        where
+          begun : Runs run.0 run.1.0.asked → ⊥
+          begun has =
+              let proper = proper_one source_before.left source_now.left run.0 run.1.0.asked run.1.0.is_script in
+              omega (arith, ap length none, has.grown.mounted.as_many, has_copies run.0 proper)
 
   -- what is so of a session that was run, where this status is none that began nothing
   by_session : (why : Status) (P : Type 0) → Answers → ran.status ≡ why → ((s : ScriptPlan) (asked : Asked) → Why s asked ran.disks.items why → ⊥) → (HadNoScript words source_before source_now why → ⊥)

@@ -14,7 +14,7 @@ use Rattle.qc_opening.specs.Refusing.{disks_in, ComeBack}
 use Rattle.qc_opening.specs.declared.mount_no.MountNo.{MountNo}
 use Rattle.qc_opening.specs.declared.mount_no.MountNo.TheVariants as no
 use Rattle.qc_opening.specs.Stored.{AllTell, AreImages, HaveGrown, HavePaid, LedgerWasFull}
-use Rattle.qc_refine.specs.Images.{IsStanding, Restores}
+use Rattle.qc_refine.specs.Images.{IsStandingWithin, Restores}
 use Rattle.qc_report.specs.Report.{Text}
 use Rattle.qc_script.specs.Plan.{ScriptPlan}
 use Rattle.qc_script.specs.Reading.{IsScript, IsRefused}
@@ -67,6 +67,11 @@ pub record IsRefusal {D : Type 0} (before now : SinkView) (ran : Ran D) : Type 0
   pub none : NoneBegun ran.start ran.trail
   pub wrote : (text : Text) → Wrote before now ran.status text
 
+-- Nor was a disk obtained.
+pub record IsEarly {D : Type 0} (before now : SinkView) (ran : Ran D) : Type 0 where
+  pub refusal : IsRefusal before now ran
+  pub no_disks : ran.disks.items ≡ []
+
 module _ {D : Type 0} (view : D → View) (s : ScriptPlan) (shop : Shop) (place : Text) where
   -- The session of a script was run, from what the disks of a store restored, and left this.
   pub record HasRun (ran : Ran D) : Type 0 where
@@ -81,7 +86,7 @@ module _ {D : Type 0} (view : D → View) (s : ScriptPlan) (shop : Shop) (place 
     pub restores : (images : List (List ℕ)) → AllOffered s.table (shop.offers place) images → Restores s.table images ran.start
     pub first : HaveNoGrants s.table (shop.offers place) → ran.start ≡ base_of s.table
     pub stands : AllTell s.table.copies (shop.offers place) → (images : List (List ℕ)) → AreImages view ran.disks.items images
-        → ∥ IsStanding s.table ran.start epoch (reverse ran.trail) images ∥₁
+        → ∥ IsStandingWithin 1 s.table ran.start epoch (reverse ran.trail) images ∥₁
     pub grown : HaveGrown view s.table (shop.offers place) epoch ran.start ran.disks.items (reverse ran.trail)
     pub paid : HavePaid view (shop.counts place) ran.disks.items (reverse ran.trail)
     pub full : IsSome (shop.offers place 0) → LedgerWasFull view journal_limit ran.disks.items (reverse ran.trail)
@@ -138,24 +143,24 @@ module _ {D : Type 0} (view : D → View) where
   -- what is answered to bytes, over disks of a place
   abbrev pub IsAnswerToBytes : List ℕ → Shop → Text → ℕ → SinkView → SinkView → Ran D → Type 0
   IsAnswerToBytes bytes shop place shop_now before now ran =
-      (IsRefusal before now ran × IsNoScript bytes ran.status)
+      (IsEarly before now ran × IsNoScript bytes ran.status)
       ⊎ ((s : ScriptPlan) × IsScript bytes s × IsAnswer view s shop place Report shop_now before now ran)
 
   -- what is answered where the source is to hold a script
   abbrev pub IsAnswerToSource : SourceView → SourceView → Shop → Text → ℕ → SinkView → SinkView → Ran D → Type 0
   IsAnswerToSource source_before source_now shop place shop_now before now ran =
-      (IsRefusal before now ran × IsUnread source_before source_now ran.status)
+      (IsEarly before now ran × IsUnread source_before source_now ran.status)
       ⊎ ((s : ScriptPlan) × ReadsScript source_before.left source_now.left s × IsAnswer view s shop place Report shop_now before now ran)
 
   -- what is answered where this script is to be made, over disks of the empty place: there may be no memory for it
   abbrev pub IsAnswerToMaking : ScriptPlan → Shop → ℕ → SinkView → SinkView → Ran D → Type 0
   IsAnswerToMaking s shop shop_now before now ran =
-      (IsRefusal before now ran × (ran.status ≡ status.Memory))
+      (IsEarly before now ran × (ran.status ≡ status.Memory))
       ⊎ IsAnswer view s shop [] Summary shop_now before now ran
 
   -- what is answered to words
   abbrev pub IsAnswerToWords : List (List ℕ) → SourceView → SourceView → Shop → ℕ → SinkView → SinkView → Ran D → Type 0
   IsAnswerToWords words source_before source_now shop shop_now before now ran =
-      (IsRefusal before now ran × HadNoScript words source_before source_now ran.status)
+      (IsEarly before now ran × HadNoScript words source_before source_now ran.status)
       ⊎ ((s : ScriptPlan) × ((it : RunsScript words source_before.left source_now.left s)
       × IsAnswer view s shop (place_of it.asked) (form_of it.asked) shop_now before now ran))

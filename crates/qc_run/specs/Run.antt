@@ -22,6 +22,7 @@ use Rattle.qc_run.specs.FaultLine.{fault_line}
 use Rattle.qc_run.specs.Words.{Asked, IsCommand, IsReading}
 use Rattle.qc_run.specs.declared.finishing.Form.{Form}
 use Rattle.qc_run.specs.declared.finishing.Form.TheVariants.{Report, Summary}
+use Rattle.qc_run.specs.declared.ran.Ran.{Ran}
 use Rattle.qc_run.specs.declared.status.Status.{Status}
 use Rattle.qc_run.specs.declared.status.Status.TheVariants as status
 
@@ -75,10 +76,6 @@ OfScript words before now IsSo = (s : ScriptPlan) × RunsScript words before now
 -- nothing was begun: there are no start tuples and no history
 abbrev pub NoneBegun : List (List Tuple) → List Entry → Type 0
 NoneBegun start trail = (start ≡ []) × (trail ≡ [])
-
--- nothing was begun, or there is a script that the words run, and it is so of it
-abbrev pub OfRun : List Text → Option (List ℕ) → Option (List ℕ) → List (List Tuple) → List Entry → (ScriptPlan → Type 0) → Type 0
-OfRun words before now start trail IsSo = NoneBegun start trail ⊎ OfScript words before now IsSo
 
 -- What is asked for is to run this script: the one that all bytes of the source are, or the one that is made of a number.
 abbrev pub IsScriptFor : Option (List ℕ) → ScriptPlan → Asked → Type 0
@@ -234,6 +231,24 @@ IsSessionRun _ = ⊥
 -- the status, or want of memory in its place
 abbrev pub IsOrMemory : Status → Status → Type 0
 IsOrMemory why answer = (answer ≡ why) ⊎ (answer ≡ status.Memory)
+
+-- RUNS
+
+-- No session was begun: the status is not that of one, and there are no start tuples and no history.
+pub record HadNoSession {D : Type 0} (ran : Ran D) : Type 0 where
+  pub other : HadSession ran.status → ⊥
+  pub none : NoneBegun ran.start ran.trail
+
+-- no session was begun, or there is a script that the words run, and it is so of it
+abbrev pub OfRun : {D : Type 0} → List Text → Option (List ℕ) → Option (List ℕ) → Ran D → (ScriptPlan → Type 0) → Type 0
+OfRun words before now ran IsSo = HadNoSession ran ⊎ OfScript words before now IsSo
+
+-- the words ran no script, or none was found
+abbrev pub HadNone : Status → Type 0
+HadNone status.Usage = Unit {0}
+HadNone (status.Script e) = Unit {0}
+HadNone status.ReadFault = Unit {0}
+HadNone _ = ⊥
 
 -- THE SINK
 

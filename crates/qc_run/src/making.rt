@@ -1,6 +1,6 @@
 //! Runs of a script that is made of a number.
-ghost use Rattle.std.specs.Prelude.{ℕ, List, ◌≤◌, length};
-ghost use Rattle.qc_disk.specs.Shop.{TellsAlike};
+ghost use Rattle.std.specs.Prelude.{ℕ, List, [], ◌≡◌, ◌++◌, ◌≤◌, length};
+ghost use Rattle.qc_disk.specs.Shop.{TellsAlike, first_disks};
 ghost use Rattle.qc_script.specs.MadePlan.{made_plan};
 ghost use Rattle.qc_run.specs.Left as left;
 
@@ -35,6 +35,8 @@ where
         (K.view sink.old) (K.view sink.new) result }
     ensures disks { (p : List ℕ) (n : ℕ) → length result.disks.items ≤ n
         → TellsAlike (H.view shop.old) (H.view shop.new) p n }
+    ensures gave { (H.view shop.new).gave ≡ (H.view shop.old).gave
+        ++ first_disks [] (length result.disks.items) }
     ensures shop_faults { (H.view shop.old).faults ≤ (H.view shop.new).faults }
 {
     match Script::made(alloc, number) {

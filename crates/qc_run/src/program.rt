@@ -1,6 +1,6 @@
 //! The top call: all that the program does, over the streams and the shop of disks that it is handed.
-ghost use Rattle.std.specs.Prelude.{ℕ, List, ⊤, ◌≡◌, ◌≤◌, ◌⊎◌, [], length, map, reverse, string_bytes, IfSome, IsSome};
-ghost use Rattle.qc_disk.specs.Shop.{TellsAlike};
+ghost use Rattle.std.specs.Prelude.{ℕ, List, ⊤, ◌++◌, ◌≡◌, ◌≤◌, ◌⊎◌, [], length, map, reverse, string_bytes, IfSome, IsSome};
+ghost use Rattle.qc_disk.specs.Shop.{TellsAlike, first_disks};
 ghost use Rattle.qc_event.specs.History.{Name, limit};
 ghost use Rattle.qc_event.specs.Legal.{Legal};
 ghost use Rattle.qc_event.specs.Sound.{IsSound};
@@ -8,7 +8,7 @@ ghost use Rattle.qc_event.specs.Tables.{base_of, first_values, setting_of};
 ghost use Rattle.qc_io.specs.Io.{Rose, Keeps, Appends, AppendsFront, Drops, LosesWithin};
 ghost use Rattle.qc_opening.specs.Images.{AreSound, IsFirstFault};
 ghost use Rattle.qc_opening.specs.Stored.{AllTell, AreImages, HaveGrown, HavePaid, LedgerWasFull};
-ghost use Rattle.qc_refine.specs.Images.{IsStanding, Restores};
+ghost use Rattle.qc_refine.specs.Images.{IsStandingWithin, Restores};
 ghost use Rattle.qc_script.specs.Plan.{ScriptPlan};
 ghost use Rattle.qc_script.specs.Reading.{IsScript};
 ghost use Rattle.qc_opening.specs.Mountings.{HaveNoGrants};
@@ -58,6 +58,9 @@ where
     ensures source_left { line.IsMaking (map string_bytes words.now) → source.new ≡ source.old }
     ensures disks { (p : List ℕ) (n : ℕ) → length result.disks.items ≤ n
         → TellsAlike (H.view shop.old) (H.view shop.new) p n }
+    ensures gave { line.AtPlace (map string_bytes words.now) (λ place.
+        (H.view shop.new).gave ≡ (H.view shop.old).gave
+        ++ first_disks place (length result.disks.items)) }
     ensures shop_faults { (H.view shop.old).faults ≤ (H.view shop.new).faults }
 {
     match command_of(words) {
@@ -99,26 +102,28 @@ where
     // Nothing was begun, or the words run a script, which the source held or which was made, and the history is legal
     // over the first configurations of its table and the start.
     ensures legal_history { terms.OfRun (map string_bytes words.now) (S.view source.old).left
-        (S.view source.new).left result.start result.trail
+        (S.view source.new).left result
         (λ s. Legal (setting_of s.table result.start) (reverse result.trail)) }
+    ensures as_many { terms.OfRun (map string_bytes words.now) (S.view source.old).left
+        (S.view source.new).left result (λ s. length result.start ≡ s.table.copies) }
     ensures nothing_begun { terms.BeganNothing result.status
         → (result.trail ≡ []) × (result.start ≡ []) }
 
     // At each moment of the history, each user transaction without an aborted ancestor has its serial order, from
     // each map of values for which the start is sound.
     ensures serial_order { terms.OfRun (map string_bytes words.now) (S.view source.old).left
-        (S.view source.new).left result.start result.trail
+        (S.view source.new).left result
         (λ s. terms.HasSerialOrders s.table result.start result.trail) }
 
     // The last values of the report, which go by versions, are then those of the serial machine.
     ensures last_values { terms.OfRun (map string_bytes words.now) (S.view source.old).left
-        (S.view source.new).left result.start result.trail
+        (S.view source.new).left result
         (λ s. terms.HasSerialValues s.table result.start result.trail) }
 
     // Whatever cut the run off, the history is a beginning of one that follows the script, with requests that meet the
     // fates of its network; what ran to its end follows it.
     ensures begins_script { terms.OfRun (map string_bytes words.now) (S.view source.old).left
-        (S.view source.new).left result.start result.trail
+        (S.view source.new).left result
         (λ s. terms.Begins s result.trail) }
     ensures follows_script { terms.RanToEnd result.status
         → terms.OfScript (map string_bytes words.now) (S.view source.old).left
@@ -139,17 +144,17 @@ where
     // The start is what the disks restore, where the shop tells their bytes. Where no grant stands on them it is the
     // table's own first tuples, which are sound for its start values.
     ensures restores { terms.OfRun (map string_bytes words.now) (S.view source.old).left
-        (S.view source.new).left result.start result.trail
+        (S.view source.new).left result
         (λ s. line.AtPlace (map string_bytes words.now) (λ place. (images : List (List ℕ))
         → terms.AllOffered s.table ((H.view shop.old).offers place) images
         → Restores s.table images result.start)) }
     ensures first_start { terms.OfRun (map string_bytes words.now) (S.view source.old).left
-        (S.view source.new).left result.start result.trail
+        (S.view source.new).left result
         (λ s. line.AtPlace (map string_bytes words.now)
         (λ place. HaveNoGrants s.table ((H.view shop.old).offers place)
         → result.start ≡ base_of s.table)) }
     ensures sound_start { terms.OfRun (map string_bytes words.now) (S.view source.old).left
-        (S.view source.new).left result.start result.trail
+        (S.view source.new).left result
         (λ s. line.AtPlace (map string_bytes words.now)
         (λ place. HaveNoGrants s.table ((H.view shop.old).offers place)
         → IsSound (setting_of s.table result.start) (first_values s.table))) }
@@ -157,19 +162,19 @@ where
     // Where all disks told their bytes, whatever a crash leaves of those that come back stands beside the history, in
     // its epoch.
     ensures images_stand { terms.OfRun (map string_bytes words.now) (S.view source.old).left
-        (S.view source.new).left result.start result.trail
+        (S.view source.new).left result
         (λ s. (epoch : ℕ)
         × terms.BeginsIn epoch s result.trail
         × line.AtPlace (map string_bytes words.now)
         (λ place. AllTell s.table.copies ((H.view shop.old).offers place)
         → (images : List (List ℕ)) → AreImages H.D.view result.disks.items images
-        → ∥ IsStanding s.table result.start epoch (reverse result.trail) images ∥₁)) }
+        → ∥ IsStandingWithin 1 s.table result.start epoch (reverse result.trail) images ∥₁)) }
     // At each moment since a disk was mounted, where it told its bytes, a crash left the records that it had then, and
     // behind them those of the history up to some time, with at most one more, which could come next then. Of two such
     // moments each image of the later had every record that all images of the earlier had. Before, a crash left of the
     // disk what it left of it as it was when it had been mounted.
     ensures images_grow { terms.OfRun (map string_bytes words.now) (S.view source.old).left
-        (S.view source.new).left result.start result.trail
+        (S.view source.new).left result
         (λ s. (epoch : ℕ)
         × terms.BeginsIn epoch s result.trail
         × line.AtPlace (map string_bytes words.now)
@@ -178,26 +183,36 @@ where
 
     // Each failure that someone was unable for, a disk has counted since the shop gave it.
     ensures paid { terms.OfRun (map string_bytes words.now) (S.view source.old).left
-        (S.view source.new).left result.start result.trail
+        (S.view source.new).left result
         (λ s. line.AtPlace (map string_bytes words.now) (λ place. HavePaid H.D.view
         ((H.view shop.old).counts place) result.disks.items (reverse result.trail))) }
 
     // Each top that the ledger was unable to log for want of room at its disk, where that told its bytes: with its record
     // behind what the disk has, it would have passed the longest journal.
     ensures full { terms.OfRun (map string_bytes words.now) (S.view source.old).left
-        (S.view source.new).left result.start result.trail
+        (S.view source.new).left result
         (λ s. line.AtPlace (map string_bytes words.now)
         (λ place. IsSome ((H.view shop.old).offers place 0)
         → LedgerWasFull H.D.view terms.journal_limit result.disks.items
         (reverse result.trail))) }
 
-    // The disks that were obtained come back, and no others were. A mounting that was refused leaves each as it says.
+    // The disks that come back are all that the shop gave: those of the place, from 0 on. None was where there was no
+    // script. A mounting that was refused leaves each as it says, also where memory was wanting.
     ensures come_back { terms.IsNotMounted result.status
         → terms.OfScript (map string_bytes words.now) (S.view source.old).left
         (S.view source.new).left
         (λ s. line.AtPlace (map string_bytes words.now) (λ place. left.CameBack H.D.view s
         (H.view shop.old) place result.disks.items)) }
-    ensures disks { (place : List ℕ) (n : ℕ) → length result.disks.items ≤ n
+    ensures wanting { result.start ≡ [] → (result.disks.items ≡ [])
+        ⊎ terms.OfScript (map string_bytes words.now) (S.view source.old).left
+        (S.view source.new).left
+        (λ s. line.AtPlace (map string_bytes words.now) (λ place. left.CameBack H.D.view s
+        (H.view shop.old) place result.disks.items)) }
+    ensures none_obtained { terms.HadNone result.status → result.disks.items ≡ [] }
+    ensures disks { line.AtPlace (map string_bytes words.now) (λ place.
+        (H.view shop.new).gave ≡ (H.view shop.old).gave
+        ++ first_disks place (length result.disks.items)) }
+    ensures offers { (place : List ℕ) (n : ℕ) → length result.disks.items ≤ n
         → TellsAlike (H.view shop.old) (H.view shop.new) place n }
 
     // The bytes written are the report, or the summary where the script was made; a front of it, a fault's line, or none.
@@ -274,7 +289,7 @@ where
     ensures source_left { line.IsMaking (map string_bytes words.now) → source.new ≡ source.old }
 
     // A script is run, where no stream fails, as far as there is memory and room, or a disk or an image is refused.
-    // Where no disk fails either and the images have no fault, none is refused.
+    // Where no disk failed before a session was begun either, and the images have no fault, none is refused.
     ensures completes { (s : ScriptPlan)
         → terms.AsksFor (map string_bytes words.now) (S.view source.old).left s
         → (Rose (S.view source.old).faults (S.view source.new).faults → ⊥)
@@ -285,7 +300,7 @@ where
         → line.AtPlace (map string_bytes words.now)
         (λ place. (Rose (S.view source.old).faults (S.view source.new).faults → ⊥)
         → (Rose (K.view sink.old).faults (K.view sink.new).faults → ⊥)
-        → ((which : ℕ) → terms.IsDiskFault H.D.view (H.view shop.old).faults
+        → (result.start ≡ [] → (which : ℕ) → terms.IsDiskFault H.D.view (H.view shop.old).faults
         (H.view shop.new).faults ((H.view shop.old).counts place) result.disks.items which → ⊥)
         → terms.AllOffered s.table ((H.view shop.old).offers place) images
         → AreSound s.table terms.journal_limit images

@@ -1,6 +1,6 @@
 //! Runs of a script that the source holds.
-ghost use Rattle.std.specs.Prelude.{ℕ, List, ◌≤◌, length, IfOk, IfErr};
-ghost use Rattle.qc_disk.specs.Shop.{TellsAlike};
+ghost use Rattle.std.specs.Prelude.{ℕ, List, ◌≡◌, ◌++◌, ◌≤◌, length, IfOk, IfErr};
+ghost use Rattle.qc_disk.specs.Shop.{TellsAlike, first_disks};
 ghost use Rattle.qc_io.specs.Io.{Drops, LosesWithin};
 ghost use Rattle.qc_run.specs.Left as left;
 ghost use Rattle.qc_run.specs.Run as terms;
@@ -48,6 +48,8 @@ where
         (K.view sink.old) (K.view sink.new) result }
     ensures disks { (p : List ℕ) (n : ℕ) → length result.disks.items ≤ n
         → TellsAlike (H.view shop.old) (H.view shop.new) p n }
+    ensures gave { (H.view shop.new).gave ≡ (H.view shop.old).gave
+        ++ first_disks place.now (length result.disks.items) }
     ensures shop_faults { (H.view shop.old).faults ≤ (H.view shop.new).faults }
 {
     match script_of(alloc, bytes) {
@@ -93,6 +95,8 @@ where
         terms.most_taken }
     ensures disks { (p : List ℕ) (n : ℕ) → length result.disks.items ≤ n
         → TellsAlike (H.view shop.old) (H.view shop.new) p n }
+    ensures gave { (H.view shop.new).gave ≡ (H.view shop.old).gave
+        ++ first_disks place.now (length result.disks.items) }
     ensures shop_faults { (H.view shop.old).faults ≤ (H.view shop.new).faults }
 {
     match take_all(alloc, source, MOST_BYTES) {

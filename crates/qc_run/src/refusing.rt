@@ -1,5 +1,5 @@
 //! Runs that are refused before a session begins.
-ghost use Rattle.std.specs.Prelude.{ℕ, ◌≡◌, List};
+ghost use Rattle.std.specs.Prelude.{ℕ, ◌≡◌, List, []};
 ghost use Rattle.qc_io.specs.Io.{SinkView};
 ghost use Rattle.qc_opening.specs.Refusing.{disks_in};
 ghost use Rattle.qc_run.specs.Left as left;
@@ -20,6 +20,8 @@ pub(crate) fn nothing<D: Drop>(alloc: Global, status: Status, disks: Vec<D>) -> 
     ensures disks { result.disks ≡ disks }
     ensures memory { (sink : SinkView) → status ≡ Status.Memory
         → left.IsRefusal sink sink result }
+    ensures early { (sink : SinkView) → status ≡ Status.Memory → disks.items ≡ []
+        → left.IsEarly sink sink result }
 {
     Ran {
         status,
@@ -55,6 +57,8 @@ pub(crate) fn refuse<K: Sink, D: Drop>(
     requires { terms.IsTold status }
     ensures answer { terms.IsOrMemory status result.status }
     ensures refusal { left.IsRefusal (K.view sink.old) (K.view sink.new) result }
+    ensures early { disks.items ≡ []
+        → left.IsEarly (K.view sink.old) (K.view sink.new) result }
     ensures disks { result.disks ≡ disks }
 {
     let status = tell(alloc, status, sink);

@@ -1,7 +1,7 @@
 //! A shop of disks in memory, which fails at the numbers that it is told to.
 ghost use Rattle.std.specs.Prelude.{◌≡◌, slice_index_or, slice_set};
 
-use super::Shop;
+use super::{Given, Shop};
 use crate::disk::DiskNo;
 use crate::memory::MemDisk;
 use std::alloc::Global;
@@ -13,6 +13,7 @@ pub struct MemShop {
     disks: Vec<MemDisk>,
     fails: Vec<u8>,
     faults: u64,
+    given: Given,
 }
 
 // Puts an item in the place of another, and gives that, or the item itself where there is no such place.
@@ -35,10 +36,12 @@ impl MemShop {
         ensures fails { shop_fails result ≡ fails.items }
         ensures faults { shop_faults result ≡ 0 }
     {
+        let given = Given::new(*disks.allocator());
         MemShop {
             disks,
             fails,
             faults: 0,
+            given,
         }
     }
 }
@@ -46,11 +49,12 @@ impl MemShop {
 impl Shop for MemShop {
     type D = MemDisk;
 
-    ghost use Rattle.std.specs.Prelude.{◌≢◌, ◌↔◌, ℕ, List, Some, Contains, IfOk, IfErr, OnErr, IsErr, IsErrOf, is_err, if◌then◌else◌};
+    ghost use Rattle.std.specs.Prelude.{◌≢◌, ◌↔◌, ◌++◌, ℕ, List, Some, Contains, IfOk, OnErr, IsErrOf, if◌then◌else◌};
     ghost use Rattle.qc_disk.specs.Disk.{HasCause, next};
-    ghost use Rattle.qc_disk.specs.Shop.{Tells, TellsAlike};
+    ghost use Rattle.qc_disk.specs.Shop.{Tells, TellsAlike, if_given};
+    ghost use Rattle.qc_disk.specs.Given.{given_list};
     ghost use Rattle.qc_disk.specs.MemDisk.{mem_bytes, mem_faults};
-    ghost use Rattle.qc_disk.specs.MemShop.{shop_bytes, shop_counts, shop_disks, shop_fails, shop_faults, shop_view, Gives};
+    ghost use Rattle.qc_disk.specs.MemShop.{has_failed, shop_bytes, shop_counts, shop_disks, shop_fails, shop_faults, shop_view, Gives};
 
     ghost view = { shop_view };
 
@@ -66,16 +70,18 @@ impl Shop for MemShop {
             (IsErrOf result DiskNo.Failed) }
         ensures gives { IfOk result (Gives self.old self.new which) }
         ensures disks { OnErr result (shop_disks self.new ≡ shop_disks self.old) }
-        ensures listed { IsErr result ↔ Contains (shop_fails self.old) which }
-        ensures failed { IfErr result (λ e. e ≡ DiskNo.Failed) }
+        ensures listed { IsErrOf result DiskNo.Failed ↔ Contains (shop_fails self.old) which }
         ensures fails { shop_fails self.new ≡ shop_fails self.old }
-        ensures faults { shop_faults self.new ≡ (if is_err result then next (shop_faults self.old)
-            else shop_faults self.old) }
+        ensures faults { shop_faults self.new ≡ (if has_failed result
+            then next (shop_faults self.old) else shop_faults self.old) }
+        ensures gave { given_list self.new.given ≡ given_list self.old.given
+            ++ if_given result place.now which }
     {
         if self.fails.contains(&which) {
             self.faults = self.faults.saturating_add(1);
             return Err(DiskNo::Failed);
         }
+        self.given.add(alloc, place, which)?;
         let empty = MemDisk::new(Vec::new(alloc), Vec::new(alloc));
         Ok(exchange(&mut self.disks, which as usize, empty))
     }

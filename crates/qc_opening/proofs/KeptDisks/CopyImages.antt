@@ -3,7 +3,7 @@ use Rattle.std.proofs.Common.{◌≡◌, inl, inr, ℕ, ◌+◌, ◌≤◌, List
 use Rattle.std.specs.Prelude.{map, is_some, true, Option, None, Some, IfSome, MatchOption, option_to_list}
 use Rattle.std.specs.List.{All}
 use Rattle.std.proofs.lemmas.List.{map-append}
-use Rattle.std.proofs.lemmas.List.Elements.{All-nil, All-cons, All-append}
+use Rattle.std.proofs.lemmas.List.Elements.{All-nil, All-cons, All-append, All-weaker}
 use Rattle.qc_event.specs.declared.event.Grant.{Grant}
 use Rattle.qc_event.specs.declared.table.Table.{Table}
 use Rattle.qc_event.specs.Base.{Setting}
@@ -16,7 +16,7 @@ use Rattle.qc_codec.specs.Fields.{format_1}
 use Rattle.qc_codec.specs.Ledger.{made_for}
 use Rattle.qc_journal.specs.Image.{HasRecords}
 use Rattle.qc_refine.specs.Images.{IsCopyImage}
-use Rattle.qc_refine.specs.Standing.{IsUntold}
+use Rattle.qc_refine.specs.Standing.{IsAskedOf, IsUntold}
 use Rattle.qc_site.specs.Back.{grant_body}
 use Rattle.qc_ledger.specs.Since.{OrMore}
 use Rattle.qc_system.specs.Left.{KeepsGrants}
@@ -50,10 +50,12 @@ untold_grant setting past copy g may = record { asked = has_asked (asked past g.
 -- AN IMAGE
 
 module _ (setting : Setting) (table : Table) (copies copy : ℕ) (before : List (List ℕ)) (old : List Grant) (past : Past) (image : List ℕ) where
-  -- What an image tells behind older grants: the copy's grants of the history, and untold ones.
+  -- What an image tells behind older grants: the copy's grants of the history, and at most one that is untold.
   pub record Tells : Type 0 where
     pub untold : List Grant
     pub are : All (IsUntold past) untold
+    pub few : length untold ≤ 1
+    pub asked : All (IsAskedOf past copy) untold
     pub is_image : IsCopyImage table copy (old ++ (grants past copy ++ untold)) image
 
   module _ (copies_are : copies ≡ table.copies) (spelled : before ≡ body.made.spell (made_for (copy + 1) table) ∷ map (grant_form table).spell old)
@@ -63,10 +65,12 @@ module _ (setting : Setting) (table : Table) (copies copy : ℕ) (before : List 
         ap₂ (λ (b : List (List ℕ)) (n : ℕ). b ++ map (grant_body n) given) spelled copies_are
         ∙ ap (λ (l : List (List ℕ)). body.made.spell (made_for (copy + 1) table) ∷ l) (sym (map-append (grant_form table).spell old given))
 
-    tells : (given more : List Grant) → given ≡ grants past copy ++ more → All (IsUntold past) more → All (body.grant (format_1 copies)).fits given → HasRecords (before ++ map (grant_body copies) given) image → Tells
-    tells given more same are fits has = record {
+    tells : (given more : List Grant) → given ≡ grants past copy ++ more → All (MayGrant setting past (copy_seat copy) copy) more → length more ≤ 1 → All (body.grant (format_1 copies)).fits given → HasRecords (before ++ map (grant_body copies) given) image → Tells
+    tells given more same may few fits has = record {
       untold = more;
-      are = are;
+      are = All-weaker (MayGrant setting past (copy_seat copy) copy) (IsUntold past) (untold_grant setting past copy) more may;
+      few = few;
+      asked = All-weaker (MayGrant setting past (copy_seat copy) copy) (IsAskedOf past copy) (λ g is. is.request) more may;
       is_image = subst (λ (gs : List Grant). IsCopyImage table copy (old ++ gs) image) same (record {
         made_fits = made;
         grants_fit = All-append (grant_form table).fits old given fit (subst (λ (n : ℕ). All (body.grant (format_1 n)).fits given) copies_are fits);
@@ -77,9 +81,5 @@ module _ (setting : Setting) (table : Table) (copies copy : ℕ) (before : List 
     pub told : (left : List ℕ → Type 0) → left image → KeepsGrants setting copies copy before left past → Tells
     told left here keeps =
         let (given, or, has) = keeps.each image here in
-        let m = or_more (grants past copy) keeps.untold (IsUntold past) given or (may_untold keeps.untold keeps.may) in
-        tells given m.more m.same m.are (fit_more (body.grant (format_1 copies)).fits (grants past copy) keeps.untold given keeps.fit or) has
-      where
-        may_untold : (o : Option Grant) → IfSome o (MayGrant setting past (copy_seat copy) copy) → IfSome o (IsUntold past)
-        may_untold None may = tt
-        may_untold (Some g) may = untold_grant setting past copy g may
+        let m = or_more (grants past copy) keeps.untold (MayGrant setting past (copy_seat copy) copy) given or keeps.may in
+        tells given m.more m.same m.are m.few (fit_more (body.grant (format_1 copies)).fits (grants past copy) keeps.untold given keeps.fit or) has

@@ -2,7 +2,7 @@
 use Rattle.std.proofs.Common.{◌≡◌, ℕ, ◌<◌, ◌≤◌, ◌^◌, List, [], ◌∷◌, ◌++◌, length, refl, sym, ap, ap₂, ◌∙◌, subst, append_assoc, arith}
 use Rattle.std.specs.Prelude.{map, is_some, true}
 use Rattle.std.specs.List.{All}
-use Rattle.std.proofs.lemmas.List.{map-append}
+use Rattle.std.proofs.lemmas.List.{length-map, map-append}
 use Rattle.std.proofs.lemmas.List.Elements.{All-append, All-head, All-map, All-weaker}
 use Rattle.qc_event.specs.declared.table.Table.{Table}
 use Rattle.qc_event.specs.Base.{Setting}
@@ -75,6 +75,7 @@ module _ (setting : Setting) (past : Past) (epoch : ℕ) (legal : Legal setting 
     pub record Tells : Type 0 where
       pub more : List Logged
       pub next : AreNext past more
+      pub few : length more ≤ 1
       pub is_image : IsLedgerImage table epoch logs.tops (logged past ++ more) image
 
     -- the records of the mounting, and those of tops
@@ -99,6 +100,7 @@ module _ (setting : Setting) (past : Past) (epoch : ℕ) (legal : Legal setting 
     tells tops more same next one has = record {
       more = map (logged_as past) more;
       next = are_next past more next one;
+      few = subst (λ n. n ≤ 1) (sym (length-map more (logged_as past))) one;
       is_image = record {
         old = m.old;
         made_once = m.made_once;

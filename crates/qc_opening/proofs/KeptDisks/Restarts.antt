@@ -78,7 +78,7 @@ module _ (table : Table) (told : ℕ → Option (List ℕ)) (records later_recor
   pub restart : IsMounted table told records epoch base → Legal (setting_of table base) past → length past ≤ limit → IsOfEpoch epoch past → AreKept table base records past images → IsSound (setting_of table base) values
       → AreLeft table images later last → IsMounted table (λ number. Some (get_or last number [])) later_records later_epoch later_base
       → ∥ CarryNext table values past later_base ∥₁
-  restart m legal few of_epoch kept sound left mounted = ∥∥₁_map (stand table told records epoch base m past images legal few of_epoch kept) carried
+  restart m legal few of_epoch kept sound left mounted = ∥∥₁_map (stand table told records epoch base m past images legal few of_epoch kept) (λ within. carried within.standing)
     where
       carried : IsStanding table base epoch past images → CarryNext table values past later_base
       carried s =

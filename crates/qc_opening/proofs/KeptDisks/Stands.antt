@@ -18,10 +18,10 @@ use Rattle.qc_codec.specs.Copy.{grant_form}
 use Rattle.qc_codec.specs.Ledger.{IsOld, readings}
 use Rattle.qc_codec.specs.Restored.{restored_row}
 use Rattle.qc_codec.proofs.Fits.{table_sized}
-use Rattle.qc_refine.specs.Images.{IsCopyImage, IsStanding}
+use Rattle.qc_refine.specs.Images.{IsCopyImage, IsStandingWithin}
 use Rattle.qc_refine.specs.Listed.{logged}
 use Rattle.qc_refine.specs.Restored.{Kept, granted_at, restored}
-use Rattle.qc_refine.specs.Standing.{IsOfEpoch, IsUntold, StandBeside}
+use Rattle.qc_refine.specs.Standing.{IsAskedOf, IsOfEpoch, IsUntold, StandBeside}
 use Rattle.qc_opening.specs.Mountings.{AreKept, IsMounted}
 use Rattle.qc_opening.proofs.KeptDisks.Choices.{Each, each_at_once}
 use Rattle.qc_opening.proofs.KeptDisks.CopyImages as copy_image
@@ -74,9 +74,9 @@ module _ (table : Table) (told : ℕ → Option (List ℕ)) (records : ℕ → L
 
     -- those of each copy, with none where there is no copy
     module _ (l : LedgerTells) (c : Each table.copies CopyTells) where
-      told_at : (copy : ℕ) → (untold : List Grant) × (copy < table.copies → All (IsUntold past) untold × IsCopyImage table copy (readings (grant_form table) (records (copy + 1)) ++ (grants past copy ++ untold)) (get_or images (copy + 1) []))
+      told_at : (copy : ℕ) → (untold : List Grant) × (copy < table.copies → All (IsUntold past) untold × (length untold ≤ 1) × All (IsAskedOf past copy) untold × IsCopyImage table copy (readings (grant_form table) (records (copy + 1)) ++ (grants past copy ++ untold)) (get_or images (copy + 1) []))
       told_at copy = elim (cases_lt copy table.copies) [
-        | inl there ↦ ((c copy there).untold, λ here. ((c copy there).are, (c copy there).is_image))
+        | inl there ↦ ((c copy there).untold, λ here. ((c copy there).are, (c copy there).few, (c copy there).asked, (c copy there).is_image))
         | inr past_all ↦ ([], λ here. absurd (omega (arith, here, past_all)))
       ]
 
@@ -114,19 +114,24 @@ module _ (table : Table) (told : ℕ → Option (List ℕ)) (records : ℕ → L
         granted = λ copy there. now_at copy (within copy there) ∙ ap (λ (gs : List Grant). gs ++ (grants past copy ++ (told_at copy).0)) (sym (before_at copy (within copy there)));
       }
 
-      stand_so : IsStanding table base epoch past images
+      stand_so : IsStandingWithin 1 table base epoch past images
       unfolding beside
       stand_so = record {
-        before = before;
-        now = now;
-        beside = beside;
-        as_many = as_many;
-        ledger = l.is_image;
-        copies = λ copy there. subst (λ gs. IsCopyImage table copy gs (get_or images (copy + 1) [])) (sym (now_at copy there)) ((told_at copy).1 there).1;
+        standing = record {
+          before = before;
+          now = now;
+          beside = beside;
+          as_many = as_many;
+          ledger = l.is_image;
+          copies = λ copy there. subst (λ gs. IsCopyImage table copy gs (get_or images (copy + 1) [])) (sym (now_at copy there)) ((told_at copy).1 there).1.1.1;
+        };
+        few_tops = l.few;
+        few_grants = λ copy there. ((told_at copy).1 there).1.0;
+        asked = λ copy there. ((told_at copy).1 there).1.1.0;
       }
 
   -- the images of disks that keep a legal history stand beside it
-  pub stand : (past : Past) (images : List (List ℕ)) → Legal (setting_of table base) past → length past ≤ limit → IsOfEpoch epoch past → AreKept table base records past images → ∥ IsStanding table base epoch past images ∥₁
+  pub stand : (past : Past) (images : List (List ℕ)) → Legal (setting_of table base) past → length past ≤ limit → IsOfEpoch epoch past → AreKept table base records past images → ∥ IsStandingWithin 1 table base epoch past images ∥₁
   stand past images legal few of_epoch kept =
       ∥∥₁_elim ledger_tells ∥∥₁_prop (λ l. ∥∥₁_map (each_at_once table.copies (CopyTells past images legal few of_epoch kept.as_many) copies_tell) (λ c. stand_so past images legal few of_epoch kept.as_many l c))
     where

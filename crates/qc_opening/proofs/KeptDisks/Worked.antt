@@ -17,7 +17,7 @@ use Rattle.qc_codec.specs.Restored.{restored_row}
 use Rattle.qc_journal.specs.Image.{HasRecords, IsShort, length_bytes, row as records_row}
 use Rattle.qc_journal.specs.Journal.{IsTooLong}
 use Rattle.qc_journal.proofs.Images.{length-length_bytes}
-use Rattle.qc_refine.specs.Images.{IsStanding}
+use Rattle.qc_refine.specs.Images.{IsStandingWithin}
 use Rattle.qc_site.specs.Mounted as copies
 use Rattle.qc_system.specs.Left.{KeepsGrants}
 use Rattle.qc_opening.proofs.KeptDisks.CopyRecords.{made_tells_none}
@@ -166,5 +166,5 @@ kept = record {
     each_copy (suc copy) there = absurd (omega (arith, there))
 
 -- so they stand beside the empty history
-stands : ∥ IsStanding table (base_of table) 1 [] images ∥₁
+stands : ∥ IsStandingWithin 1 table (base_of table) 1 [] images ∥₁
 stands = stand table empty records 1 (base_of table) mounted [] images tt (omega arith) (λ number began. absurd (true≢false (sym began))) kept

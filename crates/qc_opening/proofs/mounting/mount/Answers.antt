@@ -1,5 +1,6 @@
 -- The disks that the shop gave, mounted.
-use Rattle.std.proofs.Common.{ℕ, ◌+◌, ◌⊎◌, List, sym, refl, arith, inr, ◌∙◌}
+use Rattle.std.proofs.Common.{ℕ, ◌+◌, ◌⊎◌, ◌++◌, List, sym, ap, refl, arith, inr, ◌∙◌}
+use Rattle.qc_disk.specs.Shop.{first_disks}
 use Rattle.qc_codec.specs.declared.image.BadImage.{BadImage}
 use Rattle.qc_codec.proofs.Fits.{table_sized}
 use Rattle.qc_opening.specs.Images.{AreSound, IsFirstFault}
@@ -80,3 +81,8 @@ pub returns-clause-others : goal.returns-clause-others
 returns-clause-others g c = λ p n from.
     let all = given_all c.args.table.now c.args.limit c.in_ok-disks.disks.items c.mount_disks.result c.mount_disks.ensures.store c.mount_disks.ensures.left in
     c.in_ok-disks.ensures.others p n (omega (arith, from, all))
+
+pub returns-clause-gave : goal.returns-clause-gave
+returns-clause-gave g c =
+    let all = given_all c.args.table.now c.args.limit c.in_ok-disks.disks.items c.mount_disks.result c.mount_disks.ensures.store c.mount_disks.ensures.left in
+    c.in_ok-disks.ensures.gave ∙ ap (λ n. (g.H.Shop.view c.args.shop.now).gave ++ first_disks c.args.place.now n) (sym all)

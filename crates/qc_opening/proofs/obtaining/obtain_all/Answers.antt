@@ -1,8 +1,9 @@
 -- One disk more, of the next number.
-use Rattle.std.proofs.Common.{ℕ, ◌≡◌, ◌≢◌, ◌+◌, ◌≤◌, List, [], ◌∷◌, length, subst, sym, ap, refl, arith, ◌∙◌}
+use Rattle.std.proofs.Common.{ℕ, ◌≡◌, ◌≢◌, ◌+◌, ◌≤◌, List, [], ◌∷◌, ◌++◌, length, subst, sym, ap, refl, arith, ◌∙◌, append-nil, append_assoc}
 use Rattle.std.specs.Prelude.{Err}
 use Rattle.std.proofs.lemmas.List.{length-append}
-use Rattle.qc_disk.specs.Shop.{View, Tells, TellsAlike}
+use Rattle.std.proofs.lemmas.List.FromFn.{map-range_with_len_more}
+use Rattle.qc_disk.specs.Shop.{View, Tells, TellsAlike, first_disks, if_given}
 use Rattle.qc_opening.specs.Disks.{AreCounted, AreOffered}
 use Rattle.qc_opening.proofs.Mountings.Numbered.{each_more}
 use Rattle.qc_opening.proofs.obtaining.obtain_all.Goals as goal
@@ -10,6 +11,13 @@ use Rattle.qc_opening.proofs.obtaining.obtain_all.Goals as goal
 -- what is told alike twice is told alike
 alike_twice : (first mid last : View) (place : List ℕ) (which : ℕ) → TellsAlike mid last place which → TellsAlike first mid place which → TellsAlike first last place which
 alike_twice first mid last place which later sooner = record { offers = later.offers ∙ sooner.offers; counts = later.counts ∙ sooner.counts }
+
+-- one disk more of a place was given
+gave_more : (before mid now : List (List ℕ × ℕ)) (place : List ℕ) (which : ℕ) → mid ≡ before ++ first_disks place which → now ≡ mid ++ (place, which) ∷ [] → now ≡ before ++ first_disks place (which + 1)
+gave_more before mid now place which so_far more =
+    more ∙ ap (λ (l : List (List ℕ × ℕ)). l ++ (place, which) ∷ []) so_far
+    ∙ append_assoc before (first_disks place which) ((place, which) ∷ [])
+    ∙ ap (λ (l : List (List ℕ × ℕ)). before ++ l) (sym (map-range_with_len_more (λ n. (place, n)) 0 which which (omega arith)))
 
 pub loop-which-init : goal.loop-which-init
 loop-which-init g c =
@@ -20,6 +28,7 @@ loop-which-init g c =
       size = ap length none;
       room = omega (arith, c.in-Ok.ensures.exact, c.from.ensures);
       others = λ p n from. record { offers = refl; counts = refl };
+      gave = sym (append-nil (g.H.Shop.view c.args.shop.now).gave);
       later = omega arith;
     }
 
@@ -75,6 +84,7 @@ loop-which-preserved g c =
       size = omega (arith, ap length more, length-append c.loop-which.disks.items (c.in-Ok-obtain.disk ∷ []), so_far.size);
       room = omega (arith, c.push_reserved.ensures.capacity, so_far.room);
       others = λ p n from. alike_twice _ _ _ p n (c.obtain.ensures.others p n (λ same. omega (arith, from, same))) (so_far.others p n (omega (arith, from)));
+      gave = gave_more (g.H.Shop.view c.args.shop.now).gave (g.H.Shop.view c.loop-which.shop).gave (g.H.Shop.view c.obtain.new.shop).gave c.args.place.now c.loop-which.which so_far.gave c.obtain.ensures.gave;
       later = omega (arith, so_far.later, c.obtain.ensures.cause.later);
     }
 

@@ -1,5 +1,6 @@
 -- What the disks told that the shop gave, it offered.
-use Rattle.std.proofs.Common.{ℕ, ◌≡◌, ◌+◌, ◌⊎◌, List, map, refl, sym, arith, inr, ◌∙◌}
+use Rattle.std.proofs.Common.{ℕ, ◌≡◌, ◌+◌, ◌⊎◌, ◌++◌, List, map, ap, refl, sym, arith, inr, ◌∙◌}
+use Rattle.qc_disk.specs.Shop.{first_disks}
 use Rattle.qc_codec.specs.declared.image.BadImage.{BadImage}
 use Rattle.qc_event.specs.Tables.{base_of}
 use Rattle.qc_opening.specs.Images.{IsFirstFault}
@@ -7,7 +8,7 @@ use Rattle.qc_opening.specs.Obtained.{IsNotGiven}
 use Rattle.qc_opening.specs.Refusing.{disks_in, reason_in, AreLeft, ComeBack, IsFaultOf, IsNotMounted, IsReasonAmong, TellImages}
 use Rattle.qc_opening.proofs.Mountings.Disks.{tell}
 use Rattle.qc_opening.proofs.Mountings.Stores.{by_err, come_back, fault_of, given_back, if_err, if_ok, not_mounted}
-use Rattle.qc_refine.specs.Images.{IsStanding, Restores}
+use Rattle.qc_refine.specs.Images.{IsStandingWithin, Restores}
 use Rattle.qc_script.specs.Steps.{plan_of_script}
 use Rattle.qc_opening.specs.Parts.{counted_by, told_by}
 use Rattle.qc_opening.specs.Stored.{disks_of, past_of, AreImages, HasKept, HasRun, HaveGrown, HavePaid, LedgerWasFull}
@@ -69,7 +70,7 @@ returns-clause-stands g c = λ all_tell.
     let told = told_by (map (λ d. (view d).content) disks) in
     let counts = counted_by (map (λ d. (view d).faults) disks) in
     let tells = tell_offered view plan.table offers disks c.in_ok-disks.ensures.offered c.in_ok-disks.ensures.all in
-    if_ok c.run_disks.result (HasRun view plan c.args.limit told counts) (λ stored. (images : List (List ℕ)) → AreImages view (disks_of stored) images → ∥ IsStanding plan.table stored.ended.start stored.epoch (past_of stored) images ∥₁) c.run_disks.ensures.ran
+    if_ok c.run_disks.result (HasRun view plan c.args.limit told counts) (λ stored. (images : List (List ℕ)) → AreImages view (disks_of stored) images → ∥ IsStandingWithin 1 plan.table stored.ended.start stored.epoch (past_of stored) images ∥₁) c.run_disks.ensures.ran
     (λ stored run. stands view plan c.args.limit told offers counts tells stored run all_tell)
 
 pub returns-clause-grown : goal.returns-clause-grown
@@ -153,3 +154,12 @@ returns-clause-others g c = λ p n from.
     let all = c.in_ok-disks.ensures.all in
     let back = all_returned view plan c.args.limit (told_by (map (λ d. (view d).content) disks)) (counted_by (map (λ d. (view d).faults) disks)) disks c.run_disks.result all c.run_disks.ensures.ran c.run_disks.ensures.left in
     c.in_ok-disks.ensures.others p n (omega (arith, from, back, all))
+
+pub returns-clause-gave : goal.returns-clause-gave
+returns-clause-gave g c =
+    let view = g.H.D.Disk.view in
+    let plan = plan_of_script c.args.script.now in
+    let disks = c.in_ok-disks.disks.items in
+    let all = c.in_ok-disks.ensures.all in
+    let back = all_returned view plan c.args.limit (told_by (map (λ d. (view d).content) disks)) (counted_by (map (λ d. (view d).faults) disks)) disks c.run_disks.result all c.run_disks.ensures.ran c.run_disks.ensures.left in
+    c.in_ok-disks.ensures.gave ∙ ap (λ n. (g.H.Shop.view c.args.shop.now).gave ++ first_disks c.args.place.now n) (all ∙ sym back)

@@ -2,7 +2,7 @@ use Rattle.std.proofs.Common.{refl, sym, subst, map}
 use Rattle.std.specs.Prelude.{string_bytes}
 use Rattle.qc_opening.specs.Images.{IsFirstFault}
 use Rattle.qc_script.specs.Plan.{ScriptPlan}
-use Rattle.qc_run.specs.Run.{journal_limit, AllOffered}
+use Rattle.qc_run.specs.Run.{journal_limit, AllOffered, BeganNothing}
 use Rattle.qc_run.specs.Words.{mode_of, place_of, Asked}
 use Rattle.qc_run.proofs.Clauses as clause
 use Rattle.qc_run.proofs.Moments.{serial_orders}
@@ -12,6 +12,15 @@ use Rattle.qc_run.proofs.program.run.Goals as goal
 
 pub returns-clause-legal_history : goal.returns-clause-legal_history
 returns-clause-legal_history g c = clause.of_run _ _ _ _ (g.H.Shop.view c.args.shop.now) _ _ _ _ _ c.answer.ensures.answer (λ s it has. has.legal)
+
+pub returns-clause-as_many : goal.returns-clause-as_many
+returns-clause-as_many g c = clause.of_run _ _ _ _ (g.H.Shop.view c.args.shop.now) _ _ _ _ _ c.answer.ensures.answer (λ s it has. has.grown.mounted.as_many)
+
+pub returns-clause-none_obtained : goal.returns-clause-none_obtained
+returns-clause-none_obtained g c = clause.none_obtained _ _ _ _ (g.H.Shop.view c.args.shop.now) _ _ _ _ c.answer.ensures.answer
+
+pub returns-clause-wanting : goal.returns-clause-wanting
+returns-clause-wanting g c = clause.wanting _ _ _ _ (g.H.Shop.view c.args.shop.now) _ _ _ _ c.answer.ensures.answer
 
 pub returns-clause-nothing_begun : goal.returns-clause-nothing_begun
 returns-clause-nothing_begun g c = λ none. let it = clause.began_nothing _ _ _ _ (g.H.Shop.view c.args.shop.now) _ _ _ _ c.answer.ensures.answer none in (it.1, it.0)
@@ -128,5 +137,5 @@ returns-clause-completes g c = λ s asks read_well wrote_well.
 pub returns-clause-completes_over_disks : goal.returns-clause-completes_over_disks
 returns-clause-completes_over_disks g c = λ s images asks asked is read_well wrote_well disks_well offered sound.
     session_was_run c.answer.result.status (returns-clause-completes g c s asks read_well wrote_well)
-    (λ which fault. disks_well which ((clause.disk_failed _ _ _ _ (g.H.Shop.view c.args.shop.now) _ _ _ _ c.answer.ensures.answer which fault).2 asked is))
+    (λ which fault. disks_well (returns-clause-nothing_begun g c (subst BeganNothing (sym fault) tt)).1 which ((clause.disk_failed _ _ _ _ (g.H.Shop.view c.args.shop.now) _ _ _ _ c.answer.ensures.answer which fault).2 asked is))
     (returns-clause-sound_images g c s images asks asked is offered sound)
