@@ -163,9 +163,6 @@ impl<'a, R: Wait, D: Disk + Drop, L: Link + Drop, N: Mounting> Line<'a, R, D, L,
         ensures walk { Walk self.old.pass self.new.pass [] }
         ensures rest { KeepsRest self.old self.new }
     {
-        let pass = &mut self.pass;
-        let logged = self.system.log_top(self.rt, pass, top, aborted);
-        pass.known();
-        logged
+        self.system.log_top(self.rt, &mut self.pass, top, aborted)
     }
 }

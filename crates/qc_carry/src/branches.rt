@@ -4,11 +4,8 @@ ghost use Rattle.qc_carry.specs.Acting.{KeepsRest};
 ghost use Rattle.qc_carry.specs.Branching.{HasTaken, IsBranch};
 ghost use Rattle.qc_carry.specs.Walk.{Walk};
 ghost use Rattle.qc_event.specs.History.{limit};
-ghost use Rattle.qc_event.specs.Legal.{Legal};
-ghost use Rattle.qc_event.specs.Tables.{setting_of};
 ghost use Rattle.qc_net.specs.Courier.{link_of};
 ghost use Rattle.qc_net.specs.Plan.{anew};
-ghost use Rattle.qc_desk.specs.Rules.{AreApart, AreKin};
 
 use crate::line::Line;
 use qc_disk::Disk;
@@ -39,9 +36,6 @@ impl<'a, R: Wait, D: Disk + Drop, L: Link + Drop, N: Mounting> Line<'a, R, D, L,
     pub fn show(&mut self, other: &mut Self)
         ensures walk { Walk self.old.pass self.new.pass [] × Walk other.old.pass other.new.pass [] }
         ensures same { other.new.pass.seen ≡ self.new.pass.seen }
-        ensures kin { AreKin self.new.pass.kin self.new.pass.seen
-            × AreKin other.new.pass.kin other.new.pass.seen }
-        ensures legal { Legal (setting_of N.table N.base) self.new.pass.seen }
         ensures rest { KeepsRest self.old self.new }
         ensures other { KeepsRest other.old other.new }
     {
@@ -56,8 +50,6 @@ impl<'a, R: Wait, D: Disk + Drop, L: Link + Drop, N: Mounting> Line<'a, R, D, L,
         requires out { other.pass.out ≡ [] }
         ensures taken { HasTaken self.old.pass other.entry.pass self.new.pass }
         ensures bounded { length self.new.pass.seen ≤ limit }
-        ensures kin { AreKin self.new.pass.kin self.new.pass.seen × AreApart self.new.pass }
-        ensures legal { Legal (setting_of N.table N.base) self.new.pass.seen }
         ensures rest { KeepsRest self.old self.new }
     {
         let Line { pass, .. } = other;

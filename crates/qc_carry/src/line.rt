@@ -1,15 +1,12 @@
 //! A client's way to a system, as a carrier.
-ghost use Rattle.std.specs.Prelude.{◌≡◌, ◌<◌, ◌≤◌, [], true, false, All, IfSome, IsTrue};
-ghost use Rattle.qc_event.specs.Legal.{Legal};
+ghost use Rattle.std.specs.Prelude.{◌≡◌, [], false, All, IfSome};
 ghost use Rattle.qc_event.specs.Tables.{setting_of};
 ghost use Rattle.qc_net.specs.Courier.{link_of, held_of};
-ghost use Rattle.qc_net.specs.Messages.{meets_fates};
 ghost use Rattle.qc_net.specs.Plan.{anew};
 ghost use Rattle.qc_desk.specs.Consulting.{HasAsked};
-ghost use Rattle.qc_desk.specs.Entries.{entries_of};
 ghost use Rattle.qc_desk.specs.Known.{IsKnown};
-ghost use Rattle.qc_desk.specs.Rules.{AreApart, AreKin, IsClient};
-ghost use Rattle.qc_carry.specs.Kept.{Keeps, net_of};
+ghost use Rattle.qc_desk.specs.Rules.{IsClient};
+ghost use Rattle.qc_carry.specs.Kept.{Keeps};
 
 use crate::begin::NextAccess;
 use crate::carry::{access, is_cut_off};
@@ -74,20 +71,6 @@ impl<'a, R: Wait, D: Disk + Drop, L: Link + Drop, N: Mounting> Line<'a, R, D, L,
             torn: false,
         }
     }
-
-    /// What every line keeps: the history that it has seen is legal, and its client's requests meet the fates of its
-    /// link, where that tells them. Its pass is known.
-    pub fn known(&self)
-        ensures legal { Legal (setting_of N.table N.base) self.now.pass.seen }
-        ensures met { IfSome (L.view (link_of self.now.courier)).plan
-            (λ plan. IsTrue (meets_fates self.now.pass.number
-            (net_of plan self.now.patience) self.now.pass.seen)) }
-        ensures live { self.now.pass.live ≡ true }
-        ensures number { 1 ≤ self.now.pass.number → 17 < self.now.pass.number }
-        ensures mine { self.now.pass.mine ≡ entries_of self.now.pass.number self.now.pass.seen }
-        ensures kin { AreKin self.now.pass.kin self.now.pass.seen }
-        ensures apart { AreApart self.now.pass }
-    {}
 }
 
 impl<'a, R: Wait, D: Disk + Drop, L: Link + Drop, N: Mounting> Carrier for Line<'a, R, D, L, N> {

@@ -61,6 +61,7 @@ impl<D: Disk> Book<D> {
             → Keeps (journal_of self) (records_of self)
             → TopsGrow told (records_of self) since result.shelf result.pass.seen }
     {
+        pass.known();
         Ledger {
             shelf: self.open(),
             pass,

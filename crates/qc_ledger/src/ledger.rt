@@ -7,7 +7,9 @@ ghost use Rattle.qc_event.specs.declared.short.Short.TheVariants.{Room};
 ghost use Rattle.qc_event.specs.History.{end, is_ready, limit};
 ghost use Rattle.qc_event.specs.Requests.{is_ledger_fault};
 ghost use Rattle.qc_event.specs.Seats.{ledger_seat};
+ghost use Rattle.qc_event.specs.Tables.{setting_of};
 ghost use Rattle.qc_desk.specs.Entries.{entries_of, IsOlder};
+ghost use Rattle.qc_desk.specs.Known.{IsKnown};
 ghost use Rattle.qc_journal.specs.Journal.{disk_of, limit_of, place_of, IsTooLong, IsUp, Keeps};
 ghost use Rattle.qc_ledger.specs.Entered.{MayFinish, SeesMore};
 ghost use Rattle.qc_ledger.specs.Refusing.{IsWantNo};
@@ -23,7 +25,7 @@ use qc_disk::Disk;
 use qc_event::{Name, Why};
 use std::sync::Wait;
 
-/// The ledger of a desk, with its pass.
+/// The ledger of a desk, with its pass, which is known.
 #[derive(Drop)]
 pub struct Ledger<D: Disk, N: Store> {
     pub shelf: Shelf<D>,
@@ -32,6 +34,7 @@ pub struct Ledger<D: Disk, N: Store> {
     ghost number: { pass.number ≡ ledger_seat },
     ghost out: { pass.out ≡ [] },
     ghost kin: { pass.kin ≡ [] },
+    ghost known: { ∥ IsKnown (setting_of N.table N.base) pass ∥₁ },
     ghost may: { (top : List ℕ) → top_in shelf ≡ Some top → MayFinish pass top },
 }
 
@@ -165,6 +168,7 @@ impl<D: Disk, N: Store> Ledger<D, N> {
         ensures seer { SeesMore seer.old seer.new }
         ensures same { seer.new.seen ≡ self.new.pass.seen }
         ensures bounded { length seer.new.seen ≤ limit }
+        ensures known { IsKnown (setting_of N.table N.base) seer.new }
     {
         desk.show(rt, seer, &mut self.pass);
     }
@@ -185,7 +189,6 @@ impl<D: Disk, N: Store> Ledger<D, N> {
     {
         desk.show(rt, seer, &mut self.pass);
         let how = desk.ended(rt, &mut self.pass, top);
-        self.pass.known();
         how.is_some()
     }
 
@@ -304,6 +307,7 @@ impl<D: Disk, N: Store> Ledger<D, N> {
         ensures ledger { (result.1.live ≡ true) × (result.1.number ≡ ledger_seat)
             × (result.1.out ≡ []) }
         ensures kin { result.1.kin ≡ [] }
+        ensures known { IsKnown (setting_of N.table N.base) result.1 }
         ensures may { (top : List ℕ) → top_in self.shelf ≡ Some top → MayFinish result.1 top }
     {
         (self.shelf.into_disk(), self.pass)

@@ -153,9 +153,7 @@ fn close<R: Wait, D: Disk + Drop, L: Link + Drop, N: Mounting>(
                 Ok(()) => Err(told(no)),
                 Err(short) => Err(TxNo::Short(short)),
             },
-            None => {
-                Err(told(no))
-            }
+            None => { Err(told(no)) }
         },
     }
 }

@@ -59,6 +59,5 @@ pub(crate) fn marked<R: Wait, D: Disk + Drop, L: Link + Drop, N: Mounting>(
         (L.view (link_of line.old.courier)).plan (L.view (link_of line.new.courier)).plan
         line.old.patience line.new.patience line.old.system line.new.system }
 {
-    let is_marked = line.marked(of);
-    is_marked
+    line.marked(of)
 }

@@ -19,7 +19,7 @@ use Rattle.qc_site.proofs.Again.{none_granted}
 use Rattle.qc_event.proofs.Absent.{same_itself}
 use Rattle.qc_desk.specs.Refusing.{against_nothing}
 use Rattle.qc_desk.specs.Rules.{knows, extends}
-use Rattle.qc_site.specs.AtDesk.{hand_after, IsGranted, OnlyLooks}
+use Rattle.qc_site.specs.AtDesk.{hand_after, IsGranted, LeavesKnown, OnlyLooks}
 use Rattle.qc_config.specs.declared.tuple.Tuple.{Tuple}
 use Rattle.qc_event.specs.declared.event.Entry.{Entry}
 use Rattle.qc_event.specs.declared.event.Grant.{Grant}
@@ -32,6 +32,7 @@ use Rattle.qc_moss.specs.Locks.{Table, granted_to, unheld}
 use Rattle.qc_moss.proofs.Tables.{granted, grows, starts}
 use Rattle.qc_desk.specs.declared.view.View.{View}
 use Rattle.qc_desk.specs.Calling.{Entered, Looked, Shown, Wanted}
+use Rattle.qc_desk.specs.Known.{AreKnown, IsKnown}
 use Rattle.qc_desk.proofs.Consulting.{follows_more}
 use Rattle.qc_desk.proofs.Seers.{older_trans}
 use Rattle.qc_desk.proofs.Since.{others_where_none}
@@ -67,13 +68,14 @@ module _ (setting : Setting) (copy : ℕ) (v w : View) (legal : Legal setting w.
   pub may_on : (g : Grant) → MayGrant setting v.seen (copy_seat copy) copy g → MayGrant setting w.seen (copy_seat copy) copy g
   may_on g may = subst (λ p. MayGrant setting p (copy_seat copy) copy g) (sym more.seen) (grant_still_allowed setting v.seen more.newer (copy_seat copy) copy g here more.none may)
 
-  pub kept_on : (start : List Tuple) (locks : Option Table) (hand : Option Grant) → IsKept setting copy v start locks hand → IsKept setting copy w start locks hand
-  kept_on start locks hand was = record {
+  pub kept_on : IsKnown setting w → (start : List Tuple) (locks : Option Table) (hand : Option Grant) → IsKept setting copy v start locks hand → IsKept setting copy w start locks hand
+  kept_on known start locks hand was = record {
     small = was.small;
     live = more.live ∙ was.live;
     number = more.number ∙ was.number;
     out = more.out ∙ was.out;
     kin = more.kin ∙ was.kin;
+    known = ∣ known ∣₁;
     starts = was.starts;
     kept = by_table locks was.kept;
     may = by_hand hand was.may;
@@ -166,13 +168,14 @@ module _ (setting : Setting) (copy : ℕ) (v w : View) (g : Grant) (start : List
         follows = subst (λ gs. Follows w.seen gs (granted_to t g.access g.rec g.op)) (sym now_grants) (granted w.seen (grants enters.0 copy) t g within so_far);
       }
 
-  pub kept_granted : (locks new : Option Table) → IfSome new (IsTableOf start w.seen copy) → IsKept setting copy v start locks (Some g) → IsKept setting copy w start new None
-  kept_granted locks new is was = record {
+  pub kept_granted : IsKnown setting w → (locks new : Option Table) → IfSome new (IsTableOf start w.seen copy) → IsKept setting copy v start locks (Some g) → IsKept setting copy w start new None
+  kept_granted known locks new is was = record {
     small = was.small;
     live = ap (λ (x : View). x.live) enters.3 ∙ was.live;
     number = ap (λ (x : View). x.number) enters.3 ∙ was.number;
     out = ap (λ (x : View). x.out) enters.3 ∙ was.out;
     kin = ap (λ (x : View). x.kin) enters.3 ∙ was.kin;
+    known = ∣ known ∣₁;
     starts = was.starts;
     kept = is;
     may = tt;
@@ -184,15 +187,16 @@ module _ (setting : Setting) (copy : ℕ) (v w : View) (g : Grant) (start : List
       nothing (Some t) = tt
 
 -- what a consultation leaves
-pub kept_asked : (setting : Setting) (copy : ℕ) (v w : View) (start : List Tuple) (locks new : Option Table) (hand now : Option Grant) → HasNoGrant copy v w
+pub kept_asked : (setting : Setting) (copy : ℕ) (v w : View) (start : List Tuple) (locks new : Option Table) (hand now : Option Grant) → HasNoGrant copy v w → IsKnown setting w
     → IfSome new (IsTableOf start w.seen copy) → IfSome now (MayGrant setting w.seen (copy_seat copy) copy) → IfSome new (λ t. IfSome now (HasRoomFor t))
     → IsKept setting copy v start locks hand → IsKept setting copy w start new now
-kept_asked setting copy v w start locks new hand now more kept may room was = record {
+kept_asked setting copy v w start locks new hand now more known kept may room was = record {
   small = was.small;
   live = more.live ∙ was.live;
   number = more.number ∙ was.number;
   out = more.out ∙ was.out;
   kin = more.kin ∙ was.kin;
+  known = ∣ known ∣₁;
   starts = was.starts;
   kept = kept;
   may = may;
@@ -229,16 +233,16 @@ may_be_granted setting copy v w ask tuple is legal has told =
     subst (λ c. MayGrant setting w.seen (copy_seat c) c (grant_with ask tuple)) is (told.1.1.may (none_granted setting w.seen ask legal has told.0))
 
 -- what a copy keeps of a consultation: the grant of a free request is in hand
-pub kept_told : (setting : Setting) (copy : ℕ) (v w : View) (ask : Ask) (start : List Tuple) (locks : Option Table) (t : Table) (hand now : Option Grant) (told : Consulted) → ask.copy ≡ copy → v.number ≡ copy_seat copy → Legal setting w.seen
+pub kept_told : (setting : Setting) (copy : ℕ) (v w : View) (ask : Ask) (start : List Tuple) (locks : Option Table) (t : Table) (hand now : Option Grant) (told : Consulted) → ask.copy ≡ copy → v.number ≡ copy_seat copy → IsKnown setting w
     → HasAsked w.seen ask → IsTold setting ask v w told → IsTableOf start w.seen copy t → ask.rec < length t.start → ((tuple : Tuple) → told ≡ consulted.Fresh (verdict.Free tuple) → t.reserved ≡ true)
     → now ≡ hand_after ask told → IsKept setting copy v start locks hand → IsKept setting copy w start (Some t) now
-kept_told setting copy v w ask start locks t hand now told is number legal has tells table within room at was =
+kept_told setting copy v w ask start locks t hand now told is number known has tells table within room at was =
     subst (IsKept setting copy w start (Some t)) (sym at)
-    (kept_asked setting copy v w start locks (Some t) hand (hand_after ask told) (told_none setting copy v w ask told number legal tells) table (may told tells) (has_room told room) was)
+    (kept_asked setting copy v w start locks (Some t) hand (hand_after ask told) (told_none setting copy v w ask told number known.legal tells) known table (may told tells) (has_room told room) was)
   where
     may : (x : Consulted) → IsTold setting ask v w x → IfSome (hand_after ask x) (MayGrant setting w.seen (copy_seat copy) copy)
     may (consulted.Again tuple) h = tt
-    may (consulted.Fresh (verdict.Free tuple)) h = may_be_granted setting copy v w ask tuple is legal has h
+    may (consulted.Fresh (verdict.Free tuple)) h = may_be_granted setting copy v w ask tuple is known.legal has h
     may (consulted.Fresh (verdict.Blocked holder)) h = tt
     may (consulted.Fresh (verdict.Dead ancestor)) h = tt
 
@@ -257,6 +261,7 @@ kept_restored setting copy v start locks hand new none is was = record {
   number = was.number;
   out = was.out;
   kin = was.kin;
+  known = was.known;
   starts = was.starts;
   kept = is;
   may = was.may;
@@ -277,6 +282,9 @@ only_looks setting copy old new v is legal more mine = record {
   same_grants = same_grants setting copy v new.pass legal more ∙ ap (λ (x : View). grants x.seen copy) is;
   older = (more.newer, more.seen ∙ ap (λ (x : View). more.newer ++ x.seen) is);
 }
+
+pub leaves_known : (setting : Setting) (copy : ℕ) (w seer : View) → w.live ≡ true → w.number ≡ copy_seat copy → AreKnown setting w seer → LeavesKnown setting copy w seer
+leaves_known setting copy w seer live number known = record { own = known.0.mine live ∙ ap (λ n. entries_of n w.seen) number; known = known.1 }
 
 pub looks_on : (copy : ℕ) (old mid new : Standing) → OnlyLooks copy old mid → OnlyLooks copy mid new → OnlyLooks copy old new
 looks_on copy old mid new first second = record {

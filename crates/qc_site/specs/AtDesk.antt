@@ -9,12 +9,14 @@ use Rattle.qc_event.specs.declared.event.Grant.{Grant}
 use Rattle.qc_event.specs.declared.event.Refusal.{Refusal}
 use Rattle.qc_event.specs.declared.event.Refusal.TheVariants as refusal
 use Rattle.qc_event.specs.declared.event.Why.{Why}
+use Rattle.qc_event.specs.Base.{Setting}
 use Rattle.qc_event.specs.History.{Past, granted, grants}
 use Rattle.qc_event.specs.Seats.{copy_seat}
 use Rattle.qc_desk.specs.declared.consult.Consulted.{Consulted}
 use Rattle.qc_desk.specs.declared.consult.Consulted.TheVariants as consulted
 use Rattle.qc_desk.specs.declared.view.View.{View}
-use Rattle.qc_desk.specs.Entries.{IsOlder, entry}
+use Rattle.qc_desk.specs.Entries.{IsOlder, entries_of, entry}
+use Rattle.qc_desk.specs.Known.{IsKnown}
 use Rattle.qc_site.specs.Replica.{Standing}
 
 -- what is in hand after a consultation: the grant of a free request
@@ -51,3 +53,8 @@ module _ (copy : ℕ) where
     pub mine : new.pass.mine ≡ old.pass.mine
     pub same_grants : grants new.pass.seen copy ≡ grants old.pass.seen copy
     pub older : IsOlder old.pass.seen new.pass.seen
+
+-- What a call leaves known: that the copy's own entries are those seen under its number, and what a pass knows of the seer.
+pub record LeavesKnown (setting : Setting) (copy : ℕ) (pass seer : View) : Type 0 where
+  pub own : pass.mine ≡ entries_of (copy_seat copy) pass.seen
+  pub known : IsKnown setting seer

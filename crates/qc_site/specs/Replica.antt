@@ -9,6 +9,7 @@ use Rattle.qc_event.specs.Seats.{copy_seat}
 use Rattle.qc_moss.specs.Follows.{Follows}
 use Rattle.qc_moss.specs.Locks.{Table}
 use Rattle.qc_desk.specs.declared.view.View.{View}
+use Rattle.qc_desk.specs.Known.{IsKnown}
 
 -- A copy at its desk: its pass, the grant in hand, which is not entered yet, and whether it has its locks.
 pub record Standing : Type 0 where
@@ -26,13 +27,14 @@ pub record IsTableOf (start : List Tuple) (past : Past) (copy : ℕ) (locks : Ta
   pub same_start : locks.start ≡ start
   pub follows : Follows past (grants past copy) locks
 
--- What a copy keeps: its number, that no pass is out and none was joined, its start, its locks where it is up, and that the grant in hand may be made.
+-- What a copy keeps: its number, that no pass is out and none was joined, what its pass knows, its start, its locks where it is up, and that the grant in hand may be made.
 pub record IsKept (setting : Setting) (copy : ℕ) (pass : View) (start : List Tuple) (locks : Option Table) (hand : Option Grant) : Type 0 where
   pub small : copy < 16
   pub live : pass.live ≡ true
   pub number : pass.number ≡ copy_seat copy
   pub out : pass.out ≡ []
   pub kin : pass.kin ≡ []
+  pub known : ∥ IsKnown setting pass ∥₁
   pub starts : start ≡ slice_index_or setting.base copy []
   pub kept : IfSome locks (IsTableOf start pass.seen copy)
   pub may : IfSome hand (MayGrant setting pass.seen (copy_seat copy) copy)

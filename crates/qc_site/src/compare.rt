@@ -1,5 +1,5 @@
 //! Grants that are held against others.
-ghost use Rattle.std.specs.Prelude.{◌≡◌, ◌≤◌, ◌↔◌, true, false, OnOk, OnErr, IfOk, IfErr, IfSome, slice_get, IsNone, IsTrue, Ok};
+ghost use Rattle.std.specs.Prelude.{◌≡◌, ◌≤◌, ◌++◌, option_to_list, ◌↔◌, true, false, OnOk, OnErr, IfOk, IfErr, IfSome, slice_get, IsNone, IsTrue, Ok};
 ghost use Rattle.qc_journal.specs.Image.{bodies_of};
 ghost use Rattle.qc_site.specs.Back.{AreGrants, IsFirstApart, IsFirstUnread, IsWithHand};
 
@@ -11,6 +11,20 @@ use std::alloc::{AllocError, Global};
 
 // It makes the type known that a grant holds.
 fn is_op(_op: &Op) {}
+
+/// What a copy granted, and the grant in hand.
+pub(crate) fn with_hand(
+    mut given: Vec<Grant>,
+    hand: Option<Grant>,
+) -> Result<Vec<Grant>, AllocError>
+    ensures { IfOk result (λ all. all.items ≡ given.items ++ option_to_list hand) }
+{
+    if let Some(grant) = hand {
+        is_op(&grant.op);
+        append(&mut given, grant)?;
+    }
+    Ok(given)
+}
 
 /// The grants that bodies are, or the index of the first that is none.
 pub(crate) fn grants_in(

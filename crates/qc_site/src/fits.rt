@@ -3,6 +3,7 @@ ghost use Rattle.std.specs.Prelude.{ℕ, ◌≡◌, ◌<◌, ◌^◌, length, sl
 ghost use Rattle.qc_config.specs.Config.{votes_of};
 ghost use Rattle.qc_config.specs.Tuple.{after};
 ghost use Rattle.qc_event.specs.Base.{IsProper};
+ghost use Rattle.qc_event.specs.Legal.{Legal};
 ghost use Rattle.qc_event.specs.Seen.{seen};
 ghost use Rattle.qc_event.specs.Tables.{setting_of};
 ghost use Rattle.qc_event.specs.Grants.{grant_with};
@@ -38,13 +39,13 @@ fn config_in_range(config: &Config)
 /// reads, and does nothing else.
 pub(crate) fn known_to_fit<N: Store>(pass: &Pass<N>, copies: u8, ask: &Ask, tuple: &Tuple)
     requires proper { IsProper (setting_of N.table N.base) }
+    requires legal { Legal (setting_of N.table N.base) pass.now.seen }
     requires copies { copies ≡ length N.base }
     requires asked { HasAsked pass.now.seen ask.now }
     requires tuple { tuple.now ≡ after (seen N.base pass.now.seen ask.now.copy ask.now.rec)
         ask.now.op }
     ensures fits { (body.grant (format_1 copies)).fits (grant_with ask.now tuple.now) }
 {
-    pass.known();
     name_in_range(&ask.access);
     config_in_range(&tuple.config);
     let _rec = ask.rec;

@@ -1,15 +1,17 @@
 //! How a site grants what is free: it writes the grant, and then enters it.
-ghost use Rattle.std.specs.Prelude.{◌≡◌, ◌⊎◌, true, false, IfErr, OnOk, OnErr, IsErrOf, None, Some};
+ghost use Rattle.std.specs.Prelude.{◌≡◌, ◌⊎◌, true, false, IfErr, OnOk, OnErr, IsErrOf, IfSome, None, Some};
 ghost use Rattle.qc_config.specs.Tuple.{after};
-ghost use Rattle.qc_event.specs.Grants.{grant_with};
+ghost use Rattle.qc_event.specs.Grants.{grant_with, MayGrant};
 ghost use Rattle.qc_event.specs.declared.event.Answered.TheVariants.{Granted};
 ghost use Rattle.qc_event.specs.Base.{IsProper};
+ghost use Rattle.qc_event.specs.Seats.{copy_seat};
 ghost use Rattle.qc_event.specs.Seen.{seen};
 ghost use Rattle.qc_event.specs.Tables.{setting_of};
 ghost use Rattle.qc_journal.specs.Journal.{IsDown, IsUp};
 ghost use Rattle.qc_ledger.specs.Entered.{SeesMore};
 ghost use Rattle.qc_ledger.specs.Runs.{Costs};
 ghost use Rattle.qc_desk.specs.Consulting.{HasAsked};
+ghost use Rattle.qc_site.specs.AtDesk.{LeavesKnown};
 ghost use Rattle.qc_site.specs.Log.{journal_in};
 ghost use Rattle.qc_site.specs.Serving as words;
 
@@ -58,6 +60,8 @@ impl<D: Disk, N: Store, const C: u8> Site<D, N, C> {
         requires proper { IsProper (setting_of N.table N.base) }
         requires up { self.old.replica.up ≡ true }
         requires hand { self.old.replica.hand ≡ Some (grant_with ask.now tuple.now) }
+        requires may { IfSome self.old.replica.hand (MayGrant (setting_of N.table N.base)
+            self.old.replica.pass.seen (copy_seat C) C) }
         requires asked { HasAsked self.old.replica.pass.seen ask.now }
         requires tuple { tuple.now ≡ after
             (seen N.base self.old.replica.pass.seen ask.now.copy ask.now.rec) ask.now.op }
@@ -72,7 +76,6 @@ impl<D: Disk, N: Store, const C: u8> Site<D, N, C> {
         ensures cause { Costs (journal_in self.old.log) (journal_in self.new.log)
             (IsErrOf result ServeNo.Down) }
     {
-        self.replica.known();
         self.replica.fits(self.log.copies, ask, tuple);
         match self.log.write(&grant_of(ask, tuple)) {
             Ok(()) => Ok(()),
@@ -95,6 +98,8 @@ impl<D: Disk, N: Store, const C: u8> Site<D, N, C> {
         requires proper { IsProper (setting_of N.table N.base) }
         requires up { self.old.replica.up ≡ true }
         requires hand { self.old.replica.hand ≡ Some (grant_with ask.now tuple.now) }
+        requires may { IfSome self.old.replica.hand (MayGrant (setting_of N.table N.base)
+            self.old.replica.pass.seen (copy_seat C) C) }
         requires asked { HasAsked self.old.replica.pass.seen ask.now }
         requires tuple { tuple.now ≡ after
             (seen N.base self.old.replica.pass.seen ask.now.copy ask.now.rec) ask.now.op }
@@ -106,6 +111,8 @@ impl<D: Disk, N: Store, const C: u8> Site<D, N, C> {
             (empty_handed (site_state self.old)) (site_state self.new) }
         ensures strange { self.new.strange ≡ self.old.strange }
         ensures seer { SeesMore seer.old seer.new }
+        ensures known { OnOk result
+            (LeavesKnown (setting_of N.table N.base) C self.new.replica.pass seer.new) }
         ensures cause { Costs (journal_in self.old.log) (journal_in self.new.log)
             (IsErrOf result ServeNo.Down) }
     {

@@ -3,10 +3,9 @@ ghost use Rattle.std.specs.Prelude.{◌≡◌, ◌<◌, [], true, false, Option,
 ghost use Rattle.qc_config.specs.declared.tuple.Tuple.{Tuple};
 ghost use Rattle.qc_event.specs.Grants.{grant_with, MayGrant};
 ghost use Rattle.qc_event.specs.History.{grants};
-ghost use Rattle.qc_event.specs.Legal.{Legal};
 ghost use Rattle.qc_event.specs.Seats.{copy_seat};
 ghost use Rattle.qc_event.specs.Tables.{setting_of};
-ghost use Rattle.qc_desk.specs.Entries.{entries_of};
+ghost use Rattle.qc_desk.specs.Known.{IsKnown};
 ghost use Rattle.qc_site.specs.Replica.{IsTableOf};
 
 use qc_config::Tuple;
@@ -56,6 +55,7 @@ impl<N: Store, const C: u8> Replica<N, C> {
         requires pass { (pass.live ≡ true) × (pass.number ≡ copy_seat C) }
         requires none_out { pass.out ≡ [] }
         requires none_joined { pass.kin ≡ [] }
+        requires known { IsKnown (setting_of N.table N.base) pass }
         requires nothing { grants pass.seen C ≡ [] }
         requires starts { start.items ≡ slice_index_or N.base C [] }
         requires locks { IsTableOf start.items pass.seen C locks }
@@ -69,17 +69,6 @@ impl<N: Store, const C: u8> Replica<N, C> {
             locks: Some(locks),
             hand: None,
         }
-    }
-
-    /// What it keeps: what its pass has seen is legal, its own entries are those seen under the copy's number, and the grant
-    /// in hand may be made next.
-    pub(crate) fn known(&self)
-        ensures legal { Legal (setting_of N.table N.base) self.now.pass.seen }
-        ensures mine { self.now.pass.mine ≡ entries_of (copy_seat C) self.now.pass.seen }
-        ensures may { IfSome self.now.hand (MayGrant (setting_of N.table N.base)
-            self.now.pass.seen (copy_seat C) C) }
-    {
-        self.pass.known();
     }
 
     /// Whether it is up.
@@ -119,6 +108,7 @@ impl<N: Store, const C: u8> Replica<N, C> {
         ensures pass { result ≡ self.pass }
         ensures copy { (result.live ≡ true) × (result.number ≡ copy_seat C) × (result.out ≡ []) }
         ensures kin { result.kin ≡ [] }
+        ensures known { IsKnown (setting_of N.table N.base) result }
         ensures may { IfSome self.hand (MayGrant (setting_of N.table N.base) self.pass.seen
             (copy_seat C) C) }
     {

@@ -6,10 +6,9 @@ ghost use Rattle.qc_codec.specs.Fields.{format_1};
 ghost use Rattle.qc_config.specs.Tuple.{after};
 ghost use Rattle.qc_event.specs.Seen.{seen};
 ghost use Rattle.qc_moss.specs.declared.consulting.Verdict.TheVariants.{Free};
-ghost use Rattle.qc_event.specs.Grants.{grant_with};
+ghost use Rattle.qc_event.specs.Grants.{grant_with, MayGrant};
 ghost use Rattle.qc_event.specs.Base.{IsProper};
 ghost use Rattle.qc_event.specs.History.{grants, limit, grants as past_grants};
-ghost use Rattle.qc_event.specs.Legal.{Legal};
 ghost use Rattle.qc_event.specs.Requests.{is_fault};
 ghost use Rattle.qc_event.specs.Seats.{copy_seat};
 ghost use Rattle.qc_event.specs.Tables.{setting_of};
@@ -18,8 +17,9 @@ ghost use Rattle.qc_desk.specs.Entries.{IsOlder};
 ghost use Rattle.qc_desk.specs.Calling.{Looked};
 ghost use Rattle.qc_desk.specs.Consulting.{HasAsked, IsTold, granted_before};
 ghost use Rattle.qc_desk.specs.declared.consult.Consulted.TheVariants.{Again, Fresh};
+ghost use Rattle.qc_desk.specs.Known.{AreKnown};
 ghost use Rattle.qc_ledger.specs.Entered.{SeesMore};
-ghost use Rattle.qc_site.specs.AtDesk.{hand_after, hand_entries, told_entries, unable_entry, IsGranted, OnlyLooks};
+ghost use Rattle.qc_site.specs.AtDesk.{hand_after, hand_entries, told_entries, unable_entry, IsGranted, LeavesKnown, OnlyLooks};
 ghost use Rattle.qc_site.specs.Replica.{IsTableOf};
 
 use crate::fits::known_to_fit;
@@ -44,7 +44,7 @@ fn ask_without_room<N: Store, R: Wait>(
     ensures told { IfOk result (IsTold (setting_of N.table N.base) ask.now pass.old pass.new) }
     ensures again { (tuple : Tuple) → result ≡ Ok (Fresh (Free tuple)) → ⊥ }
     ensures looked { Looked pass.old pass.new }
-    ensures legal { Legal (setting_of N.table N.base) pass.new.seen }
+    ensures known { AreKnown (setting_of N.table N.base) pass.new seer.new }
     ensures asked { HasAsked pass.new.seen ask.now }
     ensures fresh { OnErr result (granted_before pass.new.seen ask.now ≡ None) }
     ensures want { IfErr result (IsWant pass.new.seen) }
@@ -52,7 +52,6 @@ fn ask_without_room<N: Store, R: Wait>(
     ensures same { seer.new.seen ≡ pass.new.seen }
 {
     let before = desk.granted(rt, pass, seer, ask.copy, &ask.access);
-    pass.known();
     match before {
         Some(tuple) => Ok(Consulted::Again(tuple)),
         None => Err(Short::Memory),
@@ -76,6 +75,7 @@ fn ask_desk<N: Store, R: Wait>(
     ensures told { IfOk result (IsTold (setting_of N.table N.base) ask.now pass.old pass.new) }
     ensures asked { HasAsked pass.new.seen ask.now }
     ensures err { OnErr result (Looked pass.old pass.new) }
+    ensures known { AreKnown (setting_of N.table N.base) pass.new seer.new }
     ensures fresh { OnErr result (granted_before pass.new.seen ask.now ≡ None) }
     ensures want { IfErr result (IsWant pass.new.seen) }
     ensures locks { IsTableOf (slice_index_or N.base ask.now.copy []) pass.new.seen ask.now.copy
@@ -115,9 +115,7 @@ impl<N: Store, const C: u8> Replica<N, C> {
         ensures hand { self.new.hand ≡ self.old.hand }
         ensures up { self.new.up ≡ self.old.up }
     {
-        let given = desk.grants(rt, &mut self.pass, C);
-        self.pass.known();
-        given
+        desk.grants(rt, &mut self.pass, C)
     }
 
     /// Asks the desk of a request that the seer saw. A repeat is told what it was granted, and a grant that may be made is
@@ -143,6 +141,10 @@ impl<N: Store, const C: u8> Replica<N, C> {
             → result ≡ Ok (Again tuple) }
         ensures asked { HasAsked self.new.pass.seen ask.now }
         ensures hand { IfOk result (λ told. self.new.hand ≡ hand_after ask.now told) }
+        ensures may { OnOk result (IfSome self.new.hand (MayGrant (setting_of N.table N.base)
+            self.new.pass.seen (copy_seat C) C)) }
+        ensures known { OnOk result
+            (LeavesKnown (setting_of N.table N.base) C self.new.pass seer.new) }
         ensures none { OnErr result (self.new.hand ≡ None) }
         ensures enters { IfOk result (λ told. self.new.pass.mine
             ≡ told_entries C ask.now told ++ self.old.pass.mine) }
@@ -159,7 +161,6 @@ impl<N: Store, const C: u8> Replica<N, C> {
         };
         let answer = ask_desk(rt, desk, &mut self.pass, seer, ask, &mut locks);
         self.locks = Some(locks);
-        self.pass.known();
         let told = answer?;
         self.hand = hand_of(ask, &told);
         Ok(told)
@@ -187,13 +188,13 @@ impl<N: Store, const C: u8> Replica<N, C> {
         ensures up { self.new.up ≡ self.old.up }
         ensures seer { SeesMore seer.old seer.new }
         ensures same { (self.old.hand ≡ None) ⊎ (seer.new.seen ≡ self.new.pass.seen) }
+        ensures known { OnOk result ((self.old.hand ≡ None)
+            ⊎ LeavesKnown (setting_of N.table N.base) C self.new.pass seer.new) }
     {
         let Some(grant) = self.hand else {
             return Ok(());
         };
-        let answer = desk.append(rt, &mut self.pass, seer, C, &grant);
-        self.pass.known();
-        answer?;
+        desk.append(rt, &mut self.pass, seer, C, &grant)?;
         self.hand = None;
         if let Some(mut locks) = self.locks.take() {
             locks.grant(&grant.access, grant.rec, &grant.op);
@@ -224,10 +225,9 @@ impl<N: Store, const C: u8> Replica<N, C> {
         ensures up { self.new.up ≡ self.old.up }
         ensures seer { SeesMore seer.old seer.new }
         ensures same { seer.new.seen ≡ self.new.pass.seen }
+        ensures known { LeavesKnown (setting_of N.table N.base) C self.new.pass seer.new }
     {
-        let answer = desk.unable(rt, &mut self.pass, seer, &ask.access, why);
-        self.pass.known();
-        answer
+        desk.unable(rt, &mut self.pass, seer, &ask.access, why)
     }
 
     /// The seer has then seen what the copy has: the history at this step.
@@ -238,9 +238,9 @@ impl<N: Store, const C: u8> Replica<N, C> {
         ensures seer { SeesMore seer.old seer.new }
         ensures same { seer.new.seen ≡ self.new.pass.seen }
         ensures bounded { length seer.new.seen ≤ limit }
+        ensures known { LeavesKnown (setting_of N.table N.base) C self.new.pass seer.new }
     {
         desk.show(rt, &mut self.pass, seer);
-        self.pass.known();
     }
 
     /// Enters the grant in hand, where there is one, for no one.
@@ -284,7 +284,6 @@ impl<N: Store, const C: u8> Replica<N, C> {
         ensures hand { self.new.hand ≡ None }
         ensures pass { self.new.pass ≡ self.old.pass }
     {
-        self.pass.known();
         let locks = replay_locks(alloc, self.start.to_vec(alloc)?, grants)?;
         self.locks = Some(locks);
         Ok(())

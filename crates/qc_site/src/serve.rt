@@ -10,7 +10,7 @@ ghost use Rattle.qc_event.specs.Wants.{IsWant};
 ghost use Rattle.qc_ledger.specs.Entered.{SeesMore};
 ghost use Rattle.qc_ledger.specs.Runs.{Costs};
 ghost use Rattle.qc_desk.specs.Consulting.{HasAsked};
-ghost use Rattle.qc_site.specs.AtDesk.{unable_entry, IsGranted};
+ghost use Rattle.qc_site.specs.AtDesk.{unable_entry, IsGranted, LeavesKnown};
 ghost use Rattle.qc_site.specs.Log.{journal_in};
 ghost use Rattle.qc_site.specs.Serving as words;
 ghost use Rattle.qc_site.specs.declared.serve.ServeNo.TheVariants as no;
@@ -105,6 +105,8 @@ impl<D: Disk, N: Store, const C: u8> Site<D, N, C> {
             (site_state self.old) (site_state self.new) }
         ensures strange { self.new.strange ≡ self.old.strange }
         ensures seer { SeesMore seer.old seer.new }
+        ensures known { OnOk result
+            (LeavesKnown (setting_of N.table N.base) C self.new.replica.pass seer.new) }
         ensures cause { Costs (journal_in self.old.log) (journal_in self.new.log)
             (IsErrOf result ServeNo.Down) }
     {
@@ -147,6 +149,8 @@ impl<D: Disk, N: Store, const C: u8> Site<D, N, C> {
             (site_state self.old) (site_state self.new) }
         ensures seer { SeesMore seer.old seer.new }
         ensures asked { HasAsked seer.new.seen ask.now }
+        ensures known { OnOk result
+            (LeavesKnown (setting_of N.table N.base) C self.new.replica.pass seer.new) }
         ensures cause { Costs (journal_in self.old.log) (journal_in self.new.log)
             (IsErrOf result ServeNo.Down) }
     {
@@ -180,6 +184,7 @@ impl<D: Disk, N: Store, const C: u8> Site<D, N, C> {
             (site_state self.new) }
         ensures seer { SeesMore seer.old seer.new }
         ensures same { seer.new.seen ≡ self.new.replica.pass.seen }
+        ensures known { LeavesKnown (setting_of N.table N.base) C self.new.replica.pass seer.new }
     {
         self.replica.unable(rt, desk, seer, ask, why)
     }
@@ -212,6 +217,8 @@ impl<D: Disk, N: Store, const C: u8> Site<D, N, C> {
         ensures became { SiteBecame (setting_of N.table N.base) C (Some ask.now)
             (site_state self.old) (site_state self.new) }
         ensures seer { SeesMore seer.old seer.new }
+        ensures known { OnOk result
+            (LeavesKnown (setting_of N.table N.base) C self.new.replica.pass seer.new) }
 
         // Down is answered only where the disk's count of faults rose.
         ensures cause { Costs (journal_in self.old.log) (journal_in self.new.log)

@@ -3,24 +3,23 @@ ghost use Rattle.std.specs.Prelude.{◌≡◌, ◌≤◌, ◌⊎◌, ◌++◌, �
 ghost use Rattle.qc_event.specs.Base.{IsProper};
 ghost use Rattle.qc_event.specs.Grants.{MayGrant};
 ghost use Rattle.qc_event.specs.History.{grants, limit};
-ghost use Rattle.qc_event.specs.Legal.{Legal};
 ghost use Rattle.qc_event.specs.Seats.{copy_seat};
 ghost use Rattle.qc_event.specs.Tables.{setting_of};
 ghost use Rattle.qc_journal.specs.Journal.{disk_of, limit_of, IsDown, IsUp};
 ghost use Rattle.qc_ledger.specs.Entered.{SeesMore};
 ghost use Rattle.qc_ledger.specs.Runs.{Costs, Falls, Leaves};
-ghost use Rattle.qc_desk.specs.Entries.{entries_of};
-ghost use Rattle.qc_site.specs.AtDesk.{OnlyLooks};
+ghost use Rattle.qc_desk.specs.Known.{IsKnown};
+ghost use Rattle.qc_site.specs.AtDesk.{LeavesKnown, OnlyLooks};
 ghost use Rattle.qc_site.specs.Log.{copies_of, journal_in};
 
 use crate::back::{BackNo, Strange};
+use crate::compare::with_hand;
 use crate::fault::SiteNo;
 use crate::log::GrantLog;
 use crate::replica::Replica;
 use qc_desk::{Desk, Pass, Store};
 use qc_disk::Disk;
 use qc_event::{Grant, Short};
-use qc_names::lists::append;
 use std::alloc::{AllocError, Global};
 use std::sync::Wait;
 
@@ -34,16 +33,6 @@ pub struct Site<D: Disk, N: Store, const C: u8> {
     ghost journal: { replica.up ≡ true → IsDown (journal_in log) → ⊥ },
     ghost sound: { is_some strange ≡ true → replica.up ≡ false },
     ghost copies: { copies_of log ≡ length N.base },
-}
-
-// What a copy granted, and the grant in hand.
-fn with_hand(mut given: Vec<Grant>, hand: Option<Grant>) -> Result<Vec<Grant>, AllocError>
-    ensures { IfOk result (λ all. all.items ≡ given.items ++ option_to_list hand) }
-{
-    if let Some(grant) = hand {
-        append(&mut given, grant)?;
-    }
-    Ok(given)
 }
 
 impl<D: Disk, N: Store, const C: u8> Site<D, N, C> {
@@ -64,15 +53,6 @@ impl<D: Disk, N: Store, const C: u8> Site<D, N, C> {
         self.strange.as_ref()
     }
 
-    /// What it keeps of its pass: what that has seen is legal, and its own entries are those seen under the copy's number.
-    pub fn known(&self)
-        ensures legal { Legal (setting_of N.table N.base) self.now.replica.pass.seen }
-        ensures mine { self.now.replica.pass.mine
-            ≡ entries_of (copy_seat C) self.now.replica.pass.seen }
-    {
-        self.replica.known();
-    }
-
     /// The seer is shown the history at this step, which the copy has then seen too.
     pub fn show<R: Wait>(&mut self, rt: &R, desk: &Desk<N>, seer: &mut Pass<N>)
         ensures looks { OnlyLooks C self.old.replica self.new.replica }
@@ -85,6 +65,7 @@ impl<D: Disk, N: Store, const C: u8> Site<D, N, C> {
         ensures seer { SeesMore seer.old seer.new }
         ensures same { seer.new.seen ≡ self.new.replica.pass.seen }
         ensures bounded { length seer.new.seen ≤ limit }
+        ensures known { LeavesKnown (setting_of N.table N.base) C self.new.replica.pass seer.new }
     {
         self.replica.show(rt, desk, seer);
     }
@@ -219,6 +200,7 @@ impl<D: Disk, N: Store, const C: u8> Site<D, N, C> {
         ensures copy { (result.1.live ≡ true) × (result.1.number ≡ copy_seat C)
             × (result.1.out ≡ []) }
         ensures kin { result.1.kin ≡ [] }
+        ensures known { IsKnown (setting_of N.table N.base) result.1 }
         ensures may { IfSome self.replica.hand (MayGrant (setting_of N.table N.base)
             self.replica.pass.seen (copy_seat C) C) }
     {

@@ -10,6 +10,7 @@ ghost use Rattle.qc_journal.specs.Journal.{disk_of};
 ghost use Rattle.qc_ledger.specs.Entered.{SeesMore};
 ghost use Rattle.qc_desk.specs.Consulting.{HasAsked};
 ghost use Rattle.qc_desk.specs.Entries.{entries_of};
+ghost use Rattle.qc_desk.specs.Known.{IsKnown};
 ghost use Rattle.qc_site.specs.Answers.{HasAnswered};
 ghost use Rattle.qc_site.specs.Log.{journal_in};
 ghost use Rattle.qc_system.specs.Closing.{CopyKeeps};
@@ -79,12 +80,10 @@ impl<D: Disk + Drop, N: Mounting, const C: u8> Held<D, N, C> {
         ensures answered { IfOk result (HasAnswered C seer.new.seen ask.now) }
         ensures room { IsErrOf result Room → length seer.new.seen ≡ limit }
         ensures seer { SeesMore seer.old seer.new }
+        ensures known { IsKnown (setting_of N.table N.base) seer.new }
     {
         match self.site.serve(rt, desk, seer, ask) {
-            Ok(answered) => {
-                self.site.known();
-                Ok(answered)
-            }
+            Ok(answered) => Ok(answered),
             Err(short) => {
                 self.site.show(rt, desk, seer);
                 Err(short)
@@ -108,7 +107,6 @@ impl<D: Disk + Drop, N: Mounting, const C: u8> Held<D, N, C> {
         }) C (D.view result.0) result.1.seen }
     {
         let (disk, pass) = self.site.into_parts();
-        pass.known();
         (disk.into_disk(), pass)
     }
 }

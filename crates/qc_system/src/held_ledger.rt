@@ -14,6 +14,7 @@ ghost use Rattle.qc_ledger.specs.Runs.{Leaves};
 ghost use Rattle.qc_ledger.specs.Shelf.{journal_in, top_body};
 ghost use Rattle.qc_ledger.specs.Since.{TopsGrow};
 ghost use Rattle.qc_desk.specs.Entries.{entries_of};
+ghost use Rattle.qc_desk.specs.Known.{IsKnown};
 ghost use Rattle.qc_system.specs.Closing.{LedgerKeeps};
 ghost use Rattle.qc_system.specs.Kept.{HadNoRoomIn, HasRefused, Pays, TopsSince, downs};
 ghost use Rattle.qc_system.specs.Parts.{IsFound};
@@ -82,12 +83,10 @@ fn log_listed<D: Disk + Drop, N: Mounting, R: Wait>(
     ensures ended { OnOk result (IsTrue (is_some (end seer.new.seen top.now))) }
     ensures refused { IfErr result (HasRefused seer.new.seen top.now) }
     ensures seer { SeesMore seer.old seer.new }
+    ensures known { IsKnown (setting_of N.table N.base) seer.new }
 {
-    ledger.pass.known();
     let answer = ledger.log(rt, desk, seer, top, aborted);
-    ledger.pass.known();
     ledger.show(rt, desk, seer);
-    ledger.pass.known();
     answer
 }
 
@@ -121,6 +120,7 @@ impl<D: Disk + Drop, N: Mounting> HeldLedger<D, N> {
         ensures ended { OnOk result (IsTrue (is_some (end seer.new.seen top.now))) }
         ensures refused { IfErr result (HasRefused seer.new.seen top.now) }
         ensures seer { SeesMore seer.old seer.new }
+        ensures known { IsKnown (setting_of N.table N.base) seer.new }
     {
         log_listed(&mut self.ledger, rt, desk, seer, top, aborted)
     }
@@ -142,7 +142,6 @@ impl<D: Disk + Drop, N: Mounting> HeldLedger<D, N> {
             result.1.seen }
     {
         let (disk, pass) = self.ledger.into_parts();
-        pass.known();
         (disk.into_disk(), pass)
     }
 }

@@ -9,6 +9,7 @@ ghost use Rattle.qc_event.specs.Listed.{listed};
 ghost use Rattle.qc_event.specs.Tables.{setting_of};
 ghost use Rattle.qc_ledger.specs.Entered.{SeesMore};
 ghost use Rattle.qc_desk.specs.Consulting.{HasAsked};
+ghost use Rattle.qc_desk.specs.Known.{IsKnown};
 ghost use Rattle.qc_site.specs.Answers.{HasAnswered};
 ghost use Rattle.qc_system.specs.Kept.{HasRefused};
 ghost use Rattle.qc_system.specs.Parts.{IsThere};
@@ -108,6 +109,7 @@ fn serve_at<D: Disk + Drop, N: Mounting, const C: u8, R: Wait>(
     ensures answered { IfOk result (HasAnswered ask.now.copy seer.new.seen ask.now) }
     ensures room { IsErrOf result Room → length seer.new.seen ≡ limit }
     ensures seer { SeesMore seer.old seer.new }
+    ensures known { IsKnown (setting_of N.table N.base) seer.new }
 {
     match site {
         Some(lock) => lock.lock(rt).serve(rt, desk, seer, ask),
@@ -150,6 +152,7 @@ impl<D: Disk + Drop, N: Mounting> System<D, N> {
         ensures answered { IfOk result (HasAnswered ask.now.copy seer.new.seen ask.now) }
         ensures room { IsErrOf result Room → length seer.new.seen ≡ limit }
         ensures seer { SeesMore seer.old seer.new }
+        ensures known { IsKnown (setting_of N.table N.base) seer.new }
     {
         at_copy!(ask.copy, site, serve_at(rt, &self.desk, site, seer, ask), self: 0 s0 1 s1 2 s2 3 s3 4 s4 5 s5 6 s6 7 s7 8 s8 9 s9 10 s10 11 s11 12 s12 13 s13 14 s14 15 s15)
     }
@@ -176,6 +179,7 @@ impl<D: Disk + Drop, N: Mounting> System<D, N> {
         ensures ended { OnOk result (IsTrue (is_some (end pass.new.seen top.now))) }
         ensures refused { IfErr result (HasRefused pass.new.seen top.now) }
         ensures pass { SeesMore pass.old pass.new }
+        ensures known { IsKnown (setting_of N.table N.base) pass.new }
     {
         self.ledger.lock(rt).log(rt, &self.desk, pass, top, aborted)
     }

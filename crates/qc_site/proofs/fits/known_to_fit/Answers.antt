@@ -6,7 +6,7 @@ use Rattle.qc_site.proofs.fits.known_to_fit.Goals as goal
 pub returns : goal.returns
 returns g c = record {
   fits = grant_fits (setting_of g.N.Store.table g.N.Store.base) c.args.pass.now.seen c.args.copies c.args.ask.now c.args.tuple.now
-      c.requires.proper c.known.ensures.legal c.requires.copies c.requires.asked c.requires.tuple (omega arith)
+      c.requires.proper c.requires.legal c.requires.copies c.requires.asked c.requires.tuple (omega arith)
       (record { first = c.name_in_range.ensures.first; rest = c.name_in_range.ensures.rest })
       (record {
         version = omega arith;

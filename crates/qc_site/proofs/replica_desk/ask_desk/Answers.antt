@@ -29,6 +29,6 @@ returns-in-Err-clause-locks g c =
     let row = slice_index_or g.N.Store.base copy [] in
     let v = c.args.pass.now in
     let w = c.ask_without_room.new.pass in
-    let legal = c.ask_without_room.ensures.legal in
+    let legal = c.ask_without_room.ensures.known.0.legal in
     let still = subst (IsTableOf row v.seen copy) (sym c.in-Err.ensures.err) c.requires.locks in
     table_on setting copy v w legal (looked_none setting copy v w c.requires.copy.1 legal c.ask_without_room.ensures.looked) row c.reserve.new.self still

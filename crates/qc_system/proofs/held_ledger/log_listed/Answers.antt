@@ -15,6 +15,7 @@ use Rattle.qc_ledger.proofs.Calls.{logged_enters, logged_stands}
 use Rattle.qc_ledger.proofs.Passes.{sees_on}
 use Rattle.qc_ledger.proofs.Since.{grown_more, tops_on}
 use Rattle.qc_desk.specs.Entries.{IsOlder, entries_of}
+use Rattle.qc_desk.proofs.Known.{known_again}
 use Rattle.qc_desk.proofs.Seers.{older_trans}
 use Rattle.qc_system.specs.Kept.{HadNoRoom, Pays, downs}
 use Rattle.qc_system.proofs.Listed.{listed_stays, over_seen, tops_retold}
@@ -30,13 +31,13 @@ returns-clause-keeps g c = λ before over.
     let mid = c.log-answer.new.self in
     let last = c.show.new.self in
     let top = c.args.top.now in
-    let legal : Legal setting last.pass.seen = c.known-3.ensures.legal in
+    let legal : Legal setting last.pass.seen = (known_again setting last.pass last.known).legal in
     let seen : IsOlder first.pass.seen last.pass.seen = older_trans first.pass.seen mid.pass.seen last.pass.seen c.log-answer.ensures.became.seen c.show.ensures.seen in
     let asked : IsOlder c.args.seer.now.seen last.pass.seen = subst (λ p. IsOlder c.args.seer.now.seen p) c.show.ensures.same (sees_on c.args.seer.now c.log-answer.new.seer c.show.new.seer c.log-answer.ensures.seer c.show.ensures.seer).older in
     let told : c.args.aborted.now ≡ listed last.pass.seen top = c.requires.listed ∙ sym (listed_stays setting c.args.seer.now.seen last.pass.seen top asked legal c.requires.ready) in
-    let own : first.pass.mine ≡ entries_of ledger_seat first.pass.seen = c.known.ensures.mine first.live ∙ ap (λ n. entries_of n first.pass.seen) first.number in
+    let own : first.pass.mine ≡ entries_of ledger_seat first.pass.seen = (known_again setting first.pass first.known).mine first.live ∙ ap (λ n. entries_of n first.pass.seen) first.number in
     let f = listed last.pass.seen in
-    let was = over_seen setting first.pass last.pass.seen before first.shelf seen legal c.known.ensures.legal own first.may over in
+    let was = over_seen setting first.pass last.pass.seen before first.shelf seen legal (known_again setting first.pass first.known).legal own first.may over in
     let now : KeepsLogged f before mid.shelf (tops_of mid.pass.mine) = c.log-answer.ensures.became.kept f before told was in
     subst (λ s. KeepsLogged f before s (tops_of last.pass.mine)) (sym c.show.ensures.shelf) (subst (λ p. KeepsLogged f before mid.shelf (tops_of p)) (sym c.show.ensures.mine) now)
 
@@ -47,15 +48,15 @@ returns-clause-grown g c = λ before since over grown.
     let mid = c.log-answer.new.self in
     let last = c.show.new.self in
     let top = c.args.top.now in
-    let legal : Legal setting last.pass.seen = c.known-3.ensures.legal in
+    let legal : Legal setting last.pass.seen = (known_again setting last.pass last.known).legal in
     let seen : IsOlder first.pass.seen last.pass.seen = older_trans first.pass.seen mid.pass.seen last.pass.seen c.log-answer.ensures.became.seen c.show.ensures.seen in
     let asked : IsOlder c.args.seer.now.seen last.pass.seen = subst (λ p. IsOlder c.args.seer.now.seen p) c.show.ensures.same (sees_on c.args.seer.now c.log-answer.new.seer c.show.new.seer c.log-answer.ensures.seer c.show.ensures.seer).older in
     let told : c.args.aborted.now ≡ listed last.pass.seen top = c.requires.listed ∙ sym (listed_stays setting c.args.seer.now.seen last.pass.seen top asked legal c.requires.ready) in
-    let own : first.pass.mine ≡ entries_of ledger_seat first.pass.seen = c.known.ensures.mine first.live ∙ ap (λ n. entries_of n first.pass.seen) first.number in
+    let own : first.pass.mine ≡ entries_of ledger_seat first.pass.seen = (known_again setting first.pass first.known).mine first.live ∙ ap (λ n. entries_of n first.pass.seen) first.number in
     let f = listed last.pass.seen in
-    let was = over_seen setting first.pass last.pass.seen before first.shelf seen legal c.known.ensures.legal own first.may over in
+    let was = over_seen setting first.pass last.pass.seen before first.shelf seen legal (known_again setting first.pass first.known).legal own first.may over in
     let had = grown_more since before (AreTopsBy (listed first.pass.seen) first.pass.seen) (AreTopsBy f first.pass.seen) (g.D.Disk.view first.shelf.journal.disk)
-    (λ bodies are. tops_retold setting first.pass.seen last.pass.seen seen legal c.known.ensures.legal bodies are) grown in
+    (λ bodies are. tops_retold setting first.pass.seen last.pass.seen seen legal (known_again setting first.pass first.known).legal bodies are) grown in
     let now : TopsGrow f before since mid.shelf mid.pass.seen = c.log-answer.ensures.became.grown f before since told was had in
     tops_on f before since mid.shelf last.shelf mid.pass.seen last.pass.seen (ap journal_in c.show.ensures.shelf) c.show.ensures.seen now
 
@@ -79,17 +80,17 @@ returns-clause-full g c = λ had.
     let mid = c.log-answer.new.self in
     let last = c.show.new.self in
     let top = c.args.top.now in
-    let legal : Legal setting last.pass.seen = c.known-3.ensures.legal in
+    let legal : Legal setting last.pass.seen = (known_again setting last.pass last.known).legal in
     let seen : IsOlder first.pass.seen last.pass.seen = older_trans first.pass.seen mid.pass.seen last.pass.seen c.log-answer.ensures.became.seen c.show.ensures.seen in
     let asked : IsOlder c.args.seer.now.seen last.pass.seen = subst (λ p. IsOlder c.args.seer.now.seen p) c.show.ensures.same (sees_on c.args.seer.now c.log-answer.new.seer c.show.new.seer c.log-answer.ensures.seer c.show.ensures.seer).older in
     let told : c.args.aborted.now ≡ listed last.pass.seen top = c.requires.listed ∙ sym (listed_stays setting c.args.seer.now.seen last.pass.seen top asked legal c.requires.ready) in
-    let own : first.pass.mine ≡ entries_of ledger_seat first.pass.seen = c.known.ensures.mine first.live ∙ ap (λ n. entries_of n first.pass.seen) first.number in
+    let own : first.pass.mine ≡ entries_of ledger_seat first.pass.seen = (known_again setting first.pass first.known).mine first.live ∙ ap (λ n. entries_of n first.pass.seen) first.number in
     let f = listed last.pass.seen in
     let place = place_of (journal_in first.shelf) in
     let later = place_of (journal_in mid.shelf) in
     let most = limit_of (journal_in first.shelf) in
     let was : HadNoRoom f place most first.pass.mine = subst (λ p. HadNoRoom f place most p) (sym own)
-    (room_retold setting first.pass.seen last.pass.seen seen legal c.known.ensures.legal place most (subst (λ p. HadNoRoom (listed first.pass.seen) place most p) own had)) in
+    (room_retold setting first.pass.seen last.pass.seen seen legal (known_again setting first.pass first.known).legal place most (subst (λ p. HadNoRoom (listed first.pass.seen) place most p) own had)) in
     let now : HadNoRoom f later most mid.pass.mine = log_room f (top_in first.shelf) top first.pass.mine mid.pass.mine place later most c.log-answer.ensures.became.place was c.log-answer.result (logged_enters c.log-answer.result c.args.top.now (ledger_state c.args.ledger.now) (ledger_state c.log-answer.new.self) c.log-answer.ensures.logged) c.log-answer.ensures.refused
     (λ at is. let full = c.log-answer.ensures.full at is in
     subst (λ n. IsTooLong n most (told_body f top)) (sym full.0.at) (subst (λ l. IsTooLong at most (top_body top l)) told full.1)) in
@@ -103,7 +104,7 @@ pub returns-clause-refused : goal.returns-clause-refused
 returns-clause-refused g c =
     let mid = c.log-answer.new.self.pass in
     refused_still c.log-answer.result mid.seen c.show.new.seer.seen mid.mine c.args.ledger.now.pass.mine _ c.args.top.now
-    (c.known-2.ensures.mine c.log-answer.new.self.live ∙ ap (λ n. entries_of n mid.seen) c.log-answer.new.self.number)
+    ((known_again (setting_of g.N.Store.table g.N.Store.base) mid c.log-answer.new.self.known).mine c.log-answer.new.self.live ∙ ap (λ n. entries_of n mid.seen) c.log-answer.new.self.number)
     (subst (λ p. IsOlder mid.seen p) (sym c.show.ensures.same) c.show.ensures.seen) c.show.ensures.bounded c.log-answer.ensures.room c.log-answer.ensures.refused
 
 pub returns-clause-seer : goal.returns-clause-seer

@@ -10,12 +10,12 @@ pub invariant_of-self : goal.invariant_of-self
 invariant_of-self g c =
     let line = c.args.self.now in
     let setting = setting_of g.N.Store.table g.N.Store.base in
-    let w = c.log_top-logged.new.pass in
-    let walk = of_seen line.pass w line.client (known_again setting line.pass line.known).mine c.known.ensures.mine c.log_top-logged.ensures.pass in
-    let still = none_still setting line.pass w line.client c.known.ensures (g.L.Link.view (link_of line.courier)).plan (held_of line.courier) line.patience line.torn line.held line.keeps walk in
+    let w = c.log_top.new.pass in
+    let walk = of_seen line.pass w line.client (known_again setting line.pass line.known).mine c.log_top.ensures.known.mine c.log_top.ensures.pass in
+    let still = none_still setting line.pass w line.client c.log_top.ensures.known (g.L.Link.view (link_of line.courier)).plan (held_of line.courier) line.patience line.torn line.held line.keeps walk in
     record { client = still.0; known = still.1; held = still.2; keeps = still.3 }
 
 pub returns-clause-walk : goal.returns-clause-walk
 returns-clause-walk g c =
     let line = c.args.self.now in
-    of_seen line.pass c.log_top-logged.new.pass line.client (known_again (setting_of g.N.Store.table g.N.Store.base) line.pass line.known).mine c.known.ensures.mine c.log_top-logged.ensures.pass
+    of_seen line.pass c.log_top.new.pass line.client (known_again (setting_of g.N.Store.table g.N.Store.base) line.pass line.known).mine c.log_top.ensures.known.mine c.log_top.ensures.pass

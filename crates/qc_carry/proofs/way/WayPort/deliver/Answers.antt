@@ -15,7 +15,7 @@ serve-served-requires-clause-copy g c =
     (asked_fits (setting_of g.N.Store.table g.N.Store.base) seen ask.access (record { seat = there.0; ask = ask }) c.args.self.now.system.now.proper (known_again (setting_of g.N.Store.table g.N.Store.base) c.args.self.now.pass c.args.self.now.known).legal there.1).is_copy
 
 pub invariant_of-self : goal.invariant_of-self
-invariant_of-self g c = record { found = λ full. c.serve-served.ensures.room (c.is_full-self.ensures.room full); known = ∣ c.known.ensures ∣₁ }
+invariant_of-self g c = record { found = λ full. c.serve-served.ensures.room (c.is_full-self.ensures.room full); known = ∣ c.serve-served.ensures.known ∣₁ }
 
 pub returns-in-Ok-clause-may : goal.returns-in-Ok-clause-may
 returns-in-Ok-clause-may g c = λ other h. asked_later c.args.self.now.pass.seen c.serve-served.new.seer.seen other c.serve-served.ensures.seer.older h

@@ -18,6 +18,7 @@ invariant_of-self g c =
       number = kept.number ∙ c.args.self.now.number;
       out = kept.out ∙ c.args.self.now.out;
       kin = kept.kin ∙ c.args.self.now.kin;
+      known = ∣ c.ended-how.ensures.known ∣₁;
       may = λ top here. kept.still top (c.args.self.now.may top here);
     }
 
@@ -31,7 +32,7 @@ returns-clause-may g c =
     let new = c.ended-how.new.pass in
     let first = ready_stays asked.seen shown.seen top (shown_kept asked shown c.show.ensures.pass).older c.requires.ready in
     let here = subst (λ (p : Past). is_ready p top ≡ true) (sym c.show.ensures.same) first in
-    may_first new top c.is_some.result c.requires.is_top (ready_stays mid.seen new.seen top (shown_kept mid new c.ended-how.ensures.looked).older here) (c.known.ensures.mine ((kept_on old mid new (shown_kept old mid c.show.ensures.seer) (shown_kept mid new c.ended-how.ensures.looked)).live ∙ c.args.self.now.live)) (c.is_some.ensures ∙ ap is_some c.ended-how.ensures.end)
+    may_first new top c.is_some.result c.requires.is_top (ready_stays mid.seen new.seen top (shown_kept mid new c.ended-how.ensures.looked).older here) (c.ended-how.ensures.known.mine ((kept_on old mid new (shown_kept old mid c.show.ensures.seer) (shown_kept mid new c.ended-how.ensures.looked)).live ∙ c.args.self.now.live)) (c.is_some.ensures ∙ ap is_some c.ended-how.ensures.end)
 
 pub returns-clause-own : goal.returns-clause-own
 returns-clause-own g c =
@@ -39,7 +40,7 @@ returns-clause-own g c =
     let mid = c.show.new.seer in
     let new = c.ended-how.new.pass in
     let kept = kept_on old mid new (shown_kept old mid c.show.ensures.seer) (shown_kept mid new c.ended-how.ensures.looked) in
-    c.known.ensures.mine (kept.live ∙ c.args.self.now.live) ∙ ap (λ n. entries_of n new.seen) (kept.number ∙ c.args.self.now.number)
+    c.ended-how.ensures.known.mine (kept.live ∙ c.args.self.now.live) ∙ ap (λ n. entries_of n new.seen) (kept.number ∙ c.args.self.now.number)
 
 pub returns-clause-next : goal.returns-clause-next
-returns-clause-next g c = may_next (setting_of g.N.Store.table g.N.Store.base) c.ended-how.new.pass c.args.top.now c.is_some.result c.known.ensures.legal (returns-clause-own g c) (returns-clause-may g c)
+returns-clause-next g c = may_next (setting_of g.N.Store.table g.N.Store.base) c.ended-how.new.pass c.args.top.now c.is_some.result c.ended-how.ensures.known.legal (returns-clause-own g c) (returns-clause-may g c)

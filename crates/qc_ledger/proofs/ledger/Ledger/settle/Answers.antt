@@ -5,8 +5,8 @@ use Rattle.qc_desk.specs.Entries.{IsOlder}
 use Rattle.qc_ledger.proofs.Passes.{may_still}
 use Rattle.qc_ledger.proofs.ledger.Ledger.settle.Goals as goal
 
-pub invariant_of-self-in_err-finish-1 : goal.invariant_of-self-in_err-finish-1
-invariant_of-self-in_err-finish-1 g c =
+pub invariant_of-self : goal.invariant_of-self
+invariant_of-self g c =
     let old = c.args.self.now.pass in
     let mid = c.note-seer.new.pass in
     let new = c.finish.new.pass in
@@ -19,5 +19,6 @@ invariant_of-self-in_err-finish-1 g c =
       number = ap (λ (v : View). v.number) is ∙ ap (λ (v : View). v.number) same ∙ c.args.self.now.number;
       out = ap (λ (v : View). v.out) is ∙ ap (λ (v : View). v.out) same ∙ c.args.self.now.out;
       kin = ap (λ (v : View). v.kin) is ∙ ap (λ (v : View). v.kin) same ∙ c.args.self.now.kin;
+      known = ∣ c.finish.ensures.known.0 ∣₁;
       may = λ top here. may_still old new top (ap (λ (v : View). v.mine) is ∙ ap (λ (v : View). v.mine) same) older (c.args.self.now.may top here);
     }

@@ -11,5 +11,6 @@ invariant_of-self g c =
       number = kept.number ∙ c.args.self.now.number;
       out = kept.out ∙ c.args.self.now.out;
       kin = kept.kin ∙ c.args.self.now.kin;
+      known = ∣ c.show.ensures.known.1 ∣₁;
       may = λ top here. kept.still top (c.args.self.now.may top here);
     }

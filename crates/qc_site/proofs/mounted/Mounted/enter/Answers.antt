@@ -30,10 +30,13 @@ new-requires g c =
             (
               c.requires.none_joined,
               (
-                nothing,
+                c.known.ensures,
                 (
-                  start ∙ c.requires.start,
-                  subst (λ (row : List Tuple). IsTableOf row c.args.pass.seen g.row.C c.into_parts-start.result.1) (sym start) (c.into_parts-start.ensures.locks c.args.pass.seen g.row.C nothing),
+                  nothing,
+                  (
+                    start ∙ c.requires.start,
+                    subst (λ (row : List Tuple). IsTableOf row c.args.pass.seen g.row.C c.into_parts-start.result.1) (sym start) (c.into_parts-start.ensures.locks c.args.pass.seen g.row.C nothing),
+                  ),
                 ),
               ),
             ),

@@ -9,14 +9,14 @@ pub invariant_of-self : goal.invariant_of-self
 invariant_of-self g c =
     let setting = setting_of g.N.Store.table g.N.Store.base in
     let was = c.self.invariant in
-    kept_on setting g.row.C c.self.inside.pass _ c.known.ensures.legal
-    (looked_none setting g.row.C c.self.inside.pass _ was.number c.known.ensures.legal (shown_looked c.self.inside.pass _ was.live c.grants-given.ensures.looked))
-    c.self.inside.start.items c.self.inside.locks c.self.inside.hand was
+    kept_on setting g.row.C c.self.inside.pass _ c.grants.ensures.known.legal
+    (looked_none setting g.row.C c.self.inside.pass _ was.number c.grants.ensures.known.legal (shown_looked c.self.inside.pass _ was.live c.grants.ensures.looked))
+    c.grants.ensures.known c.self.inside.start.items c.self.inside.locks c.self.inside.hand was
 
 pub returns-clause-looks : goal.returns-clause-looks
 returns-clause-looks g c =
     let setting = setting_of g.N.Store.table g.N.Store.base in
     let was = c.self.invariant in
-    let looked = shown_looked c.self.inside.pass _ was.live c.grants-given.ensures.looked in
-    only_looks setting g.row.C c.args.self.now _ c.self.inside.pass (ap (λ (x : Standing). x.pass) c.self.view_is) c.known.ensures.legal
-    (looked_none setting g.row.C c.self.inside.pass _ was.number c.known.ensures.legal looked) (ap (λ (x : View). x.mine) looked.1)
+    let looked = shown_looked c.self.inside.pass _ was.live c.grants.ensures.looked in
+    only_looks setting g.row.C c.args.self.now _ c.self.inside.pass (ap (λ (x : Standing). x.pass) c.self.view_is) c.grants.ensures.known.legal
+    (looked_none setting g.row.C c.self.inside.pass _ was.number c.grants.ensures.known.legal looked) (ap (λ (x : View). x.mine) looked.1)

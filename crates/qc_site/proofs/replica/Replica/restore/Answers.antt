@@ -4,6 +4,7 @@ use Rattle.qc_config.specs.declared.tuple.Tuple.{Tuple}
 use Rattle.qc_event.specs.declared.event.Grant.{Grant}
 use Rattle.qc_event.specs.History.{grants}
 use Rattle.qc_event.specs.Tables.{setting_of}
+use Rattle.qc_desk.proofs.Known.{known_again}
 use Rattle.qc_moss.specs.Follows.{Follows}
 use Rattle.qc_site.specs.Replica.{Standing}
 use Rattle.qc_site.proofs.Again.{grants_within}
@@ -16,7 +17,7 @@ replay_locks-requires g c =
     let was = c.self.invariant in
     subst (λ (gs : List Grant). All (λ (x : Grant). x.rec < length c.in_ok-to_vec.field-0.items) gs) (sym (c.requires.given ∙ sym (ap (λ (x : Standing). grants x.pass.seen g.row.C) c.self.view_is)))
     (subst (λ (row : List Tuple). All (λ (x : Grant). x.rec < length row) (grants c.self.inside.pass.seen g.row.C)) (sym (c.in_ok-to_vec.ensures.items_if_clones_equal (λ x y is. is) ∙ c.deref.ensures.value ∙ was.starts))
-    (grants_within setting c.self.inside.pass.seen g.row.C c.requires.proper c.known.ensures.legal))
+    (grants_within setting c.self.inside.pass.seen g.row.C c.requires.proper (known_again setting c.self.inside.pass was.known).legal))
 
 pub invariant_of-self : goal.invariant_of-self
 invariant_of-self g c =

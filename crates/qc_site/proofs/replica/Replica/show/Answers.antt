@@ -2,21 +2,26 @@ use Rattle.std.proofs.Common.{ap}
 use Rattle.qc_desk.specs.declared.view.View.{View}
 use Rattle.qc_site.specs.Replica.{Standing}
 use Rattle.qc_event.specs.Tables.{setting_of}
-use Rattle.qc_site.proofs.Replicas.{kept_on, looked_none, only_looks, shown_looked}
+use Rattle.qc_site.proofs.Replicas.{kept_on, leaves_known, looked_none, only_looks, shown_looked}
 use Rattle.qc_site.proofs.replica.Replica.show.Goals as goal
 
 pub invariant_of-self : goal.invariant_of-self
 invariant_of-self g c =
     let setting = setting_of g.N.Store.table g.N.Store.base in
     let was = c.self.invariant in
-    kept_on setting g.row.C c.self.inside.pass _ c.known.ensures.legal
-    (looked_none setting g.row.C c.self.inside.pass _ was.number c.known.ensures.legal (shown_looked c.self.inside.pass _ was.live c.show.ensures.pass))
-    c.self.inside.start.items c.self.inside.locks c.self.inside.hand was
+    kept_on setting g.row.C c.self.inside.pass _ c.show.ensures.known.0.legal
+    (looked_none setting g.row.C c.self.inside.pass _ was.number c.show.ensures.known.0.legal (shown_looked c.self.inside.pass _ was.live c.show.ensures.pass))
+    c.show.ensures.known.0 c.self.inside.start.items c.self.inside.locks c.self.inside.hand was
 
 pub returns-clause-looks : goal.returns-clause-looks
 returns-clause-looks g c =
     let setting = setting_of g.N.Store.table g.N.Store.base in
     let was = c.self.invariant in
     let looked = shown_looked c.self.inside.pass _ was.live c.show.ensures.pass in
-    only_looks setting g.row.C c.args.self.now _ c.self.inside.pass (ap (λ (x : Standing). x.pass) c.self.view_is) c.known.ensures.legal
-    (looked_none setting g.row.C c.self.inside.pass _ was.number c.known.ensures.legal looked) (ap (λ (x : View). x.mine) looked.1)
+    only_looks setting g.row.C c.args.self.now _ c.self.inside.pass (ap (λ (x : Standing). x.pass) c.self.view_is) c.show.ensures.known.0.legal
+    (looked_none setting g.row.C c.self.inside.pass _ was.number c.show.ensures.known.0.legal looked) (ap (λ (x : View). x.mine) looked.1)
+
+pub returns-clause-known : goal.returns-clause-known
+returns-clause-known g c =
+    let kept = invariant_of-self g c in
+    leaves_known (setting_of g.N.Store.table g.N.Store.base) g.row.C c.show.new.pass c.show.new.seer kept.live kept.number c.show.ensures.known

@@ -28,6 +28,11 @@ returns-clause-served g c =
       shown = elim c.append.ensures.same [ inl none ↦ absurd (let never = sym hand ∙ none in cc) | inr same ↦ same ];
     }
 
+pub returns-clause-known : goal.returns-clause-known
+returns-clause-known g c =
+    let hand = c.in_ok-write.ensures.hand ∙ c.requires.hand in
+    elim c.in_ok-append.ensures.known [ inl none ↦ absurd (let never = sym hand ∙ none in cc) | inr known ↦ known ]
+
 pub returns-clause-became : goal.returns-clause-became
 returns-clause-became g c =
     let setting = setting_of g.N.Store.table g.N.Store.base in

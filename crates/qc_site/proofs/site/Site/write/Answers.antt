@@ -29,7 +29,7 @@ returns-in-Ok-clause-became g c =
     let old = c.args.self.now in
     let disk = disk_of (journal_in old.log) in
     wrote (setting_of g.N.Store.table g.N.Store.base) g.row.C c.args.ask.now c.args.tuple.now c.grant_of.result c.grant_of.ensures (site_state old) _
-    (g.met.D.Disk.reads_as_image disk) (up_by (journal_in old.log).state (old.journal c.requires.up)) old.copies (subst (λ o. IfSome o (MayGrant (setting_of g.N.Store.table g.N.Store.base) old.replica.pass.seen (copy_seat g.row.C) g.row.C)) (c.requires.hand ∙ ap (λ x. Some x) (sym c.grant_of.ensures)) c.known.ensures.may)
+    (g.met.D.Disk.reads_as_image disk) (up_by (journal_in old.log).state (old.journal c.requires.up)) old.copies (subst (λ o. IfSome o (MayGrant (setting_of g.N.Store.table g.N.Store.base) old.replica.pass.seen (copy_seat g.row.C) g.row.C)) (c.requires.hand ∙ ap (λ x. Some x) (sym c.grant_of.ensures)) c.requires.may)
     c.write.ensures.any_moment c.write.ensures.grows refl refl c.write.ensures.limit
     (λ before k. same_over before c.write.new.self _ _ _ _ refl (c.requires.hand ∙ ap (λ x. Some x) (sym c.grant_of.ensures)) (c.in-Ok.ensures.over before _ k))
 
@@ -39,7 +39,7 @@ returns-in-Err-clause-became g c =
     let disk = disk_of (journal_in old.log) in
     let same = ap (λ (v : View). grants v.seen g.row.C) c.fall.ensures.pass in
     wrote (setting_of g.N.Store.table g.N.Store.base) g.row.C c.args.ask.now c.args.tuple.now c.grant_of.result c.grant_of.ensures (site_state old) _
-    (g.met.D.Disk.reads_as_image disk) (up_by (journal_in old.log).state (old.journal c.requires.up)) old.copies (subst (λ o. IfSome o (MayGrant (setting_of g.N.Store.table g.N.Store.base) old.replica.pass.seen (copy_seat g.row.C) g.row.C)) (c.requires.hand ∙ ap (λ x. Some x) (sym c.grant_of.ensures)) c.known.ensures.may)
+    (g.met.D.Disk.reads_as_image disk) (up_by (journal_in old.log).state (old.journal c.requires.up)) old.copies (subst (λ o. IfSome o (MayGrant (setting_of g.N.Store.table g.N.Store.base) old.replica.pass.seen (copy_seat g.row.C) g.row.C)) (c.requires.hand ∙ ap (λ x. Some x) (sym c.grant_of.ensures)) c.requires.may)
     c.write.ensures.any_moment c.write.ensures.grows refl c.fall.ensures.pass c.write.ensures.limit
     (λ before k. elim c.fall.ensures.either [
       | inl u ↦ same_over before c.write.new.self _ _ None _ same u.1 (c.in-Err.ensures.idle u.0 before _ k)

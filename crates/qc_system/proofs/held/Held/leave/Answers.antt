@@ -22,7 +22,7 @@ returns-clause-kept g c =
     let first = g.N.Mounting.first (g.row.C + 1) in
     let disk = sym (c.into_disk.ensures ∙ ap (λ b. b.disk.value) c.into_parts-disk.ensures.disk) in
     let pass = sym c.into_parts-disk.ensures.pass in
-    let own : out.mine ≡ entries_of (copy_seat g.row.C) out.seen = c.known.ensures.mine c.into_parts-disk.ensures.copy.0 ∙ ap (λ n. entries_of n out.seen) c.into_parts-disk.ensures.copy.1 in
+    let own : out.mine ≡ entries_of (copy_seat g.row.C) out.seen = c.into_parts-disk.ensures.known.mine c.into_parts-disk.ensures.copy.0 ∙ ap (λ n. entries_of n out.seen) c.into_parts-disk.ensures.copy.1 in
     record {
       kept = ∥∥₁_map c.args.self.keeps (λ k told.
           subst (λ d. KeepsGrants setting (length g.N.Store.base) g.row.C before (g.D.Disk.view d).may_leave out.seen) disk

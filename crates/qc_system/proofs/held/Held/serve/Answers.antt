@@ -55,7 +55,7 @@ invariant_of-self-in-Err g c =
 pub returns-in-Ok-clause-answered : goal.returns-in-Ok-clause-answered
 returns-in-Ok-clause-answered g c =
     subst (λ p. HasAnswered g.row.C p c.args.ask.now c.in-Ok.answered) (sym c.in-Ok.ensures.served.shown)
-    (answer_stands g.row.C c.args.ask.now c.args.self.now.site.replica c.serve.new.self.replica c.in-Ok.answered c.known.ensures.mine (λ tuple is. (subst (AnswerRests g.row.C c.args.ask.now (site_state c.serve.new.self)) is c.in-Ok.ensures.served.rests).1) c.in-Ok.ensures.served.enters)
+    (answer_stands g.row.C c.args.ask.now c.args.self.now.site.replica c.serve.new.self.replica c.in-Ok.answered c.in-Ok.ensures.known.own (λ tuple is. (subst (AnswerRests g.row.C c.args.ask.now (site_state c.serve.new.self)) is c.in-Ok.ensures.served.rests).1) c.in-Ok.ensures.served.enters)
 
 pub returns-in-Err-clause-room : goal.returns-in-Err-clause-room
 returns-in-Err-clause-room g c = λ is.

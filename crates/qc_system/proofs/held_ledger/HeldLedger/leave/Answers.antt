@@ -29,11 +29,11 @@ returns-clause-kept g c =
     let first = g.N.Mounting.first 0 in
     let disk = sym (c.into_disk.ensures ∙ ap (λ b. b.disk.value) c.into_parts-disk.ensures.disk) in
     let same = sym c.into_parts-disk.ensures.pass in
-    let own : pass.mine ≡ entries_of ledger_seat pass.seen = c.known.ensures.mine c.into_parts-disk.ensures.ledger.0 ∙ ap (λ n. entries_of n pass.seen) c.into_parts-disk.ensures.ledger.1 in
+    let own : pass.mine ≡ entries_of ledger_seat pass.seen = c.into_parts-disk.ensures.known.mine c.into_parts-disk.ensures.ledger.0 ∙ ap (λ n. entries_of n pass.seen) c.into_parts-disk.ensures.ledger.1 in
     record {
       kept = ∥∥₁_map c.args.self.keeps (λ k told.
           subst (λ d. KeepsTops before (g.D.Disk.view d).may_leave pass.seen) disk
-          (keeps_tops setting before ledger.shelf pass c.known.ensures.legal own c.into_parts-disk.ensures.may
+          (keeps_tops setting before ledger.shelf pass c.into_parts-disk.ensures.known.legal own c.into_parts-disk.ensures.may
           (subst (λ (v : View). TopsSince (g.N.Mounting.told 0) before first ledger.shelf v) same k told).0));
       grown = ∥∥₁_map c.args.self.keeps (λ k told.
           subst (λ d. GrownFrom first before (AreTopsBy (listed pass.seen) pass.seen) (g.D.Disk.view d)) disk (subst (λ (v : View). TopsSince (g.N.Mounting.told 0) before first ledger.shelf v) same k told).1);

@@ -1,0 +1,7 @@
+-- Its pass is known.
+use Rattle.qc_desk.proofs.Known.{known_again}
+use Rattle.qc_event.specs.Tables.{setting_of}
+use Rattle.qc_site.proofs.replica.Replica.into_pass.Goals as goal
+
+pub returns-clause-known : goal.returns-clause-known
+returns-clause-known g c = known_again (setting_of g.N.Store.table g.N.Store.base) c.self.inside.pass c.self.invariant.known
