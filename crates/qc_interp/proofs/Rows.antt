@@ -28,6 +28,7 @@ pub mod Deeds
 pub mod Here
 pub mod Stands
 pub mod Outcome
+pub mod Idle
 pub mod Runs
 pub mod Later
 pub mod Asked

@@ -1,5 +1,5 @@
 -- Children at once: which deeds are the tries of a row of branches, and how these stand.
-use Rattle.std.specs.Prelude.{ℕ, ◌==◌, ◌⊎◌, Bool, true, false, not, ◌&&◌, ◌||◌, if◌then◌else◌, IsTrue, List, [], ◌∷◌, Option, None, Some}
+use Rattle.std.specs.Prelude.{ℕ, ◌==◌, ◌⊎◌, Bool, true, false, not, ◌&&◌, ◌||◌, if◌then◌else◌, IsTrue, List, [], ◌∷◌, length, Option, None, Some}
 use Rattle.std.proofs.Common.{zero, suc}
 use Rattle.std.specs.List.{list_all, list_any, filter, last_or}
 use Rattle.std.specs.Option.{option_or, option_map_or}
@@ -13,7 +13,7 @@ use Rattle.qc_event.specs.History.{Past, Name, earliest, same, kind_of}
 use Rattle.qc_script.specs.Client.{is_commit}
 use Rattle.qc_script.specs.Numbers.{each}
 use Rattle.qc_script.specs.Plan.{Plan}
-use Rattle.qc_interp.specs.Deeds.{Deed, deed_end}
+use Rattle.qc_interp.specs.Deeds.{Deed, deeds, deed_end}
 use Rattle.qc_interp.specs.Tries.{is_tried_again}
 use Rattle.qc_interp.specs.Turns.{is_done, seat_of, is_beside}
 
@@ -113,27 +113,41 @@ abbrev pub each_own_seat : Past → Plan → List Deed → Bool
 each_own_seat past (Plan.child_then number tries must inner others) ds = keeps_own_seat past (tries_among past number ds) && each_own_seat past others ds
 each_own_seat past _ ds = true
 
--- WHAT COMES BEHIND A ROW
+-- WHAT STARTS WHEN
 
 -- whether what a transaction did is done
 abbrev pub deed_done : Past → Deed → Bool
 deed_done past (Deed.child c) = is_done past c
 deed_done past (Deed.mark m) = true
 
--- whether an entry starts a name only once all of some deeds are done
-abbrev pub starts_once_done : List Deed → Name → Entry → Past → Bool
-starts_once_done ds n e past = not (starts n e.event) || list_all (deed_done past) ds
+-- whether a child has done nothing so far, and is not done
+abbrev pub deed_idle : Past → Deed → Bool
+deed_idle past (Deed.child c) = length (deeds past c) == 0 && not (is_done past c)
+deed_idle past (Deed.mark m) = true
+
+-- whether an entry starts a name only where some deeds pass a test
+abbrev pub starts_where : (Past → Deed → Bool) → List Deed → Name → Entry → Past → Bool
+starts_where passes ds n e past = not (starts n e.event) || list_all (passes past) ds
+
+-- whether the next child starts only where some deeds pass a test
+abbrev pub next_starts : (Past → Deed → Bool) → Past → List Deed → List Deed → Bool
+next_starts passes past ds (Deed.child c ∷ further) = each (starts_where passes ds c) past
+next_starts passes past ds further = true
+
+-- whether the first try of each branch starts before one of some deeds has done anything
+abbrev pub begin_first : Past → Plan → List Deed → Bool
+begin_first past (Plan.child_then number tries must inner others) ds = next_starts deed_idle past ds (tries_among past number ds) && begin_first past others ds
+begin_first past _ ds = true
 
 -- whether the next child starts once all of some deeds are done
 abbrev pub is_behind : Past → List Deed → List Deed → Bool
-is_behind past here (Deed.child c ∷ further) = each (starts_once_done here c) past
-is_behind past here further = true
+is_behind past here further = next_starts deed_done past here further
 
--- Deeds are tries of branches at once, each under a seat of its own, and what the transaction does further starts once all
--- of them are done.
+-- Deeds are tries of branches at once, each under a seat of its own. All branches have begun before one of them does
+-- anything, and what the transaction does further starts once all of them are done.
 abbrev pub AreAtOnce : Past → Plan → List Deed → List Deed → Type 0
 AreAtOnce past branches here further =
-    IsTrue (are_tries_at_once past branches here) × IsTrue (each_own_seat past branches here) × IsTrue (is_behind past here further)
+    IsTrue (are_tries_at_once past branches here) × IsTrue (each_own_seat past branches here) × IsTrue (begin_first past branches here) × IsTrue (is_behind past here further)
 
 -- some of the things is so
 abbrev pub OneOf : {A : Type 0} → (A → Type 0) → List A → Type 0

@@ -7,7 +7,7 @@ use Rattle.qc_event.specs.declared.event.How.TheVariants.{Commit}
 use Rattle.qc_event.specs.declared.event.Kind.TheVariants as kind
 use Rattle.qc_script.specs.Plan.{Plan, Numbered}
 use Rattle.rows_laws.specs.Branches.{third_child, read_then_done, begins, looks, reads, fails, goes_on}
-use Rattle.rows_laws.specs.Trails.{client, other_client, x, top, first_child, second_child, by, user, body_of}
+use Rattle.rows_laws.specs.Trails.{client, other_client, third_client, x, top, first_child, second_child, by, user, body_of}
 use Rattle.rows_laws.specs.Values.{commits}
 
 -- BODIES
@@ -58,7 +58,31 @@ at_once seat =
     ++ reads other_client first_child
     ++ goes_on third_child
 
--- the second runs once the first has ended
+-- both begin, the second under this seat, and then run one after the other
+abbrev pub in_turn : ℕ → List Entry
+in_turn seat =
+    user client top
+    ∷ begins other_client first_child 1
+    ∷ begins seat second_child 2
+    ∷ looks other_client first_child
+    ∷ reads other_client first_child
+    ++ looks seat second_child
+    ∷ reads seat second_child
+    ++ goes_on third_child
+
+-- the second begins once the first has started its read
+abbrev pub begins_late : List Entry
+begins_late =
+    user client top
+    ∷ begins other_client first_child 1
+    ∷ looks other_client first_child
+    ∷ begins third_client second_child 2
+    ∷ looks third_client second_child
+    ∷ reads third_client second_child
+    ++ reads other_client first_child
+    ++ goes_on third_child
+
+-- the second begins once the first has ended
 abbrev pub in_a_row : ℕ → List Entry
 in_a_row seat =
     user client top

@@ -268,8 +268,9 @@ pub fn goes_by_branches()
 {}
 
 /// None of these follows its body: a top that goes on though a branch was left out, or one that must commit failed; one
-/// with a branch that is tried again before the other has begun, or though it committed; and one with a branch that reads
-/// though the other was not begun.
+/// with a branch that is tried again before the other has begun, or though it committed; one with a branch that begins
+/// only once the other has started its read, or has ended; and one with a branch that reads though the other was not
+/// begun.
 pub fn goes_by_no_other_branch()
     ensures left_out { FollowsBodies 0 (reverse branches.one_left_out) (branches.two_read false)
         (trails.top ∷ []) → ⊥ }
@@ -279,6 +280,11 @@ pub fn goes_by_no_other_branch()
         (branches.two_read false) (trails.top ∷ []) → ⊥ }
     ensures too_often { FollowsBodies 0 (reverse branches.tried_too_often)
         (branches.two_read false) (trails.top ∷ []) → ⊥ }
+    ensures begins_late { FollowsBodies 0 (reverse seats.begins_late) seats.both
+        (trails.top ∷ []) → ⊥ }
+    ensures begins_at_last { FollowsBodies 0 (reverse (seats.in_a_row trails.third_client))
+        seats.both
+        (trails.top ∷ []) → ⊥ }
     ensures ran_alone { FollowsBodies 0
         (reverse (branches.turned_back branches.read_meanwhile))
         (branches.two_read true) (trails.top ∷ []) → ⊥ }
@@ -313,17 +319,19 @@ pub fn runs_not_together()
         (reverse two.aborts_the_other) → ⊥ }
 {}
 
-/// Branches run at once or one after the other, each under a seat of its own, and each is tried again under its seat;
-/// those of the next step begin once those of the first are done. So the session runs in turn, and follows its bodies.
+/// Branches begin, and then run at once or one after the other, each under a seat of its own, and each is tried again
+/// under its seat; those of the next step begin once those of the first are done. So the session runs in turn, and
+/// follows its bodies.
 pub fn runs_branches()
     ensures at_once { RunsInTurn 0 (reverse (seats.at_once trails.third_client)) }
     ensures at_once_followed { FollowsBodies 0 (reverse (seats.at_once trails.third_client))
         seats.both
         (trails.top ∷ []) }
-    ensures in_a_row { RunsInTurn 0 (reverse (seats.in_a_row trails.third_client)) }
-    ensures in_a_row_followed { FollowsBodies 0 (reverse (seats.in_a_row trails.third_client))
+    ensures in_turn { RunsInTurn 0 (reverse (seats.in_turn trails.third_client)) }
+    ensures in_turn_followed { FollowsBodies 0 (reverse (seats.in_turn trails.third_client))
         seats.both
         (trails.top ∷ []) }
+    ensures steps { RunsInTurn 0 (reverse (seats.in_a_row trails.third_client)) }
     ensures steps_followed { FollowsBodies 0 (reverse (seats.in_a_row trails.third_client))
         seats.two_rows
         (trails.top ∷ []) }
@@ -355,9 +363,9 @@ pub fn keeps_no_seats()
         (trails.top ∷ []) → ⊥ }
     ensures reads_elsewhere { FollowsBodies 0 (reverse seats.reads_elsewhere) trails.read_alone
         (trails.top ∷ []) → ⊥ }
-    ensures one_seat { FollowsBodies 0 (reverse (seats.in_a_row trails.other_client)) seats.both
+    ensures one_seat { FollowsBodies 0 (reverse (seats.in_turn trails.other_client)) seats.both
         (trails.top ∷ []) → ⊥ }
-    ensures parents_seat { FollowsBodies 0 (reverse (seats.in_a_row trails.client)) seats.both
+    ensures parents_seat { FollowsBodies 0 (reverse (seats.in_turn trails.client)) seats.both
         (trails.top ∷ []) → ⊥ }
     ensures tried_elsewhere { FollowsBodies 0 (reverse (seats.tried_under trails.third_client))
         seats.one_twice

@@ -15,12 +15,12 @@ use Rattle.qc_interp.specs.Asking.{DoesOn, DoesAfter, DoesInRow, Asks, RowAsks}
 use Rattle.qc_interp.specs.Deeds.{Deed, deeds, deed_end, OfChild}
 use Rattle.qc_interp.specs.Follows.{Stops, HasNotEnded, StopsBefore, WasAsked, WasKilled, WasOrphan, WasTurnedBack, GoesOn, GoesOnAfter, AfterTries, AfterRow, Commits, RunsPlan, RunsRow}
 use Rattle.qc_interp.specs.Reach.{Reach}
-use Rattle.qc_interp.specs.Rows.{AreAtOnce, OneOf, is_of_body, is_try, tries_among, has_committed, each_begun, each_tried, first_failed, opens_seat}
+use Rattle.qc_interp.specs.Rows.{AreAtOnce, OneOf, is_of_body, is_try, tries_among, has_committed, each_begun, each_tried, first_failed, opens_seat, deed_done}
 use Rattle.qc_interp.specs.Tries.{is_tried_again}
 use Rattle.qc_interp.specs.Turns.{seat_of}
 use Rattle.qc_interp.proofs.Listing.Lists.{all_parts}
 use Rattle.qc_interp.proofs.Stepping.Asked.{BranchAsks}
-use Rattle.qc_interp.proofs.Following.Behind.{waits_for, is_behind_alike}
+use Rattle.qc_interp.proofs.Following.Behind.{waits_for, finds_idle, next_alike, first_alike}
 use Rattle.qc_interp.proofs.Scopes.Beside.{IsSameSeat, beside_alike, own_seat_alike}
 use Rattle.qc_interp.proofs.Following.Deeds.{begun, children_are}
 use Rattle.qc_interp.proofs.Rows.SameDeeds.{IsSameTry, OfAnyChild, all_map, all_both, all_among, one_map, failed_is, among_alike, begun_alike, each_alike, at_once_alike, failed_alike}
@@ -31,9 +31,9 @@ use Rattle.qc_interp.proofs.Following.Turning.{itself}
 pub below_child : (a n c : Name) → name.is_ancestor a n ≡ true → is_child n c ≡ true → name.is_ancestor a c ≡ true
 below_child a n c h child = let l = child_last n c child in ap (name.is_ancestor a) l.1 ∙ below_more a n (l.0 ∷ []) h
 
--- one child of a name waits for another by a list of entries, and so it does by another list
+-- one child of a name waits for another by a list of entries, or finds it idle, and so it does by another list
 abbrev pub AreInOrder : Past → Past → Name → Type 0
-AreInOrder p q n = (x y : Name) → is_child n x ≡ true → is_child n y ≡ true → waits_for p x y ≡ true → waits_for q x y ≡ true
+AreInOrder p q n = (x y : Name) → is_child n x ≡ true → is_child n y ≡ true → (waits_for p x y ≡ true → waits_for q x y ≡ true) × (finds_idle p x y ≡ true → finds_idle q x y ≡ true)
 
 -- by two lists of entries the same stands of a name, and of the order of its children
 pub record AgreesAt (p q : Past) (x : Name) : Type 0 where
@@ -109,10 +109,12 @@ module _ (p q : Past) (Low : Name → Type 0) (agrees : (x : Name) → Low x →
   at_once_by : (n : Name) (branches : Plan) (here further : List Deed) → AreInOrder p q n → AllByRecursion (LowChild n) here → AllByRecursion (LowChild n) further → AreAtOnce p branches here further → AreAtOnce q branches here further
   at_once_by n branches here further order low more h =
       let all = all_map _ _ (low_of n) here low in
-      let same = all_map _ _ same_one here all in (
+      let same = all_map _ _ same_one here all in
+      let children = all_map _ _ (child_of n) here low in (
         sym (at_once_alike p q branches here same) ∙ h.0,
         sym (own_seat_alike p q branches here same (all_map _ _ same_seat here all)) ∙ h.1,
-        is_behind_alike p q (λ x. is_child n x ≡ true) order here further (all_map _ _ (child_of n) here low) (all_map _ _ (child_of n) further more) h.2,
+        first_alike p q (λ x. is_child n x ≡ true) (λ x y first second. (order x y first second).1) branches here same children h.2,
+        next_alike deed_done (λ past session. refl) p q (λ x. is_child n x ≡ true) (λ x y first second. (order x y first second).0) here further children (all_map _ _ (child_of n) further more) h.3,
       )
 
   same_commit : (d : Deed) → LowDeed d → has_committed (deed_end p d) ≡ has_committed (deed_end q d)

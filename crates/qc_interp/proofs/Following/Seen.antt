@@ -22,7 +22,7 @@ use Rattle.qc_script.specs.Client.{Client, mine, is_own, scope, concerns, is_com
 use Rattle.qc_interp.specs.Deeds.{Deed, deed_in, deeds}
 use Rattle.qc_interp.specs.Rows.{opens_seat, starts}
 use Rattle.qc_interp.specs.Turns.{is_done, seat_of}
-use Rattle.qc_interp.proofs.Following.Deeds.{Silent, mark_silent, begun, children_are}
+use Rattle.qc_interp.proofs.Following.Deeds.{Silent, start_silent, mark_silent, begun, children_are}
 use Rattle.qc_interp.specs.Follows.{WasAsked, WasKilled, RunsPlan}
 use Rattle.qc_interp.specs.Reach.{Reach}
 use Rattle.qc_script.specs.Plan.{Plan}
@@ -33,7 +33,7 @@ use Rattle.qc_interp.proofs.Scopes.Scope.{at_scope, scope_some, not_one, concern
 use Rattle.qc_interp.proofs.Stepping.Ending.{committed_ready}
 use Rattle.qc_interp.proofs.Following.Followed.{plan_committed}
 use Rattle.qc_interp.proofs.Following.Alike.{AgreesAt, AreInOrder, below_child, low_children, plan_alike, plan_asks_alike}
-use Rattle.qc_interp.proofs.Following.Behind.{DropsNothing, starts_is, waits_kept}
+use Rattle.qc_interp.proofs.Following.Behind.{TellsNothing, DropsNothing, starts_is, order_kept}
 use Rattle.qc_interp.proofs.Scopes.Beside.{opens_kept}
 use Rattle.qc_interp.proofs.Rows.SameDeeds.{OfAnyChild}
 use Rattle.std.proofs.lemmas.Bool.{and_parts, false_from_ne_true}
@@ -97,14 +97,27 @@ own_abort c n past x ours is = low_abort c n past ours n (at_scope c n) x is
 
 -- IN WHICH ORDER
 
--- what is not the client's neither ends nor makes ready a name in the scope that is no top, nor starts one
+-- what is not the client's neither ends nor makes ready a name in the scope that is no top, nor starts one, nor does one
+-- anything by it
 module _ (c : Client) (of a b : Name) (low : name.is_ancestor (scope c of) a ≡ true) (apart : (length a == 1) ≡ false) (low_too : name.is_ancestor (scope c of) b ≡ true) where
-  silent : (e : Entry) → (concerns (scope c of) e.event ≡ true → ⊥) → (end_in a e.event ≡ None) × (ready_in a e.event ≡ None) × (starts b e.event ≡ false)
+  silent : (e : Entry) → (concerns (scope c of) e.event ≡ true → ⊥) → TellsNothing a b e.event
   silent e told = (
     unless_some (end_in a e.event) (λ how g. told (subst (λ ev. concerns (scope c of) ev ≡ true) (sym (ending a e.event how g)) (concerns_end (scope c of) a how low (ap (λ t. t && is_commit how) apart)))),
     not_some (ready_in a e.event) (λ g. told (subst (λ ev. concerns (scope c of) ev ≡ true) (sym (marking a e.event g)) (concerns_ready (scope c of) a (inl low)))),
     false_from_ne_true (starts b e.event) (λ g. let s = starts_is b e.event g in told (subst (λ ev. concerns (scope c of) ev ≡ true) (sym s.1) low_too)),
+    does_nothing e.event told,
   )
+    where
+      does_nothing : (ev : Event) → (concerns (scope c of) ev ≡ true → ⊥) → Silent a ev
+      does_nothing (event.Start m k) quiet = start_silent a m k (false_from_ne_true (is_child a m) (λ child. quiet (below_child (scope c of) a m low child)))
+      does_nothing (event.Mark by session) quiet = mark_silent a by session (false_from_ne_true (same by a) (λ g. quiet (ap (name.is_ancestor (scope c of)) (same_is by a g) ∙ low)))
+      does_nothing (event.Ask ask) quiet = λ h. refl
+      does_nothing (event.Gone m why) quiet = λ h. refl
+      does_nothing (event.Granted copy grant) quiet = λ h. refl
+      does_nothing (event.Refused m copy refusal) quiet = λ h. refl
+      does_nothing (event.Unable m why) quiet = λ h. refl
+      does_nothing (event.Ready m) quiet = λ h. refl
+      does_nothing (event.End m how) quiet = λ h. refl
 
   drops_nothing : (past : Past) → all_ours c of past ≡ true → DropsNothing (λ (e : Entry). is_own c e.seat) a b past
   drops_nothing [] ours = tt
@@ -210,9 +223,10 @@ module _ (c : Client) (of : Name) (past : Past) (ours : AreOurs c of past) (lega
   longer (x ∷ n) low = omega arith
 
   in_order : (n : Name) → name.is_ancestor (scope c of) n ≡ true → 0 < length n → AreInOrder made past n
-  in_order n low long x y child other h =
+  in_order n low long x y child other =
       let apart : (length x == 1) ≡ false = not_one x (omega (arith, child_longer n x child, long)) in
-      sym (waits_kept (λ (e : Entry). is_own c e.seat) x y past (drops_nothing c of x y (below_child (scope c of) n x low child) apart (below_child (scope c of) n y low other) past ours)) ∙ h
+      let same = order_kept (λ (e : Entry). is_own c e.seat) x y past (drops_nothing c of x y (below_child (scope c of) n x low child) apart (below_child (scope c of) n y low other) past ours) in
+      (λ h. sym same.0 ∙ h, λ h. sym same.1 ∙ h)
 
   agrees : (x : Name) → Low x → AgreesAt made past x
   agrees x low = record {

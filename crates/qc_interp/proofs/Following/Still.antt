@@ -3,14 +3,15 @@ use Rattle.std.proofs.Common.{◌≡◌, ◌⊎◌, inl, inr, ℕ, zero, suc, Bo
 use mathlib.Core.Bool.{true≢false}
 use Rattle.std.specs.Prelude.{◌==◌, ◌||◌, Option, None, Some, MatchBool, is_some}
 use Rattle.std.specs.List.{AllByRecursion}
-use Rattle.std.specs.Option.{option_map_or}
+use Rattle.std.specs.Option.{option_map, option_map_or}
+use Rattle.std.proofs.lemmas.Bool.{and_parts, and_from}
 use Rattle.qc_event.specs.declared.event.Answer.{Answer}
 use Rattle.qc_event.specs.declared.event.Entry.{Entry}
 use Rattle.qc_event.specs.declared.event.How.{How}
 use Rattle.qc_event.specs.declared.event.How.TheVariants.{Commit, Abort}
 use Rattle.qc_event.specs.Base.{Setting}
 use Rattle.qc_event.specs.declared.event.Kind.{Kind}
-use Rattle.qc_event.specs.History.{Past, Name, end, is_ready, kind_of}
+use Rattle.qc_event.specs.History.{Past, Name, Begun, start, end, is_ready, kind_of}
 use Rattle.qc_event.specs.Legal.{Legal}
 use Rattle.qc_event.proofs.Histories.{earliest-append}
 use Rattle.qc_event.proofs.OneEntry.{stays_some}
@@ -18,14 +19,14 @@ use Rattle.qc_script.specs.Plan.{Plan}
 use Rattle.qc_interp.specs.Deeds.{Deed, deeds, deed_end, OfChild}
 use Rattle.qc_interp.specs.Tries.{Tries, is_tried_again}
 use Rattle.qc_interp.specs.Follows.{StopsEarly, HasNotEnded, StopsBefore, WasOrphan, WasTurnedBack, GoesOn, GoesOnAfter, AfterTries, AfterRow, Commits, RunsRow, FollowsPlan}
-use Rattle.qc_interp.specs.Rows.{AreAtOnce, is_of_body, is_try, tries_among, is_try_in, each_begun, each_tried, first_failed, are_tries_at_once}
+use Rattle.qc_interp.specs.Rows.{AreAtOnce, is_of_body, is_try, tries_among, is_try_in, each_begun, each_tried, first_failed, are_tries_at_once, deed_idle, next_starts, begin_first}
 use Rattle.qc_interp.specs.Turns.{is_beside}
 use Rattle.qc_interp.specs.Reach.{Reach}
-use Rattle.qc_interp.proofs.Following.Behind.{is_behind_still}
+use Rattle.qc_interp.proofs.Following.Behind.{is_behind_still, started_once}
 use Rattle.qc_interp.proofs.Scopes.Beside.{IsSameSeat, beside_later, own_seat_alike, seats_later}
 use Rattle.qc_interp.proofs.Scopes.Mine.{Closed, CommittedSince, how_still, end_some, kind_still, kept_append, some_is}
 use Rattle.qc_interp.proofs.Following.Deeds.{deeds_still}
-use Rattle.qc_interp.proofs.Rows.SameDeeds.{IsSameTry, all_map, all_both, all_each, all_passing, all_passed, among_alike, begun_alike, each_alike, at_once_alike, failed_stays, at_once, unknown_in}
+use Rattle.qc_interp.proofs.Rows.SameDeeds.{IsSameTry, all_map, all_both, all_each, all_passing, all_passed, among_pass, among_alike, begun_alike, each_alike, at_once_alike, failed_stays, at_once, unknown_in}
 use Rattle.qc_interp.proofs.Trying.TriesAlike.{IfAny}
 use Rattle.qc_interp.proofs.Following.Followed.{IsTryBeside, IsRowTry, plan_committed, followed_done, followed_ready, done_closed, row_try_done, turned_ended}
 
@@ -144,6 +145,14 @@ module _ (s : ℕ) (p : Entry → Bool) (setting : Setting) (newer past : Past) 
       by_kind None is = absurd (true≢false (sym h ∙ unknown_in old c branches is))
       by_kind (Some k) is = ap (λ o. option_map_or (is_of_body number) o false) (is ∙ sym (kind_still p setting newer past c k is))
 
+  -- it was started
+  try_started : (number : ℕ) (c : Name) → is_try old number (Deed.child c) ≡ true → is_some (start old c) ≡ true
+  try_started number c h = by_start (start old c) h
+    where
+      by_start : (o : Option Begun) → option_map_or (is_of_body number) (option_map (λ (b : Begun). b.kind) o) false ≡ true → is_some o ≡ true
+      by_start None g = g
+      by_start (Some b) g = refl
+
   same_seat : (branches : Plan) (d : Deed) → is_try_in old branches d ≡ true → IsSameSeat old now d
   same_seat branches (Deed.mark m) h = tt
   same_seat branches (Deed.child c) h = by_kind (kind_of old c) refl
@@ -183,8 +192,20 @@ module _ (s : ℕ) (p : Entry → Bool) (setting : Setting) (newer past : Past) 
       let seats = all_map _ _ (same_seat branches) here (all_passed (is_try_in old branches) here (at_once old branches here h.0).each) in (
         sym (at_once_alike old now branches here tries) ∙ h.0,
         sym (own_seat_alike old now branches here tries seats) ∙ h.1,
-        is_behind_still p setting newer past here further (tries_closed all_begun branches here h.0 runs) h.2,
+        begin_still branches h.2,
+        is_behind_still p setting newer past here further (tries_closed all_begun branches here h.0 runs) h.3,
       )
+    where
+      first_still : (number : ℕ) (ts : List Deed) → AllByRecursion (λ t. is_try old number t ≡ true) ts → next_starts deed_idle old here ts ≡ true → next_starts deed_idle now here ts ≡ true
+      first_still number [] all g = refl
+      first_still number (Deed.mark m ∷ ts) all g = refl
+      first_still number (Deed.child c ∷ ts) all g = started_once deed_idle p setting newer past here c legal (try_started number c all.0) g
+
+      begin_still : (row : Plan) → begin_first old row here ≡ true → begin_first now row here ≡ true
+      begin_still (Plan.child_then number tried must inner others) g =
+          let parts = and_parts (next_starts deed_idle old here (tries_among old number here)) (begin_first old others here) g in
+          and_from _ _ (subst (λ l. next_starts deed_idle now here l ≡ true) (among_alike old now number here tries) (first_still number (tries_among old number here) (among_pass (is_try old number) here) parts.0)) (begin_still others parts.1)
+      begin_still _ g = refl
 
   pub first_failed_still : (n : Name) (branches : Plan) (here further : List Deed) (how : Option How) (Rest : Type 0) → AllByRecursion (IsSameTry old now) here
       → AfterTries Reach.to_the_end old n (first_failed old branches here) true Rest further how → first_failed old branches here ≡ first_failed now branches here

@@ -17,6 +17,7 @@ use Rattle.qc_interp.specs.Running.{Runs, EndsAt, CutOff}
 use Rattle.qc_interp.proofs.Stepping.Asked.{wider_all}
 use Rattle.qc_interp.proofs.Rows.Asked.{row_asked}
 use Rattle.qc_interp.proofs.Rows.Here.{HaveOwnBodies, here, row_deeds}
+use Rattle.qc_interp.proofs.Rows.Idle.{row_begins_first}
 use Rattle.qc_interp.proofs.Rows.Leaves.{row_leaves, row_ready, row_unended, mine_now, mine_before}
 use Rattle.qc_interp.proofs.Rows.Outcome.{row_seats}
 use Rattle.qc_interp.proofs.Rows.Stands.{row_run, row_at_once, row_begun}
@@ -76,7 +77,7 @@ module _ (Stopped : Branch → Type 0) (c : Client) (of : Name) (before shown no
       ds,
       [],
       sym (append-nil ds),
-      (row_at_once Reach.cut_off Stopped c of before shown now bs row runs ours own, row_seats Reach.cut_off Stopped c of before shown now bs row runs ours own, refl),
+      (row_at_once Reach.cut_off Stopped c of before shown now bs row runs ours own, row_seats Reach.cut_off Stopped c of before shown now bs row runs ours own, row_begins_first Reach.cut_off Stopped c of before shown now bs row runs ours own, refl),
       subst (λ b. RunsRow Reach.cut_off c.session (mine d now) b branches ds) (sym (row_begun Reach.cut_off Stopped c of before shown now bs row runs ours own)) (row_run Reach.cut_off Stopped c of before shown now bs row runs ours own),
       runs_after c.session (mine d now) of (end (mine d now) of) unended_now unready_now (each_tried (mine d now) false branches ds) (first_failed (mine d now) branches ds) rest
           (failed_is (mine d now) (OfChild (λ x. Unit {0})) branches ds (children_only _)),

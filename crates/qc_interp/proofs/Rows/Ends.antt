@@ -16,6 +16,7 @@ use Rattle.qc_interp.proofs.Stepping.Asked.{wider_all}
 use Rattle.qc_interp.proofs.Rows.Asked.{row_asked}
 use Rattle.qc_interp.proofs.Rows.Front.{front_of}
 use Rattle.qc_interp.proofs.Rows.Here.{HaveOwnBodies, here, row_deeds}
+use Rattle.qc_interp.proofs.Rows.Idle.{row_begins_first}
 use Rattle.qc_interp.proofs.Rows.Later.{HaveRun}
 use Rattle.qc_interp.proofs.Rows.Leaves.{row_later, mine_now, mine_before}
 use Rattle.qc_interp.proofs.Rows.Outcome.{row_seats, row_tried, row_failed}
@@ -41,6 +42,7 @@ module _ (Stopped : Branch → Type 0) (c : Client) (of : Name) (before shown no
   have_run ours = record {
     at_once = row_at_once Reach.to_the_end Stopped c of before shown now bs row runs ours own;
     seats = row_seats Reach.to_the_end Stopped c of before shown now bs row runs ours own;
+    begins = row_begins_first Reach.to_the_end Stopped c of before shown now bs row runs ours own;
     runs = subst (λ b. RunsRow Reach.to_the_end c.session (mine d now) b (row_of bodies) ds) (sym (row_begun Reach.to_the_end Stopped c of before shown now bs row runs ours own)) (row_run Reach.to_the_end Stopped c of before shown now bs row runs ours own);
     ended = all_ended (mine d now) (children (mine d row.made.newer) of) ended_here;
   }

@@ -21,7 +21,7 @@ use Rattle.qc_interp.specs.Asking.{Asks, RowAsks, DoesAfter, DoesInRow}
 use Rattle.qc_interp.specs.Deeds.{Deed, deeds, deed_in, deed_end, OfChild}
 use Rattle.qc_interp.specs.Follows.{AfterRow, RunsPlan, RunsRow}
 use Rattle.qc_interp.specs.Reach.{Reach}
-use Rattle.qc_interp.specs.Rows.{has_committed, each_tried, each_begun, first_failed, are_tries_at_once, each_own_seat, starts, starts_once_done, is_behind}
+use Rattle.qc_interp.specs.Rows.{has_committed, each_tried, each_begun, first_failed, are_tries_at_once, each_own_seat, starts, deed_done, starts_where, begin_first, is_behind}
 use Rattle.qc_interp.specs.Turns.{is_done}
 use Rattle.qc_interp.proofs.Stepping.Asked.{row_asks_still}
 use Rattle.qc_interp.proofs.Following.Behind.{starts_is}
@@ -90,7 +90,7 @@ fresh_before setting (e ∷ newer) past y legal some = elim (start_step e newer 
 ]
 
 -- who was not started waits for anything
-unstarted_waits : (ds : List Deed) (y : Name) (h : Past) → start h y ≡ None → each (starts_once_done ds y) h ≡ true
+unstarted_waits : (ds : List Deed) (y : Name) (h : Past) → start h y ≡ None → each (starts_where deed_done ds y) h ≡ true
 unstarted_waits ds y [] none = refl
 unstarted_waits ds y (e ∷ h) none =
     and_from _ _ (unstarted_waits ds y h (none_before (start h y) (start_in y e.seat e.event) none).0)
@@ -102,6 +102,7 @@ unstarted_waits ds y (e ∷ h) none =
 pub record HaveRun (s : ℕ) (past : Past) (branches : Plan) (here : List Deed) : Type 0 where
   pub at_once : are_tries_at_once past branches here ≡ true
   pub seats : each_own_seat past branches here ≡ true
+  pub begins : begin_first past branches here ≡ true
   pub runs : RunsRow Reach.to_the_end s past (each_begun past branches here) branches here
   pub ended : AllByRecursion (OfChild (λ t. is_some (end past t) ≡ true)) here
 
@@ -149,7 +150,7 @@ module _ (s : ℕ) (p : Entry → Bool) (setting : Setting) (newer past : Past) 
     here,
     further,
     refl,
-    at_once_still s p setting newer past legal (each_begun old branches here) branches here further (ran.at_once, ran.seats, behind_now n further more) ran.runs same_now,
+    at_once_still s p setting newer past legal (each_begun old branches here) branches here further (ran.at_once, ran.seats, ran.begins, behind_now n further more) ran.runs same_now,
     row_runs reach s now (each_begun now branches here) branches here
         (subst (λ b. RunsRow Reach.to_the_end s now b branches here) (sym begun_now) (row_still s p setting newer past legal (each_begun old branches here) branches here same_now ran.runs)),
     subst (λ b. AfterRow reach now n b (first_failed now branches here) (RunsPlan reach s now n rest further how) further how) (sym (tried_now ∙ tried))

@@ -16,6 +16,7 @@ use Rattle.qc_interp.proofs.Branching.Branches.{HaveOwnNumbers, first_at_once, f
 use Rattle.qc_interp.proofs.Stepping.Ending.{still, leaves_still, runs_still, cut_still}
 use Rattle.qc_interp.proofs.Scopes.Growth.{made_later}
 use Rattle.qc_interp.proofs.Rows.Front.{front_of}
+use Rattle.qc_interp.proofs.Rows.SameDeeds.{none_begin}
 use Rattle.qc_interp.proofs.Rows.Out.{RowOut}
 
 module _ (c : Client) (of : Name) (before now : Past) (runs : Runs c of before) (made : Made c [] before now) (bodies : List Numbered) (some : 0 < length bodies) (own : HaveOwnNumbers bodies) (tried : AllByRecursion (λ (b : Numbered). 0 < b.tries) bodies) where
@@ -27,6 +28,7 @@ module _ (c : Client) (of : Name) (before now : Past) (runs : Runs c of before) 
       run = record {
         at_once = first_at_once (mine c now) bodies [] own tried tt;
         seats = first_own_seat (mine c now) bodies [] own tt tt;
+        begins = none_begin (mine c now) (row_of bodies);
         runs = subst (λ b. RunsRow Reach.to_the_end c.session (mine c now) b (row_of bodies) []) (sym (first_unbegun (mine c now) bodies [] own some tt)) (turned_back_runs (mine c now) Reach.to_the_end c.session bodies [] tt);
         ended = tt;
       };

@@ -10,7 +10,7 @@ use Rattle.std.proofs.lemmas.List.Folds.{list_all-append}
 use Rattle.qc_event.specs.History.{Past, Name, kind_of}
 use Rattle.qc_script.specs.Plan.{Plan}
 use Rattle.qc_interp.specs.Deeds.{Deed, deed_end}
-use Rattle.qc_interp.specs.Rows.{OneOf, is_of_body, is_try, tries_among, was_tried, has_committed, failed_last, is_try_in, begin_each, each_begun, each_own_seat, each_tried, first_failed, are_tries_at_once}
+use Rattle.qc_interp.specs.Rows.{OneOf, is_of_body, is_try, tries_among, was_tried, has_committed, failed_last, is_try_in, begin_each, each_begun, each_own_seat, each_tried, first_failed, are_tries_at_once, begin_first}
 use Rattle.qc_interp.specs.Tries.{is_tried_again}
 use Rattle.qc_interp.proofs.Trying.TriesAlike.{AreAlike, IfAny}
 
@@ -92,6 +92,10 @@ none_at_once past branches = ap (λ b. b && each_tried past true branches []) (b
 pub none_own_seat : (past : Past) (branches : Plan) → each_own_seat past branches [] ≡ true
 none_own_seat past (Plan.child_then number tries must inner others) = none_own_seat past others
 none_own_seat past _ = refl
+
+pub none_begin : (past : Past) (branches : Plan) → begin_first past branches [] ≡ true
+none_begin past (Plan.child_then number tries must inner others) = none_begin past others
+none_begin past _ = refl
 
 pub none_failed : (past : Past) (branches : Plan) → first_failed past branches [] ≡ None
 none_failed past (Plan.child_then number tries must inner others) = ap (λ o. option_or o (first_failed past others [])) (by_must must) ∙ none_failed past others

@@ -68,7 +68,7 @@ any_among f (y ∷ ds) x xs is = by_test (f y) is (any_among f ds x xs)
     by_test true is more = refl
     by_test false is more = more is
 
-all_of_names : (f : Deed → Bool) (ts : List Name) → list_all (λ t. f (Deed.child t)) ts ≡ list_all f (map Deed.child ts)
+pub all_of_names : (f : Deed → Bool) (ts : List Name) → list_all (λ t. f (Deed.child t)) ts ≡ list_all f (map Deed.child ts)
 all_of_names f [] = refl
 all_of_names f (t ∷ ts) = ap (λ b. f (Deed.child t) && b) (all_of_names f ts)
 

@@ -1,32 +1,37 @@
 -- Of branches at once only the first few were begun, and their first tries were then aborted as orphans: that is what the
 -- step asks for, or as far as the run came.
-use Rattle.std.proofs.Common.{◌≡◌, ◌⊎◌, inl, inr, ℕ, ◌<◌, true, false, List, [], ◌++◌, length, map, refl, sym, ap, ◌∙◌, subst, append-nil, append_assoc}
+use Rattle.std.proofs.Common.{◌≡◌, ◌⊎◌, inl, inr, ℕ, ◌<◌, true, false, List, [], ◌∷◌, ◌++◌, length, map, refl, sym, ap, ◌∙◌, subst, append-nil, append_assoc}
 use mathlib.Core.Bool.{true≢false}
 use Rattle.std.specs.Prelude.{Option, None, Some, is_some, slice_get, option_map}
-use Rattle.std.specs.List.{AllByRecursion}
+use Rattle.std.specs.List.{AllByRecursion, list_all}
 use Rattle.std.specs.Option.{option_or, option_map_or}
-use Rattle.std.proofs.lemmas.Bool.{eq-eqb}
+use Rattle.std.proofs.lemmas.Bool.{and_from, eq-eqb}
 use Rattle.qc_event.specs.declared.event.Entry.{Entry}
 use Rattle.qc_event.specs.declared.event.Kind.TheVariants as kind
-use Rattle.qc_event.specs.History.{Past, Name, Begun, end, end_in, is_ready, kind_of}
+use Rattle.qc_event.specs.History.{Past, Name, Begun, start, end, end_in, is_ready, kind_of}
+use Rattle.qc_event.specs.Legal.{Legal}
 use Rattle.qc_event.proofs.Histories.{earliest-append}
-use Rattle.qc_script.specs.Client.{Client, mine, Made}
+use Rattle.qc_script.specs.Client.{Client, mine, is_own, Made}
+use Rattle.qc_script.specs.Numbers.{each}
 use Rattle.qc_script.specs.Plan.{Plan, Numbered, row_of}
 use Rattle.qc_interp.specs.Asking.{IsAskedBy, AllAsked}
 use Rattle.qc_interp.specs.Branches.{Branch, with_all, RanRow, row_step, FrontRow}
 use Rattle.qc_interp.specs.Deeds.{Deed, deeds, OfChild}
 use Rattle.qc_interp.specs.Follows.{IsUnended, WasOrphan, HasNotEnded, RunsRow}
 use Rattle.qc_interp.specs.Reach.{Reach}
-use Rattle.qc_interp.specs.Rows.{is_of_body, is_try, each_begun, each_tried, first_failed, are_tries_at_once, each_own_seat, opens_seat}
+use Rattle.qc_interp.specs.Rows.{is_of_body, is_try, each_begun, each_tried, first_failed, are_tries_at_once, each_own_seat, opens_seat, deed_idle, starts_where, begin_first}
 use Rattle.qc_interp.specs.Running.{Runs, EndsAt, CutOff}
 use Rattle.qc_interp.proofs.Listing.Lists.{all_join}
-use Rattle.qc_interp.proofs.Scopes.Beside.{seats_later}
+use Rattle.qc_interp.proofs.Following.Behind.{started_once}
+use Rattle.qc_interp.proofs.Scopes.Beside.{seats_later, start_of_kind}
+use Rattle.qc_interp.proofs.Scopes.Mine.{is_some_by}
 use Rattle.qc_interp.proofs.Branching.Branches.{AreFirstTries, HaveOwnNumbers, WasTryTurnedBack, first_at_once, first_own_seat, first_unbegun, first_untried, turned_back_runs}
 use Rattle.qc_interp.proofs.Listing.Places.{each_place}
 use Rattle.qc_interp.proofs.Rows.Back.{turns_back, each_turned, all_orphan_ends, start_kept, ready_kept, deeds_kept, orphan_or_none}
 use Rattle.qc_interp.proofs.Rows.Cut.{runs_after}
-use Rattle.qc_interp.proofs.Rows.Few.{HasOnlyBegun, first_tries, of_firsts, first_kind, first_unended, first_unready, first_idle, fewer, starts_only}
+use Rattle.qc_interp.proofs.Rows.Few.{HasOnlyBegun, first_is_try, first_tries, of_firsts, first_kind, first_unended, first_unready, first_idle, fewer, starts_only}
 use Rattle.qc_interp.proofs.Rows.Front.{front_of}
+use Rattle.qc_interp.proofs.Rows.Idle.{each_begins, try_idle, first_ahead}
 use Rattle.qc_interp.proofs.Rows.Leaves.{mine_now}
 use Rattle.qc_interp.proofs.Rows.Outcome.{first_opens}
 use Rattle.qc_interp.proofs.Rows.TurnedBack.{turned_mine, turned_later, turned_cut, turned_firsts, turned_unended, turned_unready, turned_ended}
@@ -55,6 +60,9 @@ module _ (Stopped : Branch → Type 0) (c : Client) (of : Name) (before shown no
   module _ (i : ℕ) (b : Branch) (at : slice_get bs i ≡ Some b) where
     kind_now : kind_of (mine d now) b.first ≡ Some (kind.User c.session b.body.number)
     kind_now = first_kind Reach.cut_off Stopped c of before shown now bs row only i b at
+
+    started : is_some (start (mine d now) b.first) ≡ true
+    started = let s = start_of_kind (mine d now) b.first (kind.User c.session b.body.number) kind_now in is_some_by _ s.0 s.1
 
     kind_is : kind_of (mine d x) b.first ≡ Some (kind.User c.session b.body.number)
     kind_is = ap (λ h. kind_of h b.first) mine_is ∙ ap (option_map (λ (y : Begun). y.kind)) (start_kept es (mine d now) (all_orphan_ends d bs above) b.first) ∙ kind_now
@@ -102,6 +110,19 @@ module _ (Stopped : Branch → Type 0) (c : Client) (of : Name) (before shown no
   seats : each_own_seat (mine d x) (row_of bodies) firsts ≡ true
   seats = first_own_seat (mine d x) bodies firsts own are_first (of_firsts (λ t. opens_seat (mine d x) t ≡ true) bs (each_place _ bs opens))
 
+  -- each started before one of them did anything
+  begins : begin_first (mine d x) (row_of bodies) firsts ≡ true
+  begins = each_begins (mine d x) (row_of bodies) firsts (of_firsts (λ t. each (starts_where deed_idle firsts t) (mine d x) ≡ true) bs (each_place _ bs (λ i b at.
+      subst (λ h. each (starts_where deed_idle firsts b.first) (mine d h) ≡ true) (sym made.grown)
+      (started_once deed_idle (λ e. is_own d e.seat) c.setting made.newer now firsts b.first (subst (Legal c.setting) made.grown made.legal) (started i b at) (first_ahead Reach.cut_off Stopped c of before shown now bs row i b at firsts idle)))))
+    where
+      all_idle : (xs : List Branch) → AllByRecursion (λ (b : Branch). deed_idle (mine d shown) (Deed.child b.first) ≡ true) xs → list_all (deed_idle (mine d shown)) (map Deed.child (map (λ (b : Branch). b.first) xs)) ≡ true
+      all_idle [] all = refl
+      all_idle (b ∷ xs) all = and_from _ _ all.0 (all_idle xs all.1)
+
+      idle : list_all (deed_idle (mine d shown)) firsts ≡ true
+      idle = all_idle bs (each_place _ bs (λ i b at. try_idle Reach.cut_off Stopped c of before shown now bs row i b at b.first (first_is_try Reach.cut_off Stopped c of before shown now bs row only i b at)))
+
   few : length firsts < length bodies
   few = fewer Reach.cut_off Stopped c of before shown now bs row only others some
 
@@ -130,7 +151,7 @@ module _ (Stopped : Branch → Type 0) (c : Client) (of : Name) (before shown no
       firsts,
       [],
       sym (append-nil firsts),
-      (at_once, seats, refl),
+      (at_once, seats, begins, refl),
       row_so Reach.cut_off orphan_or_runs,
       runs_after c.session (mine d x) of (end (mine d x) of) unended_of (turned_unready Stopped c of before shown now bs row runs only above x made) (each_tried (mine d x) false (row_of bodies) firsts) (first_failed (mine d x) (row_of bodies) firsts) rest
           (failed_is (mine d x) (OfChild (λ t. Unit {0})) (row_of bodies) firsts (of_firsts (λ t. Unit {0}) bs (each_place _ bs (λ i b at. tt)))),
@@ -156,6 +177,7 @@ module _ (Stopped : Branch → Type 0) (c : Client) (of : Name) (before shown no
         run = record {
           at_once = at_once;
           seats = seats;
+          begins = begins;
           runs = row_so Reach.to_the_end (λ i b at. inl (orphan_if_ended i b at (turned_ended Stopped c of before shown now bs row runs only above x made all ours i b at)));
           ended = of_firsts (λ t. is_some (end (mine d x) t) ≡ true) bs (each_place _ bs (turned_ended Stopped c of before shown now bs row runs only above x made all ours));
         };

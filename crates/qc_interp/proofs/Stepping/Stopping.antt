@@ -13,7 +13,7 @@ use Rattle.qc_interp.specs.Rows.{each_begun, each_tried, first_failed}
 use Rattle.qc_interp.specs.Running.{CameTo}
 use Rattle.qc_interp.specs.Tries.{is_tried_again}
 use Rattle.qc_interp.specs.declared.stops.Finish.TheVariants as finish
-use Rattle.qc_interp.proofs.Rows.SameDeeds.{none_at_once, none_failed, none_own_seat}
+use Rattle.qc_interp.proofs.Rows.SameDeeds.{none_at_once, none_begin, none_failed, none_own_seat}
 use Rattle.qc_interp.proofs.Trying.TriesAlike.{no_tries}
 
 -- who was aborted as another asked was stopped early
@@ -113,7 +113,7 @@ stopped_runs reach s past n how stops (Plan.par_then branches rest) = (
   [],
   [],
   refl,
-  (none_at_once past branches, none_own_seat past branches, refl),
+  (none_at_once past branches, none_own_seat past branches, none_begin past branches, refl),
   no_row reach s past (each_begun past branches []) branches,
   stopped_row reach past n how stops (each_tried past false branches []) (first_failed past branches []) (none_failed past branches) (RunsPlan reach s past n rest [] how) (stopped_runs reach s past n how stops rest),
 )

@@ -12,7 +12,7 @@ returns-clause-tried_again c = (
       Deed.child first_child ∷ Deed.child second_child ∷ Deed.child third_child ∷ [],
       Deed.child fourth_child ∷ [],
       refl,
-      (refl, refl, refl),
+      (refl, refl, refl, refl),
       (((refl, (refl, refl, (refl, inl (refl, refl)))), ((refl, (refl, refl, inl tt)), tt)), (((refl, (refl, refl, inl tt)), tt), tt)),
       (refl, refl, inl tt),
     );
@@ -28,7 +28,7 @@ returns-clause-aborted c = (
       Deed.child first_child ∷ Deed.child second_child ∷ Deed.child third_child ∷ [],
       [],
       refl,
-      (refl, refl, refl),
+      (refl, refl, refl, refl),
       (((refl, (refl, refl, (refl, inl (refl, refl)))), ((refl, (refl, refl, (refl, inl (refl, refl)))), tt)), (((refl, (refl, refl, inl tt)), tt), tt)),
       (refl, inl (refl, refl)),
     );
@@ -44,7 +44,7 @@ returns-clause-went_on c = (
       Deed.child first_child ∷ Deed.child second_child ∷ Deed.child third_child ∷ [],
       Deed.child fourth_child ∷ [],
       refl,
-      (refl, refl, refl),
+      (refl, refl, refl, refl),
       (((refl, (refl, refl, (refl, inl (refl, refl)))), ((refl, (refl, refl, (refl, inl (refl, refl)))), tt)), (((refl, (refl, refl, inl tt)), tt), tt)),
       (refl, refl, inl tt),
     );
@@ -60,7 +60,7 @@ returns-clause-stopped c = (
       Deed.child first_child ∷ Deed.child second_child ∷ [],
       [],
       refl,
-      (refl, refl, refl),
+      (refl, refl, refl, refl),
       (((refl, (refl, refl, (refl, inl (refl, refl)))), tt), (((refl, inl refl), tt), tt)),
       (refl, refl),
     );
@@ -85,7 +85,7 @@ returns-clause-turned_back c = (
       Deed.child first_child ∷ [],
       [],
       refl,
-      (refl, refl, refl),
+      (refl, refl, refl, refl),
       (((refl, (refl, inl refl)), tt), (tt, tt)),
       (refl, tt),
     );

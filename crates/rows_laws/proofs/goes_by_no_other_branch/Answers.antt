@@ -3,6 +3,8 @@ use mathlib.Core.Bool.{true≢false}
 use Rattle.std.specs.Prelude.{reverse}
 use Rattle.qc_interp.specs.Deeds.{Deed}
 use Rattle.rows_laws.specs.Branches.{two_branches, read_then_done, one_left_out, turned_back, read_meanwhile, went_on, tried_too_early, tried_too_often}
+use Rattle.rows_laws.specs.BranchSeats.{two_at_once, begins_late, in_a_row}
+use Rattle.rows_laws.specs.Trails.{third_client}
 use Rattle.rows_laws.proofs.Fronts.{at_front, no, some_further}
 use Rattle.rows_laws.proofs.goes_by_no_other_branch.Goals as goal
 
@@ -56,6 +58,31 @@ returns-clause-too_often c = λ f. elim (at_front (reverse tried_too_often) (two
         | inl h ↦ no h.0.0
         | inr h ↦ no h.0.0
       ]
+    ]
+  ]
+]
+
+-- the first does something before the second begins
+pub returns-clause-begins_late : goal.returns-clause-begins_late
+returns-clause-begins_late c = λ f. elim (at_front (reverse begins_late) two_at_once read_then_done f.0.steps) [
+  | inl h ↦ some_further h.2.0
+  | inr more ↦ elim more [
+    | inl h ↦ some_further h.2.0
+    | inr more ↦ elim more [
+      | inl h ↦ no h.0.2
+      | inr h ↦ no h.0.0
+    ]
+  ]
+]
+
+pub returns-clause-begins_at_last : goal.returns-clause-begins_at_last
+returns-clause-begins_at_last c = λ f. elim (at_front (reverse (in_a_row third_client)) two_at_once read_then_done f.0.steps) [
+  | inl h ↦ some_further h.2.0
+  | inr more ↦ elim more [
+    | inl h ↦ some_further h.2.0
+    | inr more ↦ elim more [
+      | inl h ↦ no h.0.2
+      | inr h ↦ no h.0.0
     ]
   ]
 ]

@@ -12,7 +12,7 @@ returns-clause-at_once_followed c = (
       Deed.child first_child ∷ Deed.child second_child ∷ [],
       Deed.child third_child ∷ [],
       refl,
-      (refl, refl, refl),
+      (refl, refl, refl, refl),
       (((refl, (refl, refl, inl tt)), tt), (((refl, (refl, refl, inl tt)), tt), tt)),
       (refl, refl, inl tt),
     );
@@ -20,15 +20,15 @@ returns-clause-at_once_followed c = (
   tt,
 )
 
-pub returns-clause-in_a_row_followed : goal.returns-clause-in_a_row_followed
-returns-clause-in_a_row_followed c = (
+pub returns-clause-in_turn_followed : goal.returns-clause-in_turn_followed
+returns-clause-in_turn_followed c = (
   record {
     kind = refl;
     steps = (
       Deed.child first_child ∷ Deed.child second_child ∷ [],
       Deed.child third_child ∷ [],
       refl,
-      (refl, refl, refl),
+      (refl, refl, refl, refl),
       (((refl, (refl, refl, inl tt)), tt), (((refl, (refl, refl, inl tt)), tt), tt)),
       (refl, refl, inl tt),
     );
@@ -44,13 +44,13 @@ returns-clause-steps_followed c = (
       Deed.child first_child ∷ [],
       Deed.child second_child ∷ Deed.child third_child ∷ [],
       refl,
-      (refl, refl, refl),
+      (refl, refl, refl, refl),
       (((refl, (refl, refl, inl tt)), tt), tt),
       (
         Deed.child second_child ∷ [],
         Deed.child third_child ∷ [],
         refl,
-        (refl, refl, refl),
+        (refl, refl, refl, refl),
         (((refl, (refl, refl, inl tt)), tt), tt),
         (refl, refl, inl tt),
       ),
@@ -67,7 +67,7 @@ returns-clause-tried_again_followed c = (
       Deed.child first_child ∷ Deed.child second_child ∷ [],
       [],
       refl,
-      (refl, refl, refl),
+      (refl, refl, refl, refl),
       (((refl, (refl, refl, (refl, inl (refl, refl)))), ((refl, (refl, refl, inl tt)), tt)), tt),
       inl tt,
     );
