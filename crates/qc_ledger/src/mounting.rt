@@ -18,7 +18,7 @@ use qc_codec::{LedgerRecord, Made, Past, copy_table, write_ledger, write_made};
 use qc_disk::Disk;
 use qc_event::Table;
 use qc_journal::{Body, Fault, Journal};
-use qc_names::lists::append;
+use qc_names::lists::append_moved;
 use std::alloc::{AllocError, Global};
 
 // Writes a record, and keeps its body.
@@ -40,7 +40,7 @@ fn write<D: Disk>(journal: &mut Journal<D>, bodies: &mut Vec<Body>, next: Body) 
     ensures cause { Costs journal.old journal.new (IsErrOf result Fault.Disk) }
 {
     journal.append(&next)?;
-    append(bodies, next)?;
+    append_moved(bodies, next)?;
     Ok(())
 }
 

@@ -6,7 +6,7 @@ ghost use Rattle.qc_codec.specs.declared.record.LedgerRecord.TheVariants.{Epoch,
 
 use qc_codec::{LedgerRecord, Logged, Names, Past, Tops};
 use qc_event::Name;
-use qc_names::lists::append;
+use qc_names::lists::append_moved;
 use std::alloc::{AllocError, Global};
 use std::collections::BTreeSet;
 
@@ -66,7 +66,7 @@ impl Seen {
         if number / EPOCH != u64::from(self.epoch) || !self.numbers.insert(number)? {
             return Ok(false);
         }
-        append(&mut self.tops, Logged { top, aborted })?;
+        append_moved(&mut self.tops, Logged { top, aborted })?;
         Ok(true)
     }
 

@@ -5,7 +5,16 @@ ghost use Rattle.std.specs.Prelude.{◌≡◌, ◌<◌, ◌++◌, ◌∷◌, [],
 use std::alloc::AllocError;
 
 /// Adds an item at the end.
-pub fn append<T: Drop>(items: &mut Vec<T>, item: T) -> Result<(), AllocError>
+pub fn append<T: Copy>(items: &mut Vec<T>, item: T) -> Result<(), AllocError>
+    ensures ok { OnOk result (items.new.items ≡ items.old.items ++ item ∷ []) }
+    ensures err { OnErr result (items.new.items ≡ items.old.items) }
+{
+    items.push(item)?;
+    Ok(())
+}
+
+/// Adds an item that is moved at the end. For one that is copied a call of this gets no proof either.
+pub fn append_moved<T: Drop>(items: &mut Vec<T>, item: T) -> Result<(), AllocError>
     ensures ok { OnOk result (items.new.items ≡ items.old.items ++ item ∷ []) }
     ensures err { OnErr result (items.new.items ≡ items.old.items) }
 {

@@ -20,7 +20,6 @@ pub(crate) fn with_hand(
     ensures { IfOk result (λ all. all.items ≡ given.items ++ option_to_list hand) }
 {
     if let Some(grant) = hand {
-        is_op(&grant.op);
         append(&mut given, grant)?;
     }
     Ok(given)

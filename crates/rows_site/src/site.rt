@@ -4,7 +4,7 @@ ghost use Rattle.qc_codec.specs.Bodies as body;
 use crate::state::State;
 use qc_codec::{LedgerRecord, Logged, Made, Past, Tops, read_ledger};
 use qc_disk::MemDisk;
-use qc_names::lists::append;
+use qc_names::lists::append_moved;
 use qc_site::mount;
 use rows_kit::{Step, bytes, made_of, said};
 use std::alloc::{AllocError, Global};
@@ -31,7 +31,7 @@ fn past_by(alloc: Global, epoch: u32, words: &[&str]) -> Result<Past, AllocError
     let mut tops = Vec::new(alloc);
     for word in words {
         if let Some(logged) = logged_by(alloc, word)? {
-            append(&mut tops, logged)?;
+            append_moved(&mut tops, logged)?;
         }
     }
     Ok(Past {

@@ -1,4 +1,5 @@
 //! Entries of a history in words.
+use crate::log::Log;
 use crate::words::{BadLine, Words};
 use qc_event::{Answer, Ask, Entry, Event, Grant, How, Kind, Name};
 

@@ -10,5 +10,5 @@ returns-clause-numbers c =
     let l : Logged = record { top = c.args.top; aborted = c.args.aborted } in
     let n = c.in-1-Some.number in
     let top = alone c.args.top n (sym c.len.ensures.length ∙ c.in-1-Some.is-0) (sym c.number.ensures ∙ c.in-1-Some.is-1) in
-    subst (λ (tops : List Logged). AreNumbers c.insert.new.self tops) (sym c.in_ok-append.ensures.ok)
+    subst (λ (tops : List Logged). AreNumbers c.insert.new.self tops) (sym c.in_ok-append_moved.ensures.ok)
     (numbers_more c.args.self.now.numbers c.insert.new.self c.args.self.now.tops.items n l top c.in_ok-insert.ensures.updates c.requires)
