@@ -6,7 +6,7 @@ use Rattle.std.proofs.lemmas.Iterator.Search.{find_from_yields_List}
 use Rattle.qc_event.specs.declared.event.Entry.{Entry}
 use Rattle.qc_event.specs.History.{Name, child_in, end}
 use Rattle.qc_scan.proofs.Everyone.{every_is, option_itself}
-use Rattle.qc_scan.proofs.standing.open_child.Goals as goal
+use Rattle.qc_scan.proofs.lists.open_child.Goals as goal
 
 pub returns : goal.returns
 returns c =
