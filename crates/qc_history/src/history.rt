@@ -7,6 +7,7 @@ ghost use Rattle.qc_event.specs.History.{limit};
 ghost use Rattle.qc_event.specs.Legal.{Legal};
 ghost use Rattle.qc_event.specs.Standing.{open_child};
 ghost use Rattle.qc_names.specs.Name.{longest};
+ghost use Rattle.qc_history.specs.Index.{IsOf};
 ghost use Rattle.qc_history.specs.Looking.{WhereLegal};
 
 use crate::index::Index;
@@ -88,6 +89,20 @@ impl History {
         ensures bounded { length self.now ≤ limit }
     {
         self.entries.len()
+    }
+
+    /// The index of the names.
+    pub fn names(&self) -> &Index
+        ensures { IsOf result.now self.now }
+    {
+        &self.index
+    }
+
+    /// The entries, the oldest first.
+    pub fn entries(&self) -> &Trail
+        ensures { reverse result.now ≡ self.now }
+    {
+        &self.entries
     }
 
     fn take_in(&mut self, entry: &Entry) -> Result<(), AllocError>

@@ -20,6 +20,7 @@ mod outcomes;
 mod slots;
 mod steps;
 
+pub use firsts::Firsts;
 pub use history::History;
 pub use index::Index;
 pub use indexes::Indexes;

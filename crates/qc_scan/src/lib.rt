@@ -29,7 +29,7 @@ pub use same::{
     is_this, same_answer, same_ask, same_cause, same_config, same_copies, same_lack, same_name,
     same_op, same_reasons, same_tuple,
 };
-pub use scan::{Begun, Given, Request};
+pub use scan::{Begun, Given, Request, ask_in, end_in, gone_in, grant_in, refusal_in, start_in};
 pub use scans::Scans;
 pub use setting::Setting;
 pub use standing::{

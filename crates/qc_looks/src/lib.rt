@@ -1,0 +1,9 @@
+//! A legal history with an index of all that its rules look at, so that no look goes over it.
+#![tactic(auto)]
+
+mod asks;
+mod requests;
+mod subjects;
+
+pub use asks::Asks;
+pub use requests::Requests;
