@@ -1,5 +1,5 @@
 -- Where the accesses of managers asked, one entry after another.
-use Rattle.std.proofs.Common.{◌≡◌, ℕ, ◌+◌, ◌<◌, ◌≤◌, Bool, true, false, List, [], ◌∷◌, ◌++◌, length, reverse, refl, sym, ap, ◌∙◌, subst, arith, append-nil, ◌⊎◌, inl, inr, Vec, Global}
+use Rattle.std.proofs.Common.{◌≡◌, ℕ, ◌<◌, Bool, true, false, List, [], ◌∷◌, ◌++◌, length, reverse, refl, sym, ap, ◌∙◌, subst, arith, append-nil, ◌⊎◌, inl, inr, Vec, Global}
 use Rattle.std.specs.Prelude.{Option, None, Some, is_some, option_to_list, slice_get, if◌then◌else◌}
 use Rattle.std.specs.Option.{option_map}
 use Rattle.std.proofs.lemmas.List.{length-reverse, reverse-reverse}
@@ -17,7 +17,7 @@ use Rattle.qc_event.proofs.LastNumber.{EndsIn, ends_in, front_last, is_child-las
 use Rattle.qc_event.proofs.Lawful.{lawful, nonroot, started_some}
 use Rattle.qc_event.proofs.LegalOrderly.{legal_orderly}
 use Rattle.qc_event.proofs.OneEntry.{none_before, some_or_none, start_stays}
-use Rattle.qc_history.specs.Places.{starts_in, started, place}
+use Rattle.qc_history.specs.Places.{starts_in, place}
 use Rattle.qc_history.proofs.Beside.{place_stays}
 use Rattle.qc_history.proofs.GrantPlaces.{Answers, answers_there, as_many}
 use Rattle.qc_history.proofs.Looking.{unstarted}

@@ -2,7 +2,6 @@
 use Rattle.std.proofs.Common.{◌≡◌, ℕ, Bool, true, false, ◌||◌, ◌⊎◌, [], ◌∷◌, refl, sym, ap, ap₂, ◌∙◌, inl, inr}
 use mathlib.Core.Bool.{true≢false}
 use Rattle.std.specs.Prelude.{Option, None, Some, IsTrue, is_some, if◌then◌else◌, option_and_then}
-use Rattle.std.specs.List.{list_any}
 use Rattle.std.specs.Option.{option_or, option_map_or}
 use Rattle.std.proofs.lemmas.Option.{same_Some}
 use Rattle.qc_event.specs.declared.event.Entry.{Entry}

@@ -1,2 +1,3 @@
 pub mod FirstTold
 pub mod Asking
+pub mod Tabling

@@ -1,3 +1,4 @@
 pub mod Subjects
 pub mod Requests
 pub mod Asks
+pub mod Tables

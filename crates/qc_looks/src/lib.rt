@@ -4,6 +4,8 @@
 mod asks;
 mod requests;
 mod subjects;
+mod tables;
 
 pub use asks::Asks;
 pub use requests::Requests;
+pub use tables::Tables;

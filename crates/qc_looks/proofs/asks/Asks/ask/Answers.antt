@@ -1,4 +1,4 @@
-use Rattle.std.proofs.Common.{reverse, sym, ap, ◌∙◌}
+use Rattle.std.proofs.Common.{reverse, sym, ◌∙◌}
 use Rattle.std.proofs.lemmas.Option.{none-some}
 use Rattle.qc_looks.proofs.Asking.{is_listed, is_there}
 use Rattle.qc_looks.proofs.asks.Asks.ask.Goals as goal
