@@ -8,6 +8,7 @@ ghost use Rattle.qc_event.specs.Legal.{Legal};
 ghost use Rattle.qc_event.specs.Standing.{open_child};
 ghost use Rattle.qc_names.specs.Name.{longest};
 ghost use Rattle.qc_history.specs.Index.{IsOf};
+ghost use Rattle.qc_history.specs.Indexes.{AreOf};
 ghost use Rattle.qc_history.specs.Looking.{WhereLegal};
 
 use crate::index::Index;
@@ -62,6 +63,7 @@ impl Model for History {
     ghost use Rattle.qc_event.specs.History.{limit};
     ghost use Rattle.qc_history.specs.Index.{IsOf};
     ghost use Rattle.qc_history.specs.Indexes.{AreOf};
+    ghost use Rattle.qc_history.specs.Indexes.{AreOf};
 
     ghost Value = { List Entry };
 
@@ -103,6 +105,13 @@ impl History {
         ensures { reverse result.now ≡ self.now }
     {
         &self.entries
+    }
+
+    /// What is kept beside the index.
+    pub fn beside(&self) -> &Indexes
+        ensures { AreOf result.now self.now }
+    {
+        &self.beside
     }
 
     fn take_in(&mut self, entry: &Entry) -> Result<(), AllocError>

@@ -10,7 +10,7 @@ use Rattle.qc_event.specs.declared.event.Event.TheVariants as event
 use Rattle.qc_event.specs.declared.event.Why.{Why}
 use Rattle.qc_event.specs.declared.event.Why.TheVariants.{Lost, Late, Down, Full, Strange}
 use Rattle.qc_event.specs.Base.{Setting}
-use Rattle.qc_event.specs.History.{Past, Name, Asked, same, start, earliest, asked, ask_in, gone, gone_in}
+use Rattle.qc_event.specs.History.{Past, Name, Asked, same, start, earliest, asked, ask_in, gone, gone_in, Given, granted, grant_in}
 use Rattle.qc_event.specs.Legal.{Legal, MayHappen}
 use Rattle.qc_event.specs.Requests.{MayBeUnable, is_fault, is_ledger_fault, is_why, unable_in, was_unable}
 use Rattle.qc_event.proofs.Absent.{same_itself}
@@ -18,6 +18,7 @@ use Rattle.qc_event.proofs.Lawful.{started_some}
 use Rattle.qc_event.proofs.Options.{some_match}
 use Rattle.qc_event.proofs.RootAndTops.{ready_started}
 use Rattle.qc_history.specs.Places.{starts_in}
+use Rattle.qc_history.specs.Grants.{granted_name}
 use Rattle.qc_history.specs.Firsts.{Subject, ComesAfterStart, is_about, about_in, first_about}
 use Rattle.qc_history.proofs.Answering.{asked_started}
 use Rattle.qc_history.proofs.FirstEntries.{first_tells}
@@ -80,6 +81,19 @@ first_gone past n = first_gives gone_name n (λ (e : Entry). gone_in n e.event) 
 
     tells : (ev : Event) → gone_name ev ≡ Some n → is_some (gone_in n ev) ≡ true
     tells (event.Gone access why) is = ap (λ (b : Bool). is_some (if b then Some why else None)) (ap (λ m. same m n) (same_Some access n is) ∙ same_itself n)
+    tells _ is = absurd cc
+
+-- GRANTS
+
+pub first_granted : (past : Past) (n : Name) → option_and_then (λ (e : Entry). grant_in n e.event) (first_about granted_name past n) ≡ granted past n
+first_granted past n = first_gives granted_name n (λ (e : Entry). grant_in n e.event) (λ e other. silent e.event other) (λ e is. tells e.event is) past
+  where
+    silent : (ev : Event) → is_about granted_name n ev ≡ false → grant_in n ev ≡ None
+    silent (event.Granted copy g) other = ap (λ (b : Bool). if b then Some (let x : Given = record { copy = copy; grant = g } in x) else None) other
+    silent _ other = refl
+
+    tells : (ev : Event) → granted_name ev ≡ Some n → is_some (grant_in n ev) ≡ true
+    tells (event.Granted copy g) is = ap (λ (b : Bool). is_some (if b then Some (let x : Given = record { copy = copy; grant = g } in x) else None)) (ap (λ m. same m n) (same_Some g.access n is) ∙ same_itself n)
     tells _ is = absurd cc
 
 -- WHO COULD NOT BE SERVED

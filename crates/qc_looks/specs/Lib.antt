@@ -2,3 +2,4 @@ pub mod Subjects
 pub mod Requests
 pub mod Asks
 pub mod Tables
+pub mod Names

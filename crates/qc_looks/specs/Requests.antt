@@ -5,6 +5,7 @@ use Rattle.qc_event.specs.Base.{Setting}
 use Rattle.qc_event.specs.History.{Past}
 use Rattle.qc_event.specs.Legal.{Legal}
 use Rattle.qc_history.specs.Firsts.{AreFirsts}
+use Rattle.qc_history.specs.Grants.{granted_name}
 use Rattle.qc_history.specs.Index.{Shape, IsOf}
 use Rattle.qc_history.specs.Slots.{Reaches}
 use Rattle.qc_looks.specs.declared.requests.Requests.{Requests}
@@ -14,6 +15,7 @@ use Rattle.qc_looks.specs.Subjects.{asked_name, gone_name, unable_name}
 pub record AreRequestsOf (past : Past) (kept : Requests) : Type 0 where
   pub asked : AreFirsts asked_name kept.asked past
   pub gone : AreFirsts gone_name kept.gone past
+  pub granted : AreFirsts granted_name kept.granted past
   pub down : AreFirsts (unable_name Down) kept.down past
   pub full : AreFirsts (unable_name Full) kept.full past
   pub strange : AreFirsts (unable_name Strange) kept.strange past
@@ -25,6 +27,7 @@ AreRequests kept past = AreRequestsOf past kept
 pub record HasRoom (e : Entry) (past : Past) (kept : Requests) : Type 0 where
   pub asked : Reaches past (asked_name e.event) kept.asked.after.items
   pub gone : Reaches past (gone_name e.event) kept.gone.after.items
+  pub granted : Reaches past (granted_name e.event) kept.granted.after.items
   pub down : Reaches past (unable_name Down e.event) kept.down.after.items
   pub full : Reaches past (unable_name Full e.event) kept.full.after.items
   pub strange : Reaches past (unable_name Strange e.event) kept.strange.after.items

@@ -2,6 +2,7 @@
 #![tactic(auto)]
 
 mod asks;
+mod names;
 mod requests;
 mod subjects;
 mod tables;

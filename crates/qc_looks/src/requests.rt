@@ -9,18 +9,19 @@ ghost use Rattle.qc_history.specs.Index.{IsOf};
 ghost use Rattle.qc_history.specs.Standing.{OfEach};
 ghost use Rattle.qc_looks.specs.Requests.{AreRequests, HasRoom, OfEntries};
 
-use crate::subjects::{asked_name, gone_name, unable_name};
+use crate::subjects::{asked_name, gone_name, granted_name, unable_name};
 use qc_event::{Entry, Name, Why};
 use qc_history::{Firsts, Index};
-use qc_scan::{Request, ask_in, gone_in};
+use qc_scan::{Given, Request, ask_in, gone_in, grant_in};
 use qc_trail::Trail;
 use std::alloc::{AllocError, Global};
 
-/// What accesses asked and why they were given up, and who could not be served, each by the first entry that tells it.
+/// What accesses asked and were granted, why they were given up, and who could not be served, each by the first entry that tells it.
 #[derive(Debug, Drop)]
 pub struct Requests {
     asked: Firsts,
     gone: Firsts,
+    granted: Firsts,
     down: Firsts,
     full: Firsts,
     strange: Firsts,
@@ -34,6 +35,7 @@ impl Requests {
         Requests {
             asked: Firsts::new(alloc),
             gone: Firsts::new(alloc),
+            granted: Firsts::new(alloc),
             down: Firsts::new(alloc),
             full: Firsts::new(alloc),
             strange: Firsts::new(alloc),
@@ -49,6 +51,7 @@ impl Requests {
     {
         self.asked.make_room(asked_name(entry), names)?;
         self.gone.make_room(gone_name(entry), names)?;
+        self.granted.make_room(granted_name(entry), names)?;
         self.down.make_room(unable_name(entry, Why::Down), names)?;
         self.full.make_room(unable_name(entry, Why::Full), names)?;
         self.strange
@@ -65,6 +68,7 @@ impl Requests {
     {
         self.asked.push(asked_name(entry), names, at);
         self.gone.push(gone_name(entry), names, at);
+        self.granted.push(granted_name(entry), names, at);
         self.down.push(unable_name(entry, Why::Down), names, at);
         self.full.push(unable_name(entry, Why::Full), names, at);
         self.strange
@@ -89,6 +93,17 @@ impl Requests {
     {
         match self.gone.first(names, entries, access) {
             Some(entry) => gone_in(&entry, access),
+            None => None,
+        }
+    }
+
+    /// The grant of an access.
+    pub fn granted(&self, names: &Index, entries: &Trail, access: &Name) -> Option<Given>
+        ensures { OfEntries self.now names.now (reverse entries.now)
+            (λ past. result ≡ words.granted past access.now) }
+    {
+        match self.granted.first(names, entries, access) {
+            Some(entry) => grant_in(&entry, access),
             None => None,
         }
     }

@@ -1,5 +1,6 @@
 //! Whom an entry is about.
 ghost use Rattle.std.specs.Prelude.{◌≡◌};
+ghost use Rattle.qc_history.specs.Grants as grants;
 ghost use Rattle.qc_looks.specs.Subjects as words;
 
 use qc_event::{Entry, Event, Name, Why};
@@ -20,6 +21,16 @@ pub(crate) fn gone_name(entry: &Entry) -> Option<Name>
 {
     match &entry.event {
         Event::Gone { access, .. } => Some(*access),
+        _ => None,
+    }
+}
+
+/// Whom the entry grants.
+pub(crate) fn granted_name(entry: &Entry) -> Option<Name>
+    ensures { result ≡ grants.granted_name entry.now.event }
+{
+    match &entry.event {
+        Event::Granted { grant, .. } => Some(grant.access),
         _ => None,
     }
 }
