@@ -3,3 +3,4 @@ pub mod Requests
 pub mod Asks
 pub mod Tables
 pub mod Names
+pub mod Indexed

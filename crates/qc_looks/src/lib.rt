@@ -2,11 +2,13 @@
 #![tactic(auto)]
 
 mod asks;
+mod indexed;
 mod names;
 mod requests;
 mod subjects;
 mod tables;
 
 pub use asks::Asks;
+pub use indexed::Indexed;
 pub use requests::Requests;
 pub use tables::Tables;
