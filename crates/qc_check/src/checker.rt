@@ -53,10 +53,10 @@ fn may_end<H: Looks>(setting: &Setting, h: &H, seat: u32, n: &Name, how: &How) -
 
 /// Whether an entry may come next, by whatever looks at the history.
 pub fn is_allowed<H: Looks>(setting: &Setting, h: &mut H, e: &Entry) -> bool
-    requires base { H.base h.old ≡ setting.now.base }
+    requires setting { H.setting h.old ≡ setting.now }
     ensures allowed { IsTrue result ↔ words.Allowed setting.now (H.past h.old) e.now }
     ensures past { H.past h.new ≡ H.past h.old }
-    ensures base { H.base h.new ≡ H.base h.old }
+    ensures setting { H.setting h.new ≡ H.setting h.old }
 {
     let seat = e.seat;
     match &e.event {
@@ -90,7 +90,7 @@ pub fn check_by_scans(base: &Base, firsts: &[Config], h: &[Entry]) -> Result<(),
     let setting = Setting::new(base, firsts);
     for (place, e) in h.iter().enumerate() {
         let mut before = Scans {
-            base,
+            setting: &setting,
             entries: &h[..place],
         };
         if !is_allowed(&setting, &mut before, e) {

@@ -56,7 +56,7 @@ pub fn is_free<H: Looks>(h: &mut H, copy: u8, grant: &Grant) -> bool
     ensures free { IsTrue result ↔ (seen_words.holder (H.past h.old) copy grant.now.rec
         grant.now.op grant.now.access ≡ None) }
     ensures past { H.past h.new ≡ H.past h.old }
-    ensures base { H.base h.new ≡ H.base h.old }
+    ensures setting { H.setting h.new ≡ H.setting h.old }
 {
     h.holder(&ask_for(copy, grant)).is_none()
 }
@@ -64,9 +64,9 @@ pub fn is_free<H: Looks>(h: &mut H, copy: u8, grant: &Grant) -> bool
 fn has_tuple<H: Looks>(h: &mut H, copy: u8, grant: &Grant) -> bool
     requires asked { parts.WasAskedFor (H.past h.old) (parts.ask_for copy grant.now) }
     ensures tuple { IsTrue result ↔ (grant.now.tuple
-        ≡ after (seen_words.seen (H.base h.old) (H.past h.old) copy grant.now.rec) grant.now.op) }
+        ≡ after (seen_words.seen (H.setting h.old).base (H.past h.old) copy grant.now.rec) grant.now.op) }
     ensures past { H.past h.new ≡ H.past h.old }
-    ensures base { H.base h.new ≡ H.base h.old }
+    ensures setting { H.setting h.new ≡ H.setting h.old }
 {
     let held = h.held(&ask_for(copy, grant));
     same_tuple(&grant.tuple, &held.after(&grant.op))
@@ -74,11 +74,11 @@ fn has_tuple<H: Looks>(h: &mut H, copy: u8, grant: &Grant) -> bool
 
 fn is_served<H: Looks>(setting: &Setting, h: &mut H, copy: u8, grant: &Grant) -> bool
     requires asked { parts.WasAskedFor (H.past h.old) (parts.ask_for copy grant.now) }
-    requires base { H.base h.old ≡ setting.now.base }
+    requires setting { H.setting h.old ≡ setting.now }
     ensures served { IsTrue result
         ↔ words.IsServed setting.now (H.past h.old) copy grant.now }
     ensures past { H.past h.new ≡ H.past h.old }
-    ensures base { H.base h.new ≡ H.base h.old }
+    ensures setting { H.setting h.new ≡ H.setting h.old }
 {
     if !is_free(h, copy, grant) {
         return false;
@@ -88,11 +88,11 @@ fn is_served<H: Looks>(setting: &Setting, h: &mut H, copy: u8, grant: &Grant) ->
 
 fn is_served_or_dead<H: Looks>(setting: &Setting, h: &mut H, copy: u8, grant: &Grant) -> bool
     requires asked { parts.WasAskedFor (H.past h.old) (parts.ask_for copy grant.now) }
-    requires base { H.base h.old ≡ setting.now.base }
+    requires setting { H.setting h.old ≡ setting.now }
     ensures served { IsTrue result ↔ IfNone (dead_words.dead (H.past h.old) grant.now.access)
         (words.IsServed setting.now (H.past h.old) copy grant.now) }
     ensures past { H.past h.new ≡ H.past h.old }
-    ensures base { H.base h.new ≡ H.base h.old }
+    ensures setting { H.setting h.new ≡ H.setting h.old }
 {
     match h.dead(&grant.access) {
         Some(_) => true,
@@ -114,11 +114,11 @@ fn is_due<H: Looks>(setting: &Setting, h: &H, seat: u32, copy: u8, grant: &Grant
 /// Whether a copy may grant: once, what an access asked of it, and to a live access that finds no grant in
 /// its way, with the tuple there after its operation. What it tells a dead access is of no account.
 pub fn may_grant<H: Looks>(setting: &Setting, h: &mut H, seat: u32, copy: u8, grant: &Grant) -> bool
-    requires base { H.base h.old ≡ setting.now.base }
+    requires setting { H.setting h.old ≡ setting.now }
     ensures may { IsTrue result
         ↔ words.MayGrant setting.now (H.past h.old) seat copy grant.now }
     ensures past { H.past h.new ≡ H.past h.old }
-    ensures base { H.base h.new ≡ H.base h.old }
+    ensures setting { H.setting h.new ≡ H.setting h.old }
 {
     if !is_due(setting, h, seat, copy, grant) {
         return false;
@@ -130,7 +130,7 @@ fn is_refusal<H: Looks>(h: &mut H, ask: &Ask, refusal: &Refusal) -> bool
     requires asked { parts.WasAskedFor (H.past h.old) ask.now }
     ensures refusal { IsTrue result ↔ words.IsRefusal (H.past h.old) ask.now refusal.now }
     ensures past { H.past h.new ≡ H.past h.old }
-    ensures base { H.base h.new ≡ H.base h.old }
+    ensures setting { H.setting h.new ≡ H.setting h.old }
 {
     let killed = h.dead(&ask.access);
     match refusal {
@@ -152,7 +152,7 @@ pub fn may_refuse<H: Looks>(
     ensures may { IsTrue result
         ↔ words.MayRefuse (H.past h.old) seat access.now copy refusal.now }
     ensures past { H.past h.new ≡ H.past h.old }
-    ensures base { H.base h.new ≡ H.base h.old }
+    ensures setting { H.setting h.new ≡ H.setting h.old }
 {
     match h.asked(access) {
         Some(asked) => {

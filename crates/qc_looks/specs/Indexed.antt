@@ -1,4 +1,6 @@
 -- What has an index.
+use Rattle.std.specs.Prelude.{◌∷◌}
+use Rattle.qc_event.specs.declared.event.Entry.{Entry}
 use Rattle.qc_event.specs.Base.{IsProper, Setting}
 use Rattle.qc_event.specs.History.{Past}
 use Rattle.qc_event.specs.Legal.{Legal}
@@ -21,3 +23,7 @@ pub record AreKept (setting : Setting) (past : Past) (requests : Requests) (asks
   pub requests_are : AreRequests requests past
   pub asks_are : AreAsks asks past
   pub tables_are : AreTables setting.base tables past
+
+-- the entry may follow a history beside which all is kept
+abbrev pub CanFollow : Past → Requests → Asks → Tables → Entry → Type 0
+CanFollow past requests asks tables e = (setting : Setting) × AreKept setting past requests asks tables × Legal setting (e ∷ past)

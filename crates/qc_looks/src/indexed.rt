@@ -1,14 +1,15 @@
 //! Looks by an index.
-ghost use Rattle.std.specs.Prelude.{◌≡◌, ◌<◌, [], ◌∷◌, IfOk, length};
-ghost use Rattle.qc_event.specs.Base.{IsProper};
+ghost use Rattle.std.specs.Prelude.{◌≡◌, ◌<◌, [], ◌∷◌, IfOk, OnOk, length};
+ghost use Rattle.qc_event.specs.Base.{IsProper, Setting};
 ghost use Rattle.qc_event.specs.History.{limit};
 ghost use Rattle.qc_event.specs.Legal.{Legal};
+ghost use Rattle.qc_looks.specs.Indexed.{AreKept, CanFollow};
 
 use crate::asks::Asks;
 use crate::names::{begun, children, children_ended, is_child_aborted};
 use crate::requests::Requests;
 use crate::tables::Tables;
-use qc_event::{Ask, Base, Cause, Config, Entry, How, Name, Refusal, Tuple, Why};
+use qc_event::{Ask, Base, Cause, Config, Entry, How, Name, Refusal, Short, Tuple, Why};
 use qc_history::History;
 use qc_scan::{Begun, Given, Looks, Request};
 use std::alloc::{AllocError, Global};
@@ -46,6 +47,33 @@ impl<'a> Model for Indexed<'a> {
         i.history i.requests i.asks i.tables };
 }
 
+// Takes in an entry that may come next. After an error they are no more of one history.
+fn take_in(
+    history: &mut History,
+    requests: &mut Requests,
+    asks: &mut Asks,
+    tables: &mut Tables,
+    entry: &Entry,
+) -> Result<(), AllocError>
+    requires follows { CanFollow history.old requests.old asks.old tables.old entry.now }
+    requires room { length history.old < limit }
+    ensures history { OnOk result (history.new ≡ entry.now ∷ history.old) }
+    ensures kept { OnOk result ((setting : Setting) →
+        AreKept setting history.old requests.old asks.old tables.old →
+        Legal setting (entry.now ∷ history.old) →
+        AreKept setting (entry.now ∷ history.old) requests.new asks.new tables.new) }
+{
+    let at = history.len() as u32;
+    requests.make_room(entry, history.names())?;
+    match history.push(entry) {
+        Ok(()) => {}
+        Err(Short::Memory | Short::Room) => return Err(AllocError),
+    }
+    requests.push(entry, history.names(), at);
+    asks.push(entry, history.names(), at)?;
+    tables.push(entry)
+}
+
 impl<'a> Indexed<'a> {
     /// No entries.
     pub fn new(alloc: Global, base: &'a Base, firsts: &'a [Config]) -> Result<Self, AllocError>
@@ -64,12 +92,38 @@ impl<'a> Indexed<'a> {
             tables: Tables::new(alloc, base)?,
         })
     }
+
+    /// Takes in an entry that may come next.
+    pub fn push(self, entry: &Entry) -> Result<Self, AllocError>
+        requires legal { Legal self.setting (entry.now ∷ self.past) }
+        requires room { length self.past < limit }
+        ensures { IfOk result (λ i.
+            i ≡ record { setting = self.entry.setting; past = entry.now ∷ self.entry.past }) }
+    {
+        let Indexed {
+            base,
+            firsts,
+            mut history,
+            mut requests,
+            mut asks,
+            mut tables,
+        } = self;
+        take_in(&mut history, &mut requests, &mut asks, &mut tables, entry)?;
+        Ok(Indexed {
+            base,
+            firsts,
+            history,
+            requests,
+            asks,
+            tables,
+        })
+    }
 }
 
 impl<'a> Looks for Indexed<'a> {
     ghost past = { λ i. i.past };
 
-    ghost base = { λ i. i.setting.base };
+    ghost setting = { λ i. i.setting };
 
     fn start(&self, n: &Name) -> Option<Begun> {
         begun(&self.history, n)

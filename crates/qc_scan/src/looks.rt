@@ -1,6 +1,6 @@
 //! What a history is asked for.
-ghost use Rattle.std.specs.Prelude.{◌≡◌, ◌↔◌, ◌<◌, IsTrue, List, MatchOption, Some, is_none, length, slice_get};
-ghost use Rattle.qc_config.specs.declared.tuple.Tuple.{Tuple};
+ghost use Rattle.std.specs.Prelude.{◌≡◌, ◌↔◌, ◌<◌, IsTrue, MatchOption, Some, is_none, length, slice_get};
+ghost use Rattle.qc_event.specs.Base.{Setting};
 ghost use Rattle.qc_event.specs.Dead as dead_words;
 ghost use Rattle.qc_event.specs.History as words;
 ghost use Rattle.qc_event.specs.History.{Past};
@@ -17,8 +17,8 @@ pub trait Looks {
     /// The history, its latest entry first.
     ghost past: { Self → Past };
 
-    /// The tuples with which copies start.
-    ghost base: { Self → List (List Tuple) };
+    /// From what the history starts.
+    ghost setting: { Self → Setting };
 
     /// The start of a name.
     fn start(&self, n: &Name) -> Option<Begun>
@@ -88,14 +88,14 @@ pub trait Looks {
         ensures holder { result ≡ seen_words.holder (past self.old) ask.now.copy ask.now.rec
             ask.now.op ask.now.access }
         ensures past { past self.new ≡ past self.old }
-        ensures base { base self.new ≡ base self.old };
+        ensures setting { setting self.new ≡ setting self.old };
 
     /// What a copy holds of the record of a request.
     fn held(&mut self, ask: &Ask) -> Tuple
         requires asked { MatchOption (words.asked (past self.old) ask.now.access) ⊥
             (λ a. a.ask ≡ ask.now) }
         ensures held { result
-            ≡ seen_words.seen (base self.old) (past self.old) ask.now.copy ask.now.rec }
+            ≡ seen_words.seen (setting self.old).base (past self.old) ask.now.copy ask.now.rec }
         ensures past { past self.new ≡ past self.old }
-        ensures base { base self.new ≡ base self.old };
+        ensures setting { setting self.new ≡ setting self.old };
 }

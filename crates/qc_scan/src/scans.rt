@@ -3,13 +3,14 @@ use crate::held::held;
 use crate::lists::{children, count_asks, nth_ask, open_child};
 use crate::looks::Looks;
 use crate::scan::{Begun, Given, Request, asked, end, gone, granted, is_ready, refused, start};
+use crate::setting::Setting;
 use crate::told::{is_child_aborted, is_marked, was_unable};
-use qc_event::{Ask, Base, Cause, Entry, How, Name, Refusal, Tuple, Why, dead, holder};
+use qc_event::{Ask, Cause, Entry, How, Name, Refusal, Tuple, Why, dead, holder};
 
-/// The tuples with which copies start, and the entries of a history, the oldest first. Each look goes over these.
+/// From what a history starts, and its entries, the oldest first. Each look goes over these.
 #[derive(Debug, Drop)]
 pub struct Scans<'a> {
-    pub base: &'a Base,
+    pub setting: &'a Setting<'a>,
     pub entries: &'a [Entry],
 }
 
@@ -18,7 +19,7 @@ impl<'a> Looks for Scans<'a> {
 
     ghost past = { λ s. reverse s.entries.now };
 
-    ghost base = { λ s. s.base.now };
+    ghost setting = { λ s. s.setting.now };
 
     fn start(&self, n: &Name) -> Option<Begun> {
         start(self.entries, n)
@@ -88,6 +89,6 @@ impl<'a> Looks for Scans<'a> {
     }
 
     fn held(&mut self, ask: &Ask) -> Tuple {
-        held(self.base, self.entries, ask.copy, ask.rec)
+        held(self.setting, self.entries, ask.copy, ask.rec)
     }
 }
